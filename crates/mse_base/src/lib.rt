@@ -1,0 +1,24 @@
+//! What all crates of the buffering engine share: times in ticks, ranges of time, coded frames,
+//! tracks, owned bytes and text, and the answer of a call that finds no memory.
+//!
+//! It stands on std alone. Its main contract is that of [`Ranges`]: a list of ranges is told by
+//! the set of ticks that it covers, and it is the one normalized list of that set (HTML,
+//! "normalized TimeRanges object").
+#![tactic(auto)]
+
+mod bytes;
+mod frame;
+pub mod laws;
+mod memory;
+mod span;
+mod text;
+mod ticks;
+mod track;
+
+pub use bytes::Bytes;
+pub use frame::{CodedFrame, Phase};
+pub use memory::OutOfMemory;
+pub use span::Span;
+pub use text::Text;
+pub use ticks::{Moment, Ticks, convert};
+pub use track::{Kind, Presentation, TrackInfo, TrackList};
