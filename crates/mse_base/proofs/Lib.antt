@@ -1,2 +1,14 @@
 pub mod Floors
 pub mod TickLemmas
+pub mod Compared
+pub mod Sets
+pub mod Unique
+pub mod Merging
+pub mod Extended
+pub mod Places
+pub mod Carving
+pub mod Joining
+pub mod Looking
+pub mod Overlaps
+pub mod Unions
+pub mod Neighbours

@@ -6,11 +6,18 @@
 //! "normalized TimeRanges object").
 #![tactic(auto)]
 
+mod bridge;
 mod bytes;
+mod carve;
+mod combine;
 mod frame;
 pub mod laws;
+mod lookup;
 mod memory;
+mod ranges;
 mod span;
+#[cfg(test)]
+mod tests;
 mod text;
 mod ticks;
 mod track;
@@ -18,6 +25,7 @@ mod track;
 pub use bytes::Bytes;
 pub use frame::{CodedFrame, Phase};
 pub use memory::OutOfMemory;
+pub use ranges::Ranges;
 pub use span::Span;
 pub use text::Text;
 pub use ticks::{Moment, Ticks, convert};

@@ -1,4 +1,5 @@
-ghost use Rattle.std.specs.Prelude.{◌≡◌, IfOk};
+ghost use Rattle.std.specs.Prelude.{◌≡◌, IfOk, find, option_copied};
+ghost use Rattle.mse_base.specs.Presentation.{has_id};
 
 use crate::{Moment, OutOfMemory, Ticks};
 use std::alloc::Global;
@@ -71,6 +72,13 @@ impl TrackList {
         ensures { result.now ≡ self.now }
     {
         self.tracks.as_slice()
+    }
+
+    /// The first track of a number; `None` exactly where there is none.
+    pub fn find(&self, id: u32) -> Option<&TrackInfo>
+        ensures { option_copied result ≡ find (has_id id) self.now }
+    {
+        self.tracks.iter().find(|track| track.id == id)
     }
 
     /// The same tracks again.

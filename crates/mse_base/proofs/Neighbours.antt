@@ -1,0 +1,177 @@
+-- The laws of joined and bridged ranges.
+use Rattle.std.proofs.Common.{◌≡◌, ◌∙◌, ℤ, pos, ◌+ℤ◌, ◌-ℤ◌, ◌<ℤ◌, ◌≤ℤ◌, Bool, true, false, ◌||◌, List, [], ◌∷◌, ◌++◌, refl, sym, ap, subst, inl, inr, ◌⊎◌, arith}
+use Rattle.std.proofs.lemmas.Int.{ints}
+use Rattle.mse_base.specs.declared.span.Span.{Span}
+use Rattle.mse_base.specs.Spans.{within, covers, IsNormalized, Joined, Met, CutOut, IsBridged, Bridged, IsInGap}
+use Rattle.mse_base.proofs.Unique.{unique, not_yet}
+use Rattle.mse_base.proofs.Sets.{covers-append}
+
+pub one_joined : (given xs ys : List Span) → Joined given xs → Joined given ys → xs ≡ ys
+one_joined given xs ys p q = unique xs ys p.normalized q.normalized (λ t. p.same t ∙ sym (q.same t))
+
+pub one_met : (left right xs ys : List Span) → Met left right xs → Met left right ys → xs ≡ ys
+one_met left right xs ys p q = unique xs ys p.normalized q.normalized (λ t. p.same t ∙ sym (q.same t))
+
+pub one_cut_out : (from to : ℤ) (given xs ys : List Span) → CutOut from to given xs → CutOut from to given ys → xs ≡ ys
+one_cut_out from to given xs ys p q = unique xs ys p.normalized q.normalized (λ t. p.same t ∙ sym (q.same t))
+
+both_true : (a b : Bool) → (a ≡ true → b ≡ true) → (b ≡ true → a ≡ true) → a ≡ b
+both_true true b f g = sym (f refl)
+both_true false true f g = g refl
+both_true false false f g = refl
+
+at_tick : (given : List Span) (u v : ℤ) → u ≡ v → covers given u ≡ true → covers given v ≡ true
+at_tick given u v e h = subst (λ (z : ℤ). covers given z ≡ true) e h
+
+one_of : (from t to : ℤ) → from ≤ℤ t → t ≤ℤ to → to ≤ℤ (from +ℤ pos 0 +ℤ pos 1) → (from ≡ t) ⊎ (to ≡ t)
+one_of from t to a b c = grind (arith, ints)
+
+-- with no gap a tick is bridged where it is a tick of the spans
+bridged_covers : (given : List Span) (t : ℤ) → IsBridged (pos 0) given t → covers given t ≡ true
+bridged_covers given t b = elim (one_of b.from t b.to b.above b.below b.near) as (λ _. covers given t ≡ true) [
+  | inl e ↦ at_tick given b.from t e b.has_from
+  | inr e ↦ at_tick given b.to t e b.has_to
+]
+
+own_bridge : (gap : ℤ) (given : List Span) (t : ℤ) → pos 0 ≤ℤ gap → covers given t ≡ true → IsBridged gap given t
+own_bridge gap given t g e = record { from = t; to = t; has_from = e; has_to = e; above = omega (arith, ints); below = omega (arith, ints); near = omega (arith, ints) }
+
+pub joined_of_bridged : (given xs : List Span) → Bridged (pos 0) given xs → Joined given xs
+joined_of_bridged given xs b = record {
+  same = λ t. both_true (covers xs t) (covers given t) (λ e. bridged_covers given t (b.no_more t e)) (λ e. b.no_less t (own_bridge (pos 0) given t (omega (arith, ints)) e));
+  normalized = b.normalized;
+}
+
+pub bridged_of_joined : (given xs : List Span) → Joined given xs → Bridged (pos 0) given xs
+bridged_of_joined given xs j = record {
+  no_more = λ t e. own_bridge (pos 0) given t (omega (arith, ints)) (sym (j.same t) ∙ e);
+  no_less = λ t b. j.same t ∙ bridged_covers given t b;
+  normalized = j.normalized;
+}
+
+or_cases : {P : Type 0} (a b : Bool) → (a || b) ≡ true → (a ≡ true → P) → (b ≡ true → P) → P
+or_cases true b e f g = f refl
+or_cases false b e f g = g e
+
+or_left : (a b : Bool) → a ≡ true → (a || b) ≡ true
+or_left a b e = ap (λ x. x || b) e
+
+or_right : (a b : Bool) → b ≡ true → (a || b) ≡ true
+or_right true b e = refl
+or_right false b e = e
+
+true_false : (b : Bool) → b ≡ true → b ≡ false → ⊥
+true_false true e f = cc
+true_false false e f = cc
+
+or_false_left : (a b : Bool) → (a || b) ≡ false → a ≡ false
+or_false_left true b e = e
+or_false_left false b e = refl
+
+or_false_right : (a b : Bool) → (a || b) ≡ false → b ≡ false
+or_false_right true b e = cc
+or_false_right false b e = e
+
+within_start : (t : ℤ) (s : Span) → within s t ≡ true → s.start ≤ℤ t
+within_start t s e = grind (arith, ints)
+
+within_end : (t : ℤ) (s : Span) → within s t ≡ true → t <ℤ s.end
+within_end t s e = grind (arith, ints)
+
+within_is : (t : ℤ) (s : Span) → s.start ≤ℤ t → t <ℤ s.end → within s t ≡ true
+within_is t s a b = grind (arith, ints)
+
+not_within : (t : ℤ) (s : Span) → within s t ≡ false → s.start ≤ℤ t → s.end ≤ℤ t
+not_within t s e h = grind (arith, ints)
+
+between : (u m : ℤ) → (u <ℤ m) ⊎ (m ≤ℤ u)
+between u m = grind (arith, ints)
+
+none_before : (t : ℤ) (y : Span) (ys : List Span) → IsNormalized (y ∷ ys) → t <ℤ y.start → covers (y ∷ ys) t ≡ false
+none_before t y ys n h =
+    let own = n.0 in
+    let off : within y t ≡ false = grind (arith, ints) in
+    ap (λ b. b || covers ys t) off ∙ not_yet y.end t ys n.1 n.2 (omega (arith, ints))
+
+more : (gap t : ℤ) (x : Span) (xs : List Span) → IsInGap gap xs t → IsInGap gap (x ∷ xs) t
+more gap t x xs g = record { front = x ∷ g.front; left = g.left; right = g.right; back = g.back; neighbours = ap (λ zs. x ∷ zs) g.neighbours; short = g.short; above = g.above; below = g.below }
+
+-- a tick that is in no range, between two ticks of ranges with at most the gap between them, is in a gap of two neighbours
+in_gap : (gap from t to : ℤ) (ranges : List Span) → IsNormalized ranges → covers ranges t ≡ false → covers ranges from ≡ true → covers ranges to ≡ true → from ≤ℤ t → t ≤ℤ to → to ≤ℤ (from +ℤ gap +ℤ pos 1) → IsInGap gap ranges t
+in_gap gap from t to [] n off a b l h w = absurd cc
+in_gap gap from t to (x ∷ []) n off a b l h w =
+    or_cases (within x from) false a
+    (λ f. or_cases (within x to) false b
+    (λ k. let f0 = within_start from x f in
+    let k1 = within_end to x k in
+    absurd (true_false (within x t) (within_is t x (omega (arith, ints)) (omega (arith, ints))) (or_false_left (within x t) false off)))
+    (λ k. absurd cc))
+    (λ f. absurd cc)
+in_gap gap from t to (x ∷ y ∷ ys) n off a b l h w =
+    let off_x : within x t ≡ false = or_false_left (within x t) (covers (y ∷ ys) t) off in
+    let off_rest : covers (y ∷ ys) t ≡ false = or_false_right (within x t) (covers (y ∷ ys) t) off in
+    let rest : IsNormalized (y ∷ ys) = n.2 in
+    let own : x.start <ℤ x.end = n.0 in
+    let next : x.end <ℤ y.start = n.1 in
+    let lasts : y.start <ℤ y.end = rest.0 in
+    elim (between t y.start) as (λ _. IsInGap gap (x ∷ y ∷ ys) t) [
+      | inl low ↦
+          or_cases (within x from) (covers (y ∷ ys) from) a
+          (λ f. let f0 = within_start from x f in
+          let f1 = within_end from x f in
+          let past : x.end ≤ℤ t = not_within t x off_x (omega (arith, ints)) in
+          elim (between to y.start) as (λ _. IsInGap gap (x ∷ y ∷ ys) t) [
+            | inl early ↦ or_cases (within x to) (covers (y ∷ ys) to) b
+                (λ k. let k1 = within_end to x k in absurd (omega (arith, ints)))
+                (λ k. absurd (true_false _ k (none_before to y ys rest early)))
+            | inr reaches ↦ record { front = []; left = x; right = y; back = ys; neighbours = refl; short = omega (arith, ints); above = past; below = low }
+          ])
+          (λ f. absurd (true_false _ f (none_before from y ys rest (omega (arith, ints)))))
+      | inr high ↦
+          let past : y.end ≤ℤ t = not_within t y (or_false_left (within y t) (covers ys t) off_rest) high in
+          let to_rest : covers (y ∷ ys) to ≡ true = or_cases (within x to) (covers (y ∷ ys) to) b (λ k. let k1 = within_end to x k in absurd (omega (arith, ints))) (λ k. k) in
+          more gap t x (y ∷ ys)
+          (or_cases (within x from) (covers (y ∷ ys) from) a
+          (λ f. let f1 = within_end from x f in
+          in_gap gap (y.end -ℤ pos 1) t to (y ∷ ys) rest off_rest (or_left (within y (y.end -ℤ pos 1)) (covers ys (y.end -ℤ pos 1)) (within_is (y.end -ℤ pos 1) y (omega (arith, ints)) (omega (arith, ints)))) to_rest (omega (arith, ints)) h (omega (arith, ints)))
+          (λ f. in_gap gap from t to (y ∷ ys) rest off_rest f to_rest l h w))
+    ]
+
+yes_or_no : (b : Bool) → (b ≡ true) ⊎ (b ≡ false)
+yes_or_no true = inl refl
+yes_or_no false = inr refl
+
+pub gap_of_bridged : (gap : ℤ) (given joined : List Span) (t : ℤ) → Joined given joined → IsBridged gap given t → (covers joined t ≡ true) ⊎ IsInGap gap joined t
+gap_of_bridged gap given joined t j b = elim (yes_or_no (covers joined t)) as (λ _. (covers joined t ≡ true) ⊎ IsInGap gap joined t) [
+  | inl e ↦ inl e
+  | inr e ↦ inr (in_gap gap b.from t b.to joined j.normalized e (j.same b.from ∙ b.has_from) (j.same b.to ∙ b.has_to) b.above b.below b.near)
+]
+
+lasting_left : (front : List Span) (left right : Span) (back : List Span) → IsNormalized (front ++ left ∷ right ∷ back) → (left.start <ℤ left.end) × (right.start <ℤ right.end)
+lasting_left [] left right back n = (n.0, n.2.0)
+lasting_left (x ∷ front) left right back n = lasting_left front left right back n.2
+
+pub bridged_of_gap : (gap : ℤ) (given joined : List Span) (t : ℤ) → pos 0 ≤ℤ gap → Joined given joined → (covers joined t ≡ true) ⊎ IsInGap gap joined t → IsBridged gap given t
+bridged_of_gap gap given joined t g j (inl e) = own_bridge gap given t g (sym (j.same t) ∙ e)
+bridged_of_gap gap given joined t g j (inr i) =
+    let n : IsNormalized (i.front ++ i.left ∷ i.right ∷ i.back) = subst (λ (zs : List Span). IsNormalized zs) i.neighbours j.normalized in
+    let lasts = lasting_left i.front i.left i.right i.back n in
+    let lasts0 = lasts.0 in
+    let lasts1 = lasts.1 in
+    let short = i.short in
+    let above = i.above in
+    let below = i.below in
+    let before = i.left.end -ℤ pos 1 in
+    let in_left : within i.left before ≡ true = within_is before i.left (omega (arith, ints)) (omega (arith, ints)) in
+    let in_right : within i.right i.right.start ≡ true = within_is i.right.start i.right (omega (arith, ints)) lasts1 in
+    let has_left : covers (i.front ++ i.left ∷ i.right ∷ i.back) before ≡ true = covers-append i.front (i.left ∷ i.right ∷ i.back) before ∙ or_right (covers i.front before) _ (or_left (within i.left before) _ in_left) in
+    let has_right : covers (i.front ++ i.left ∷ i.right ∷ i.back) i.right.start ≡ true = covers-append i.front (i.left ∷ i.right ∷ i.back) i.right.start ∙ or_right (covers i.front i.right.start) _ (or_right (within i.left i.right.start) _ (or_left (within i.right i.right.start) _ in_right)) in
+    record {
+      from = before;
+      to = i.right.start;
+      has_from = sym (j.same before) ∙ subst (λ (zs : List Span). covers zs before ≡ true) (sym i.neighbours) has_left;
+      has_to = sym (j.same i.right.start) ∙ subst (λ (zs : List Span). covers zs i.right.start ≡ true) (sym i.neighbours) has_right;
+      above = omega (arith, ints);
+      below = omega (arith, ints);
+      near = omega (arith, ints);
+    }

@@ -1,0 +1,13 @@
+use Rattle.mse_base.proofs.Merging.{length_bridged}
+use Rattle.mse_base.proofs.Extended.{bridged_law}
+use Rattle.mse_base.proofs.Neighbours.{joined_of_bridged, bridged_of_joined}
+use Rattle.mse_base.proofs.laws.bridging.Goals as goal
+
+pub returns-clause-made : goal.returns-clause-made
+returns-clause-made c = bridged_law
+
+pub returns-clause-few : goal.returns-clause-few
+returns-clause-few c = length_bridged
+
+pub returns-clause-no_gap : goal.returns-clause-no_gap
+returns-clause-no_gap c = λ given xs. (joined_of_bridged given xs, bridged_of_joined given xs)

@@ -1,0 +1,83 @@
+-- Ranges of time. Lists of spans are told by the sets of ticks that they cover.
+use Rattle.std.specs.Prelude.{◌≡◌, ℕ, ℤ, pos, ◌+ℤ◌, ◌-ℤ◌, ◌<ℤ◌, ◌≤ℤ◌, int_lt, int_le, Bool, true, false, not, ◌&&◌, ◌||◌, List, [], ◌∷◌, ◌++◌, Option, Some, None}
+use Rattle.mse_base.specs.declared.span.Span.{Span}
+
+-- what contracts see of ranges: the spans, and how many more there is room for
+pub record RangesView : Type 0 where
+  pub spans : List Span
+  pub spare : ℕ
+
+-- the span has the tick: its start is in it, and its end is not
+abbrev pub within : Span → ℤ → Bool
+within s t = int_le s.start t && int_lt t s.end
+
+-- some span has the tick
+abbrev pub covers : List Span → ℤ → Bool
+covers [] t = false
+covers (s ∷ ss) t = within s t || covers ss t
+
+-- the first span, if any, begins after e
+abbrev pub StartsAfter : ℤ → List Span → Type 0
+StartsAfter e [] = Unit {0}
+StartsAfter e (s ∷ ss) = e <ℤ s.start
+
+-- ascending, none empty, no two overlapping or touching (HTML, "normalized TimeRanges object")
+abbrev pub IsNormalized : List Span → Type 0
+IsNormalized [] = Unit {0}
+IsNormalized (s ∷ ss) = (s.start <ℤ s.end) × StartsAfter s.end ss × IsNormalized ss
+
+-- the normalized ranges whose ticks are just those of the given spans
+pub record Joined (given joined : List Span) : Type 0 where
+  pub same : (t : ℤ) → covers joined t ≡ covers given t
+  pub normalized : IsNormalized joined
+
+-- the normalized ranges whose ticks are just those that both lists have
+pub record Met (left right met : List Span) : Type 0 where
+  pub same : (t : ℤ) → covers met t ≡ (covers left t && covers right t)
+  pub normalized : IsNormalized met
+
+-- the normalized ranges whose ticks are those of the given spans, but for those from `from` on and below `to`
+pub record CutOut (from to : ℤ) (given left : List Span) : Type 0 where
+  pub same : (t : ℤ) → covers left t ≡ (covers given t && not (int_le from t && int_lt t to))
+  pub normalized : IsNormalized left
+
+-- the tick is one of the spans, or lies between two of their ticks with at most `gap` ticks between the two
+pub record IsBridged (gap : ℤ) (given : List Span) (t : ℤ) : Type 0 where
+  pub from : ℤ
+  pub to : ℤ
+  pub has_from : covers given from ≡ true
+  pub has_to : covers given to ≡ true
+  pub above : from ≤ℤ t
+  pub below : t ≤ℤ to
+  pub near : to ≤ℤ (from +ℤ gap +ℤ pos 1)
+
+-- the normalized ranges whose ticks are just the bridged ticks of the given spans
+pub record Bridged (gap : ℤ) (given bridged : List Span) : Type 0 where
+  pub no_more : (t : ℤ) → covers bridged t ≡ true → IsBridged gap given t
+  pub no_less : (t : ℤ) → IsBridged gap given t → covers bridged t ≡ true
+  pub normalized : IsNormalized bridged
+
+-- the tick lies between two neighbours of the ranges that are at most `gap` ticks apart
+pub record IsInGap (gap : ℤ) (ranges : List Span) (t : ℤ) : Type 0 where
+  pub front : List Span
+  pub left : Span
+  pub right : Span
+  pub back : List Span
+  pub neighbours : ranges ≡ front ++ left ∷ right ∷ back
+  pub short : (right.start -ℤ left.end) ≤ℤ gap
+  pub above : left.end ≤ℤ t
+  pub below : t <ℤ right.start
+
+-- the time is in the span or at its end
+abbrev pub reaches : ℤ → Span → Bool
+reaches t s = int_le s.start t && int_le t s.end
+
+-- the last of a span and others
+abbrev pub last_from : Span → List Span → Option Span
+last_from s [] = Some s
+last_from s (r ∷ rs) = last_from r rs
+
+-- the last of some spans
+abbrev pub last_of : List Span → Option Span
+last_of [] = None
+last_of (s ∷ ss) = last_from s ss

@@ -1,0 +1,120 @@
+ghost use Rattle.std.specs.Prelude.{◌≡◌, ◌+◌, ◌<◌, ◌≤◌, ◌++◌, ◌<ℤ◌, ◌≤ℤ◌, ◌+ℤ◌, ◌-ℤ◌, pos, int_lt, vec_len, vec_capacity, length, take, drop, option_to_list};
+ghost use Rattle.mse_base.specs.Bridging.{IsRanges, carved, part, lesser, greater};
+
+use crate::lookup::place_reaching;
+use crate::{Span, Ticks};
+
+pub(crate) fn lesser(a: Ticks, b: Ticks) -> Ticks
+    ensures { result ≡ lesser a b }
+{
+    if a < b { a } else { b }
+}
+
+pub(crate) fn greater(a: Ticks, b: Ticks) -> Ticks
+    ensures { result ≡ greater a b }
+{
+    if a < b { b } else { a }
+}
+
+/// The span from a start up to an end, if it has a tick.
+pub(crate) fn part(start: Ticks, end: Ticks) -> Option<Span>
+    ensures { option_to_list result ≡ part start end }
+{
+    if start < end {
+        Some(Span { start, end })
+    } else {
+        None
+    }
+}
+
+/// The part of a span that ends by the gap before a time.
+fn left_of(s: &Span, low: Ticks, gap: Ticks) -> Option<Span>
+    requires { pos 0 ≤ℤ gap }
+    ensures { option_to_list result ≡ part s.now.start (lesser s.now.end (low -ℤ gap)) }
+{
+    let _first = s.start.get();
+    let _low = low.get();
+    match low.checked_sub(gap) {
+        Some(cut) => part(s.start, lesser(s.end, cut)),
+        None => None,
+    }
+}
+
+/// The part of a span that begins after the gap after a time.
+fn right_of(s: &Span, high: Ticks, gap: Ticks) -> Option<Span>
+    requires { pos 0 ≤ℤ gap }
+    ensures { option_to_list result ≡ part (greater s.now.start (high +ℤ gap)) s.now.end }
+{
+    let _last = s.end.get();
+    let _high = high.get();
+    match high.checked_add(gap) {
+        Some(cut) => part(greater(s.start, cut), s.end),
+        None => None,
+    }
+}
+
+fn begins_before(s: &Span, high: Ticks, gap: Ticks) -> bool
+    ensures { result ≡ int_lt s.now.start (high +ℤ gap) }
+{
+    s.start.get() < high.get() + gap.get()
+}
+
+/// Puts a part in the place of a span, if there is one; the place after it.
+fn replace(ranges: &mut Vec<Span>, i: usize, part: Option<Span>) -> usize
+    requires { i < length ranges.old.items }
+    ensures items { ranges.new.items ≡ take i ranges.old.items ++ (option_to_list part ++ drop (i + 1) ranges.old.items) }
+    ensures place { result ≡ i + length (option_to_list part) }
+    ensures step { result ≤ i + 1 }
+    ensures capacity { vec_capacity ranges.new ≡ vec_capacity ranges.old }
+    ensures len { vec_len ranges.new + (i + 1) ≡ vec_len ranges.old + result }
+{
+    match part {
+        Some(span) => {
+            ranges[i] = span;
+            i + 1
+        }
+        None => {
+            ranges.remove(i);
+            i
+        }
+    }
+}
+
+/// Cuts a hole out of the ranges from a place on, longer by the gap on both sides.
+fn carve_from(ranges: &mut Vec<Span>, gap: Ticks, from: usize, hole: &Span)
+    requires room { vec_len ranges.old < vec_capacity ranges.old }
+    requires forward { pos 0 ≤ℤ gap }
+    requires lasts { hole.now.start <ℤ hole.now.end }
+    requires within { from ≤ length ranges.old.items }
+    requires ranges { IsRanges gap (drop from ranges.old.items) }
+    ensures items { ranges.new.items ≡ take from ranges.old.items ++ carved (hole.now.start -ℤ gap) (hole.now.end +ℤ gap) (drop from ranges.old.items) }
+    ensures capacity { vec_capacity ranges.new ≡ vec_capacity ranges.old }
+{
+    let mut i = from;
+    while i < ranges.len() {
+        let s = ranges[i];
+        if !begins_before(&s, hole.end, gap) {
+            return;
+        }
+        i = replace(ranges, i, left_of(&s, hole.start, gap));
+        if let Some(right) = right_of(&s, hole.end, gap) {
+            match ranges.insert(i, right) {
+                Ok(()) => return,
+                Err(_) => unreachable!(),
+            }
+        }
+    }
+}
+
+/// Cuts a hole out of ranges, longer by the gap on both sides.
+pub(crate) fn carve_out(ranges: &mut Vec<Span>, gap: Ticks, hole: &Span)
+    requires room { vec_len ranges.old < vec_capacity ranges.old }
+    requires forward { pos 0 ≤ℤ gap }
+    requires lasts { hole.now.start <ℤ hole.now.end }
+    requires ranges { IsRanges gap ranges.old.items }
+    ensures items { ranges.new.items ≡ carved (hole.now.start -ℤ gap) (hole.now.end +ℤ gap) ranges.old.items }
+    ensures capacity { vec_capacity ranges.new ≡ vec_capacity ranges.old }
+{
+    let from = place_reaching(ranges, gap, hole);
+    carve_from(ranges, gap, from, hole);
+}

@@ -1,0 +1,100 @@
+ghost use Rattle.std.specs.Prelude.{◌≡◌, ◌++◌, [], None, IfOk, IfSome, OnOk};
+ghost use Rattle.mse_base.specs.Spans.{IsNormalized, Joined, Met};
+ghost use Rattle.mse_base.specs.Bridging.{overlap, TakesOne};
+
+use crate::bridge::join_in;
+use crate::carve::{greater, lesser, part};
+use crate::{OutOfMemory, Span, Ticks};
+use std::alloc::Global;
+
+/// Adds the ticks that two spans share, if there are any.
+fn push_overlap(met: &mut Vec<Span>, x: Span, y: Span) -> Result<(), OutOfMemory>
+    ensures { OnOk result (met.new.items ≡ met.old.items ++ overlap x y) }
+{
+    let start = greater(x.start, y.start);
+    let end = lesser(x.end, y.end);
+    if let Some(span) = part(start, end) {
+        met.push(span)?;
+    }
+    Ok(())
+}
+
+/// The ranges of the ticks that both lists have.
+pub(crate) fn meet_of(
+    alloc: Global,
+    left: &[Span],
+    right: &[Span],
+) -> Result<Vec<Span>, OutOfMemory>
+    requires left { IsNormalized left.now }
+    requires right { IsNormalized right.now }
+    ensures { IfOk result (λ v. Met left.now right.now v.items) }
+{
+    let mut met = Vec::new(alloc);
+    let mut xs = left;
+    let mut ys = right;
+    'heads: while let [x, after_x @ ..] = xs {
+        let [y, after_y @ ..] = ys else {
+            break;
+        };
+        push_overlap(&mut met, *x, *y)?;
+        if x.end <= y.end {
+            xs = after_x;
+        } else {
+            ys = after_y;
+        }
+    }
+    Ok(met)
+}
+
+/// What is left of two lists.
+#[derive(Drop)]
+struct Heads<'a> {
+    left: &'a [Span],
+    right: &'a [Span],
+}
+
+impl<'a> Heads<'a> {
+    /// Takes the span that begins first.
+    fn next(&mut self) -> Option<Span>
+        ensures none { result ≡ None → (self.old.left.now ≡ []) × (self.old.right.now ≡ []) }
+        ensures some { IfSome result (λ s. TakesOne s self.old.left.now self.old.right.now self.new.left.now self.new.right.now) }
+    {
+        match (self.left.first(), self.right.first()) {
+            (Some(x), Some(y)) => {
+                if y.start < x.start {
+                    self.right = &self.right[1..];
+                    Some(*y)
+                } else {
+                    self.left = &self.left[1..];
+                    Some(*x)
+                }
+            }
+            (Some(x), None) => {
+                self.left = &self.left[1..];
+                Some(*x)
+            }
+            (None, Some(y)) => {
+                self.right = &self.right[1..];
+                Some(*y)
+            }
+            (None, None) => None,
+        }
+    }
+}
+
+/// The ranges of the ticks that one of the lists has.
+pub(crate) fn union_of(
+    alloc: Global,
+    left: &[Span],
+    right: &[Span],
+) -> Result<Vec<Span>, OutOfMemory>
+    ensures { IfOk result (λ v. Joined (left.now ++ right.now) v.items) }
+{
+    let mut joined = Vec::new(alloc);
+    let mut heads = Heads { left, right };
+    'heads: while let Some(span) = heads.next() {
+        joined.reserve(1)?;
+        join_in(&mut joined, Ticks::zero(), span);
+    }
+    Ok(joined)
+}

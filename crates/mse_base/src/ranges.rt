@@ -1,0 +1,195 @@
+ghost use Rattle.std.specs.Prelude.{◌≡◌, ◌↔◌, ◌+◌, ◌≤◌, ◌<ℤ◌, ◌≤ℤ◌, ◌+ℤ◌, ◌-ℤ◌, pos, [], ◌∷◌, ◌++◌, length, slice_get, find, IsTrue, IfOk, OnOk};
+ghost use Rattle.std.specs.Option.{ForSome};
+ghost use Rattle.mse_base.specs.Spans.{IsNormalized, Joined, Met, Bridged, CutOut, reaches, last_of};
+ghost use Rattle.mse_base.specs.Bridging.{IsRanges, join_in, bridged, carved};
+
+use crate::bridge::{bridged_of, join_in};
+use crate::carve::carve_out;
+use crate::combine::{meet_of, union_of};
+use crate::lookup::span_holding;
+use crate::{OutOfMemory, Span, Ticks};
+use std::alloc::Global;
+use std::marker::Model;
+
+/// A set of ticks as normalized ranges: ascending, none empty, no two overlapping or touching
+/// (HTML, "normalized TimeRanges object"), with room for more.
+#[derive(Debug, Drop)]
+pub struct Ranges {
+    alloc: Global,
+    spans: Vec<Span>,
+}
+
+impl Model for Ranges {
+    ghost use Rattle.std.specs.Prelude.{◌-◌, vec_len, vec_capacity};
+    ghost use Rattle.mse_base.specs.Spans.{RangesView, IsNormalized};
+
+    ghost Value = { RangesView };
+
+    ghost view = { λ r. record { spans = r.spans.items; spare = vec_capacity r.spans - vec_len r.spans } };
+
+    ghost invariant = { λ r. IsNormalized r.spans.items };
+}
+
+impl Ranges {
+    /// No ranges.
+    pub fn new(alloc: Global) -> Ranges
+        ensures { result.spans ≡ [] }
+    {
+        Ranges {
+            alloc,
+            spans: Vec::new(alloc),
+        }
+    }
+
+    /// Makes room for at least `n` more ranges.
+    pub fn reserve(&mut self, n: usize) -> Result<(), OutOfMemory>
+        ensures spans { self.new.spans ≡ self.old.spans }
+        ensures spare { OnOk result (n ≤ self.new.spare) }
+        ensures room { self.old.spare + length self.old.spans ≤ self.new.spare + length self.new.spans }
+    {
+        self.spans.reserve(n)?;
+        Ok(())
+    }
+
+    /// Removes all ranges, and keeps their room.
+    pub fn clear(&mut self)
+        ensures spans { self.new.spans ≡ [] }
+        ensures room { self.old.spare + length self.old.spans ≤ self.new.spare + length self.new.spans }
+    {
+        self.spans.clear();
+    }
+
+    /// Adds a span that begins no earlier than the last range, and the gaps of at most `gap`
+    /// ticks round it.
+    pub fn add_last(&mut self, span: Span, gap: Ticks)
+        requires room { 1 ≤ self.old.spare }
+        requires order { ForSome (last_of self.old.spans) (λ last. last.start ≤ℤ span.start) }
+        requires forward { pos 0 ≤ℤ gap }
+        requires ranges { IsRanges gap self.old.spans }
+        ensures bridged { Bridged gap (self.old.spans ++ span ∷ []) self.new.spans }
+        ensures spans { self.new.spans ≡ join_in gap self.old.spans span }
+        ensures ranges { IsRanges gap self.new.spans }
+        ensures room { self.old.spare + length self.old.spans ≡ self.new.spare + length self.new.spans }
+        ensures len { length self.new.spans ≤ length self.old.spans + 1 }
+    {
+        self.add_span(span, gap);
+    }
+
+    /// Adds a span anywhere, and the gaps of at most `gap` ticks round it.
+    pub fn add_span(&mut self, span: Span, gap: Ticks)
+        requires room { 1 ≤ self.old.spare }
+        requires forward { pos 0 ≤ℤ gap }
+        requires ranges { IsRanges gap self.old.spans }
+        ensures bridged { Bridged gap (self.old.spans ++ span ∷ []) self.new.spans }
+        ensures spans { self.new.spans ≡ join_in gap self.old.spans span }
+        ensures ranges { IsRanges gap self.new.spans }
+        ensures room { self.old.spare + length self.old.spans ≡ self.new.spare + length self.new.spans }
+        ensures len { length self.new.spans ≤ length self.old.spans + 1 }
+    {
+        join_in(&mut self.spans, gap, span);
+    }
+
+    /// Takes away the ticks of a span, and `gap` ticks on both sides of it.
+    pub fn carve(&mut self, hole: Span, gap: Ticks)
+        requires room { 1 ≤ self.old.spare }
+        requires forward { pos 0 ≤ℤ gap }
+        requires lasts { hole.start <ℤ hole.end }
+        requires ranges { IsRanges gap self.old.spans }
+        ensures cut_out { CutOut (hole.start -ℤ gap) (hole.end +ℤ gap) self.old.spans self.new.spans }
+        ensures spans { self.new.spans ≡ carved (hole.start -ℤ gap) (hole.end +ℤ gap) self.old.spans }
+        ensures ranges { IsRanges gap self.new.spans }
+        ensures room { self.old.spare + length self.old.spans ≡ self.new.spare + length self.new.spans }
+    {
+        carve_out(&mut self.spans, gap, &hole);
+    }
+
+    /// How many ranges there are.
+    pub fn len(&self) -> usize
+        ensures len { result ≡ length self.now.spans }
+        ensures normalized { IsNormalized self.now.spans }
+    {
+        self.spans.len()
+    }
+
+    /// Whether there is no range.
+    pub fn is_empty(&self) -> bool
+        ensures { IsTrue result ↔ (self.now.spans ≡ []) }
+    {
+        self.spans.is_empty()
+    }
+
+    /// The range at a place; `None` exactly where `i` is past the last.
+    pub fn get(&self, i: usize) -> Option<Span>
+        ensures { result ≡ slice_get self.now.spans i }
+    {
+        self.spans.get(i).copied()
+    }
+
+    /// The last range; `None` exactly where there is none.
+    pub fn last(&self) -> Option<Span>
+        ensures { result ≡ last_of self.now.spans }
+    {
+        self.spans.last().copied()
+    }
+
+    /// For how many more ranges there is room.
+    pub fn spare(&self) -> usize
+        ensures { result ≡ self.now.spare }
+    {
+        self.spans.capacity() - self.spans.len()
+    }
+
+    /// The ranges of the ticks that one of the two has.
+    pub fn union(&self, other: &Ranges) -> Result<Ranges, OutOfMemory>
+        ensures { IfOk result (λ r. Joined (self.now.spans ++ other.now.spans) r.spans) }
+    {
+        let spans = union_of(self.alloc, self.spans.as_slice(), other.spans.as_slice())?;
+        Ok(Ranges {
+            alloc: self.alloc,
+            spans,
+        })
+    }
+
+    /// The ranges of the ticks that both have.
+    pub fn meet(&self, other: &Ranges) -> Result<Ranges, OutOfMemory>
+        ensures { IfOk result (λ r. Met self.now.spans other.now.spans r.spans) }
+    {
+        let spans = meet_of(self.alloc, self.spans.as_slice(), other.spans.as_slice())?;
+        Ok(Ranges {
+            alloc: self.alloc,
+            spans,
+        })
+    }
+
+    /// The ranges with the gaps of at most `gap` ticks filled.
+    pub fn bridge(&self, gap: Ticks) -> Result<Ranges, OutOfMemory>
+        requires { pos 0 ≤ℤ gap }
+        ensures bridged { IfOk result (λ r. Bridged gap self.now.spans r.spans) }
+        ensures spans { IfOk result (λ r. r.spans ≡ bridged gap self.now.spans) }
+        ensures ranges { IfOk result (λ r. IsRanges gap r.spans) }
+    {
+        let spans = bridged_of(self.alloc, self.spans.as_slice(), gap)?;
+        Ok(Ranges {
+            alloc: self.alloc,
+            spans,
+        })
+    }
+
+    /// The range that has a time, or ends at it; `None` exactly where there is none.
+    pub fn holding(&self, t: Ticks) -> Option<Span>
+        ensures { result ≡ find (reaches t) self.now.spans }
+    {
+        span_holding(&self.spans, t)
+    }
+
+    /// The same ranges again.
+    pub fn copy(&self) -> Result<Ranges, OutOfMemory>
+        ensures { IfOk result (λ r. r.spans ≡ self.now.spans) }
+    {
+        let spans = Vec::from_slice(self.alloc, self.spans.as_slice())?;
+        Ok(Ranges {
+            alloc: self.alloc,
+            spans,
+        })
+    }
+}

@@ -1,0 +1,4 @@
+pub mod Count
+pub mod Folder
+pub mod Memory
+pub mod Outside

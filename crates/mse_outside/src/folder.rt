@@ -1,0 +1,116 @@
+// The files of a folder.
+ghost use Rattle.std.specs.Prelude.{◌≡◌, ◌≢◌, ◌≤◌, ◌+◌, ◌^◌, ◌↔◌, ◌++◌, ℕ, List, None, vec_len};
+ghost use Rattle.std.specs.IoError.{error_kind};
+ghost use Rattle.mse_outside.specs.Count.{next_count};
+ghost use Rattle.mse_outside.specs.Outside.{Appends, Rose};
+ghost use Rattle.mse_outside.specs.Folder.{faults_after};
+
+use crate::{Library, Loaded};
+use std::fs::{self, Files};
+use std::io::{self, ErrorKind, Read};
+use std::marker::Model;
+
+/// The most bytes that a file may have.
+const LONGEST: usize = 1 << 30;
+
+/// The files of the current folder. It tells no bytes. Contracts see the number of loads that have failed.
+///
+/// A file that is not there is `NoFile`. Any other failure to open or to read, as at a folder, and a file of more than
+/// 2^30 bytes, is a failed load.
+#[derive(Drop)]
+pub struct FolderLibrary<R: Files + Drop> {
+    rt: R,
+    faults: u64,
+}
+
+impl<R: Files + Drop> Model for FolderLibrary<R> {
+    ghost Value = { ℕ };
+
+    ghost view = { λ l. l.faults };
+}
+
+impl<R: Files + Drop> FolderLibrary<R> {
+    /// No load has failed yet.
+    pub fn new(rt: R) -> FolderLibrary<R>
+        ensures { result ≡ 0 }
+    {
+        FolderLibrary { rt, faults: 0 }
+    }
+}
+
+// What it means that a file was not opened.
+fn refused(error: &io::Error) -> Loaded
+    ensures missing { (result ≡ Loaded.NoFile) ↔ (error_kind error.now ≡ ErrorKind.NotFound) }
+    ensures memory { (result ≡ Loaded.OutOfMemory) ↔ (error_kind error.now ≡ ErrorKind.OutOfMemory) }
+    ensures never { result ≢ Loaded.Done }
+{
+    match error.kind() {
+        ErrorKind::NotFound => Loaded::NoFile,
+        ErrorKind::OutOfMemory => Loaded::OutOfMemory,
+        _ => Loaded::Failed,
+    }
+}
+
+// Appends what is left of a file.
+fn append_all<F: Read>(file: &mut F, into: &mut Vec<u8>) -> Loaded
+    ensures opened { result ≢ Loaded.NoFile }
+    ensures appends { Appends into.old.items into.new.items }
+    ensures longest { vec_len into.new ≤ vec_len into.old + 2 ^ 30 }
+{
+    let mut piece = [0u8; 4096];
+    let mut taken = 0usize;
+    for _ in 0..u64::MAX {
+        match file.read(&mut piece) {
+            Ok(0) => return Loaded::Done,
+            Ok(count) => {
+                if count > LONGEST - taken {
+                    return Loaded::Failed;
+                }
+                taken += count;
+                if into.extend_from_slice(&piece[..count]).is_err() {
+                    return Loaded::OutOfMemory;
+                }
+            }
+            Err(error) => match error.kind() {
+                ErrorKind::Interrupted => {}
+                ErrorKind::OutOfMemory => return Loaded::OutOfMemory,
+                _ => return Loaded::Failed,
+            },
+        }
+    }
+    Loaded::Failed
+}
+
+// The failures after an answer.
+fn counted(faults: u64, answer: Loaded) -> u64
+    ensures { result ≡ faults_after faults answer }
+{
+    match answer {
+        Loaded::Failed => faults.saturating_add(1),
+        Loaded::Done | Loaded::NoFile | Loaded::OutOfMemory => faults,
+    }
+}
+
+impl<R: Files + Drop> Library for FolderLibrary<R> {
+    ghost table = { λ _. None };
+
+    ghost faults = { λ library. library };
+
+    fn load(&mut self, name: &str, into: &mut Vec<u8>) -> Loaded
+        ensures faults { self.new ≡ faults_after self.old result }
+        ensures appends { Appends into.old.items into.new.items }
+        ensures longest { vec_len into.new ≤ vec_len into.old + 2 ^ 30 }
+        ensures kept { result ≢ Loaded.Done → into.new.items ≡ into.old.items }
+    {
+        let before = into.len();
+        let answer = match fs::open(&self.rt, name) {
+            Ok(mut file) => append_all(&mut file, into),
+            Err(error) => refused(&error),
+        };
+        self.faults = counted(self.faults, answer);
+        if answer != Loaded::Done {
+            into.truncate(before);
+        }
+        answer
+    }
+}

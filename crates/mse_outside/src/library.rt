@@ -1,0 +1,34 @@
+// A library of files, by its told table and its count of failures.
+ghost use Rattle.std.specs.Prelude.{◌≡◌, ◌≢◌, ◌≤◌, ℕ, Option, IfSome};
+ghost use Rattle.mse_outside.specs.Outside.{Rose, Appends, Table, LoadTells};
+
+/// What a load answers.
+#[derive(Clone, Copy, Debug, PartialEq, Eq)]
+pub enum Loaded {
+    /// The bytes of the file were appended.
+    Done,
+    /// There is no file of this name.
+    NoFile,
+    /// The file was not read. The library has counted this failure.
+    Failed,
+    /// There was no memory for the bytes.
+    OutOfMemory,
+}
+
+/// Files by name.
+pub trait Library {
+    /// The bytes of each file by its name, where the library tells them.
+    ghost table: { Self → Option Table };
+
+    /// How often a load has failed. The count stands still at 2^64 - 1.
+    ghost faults: { Self → ℕ };
+
+    /// Appends the bytes of the file to `into`. After any answer but `Done`, `into` is as before.
+    fn load(&mut self, name: &str, into: &mut Vec<u8>) -> Loaded
+        ensures same { table self.new ≡ table self.old }
+        ensures told { IfSome (table self.old) (λ files. LoadTells (files name.now) into.old.items into.new.items result) }
+        ensures appends { Appends into.old.items into.new.items }
+        ensures kept { result ≢ Loaded.Done → into.new.items ≡ into.old.items }
+        ensures later { faults self.old ≤ faults self.new }
+        ensures cause { result ≡ Loaded.Failed → Rose (faults self.old) (faults self.new) };
+}

@@ -1,0 +1,29 @@
+// A sink of bytes, by what was written and its count of failures.
+ghost use Rattle.std.specs.Prelude.{◌≡◌, ◌≤◌, ℕ, List, Option};
+ghost use Rattle.mse_outside.specs.Outside.{Rose, PutsOn};
+
+/// What a put answers.
+#[derive(Clone, Copy, Debug, PartialEq, Eq)]
+pub enum Put {
+    /// All bytes were appended.
+    Done,
+    /// The bytes were not all appended. The sink has counted this failure.
+    Failed,
+    /// There was no memory for the bytes.
+    OutOfMemory,
+}
+
+/// Takes bytes.
+pub trait Sink {
+    /// The bytes that were appended so far, where the sink tells them.
+    ghost written: { Self → Option (List ℕ) };
+
+    /// How often a put has failed. The count stands still at 2^64 - 1.
+    ghost faults: { Self → ℕ };
+
+    /// Appends the bytes. After any answer but `Done`, a front part of them was appended.
+    fn put(&mut self, bytes: &[u8]) -> Put
+        ensures told { PutsOn bytes.now (written self.old) (written self.new) result }
+        ensures later { faults self.old ≤ faults self.new }
+        ensures cause { result ≡ Put.Failed → Rose (faults self.old) (faults self.new) };
+}

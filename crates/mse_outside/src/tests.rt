@@ -1,0 +1,124 @@
+// What no clause says: that calls succeed where there is memory, and what the real folder and standard output do.
+ghost use Rattle.std.specs.Prelude.{◌≡◌, ◌<◌, IfOk, vec_len, length};
+
+use crate::*;
+use std::alloc::{AllocError, Global};
+use std::cell::RefCell;
+use std::fmt::Display;
+use std::test::Fail;
+use std::{fs, io};
+
+fn one_name(alloc: Global, name: &str) -> Result<Vec<String>, AllocError>
+    ensures { IfOk result (λ names. vec_len names ≡ 1) }
+{
+    Ok(vec![in alloc; String::from_str(alloc, name)?]?)
+}
+
+fn one_content(alloc: Global, bytes: &[u8]) -> Result<Vec<Vec<u8>>, AllocError>
+    ensures { IfOk result (λ contents. vec_len contents ≡ 1) }
+{
+    Ok(vec![in alloc; bytes.to_vec(alloc)?]?)
+}
+
+#[test]
+fn loads_from_memory(rt: HostRuntime) -> Result<(), Fail> {
+    let alloc = rt.alloc();
+    let mut into = vec![in alloc; 9u8]?;
+    let names = one_name(alloc, "V1")?;
+    let contents = one_content(alloc, &[1, 2])?;
+    let mut library = MemoryLibrary::new(alloc, names, contents, vec![in alloc; 2u64]?);
+    assert_eq!(rt; library.load("V1", &mut into), Loaded::Done);
+    assert_eq!(rt; library.load("V1", &mut into), Loaded::Failed);
+    assert_eq!(rt; library.load("V2", &mut into), Loaded::NoFile);
+    assert_eq!(rt; into.as_slice(), [9, 1, 2].as_slice());
+    let mut sure = SureLibrary::new(alloc, one_name(alloc, "V1")?, one_content(alloc, &[3])?);
+    assert_eq!(rt; sure.load("V1", &mut into), Loaded::Done);
+    assert_eq!(rt; sure.load("", &mut into), Loaded::NoFile);
+    assert_eq!(rt; into.as_slice(), [9, 1, 2, 3].as_slice());
+    Ok(())
+}
+
+#[test]
+fn puts_into_memory(rt: HostRuntime) -> Result<(), Fail> {
+    let alloc = rt.alloc();
+    let mut sink = MemorySink::new(alloc, vec![in alloc; (2u64, 1u64), (3, 9)]?);
+    assert_eq!(rt; sink.put(b"ab"), Put::Done);
+    assert_eq!(rt; sink.put(b"cd"), Put::Failed);
+    assert_eq!(rt; sink.put(b"ef"), Put::Failed);
+    assert_eq!(rt; sink.put(b"gh"), Put::Done);
+    assert_eq!(rt; sink.written(), b"abcefgh".as_slice());
+    let mut sure = SureSink::new(alloc);
+    assert_eq!(rt; sure.put(b"ab"), Put::Done);
+    assert_eq!(rt; sure.written(), b"ab".as_slice());
+    Ok(())
+}
+
+#[test]
+fn loads_from_a_folder(rt: HostRuntime) -> Result<(), Fail> {
+    fs::create_dir(&rt, "loads_from_a_folder")?;
+    fs::write(&rt, "loads_from_a_folder/file", b"abc")?;
+    let mut into = vec![in rt.alloc(); 9u8]?;
+    let mut library = FolderLibrary::new(rt);
+    let cases = [
+        ("loads_from_a_folder/file", Loaded::Done),
+        ("loads_from_a_folder/other", Loaded::NoFile),
+        ("", Loaded::NoFile),
+        ("loads_from_a_folder", Loaded::Failed),
+        ("loads_from_a_folder/file/file", Loaded::Failed),
+        ("loads_from_a_folder/file\0", Loaded::Failed),
+    ];
+    for (name, answer) in cases {
+        assert_eq!(rt; library.load(name, &mut into), answer, "at {name:?}");
+    }
+    assert_eq!(rt; into.as_slice(), b"\x09abc".as_slice());
+    fs::remove_dir_all(&rt, "loads_from_a_folder")?;
+    Ok(())
+}
+
+#[test]
+fn puts_on_standard_output(rt: HostRuntime) {
+    let mut sink = StdoutSink::new(rt);
+    assert_eq!(rt; sink.put(b"a line\n"), Put::Done);
+    assert_eq!(rt; sink.put(b""), Put::Done);
+}
+
+// Takes at most two bytes at a time, and none where it has ten.
+#[derive(Drop)]
+struct Slow<'a> {
+    taken: &'a RefCell<Vec<u8>>,
+}
+
+impl Print for Slow<'_> {
+    fn print<D: Display + Drop>(&self, _: D) -> io::Result<()> {
+        Err(io::Error::from(io::ErrorKind::Unsupported))
+    }
+
+    fn println<D: Display + Drop>(&self, _: D) -> io::Result<()> {
+        Err(io::Error::from(io::ErrorKind::Unsupported))
+    }
+
+    fn write_all(&self, _: &[u8]) -> io::Result<()> {
+        Err(io::Error::from(io::ErrorKind::Unsupported))
+    }
+
+    fn write_some(&self, bytes: &[u8]) -> io::Result<usize> {
+        let Ok(mut taken) = self.taken.try_borrow_mut() else {
+            return Ok(0);
+        };
+        let room = 10usize.saturating_sub(taken.len());
+        let count = bytes.len().min(2).min(room);
+        taken.extend_from_slice(&bytes[..count])?;
+        Ok(count)
+    }
+}
+
+#[test]
+fn puts_all_bytes(rt: HostRuntime) -> Result<(), Fail> {
+    let taken = RefCell::new(Vec::new(rt.alloc()));
+    let mut sink = StdoutSink::new(Slow { taken: &taken });
+    assert_eq!(rt; sink.put(b"abcde"), Put::Done);
+    assert_eq!(rt; sink.put(b"fghij"), Put::Done);
+    assert_eq!(rt; sink.put(b"k"), Put::Failed);
+    assert_eq!(rt; taken.try_borrow()?.as_slice(), b"abcdefghij".as_slice());
+    Ok(())
+}
