@@ -1,0 +1,4 @@
+pub mod HeaderLaws
+pub mod ChildLaws
+pub mod RowLaws
+pub mod FieldLaws

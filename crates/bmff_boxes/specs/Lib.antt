@@ -1,0 +1,6 @@
+pub mod Headers
+pub mod Children
+pub mod Rows
+pub mod Fields
+pub mod MovieFields
+pub mod FragmentFields

@@ -1,0 +1,4 @@
+pub mod Walks
+pub mod Runs
+pub mod Pieces
+pub mod Examples

@@ -1,0 +1,31 @@
+use Rattle.std.proofs.Common.{refl}
+use Rattle.parser_loop.specs.Walk.{items_from, settle, run}
+use Rattle.parser_loop.proofs.example.example_law.Goals as goal
+
+pub returns-clause-items : goal.returns-clause-items
+unfolding items_from
+returns-clause-items c = refl
+
+pub returns-clause-ended : goal.returns-clause-ended
+unfolding items_from
+returns-clause-ended c = refl
+
+pub returns-clause-state : goal.returns-clause-state
+unfolding settle
+returns-clause-state c = refl
+
+pub returns-clause-ahead : goal.returns-clause-ahead
+unfolding run
+returns-clause-ahead c = refl
+
+pub returns-clause-pieces : goal.returns-clause-pieces
+unfolding run
+returns-clause-pieces c = refl
+
+pub returns-clause-first : goal.returns-clause-first
+unfolding run
+returns-clause-first c = refl
+
+pub returns-clause-after : goal.returns-clause-after
+unfolding run
+returns-clause-after c = refl

@@ -1,0 +1,38 @@
+-- A small walk, which shows what the definitions compute: it gives the characters of a text that ends at a zero
+-- byte, the zero byte as the last item, and passes over blanks.
+use Rattle.std.specs.Prelude.{ℕ, ◌==◌, Bool, true, false, List, [], ◌∷◌, ◌++◌, length, if◌then◌else◌}
+use Rattle.parser_loop.specs.Walk.{Move, Stop, Pass, Give, Kind}
+
+-- the bytes that are not walked over yet, and whether the zero byte was met
+pub record Reading : Type 0 where
+  pub rest : List ℕ
+  pub ended : Bool
+
+abbrev pub reading : List ℕ → Reading
+reading rest = record { rest = rest; ended = false }
+
+abbrev pub read_byte : ℕ → List ℕ → Move Reading ℕ
+read_byte b rest =
+    if b == 0 then Give 0 (record { rest = []; ended = true })
+    else (if b == 32 then Pass (reading rest) else Give b (reading rest))
+
+abbrev pub move_by : Bool → List ℕ → Move Reading ℕ
+move_by true rest = Stop
+move_by false [] = Stop
+move_by false (b ∷ rest) = read_byte b rest
+
+abbrev pub more_by : Bool → List ℕ → List ℕ → Reading
+more_by true rest c = record { rest = rest; ended = true }
+more_by false rest c = reading (rest ++ c)
+
+abbrev pub is_letter : ℕ → Bool
+is_letter b = if b == 0 then false else true
+
+abbrev pub zero_ended : Kind Reading ℕ
+zero_ended = record {
+  move = λ s. move_by s.ended s.rest;
+  size = λ s. length s.rest;
+  more = λ s c. more_by s.ended s.rest c;
+  ends = λ b. b == 0;
+  runs = is_letter;
+}

@@ -1,0 +1,16 @@
+//! The segment parser loop of Media Source Extensions, in general: a walk over a string of bytes that comes
+//! in pieces, which gives items one after the other.
+//!
+//! It stands on no other crate, and has definitions and laws and no code that runs. A parser above it says what a
+//! move of its walk is, shows that this is a walk (`IsWalk`), and has every law here for its own items.
+//!
+//! Its main contract is that of `prefix_law`: however many bytes follow, the items of the longer string begin with
+//! those of the shorter one, and are the same where one of them ends the walk. `kept_law` says that what a parser
+//! keeps between two pieces gives just the items of the whole string.
+#![tactic(auto)]
+
+mod example;
+mod laws;
+
+pub use example::example_law;
+pub use laws::{items_law, kept_law, prefix_law, run_law, state_law};
