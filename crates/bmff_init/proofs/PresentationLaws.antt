@@ -1,0 +1,253 @@
+-- What every presentation that is read has: distinct numbers, shifts in range, at most 64 tracks, and a duration.
+use Rattle.std.proofs.Common.{◌≡◌, ◌≢◌, ℕ, ◌+◌, ◌≤◌, ◌^◌, ◌==◌, Bool, true, false, cond, if◌then◌else◌, not, ◌&&◌, ◌||◌, int_le, ℤ, pos, ◌≤ℤ◌, List, [], ◌∷◌, ◌++◌, length, drop, Option, Some, None, Result, Ok, Err, IfOk, refl, ◌∙◌, subst, arith}
+use Rattle.std.specs.Prelude.{nat_le}
+use Rattle.std.specs.List.{AllByRecursion, list_any, prefix_len}
+use Rattle.std.proofs.lemmas.Int.{ints}
+use Rattle.std.proofs.lemmas.List.{length-append}
+use Rattle.std.proofs.lemmas.Bool.Decides.{nat_tests}
+use lib.Chars.{codes}
+use Rattle.mse_base.specs.Time.{converted}
+use Rattle.mse_base.specs.Presentation.{has_id, IsReadable, HasDistinctIds, IsPresentation}
+use Rattle.mse_base.specs.declared.ticks.Moment.TheVariants.{Nan, At, Infinite}
+use Rattle.mse_base.specs.declared.track.Kind.{Kind}
+use Rattle.mse_base.specs.declared.track.Kind.TheVariants.{Video, Audio, Other}
+use Rattle.mse_base.specs.declared.track.TrackInfo.{TrackInfo}
+use Rattle.mse_base.specs.declared.track.Presentation.{Presentation}
+use Rattle.bmff_boxes.specs.declared.entries.EditEntry.{EditEntry}
+use Rattle.bmff_boxes.specs.MovieFields.{mdhd_scale_of, tkhd_track_of}
+use Rattle.bmff_boxes.specs.Rows.{BoxView, row_of, first_of, all_of}
+use Rattle.bmff_init.specs.declared.fault.InitFault.{InitFault}
+use Rattle.bmff_init.specs.declared.fault.InitFault.TheVariants.{Size, Missing, EditList, ZeroTimescale, DuplicateTrack, TooManyTracks}
+use Rattle.bmff_init.specs.declared.fault.InitError.{InitError}
+use Rattle.bmff_init.specs.declared.form.Form.{Form}
+use Rattle.bmff_init.specs.declared.edits.Shifts.{Shifts}
+use Rattle.bmff_init.specs.declared.track.Content.{Content}
+use Rattle.bmff_init.specs.Reading.{◌>>=◌, need, check, payload_of}
+use Rattle.bmff_init.specs.Answers.{Gives}
+use Rattle.bmff_init.specs.Edits.{edits_of, is_empty_edit, presents_media, media_time_of, empty_duration, empty_shift_of, shifts_with, shifts_by, shifts_in_list, shifts_in}
+use Rattle.bmff_init.specs.Tracks.{media_scale_of, codec_in, media_content, content_of, number_of, media_of, kind_in, track_with, track_of, tracks_of}
+use Rattle.bmff_init.specs.Movies.{moment_of, times_of, extends_of, presentation_in, presentation_of}
+use Rattle.bmff_init.proofs.TimeLaws.{converted-is}
+
+-- ---- the parts of a reading that gave a value
+
+bound : {A B F : Type 0} (r : Result A F) (next : A → Result B F) (y : B) → (r >>= next) ≡ Ok y → (x : A) × (r ≡ Ok x) × (next x ≡ Ok y)
+bound (Ok x) next y e = (x, refl, e)
+bound (Err fault) next y e = absurd (cc)
+
+checked : (fault : InitFault) (t x : Bool) → check fault t ≡ Ok x → t ≡ true
+checked fault true x e = refl
+checked fault false x e = absurd (cc)
+
+same_ok : {A : Type 0} (x y : A) (r : Result A InitFault) → r ≡ Ok x → r ≡ Ok y → x ≡ y
+same_ok x y r e h = cc
+
+not_zero : (n : ℕ) → not (n == 0) ≡ true → 1 ≤ n
+not_zero n e = grind (arith, nat_tests)
+
+-- ---- the shifts of a track
+
+pub record InRange (shifts : Shifts) : Type 0 where
+  pub media : pos 0 ≤ℤ shifts.media
+  pub low : pos 0 ≤ℤ shifts.empty
+  pub high : shifts.empty ≤ℤ pos (2 ^ 109)
+
+none_in_range : (shifts : Shifts) → record { media = pos 0; empty = pos 0 } ≡ shifts → InRange shifts
+none_in_range shifts e = subst InRange e (record { media = omega (arith, ints); low = omega (arith, ints); high = omega (arith, ints) })
+
+first_of_both : (a b : Bool) → (a && b) ≡ true → a ≡ true
+first_of_both true b e = refl
+first_of_both false b e = absurd (cc)
+
+abbrev when : Bool → ℤ → Result ℤ InitFault
+when t z = cond t (Ok z) (Err EditList)
+
+media_by : (edit : EditEntry) (media : ℤ) (t : Bool) → presents_media edit ≡ t → when t edit.media_time ≡ Ok media → pos 0 ≤ℤ media
+media_by edit media true e h =
+    let is : edit.media_time ≡ media = cc in
+    let le : int_le (pos 0) edit.media_time ≡ true = first_of_both _ _ e in
+    let here : pos 0 ≤ℤ edit.media_time = grind (arith, ints) in
+    subst (λ z. pos 0 ≤ℤ z) is here
+media_by edit media false e h = absurd (cc)
+
+media_in_range : (edits : List EditEntry) (media : ℤ) → media_time_of edits ≡ Ok media → pos 0 ≤ℤ media
+media_in_range [] media e = absurd (cc)
+media_in_range (edit ∷ []) media e = media_by edit media _ refl e
+media_in_range (edit ∷ next ∷ edits) media e = absurd (cc)
+
+empty_in_range : (scale duration : ℕ) (empty : ℤ) → empty_shift_of scale duration ≡ Ok empty → (pos 0 ≤ℤ empty) × (empty ≤ℤ pos (2 ^ 109))
+empty_in_range scale duration empty e =
+    let b = bound (check EditList (int_le (converted (pos duration) scale) (pos (2 ^ 109)))) (λ _. Ok (converted (pos duration) scale)) empty e in
+    let le = checked EditList _ _ b.1 in
+    let is : converted (pos duration) scale ≡ empty = same_ok _ _ (Ok (converted (pos duration) scale)) refl b.2 in
+    let high : converted (pos duration) scale ≤ℤ pos (2 ^ 109) = grind (arith, ints, le) in
+    let low : pos 0 ≤ℤ converted (pos duration) scale = rw (converted-is duration scale) (omega (arith, ints)) in
+    subst (λ z. (pos 0 ≤ℤ z) × (z ≤ℤ pos (2 ^ 109))) is (low, high)
+
+with_in_range : (edits : List EditEntry) (scale duration : ℕ) (shifts : Shifts) → shifts_with (media_time_of edits) (empty_shift_of scale duration) ≡ Ok shifts → InRange shifts
+with_in_range edits scale duration shifts e =
+    let m = bound (media_time_of edits) (λ media. empty_shift_of scale duration >>= λ empty. Ok (record { media = media; empty = empty })) shifts e in
+    let s = bound (empty_shift_of scale duration) (λ empty. Ok (record { media = m.0; empty = empty })) shifts m.2 in
+    let range = empty_in_range scale duration s.0 s.1 in
+    let all : InRange (record { media = m.0; empty = s.0 }) = record { media = media_in_range edits m.0 m.1; low = range.0; high = range.1 } in
+    subst InRange (same_ok _ _ (Ok (record { media = m.0; empty = s.0 })) refl s.2) all
+
+by_in_range : (scale : ℕ) (edits : List EditEntry) (shifts : Shifts) → shifts_by scale edits ≡ Ok shifts → InRange shifts
+by_in_range scale [] shifts e = none_in_range shifts (same_ok _ _ (Ok (record { media = pos 0; empty = pos 0 })) refl e)
+by_in_range scale (edit ∷ edits) shifts e = with_in_range (drop (prefix_len is_empty_edit (edit ∷ edits)) (edit ∷ edits)) scale (empty_duration (edit ∷ edits)) shifts e
+
+list_in_range : (scale : ℕ) (elst : Option (List ℕ)) (shifts : Shifts) → shifts_in_list scale elst ≡ Ok shifts → InRange shifts
+list_in_range scale None shifts e = none_in_range shifts (same_ok _ _ (Ok (record { media = pos 0; empty = pos 0 })) refl e)
+list_in_range scale (Some elst) shifts e = let b = bound (edits_of elst) (shifts_by scale) shifts e in by_in_range scale b.0 shifts b.2
+
+shifts_in_range : (scale : ℕ) (edts : Option (List ℕ)) (shifts : Shifts) → shifts_in scale edts ≡ Ok shifts → InRange shifts
+shifts_in_range scale None shifts e = none_in_range shifts (same_ok _ _ (Ok (record { media = pos 0; empty = pos 0 })) refl e)
+shifts_in_range scale (Some edts) shifts e =
+    let b = bound (need Size (row_of edts)) (λ boxes. shifts_in_list scale (first_of (codes "elst") boxes)) shifts e in
+    list_in_range scale (first_of (codes "elst") b.0) shifts b.2
+
+-- ---- a track
+
+pub record Fits (content : Content) : Type 0 where
+  pub scale : 1 ≤ content.scale
+  pub media : pos 0 ≤ℤ content.media_shift
+  pub low : pos 0 ≤ℤ content.empty_shift
+  pub high : content.empty_shift ≤ℤ pos (2 ^ 109)
+
+scale_in_range : (media : List BoxView) (scale : ℕ) → media_scale_of media ≡ Ok scale → 1 ≤ scale
+scale_in_range media scale e =
+    let a = bound (need (Missing (codes "mdhd")) (first_of (codes "mdhd") media)) (λ mdhd. need Size (mdhd_scale_of mdhd) >>= λ s. check ZeroTimescale (not (s == 0)) >>= λ _. Ok s) scale e in
+    let b = bound (need Size (mdhd_scale_of a.0)) (λ s. check ZeroTimescale (not (s == 0)) >>= λ _. Ok s) scale a.2 in
+    let c = bound (check ZeroTimescale (not (b.0 == 0))) (λ _. Ok b.0) scale b.2 in
+    let some : 1 ≤ b.0 = not_zero b.0 (checked ZeroTimescale _ _ c.1) in
+    subst (λ n. 1 ≤ n) (same_ok _ _ (Ok b.0) refl c.2) some
+
+media_fits : (form : Form) (scale : ℕ) (track media : List BoxView) (content : Content) → media_content form scale track media ≡ Ok content → Fits content
+unfolding media_content
+media_fits form scale track media content e =
+    let a = bound (media_scale_of media) (λ s. codec_in form media >>= λ codec. shifts_in scale (first_of (codes "edts") track) >>= λ shifts. Ok (record { codec = codec; scale = s; media_shift = shifts.media; empty_shift = shifts.empty })) content e in
+    let b = bound (codec_in form media) (λ codec. shifts_in scale (first_of (codes "edts") track) >>= λ shifts. Ok (record { codec = codec; scale = a.0; media_shift = shifts.media; empty_shift = shifts.empty })) content a.2 in
+    let c = bound (shifts_in scale (first_of (codes "edts") track)) (λ shifts. Ok (record { codec = b.0; scale = a.0; media_shift = shifts.media; empty_shift = shifts.empty })) content b.2 in
+    let range = shifts_in_range scale (first_of (codes "edts") track) c.0 c.1 in
+    let all : Fits (record { codec = b.0; scale = a.0; media_shift = c.0.media; empty_shift = c.0.empty }) = record { scale = scale_in_range media a.0 a.1; media = range.media; low = range.low; high = range.high } in
+    subst Fits (same_ok _ _ (Ok (record { codec = b.0; scale = a.0; media_shift = c.0.media; empty_shift = c.0.empty })) refl c.2) all
+
+content_fits : (form : Form) (scale : ℕ) (kind : Kind) (track media : List BoxView) (content : Content) → content_of form scale kind track media ≡ Ok content → Fits content
+content_fits form scale Other track media content e =
+    let none : Content = record { codec = 0 ∷ 0 ∷ 0 ∷ 0 ∷ []; scale = 1; media_shift = pos 0; empty_shift = pos 0 } in
+    let all : Fits none = record { scale = omega arith; media = omega (arith, ints); low = omega (arith, ints); high = omega (arith, ints) } in
+    subst Fits (same_ok _ _ (Ok none) refl e) all
+content_fits form scale Video track media content e = media_fits form scale track media content e
+content_fits form scale Audio track media content e = media_fits form scale track media content e
+
+not_taken : (t : Bool) → not t ≡ true → t ≡ false
+not_taken true e = absurd (cc)
+not_taken false e = refl
+
+new_number : (before : List TrackInfo) (track : List BoxView) (id : ℕ) → number_of before track ≡ Ok id → list_any (has_id id) before ≡ false
+new_number before track id e =
+    let a = bound (need (Missing (codes "tkhd")) (first_of (codes "tkhd") track)) (λ tkhd. need Size (tkhd_track_of tkhd) >>= λ n. check DuplicateTrack (not (list_any (has_id n) before)) >>= λ _. Ok n) id e in
+    let b = bound (need Size (tkhd_track_of a.0)) (λ n. check DuplicateTrack (not (list_any (has_id n) before)) >>= λ _. Ok n) id a.2 in
+    let c = bound (check DuplicateTrack (not (list_any (has_id b.0) before))) (λ _. Ok b.0) id b.2 in
+    let fresh = not_taken _ (checked DuplicateTrack _ _ c.1) in
+    subst (λ n. list_any (has_id n) before ≡ false) (same_ok _ _ (Ok b.0) refl c.2) fresh
+
+-- what a track has that comes behind others
+pub record Joins (before : List TrackInfo) (track : TrackInfo) : Type 0 where
+  pub readable : IsReadable track
+  pub fresh : list_any (has_id track.id) before ≡ false
+
+track_joins : (form : Form) (scale : ℕ) (trexes : List (List ℕ)) (before : List TrackInfo) (trak : List ℕ) (track : TrackInfo) → track_of form scale trexes before trak ≡ Ok track → Joins before track
+unfolding track_of
+track_joins form scale trexes before trak track e =
+    let a = bound (need Size (row_of trak)) (λ boxes. number_of before boxes >>= λ id. media_of boxes >>= λ media. kind_in media >>= λ kind. content_of form scale kind boxes media >>= λ content. Ok (track_with trexes id kind content)) track e in
+    let b = bound (number_of before a.0) (λ id. media_of a.0 >>= λ media. kind_in media >>= λ kind. content_of form scale kind a.0 media >>= λ content. Ok (track_with trexes id kind content)) track a.2 in
+    let c = bound (media_of a.0) (λ media. kind_in media >>= λ kind. content_of form scale kind a.0 media >>= λ content. Ok (track_with trexes b.0 kind content)) track b.2 in
+    let d = bound (kind_in c.0) (λ kind. content_of form scale kind a.0 c.0 >>= λ content. Ok (track_with trexes b.0 kind content)) track c.2 in
+    let f = bound (content_of form scale d.0 a.0 c.0) (λ content. Ok (track_with trexes b.0 d.0 content)) track d.2 in
+    let fits = content_fits form scale d.0 a.0 c.0 f.0 f.1 in
+    let all : Joins before (track_with trexes b.0 d.0 f.0) = record { readable = (fits.scale, fits.media, fits.low, fits.high); fresh = new_number before a.0 b.0 b.1 } in
+    subst (Joins before) (same_ok _ _ (Ok (track_with trexes b.0 d.0 f.0)) refl f.2) all
+
+-- ---- the tracks
+
+all_push : {X : Type 0} (P : X → Type 0) (xs : List X) (x : X) → AllByRecursion P xs → P x → AllByRecursion P (xs ++ x ∷ [])
+all_push P [] x h p = (p, tt)
+all_push P (y ∷ ys) x h p = (h.0, all_push P ys x h.1 p)
+
+neither : (a b : Bool) → (a || b) ≡ false → (a ≡ false) × (b ≡ false)
+neither true b e = absurd (cc)
+neither false b e = (refl, e)
+
+other_number : (n m : ℕ) → (n == m) ≡ false → n ≡ m → ⊥
+other_number n m e h = grind (arith, nat_tests)
+
+distinct_push : (tracks : List TrackInfo) (track : TrackInfo) → HasDistinctIds tracks → list_any (has_id track.id) tracks ≡ false → HasDistinctIds (tracks ++ track ∷ [])
+distinct_push [] track h e = (tt, tt)
+distinct_push (t ∷ ts) track h e =
+    let n = neither (has_id track.id t) (list_any (has_id track.id) ts) e in
+    (all_push (λ (u : TrackInfo). t.id ≢ u.id) ts track h.0 (other_number t.id track.id n.0), distinct_push ts track h.1 n.1)
+
+pub record AreTracks (tracks : List TrackInfo) (count : ℕ) : Type 0 where
+  pub readable : AllByRecursion IsReadable tracks
+  pub distinct : HasDistinctIds tracks
+  pub counted : length tracks ≡ count
+
+tracks_join : (traks : List (List ℕ)) (form : Form) (scale : ℕ) (trexes : List (List ℕ)) (before tracks : List TrackInfo) (count : ℕ) → AreTracks before count → tracks_of form scale trexes before traks ≡ Ok tracks
+    → AreTracks tracks (count + length traks)
+unfolding tracks_of
+tracks_join [] form scale trexes before tracks count h e =
+    let is : before ≡ tracks = same_ok _ _ (Ok before) refl e in
+    let counted = h.counted in
+    subst (λ ts. AreTracks ts (count + 0)) is (record { readable = h.readable; distinct = h.distinct; counted = omega arith })
+tracks_join (trak ∷ traks) form scale trexes before tracks count h e =
+    let b = bound (track_of form scale trexes before trak) (λ track. tracks_of form scale trexes (before ++ track ∷ []) traks) tracks e in
+    let j = track_joins form scale trexes before trak b.0 b.1 in
+    let counted = h.counted in
+    let next : AreTracks (before ++ b.0 ∷ []) (count + 1) = record {
+      readable = all_push IsReadable before b.0 h.readable j.readable;
+      distinct = distinct_push before b.0 h.distinct j.fresh;
+      counted = length-append before (b.0 ∷ []) ∙ (omega arith);
+    } in
+    let rest = tracks_join traks form scale trexes (before ++ b.0 ∷ []) tracks (count + 1) next b.2 in
+    let same : (count + 1) + length traks ≡ count + length (trak ∷ traks) = omega arith in
+    subst (AreTracks tracks) same rest
+
+-- ---- the presentation
+
+timed_by : (t : Bool) (end : ℤ) → cond t Infinite (At end) ≡ Nan → ⊥
+timed_by true end e = cc
+timed_by false end e = cc
+
+presentation_in_is : (form : Form) (movie : List BoxView) (p : Presentation) → presentation_in form movie ≡ Ok p → IsPresentation p
+unfolding presentation_in
+presentation_in_is form movie p e =
+    let traks = all_of (codes "trak") movie in
+    let a = bound (times_of movie) (λ times. extends_of form movie >>= λ extends. check TooManyTracks (nat_le (length traks) 64) >>= λ _. tracks_of form times.scale extends.trexes [] traks >>= λ tracks. Ok (record { scale = times.scale; duration = moment_of times.scale (if extends.duration == 0 then times.duration else extends.duration); tracks = tracks })) p e in
+    let b = bound (extends_of form movie) (λ extends. check TooManyTracks (nat_le (length traks) 64) >>= λ _. tracks_of form a.0.scale extends.trexes [] traks >>= λ tracks. Ok (record { scale = a.0.scale; duration = moment_of a.0.scale (if extends.duration == 0 then a.0.duration else extends.duration); tracks = tracks })) p a.2 in
+    let duration = if b.0.duration == 0 then a.0.duration else b.0.duration in
+    let c = bound (check TooManyTracks (nat_le (length traks) 64)) (λ _. tracks_of form a.0.scale b.0.trexes [] traks >>= λ tracks. Ok (record { scale = a.0.scale; duration = moment_of a.0.scale duration; tracks = tracks })) p b.2 in
+    let d = bound (tracks_of form a.0.scale b.0.trexes [] traks) (λ tracks. Ok (record { scale = a.0.scale; duration = moment_of a.0.scale duration; tracks = tracks })) p c.2 in
+    let none : AreTracks [] 0 = record { readable = tt; distinct = tt; counted = refl } in
+    let are = tracks_join traks form a.0.scale b.0.trexes [] d.0 0 none d.1 in
+    let few : length traks ≤ 64 = few_from (length traks) (checked TooManyTracks _ _ c.1) in
+    let counted = are.counted in
+    let all : IsPresentation (record { scale = a.0.scale; duration = moment_of a.0.scale duration; tracks = d.0 }) = record {
+      readable = are.readable;
+      distinct = are.distinct;
+      few = omega arith;
+      timed = timed_by (duration == 0) (converted (pos duration) a.0.scale);
+    } in
+    subst IsPresentation (same_ok _ _ (Ok (record { scale = a.0.scale; duration = moment_of a.0.scale duration; tracks = d.0 })) refl d.2) all
+  where
+    few_from : (n : ℕ) → nat_le n 64 ≡ true → n ≤ 64
+    few_from n h = grind (arith, nat_tests)
+
+pub presentation-is : (form : Form) (moov : List ℕ) (p : Presentation) → presentation_of form moov ≡ Ok p → IsPresentation p
+presentation-is form moov p e =
+    let b = bound (need Size (row_of (payload_of moov))) (presentation_in form) p e in
+    presentation_in_is form b.0 p b.2
+
+pub gives-presentation : (form : Form) (moov : List ℕ) (r : Result Presentation InitError) → Gives (λ p. p) r (presentation_of form moov) → IfOk r IsPresentation
+gives-presentation form moov (Ok p) g = presentation-is form moov p g
+gives-presentation form moov (Err e) g = tt

@@ -1,0 +1,6 @@
+use Rattle.bmff_init.specs.declared.form.Form.TheVariants.{Fragmented}
+use Rattle.bmff_init.proofs.PresentationLaws.{gives-presentation}
+use Rattle.bmff_init.proofs.movie.read_init.Goals as goal
+
+pub returns-clause-presentation : goal.returns-clause-presentation
+returns-clause-presentation c = gives-presentation Fragmented c.args.moov.now c.read_presentation.result c.read_presentation.ensures.value

@@ -1,0 +1,5 @@
+pub mod Reading
+pub mod Edits
+pub mod Tracks
+pub mod Movies
+pub mod Answers
