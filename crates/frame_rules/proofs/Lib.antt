@@ -1,0 +1,5 @@
+pub mod AllTracks
+pub mod Loops
+pub mod Putting
+pub mod Rooms
+pub mod SoundPlaced

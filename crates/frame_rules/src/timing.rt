@@ -1,0 +1,122 @@
+ghost use Rattle.std.specs.Prelude.{◌≡◌, ◌||◌, ◌&&◌, ◌+ℤ◌, ◌-ℤ◌, ◌*ℤ◌, pos, Some, None, is_some};
+ghost use Rattle.frame_rules.specs.Timing.{raw_time, with_group_start, starts_group, one_pass, is_discontinuous, after_discontinuity, timing_of};
+
+use mse_base::{CodedFrame, Ticks};
+use track_store::{Marks, Settings};
+
+/// The times at which a frame is to be placed, and what finding them changes.
+#[derive(Clone, Copy)]
+pub struct Timing {
+    /// The presentation timestamp.
+    pub pts: Ticks,
+    /// The decode timestamp.
+    pub dts: Ticks,
+    /// The frame end timestamp.
+    pub end: Ticks,
+    /// The settings, with what steps 1.3 and 1.6 change.
+    pub settings: Settings,
+    /// Whether the frame begins at a group start timestamp that was set (step 1.3).
+    pub starts_group: bool,
+    /// Whether it follows a discontinuity (step 1.6).
+    pub discontinuity: bool,
+}
+
+/// Step 1.1: a time of a frame, which is 0 where timestamps are generated.
+fn raw_time(settings: &Settings, t: Ticks) -> Ticks
+    ensures { result ≡ raw_time settings.now t }
+{
+    if settings.generate { Ticks::zero() } else { t }
+}
+
+/// Whether step 1.3 has something to do.
+fn starts_group(settings: &Settings) -> bool
+    ensures { result ≡ starts_group settings.now }
+{
+    settings.sequence && settings.group_start.is_some()
+}
+
+/// Step 1.3: the settings where the offset moves so that the frame begins at the group start.
+fn with_group_start(settings: &Settings, pts: Ticks) -> Option<Settings>
+    ensures { result ≡ with_group_start settings.now pts }
+{
+    let mut moved = *settings;
+    if settings.sequence {
+        if let Some(start) = settings.group_start {
+            moved.offset = start.checked_sub(pts)?;
+            moved.group_end = start;
+            moved.group_start = None;
+        }
+    }
+    Some(moved)
+}
+
+/// Steps 1.1 to 1.4, and 1.7.
+fn one_pass(settings: &Settings, frame: &CodedFrame) -> Option<Timing>
+    ensures { result ≡ one_pass settings.now frame.now }
+{
+    let starts_group = starts_group(settings);
+    let raw_pts = raw_time(settings, frame.pts);
+    let raw_dts = raw_time(settings, frame.dts);
+    let settings = with_group_start(settings, raw_pts)?;
+    let pts = raw_pts.checked_add(settings.offset)?;
+    let dts = raw_dts.checked_add(settings.offset)?;
+    let end = pts.checked_add(frame.dur)?;
+    Some(Timing {
+        pts,
+        dts,
+        end,
+        settings,
+        starts_group,
+        discontinuity: false,
+    })
+}
+
+fn twice(a: Ticks) -> i128
+    ensures { result ≡ pos 2 *ℤ a }
+{
+    2 * a.get()
+}
+
+fn difference(a: Ticks, b: Ticks) -> i128
+    ensures { result ≡ a -ℤ b }
+{
+    a.get() - b.get()
+}
+
+/// Step 1.6: whether the decode timestamp goes back, or leaps by more than twice the last frame
+/// duration.
+fn is_discontinuous(marks: &Marks, dts: Ticks) -> bool
+    ensures { result ≡ is_discontinuous marks.now dts }
+{
+    match (marks.last_decode, marks.last_duration) {
+        (Some(last), Some(dur)) => dts < last || twice(dur) < difference(dts, last),
+        _ => false,
+    }
+}
+
+/// Step 1.6.1: the settings after a discontinuity at a presentation timestamp.
+fn after_discontinuity(settings: &Settings, pts: Ticks) -> Settings
+    ensures { result ≡ after_discontinuity settings.now pts }
+{
+    let mut after = *settings;
+    if settings.sequence {
+        after.group_start = Some(settings.group_end);
+    } else {
+        after.group_end = pts;
+    }
+    after
+}
+
+/// The times of a frame, by steps 1.1 to 1.7. After a discontinuity they start over, once: then no
+/// last decode timestamp is set.
+pub fn timing_of(settings: &Settings, marks: &Marks, frame: &CodedFrame) -> Option<Timing>
+    ensures { result ≡ timing_of settings.now marks.now frame.now }
+{
+    let first = one_pass(settings, frame)?;
+    if !is_discontinuous(marks, first.dts) {
+        return Some(first);
+    }
+    let mut second = one_pass(&after_discontinuity(&first.settings, first.pts), frame)?;
+    second.discontinuity = true;
+    Some(second)
+}

@@ -1,0 +1,152 @@
+ghost use Rattle.std.specs.Prelude.{◌≡◌, ◌<◌, ◌≤◌, ◌^◌, true, int_lt, ◌+ℤ◌, ◌-ℤ◌, pos, length, IfSome, slice_get};
+ghost use Rattle.std.specs.List.{AllByRecursion};
+ghost use Rattle.track_store.specs.Frames.{covers, overlapped};
+ghost use Rattle.track_store.specs.Sound.{Sound};
+ghost use Rattle.track_store.specs.State.{state_of};
+ghost use Rattle.overlap_rules.specs.Overlap.{rule_for, removed_from, with_room};
+ghost use Rattle.overlap_rules.specs.Steps.{CanApply, applied, applied_to, after_overlap, after_removal};
+
+use mse_base::{Kind, Moment, Ticks};
+use track_store::{FrameStore, Marks, Stored, Track};
+
+/// One microsecond in ticks: a video frame that began less than this before the new one goes.
+const MICROSECOND: i128 = 141_120;
+
+/// What becomes of the frame that a new one overlaps.
+#[derive(Drop)]
+pub enum OverlapRule {
+    /// It is removed.
+    Remove,
+    /// It gets this duration.
+    Shorten(Ticks),
+    /// It stays as it is.
+    Keep,
+}
+
+/// Whether a time is before the remove window timestamp of an overlapped frame.
+fn is_in_remove_window(stored: &Stored, pts: Ticks) -> bool
+    ensures { result ≡ int_lt pts (stored.now.frame.pts +ℤ pos 141120) }
+{
+    pts.get() < stored.frame.pts.get() + MICROSECOND
+}
+
+/// What becomes of an overlapped frame.
+fn rule_for(kind: Kind, pts: Ticks, stored: &Stored) -> OverlapRule
+    requires { covers pts stored.now ≡ true }
+    ensures { result ≡ rule_for kind pts stored.now }
+{
+    match kind {
+        Kind::Video => {
+            if is_in_remove_window(stored, pts) {
+                OverlapRule::Remove
+            } else {
+                OverlapRule::Keep
+            }
+        }
+        Kind::Audio => {
+            if stored.frame.pts == pts {
+                OverlapRule::Remove
+            } else {
+                shortened_to(stored, pts)
+            }
+        }
+        Kind::Other => OverlapRule::Keep,
+    }
+}
+
+/// The frame is cut to end at a time that falls within it.
+fn shortened_to(stored: &Stored, pts: Ticks) -> OverlapRule
+    requires { covers pts stored.now ≡ true }
+    ensures { result ≡ OverlapRule.Shorten (pts -ℤ stored.now.frame.pts) }
+{
+    // The part that stays is no longer than the frame, whose duration is in range.
+    let _longest = stored.frame.dur.get();
+    match pts.checked_sub(stored.frame.pts) {
+        Some(dur) => OverlapRule::Shorten(dur),
+        None => unreachable!(),
+    }
+}
+
+/// Does with the overlapped frame what its rule says.
+fn apply<S: FrameStore>(store: &mut S, i: usize, rule: OverlapRule)
+    requires in_range { i < length (S.frames store.old) }
+    requires shorter { IfSome (slice_get (S.frames store.old) i) (λ f. CanApply rule f) }
+    ensures frames { IfSome (slice_get (S.frames store.old) i)
+        (λ f. S.frames store.new ≡ applied rule f.serial (S.frames store.old)) }
+    ensures spare { S.spare store.old ≤ S.spare store.new }
+    ensures gap { S.gap store.new ≡ S.gap store.old }
+{
+    match rule {
+        OverlapRule::Remove => store.remove_at(i),
+        OverlapRule::Shorten(dur) => store.cut(i, dur),
+        OverlapRule::Keep => {}
+    }
+}
+
+/// Looks for the overlapped frame, and does with it what its rule says.
+fn resolve_overlap<S: FrameStore>(store: &mut S, kind: Kind, pts: Ticks)
+    ensures frames { S.frames store.new
+        ≡ applied_to kind pts (overlapped pts (S.frames store.old)) (S.frames store.old) }
+    ensures spare { S.spare store.old ≤ S.spare store.new }
+    ensures gap { S.gap store.new ≡ S.gap store.old }
+{
+    if let Some(i) = store.overlapped(pts) {
+        if let Some(stored) = store.get(i) {
+            let rule = rule_for(kind, pts, stored);
+            apply(store, i, rule);
+        }
+    }
+}
+
+/// Step 1.13, which looks for an overlapped frame only where no last decode timestamp is set.
+fn resolve_overlap_of_first<S: FrameStore>(track: &mut Track<S>, pts: Ticks)
+    ensures state { state_of S.frames track.new ≡ after_overlap pts (state_of S.frames track.old) }
+    ensures spare { S.spare track.old.store ≤ S.spare track.new.store }
+    ensures gap { S.gap track.new.store ≡ S.gap track.old.store }
+{
+    if track.marks.last_decode.is_none() {
+        resolve_overlap(&mut track.store, track.kind, pts);
+    }
+}
+
+/// From which time on step 1.14 removes frames, if it does.
+fn removed_from(marks: &Marks, pts: Ticks) -> Option<Ticks>
+    ensures { result ≡ removed_from marks.now.highest_end pts }
+{
+    match marks.highest_end {
+        None => Some(pts),
+        Some(highest) => { if highest <= pts { Some(highest) } else { None } }
+    }
+}
+
+/// Steps 1.14 and 1.15: existing frames in the interval of the new one go, with their decoding
+/// dependencies.
+fn remove_existing<S: FrameStore>(track: &mut Track<S>, pts: Ticks, end: Ticks)
+    requires { AllByRecursion (λ f. f.serial < 2 ^ 62) (S.frames track.old.store) }
+    ensures state { state_of S.frames track.new
+        ≡ after_removal pts end (state_of S.frames track.old) }
+    ensures spare { S.spare track.old.store ≤ S.spare track.new.store }
+    ensures gap { S.gap track.new.store ≡ S.gap track.old.store }
+{
+    match removed_from(&track.marks, pts) {
+        Some(from) => {
+            let below = track.marks.group_first.unwrap_or(u64::MAX);
+            track.store.remove_where_time(from, Moment::At(end), below);
+        }
+        None => {}
+    }
+}
+
+/// Makes room in a track buffer for a frame from `pts` to `end` (Media Source Extensions, coded
+/// frame processing, steps 1.13 to 1.15). It needs no memory. A track numbers its frames from 0,
+/// and receives at most `2^62`.
+pub fn make_room<S: FrameStore>(track: &mut Track<S>, pts: Ticks, end: Ticks)
+    requires { AllByRecursion (λ f. f.serial < 2 ^ 62) (S.frames track.old.store) }
+    ensures state { state_of S.frames track.new ≡ with_room pts end (state_of S.frames track.old) }
+    ensures sound { Sound (state_of S.frames track.old) → Sound (state_of S.frames track.new) }
+    ensures spare { S.spare track.old.store ≤ S.spare track.new.store }
+    ensures gap { S.gap track.new.store ≡ S.gap track.old.store }
+{
+    resolve_overlap_of_first(track, pts);
+    remove_existing(track, pts, end);
+}

@@ -1,0 +1,5 @@
+pub mod Clearing
+pub mod Folding
+pub mod Listing
+pub mod Overlapping
+pub mod Soundness

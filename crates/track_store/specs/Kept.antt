@@ -1,0 +1,33 @@
+-- What holds of all tracks of a source buffer.
+use Rattle.std.specs.Prelude.{ℕ, ◌<◌, ◌≤◌, ◌^◌, ℤ, ◌+ℤ◌, ◌≤ℤ◌, List, map, sum_by}
+use Rattle.std.specs.List.{AllByRecursion}
+use Rattle.track_store.specs.declared.store.Stored.{Stored}
+use Rattle.track_store.specs.declared.tracks.Track.{Track}
+use Rattle.track_store.specs.Frames.{used_of}
+use Rattle.track_store.specs.State.{TrackState}
+use Rattle.track_store.specs.Sound.{Sound}
+
+-- the bytes stored in all track buffers
+abbrev pub bytes_in : List TrackState → ℕ
+bytes_in ts = sum_by (λ t. used_of t.frames) ts
+
+-- the same of tracks with their stores
+abbrev pub bytes_of : {S : Type 0} → (S → List Stored) → List (Track S) → ℕ
+bytes_of frames ts = sum_by (λ t. used_of (frames t.store)) ts
+
+-- what every step keeps: each track buffer is sound, and the bytes of all can be counted
+pub record AreKept (ts : List TrackState) : Type 0 where
+  pub sound : AllByRecursion Sound ts
+  pub small : bytes_in ts < 2 ^ 62
+
+-- each stored frame ends at or before a time
+abbrev pub EndBy : ℤ → List TrackState → Type 0
+EndBy limit ts = AllByRecursion (λ t. AllByRecursion (λ f. (f.frame.pts +ℤ f.frame.dur) ≤ℤ limit) t.frames) ts
+
+-- each store has room for so many more frames
+abbrev pub HasRoom : {S : Type 0} → (S → ℕ) → ℕ → List (Track S) → Type 0
+HasRoom spare n ts = AllByRecursion (λ t. n ≤ spare t.store) ts
+
+-- across which gaps the ranges of each track join
+abbrev pub gaps_of : {S : Type 0} → (S → ℤ) → List (Track S) → List ℤ
+gaps_of gap ts = map (λ t. gap t.store) ts

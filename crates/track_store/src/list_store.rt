@@ -1,0 +1,301 @@
+ghost use Rattle.std.specs.Prelude.{◌≡◌, ◌||◌, ◌&&◌, not, ◌+◌, ◌<◌, ◌^◌, ◌≤◌, ◌≤ℤ◌, ◌+ℤ◌, pos, false, slice_get, vec_capacity, vec_len, IfSome, length, if◌then◌else◌, Some};
+ghost use Rattle.std.specs.List.{AllByRecursion};
+ghost use Rattle.mse_base.specs.Time.{IsTick};
+ghost use Rattle.track_store.specs.Frames.{cleared_after, is_before, covers, later_of, overlapped, found_at, lesser_of, greater_of, least, greatest, starts, ends, interval, ranges_of, sync_times_from, used_of, IsTimed};
+ghost use Rattle.track_store.specs.Named.{is_named};
+
+use crate::named::{Named, is_before};
+use crate::{FrameStore, Stored};
+use mse_base::{Moment, OutOfMemory, Ranges, Span, Ticks};
+use std::alloc::Global;
+use std::marker::Model;
+
+fn clear(frames: &mut Vec<Stored>, named: &Named)
+    ensures items { frames.new.items ≡ cleared_after false (is_named named.now) frames.old.items }
+    ensures capacity { vec_capacity frames.new ≡ vec_capacity frames.old }
+    ensures shorter { vec_len frames.new ≤ vec_len frames.old }
+{
+    let mut i = 0;
+    let mut gone = false;
+    while i < frames.len() {
+        gone = named.takes(&frames[i], gone);
+        if gone {
+            frames.remove(i);
+        } else {
+            i += 1;
+        }
+    }
+}
+
+fn covers(stored: &Stored, t: Ticks) -> bool
+    ensures { result ≡ covers t stored.now }
+{
+    stored.frame.pts <= t && t.get() < stored.frame.pts.get() + stored.frame.dur.get()
+}
+
+fn begins_no_later(frames: &[Stored], best: Option<usize>, stored: &Stored) -> bool
+    requires { IfSome best (λ i. i < length frames.now) }
+    ensures { later_of (found_at frames.now best) stored.now
+        ≡ (if result then Some stored.now else found_at frames.now best) }
+{
+    match best {
+        None => true,
+        Some(i) => frames[i].frame.pts <= stored.frame.pts,
+    }
+}
+
+/// The place of the later of two frames that hold the time, where the one at `i` holds it.
+fn later(frames: &[Stored], best: Option<usize>, i: usize, t: Ticks) -> Option<usize>
+    requires found { IfSome best (λ j. j < length frames.now) }
+    requires in_range { i < length frames.now }
+    ensures frame { IfSome (slice_get frames.now i) (λ f. found_at frames.now result
+        ≡ (if covers t f then later_of (found_at frames.now best) f
+        else found_at frames.now best)) }
+    ensures found { IfSome result (λ j. j < length frames.now) }
+{
+    let stored = &frames[i];
+    if covers(stored, t) && begins_no_later(frames, best, stored) {
+        Some(i)
+    } else {
+        best
+    }
+}
+
+fn overlapped(frames: &[Stored], t: Ticks) -> Option<usize>
+    ensures frame { found_at frames.now result ≡ overlapped t frames.now }
+    ensures in_range { IfSome result (λ i. i < length frames.now) }
+{
+    let mut best = None;
+    for i in 0..frames.len() {
+        best = later(frames, best, i, t);
+    }
+    best
+}
+
+fn lesser(best: Option<Ticks>, t: Ticks) -> Option<Ticks>
+    ensures { result ≡ lesser_of best t }
+{
+    match best {
+        None => Some(t),
+        Some(s) => Some(if s <= t { s } else { t }),
+    }
+}
+
+fn greater(best: Option<Ticks>, t: Ticks) -> Option<Ticks>
+    ensures { result ≡ greater_of best t }
+{
+    match best {
+        None => Some(t),
+        Some(s) => Some(if s <= t { t } else { s }),
+    }
+}
+
+fn is_sync_from(stored: &Stored, t: &Moment) -> bool
+    ensures { result ≡ (stored.now.frame.sync && not (is_before stored.now.frame.pts t.now)) }
+{
+    let before = is_before(stored.frame.pts, t);
+    stored.frame.sync && !before
+}
+
+fn sync_at_or_after(frames: &[Stored], t: &Moment) -> Option<Ticks>
+    ensures { result ≡ least (sync_times_from t.now frames.now) }
+{
+    let mut best = None;
+    for stored in frames {
+        if is_sync_from(stored, t) {
+            best = lesser(best, stored.frame.pts);
+        }
+    }
+    best
+}
+
+fn highest_start(frames: &[Stored]) -> Option<Ticks>
+    ensures { result ≡ greatest (starts frames.now) }
+{
+    let mut best = None;
+    for stored in frames {
+        best = greater(best, stored.frame.pts);
+    }
+    best
+}
+
+fn end_of(stored: &Stored) -> Ticks
+    requires { IsTick (stored.now.frame.pts +ℤ stored.now.frame.dur) }
+    ensures { result ≡ stored.now.frame.pts +ℤ stored.now.frame.dur }
+{
+    match stored.frame.pts.checked_add(stored.frame.dur) {
+        Some(end) => end,
+        None => unreachable!(),
+    }
+}
+
+fn highest_end(frames: &[Stored]) -> Option<Ticks>
+    requires { AllByRecursion IsTimed frames.now }
+    ensures { result ≡ greatest (ends frames.now) }
+{
+    let mut best = None;
+    for stored in frames {
+        best = greater(best, end_of(stored));
+    }
+    best
+}
+
+fn used(frames: &[Stored]) -> u64
+    requires { used_of frames.now < 2 ^ 62 }
+    ensures { result ≡ used_of frames.now }
+{
+    let mut total = 0;
+    for stored in frames {
+        total += stored.frame.payload.len() as u64;
+    }
+    total
+}
+
+fn interval(stored: &Stored) -> Span
+    requires { IsTick (stored.now.frame.pts +ℤ stored.now.frame.dur) }
+    ensures { result ≡ interval stored.now }
+{
+    Span {
+        start: stored.frame.pts,
+        end: end_of(stored),
+    }
+}
+
+/// Makes the ranges anew from all frames.
+fn rejoin(ranges: &mut Ranges, frames: &[Stored], gap: Ticks)
+    requires forward { pos 0 ≤ℤ gap }
+    requires timed { AllByRecursion IsTimed frames.now }
+    requires room { length frames.now ≤ ranges.old.spare + length ranges.old.spans }
+    ensures spans { ranges.new.spans ≡ ranges_of gap frames.now }
+    ensures room { ranges.old.spare + length ranges.old.spans
+        ≤ ranges.new.spare + length ranges.new.spans }
+{
+    ranges.clear();
+    for stored in frames {
+        ranges.add_span(interval(stored), gap);
+    }
+}
+
+/// A plain list of frames, with their ranges beside it: the store for tests. Its look-ups go
+/// through all frames, and each change makes the ranges anew.
+#[derive(Drop)]
+pub struct ListStore {
+    items: Vec<Stored>,
+    ranges: Ranges,
+    gap: Ticks,
+}
+
+impl Model for ListStore {
+    ghost use Rattle.std.specs.Prelude.{◌-◌, ◌+◌, length, min, vec_capacity, vec_len};
+    ghost use Rattle.track_store.specs.Frames.{Held};
+    ghost use Rattle.track_store.specs.Listed.{IsListed};
+
+    ghost Value = { Held };
+
+    ghost view = { λ s. record {
+      frames = s.items.items;
+      gap = s.gap;
+      spare = min (vec_capacity s.items - vec_len s.items)
+          ((s.ranges.spare + length s.ranges.spans) - vec_len s.items);
+    } };
+
+    ghost invariant = { λ s. IsListed s.items.items s.ranges.spans s.gap
+        (s.ranges.spare + length s.ranges.spans) };
+}
+
+impl ListStore {
+    ghost use Rattle.track_store.specs.Frames.{cleared};
+
+    fn remove(&mut self, named: &Named)
+        ensures frames { self.new.frames ≡ cleared (is_named named.now) self.old.frames }
+        ensures spare { self.old.spare ≤ self.new.spare }
+        ensures gap { self.new.gap ≡ self.old.gap }
+    {
+        clear(&mut self.items, named);
+        rejoin(&mut self.ranges, &self.items, self.gap);
+    }
+}
+
+impl FrameStore for ListStore {
+    ghost frames = { λ s. s.frames };
+
+    ghost spare = { λ s. s.spare };
+
+    ghost gap = { λ s. s.gap };
+
+    fn new(alloc: Global, tolerance: Ticks) -> Self {
+        ListStore {
+            items: Vec::new(alloc),
+            ranges: Ranges::new(alloc),
+            gap: tolerance,
+        }
+    }
+
+    fn reserve(&mut self, n: usize) -> Result<(), OutOfMemory> {
+        self.items.reserve(n)?;
+        self.ranges
+            .reserve(n + (self.items.len() - self.ranges.len()))
+    }
+
+    fn add(&mut self, frame: Stored) {
+        self.ranges.add_span(interval(&frame), self.gap);
+        self.items.push_reserved(frame);
+    }
+
+    fn len(&self) -> usize {
+        self.items.len()
+    }
+
+    fn get(&self, i: usize) -> Option<&Stored> {
+        self.items.get(i)
+    }
+
+    fn cut(&mut self, i: usize, dur: Ticks) {
+        let stored = &mut self.items[i];
+        // A Ticks is in range, so the frame still ends at one.
+        let _begins = stored.frame.pts.get();
+        stored.frame.dur = dur;
+        rejoin(&mut self.ranges, &self.items, self.gap);
+    }
+
+    fn remove_at(&mut self, i: usize) {
+        let serial = self.items[i].serial;
+        self.remove(&Named::Serial(serial));
+    }
+
+    fn remove_where_time(&mut self, from: Ticks, to: Moment, below: u64) {
+        self.remove(&Named::Within { from, to, below });
+    }
+
+    fn overlapped(&self, t: Ticks) -> Option<usize> {
+        overlapped(&self.items, t)
+    }
+
+    fn sync_at_or_after(&self, t: Moment) -> Option<Ticks> {
+        sync_at_or_after(&self.items, &t)
+    }
+
+    fn span_holding(&self, t: Ticks) -> Option<Span> {
+        self.ranges.holding(t)
+    }
+
+    fn last_span(&self) -> Option<Span> {
+        self.ranges.last()
+    }
+
+    fn highest_start(&self) -> Option<Ticks> {
+        highest_start(&self.items)
+    }
+
+    fn highest_end(&self) -> Option<Ticks> {
+        highest_end(&self.items)
+    }
+
+    fn used(&self) -> u64 {
+        used(&self.items)
+    }
+
+    fn copy_ranges(&self) -> Result<Ranges, OutOfMemory> {
+        self.ranges.copy()
+    }
+}

@@ -1,0 +1,52 @@
+//! The frames that a removal names, for stores.
+
+ghost use Rattle.std.specs.Prelude.{◌≡◌, ◌||◌, ◌&&◌, not};
+ghost use Rattle.track_store.specs.Frames.{is_before};
+ghost use Rattle.track_store.specs.Named.{is_named};
+
+use crate::Stored;
+use mse_base::{Moment, Ticks};
+
+/// Which frames are removed. Their decoding dependencies go with them.
+#[derive(Drop)]
+pub enum Named {
+    /// The frame of this serial.
+    Serial(u64),
+    /// The frames with `from <= pts` and `pts < to` whose serial is below `below`.
+    Within { from: Ticks, to: Moment, below: u64 },
+}
+
+/// Whether a time is before a moment. No time is before `Moment::Nan`.
+pub fn is_before(t: Ticks, moment: &Moment) -> bool
+    ensures { result ≡ is_before t moment.now }
+{
+    match moment {
+        Moment::At(m) => t < *m,
+        Moment::Infinite => true,
+        Moment::Nan => false,
+    }
+}
+
+impl Named {
+    /// Whether the frame is one of those named.
+    pub fn holds(&self, stored: &Stored) -> bool
+        ensures { result ≡ is_named self.now stored.now }
+    {
+        match *self {
+            Named::Serial(serial) => stored.serial == serial,
+            Named::Within { from, to, below } => {
+                from <= stored.frame.pts
+                    && is_before(stored.frame.pts, &to)
+                    && stored.serial < below
+            }
+        }
+    }
+
+    /// Whether the frame goes: it is named, or it is no random access point and the frame before
+    /// it goes.
+    pub fn takes(&self, stored: &Stored, gone: bool) -> bool
+        ensures { result ≡ (is_named self.now stored.now || (gone && not stored.now.frame.sync)) }
+    {
+        self.holds(stored) || (gone && !stored.frame.sync)
+    }
+}
