@@ -1,0 +1,290 @@
+ghost use Rattle.std.specs.Prelude.{◌≡◌, ℕ, ◌+◌, ◌-◌, ◌<◌, ◌≤◌, ◌^◌, ◌%◌, List, [], ◌∷◌, ◌++◌, length, take, drop, slice_get, Some, IfOk, OnOk, OnErr};
+ghost use Rattle.std.specs.List.{concat};
+ghost use Rattle.input_chunks.specs.Pieces.{added, pushed, without_front, without_back, NoneEmpty};
+ghost use Rattle.input_chunks.specs.Entries.{pieces_of, Ended};
+
+use crate::entry::Entry;
+use crate::find::find;
+use crate::piece::Piece;
+use mse_base::{Bytes, OutOfMemory};
+use std::alloc::Global;
+use std::collections::VecDeque;
+use std::marker::Model;
+
+/// The most bytes of a piece that a push lengthens.
+const LONGEST: u128 = 4096;
+
+/// A queue of bytes in pieces, none of them empty.
+#[derive(Debug, Drop)]
+pub struct Chunks {
+    alloc: Global,
+    entries: VecDeque<Entry>,
+    /// How many bytes were dropped in front, modulo `2^64`.
+    dropped: u64,
+    len: usize,
+}
+
+impl Model for Chunks {
+    ghost use Rattle.std.specs.Prelude.{List, ℕ, ◌≡◌, length};
+    ghost use Rattle.std.specs.List.{concat};
+    ghost use Rattle.input_chunks.specs.Pieces.{NoneEmpty};
+    ghost use Rattle.input_chunks.specs.Entries.{pieces_of, Ended};
+
+    ghost Value = { List (List ℕ) };
+
+    ghost view = { λ c. pieces_of c.entries.items };
+
+    ghost invariant = { λ c. NoneEmpty (pieces_of c.entries.items) × (c.len ≡ length (concat (pieces_of c.entries.items))) × Ended c.dropped c.entries.items };
+}
+
+impl Chunks {
+    /// An empty queue.
+    pub fn new(alloc: Global) -> Chunks
+        ensures { result ≡ [] }
+    {
+        Chunks {
+            alloc,
+            entries: VecDeque::new(alloc),
+            dropped: 0,
+            len: 0,
+        }
+    }
+
+    /// How many bytes there are.
+    pub fn len(&self) -> usize
+        ensures { result ≡ length (concat self.now) }
+    {
+        self.len
+    }
+
+    /// Appends bytes: to the last piece, where the two together have at most 4096 bytes, and else
+    /// as a new piece. No bytes change nothing, and neither does an `Err`.
+    pub fn push(&mut self, piece: &[u8]) -> Result<(), OutOfMemory>
+        requires { length (concat self.old) + length piece.now < 2 ^ 62 }
+        ensures ok { OnOk result (self.new ≡ pushed piece.now self.old) }
+        // What was pushed can be taken back whole.
+        ensures back { OnOk result (without_back (length piece.now) self.new ≡ self.old) }
+        ensures err { OnErr result (self.new ≡ self.old) }
+    {
+        let len = self.len;
+        if piece.is_empty() {
+            return Ok(());
+        }
+        let end = self.dropped.wrapping_add((len + piece.len()) as u64);
+        push_piece(self.alloc, &mut self.entries, piece, end)?;
+        self.len = len + piece.len();
+        Ok(())
+    }
+
+    /// Removes the first `n` bytes: whole pieces go, and one is cut.
+    pub fn drop_front(&mut self, n: usize)
+        requires { n ≤ length (concat self.old) }
+        ensures { self.new ≡ without_front n self.old }
+    {
+        drop_front_of(&mut self.entries, n);
+        self.dropped = self.dropped.wrapping_add(n as u64);
+        self.len -= n;
+    }
+
+    /// Removes the last `n` bytes: whole pieces go, and one is cut.
+    pub fn drop_back(&mut self, n: usize)
+        requires { n ≤ length (concat self.old) }
+        ensures { self.new ≡ without_back n self.old }
+    {
+        let left = self.len - n;
+        let end = self.dropped.wrapping_add(left as u64);
+        drop_back_of(&mut self.entries, n, end);
+        self.len = left;
+    }
+
+    /// Fills `into` with the bytes from `from` on.
+    pub fn read(&self, from: usize, into: &mut [u8])
+        requires { from + length into.old ≤ length (concat self.now) }
+        ensures { into.new ≡ take (length into.old) (drop from (concat self.now)) }
+    {
+        let _len = self.len;
+        if into.is_empty() {
+            return;
+        }
+        let place = find(&self.entries, self.dropped, from);
+        read_of(&self.entries, place.index, place.skip, into);
+    }
+
+    /// A copy of the `n` bytes from `from` on.
+    pub fn copy(&self, from: usize, n: usize) -> Result<Bytes, OutOfMemory>
+        requires { from + n ≤ length (concat self.now) }
+        ensures { IfOk result (λ b. b ≡ take n (drop from (concat self.now))) }
+    {
+        let _len = self.len;
+        let mut bytes = Vec::with_capacity(self.alloc, n)?;
+        if n > 0 {
+            let first = find(&self.entries, self.dropped, from);
+            copy_of(&self.entries, first.index, first.skip, n, &mut bytes)?;
+        }
+        Ok(Bytes::from_vec(self.alloc, bytes))
+    }
+
+    /// How many pieces there are.
+    pub fn pieces(&self) -> usize
+        ensures { result ≡ length self.now }
+    {
+        self.entries.len()
+    }
+
+    /// Piece `i`.
+    pub fn piece(&self, i: usize) -> &[u8]
+        requires { i < length self.now }
+        ensures { Some result.now ≡ slice_get self.now i }
+    {
+        let entry = &self.entries[i];
+        entry.piece.as_slice()
+    }
+}
+
+fn add_piece(
+    alloc: Global,
+    entries: &mut VecDeque<Entry>,
+    bytes: &[u8],
+    end: u64,
+) -> Result<(), OutOfMemory>
+    ensures ok { OnOk result (entries.new.items ≡ entries.old.items ++ (record { piece = bytes.now; end = end }) ∷ []) }
+    ensures err { OnErr result (entries.new.items ≡ entries.old.items) }
+{
+    let piece = Piece::copy_of(alloc, bytes)?;
+    entries.push_back(Entry { piece, end })?;
+    Ok(())
+}
+
+/// Appends bytes whose last is byte `end` of all that were pushed.
+fn push_piece(
+    alloc: Global,
+    entries: &mut VecDeque<Entry>,
+    bytes: &[u8],
+    end: u64,
+) -> Result<(), OutOfMemory>
+    ensures ok { OnOk result (pieces_of entries.new.items ≡ added bytes.now (pieces_of entries.old.items)) }
+    ensures ended { OnOk result ((at : ℕ) → Ended at entries.old.items → end ≡ (at + (length (concat (pieces_of entries.old.items)) + length bytes.now)) % 2 ^ 64 → Ended at entries.new.items) }
+    ensures err { OnErr result (entries.new.items ≡ entries.old.items) }
+{
+    let Some(mut last) = entries.pop_back() else {
+        return add_piece(alloc, entries, bytes, end);
+    };
+    if last.piece.len() as u128 + bytes.len() as u128 > LONGEST {
+        entries.push_back_reserved(last);
+        return add_piece(alloc, entries, bytes, end);
+    }
+    let extended = last.extend(bytes, end);
+    entries.push_back_reserved(last);
+    extended
+}
+
+fn drop_front_of(entries: &mut VecDeque<Entry>, n: usize)
+    requires { n ≤ length (concat (pieces_of entries.old.items)) }
+    ensures pieces { pieces_of entries.new.items ≡ without_front n (pieces_of entries.old.items) }
+    ensures ended { (at : ℕ) → Ended at entries.old.items → Ended (at + n) entries.new.items }
+{
+    let mut left = n;
+    'entries: while let Some(mut first) = entries.pop_front() {
+        let len = first.piece.len();
+        if left < len {
+            first.piece.drop_front(left);
+            entries.push_front_reserved(first);
+            return;
+        }
+        left -= len;
+    }
+}
+
+/// Removes the last `n` bytes; `end` is the end of those that stay.
+fn drop_back_of(entries: &mut VecDeque<Entry>, n: usize, end: u64)
+    requires inside { n ≤ length (concat (pieces_of entries.old.items)) }
+    requires full { NoneEmpty (pieces_of entries.old.items) }
+    ensures pieces { pieces_of entries.new.items ≡ without_back n (pieces_of entries.old.items) }
+    ensures ended { (at : ℕ) → Ended at entries.old.items → end ≡ (at + (length (concat (pieces_of entries.old.items)) - n)) % 2 ^ 64 → Ended at entries.new.items }
+{
+    let mut left = n;
+    'entries: while left > 0 {
+        let Some(mut last) = entries.pop_back() else {
+            return;
+        };
+        let len = last.piece.len();
+        if left < len {
+            last.piece.truncate(len - left);
+            last.end = end;
+            entries.push_back_reserved(last);
+            return;
+        }
+        left -= len;
+    }
+}
+
+/// Copies `n` bytes, from byte `skip` of piece `first` on.
+fn copy_of(
+    entries: &VecDeque<Entry>,
+    first: usize,
+    skip: usize,
+    n: usize,
+    into: &mut Vec<u8>,
+) -> Result<(), OutOfMemory>
+    requires inside { skip + n ≤ length (concat (drop first (pieces_of entries.now.items))) }
+    requires empty { into.old.items ≡ [] }
+    ensures { OnOk result (into.new.items ≡ take n (drop skip (concat (drop first (pieces_of entries.now.items))))) }
+{
+    let mut skip = skip;
+    let mut left = n;
+    'entries: for i in first..entries.len() {
+        let entry = &entries[i];
+        let bytes = entry.piece.as_slice();
+        if skip < bytes.len() {
+            let (_, rest) = bytes.split_at(skip);
+            if left <= rest.len() {
+                let (part, _) = rest.split_at(left);
+                into.extend_from_slice(part)?;
+                return Ok(());
+            }
+            into.extend_from_slice(rest)?;
+            left -= rest.len();
+            skip = 0;
+        } else {
+            skip -= bytes.len();
+        }
+    }
+    Ok(())
+}
+
+/// Writes bytes from `at` on.
+fn fill(into: &mut [u8], at: usize, bytes: &[u8])
+    requires { at + length bytes.now ≤ length into.old }
+    ensures front { take (at + length bytes.now) into.new ≡ take at into.old ++ bytes.now }
+    ensures len { length into.new ≡ length into.old }
+{
+    let end = at + bytes.len();
+    into[at..end].copy_from_slice(bytes);
+}
+
+/// Fills `into`, from byte `skip` of piece `first` on.
+fn read_of(entries: &VecDeque<Entry>, first: usize, skip: usize, into: &mut [u8])
+    requires inside { skip + length into.old ≤ length (concat (drop first (pieces_of entries.now.items))) }
+    ensures { into.new ≡ take (length into.old) (drop skip (concat (drop first (pieces_of entries.now.items)))) }
+{
+    let mut skip = skip;
+    let mut filled = 0;
+    'entries: for i in first..entries.len() {
+        let left = into.len() - filled;
+        let entry = &entries[i];
+        let bytes = entry.piece.as_slice();
+        if skip < bytes.len() {
+            let (_, rest) = bytes.split_at(skip);
+            if left <= rest.len() {
+                let (part, _) = rest.split_at(left);
+                fill(into, filled, part);
+                return;
+            }
+            fill(into, filled, rest);
+            filled += rest.len();
+            skip = 0;
+        } else {
+            skip -= bytes.len();
+        }
+    }
+}
