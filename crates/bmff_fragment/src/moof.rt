@@ -1,0 +1,210 @@
+ghost use Rattle.std.specs.Prelude.{◌≡◌, ℕ, ◌+◌, ◌*◌, ◌≤◌, ◌^◌, unsigned_abs, pos, [], length, vec_len, IfOk, IfSome};
+ghost use Rattle.std.specs.List.{All, AllByRecursion};
+ghost use Rattle.std.specs.Option.{option_copied};
+ghost use lib.Chars.{codes};
+ghost use Rattle.bmff_boxes.specs.Children.{child_of};
+ghost use Rattle.bmff_boxes.specs.Rows.{all_of};
+ghost use Rattle.mse_base.specs.Presentation.{IsReadable, IsPresentation};
+ghost use Rattle.bmff_fragment.specs.Plans.{plan_of, front_payload, run_start as run_start_of};
+ghost use Rattle.bmff_fragment.specs.Steps.{run_step, runs_part, traf_step, trafs_steps};
+ghost use Rattle.bmff_fragment.specs.Views.{Gives, IsPlaced, IsSlotOf};
+
+use crate::fault::{MoofError, MoofFault};
+use crate::fragment::{Fragment, Progress, RunProgress, read_fragment};
+use crate::header::run_header;
+use crate::sample::{data_len, duration, read_samples};
+use crate::slot::{Plan, Slot, Slots};
+use crate::timing::keep_run;
+use bmff_boxes::{Child, Row, children, open};
+use mse_base::{Presentation, TrackList};
+use std::alloc::Global;
+
+/// How many samples a movie fragment may have.
+const MOST_SAMPLES: u32 = 1 << 20;
+
+/// Where the data of a run begin.
+fn run_start(base: i128, end: i128, data_offset: Option<i32>) -> i128
+    requires { unsigned_abs base ≤ 2 ^ 120 }
+    ensures value { result ≡ run_start_of base end data_offset }
+    ensures bound { (n : ℕ) → unsigned_abs end ≤ unsigned_abs base + 2 ^ 31 + n →
+        unsigned_abs result ≤ unsigned_abs base + 2 ^ 31 + n }
+{
+    match data_offset {
+        Some(offset) => base + i128::from(offset),
+        None => end,
+    }
+}
+
+/// Reads a run of a track fragment, and adds its slots.
+#[tactic(auto, unfolding(crate::specs::Plans::run_of, crate::specs::Steps::run_step))]
+fn read_run(
+    alloc: Global,
+    fragment: &Fragment,
+    from: RunProgress,
+    trun: &[u8],
+    slots: &mut Vec<Slot>,
+) -> Result<RunProgress, MoofError>
+    requires readable { IsReadable fragment.now.track }
+    requires base { unsigned_abs fragment.now.base ≤ 2 ^ 120 }
+    requires few { from.samples ≤ 2 ^ 20 }
+    requires end { unsigned_abs from.data_end ≤ unsigned_abs fragment.now.base + 2 ^ 31 + from.samples * 2 ^ 32 }
+    requires time { from.decode_time ≤ 2 ^ 64 + from.samples * 2 ^ 32 }
+    requires placed { All IsPlaced slots.old.items }
+    requires len { vec_len slots.old ≤ from.samples }
+    ensures value { Gives (λ to. (to, slots.new.items)) result (run_step fragment.now from slots.old.items trun.now) }
+    ensures few { IfOk result (λ to. to.samples ≤ 2 ^ 20) }
+    ensures end { IfOk result (λ to. unsigned_abs to.data_end ≤ unsigned_abs fragment.now.base + 2 ^ 31 + to.samples * 2 ^ 32) }
+    ensures time { IfOk result (λ to. to.decode_time ≤ 2 ^ 64 + to.samples * 2 ^ 32) }
+    ensures placed { IfOk result (λ to. All IsPlaced slots.new.items) }
+    ensures len { IfOk result (λ to. vec_len slots.new ≤ to.samples) }
+{
+    let Some(header) = run_header(trun) else {
+        return Err(MoofError::Fault(MoofFault::Size));
+    };
+    if header.count > MOST_SAMPLES - from.samples {
+        return Err(MoofError::Fault(MoofFault::TooManySamples));
+    }
+    let samples = read_samples(alloc, &fragment.defaults, &header, trun)?;
+    let start = run_start(fragment.base, from.data_end, header.data_offset);
+    if header.count != 0 && start < 0 {
+        return Err(MoofError::Fault(MoofFault::Place));
+    }
+    keep_run(
+        &fragment.track,
+        from.decode_time,
+        start,
+        samples.as_slice(),
+        slots,
+    )?;
+    Ok(RunProgress {
+        samples: from.samples + header.count,
+        data_end: start + i128::from(data_len(samples.as_slice())),
+        decode_time: from.decode_time + u128::from(duration(samples.as_slice())),
+    })
+}
+
+/// Reads the runs among the boxes of a track fragment, where `samples` samples stand before it, and adds
+/// their slots.
+fn read_runs(
+    alloc: Global,
+    fragment: &Fragment,
+    samples: u32,
+    row: Row<'_>,
+    slots: &mut Vec<Slot>,
+) -> Result<Progress, MoofError>
+    requires readable { IsReadable fragment.now.track }
+    requires base { unsigned_abs fragment.now.base ≤ 2 ^ 120 }
+    requires few { samples ≤ 2 ^ 20 }
+    requires placed { All IsPlaced slots.old.items }
+    requires len { vec_len slots.old ≤ samples }
+    ensures value { Gives (λ to. (to, slots.new.items)) result (runs_part fragment.now samples slots.old.items (all_of (codes "trun") row.entry)) }
+    ensures few { IfOk result (λ to. to.samples ≤ 2 ^ 20) }
+    ensures end { IfOk result (λ to. unsigned_abs to.data_end ≤ unsigned_abs fragment.now.base + 2 ^ 53) }
+    ensures placed { IfOk result (λ to. All IsPlaced slots.new.items) }
+    ensures len { IfOk result (λ to. vec_len slots.new ≤ to.samples) }
+{
+    let mut row = row;
+    let mut at = RunProgress {
+        samples,
+        data_end: fragment.base,
+        decode_time: u128::from(fragment.decode_time),
+    };
+    'boxes: while let Some(found) = row.next() {
+        if found.kind == *b"trun" {
+            at = read_run(alloc, fragment, at, found.payload, slots)?;
+        }
+    }
+    Ok(Progress {
+        samples: at.samples,
+        data_end: at.data_end,
+    })
+}
+
+/// Reads a track fragment, and adds its slots.
+#[tactic(auto, unfolding(crate::specs::Steps::traf_step))]
+fn read_traf(
+    alloc: Global,
+    tracks: &TrackList,
+    from: Progress,
+    traf: &[u8],
+    slots: &mut Vec<Slot>,
+) -> Result<Progress, MoofError>
+    requires readable { AllByRecursion IsReadable tracks.now }
+    requires few { from.samples ≤ 2 ^ 20 }
+    requires end { unsigned_abs from.data_end ≤ 2 ^ 120 }
+    requires placed { All IsPlaced slots.old.items }
+    requires len { vec_len slots.old ≤ from.samples }
+    ensures value { Gives (λ to. (to, slots.new.items)) result (traf_step tracks.now from slots.old.items traf.now) }
+    ensures few { IfOk result (λ to. to.samples ≤ 2 ^ 20) }
+    ensures end { IfOk result (λ to. unsigned_abs to.data_end ≤ unsigned_abs from.data_end + 2 ^ 53) }
+    ensures placed { IfOk result (λ to. All IsPlaced slots.new.items) }
+    ensures len { IfOk result (λ to. vec_len slots.new ≤ to.samples) }
+{
+    let Some(row) = open(traf) else {
+        return Err(MoofError::Fault(MoofFault::Size));
+    };
+    let fragment = read_fragment(tracks, from.data_end, &row)?;
+    read_runs(alloc, &fragment, from.samples, row, slots)
+}
+
+/// Reads the track fragments among the boxes of a movie fragment.
+fn read_trafs(alloc: Global, tracks: &TrackList, row: Row<'_>) -> Result<Vec<Slot>, MoofError>
+    requires readable { AllByRecursion IsReadable tracks.now }
+    requires short { length row ≤ 2 ^ 64 }
+    ensures value { Gives (λ v. v.items) result (trafs_steps tracks.now (record { samples = 0; data_end = pos 0 }) [] (all_of (codes "traf") row.entry)) }
+    ensures placed { IfOk result (λ v. All IsPlaced v.items) }
+    ensures len { IfOk result (λ v. vec_len v ≤ 2 ^ 20) }
+{
+    let mut row = row;
+    let mut slots: Vec<Slot> = Vec::new(alloc);
+    let mut at = Progress {
+        samples: 0,
+        data_end: 0,
+    };
+    'boxes: while let Some(found) = row.next() {
+        if found.kind == *b"traf" {
+            at = read_traf(alloc, tracks, at, found.payload, &mut slots)?;
+        }
+    }
+    Ok(slots)
+}
+
+/// The payload of the box at the front of the bytes, or `None` exactly where no whole box stands there.
+fn box_payload<'a>(bytes: &'a [u8]) -> Option<&'a [u8]>
+    ensures value { option_copied result ≡ front_payload (child_of bytes.now) }
+    ensures within { IfSome result (λ payload. length payload.now ≤ length bytes.now) }
+{
+    match children(bytes).next() {
+        Child::Found { payload, .. } => Some(payload),
+        Child::End => None,
+        Child::Uneven => None,
+    }
+}
+
+/// The samples that a movie fragment announces, for a presentation that was read. `moof` is the whole moof
+/// box with its header; its type is not looked at.
+///
+/// The faults are found in the order of reading. Of a track fragment these are: its boxes, its header, where
+/// its places are counted from, its track, its decode time; and then of one run after the other: its header,
+/// its number of samples, the samples, their place.
+#[tactic(auto, unfolding(crate::specs::Plans::plan_of))]
+pub fn read_moof(alloc: Global, moof: &[u8], with: &Presentation) -> Result<Plan, MoofError>
+    requires presentation { IsPresentation with.now }
+    ensures value { Gives (λ plan. plan.slots) result (plan_of with.now.tracks moof.now) }
+    ensures slots { IfOk result (λ plan. All (IsSlotOf with.now.tracks) plan.slots) }
+    ensures few { IfOk result (λ plan. length plan.slots ≤ 2 ^ 20) }
+{
+    let Some(payload) = box_payload(moof) else {
+        return Err(MoofError::Fault(MoofFault::Size));
+    };
+    let Some(row) = open(payload) else {
+        return Err(MoofError::Fault(MoofFault::Size));
+    };
+    let Some(_) = row.first(*b"traf") else {
+        return Err(MoofError::Fault(MoofFault::NoTraf));
+    };
+    let slots = read_trafs(alloc, &with.tracks, row)?;
+    Ok(Plan {
+        slots: Slots::from_vec(slots),
+    })
+}

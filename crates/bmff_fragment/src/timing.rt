@@ -1,0 +1,113 @@
+ghost use Rattle.std.specs.Prelude.{◌≡◌, ◌+◌, ◌≤◌, ◌^◌, ◌++◌, pos, ◌-ℤ◌, unsigned_abs, length, vec_len, OnOk, IfErr};
+ghost use Rattle.std.specs.List.{All};
+ghost use Rattle.mse_base.specs.Presentation.{IsReadable};
+ghost use Rattle.bmff_fragment.specs.Times.{presented, slot_of, slots_of_run};
+ghost use Rattle.bmff_fragment.specs.Plans.{kept};
+ghost use Rattle.bmff_fragment.specs.Views.{IsPlaced};
+
+use crate::fault::MoofError;
+use crate::fragment::{Fragment, is_media};
+use crate::sample::Sample;
+use crate::slot::Slot;
+use mse_base::{Ticks, TrackInfo, convert};
+
+/// The flag sample_is_non_sync_sample of the sample flags (ISO/IEC 14496-12, 8.8.3.1).
+const NON_SYNC_SAMPLE: u32 = 0x10000;
+
+/// The farthest place at which a run may begin. A track fragment of at least 60 bytes moves the data at most
+/// `2^31` bytes on, so only a movie fragment of more than ten gigabytes can name a place beyond it.
+const FARTHEST: u128 = 1 << 59;
+
+/// A media time of a track in ticks, by its edit list.
+#[tactic(auto, unfolding(crate::specs::Times::presented))]
+fn tick_at(track: &TrackInfo, media_time: i128) -> Ticks
+    requires readable { IsReadable track.now }
+    requires small { unsigned_abs media_time ≤ 2 ^ 67 }
+    ensures value { result ≡ presented track.now media_time }
+    ensures near { unsigned_abs (result -ℤ track.now.empty_shift) ≤ 2 ^ 106 }
+{
+    let behind_edit = media_time - i128::from(track.media_shift);
+    let time = convert(behind_edit, track.scale).unwrap();
+    time.checked_add(track.empty_shift).unwrap()
+}
+
+/// The slot of a sample that is decoded at `time` and whose data begin at `start`.
+#[tactic(auto, unfolding(crate::specs::Times::slot_of))]
+fn make_slot(track: &TrackInfo, time: u128, start: u64, sample: &Sample) -> Slot
+    requires readable { IsReadable track.now }
+    requires time { time ≤ 2 ^ 66 }
+    requires near { start ≤ 2 ^ 59 + 2 ^ 52 }
+    ensures value { result ≡ slot_of track.now time start sample.now }
+    ensures placed { IsPlaced result }
+{
+    let decoded = time as i128;
+    let presented = decoded + i128::from(sample.offset);
+    let pts = tick_at(track, presented);
+    let end = tick_at(track, presented + i128::from(sample.duration));
+    Slot {
+        track_id: track.id,
+        pts,
+        dts: tick_at(track, decoded),
+        dur: end.checked_sub(pts).unwrap(),
+        sync: sample.flags & NON_SYNC_SAMPLE == 0,
+        start,
+        end: start + u64::from(sample.size),
+    }
+}
+
+/// Adds the slots of samples that are decoded from `time` on and whose data begin at `start`.
+fn push_slots(
+    track: &TrackInfo,
+    time: u128,
+    start: u64,
+    samples: &[Sample],
+    slots: &mut Vec<Slot>,
+) -> Result<(), MoofError>
+    requires readable { IsReadable track.now }
+    requires few { length samples.now ≤ 2 ^ 20 }
+    requires time { time ≤ 2 ^ 65 }
+    requires near { start ≤ 2 ^ 59 }
+    requires placed { All IsPlaced slots.old.items }
+    ensures slots { OnOk result (slots.new.items ≡ slots.old.items ++ slots_of_run track.now time (record { start = pos start; samples = samples.now })) }
+    ensures len { OnOk result (vec_len slots.new ≡ vec_len slots.old + length samples.now) }
+    ensures placed { OnOk result (All IsPlaced slots.new.items) }
+    ensures memory { IfErr result (λ e. e ≡ MoofError.OutOfMemory) }
+{
+    let mut decoded = time;
+    let mut place = start;
+    for sample in samples {
+        let duration = u128::from(sample.duration);
+        let size = u64::from(sample.size);
+        slots.push(make_slot(track, decoded, place, sample))?;
+        decoded += duration;
+        place += size;
+    }
+    Ok(())
+}
+
+/// Adds the slots of a run of samples of a track fragment, where a buffer takes frames of its track.
+pub(crate) fn keep_run(
+    track: &TrackInfo,
+    time: u128,
+    start: i128,
+    samples: &[Sample],
+    slots: &mut Vec<Slot>,
+) -> Result<(), MoofError>
+    requires readable { IsReadable track.now }
+    requires few { length samples.now ≤ 2 ^ 20 }
+    requires time { time ≤ 2 ^ 65 }
+    requires placed { All IsPlaced slots.old.items }
+    ensures slots { OnOk result (slots.new.items ≡ slots.old.items ++ kept track.now (slots_of_run track.now time (record { start = start; samples = samples.now }))) }
+    ensures len { OnOk result (vec_len slots.new ≤ vec_len slots.old + length samples.now) }
+    ensures placed { OnOk result (All IsPlaced slots.new.items) }
+    ensures memory { IfErr result (λ e. e ≡ MoofError.OutOfMemory) }
+{
+    if samples.is_empty() || !is_media(track.kind) {
+        return Ok(());
+    }
+    let start = start.unsigned_abs();
+    if start > FARTHEST {
+        return Err(MoofError::OutOfMemory);
+    }
+    push_slots(track, time, start as u64, samples, slots)
+}
