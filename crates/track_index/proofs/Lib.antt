@@ -1,0 +1,13 @@
+pub mod Ordering
+pub mod Ending
+pub mod Grouping
+pub mod Serials
+pub mod Going
+pub mod Sifting
+pub mod Keeping
+pub mod Mending
+pub mod Naming
+pub mod Lookups
+pub mod Cutting
+pub mod Rooms
+pub mod Preceding

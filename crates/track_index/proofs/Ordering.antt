@@ -1,0 +1,359 @@
+-- Entries in order of presentation, and what the order finds.
+use Rattle.std.proofs.Common.{◌≡◌, ◌∙◌, ℕ, zero, suc, ℤ, pos, ◌+◌, ◌-◌, ◌<◌, ◌≤◌, ◌+ℤ◌, ◌≤ℤ◌, ◌<ℤ◌, Bool, true, false, cond, ◌&&◌, List, [], ◌∷◌, length, ◌++◌, get_or, take, drop, insert, Option, Some, None, refl, sym, ap, subst, arith, add-one, fold, filter, int_le, int_lt, nat_lt, nat_le}
+use Rattle.std.specs.Option.{option_map, IfSome}
+use Rattle.std.specs.List.{AllByRecursion}
+use Rattle.std.proofs.lemmas.Int.{ints}
+use Rattle.std.proofs.lemmas.List.{drop_more, drop_all}
+use Rattle.std.proofs.lemmas.List.Sums.{fold-append}
+use Rattle.std.proofs.lemmas.Bool.Decides.{nat_tests}
+use native.Mathlib.Numerals.{unary_clauses}
+use Rattle.mse_base.specs.declared.ticks.Moment.{Moment}
+use Rattle.mse_base.specs.declared.ticks.Moment.TheVariants.{Nan, At, Infinite}
+use Rattle.track_store.specs.declared.store.Stored.{Stored}
+use Rattle.track_store.specs.Frames.{covers, later_of, overlapped, is_before}
+use Rattle.track_index.specs.declared.order.Entry.{Entry}
+use Rattle.track_index.specs.Order.{put, put_all, entry_of, entry_covers, entry_within, ordered, IsSorted, or_else, last_that, IsFirstOf, first_more}
+
+pub lt_true : (a b : ℤ) → int_lt a b ≡ true → a <ℤ b
+lt_true a b e = grind (arith, ints)
+
+pub lt_of : (a b : ℤ) → int_lt a b ≡ true → a <ℤ b
+lt_of a b e = grind (arith, ints)
+
+pub ge_of : (a b : ℤ) → int_lt a b ≡ false → b ≤ℤ a
+ge_of a b e = grind (arith, ints)
+
+pub is_lt : (a b : ℤ) → a <ℤ b → int_lt a b ≡ true
+is_lt a b h = grind (arith, ints)
+
+pub not_lt : (a b : ℤ) → b ≤ℤ a → int_lt a b ≡ false
+not_lt a b h = grind (arith, ints)
+
+is_le : (a b : ℤ) → a ≤ℤ b → int_le a b ≡ true
+is_le a b h = grind (arith, ints)
+
+pub not_le : (a b : ℤ) → b <ℤ a → int_le a b ≡ false
+not_le a b h = grind (arith, ints)
+
+pub each_at : (P : Entry → Type 0) (os : List Entry) (i : ℕ) (d : Entry) → i < length os → AllByRecursion P os → P (get_or os i d)
+each_at P [] i d l h = absurd (omega arith)
+each_at P (o ∷ os) zero d l h = h.0
+each_at P (o ∷ os) (suc i) d l h = each_at P os i d (omega arith) h.1
+
+pub each_weaker : (P Q : Entry → Type 0) (os : List Entry) → ((o : Entry) → P o → Q o) → AllByRecursion P os → AllByRecursion Q os
+each_weaker P Q [] f h = h
+each_weaker P Q (o ∷ os) f h = (f o h.0, each_weaker P Q os f h.1)
+
+pub each_both : (P Q : Entry → Type 0) (os : List Entry) → AllByRecursion P os → AllByRecursion Q os → AllByRecursion (λ o. P o × Q o) os
+each_both P Q [] h k = h
+each_both P Q (o ∷ os) h k = ((h.0, k.0), each_both P Q os h.1 k.1)
+
+pub each_whole : (P : Entry → Type 0) (os : List Entry) (i : ℕ) → AllByRecursion P (take i os) → AllByRecursion P (drop i os) → AllByRecursion P os
+each_whole P os zero h k = k
+each_whole P [] (suc i) h k = h
+each_whole P (o ∷ os) (suc i) h k = (h.0, each_whole P os i h.1 k)
+
+pub each_take : (P : Entry → Type 0) (os : List Entry) (i : ℕ) → AllByRecursion P os → AllByRecursion P (take i os)
+each_take P os zero h = tt
+each_take P [] (suc i) h = h
+each_take P (o ∷ os) (suc i) h = (h.0, each_take P os i h.1)
+
+-- ---- binary search
+
+pub below_suc : (os : List Entry) (i : ℕ) (d : Entry) (bound : ℤ) → IsSorted os → i < length os → (get_or os i d).pts <ℤ bound → AllByRecursion (λ o. o.pts <ℤ bound) (take (suc i) os)
+below_suc [] i d bound h l e = absurd (omega arith)
+below_suc (o ∷ os) zero d bound h l e = (e, tt)
+below_suc (o ∷ os) (suc i) d bound h l e =
+    let low : i < length os = omega arith in
+    let next = each_at (λ p. o.pts ≤ℤ p.pts) os i d low h.0 in
+    (omega (arith, ints), below_suc os i d bound h.1 low e)
+
+pub below_more : (os : List Entry) (i : ℕ) (r : Entry) (bound : ℤ) → IsSorted os → i < length os → r ≡ get_or os i r → r.pts <ℤ bound → AllByRecursion (λ o. o.pts <ℤ bound) (take (i + 1) os)
+below_more os i r bound h l at e = rw add-one (below_suc os i r bound h l (subst (λ (z : Entry). z.pts <ℤ bound) at e))
+
+from_head : (n bound : ℤ) (os : List Entry) → bound ≤ℤ n → AllByRecursion (λ p. n ≤ℤ p.pts) os → AllByRecursion (λ p. bound ≤ℤ p.pts) os
+from_head n bound [] l h = tt
+from_head n bound (o ∷ os) l h = (let first = h.0 in omega (arith, ints), from_head n bound os l h.1)
+
+above_at : (os : List Entry) (i : ℕ) (d : Entry) (bound : ℤ) → IsSorted os → i < length os → bound ≤ℤ (get_or os i d).pts → AllByRecursion (λ o. bound ≤ℤ o.pts) (drop i os)
+above_at [] i d bound h l e = absurd (omega arith)
+above_at (o ∷ os) zero d bound h l e = (e, from_head o.pts bound os e h.0)
+above_at (o ∷ os) (suc i) d bound h l e = above_at os i d bound h.1 (omega arith) e
+
+pub above_from : (os : List Entry) (i : ℕ) (r : Entry) (bound : ℤ) → IsSorted os → i < length os → r ≡ get_or os i r → int_lt r.pts bound ≡ false → AllByRecursion (λ o. bound ≤ℤ o.pts) (drop i os)
+above_from os i r bound h l at e = above_at os i r bound h l (subst (λ (z : Entry). bound ≤ℤ z.pts) at (ge_of r.pts bound e))
+
+pub none_from_end : (P : Entry → Type 0) (os : List Entry) → AllByRecursion P (drop (length os) os)
+none_from_end P [] = tt
+none_from_end P (o ∷ os) = none_from_end P os
+
+-- ---- the order
+
+put_cases : (P : List Entry → Type 0) (e o : Entry) (os : List Entry) (t : Bool) → P (e ∷ o ∷ os) → P (o ∷ put e os) → P (cond t (e ∷ o ∷ os) (o ∷ put e os))
+put_cases P e o os true p q = p
+put_cases P e o os false p q = q
+
+pub each_put : (P : Entry → Type 0) (e : Entry) (os : List Entry) → P e → AllByRecursion P os → AllByRecursion P (put e os)
+each_put P e [] p h = (p, tt)
+each_put P e (o ∷ os) p h = put_cases (AllByRecursion P) e o os (int_lt e.pts o.pts) (p, h) (h.0, each_put P e os p h.1)
+
+sorted_step : (e o : Entry) (os : List Entry) (t : Bool) → int_lt e.pts o.pts ≡ t → AllByRecursion (λ p. o.pts ≤ℤ p.pts) os → IsSorted os → IsSorted (put e os) → IsSorted (cond t (e ∷ o ∷ os) (o ∷ put e os))
+sorted_step e o os true t a h k = let lt = lt_of e.pts o.pts t in ((omega (arith, ints), from_head o.pts e.pts os (omega (arith, ints)) a), (a, h))
+sorted_step e o os false t a h k = let le = ge_of e.pts o.pts t in (each_put (λ p. o.pts ≤ℤ p.pts) e os le a, k)
+
+pub sorted_put : (e : Entry) (os : List Entry) → IsSorted os → IsSorted (put e os)
+sorted_put e [] h = (tt, tt)
+sorted_put e (o ∷ os) h = sorted_step e o os (int_lt e.pts o.pts) refl h.0 h.1 (sorted_put e os h.1)
+
+sorted_all : (os : List Entry) (fs : List Stored) → IsSorted os → IsSorted (put_all os fs)
+sorted_all os [] h = h
+sorted_all os (f ∷ fs) h = sorted_all (put (entry_of f) os) fs (sorted_put (entry_of f) os h)
+
+pub sorted_ordered : (fs : List Stored) → IsSorted (ordered fs)
+sorted_ordered fs = sorted_all [] fs tt
+
+pub sorted_of : (os : List Entry) (fs : List Stored) → os ≡ ordered fs → IsSorted os
+sorted_of os fs e = subst (λ (ps : List Entry). IsSorted ps) (sym e) (sorted_ordered fs)
+
+put_here : (e : Entry) (os : List Entry) → AllByRecursion (λ o. (e.pts +ℤ pos 1) ≤ℤ o.pts) os → put e os ≡ e ∷ os
+put_here e [] h = refl
+put_here e (o ∷ os) h = let first = h.0 in ap (λ b. cond b (e ∷ o ∷ os) (o ∷ put e os)) (is_lt e.pts o.pts (omega (arith, ints)))
+
+-- where an entry goes
+pub put_at : (e : Entry) (os : List Entry) (i : ℕ) → AllByRecursion (λ o. o.pts <ℤ (e.pts +ℤ pos 1)) (take i os) → AllByRecursion (λ o. (e.pts +ℤ pos 1) ≤ℤ o.pts) (drop i os) → insert os i e ≡ put e os
+put_at e os zero h k = sym (put_here e os k)
+put_at e [] (suc i) h k = refl
+put_at e (o ∷ os) (suc i) h k = let first = h.0 in ap (λ ps. o ∷ ps) (put_at e os i h.1 k) ∙ ap (λ b. cond b (e ∷ o ∷ os) (o ∷ put e os)) (sym (not_lt e.pts o.pts (omega (arith, ints))))
+
+-- one more frame
+pub ordered_push : (fs : List Stored) (x : Stored) → ordered (fs ++ x ∷ []) ≡ put (entry_of x) (ordered fs)
+ordered_push fs x = fold-append (λ os f. put (entry_of f) os) [] fs (x ∷ [])
+
+length_cond : (b : Bool) (e o : Entry) (os : List Entry) → length (put e os) ≡ length os + 1 → length (cond b (e ∷ o ∷ os) (o ∷ put e os)) ≡ length (o ∷ os) + 1
+length_cond true e o os h = omega arith
+length_cond false e o os h = omega arith
+
+pub length_put : (e : Entry) (os : List Entry) → length (put e os) ≡ length os + 1
+length_put e [] = refl
+length_put e (o ∷ os) = length_cond (int_lt e.pts o.pts) e o os (length_put e os)
+
+length_all : (fs : List Stored) (os : List Entry) → length (put_all os fs) ≡ length os + length fs
+length_all [] os = omega arith
+length_all (f ∷ fs) os = let rest = length_all fs (put (entry_of f) os) in let one = length_put (entry_of f) os in omega arith
+
+pub length_ordered : (fs : List Stored) → length (ordered fs) ≡ length fs
+length_ordered fs = let h = length_all fs [] in omega arith
+
+-- what holds of each entry holds of each frame
+un_put : (P : Entry → Type 0) (e o : Entry) (os : List Entry) (t : Bool) → AllByRecursion P (cond t (e ∷ o ∷ os) (o ∷ put e os)) → (AllByRecursion P (put e os) → P e × AllByRecursion P os) → P e × AllByRecursion P (o ∷ os)
+un_put P e o os true h f = h
+un_put P e o os false h f = let k = f h.1 in (k.0, (h.0, k.1))
+
+each_of_put : (P : Entry → Type 0) (e : Entry) (os : List Entry) → AllByRecursion P (put e os) → P e × AllByRecursion P os
+each_of_put P e [] h = h
+each_of_put P e (o ∷ os) h = un_put P e o os (int_lt e.pts o.pts) h (each_of_put P e os)
+
+each_of_all : (P : Entry → Type 0) (os : List Entry) (fs : List Stored) → AllByRecursion P (put_all os fs) → AllByRecursion P os × AllByRecursion (λ f. P (entry_of f)) fs
+each_of_all P os [] h = (h, tt)
+each_of_all P os (f ∷ fs) h =
+    let k = each_of_all P (put (entry_of f) os) fs h in
+    let one = each_of_put P (entry_of f) os k.0 in
+    (one.1, (one.0, k.1))
+
+pub each_of_ordered : (P : Entry → Type 0) (fs : List Stored) → AllByRecursion P (ordered fs) → AllByRecursion (λ f. P (entry_of f)) fs
+each_of_ordered P fs h = (each_of_all P [] fs h).1
+
+each_to_all : (P : Entry → Type 0) (os : List Entry) (fs : List Stored) → AllByRecursion P os → AllByRecursion (λ f. P (entry_of f)) fs → AllByRecursion P (put_all os fs)
+each_to_all P os [] h k = h
+each_to_all P os (f ∷ fs) h k = each_to_all P (put (entry_of f) os) fs (each_put P (entry_of f) os k.0 h) k.1
+
+pub each_to_ordered : (P : Entry → Type 0) (fs : List Stored) → AllByRecursion (λ f. P (entry_of f)) fs → AllByRecursion P (ordered fs)
+each_to_ordered P fs k = each_to_all P [] fs tt k
+
+-- ---- the entry that begins last of those that hold a time
+
+abbrev later_entry : Option Entry → Entry → Option Entry
+later_entry None e = Some e
+later_entry (Some o) e = cond (int_le o.pts e.pts) (Some e) (Some o)
+
+abbrev pick : Bool → Entry → Option Entry
+pick b e = cond b (Some e) None
+
+or_each : (P : Entry → Type 0) (r : Option Entry) (b : Bool) (o : Entry) → IfSome r P → P o → IfSome (or_else r (pick b o)) P
+or_each P (Some x) b o h p = h
+or_each P None true o h p = p
+or_each P None false o h p = tt
+
+last_each : (P : Entry → Type 0) (c : Entry → Bool) (os : List Entry) → AllByRecursion P os → IfSome (last_that c os) P
+last_each P c [] h = tt
+last_each P c (o ∷ os) h = or_each P (last_that c os) (c o) o (last_each P c os h.1) h.0
+
+-- a new entry before all that were found
+put_first : (r : Option Entry) (b : Bool) (e : Entry) → IfSome r (λ x. e.pts <ℤ x.pts) → or_else r (pick b e) ≡ cond b (later_entry r e) r
+put_first (Some x) true e h = ap (λ t. cond t (Some e) (Some x)) (sym (not_le x.pts e.pts h))
+put_first (Some x) false e h = refl
+put_first None true e h = refl
+put_first None false e h = refl
+
+or_cond : (t : Bool) (e x : Entry) (y : Option Entry) → or_else (cond t (Some e) (Some x)) y ≡ cond t (Some e) (Some x)
+or_cond true e x y = refl
+or_cond false e x y = refl
+
+-- a new entry not before o
+put_later : (r : Option Entry) (b d : Bool) (e o : Entry) → o.pts ≤ℤ e.pts → or_else (cond b (later_entry r e) r) (pick d o) ≡ cond b (later_entry (or_else r (pick d o)) e) (or_else r (pick d o))
+put_later (Some x) true d e o h = or_cond (int_le x.pts e.pts) e x (pick d o)
+put_later (Some x) false d e o h = refl
+put_later None true true e o h = ap (λ t. cond t (Some e) (Some o)) (sym (is_le o.pts e.pts h))
+put_later None true false e o h = refl
+put_later None false d e o h = refl
+
+above_all : (e o : Entry) (os : List Entry) → e.pts <ℤ o.pts → AllByRecursion (λ p. o.pts ≤ℤ p.pts) os → AllByRecursion (λ p. e.pts <ℤ p.pts) os
+above_all e o [] l h = tt
+above_all e o (p ∷ os) l h = (let first = h.0 in omega (arith, ints), above_all e o os l h.1)
+
+last_step : (c : Entry → Bool) (e o : Entry) (os : List Entry) (t : Bool) → int_lt e.pts o.pts ≡ t → AllByRecursion (λ p. o.pts ≤ℤ p.pts) os → last_that c (put e os) ≡ cond (c e) (later_entry (last_that c os) e) (last_that c os) → last_that c (cond t (e ∷ o ∷ os) (o ∷ put e os)) ≡ cond (c e) (later_entry (last_that c (o ∷ os)) e) (last_that c (o ∷ os))
+last_step c e o os true k a ih = let lt = lt_of e.pts o.pts k in put_first (last_that c (o ∷ os)) (c e) e (last_each (λ x. e.pts <ℤ x.pts) c (o ∷ os) (lt, above_all e o os lt a))
+last_step c e o os false k a ih = ap (λ r. or_else r (pick (c o) o)) ih ∙ put_later (last_that c os) (c e) (c o) e o (ge_of e.pts o.pts k)
+
+-- what is found after an entry was put
+last_put : (c : Entry → Bool) (e : Entry) (os : List Entry) → IsSorted os → last_that c (put e os) ≡ cond (c e) (later_entry (last_that c os) e) (last_that c os)
+last_put c e [] h = refl
+last_put c e (o ∷ os) h = last_step c e o os (int_lt e.pts o.pts) refl h.0 (last_put c e os h.1)
+
+map_cond : (b : Bool) (x y : Option Stored) → cond b (option_map entry_of x) (option_map entry_of y) ≡ option_map entry_of (cond b x y)
+map_cond true x y = refl
+map_cond false x y = refl
+
+later_same : (b : Option Stored) (f : Stored) → later_entry (option_map entry_of b) (entry_of f) ≡ option_map entry_of (later_of b f)
+later_same None f = refl
+later_same (Some g) f = map_cond (int_le g.frame.pts f.frame.pts) (Some f) (Some g)
+
+found_step : (t : ℤ) (os : List Entry) (b : Option Stored) (f : Stored) (v : Bool) → covers t f ≡ v → IsSorted os → last_that (entry_covers t) os ≡ option_map entry_of b → last_that (entry_covers t) (put (entry_of f) os) ≡ option_map entry_of (cond v (later_of b f) b)
+found_step t os b f true v up h = last_put (entry_covers t) (entry_of f) os up ∙ ap (λ c. cond c (later_entry (last_that (entry_covers t) os) (entry_of f)) (last_that (entry_covers t) os)) v ∙ ap (λ o. later_entry o (entry_of f)) h ∙ later_same b f
+found_step t os b f false v up h = last_put (entry_covers t) (entry_of f) os up ∙ ap (λ c. cond c (later_entry (last_that (entry_covers t) os) (entry_of f)) (last_that (entry_covers t) os)) v ∙ h
+
+fold_cond : (b : Option Stored) (v : Bool) (f : Stored) (gs : List Stored) → fold later_of b (cond v (f ∷ gs) gs) ≡ fold later_of (cond v (later_of b f) b) gs
+fold_cond b true f gs = refl
+fold_cond b false f gs = refl
+
+found_from : (t : ℤ) (fs : List Stored) (os : List Entry) (b : Option Stored) → IsSorted os → last_that (entry_covers t) os ≡ option_map entry_of b → last_that (entry_covers t) (put_all os fs) ≡ option_map entry_of (fold later_of b (filter (covers t) fs))
+found_from t [] os b up h = h
+found_from t (f ∷ fs) os b up h =
+    found_from t fs (put (entry_of f) os) (cond (covers t f) (later_of b f) b) (sorted_put (entry_of f) os up) (found_step t os b f (covers t f) refl up h)
+    ∙ ap (option_map entry_of) (sym (fold_cond b (covers t f) f (filter (covers t) fs)))
+
+-- the order's last entry that holds the time is that of the overlapped frame
+pub found_ordered : (t : ℤ) (fs : List Stored) → last_that (entry_covers t) (ordered fs) ≡ option_map entry_of (overlapped t fs)
+found_ordered t fs = found_from t fs [] None tt refl
+
+-- ---- the walk back from a time
+
+pub last_none : (c : Entry → Bool) (os : List Entry) → AllByRecursion (λ o. c o ≡ false) os → last_that c os ≡ None
+last_none c [] h = refl
+last_none c (o ∷ os) h = ap (λ r. or_else r (pick (c o) o)) (last_none c os h.1) ∙ ap (λ b. pick b o) h.0
+
+last_at_suc : (c : Entry → Bool) (os : List Entry) (i : ℕ) (d : Entry) → i < length os → c (get_or os i d) ≡ true → AllByRecursion (λ o. c o ≡ false) (drop (suc i) os) → last_that c os ≡ Some (get_or os i d)
+last_at_suc c [] i d l e h = absurd (omega arith)
+last_at_suc c (o ∷ os) zero d l e h = ap (λ r. or_else r (pick (c o) o)) (last_none c os h) ∙ ap (λ b. pick b o) e
+last_at_suc c (o ∷ os) (suc i) d l e h = ap (λ r. or_else r (pick (c o) o)) (last_at_suc c os i d (omega arith) e h)
+
+pub last_at : (c : Entry → Bool) (os : List Entry) (i : ℕ) (r : Entry) → 0 < i → i ≤ length os → r ≡ get_or os (i - 1) r → c r ≡ true → AllByRecursion (λ o. c o ≡ false) (drop i os) → Some r ≡ last_that c os
+last_at c os zero r p l at e h = absurd (omega arith)
+last_at c os (suc i) r p l at e h =
+    let here : r ≡ get_or os i r = simp unary_clauses at at in
+    ap (λ z. Some z) here ∙ sym (last_at_suc c os i r (omega arith) (subst (λ (z : Entry). c z ≡ true) here e) h)
+
+pub none_back : (c : Entry → Bool) (os : List Entry) (i : ℕ) (r : Entry) → 0 < i → i ≤ length os → r ≡ get_or os (i - 1) r → c r ≡ false → AllByRecursion (λ o. c o ≡ false) (drop i os) → AllByRecursion (λ o. c o ≡ false) (drop (i - 1) os)
+none_back c os zero r p l at e h = absurd (omega arith)
+none_back c os (suc i) r p l at e h =
+    let here : r ≡ get_or os i r = simp unary_clauses at at in
+    let m : drop i os ≡ r ∷ drop (i + 1) os = drop_more os i r (omega arith) ∙ ap (λ z. z ∷ drop (i + 1) os) (sym here) in
+    let k : (suc i - 1) ≡ i = omega arith in
+    rw (k, m) (e, rw add-one h)
+
+-- no entry from there on holds the time, since all begin after it
+pub begin_later : (t : ℤ) (os : List Entry) → AllByRecursion (λ o. (t +ℤ pos 1) ≤ℤ o.pts) os → AllByRecursion (λ o. entry_covers t o ≡ false) os
+begin_later t os h = each_weaker (λ o. (t +ℤ pos 1) ≤ℤ o.pts) (λ o. entry_covers t o ≡ false) os (λ o k. ap (λ b. b && int_lt t (o.pts +ℤ o.dur)) (not_le o.pts t (omega (arith, ints)))) h
+
+pub and_false : (b : Bool) → (b && false) ≡ false
+and_false true = refl
+and_false false = refl
+
+-- ---- the first named
+
+named_not : (from : ℤ) (to : Moment) (below : ℕ) (o : Entry) → nat_lt o.serial below ≡ false → entry_within from to below o ≡ false
+named_not from to below o e = ap (λ b. (int_le from o.pts && is_before o.pts to) && b) e ∙ and_false (int_le from o.pts && is_before o.pts to)
+
+pub early_not : (from : ℤ) (to : Moment) (below : ℕ) (os : List Entry) → AllByRecursion (λ o. o.pts <ℤ from) os → AllByRecursion (λ o. entry_within from to below o ≡ false) os
+early_not from to below os h = each_weaker (λ o. o.pts <ℤ from) (λ o. entry_within from to below o ≡ false) os (λ o k. ap (λ b. (b && is_before o.pts to) && nat_lt o.serial below) (not_le from o.pts k)) h
+
+-- the test of one more entry
+record Named (from : ℤ) (to : Moment) (below : ℕ) (o : Entry) : Type 0 where
+  yes : entry_within from to below o ≡ true
+
+below_of : (a b c : Bool) → ((a && b) && c) ≡ true → c ≡ true
+below_of true true c e = e
+below_of true false c e = absurd cc
+below_of false b c e = absurd cc
+
+serial_below : (from : ℤ) (to : Moment) (below : ℕ) (o : Entry) → entry_within from to below o ≡ true → o.serial < below
+serial_below from to below o e =
+    let k = below_of (int_le from o.pts) (is_before o.pts to) (nat_lt o.serial below) e in
+    grind (arith, nat_tests)
+
+true_false : (b : Bool) → b ≡ true → b ≡ false → ⊥
+true_false true e f = cc
+true_false false e f = cc
+
+suc_each : (P : Entry → Type 0) (os : List Entry) (i : ℕ) (d : Entry) → i < length os → AllByRecursion P (take i os) → P (get_or os i d) → AllByRecursion P (take (suc i) os)
+suc_each P [] i d l h p = absurd (omega arith)
+suc_each P (o ∷ os) zero d l h p = (p, tt)
+suc_each P (o ∷ os) (suc i) d l h p = (h.0, suc_each P os i d (omega arith) h.1 p)
+
+pub each_more : (P : Entry → Type 0) (os : List Entry) (i : ℕ) (r : Entry) → i < length os → r ≡ get_or os i r → AllByRecursion P (take i os) → P r → AllByRecursion P (take (i + 1) os)
+each_more P os i r l at h p = rw add-one (suc_each P os i r l h (subst P at p))
+
+none_more : (from : ℤ) (to : Moment) (below : ℕ) (os : List Entry) (i : ℕ) (r : Entry) (b : Bool) → nat_le below r.serial ≡ b → i < length os → r ≡ get_or os i r → AllByRecursion (λ o. entry_within from to below o ≡ false) (take i os) → IsFirstOf (cond b None (Some r.serial)) (entry_within from to below) (take (i + 1) os)
+none_more from to below os i r true e l at h =
+    let not_below : nat_lt r.serial below ≡ false = grind (arith, nat_tests) in
+    each_more (λ o. entry_within from to below o ≡ false) os i r l at h (named_not from to below r not_below)
+none_more from to below os i r false e l at h =
+    each_more (λ o. entry_within from to below o ≡ true → r.serial ≤ o.serial) os i r l at (each_weaker (λ o. entry_within from to below o ≡ false) (λ o. entry_within from to below o ≡ true → r.serial ≤ o.serial) (take i os) (λ o k y. absurd (true_false _ y k)) h) (λ y. omega arith)
+
+some_more : (from : ℤ) (to : Moment) (below s : ℕ) (os : List Entry) (i : ℕ) (r : Entry) (b d : Bool) → nat_le below r.serial ≡ b → nat_le s r.serial ≡ d → i < length os → r ≡ get_or os i r → AllByRecursion (λ o. entry_within from to below o ≡ true → s ≤ o.serial) (take i os) → IsFirstOf (cond b (Some s) (Some (cond d s r.serial))) (entry_within from to below) (take (i + 1) os)
+some_more from to below s os i r true d e f l at h =
+    each_more (λ o. entry_within from to below o ≡ true → s ≤ o.serial) os i r l at h (λ y. let k = serial_below from to below r y in absurd (grind (arith, nat_tests)))
+some_more from to below s os i r false true e f l at h =
+    each_more (λ o. entry_within from to below o ≡ true → s ≤ o.serial) os i r l at h (λ y. grind (arith, nat_tests))
+some_more from to below s os i r false false e f l at h =
+    let less : r.serial ≤ s = grind (arith, nat_tests) in
+    each_more (λ o. entry_within from to below o ≡ true → r.serial ≤ o.serial) os i r l at (each_weaker (λ o. entry_within from to below o ≡ true → s ≤ o.serial) (λ o. entry_within from to below o ≡ true → r.serial ≤ o.serial) (take i os) (λ o k y. let m = k y in omega arith) h) (λ y. omega arith)
+
+pub first_one : (from : ℤ) (to : Moment) (below : ℕ) (best : Option ℕ) (os : List Entry) (i : ℕ) (r : Entry) → i < length os → r ≡ get_or os i r → IsFirstOf best (entry_within from to below) (take i os) → IsFirstOf (first_more below best r.serial) (entry_within from to below) (take (i + 1) os)
+first_one from to below None os i r l at h = none_more from to below os i r (nat_le below r.serial) refl l at h
+first_one from to below (Some s) os i r l at h = some_more from to below s os i r (nat_le below r.serial) (nat_le s r.serial) refl refl l at h
+
+late : (p q : ℤ) (m : Moment) → p ≤ℤ q → is_before p m ≡ false → is_before q m ≡ false
+late p q (At m) l e = grind (arith, ints)
+late p q Infinite l e = e
+late p q Nan l e = e
+
+late_not : (from : ℤ) (to : Moment) (below : ℕ) (p : ℤ) (os : List Entry) → is_before p to ≡ false → AllByRecursion (λ o. p ≤ℤ o.pts) os → AllByRecursion (λ o. entry_within from to below o ≡ false) os
+late_not from to below p os e h = each_weaker (λ o. p ≤ℤ o.pts) (λ o. entry_within from to below o ≡ false) os (λ o k. ap (λ b. (int_le from o.pts && b) && nat_lt o.serial below) (late p o.pts to k e) ∙ ap (λ b. b && nat_lt o.serial below) (and_false (int_le from o.pts))) h
+
+first_whole : (best : Option ℕ) (c : Entry → Bool) (os : List Entry) (i : ℕ) → IsFirstOf best c (take i os) → AllByRecursion (λ o. c o ≡ false) (drop i os) → IsFirstOf best c os
+first_whole None c os i h k = each_whole (λ o. c o ≡ false) os i h k
+first_whole (Some s) c os i h k = each_whole (λ o. c o ≡ true → s ≤ o.serial) os i h (each_weaker (λ o. c o ≡ false) (λ o. c o ≡ true → s ≤ o.serial) (drop i os) (λ o e y. absurd (true_false _ y e)) k)
+
+-- the walk ends at an entry that begins after the span of time
+pub first_past : (from : ℤ) (to : Moment) (below : ℕ) (best : Option ℕ) (os : List Entry) (i : ℕ) (r : Entry) → IsSorted os → i < length os → r ≡ get_or os i r → is_before r.pts to ≡ false → IsFirstOf best (entry_within from to below) (take i os) → IsFirstOf best (entry_within from to below) os
+first_past from to below best os i r up l at e h =
+    first_whole best (entry_within from to below) os i h (late_not from to below r.pts (drop i os) e (above_at os i r r.pts up l (subst (λ (z : Entry). r.pts ≤ℤ z.pts) at (omega (arith, ints)))))
+
+-- or past the last
+pub first_end : (best : Option ℕ) (c : Entry → Bool) (os : List Entry) (i : ℕ) → length os ≤ i → IsFirstOf best c (take i os) → IsFirstOf best c os
+first_end best c os i l h = first_whole best c os i h (rw (drop_all i os l) tt)
+
+pub none_from_start : (c : Entry → Bool) (os : List Entry) (i : ℕ) → i ≤ 0 → AllByRecursion (λ o. c o ≡ false) (drop i os) → AllByRecursion (λ o. c o ≡ false) os
+none_from_start c os zero l h = h
+none_from_start c os (suc i) l h = absurd (omega arith)

@@ -1,0 +1,5 @@
+pub mod Order
+pub mod Ends
+pub mod Groups
+pub mod Gone
+pub mod Indexed

@@ -1,0 +1,89 @@
+-- The frames in order of presentation, the first first.
+use Rattle.std.specs.Prelude.{◌≡◌, ℕ, ℤ, ◌≤◌, ◌≤ℤ◌, ◌+ℤ◌, int_le, int_lt, nat_lt, nat_le, nat_eq, Bool, true, false, not, ◌&&◌, List, [], ◌∷◌, fold, Option, Some, None, if◌then◌else◌}
+use Rattle.std.specs.List.{AllByRecursion}
+use Rattle.mse_base.specs.declared.ticks.Moment.{Moment}
+use Rattle.mse_base.specs.declared.span.Span.{Span}
+use Rattle.track_store.specs.declared.store.Stored.{Stored}
+use Rattle.track_store.specs.Frames.{is_before}
+use Rattle.track_index.specs.declared.order.Entry.{Entry}
+
+-- what the order knows of a frame
+abbrev pub entry_of : Stored → Entry
+entry_of f = record { serial = f.serial; pts = f.frame.pts; dur = f.frame.dur; sync = f.frame.sync }
+
+-- where the entry's frame ends
+abbrev pub end_of : Entry → ℤ
+end_of e = e.pts +ℤ e.dur
+
+-- the presentation interval of an entry's frame
+abbrev pub span_of : Entry → Span
+span_of e = record { start = e.pts; end = e.pts +ℤ e.dur }
+
+-- the time falls within the presentation interval
+abbrev pub entry_covers : ℤ → Entry → Bool
+entry_covers t e = int_le e.pts t && int_lt t (e.pts +ℤ e.dur)
+
+-- the frame begins at or after `from` and before `to`, and its serial is below a number
+abbrev pub entry_within : ℤ → Moment → ℕ → Entry → Bool
+entry_within from to below e = int_le from e.pts && is_before e.pts to && nat_lt e.serial below
+
+-- an entry goes after all that begin no later
+abbrev pub put : Entry → List Entry → List Entry
+put e [] = e ∷ []
+put e (o ∷ os) = if int_lt e.pts o.pts then (e ∷ o ∷ os) else (o ∷ put e os)
+
+-- the entries of some frames, put to others
+abbrev pub put_all : List Entry → List Stored → List Entry
+put_all os fs = fold (λ ps f. put (entry_of f) ps) os fs
+
+-- the frames by presentation timestamp, at a tie in order of appending
+abbrev pub ordered : List Stored → List Entry
+ordered fs = put_all [] fs
+
+-- no entry begins after a later one
+abbrev pub IsSorted : List Entry → Type 0
+IsSorted [] = Unit {0}
+IsSorted (o ∷ os) = AllByRecursion (λ p. o.pts ≤ℤ p.pts) os × IsSorted os
+
+-- the first of two, if there is one
+abbrev pub or_else : Option Entry → Option Entry → Option Entry
+or_else (Some x) y = Some x
+or_else None y = y
+
+-- the last entry that passes a test
+abbrev pub last_that : (Entry → Bool) → List Entry → Option Entry
+last_that c [] = None
+last_that c (o ∷ os) = or_else (last_that c os) (if c o then Some o else None)
+
+-- no entry that passes the test has a lower serial than the one given; where none is given, none passes
+abbrev pub IsFirstOf : Option ℕ → (Entry → Bool) → List Entry → Type 0
+IsFirstOf None named os = AllByRecursion (λ o. named o ≡ false) os
+IsFirstOf (Some serial) named os = AllByRecursion (λ o. named o ≡ true → serial ≤ o.serial) os
+
+-- the lesser of a serial and another, where that is below a number
+abbrev pub first_more : ℕ → Option ℕ → ℕ → Option ℕ
+first_more below None s = if nat_le below s then None else Some s
+first_more below (Some b) s = if nat_le below s then Some b else (Some (if nat_le b s then b else s))
+
+-- where the last of an entry and others begins
+abbrev pub start_from : Entry → List Entry → ℤ
+start_from e [] = e.pts
+start_from e (o ∷ os) = start_from o os
+
+-- where the last entry begins
+abbrev pub last_start : List Entry → Option ℤ
+last_start [] = None
+last_start (o ∷ os) = Some (start_from o os)
+
+-- a random access point that is not before a moment
+abbrev pub is_sync_from : Moment → Entry → Bool
+is_sync_from t e = e.sync && not (is_before e.pts t)
+
+-- where the first entry begins that passes a test
+abbrev pub first_start : (Entry → Bool) → List Entry → Option ℤ
+first_start c [] = None
+first_start c (o ∷ os) = if c o then Some o.pts else first_start c os
+
+-- the entry with another duration, where it has the serial
+abbrev pub shorter : ℕ → ℤ → Entry → Entry
+shorter serial dur o = record o { dur = if nat_eq o.serial serial then dur else o.dur }
