@@ -1,0 +1,51 @@
+ghost use Rattle.std.specs.Prelude.{◌≡◌, ◌<◌, IfOk, map, string_bytes};
+ghost use Rattle.event_text.specs.Words.{shown, printable_text, bool_text};
+
+use mse_base::{OutOfMemory, Text};
+use std::alloc::{AllocError, Global};
+
+/// The sign that a character prints as: itself from 0x20 to 0x7E, else a question mark.
+fn sign_of(c: char) -> char
+    ensures sign { result ≡ shown c }
+    ensures ascii { result < 128 }
+{
+    if ' ' <= c && c <= '~' { c } else { '?' }
+}
+
+/// A text with one sign for each character.
+pub fn printed(alloc: Global, text: &str) -> Result<String, AllocError>
+    ensures { IfOk result (λ s. string_bytes s ≡ printable_text text.now) }
+{
+    let mut signs = String::new(alloc);
+    for c in text.chars() {
+        signs.push(sign_of(c))?;
+    }
+    Ok(signs)
+}
+
+/// The four bytes of a type of a box or a coding, with one sign for each byte.
+pub fn printed_code(alloc: Global, code: &[u8; 4]) -> Result<String, AllocError>
+    ensures { IfOk result (λ s. string_bytes s ≡ map shown code.now) }
+{
+    let mut signs = String::new(alloc);
+    for byte in code {
+        signs.push(sign_of(char::from(*byte)))?;
+    }
+    Ok(signs)
+}
+
+/// A text as it is printed: a character from 0x20 to 0x7E as itself, and every other one as a
+/// question mark.
+pub fn printable(alloc: Global, text: &str) -> Result<Text, OutOfMemory>
+    ensures { IfOk result (λ t. t ≡ printable_text text.now) }
+{
+    let signs = printed(alloc, text)?;
+    Ok(Text::from_string(alloc, signs))
+}
+
+/// `true` or `false`.
+pub fn bool_word(value: bool) -> &'static str
+    ensures { result.now ≡ bool_text value }
+{
+    if value { "true" } else { "false" }
+}

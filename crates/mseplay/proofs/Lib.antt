@@ -1,0 +1,9 @@
+pub mod Entries
+pub mod Files
+pub mod Fronts
+pub mod Loops
+pub mod Runs
+pub mod Segments
+pub mod Sounding
+pub mod Times
+pub mod Writing

@@ -1,0 +1,61 @@
+// The top call.
+ghost use Rattle.std.specs.Prelude.{◌≡◌, ◌≤◌, ◌⊎◌, ℕ, List, Some, None, IfSome, map, string_bytes};
+ghost use Rattle.mse_outside.specs.Outside.{Rose};
+ghost use Rattle.mseplay.specs.declared.words.Command.TheVariants.{Ranges};
+ghost use Rattle.mseplay.specs.Endings.{status_of, error_line};
+ghost use Rattle.mseplay.specs.Outcomes.{Given, Ends};
+ghost use Rattle.mseplay.specs.PlainFiles.{IsPlain};
+ghost use Rattle.mseplay.specs.Texts.{command_of, file_of};
+ghost use Rattle.mseplay.specs.Wrote.{Wrote, WroteFront};
+
+use crate::ending::{End, Status};
+use crate::put::put_bytes;
+use crate::text::error_line_for;
+use crate::words::file_name;
+use crate::work::work;
+use mse_outside::{Library, Sink};
+use std::alloc::Global;
+
+// Puts the line of an end.
+fn say<K: Sink>(alloc: Global, sink: &mut K, name: &str, end: End) -> Status
+    ensures said { ((result ≡ status_of end) × Wrote (error_line name.now end) (K.written sink.old) (K.written sink.new))
+        ⊎ (((result ≡ Status.Write) ⊎ (result ≡ Status.Memory)) × WroteFront (error_line name.now end) (K.written sink.old) (K.written sink.new)) }
+    ensures write { result ≡ Status.Write → (end ≡ End.Write) ⊎ Rose (K.faults sink.old) (K.faults sink.new) }
+    ensures later { K.faults sink.old ≤ K.faults sink.new }
+{
+    if end == End::Memory || end == End::Write {
+        return end.status();
+    }
+    let Ok(line) = error_line_for(alloc, name, end) else {
+        return Status::Memory;
+    };
+    match put_bytes(sink, line.as_slice()) {
+        Ok(()) => end.status(),
+        Err(failed) => failed.status(),
+    }
+}
+
+/// Does what the words ask for with the files of the library, and puts the printed text into the sink, one whole line a
+/// put. `words` are the arguments after the program's name. `ranges FILE` prints the block of a file.
+pub fn run<L: Library, K: Sink>(
+    alloc: Global,
+    words: &[String],
+    library: &mut L,
+    sink: &mut K,
+) -> Status
+    ensures ends { Ends (record { table = L.table library.old; words = map string_bytes words.now; faults_before = L.faults library.old; faults_after = L.faults library.new })
+        (K.written sink.old) (K.written sink.new) result }
+    ensures words { command_of (map string_bytes words.now) ≡ None → (result ≡ Status.Words) ⊎ ((result ≡ Status.Write) ⊎ (result ≡ Status.Memory)) }
+    ensures read { result ≡ Status.Read → Rose (L.faults library.old) (L.faults library.new) }
+    ensures write { result ≡ Status.Write → Rose (K.faults sink.old) (K.faults sink.new) }
+    ensures complete { (bytes : List ℕ) → command_of (map string_bytes words.now) ≡ Some Ranges
+        → IfSome (L.table library.old) (λ files. files (file_of (map string_bytes words.now)) ≡ Some bytes
+        → IsPlain bytes
+        → ¬ (Rose (L.faults library.old) (L.faults library.new)) → ¬ (Rose (K.faults sink.old) (K.faults sink.new))
+        → (result ≡ Status.Ok) ⊎ (result ≡ Status.Memory)) }
+{
+    match work(alloc, words, library, sink) {
+        Ok(()) => Status::Ok,
+        Err(end) => say(alloc, sink, file_name(words), end),
+    }
+}

@@ -1,0 +1,5 @@
+pub mod Acts
+pub mod Found
+pub mod FrontLaws
+pub mod ArmLaws
+pub mod StreamLaws

@@ -1,0 +1,295 @@
+ghost use Rattle.std.specs.Prelude.{◌≡◌, ℕ, ◌+◌, ◌-◌, ◌≤◌, ◌<◌, ◌^◌, List, All, length, take, drop, is_some, Option, false, IfOk, IfSome, OnErr};
+ghost use Rattle.std.specs.List.{concat};
+ghost use Rattle.mse_base.specs.declared.track.Presentation.{Presentation};
+ghost use Rattle.bmff_fragment.specs.declared.slot.Slot.{Slot};
+ghost use Rattle.segment_walk.specs.declared.kinds.DataRange.{DataRange};
+ghost use Rattle.segment_walk.specs.Segments.{step_of, segments};
+ghost use Rattle.segment_walk.specs.Ranges.{mode_of, SeesAscending};
+ghost use Rattle.segment_stream.specs.Kept.{kept_of, run_on as runs_on, IsConsistent, IsActive, IsLast, IsMoved, IsPlan, Keeps, Ordered, Rests, Since, fragment_in, state_of, turn};
+
+use crate::reach::{Moved, Reached, Spot, Tables};
+use bmff_fragment::{MoofError, Slot, read_moof};
+use input_chunks::Chunks;
+use mse_base::{OutOfMemory, Presentation};
+use segment_walk::{Begun, DataRange, Fragment, Mode, Place, Step, step};
+use std::alloc::Global;
+
+/// More bytes change nothing.
+pub(crate) const NEVER: u64 = u64::MAX;
+
+/// Passes over the bytes of a box that are there.
+fn pass_over(at: Reached, to: Begun, left: u64, input: &Chunks) -> Moved
+    requires inside { at.from ≤ length (concat input.now) }
+    requires idle { at.ready ≡ 0 }
+    requires small { at.spot.offset + (length (concat input.now) - at.from) < 2 ^ 62 }
+    requires skipping { at.spot.mode ≡ Mode.Skipping to left }
+    requires going { at.spot.failed ≡ false }
+    ensures { (last : Option Presentation) (slots : List Slot) (known : List DataRange) → IsMoved last at slots known slots known (concat input.now) result }
+{
+    let there = (input.len() - at.from) as u64;
+    if there == 0 && left > 0 {
+        return Moved::Rest(0);
+    }
+    if there < left {
+        let spot = Spot {
+            mode: Mode::Skipping {
+                to,
+                left: left - there,
+            },
+            offset: at.spot.offset + there,
+            failed: false,
+        };
+        return Moved::Go(Reached {
+            spot,
+            from: input.len(),
+            first: at.first,
+            ready: at.ready,
+            want: 0,
+        });
+    }
+    let spot = Spot {
+        mode: Mode::Between(to),
+        offset: at.spot.offset + left,
+        failed: false,
+    };
+    Moved::Go(Reached {
+        spot,
+        from: at.from + left as usize,
+        first: at.first,
+        ready: at.ready,
+        want: 0,
+    })
+}
+
+/// The slots of a whole moof; `None` where it has a fault, or nothing to be read with.
+fn plan(
+    alloc: Global,
+    last: &Option<Presentation>,
+    from: usize,
+    len: usize,
+    input: &Chunks,
+) -> Result<Option<Vec<Slot>>, OutOfMemory>
+    requires inside { from + len ≤ length (concat input.now) }
+    requires readable { IsLast last.now }
+    ensures plan { IfOk result (IsPlan last.now (take len (drop from (concat input.now)))) }
+    ensures ordered { IfOk result (λ found. IfSome found (λ slots. All Ordered slots.items)) }
+{
+    let Some(last) = last else {
+        return Ok(None);
+    };
+    let moof = input.copy(from, len)?;
+    match read_moof(alloc, moof.as_slice(), last) {
+        Ok(plan) => Ok(Some(plan.slots.into_vec())),
+        Err(MoofError::OutOfMemory) => Err(OutOfMemory),
+        Err(MoofError::Fault(_)) => Ok(None),
+    }
+}
+
+fn fragment(mode: Mode) -> Fragment
+    ensures { result ≡ fragment_in mode }
+{
+    match mode {
+        Mode::Within(fragment) => fragment,
+        Mode::Between(_) => Fragment {
+            taken: 0,
+            known: 0,
+            end: 0,
+            place: Place::AtBox(0),
+        },
+        Mode::Skipping { .. } => Fragment {
+            taken: 0,
+            known: 0,
+            end: 0,
+            place: Place::AtBox(0),
+        },
+    }
+}
+
+/// What the parser does next at a place.
+pub(crate) fn next_step(
+    last: &Option<Presentation>,
+    at: Reached,
+    tables: &Tables,
+    input: &Chunks,
+) -> Step
+    requires inside { at.from ≤ length (concat input.now) }
+    requires ascending { SeesAscending at.spot.mode tables.now.known.items }
+    ensures { result ≡ step_of (is_some last.now) (drop at.from (concat input.now)) (mode_of tables.now.slots.items tables.now.known.items at.spot.mode) }
+{
+    step(
+        last.is_some(),
+        at.spot.mode,
+        tables.slots.as_slice(),
+        tables.known.as_slice(),
+        input,
+        at.from,
+    )
+}
+
+/// The same place, in another mode.
+fn turned(at: Reached, mode: Mode) -> Reached
+    ensures { result ≡ turn at mode }
+{
+    let spot = Spot {
+        mode,
+        offset: at.spot.offset,
+        failed: false,
+    };
+    Reached {
+        spot,
+        from: at.from,
+        first: at.first,
+        ready: at.ready,
+        want: 0,
+    }
+}
+
+/// One move of the parser by its next step.
+fn act_on(
+    alloc: Global,
+    last: &Option<Presentation>,
+    at: Reached,
+    tables: &mut Tables,
+    input: &Chunks,
+) -> Result<Moved, OutOfMemory>
+    requires consistent { IsConsistent at tables.old.slots.items tables.old.known.items (concat input.now) }
+    requires readable { IsLast last.now }
+    requires going { at.spot.failed ≡ false }
+    requires active { IsActive at.spot.mode }
+    ensures ok { IfOk result (IsMoved last.now at tables.old.slots.items tables.old.known.items tables.new.slots.items tables.new.known.items (concat input.now)) }
+    ensures err { OnErr result (Keeps at.spot.mode tables.old.slots.items tables.old.known.items tables.new.slots.items tables.new.known.items) }
+{
+    let open = fragment(at.spot.mode);
+    match next_step(last, at, tables, input) {
+        Step::Wait(want) => Ok(Moved::Rest(want)),
+        Step::Skip { to, len } => Ok(Moved::Go(turned(at, Mode::Skipping { to, left: len }))),
+        Step::ReadMoof(len) => {
+            let Some(slots) = plan(alloc, last, at.from, len as usize, input)? else {
+                return Ok(Moved::Rest(NEVER));
+            };
+            tables.slots = slots;
+            tables.known.clear();
+            let opened = Fragment {
+                taken: 0,
+                known: 0,
+                end: 0,
+                place: Place::AtBox(len),
+            };
+            let spot = Spot {
+                mode: Mode::Within(opened),
+                offset: at.spot.offset,
+                failed: false,
+            };
+            Ok(Moved::Go(Reached {
+                spot,
+                from: at.from,
+                first: 0,
+                ready: 0,
+                want: 0,
+            }))
+        }
+        Step::EnterData { start, end } => {
+            tables.known.truncate(open.known);
+            tables.known.push(DataRange { start, end })?;
+            let entered = Fragment {
+                taken: open.taken,
+                known: open.known + 1,
+                end,
+                place: Place::InData(end),
+            };
+            Ok(Moved::Go(turned(at, Mode::Within(entered))))
+        }
+        Step::NextBox(place) => {
+            let passed = Fragment {
+                taken: open.taken,
+                known: open.known,
+                end: open.end,
+                place: Place::AtBox(place),
+            };
+            Ok(Moved::Go(turned(at, Mode::Within(passed))))
+        }
+        Step::GiveFrame(_) => {
+            let given = Fragment {
+                taken: open.taken + 1,
+                known: open.known,
+                end: open.end,
+                place: open.place,
+            };
+            let spot = Spot {
+                mode: Mode::Within(given),
+                offset: at.spot.offset,
+                failed: false,
+            };
+            Ok(Moved::Go(Reached {
+                spot,
+                from: at.from,
+                first: at.first,
+                ready: at.ready + 1,
+                want: 0,
+            }))
+        }
+        Step::ReadInit(_) => Ok(Moved::Rest(NEVER)),
+        Step::EndSegment(_) => Ok(Moved::Rest(NEVER)),
+        Step::Fail(_, _) => Ok(Moved::Rest(NEVER)),
+    }
+}
+
+/// One move of the parser, but for an item that is no frame. Only a moof takes memory, and an mdat a place in
+/// the table.
+fn move_on(
+    alloc: Global,
+    last: &Option<Presentation>,
+    at: Reached,
+    tables: &mut Tables,
+    input: &Chunks,
+) -> Result<Moved, OutOfMemory>
+    requires consistent { IsConsistent at tables.old.slots.items tables.old.known.items (concat input.now) }
+    requires readable { IsLast last.now }
+    ensures ok { IfOk result (IsMoved last.now at tables.old.slots.items tables.old.known.items tables.new.slots.items tables.new.known.items (concat input.now)) }
+    ensures err { OnErr result (Keeps at.spot.mode tables.old.slots.items tables.old.known.items tables.new.slots.items tables.new.known.items) }
+{
+    if at.spot.failed {
+        return Ok(Moved::Rest(NEVER));
+    }
+    match at.spot.mode {
+        Mode::Skipping { to, left } => Ok(pass_over(at, to, left, input)),
+        Mode::Between(_) => act_on(alloc, last, at, tables, input),
+        Mode::Within(_) => act_on(alloc, last, at, tables, input),
+    }
+}
+
+/// Runs the parser on as far as the bytes go. An `Err` leaves all that the place sees.
+pub(crate) fn run_on(
+    alloc: Global,
+    last: &Option<Presentation>,
+    start: Reached,
+    tables: &mut Tables,
+    input: &Chunks,
+) -> Result<Reached, OutOfMemory>
+    requires consistent { IsConsistent start tables.old.slots.items tables.old.known.items (concat input.now) }
+    requires readable { IsLast last.now }
+    ensures same { IfOk result (λ r. kept_of last.now r tables.new.slots.items tables.new.known.items (concat input.now) ≡ runs_on (kept_of last.now start tables.old.slots.items tables.old.known.items (concat input.now))) }
+    ensures consistent { IfOk result (λ r. IsConsistent r tables.new.slots.items tables.new.known.items (concat input.now)) }
+    ensures since { IfOk result (λ r. Since start.spot.mode r.spot.mode tables.old.slots.items tables.old.known.items tables.new.slots.items tables.new.known.items) }
+    ensures total { IfOk result (λ r. r.spot.offset + (length (concat input.now) - r.from) ≡ start.spot.offset + (length (concat input.now) - start.from)) }
+    ensures going { IfOk result (λ r. r.spot.failed ≡ start.spot.failed) }
+    ensures rests { IfOk result (λ r. Rests (state_of last.now r.spot tables.new.slots.items tables.new.known.items (drop r.from (concat input.now))) r.want) }
+    ensures err { OnErr result (Keeps start.spot.mode tables.old.slots.items tables.old.known.items tables.new.slots.items tables.new.known.items) }
+{
+    let mut at = start;
+    'moves: loop {
+        let moved = move_on(alloc, last, at, tables, input)?;
+        match moved {
+            Moved::Rest(want) => {
+                return Ok(Reached {
+                    spot: at.spot,
+                    from: at.from,
+                    first: at.first,
+                    ready: at.ready,
+                    want,
+                });
+            }
+            Moved::Go(next) => at = next,
+        }
+    }
+}

@@ -1,0 +1,5 @@
+pub mod Heads
+pub mod Lying
+pub mod Slots
+pub mod WalkLaws
+pub mod Latest

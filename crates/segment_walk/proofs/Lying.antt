@@ -1,0 +1,62 @@
+-- A slot among data ranges that come in order.
+use Rattle.std.proofs.Common.{◌≡◌, ℕ, zero, suc, ◌-◌, ◌<◌, ◌≤◌, leb, Bool, true, false, ◌&&◌, ◌||◌, List, [], ◌∷◌, length, get_or, inl, inr, refl, sym, arith}
+use Rattle.std.proofs.lemmas.Bool.Decides.{nat_tests}
+use Rattle.std.proofs.lemmas.Bool.{cases_lt}
+use Rattle.bmff_fragment.specs.declared.slot.Slot.{Slot}
+use Rattle.segment_walk.specs.declared.kinds.DataRange.{DataRange}
+use Rattle.segment_walk.specs.Segments.{lies_in}
+use Rattle.segment_walk.specs.Ranges.{IsAscending}
+
+or-true : (a b : Bool) → b ≡ true → (a || b) ≡ true
+or-true true b e = refl
+or-true false b e = e
+
+pub lies-at : (ks : List DataRange) (s : Slot) (i : ℕ) (d : DataRange) → i < length ks → leb (get_or ks i d).start s.start ≡ true → leb s.end (get_or ks i d).end ≡ true → lies_in ks s ≡ true
+lies-at [] s i d h e f = absurd (omega arith)
+lies-at (k ∷ ks) s zero d h e f = rw (e, f) refl
+lies-at (k ∷ ks) s (suc i) d h e f = or-true (leb k.start s.start && leb s.end k.end) (lies_in ks s) (lies-at ks s i d (omega arith) e f)
+
+pub lies-not : (ks : List DataRange) (s : Slot) → ((i : ℕ) (d : DataRange) → i < length ks → (leb (get_or ks i d).start s.start && leb s.end (get_or ks i d).end) ≡ false) → lies_in ks s ≡ false
+lies-not [] s f = refl
+lies-not (k ∷ ks) s f = rw (f 0 k (omega arith), lies-not ks s (λ i d h. f (suc i) d (omega arith))) refl
+
+and-left : (a b : Bool) → a ≡ false → (a && b) ≡ false
+and-left false b e = refl
+and-left true b e = cc
+
+and-right : (a b : Bool) → b ≡ false → (a && b) ≡ false
+and-right false b e = refl
+and-right true b e = e
+
+abbrev pub Begun : Slot → List DataRange → ℕ → ℕ → Bool → Type 0
+Begun s ks low high b = (i : ℕ) (d : DataRange) → low ≤ i → i < high → leb (get_or ks i d).start s.start ≡ b
+
+-- none has begun before the slot
+pub lies-none : (ks : List DataRange) (s : Slot) → Begun s ks 0 (length ks) false → lies_in ks s ≡ false
+lies-none ks s f = lies-not ks s (λ i d h. and-left (leb (get_or ks i d).start s.start) (leb s.end (get_or ks i d).end) (f i d (omega arith) h))
+
+get-any : (ks : List DataRange) (i : ℕ) (c d : DataRange) → i < length ks → get_or ks i c ≡ get_or ks i d
+get-any [] i c d h = absurd (omega arith)
+get-any (k ∷ ks) zero c d h = refl
+get-any (k ∷ ks) (suc i) c d h = get-any ks i c d (omega arith)
+
+below : (ks : List DataRange) (s : Slot) (n i : ℕ) (d c : DataRange) → leb s.end (get_or ks (n - 1) d).end ≡ false → 0 < n → n ≤ length ks → i < length ks → i < n → IsAscending ks → leb s.end (get_or ks i c).end ≡ false
+below ks s n i d c e z l h q a =
+    let x : (get_or ks i d).end ≤ (get_or ks (n - 1) d).end = a.ends i (n - 1) d (omega arith) (omega arith) in
+    let y : get_or ks i c ≡ get_or ks i d = get-any ks i c d h in
+    rw y (grind (arith, nat_tests))
+
+-- the last of those that have begun decides
+last-true : (ks : List DataRange) (s : Slot) (n : ℕ) (d : DataRange) (b : Bool) → leb s.end (get_or ks (n - 1) d).end ≡ b → 0 < n → n ≤ length ks → IsAscending ks → Begun s ks 0 n true → Begun s ks n (length ks) false → b ≡ lies_in ks s
+last-true ks s n d true e z l a f g = sym (lies-at ks s (n - 1) d (omega arith) (f (n - 1) d (omega arith) (omega arith)) e)
+last-true ks s n d false e z l a f g =
+    let past : (i : ℕ) (c : DataRange) → i < length ks → (leb (get_or ks i c).start s.start && leb s.end (get_or ks i c).end) ≡ false =
+    λ i c h. elim (cases_lt i n) as (λ _. (leb (get_or ks i c).start s.start && leb s.end (get_or ks i c).end) ≡ false) [
+      | inl q ↦ and-right (leb (get_or ks i c).start s.start) (leb s.end (get_or ks i c).end) (below ks s n i d c e z l h q a)
+      | inr q ↦ and-left (leb (get_or ks i c).start s.start) (leb s.end (get_or ks i c).end) (g i c q h)
+    ]
+    in
+    sym (lies-not ks s past)
+
+pub lies-last : (ks : List DataRange) (s : Slot) (n : ℕ) (d : DataRange) → 0 < n → n ≤ length ks → IsAscending ks → Begun s ks 0 n true → Begun s ks n (length ks) false → leb s.end (get_or ks (n - 1) d).end ≡ lies_in ks s
+lies-last ks s n d z l a f g = last-true ks s n d (leb s.end (get_or ks (n - 1) d).end) refl z l a f g

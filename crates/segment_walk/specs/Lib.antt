@@ -1,0 +1,4 @@
+pub mod Segments
+pub mod Strings
+pub mod Ranges
+pub mod Bounds

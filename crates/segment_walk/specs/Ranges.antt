@@ -1,0 +1,30 @@
+-- What the code keeps of a mode of the walk: its tables of slots and of data ranges, which come in order.
+use Rattle.std.specs.Prelude.{List, take}
+use Rattle.std.specs.List.Sorted.{IsNonDecreasingBy}
+use Rattle.segment_walk.specs.declared.kinds.DataRange.{DataRange}
+use Rattle.segment_walk.specs.declared.kinds.Fragment.{Fragment}
+use Rattle.segment_walk.specs.declared.kinds.Mode as code
+use Rattle.segment_walk.specs.declared.kinds.Mode.TheVariants as codes
+use Rattle.segment_walk.specs.Segments.{Open, open_of, Between, Skipping, Within}
+use Rattle.segment_walk.specs.Segments as walk
+use Rattle.bmff_fragment.specs.declared.slot.Slot.{Slot}
+
+-- neither starts nor ends fall
+pub record IsAscending (ks : List DataRange) : Type 0 where
+  pub starts : IsNonDecreasingBy (λ k. k.start) ks
+  pub ends : IsNonDecreasingBy (λ k. k.end) ks
+
+-- the data ranges that a place of the walk sees come in order
+abbrev pub SeesAscending : code.Mode → List DataRange → Type 0
+SeesAscending (codes.Between begun) known = Unit {0}
+SeesAscending (codes.Skipping to left) known = Unit {0}
+SeesAscending (codes.Within f) known = IsAscending (take f.known known)
+
+-- what the code keeps of a movie fragment, with the tables in which its slots and data ranges lie
+abbrev pub open_at : List Slot → List DataRange → Fragment → Open
+open_at slots known f = record { slots = slots; taken = f.taken; known = take f.known known; end = f.end; place = f.place }
+
+abbrev pub mode_of : List Slot → List DataRange → code.Mode → walk.Mode
+mode_of slots known (codes.Between begun) = Between begun
+mode_of slots known (codes.Skipping to left) = Skipping to left
+mode_of slots known (codes.Within f) = Within (open_at slots known f)

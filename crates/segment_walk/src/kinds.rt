@@ -1,0 +1,116 @@
+use bmff_fragment::{MoofFault, Slot};
+use bmff_init::InitFault;
+
+/// Why a byte stream cannot be parsed any further.
+#[derive(Clone, Copy, Debug, PartialEq, Eq)]
+pub enum StreamFault {
+    /// A box has the size 0.
+    SizeZero,
+    /// A box is smaller than its header.
+    BoxSize,
+    /// A box is too large: above `2^24` bytes for a moov or a moof, above `2^40` bytes for another box,
+    /// or one that ends more than `2^27` bytes behind the start of its movie fragment.
+    TooLarge,
+    /// A moov stands where no initialization segment was begun.
+    MoovPlace,
+    /// A moof stands in an initialization segment.
+    MoofPlace,
+    /// A moof stands before any initialization segment.
+    NoInit,
+    /// A box that begins a segment stands in a media segment that is not at its end.
+    InSegment,
+    /// The data of a sample lie in no mdat of their segment.
+    OutsideMdat,
+    /// A moov has a fault.
+    Init(InitFault),
+    /// A moof has a fault.
+    Moof(MoofFault),
+}
+
+/// What a top-level box is to the parser (ISO/IEC 14496-12; ISO BMFF byte stream format).
+#[derive(Clone, Copy, Debug, PartialEq, Eq)]
+pub enum TopLevelBox {
+    /// `ftyp`: it begins an initialization segment.
+    FileType,
+    /// `styp`: it begins a media segment.
+    SegmentType,
+    /// `moov`.
+    Movie,
+    /// `moof`.
+    MovieFragment,
+    /// `mdat`.
+    MediaData,
+    /// Any other box, which is skipped.
+    Other,
+}
+
+/// Which segment was begun, where no movie fragment is open.
+#[derive(Clone, Copy, Debug, PartialEq, Eq)]
+pub enum Begun {
+    /// None.
+    Nothing,
+    /// An initialization segment: its `ftyp` was met.
+    InitSegment,
+    /// A media segment: its `styp` was met.
+    MediaSegment,
+}
+
+/// A place in an open movie fragment, counted from the first byte of its moof.
+#[derive(Clone, Copy, Debug, PartialEq, Eq)]
+pub enum Place {
+    /// Before the header of a box.
+    AtBox(u64),
+    /// In an mdat that ends there.
+    InData(u64),
+}
+
+/// The payload of an mdat, counted from the first byte of the moof before it: from `start` up to `end`.
+#[derive(Clone, Copy, Debug, PartialEq, Eq)]
+pub struct DataRange {
+    pub start: u64,
+    pub end: u64,
+}
+
+/// An open movie fragment, but for its tables: how many of its slots were taken, how many of its mdats are
+/// known, where the last of these ends, and the place of the parser.
+#[derive(Clone, Copy, Debug, PartialEq, Eq)]
+pub struct Fragment {
+    pub taken: usize,
+    pub known: usize,
+    pub end: u64,
+    pub place: Place,
+}
+
+/// What the parser is doing.
+#[derive(Clone, Copy, Debug, PartialEq, Eq)]
+pub enum Mode {
+    /// It stands before a top-level box, and no movie fragment is open.
+    Between(Begun),
+    /// It passes over the bytes of a box that are left.
+    Skipping { to: Begun, left: u64 },
+    /// A movie fragment is open.
+    Within(Fragment),
+}
+
+/// What the parser does next.
+#[derive(Clone, Copy, Debug, PartialEq, Eq)]
+pub enum Step {
+    /// It waits; below so many bytes there is nothing to do.
+    Wait(u64),
+    /// It passes over a box of so many bytes.
+    Skip { to: Begun, len: u64 },
+    /// It reads a moov of so many bytes.
+    ReadInit(u64),
+    /// It reads a moof of so many bytes.
+    ReadMoof(u64),
+    /// It enters an mdat with this payload.
+    EnterData { start: u64, end: u64 },
+    /// It goes on to the box at this place.
+    NextBox(u64),
+    /// It gives the frame of this slot.
+    GiveFrame(Slot),
+    /// It ends the segment at this place.
+    EndSegment(u64),
+    /// It stops for good with a fault at this place.
+    Fail(StreamFault, u64),
+}

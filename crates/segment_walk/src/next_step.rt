@@ -1,0 +1,286 @@
+ghost use Rattle.std.specs.Prelude.{◌≡◌, ℕ, ◌+◌, ◌≤◌, ◌<◌, ◌^◌, List, length, take, drop};
+ghost use Rattle.std.specs.List.{concat};
+ghost use Rattle.bmff_boxes.specs.Headers.{header_of};
+ghost use Rattle.segment_walk.specs.Segments.{size_fault as fault_of, box_type as type_of, place_fault as fault_at, most_of, judge_between as judged_between, take_box as taken_by, box_between as between_step, judge_within as judged_within, box_within as within_step, place_step as placed_step, lies_in as lying, slot_step as slotted_step, step_of};
+ghost use Rattle.segment_walk.specs.Ranges.{mode_of, IsAscending, SeesAscending};
+ghost use Rattle.segment_walk.specs.Bounds.{IsHead, is_segment_start};
+
+use crate::kinds::{Begun, DataRange, Mode, Place, Step, StreamFault, TopLevelBox};
+use crate::search::lies_in;
+use bmff_boxes::{HeadFault, Header, header};
+use bmff_fragment::Slot;
+use input_chunks::Chunks;
+
+/// The most bytes of a movie fragment with its data.
+const LONGEST_FRAGMENT: u128 = 1 << 27;
+
+fn box_type(kind: [u8; 4]) -> TopLevelBox
+    ensures { result ≡ type_of kind }
+{
+    if kind == *b"ftyp" {
+        TopLevelBox::FileType
+    } else if kind == *b"styp" {
+        TopLevelBox::SegmentType
+    } else if kind == *b"moov" {
+        TopLevelBox::Movie
+    } else if kind == *b"moof" {
+        TopLevelBox::MovieFragment
+    } else if kind == *b"mdat" {
+        TopLevelBox::MediaData
+    } else {
+        TopLevelBox::Other
+    }
+}
+
+fn size_fault(fault: HeadFault) -> StreamFault
+    ensures { result ≡ fault_of fault }
+{
+    match fault {
+        HeadFault::SizeZero => StreamFault::SizeZero,
+        HeadFault::BoxSize => StreamFault::BoxSize,
+    }
+}
+
+/// What is out of place.
+fn place_fault(ready: bool, begun: Begun, kind: TopLevelBox) -> Option<StreamFault>
+    ensures { result ≡ fault_at ready begun kind }
+{
+    match (begun, kind) {
+        (Begun::Nothing, TopLevelBox::Movie) => Some(StreamFault::MoovPlace),
+        (Begun::MediaSegment, TopLevelBox::Movie) => Some(StreamFault::MoovPlace),
+        (Begun::InitSegment, TopLevelBox::MovieFragment) => Some(StreamFault::MoofPlace),
+        (Begun::Nothing, TopLevelBox::MovieFragment) => if ready {
+            None
+        } else {
+            Some(StreamFault::NoInit)
+        },
+        (Begun::MediaSegment, TopLevelBox::MovieFragment) => if ready {
+            None
+        } else {
+            Some(StreamFault::NoInit)
+        },
+        _ => None,
+    }
+}
+
+fn most(kind: TopLevelBox) -> u64
+    ensures { result ≡ most_of kind }
+{
+    match kind {
+        TopLevelBox::Movie => 1 << 24,
+        TopLevelBox::MovieFragment => 1 << 24,
+        TopLevelBox::FileType => 1 << 40,
+        TopLevelBox::SegmentType => 1 << 40,
+        TopLevelBox::MediaData => 1 << 40,
+        TopLevelBox::Other => 1 << 40,
+    }
+}
+
+/// What a box does where no movie fragment is open and `there` bytes of it and of what follows are there.
+fn take_box(begun: Begun, kind: TopLevelBox, there: u64, len: u64) -> Step
+    ensures { result ≡ taken_by begun kind there len }
+{
+    match (begun, kind) {
+        (Begun::InitSegment, TopLevelBox::Movie) => if there < len {
+            Step::Wait(len)
+        } else {
+            Step::ReadInit(len)
+        },
+        (_, TopLevelBox::MovieFragment) => if there < len {
+            Step::Wait(len)
+        } else {
+            Step::ReadMoof(len)
+        },
+        (Begun::Nothing, TopLevelBox::FileType) => Step::Skip {
+            to: Begun::InitSegment,
+            len,
+        },
+        (Begun::MediaSegment, TopLevelBox::FileType) => Step::Skip {
+            to: Begun::InitSegment,
+            len,
+        },
+        (Begun::Nothing, TopLevelBox::SegmentType) => Step::Skip {
+            to: Begun::MediaSegment,
+            len,
+        },
+        _ => Step::Skip { to: begun, len },
+    }
+}
+
+fn box_between(ready: bool, begun: Begun, there: u64, front: Header) -> Step
+    ensures { result ≡ between_step ready begun there front }
+{
+    match front {
+        Header::Short => Step::Wait(0),
+        Header::Bad(fault) => Step::Fail(size_fault(fault), 0),
+        Header::Whole { kind, len, .. } => {
+            let kind = box_type(kind);
+            if let Some(fault) = place_fault(ready, begun, kind) {
+                return Step::Fail(fault, 0);
+            }
+            if len > most(kind) {
+                return Step::Fail(StreamFault::TooLarge, 0);
+            }
+            take_box(begun, kind, there, len)
+        }
+    }
+}
+
+/// Whether a box begins a segment, or is one that only stands at the start of one.
+fn begins_segment(kind: TopLevelBox) -> bool
+    ensures { result ≡ is_segment_start kind }
+{
+    match kind {
+        TopLevelBox::MediaData => false,
+        TopLevelBox::Other => false,
+        TopLevelBox::FileType => true,
+        TopLevelBox::SegmentType => true,
+        TopLevelBox::Movie => true,
+        TopLevelBox::MovieFragment => true,
+    }
+}
+
+fn box_within(there: u64, at: u64, front: Header) -> Step
+    requires { IsHead front }
+    ensures { result ≡ within_step there at front }
+{
+    match front {
+        Header::Short => Step::Wait(0),
+        Header::Bad(fault) => Step::Fail(size_fault(fault), at),
+        Header::Whole { kind, head, len } => {
+            let kind = box_type(kind);
+            if begins_segment(kind) {
+                return Step::Fail(StreamFault::InSegment, at);
+            }
+            if u128::from(at) + u128::from(len) > LONGEST_FRAGMENT {
+                return Step::Fail(StreamFault::TooLarge, at);
+            }
+            let end = at + len;
+            if kind == TopLevelBox::MediaData {
+                return Step::EnterData {
+                    start: at + head,
+                    end,
+                };
+            }
+            if there < end {
+                Step::Wait(end)
+            } else {
+                Step::NextBox(end)
+            }
+        }
+    }
+}
+
+/// The header that lies `at` bytes from `from` on.
+fn header_at(input: &Chunks, from: usize, at: u64) -> Header
+    ensures value { result ≡ header_of (drop at (drop from (concat input.now))) }
+    ensures head { IsHead result }
+{
+    let place = from as u128 + u128::from(at);
+    if place >= input.len() as u128 {
+        return Header::Short;
+    }
+    let place = place as usize;
+    let mut front = [0; 16];
+    let left = input.len() - place;
+    if left >= 16 {
+        input.read(place, &mut front);
+        return header(&front);
+    }
+    let (part, _) = front.split_at_mut(left);
+    input.read(place, part);
+    header(part)
+}
+
+/// The step at a place of a movie fragment; `done` says that no slot is left.
+fn place_step(input: &Chunks, from: usize, done: bool, place: Place) -> Step
+    requires { from ≤ length (concat input.now) }
+    ensures { result ≡ placed_step (drop from (concat input.now)) done place }
+{
+    let there = (input.len() - from) as u64;
+    match place {
+        Place::AtBox(at) => box_within(there, at, header_at(input, from, at)),
+        Place::InData(end) => {
+            if there < end {
+                Step::Wait(end)
+            } else if done {
+                Step::EndSegment(end)
+            } else {
+                Step::NextBox(end)
+            }
+        }
+    }
+}
+
+/// The step in a movie fragment, whose next slot is `slot`.
+fn slot_step(
+    input: &Chunks,
+    from: usize,
+    known: &[DataRange],
+    end: u64,
+    place: Place,
+    slot: Option<Slot>,
+) -> Step
+    requires inside { from ≤ length (concat input.now) }
+    requires ascending { IsAscending known.now }
+    ensures { result ≡ slotted_step (drop from (concat input.now)) known.now end place slot }
+{
+    let Some(slot) = slot else {
+        return place_step(input, from, true, place);
+    };
+    let there = (input.len() - from) as u64;
+    if lies_in(known, &slot) {
+        if there < slot.end {
+            Step::Wait(slot.end)
+        } else {
+            Step::GiveFrame(slot)
+        }
+    } else if slot.start < end {
+        Step::Fail(StreamFault::OutsideMdat, slot.start)
+    } else {
+        place_step(input, from, false, place)
+    }
+}
+
+#[tactic(auto, using(crate::proofs::Heads::front_min))]
+fn first(known: &[DataRange], n: usize) -> &[DataRange]
+    ensures { result.now ≡ take n known.now }
+{
+    let (front, _) = known.split_at(n.min(known.len()));
+    front
+}
+
+/// What the parser does next, in the mode that `mode` and the tables tell, where the bytes from place `from`
+/// of the input on are those from its offset on, and `ready` says that an initialization segment came. It
+/// takes no memory, and reads of a box no more than its header.
+#[tactic(auto, unfolding(crate::specs::Segments::step_of))]
+pub fn step(
+    ready: bool,
+    mode: Mode,
+    slots: &[Slot],
+    known: &[DataRange],
+    input: &Chunks,
+    from: usize,
+) -> Step
+    requires inside { from ≤ length (concat input.now) }
+    requires ascending { SeesAscending mode known.now }
+    ensures { result ≡ step_of ready (drop from (concat input.now)) (mode_of slots.now known.now mode) }
+{
+    match mode {
+        Mode::Between(begun) => {
+            let there = (input.len() - from) as u64;
+            box_between(ready, begun, there, header_at(input, from, 0))
+        }
+        Mode::Skipping { .. } => Step::Wait(0),
+        Mode::Within(fragment) => {
+            slot_step(
+                input,
+                from,
+                first(known, fragment.known),
+                fragment.end,
+                fragment.place,
+                slots.get(fragment.taken).copied(),
+            )
+        }
+    }
+}
