@@ -1,0 +1,87 @@
+-- Coded frame eviction as one function on lists (Media Source Extensions, 3.5.10).
+use Rattle.std.specs.Prelude.{ℕ, ◌+◌, ℤ, int_le, int_lt, nat_le, nat_lt, Bool, true, false, List, [], ◌∷◌, ◌++◌, filter, find, fold, reverse, slice_get, Option, Some, None, if◌then◌else◌}
+use Rattle.std.specs.Option.{option_or}
+use Rattle.mse_base.specs.declared.ticks.Moment.{Moment}
+use Rattle.mse_base.specs.declared.ticks.Moment.TheVariants.{Nan, At, Infinite}
+use Rattle.mse_base.specs.declared.track.Kind.{Kind}
+use Rattle.mse_base.specs.declared.track.Kind.TheVariants.{Video, Audio, Other}
+use Rattle.track_store.specs.declared.store.Stored.{Stored}
+use Rattle.track_store.specs.Frames.{starts}
+use Rattle.track_store.specs.Kept.{bytes_in}
+use Rattle.track_store.specs.State.{TrackState}
+use Rattle.range_removal.specs.Removal.{removed_frames, time_or}
+
+abbrev pub is_video : Kind → Bool
+is_video Video = true
+is_video Audio = false
+is_video Other = false
+
+-- the lead track: the first video track, and the first track where there is no video track
+abbrev pub lead_of : List TrackState → Option TrackState
+lead_of ts = option_or (find (λ t. is_video t.kind) ts) (slice_get ts 0)
+
+-- the frames of a track, if there is one
+abbrev pub frames_of : Option TrackState → List Stored
+frames_of None = []
+frames_of (Some t) = t.frames
+
+-- ascending times with one more, each held once
+abbrev pub with_time : List ℤ → ℤ → List ℤ
+with_time [] t = t ∷ []
+with_time (u ∷ us) t = if int_lt t u then (t ∷ u ∷ us) else (if int_lt u t then (u ∷ with_time us t) else (u ∷ us))
+
+-- the distinct presentation timestamps of the random access points, ascending
+abbrev pub sync_times : List Stored → List ℤ
+sync_times fs = fold with_time [] (starts (filter (λ f. f.frame.sync) fs))
+
+-- a range of presentation timestamps that can be evicted
+pub record RemovalRange : Type 0 where
+  pub start : ℤ
+  pub end : Moment
+
+-- the first of some times
+abbrev pub first_of : List ℤ → Option ℤ
+first_of [] = None
+first_of (t ∷ ts) = Some t
+
+-- from each random access point to the next, and from the last to the duration
+abbrev pub removal_ranges : Moment → List ℤ → List RemovalRange
+removal_ranges duration [] = []
+removal_ranges duration (t ∷ ts) = record { start = t; end = time_or (first_of ts) duration } ∷ removal_ranges duration ts
+
+-- the moment is a time that is not after the position
+abbrev pub is_up_to : ℤ → Moment → Bool
+is_up_to position (At t) = int_le t position
+is_up_to position Infinite = false
+is_up_to position Nan = false
+
+abbrev pub ends_up_to : ℤ → RemovalRange → Bool
+ends_up_to position r = is_up_to position r.end
+
+abbrev pub starts_after : ℤ → RemovalRange → Bool
+starts_after position r = int_lt position r.start
+
+-- step 3: the removal ranges in the order in which they go. First those that end at or before the current
+-- playback position, from the earliest on, and then those that start after it, from the latest back.
+abbrev pub in_order : ℤ → List RemovalRange → List RemovalRange
+in_order position rs = filter (ends_up_to position) rs ++ reverse (filter (starts_after position) rs)
+
+-- the new bytes have room beside those that are stored
+abbrev pub fits : ℕ → ℕ → ℕ → Bool
+fits used new quota = nat_le (used + new) quota
+
+abbrev pub has_room : ℕ → ℕ → List TrackState → Bool
+has_room new quota ts = fits (bytes_in ts) new quota
+
+-- step 4: one range after another is removed, until the new bytes have room
+abbrev pub removed_while_full : ℕ → ℕ → Moment → List RemovalRange → List TrackState → List TrackState
+removed_while_full new quota duration [] ts = ts
+removed_while_full new quota duration (r ∷ rs) ts =
+    if has_room new quota ts then ts else removed_while_full new quota duration rs (removed_frames r.start r.end duration ts)
+
+-- coded frame eviction. Where the stored bytes are below the quota, the buffer is not full and nothing
+-- happens (step 2).
+abbrev pub evicted : ℤ → ℕ → ℕ → Moment → List TrackState → List TrackState
+evicted position new quota duration ts =
+    if nat_lt (bytes_in ts) quota then ts
+    else removed_while_full new quota duration (in_order position (removal_ranges duration (sync_times (frames_of (lead_of ts))))) ts

@@ -1,0 +1,3 @@
+pub mod Evicting
+pub mod Counted
+pub mod Steps

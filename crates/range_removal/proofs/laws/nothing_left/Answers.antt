@@ -1,0 +1,7 @@
+use Rattle.std.proofs.Common.{false}
+use Rattle.range_removal.specs.Removal.{is_between, remove_end}
+use Rattle.range_removal.proofs.Removing.{unnamed-cleared}
+use Rattle.range_removal.proofs.laws.nothing_left.Goals as goal
+
+pub returns : goal.returns
+returns c = λ start end duration t. unnamed-cleared (is_between start (remove_end end duration t.frames)) false t.frames
