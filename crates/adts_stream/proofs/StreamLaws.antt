@@ -1,0 +1,292 @@
+-- What the fields of a stream are to its contracts.
+use Rattle.std.proofs.Common.{◌≡◌, ℕ, zero, suc, ◌+◌, ◌-◌, ◌<◌, ◌≤◌, ◌^◌, leb, ltb, cond, Bool, true, false, List, [], ◌∷◌, ◌++◌, length, take, drop, slice_get, Option, Some, None, Result, Ok, Err, IfOk, OnOk, ◌⊎◌, inl, inr, refl, ap, sym, ◌∙◌, subst, arith}
+use Rattle.std.specs.List.{concat}
+use Rattle.std.specs.Prelude.{IfSome}
+use Rattle.std.proofs.lemmas.List.{length-append, length-drop, length-take-le, append-nil, append_assoc, take-append-drop}
+use Rattle.std.proofs.lemmas.Bool.Decides.{nat_tests}
+use Rattle.mse_base.specs.declared.track.Presentation.{Presentation}
+use Rattle.parser_loop.specs.Walk.{Move, Stop, Pass, Give, Run, run, run_by, stay_at, settle, items_by, items_from, state_at, run_after, first_item, after_first, item_of, count_after}
+use Rattle.parser_loop.specs.Walk as walk
+use Rattle.parser_loop.proofs.Walks.{IsSettled, settled, settle-same, settled-at-state, items-at, items-step, state-more}
+use Rattle.parser_loop.proofs.Runs.{IsRested, run-rested, run-settle, stands-first, stands-after}
+use Rattle.parser_loop.proofs.Pieces.{more-items}
+use Rattle.adts_stream.specs.declared.header.FrameHeader.{FrameHeader}
+use Rattle.adts_stream.specs.declared.header.Found.{Found}
+use Rattle.adts_stream.specs.declared.header.Found.TheVariants as found
+use Rattle.adts_stream.specs.declared.place.Place.{Place}
+use Rattle.adts_stream.specs.declared.place.Place.TheVariants.{AtHeader, InTag, AtFrame, AtEnd}
+use Rattle.adts_stream.specs.declared.place.Spot.{Spot}
+use Rattle.adts_stream.specs.declared.next.AdtsNext.{AdtsNext}
+use Rattle.adts_stream.specs.Headers.{found_at}
+use Rattle.adts_stream.specs.Frames.{Item, InitItem, FrameItem, SegmentEnd, FaultItem, State, found_move, tag_move, move_unless, more_unless, presentation_of, has_rate, coded_frame, into, initialized, behind, adts}
+use Rattle.adts_stream.specs.Strings.{start, Items, state_before, phase_of, phase_before, frames_first, ready_before, held_before, latest}
+use Rattle.adts_stream.specs.Kept.{state_of, kept_behind, ready_at, ready_unless, ready_of, place_at_start, seen}
+use Rattle.adts_stream.specs.Streams.{Streamed, Stands, fed, fed_all, streamed, IsStream}
+use Rattle.adts_stream.proofs.WalkLaws.{going, is_walk, once-short}
+use Rattle.adts_stream.proofs.Moves.{at-spot, behind-none, end-whole, frame-whole}
+use Rattle.adts_stream.proofs.Latest.{state-latest}
+
+-- ---- what is kept, as a walk that takes nothing ahead
+
+rested : (m : Move State Item) → IsSettled m → IsRested adts m
+rested Stop h = tt
+rested (Pass t) h = h
+rested (Give item t) h = refl
+
+run-is : (t : State) → run adts t ≡ stay_at (settle adts t)
+run-is t = sym (run-settle adts is_walk t) ∙ run-rested adts is_walk (settle adts t) (rested (adts.move (settle adts t)) (settled adts is_walk t))
+
+to-walk : (kept : State) (last : Option Presentation) (b : List ℕ) (n : ℕ) → Stands kept last b n → walk.Stands adts (stay_at kept) (start last b) n
+to-walk kept last b n h = record {
+  taken = h.given;
+  is = ap (λ s. stay_at s) h.is ∙ sym (run-rested adts is_walk (state_before last b n) (rested (adts.move (state_before last b n)) (settled-at-state adts is_walk n (start last b))));
+}
+
+from-walk : (kept : State) (r : Run State Item) (last : Option Presentation) (b : List ℕ) (n : ℕ) → r ≡ stay_at kept → walk.Stands adts r (start last b) n → Stands kept last b n
+from-walk kept r last b n e h = record {
+  given = h.taken;
+  is = ap (λ (r : Run State Item). r.state) (sym e ∙ h.is ∙ run-rested adts is_walk (state_before last b n) (rested (adts.move (state_before last b n)) (settled-at-state adts is_walk n (start last b))));
+}
+
+-- the next item
+pub stands-item : (kept : State) (last : Option Presentation) (b : List ℕ) (n : ℕ) → Stands kept last b n → item_of (adts.move kept) ≡ slice_get (Items last b) n
+stands-item kept last b n h = stands-first adts is_walk (stay_at kept) (start last b) n (to-walk kept last b n h)
+
+after-is : (kept : State) (m : Move State Item) → run_after adts kept m ≡ stay_at (kept_behind kept m)
+after-is kept Stop = refl
+after-is kept (Pass t) = refl
+after-is kept (Give item t) = run-is t
+
+-- behind it
+pub stands-behind : (kept : State) (last : Option Presentation) (b : List ℕ) (n : ℕ) → Stands kept last b n → Stands (kept_behind kept (adts.move kept)) last b (count_after n (item_of (adts.move kept)))
+stands-behind kept last b n h = from-walk (kept_behind kept (adts.move kept)) (after_first adts (stay_at kept)) last b (count_after n (item_of (adts.move kept))) (after-is kept (adts.move kept)) (stands-after adts is_walk (stay_at kept) (start last b) n (to-walk kept last b n h))
+
+-- with more bytes
+pub stands-more : (kept : State) (last : Option Presentation) (b c : List ℕ) (n : ℕ) → Stands kept last b n → Stands (fed kept c) last (b ++ c) n
+stands-more kept last b c n h = record {
+  given = more-items adts is_walk (start last b) c n h.given;
+  is = ap (λ s. settle adts (adts.more s c)) h.is ∙ sym (state-more adts is_walk n (start last b) c h.given);
+}
+
+pub stands-pieces : (kept : State) (last : Option Presentation) (b : List ℕ) (n : ℕ) (cs : List (List ℕ)) → Stands kept last b n → Stands (fed_all kept cs) last (b ++ concat cs) n
+stands-pieces kept last b n [] h = rw (append-nil b) h
+stands-pieces kept last b n (c ∷ cs) h =
+    subst (λ v. Stands (fed_all (fed kept c) cs) last v n) (append_assoc b c (concat cs)) (stands-pieces (fed kept c) last (b ++ c) n cs (stands-more kept last b c n h))
+
+-- the presentation, the phase and the bytes
+pub stands-latest : (kept : State) (last : Option Presentation) (b : List ℕ) (n : ℕ) → Stands kept last b n → kept.last ≡ latest last (take n (Items last b))
+stands-latest kept last b n h = ap (λ (s : State). s.last) h.is ∙ state-latest n (start last b)
+
+pub stands-phase : (kept : State) (last : Option Presentation) (b : List ℕ) (n : ℕ) → Stands kept last b n → phase_of kept.place ≡ phase_before last b n
+stands-phase kept last b n h = ap (λ (s : State). phase_of s.place) h.is
+
+pub stands-held : (kept : State) (last : Option Presentation) (b : List ℕ) (n : ℕ) → Stands kept last b n → kept.rest ≡ held_before last b n
+stands-held kept last b n h = ap (λ (s : State). s.rest) h.is
+
+-- ---- frames that are ready
+
+items-give : (s t : State) (item : Item) → adts.move s ≡ Give item t → items_from adts s ≡ item ∷ items_from adts t
+items-give s t item e = items-step adts is_walk s ∙ ap (items_by (items_from adts)) e
+
+items-stop : (s : State) → adts.move s ≡ Stop → items_from adts s ≡ []
+items-stop s e = items-step adts is_walk s ∙ ap (items_by (items_from adts)) e
+
+-- behind a coded frame its segment ends
+one-frame : (last : Option Presentation) (offset : ℕ) (rest : List ℕ) (h : FrameHeader) → h.len ≤ length rest → frames_first (items_from adts (going last (AtFrame h) offset rest)) ≡ 1
+one-frame last offset rest h l =
+    let s = going last (AtFrame h) offset rest in
+    let t = going last (AtEnd h) offset rest in
+    let e = items-give s t (FrameItem (coded_frame h rest) offset) (frame-whole last offset rest h l) in
+    let f = items-give t (behind t h.len) SegmentEnd (end-whole last offset rest h l) in
+    ap frames_first e ∙ ap (λ items. suc (frames_first items)) f
+
+-- whether the item of a move is a coded frame
+abbrev gives_frame : Move State Item → Bool
+gives_frame Stop = false
+gives_frame (Pass t) = false
+gives_frame (Give (InitItem p offset) t) = false
+gives_frame (Give (FrameItem frame offset) t) = true
+gives_frame (Give SegmentEnd t) = false
+gives_frame (Give (FaultItem f offset) t) = false
+
+no-frame : (s : State) (m : Move State Item) → adts.move s ≡ m → IsSettled m → gives_frame m ≡ false → frames_first (items_from adts s) ≡ 0
+no-frame s Stop e h f = ap frames_first (items-stop s e)
+no-frame s (Pass t) e h f = absurd h
+no-frame s (Give (InitItem p offset) t) e h f = ap frames_first (items-give s t (InitItem p offset) e)
+no-frame s (Give (FrameItem frame offset) t) e h f = absurd (cc)
+no-frame s (Give SegmentEnd t) e h f = ap frames_first (items-give s t SegmentEnd e)
+no-frame s (Give (FaultItem g offset) t) e h f = ap frames_first (items-give s t (FaultItem g offset) e)
+
+rate-frameless : (b : Bool) (t u : State) (p : Presentation) (offset : ℕ) → gives_frame (cond b (Pass t) (Give (InitItem p offset) u)) ≡ false
+rate-frameless true t u p offset = refl
+rate-frameless false t u p offset = refl
+
+found-frameless : (s : State) (f : Found) → gives_frame (found_move s f) ≡ false
+found-frameless s found.Nothing = refl
+found-frameless s (found.Tag n) = refl
+found-frameless s (found.Fault f) = refl
+found-frameless s (found.Frame h) = rate-frameless (has_rate s.last h.rate) (into s (AtFrame h)) (initialized s h) (presentation_of h.rate) s.offset
+
+tag-frameless : (s : State) (left : ℕ) (rest : List ℕ) → gives_frame (tag_move s left rest) ≡ false
+tag-frameless s left [] = refl
+tag-frameless s left (x ∷ rest) = refl
+
+end-frameless : (b : Bool) (t : State) → gives_frame (cond b Stop (Give SegmentEnd t)) ≡ false
+end-frameless true t = refl
+end-frameless false t = refl
+
+frame-there : (last : Option Presentation) (offset : ℕ) (rest : List ℕ) (h : FrameHeader) (b : Bool) → leb h.len (length rest) ≡ b → cond b 1 0 ≡ frames_first (items_from adts (going last (AtFrame h) offset rest))
+frame-there last offset rest h true e = let l : h.len ≤ length rest = grind (arith, nat_tests) in sym (one-frame last offset rest h l)
+frame-there last offset rest h false e = let l : length rest < h.len = grind (arith, nat_tests) in sym (ap frames_first (items-stop (going last (AtFrame h) offset rest) (once-short (going last (AtFrame h) offset rest) h _ l)))
+
+ready-place : (last : Option Presentation) (p : Place) (offset : ℕ) (rest : List ℕ) → IsSettled (adts.move (going last p offset rest)) → ready_at (length rest) p ≡ frames_first (items_from adts (going last p offset rest))
+ready-place last AtHeader offset rest h = sym (no-frame (going last AtHeader offset rest) _ refl h (found-frameless (going last AtHeader offset rest) (found_at rest)))
+ready-place last (InTag zero) offset rest h = absurd h
+ready-place last (InTag (suc left)) offset rest h = sym (no-frame (going last (InTag (suc left)) offset rest) _ refl h (tag-frameless (going last (InTag (suc left)) offset rest) left rest))
+ready-place last (AtFrame h) offset rest s = frame-there last offset rest h (leb h.len (length rest)) refl
+ready-place last (AtEnd h) offset rest s = sym (no-frame (going last (AtEnd h) offset rest) _ refl s (end-frameless (ltb (length rest) h.len) (behind (going last (AtEnd h) offset rest) h.len)))
+
+ready-unless : (last : Option Presentation) (p : Place) (offset : ℕ) (rest : List ℕ) (failed : Bool) → let s : State = record { last = last; place = p; offset = offset; rest = rest; failed = failed } in IsSettled (adts.move s) → ready_unless s failed ≡ frames_first (items_from adts s)
+ready-unless last p offset rest true h = let s : State = record { last = last; place = p; offset = offset; rest = rest; failed = true } in sym (ap frames_first (items-stop s refl))
+ready-unless last p offset rest false h = ready-place last p offset rest h
+
+pub stands-ready : (kept : State) (last : Option Presentation) (b : List ℕ) (n : ℕ) → Stands kept last b n → ready_of kept ≡ ready_before last b n
+stands-ready kept last b n h =
+    let s : State = state_before last b n in
+    ap ready_of h.is ∙ ready-unless s.last s.place s.offset s.rest s.failed (settled-at-state adts is_walk n (start last b)) ∙ ap frames_first (items-at adts is_walk n (start last b))
+
+one-or-none : (b : Bool) → cond b 1 0 ≤ 1
+one-or-none true = omega arith
+one-or-none false = omega arith
+
+ready-most : (s : State) (p : Place) (n : ℕ) → ready_at n p ≤ 1
+ready-most s AtHeader n = omega arith
+ready-most s (InTag left) n = omega arith
+ready-most s (AtFrame h) n = one-or-none (leb h.len n)
+ready-most s (AtEnd h) n = omega arith
+
+ready-few : (s : State) (failed : Bool) → ready_unless s failed ≤ 1
+ready-few s true = omega arith
+ready-few s false = ready-most s s.place (length s.rest)
+
+-- only the next item can be looked at
+pub only-next : (s : State) (i : ℕ) → (i ≡ 0) ⊎ (i < ready_of s) → i ≡ 0
+only-next s i (inl e) = e
+only-next s i (inr h) = omega (arith, h, ready-few s s.failed)
+
+-- ---- a stream where nothing is offered
+
+some-none : (x : List ℕ) → Some x ≡ None → ⊥
+some-none x e = cc
+
+pub idle : (last : Option Presentation) (spot : Spot) (bytes : List ℕ) (n : ℕ) (o : Option ℕ) (v : Streamed) → streamed last spot bytes n o ≡ v → v.offered ≡ None → (streamed last spot bytes n None ≡ v) × (o ≡ None)
+idle last spot bytes n None v e q = (e, refl)
+idle last spot bytes n (Some len) v e q = absurd (some-none (drop (length bytes - len) bytes) (ap (λ (w : Streamed). w.offered) e ∙ q))
+
+-- ---- the empty string
+
+empty-found : found_at [] ≡ found.Nothing
+unfolding found_at
+empty-found = refl
+
+pub stands-empty : (last : Option Presentation) → Stands (start last []) last [] 0
+stands-empty last =
+    let s : State = start last [] in
+    let e : adts.move s ≡ Stop = ap (found_move s) empty-found in
+    record { given = omega arith; is = sym (settle-same adts is_walk s (rw e tt)) }
+
+-- what is kept where nothing is
+pub start-is : (last : Option Presentation) (spot : Spot) (bytes : List ℕ) → spot ≡ place_at_start → bytes ≡ [] → state_of last spot bytes ≡ start last []
+start-is last spot bytes e f = ap (λ (x : Spot). state_of last x bytes) e ∙ ap (state_of last place_at_start) f
+
+pub holds-start : (spot : Spot) (bytes : List ℕ) → spot ≡ place_at_start → bytes ≡ [] → IsStream spot bytes 0 None
+holds-start spot bytes e f = rw (e, f) (record { inside = omega arith; total = omega arith; few = omega arith })
+
+-- ---- bytes are offered
+
+take-whole : (xs ys : List ℕ) → take (length xs) (xs ++ ys) ≡ xs
+take-whole [] ys = refl
+take-whole (x ∷ xs) ys = ap (λ zs. x ∷ zs) (take-whole xs ys)
+
+drop-whole : (xs ys : List ℕ) → drop (length xs) (xs ++ ys) ≡ ys
+drop-whole [] ys = refl
+drop-whole (x ∷ xs) ys = drop-whole xs ys
+
+take-front : (xs ys : List ℕ) (n : ℕ) → n ≡ length xs → take n (xs ++ ys) ≡ xs
+take-front xs ys n e = rw e (take-whole xs ys)
+
+drop-front : (xs ys : List ℕ) (n : ℕ) → n ≡ length xs → drop n (xs ++ ys) ≡ ys
+drop-front xs ys n e = rw e (drop-whole xs ys)
+
+pub offer-view : (last : Option Presentation) (spot : Spot) (old new bytes : List ℕ) (n len : ℕ) → new ≡ old ++ bytes → len ≡ length bytes → streamed last spot new n (Some len) ≡ record { kept = state_of last spot old; fed = n; offered = Some bytes }
+offer-view last spot old new bytes n len e f =
+    let k : length (old ++ bytes) - len ≡ length old = omega (arith, length-append old bytes) in
+    let view : List ℕ → List ℕ → Streamed = λ rest c. record { kept = state_of last spot rest; fed = n; offered = Some c } in
+    ap (λ b. view (take (length b - len) b) (drop (length b - len) b)) e
+    ∙ ap (λ rest. view rest (drop (length (old ++ bytes) - len) (old ++ bytes))) (take-front old bytes (length (old ++ bytes) - len) k)
+    ∙ ap (view old) (drop-front old bytes (length (old ++ bytes) - len) k)
+
+pub offer-holds : (spot : Spot) (old new bytes : List ℕ) (n len : ℕ) → new ≡ old ++ bytes → len ≡ length bytes → IsStream spot old n None → n + len < 2 ^ 62 → IsStream spot new n (Some len)
+offer-holds spot old new bytes n len e f h room =
+    let l : length new ≡ length old + length bytes = ap length e ∙ length-append old bytes in
+    record { inside = omega arith; total = omega (arith, h.total); few = room }
+
+-- ---- the offered bytes are appended
+
+more-still : (s : State) (c : List ℕ) (failed : Bool) → s.failed ≡ failed → failed ≡ true → adts.more s c ≡ s
+more-still s c true e f = ap (more_unless s c) e
+more-still s c false e f = absurd (cc)
+
+-- behind a fault nothing is appended
+pub fed-failed : (last : Option Presentation) (spot : Spot) (bytes c : List ℕ) → spot.failed ≡ true → state_of last spot bytes ≡ fed (state_of last spot bytes) c
+fed-failed last spot bytes c e =
+    let s : State = state_of last spot bytes in
+    let m : adts.move s ≡ Stop = ap (move_unless s) e in
+    sym (ap (settle adts) (more-still s c spot.failed refl e) ∙ settle-same adts is_walk s (rw m tt))
+
+pub fed-going : (last : Option Presentation) (spot : Spot) (bytes : List ℕ) (k : ℕ) → spot.failed ≡ false → settle adts (state_of last spot bytes) ≡ fed (state_of last spot (take k bytes)) (drop k bytes)
+fed-going last spot bytes k e =
+    let s : State = state_of last spot (take k bytes) in
+    let f : adts.more s (drop k bytes) ≡ going last spot.place spot.offset (take k bytes ++ drop k bytes) = ap (more_unless s (drop k bytes)) e in
+    let g : state_of last spot bytes ≡ going last spot.place spot.offset bytes = at-spot last spot bytes spot.place refl e in
+    ap (settle adts) (g ∙ ap (going last spot.place spot.offset) (sym (take-append-drop k bytes)) ∙ sym f)
+
+offered-length : (bytes : List ℕ) (len : ℕ) → len ≤ length bytes → length (drop (length bytes - len) bytes) ≡ len
+offered-length bytes len h = let l = length-drop (length bytes - len) bytes in omega (arith, l)
+
+pub accept-stands : (last : Option Presentation) (spot : Spot) (bytes : List ℕ) (n len : ℕ) (new : State) (v : Streamed) → streamed last spot bytes n (Some len) ≡ v → new ≡ fed (state_of last spot (take (length bytes - len) bytes)) (drop (length bytes - len) bytes) → IfSome v.offered (λ c. (before : Option Presentation) (b : List ℕ) (k : ℕ) → Stands v.kept before b k → Stands new before (b ++ c) k)
+accept-stands last spot bytes n len new v e f =
+    let c = drop (length bytes - len) bytes in
+    let kept : State = state_of last spot (take (length bytes - len) bytes) in
+    let g : (before : Option Presentation) (b : List ℕ) (k : ℕ) → Stands kept before b k → Stands new before (b ++ c) k = λ before b k q. subst (λ w. Stands w before (b ++ c) k) (sym f) (stands-more kept before b c k q) in
+    subst (λ (v : Streamed). IfSome v.offered (λ c. (before : Option Presentation) (b : List ℕ) (k : ℕ) → Stands v.kept before b k → Stands new before (b ++ c) k)) e g
+
+pub accept-fed : (last : Option Presentation) (spot : Spot) (bytes : List ℕ) (n len : ℕ) (v : Streamed) → streamed last spot bytes n (Some len) ≡ v → len ≤ length bytes → IfSome v.offered (λ c. n + len ≡ v.fed + length c)
+accept-fed last spot bytes n len v e h =
+    let g : n + len ≡ n + length (drop (length bytes - len) bytes) = ap (λ k. n + k) (sym (offered-length bytes len h)) in
+    subst (λ (v : Streamed). IfSome v.offered (λ c. n + len ≡ v.fed + length c)) e g
+
+pub decline-view : (last : Option Presentation) (spot : Spot) (bytes new : List ℕ) (n len : ℕ) (v : Streamed) → streamed last spot bytes n (Some len) ≡ v → new ≡ take (length bytes - len) bytes → streamed last spot new n None ≡ record { kept = v.kept; fed = v.fed; offered = None }
+decline-view last spot bytes new n len v e f =
+    let view : List ℕ → Streamed = λ rest. record { kept = state_of last spot rest; fed = n; offered = None } in
+    let view' : Streamed → Streamed = λ w. record { kept = w.kept; fed = w.fed; offered = None } in
+    ap view f ∙ ap view' e
+
+pub decline-holds : (spot : Spot) (bytes new : List ℕ) (n len : ℕ) → IsStream spot bytes n (Some len) → new ≡ take (length bytes - len) bytes → IsStream spot new n None
+decline-holds spot bytes new n len h f =
+    let l : length new ≡ length bytes - len = ap length f ∙ length-take-le (length bytes - len) bytes (omega arith) in
+    record { inside = omega arith; total = omega (arith, h.total, h.inside); few = omega (arith, h.few) }
+
+-- ---- the next item
+
+pub next-item : {E : Type 0} (result : Result AdtsNext E) (s : State) (last : Option Presentation) (b : List ℕ) (n : ℕ) → Stands s last b n → IfOk result (λ x. seen x ≡ item_of (adts.move s)) → IfOk result (λ x. seen x ≡ slice_get (Items last b) n)
+next-item (Ok x) s last b n h g = g ∙ stands-item s last b n h
+next-item (Err e) s last b n h g = tt
+
+pub next-stands : {E : Type 0} (result : Result AdtsNext E) (s new : State) (last : Option Presentation) (b : List ℕ) (n : ℕ) → Stands s last b n → IfOk result (λ x. seen x ≡ item_of (adts.move s)) → OnOk result (new ≡ kept_behind s (adts.move s)) → IfOk result (λ x. Stands new last b (count_after n (seen x)))
+next-stands (Ok x) s new last b n h g k = subst (λ w. Stands w last b (count_after n (seen x))) (sym k) (subst (λ o. Stands (kept_behind s (adts.move s)) last b (count_after n o)) (sym g) (stands-behind s last b n h))
+next-stands (Err e) s new last b n h g k = tt
+
+pub next-dry : {E : Type 0} (result : Result AdtsNext E) (s new : State) → IfOk result (λ x. seen x ≡ item_of (adts.move s)) → OnOk result (new ≡ kept_behind s (adts.move s)) → IfOk result (λ x. seen x ≡ None → new ≡ s)
+next-dry (Ok x) s new g k = λ e. k ∙ sym (behind-none s (sym g ∙ e))
+next-dry (Err x) s new g k = tt

@@ -1,0 +1,5 @@
+pub mod Headers
+pub mod Frames
+pub mod Strings
+pub mod Kept
+pub mod Streams

@@ -1,0 +1,243 @@
+ghost use Rattle.std.specs.Prelude.{◌≡◌, ◌↔◌, ℕ, ◌+◌, ◌-◌, ◌<◌, ◌≤◌, ◌^◌, ◌⊎◌, List, [], ◌++◌, length, take, slice_get, Option, Some, None, IsSome, IsTrue, IfSome, IfOk, OnOk, OnErr};
+ghost use Rattle.std.specs.List.{concat};
+ghost use Rattle.mse_base.specs.declared.frame.Phase.TheVariants.{Waiting};
+ghost use Rattle.mse_base.specs.declared.track.Presentation.{Presentation};
+ghost use Rattle.parser_loop.specs.Walk.{count_after};
+ghost use Rattle.adts_stream.specs.Strings.{Items, phase_before, ready_before, held_before, latest, phase_of};
+ghost use Rattle.adts_stream.specs.Kept.{place_at_start, ready_of as ready_in, state_of};
+
+use crate::arms::{look_on, next_on};
+use crate::next::AdtsNext;
+use crate::place::{Place, Spot};
+use crate::walk::accept_on;
+use input_chunks::Chunks;
+use mse_base::{OutOfMemory, Presentation};
+use std::alloc::Global;
+use std::marker::Model;
+
+/// A string of ADTS frames and tags that comes in pieces, by its items.
+///
+/// Bytes come by `feed`, or by `offer` and then `accept` or `decline`: between these two no other call may
+/// be made. Items go by `next`. Tags are let go as their bytes come; the bytes of a frame are kept until the
+/// end of its segment is given.
+#[derive(Debug, Drop)]
+pub struct AdtsStream {
+    alloc: Global,
+    last: Option<Presentation>,
+    spot: Spot,
+    input: Chunks,
+    fed: u64,
+    /// How many bytes at the end of the input are offered.
+    offered: Option<usize>,
+}
+
+impl Model for AdtsStream {
+    ghost use Rattle.std.specs.List.{concat};
+    ghost use Rattle.adts_stream.specs.Streams.{Streamed, streamed, IsStream};
+
+    ghost Value = { Streamed };
+
+    ghost view = { λ s. streamed s.last s.spot (concat s.input) s.fed s.offered };
+
+    ghost invariant = { λ s. IsStream s.spot (concat s.input) s.fed s.offered };
+}
+
+/// The place before a string.
+fn start() -> Spot
+    ensures { result ≡ place_at_start }
+{
+    Spot {
+        place: Place::AtHeader,
+        offset: 0,
+        failed: false,
+    }
+}
+
+/// Lets go of the string.
+fn restart(spot: &mut Spot, input: &mut Chunks)
+    ensures spot { spot.new ≡ place_at_start }
+    ensures input { concat input.new ≡ [] }
+{
+    let all = input.len();
+    input.drop_front(all);
+    *spot = start();
+}
+
+/// How many frames are ready, where so many bytes are kept.
+fn ready(spot: Spot, there: usize) -> usize
+    ensures { (last : Option Presentation) (rest : List ℕ) → length rest ≡ there → result ≡ ready_in (state_of last spot rest) }
+{
+    if spot.failed {
+        return 0;
+    }
+    match spot.place {
+        Place::AtFrame(header) => if header.len <= there as u64 { 1 } else { 0 },
+        Place::AtHeader => 0,
+        Place::InTag(_) => 0,
+        Place::AtEnd(_) => 0,
+    }
+}
+
+impl AdtsStream {
+    ghost use Rattle.adts_stream.specs.Kept.{seen, last_shown, ready_of};
+    ghost use Rattle.adts_stream.specs.Streams.{Stands};
+
+    /// A stream of the empty string, with no presentation from before.
+    pub fn new(alloc: Global) -> AdtsStream
+        ensures stands { Stands result.kept None [] 0 }
+        ensures last { result.kept.last ≡ None }
+        ensures fed { result.fed ≡ 0 }
+        ensures idle { result.offered ≡ None }
+    {
+        AdtsStream {
+            alloc,
+            last: None,
+            spot: start(),
+            input: Chunks::new(alloc),
+            fed: 0,
+            offered: None,
+        }
+    }
+
+    /// Takes all memory that a feed of these bytes needs, and leaves the string; also where it finds none.
+    pub fn offer(&mut self, bytes: &[u8]) -> Result<(), OutOfMemory>
+        requires idle { self.old.offered ≡ None }
+        requires room { self.old.fed + length bytes.now < 2 ^ 62 }
+        ensures ok { OnOk result (self.new ≡ record { kept = self.old.kept; fed = self.old.fed; offered = Some bytes.now }) }
+        ensures err { OnErr result (self.new ≡ self.old) }
+    {
+        self.input.push(bytes)?;
+        self.offered = Some(bytes.len());
+        Ok(())
+    }
+
+    /// Appends the bytes that are offered to the string.
+    pub fn accept(&mut self)
+        requires { IsSome self.old.offered }
+        ensures stands { IfSome self.old.offered (λ bytes. (last : Option Presentation) (b : List ℕ) (n : ℕ) → Stands self.old.kept last b n → Stands self.new.kept last (b ++ bytes) n) }
+        ensures last { self.new.kept.last ≡ self.old.kept.last }
+        ensures fed { IfSome self.old.offered (λ bytes. self.new.fed ≡ self.old.fed + length bytes) }
+        ensures idle { self.new.offered ≡ None }
+    {
+        let Some(len) = self.offered else {
+            return;
+        };
+        accept_on(&self.last, &mut self.spot, &mut self.input, len);
+        self.fed += len as u64;
+        self.offered = None;
+    }
+
+    /// Forgets the bytes that are offered.
+    pub fn decline(&mut self)
+        requires { IsSome self.old.offered }
+        ensures { self.new ≡ record { kept = self.old.kept; fed = self.old.fed; offered = None } }
+    {
+        let Some(len) = self.offered else {
+            return;
+        };
+        self.input.drop_back(len);
+        self.offered = None;
+    }
+
+    /// Appends bytes to the string. An `Err` changes nothing.
+    pub fn feed(&mut self, bytes: &[u8]) -> Result<(), OutOfMemory>
+        requires idle { self.old.offered ≡ None }
+        requires room { self.old.fed + length bytes.now < 2 ^ 62 }
+        ensures stands { OnOk result ((last : Option Presentation) (b : List ℕ) (n : ℕ) → Stands self.old.kept last b n → Stands self.new.kept last (b ++ bytes.now) n) }
+        ensures last { OnOk result (self.new.kept.last ≡ self.old.kept.last) }
+        ensures fed { OnOk result (self.new.fed ≡ self.old.fed + length bytes.now) }
+        ensures idle { self.new.offered ≡ None }
+        ensures err { OnErr result (self.new ≡ self.old) }
+    {
+        self.offer(bytes)?;
+        self.accept();
+        Ok(())
+    }
+
+    /// The item that stands `i` places after the next one, or `Dry` exactly where the string gives none.
+    /// Nothing changes.
+    pub fn look(&self, i: usize) -> Result<AdtsNext, OutOfMemory>
+        requires idle { self.now.offered ≡ None }
+        requires ready { (i ≡ 0) ⊎ (i < ready_of self.now.kept) }
+        ensures { (last : Option Presentation) (b : List ℕ) (n : ℕ) → Stands self.now.kept last b n → IfOk result (λ next. seen next ≡ slice_get (Items last b) (n + i)) }
+    {
+        look_on(self.alloc, &self.last, self.spot, &self.input)
+    }
+
+    /// The next item, or `Dry` exactly where the string gives none; then nothing changes. After a fault the
+    /// string gives none until the next reset. An `Err` changes nothing.
+    pub fn next(&mut self) -> Result<AdtsNext, OutOfMemory>
+        requires { self.old.offered ≡ None }
+        ensures item { (last : Option Presentation) (b : List ℕ) (n : ℕ) → Stands self.old.kept last b n → IfOk result (λ next. seen next ≡ slice_get (Items last b) n) }
+        ensures stands { (last : Option Presentation) (b : List ℕ) (n : ℕ) → Stands self.old.kept last b n → IfOk result (λ next. Stands self.new.kept last b (count_after n (seen next))) }
+        ensures last { IfOk result (λ next. self.new.kept.last ≡ last_shown self.old.kept.last (seen next)) }
+        ensures fed { self.new.fed ≡ self.old.fed }
+        ensures idle { self.new.offered ≡ None }
+        ensures dry { IfOk result (λ next. seen next ≡ None → self.new ≡ self.old) }
+        ensures err { OnErr result (self.new ≡ self.old) }
+    {
+        next_on(self.alloc, &mut self.last, &mut self.spot, &mut self.input)
+    }
+
+    /// Whether the parser waits for a segment, before the next item, or at the end of the string where there
+    /// is none. Else it is in a media segment: the header of a frame was accepted, and its segment is not at
+    /// its end.
+    pub fn waiting(&self) -> bool
+        requires { self.now.offered ≡ None }
+        ensures kept { IsTrue result ↔ (phase_of self.now.kept.place ≡ Waiting) }
+        ensures phase { (last : Option Presentation) (b : List ℕ) (n : ℕ) → Stands self.now.kept last b n → IsTrue result ↔ (phase_before last b n ≡ Waiting) }
+    {
+        match self.spot.place {
+            Place::AtHeader => true,
+            Place::InTag(_) => true,
+            Place::AtFrame(_) => false,
+            Place::AtEnd(_) => false,
+        }
+    }
+
+    /// How many of the next items are coded frames, up to the first that is none: 1 or 0, since each frame is
+    /// a segment of its own.
+    pub fn ready_frames(&self) -> usize
+        requires { self.now.offered ≡ None }
+        ensures kept { result ≡ ready_of self.now.kept }
+        ensures ready { (last : Option Presentation) (b : List ℕ) (n : ℕ) → Stands self.now.kept last b n → result ≡ ready_before last b n }
+    {
+        ready(self.spot, self.input.len())
+    }
+
+    /// How many bytes are kept.
+    pub fn held_len(&self) -> usize
+        requires { self.now.offered ≡ None }
+        ensures kept { result ≡ length self.now.kept.rest }
+        ensures held { (last : Option Presentation) (b : List ℕ) (n : ℕ) → Stands self.now.kept last b n → result ≡ length (held_before last b n) }
+    {
+        self.input.len()
+    }
+
+    /// The string becomes empty, and offsets start at 0. The presentation of the last initialization segment
+    /// that was given stays (Media Source Extensions, 3.5.2, reset parser state).
+    pub fn reset(&mut self)
+        requires { self.old.offered ≡ None }
+        ensures stands { Stands self.new.kept self.old.kept.last [] 0 }
+        ensures latest { (last : Option Presentation) (b : List ℕ) (n : ℕ) → Stands self.old.kept last b n → Stands self.new.kept (latest last (take n (Items last b))) [] 0 }
+        ensures last { self.new.kept.last ≡ self.old.kept.last }
+        ensures fed { self.new.fed ≡ 0 }
+        ensures idle { self.new.offered ≡ None }
+    {
+        restart(&mut self.spot, &mut self.input);
+        self.fed = 0;
+    }
+
+    /// As `reset`, and the presentation is dropped too.
+    pub fn forget(&mut self)
+        requires { self.old.offered ≡ None }
+        ensures stands { Stands self.new.kept None [] 0 }
+        ensures last { self.new.kept.last ≡ None }
+        ensures fed { self.new.fed ≡ 0 }
+        ensures idle { self.new.offered ≡ None }
+    {
+        restart(&mut self.spot, &mut self.input);
+        self.last = None;
+        self.fed = 0;
+    }
+}
