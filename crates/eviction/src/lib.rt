@@ -1,4 +1,4 @@
-//! Coded frame eviction (Media Source Extensions, 3.5.13): where a source buffer is full, frames
+//! Coded frame eviction (Media Source Extensions, 3.5.10): where a source buffer is full, frames
 //! are removed to make room for new data.
 //!
 //! It stands on `mse_base`, `track_store` and `range_removal`. Its main contract is that of

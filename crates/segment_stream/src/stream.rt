@@ -127,8 +127,8 @@ impl Stream {
         }
     }
 
-    /// The bytes that are kept: of the media segment that is being parsed all from its moof on, else those of
-    /// the box that is not whole yet, if it is one that is read or its header is missing bytes.
+    /// The bytes that are kept: of the media segment that is being parsed all from its moof on, else those from
+    /// the box at which the next item comes, or which is read and not whole yet, or whose header is not.
     pub fn input(&self) -> &Chunks
         requires { self.now.offered ≡ None }
         ensures pieces { result.now ≡ self.now.pieces }

@@ -40,8 +40,8 @@ phase_before last b n = phase_of (state_before last b n).mode
 abbrev pub ready_before : Option Presentation → List ℕ → ℕ → ℕ
 ready_before last b n = leading segments (drop n (Items last b))
 
--- The bytes of the string that are held in memory: of a movie fragment all from its moof on, else those from the
--- box on whose header, or which itself, is not whole yet.
+-- The bytes of the string that are held in memory: of a movie fragment all from its moof on, else those from the box
+-- at which the next item comes, or which is not whole yet. Behind a fault none are.
 abbrev pub held_before : Option Presentation → List ℕ → ℕ → List ℕ
 held_before last b n = (state_before last b n).rest
 
