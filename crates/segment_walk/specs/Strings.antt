@@ -41,7 +41,7 @@ abbrev pub ready_before : Option Presentation → List ℕ → ℕ → ℕ
 ready_before last b n = leading segments (drop n (Items last b))
 
 -- The bytes of the string that are held in memory: of a movie fragment all from its moof on, else those from the box
--- at which the next item comes, or which is not whole yet. Behind a fault none are.
+-- at which the next item comes, or which is read and not whole yet, or whose header is not. Behind a fault none are.
 abbrev pub held_before : Option Presentation → List ℕ → ℕ → List ℕ
 held_before last b n = (state_before last b n).rest
 
