@@ -119,9 +119,9 @@ fn removed_from(marks: &Marks, pts: Ticks) -> Option<Ticks>
     }
 }
 
-/// Steps 1.14 and 1.15: existing frames go that begin from where the group of the new one ended so
-/// far, or from where the new one begins if it is the first, up to its end, with their decoding
-/// dependencies.
+/// Steps 1.14 and 1.15: existing frames go that begin from the highest end of the group of the new
+/// one on, where that is not above its start, or from its start on if it is the first, and before
+/// its end, with their decoding dependencies.
 fn remove_existing<S: FrameStore>(track: &mut Track<S>, pts: Ticks, end: Ticks)
     requires { AllByRecursion (λ f. f.serial < 2 ^ 62) (S.frames track.old.store) }
     ensures state { state_of S.frames track.new
