@@ -1,0 +1,189 @@
+-- One coded frame, and several.
+use Rattle.std.proofs.Common.{◌≡◌, ℕ, ℤ, zero, suc, ◌+◌, ◌<◌, ◌≤◌, Bool, true, false, cond, List, [], ◌∷◌, length, map, slice_get, Option, Some, None, refl, sym, ap, ◌∙◌, subst, arith}
+use Rattle.std.specs.Option.{IfSome}
+use Rattle.std.specs.Int.{int_max}
+use Rattle.std.specs.Ordering.{int_eq}
+use Rattle.std.specs.Prelude.{option_and_then}
+use Rattle.std.proofs.lemmas.Bool.Decides.{Decides-int_eq}
+use Rattle.std.proofs.lemmas.Int.{ints}
+use Rattle.std.proofs.lemmas.List.{length-map}
+use Rattle.mse_base.specs.Time.{tick}
+use Rattle.mse_base.specs.declared.frame.CodedFrame.{CodedFrame}
+use Rattle.mse_base.specs.declared.ticks.Moment.{Moment}
+use Rattle.mse_base.specs.declared.ticks.Moment.TheVariants.{Nan, At, Infinite}
+use Rattle.track_store.specs.declared.tracks.Marks.{Marks}
+use Rattle.track_store.specs.declared.tracks.Settings.{Settings}
+use Rattle.track_store.specs.Kept.{bytes_in, EndBy}
+use Rattle.track_store.specs.State.{TrackState}
+use Rattle.frame_rules.specs.declared.answer.Placed.{Placed}
+use Rattle.frame_rules.specs.declared.answer.Placed.TheVariants as placed_as
+use Rattle.frame_rules.specs.declared.answer.Why.{Why}
+use Rattle.frame_rules.specs.declared.timing.Timing.{Timing}
+use Rattle.frame_rules.specs.Timing.{raw_time, with_group_start, offset_to, one_pass, is_discontinuous, after_discontinuity, timing_of}
+use Rattle.frame_rules.specs.Put.{put_answer, drop_reason}
+use Rattle.frame_rules.specs.Place.{Outcome, outcome, reset_track, placed_in, placed_at, placed_by, placed_of, placed, too_many, settings_after}
+use Rattle.track_buffers.specs.declared.answers.Brought.{Brought}
+use Rattle.track_buffers.specs.declared.answers.MediaFault.{MediaFault}
+use Rattle.track_buffers.specs.Media.{EndsWithin, nothing_brought, same_moment, change_duration, at_least, Broke}
+use Rattle.track_buffers.proofs.Keeping.{endby_none}
+
+-- ---- after a fault all is as before
+
+abbrev pub IsFault : Placed → Type 0
+IsFault placed_as.Stored = ⊥
+IsFault (placed_as.Dropped why) = ⊥
+IsFault placed_as.TimeRange = Unit {0}
+IsFault placed_as.Counts = Unit {0}
+
+-- the tracks and settings are those before, where the answer is a fault
+abbrev AsBefore : List TrackState → Settings → Outcome → Type 0
+AsBefore ts s o = IsFault o.answer → (o.tracks ≡ ts) × (o.settings ≡ s)
+
+put_goes : (why : Option Why) → IsFault (put_answer why) → ⊥
+put_goes None h = h
+put_goes (Some why) h = h
+
+none_within : {X : Type 0} (xs : List X) (i : ℕ) → i < length xs → slice_get xs i ≡ None → ⊥
+none_within [] i low e = omega arith
+none_within (x ∷ xs) zero low e = cc
+none_within (x ∷ xs) (suc i) low e = none_within xs i (omega arith) e
+
+goes_in : (o : Option TrackState) (w : Timing) (f : CodedFrame) (i : ℕ) (ts : List TrackState) → slice_get ts i ≡ o → i < length ts → IsFault (placed_in o w f i ts).answer → ⊥
+goes_in None w f i ts e low h = none_within ts i low e
+goes_in (Some t) w f i ts e low h = put_goes (drop_reason w f.sync t.marks.need_sync) h
+
+goes_at : (w : Timing) (f : CodedFrame) (i : ℕ) (ts : List TrackState) → i < length ts → IsFault (placed_at w f i ts).answer → ⊥
+goes_at w f i ts low h = goes_in (slice_get (map (reset_track w) ts) i) w f i (map (reset_track w) ts) refl (rw length-map low) h
+
+before_by : (o : Option Timing) (s : Settings) (f : CodedFrame) (i : ℕ) (ts : List TrackState) → i < length ts → AsBefore ts s (placed_by o s f i ts)
+before_by None s f i ts low h = (refl, refl)
+before_by (Some w) s f i ts low h = absurd (goes_at w f i ts low h)
+
+before_pick : (b : Bool) (ts : List TrackState) (s : Settings) (x y : Outcome) → AsBefore ts s x → AsBefore ts s y → AsBefore ts s (cond b x y)
+before_pick true ts s x y p q = p
+before_pick false ts s x y p q = q
+
+before_of : (o : Option TrackState) (ts : List TrackState) (s : Settings) (i : ℕ) (f : CodedFrame) → i < length ts → AsBefore ts s (placed_of o ts s i f)
+before_of None ts s i f low h = (refl, refl)
+before_of (Some t) ts s i f low h = before_pick (too_many t.marks.received (bytes_in ts) (length f.payload)) ts s (outcome placed_as.Counts ts s) (placed_by (timing_of s t.marks f) s f i ts) (λ k. (refl, refl)) (before_by (timing_of s t.marks f) s f i ts low) h
+
+before_placed : (ts : List TrackState) (s : Settings) (i : ℕ) (f : CodedFrame) → i < length ts → AsBefore ts s (placed ts s i f)
+before_placed ts s i f low h = before_of (slice_get ts i) ts s i f low h
+
+-- the same of an outcome that is what the definition leaves
+pub as_before : (answer : Placed) (news ts : List TrackState) (t s : Settings) (i : ℕ) (f : CodedFrame) → outcome answer news t ≡ placed ts s i f → i < length ts → IsFault answer → (news ≡ ts) × (t ≡ s)
+as_before answer news ts t s i f is low h =
+    let both = before_placed ts s i f low (subst (λ (o : Outcome). IsFault o.answer) is h) in
+    (ap (λ (o : Outcome). o.tracks) is ∙ both.0, ap (λ (o : Outcome). o.settings) is ∙ both.1)
+
+pub broke_same : (fault : MediaFault) (news ts : List TrackState) (t s : Settings) (pending : Bool) (gap : ℤ) (b : Brought) (d : Moment) → news ≡ ts → t ≡ s → b ≡ nothing_brought d → Broke fault (record { tracks = news; settings = t; pending = pending; gap = gap }) b ≡ Broke fault (record { tracks = ts; settings = s; pending = pending; gap = gap }) (nothing_brought d)
+broke_same fault news ts t s pending gap b d same_tracks same_settings is =
+    ap (λ (us : List TrackState). Broke fault (record { tracks = us; settings = t; pending = pending; gap = gap }) b) same_tracks
+    ∙ ap (λ (u : Settings). Broke fault (record { tracks = ts; settings = u; pending = pending; gap = gap }) b) same_settings
+    ∙ ap (λ (x : Brought). Broke fault (record { tracks = ts; settings = s; pending = pending; gap = gap }) x) is
+
+-- ---- the append window end stays
+
+if_some_then : {A B : Type 0} (o : Option A) (k : A → Option B) (Q : B → Type 0) → ((x : A) → IfSome (k x) Q) → IfSome (option_and_then k o) Q
+if_some_then None k Q h = tt
+if_some_then (Some x) k Q h = h x
+
+if_some_chain : {A B : Type 0} (o : Option A) (k : A → Option B) (P : A → Type 0) (Q : B → Type 0) → IfSome o P → ((x : A) → P x → IfSome (k x) Q) → IfSome (option_and_then k o) Q
+if_some_chain None k P Q h g = tt
+if_some_chain (Some x) k P Q h g = g x h
+
+if_some_cond : {A : Type 0} (b : Bool) (o p : Option A) (Q : A → Type 0) → IfSome o Q → IfSome p Q → IfSome (cond b o p) Q
+if_some_cond true o p Q h g = h
+if_some_cond false o p Q h g = g
+
+abbrev SameEnd : Settings → Settings → Type 0
+SameEnd s t = t.window_end ≡ s.window_end
+
+aligned_end : (s : Settings) (g : Option ℤ) (p : ℤ) → IfSome (offset_to s g p) (SameEnd s)
+aligned_end s None p = refl
+aligned_end s (Some g) p = if_some_then (tick _) _ (SameEnd s) (λ offset. refl)
+
+moved_end : (s : Settings) (f : CodedFrame) → IfSome (one_pass s f) (λ w. SameEnd s w.settings)
+moved_end s f =
+    if_some_chain (with_group_start s (raw_time s f.pts)) _ (SameEnd s) (λ w. SameEnd s w.settings) (if_some_cond s.sequence (offset_to s s.group_start (raw_time s f.pts)) (Some s) (SameEnd s) (aligned_end s s.group_start (raw_time s f.pts)) refl)
+    (λ t same. if_some_then (tick _) _ _ (λ p. if_some_then (tick _) _ _ (λ d. if_some_then (tick _) _ _ (λ e. same))))
+
+broken_end : (s : Settings) (p : ℤ) (b : Bool) → SameEnd s (cond b (record s { group_start = Some s.group_end }) (record s { group_end = p }))
+broken_end s p true = refl
+broken_end s p false = refl
+
+times_end : (s : Settings) (m : Marks) (f : CodedFrame) → IfSome (timing_of s m f) (λ w. SameEnd s w.settings)
+times_end s m f =
+    if_some_chain (one_pass s f) _ (λ w. SameEnd s w.settings) (λ w. SameEnd s w.settings) (moved_end s f)
+    (λ w same. if_some_cond (is_discontinuous m w.dts) _ (Some w) (λ v. SameEnd s v.settings)
+    (if_some_chain (one_pass (after_discontinuity w.settings w.pts) f) _ (λ v. SameEnd (after_discontinuity w.settings w.pts) v.settings) (λ v. SameEnd s v.settings) (moved_end (after_discontinuity w.settings w.pts) f)
+    (λ v step. step ∙ broken_end w.settings w.pts w.settings.sequence ∙ same))
+    same)
+
+answer_end : (answer : Placed) (w : Timing) → SameEnd w.settings (settings_after answer w)
+answer_end placed_as.Stored w = refl
+answer_end (placed_as.Dropped why) w = refl
+answer_end placed_as.TimeRange w = refl
+answer_end placed_as.Counts w = refl
+
+in_end : (o : Option TrackState) (w : Timing) (f : CodedFrame) (i : ℕ) (ts : List TrackState) → SameEnd w.settings (placed_in o w f i ts).settings
+in_end None w f i ts = refl
+in_end (Some t) w f i ts = answer_end (put_answer (drop_reason w f.sync t.marks.need_sync)) w
+
+by_end : (o : Option Timing) (s : Settings) (f : CodedFrame) (i : ℕ) (ts : List TrackState) → IfSome o (λ w. SameEnd s w.settings) → SameEnd s (placed_by o s f i ts).settings
+by_end None s f i ts same = refl
+by_end (Some w) s f i ts same = in_end (slice_get (map (reset_track w) ts) i) w f i (map (reset_track w) ts) ∙ same
+
+cond_end : (b : Bool) (s : Settings) (x y : Outcome) → SameEnd s x.settings → SameEnd s y.settings → SameEnd s (cond b x y).settings
+cond_end true s x y p q = p
+cond_end false s x y p q = q
+
+of_end : (o : Option TrackState) (ts : List TrackState) (s : Settings) (i : ℕ) (f : CodedFrame) → SameEnd s (placed_of o ts s i f).settings
+of_end None ts s i f = refl
+of_end (Some t) ts s i f = cond_end (too_many t.marks.received (bytes_in ts) (length f.payload)) s _ _ refl (by_end (timing_of s t.marks f) s f i ts (times_end s t.marks f))
+
+pub window_end_stays : (answer : Placed) (news ts : List TrackState) (t s : Settings) (i : ℕ) (f : CodedFrame) → outcome answer news t ≡ placed ts s i f → t.window_end ≡ s.window_end
+window_end_stays answer news ts t s i f is = ap (λ (o : Outcome). o.settings.window_end) is ∙ of_end (slice_get ts i) ts s i f
+
+-- ---- the duration
+
+same_by : (a b : ℤ) → int_eq a b ≡ true → At a ≡ At b
+same_by a b h = ap At ((Decides-int_eq a b).0 h)
+
+same_is : (a b : Moment) → same_moment a b ≡ true → a ≡ b
+same_is Nan Nan h = refl
+same_is Nan (At b) h = absurd cc
+same_is Nan Infinite h = absurd cc
+same_is (At a) Nan h = absurd cc
+same_is (At a) (At b) h = same_by a b h
+same_is (At a) Infinite h = absurd cc
+same_is Infinite Nan h = absurd cc
+same_is Infinite (At b) h = absurd cc
+same_is Infinite Infinite h = refl
+
+changed_by : (to : Moment) (b : Brought) (same : Bool) → same_moment to b.duration ≡ same → (cond same b (record { changes = b.changes + 1; duration = to; activated = b.activated })).duration ≡ to
+changed_by to b true e = sym (same_is to b.duration e)
+changed_by to b false e = refl
+
+pub changed_is : (to : Moment) (b : Brought) → (change_duration to b).duration ≡ to
+changed_is to b = changed_by to b (same_moment to b.duration) refl
+
+few_by : (to : Moment) (b : Brought) (same : Bool) → (cond same b (record { changes = b.changes + 1; duration = to; activated = b.activated })).changes ≤ b.changes + 1
+few_by to b true = omega arith
+few_by to b false = omega arith
+
+pub changed_few : (to : Moment) (b : Brought) → (change_duration to b).changes ≤ b.changes + 1
+changed_few to b = few_by to b (same_moment to b.duration)
+
+max_self : (a : ℤ) → int_max a a ≡ a
+max_self a = grind (arith, ints)
+
+ends_raised : (ts us : List TrackState) (g : ℤ) → ((limit : ℤ) → EndBy limit ts → EndBy (int_max limit g) us) → (d : Moment) → EndsWithin d ts → EndsWithin (at_least d g) us
+ends_raised ts us g keep Nan h = subst (λ (l : ℤ). EndBy l us) (max_self g) (keep g (endby_none g ts h))
+ends_raised ts us g keep (At d) h = keep d h
+ends_raised ts us g keep Infinite h = tt
+
+-- a stored frame ends by the duration that it raises
+pub ends_stored : (ts us : List TrackState) (g : ℤ) (d r : Moment) (b : Brought) → ((limit : ℤ) → EndBy limit ts → EndBy (int_max limit g) us) → r ≡ at_least d g → b ≡ change_duration r (nothing_brought d) → EndsWithin d ts → EndsWithin b.duration us
+ends_stored ts us g d r b keep raised is h =
+    subst (λ (m : Moment). EndsWithin m us) (sym (ap (λ (x : Brought). x.duration) is ∙ changed_is r (nothing_brought d) ∙ raised)) (ends_raised ts us g keep d h)

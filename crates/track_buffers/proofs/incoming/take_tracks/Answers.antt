@@ -1,0 +1,38 @@
+use Rattle.std.proofs.Common.{◌∙◌, sym, subst, filter, arith}
+use Rattle.track_store.specs.Kept.{AreKept}
+use Rattle.track_store.specs.State.{TrackState, states_of}
+use Rattle.std.proofs.Common.{List}
+use Rattle.track_buffers.specs.Initialized.{is_media_track}
+use Rattle.track_buffers.specs.Media.{EndsWithin}
+use Rattle.track_buffers.proofs.Keeping.{tracks_made, kept_after, ends_after, kept_renewed, ends_renewed}
+use Rattle.track_buffers.proofs.incoming.take_tracks.Goals as goal
+
+pub returns-then-len-eq0-clause-states : goal.returns-then-len-eq0-clause-states
+returns-then-len-eq0-clause-states g c =
+    let F = g.S.FrameStore.frames in
+    let ts = c.args.tracks.now.items in
+    c.add_all.ensures.states ∙ tracks_made F (filter is_media_track c.args.news.now) ts (omega (arith, c.len.ensures))
+
+pub returns-then-len-eq0-clause-kept : goal.returns-then-len-eq0-clause-kept
+returns-then-len-eq0-clause-kept g c = λ h.
+    let ts = states_of g.S.FrameStore.frames c.args.tracks.now.items in
+    let news = filter is_media_track c.args.news.now in
+    subst AreKept (sym (returns-then-len-eq0-clause-states g c)) (kept_after news ts h)
+
+pub returns-then-len-eq0-clause-ends : goal.returns-then-len-eq0-clause-ends
+returns-then-len-eq0-clause-ends g c = λ d h.
+    let ts = states_of g.S.FrameStore.frames c.args.tracks.now.items in
+    let news = filter is_media_track c.args.news.now in
+    subst (λ (us : List TrackState). EndsWithin d us) (sym (returns-then-len-eq0-clause-states g c)) (ends_after news ts d h)
+
+pub returns-else-len-eq0-clause-kept : goal.returns-else-len-eq0-clause-kept
+returns-else-len-eq0-clause-kept g c = λ h.
+    let ts = states_of g.S.FrameStore.frames c.args.tracks.now.items in
+    let news = filter is_media_track c.args.news.now in
+    subst AreKept (sym c.renew_all.ensures.states) (kept_renewed news ts h)
+
+pub returns-else-len-eq0-clause-ends : goal.returns-else-len-eq0-clause-ends
+returns-else-len-eq0-clause-ends g c = λ d h.
+    let ts = states_of g.S.FrameStore.frames c.args.tracks.now.items in
+    let news = filter is_media_track c.args.news.now in
+    subst (λ (us : List TrackState). EndsWithin d us) (sym c.renew_all.ensures.states) (ends_renewed news d ts h)

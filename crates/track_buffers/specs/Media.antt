@@ -1,0 +1,100 @@
+-- The media of a source buffer: its track buffers and settings, and what an item of its byte stream brings about.
+use Rattle.std.specs.Prelude.{◌≡◌, ◌≢◌, ℕ, ◌+◌, ◌^◌, min, ℤ, pos, ◌≤ℤ◌, Bool, true, false, List, [], ◌∷◌, map, if◌then◌else◌}
+use Rattle.std.specs.Int.{int_max}
+use Rattle.std.specs.List.{AllByRecursion}
+use Rattle.std.specs.Ordering.{int_eq}
+use Rattle.mse_base.specs.declared.ticks.Moment.{Moment}
+use Rattle.mse_base.specs.declared.ticks.Moment.TheVariants.{Nan, At, Infinite}
+use Rattle.track_store.specs.declared.store.Stored.{Stored}
+use Rattle.track_store.specs.declared.tracks.Settings.{Settings}
+use Rattle.track_store.specs.declared.tracks.Track.{Track}
+use Rattle.track_store.specs.Kept.{AreKept, EndBy}
+use Rattle.track_store.specs.State.{TrackState, states_of}
+use Rattle.track_buffers.specs.declared.answers.Brought.{Brought}
+use Rattle.track_buffers.specs.declared.answers.MediaFault.{MediaFault}
+
+-- The track buffers in order of the first initialization segment, how frames are placed, whether a changeType waits for
+-- its initialization segment ("pending initialization segment for changeType flag"), and the gap across which ranges join.
+pub record Media : Type 0 where
+  pub tracks : List TrackState
+  pub settings : Settings
+  pub pending : Bool
+  pub gap : ℤ
+
+-- what contracts see of track buffers: the media, for how many more frames each store has room, and for how many more
+-- tracks there is room
+pub record MediaView : Type 0 where
+  pub media : Media
+  pub room : ℕ
+  pub places : ℕ
+
+-- the media of tracks with their stores
+abbrev pub media_of : {S : Type 0} → (S → List Stored) → List (Track S) → Settings → Bool → ℤ → Media
+media_of frames ts settings pending gap = record { tracks = states_of frames ts; settings = settings; pending = pending; gap = gap }
+
+abbrev pub is_empty_list : {X : Type 0} → List X → Bool
+is_empty_list [] = true
+is_empty_list (x ∷ xs) = false
+
+-- no initialization segment was received yet (Media Source Extensions, 3.5.7, "first initialization segment received
+-- flag"): the first one makes the track buffers, of which it has at least one
+abbrev pub awaits_first : Media → Bool
+awaits_first m = is_empty_list m.tracks
+
+-- ---- what always holds
+
+-- the least of some numbers that are not above 2 ^ 64, and 2 ^ 64 where there is none
+abbrev pub least_room : List ℕ → ℕ
+least_room [] = 2 ^ 64
+least_room (n ∷ ns) = min n (least_room ns)
+
+-- for how many more frames each store has room
+abbrev pub room_of : {S : Type 0} → (S → ℕ) → List (Track S) → ℕ
+room_of spare ts = least_room (map (λ t. spare t.store) ts)
+
+-- each track buffer is sound, the window has a start that is not negative and an end, and ranges of each track join
+-- across the same gap
+pub record IsSteady (tracks : List TrackState) (gaps : List ℤ) (settings : Settings) (gap : ℤ) : Type 0 where
+  pub kept : AreKept tracks
+  pub low : pos 0 ≤ℤ settings.window_start
+  pub ends : settings.window_end ≢ Nan
+  pub gaps_are : AllByRecursion (λ g. g ≡ gap) gaps
+  pub forward : pos 0 ≤ℤ gap
+
+-- each stored frame ends at or before the duration; without a duration there is none
+abbrev pub EndsWithin : Moment → List TrackState → Type 0
+EndsWithin Nan ts = AllByRecursion (λ t. t.frames ≡ []) ts
+EndsWithin (At d) ts = EndBy d ts
+EndsWithin Infinite ts = Unit {0}
+
+-- ---- what is brought about at the media source
+
+abbrev pub nothing_brought : Moment → Brought
+nothing_brought d = record { changes = 0; duration = d; activated = false }
+
+abbrev pub same_moment : Moment → Moment → Bool
+same_moment Nan Nan = true
+same_moment Nan (At b) = false
+same_moment Nan Infinite = false
+same_moment (At a) Nan = false
+same_moment (At a) (At b) = int_eq a b
+same_moment (At a) Infinite = false
+same_moment Infinite Nan = false
+same_moment Infinite (At b) = false
+same_moment Infinite Infinite = true
+
+-- duration change (Media Source Extensions, 2.4.6): to the duration that it has already, nothing
+abbrev pub change_duration : Moment → Brought → Brought
+change_duration d b = if same_moment d b.duration then b else record { changes = b.changes + 1; duration = d; activated = b.activated }
+
+-- the greater of the duration and a time
+abbrev pub at_least : Moment → ℤ → Moment
+at_least Nan t = At t
+at_least (At d) t = At (int_max d t)
+at_least Infinite t = Infinite
+
+-- What an item did: it went well, or it breaks the byte stream, which is an append error; what came before the fault
+-- stands.
+pub data Taken : Type 0 where
+  Went : Media → Brought → Taken
+  Broke : MediaFault → Media → Brought → Taken

@@ -1,0 +1,136 @@
+//! The buffered ranges of a source buffer (Media Source Extensions, 3.1, buffered).
+
+ghost use Rattle.std.specs.Prelude.{◌≡◌, ◌≤ℤ◌, ℤ, pos, Bool, true, false, map, slice_get, IfSome, IfOk, OnOk};
+ghost use Rattle.std.specs.List.{AllByRecursion};
+ghost use Rattle.mse_base.specs.Bridging.{IsRanges};
+ghost use Rattle.mse_base.specs.Spans.{IsNormalized};
+ghost use Rattle.track_store.specs.Frames.{greatest, ranges_of};
+ghost use Rattle.track_store.specs.Kept.{gaps_of};
+ghost use Rattle.track_store.specs.State.{state_of};
+ghost use Rattle.track_buffers.specs.Buffered.{shared, shared_by_all, last_end, last_ends, grown_last, grown_to, grown, ranges_in};
+
+use crate::answers::later;
+use crate::looks::later_of;
+use mse_base::{OutOfMemory, Ranges, Span, Ticks};
+use std::alloc::Global;
+use track_store::{FrameStore, Track, Tracks};
+
+/// Where the last range of the track at a place ends.
+fn last_end_at<S: FrameStore>(tracks: &Tracks<S>, i: usize) -> Option<Ticks>
+    ensures { IfSome (slice_get (ranges_in S.frames S.gap tracks.now.items) i) (λ r. result ≡ last_end r) }
+{
+    match tracks.get(i) {
+        Some(track) => match track.store.last_span() {
+            Some(span) => Some(span.end),
+            None => None,
+        },
+        None => None,
+    }
+}
+
+/// The highest end of the ranges of all tracks.
+fn highest_range_end<S: FrameStore>(tracks: &Tracks<S>) -> Option<Ticks>
+    ensures { result ≡ greatest (last_ends (ranges_in S.frames S.gap tracks.now.items)) }
+{
+    let mut best = None;
+    for i in 0..tracks.len() {
+        best = later_of(best, last_end_at(tracks, i));
+    }
+    best
+}
+
+/// The last range lasts to an end, if it ends before.
+fn grow(ranges: &mut Ranges, end: Ticks) -> Result<(), OutOfMemory>
+    requires { IsNormalized ranges.old.spans }
+    ensures { OnOk result (ranges.new.spans ≡ grown_last end ranges.old.spans) }
+{
+    match ranges.last() {
+        Some(last) => {
+            ranges.reserve(1)?;
+            let span = Span {
+                start: last.start,
+                end: later(last.end, end),
+            };
+            ranges.add_span(span, Ticks::zero());
+            Ok(())
+        }
+        None => Ok(()),
+    }
+}
+
+/// The ranges of a track, of which the last lasts to an end, where there is one.
+fn grown_ranges<S: FrameStore>(track: &Track<S>, end: &Option<Ticks>) -> Result<Ranges, OutOfMemory>
+    requires { pos 0 ≤ℤ S.gap track.now.store }
+    ensures { IfOk result (λ r. r.spans
+        ≡ grown_to end.now (ranges_of (S.gap track.now.store) (S.frames track.now.store))) }
+{
+    let mut ranges = track.store.copy_ranges()?;
+    if let Some(end) = end {
+        grow(&mut ranges, *end)?;
+    }
+    Ok(ranges)
+}
+
+fn ranges_at<S: FrameStore>(
+    tracks: &Tracks<S>,
+    alloc: Global,
+    i: usize,
+    end: &Option<Ticks>,
+) -> Result<Ranges, OutOfMemory>
+    requires { AllByRecursion (λ g. pos 0 ≤ℤ g) (gaps_of S.gap tracks.now.items) }
+    ensures { IfOk result (λ r. IfSome (slice_get
+        (map (grown_to end.now) (ranges_in S.frames S.gap tracks.now.items)) i) (λ x. r.spans ≡ x)) }
+{
+    match tracks.get(i) {
+        Some(track) => grown_ranges(track, end),
+        None => Ok(Ranges::new(alloc)),
+    }
+}
+
+/// The ticks that all tracks have, where the last range of each lasts to an end.
+fn shared_by_all<S: FrameStore>(
+    tracks: &Tracks<S>,
+    alloc: Global,
+    end: &Option<Ticks>,
+) -> Result<Ranges, OutOfMemory>
+    requires { AllByRecursion (λ g. pos 0 ≤ℤ g) (gaps_of S.gap tracks.now.items) }
+    ensures { IfOk result (λ r. r.spans
+        ≡ shared_by_all (map (grown_to end.now) (ranges_in S.frames S.gap tracks.now.items))) }
+{
+    if tracks.len() == 0 {
+        return Ok(Ranges::new(alloc));
+    }
+    let mut met = ranges_at(tracks, alloc, 0, end)?;
+    for i in 1..tracks.len() {
+        let ranges = ranges_at(tracks, alloc, i, end)?;
+        met = met.meet(&ranges)?;
+    }
+    Ok(met)
+}
+
+/// The end that the last range of each track lasts to: where the source is ended, the highest of
+/// all.
+fn common_end<S: FrameStore>(tracks: &Tracks<S>, ended: bool) -> Option<Ticks>
+    ensures { map (grown_to result) (ranges_in S.frames S.gap tracks.now.items)
+        ≡ grown ended (ranges_in S.frames S.gap tracks.now.items) }
+{
+    if ended {
+        highest_range_end(tracks)
+    } else {
+        None
+    }
+}
+
+/// The buffered ranges of tracks.
+pub(crate) fn buffered_of<S: FrameStore>(
+    tracks: &Tracks<S>,
+    alloc: Global,
+    ended: bool,
+) -> Result<Ranges, OutOfMemory>
+    requires { AllByRecursion (λ g. pos 0 ≤ℤ g) (gaps_of S.gap tracks.now.items) }
+    ensures { IfOk result (λ r. r.spans
+        ≡ shared_by_all (grown ended (ranges_in S.frames S.gap tracks.now.items))) }
+{
+    let end = common_end(tracks, ended);
+    shared_by_all(tracks, alloc, &end)
+}

@@ -1,0 +1,345 @@
+ghost use Rattle.std.specs.Prelude.{◌≡◌, ◌≢◌, ◌≤◌, ◌<◌, ◌^◌, ◌+◌, ℤ, pos, ◌≤ℤ◌, Bool, true, length, IfOk, OnOk};
+ghost use Rattle.std.specs.List.{AllByRecursion};
+ghost use Rattle.mse_base.specs.declared.ticks.Moment.{Moment};
+ghost use Rattle.track_store.specs.Kept.{AreKept};
+ghost use Rattle.track_store.specs.Sound.{Sound};
+ghost use Rattle.track_store.specs.State.{states_of};
+ghost use Rattle.track_buffers.specs.Answers.{taken, brought_by};
+ghost use Rattle.track_buffers.specs.Media.{awaits_first, EndsWithin};
+ghost use Rattle.track_buffers.specs.Settings.{new_media, with_mode, with_offset, with_window_start, with_window_end, with_whole_window, with_container};
+ghost use Rattle.track_buffers.specs.Initialized.{media_tracks, initialized};
+ghost use Rattle.track_buffers.specs.Frames.{framed, Flushed, flushed, parser_reset, without_frames, evicted_media, used_in, highest_start_in, highest_end_in};
+ghost use Rattle.track_buffers.specs.Buffered.{buffered_of, IsBuffered};
+ghost use Rattle.track_buffers.specs.Views.{track_views_of};
+
+use crate::answers::{Brought, Taken, brought_then, nothing_brought};
+use crate::buffered::buffered_of;
+use crate::frames::{place_of, process_at, unset_all};
+use crate::incoming::{init_fault, take_tracks, told_duration};
+use crate::looks::{highest_end, highest_start, track_views, used};
+use crate::rooms::reserve_all;
+use eviction::evict;
+use mse_base::{CodedFrame, Moment, OutOfMemory, Presentation, Ranges, Ticks};
+use mse_calls::TrackViews;
+use range_removal::remove_frames;
+use std::alloc::Global;
+use std::marker::Model;
+use track_store::{FrameStore, Settings, Tracks};
+
+/// The track buffers of a source buffer, and how its frames are placed.
+///
+/// Contracts see the media, for how many more frames each store has room, and for how many more
+/// tracks there is room. Only the calls that answer a `Result` take memory. Each track buffer is
+/// always sound: each frame held is a random access point, or the frame received just before it
+/// is held too.
+#[derive(Drop)]
+pub struct TrackBuffers<S: FrameStore> {
+    alloc: Global,
+    tracks: Tracks<S>,
+    settings: Settings,
+    pending: bool,
+    gap: Ticks,
+}
+
+impl<S: FrameStore> Model for TrackBuffers<S> {
+    ghost use Rattle.track_store.specs.Kept.{gaps_of};
+    ghost use Rattle.track_store.specs.State.{states_of};
+    ghost use Rattle.track_buffers.specs.Media.{MediaView, media_of, room_of, IsSteady};
+
+    ghost Value = { MediaView };
+
+    ghost view = { λ b. record {
+      media = media_of S.frames b.tracks.items b.settings b.pending b.gap;
+      room = room_of S.spare b.tracks.items;
+      places = b.tracks.spare;
+    } };
+
+    ghost invariant = { λ b. IsSteady (states_of S.frames b.tracks.items) (gaps_of S.gap b.tracks.items) b.settings b.gap };
+}
+
+impl<S: FrameStore> TrackBuffers<S> {
+    /// No tracks. In mode "sequence" where timestamps are generated, else in mode "segments".
+    /// Ranges of a track join across gaps of at most `gap` ticks.
+    pub fn new(alloc: Global, gap: Ticks, generate: bool) -> Self
+        requires { pos 0 ≤ℤ gap }
+        ensures { result.media ≡ new_media gap generate }
+    {
+        TrackBuffers {
+            alloc,
+            tracks: Tracks::new(alloc),
+            settings: Settings {
+                sequence: generate,
+                generate,
+                offset: Ticks::zero(),
+                window_start: Ticks::zero(),
+                window_end: Moment::Infinite,
+                group_start: None,
+                group_end: Ticks::zero(),
+            },
+            pending: false,
+            gap,
+        }
+    }
+
+    /// Makes room for `n` more frames in each track buffer.
+    pub fn reserve_frames(&mut self, n: usize) -> Result<(), OutOfMemory>
+        ensures media { self.new.media ≡ self.old.media }
+        ensures ok { OnOk result (n ≤ self.new.room) }
+        ensures room { self.old.room ≤ self.new.room }
+        ensures places { self.new.places ≡ self.old.places }
+    {
+        reserve_all(&mut self.tracks, n)
+    }
+
+    /// Makes room for `n` more tracks.
+    pub fn reserve_tracks(&mut self, n: usize) -> Result<(), OutOfMemory>
+        ensures media { self.new.media ≡ self.old.media }
+        ensures ok { OnOk result (n ≤ self.new.places) }
+        ensures room { self.new.room ≡ self.old.room }
+        ensures places { self.old.places ≤ self.new.places }
+    {
+        self.tracks.reserve(n)
+    }
+
+    /// Whether no initialization segment was received yet.
+    pub fn awaits_first(&self) -> bool
+        ensures { result ≡ awaits_first self.now.media }
+    {
+        self.tracks.len() == 0
+    }
+
+    /// An initialization segment is received, where the media source has a duration (Media Source
+    /// Extensions, 3.5.7). The first one makes the track buffers.
+    pub fn receive(&mut self, presentation: &Presentation, duration: Moment) -> Taken
+        requires { awaits_first self.old.media ≡ true
+            → length (media_tracks presentation.now) ≤ self.old.places }
+        ensures taken { taken result self.new.media ≡ initialized presentation.now self.old.media duration }
+        ensures few { (brought_by result).changes ≤ 1 }
+        ensures ends { EndsWithin duration self.old.media.tracks
+            → EndsWithin (brought_by result).duration self.new.media.tracks }
+    {
+        let brought = told_duration(presentation, &duration);
+        match init_fault(&self.tracks, self.pending, presentation) {
+            Some(fault) => Taken::Broke(fault, brought),
+            None => {
+                let activated = self.tracks.len() == 0;
+                let news = presentation.tracks.as_slice();
+                take_tracks(&mut self.tracks, self.alloc, self.gap, news);
+                self.pending = false;
+                Taken::Went(Brought {
+                    changes: brought.changes,
+                    duration: brought.duration,
+                    activated,
+                })
+            }
+        }
+    }
+
+    /// A coded frame of the byte stream is processed, where the media source has a duration
+    /// (Media Source Extensions, 3.5.8). A frame of no track buffer is passed over.
+    pub fn process(&mut self, frame: CodedFrame, duration: Moment) -> Taken
+        requires room { 1 ≤ self.old.room }
+        requires forward { pos 0 ≤ℤ frame.dur }
+        ensures taken { taken result self.new.media ≡ framed frame self.old.media duration }
+        ensures few { (brought_by result).changes ≤ 1 }
+        ensures ends { EndsWithin duration self.old.media.tracks
+            → EndsWithin (brought_by result).duration self.new.media.tracks }
+        ensures room { self.old.room ≤ self.new.room + 1 }
+    {
+        match place_of(&self.tracks, frame.track_id) {
+            Some(i) => process_at(&mut self.tracks, &mut self.settings, i, frame, &duration),
+            None => Taken::Went(nothing_brought(&duration)),
+        }
+    }
+
+    /// Frames that are ready are processed one after the other, where the media source has a
+    /// duration (Media Source Extensions, 3.5.2, step 1). A frame whose times are out of range, or
+    /// that passes a count, ends this, and nothing else comes of it.
+    pub fn flush(&mut self, frames: Vec<CodedFrame>, duration: Moment) -> Brought
+        requires room { length frames.items ≤ self.old.room }
+        requires forward { AllByRecursion (λ f. pos 0 ≤ℤ f.dur) frames.items }
+        ensures flushed { flushed frames.items self.old.media duration
+            ≡ record { media = self.new.media; brought = result } }
+        ensures few { result.changes ≤ length frames.items }
+        ensures ends { EndsWithin duration self.old.media.tracks
+            → EndsWithin result.duration self.new.media.tracks }
+    {
+        let mut brought = nothing_brought(&duration);
+        for frame in frames {
+            match self.process(frame, brought.duration) {
+                Taken::Went(more) => brought = brought_then(&brought, &more),
+                Taken::Broke(_, _) => return brought,
+            }
+        }
+        brought
+    }
+
+    /// Resets the parser behind the frames that are ready (Media Source Extensions, 3.5.2).
+    pub fn reset_parser(&mut self)
+        ensures media { self.new.media ≡ parser_reset self.old.media }
+        ensures ends { (duration : Moment) → EndsWithin duration self.old.media.tracks
+            → EndsWithin duration self.new.media.tracks }
+        ensures room { self.old.room ≤ self.new.room }
+    {
+        unset_all(&mut self.tracks);
+        if self.settings.sequence {
+            self.settings.group_start = Some(self.settings.group_end);
+        }
+    }
+
+    /// Removes frames, where the media source has a duration (Media Source Extensions, 3.5.9).
+    pub fn remove(&mut self, start: Ticks, end: Moment, duration: Moment)
+        ensures media { self.new.media ≡ without_frames start end duration self.old.media }
+        ensures ends { (moment : Moment) → EndsWithin moment self.old.media.tracks
+            → EndsWithin moment self.new.media.tracks }
+        ensures room { self.old.room ≤ self.new.room }
+    {
+        remove_frames(&mut self.tracks, start, end, duration);
+    }
+
+    /// Makes room for new bytes, where the source buffer is full (Media Source Extensions,
+    /// 3.5.10).
+    pub fn evict(&mut self, position: Ticks, new_bytes: u64, quota: u64, duration: Moment)
+        ensures media { self.new.media ≡ evicted_media position new_bytes quota duration self.old.media }
+        ensures ends { (moment : Moment) → EndsWithin moment self.old.media.tracks
+            → EndsWithin moment self.new.media.tracks }
+        ensures room { self.old.room ≤ self.new.room }
+    {
+        evict(&mut self.tracks, position, new_bytes, quota, duration);
+    }
+
+    /// How frames are placed.
+    pub fn settings(&self) -> Settings
+        ensures settings { result ≡ self.now.media.settings }
+        ensures low { pos 0 ≤ℤ result.window_start }
+        ensures end { result.window_end ≢ Moment.Nan }
+    {
+        self.settings
+    }
+
+    /// Sets the mode, "sequence" or "segments".
+    pub fn set_mode(&mut self, sequence: bool)
+        ensures media { self.new.media ≡ with_mode sequence self.old.media }
+        ensures room { self.new.room ≡ self.old.room }
+        ensures places { self.new.places ≡ self.old.places }
+    {
+        self.settings.sequence = sequence;
+        if sequence {
+            self.settings.group_start = Some(self.settings.group_end);
+        }
+    }
+
+    /// Sets the timestamp offset.
+    pub fn set_offset(&mut self, t: Ticks)
+        ensures media { self.new.media ≡ with_offset t self.old.media }
+        ensures room { self.new.room ≡ self.old.room }
+        ensures places { self.new.places ≡ self.old.places }
+    {
+        self.settings.offset = t;
+        if self.settings.sequence {
+            self.settings.group_start = Some(t);
+        }
+    }
+
+    /// Sets the append window start.
+    pub fn set_window_start(&mut self, t: Ticks)
+        requires { pos 0 ≤ℤ t }
+        ensures media { self.new.media ≡ with_window_start t self.old.media }
+        ensures room { self.new.room ≡ self.old.room }
+        ensures places { self.new.places ≡ self.old.places }
+    {
+        self.settings.window_start = t;
+    }
+
+    /// Sets the append window end.
+    pub fn set_window_end(&mut self, t: Moment)
+        requires { t ≢ Moment.Nan }
+        ensures media { self.new.media ≡ with_window_end t self.old.media }
+        ensures room { self.new.room ≡ self.old.room }
+        ensures places { self.new.places ≡ self.old.places }
+    {
+        self.settings.window_end = t;
+    }
+
+    /// Sets the whole append window, from 0 on and without an end.
+    pub fn reset_window(&mut self)
+        ensures media { self.new.media ≡ with_whole_window self.old.media }
+        ensures room { self.new.room ≡ self.old.room }
+        ensures places { self.new.places ≡ self.old.places }
+    {
+        self.settings.window_start = Ticks::zero();
+        self.settings.window_end = Moment::Infinite;
+    }
+
+    /// Changes the byte stream format: the next initialization segment may have other codecs, and
+    /// where timestamps are generated the mode becomes "sequence".
+    pub fn change_container(&mut self, generate: bool)
+        ensures media { self.new.media ≡ with_container generate self.old.media }
+        ensures room { self.new.room ≡ self.old.room }
+        ensures places { self.new.places ≡ self.old.places }
+    {
+        self.pending = true;
+        self.settings.generate = generate;
+        if generate {
+            self.settings.sequence = true;
+            self.settings.group_start = Some(self.settings.group_end);
+        }
+    }
+
+    /// The bytes of all stored frames.
+    pub fn used(&self) -> u64
+        ensures value { result ≡ used_in self.now.media }
+        ensures small { result < 2 ^ 62 }
+    {
+        used(&self.tracks)
+    }
+
+    /// The greatest presentation timestamp; `None` exactly where there is no frame.
+    pub fn highest_start(&self) -> Option<Ticks>
+        ensures { result ≡ highest_start_in self.now.media }
+    {
+        highest_start(&self.tracks)
+    }
+
+    /// The greatest frame end timestamp; `None` exactly where there is no frame.
+    pub fn highest_end(&self) -> Option<Ticks>
+        ensures { result ≡ highest_end_in self.now.media }
+    {
+        highest_end(&self.tracks)
+    }
+
+    /// The track buffers, in order of the first initialization segment.
+    pub fn tracks(&self) -> &Tracks<S>
+        ensures states { states_of S.frames result.now.items ≡ self.now.media.tracks }
+        ensures kept { AreKept self.now.media.tracks }
+    {
+        &self.tracks
+    }
+
+    /// The buffered ranges: the ticks that all track buffers have. Where the source is ended, the
+    /// last range of each lasts to the highest end of all.
+    pub fn buffered(&self, ended: bool) -> Result<Ranges, OutOfMemory>
+        ensures spans { IfOk result (λ r. r.spans ≡ buffered_of ended self.now.media) }
+        ensures ticks { IfOk result (λ r. IsBuffered ended self.now.media r.spans) }
+    {
+        buffered_of(&self.tracks, self.alloc, ended)
+    }
+
+    /// What the track buffers hold.
+    pub fn track_views(&self) -> Result<TrackViews, OutOfMemory>
+        ensures { IfOk result (λ v. v ≡ track_views_of self.now.media) }
+    {
+        track_views(&self.tracks, self.alloc)
+    }
+
+    /// Each track buffer is sound, and the bytes of all can be counted.
+    pub fn sound(&self)
+        ensures kept { AreKept self.now.media.tracks }
+        ensures sound { AllByRecursion Sound self.now.media.tracks }
+        ensures low { pos 0 ≤ℤ self.now.media.settings.window_start }
+        ensures end { self.now.media.settings.window_end ≢ Moment.Nan }
+        ensures forward { pos 0 ≤ℤ self.now.media.gap }
+    {
+        let _tracks = &self.tracks;
+    }
+}

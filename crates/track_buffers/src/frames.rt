@@ -1,0 +1,110 @@
+//! Coded frames, and the marks where the parser is reset.
+
+ghost use Rattle.std.specs.Prelude.{◌≡◌, ◌≤◌, ◌<◌, ◌+◌, ℕ, ℤ, pos, ◌≤ℤ◌, ◌==◌, Bool, Some, map, length, slice_get, slice_set, IfSome};
+ghost use Rattle.mse_base.specs.declared.ticks.Moment.{Moment};
+ghost use Rattle.track_store.specs.Kept.{AreKept, HasRoom, gaps_of};
+ghost use Rattle.track_store.specs.State.{state_of, states_of};
+ghost use Rattle.range_removal.specs.Numbered.{KeepsRoom};
+ghost use Rattle.track_buffers.specs.Answers.{taken, brought_by};
+ghost use Rattle.track_buffers.specs.Media.{media_of, EndsWithin};
+ghost use Rattle.track_buffers.specs.Frames.{has_number, place_of, framed_at, unset_track};
+
+use crate::answers::{MediaFault, Taken, at_least, changed_duration, nothing_brought};
+use frame_rules::{Placed, place};
+use mse_base::{CodedFrame, Moment};
+use track_store::{FrameStore, Settings, Track, Tracks};
+
+fn has_number_at<S: FrameStore>(tracks: &Tracks<S>, i: usize, id: u32) -> bool
+    ensures { IfSome (slice_get (states_of S.frames tracks.now.items) i) (λ t. result ≡ has_number id t) }
+{
+    match tracks.get(i) {
+        Some(track) => track.id == id,
+        None => false,
+    }
+}
+
+/// The place of the track buffer of a number.
+pub(crate) fn place_of<S: FrameStore>(tracks: &Tracks<S>, id: u32) -> Option<usize>
+    ensures place { result ≡ place_of id (states_of S.frames tracks.now.items) }
+    ensures in_range { IfSome result (λ i. i < length tracks.now.items) }
+{
+    for i in 0..tracks.len() {
+        if has_number_at(tracks, i, id) {
+            return Some(i);
+        }
+    }
+    None
+}
+
+/// Processes a frame of the track buffer at a place.
+pub(crate) fn process_at<S: FrameStore>(
+    tracks: &mut Tracks<S>,
+    settings: &mut Settings,
+    i: usize,
+    frame: CodedFrame,
+    duration: &Moment,
+) -> Taken
+    requires in_range { i < length tracks.old.items }
+    requires room { HasRoom S.spare 1 tracks.old.items }
+    requires kept { AreKept (states_of S.frames tracks.old.items) }
+    requires low { pos 0 ≤ℤ settings.old.window_start }
+    requires forward { pos 0 ≤ℤ frame.dur }
+    ensures taken { (pending : Bool) (gap : ℤ)
+        → taken result (media_of S.frames tracks.new.items settings.new pending gap)
+        ≡ framed_at (Some i) frame (media_of S.frames tracks.old.items settings.old pending gap) duration.now }
+    ensures few { (brought_by result).changes ≤ 1 }
+    ensures kept { AreKept (states_of S.frames tracks.new.items) }
+    ensures low { pos 0 ≤ℤ settings.new.window_start }
+    ensures end { settings.new.window_end ≡ settings.old.window_end }
+    ensures ends { EndsWithin duration.now (states_of S.frames tracks.old.items)
+        → EndsWithin (brought_by result).duration (states_of S.frames tracks.new.items) }
+    ensures room { (n : ℕ) → HasRoom S.spare (n + 1) tracks.old.items
+        → HasRoom S.spare n tracks.new.items }
+    ensures gaps { gaps_of S.gap tracks.new.items ≡ gaps_of S.gap tracks.old.items }
+{
+    match place(tracks, settings, i, frame) {
+        Placed::Stored => {
+            let raised = at_least(duration, settings.group_end);
+            Taken::Went(changed_duration(&raised, duration))
+        }
+        Placed::Dropped(_) => Taken::Went(nothing_brought(duration)),
+        Placed::TimeRange => Taken::Broke(MediaFault::TimeRange, nothing_brought(duration)),
+        Placed::Counts => Taken::Broke(MediaFault::Counts, nothing_brought(duration)),
+    }
+}
+
+fn unset<S: FrameStore>(track: &mut Track<S>)
+    ensures state { state_of S.frames track.new ≡ unset_track (state_of S.frames track.old) }
+    ensures spare { S.spare track.old.store ≤ S.spare track.new.store }
+    ensures gap { S.gap track.new.store ≡ S.gap track.old.store }
+{
+    track.marks = track.marks.unset();
+}
+
+fn unset_at<S: FrameStore>(tracks: &mut Tracks<S>, i: usize)
+    ensures states { IfSome (slice_get (states_of S.frames tracks.old.items) i)
+        (λ t. states_of S.frames tracks.new.items
+        ≡ slice_set (states_of S.frames tracks.old.items) i (unset_track t)) }
+    ensures spare { KeepsRoom S.spare tracks.old.items tracks.new.items }
+    ensures gaps { gaps_of S.gap tracks.new.items ≡ gaps_of S.gap tracks.old.items }
+{
+    match tracks.get_mut(i) {
+        Some(track) => unset(track),
+        None => {}
+    }
+}
+
+/// Unsets the marks of all track buffers.
+pub(crate) fn unset_all<S: FrameStore>(tracks: &mut Tracks<S>)
+    ensures states { states_of S.frames tracks.new.items
+        ≡ map unset_track (states_of S.frames tracks.old.items) }
+    ensures kept { AreKept (states_of S.frames tracks.old.items)
+        → AreKept (states_of S.frames tracks.new.items) }
+    ensures room { (n : ℕ) → HasRoom S.spare n tracks.old.items
+        → HasRoom S.spare n tracks.new.items }
+    ensures gaps { gaps_of S.gap tracks.new.items ≡ gaps_of S.gap tracks.old.items }
+{
+    for i in 0..tracks.len() {
+        unset_at(tracks, i);
+    }
+}

@@ -1,0 +1,130 @@
+//! Initialization segment received (Media Source Extensions, 3.5.7).
+
+ghost use Rattle.std.specs.Prelude.{◌≡◌, ◌≤◌, ◌+◌, [], ◌∷◌, ◌++◌, ℤ, pos, ◌≤ℤ◌, Bool, true, map, filter, length};
+ghost use Rattle.std.specs.List.{AllByRecursion};
+ghost use Rattle.mse_base.specs.declared.ticks.Moment.{Moment};
+ghost use Rattle.track_store.specs.declared.tracks.Settings.{Settings};
+ghost use Rattle.track_store.specs.Kept.{AreKept, gaps_of};
+ghost use Rattle.track_store.specs.State.{state_of, states_of};
+ghost use Rattle.track_buffers.specs.Media.{media_of, is_empty_list, EndsWithin};
+ghost use Rattle.track_buffers.specs.Initialized.{is_media_track, media_tracks, told_duration, fits, init_fault, new_track, tracks_after};
+
+use crate::answers::{Brought, MediaFault, changed_duration, nothing_brought};
+use crate::kinds::{all_known, count_new, is_media, media_track_count};
+use crate::partners::{all_fit, count_held, renew_all};
+use mse_base::{Kind, Moment, Presentation, Ticks, TrackInfo};
+use std::alloc::Global;
+use track_store::{FrameStore, Marks, Track, Tracks};
+
+/// Step 1: what the segment tells of the duration.
+pub(crate) fn told_duration(presentation: &Presentation, duration: &Moment) -> Brought
+    ensures { result ≡ told_duration presentation.now duration.now }
+{
+    match duration {
+        Moment::Nan => changed_duration(&presentation.duration, duration),
+        Moment::At(_) | Moment::Infinite => nothing_brought(duration),
+    }
+}
+
+/// Whether the tracks of a segment are those of the buffer.
+fn fits<S: FrameStore>(tracks: &Tracks<S>, pending: bool, news: &[TrackInfo]) -> bool
+    ensures { (settings : Settings) (gap : ℤ) → result ≡ fits (filter is_media_track news.now)
+        (media_of S.frames tracks.now.items settings pending gap) }
+{
+    count_new(news, Kind::Video) == count_held(tracks, Kind::Video)
+        && count_new(news, Kind::Audio) == count_held(tracks, Kind::Audio)
+        && all_fit(tracks, news, pending)
+}
+
+/// The first thing that is wrong with a segment.
+pub(crate) fn init_fault<S: FrameStore>(
+    tracks: &Tracks<S>,
+    pending: bool,
+    presentation: &Presentation,
+) -> Option<MediaFault>
+    ensures { (settings : Settings) (gap : ℤ) → result ≡ init_fault presentation.now
+        (media_of S.frames tracks.now.items settings pending gap) }
+{
+    let news = presentation.tracks.as_slice();
+    if media_track_count(presentation) == 0 {
+        return Some(MediaFault::NoTracks);
+    }
+    if !all_known(news) {
+        return Some(MediaFault::UnknownCodec);
+    }
+    if tracks.len() == 0 || fits(tracks, pending, news) {
+        None
+    } else {
+        Some(MediaFault::TracksDiffer)
+    }
+}
+
+fn new_track<S: FrameStore>(alloc: Global, gap: Ticks, track: &TrackInfo) -> Track<S>
+    requires { pos 0 ≤ℤ gap }
+    ensures state { state_of S.frames result ≡ new_track track.now }
+    ensures gap { S.gap result.store ≡ gap }
+{
+    Track {
+        id: track.id,
+        kind: track.kind,
+        codec: track.codec,
+        store: S::new(alloc, gap),
+        marks: Marks::new(),
+    }
+}
+
+/// A track buffer is made for a video or audio track.
+fn add_one<S: FrameStore>(tracks: &mut Tracks<S>, alloc: Global, gap: Ticks, track: &TrackInfo)
+    requires room { length (filter is_media_track (track.now ∷ [])) ≤ tracks.old.spare }
+    requires forward { pos 0 ≤ℤ gap }
+    ensures states { states_of S.frames tracks.new.items ≡ states_of S.frames tracks.old.items
+        ++ map new_track (filter is_media_track (track.now ∷ [])) }
+    ensures room { tracks.old.spare
+        ≤ tracks.new.spare + length (filter is_media_track (track.now ∷ [])) }
+    ensures gaps { AllByRecursion (λ g. g ≡ gap) (gaps_of S.gap tracks.old.items)
+        → AllByRecursion (λ g. g ≡ gap) (gaps_of S.gap tracks.new.items) }
+{
+    if is_media(track) {
+        tracks.add(new_track(alloc, gap, track));
+    }
+}
+
+/// Step 5: a track buffer for each video or audio track.
+fn add_all<S: FrameStore>(tracks: &mut Tracks<S>, alloc: Global, gap: Ticks, news: &[TrackInfo])
+    requires room { length (filter is_media_track news.now) ≤ tracks.old.spare }
+    requires forward { pos 0 ≤ℤ gap }
+    ensures states { states_of S.frames tracks.new.items ≡ states_of S.frames tracks.old.items
+        ++ map new_track (filter is_media_track news.now) }
+    ensures gaps { AllByRecursion (λ g. g ≡ gap) (gaps_of S.gap tracks.old.items)
+        → AllByRecursion (λ g. g ≡ gap) (gaps_of S.gap tracks.new.items) }
+{
+    for track in news {
+        add_one(tracks, alloc, gap, track);
+    }
+}
+
+/// The track buffers go on with the tracks of a segment, or are made for them.
+pub(crate) fn take_tracks<S: FrameStore>(
+    tracks: &mut Tracks<S>,
+    alloc: Global,
+    gap: Ticks,
+    news: &[TrackInfo],
+)
+    requires room { is_empty_list (states_of S.frames tracks.old.items) ≡ true
+        → length (filter is_media_track news.now) ≤ tracks.old.spare }
+    requires forward { pos 0 ≤ℤ gap }
+    ensures states { states_of S.frames tracks.new.items
+        ≡ tracks_after (filter is_media_track news.now) (states_of S.frames tracks.old.items) }
+    ensures kept { AreKept (states_of S.frames tracks.old.items)
+        → AreKept (states_of S.frames tracks.new.items) }
+    ensures ends { (duration : Moment) → EndsWithin duration (states_of S.frames tracks.old.items)
+        → EndsWithin duration (states_of S.frames tracks.new.items) }
+    ensures gaps { AllByRecursion (λ g. g ≡ gap) (gaps_of S.gap tracks.old.items)
+        → AllByRecursion (λ g. g ≡ gap) (gaps_of S.gap tracks.new.items) }
+{
+    if tracks.len() == 0 {
+        add_all(tracks, alloc, gap, news);
+    } else {
+        renew_all(tracks, news);
+    }
+}

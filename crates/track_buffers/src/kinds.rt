@@ -1,0 +1,79 @@
+ghost use Rattle.std.specs.Prelude.{◌≡◌, length, map, filter};
+ghost use Rattle.std.specs.List.{list_all};
+ghost use Rattle.bmff_fragment.specs.Plans.{is_media as is_media_kind};
+ghost use Rattle.track_buffers.specs.Initialized.{is_media_track, media_tracks, same_kind, count_of, new_kinds, is_known, is_of_kind};
+
+use mse_base::{Kind, Presentation, TrackInfo};
+use mse_types::codec_known;
+
+/// Whether a buffer takes frames of a track.
+pub(crate) fn is_media(track: &TrackInfo) -> bool
+    ensures { result ≡ is_media_track track.now }
+{
+    match track.kind {
+        Kind::Video | Kind::Audio => true,
+        Kind::Other => false,
+    }
+}
+
+pub(crate) fn same_kind(a: Kind, b: Kind) -> bool
+    ensures { result ≡ same_kind a b }
+{
+    match (a, b) {
+        (Kind::Video, Kind::Video) | (Kind::Audio, Kind::Audio) | (Kind::Other, Kind::Other) => {
+            true
+        }
+        _ => false,
+    }
+}
+
+fn count_media(tracks: &[TrackInfo]) -> usize
+    ensures { result ≡ length (filter is_media_track tracks.now) }
+{
+    let mut count = 0;
+    for track in tracks {
+        if is_media(track) {
+            count += 1;
+        }
+    }
+    count
+}
+
+/// How many tracks of an initialization segment a buffer takes frames of: those of video and
+/// audio.
+pub fn media_track_count(presentation: &Presentation) -> usize
+    ensures { result ≡ length (media_tracks presentation.now) }
+{
+    count_media(presentation.tracks.as_slice())
+}
+
+/// How many video or audio tracks are of a kind.
+pub(crate) fn count_new(tracks: &[TrackInfo], kind: Kind) -> usize
+    ensures { result ≡ count_of kind (new_kinds (filter is_media_track tracks.now)) }
+{
+    let mut count = 0;
+    for track in tracks {
+        if is_media(track) && same_kind(kind, track.kind) {
+            count += 1;
+        }
+    }
+    count
+}
+
+fn is_known(track: &TrackInfo) -> bool
+    ensures { result ≡ is_known track.now }
+{
+    codec_known(track.codec)
+}
+
+/// Whether each video or audio track has a codec that is known.
+pub(crate) fn all_known(tracks: &[TrackInfo]) -> bool
+    ensures { result ≡ list_all is_known (filter is_media_track tracks.now) }
+{
+    for track in tracks {
+        if is_media(track) && !is_known(track) {
+            return false;
+        }
+    }
+    true
+}

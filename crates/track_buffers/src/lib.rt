@@ -1,0 +1,27 @@
+//! The media of a source buffer (Media Source Extensions): its track buffers and settings, and
+//! what an initialization segment, a coded frame, a reset of the parser, a removal and an eviction
+//! do to them.
+//!
+//! It stands on `track_store`, `frame_rules`, `range_removal` and `eviction`, and knows nothing of
+//! the byte stream. Its main contract is that of [`TrackBuffers`]: each call makes of the media
+//! what one function on lists of frames says, `initialized`, `framed`, `flushed`, `parser_reset`,
+//! `without_frames` and `evicted_media` of `specs/`. The buffered ranges are the ticks that all
+//! tracks have.
+#![tactic(auto)]
+
+mod answers;
+mod buffered;
+mod buffers;
+mod frames;
+mod incoming;
+mod kinds;
+pub mod laws;
+mod looks;
+mod partners;
+mod rooms;
+#[cfg(test)]
+mod tests;
+
+pub use answers::{Brought, MediaFault, Taken};
+pub use buffers::TrackBuffers;
+pub use kinds::media_track_count;

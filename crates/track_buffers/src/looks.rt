@@ -1,0 +1,134 @@
+//! What is stored in all track buffers.
+
+ghost use Rattle.std.specs.Prelude.{◌≡◌, ◌≤◌, ◌<◌, ◌^◌, map, slice_get, IfSome, IfOk, OnOk, flat_map, [], ◌∷◌, ◌++◌};
+ghost use Rattle.track_store.specs.Frames.{used_of, greatest, starts, ends};
+ghost use Rattle.track_store.specs.Kept.{bytes_of};
+ghost use Rattle.track_store.specs.State.{state_of, states_of};
+ghost use Rattle.track_buffers.specs.Views.{track_view};
+ghost use Rattle.track_buffers.specs.Buffered.{later_of};
+
+use crate::answers::later;
+use mse_base::{OutOfMemory, Ticks};
+use mse_calls::{TimeRanges, TrackView, TrackViews};
+use std::alloc::Global;
+use track_store::{FrameStore, Track, Tracks};
+
+fn used_at<S: FrameStore>(tracks: &Tracks<S>, i: usize) -> u64
+    ensures value { IfSome (slice_get tracks.now.items i) (λ t. result ≡ used_of (S.frames t.store)) }
+    ensures small { result < 2 ^ 62 }
+{
+    match tracks.get(i) {
+        Some(track) => track.store.used(),
+        None => 0,
+    }
+}
+
+/// The bytes of all stored frames.
+pub(crate) fn used<S: FrameStore>(tracks: &Tracks<S>) -> u64
+    requires { bytes_of S.frames tracks.now.items < 2 ^ 62 }
+    ensures { result ≡ bytes_of S.frames tracks.now.items }
+{
+    let mut total = 0;
+    for i in 0..tracks.len() {
+        total += used_at(tracks, i);
+    }
+    total
+}
+
+/// The greater of two times, where there are.
+pub(crate) fn later_of(a: Option<Ticks>, b: Option<Ticks>) -> Option<Ticks>
+    ensures { result ≡ later_of a b }
+{
+    match (a, b) {
+        (None, time) | (time, None) => time,
+        (Some(s), Some(t)) => Some(later(s, t)),
+    }
+}
+
+fn highest_start_at<S: FrameStore>(tracks: &Tracks<S>, i: usize) -> Option<Ticks>
+    ensures { IfSome (slice_get (states_of S.frames tracks.now.items) i)
+        (λ t. result ≡ greatest (starts t.frames)) }
+{
+    match tracks.get(i) {
+        Some(track) => track.store.highest_start(),
+        None => None,
+    }
+}
+
+/// The greatest presentation timestamp of all stored frames.
+pub(crate) fn highest_start<S: FrameStore>(tracks: &Tracks<S>) -> Option<Ticks>
+    ensures { result ≡ greatest (flat_map (λ t. starts t.frames) (states_of S.frames tracks.now.items)) }
+{
+    let mut best = None;
+    for i in 0..tracks.len() {
+        best = later_of(best, highest_start_at(tracks, i));
+    }
+    best
+}
+
+fn highest_end_at<S: FrameStore>(tracks: &Tracks<S>, i: usize) -> Option<Ticks>
+    ensures { IfSome (slice_get (states_of S.frames tracks.now.items) i)
+        (λ t. result ≡ greatest (ends t.frames)) }
+{
+    match tracks.get(i) {
+        Some(track) => track.store.highest_end(),
+        None => None,
+    }
+}
+
+/// The greatest frame end timestamp of all stored frames.
+pub(crate) fn highest_end<S: FrameStore>(tracks: &Tracks<S>) -> Option<Ticks>
+    ensures { result ≡ greatest (flat_map (λ t. ends t.frames) (states_of S.frames tracks.now.items)) }
+{
+    let mut best = None;
+    for i in 0..tracks.len() {
+        best = later_of(best, highest_end_at(tracks, i));
+    }
+    best
+}
+
+fn view_of<S: FrameStore>(track: &Track<S>) -> Result<TrackView, OutOfMemory>
+    ensures { IfOk result (λ v. v ≡ track_view (S.gap track.now.store) (state_of S.frames track.now)) }
+{
+    let ranges = track.store.copy_ranges()?;
+    Ok(TrackView {
+        id: track.id,
+        kind: track.kind,
+        codec: track.codec,
+        frames: track.store.len() as u64,
+        ranges: TimeRanges::new(ranges),
+    })
+}
+
+fn push_view<S: FrameStore>(
+    views: &mut Vec<TrackView>,
+    tracks: &Tracks<S>,
+    i: usize,
+) -> Result<(), OutOfMemory>
+    ensures { OnOk result (IfSome (slice_get tracks.now.items i) (λ t. views.new.items
+        ≡ views.old.items ++ track_view (S.gap t.store) (state_of S.frames t) ∷ [])) }
+{
+    match tracks.get(i) {
+        Some(track) => {
+            let view = view_of(track)?;
+            views.push(view)?;
+            Ok(())
+        }
+        None => Ok(()),
+    }
+}
+
+/// What the track buffers hold.
+pub(crate) fn track_views<S: FrameStore>(
+    tracks: &Tracks<S>,
+    alloc: Global,
+) -> Result<TrackViews, OutOfMemory>
+    ensures { IfOk result (λ v. v
+        ≡ map (λ t. track_view (S.gap t.store) (state_of S.frames t)) tracks.now.items) }
+{
+    let mut views = Vec::new(alloc);
+    for i in 0..tracks.len() {
+        push_view(&mut views, tracks, i)?;
+    }
+    Ok(TrackViews::from_vec(views))
+}

@@ -1,0 +1,39 @@
+//! Room for more frames.
+
+ghost use Rattle.std.specs.Prelude.{◌≡◌, ◌≤◌, ℕ, length, slice_get, IfSome, OnOk};
+ghost use Rattle.track_store.specs.Kept.{HasRoom, gaps_of};
+ghost use Rattle.track_store.specs.State.{state_of, states_of};
+ghost use Rattle.range_removal.specs.Numbered.{KeepsRoom};
+
+use mse_base::OutOfMemory;
+use track_store::{FrameStore, Tracks};
+
+fn reserve_at<S: FrameStore>(tracks: &mut Tracks<S>, i: usize, n: usize) -> Result<(), OutOfMemory>
+    ensures states { states_of S.frames tracks.new.items ≡ states_of S.frames tracks.old.items }
+    ensures ok { OnOk result (IfSome (slice_get tracks.new.items i) (λ t. n ≤ S.spare t.store)) }
+    ensures spare { KeepsRoom S.spare tracks.old.items tracks.new.items }
+    ensures gaps { gaps_of S.gap tracks.new.items ≡ gaps_of S.gap tracks.old.items }
+    ensures places { tracks.new.spare ≡ tracks.old.spare }
+{
+    match tracks.get_mut(i) {
+        Some(track) => track.store.reserve(n),
+        None => Ok(()),
+    }
+}
+
+/// Makes room for `n` more frames in each store.
+pub(crate) fn reserve_all<S: FrameStore>(
+    tracks: &mut Tracks<S>,
+    n: usize,
+) -> Result<(), OutOfMemory>
+    ensures states { states_of S.frames tracks.new.items ≡ states_of S.frames tracks.old.items }
+    ensures ok { OnOk result (HasRoom S.spare n tracks.new.items) }
+    ensures room { (k : ℕ) → HasRoom S.spare k tracks.old.items → HasRoom S.spare k tracks.new.items }
+    ensures gaps { gaps_of S.gap tracks.new.items ≡ gaps_of S.gap tracks.old.items }
+    ensures places { tracks.new.spare ≡ tracks.old.spare }
+{
+    for i in 0..tracks.len() {
+        reserve_at(tracks, i, n)?;
+    }
+    Ok(())
+}
