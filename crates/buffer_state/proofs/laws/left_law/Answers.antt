@@ -1,0 +1,5 @@
+use Rattle.buffer_state.proofs.Leaving.{left}
+use Rattle.buffer_state.proofs.laws.left_law.Goals as goal
+
+pub returns : goal.returns
+returns c = left

@@ -1,0 +1,29 @@
+use Rattle.std.proofs.Common.{◌≡◌, ◌<◌, ◌++◌, ◌∷◌, [], length, length-append, arith}
+use Rattle.byte_stream.specs.Items.{items_of, ready_at}
+use Rattle.byte_stream.specs.Streams.{seen}
+use Rattle.buffer_state.proofs.Front.{ready-more, ready-none, long-frame, long-more}
+use Rattle.buffer_state.proofs.resets.ready_frames.Goals as goal
+use Rattle.buffer_state.proofs.resets.ready_frames.Goals.{in-Some+in_ok-push-in-Some, in-None}
+
+pub loop-i-preserved : goal.loop-i-preserved
+loop-i-preserved c =
+    elim c.match-frame_of.branch [
+      | in-Some+in_ok-push-in-Some w ↦
+          (let items : c.match-frame_of.frames.items ≡ c.loop-i.frames.items ++ w.in-Some.frame ∷ [] = cc (w.frames-is, w.in_ok-push-in-Some.ensures.items) in
+          record {
+            lasting = rw items (long-more c.loop-i.frames.items w.in-Some.frame c.loop-i.invariant.lasting (long-frame (seen c.in_ok-next.next) w.in-Some.frame c.in_ok-next.ensures.lasting w.in-Some.ensures));
+            few = rw (items, length-append c.loop-i.frames.items (w.in-Some.frame ∷ [])) (omega (arith, c.loop-i.invariant.few));
+            taken = λ container before whole n s.
+                (let inside : c.loop-i.i < length (ready_at container before whole n) = omega (arith, c.ready_frames-i-end.ensures.ready container before whole n s) in
+                rw items (ready-more (items_of container before whole) n c.loop-i.i (seen c.in_ok-next.next) w.in-Some.frame c.loop-i.frames.items inside (c.in_ok-next.ensures.item container before whole n s) w.in-Some.ensures (c.loop-i.invariant.taken container before whole n s)));
+          })
+      | in-None w ↦
+          (let items : c.match-frame_of.frames.items ≡ c.loop-i.frames.items = cc (w.frames-is) in
+          record {
+            lasting = rw items c.loop-i.invariant.lasting;
+            few = rw items (omega (arith, c.loop-i.invariant.few));
+            taken = λ container before whole n s.
+                (let inside : c.loop-i.i < length (ready_at container before whole n) = omega (arith, c.ready_frames-i-end.ensures.ready container before whole n s) in
+                absurd (ready-none (items_of container before whole) n c.loop-i.i (seen c.in_ok-next.next) inside (c.in_ok-next.ensures.item container before whole n s) w.in-None.ensures));
+          })
+    ]

@@ -1,0 +1,7 @@
+pub mod State
+pub mod Faults
+pub mod Replies
+pub mod Turns
+pub mod Calls
+pub mod Steps
+pub mod Left

@@ -1,0 +1,104 @@
+-- A source buffer as a state: its feed and its content.
+use Rattle.std.specs.Prelude.{◌≡◌, ℕ, ◌+◌, Bool, true, false, List, [], ◌++◌, slice_get, Option}
+use Rattle.mse_base.specs.declared.frame.CodedFrame.{CodedFrame}
+use Rattle.mse_base.specs.declared.frame.Phase.{Phase}
+use Rattle.mse_base.specs.declared.ticks.Moment.{Moment}
+use Rattle.mse_base.specs.declared.track.Presentation.{Presentation}
+use Rattle.mse_types.specs.declared.answer.Container.{Container}
+use Rattle.mse_calls.specs.declared.answers.Ready.{Ready}
+use Rattle.byte_stream.specs.Items.{Item, items_of, phase_at, ready_at}
+use Rattle.byte_stream.specs.Streams.{Streaming, last_of}
+use Rattle.byte_stream.specs.Streams as byte_stream
+use Rattle.track_buffers.specs.Media.{Media}
+use Rattle.buffer_state.specs.declared.around.Around.{Around}
+use Rattle.buffer_state.specs.declared.running.Running.{Running}
+use Rattle.buffer_state.specs.declared.running.Running.TheVariants.{Nothing, Append, Removal}
+
+-- What feeds a buffer: the container of its byte stream, the presentation that the last reset left, the string of all
+-- bytes that were appended since that reset (Media Source Extensions, input buffer), how many of its items were taken,
+-- and what runs.
+pub record Feed : Type 0 where
+  pub container : Container
+  pub before : Option Presentation
+  pub whole : List ℕ
+  pub taken : ℕ
+  pub running : Running
+
+-- Its media, and the presentation of the last initialization segment that was taken, or that a reset left.
+pub record Content : Type 0 where
+  pub media : Media
+  pub latest : Option Presentation
+
+-- What a buffer is told of what it does not keep. The position and the quota are told to `append` alone.
+pub record Surroundings : Type 0 where
+  pub number : ℕ
+  pub removed : Bool
+  pub ready : Ready
+  pub error : Bool
+  pub duration : Moment
+
+abbrev pub surroundings : Around → Surroundings
+surroundings a = record { number = a.number; removed = a.removed; ready = a.ready; error = a.error; duration = a.duration }
+
+-- ---- what the code keeps
+
+pub record Kept : Type 0 where
+  pub stream : Streaming
+  pub media : Media
+  pub running : Running
+
+abbrev pub kept : Streaming → Media → Running → Kept
+kept stream media running = record { stream = stream; media = media; running = running }
+
+-- A buffer stands for a feed and a content. Many strings may belong to one buffer.
+pub record Stands (k : Kept) (f : Feed) (c : Content) : Type 0 where
+  pub stream : byte_stream.Stands k.stream f.container f.before f.whole f.taken
+  pub media : k.media ≡ c.media
+  pub latest : last_of k.stream.kept ≡ c.latest
+  pub running : k.running ≡ f.running
+
+-- ---- the feed
+
+-- Media Source Extensions, 3.1, updating
+abbrev pub is_updating : Running → Bool
+is_updating Nothing = false
+is_updating Append = true
+is_updating (Removal start end) = true
+
+abbrev pub is_appending : Running → Bool
+is_appending Nothing = false
+is_appending Append = true
+is_appending (Removal start end) = false
+
+abbrev pub is_removing : Running → Bool
+is_removing Nothing = false
+is_removing Append = false
+is_removing (Removal start end) = true
+
+abbrev pub running_on : Running → Feed → Feed
+running_on running f = record { container = f.container; before = f.before; whole = f.whole; taken = f.taken; running = running }
+
+abbrev pub rested : Feed → Feed
+rested f = running_on Nothing f
+
+-- more bytes at the end of the string (Media Source Extensions, 3.2, appendBuffer)
+abbrev pub fed_with : List ℕ → Feed → Feed
+fed_with bytes f = record { container = f.container; before = f.before; whole = f.whole ++ bytes; taken = f.taken; running = Append }
+
+abbrev pub one_taken : Feed → Feed
+one_taken f = record { container = f.container; before = f.before; whole = f.whole; taken = f.taken + 1; running = f.running }
+
+-- an empty string, read with the presentation that is left (Media Source Extensions, 3.5.2, reset parser state)
+abbrev pub restarted : Container → Option Presentation → Feed
+restarted container before = record { container = container; before = before; whole = []; taken = 0; running = Nothing }
+
+-- the append state, just before the next item
+abbrev pub phase_in : Feed → Phase
+phase_in f = phase_at f.container f.before f.whole f.taken
+
+-- the coded frames that come next, up to the first item that is none
+abbrev pub ready_in : Feed → List CodedFrame
+ready_in f = ready_at f.container f.before f.whole f.taken
+
+abbrev pub next_item : Feed → Option Item
+next_item f = slice_get (items_of f.container f.before f.whole) f.taken

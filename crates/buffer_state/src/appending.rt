@@ -1,0 +1,108 @@
+//! `SourceBuffer.appendBuffer` (Media Source Extensions, 3.2).
+
+ghost use Rattle.std.specs.Prelude.{◌≡◌, ◌+◌, ◌^◌, nat_le, false, length, Some, None, IfOk, OnErr};
+ghost use Rattle.track_buffers.specs.Media.{EndsWithin};
+ghost use Rattle.track_buffers.specs.Frames.{evicted_media, used_in};
+ghost use Rattle.buffer_state.specs.State.{kept, surroundings};
+ghost use Rattle.buffer_state.specs.Replies.{Answers, KeepsEnds, refusal, reopens};
+ghost use Rattle.buffer_state.specs.Calls.{append_evicted, appended};
+
+use crate::around::Around;
+use crate::reply::{Reply, one, quiet, refused, reopens};
+use crate::running::Running;
+use crate::settings_calls::is_locked;
+use byte_stream::ByteStream;
+use mse_base::OutOfMemory;
+use mse_calls::{EventKind, Name};
+use track_buffers::TrackBuffers;
+use track_store::FrameStore;
+
+/// Whether a string of `len` bytes would have `2^62` bytes or more with `more` bytes.
+fn is_too_long(len: u64, more: usize) -> bool
+    ensures { result ≡ nat_le (2 ^ 62) (len + more) }
+{
+    match len.checked_add(more as u64) {
+        Some(total) => total >= 1 << 62,
+        None => true,
+    }
+}
+
+/// Coded frame eviction for an append. It tells how many bytes are stored after it.
+fn evict<S: FrameStore>(media: &mut TrackBuffers<S>, new_bytes: usize, around: &Around) -> u64
+    ensures media { media.new.media
+        ≡ evicted_media around.now.position new_bytes around.now.quota around.now.duration
+        media.old.media }
+    ensures used { result ≡ used_in media.new.media }
+    ensures ends { EndsWithin around.now.duration media.old.media.tracks
+        → EndsWithin around.now.duration media.new.media.tracks }
+{
+    let more = new_bytes as u64;
+    media.evict(around.position, more, around.quota, around.duration);
+    media.used()
+}
+
+fn refuse_full(around: &Around) -> Reply
+    ensures { result ≡ refusal Name.QuotaExceeded (reopens around.now.ready) around.now.duration }
+{
+    refused(Name::QuotaExceeded, reopens(around.ready), &around.duration)
+}
+
+/// Evicts, and then takes the bytes that are offered or declines them.
+fn settle<S: FrameStore>(
+    stream: &mut ByteStream,
+    media: &mut TrackBuffers<S>,
+    running: &mut Running,
+    bytes: &[u8],
+    around: &Around,
+) -> Reply
+    requires offered { stream.old.offered ≡ Some bytes.now }
+    requires short { nat_le (2 ^ 62) (stream.old.fed + length bytes.now) ≡ false }
+    ensures answered { Answers (kept stream.old media.old.media running.old) result
+        (kept stream.new media.new.media running.new)
+        (append_evicted bytes.now around.now.position around.now.quota
+        (surroundings around.now)) }
+    ensures ends { KeepsEnds around.now.duration media.old.media result media.new.media }
+    ensures few { result.duration_changes ≡ 0 }
+    ensures idle { stream.new.offered ≡ None }
+{
+    let used = evict(media, bytes.len(), around);
+    if used >= around.quota {
+        stream.decline();
+        return refuse_full(around);
+    }
+    stream.accept();
+    *running = Running::Append;
+    let reopened = reopens(around.ready);
+    quiet(reopened, &around.duration, one(EventKind::UpdateStart))
+}
+
+/// Begins an append of bytes.
+pub(crate) fn append<S: FrameStore>(
+    stream: &mut ByteStream,
+    media: &mut TrackBuffers<S>,
+    running: &mut Running,
+    bytes: &[u8],
+    around: &Around,
+) -> Result<Reply, OutOfMemory>
+    requires { stream.old.offered ≡ None }
+    ensures answered { IfOk result (λ reply. Answers
+        (kept stream.old media.old.media running.old) reply
+        (kept stream.new media.new.media running.new)
+        (appended bytes.now around.now.position around.now.quota (surroundings around.now))) }
+    ensures ends { IfOk result
+        (λ reply. KeepsEnds around.now.duration media.old.media reply media.new.media) }
+    ensures few { IfOk result (λ reply. reply.duration_changes ≡ 0) }
+    ensures idle { stream.new.offered ≡ None }
+    ensures err { OnErr result (kept stream.new media.new.media running.new
+        ≡ kept stream.old media.old.media running.old) }
+{
+    if is_locked(around, running) || around.error {
+        return Ok(refused(Name::InvalidState, false, &around.duration));
+    }
+    if is_too_long(stream.len(), bytes.len()) {
+        let _used = evict(media, bytes.len(), around);
+        return Ok(refuse_full(around));
+    }
+    stream.offer(bytes)?;
+    Ok(settle(stream, media, running, bytes, around))
+}

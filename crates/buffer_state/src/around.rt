@@ -1,0 +1,22 @@
+use mse_base::{Moment, Ticks};
+use mse_calls::Ready;
+
+/// What a source buffer is told of what it does not keep itself.
+#[derive(Clone, Copy, Debug, PartialEq, Eq)]
+pub struct Around {
+    /// The number that the buffer was made with.
+    pub number: u32,
+    /// Whether it is no more in the list of source buffers.
+    pub removed: bool,
+    /// The state of the source.
+    pub ready: Ready,
+    /// Whether the element has an error.
+    pub error: bool,
+    /// The duration of the source.
+    pub duration: Moment,
+    /// The playback position. Only an append looks at it.
+    pub position: Ticks,
+    /// How many bytes the coded frames of a buffer may have, of which at most one append goes
+    /// beyond. Only an append looks at it.
+    pub quota: u64,
+}

@@ -1,0 +1,328 @@
+ghost use Rattle.std.specs.Prelude.{◌≡◌, ◌+◌, ◌<◌, ◌≤◌, ◌^◌, ℕ, ℤ, pos, ◌≤ℤ◌, not, [], length, Option, None, Some, IfOk, OnErr};
+ghost use Rattle.std.specs.List.{AllByRecursion};
+ghost use Rattle.track_store.specs.Kept.{AreKept};
+ghost use Rattle.track_store.specs.Sound.{Sound};
+ghost use Rattle.track_store.specs.State.{states_of};
+ghost use Rattle.track_buffers.specs.Settings.{new_media};
+ghost use Rattle.track_buffers.specs.Media.{awaits_first};
+ghost use Rattle.track_buffers.specs.Frames.{used_in, highest_start_in, highest_end_in};
+ghost use Rattle.track_buffers.specs.Buffered.{buffered_of};
+ghost use Rattle.buffer_state.specs.State.{Feed, Content, Kept, Stands, surroundings, restarted, phase_in, ready_in, is_updating};
+ghost use Rattle.buffer_state.specs.Replies.{Answers, KeepsEnds, TurnedAs, TurnKeepsEnds, changes_of};
+ghost use Rattle.buffer_state.specs.Turns.{turn};
+ghost use Rattle.buffer_state.specs.Calls.{is_adts, mode_set, offset_set, window_start_set, window_end_set, removal_begun, appended, aborted, type_changed, work_ended, buffer_view};
+ghost use Rattle.buffer_state.specs.Left.{IsFewer, IsIdle};
+ghost use Rattle.byte_stream.specs.Items.{held_at};
+ghost use Rattle.byte_stream.specs.Streams.{StandsForSome, ready_of};
+
+use crate::around::Around;
+use crate::reply::{Reply, Turned};
+use crate::running::Running;
+use crate::{appending, removal, resets, settings_calls, turns};
+use byte_stream::{ByteStream, Container};
+use mse_base::{Moment, OutOfMemory, Phase, Ranges, Ticks};
+use mse_calls::{BufferView, Changes, Mode, TimeRanges};
+use std::alloc::Global;
+use std::marker::Model;
+use track_buffers::TrackBuffers;
+use track_store::{FrameStore, Tracks};
+
+/// A source buffer over a store of frames.
+#[derive(Drop)]
+pub struct Buffer<S: FrameStore> {
+    alloc: Global,
+    stream: ByteStream,
+    media: TrackBuffers<S>,
+    running: Running,
+}
+
+impl<S: FrameStore> Model for Buffer<S> {
+    ghost use Rattle.std.specs.Prelude.{◌≡◌, None};
+    ghost use Rattle.buffer_state.specs.State.{Kept};
+
+    ghost Value = { Kept };
+
+    ghost view = { λ b. record { stream = b.stream; media = b.media.media; running = b.running } };
+
+    ghost invariant = { λ b. b.stream.offered ≡ None };
+}
+
+impl<S: FrameStore> Buffer<S> {
+    /// A buffer of a container that has received nothing, whose ranges join across gaps of at most
+    /// `gap` ticks. It takes no memory.
+    pub fn new(alloc: Global, gap: Ticks, container: Container) -> Self
+        requires { pos 0 ≤ℤ gap }
+        ensures { Stands result (restarted container None)
+            (record { media = new_media gap (is_adts container); latest = None }) }
+    {
+        Buffer {
+            alloc,
+            stream: ByteStream::new(alloc, container),
+            media: TrackBuffers::new(alloc, gap, resets::is_adts(container)),
+            running: Running::Nothing,
+        }
+    }
+
+    /// Sets `mode`.
+    pub fn set_mode(&mut self, mode: Mode, around: &Around) -> Reply
+        ensures answered { Answers self.old result self.new
+            (mode_set mode (surroundings around.now)) }
+        ensures ends { KeepsEnds around.now.duration self.old.media result self.new.media }
+        ensures few { result.duration_changes ≡ 0 }
+    {
+        settings_calls::set_mode(&self.stream, &mut self.media, &self.running, mode, around)
+    }
+
+    /// Sets `timestampOffset`.
+    pub fn set_offset(&mut self, t: Ticks, around: &Around) -> Reply
+        ensures answered { Answers self.old result self.new
+            (offset_set t (surroundings around.now)) }
+        ensures ends { KeepsEnds around.now.duration self.old.media result self.new.media }
+        ensures few { result.duration_changes ≡ 0 }
+    {
+        settings_calls::set_offset(&self.stream, &mut self.media, &self.running, t, around)
+    }
+
+    /// Sets `appendWindowStart`.
+    pub fn set_window_start(&mut self, t: Ticks, around: &Around) -> Reply
+        ensures answered { Answers self.old result self.new
+            (window_start_set t (surroundings around.now)) }
+        ensures ends { KeepsEnds around.now.duration self.old.media result self.new.media }
+        ensures few { result.duration_changes ≡ 0 }
+    {
+        settings_calls::set_window_start(&self.stream, &mut self.media, &self.running, t, around)
+    }
+
+    /// Sets `appendWindowEnd`.
+    pub fn set_window_end(&mut self, t: Moment, around: &Around) -> Reply
+        ensures answered { Answers self.old result self.new
+            (window_end_set t (surroundings around.now)) }
+        ensures ends { KeepsEnds around.now.duration self.old.media result self.new.media }
+        ensures few { result.duration_changes ≡ 0 }
+    {
+        settings_calls::set_window_end(&self.stream, &mut self.media, &self.running, t, around)
+    }
+
+    /// `remove`: begins a removal.
+    pub fn remove(&mut self, start: Ticks, end: Moment, around: &Around) -> Reply
+        ensures answered { Answers self.old result self.new
+            (removal_begun start end (surroundings around.now)) }
+        ensures ends { KeepsEnds around.now.duration self.old.media result self.new.media }
+        ensures few { result.duration_changes ≡ 0 }
+    {
+        removal::remove(&mut self.running, start, end, around)
+    }
+
+    /// `appendBuffer`: begins an append. It takes its memory first; an `Err` changes nothing.
+    pub fn append(&mut self, bytes: &[u8], around: &Around) -> Result<Reply, OutOfMemory>
+        ensures answered { IfOk result (λ reply. Answers self.old reply self.new
+            (appended bytes.now around.now.position around.now.quota (surroundings around.now))) }
+        ensures ends { IfOk result
+            (λ reply. KeepsEnds around.now.duration self.old.media reply self.new.media) }
+        ensures few { IfOk result (λ reply. reply.duration_changes ≡ 0) }
+        ensures err { OnErr result (self.new ≡ self.old) }
+    {
+        appending::append(
+            &mut self.stream,
+            &mut self.media,
+            &mut self.running,
+            bytes,
+            around,
+        )
+    }
+
+    /// `abort`. It takes its memory first; an `Err` changes nothing.
+    pub fn abort(&mut self, around: &Around) -> Result<Reply, OutOfMemory>
+        ensures answered { IfOk result (λ reply. Answers self.old reply self.new
+            (aborted (surroundings around.now))) }
+        ensures ends { IfOk result
+            (λ reply. KeepsEnds around.now.duration self.old.media reply self.new.media) }
+        ensures few { IfOk result
+            (λ reply. reply.duration_changes ≤ ready_of self.old.stream.kept) }
+        ensures err { OnErr result (self.new ≡ self.old) }
+    {
+        resets::abort(
+            self.alloc,
+            &mut self.stream,
+            &mut self.media,
+            &mut self.running,
+            around,
+        )
+    }
+
+    /// `changeType`, with the new type. It takes its memory first; an `Err` changes nothing.
+    pub fn change_type(&mut self, text: &str, around: &Around) -> Result<Reply, OutOfMemory>
+        ensures answered { IfOk result (λ reply. Answers self.old reply self.new
+            (type_changed text.now (surroundings around.now))) }
+        ensures ends { IfOk result
+            (λ reply. KeepsEnds around.now.duration self.old.media reply self.new.media) }
+        ensures few { IfOk result
+            (λ reply. reply.duration_changes ≤ ready_of self.old.stream.kept) }
+        ensures err { OnErr result (self.new ≡ self.old) }
+    {
+        resets::change_type(
+            self.alloc,
+            &mut self.stream,
+            &mut self.media,
+            &self.running,
+            text,
+            around,
+        )
+    }
+
+    /// Ends running work, as when the buffer is removed from the list of source buffers. It tells
+    /// the events that are fired at the buffer.
+    pub fn end_work(&mut self) -> Changes
+        ensures events { (f : Feed) (c : Content) → Stands self.old f c
+            → result ≡ (work_ended f).events }
+        ensures stands { (f : Feed) (c : Content) → Stands self.old f c
+            → Stands self.new (work_ended f).feed c }
+        ensures media { self.new.media ≡ self.old.media }
+    {
+        let events = resets::abort_events(self.running.is_updating());
+        self.running = Running::Nothing;
+        events
+    }
+
+    /// One step of the work that runs: the next item of an append or its end, or the whole of a
+    /// removal. It takes its memory first; an `Err` changes nothing.
+    pub fn turn(&mut self, around: &Around) -> Result<Turned, OutOfMemory>
+        ensures turned { (f : Feed) (c : Content) → Stands self.old f c
+            → IfOk result (λ turned. TurnedAs turned self.new
+            (turn (surroundings around.now) f c)) }
+        ensures idle { IfOk result (λ turned. IsIdle turned self.old self.new) }
+        ensures fewer { IfOk result (λ turned. IsFewer turned self.old self.new) }
+        ensures few { IfOk result (λ turned. changes_of turned ≤ 1) }
+        ensures ends { IfOk result
+            (λ turned. TurnKeepsEnds around.now.duration self.old.media turned self.new.media) }
+        ensures err { OnErr result (self.new ≡ self.old) }
+    {
+        match &self.running {
+            Running::Nothing => Ok(Turned::Idle),
+            Running::Append => {
+                let reply = turns::append_turn(
+                    &mut self.stream,
+                    &mut self.media,
+                    &mut self.running,
+                    around,
+                )?;
+                Ok(Turned::Did(reply))
+            }
+            Running::Removal { start, end } => {
+                let (start, end) = (*start, *end);
+                let reply = turns::removal_turn(
+                    &mut self.media,
+                    &mut self.running,
+                    start,
+                    end,
+                    around,
+                );
+                Ok(Turned::Did(reply))
+            }
+        }
+    }
+
+    /// What is buffered (Media Source Extensions, 3.1, `buffered`), where the source is ended or
+    /// not.
+    pub fn buffered(&self, ended: bool) -> Result<Ranges, OutOfMemory>
+        ensures { IfOk result (λ ranges. ranges.spans ≡ buffered_of ended self.now.media) }
+    {
+        self.media.buffered(ended)
+    }
+
+    /// Whether an append or a removal runs.
+    pub fn updating(&self) -> bool
+        ensures { result ≡ is_updating self.now.running }
+    {
+        self.running.is_updating()
+    }
+
+    /// Whether the first initialization segment was received.
+    pub fn has_init(&self) -> bool
+        ensures { result ≡ not (awaits_first self.now.media) }
+    {
+        !self.media.awaits_first()
+    }
+
+    /// Where the segment parser loop is (Media Source Extensions, append state).
+    pub fn phase(&self) -> Phase
+        ensures { (f : Feed) (c : Content) → Stands self.now f c → result ≡ phase_in f }
+    {
+        self.stream.phase()
+    }
+
+    /// How many of the next items are coded frames, up to the first that is none.
+    pub fn ready_frames(&self) -> usize
+        ensures kept { result ≡ ready_of self.now.stream.kept }
+        ensures ready { (f : Feed) (c : Content) → Stands self.now f c
+            → result ≡ length (ready_in f) }
+    {
+        self.stream.ready_frames()
+    }
+
+    /// How many bytes of the string are held in memory.
+    pub fn held_len(&self) -> usize
+        ensures { (f : Feed) (c : Content) → Stands self.now f c
+            → result ≡ length (held_at f.container f.before f.whole f.taken) }
+    {
+        self.stream.held_len()
+    }
+
+    /// How many bytes the stored frames have.
+    pub fn used(&self) -> u64
+        ensures value { result ≡ used_in self.now.media }
+        ensures small { result < 2 ^ 62 }
+    {
+        self.media.used()
+    }
+
+    /// The greatest presentation timestamp of all tracks; `None` exactly where no frame is stored.
+    pub fn highest_start(&self) -> Option<Ticks>
+        ensures { result ≡ highest_start_in self.now.media }
+    {
+        self.media.highest_start()
+    }
+
+    /// The greatest frame end timestamp of all tracks; `None` exactly where no frame is stored.
+    pub fn highest_end(&self) -> Option<Ticks>
+        ensures { result ≡ highest_end_in self.now.media }
+    {
+        self.media.highest_end()
+    }
+
+    /// The tracks with their track buffers, in order of the first initialization segment.
+    pub fn tracks(&self) -> &Tracks<S>
+        ensures { states_of S.frames result.now.items ≡ self.now.media.tracks }
+    {
+        self.media.tracks()
+    }
+
+    /// Each track buffer is sound: each frame that it holds is a random access point, or the frame
+    /// received just before it is held too. And the bytes of all can be counted, and the buffer
+    /// stands for some string.
+    pub fn sound(&self)
+        ensures kept { AreKept self.now.media.tracks }
+        ensures sound { AllByRecursion Sound self.now.media.tracks }
+        ensures stands { StandsForSome self.now.stream }
+    {
+        self.stream.stands();
+        self.media.sound();
+    }
+
+    /// What the closing lines show of the buffer, where the source is ended or not.
+    pub fn view(&self, number: u32, ended: bool) -> Result<BufferView, OutOfMemory>
+        ensures { IfOk result (λ view. (f : Feed) (c : Content) → Stands self.now f c
+            → view ≡ buffer_view number ended f c) }
+    {
+        let ranges = self.media.buffered(ended)?;
+        let tracks = self.media.track_views()?;
+        Ok(BufferView {
+            number,
+            phase: self.stream.phase(),
+            held: self.stream.held_len() as u64,
+            used: self.media.used(),
+            ranges: TimeRanges::new(ranges),
+            tracks,
+        })
+    }
+}

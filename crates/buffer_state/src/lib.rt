@@ -1,0 +1,33 @@
+//! A source buffer (Media Source Extensions, `SourceBuffer`): its byte stream joined with its
+//! media. Each call and each step of running work is one function of what feeds the buffer and of
+//! what it holds.
+//!
+//! It stands on `byte_stream`, which gives items, and on `track_buffers`, which takes them. Its
+//! main contract is that of [`Buffer`]: for every string of bytes that the buffer stands for, a
+//! call answers and leaves what the rows of `specs/Calls.antt` say, and a step of running work what
+//! `turn` of `specs/Turns.antt` says of the next item of the whole string, in whatever pieces it
+//! came. Where there is no memory the buffer is as before.
+#![tactic(auto)]
+
+mod appending;
+mod around;
+mod buffer;
+mod faults;
+pub mod laws;
+mod removal;
+mod reply;
+mod resets;
+mod running;
+mod settings_calls;
+mod turns;
+
+pub use around::Around;
+pub use buffer::Buffer;
+pub use byte_stream::{ByteFault, Container};
+pub use faults::Fault;
+pub use reply::{Reply, Turned};
+pub use running::Running;
+pub use track_buffers::MediaFault;
+
+#[cfg(test)]
+mod tests;

@@ -1,0 +1,200 @@
+//! Reset parser state (Media Source Extensions, 3.5.2), for `abort` and `changeType`.
+
+ghost use Rattle.std.specs.Prelude.{◌≡◌, ◌≤◌, ◌≤ℤ◌, pos, ℕ, List, length, Option, None, IfOk, OnErr};
+ghost use Rattle.std.specs.List.{AllByRecursion};
+ghost use Rattle.mse_base.specs.declared.track.Presentation.{Presentation};
+ghost use Rattle.mse_types.specs.declared.answer.Container.{Container};
+ghost use Rattle.byte_stream.specs.Items.{ready_at};
+ghost use Rattle.byte_stream.specs.Streams.{Stands as StreamStands, ready_of, seen};
+ghost use Rattle.track_buffers.specs.Media.{EndsWithin};
+ghost use Rattle.track_buffers.specs.Frames.{flushed};
+ghost use Rattle.buffer_state.specs.State.{kept, ready_in, surroundings};
+ghost use Rattle.buffer_state.specs.Replies.{Answers, KeepsEnds, is_open};
+ghost use Rattle.buffer_state.specs.Calls.{aborted, abort_events, is_adts, type_changed, type_flushed};
+ghost use Rattle.buffer_state.specs.Steps.{frame_in};
+
+use crate::around::Around;
+use crate::reply::{Reply, refused, reopens, replied, two};
+use crate::running::Running;
+use crate::settings_calls::is_locked;
+use byte_stream::{ByteStream, Container, Next};
+use mse_base::{CodedFrame, Moment, OutOfMemory};
+use mse_calls::{Changes, EventKind, Name, Ready};
+use mse_types::{TypeAnswer, read_type};
+use std::alloc::Global;
+use track_buffers::{Brought, TrackBuffers};
+use track_store::FrameStore;
+
+/// The coded frame of an item, if it is one.
+fn frame_of(next: Next) -> Option<CodedFrame>
+    ensures { result ≡ frame_in (seen next) }
+{
+    match next {
+        Next::Frame(frame, _) => Some(frame),
+        Next::Init(_, _) | Next::SegmentEnd | Next::Fault { .. } | Next::Dry => None,
+    }
+}
+
+/// The coded frames that come next, up to the first item that is none.
+fn ready_frames(alloc: Global, stream: &ByteStream) -> Result<Vec<CodedFrame>, OutOfMemory>
+    requires { stream.now.offered ≡ None }
+    ensures frames { IfOk result (λ frames. (container : Container) (before : Option Presentation)
+        (whole : List ℕ) (n : ℕ) → StreamStands stream.now container before whole n
+        → frames.items ≡ ready_at container before whole n) }
+    ensures few { IfOk result (λ frames. length frames.items ≤ ready_of stream.now.kept) }
+    ensures lasting { IfOk result (λ frames. AllByRecursion (λ f. pos 0 ≤ℤ f.dur) frames.items) }
+{
+    let mut frames = Vec::new(alloc);
+    for i in 0..stream.ready_frames() {
+        let next = stream.look(i)?;
+        match frame_of(next) {
+            Some(frame) => frames.push(frame)?,
+            None => {}
+        }
+    }
+    Ok(frames)
+}
+
+/// Processes the coded frames that are ready. It takes its memory first.
+fn flush<S: FrameStore>(
+    alloc: Global,
+    stream: &ByteStream,
+    media: &mut TrackBuffers<S>,
+    duration: Moment,
+) -> Result<Brought, OutOfMemory>
+    requires { stream.now.offered ≡ None }
+    ensures flushed { IfOk result (λ brought. (container : Container)
+        (before : Option Presentation) (whole : List ℕ) (n : ℕ)
+        → StreamStands stream.now container before whole n
+        → flushed (ready_at container before whole n) media.old.media duration ≡
+        record { media = media.new.media; brought = brought }) }
+    ensures ends { IfOk result (λ brought. EndsWithin duration media.old.media.tracks
+        → EndsWithin brought.duration media.new.media.tracks) }
+    ensures few { IfOk result (λ brought. brought.changes ≤ ready_of stream.now.kept) }
+    ensures err { OnErr result (media.new.media ≡ media.old.media) }
+{
+    let frames = ready_frames(alloc, stream)?;
+    media.reserve_frames(frames.len())?;
+    Ok(media.flush(frames, duration))
+}
+
+/// What is fired where an append is aborted.
+pub(crate) fn abort_events(appending: bool) -> Changes
+    ensures { result ≡ abort_events appending }
+{
+    if appending {
+        two(EventKind::Abort, EventKind::UpdateEnd)
+    } else {
+        Changes::new()
+    }
+}
+
+fn is_open(ready: Ready) -> bool
+    ensures { result ≡ is_open ready }
+{
+    match ready {
+        Ready::Opened => true,
+        Ready::Closed | Ready::Ended => false,
+    }
+}
+
+/// `SourceBuffer.abort`.
+pub(crate) fn abort<S: FrameStore>(
+    alloc: Global,
+    stream: &mut ByteStream,
+    media: &mut TrackBuffers<S>,
+    running: &mut Running,
+    around: &Around,
+) -> Result<Reply, OutOfMemory>
+    requires { stream.old.offered ≡ None }
+    ensures answered { IfOk result (λ reply. Answers
+        (kept stream.old media.old.media running.old) reply
+        (kept stream.new media.new.media running.new) (aborted (surroundings around.now))) }
+    ensures ends { IfOk result
+        (λ reply. KeepsEnds around.now.duration media.old.media reply media.new.media) }
+    ensures few { IfOk result (λ reply. reply.duration_changes ≤ ready_of stream.old.kept) }
+    ensures idle { stream.new.offered ≡ None }
+    ensures err { OnErr result (kept stream.new media.new.media running.new
+        ≡ kept stream.old media.old.media running.old) }
+{
+    if around.removed || !is_open(around.ready) || running.is_removing() {
+        return Ok(refused(Name::InvalidState, false, &around.duration));
+    }
+    let brought = flush(alloc, stream, media, around.duration)?;
+    let events = abort_events(running.is_appending());
+    media.reset_parser();
+    media.reset_window();
+    stream.reset();
+    *running = Running::Nothing;
+    Ok(replied(false, brought, None, events))
+}
+
+pub(crate) fn is_adts(container: Container) -> bool
+    ensures { result ≡ is_adts container }
+{
+    match container {
+        Container::Mp4 => false,
+        Container::Adts => true,
+    }
+}
+
+fn take_type<S: FrameStore>(
+    alloc: Global,
+    stream: &mut ByteStream,
+    media: &mut TrackBuffers<S>,
+    container: Container,
+    around: &Around,
+) -> Result<Reply, OutOfMemory>
+    requires { stream.old.offered ≡ None }
+    ensures answered { IfOk result (λ reply. Answers
+        (kept stream.old media.old.media Running.Nothing) reply
+        (kept stream.new media.new.media Running.Nothing) (λ f c. type_flushed container
+        (flushed (ready_in f) c.media around.now.duration) (surroundings around.now))) }
+    ensures ends { IfOk result
+        (λ reply. KeepsEnds around.now.duration media.old.media reply media.new.media) }
+    ensures few { IfOk result (λ reply. reply.duration_changes ≤ ready_of stream.old.kept) }
+    ensures idle { stream.new.offered ≡ None }
+    ensures err { OnErr result ((stream.new ≡ stream.old) × (media.new.media ≡ media.old.media)) }
+{
+    let done = flush(alloc, stream, media, around.duration)?;
+    media.reset_parser();
+    media.change_container(is_adts(container));
+    stream.restart(container);
+    Ok(replied(reopens(around.ready), done, None, Changes::new()))
+}
+
+/// `SourceBuffer.changeType`.
+pub(crate) fn change_type<S: FrameStore>(
+    alloc: Global,
+    stream: &mut ByteStream,
+    media: &mut TrackBuffers<S>,
+    running: &Running,
+    text: &str,
+    around: &Around,
+) -> Result<Reply, OutOfMemory>
+    requires { stream.old.offered ≡ None }
+    ensures answered { IfOk result (λ reply. Answers
+        (kept stream.old media.old.media running.now) reply
+        (kept stream.new media.new.media running.now) (type_changed text.now
+        (surroundings around.now))) }
+    ensures ends { IfOk result
+        (λ reply. KeepsEnds around.now.duration media.old.media reply media.new.media) }
+    ensures few { IfOk result (λ reply. reply.duration_changes ≤ ready_of stream.old.kept) }
+    ensures idle { stream.new.offered ≡ None }
+    ensures err { OnErr result (kept stream.new media.new.media running.now
+        ≡ kept stream.old media.old.media running.now) }
+{
+    let answer = read_type(text);
+    if let TypeAnswer::Empty = answer {
+        return Ok(refused(Name::TypeError, false, &around.duration));
+    }
+    if is_locked(around, running) {
+        return Ok(refused(Name::InvalidState, false, &around.duration));
+    }
+    match answer {
+        TypeAnswer::Supported(container) => take_type(alloc, stream, media, container, around),
+        TypeAnswer::Empty | TypeAnswer::Unsupported => {
+            Ok(refused(Name::NotSupported, false, &around.duration))
+        }
+    }
+}

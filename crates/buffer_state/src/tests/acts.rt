@@ -1,0 +1,272 @@
+//! Calls and turns as data, and what is heard of them.
+
+use crate::{Around, Buffer, Container, Reply, Turned};
+use mse_base::{Moment, OutOfMemory, Phase, Ticks};
+use mse_calls::{EventKind, FaultView, Mode, Name, Ready};
+use std::alloc::Global;
+use std::test::Fail;
+use track_store::ListStore;
+
+/// A call on a buffer, a step of its work, or a change of what it is told. Times are in ticks.
+#[derive(Clone, Copy)]
+pub(super) enum Act {
+    /// Appends the bytes from one place of a file to another.
+    Append(usize, usize),
+    /// One step.
+    Turn,
+    /// All steps.
+    Drain,
+    Abort,
+    Type(&'static str),
+    Mode(Mode),
+    Offset(i128),
+    WindowStart(i128),
+    WindowEnd(i128),
+    /// Removes from a time on.
+    Remove(i128),
+    EndWork,
+    /// The source has a duration.
+    Duration(i128),
+    /// The source is ended.
+    Ended,
+}
+
+/// What is heard of an act.
+#[derive(Clone, Copy, Debug, PartialEq, Eq)]
+pub(super) struct Heard {
+    pub(super) refused: Option<Name>,
+    pub(super) reopened: bool,
+    pub(super) changes: u64,
+    pub(super) activated: bool,
+    /// The number of a fault, and its offset.
+    pub(super) fault: (u8, u64),
+    pub(super) events: (Option<EventKind>, Option<EventKind>),
+}
+
+/// Nothing is heard.
+pub(super) fn quiet() -> Heard {
+    Heard {
+        refused: None,
+        reopened: false,
+        changes: 0,
+        activated: false,
+        fault: (0, 0),
+        events: (None, None),
+    }
+}
+
+/// A buffer, with what it is told.
+#[derive(Drop)]
+pub(super) struct Scene {
+    buffer: Buffer<ListStore>,
+    around: Around,
+}
+
+pub(super) fn new_scene(alloc: Global, container: Container, quota: u64) -> Scene {
+    Scene {
+        buffer: Buffer::new(alloc, Ticks::zero(), container),
+        around: Around {
+            number: 0,
+            removed: false,
+            ready: Ready::Opened,
+            error: false,
+            duration: Moment::Nan,
+            position: Ticks::zero(),
+            quota,
+        },
+    }
+}
+
+fn time(t: i128) -> Result<Ticks, Fail> {
+    Ok(Ticks::new(t).ok_or("no time")?)
+}
+
+fn shown(fault: &Option<FaultView>) -> (u8, u64) {
+    match fault {
+        Some(view) => (view.number, view.offset),
+        None => (0, 0),
+    }
+}
+
+fn hear(reply: &Reply) -> Heard {
+    Heard {
+        refused: reply.refused,
+        reopened: reply.reopened,
+        changes: reply.duration_changes,
+        activated: reply.activated,
+        fault: shown(&reply.fault),
+        events: (reply.events.get(0), reply.events.get(1)),
+    }
+}
+
+/// What is heard of two things, one after the other: the events of the second.
+fn then(first: &Heard, second: &Heard) -> Heard {
+    Heard {
+        refused: second.refused,
+        reopened: first.reopened || second.reopened,
+        changes: first.changes.saturating_add(second.changes),
+        activated: first.activated || second.activated,
+        fault: if second.fault.0 == 0 {
+            first.fault
+        } else {
+            second.fault
+        },
+        events: second.events,
+    }
+}
+
+fn append(scene: &mut Scene, bytes: &[u8], from: usize, to: usize) -> Result<Heard, Fail> {
+    let part = bytes.get(from..to).ok_or("no such part")?;
+    let reply = scene.buffer.append(part, &scene.around)?;
+    Ok(hear(&reply))
+}
+
+fn turn(scene: &mut Scene) -> Result<Option<Heard>, OutOfMemory> {
+    match scene.buffer.turn(&scene.around)? {
+        Turned::Did(reply) => {
+            scene.around.duration = reply.duration;
+            Ok(Some(hear(&reply)))
+        }
+        Turned::Idle => Ok(None),
+    }
+}
+
+fn drain(scene: &mut Scene) -> Result<Heard, OutOfMemory> {
+    let mut all = quiet();
+    for _ in 0..40 {
+        match turn(scene)? {
+            Some(more) => all = then(&all, &more),
+            None => return Ok(all),
+        }
+    }
+    Ok(all)
+}
+
+fn abort(scene: &mut Scene) -> Result<Heard, OutOfMemory> {
+    let reply = scene.buffer.abort(&scene.around)?;
+    Ok(hear(&reply))
+}
+
+fn change_type(scene: &mut Scene, text: &str) -> Result<Heard, OutOfMemory> {
+    let reply = scene.buffer.change_type(text, &scene.around)?;
+    Ok(hear(&reply))
+}
+
+fn set_mode(scene: &mut Scene, mode: Mode) -> Heard {
+    hear(&scene.buffer.set_mode(mode, &scene.around))
+}
+
+fn set_offset(scene: &mut Scene, t: Ticks) -> Heard {
+    hear(&scene.buffer.set_offset(t, &scene.around))
+}
+
+fn set_window_start(scene: &mut Scene, t: Ticks) -> Heard {
+    hear(&scene.buffer.set_window_start(t, &scene.around))
+}
+
+fn set_window_end(scene: &mut Scene, t: Ticks) -> Heard {
+    hear(&scene.buffer.set_window_end(Moment::At(t), &scene.around))
+}
+
+fn remove(scene: &mut Scene, from: Ticks) -> Heard {
+    hear(&scene.buffer.remove(from, Moment::Infinite, &scene.around))
+}
+
+fn end_work(scene: &mut Scene) -> Heard {
+    let events = scene.buffer.end_work();
+    Heard {
+        events: (events.get(0), events.get(1)),
+        ..quiet()
+    }
+}
+
+/// Does it, with the bytes of a file.
+pub(super) fn perform(scene: &mut Scene, bytes: &[u8], act: Act) -> Result<Heard, Fail> {
+    match act {
+        Act::Append(from, to) => append(scene, bytes, from, to),
+        Act::Turn => Ok(turn(scene)?.ok_or("nothing runs")?),
+        Act::Drain => Ok(drain(scene)?),
+        Act::Abort => Ok(abort(scene)?),
+        Act::Type(text) => Ok(change_type(scene, text)?),
+        Act::Mode(mode) => Ok(set_mode(scene, mode)),
+        Act::Offset(t) => Ok(set_offset(scene, time(t)?)),
+        Act::WindowStart(t) => Ok(set_window_start(scene, time(t)?)),
+        Act::WindowEnd(t) => Ok(set_window_end(scene, time(t)?)),
+        Act::Remove(t) => Ok(remove(scene, time(t)?)),
+        Act::EndWork => Ok(end_work(scene)),
+        Act::Duration(t) => {
+            scene.around.duration = Moment::At(time(t)?);
+            Ok(quiet())
+        }
+        Act::Ended => {
+            scene.around.ready = Ready::Ended;
+            Ok(quiet())
+        }
+    }
+}
+
+/// What a buffer shows.
+#[derive(Clone, Copy, Debug, PartialEq, Eq)]
+pub(super) struct State {
+    pub(super) phase: Phase,
+    pub(super) held: u64,
+    pub(super) used: u64,
+    /// How many frames the first track has.
+    pub(super) frames: u64,
+    pub(super) ranges: usize,
+    /// Where the first range ends.
+    pub(super) end: i128,
+}
+
+/// What the buffer shows, where the source is ended or not.
+pub(super) fn show(scene: &Scene, ended: bool) -> Result<State, OutOfMemory> {
+    let view = scene.buffer.view(0, ended)?;
+    Ok(State {
+        phase: view.phase,
+        held: view.held,
+        used: view.used,
+        frames: match view.tracks.get(0) {
+            Some(track) => track.frames,
+            None => 0,
+        },
+        ranges: view.ranges.len(),
+        end: match view.ranges.get(0) {
+            Some(range) => range.end.get(),
+            None => 0,
+        },
+    })
+}
+
+/// The number and the codec of the first track.
+pub(super) fn first_track(scene: &Scene) -> Option<(u32, [u8; 4])> {
+    let track = scene.buffer.tracks().get(0)?;
+    Some((track.id, track.codec))
+}
+
+/// What the buffer tells beside its view: whether work runs, whether an initialization segment came, the phase, the
+/// frames that are ready, the bytes held and used, and where the last frame begins and ends.
+pub(super) fn told(scene: &Scene) -> (bool, bool, Phase, usize, usize, u64, i128, i128) {
+    let buffer = &scene.buffer;
+    (
+        buffer.updating(),
+        buffer.has_init(),
+        buffer.phase(),
+        buffer.ready_frames(),
+        buffer.held_len(),
+        buffer.used(),
+        number(buffer.highest_start()),
+        number(buffer.highest_end()),
+    )
+}
+
+fn number(t: Option<Ticks>) -> i128 {
+    match t {
+        Some(t) => t.get(),
+        None => -1,
+    }
+}
+
+/// How many ranges are buffered.
+pub(super) fn range_count(scene: &Scene) -> Result<usize, OutOfMemory> {
+    Ok(scene.buffer.buffered(true)?.len())
+}
