@@ -1,9 +1,7 @@
-pub mod Entries
-pub mod Files
-pub mod Fronts
-pub mod Loops
+pub mod Appending
+pub mod Hearing
+pub mod Numbers
 pub mod Runs
-pub mod Segments
-pub mod Sounding
-pub mod Times
+pub mod Strings
+pub mod Working
 pub mod Writing

@@ -1,37 +1,29 @@
 -- How a run ends, by how its work ended.
-use Rattle.std.proofs.Common.{◌≡◌, ◌∙◌, ℕ, List, [], ◌∷◌, ◌++◌, Option, Result, Ok, Err, ap, append-nil, subst, refl, sym, inl, inr}
-use Rattle.std.specs.Prelude.{◌⊎◌, OnOk, OnErr, IfErr}
-use Rattle.mse_outside.specs.Outside.{Rose}
+use Rattle.std.proofs.Common.{◌≡◌, ◌∙◌, ℕ, List, [], ◌∷◌, ◌++◌, Bool, true, false, Option, Some, None, Err, ap, append-nil, subst, refl, sym, inl, inr}
+use Rattle.std.specs.Prelude.{◌⊎◌, IfSome, IsSome, is_some}
+use Rattle.mse_outside.specs.Outside.{Table, Rose}
 use Rattle.mseplay.specs.declared.ending.End.{End}
-use Rattle.mseplay.specs.declared.ending.End.TheVariants.{Memory, Write, Words, NoFile, Read, NotYet}
+use Rattle.mseplay.specs.declared.ending.End.TheVariants.{Memory, Write, Words, NoFile, Read}
 use Rattle.mseplay.specs.declared.ending.Status.{Status}
-use Rattle.mseplay.specs.declared.ending.Status.TheVariants.{Write as WriteStatus, Memory as MemoryStatus}
-use Rattle.mseplay.specs.declared.words.Command.{Command}
-use Rattle.mseplay.specs.declared.words.Command.TheVariants.{Ranges}
+use Rattle.mseplay.specs.declared.ending.Status.TheVariants.{Ok as OkStatus, Write as WriteStatus, Memory as MemoryStatus, Media as MediaStatus}
 use Rattle.mseplay.specs.Endings.{status_of}
-use Rattle.mseplay.specs.Outcomes.{Given, IsAsked, Cause, Worked, line_for, EndsEarly, EndsBy, Ends}
+use Rattle.mseplay.specs.Outcomes.{Given, IsAsked, Cause, WroteAll, WroteSome, Worked, line_for, EndsEarly, EndsBy, Ends, IsThrough, NameOneFile}
+use Rattle.mseplay.specs.Playing.{outcome_of, block_of}
+use Rattle.mseplay.specs.Words.{file_of}
 use Rattle.mseplay.specs.Wrote.{Wrote, WroteFront}
 use Rattle.mseplay.proofs.Writing.{wrote_more}
 
--- the text that was asked for was put, or was not
-pub worked_put : (given : Given) (text : List ℕ) (old new : Option (List ℕ)) (a b : ℕ) (r : Result (Unit {0}) End) → IsAsked given text
-    → OnOk r (Wrote text old new) → OnErr r (WroteFront text old new) → IfErr r (λ end. (end ≡ Memory) ⊎ ((end ≡ Write) × Rose a b))
-    → Worked given old new r
-worked_put given text old new a b (Ok u) asked ok err ends = (text, asked, ok)
-worked_put given text old new a b (Err Memory) asked ok err ends = inr (text, asked, err)
-worked_put given text old new a b (Err Write) asked ok err ends = (text, asked, err)
-worked_put given text old new a b (Err Words) asked ok err (inl e) = absurd cc
-worked_put given text old new a b (Err Words) asked ok err (inr e) = absurd (cc (e.0))
-worked_put given text old new a b (Err NoFile) asked ok err (inl e) = absurd cc
-worked_put given text old new a b (Err NoFile) asked ok err (inr e) = absurd (cc (e.0))
-worked_put given text old new a b (Err Read) asked ok err (inl e) = absurd cc
-worked_put given text old new a b (Err Read) asked ok err (inr e) = absurd (cc (e.0))
-worked_put given text old new a b (Err NotYet) asked ok err (inl e) = absurd cc
-worked_put given text old new a b (Err NotYet) asked ok err (inr e) = absurd (cc (e.0))
-
--- there is one command
-pub only_command : (x : Command) → x ≡ Ranges
-only_command Ranges = refl
+-- the text that was asked for was not put whole
+pub put_failed : (given : Given) (text : List ℕ) (old new : Option (List ℕ)) (a b : ℕ) (end : End) → IsAsked given text
+    → WroteFront text old new → (end ≡ Memory) ⊎ ((end ≡ Write) × Rose a b) → Worked given old new (Err end)
+put_failed given text old new a b Memory asked front ends = inr (record { text = text; asked = asked; wrote = front })
+put_failed given text old new a b Write asked front ends = record { text = text; asked = asked; wrote = front }
+put_failed given text old new a b Words asked front (inl e) = absurd cc
+put_failed given text old new a b Words asked front (inr e) = absurd (cc (e.0))
+put_failed given text old new a b NoFile asked front (inl e) = absurd cc
+put_failed given text old new a b NoFile asked front (inr e) = absurd (cc (e.0))
+put_failed given text old new a b Read asked front (inl e) = absurd cc
+put_failed given text old new a b Read asked front (inr e) = absurd (cc (e.0))
 
 -- what `say` ensures
 abbrev pub Said : Given → End → Option (List ℕ) → Option (List ℕ) → Status → Type 0
@@ -64,9 +56,9 @@ whole_front : (bytes : List ℕ) (old new : Option (List ℕ)) → Wrote bytes o
 whole_front bytes old new w = (bytes, [], sym (append-nil bytes), w)
 
 -- want of memory, or a failed put
-quiet : (given : Given) (old mid new : Option (List ℕ)) → (mid ≡ old) ⊎ ((text : List ℕ) × IsAsked given text × WroteFront text old mid) → WroteFront [] mid new → EndsEarly given old new
+quiet : (given : Given) (old mid new : Option (List ℕ)) → (mid ≡ old) ⊎ WroteSome given old mid → WroteFront [] mid new → EndsEarly given old new
 quiet given old mid new (inl e) f = inr (Memory, tt, subst (λ (o : Option (List ℕ)). WroteFront [] o new) e f)
-quiet given old mid new (inr w) f = inl (w.0, w.1, front_only w.0 old mid new w.2 f)
+quiet given old mid new (inr w) f = inl (record { text = w.text; asked = w.asked; wrote = front_only w.text old mid new w.wrote f })
 
 pub ends_said : (given : Given) (end : End) (old mid new : Option (List ℕ)) (status : Status) → Worked given old mid (Err end) → Said given end mid new status → Ends given old new status
 ends_said given Memory old mid new status worked (inl s) = early given old new status (inr s.0) (quiet given old mid new worked (whole_front [] mid new s.1))
@@ -76,4 +68,36 @@ ends_said given Write old mid new status worked (inr s) = early given old new st
 ends_said given Words old mid new status worked said = lined given Words old new status worked.0 (λ h. h) (subst (λ (o : Option (List ℕ)). Said given Words o new status) worked.1 said)
 ends_said given NoFile old mid new status worked said = lined given NoFile old new status worked.0 (λ h. h) (subst (λ (o : Option (List ℕ)). Said given NoFile o new status) worked.1 said)
 ends_said given Read old mid new status worked said = lined given Read old new status worked.0 (λ h. h) (subst (λ (o : Option (List ℕ)). Said given Read o new status) worked.1 said)
-ends_said given NotYet old mid new status worked said = lined given NotYet old new status worked.0 (λ h. h) (subst (λ (o : Option (List ℕ)). Said given NotYet o new status) worked.1 said)
+
+-- ---- two runs with one file
+
+-- the status of a run that went through to its end
+status_by : Bool → Status
+status_by false = OkStatus
+status_by true = MediaStatus
+
+through : (given : Given) (old new : Option (List ℕ)) (s : Status) → IsThrough s → Ends given old new s → (breaks : Bool) × (s ≡ status_by breaks) × WroteAll given old new breaks
+unfolding status_by
+through given old new s (inl e) h = (false, e, subst (λ (x : Status). Ends given old new x) e h)
+through given old new s (inr e) h = (true, e, subst (λ (x : Status). Ends given old new x) e h)
+
+one_file : (table : Option Table) (name xs ys : List ℕ) → IsSome table → IfSome table (λ files. files name ≡ Some xs) → IfSome table (λ files. files name ≡ Some ys) → xs ≡ ys
+one_file None name xs ys told a b = absurd cc
+one_file (Some files) name xs ys told a b = cc
+
+one_text : (before a b : List ℕ) (new other : Option (List ℕ)) → a ≡ b → Wrote a (Some before) new → Wrote b (Some before) other → new ≡ other
+one_text before a b new other e v w = v ∙ ap (λ (text : List ℕ). Some (before ++ text)) e ∙ sym w
+
+pub same_end : (a b : Given) (before : List ℕ) (new other : Option (List ℕ)) (s t : Status) → NameOneFile a b → IsThrough s → IsThrough t
+    → Ends a (Some before) new s → Ends b (Some before) other t → (s ≡ t) × (new ≡ other)
+same_end a b before new other s t one p q v w =
+    let x = through a (Some before) new s p v in
+    let y = through b (Some before) other t q w in
+    let first = x.2 in
+    let second = y.2 in
+    let named = subst (λ (o : Option Table). IfSome o (λ files. files (file_of a.words) ≡ Some second.asked.bytes)) (sym one.table)
+    (subst (λ (name : List ℕ). IfSome b.table (λ files. files name ≡ Some second.asked.bytes)) (sym one.file) second.asked.named) in
+    let bytes : first.asked.bytes ≡ second.asked.bytes = one_file a.table (file_of a.words) first.asked.bytes second.asked.bytes one.told first.asked.named named in
+    let breaks : x.0 ≡ y.0 = first.fault ∙ ap (λ (xs : List ℕ). is_some (outcome_of xs).fault) bytes ∙ sym second.fault in
+    let texts : first.text ≡ second.text = first.asked.is ∙ ap block_of bytes ∙ sym second.asked.is in
+    (x.1 ∙ ap status_by breaks ∙ sym y.1, one_text before first.text second.text new other texts first.wrote second.wrote)

@@ -1,13 +1,7 @@
 -- What a sink was given, by several puts.
-use Rattle.std.proofs.Common.{◌≡◌, ◌∙◌, ℕ, ◌≤◌, List, [], ◌++◌, Option, Some, None, append_assoc, append-nil, ap, sym, arith}
-use Rattle.std.proofs.lemmas.Grind.{common_steps}
-use Rattle.mse_outside.specs.Outside.{Rose}
+use Rattle.std.proofs.Common.{◌≡◌, ◌∙◌, ℕ, List, ◌++◌, take, drop, Option, Some, None, append_assoc, ap, subst, sym}
+use Rattle.std.proofs.lemmas.List.{take-append-drop}
 use Rattle.mseplay.specs.Wrote.{Wrote, WroteFront}
-
--- nothing was written
-pub wrote_none : (old : Option (List ℕ)) → Wrote [] old old
-wrote_none None = tt
-wrote_none (Some xs) = ap Some (sym (append-nil xs))
 
 -- one put after another
 pub wrote_more : (a b : List ℕ) (old mid new : Option (List ℕ)) → Wrote a old mid → Wrote b mid new → Wrote (a ++ b) old new
@@ -26,6 +20,20 @@ front_more a b old mid new u v =
 pub front_first : (a b : List ℕ) (old new : Option (List ℕ)) → WroteFront a old new → WroteFront (a ++ b) old new
 front_first a b old new v = (v.0, v.1 ++ b, ap (λ (zs : List ℕ). zs ++ b) v.2 ∙ append_assoc v.0 v.1 b, v.3)
 
--- a count that rose after a time rose before it
-pub rose_before : (a b c : ℕ) → a ≤ b → Rose b c → Rose a c
-rose_before a b c h r = grind (arith, common_steps)
+-- a list by two parts
+parts : (line more rest : List ℕ) (n : ℕ) → line ≡ take n rest → more ≡ drop n rest → line ++ more ≡ rest
+parts line more rest n first last =
+    ap (λ (xs : List ℕ). xs ++ more) first ∙ ap (λ (xs : List ℕ). take n rest ++ xs) last ∙ take-append-drop n rest
+
+-- one more line was put
+pub line_put : (front text rest line more : List ℕ) (n : ℕ) (old mid new : Option (List ℕ)) → line ≡ take n rest → more ≡ drop n rest
+    → Wrote front old mid → front ++ rest ≡ text → Wrote line mid new → (x : List ℕ) × Wrote x old new × (x ++ more ≡ text)
+line_put front text rest line more n old mid new first last w all v =
+    (front ++ line, wrote_more front line old mid new w v, append_assoc front line more ∙ ap (λ (xs : List ℕ). front ++ xs) (parts line more rest n first last) ∙ all)
+
+-- a line was not put
+pub line_failed : (front text rest line more : List ℕ) (n : ℕ) (old mid new : Option (List ℕ)) → line ≡ take n rest → more ≡ drop n rest
+    → Wrote front old mid → front ++ rest ≡ text → WroteFront line mid new → WroteFront text old new
+line_failed front text rest line more n old mid new first last w all v =
+    let whole : front ++ (line ++ more) ≡ text = ap (λ (xs : List ℕ). front ++ xs) (parts line more rest n first last) ∙ all in
+    subst (λ (t : List ℕ). WroteFront t old new) whole (front_more front (line ++ more) old mid new w (front_first line more mid new v))

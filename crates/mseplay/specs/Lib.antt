@@ -1,8 +1,6 @@
-pub mod Blocks
-pub mod Boxes
 pub mod Endings
 pub mod Outcomes
-pub mod PlainFiles
-pub mod PlainReading
-pub mod Texts
+pub mod Playing
+pub mod Steps
+pub mod Words
 pub mod Wrote

@@ -23,10 +23,8 @@ pub enum Status {
     TaskBudget,
     /// A file is not there.
     NoFile,
-    /// The file breaks the byte stream format.
+    /// The file breaks the byte stream format. All was put, and the fault is told in its last line.
     Media,
-    /// The file has a form that is not read yet.
-    NotYet,
 }
 
 /// Why a run ends early.
@@ -37,7 +35,6 @@ pub enum End {
     Words,
     NoFile,
     Read,
-    NotYet,
 }
 
 impl End {
@@ -51,7 +48,6 @@ impl End {
             End::Words => Status::Words,
             End::NoFile => Status::NoFile,
             End::Read => Status::Read,
-            End::NotYet => Status::NotYet,
         }
     }
 }

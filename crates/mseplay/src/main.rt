@@ -1,18 +1,19 @@
-//! The program: reads the files that its words name in the current folder, and prints what the engine makes of them.
+//! The program: reads the files that its words name in the current folder, and prints what a media source makes of
+//! them: the duration, what is buffered, each track, and the first fault.
 //!
-//! It stands on mse_base (times and ranges) and mse_outside (files and standard output). Its main contract is that of
-//! [`run`](top::run): at status 0 the block of the file was written, and each other status comes only with its cause
-//! and its error line. Files are read in the plain form so far: an initialization segment of one video track, and media
-//! segments that follow one another (ISO/IEC 14496-12, movie fragments).
+//! It stands on `buffer_state` (a source buffer), `track_index` (its store of frames), `event_text` (the printed lines)
+//! and `mse_outside` (files and standard output). Its main contract is that of [`run`](top::run): where a run goes
+//! through to its end, the block of the file was written, and the status tells whether the file breaks its byte stream
+//! format; each other status comes only with its cause and its error line. The block is the same for each size of
+//! pieces in which the file is appended.
 #![tactic(auto)]
 
-mod block;
 mod ending;
 mod laws;
-mod plain;
-mod plain_read;
-mod plain_write;
+mod pieces;
+mod play;
 mod put;
+mod source;
 #[cfg(test)]
 mod tests;
 mod text;
@@ -27,6 +28,7 @@ use mse_outside::{FolderLibrary, StdoutSink};
 use std::env;
 use std::io::ErrorKind;
 use std::process::ExitCode;
+use track_index::IndexStore;
 
 // The arguments after the program's name. Arguments that are no text are no words.
 fn arguments(rt: &HostRuntime) -> Result<Vec<String>, OutOfMemory> {
@@ -48,7 +50,7 @@ fn arguments(rt: &HostRuntime) -> Result<Vec<String>, OutOfMemory> {
 
 fn main(rt: HostRuntime) -> ExitCode {
     let status = match arguments(&rt) {
-        Ok(words) => run(
+        Ok(words) => run::<IndexStore, _, _>(
             rt.alloc(),
             &words,
             &mut FolderLibrary::new(rt),

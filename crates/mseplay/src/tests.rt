@@ -5,10 +5,11 @@ ghost use Rattle.std.specs.Prelude.{◌≡◌, IfOk, vec_len};
 
 use crate::ending::Status;
 use crate::top::run;
-use files::{V1, V2, V3};
+use files::{CASES, INIT_BACK, INIT_FRONT, V1_SEGMENT};
 use mse_outside::{MemoryLibrary, MemorySink};
 use std::alloc::{AllocError, Global};
 use std::test::Fail;
+use track_index::IndexStore;
 
 fn texts(alloc: Global, words: &[&str]) -> Result<Vec<String>, AllocError> {
     let mut made = Vec::new(alloc);
@@ -16,6 +17,30 @@ fn texts(alloc: Global, words: &[&str]) -> Result<Vec<String>, AllocError> {
         made.push(String::from_str(alloc, word)?)?;
     }
     Ok(made)
+}
+
+// The bytes of a file.
+fn bytes_of(alloc: Global, file: &str) -> Result<Vec<u8>, Fail> {
+    let mut digits = String::new(alloc);
+    for word in file.split_whitespace() {
+        if let Some(scale) = word.strip_prefix('I') {
+            digits.push_str(INIT_FRONT)?;
+            digits.push_str(scale)?;
+            digits.push_str(INIT_BACK)?;
+        } else if word == "F" {
+            digits.push_str("000000186674797069736f360000000069736f366d703431")?;
+        } else {
+            digits.push_str(word)?;
+        }
+    }
+    Ok(hex::decode(alloc, digits.as_str())?)
+}
+
+fn v1(alloc: Global) -> Result<Vec<u8>, Fail> {
+    let mut bytes = bytes_of(alloc, "I00015f90")?;
+    let segment = hex::decode(alloc, V1_SEGMENT)?;
+    bytes.extend_from_slice(&segment)?;
+    Ok(bytes)
 }
 
 // A library of the one file `V1`. Its first load fails where that is asked for.
@@ -30,38 +55,80 @@ fn library(alloc: Global, bytes: Vec<u8>, fails: bool) -> Result<MemoryLibrary, 
     Ok(MemoryLibrary::new(alloc, names, contents, failing))
 }
 
+// What is printed for the words over the one file, and the status.
+fn printed(alloc: Global, words: &[&str], file: &[u8]) -> Result<(Status, MemorySink), Fail> {
+    let mut library = library(alloc, file.to_vec(alloc)?, false)?;
+    let mut sink = MemorySink::new(alloc, Vec::new(alloc));
+    let words = texts(alloc, words)?;
+    let status = run::<IndexStore, _, _>(alloc, &words, &mut library, &mut sink);
+    Ok((status, sink))
+}
+
 #[test]
 fn prints_blocks(rt: HostRuntime) -> Result<(), Fail> {
     let alloc = rt.alloc();
-    let cases = [
-        (
-            "",
-            "duration nan\nbuffer 0 phase waiting held 0 used 0 buffered none\n",
-        ),
-        (
-            V1,
-            "duration inf\nbuffer 0 phase waiting held 0 used 12 buffered [0,14112000000)\ntrack 0 1 video avc1 frames 3 ranges [0,14112000000)\n",
-        ),
-        (
-            V2,
-            "duration inf\nbuffer 0 phase waiting held 0 used 20 buffered [0,15999637196)\ntrack 0 1 video avc1 frames 5 ranges [0,15999637196)\n",
-        ),
-        (
-            V3,
-            "duration inf\nbuffer 0 phase waiting held 0 used 4 buffered [249390876672000000000,249390876677644800000)\ntrack 0 1 video avc1 frames 1 ranges [249390876672000000000,249390876677644800000)\n",
-        ),
-    ];
-    for (file, block) in cases {
-        let mut library = library(alloc, hex::decode(alloc, file)?, false)?;
-        let mut sink = MemorySink::new(alloc, Vec::new(alloc));
-        let status = run(
-            alloc,
-            &texts(alloc, &["ranges", "V1"])?,
-            &mut library,
-            &mut sink,
-        );
-        assert_eq!(rt; status, Status::Ok);
-        assert_eq!(rt; sink.written(), block.as_bytes());
+    for (file, breaks, block) in &CASES {
+        let bytes = bytes_of(alloc, file)?;
+        let wanted = if *breaks { Status::Media } else { Status::Ok };
+        for words in [
+            ["ranges", "V1"].as_slice(),
+            ["pieces", "1", "V1"].as_slice(),
+            ["pieces", "7", "V1"].as_slice(),
+            ["pieces", "2147483648", "V1"].as_slice(),
+        ] {
+            let (status, sink) = printed(alloc, words, &bytes)?;
+            assert_eq!(rt; status, wanted, "at {block}");
+            assert_eq!(rt; sink.written(), block.as_bytes(), "at {block}");
+        }
+    }
+    Ok(())
+}
+
+// The block of the first bytes of V1.
+fn front_block(alloc: Global, len: usize) -> Result<String, AllocError> {
+    let (phase, held, frames) = match len {
+        0..=7 => ("waiting", len, 0u32),
+        8..=24 => ("init", 0, 0),
+        25..=594 => ("init", len - 24, 0),
+        595..=730 => ("waiting", len - 595, 0),
+        731..=742 => ("media", len - 595, 0),
+        743..=746 => ("media", len - 595, 1),
+        747..=750 => ("media", len - 595, 2),
+        _ => ("waiting", 0, 3),
+    };
+    let duration = if len < 595 { "nan" } else { "inf" };
+    let used = 4 * frames;
+    let ranges = match frames {
+        0 => "none",
+        1 => "[0,4704000000)",
+        2 => "[0,9408000000)",
+        _ => "[0,14112000000)",
+    };
+    let mut block = format!(in alloc; "duration {duration}\nbuffer 0 phase {phase} ")?;
+    let counts = format!(in alloc; "held {held} used {used} buffered {ranges}\n")?;
+    block.push_str(counts.as_str())?;
+    if len >= 595 {
+        let track = format!(in alloc; "track 0 1 video avc1 frames {frames} ranges {ranges}\n")?;
+        block.push_str(track.as_str())?;
+    }
+    Ok(block)
+}
+
+#[test]
+fn prints_blocks_of_fronts(rt: HostRuntime) -> Result<(), Fail> {
+    let alloc = rt.alloc();
+    let bytes = v1(alloc)?;
+    assert_eq!(rt; bytes.len(), 751);
+    for len in 0..=751usize {
+        let block = front_block(alloc, len)?;
+        for words in [
+            ["ranges", "V1"].as_slice(),
+            ["pieces", "1", "V1"].as_slice(),
+        ] {
+            let (status, sink) = printed(alloc, words, &bytes[..len])?;
+            assert_eq!(rt; status, Status::Ok, "at {len}");
+            assert_eq!(rt; sink.written(), block.as_bytes(), "at {len}");
+        }
     }
     Ok(())
 }
@@ -70,62 +137,40 @@ fn prints_blocks(rt: HostRuntime) -> Result<(), Fail> {
 fn tells_causes(rt: HostRuntime) -> Result<(), Fail> {
     let alloc = rt.alloc();
     let nothing = [].as_slice();
+    let wrong = (Status::Words, "error: words\n");
     let cases = [
-        (
-            ["ranges"].as_slice(),
-            V1,
-            false,
-            Status::Words,
-            "error: words\n",
-        ),
-        (nothing, V1, true, Status::Words, "error: words\n"),
-        (
-            ["play", "V1"].as_slice(),
-            V1,
-            false,
-            Status::Words,
-            "error: words\n",
-        ),
-        (
-            ["ranges", "V1", "V1"].as_slice(),
-            V1,
-            false,
-            Status::Words,
-            "error: words\n",
-        ),
+        (nothing, true, wrong),
+        (["ranges"].as_slice(), false, wrong),
+        (["play", "V1"].as_slice(), false, wrong),
+        (["ranges", "V1", "V1"].as_slice(), false, wrong),
+        (["pieces", "V1"].as_slice(), false, wrong),
+        (["pieces", "0", "V1"].as_slice(), false, wrong),
+        (["pieces", "01", "V1"].as_slice(), false, wrong),
+        (["pieces", "+1", "V1"].as_slice(), false, wrong),
+        (["pieces", "2147483649", "V1"].as_slice(), false, wrong),
+        (["pieces", "4294967297", "V1"].as_slice(), false, wrong),
+        (["pieces", "1", "V1", "V1"].as_slice(), false, wrong),
         (
             ["ranges", "nofile"].as_slice(),
-            V1,
             false,
-            Status::NoFile,
-            "error: no file nofile\n",
+            (Status::NoFile, "error: no file nofile\n"),
         ),
         (
-            ["ranges", "\u{e9}~\u{7f}"].as_slice(),
-            V1,
+            ["pieces", "1", "\u{e9}~\u{7f}"].as_slice(),
             false,
-            Status::NoFile,
-            "error: no file ?~?\n",
+            (Status::NoFile, "error: no file ?~?\n"),
         ),
         (
             ["ranges", "V1"].as_slice(),
-            V1,
             true,
-            Status::Read,
-            "error: read V1\n",
-        ),
-        (
-            ["ranges", "V1"].as_slice(),
-            "0000000866726565",
-            false,
-            Status::NotYet,
-            "error: not yet\n",
+            (Status::Read, "error: read V1\n"),
         ),
     ];
-    for (words, file, fails, wanted, line) in cases {
-        let mut library = library(alloc, hex::decode(alloc, file)?, fails)?;
+    for (words, fails, (wanted, line)) in cases {
+        let mut library = library(alloc, v1(alloc)?, fails)?;
         let mut sink = MemorySink::new(alloc, Vec::new(alloc));
-        let status = run(alloc, &texts(alloc, words)?, &mut library, &mut sink);
+        let words = texts(alloc, words)?;
+        let status = run::<IndexStore, _, _>(alloc, &words, &mut library, &mut sink);
         assert_eq!(rt; status, wanted, "at {line}");
         assert_eq!(rt; sink.written(), line.as_bytes());
     }
@@ -142,14 +187,10 @@ fn yields_to_failed_puts(rt: HostRuntime) -> Result<(), Fail> {
         ("nofile", (1, 100), "error: no file nofile\n"),
     ];
     for (name, cut, written) in cases {
-        let mut library = library(alloc, hex::decode(alloc, V1)?, false)?;
+        let mut library = library(alloc, v1(alloc)?, false)?;
         let mut sink = MemorySink::new(alloc, vec![in alloc; cut]?);
-        let status = run(
-            alloc,
-            &texts(alloc, &["ranges", name])?,
-            &mut library,
-            &mut sink,
-        );
+        let words = texts(alloc, &["ranges", name])?;
+        let status = run::<IndexStore, _, _>(alloc, &words, &mut library, &mut sink);
         assert_eq!(rt; status, Status::Write, "at {written}");
         assert_eq!(rt; sink.written(), written.as_bytes());
     }

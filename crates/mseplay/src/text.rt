@@ -1,47 +1,35 @@
-// Lines of text.
-ghost use Rattle.std.specs.Prelude.{◌≡◌, ◌++◌, ◌∷◌, [], IfOk, OnOk};
-ghost use Rattle.mseplay.specs.Texts.{shown};
+// The lines that say why a run ends early.
+ghost use Rattle.std.specs.Prelude.{◌≡◌, ◌++◌, ◌∷◌, [], IfOk, string_bytes};
+ghost use Rattle.event_text.specs.Words.{printable_text};
 ghost use Rattle.mseplay.specs.Endings.{error_line};
 
 use crate::ending::End;
-use std::alloc::{AllocError, Global};
+use event_text::printable;
+use mse_base::OutOfMemory;
+use std::alloc::Global;
 
-// Appends a text as it is printed: each character outside 0x20 to 0x7E as one `?`.
-fn push_shown(line: &mut Vec<u8>, text: &str) -> Result<(), AllocError>
-    ensures { OnOk result (line.new.items ≡ line.old.items ++ shown text.now) }
+// The words, the name as it is printed, and a line feed.
+fn line_naming(alloc: Global, words: &str, name: &str) -> Result<String, OutOfMemory>
+    ensures { IfOk result (λ line. string_bytes line ≡ words.now ++ (printable_text name.now ++ 10 ∷ [])) }
 {
-    for byte in text.as_bytes() {
-        if *byte < 0x80 || *byte >= 0xc0 {
-            let printed = if (0x20..0x7f).contains(byte) {
-                *byte
-            } else {
-                b'?'
-            };
-            line.push(printed)?;
-        }
-    }
-    Ok(())
-}
-
-// The bytes, the text as it is printed, and a line feed.
-fn line_with(alloc: Global, front: &[u8], text: &str) -> Result<Vec<u8>, AllocError>
-    ensures { IfOk result (λ line. line.items ≡ front.now ++ (shown text.now ++ 10 ∷ [])) }
-{
-    let mut line = front.to_vec(alloc)?;
-    push_shown(&mut line, text)?;
-    line.push(b'\n')?;
+    let shown = printable(alloc, name)?;
+    let shown = shown.as_str();
+    let line = format!(in alloc; "{words}{shown}\n")?;
     Ok(line)
 }
 
-/// The line that says why a run ends early; empty after want of memory and a failed put.
-pub fn error_line_for(alloc: Global, name: &str, end: End) -> Result<Vec<u8>, AllocError>
-    ensures { IfOk result (λ line. line.items ≡ error_line name.now end) }
+/// The line that says why a run ends early, with the name of the file where it shows one; empty after want of memory
+/// and a failed put.
+pub fn error_line_for(alloc: Global, name: &str, end: End) -> Result<String, OutOfMemory>
+    ensures { IfOk result (λ line. string_bytes line ≡ error_line name.now end) }
 {
     match end {
-        End::Memory | End::Write => Ok(Vec::new(alloc)),
-        End::Words => line_with(alloc, b"error: words", ""),
-        End::NoFile => line_with(alloc, b"error: no file ", name),
-        End::Read => line_with(alloc, b"error: read ", name),
-        End::NotYet => line_with(alloc, b"error: not yet", ""),
+        End::Memory | End::Write => Ok(String::new(alloc)),
+        End::Words => {
+            let line = String::from_str(alloc, "error: words\n")?;
+            Ok(line)
+        }
+        End::NoFile => line_naming(alloc, "error: no file ", name),
+        End::Read => line_naming(alloc, "error: read ", name),
     }
 }

@@ -1,11 +1,9 @@
 // The top call.
-ghost use Rattle.std.specs.Prelude.{◌≡◌, ◌≤◌, ◌⊎◌, ℕ, List, Some, None, IfSome, map, string_bytes};
+ghost use Rattle.std.specs.Prelude.{◌≡◌, ◌≤◌, ◌⊎◌, ℕ, List, Some, None, IfSome, IsSome, map, string_bytes};
 ghost use Rattle.mse_outside.specs.Outside.{Rose};
-ghost use Rattle.mseplay.specs.declared.words.Command.TheVariants.{Ranges};
 ghost use Rattle.mseplay.specs.Endings.{status_of, error_line};
-ghost use Rattle.mseplay.specs.Outcomes.{Given, Ends};
-ghost use Rattle.mseplay.specs.PlainFiles.{IsPlain};
-ghost use Rattle.mseplay.specs.Texts.{command_of, file_of};
+ghost use Rattle.mseplay.specs.Outcomes.{Given, Ends, IsThrough};
+ghost use Rattle.mseplay.specs.Words.{command_of, file_of};
 ghost use Rattle.mseplay.specs.Wrote.{Wrote, WroteFront};
 
 use crate::ending::{End, Status};
@@ -15,6 +13,7 @@ use crate::words::file_name;
 use crate::work::work;
 use mse_outside::{Library, Sink};
 use std::alloc::Global;
+use track_store::FrameStore;
 
 // Puts the line of an end.
 fn say<K: Sink>(alloc: Global, sink: &mut K, name: &str, end: End) -> Status
@@ -29,15 +28,17 @@ fn say<K: Sink>(alloc: Global, sink: &mut K, name: &str, end: End) -> Status
     let Ok(line) = error_line_for(alloc, name, end) else {
         return Status::Memory;
     };
-    match put_bytes(sink, line.as_slice()) {
+    match put_bytes(sink, line.as_bytes()) {
         Ok(()) => end.status(),
         Err(failed) => failed.status(),
     }
 }
 
 /// Does what the words ask for with the files of the library, and puts the printed text into the sink, one whole line a
-/// put. `words` are the arguments after the program's name. `ranges FILE` prints the block of a file.
-pub fn run<L: Library, K: Sink>(
+/// put. `words` are the arguments after the program's name. `ranges FILE` and `pieces N FILE` append the file to a
+/// source buffer, at once or in pieces of N bytes, and print what is buffered then: both print the same. Coded frames
+/// are kept in a store of type `S`.
+pub fn run<S: FrameStore, L: Library, K: Sink>(
     alloc: Global,
     words: &[String],
     library: &mut L,
@@ -48,14 +49,14 @@ pub fn run<L: Library, K: Sink>(
     ensures words { command_of (map string_bytes words.now) ≡ None → (result ≡ Status.Words) ⊎ ((result ≡ Status.Write) ⊎ (result ≡ Status.Memory)) }
     ensures read { result ≡ Status.Read → Rose (L.faults library.old) (L.faults library.new) }
     ensures write { result ≡ Status.Write → Rose (K.faults sink.old) (K.faults sink.new) }
-    ensures complete { (bytes : List ℕ) → command_of (map string_bytes words.now) ≡ Some Ranges
+    ensures complete { (bytes : List ℕ) → IsSome (command_of (map string_bytes words.now))
         → IfSome (L.table library.old) (λ files. files (file_of (map string_bytes words.now)) ≡ Some bytes
-        → IsPlain bytes
         → ¬ (Rose (L.faults library.old) (L.faults library.new)) → ¬ (Rose (K.faults sink.old) (K.faults sink.new))
-        → (result ≡ Status.Ok) ⊎ (result ≡ Status.Memory)) }
+        → IsThrough result ⊎ (result ≡ Status.Memory)) }
 {
-    match work(alloc, words, library, sink) {
-        Ok(()) => Status::Ok,
+    match work::<S, L, K>(alloc, words, library, sink) {
+        Ok(false) => Status::Ok,
+        Ok(true) => Status::Media,
         Err(end) => say(alloc, sink, file_name(words), end),
     }
 }

@@ -1,13 +1,40 @@
 // The words of a call.
-ghost use Rattle.std.specs.Prelude.{◌≡◌, map, string_bytes, length, Some};
-ghost use Rattle.mseplay.specs.declared.words.Command.TheVariants.{Ranges};
-ghost use Rattle.mseplay.specs.Texts.{command_of, file_of};
+ghost use Rattle.std.specs.Prelude.{◌≡◌, map, string_bytes};
+ghost use Rattle.mseplay.specs.Words.{piece_within, piece_of, command_of, file_of};
+
+/// The most bytes that a piece may have.
+const LONGEST: u32 = 1 << 31;
 
 /// What the words ask for.
 #[derive(Clone, Copy, Debug, PartialEq, Eq)]
 pub enum Command {
-    /// `ranges FILE`
+    /// `ranges FILE`: what is buffered when the whole file was appended.
     Ranges,
+    /// `pieces N FILE`: the same in appends of N bytes each, 1 to 2^31, of which the last may be shorter.
+    Pieces(u32),
+}
+
+// The number where a piece may have so many bytes.
+fn within(count: u32) -> Option<u32>
+    ensures { result ≡ piece_within count }
+{
+    if count <= LONGEST { Some(count) } else { None }
+}
+
+// The number of bytes that a word names: decimal digits without leading zeros.
+fn read_piece(word: &str) -> Option<u32>
+    ensures { result ≡ piece_of word.now }
+{
+    let [first, ..] = word.as_bytes() else {
+        return None;
+    };
+    if *first < b'1' || *first > b'9' {
+        return None;
+    }
+    match word.parse::<u32>() {
+        Ok(count) => within(count),
+        Err(_) => None,
+    }
 }
 
 /// What the words ask for; `None` exactly where they are no row of the table of commands.
@@ -22,16 +49,24 @@ pub fn read_command(words: &[String]) -> Option<Command>
                 None
             }
         }
+        [name, count, _] => {
+            if name.as_str() == "pieces" {
+                let count = read_piece(count.as_str())?;
+                Some(Command::Pieces(count))
+            } else {
+                None
+            }
+        }
         _ => None,
     }
 }
 
-/// The second word, which names the file; empty where there is none.
+/// The last of two or three words, which names the file; empty where there are fewer or more.
 pub fn file_name(words: &[String]) -> &str
     ensures { result.now ≡ file_of (map string_bytes words.now) }
 {
     match words {
-        [_, file, ..] => file.as_str(),
+        [_, file] | [_, _, file] => file.as_str(),
         _ => "",
     }
 }

@@ -1,15 +1,15 @@
 // A run up to its end, without its error line.
-ghost use Rattle.std.specs.Prelude.{◌≡◌, ◌≢◌, ◌≤◌, ◌⊎◌, ℕ, List, Option, Some, None, IfSome, OnOk, IfOk, IfErr, IsErrOf, map, string_bytes};
+ghost use Rattle.std.specs.Prelude.{◌≡◌, ◌≤◌, ◌⊎◌, Some, None, IfSome, IfOk, IfErr, IsErrOf, map, string_bytes};
 ghost use Rattle.mse_outside.specs.Outside.{Rose};
 ghost use Rattle.mseplay.specs.Outcomes.{Given, Worked};
 
-use crate::block::lines_of_block;
 use crate::ending::End;
-use crate::plain_read::read_plain;
+use crate::play::block_of;
 use crate::put::put_lines;
 use crate::words::{Command, file_name, read_command};
 use mse_outside::{Library, Loaded, Sink};
 use std::alloc::Global;
+use track_store::FrameStore;
 
 // The bytes of a file.
 fn load<L: Library>(alloc: Global, library: &mut L, name: &str) -> Result<Vec<u8>, End>
@@ -28,34 +28,42 @@ fn load<L: Library>(alloc: Global, library: &mut L, name: &str) -> Result<Vec<u8
     }
 }
 
-/// Loads the file that the words name, reads it, and puts its block.
-pub fn work<L: Library, K: Sink>(
+// How many bytes a piece has of a file of so many bytes.
+fn piece_size(command: Command, len: usize) -> usize
+    ensures { 1 ≤ result }
+{
+    match command {
+        Command::Ranges => len.max(1),
+        Command::Pieces(count) => (count as usize).max(1),
+    }
+}
+
+/// Loads the file that the words name, plays it, and puts its block. It answers whether the file breaks the byte stream
+/// format.
+pub fn work<S: FrameStore, L: Library, K: Sink>(
     alloc: Global,
     words: &[String],
     library: &mut L,
     sink: &mut K,
-) -> Result<(), End>
+) -> Result<bool, End>
     ensures worked { Worked (record { table = L.table library.old; words = map string_bytes words.now; faults_before = L.faults library.old; faults_after = L.faults library.new })
         (K.written sink.old) (K.written sink.new) result }
     ensures later { K.faults sink.old ≤ K.faults sink.new }
     ensures write { IsErrOf result End.Write → Rose (K.faults sink.old) (K.faults sink.new) }
 {
-    match read_command(words) {
-        None => return Err(End::Words),
-        Some(Command::Ranges) => {}
-    }
-    let bytes = match load(alloc, library, file_name(words)) {
-        Ok(bytes) => bytes,
+    let Some(command) = read_command(words) else {
+        return Err(End::Words);
+    };
+    let file = match load(alloc, library, file_name(words)) {
+        Ok(file) => file,
         Err(end) => return Err(end),
     };
-    let Ok(read) = read_plain(alloc, bytes.as_slice()) else {
+    let size = piece_size(command, file.len());
+    let Ok(block) = block_of::<S>(alloc, file, size) else {
         return Err(End::Memory);
     };
-    let Some(file) = read else {
-        return Err(End::NotYet);
-    };
-    let Ok(lines) = lines_of_block(alloc, &file) else {
-        return Err(End::Memory);
-    };
-    put_lines(sink, &lines)
+    match put_lines(sink, block.text.as_str().as_bytes()) {
+        Ok(()) => Ok(block.breaks),
+        Err(end) => Err(end),
+    }
 }

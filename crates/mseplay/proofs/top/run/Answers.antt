@@ -1,4 +1,4 @@
-use Rattle.std.proofs.Common.{◌≡◌, List, ℕ, Option, Err, Result, subst}
+use Rattle.std.proofs.Common.{◌≡◌, List, ℕ, Option, Bool, Err, Result, subst}
 use Rattle.std.specs.Prelude.{◌⊎◌, map, string_bytes}
 use Rattle.mse_outside.specs.Outside.{Table}
 use Rattle.mseplay.specs.declared.ending.End.{End}
@@ -17,7 +17,7 @@ returns-in-Err-clause-ends g c =
     let old = g.K.Sink.written c.args.sink.now in
     let mid = g.K.Sink.written c.work.new.sink in
     let new = g.K.Sink.written c.say.new.sink in
-    let worked : Worked given old mid (Err c.in-Err.end) = subst (λ (r : Result (Unit {0}) End). Worked given old mid r) c.in-Err.is c.work.ensures.worked in
+    let worked : Worked given old mid (Err c.in-Err.end) = subst (λ (r : Result Bool End). Worked given old mid r) c.in-Err.is c.work.ensures.worked in
     let said = subst (λ (name : List ℕ). ((c.say.result ≡ status_of c.in-Err.end) × Wrote (error_line name c.in-Err.end) mid new)
     ⊎ (((c.say.result ≡ WriteStatus) ⊎ (c.say.result ≡ MemoryStatus)) × WroteFront (error_line name c.in-Err.end) mid new)) c.file_name.ensures c.say.ensures.said in
     ends_said given c.in-Err.end old mid new c.say.result worked said
