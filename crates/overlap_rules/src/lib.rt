@@ -9,5 +9,7 @@
 #![tactic(auto)]
 
 mod room;
+#[cfg(test)]
+mod tests;
 
 pub use room::make_room;
