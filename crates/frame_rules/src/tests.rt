@@ -1,8 +1,9 @@
 //! Worked examples of coded frame processing, on a plain store. Times are told in media time, and
 //! ranges in ticks.
 
-ghost use Rattle.std.specs.Prelude.{◌≡◌, ◌≤◌, ◌^◌, ℤ, pos, ◌≤ℤ◌, length, IfOk, IfSome, slice_get, OnOk};
-ghost use Rattle.track_store.specs.State.{states_of};
+ghost use Rattle.std.specs.Prelude.{◌≡◌, ◌<◌, ◌≤◌, ◌^◌, [], ℤ, pos, ◌≤ℤ◌, length, IfOk, IfSome, slice_get, OnOk};
+ghost use Rattle.track_store.specs.State.{state_of, states_of};
+ghost use Rattle.track_store.specs.Sound.{Sound};
 ghost use Rattle.track_store.specs.Kept.{AreKept};
 
 use crate::{Placed, Why, place};
@@ -64,6 +65,22 @@ fn segments() -> Settings
     }
 }
 
+fn empty_track<S: FrameStore>(alloc: Global, kind: Kind, received: u64) -> Track<S>
+    requires { received ≤ 2 ^ 62 }
+    ensures empty { S.frames result.store ≡ [] }
+    ensures sound { Sound (state_of S.frames result) }
+{
+    let mut marks = Marks::new();
+    marks.received = received;
+    Track {
+        id: 1,
+        kind,
+        codec: *b"avc1",
+        store: S::new(alloc, Ticks::zero()),
+        marks,
+    }
+}
+
 /// One track with no frames.
 fn one_track<S: FrameStore>(
     alloc: Global,
@@ -76,24 +93,29 @@ fn one_track<S: FrameStore>(
 {
     let mut tracks = Tracks::new(alloc);
     tracks.reserve(1)?;
-    let mut marks = Marks::new();
-    marks.received = received;
-    tracks.add(Track {
-        id: 1,
-        kind,
-        codec: *b"avc1",
-        store: S::new(alloc, Ticks::zero()),
-        marks,
-    });
+    tracks.add(empty_track(alloc, kind, received));
     Ok(tracks)
 }
 
-fn reserve_one<S: FrameStore>(tracks: &mut Tracks<S>) -> Result<(), OutOfMemory>
-    ensures ok { OnOk result (IfSome (slice_get tracks.new.items 0) (λ t. 1 ≤ S.spare t.store)) }
+/// Two tracks with no frames.
+fn two_tracks<S: FrameStore>(alloc: Global) -> Result<Tracks<S>, OutOfMemory>
+    ensures two { IfOk result (λ ts. length ts.items ≡ 2) }
+    ensures kept { IfOk result (λ ts. AreKept (states_of S.frames ts.items)) }
+{
+    let mut tracks = Tracks::new(alloc);
+    tracks.reserve(2)?;
+    tracks.add(empty_track(alloc, Kind::Video, 0));
+    tracks.add(empty_track(alloc, Kind::Audio, 0));
+    Ok(tracks)
+}
+
+fn reserve_at<S: FrameStore>(tracks: &mut Tracks<S>, index: usize) -> Result<(), OutOfMemory>
+    ensures ok { OnOk result (IfSome (slice_get tracks.new.items index)
+        (λ t. 1 ≤ S.spare t.store)) }
     ensures states { states_of S.frames tracks.new.items ≡ states_of S.frames tracks.old.items }
     ensures len { length tracks.new.items ≡ length tracks.old.items }
 {
-    match tracks.get_mut(0) {
+    match tracks.get_mut(index) {
         Some(track) => track.store.reserve(1),
         None => Ok(()),
     }
@@ -102,18 +124,19 @@ fn reserve_one<S: FrameStore>(tracks: &mut Tracks<S>) -> Result<(), OutOfMemory>
 fn feed<S: FrameStore>(
     tracks: &mut Tracks<S>,
     settings: &mut Settings,
+    index: usize,
     frame: CodedFrame,
 ) -> Result<Placed, OutOfMemory>
-    requires one { length tracks.old.items ≡ 1 }
+    requires in_range { index < length tracks.old.items }
     requires kept { AreKept (states_of S.frames tracks.old.items) }
     requires low { pos 0 ≤ℤ settings.old.window_start }
     requires forward { pos 0 ≤ℤ frame.dur }
-    ensures one { length tracks.new.items ≡ 1 }
+    ensures len { length tracks.new.items ≡ length tracks.old.items }
     ensures kept { AreKept (states_of S.frames tracks.new.items) }
     ensures low { pos 0 ≤ℤ settings.new.window_start }
 {
-    reserve_one(tracks)?;
-    Ok(place(tracks, settings, 0, frame))
+    reserve_at(tracks, index)?;
+    Ok(place(tracks, settings, index, frame))
 }
 
 fn feed_all<S: FrameStore>(
@@ -132,8 +155,30 @@ fn feed_all<S: FrameStore>(
 {
     for sample in samples {
         let frame = frame_of(alloc, scale, sample)?;
-        let _placed = feed(tracks, settings, frame)?;
+        let _placed = feed(tracks, settings, 0, frame)?;
     }
+    Ok(())
+}
+
+/// Places a sample of the track at a place, in milliseconds, and asserts what becomes of it.
+fn feed_at<S: FrameStore>(
+    rt: &(impl Abort + AllocGlobal),
+    tracks: &mut Tracks<S>,
+    settings: &mut Settings,
+    index: usize,
+    sample: &Sample,
+    want: Placed,
+) -> Result<(), Fail>
+    requires in_range { index < length tracks.old.items }
+    requires kept { AreKept (states_of S.frames tracks.old.items) }
+    requires low { pos 0 ≤ℤ settings.old.window_start }
+    ensures len { length tracks.new.items ≡ length tracks.old.items }
+    ensures kept { AreKept (states_of S.frames tracks.new.items) }
+    ensures low { pos 0 ≤ℤ settings.new.window_start }
+{
+    let frame = frame_of(rt.alloc(), 1000, sample)?;
+    let placed = feed(tracks, settings, index, frame)?;
+    assert_eq!(rt; placed, want, "{sample:?}");
     Ok(())
 }
 
@@ -204,7 +249,7 @@ fn first_call(
         sync,
         payload: Bytes::copy_of(alloc, b"1234")?,
     };
-    let placed = feed(&mut tracks, settings, frame)?;
+    let placed = feed(&mut tracks, settings, 0, frame)?;
     let track = tracks.get(0).ok_or("no track")?;
     Ok((placed, track.marks, track.store.len()))
 }
@@ -433,5 +478,127 @@ fn goes_on_after_a_discontinuity(rt: HostRuntime) -> Result<(), Fail> {
         &[(0, 42336000000)],
     )?;
     assert!(rt; settings.offset == time(300, 1000)?);
+    Ok(())
+}
+
+/// After a leap of the decode time the group end timestamp is the presentation timestamp with the
+/// offset, be it later or earlier than before, and also where the frame is then dropped.
+#[test]
+fn leaps_with_an_offset_in_segments(rt: HostRuntime) -> Result<(), Fail> {
+    let mut tracks = one_track::<ListStore>(rt.alloc(), Kind::Video, 0)?;
+    let mut settings = segments();
+    settings.offset = time(-500, 1000)?;
+    let dropped = Placed::Dropped(Why::NoSync);
+    let (first, later) = ((600, 100, 0, true), (1600, 100, 30, false));
+    feed_at(&rt, &mut tracks, &mut settings, 0, &first, Placed::Stored)?;
+    feed_at(&rt, &mut tracks, &mut settings, 0, &later, dropped)?;
+    assert!(rt; settings.group_end == time(1130, 1000)?);
+    let (next, earlier) = ((1700, 100, 0, true), (650, 100, 0, false));
+    feed_at(&rt, &mut tracks, &mut settings, 0, &next, Placed::Stored)?;
+    assert!(rt; settings.group_end == time(1300, 1000)?);
+    feed_at(&rt, &mut tracks, &mut settings, 0, &earlier, dropped)?;
+    assert!(rt; settings.group_end == time(150, 1000)?);
+    assert!(rt; settings.offset == time(-500, 1000)?);
+    Ok(())
+}
+
+/// In mode "sequence" the new group begins where the old one ends with its offset, and the new
+/// offset does not count the old one.
+#[test]
+fn leaps_with_an_offset_in_sequence(rt: HostRuntime) -> Result<(), Fail> {
+    let mut tracks = one_track::<ListStore>(rt.alloc(), Kind::Video, 0)?;
+    let mut settings = segments();
+    settings.sequence = true;
+    settings.offset = time(-500, 1000)?;
+    let (first, later) = ((600, 100, 0, true), (1600, 100, 30, false));
+    feed_at(&rt, &mut tracks, &mut settings, 0, &first, Placed::Stored)?;
+    assert!(rt; settings.group_end == time(200, 1000)?);
+    let dropped = Placed::Dropped(Why::NoSync);
+    feed_at(&rt, &mut tracks, &mut settings, 0, &later, dropped)?;
+    assert!(rt; settings.group_end == time(200, 1000)? && settings.group_start == None);
+    assert!(rt; settings.offset == time(-1430, 1000)?);
+    let next = (1700, 100, 0, true);
+    feed_at(&rt, &mut tracks, &mut settings, 0, &next, Placed::Stored)?;
+    assert!(rt; settings.group_end == time(370, 1000)?);
+    holds(
+        &rt,
+        &tracks,
+        1000,
+        &[(0, 100), (2, 270)],
+        &[(14112000000, 28224000000), (38102400000, 52214400000)],
+    )
+}
+
+/// Where a frame begins at a group start timestamp, the other track needs a random access point,
+/// and keeps its other marks.
+#[test]
+fn a_group_start_is_of_all_tracks(rt: HostRuntime) -> Result<(), Fail> {
+    let mut tracks = two_tracks::<ListStore>(rt.alloc())?;
+    let mut settings = segments();
+    settings.sequence = true;
+    let (first, second) = ((0, 100, 0, true), (100, 100, 0, false));
+    feed_at(&rt, &mut tracks, &mut settings, 0, &first, Placed::Stored)?;
+    feed_at(&rt, &mut tracks, &mut settings, 1, &first, Placed::Stored)?;
+    feed_at(&rt, &mut tracks, &mut settings, 0, &second, Placed::Stored)?;
+    settings.group_start = Some(time(150, 1000)?);
+    let (start, third) = ((200, 100, 0, true), (200, 100, 0, false));
+    feed_at(&rt, &mut tracks, &mut settings, 1, &start, Placed::Stored)?;
+    let dropped = Placed::Dropped(Why::NoSync);
+    feed_at(&rt, &mut tracks, &mut settings, 0, &third, dropped)?;
+    let fourth = (300, 100, 0, true);
+    feed_at(&rt, &mut tracks, &mut settings, 0, &fourth, Placed::Stored)?;
+    let marks = tracks.get(0).ok_or("no track")?.marks;
+    assert!(rt; marks.group_first == Some(0) && marks.received == 4);
+    assert!(rt; marks.last_decode == Some(time(250, 1000)?));
+    Ok(())
+}
+
+/// Where the decode time of one track leaps, the other needs a random access point, and its group
+/// begins anew.
+#[test]
+fn a_leap_is_of_all_tracks(rt: HostRuntime) -> Result<(), Fail> {
+    let mut tracks = two_tracks::<ListStore>(rt.alloc())?;
+    let mut settings = segments();
+    let (first, second) = ((0, 100, 0, true), (100, 100, 0, false));
+    feed_at(&rt, &mut tracks, &mut settings, 0, &first, Placed::Stored)?;
+    feed_at(&rt, &mut tracks, &mut settings, 1, &first, Placed::Stored)?;
+    feed_at(&rt, &mut tracks, &mut settings, 1, &second, Placed::Stored)?;
+    let (leap, third) = ((1000, 100, 0, true), (200, 100, 0, false));
+    feed_at(&rt, &mut tracks, &mut settings, 0, &leap, Placed::Stored)?;
+    let marks = tracks.get(1).ok_or("no track")?.marks;
+    assert!(rt; marks == marks.unset());
+    let dropped = Placed::Dropped(Why::NoSync);
+    feed_at(&rt, &mut tracks, &mut settings, 1, &third, dropped)?;
+    let fourth = (300, 100, 0, true);
+    feed_at(&rt, &mut tracks, &mut settings, 1, &fourth, Placed::Stored)?;
+    let marks = tracks.get(1).ok_or("no track")?.marks;
+    assert!(rt; marks.group_first == Some(3) && marks.received == 4);
+    Ok(())
+}
+
+/// The highest end timestamp of a new track after some samples, in milliseconds.
+fn highest_end(alloc: Global, samples: &[Sample]) -> Result<Option<Ticks>, Fail> {
+    let mut tracks = one_track::<ListStore>(alloc, Kind::Video, 0)?;
+    let mut settings = segments();
+    feed_all(alloc, &mut tracks, &mut settings, 1000, samples)?;
+    let track = tracks.get(0).ok_or("no track")?;
+    Ok(track.marks.highest_end)
+}
+
+/// A frame that ends earlier than one before it, or with it, leaves the highest end timestamp.
+#[test]
+fn keeps_the_highest_end(rt: HostRuntime) -> Result<(), Fail> {
+    let samples: [Sample; 5] = [
+        (0, 100, 0, true),
+        (100, 100, 200, false),
+        (200, 100, -100, false),
+        (300, 100, 0, false),
+        (400, 1, 0, false),
+    ];
+    for (count, end) in [(1, 100), (2, 400), (3, 400), (4, 400), (5, 401)] {
+        let front = samples.as_slice().get(..count).ok_or("no samples")?;
+        let highest = highest_end(rt.alloc(), front)?;
+        assert!(rt; highest == Some(time(end, 1000)?), "after {count}");
+    }
     Ok(())
 }
