@@ -153,6 +153,9 @@ fn fault_of(alloc: Global, bytes: &[u8]) -> Result<Option<(StreamFault, u64)>, O
 /// The `ftyp` that an initialization segment begins with.
 const FTYP: &str = "000000186674797069736f360000000069736f366d703431";
 
+/// The shortest `styp`.
+const STYP: &str = "0000000873747970";
+
 #[test]
 fn hostile_boxes(rt: HostRuntime) -> Result<(), Fail> {
     let table = [
@@ -187,6 +190,57 @@ fn hostile_boxes(rt: HostRuntime) -> Result<(), Fail> {
     ];
     for (front, behind, wanted) in table {
         let bytes = bytes_of(rt.alloc(), front, behind)?;
+        assert!(rt; bytes.len() < 2000);
+        let fault = fault_of(rt.alloc(), bytes.as_slice())?;
+        assert!(rt; fault == wanted, "{behind}: {fault:?}");
+    }
+    Ok(())
+}
+
+/// A movie box and a movie fragment box of the greatest size are waited for, and one byte more is too much. A box
+/// that is out of place is that first, whatever its size.
+#[test]
+fn greatest_boxes(rt: HostRuntime) -> Result<(), Fail> {
+    let table = [
+        (FTYP, "010000006d6f6f76", None),
+        (INIT, "010000006d6f6f66", None),
+        (INIT, "010000016d6f6f66", Some((StreamFault::TooLarge, 595))),
+        ("", "010000016d6f6f76", Some((StreamFault::MoovPlace, 0))),
+        (STYP, "010000016d6f6f76", Some((StreamFault::MoovPlace, 8))),
+        (FTYP, "010000016d6f6f66", Some((StreamFault::MoofPlace, 24))),
+        ("", "010000016d6f6f66", Some((StreamFault::NoInit, 0))),
+    ];
+    for (front, behind, wanted) in table {
+        let bytes = bytes_of(rt.alloc(), front, behind)?;
+        assert!(rt; bytes.len() < 2000);
+        let fault = fault_of(rt.alloc(), bytes.as_slice())?;
+        assert!(rt; fault == wanted, "{behind}: {fault:?}");
+    }
+    Ok(())
+}
+
+/// Behind a moof of 136 bytes a box may end `2^27` bytes after the first byte of the moof, and no later.
+#[test]
+fn longest_fragments(rt: HostRuntime) -> Result<(), Fail> {
+    let file = bytes_of(rt.alloc(), INIT, THREE_FRAMES)?;
+    assert_eq!(rt; file.len(), 751);
+    let (front, _) = file.as_slice().split_at(731);
+    let table = [
+        ("07ffff7866726565", None),
+        ("07ffff7966726565", Some((StreamFault::TooLarge, 731))),
+        ("07ffff786d646174", None),
+        ("07ffff796d646174", Some((StreamFault::TooLarge, 731))),
+        ("000000086672656507ffff7066726565", None),
+        (
+            "000000086672656507ffff7166726565",
+            Some((StreamFault::TooLarge, 739)),
+        ),
+        ("080000006d6f6f76", Some((StreamFault::InSegment, 731))),
+    ];
+    for (behind, wanted) in table {
+        let mut bytes = Vec::from_slice(rt.alloc(), front)?;
+        let more = hex::decode(rt.alloc(), behind)?;
+        bytes.extend_from_slice(more.as_slice())?;
         assert!(rt; bytes.len() < 2000);
         let fault = fault_of(rt.alloc(), bytes.as_slice())?;
         assert!(rt; fault == wanted, "{behind}: {fault:?}");
