@@ -224,6 +224,40 @@ fn faults(rt: HostRuntime) -> Result<(), Fail> {
     Ok(())
 }
 
+/// A movie header that ends within its timescale, behind it, within its duration or behind that, with a timescale
+/// of 0 and of another number. A header that is too short is that first.
+#[test]
+fn short_movie_headers(rt: HostRuntime) -> Result<(), Fail> {
+    let alloc = rt.alloc();
+    let short = Some(InitFault::Size);
+    let zero = Some(InitFault::ZeroTimescale);
+    let table = [
+        (0, 15, short, short),
+        (0, 16, short, short),
+        (0, 19, short, short),
+        (0, 20, None, zero),
+        (1, 16, short, short),
+        (1, 23, short, short),
+        (1, 24, short, short),
+        (1, 31, short, short),
+        (1, 32, None, zero),
+    ];
+    for (version, len, with_scale, without) in table {
+        // The last byte of the timescale.
+        let place = if version == 1 { 23 } else { 15 };
+        for (scale, want) in [(1, with_scale), (0, without)] {
+            let mut header = Vec::from_slice(alloc, &[version])?;
+            for at in 1..len {
+                header.push(if at == place { scale } else { 0 })?;
+            }
+            let moov = movie(alloc, header.as_slice(), &[], &[])?;
+            let found = fault_of(read_init(alloc, moov.as_slice()));
+            assert_eq!(rt; found, want, "version {version}, {len} bytes, {scale}");
+        }
+    }
+    Ok(())
+}
+
 /// The media time and the ticks by which a track begins later, or the fault of its edit list.
 fn shifts(
     alloc: Global,
