@@ -1,36 +1,20 @@
 -- The tracks by their places.
-use Rattle.std.proofs.Common.{◌≡◌, ◌∙◌, ℕ, zero, suc, ◌+◌, ◌<◌, ◌≤◌, ℤ, pos, ◌+ℤ◌, ◌<ℤ◌, ◌≤ℤ◌, int_lt, Bool, true, false, not, cond, List, [], ◌∷◌, length, filter, find, fold, take, slice_get, sum_by, Option, Some, None, unwrap_or, refl, sym, ap, subst, inl, inr, arith}
+use Rattle.std.proofs.Common.{◌≡◌, ◌∙◌, ℕ, zero, suc, ◌+◌, ◌<◌, ◌≤◌, ℤ, pos, ◌+ℤ◌, ◌<ℤ◌, ◌≤ℤ◌, int_lt, Bool, true, false, not, cond, List, [], ◌∷◌, length, filter, find, fold, take, slice_get, Option, Some, None, unwrap_or, refl, sym, ap, subst, inl, inr, arith}
 use Rattle.std.specs.List.{AllByRecursion}
 use Rattle.std.specs.Option.{IfSome, option_map, option_or}
 use Rattle.std.proofs.lemmas.Int.{ints}
 use Rattle.std.proofs.lemmas.Option.{slice_get_cases, slice_get-map}
-use Rattle.std.proofs.lemmas.List.Sums.{sum_by-cons, sum_by_more}
 use Rattle.mse_base.specs.declared.ticks.Moment.TheVariants.{At}
 use Rattle.mse_base.specs.Time.{IsTick, tick}
 use Rattle.mse_base.proofs.TickLemmas.{tick_some, tick_none}
 use Rattle.track_store.specs.declared.store.Stored.{Stored}
 use Rattle.track_store.specs.declared.tracks.Track.{Track}
-use Rattle.track_store.specs.Frames.{is_before, used_of, starts, greatest, greater_of}
-use Rattle.track_store.specs.Kept.{bytes_in, bytes_of}
+use Rattle.track_store.specs.Frames.{is_before, starts, greatest, greater_of}
 use Rattle.track_store.specs.State.{TrackState, state_of, states_of}
 use Rattle.eviction.specs.Evicting.{first_of, frames_of, is_video, lead_of, sync_times}
 use Rattle.eviction.specs.Steps.{Has, times_at}
 use Rattle.eviction.proofs.Times.{each_of, filter_same, filter_none, all_along}
 use Rattle.eviction.proofs.Syncs.{times_under}
-
--- ---- bytes
-
--- one more element was added up
-pub added_more : {X : Type 0} (f : X → ℕ) (xs : List X) (i n m : ℕ) → i < length xs → n ≡ sum_by f (take i xs) → IfSome (slice_get xs i) (λ x. m ≡ f x) → n + m ≡ sum_by f (take (i + 1) xs)
-added_more f xs i n m here so_far h =
-    elim (slice_get_cases xs i).1 [
-      | inl found ↦ (let step = rw found.2 at h in let more = sum_by_more f xs i found.0 here in let same = ap f found.3 in omega arith)
-      | inr past ↦ absurd (omega arith)
-    ]
-
-pub bytes_same : {S : Type 0} (frames : S → List Stored) (ts : List (Track S)) → bytes_in (states_of frames ts) ≡ bytes_of frames ts
-bytes_same frames [] = refl
-bytes_same frames (t ∷ ts) = sum_by-cons (λ s. used_of s.frames) (state_of frames t) (states_of frames ts) ∙ ap (λ n. used_of (frames t.store) + n) (bytes_same frames ts) ∙ sym (sum_by-cons (λ s. used_of (frames s.store)) t ts)
 
 -- ---- the lead track
 

@@ -9,7 +9,7 @@ ghost use Rattle.eviction.specs.Steps.{left_after, left_before, times_at, times_
 
 use crate::latest::latest_sync;
 use crate::lead::{first_sync, lead_of, sync_after};
-use crate::need::{Need, has_room, used};
+use crate::need::{Need, has_room};
 use mse_base::{Moment, Ticks};
 use range_removal::remove_frames;
 use track_store::{FrameStore, Tracks};
@@ -197,7 +197,7 @@ pub fn evict<S: FrameStore>(
     ensures gaps { gaps_of S.gap tracks.new.items ≡ gaps_of S.gap tracks.old.items }
     ensures len { length tracks.new.items ≡ length tracks.old.items }
 {
-    if used(tracks) < quota {
+    if tracks.used() < quota {
         return;
     }
     let lead = lead_of(tracks);

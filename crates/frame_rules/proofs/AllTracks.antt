@@ -1,5 +1,5 @@
 -- From one track buffer to all of a source buffer.
-use Rattle.std.proofs.Common.{zero, suc, ◌≡◌, ◌<◌, ◌≤◌, ◌^◌, ◌+◌, ℕ, ℤ, Bool, true, false, cond, List, [], ◌∷◌, length, map, set, slice_get, Option, Some, None, refl, sym, ap, ◌∙◌, inl, inr, arith}
+use Rattle.std.proofs.Common.{zero, suc, ◌≡◌, ◌<◌, ◌≤◌, ◌^◌, ◌+◌, ℕ, ℤ, Bool, true, false, cond, List, [], ◌∷◌, length, map, set, slice_get, get_or, Option, Some, None, refl, ap, ◌∙◌, inl, inr, arith}
 use Rattle.std.specs.Option.{IfSome, option_map}
 use Rattle.std.proofs.lemmas.Option.{slice_get_cases, slice_get-map}
 use Rattle.mse_base.specs.declared.frame.CodedFrame.{CodedFrame}
@@ -14,10 +14,11 @@ use Rattle.frame_rules.specs.declared.answer.Placed.{Placed}
 use Rattle.frame_rules.specs.declared.answer.Placed.TheVariants as placed_as
 use Rattle.frame_rules.specs.Timing.{timing_of}
 use Rattle.std.proofs.lemmas.Bool.Decides.{nat_tests}
-use Rattle.std.proofs.lemmas.List.Sums.{sum_by-cons, get_or-le-sum_by}
+use Rattle.std.proofs.lemmas.List.{length-map, get_or-map}
+use Rattle.std.proofs.lemmas.List.Sums.{get_or-le-sum_by}
 use Rattle.track_store.specs.Frames.{used_of}
 use Rattle.frame_rules.specs.Put.{drop_reason, put, put_answer}
-use Rattle.track_store.specs.Kept.{bytes_in, bytes_of, AreKept}
+use Rattle.track_store.specs.Kept.{bytes_in, AreKept}
 use Rattle.frame_rules.specs.Place.{outcome, reset_marks, reset_in, reset_track, placed_in, placed_by, placed, too_many, settings_after, IsReady}
 use Rattle.std.specs.List.{AllByRecursion}
 
@@ -69,45 +70,49 @@ received_broken w m h = received_either (2 ^ 62) w.discontinuity _ _ h (received
 pub ready_marked : {S : Type 0} (frames : S → List Stored) (spare : S → ℕ) (bytes : ℕ) (w : Timing) (t : Track S) → IsReady frames spare bytes t → IsReady frames spare bytes (reset_in w t)
 ready_marked frames spare bytes w t h = record { sound = sound_break w (state_of frames t) h.sound; room = h.room; count = received_broken w t.marks h.count; small = h.small }
 
-pub bytes_same : {S : Type 0} (frames : S → List Stored) (ts : List (Track S)) → bytes_in (states_of frames ts) ≡ bytes_of frames ts
-bytes_same frames [] = refl
-bytes_same frames (t ∷ ts) = sum_by-cons (λ s. used_of s.frames) (state_of frames t) (states_of frames ts) ∙ ap (λ n. used_of (frames t.store) + n) (bytes_same frames ts) ∙ sym (sum_by-cons (λ s. used_of (frames s.store)) t ts)
+-- the bytes of the track at a place are among those of all
+used_within : {S : Type 0} (frames : S → List Stored) (ts : List (Track S)) (i : ℕ) (t : Track S) → i < length ts → get_or ts i t ≡ t → used_of (frames t.store) ≤ bytes_in (states_of frames ts)
+used_within frames ts i t here at =
+    let long = length-map ts (state_of frames) in
+    let there : i < length (states_of frames ts) = omega arith in
+    let part = get_or-le-sum_by (λ s. used_of s.frames) (states_of frames ts) i (state_of frames t) there in
+    rw (get_or-map (state_of frames) ts i t (state_of frames t) here, at) at part
 
 -- the definition, where a count would pass its limit
-pub placed_full : {S : Type 0} (frames : S → List Stored) (ts : List (Track S)) (s : Settings) (i : ℕ) (f : CodedFrame) → i < length ts → IfSome (slice_get ts i) (λ t. true ≡ too_many t.marks.received (bytes_of frames ts) (length f.payload)) → outcome placed_as.Counts (states_of frames ts) s ≡ placed (states_of frames ts) s i f
+pub placed_full : {S : Type 0} (frames : S → List Stored) (ts : List (Track S)) (s : Settings) (i : ℕ) (f : CodedFrame) → i < length ts → IfSome (slice_get ts i) (λ t. true ≡ too_many t.marks.received (bytes_in (states_of frames ts)) (length f.payload)) → outcome placed_as.Counts (states_of frames ts) s ≡ placed (states_of frames ts) s i f
 placed_full frames ts s i f low full =
     elim (slice_get_cases ts i).1 [
       | inl found ↦
           (let here = slice_get-map (state_of frames) ts i ∙ ap (option_map (state_of frames)) found.2 in
           let yes = rw found.2 at full in
-          rw (here, bytes_same frames ts, ← yes) refl)
+          rw (here, ← yes) refl)
       | inr past ↦ absurd (omega arith)
     ]
 
 -- the definition, where none would
-pub placed_fits : {S : Type 0} (frames : S → List Stored) (ts : List (Track S)) (s : Settings) (i : ℕ) (f : CodedFrame) (o : Option Timing) → i < length ts → IfSome (slice_get ts i) (λ t. false ≡ too_many t.marks.received (bytes_of frames ts) (length f.payload)) → IfSome (slice_get ts i) (λ t. o ≡ timing_of s t.marks f) → placed_by o s f i (states_of frames ts) ≡ placed (states_of frames ts) s i f
+pub placed_fits : {S : Type 0} (frames : S → List Stored) (ts : List (Track S)) (s : Settings) (i : ℕ) (f : CodedFrame) (o : Option Timing) → i < length ts → IfSome (slice_get ts i) (λ t. false ≡ too_many t.marks.received (bytes_in (states_of frames ts)) (length f.payload)) → IfSome (slice_get ts i) (λ t. o ≡ timing_of s t.marks f) → placed_by o s f i (states_of frames ts) ≡ placed (states_of frames ts) s i f
 placed_fits frames ts s i f o low full times =
     elim (slice_get_cases ts i).1 [
       | inl found ↦
           (let here = slice_get-map (state_of frames) ts i ∙ ap (option_map (state_of frames)) found.2 in
           let no = rw found.2 at full in
           let own = rw found.2 at times in
-          rw (here, bytes_same frames ts, ← no, ← own) refl)
+          rw (here, ← no, ← own) refl)
       | inr past ↦ absurd (omega arith)
     ]
 
 pub fits_of : (received bytes more : ℕ) → received ≤ 2 ^ 62 → false ≡ too_many received bytes more → (received < 2 ^ 62) × (bytes + more < 2 ^ 62)
 fits_of received bytes more low fits = grind (arith, nat_tests)
 
-ready_at : {S : Type 0} (frames : S → List Stored) (spare : S → ℕ) (ts : List (Track S)) (i : ℕ) (bytes : ℕ) → IfSome (slice_get ts i) (λ t. Sound (state_of frames t)) → IfSome (slice_get ts i) (λ t. 1 ≤ spare t.store) → IfSome (slice_get ts i) (λ t. t.marks.received ≤ 2 ^ 62) → IfSome (slice_get ts i) (λ t. false ≡ too_many t.marks.received (bytes_of frames ts) bytes) → IfSome (slice_get ts i) (λ t. IsReady frames spare bytes t)
+ready_at : {S : Type 0} (frames : S → List Stored) (spare : S → ℕ) (ts : List (Track S)) (i : ℕ) (bytes : ℕ) → IfSome (slice_get ts i) (λ t. Sound (state_of frames t)) → IfSome (slice_get ts i) (λ t. 1 ≤ spare t.store) → IfSome (slice_get ts i) (λ t. t.marks.received ≤ 2 ^ 62) → IfSome (slice_get ts i) (λ t. false ≡ too_many t.marks.received (bytes_in (states_of frames ts)) bytes) → IfSome (slice_get ts i) (λ t. IsReady frames spare bytes t)
 ready_at frames spare ts i bytes sound room count fits =
     elim (slice_get_cases ts i).1 [
       | inl found ↦
           (let t = found.0 in
           let here = rw found.2 at fits in
           let most = rw found.2 at count in
-          let both = fits_of t.marks.received (bytes_of frames ts) bytes most here in
-          let part = rw found.3 at (get_or-le-sum_by (λ s. used_of (frames s.store)) ts i t found.1) in
+          let both = fits_of t.marks.received (bytes_in (states_of frames ts)) bytes most here in
+          let part = used_within frames ts i t found.1 found.3 in
           rw found.2 (record { sound = rw found.2 at sound; room = rw found.2 at room; count = both.0; small = omega arith }))
       | inr past ↦ rw past.1 tt
     ]
@@ -122,7 +127,7 @@ count_here : {S : Type 0} (frames : S → List Stored) (o : Option (Track S)) �
 count_here frames None h = tt
 count_here frames (Some t) h = h.count
 
-pub ready_kept : {S : Type 0} (frames : S → List Stored) (spare : S → ℕ) (ts : List (Track S)) (i : ℕ) (bytes : ℕ) → AreKept (states_of frames ts) → IfSome (slice_get ts i) (λ t. 1 ≤ spare t.store) → IfSome (slice_get ts i) (λ t. false ≡ too_many t.marks.received (bytes_of frames ts) bytes) → IfSome (slice_get ts i) (λ t. IsReady frames spare bytes t)
+pub ready_kept : {S : Type 0} (frames : S → List Stored) (spare : S → ℕ) (ts : List (Track S)) (i : ℕ) (bytes : ℕ) → AreKept (states_of frames ts) → IfSome (slice_get ts i) (λ t. 1 ≤ spare t.store) → IfSome (slice_get ts i) (λ t. false ≡ too_many t.marks.received (bytes_in (states_of frames ts)) bytes) → IfSome (slice_get ts i) (λ t. IsReady frames spare bytes t)
 ready_kept frames spare ts i bytes h room fits =
     let sound = sound_here frames ts i h.sound in
     ready_at frames spare ts i bytes sound room (count_here frames (slice_get ts i) sound) fits

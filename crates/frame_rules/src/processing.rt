@@ -1,9 +1,8 @@
 ghost use Rattle.std.specs.Prelude.{◌≡◌, ◌+◌, ◌<◌, ◌≤◌, ◌^◌, ℕ, ℤ, pos, ◌≤ℤ◌, length, map, slice_get, slice_set, IfSome};
-ghost use Rattle.track_store.specs.Frames.{used_of};
 ghost use Rattle.track_store.specs.State.{state_of, states_of};
 ghost use Rattle.frame_rules.specs.Put.{drop_reason, put, put_answer};
 ghost use Rattle.frame_rules.specs.Timing.{timing_of, IsTimingOf};
-ghost use Rattle.track_store.specs.Kept.{bytes_of, AreKept, HasRoom, gaps_of, EndBy};
+ghost use Rattle.track_store.specs.Kept.{bytes_in, AreKept, HasRoom, gaps_of, EndBy};
 ghost use Rattle.frame_rules.specs.Place.{reset_marks, reset_in, too_many, settings_after, outcome, placed, placed_at, IsReady, TakesRoomAt, limit_after};
 
 use crate::answer::Placed;
@@ -42,29 +41,6 @@ fn reset_all<S: FrameStore>(tracks: &mut Tracks<S>, timing: &Timing)
     }
 }
 
-fn bytes_at<S: FrameStore>(tracks: &Tracks<S>, i: usize) -> u64
-    ensures value { IfSome (slice_get tracks.now.items i)
-        (λ t. result ≡ used_of (S.frames t.store)) }
-    ensures small { result < 2 ^ 62 }
-{
-    match tracks.get(i) {
-        Some(track) => track.store.used(),
-        None => 0,
-    }
-}
-
-/// The bytes that are stored in all track buffers.
-fn bytes_of<S: FrameStore>(tracks: &Tracks<S>) -> u64
-    requires { bytes_of S.frames tracks.now.items < 2 ^ 62 }
-    ensures { result ≡ bytes_of S.frames tracks.now.items }
-{
-    let mut total = 0;
-    for i in 0..tracks.len() {
-        total += bytes_at(tracks, i);
-    }
-    total
-}
-
 /// Whether a count would pass its limit.
 fn too_many(received: u64, bytes: u64, more: usize) -> bool
     requires { bytes < 2 ^ 62 }
@@ -74,12 +50,12 @@ fn too_many(received: u64, bytes: u64, more: usize) -> bool
 }
 
 fn is_full<S: FrameStore>(tracks: &Tracks<S>, index: usize, more: usize) -> bool
-    requires { bytes_of S.frames tracks.now.items < 2 ^ 62 }
+    requires { bytes_in (states_of S.frames tracks.now.items) < 2 ^ 62 }
     ensures { IfSome (slice_get tracks.now.items index) (λ t. result
-        ≡ too_many t.marks.received (bytes_of S.frames tracks.now.items) more) }
+        ≡ too_many t.marks.received (bytes_in (states_of S.frames tracks.now.items)) more) }
 {
     match tracks.get(index) {
-        Some(track) => too_many(track.marks.received, bytes_of(tracks), more),
+        Some(track) => too_many(track.marks.received, tracks.used(), more),
         None => true,
     }
 }

@@ -16,7 +16,7 @@ use crate::answers::{Brought, Taken, brought_then, nothing_brought};
 use crate::buffered::buffered_of;
 use crate::frames::{place_of, process_at, unset_all};
 use crate::incoming::{init_fault, take_tracks, told_duration};
-use crate::looks::{highest_end, highest_start, track_views, used};
+use crate::looks::{highest_end, highest_start, track_views};
 use crate::rooms::reserve_all;
 use eviction::evict;
 use mse_base::{CodedFrame, Moment, OutOfMemory, Presentation, Ranges, Ticks};
@@ -291,7 +291,7 @@ impl<S: FrameStore> TrackBuffers<S> {
         ensures value { result ≡ used_in self.now.media }
         ensures small { result < 2 ^ 62 }
     {
-        used(&self.tracks)
+        self.tracks.used()
     }
 
     /// The greatest presentation timestamp; `None` exactly where there is no frame.

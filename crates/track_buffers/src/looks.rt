@@ -1,8 +1,7 @@
 //! What is stored in all track buffers.
 
-ghost use Rattle.std.specs.Prelude.{◌≡◌, ◌≤◌, ◌<◌, ◌^◌, map, slice_get, IfSome, IfOk, OnOk, flat_map, [], ◌∷◌, ◌++◌};
-ghost use Rattle.track_store.specs.Frames.{used_of, greatest, starts, ends};
-ghost use Rattle.track_store.specs.Kept.{bytes_of};
+ghost use Rattle.std.specs.Prelude.{◌≡◌, ◌≤◌, map, slice_get, IfSome, IfOk, OnOk, flat_map, [], ◌∷◌, ◌++◌};
+ghost use Rattle.track_store.specs.Frames.{greatest, starts, ends};
 ghost use Rattle.track_store.specs.State.{state_of, states_of};
 ghost use Rattle.track_buffers.specs.Views.{track_view};
 ghost use Rattle.track_buffers.specs.Buffered.{later_of};
@@ -12,28 +11,6 @@ use mse_base::{OutOfMemory, Ticks};
 use mse_calls::{TimeRanges, TrackView, TrackViews};
 use std::alloc::Global;
 use track_store::{FrameStore, Track, Tracks};
-
-fn used_at<S: FrameStore>(tracks: &Tracks<S>, i: usize) -> u64
-    ensures value { IfSome (slice_get tracks.now.items i) (λ t. result ≡ used_of (S.frames t.store)) }
-    ensures small { result < 2 ^ 62 }
-{
-    match tracks.get(i) {
-        Some(track) => track.store.used(),
-        None => 0,
-    }
-}
-
-/// The bytes of all stored frames.
-pub(crate) fn used<S: FrameStore>(tracks: &Tracks<S>) -> u64
-    requires { bytes_of S.frames tracks.now.items < 2 ^ 62 }
-    ensures { result ≡ bytes_of S.frames tracks.now.items }
-{
-    let mut total = 0;
-    for i in 0..tracks.len() {
-        total += used_at(tracks, i);
-    }
-    total
-}
 
 /// The greater of two times, where there are.
 pub(crate) fn later_of(a: Option<Ticks>, b: Option<Ticks>) -> Option<Ticks>

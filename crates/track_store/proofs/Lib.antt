@@ -1,4 +1,5 @@
 pub mod Clearing
+pub mod Counting
 pub mod Folding
 pub mod Listing
 pub mod Overlapping

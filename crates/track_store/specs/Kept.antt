@@ -1,7 +1,6 @@
 -- What holds of all tracks of a source buffer.
 use Rattle.std.specs.Prelude.{ℕ, ◌<◌, ◌≤◌, ◌^◌, ℤ, ◌+ℤ◌, ◌≤ℤ◌, List, map, sum_by}
 use Rattle.std.specs.List.{AllByRecursion}
-use Rattle.track_store.specs.declared.store.Stored.{Stored}
 use Rattle.track_store.specs.declared.tracks.Track.{Track}
 use Rattle.track_store.specs.Frames.{used_of}
 use Rattle.track_store.specs.State.{TrackState}
@@ -10,10 +9,6 @@ use Rattle.track_store.specs.Sound.{Sound}
 -- the bytes stored in all track buffers
 abbrev pub bytes_in : List TrackState → ℕ
 bytes_in ts = sum_by (λ t. used_of t.frames) ts
-
--- the same of tracks with their stores
-abbrev pub bytes_of : {S : Type 0} → (S → List Stored) → List (Track S) → ℕ
-bytes_of frames ts = sum_by (λ t. used_of (frames t.store)) ts
 
 -- what every step keeps: each track buffer is sound, and the bytes of all can be counted
 pub record AreKept (ts : List TrackState) : Type 0 where

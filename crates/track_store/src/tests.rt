@@ -77,6 +77,7 @@ fn keeps_tracks(rt: HostRuntime) -> Result<(), Fail> {
         marks: Marks::new(),
     });
     assert_eq!(rt; tracks.len(), 1);
+    assert_eq!(rt; tracks.used(), 0);
     if let Some(track) = tracks.get_mut(0) {
         track.marks.received = 3;
     }

@@ -116,6 +116,10 @@ impl<S: FrameStore> Model for Tracks<S> {
 }
 
 impl<S: FrameStore> Tracks<S> {
+    ghost use Rattle.std.specs.Prelude.{◌<◌, ◌^◌, IfSome};
+    ghost use Rattle.track_store.specs.Frames.{used_of};
+    ghost use Rattle.track_store.specs.Kept.{bytes_in};
+    ghost use Rattle.track_store.specs.State.{states_of};
     ghost use Rattle.track_store.specs.TrackLends.{lends_track};
 
     /// No tracks.
@@ -158,6 +162,29 @@ impl<S: FrameStore> Tracks<S> {
         ensures { option_copied result ≡ slice_get self.now.items i }
     {
         self.items.get(i)
+    }
+
+    // The bytes that are stored in the track buffer at a place, where there is one.
+    fn used_at(&self, i: usize) -> u64
+        ensures value { IfSome (slice_get (states_of S.frames self.now.items) i) (λ t. result ≡ used_of t.frames) }
+        ensures small { result < 2 ^ 62 }
+    {
+        match self.items.get(i) {
+            Some(track) => track.store.used(),
+            None => 0,
+        }
+    }
+
+    /// The bytes that are stored in all track buffers.
+    pub fn used(&self) -> u64
+        requires { bytes_in (states_of S.frames self.now.items) < 2 ^ 62 }
+        ensures { result ≡ bytes_in (states_of S.frames self.now.items) }
+    {
+        let mut total = 0;
+        for i in 0..self.len() {
+            total += self.used_at(i);
+        }
+        total
     }
 
     /// The track at a place, for writing; `None` exactly past the end.

@@ -1,5 +1,5 @@
 use Rattle.std.proofs.Common.{◌∙◌, ◌≤ℤ◌, ℤ, pos, ap, sym, subst, length, refl, None, Some}
-use Rattle.frame_rules.proofs.AllTracks.{placed_full, placed_fits, ready_kept, bytes_same}
+use Rattle.frame_rules.proofs.AllTracks.{placed_full, placed_fits, ready_kept}
 use Rattle.track_store.specs.State.{states_of}
 use Rattle.frame_rules.proofs.SoundPlaced.{kept_left, placed_window, end_left, timing_here}
 use Rattle.frame_rules.proofs.Rooms.{takes_nothing, room_left, same_length}
@@ -27,7 +27,7 @@ returns-in-Some-clause-kept g c =
     kept_left _ _ (states_of g.S.FrameStore.frames c.args.tracks.now.items) c.args.settings.now c.args.index c.args.frame refl (returns-in-Some-clause-outcome g c) c.requires.kept c.requires.low c.requires.forward
 
 pub is_full-requires : goal.is_full-requires
-is_full-requires g c = rw (← bytes_same g.S.FrameStore.frames c.args.tracks.now.items) c.requires.kept.small
+is_full-requires g c = c.requires.kept.small
 
 pub returns-in-Some-clause-low : goal.returns-in-Some-clause-low
 returns-in-Some-clause-low g c =
