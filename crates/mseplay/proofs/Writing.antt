@@ -1,6 +1,5 @@
 -- What a sink was given, by several puts.
-use Rattle.std.proofs.Common.{◌≡◌, ◌∙◌, ℕ, List, ◌++◌, take, drop, Option, Some, None, append_assoc, ap, subst, sym}
-use Rattle.std.proofs.lemmas.List.{take-append-drop}
+use Rattle.std.proofs.Common.{◌≡◌, ◌∙◌, ℕ, List, ◌++◌, Option, Some, None, append_assoc, ap, subst, sym}
 use Rattle.mseplay.specs.Wrote.{Wrote, WroteFront}
 
 -- one put after another
@@ -20,20 +19,15 @@ front_more a b old mid new u v =
 pub front_first : (a b : List ℕ) (old new : Option (List ℕ)) → WroteFront a old new → WroteFront (a ++ b) old new
 front_first a b old new v = (v.0, v.1 ++ b, ap (λ (zs : List ℕ). zs ++ b) v.2 ∙ append_assoc v.0 v.1 b, v.3)
 
--- a list by two parts
-parts : (line more rest : List ℕ) (n : ℕ) → line ≡ take n rest → more ≡ drop n rest → line ++ more ≡ rest
-parts line more rest n first last =
-    ap (λ (xs : List ℕ). xs ++ more) first ∙ ap (λ (xs : List ℕ). take n rest ++ xs) last ∙ take-append-drop n rest
-
 -- one more line was put
-pub line_put : (front text rest line more : List ℕ) (n : ℕ) (old mid new : Option (List ℕ)) → line ≡ take n rest → more ≡ drop n rest
+pub line_put : (front text rest line more : List ℕ) (old mid new : Option (List ℕ)) → rest ≡ line ++ more
     → Wrote front old mid → front ++ rest ≡ text → Wrote line mid new → (x : List ℕ) × Wrote x old new × (x ++ more ≡ text)
-line_put front text rest line more n old mid new first last w all v =
-    (front ++ line, wrote_more front line old mid new w v, append_assoc front line more ∙ ap (λ (xs : List ℕ). front ++ xs) (parts line more rest n first last) ∙ all)
+line_put front text rest line more old mid new parts w all v =
+    (front ++ line, wrote_more front line old mid new w v, append_assoc front line more ∙ ap (λ (xs : List ℕ). front ++ xs) (sym parts) ∙ all)
 
 -- a line was not put
-pub line_failed : (front text rest line more : List ℕ) (n : ℕ) (old mid new : Option (List ℕ)) → line ≡ take n rest → more ≡ drop n rest
+pub line_failed : (front text rest line more : List ℕ) (old mid new : Option (List ℕ)) → rest ≡ line ++ more
     → Wrote front old mid → front ++ rest ≡ text → WroteFront line mid new → WroteFront text old new
-line_failed front text rest line more n old mid new first last w all v =
-    let whole : front ++ (line ++ more) ≡ text = ap (λ (xs : List ℕ). front ++ xs) (parts line more rest n first last) ∙ all in
+line_failed front text rest line more old mid new parts w all v =
+    let whole : front ++ (line ++ more) ≡ text = ap (λ (xs : List ℕ). front ++ xs) (sym parts) ∙ all in
     subst (λ (t : List ℕ). WroteFront t old new) whole (front_more front (line ++ more) old mid new w (front_first line more mid new v))

@@ -32,3 +32,11 @@ file_of (name ∷ []) = []
 file_of (name ∷ file ∷ []) = file
 file_of (name ∷ count ∷ file ∷ []) = file
 file_of (name ∷ count ∷ file ∷ more ∷ words) = []
+
+abbrev pub at_least_one : ℕ → ℕ
+at_least_one n = if nat_le 1 n then n else 1
+
+-- how many bytes each append has of a file of so many bytes, but the last, which may be shorter
+abbrev pub piece_size : Command → ℕ → ℕ
+piece_size Ranges len = at_least_one len
+piece_size (Pieces count) len = at_least_one count

@@ -20,35 +20,18 @@ pub fn put_bytes<K: Sink>(sink: &mut K, bytes: &[u8]) -> Result<(), End>
     }
 }
 
-// How many bytes the first line of a text has, with its line feed.
-fn line_len(text: &[u8]) -> usize
-    requires { 0 < length text.now }
-    ensures some { 0 < result }
-    ensures within { result ≤ length text.now }
-{
-    for (i, byte) in text.iter().enumerate() {
-        if *byte == b'\n' {
-            return i + 1;
-        }
-    }
-    text.len()
-}
-
 /// Puts a text line by line: each put is one whole line with its line feed.
-pub fn put_lines<K: Sink>(sink: &mut K, text: &[u8]) -> Result<(), End>
+pub fn put_lines<K: Sink>(sink: &mut K, text: &str) -> Result<(), End>
     ensures ok { OnOk result (Wrote text.now (K.written sink.old) (K.written sink.new)) }
     ensures err { OnErr result (WroteFront text.now (K.written sink.old) (K.written sink.new)) }
     ensures later { K.faults sink.old ≤ K.faults sink.new }
     ensures ends { IfErr result (λ end. (end ≡ End.Memory) ⊎ ((end ≡ End.Write) × Rose (K.faults sink.old) (K.faults sink.new))) }
 {
-    let mut rest = text;
-    while !rest.is_empty() {
-        let (line, more) = rest.split_at(line_len(rest));
-        match put_bytes(sink, line) {
+    for line in text.split_inclusive('\n') {
+        match put_bytes(sink, line.as_bytes()) {
             Ok(()) => {}
             Err(end) => return Err(end),
         }
-        rest = more;
     }
     Ok(())
 }

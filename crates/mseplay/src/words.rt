@@ -1,6 +1,6 @@
 // The words of a call.
-ghost use Rattle.std.specs.Prelude.{◌≡◌, map, string_bytes};
-ghost use Rattle.mseplay.specs.Words.{piece_within, piece_of, command_of, file_of};
+ghost use Rattle.std.specs.Prelude.{◌≡◌, ◌≤◌, map, string_bytes};
+ghost use Rattle.mseplay.specs.Words.{piece_within, piece_of, command_of, file_of, piece_size};
 
 /// The most bytes that a piece may have.
 const LONGEST: u32 = 1 << 31;
@@ -12,6 +12,20 @@ pub enum Command {
     Ranges,
     /// `pieces N FILE`: the same in appends of N bytes each, 1 to 2^31, of which the last may be shorter.
     Pieces(u32),
+}
+
+impl Command {
+    /// How many bytes each append has of a file of `len` bytes, but the last, which may be shorter: all of them, or N; at
+    /// least one.
+    pub fn piece_size(self, len: usize) -> usize
+        ensures size { result ≡ piece_size self len }
+        ensures some { 1 ≤ result }
+    {
+        match self {
+            Command::Ranges => len.max(1),
+            Command::Pieces(count) => (count as usize).max(1),
+        }
+    }
 }
 
 // The number where a piece may have so many bytes.

@@ -6,7 +6,7 @@ ghost use Rattle.mseplay.specs.Outcomes.{Given, Worked};
 use crate::ending::End;
 use crate::play::block_of;
 use crate::put::put_lines;
-use crate::words::{Command, file_name, read_command};
+use crate::words::{file_name, read_command};
 use mse_outside::{Library, Loaded, Sink};
 use std::alloc::Global;
 use track_store::FrameStore;
@@ -25,16 +25,6 @@ fn load<L: Library>(alloc: Global, library: &mut L, name: &str) -> Result<Vec<u8
         Loaded::NoFile => Err(End::NoFile),
         Loaded::Failed => Err(End::Read),
         Loaded::OutOfMemory => Err(End::Memory),
-    }
-}
-
-// How many bytes a piece has of a file of so many bytes.
-fn piece_size(command: Command, len: usize) -> usize
-    ensures { 1 ≤ result }
-{
-    match command {
-        Command::Ranges => len.max(1),
-        Command::Pieces(count) => (count as usize).max(1),
     }
 }
 
@@ -58,11 +48,11 @@ pub fn work<S: FrameStore, L: Library, K: Sink>(
         Ok(file) => file,
         Err(end) => return Err(end),
     };
-    let size = piece_size(command, file.len());
+    let size = command.piece_size(file.len());
     let Ok(block) = block_of::<S>(alloc, file, size) else {
         return Err(End::Memory);
     };
-    match put_lines(sink, block.text.as_str().as_bytes()) {
+    match put_lines(sink, block.text.as_str()) {
         Ok(()) => Ok(block.breaks),
         Err(end) => Err(end),
     }

@@ -1,13 +1,11 @@
-use Rattle.std.proofs.Common.{◌≡◌, ◌≤◌, ◌++◌, List, ℕ, length}
+use Rattle.std.proofs.Common.{◌≡◌, ◌≤◌, ◌++◌, List, ℕ}
+use Rattle.std.specs.Str.Iter.{split_inclusive_text}
 use Rattle.mseplay.specs.Wrote.{Wrote}
 use Rattle.mseplay.proofs.put.put_lines.Given as goal
 
--- what was written, with the rest, is all
-abbrev pub invariant-loop-rest : goal.invariant-loop-rest
-invariant-loop-rest g l = record {
-  wrote : (front : List ℕ) × Wrote front (g.K.Sink.written l.fn.sink) (g.K.Sink.written l.sink) × (front ++ l.rest ≡ l.text);
-  later : g.K.Sink.faults l.fn.sink ≤ g.K.Sink.faults l.sink;
+-- what was written, with the lines that are left, is all
+abbrev pub invariant-loop-line : goal.invariant-loop-line
+invariant-loop-line g l = record {
+  wrote : (front : List ℕ) × Wrote front (g.K.Sink.written l.initial.sink) (g.K.Sink.written l.sink) × (front ++ split_inclusive_text l.line-iterator ≡ l.text);
+  later : g.K.Sink.faults l.initial.sink ≤ g.K.Sink.faults l.sink;
 }
-
-abbrev pub decreases-loop-rest : goal.decreases-loop-rest
-decreases-loop-rest g l = length l.rest

@@ -12,12 +12,12 @@ returns-in-Ok-put_lines-clause-worked g c =
     let table : Option Table = g.L.Library.table c.args.library.now in
     let words : List (List ℕ) = map string_bytes c.args.words.now in
     let given : Given = record { table = table; words = words; faults_before = g.L.Library.faults c.args.library.now; faults_after = g.L.Library.faults c.load.new.library } in
-    let text : List ℕ = c.as_bytes.result.now in
+    let text : List ℕ = c.as_str.result.now in
     let asked : IsAsked given text = record {
       command = subst (λ (o : Option Command). IsSome o) (sym (sym c.read_command.ensures ∙ c.in-Some.is)) refl;
       bytes = bytes;
       named = subst (λ (name : List ℕ). IfSome table (λ files. files name ≡ Some bytes)) c.file_name.ensures c.in-Ok.ensures.ok;
-      is = c.as_bytes.ensures.value ∙ c.as_str.ensures ∙ c.in-Ok-block_of.ensures.text;
+      is = c.as_str.ensures ∙ c.in-Ok-block_of.ensures.text;
     } in
     record { text = text; asked = asked; wrote = c.in-Ok-put_lines.ensures.ok; fault = c.in-Ok-block_of.ensures.breaks }
 
@@ -27,12 +27,12 @@ returns-clause-worked g c =
     let table : Option Table = g.L.Library.table c.args.library.now in
     let words : List (List ℕ) = map string_bytes c.args.words.now in
     let given : Given = record { table = table; words = words; faults_before = g.L.Library.faults c.args.library.now; faults_after = g.L.Library.faults c.load.new.library } in
-    let text : List ℕ = c.as_bytes.result.now in
+    let text : List ℕ = c.as_str.result.now in
     let asked : IsAsked given text = record {
       command = subst (λ (o : Option Command). IsSome o) (sym (sym c.read_command.ensures ∙ c.in-Some.is)) refl;
       bytes = bytes;
       named = subst (λ (name : List ℕ). IfSome table (λ files. files name ≡ Some bytes)) c.file_name.ensures c.in-Ok.ensures.ok;
-      is = c.as_bytes.ensures.value ∙ c.as_str.ensures ∙ c.in-Ok-block_of.ensures.text;
+      is = c.as_str.ensures ∙ c.in-Ok-block_of.ensures.text;
     } in
     put_failed given text (g.K.Sink.written c.args.sink.now) (g.K.Sink.written c.put_lines.new.sink) (g.K.Sink.faults c.args.sink.now) (g.K.Sink.faults c.put_lines.new.sink) c.in-Err-put_lines.end
     asked c.in-Err-put_lines.ensures.err c.in-Err-put_lines.ensures.ends
