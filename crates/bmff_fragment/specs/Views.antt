@@ -16,7 +16,7 @@ abbrev pub Gives : {X Y : Type 0} → (X → Y) → Result X MoofError → Resul
 Gives view (Ok x) read = read ≡ Ok (view x)
 Gives view (Err e) read = Fails e read
 
--- a slot whose data end behind their start and are not far away, and which does not last a negative time
+-- a slot whose data do not end before their start and are not far away, and which does not last a negative time
 pub record IsPlaced (s : Slot) : Type 0 where
   pub ordered : s.start ≤ s.end
   pub small : s.end < 2 ^ 60

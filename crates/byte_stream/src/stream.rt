@@ -114,7 +114,7 @@ impl ByteStream {
         self.parser.next()
     }
 
-    /// The stream stands for some string.
+    /// Hands out that the stream stands for some string; it does nothing.
     pub fn stands(&self)
         ensures { StandsForSome self.now }
     {

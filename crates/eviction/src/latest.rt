@@ -73,7 +73,7 @@ fn highest<S: FrameStore>(
 }
 
 /// The last random access point before the next, where there is one at `low`. It halves the time
-/// in which it looks, at most 111 times, with one look-up each time.
+/// in which it looks, at most 112 times, with one look-up each time.
 fn latest_from<S: FrameStore>(
     tracks: &Tracks<S>,
     lead: usize,

@@ -24,15 +24,19 @@ fn one_content(alloc: Global, bytes: &[u8]) -> Result<Vec<Vec<u8>>, AllocError>
 fn loads_from_memory(rt: HostRuntime) -> Result<(), Fail> {
     let alloc = rt.alloc();
     let mut into = vec![in alloc; 9u8]?;
-    let names = one_name(alloc, "V1")?;
+    let names = one_name(alloc, "first.mp4")?;
     let contents = one_content(alloc, &[1, 2])?;
     let mut library = MemoryLibrary::new(alloc, names, contents, vec![in alloc; 2u64]?);
-    assert_eq!(rt; library.load("V1", &mut into), Loaded::Done);
-    assert_eq!(rt; library.load("V1", &mut into), Loaded::Failed);
-    assert_eq!(rt; library.load("V2", &mut into), Loaded::NoFile);
+    assert_eq!(rt; library.load("first.mp4", &mut into), Loaded::Done);
+    assert_eq!(rt; library.load("first.mp4", &mut into), Loaded::Failed);
+    assert_eq!(rt; library.load("second.mp4", &mut into), Loaded::NoFile);
     assert_eq!(rt; into.as_slice(), [9, 1, 2].as_slice());
-    let mut sure = SureLibrary::new(alloc, one_name(alloc, "V1")?, one_content(alloc, &[3])?);
-    assert_eq!(rt; sure.load("V1", &mut into), Loaded::Done);
+    let mut sure = SureLibrary::new(
+        alloc,
+        one_name(alloc, "first.mp4")?,
+        one_content(alloc, &[3])?,
+    );
+    assert_eq!(rt; sure.load("first.mp4", &mut into), Loaded::Done);
     assert_eq!(rt; sure.load("", &mut into), Loaded::NoFile);
     assert_eq!(rt; into.as_slice(), [9, 1, 2, 3].as_slice());
     Ok(())

@@ -108,8 +108,8 @@ impl<S: FrameStore> TrackBuffers<S> {
         self.tracks.len() == 0
     }
 
-    /// An initialization segment is received, where the media source has a duration (Media Source
-    /// Extensions, 3.5.7). The first one makes the track buffers.
+    /// An initialization segment is received (Media Source Extensions, 3.5.7). `duration` is that
+    /// of the media source, NaN where it has none. The first one makes the track buffers.
     pub fn receive(&mut self, presentation: &Presentation, duration: Moment) -> Taken
         requires { awaits_first self.old.media ≡ true
             → length (media_tracks presentation.now) ≤ self.old.places }
@@ -135,8 +135,9 @@ impl<S: FrameStore> TrackBuffers<S> {
         }
     }
 
-    /// A coded frame of the byte stream is processed, where the media source has a duration
-    /// (Media Source Extensions, 3.5.8). A frame of no track buffer is passed over.
+    /// A coded frame of the byte stream is processed (Media Source Extensions, 3.5.8). `duration`
+    /// is that of the media source, NaN where it has none. A frame of no track buffer is passed
+    /// over.
     pub fn process(&mut self, frame: CodedFrame, duration: Moment) -> Taken
         requires room { 1 ≤ self.old.room }
         requires forward { pos 0 ≤ℤ frame.dur }
@@ -152,9 +153,9 @@ impl<S: FrameStore> TrackBuffers<S> {
         }
     }
 
-    /// Frames that are ready are processed one after the other, where the media source has a
-    /// duration (Media Source Extensions, 3.5.2, step 1). A frame whose times are out of range, or
-    /// that passes a count, ends this, and nothing else comes of it.
+    /// Frames that are ready are processed one after the other (Media Source Extensions, 3.5.2,
+    /// step 1). `duration` is that of the media source, NaN where it has none. A frame whose times
+    /// are out of range, or that passes a count, ends this, and nothing else comes of it.
     pub fn flush(&mut self, frames: Vec<CodedFrame>, duration: Moment) -> Brought
         requires room { length frames.items ≤ self.old.room }
         requires forward { AllByRecursion (λ f. pos 0 ≤ℤ f.dur) frames.items }
@@ -187,7 +188,8 @@ impl<S: FrameStore> TrackBuffers<S> {
         }
     }
 
-    /// Removes frames, where the media source has a duration (Media Source Extensions, 3.5.9).
+    /// Removes frames (Media Source Extensions, 3.5.9). `duration` is that of the media source, NaN
+    /// where it has none.
     pub fn remove(&mut self, start: Ticks, end: Moment, duration: Moment)
         ensures media { self.new.media ≡ without_frames start end duration self.old.media }
         ensures ends { (moment : Moment) → EndsWithin moment self.old.media.tracks
@@ -332,7 +334,9 @@ impl<S: FrameStore> TrackBuffers<S> {
         track_views(&self.tracks, self.alloc)
     }
 
-    /// Each track buffer is sound, and the bytes of all can be counted.
+    /// Hands out what always holds; it does nothing. Each track buffer is sound, the bytes of all
+    /// can be counted, the append window has a start that is not negative and an end, and the gap
+    /// is not negative.
     pub fn sound(&self)
         ensures kept { AreKept self.now.media.tracks }
         ensures sound { AllByRecursion Sound self.now.media.tracks }

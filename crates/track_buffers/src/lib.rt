@@ -2,8 +2,9 @@
 //! what an initialization segment, a coded frame, a reset of the parser, a removal and an eviction
 //! do to them.
 //!
-//! It stands on `track_store`, `frame_rules`, `range_removal` and `eviction`, and knows nothing of
-//! the byte stream. Its main contract is that of [`TrackBuffers`]: each call makes of the media
+//! It stands on `track_store`, `frame_rules`, `range_removal` and `eviction`, on the plain types of
+//! `mse_base`, `mse_types` and `mse_calls`, and takes from `bmff_fragment` which tracks are media
+//! tracks; it knows nothing else of the byte stream. Its main contract is that of [`TrackBuffers`]: each call makes of the media
 //! what one function on lists of frames says, `initialized`, `framed`, `flushed`, `parser_reset`,
 //! `without_frames` and `evicted_media` of `specs/`. The buffered ranges are the ticks that all
 //! tracks have.
