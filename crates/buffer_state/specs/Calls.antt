@@ -41,9 +41,9 @@ is_sequence Segments = false
 is_sequence Sequence = true
 
 -- the byte stream format generates timestamps (byte stream format registry, "generate timestamps flag")
-abbrev pub is_adts : Container → Bool
-is_adts Mp4 = false
-is_adts Adts = true
+abbrev pub generates_timestamps : Container → Bool
+generates_timestamps Mp4 = false
+generates_timestamps Adts = true
 
 -- the content with other media
 abbrev pub with_media : Media → Content → Content
@@ -129,7 +129,7 @@ appended bytes position quota a f c =
 
 -- ---- resets of the parser
 
--- what is fired where an append is aborted (3.2, abort, step 4)
+-- what is fired where running work is aborted (3.2, abort, step 4; 2.2, removeSourceBuffer, step 2)
 abbrev pub abort_events : Bool → List EventKind
 abort_events true = Abort ∷ UpdateEnd ∷ []
 abort_events false = []
@@ -148,7 +148,7 @@ aborted a f c =
 -- changeType: the parser is reset, the presentation is forgotten, and the next initialization segment may have other
 -- codecs
 abbrev pub type_flushed : Container → Flushed → Surroundings → Answered
-type_flushed container done a = replied (reopens a.ready) done.brought None [] (restarted container None) (record { media = with_container (is_adts container) (parser_reset done.media); latest = None })
+type_flushed container done a = replied (reopens a.ready) done.brought None [] (restarted container None) (record { media = with_container (generates_timestamps container) (parser_reset done.media); latest = None })
 
 abbrev pub type_changed_to : TypeAnswer → Surroundings → Feed → Content → Answered
 type_changed_to Empty a f c = refuse TypeError false a f c

@@ -76,17 +76,17 @@ is_removing Append = false
 is_removing (Removal start end) = true
 
 abbrev pub running_on : Running → Feed → Feed
-running_on running f = record { container = f.container; before = f.before; whole = f.whole; taken = f.taken; running = running }
+running_on running f = record f { running = running }
 
 abbrev pub rested : Feed → Feed
 rested f = running_on Nothing f
 
 -- more bytes at the end of the string (Media Source Extensions, 3.2, appendBuffer)
 abbrev pub fed_with : List ℕ → Feed → Feed
-fed_with bytes f = record { container = f.container; before = f.before; whole = f.whole ++ bytes; taken = f.taken; running = Append }
+fed_with bytes f = record f { whole = f.whole ++ bytes; running = Append }
 
 abbrev pub one_taken : Feed → Feed
-one_taken f = record { container = f.container; before = f.before; whole = f.whole; taken = f.taken + 1; running = f.running }
+one_taken f = record f { taken = f.taken + 1 }
 
 -- an empty string, read with the presentation that is left (Media Source Extensions, 3.5.2, reset parser state)
 abbrev pub restarted : Container → Option Presentation → Feed

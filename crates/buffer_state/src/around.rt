@@ -16,7 +16,7 @@ pub struct Around {
     pub duration: Moment,
     /// The playback position. Only an append looks at it.
     pub position: Ticks,
-    /// How many bytes the coded frames of a buffer may have, of which at most one append goes
-    /// beyond. Only an append looks at it.
+    /// An append is refused where, after eviction, the stored coded frames have this many bytes or
+    /// more. Only an append looks at it.
     pub quota: u64,
 }

@@ -10,7 +10,7 @@ ghost use Rattle.track_buffers.specs.Buffered.{buffered_of};
 ghost use Rattle.buffer_state.specs.State.{Feed, Content, Kept, Stands, surroundings, restarted, phase_in, ready_in, is_updating};
 ghost use Rattle.buffer_state.specs.Replies.{Answers, KeepsEnds, TurnedAs, TurnKeepsEnds, changes_of};
 ghost use Rattle.buffer_state.specs.Turns.{turn};
-ghost use Rattle.buffer_state.specs.Calls.{is_adts, mode_set, offset_set, window_start_set, window_end_set, removal_begun, appended, aborted, type_changed, work_ended, buffer_view};
+ghost use Rattle.buffer_state.specs.Calls.{generates_timestamps, mode_set, offset_set, window_start_set, window_end_set, removal_begun, appended, aborted, type_changed, work_ended, buffer_view};
 ghost use Rattle.buffer_state.specs.Left.{IsFewer, IsIdle};
 ghost use Rattle.byte_stream.specs.Items.{held_at};
 ghost use Rattle.byte_stream.specs.Streams.{StandsForSome, ready_of};
@@ -53,17 +53,22 @@ impl<S: FrameStore> Buffer<S> {
     pub fn new(alloc: Global, gap: Ticks, container: Container) -> Self
         requires { pos 0 ≤ℤ gap }
         ensures { Stands result (restarted container None)
-            (record { media = new_media gap (is_adts container); latest = None }) }
+            (record { media = new_media gap (generates_timestamps container); latest = None }) }
     {
         Buffer {
             alloc,
             stream: ByteStream::new(alloc, container),
-            media: TrackBuffers::new(alloc, gap, resets::is_adts(container)),
+            media: TrackBuffers::new(alloc, gap, resets::generates_timestamps(container)),
             running: Running::Nothing,
         }
     }
 
-    /// Sets `mode`.
+    /// Sets the append mode (Media Source Extensions, 3.1, `mode`). With "sequence" the group start
+    /// timestamp becomes the group end timestamp.
+    ///
+    /// InvalidState where the buffer is removed, or an append or a removal runs; TypeError where
+    /// timestamps are generated and the mode is "segments"; and, after an ended source is opened
+    /// again, InvalidState where the segment parser loop is in a media segment.
     pub fn set_mode(&mut self, mode: Mode, around: &Around) -> Reply
         ensures answered { Answers self.old result self.new
             (mode_set mode (surroundings around.now)) }
@@ -73,7 +78,11 @@ impl<S: FrameStore> Buffer<S> {
         settings_calls::set_mode(&self.stream, &mut self.media, &self.running, mode, around)
     }
 
-    /// Sets `timestampOffset`.
+    /// Sets the timestamp offset, in ticks (Media Source Extensions, 3.1, `timestampOffset`). In mode
+    /// "sequence" the group start timestamp becomes it too.
+    ///
+    /// InvalidState where the buffer is removed, or an append or a removal runs; and, after an ended
+    /// source is opened again, InvalidState where the segment parser loop is in a media segment.
     pub fn set_offset(&mut self, t: Ticks, around: &Around) -> Reply
         ensures answered { Answers self.old result self.new
             (offset_set t (surroundings around.now)) }
@@ -83,7 +92,11 @@ impl<S: FrameStore> Buffer<S> {
         settings_calls::set_offset(&self.stream, &mut self.media, &self.running, t, around)
     }
 
-    /// Sets `appendWindowStart`.
+    /// Sets the start of the append window, in ticks (Media Source Extensions, 3.1,
+    /// `appendWindowStart`).
+    ///
+    /// InvalidState where the buffer is removed, or an append or a removal runs; TypeError where the
+    /// start is negative, or at or after the end of the window.
     pub fn set_window_start(&mut self, t: Ticks, around: &Around) -> Reply
         ensures answered { Answers self.old result self.new
             (window_start_set t (surroundings around.now)) }
@@ -93,7 +106,11 @@ impl<S: FrameStore> Buffer<S> {
         settings_calls::set_window_start(&self.stream, &mut self.media, &self.running, t, around)
     }
 
-    /// Sets `appendWindowEnd`.
+    /// Sets the end of the append window, in ticks (Media Source Extensions, 3.1,
+    /// `appendWindowEnd`).
+    ///
+    /// InvalidState where the buffer is removed, or an append or a removal runs; TypeError where the
+    /// end is NaN, or at or before the start of the window.
     pub fn set_window_end(&mut self, t: Moment, around: &Around) -> Reply
         ensures answered { Answers self.old result self.new
             (window_end_set t (surroundings around.now)) }
@@ -103,7 +120,12 @@ impl<S: FrameStore> Buffer<S> {
         settings_calls::set_window_end(&self.stream, &mut self.media, &self.running, t, around)
     }
 
-    /// `remove`: begins a removal.
+    /// Begins a removal from `start` on and before `end`, in ticks (Media Source Extensions, 3.2,
+    /// `remove`). An ended source is opened again.
+    ///
+    /// InvalidState where the buffer is removed, or an append or a removal runs; TypeError where the
+    /// duration is NaN, where `start` is negative or later than the duration, or where `end` is NaN,
+    /// or at or before `start`.
     pub fn remove(&mut self, start: Ticks, end: Moment, around: &Around) -> Reply
         ensures answered { Answers self.old result self.new
             (removal_begun start end (surroundings around.now)) }
@@ -113,7 +135,14 @@ impl<S: FrameStore> Buffer<S> {
         removal::remove(&mut self.running, start, end, around)
     }
 
-    /// `appendBuffer`: begins an append. It takes its memory first; an `Err` changes nothing.
+    /// Begins an append of bytes (Media Source Extensions, 3.2, `appendBuffer`). It takes its memory
+    /// first; an `Err` changes nothing.
+    ///
+    /// InvalidState where the buffer is removed, where an append or a removal runs, or where the
+    /// element has an error. Else an ended source is opened again and coded frames are evicted
+    /// (3.5.4), also where the append is then refused: QuotaExceeded where, after eviction, the
+    /// stored frames have as many bytes as the quota or more, or where the bytes appended since the
+    /// last reset would be `2^62` or more.
     pub fn append(&mut self, bytes: &[u8], around: &Around) -> Result<Reply, OutOfMemory>
         ensures answered { IfOk result (λ reply. Answers self.old reply self.new
             (appended bytes.now around.now.position around.now.quota (surroundings around.now))) }
@@ -131,7 +160,12 @@ impl<S: FrameStore> Buffer<S> {
         )
     }
 
-    /// `abort`. It takes its memory first; an `Err` changes nothing.
+    /// Aborts an append that runs, and resets the parser (Media Source Extensions, 3.2, `abort`). The
+    /// coded frames that are ready are processed in the append window as it was; then the window is
+    /// from 0 on and without an end. It takes its memory first; an `Err` changes nothing.
+    ///
+    /// InvalidState where the buffer is removed, where the source is not open, or where a removal
+    /// runs.
     pub fn abort(&mut self, around: &Around) -> Result<Reply, OutOfMemory>
         ensures answered { IfOk result (λ reply. Answers self.old reply self.new
             (aborted (surroundings around.now))) }
@@ -150,7 +184,14 @@ impl<S: FrameStore> Buffer<S> {
         )
     }
 
-    /// `changeType`, with the new type. It takes its memory first; an `Err` changes nothing.
+    /// Resets the parser and changes the byte stream format to that of a type (Media Source
+    /// Extensions, second edition, `changeType`). The presentation is forgotten, and the next
+    /// initialization segment may have other codecs. Where timestamps are generated in the format,
+    /// the mode becomes "sequence". An ended source is opened again. It takes its memory first; an
+    /// `Err` changes nothing.
+    ///
+    /// TypeError where the type is empty; InvalidState where the buffer is removed, or an append or
+    /// a removal runs; NotSupported where the type is not supported.
     pub fn change_type(&mut self, text: &str, around: &Around) -> Result<Reply, OutOfMemory>
         ensures answered { IfOk result (λ reply. Answers self.old reply self.new
             (type_changed text.now (surroundings around.now))) }
@@ -299,7 +340,7 @@ impl<S: FrameStore> Buffer<S> {
 
     /// Each track buffer is sound: each frame that it holds is a random access point, or the frame
     /// received just before it is held too. And the bytes of all can be counted, and the buffer
-    /// stands for some string.
+    /// stands for some string. It does nothing when it runs.
     pub fn sound(&self)
         ensures kept { AreKept self.now.media.tracks }
         ensures sound { AllByRecursion Sound self.now.media.tracks }

@@ -10,11 +10,12 @@ ghost use Rattle.byte_stream.specs.Streams.{Streaming};
 use crate::around::Around;
 use crate::reply::{Reply, one, quiet, refused, reopens};
 use crate::running::Running;
-use crate::settings_calls::{is_before, is_locked, is_nan};
+use crate::settings_calls::is_locked;
 use mse_base::{Moment, Ticks};
 use mse_calls::{EventKind, Name};
+use track_store::named::is_before;
 
-/// Whether a time is later than the duration.
+/// Whether a time is later than the duration. Every time is where the duration is NaN.
 fn is_beyond(t: Ticks, duration: &Moment) -> bool
     ensures { result ≡ is_beyond t duration.now }
 {
@@ -36,13 +37,7 @@ pub(crate) fn remove(running: &mut Running, start: Ticks, end: Moment, around: &
     if is_locked(around, running) {
         return refused(Name::InvalidState, false, &around.duration);
     }
-    if is_nan(&around.duration) {
-        return refused(Name::TypeError, false, &around.duration);
-    }
-    if start < Ticks::zero() || is_beyond(start, &around.duration) {
-        return refused(Name::TypeError, false, &around.duration);
-    }
-    if is_nan(&end) || !is_before(start, &end) {
+    if start < Ticks::zero() || is_beyond(start, &around.duration) || !is_before(start, &end) {
         return refused(Name::TypeError, false, &around.duration);
     }
     *running = Running::Removal { start, end };

@@ -10,7 +10,7 @@ ghost use Rattle.track_buffers.specs.Media.{EndsWithin};
 ghost use Rattle.track_buffers.specs.Frames.{flushed};
 ghost use Rattle.buffer_state.specs.State.{kept, ready_in, surroundings};
 ghost use Rattle.buffer_state.specs.Replies.{Answers, KeepsEnds, is_open};
-ghost use Rattle.buffer_state.specs.Calls.{aborted, abort_events, is_adts, type_changed, type_flushed};
+ghost use Rattle.buffer_state.specs.Calls.{aborted, abort_events, generates_timestamps, type_changed, type_flushed};
 ghost use Rattle.buffer_state.specs.Steps.{frame_in};
 
 use crate::around::Around;
@@ -78,11 +78,11 @@ fn flush<S: FrameStore>(
     Ok(media.flush(frames, duration))
 }
 
-/// What is fired where an append is aborted.
-pub(crate) fn abort_events(appending: bool) -> Changes
-    ensures { result ≡ abort_events appending }
+/// What is fired where running work is aborted; nothing where none runs.
+pub(crate) fn abort_events(running: bool) -> Changes
+    ensures { result ≡ abort_events running }
 {
-    if appending {
+    if running {
         two(EventKind::Abort, EventKind::UpdateEnd)
     } else {
         Changes::new()
@@ -129,8 +129,9 @@ pub(crate) fn abort<S: FrameStore>(
     Ok(replied(false, brought, None, events))
 }
 
-pub(crate) fn is_adts(container: Container) -> bool
-    ensures { result ≡ is_adts container }
+/// Whether the byte stream format of a container generates timestamps.
+pub(crate) fn generates_timestamps(container: Container) -> bool
+    ensures { result ≡ generates_timestamps container }
 {
     match container {
         Container::Mp4 => false,
@@ -158,7 +159,7 @@ fn take_type<S: FrameStore>(
 {
     let done = flush(alloc, stream, media, around.duration)?;
     media.reset_parser();
-    media.change_container(is_adts(container));
+    media.change_container(generates_timestamps(container));
     stream.restart(container);
     Ok(replied(reopens(around.ready), done, None, Changes::new()))
 }

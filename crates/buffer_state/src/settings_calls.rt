@@ -1,7 +1,6 @@
 //! The attributes of a source buffer, on setting (Media Source Extensions, 3.1).
 
 ghost use Rattle.std.specs.Prelude.{◌≡◌, ◌||◌, ◌&&◌, not, None};
-ghost use Rattle.track_store.specs.Frames.{is_before};
 ghost use Rattle.buffer_state.specs.State.{kept, surroundings, is_updating};
 ghost use Rattle.buffer_state.specs.Replies.{Answers, KeepsEnds};
 ghost use Rattle.buffer_state.specs.Calls.{is_nan, is_sequence, mode_set, offset_set, window_start_set, window_end_set};
@@ -14,6 +13,7 @@ use mse_base::{Moment, Phase, Ticks};
 use mse_calls::{Changes, Mode, Name};
 use track_buffers::TrackBuffers;
 use track_store::FrameStore;
+use track_store::named::is_before;
 
 /// Whether the buffer is removed, or work runs.
 pub(crate) fn is_locked(around: &Around, running: &Running) -> bool
@@ -22,18 +22,7 @@ pub(crate) fn is_locked(around: &Around, running: &Running) -> bool
     around.removed || running.is_updating()
 }
 
-/// Whether a time is before a moment.
-pub(crate) fn is_before(t: Ticks, moment: &Moment) -> bool
-    ensures { result ≡ is_before t moment.now }
-{
-    match moment {
-        Moment::Nan => false,
-        Moment::At(m) => t < *m,
-        Moment::Infinite => true,
-    }
-}
-
-pub(crate) fn is_nan(moment: &Moment) -> bool
+fn is_nan(moment: &Moment) -> bool
     ensures { result ≡ is_nan moment.now }
 {
     match moment {

@@ -99,9 +99,12 @@ fn hear(reply: &Reply) -> Heard {
     }
 }
 
-/// What is heard of two things, one after the other: the events of the second.
-fn then(first: &Heard, second: &Heard) -> Heard {
-    Heard {
+/// What is heard of two steps of one piece of work, one after the other. Only its last step fires events.
+fn then(first: &Heard, second: &Heard) -> Result<Heard, Fail> {
+    if first.events != (None, None) {
+        return Err(Fail::new("events before the last step"));
+    }
+    Ok(Heard {
         refused: second.refused,
         reopened: first.reopened || second.reopened,
         changes: first.changes.saturating_add(second.changes),
@@ -112,7 +115,7 @@ fn then(first: &Heard, second: &Heard) -> Heard {
             second.fault
         },
         events: second.events,
-    }
+    })
 }
 
 fn append(scene: &mut Scene, bytes: &[u8], from: usize, to: usize) -> Result<Heard, Fail> {
@@ -131,11 +134,11 @@ fn turn(scene: &mut Scene) -> Result<Option<Heard>, OutOfMemory> {
     }
 }
 
-fn drain(scene: &mut Scene) -> Result<Heard, OutOfMemory> {
+fn drain(scene: &mut Scene) -> Result<Heard, Fail> {
     let mut all = quiet();
     for _ in 0..40 {
         match turn(scene)? {
-            Some(more) => all = then(&all, &more),
+            Some(more) => all = then(&all, &more)?,
             None => return Ok(all),
         }
     }
@@ -185,7 +188,7 @@ pub(super) fn perform(scene: &mut Scene, bytes: &[u8], act: Act) -> Result<Heard
     match act {
         Act::Append(from, to) => append(scene, bytes, from, to),
         Act::Turn => Ok(turn(scene)?.ok_or("nothing runs")?),
-        Act::Drain => Ok(drain(scene)?),
+        Act::Drain => drain(scene),
         Act::Abort => Ok(abort(scene)?),
         Act::Type(text) => Ok(change_type(scene, text)?),
         Act::Mode(mode) => Ok(set_mode(scene, mode)),
