@@ -111,13 +111,13 @@ pub appended_works : (before bytes : List ℕ) (s : SourceKept) (a : Surrounding
     → length before + length bytes < 2 ^ 62 → s.fault ≡ None → Reached s (outcome_of before) → AreKept s.buffer.media.tracks
     → a ≡ told s.duration → quota ≡ 2 ^ 62 → Answers s.buffer reply new (appended bytes position quota a)
     → WorksOn (source_kept new s.duration s.fault) (before ++ bytes)
-appended_works before bytes s a position quota reply new few sound reached kept around much answers =
+appended_works before bytes s a position quota reply new few no_fault reached kept around much answers =
     let d : Moment = s.duration in
     let h : Heard = heard_whole before in
     let count : ℕ = length (all_items before) in
     let f : Feed = fed before count Nothing in
     let is = outcome_is before in
-    let none : h.fault ≡ None = ap (λ (o : Outcome). o.fault) (sym is) ∙ sym reached.fault ∙ sound in
+    let none : h.fault ≡ None = ap (λ (o : Outcome). o.fault) (sym is) ∙ sym reached.fault ∙ no_fault in
     let feeds : (outcome_of before).feed ≡ f = ap (λ (o : Outcome). o.feed) is ∙ ap (λ (o : Option FaultView). feed_after o before h.content) none in
     let content : (outcome_of before).content ≡ h.content = ap (λ (o : Outcome). o.content) is in
     let duration : d ≡ h.duration = reached.duration ∙ ap (λ (o : Outcome). o.duration) is in
@@ -138,7 +138,7 @@ appended_works before bytes s a position quota reply new few sound reached kept 
       stands = answered.stands;
       runs = tt;
       goes_on = on ∙ ap (λ (x : Moment). heard (drop count (all_items (before ++ bytes))) h.content x) (sym duration);
-      sound = sound;
+      no_fault = no_fault;
     }
 
 -- ---- the end of an append
@@ -162,7 +162,7 @@ reached_end bytes s w past rests =
     subst (λ (o : Outcome). Reached s o) (sym (ended bytes s w past)) (record {
       stands = subst (λ (f : Feed). Stands s.buffer f w.content) feeds w.stands;
       duration = refl;
-      fault = w.sound;
+      fault = w.no_fault;
     })
 
 -- nothing runs any more
@@ -197,7 +197,7 @@ finished bytes s w reply new none answered =
       stands = answered.stands;
       runs = no_next (all_items bytes) w.taken none;
       goes_on = w.goes_on;
-      sound = refl;
+      no_fault = refl;
     })
 
 -- an item was taken
@@ -213,7 +213,7 @@ took bytes s w item (Went c b) reply new some e answered =
       runs = tt;
       goes_on = w.goes_on ∙ ap (λ (items : List Item). heard items w.content s.duration) (drop-next (all_items bytes) w.taken item some)
           ∙ ap (λ (t : Taken). heard_by t (heard (drop (w.taken + 1) (all_items bytes)))) e;
-      sound = refl;
+      no_fault = refl;
     })
 took bytes s w item (Broke fault at c b) reply new some e answered =
     let met = w.goes_on ∙ ap (λ (items : List Item). heard items w.content s.duration) (drop-next (all_items bytes) w.taken item some)

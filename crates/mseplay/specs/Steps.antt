@@ -37,4 +37,4 @@ pub record WorksOn (s : SourceKept) (bytes : List ℕ) : Type 0 where
   pub stands : Stands s.buffer (fed bytes taken running) content
   pub runs : Runs running taken (length (all_items bytes))
   pub goes_on : heard (all_items bytes) opening Nan ≡ heard (drop taken (all_items bytes)) content s.duration
-  pub sound : s.fault ≡ None
+  pub no_fault : s.fault ≡ None

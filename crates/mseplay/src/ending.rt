@@ -1,4 +1,5 @@
-// How a run ends.
+//! How a run ends.
+
 ghost use Rattle.std.specs.Prelude.{◌≡◌};
 ghost use Rattle.mseplay.specs.Endings.{status_of};
 
@@ -6,34 +7,39 @@ ghost use Rattle.mseplay.specs.Endings.{status_of};
 #[derive(Clone, Copy, Debug, PartialEq, Eq)]
 pub enum Status {
     /// All was worked through and put.
-    Ok,
+    Ok = 0,
     /// The words are none of the table of commands.
-    Words,
+    Words = 1,
     /// A script was not read.
-    Script,
+    Script = 2,
     /// The library failed to read a file.
-    Read,
+    Read = 3,
     /// The sink failed to take bytes.
-    Write,
+    Write = 4,
     /// There was no memory.
-    Memory,
+    Memory = 5,
     /// A listener made too many calls for one event.
-    CallBudget,
+    CallBudget = 6,
     /// Listeners made too many calls in one drain.
-    TaskBudget,
+    TaskBudget = 7,
     /// A file is not there.
-    NoFile,
+    NoFile = 8,
     /// The file breaks the byte stream format. All was put, and the fault is told in its last line.
-    Media,
+    Media = 9,
 }
 
 /// Why a run ends early.
 #[derive(Clone, Copy, Debug, PartialEq, Eq)]
 pub enum End {
+    /// There was no memory.
     Memory,
+    /// The sink failed to take bytes.
     Write,
+    /// The words are none of the table of commands.
     Words,
+    /// The file that the words name is not there.
     NoFile,
+    /// The library failed to read the file.
     Read,
 }
 

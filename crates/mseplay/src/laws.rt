@@ -1,4 +1,5 @@
-// What follows from the definitions: functions that do nothing, with the laws as their contracts.
+//! What follows from the definitions: functions that do nothing, with the laws as their contracts.
+
 ghost use Rattle.std.specs.Prelude.{◌≡◌, ◌≤◌, ◌^◌, ℕ, List, ◌++◌, Option, Some, IsSome};
 ghost use Rattle.std.specs.Fmt.{decimal};
 ghost use Rattle.mseplay.specs.declared.ending.Status.{Status};

@@ -1,4 +1,5 @@
-// A file in pieces.
+//! A file in pieces.
+
 ghost use Rattle.std.specs.Prelude.{◌≡◌, ◌≤◌, ◌<◌, take, drop, length, IsTrue, ◌↔◌, []};
 
 use std::alloc::Global;

@@ -1,4 +1,5 @@
-// A file from its bytes to its block.
+//! A file from its bytes to its block.
+
 ghost use Rattle.std.specs.Prelude.{◌≡◌, ◌≤◌, length, is_some, IfOk};
 ghost use Rattle.mseplay.specs.Playing.{outcome_of, block_of};
 ghost use Rattle.mseplay.specs.Steps.{Reached};

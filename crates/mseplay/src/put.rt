@@ -1,4 +1,5 @@
-// Lines for the sink.
+//! Lines for the sink.
+
 ghost use Rattle.std.specs.Prelude.{◌≡◌, ◌≤◌, ◌<◌, ◌+◌, ◌⊎◌, length, OnOk, OnErr, IfErr};
 ghost use Rattle.mse_outside.specs.Outside.{Rose};
 ghost use Rattle.mseplay.specs.Wrote.{Wrote, WroteFront};

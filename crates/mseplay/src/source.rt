@@ -1,4 +1,5 @@
-// A media source with one source buffer, while a file is appended to it.
+//! A media source with one source buffer, while a file is appended to it.
+
 ghost use Rattle.std.specs.Prelude.{◌≡◌, ◌<◌, ◌+◌, ◌^◌, ◌≤◌, ◌++◌, ◌∷◌, [], ℕ, List, None, Bool, true, false, length, is_some, IfOk, OnOk, MatchBool, IsTrue};
 ghost use Rattle.mse_base.specs.declared.ticks.Moment.TheVariants.{Nan};
 ghost use Rattle.buffer_state.specs.Left.{steps_left};
@@ -96,7 +97,9 @@ impl<S: FrameStore> Source<S> {
 
     /// Begins to append bytes (Media Source Extensions, 3.2, appendBuffer).
     pub fn append(&mut self, bytes: &[u8]) -> Result<(), OutOfMemory>
-        ensures { (before : List ℕ) → length before + length bytes.now < 2 ^ 62 → self.old.fault ≡ None → Reached self.old (outcome_of before) → OnOk result (WorksOn self.new (before ++ bytes.now)) }
+        requires no_fault { self.old.fault ≡ None }
+        requires reached { (before : List ℕ) × (length before + length bytes.now < 2 ^ 62) × Reached self.old (outcome_of before) }
+        ensures { (before : List ℕ) → length before + length bytes.now < 2 ^ 62 → Reached self.old (outcome_of before) → OnOk result (WorksOn self.new (before ++ bytes.now)) }
     {
         // what is stored stays below the quota, so nothing is evicted
         self.buffer.sound();

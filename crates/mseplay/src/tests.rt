@@ -1,4 +1,5 @@
-// Runs over a library and a sink in memory.
+//! Runs over a library and a sink in memory.
+
 mod files;
 
 ghost use Rattle.std.specs.Prelude.{◌≡◌, IfOk, vec_len};

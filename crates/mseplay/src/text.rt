@@ -1,4 +1,5 @@
-// The lines that say why a run ends early.
+//! The lines that say why a run ends early.
+
 ghost use Rattle.std.specs.Prelude.{◌≡◌, ◌++◌, ◌∷◌, [], IfOk, string_bytes};
 ghost use Rattle.event_text.specs.Words.{printable_text};
 ghost use Rattle.mseplay.specs.Endings.{error_line};

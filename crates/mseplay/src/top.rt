@@ -1,4 +1,5 @@
-// The top call.
+//! The top call.
+
 ghost use Rattle.std.specs.Prelude.{◌≡◌, ◌≤◌, ◌⊎◌, ℕ, List, Some, None, IfSome, IsSome, map, string_bytes};
 ghost use Rattle.mse_outside.specs.Outside.{Rose};
 ghost use Rattle.mseplay.specs.Endings.{status_of, error_line};

@@ -1,4 +1,5 @@
-// The words of a call.
+//! The words of a call.
+
 ghost use Rattle.std.specs.Prelude.{◌≡◌, ◌≤◌, map, string_bytes};
 ghost use Rattle.mseplay.specs.Words.{piece_within, piece_of, command_of, file_of, piece_size};
 

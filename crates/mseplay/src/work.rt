@@ -1,4 +1,5 @@
-// A run up to its end, without its error line.
+//! A run up to its end, without its error line.
+
 ghost use Rattle.std.specs.Prelude.{◌≡◌, ◌≤◌, ◌⊎◌, Some, None, IfSome, IfOk, IfErr, IsErrOf, map, string_bytes};
 ghost use Rattle.mse_outside.specs.Outside.{Rose};
 ghost use Rattle.mseplay.specs.Outcomes.{Given, Worked};

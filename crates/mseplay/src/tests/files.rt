@@ -1,4 +1,4 @@
-// Files as digits of base 16, and what is printed of them.
+//! Files as digits of base 16, and what is printed of them.
 
 /// The initialization segment of one video track, number 1, up to its timescale.
 pub const INIT_FRONT: &str = "\
