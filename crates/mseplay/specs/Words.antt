@@ -17,7 +17,7 @@ piece_of (digit ∷ digits) =
     then piece_within (digits_value 10 (digit ∷ digits))
     else None
 
--- what the words ask for; nothing where they are no row of the table of commands
+-- what the words ask for; nothing where they are no command
 abbrev pub command_of : List (List ℕ) → Option Command
 command_of [] = None
 command_of (name ∷ []) = None

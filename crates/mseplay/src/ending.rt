@@ -8,7 +8,7 @@ ghost use Rattle.mseplay.specs.Endings.{status_of};
 pub enum Status {
     /// All was worked through and put.
     Ok = 0,
-    /// The words are none of the table of commands.
+    /// The words are no command.
     Words = 1,
     /// A script was not read.
     Script = 2,
@@ -35,7 +35,7 @@ pub enum End {
     Memory,
     /// The sink failed to take bytes.
     Write,
-    /// The words are none of the table of commands.
+    /// The words are no command.
     Words,
     /// The file that the words name is not there.
     NoFile,

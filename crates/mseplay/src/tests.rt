@@ -6,7 +6,7 @@ ghost use Rattle.std.specs.Prelude.{◌≡◌, IfOk, vec_len};
 
 use crate::ending::Status;
 use crate::top::run;
-use files::{CASES, INIT_BACK, INIT_FRONT, V1_SEGMENT};
+use files::{CASES, INIT_BACK, INIT_FRONT, PLAIN_SEGMENT};
 use mse_outside::{MemoryLibrary, MemorySink};
 use std::alloc::{AllocError, Global};
 use std::test::Fail;
@@ -37,21 +37,21 @@ fn bytes_of(alloc: Global, file: &str) -> Result<Vec<u8>, Fail> {
     Ok(hex::decode(alloc, digits.as_str())?)
 }
 
-fn v1(alloc: Global) -> Result<Vec<u8>, Fail> {
+fn plain_file(alloc: Global) -> Result<Vec<u8>, Fail> {
     let mut bytes = bytes_of(alloc, "I00015f90")?;
-    let segment = hex::decode(alloc, V1_SEGMENT)?;
+    let segment = hex::decode(alloc, PLAIN_SEGMENT)?;
     bytes.extend_from_slice(&segment)?;
     Ok(bytes)
 }
 
-// A library of the one file `V1`. Its first load fails where that is asked for.
+// A library of the one file `plain.mp4`. Its first load fails where that is asked for.
 fn library(alloc: Global, bytes: Vec<u8>, fails: bool) -> Result<MemoryLibrary, AllocError> {
     let failing = if fails {
         vec![in alloc; 1u64]?
     } else {
         Vec::new(alloc)
     };
-    let names = vec![in alloc; String::from_str(alloc, "V1")?]?;
+    let names = vec![in alloc; String::from_str(alloc, "plain.mp4")?]?;
     let contents = vec![in alloc; bytes]?;
     Ok(MemoryLibrary::new(alloc, names, contents, failing))
 }
@@ -72,10 +72,10 @@ fn prints_blocks(rt: HostRuntime) -> Result<(), Fail> {
         let bytes = bytes_of(alloc, file)?;
         let wanted = if *breaks { Status::Media } else { Status::Ok };
         for words in [
-            ["ranges", "V1"].as_slice(),
-            ["pieces", "1", "V1"].as_slice(),
-            ["pieces", "7", "V1"].as_slice(),
-            ["pieces", "2147483648", "V1"].as_slice(),
+            ["ranges", "plain.mp4"].as_slice(),
+            ["pieces", "1", "plain.mp4"].as_slice(),
+            ["pieces", "7", "plain.mp4"].as_slice(),
+            ["pieces", "2147483648", "plain.mp4"].as_slice(),
         ] {
             let (status, sink) = printed(alloc, words, &bytes)?;
             assert_eq!(rt; status, wanted, "at {block}");
@@ -85,7 +85,7 @@ fn prints_blocks(rt: HostRuntime) -> Result<(), Fail> {
     Ok(())
 }
 
-// The block of the first bytes of V1.
+// The block of the first bytes of plain.mp4.
 fn front_block(alloc: Global, len: usize) -> Result<String, AllocError> {
     let (phase, held, frames) = match len {
         0..=7 => ("waiting", len, 0u32),
@@ -118,13 +118,13 @@ fn front_block(alloc: Global, len: usize) -> Result<String, AllocError> {
 #[test]
 fn prints_blocks_of_fronts(rt: HostRuntime) -> Result<(), Fail> {
     let alloc = rt.alloc();
-    let bytes = v1(alloc)?;
+    let bytes = plain_file(alloc)?;
     assert_eq!(rt; bytes.len(), 751);
     for len in 0..=751usize {
         let block = front_block(alloc, len)?;
         for words in [
-            ["ranges", "V1"].as_slice(),
-            ["pieces", "1", "V1"].as_slice(),
+            ["ranges", "plain.mp4"].as_slice(),
+            ["pieces", "1", "plain.mp4"].as_slice(),
         ] {
             let (status, sink) = printed(alloc, words, &bytes[..len])?;
             assert_eq!(rt; status, Status::Ok, "at {len}");
@@ -142,15 +142,31 @@ fn tells_causes(rt: HostRuntime) -> Result<(), Fail> {
     let cases = [
         (nothing, true, wrong),
         (["ranges"].as_slice(), false, wrong),
-        (["play", "V1"].as_slice(), false, wrong),
-        (["ranges", "V1", "V1"].as_slice(), false, wrong),
-        (["pieces", "V1"].as_slice(), false, wrong),
-        (["pieces", "0", "V1"].as_slice(), false, wrong),
-        (["pieces", "01", "V1"].as_slice(), false, wrong),
-        (["pieces", "+1", "V1"].as_slice(), false, wrong),
-        (["pieces", "2147483649", "V1"].as_slice(), false, wrong),
-        (["pieces", "4294967297", "V1"].as_slice(), false, wrong),
-        (["pieces", "1", "V1", "V1"].as_slice(), false, wrong),
+        (["play", "plain.mp4"].as_slice(), false, wrong),
+        (
+            ["ranges", "plain.mp4", "plain.mp4"].as_slice(),
+            false,
+            wrong,
+        ),
+        (["pieces", "plain.mp4"].as_slice(), false, wrong),
+        (["pieces", "0", "plain.mp4"].as_slice(), false, wrong),
+        (["pieces", "01", "plain.mp4"].as_slice(), false, wrong),
+        (["pieces", "+1", "plain.mp4"].as_slice(), false, wrong),
+        (
+            ["pieces", "2147483649", "plain.mp4"].as_slice(),
+            false,
+            wrong,
+        ),
+        (
+            ["pieces", "4294967297", "plain.mp4"].as_slice(),
+            false,
+            wrong,
+        ),
+        (
+            ["pieces", "1", "plain.mp4", "plain.mp4"].as_slice(),
+            false,
+            wrong,
+        ),
         (
             ["ranges", "nofile"].as_slice(),
             false,
@@ -162,13 +178,13 @@ fn tells_causes(rt: HostRuntime) -> Result<(), Fail> {
             (Status::NoFile, "error: no file ?~?\n"),
         ),
         (
-            ["ranges", "V1"].as_slice(),
+            ["ranges", "plain.mp4"].as_slice(),
             true,
-            (Status::Read, "error: read V1\n"),
+            (Status::Read, "error: read plain.mp4\n"),
         ),
     ];
     for (words, fails, (wanted, line)) in cases {
-        let mut library = library(alloc, v1(alloc)?, fails)?;
+        let mut library = library(alloc, plain_file(alloc)?, fails)?;
         let mut sink = MemorySink::new(alloc, Vec::new(alloc));
         let words = texts(alloc, words)?;
         let status = run::<IndexStore, _, _>(alloc, &words, &mut library, &mut sink);
@@ -182,13 +198,13 @@ fn tells_causes(rt: HostRuntime) -> Result<(), Fail> {
 fn yields_to_failed_puts(rt: HostRuntime) -> Result<(), Fail> {
     let alloc = rt.alloc();
     let cases = [
-        ("V1", (2u64, 0u64), "duration inf\n"),
-        ("V1", (1, 100), "duration inf\n"),
+        ("plain.mp4", (2u64, 0u64), "duration inf\n"),
+        ("plain.mp4", (1, 100), "duration inf\n"),
         ("nofile", (1, 6), "error:"),
         ("nofile", (1, 100), "error: no file nofile\n"),
     ];
     for (name, cut, written) in cases {
-        let mut library = library(alloc, v1(alloc)?, false)?;
+        let mut library = library(alloc, plain_file(alloc)?, false)?;
         let mut sink = MemorySink::new(alloc, vec![in alloc; cut]?);
         let words = texts(alloc, &["ranges", name])?;
         let status = run::<IndexStore, _, _>(alloc, &words, &mut library, &mut sink);

@@ -52,7 +52,7 @@ fn read_piece(word: &str) -> Option<u32>
     }
 }
 
-/// What the words ask for; `None` exactly where they are no row of the table of commands.
+/// What the words ask for; `None` exactly where they are no command.
 pub fn read_command(words: &[String]) -> Option<Command>
     ensures { result ≡ command_of (map string_bytes words.now) }
 {
