@@ -7,7 +7,6 @@ use Rattle.byte_stream.specs.Items.{Item, InitItem, FrameItem, SegmentEnd, Fault
 use Rattle.byte_stream.specs.Streams.{Streaming}
 use Rattle.track_buffers.specs.Media.{MediaView, awaits_first, nothing_brought}
 use Rattle.track_buffers.specs.Initialized.{media_tracks}
-use Rattle.track_buffers.specs.Frames.{parser_reset}
 use Rattle.buffer_state.specs.declared.running.Running.{Running}
 use Rattle.buffer_state.specs.declared.running.Running.TheVariants.{Nothing}
 use Rattle.buffer_state.specs.declared.turns.Step.{Step}
@@ -15,7 +14,7 @@ use Rattle.buffer_state.specs.declared.turns.Step.TheVariants as step
 use Rattle.buffer_state.specs.State.{Feed, Content, Surroundings, rested, one_taken, restarted}
 use Rattle.buffer_state.specs.Faults.{fault_view}
 use Rattle.buffer_state.specs.Replies.{Answered, replied}
-use Rattle.buffer_state.specs.Turns.{Taken, Went, Broke, take_item}
+use Rattle.buffer_state.specs.Turns.{Taken, Went, Broke, take_item, broken}
 
 -- there is room for what the item stores
 abbrev pub HasPlace : Option Item → MediaView → Type 0
@@ -60,7 +59,7 @@ after_given (Some item) f = one_taken f
 abbrev pub step_turn : Step → Surroundings → Feed → Content → Answered
 step_turn step.Dry a f c = replied false (nothing_brought a.duration) None (Update ∷ UpdateEnd ∷ []) (rested f) c
 step_turn (step.Went b) a f c = replied false b None [] f c
-step_turn (step.Broke fault at b) a f c = replied false b (Some (fault_view fault a.number at)) (Error ∷ UpdateEnd ∷ []) (restarted f.container c.latest) (record { media = parser_reset c.media; latest = c.latest })
+step_turn (step.Broke fault at b) a f c = replied false b (Some (fault_view fault a.number at)) (Error ∷ UpdateEnd ∷ []) (restarted f.container c.latest) (broken c)
 
 -- a step that went well leaves the stream and the append; behind another nothing runs
 abbrev pub Leaves : Step → Streaming → Running → Streaming → Running → Type 0

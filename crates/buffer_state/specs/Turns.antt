@@ -36,11 +36,14 @@ take_item (FrameItem f at) c d = taken_at (framed f c.media d) at c.latest
 take_item SegmentEnd c d = Went c (nothing_brought d)
 take_item (FaultItem f at) c d = Broke (Bytes f) at c (nothing_brought d)
 
--- The append error (Media Source Extensions, 3.5.3): reset parser state, of whose string nothing follows the fault, so
--- that no frame is ready; then the events, and the end of the source with a decode error.
+-- reset parser state behind a fault, of whose string nothing follows, so that no frame is ready (3.5.2)
+abbrev pub broken : Content → Content
+broken c = record { media = parser_reset c.media; latest = c.latest }
+
+-- the append error (3.5.3): the reset, then the events, and the end of the source with a decode error
 abbrev pub taken_turn : Taken → Surroundings → Feed → Answered
 taken_turn (Went c b) a f = replied false b None [] (one_taken f) c
-taken_turn (Broke fault at c b) a f = replied false b (Some (fault_view fault a.number at)) (Error ∷ UpdateEnd ∷ []) (restarted f.container c.latest) (record { media = parser_reset c.media; latest = c.latest })
+taken_turn (Broke fault at c b) a f = replied false b (Some (fault_view fault a.number at)) (Error ∷ UpdateEnd ∷ []) (restarted f.container c.latest) (broken c)
 
 -- one step of an append (Media Source Extensions, 3.5.5, buffer append): the next item, or the end where there is none
 abbrev pub item_turn : Option Item → Surroundings → Feed → Content → Answered

@@ -12,12 +12,11 @@ use Rattle.mse_calls.specs.declared.views.View.{View}
 use Rattle.event_text.specs.Block.{closing_text}
 use Rattle.byte_stream.specs.Items.{Item, items_of}
 use Rattle.track_buffers.specs.Settings.{new_media}
-use Rattle.track_buffers.specs.Frames.{parser_reset}
 use Rattle.buffer_state.specs.declared.running.Running.{Running}
 use Rattle.buffer_state.specs.declared.running.Running.TheVariants.{Nothing}
 use Rattle.buffer_state.specs.State.{Feed, Content, restarted}
 use Rattle.buffer_state.specs.Faults.{fault_view}
-use Rattle.buffer_state.specs.Turns.{Taken, Went, Broke, take_item}
+use Rattle.buffer_state.specs.Turns.{Taken, Went, Broke, take_item, broken}
 use Rattle.buffer_state.specs.Calls.{buffer_view}
 
 -- What the buffer holds, the duration of the source, and the first fault.
@@ -25,10 +24,6 @@ pub record Heard : Type 0 where
   pub content : Content
   pub duration : Moment
   pub fault : Option FaultView
-
--- reset parser state behind a fault, of whose string nothing follows (Media Source Extensions, 3.5.2 and 3.5.3)
-abbrev pub broken : Content → Content
-broken c = record { media = parser_reset c.media; latest = c.latest }
 
 -- after an item that went well come the others; a fault ends all
 abbrev pub heard_by : Taken → (Content → Moment → Heard) → Heard
