@@ -97,9 +97,7 @@ impl<S: FrameStore> Source<S> {
 
     /// Begins to append bytes (Media Source Extensions, 3.2, appendBuffer).
     pub fn append(&mut self, bytes: &[u8]) -> Result<(), OutOfMemory>
-        requires no_fault { self.old.fault ≡ None }
-        requires reached { (before : List ℕ) × (length before + length bytes.now < 2 ^ 62) × Reached self.old (outcome_of before) }
-        ensures { (before : List ℕ) → length before + length bytes.now < 2 ^ 62 → Reached self.old (outcome_of before) → OnOk result (WorksOn self.new (before ++ bytes.now)) }
+        ensures { (before : List ℕ) → length before + length bytes.now < 2 ^ 62 → self.old.fault ≡ None → Reached self.old (outcome_of before) → OnOk result (WorksOn self.new (before ++ bytes.now)) }
     {
         // what is stored stays below the quota, so nothing is evicted
         self.buffer.sound();
