@@ -5,11 +5,11 @@ use Rattle.std.proofs.lemmas.Bool.Decides.{nat_tests}
 use Rattle.bmff_boxes.specs.declared.box_header.Header.{Header}
 use Rattle.bmff_boxes.specs.declared.box_header.Header.TheVariants as head
 use Rattle.bmff_boxes.specs.Headers.{header_of, HasRoom}
-use Rattle.bmff_boxes.specs.Children.{Step, Box, NoBytes, NoBox, whole_box, child_of}
+use Rattle.bmff_boxes.specs.Children.{ChildView, Box, NoBytes, NoBox, whole_box, child_of}
 use Rattle.bmff_boxes.proofs.HeaderLaws.{header-room}
 
 -- a step over a box takes its payload and eight bytes at least
-abbrev pub Falls : ℕ → Step × List ℕ → Type 0
+abbrev pub Falls : ℕ → ChildView × List ℕ → Type 0
 Falls n (Box kind payload, rest) = length payload + 8 + length rest ≤ n
 Falls n (NoBytes, rest) = Unit {0}
 Falls n (NoBox, rest) = Unit {0}

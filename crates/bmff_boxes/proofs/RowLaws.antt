@@ -1,14 +1,14 @@
 -- Laws of a row of boxes, box by box.
 use Rattle.std.proofs.Common.{◌≡◌, ℕ, zero, suc, ◌*◌, ◌<◌, ◌≤◌, List, [], ◌∷◌, length, take, drop, slice_get, Option, Some, None, IsSome, is_some, unwrap_or, cond, Bool, true, false, refl, ap, sym, ◌∙◌, arith}
 use Rattle.std.specs.Option.{option_map}
-use Rattle.bmff_boxes.specs.Children.{Step, Box, NoBytes, NoBox, child_of}
+use Rattle.bmff_boxes.specs.Children.{ChildView, Box, NoBytes, NoBox, child_of}
 use Rattle.bmff_boxes.specs.Headers.{header_of}
 use Rattle.bmff_boxes.specs.declared.box_header.Header.TheVariants as head
 use Rattle.bmff_boxes.proofs.ChildLaws.{Falls, child-falls, child-whole}
 use Rattle.bmff_boxes.specs.Rows.{BoxView, row_by, row_in, row_of, boxes_in, first_of, all_of}
 use Rattle.std.specs.Str.{bytes_eq}
 
-agree : (m : Step × List ℕ) (f g : List ℕ → Option (List BoxView)) (n : ℕ) → Falls n m → ((r : List ℕ) → length r < n → f r ≡ g r) → row_by f m ≡ row_by g m
+agree : (m : ChildView × List ℕ) (f g : List ℕ → Option (List BoxView)) (n : ℕ) → Falls n m → ((r : List ℕ) → length r < n → f r ≡ g r) → row_by f m ≡ row_by g m
 agree (Box kind payload, rest) f g n h e = ap (option_map (λ row. record { kind = kind; payload = payload } ∷ row)) (e rest (omega arith))
 agree (NoBytes, rest) f g n h e = refl
 agree (NoBox, rest) f g n h e = refl
@@ -67,6 +67,14 @@ first-later k kind payload bs all r x e t h g =
     let b : bytes_eq k kind ≡ false = sym e ∙ t in
     sym (ap (first_of kind) h ∙ ap (λ v. cond v (Some payload) (first_of kind bs)) b) ∙ g
 
+-- a box of the type at the front is the next of them
+pub all-here : (k kind payload : List ℕ) (bs all : List BoxView) → bytes_eq k kind ≡ true → all ≡ record { kind = k; payload = payload } ∷ bs → all_of kind all ≡ payload ∷ all_of kind bs
+all-here k kind payload bs all e h = ap (all_of kind) h ∙ ap (λ v. cond v (payload ∷ all_of kind bs) (all_of kind bs)) e
+
+-- and one of another type is none of them
+pub all-later : (k kind payload : List ℕ) (bs all : List BoxView) → bytes_eq k kind ≡ false → all ≡ record { kind = k; payload = payload } ∷ bs → all_of kind all ≡ all_of kind bs
+all-later k kind payload bs all e h = ap (all_of kind) h ∙ ap (λ v. cond v (payload ∷ all_of kind bs) (all_of kind bs)) e
+
 -- an empty row has no box of a type
 pub first-none : (kind b rest : List ℕ) (x : Option (List ℕ)) → (NoBytes, rest) ≡ child_of b → first_of kind (boxes_in b) ≡ x → None ≡ x
 first-none kind b rest x e g = sym (ap (λ o. first_of kind (unwrap_or o [])) (ended b rest e)) ∙ g
@@ -102,7 +110,7 @@ pub length-all_of : (kind : List ℕ) (bs : List BoxView) → length (all_of kin
 length-all_of kind [] = omega arith
 length-all_of kind (b ∷ bs) = length-all_of-by (bytes_eq b.kind kind) b.payload (all_of kind bs) (length bs) (length-all_of kind bs)
 
-row-length-by : (m : Step × List ℕ) (n : ℕ) (row : List BoxView) → Falls n m → ((r : List ℕ) (rest : List BoxView) → length r < n → row_of r ≡ Some rest → 8 * length rest ≤ length r) → row_by row_of m ≡ Some row → 8 * length row ≤ n
+row-length-by : (m : ChildView × List ℕ) (n : ℕ) (row : List BoxView) → Falls n m → ((r : List ℕ) (rest : List BoxView) → length r < n → row_of r ≡ Some rest → 8 * length rest ≤ length r) → row_by row_of m ≡ Some row → 8 * length row ≤ n
 row-length-by (NoBytes, rest) n row h f e = let z : [] ≡ row = cc in rw (← z) (omega arith)
 row-length-by (NoBox, rest) n row h f e = absurd (cc)
 row-length-by (Box kind payload, rest) n row h f e = by (row_of rest) refl e

@@ -2,7 +2,7 @@
 use Rattle.std.specs.Prelude.{ℕ, zero, suc, List, [], ◌∷◌, length, Option, Some, None, unwrap_or, if◌then◌else◌}
 use Rattle.std.specs.Option.{option_map}
 use Rattle.std.specs.Str.{bytes_eq}
-use Rattle.bmff_boxes.specs.Children.{Step, Box, NoBytes, NoBox, child_of}
+use Rattle.bmff_boxes.specs.Children.{ChildView, Box, NoBytes, NoBox, child_of}
 
 -- a box: its type, and the bytes behind its header
 pub record BoxView : Type 0 where
@@ -10,7 +10,7 @@ pub record BoxView : Type 0 where
   pub payload : List ℕ
 
 -- the boxes from a step on, where `go` gives those behind it
-abbrev pub row_by : (List ℕ → Option (List BoxView)) → Step × List ℕ → Option (List BoxView)
+abbrev pub row_by : (List ℕ → Option (List BoxView)) → ChildView × List ℕ → Option (List BoxView)
 row_by go (NoBytes, rest) = Some []
 row_by go (NoBox, rest) = None
 row_by go (Box kind payload, rest) = option_map (λ row. record { kind = kind; payload = payload } ∷ row) (go rest)

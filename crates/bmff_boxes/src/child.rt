@@ -1,5 +1,5 @@
 ghost use Rattle.std.specs.Prelude.{◌≡◌, length};
-ghost use Rattle.bmff_boxes.specs.Children.{child_of, seen, Shortens};
+ghost use Rattle.bmff_boxes.specs.Children.{child_of, child_view, Shortens};
 
 use crate::box_header::Header;
 use crate::readers::header;
@@ -26,7 +26,7 @@ impl<'a> Children<'a> {
     /// The next box. The walker then stands behind it. At `End` and at `Uneven` it stays where it is.
     #[tactic(auto, unfolding(crate::specs::Children::child_of))]
     pub fn next(&mut self) -> Child<'a>
-        ensures value { (seen result, self.new.rest.now) ≡ child_of self.old.rest.now }
+        ensures value { (child_view result, self.new.rest.now) ≡ child_of self.old.rest.now }
         ensures shorter { Shortens (length self.old.rest.now) (length self.new.rest.now) result }
     {
         let bytes = self.rest;

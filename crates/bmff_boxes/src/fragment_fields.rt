@@ -24,13 +24,13 @@ const DATA_OFFSET: u32 = 0x1;
 
 const FIRST_SAMPLE_FLAGS: u32 = 0x4;
 
-const SAMPLE_DURATION: u32 = 0x100;
+pub(crate) const SAMPLE_DURATION: u32 = 0x100;
 
-const SAMPLE_SIZE: u32 = 0x200;
+pub(crate) const SAMPLE_SIZE: u32 = 0x200;
 
-const SAMPLE_FLAGS: u32 = 0x400;
+pub(crate) const SAMPLE_FLAGS: u32 = 0x400;
 
-const SAMPLE_COMPOSITION_OFFSET: u32 = 0x800;
+pub(crate) const SAMPLE_COMPOSITION_OFFSET: u32 = 0x800;
 
 /// The base media decode time of a track fragment (8.8.12), in the media's timescale.
 pub fn tfdt_time(p: &[u8]) -> Option<u64>
@@ -168,7 +168,7 @@ pub fn trun_first_flags(p: &[u8]) -> Option<Option<u32>>
     )
 }
 
-fn sample_place(flags: u32, i: u32) -> usize
+pub(crate) fn sample_place(flags: u32, i: u32) -> usize
     ensures value { result ≡ sample_place_of flags i }
     ensures bound { result < 2 ^ 40 }
 {
@@ -181,7 +181,8 @@ fn sample_place(flags: u32, i: u32) -> usize
 
 fn optional_offset(p: &[u8], flags: u32, at: usize) -> Option<Option<i64>>
     requires { at < 2 ^ 63 }
-    ensures { result ≡ option_map (option_map (composition_offset p.now)) (optional_field flags 0x800 4 at p.now) }
+    ensures { result ≡ option_map (option_map (composition_offset p.now))
+        (optional_field flags 0x800 4 at p.now) }
 {
     if has_version(p, 0) {
         return match optional_u32(p, flags, SAMPLE_COMPOSITION_OFFSET, at) {

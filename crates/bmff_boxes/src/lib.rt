@@ -1,7 +1,7 @@
 //! The boxes of the ISO base media file format (ISO/IEC 14496-12): the header of a box, the boxes that a
 //! payload consists of, and the fields of those boxes that a buffering engine reads.
 //!
-//! It stands on `byteorder` alone, and takes no memory.
+//! It stands on `byteorder` and `thiserror`, and takes no memory.
 //!
 //! Its main contract: `header` is `header_of`, `open` is `row_of`, and each field reader is the definition
 //! of its field on the bytes of the payload, for all bytes. A reader answers `None` exactly where the
@@ -15,7 +15,9 @@ mod fragment_fields;
 mod movie_fields;
 mod numbers;
 mod readers;
+mod reading;
 mod row;
+mod run_samples;
 
 pub use box_header::{HeadFault, Header};
 pub use child::{Child, Children};
@@ -29,8 +31,10 @@ pub use movie_fields::{
     tkhd_track, trex_description, trex_duration, trex_flags, trex_size, trex_track,
 };
 pub use numbers::{flags, version};
-pub use readers::{children, header};
+pub use readers::{children, header, payload};
+pub use reading::ReadError;
 pub use row::{BoxIn, Row, open};
+pub use run_samples::{RunFields, run_fields, run_sample};
 
 #[cfg(test)]
 mod tests;

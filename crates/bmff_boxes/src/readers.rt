@@ -1,8 +1,10 @@
-ghost use Rattle.std.specs.Prelude.{◌≡◌, ℕ, length, ◌≤◌};
+ghost use Rattle.std.specs.Prelude.{◌≡◌, ℕ, length, ◌≤◌, IfSome};
+ghost use Rattle.std.specs.Option.{option_copied};
+ghost use Rattle.bmff_boxes.specs.Children.{payload_of};
 ghost use Rattle.bmff_boxes.specs.Headers.{header_of, sized_of, HasRoom};
 
 use crate::box_header::{HeadFault, Header};
-use crate::child::Children;
+use crate::child::{Child, Children};
 use byteorder::{BigEndian, ByteOrder};
 
 fn sized(kind: [u8; 4], head: u64, len: u64) -> Header
@@ -47,4 +49,16 @@ pub fn children<'a>(payload: &'a [u8]) -> Children<'a>
     ensures { result.rest.now ≡ payload.now }
 {
     Children { rest: payload }
+}
+
+/// The payload of the box at the front of the bytes, or `None` exactly where no whole box stands there.
+pub fn payload<'a>(bytes: &'a [u8]) -> Option<&'a [u8]>
+    ensures value { option_copied result ≡ payload_of bytes.now }
+    ensures within { IfSome result (λ payload. length payload.now ≤ length bytes.now) }
+{
+    match children(bytes).next() {
+        Child::Found { payload, .. } => Some(payload),
+        Child::End => None,
+        Child::Uneven => None,
+    }
 }

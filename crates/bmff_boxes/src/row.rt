@@ -62,7 +62,8 @@ impl<'a> Row<'a> {
     /// The next box, which leaves the row, or `None` exactly where no box is left.
     pub fn next(&mut self) -> Option<BoxIn<'a>>
         ensures none { IfNone result ((self.old ≡ []) × (self.new ≡ [])) }
-        ensures some { IfSome result (λ b. self.old ≡ (record { kind = b.kind; payload = b.payload.now }) ∷ self.new) }
+        ensures some { IfSome result (λ b. self.old
+            ≡ (record { kind = b.kind; payload = b.payload.now }) ∷ self.new) }
         ensures shorter { IfSome result (λ b. length self.old ≡ length self.new + 1) }
     {
         let mut walk = children(self.rest);

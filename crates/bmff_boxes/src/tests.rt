@@ -1,4 +1,5 @@
 use super::*;
+use std::process::Abort;
 use std::test::*;
 
 #[test]
@@ -230,6 +231,46 @@ fn runs_of_samples(rt: HostRuntime) {
         trun_sample(&[0; 8], u32::MAX),
         sample(None, None, None, None)
     );
+}
+
+/// Each sample of a run, and whether the fields of so many are there.
+fn check_run(rt: &impl Abort, run: &[u8], count: u32) {
+    let Some(fields) = run_fields(run, count) else {
+        assert!(rt; false, "{run:?}");
+        return;
+    };
+    for i in 0..count {
+        assert_eq!(rt;
+            Some(run_sample(run, &fields, i)),
+            trun_sample(run, i),
+            "{i}"
+        );
+    }
+}
+
+#[test]
+fn fields_of_runs(rt: HostRuntime) {
+    check_run(&rt, &FULL_RUN, 2);
+    check_run(&rt, &SMALL_RUN, 2);
+    check_run(&rt, &[0; 8], 1000);
+    assert!(rt; run_fields(&FULL_RUN, 3).is_none());
+    assert!(rt; run_fields(&FULL_RUN[..47], 2).is_none());
+    assert!(rt; run_fields(&FULL_RUN[..47], 1).is_some());
+    assert!(rt; run_fields(&SMALL_RUN[..23], 2).is_none());
+    assert!(rt; run_fields(&[0; 7], 0).is_none());
+    assert!(rt; run_fields(&FULL_RUN, u32::MAX).is_none());
+}
+
+#[test]
+fn payloads(rt: HostRuntime) {
+    assert_eq!(rt; payload(&ROW), Some(&[1u8, 2][..]));
+    assert_eq!(rt;
+        payload(b"\0\0\0\x01free\0\0\0\0\0\0\0\x11\x05"),
+        Some(&[5u8][..])
+    );
+    assert_eq!(rt; payload(&ROW[..9]), None);
+    assert_eq!(rt; payload(&ROW[..7]), None);
+    assert_eq!(rt; payload(&[]), None);
 }
 
 #[test]

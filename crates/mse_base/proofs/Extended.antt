@@ -3,8 +3,8 @@ use Rattle.std.proofs.Common.{◌≡◌, ◌∙◌, ℕ, zero, suc, ℤ, pos, ne
 use Rattle.std.specs.List.{AllByRecursion}
 use Rattle.std.proofs.lemmas.Int.{ints}
 use Rattle.mse_base.specs.declared.span.Span.{Span}
-use Rattle.mse_base.specs.Spans.{within, covers, StartsAfter, IsNormalized, IsBridged, Bridged}
-use Rattle.mse_base.specs.Bridging.{bridged, near, nears, IsRanges, is_empty}
+use Rattle.mse_base.specs.Spans.{has_tick, covers, StartsAfter, IsNormalized, IsBridged, Bridged}
+use Rattle.mse_base.specs.Bridging.{bridged_ranges, is_near, is_near_any, IsRanges, is_empty}
 use Rattle.mse_base.proofs.Unique.{unique}
 use Rattle.mse_base.proofs.Merging.{ranges_bridged, times_bridged}
 
@@ -30,12 +30,12 @@ normalized_longer gap (r ∷ rs) g h =
 full : (r : Span) → r.start <ℤ r.end → is_empty r ≡ false
 full r h = grind (arith, ints)
 
-pub near_lasting : (gap t : ℤ) (r : Span) → r.start <ℤ r.end → near gap t r ≡ (int_le r.start t && int_lt t (r.end +ℤ gap))
+pub near_lasting : (gap t : ℤ) (r : Span) → r.start <ℤ r.end → is_near gap t r ≡ (int_le r.start t && int_lt t (r.end +ℤ gap))
 near_lasting gap t r h = ap (λ b. not b && (int_le r.start t && int_lt t (r.end +ℤ gap))) (full r h)
 
-covers_longer : (gap t : ℤ) (rs : List Span) → IsRanges gap rs → covers (map (longer gap) rs) t ≡ nears gap t rs
+covers_longer : (gap t : ℤ) (rs : List Span) → IsRanges gap rs → covers (map (longer gap) rs) t ≡ is_near_any gap t rs
 covers_longer gap t [] h = refl
-covers_longer gap t (r ∷ rs) h = ap (λ b. b || covers (map (longer gap) rs) t) (sym (near_lasting gap t r h.0)) ∙ ap (λ b. near gap t r || b) (covers_longer gap t rs h.2)
+covers_longer gap t (r ∷ rs) h = ap (λ b. b || covers (map (longer gap) rs) t) (sym (near_lasting gap t r h.0)) ∙ ap (λ b. is_near gap t r || b) (covers_longer gap t rs h.2)
 
 same_end : (a b g : ℤ) → (a +ℤ g) ≡ (b +ℤ g) → a ≡ b
 same_end a b g e = omega (arith, ints)
@@ -65,7 +65,7 @@ same_longer gap (x ∷ xs) (y ∷ ys) e =
     ap (λ z. z ∷ xs) (same_span x y s f) ∙ ap (λ zs. y ∷ zs) (same_longer gap xs ys rest)
 
 -- ranges of the same ticks are one list
-pub same_near : (gap : ℤ) (xs ys : List Span) → pos 0 ≤ℤ gap → IsRanges gap xs → IsRanges gap ys → ((t : ℤ) → nears gap t xs ≡ nears gap t ys) → xs ≡ ys
+pub same_near : (gap : ℤ) (xs ys : List Span) → pos 0 ≤ℤ gap → IsRanges gap xs → IsRanges gap ys → ((t : ℤ) → is_near_any gap t xs ≡ is_near_any gap t ys) → xs ≡ ys
 same_near gap xs ys g p q same = same_longer gap xs ys (unique (map (longer gap) xs) (map (longer gap) ys) (normalized_longer gap xs g p) (normalized_longer gap ys g q) (λ t. covers_longer gap t xs p ∙ same t ∙ sym (covers_longer gap t ys q)))
 
 after_ranges : (e gap : ℤ) (rs : List Span) → pos 0 ≤ℤ gap → AllByRecursion (λ q. (e +ℤ gap) <ℤ q.start) rs → StartsAfter e rs
@@ -86,11 +86,11 @@ holder [] p c none more e = absurd cc
 holder (r ∷ rs) p c none more e =
     or_cases (p r) (c rs) (sym (more r rs) ∙ e) (λ k. (r, inl refl, k)) (λ k. let found = holder rs p c none more k in (found.0, inr found.1, found.2))
 
-pub near_holder : (gap t : ℤ) (rs : List Span) → nears gap t rs ≡ true → (r : Span) × IsIn r rs × (near gap t r ≡ true)
-near_holder gap t rs e = holder rs (near gap t) (nears gap t) refl (λ s ss. refl) e
+pub near_holder : (gap t : ℤ) (rs : List Span) → is_near_any gap t rs ≡ true → (r : Span) × IsIn r rs × (is_near gap t r ≡ true)
+near_holder gap t rs e = holder rs (is_near gap t) (is_near_any gap t) refl (λ s ss. refl) e
 
-pub cover_holder : (t : ℤ) (rs : List Span) → covers rs t ≡ true → (r : Span) × IsIn r rs × (within r t ≡ true)
-cover_holder t rs e = holder rs (λ s. within s t) (λ ss. covers ss t) refl (λ s ss. refl) e
+pub cover_holder : (t : ℤ) (rs : List Span) → covers rs t ≡ true → (r : Span) × IsIn r rs × (has_tick r t ≡ true)
+cover_holder t rs e = holder rs (λ s. has_tick s t) (λ ss. covers ss t) refl (λ s ss. refl) e
 
 or_left : (a b : Bool) → a ≡ true → (a || b) ≡ true
 or_left a b e = ap (λ x. x || b) e
@@ -99,39 +99,39 @@ or_right : (a b : Bool) → b ≡ true → (a || b) ≡ true
 or_right true b e = refl
 or_right false b e = e
 
-pub near_by : (gap t : ℤ) (rs : List Span) (r : Span) → IsIn r rs → near gap t r ≡ true → nears gap t rs ≡ true
+pub near_by : (gap t : ℤ) (rs : List Span) (r : Span) → IsIn r rs → is_near gap t r ≡ true → is_near_any gap t rs ≡ true
 near_by gap t [] r i e = absurd i
-near_by gap t (x ∷ rs) r (inl same) e = or_left (near gap t x) (nears gap t rs) (subst (λ (z : Span). near gap t z ≡ true) same e)
-near_by gap t (x ∷ rs) r (inr i) e = or_right (near gap t x) (nears gap t rs) (near_by gap t rs r i e)
+near_by gap t (x ∷ rs) r (inl same) e = or_left (is_near gap t x) (is_near_any gap t rs) (subst (λ (z : Span). is_near gap t z ≡ true) same e)
+near_by gap t (x ∷ rs) r (inr i) e = or_right (is_near gap t x) (is_near_any gap t rs) (near_by gap t rs r i e)
 
-pub cover_by : (t : ℤ) (rs : List Span) (r : Span) → IsIn r rs → within r t ≡ true → covers rs t ≡ true
+pub cover_by : (t : ℤ) (rs : List Span) (r : Span) → IsIn r rs → has_tick r t ≡ true → covers rs t ≡ true
 cover_by t [] r i e = absurd i
-cover_by t (x ∷ rs) r (inl same) e = or_left (within x t) (covers rs t) (subst (λ (z : Span). within z t ≡ true) same e)
-cover_by t (x ∷ rs) r (inr i) e = or_right (within x t) (covers rs t) (cover_by t rs r i e)
+cover_by t (x ∷ rs) r (inl same) e = or_left (has_tick x t) (covers rs t) (subst (λ (z : Span). has_tick z t ≡ true) same e)
+cover_by t (x ∷ rs) r (inr i) e = or_right (has_tick x t) (covers rs t) (cover_by t rs r i e)
 
 -- what a tick near a span is
-pub near_parts : (gap t : ℤ) (s : Span) → near gap t s ≡ true → (s.start <ℤ s.end) × (s.start ≤ℤ t) × (t <ℤ (s.end +ℤ gap))
+pub near_parts : (gap t : ℤ) (s : Span) → is_near gap t s ≡ true → (s.start <ℤ s.end) × (s.start ≤ℤ t) × (t <ℤ (s.end +ℤ gap))
 near_parts gap t s e = (grind (arith, ints), grind (arith, ints), grind (arith, ints))
 
-pub near_is : (gap t : ℤ) (s : Span) → s.start <ℤ s.end → s.start ≤ℤ t → t <ℤ (s.end +ℤ gap) → near gap t s ≡ true
+pub near_is : (gap t : ℤ) (s : Span) → s.start <ℤ s.end → s.start ≤ℤ t → t <ℤ (s.end +ℤ gap) → is_near gap t s ≡ true
 near_is gap t s a b c = near_lasting gap t s a ∙ grind (arith, ints)
 
-within_parts : (t : ℤ) (s : Span) → within s t ≡ true → (s.start ≤ℤ t) × (t <ℤ s.end)
+within_parts : (t : ℤ) (s : Span) → has_tick s t ≡ true → (s.start ≤ℤ t) × (t <ℤ s.end)
 within_parts t s e = (grind (arith, ints), grind (arith, ints))
 
-within_is : (t : ℤ) (s : Span) → s.start ≤ℤ t → t <ℤ s.end → within s t ≡ true
+within_is : (t : ℤ) (s : Span) → s.start ≤ℤ t → t <ℤ s.end → has_tick s t ≡ true
 within_is t s a b = grind (arith, ints)
 
-pub far_off : (gap t : ℤ) (s : Span) → (t <ℤ s.start) ⊎ ((s.end +ℤ gap) ≤ℤ t) → near gap t s ≡ false
+pub far_off : (gap t : ℤ) (s : Span) → (t <ℤ s.start) ⊎ ((s.end +ℤ gap) ≤ℤ t) → is_near gap t s ≡ false
 far_off gap t s (inl h) = grind (arith, ints)
 far_off gap t s (inr h) = grind (arith, ints)
 
 neither : (a b : Bool) → a ≡ false → b ≡ false → (a || b) ≡ false
 neither a b e f = ap (λ x. x || b) e ∙ f
 
-pub none_before : (gap n t : ℤ) (rs : List Span) → t ≤ℤ n → AllByRecursion (λ q. n <ℤ q.start) rs → nears gap t rs ≡ false
+pub none_before : (gap n t : ℤ) (rs : List Span) → t ≤ℤ n → AllByRecursion (λ q. n <ℤ q.start) rs → is_near_any gap t rs ≡ false
 none_before gap n t [] l h = refl
-none_before gap n t (r ∷ rs) l h = let first = h.0 in let low : t <ℤ r.start = omega (arith, ints) in neither (near gap t r) (nears gap t rs) (far_off gap t r (inl low)) (none_before gap n t rs l h.1)
+none_before gap n t (r ∷ rs) l h = let first = h.0 in let low : t <ℤ r.start = omega (arith, ints) in neither (is_near gap t r) (is_near_any gap t rs) (far_off gap t r (inl low)) (none_before gap n t rs l h.1)
 
 each_in : (P : Span → Type 0) (rs : List Span) (r : Span) → AllByRecursion P rs → IsIn r rs → P r
 each_in P [] r h i = absurd i
@@ -144,35 +144,35 @@ lasting gap (x ∷ rs) r h (inl same) = subst (λ (z : Span). z.start <ℤ z.end
 lasting gap (x ∷ rs) r h (inr i) = lasting gap rs r h.2 i
 
 -- the tick after the last of a range is no range's
-pub end_open : (gap : ℤ) (rs : List Span) (r : Span) → pos 0 ≤ℤ gap → IsRanges gap rs → IsIn r rs → nears gap (r.end +ℤ gap) rs ≡ false
+pub end_open : (gap : ℤ) (rs : List Span) (r : Span) → pos 0 ≤ℤ gap → IsRanges gap rs → IsIn r rs → is_near_any gap (r.end +ℤ gap) rs ≡ false
 end_open gap [] r g h i = absurd i
 end_open gap (x ∷ rs) r g h (inl same) =
     let e : (r.end +ℤ gap) ≡ (x.end +ℤ gap) = ap (λ (z : Span). z.end +ℤ gap) same in
     let past : (x.end +ℤ gap) ≤ℤ (r.end +ℤ gap) = omega (arith, ints) in
     let low : (r.end +ℤ gap) ≤ℤ (x.end +ℤ gap) = omega (arith, ints) in
-    neither (near gap (r.end +ℤ gap) x) (nears gap (r.end +ℤ gap) rs) (far_off gap (r.end +ℤ gap) x (inr past)) (none_before gap (x.end +ℤ gap) (r.end +ℤ gap) rs low h.1)
+    neither (is_near gap (r.end +ℤ gap) x) (is_near_any gap (r.end +ℤ gap) rs) (far_off gap (r.end +ℤ gap) x (inr past)) (none_before gap (x.end +ℤ gap) (r.end +ℤ gap) rs low h.1)
 end_open gap (x ∷ rs) r g h (inr i) =
     let later : (x.end +ℤ gap) <ℤ r.start = each_in (λ q. (x.end +ℤ gap) <ℤ q.start) rs r h.1 i in
     let lasts : r.start <ℤ r.end = lasting gap rs r h.2 i in
     let past : (x.end +ℤ gap) ≤ℤ (r.end +ℤ gap) = omega (arith, ints) in
-    neither (near gap (r.end +ℤ gap) x) (nears gap (r.end +ℤ gap) rs) (far_off gap (r.end +ℤ gap) x (inr past)) (end_open gap rs r g h.2 i)
+    neither (is_near gap (r.end +ℤ gap) x) (is_near_any gap (r.end +ℤ gap) rs) (far_off gap (r.end +ℤ gap) x (inr past)) (end_open gap rs r g h.2 i)
 
 -- nor is the tick before its first
-pub start_open : (gap : ℤ) (rs : List Span) (r : Span) → pos 0 ≤ℤ gap → IsRanges gap rs → IsIn r rs → nears gap (r.start -ℤ pos 1) rs ≡ false
+pub start_open : (gap : ℤ) (rs : List Span) (r : Span) → pos 0 ≤ℤ gap → IsRanges gap rs → IsIn r rs → is_near_any gap (r.start -ℤ pos 1) rs ≡ false
 start_open gap [] r g h i = absurd i
 start_open gap (x ∷ rs) r g h (inl same) =
     let e : r.start ≡ x.start = ap (λ (z : Span). z.start) same in
     let low : (r.start -ℤ pos 1) <ℤ x.start = omega (arith, ints) in
     let own = h.0 in
     let all : (r.start -ℤ pos 1) ≤ℤ (x.end +ℤ gap) = omega (arith, ints) in
-    neither (near gap (r.start -ℤ pos 1) x) (nears gap (r.start -ℤ pos 1) rs) (far_off gap (r.start -ℤ pos 1) x (inl low)) (none_before gap (x.end +ℤ gap) (r.start -ℤ pos 1) rs all h.1)
+    neither (is_near gap (r.start -ℤ pos 1) x) (is_near_any gap (r.start -ℤ pos 1) rs) (far_off gap (r.start -ℤ pos 1) x (inl low)) (none_before gap (x.end +ℤ gap) (r.start -ℤ pos 1) rs all h.1)
 start_open gap (x ∷ rs) r g h (inr i) =
     let later : (x.end +ℤ gap) <ℤ r.start = each_in (λ q. (x.end +ℤ gap) <ℤ q.start) rs r h.1 i in
     let past : (x.end +ℤ gap) ≤ℤ (r.start -ℤ pos 1) = omega (arith, ints) in
-    neither (near gap (r.start -ℤ pos 1) x) (nears gap (r.start -ℤ pos 1) rs) (far_off gap (r.start -ℤ pos 1) x (inr past)) (start_open gap rs r g h.2 i)
+    neither (is_near gap (r.start -ℤ pos 1) x) (is_near_any gap (r.start -ℤ pos 1) rs) (far_off gap (r.start -ℤ pos 1) x (inr past)) (start_open gap rs r g h.2 i)
 
 -- each tick between two bridged ones is near
-near_from : (gap u from : ℤ) (given : List Span) → covers given from ≡ true → from ≤ℤ u → u ≤ℤ (from +ℤ gap) → nears gap u given ≡ true
+near_from : (gap u from : ℤ) (given : List Span) → covers given from ≡ true → from ≤ℤ u → u ≤ℤ (from +ℤ gap) → is_near_any gap u given ≡ true
 near_from gap u from given e l k =
     let s = cover_holder from given e in
     let w = within_parts from s.0 s.2 in
@@ -183,10 +183,10 @@ near_from gap u from given e l k =
 between : (u m : ℤ) → (u ≤ℤ m) ⊎ (m <ℤ u)
 between u m = grind (arith, ints)
 
-near_between : (gap u : ℤ) (given : List Span) (t : ℤ) (b : IsBridged gap given t) → b.from ≤ℤ u → u ≤ℤ (b.to +ℤ gap) → nears gap u given ≡ true
+near_between : (gap u : ℤ) (given : List Span) (t : ℤ) (b : IsBridged gap given t) → b.from ≤ℤ u → u ≤ℤ (b.to +ℤ gap) → is_near_any gap u given ≡ true
 near_between gap u given t b l k =
     let near = b.near in
-    elim (between u (b.from +ℤ gap)) as (λ _. nears gap u given ≡ true) [
+    elim (between u (b.from +ℤ gap)) as (λ _. is_near_any gap u given ≡ true) [
       | inl low ↦ near_from gap u b.from given b.has_from l low
       | inr high ↦ near_from gap u b.to given b.has_to (omega (arith, ints)) k
     ]
@@ -196,12 +196,12 @@ true_false true e f = cc
 true_false false e f = cc
 
 -- the range that holds one tick of a bridge holds the other
-pub no_less : (gap : ℤ) (given rs : List Span) (t : ℤ) → pos 0 ≤ℤ gap → IsRanges gap rs → ((u : ℤ) → nears gap u rs ≡ nears gap u given) → IsBridged gap given t → covers rs t ≡ true
+pub no_less : (gap : ℤ) (given rs : List Span) (t : ℤ) → pos 0 ≤ℤ gap → IsRanges gap rs → ((u : ℤ) → is_near_any gap u rs ≡ is_near_any gap u given) → IsBridged gap given t → covers rs t ≡ true
 no_less gap given rs t g h same b =
     let near = b.near in
     let above = b.above in
     let below = b.below in
-    let at : nears gap b.from rs ≡ true = same b.from ∙ near_between gap b.from given t b (omega (arith, ints)) (omega (arith, ints)) in
+    let at : is_near_any gap b.from rs ≡ true = same b.from ∙ near_between gap b.from given t b (omega (arith, ints)) (omega (arith, ints)) in
     let r = near_holder gap b.from rs at in
     let p = near_parts gap b.from r.0 r.2 in
     let p1 = p.1 in
@@ -288,7 +288,7 @@ next_one g given t b s i early long none =
     ]
 
 -- a near tick has a tick of the spans not after it and not before it by more than the gap
-not_none : (g : ℕ) (t : ℤ) (given : List Span) → nears (pos g) t given ≡ true → NoneFrom given (t -ℤ pos g) t → ⊥
+not_none : (g : ℕ) (t : ℤ) (given : List Span) → is_near_any (pos g) t given ≡ true → NoneFrom given (t -ℤ pos g) t → ⊥
 not_none g t given e none =
     let s = near_holder (pos g) t given e in
     let p = near_parts (pos g) t s.0 s.2 in
@@ -301,7 +301,7 @@ not_none g t given e none =
     ]
 
 -- where no tick of the spans lies in the gap after one, the tick after that gap is not near
-not_near : (g : ℕ) (t : ℤ) (given : List Span) (b : Before given (t -ℤ pos g) t) → NoneFrom given t (b.at +ℤ pos g +ℤ pos 1) → nears (pos g) (b.at +ℤ pos g +ℤ pos 1) given ≡ true → ⊥
+not_near : (g : ℕ) (t : ℤ) (given : List Span) (b : Before given (t -ℤ pos g) t) → NoneFrom given t (b.at +ℤ pos g +ℤ pos 1) → is_near_any (pos g) (b.at +ℤ pos g +ℤ pos 1) given ≡ true → ⊥
 not_near g t given b none e =
     let w = b.at +ℤ pos g +ℤ pos 1 in
     let s = near_holder (pos g) w given e in
@@ -334,13 +334,13 @@ gap_left g t at a b =
     (k.0, omega (arith, ints))
 
 -- a tick of a range is bridged
-more_than : (g : ℕ) (given rs : List Span) (t : ℤ) → IsRanges (pos g) rs → ((u : ℤ) → nears (pos g) u rs ≡ nears (pos g) u given) → (r : Span) → IsIn r rs → within r t ≡ true → IsBridged (pos g) given t
+more_than : (g : ℕ) (given rs : List Span) (t : ℤ) → IsRanges (pos g) rs → ((u : ℤ) → is_near_any (pos g) u rs ≡ is_near_any (pos g) u given) → (r : Span) → IsIn r rs → has_tick r t ≡ true → IsBridged (pos g) given t
 more_than g given rs t h same r i e =
     let w = within_parts t r e in
     let w0 = w.0 in
     let w1 = w.1 in
     let lasts : r.start <ℤ r.end = lasting (pos g) rs r h i in
-    let near_t : nears (pos g) t given ≡ true = sym (same t) ∙ near_by (pos g) t rs r i (near_is (pos g) t r lasts w0 (omega (arith, ints))) in
+    let near_t : is_near_any (pos g) t given ≡ true = sym (same t) ∙ near_by (pos g) t rs r i (near_is (pos g) t r lasts w0 (omega (arith, ints))) in
     elim (down given t g) as (λ _. IsBridged (pos g) given t) [
       | inr none ↦ absurd (not_none g t given near_t none)
       | inl b ↦
@@ -357,7 +357,7 @@ more_than g given rs t h same r i e =
     ]
 
 -- ranges of the near ticks of spans are their bridged ranges
-pub bridged_by : (gap : ℤ) (given rs : List Span) → pos 0 ≤ℤ gap → IsRanges gap rs → ((t : ℤ) → nears gap t rs ≡ nears gap t given) → Bridged gap given rs
+pub bridged_by : (gap : ℤ) (given rs : List Span) → pos 0 ≤ℤ gap → IsRanges gap rs → ((t : ℤ) → is_near_any gap t rs ≡ is_near_any gap t given) → Bridged gap given rs
 bridged_by (pos g) given rs p h same = record {
   no_more = λ t e. let r = cover_holder t rs e in more_than g given rs t h same r.0 r.1 r.2;
   no_less = λ t b. no_less (pos g) given rs t p h same b;
@@ -365,8 +365,8 @@ bridged_by (pos g) given rs p h same = record {
 }
 bridged_by (negsuc g) given rs p h same = absurd (omega (arith, ints))
 
-pub bridged_law : (gap : ℤ) (spans : List Span) → pos 0 ≤ℤ gap → Bridged gap spans (bridged gap spans)
-bridged_law gap spans g = bridged_by gap spans (bridged gap spans) g (ranges_bridged gap spans g) (λ t. times_bridged gap t spans g)
+pub bridged_law : (gap : ℤ) (spans : List Span) → pos 0 ≤ℤ gap → Bridged gap spans (bridged_ranges gap spans)
+bridged_law gap spans g = bridged_by gap spans (bridged_ranges gap spans) g (ranges_bridged gap spans g) (λ t. times_bridged gap t spans g)
 
 both_true : (a b : Bool) → (a ≡ true → b ≡ true) → (b ≡ true → a ≡ true) → a ≡ b
 both_true true b f g = sym (f refl)

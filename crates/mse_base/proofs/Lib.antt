@@ -12,3 +12,6 @@ pub mod Looking
 pub mod Overlaps
 pub mod Unions
 pub mod Neighbours
+pub mod Filling
+pub mod Meeting
+pub mod Holding

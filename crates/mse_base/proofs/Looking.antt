@@ -63,7 +63,7 @@ find_past t (r ∷ rs) (suc i) h =
     let other : reaches t r ≡ false = ap (λ b. int_le r.start t && b) (not_le t r.end h.0) ∙ and_false (int_le r.start t) in
     ap (λ b. cond b (Some r) (find (reaches t) rs)) other ∙ find_past t rs i h.1
 
-starts_late : (t e : ℤ) (rs : List Span) → t ≤ℤ e → StartsAfter e rs → IsNormalized rs → find (reaches t) rs ≡ None
+pub starts_late : (t e : ℤ) (rs : List Span) → t ≤ℤ e → StartsAfter e rs → IsNormalized rs → find (reaches t) rs ≡ None
 starts_late t e [] l a p = refl
 starts_late t e (r ∷ rs) l a p =
     let own = p.0 in

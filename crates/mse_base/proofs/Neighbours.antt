@@ -2,7 +2,7 @@
 use Rattle.std.proofs.Common.{◌≡◌, ◌∙◌, ℤ, pos, ◌+ℤ◌, ◌-ℤ◌, ◌<ℤ◌, ◌≤ℤ◌, Bool, true, false, ◌||◌, List, [], ◌∷◌, ◌++◌, refl, sym, ap, subst, inl, inr, ◌⊎◌, arith}
 use Rattle.std.proofs.lemmas.Int.{ints}
 use Rattle.mse_base.specs.declared.span.Span.{Span}
-use Rattle.mse_base.specs.Spans.{within, covers, IsNormalized, Joined, Met, CutOut, IsBridged, Bridged, IsInGap}
+use Rattle.mse_base.specs.Spans.{has_tick, covers, IsNormalized, Joined, Met, CutOut, IsBridged, Bridged, IsInGap}
 use Rattle.mse_base.proofs.Unique.{unique, not_yet}
 use Rattle.mse_base.proofs.Sets.{covers-append}
 
@@ -72,16 +72,16 @@ or_false_right : (a b : Bool) → (a || b) ≡ false → b ≡ false
 or_false_right true b e = cc
 or_false_right false b e = e
 
-within_start : (t : ℤ) (s : Span) → within s t ≡ true → s.start ≤ℤ t
+within_start : (t : ℤ) (s : Span) → has_tick s t ≡ true → s.start ≤ℤ t
 within_start t s e = grind (arith, ints)
 
-within_end : (t : ℤ) (s : Span) → within s t ≡ true → t <ℤ s.end
+within_end : (t : ℤ) (s : Span) → has_tick s t ≡ true → t <ℤ s.end
 within_end t s e = grind (arith, ints)
 
-within_is : (t : ℤ) (s : Span) → s.start ≤ℤ t → t <ℤ s.end → within s t ≡ true
+within_is : (t : ℤ) (s : Span) → s.start ≤ℤ t → t <ℤ s.end → has_tick s t ≡ true
 within_is t s a b = grind (arith, ints)
 
-not_within : (t : ℤ) (s : Span) → within s t ≡ false → s.start ≤ℤ t → s.end ≤ℤ t
+not_within : (t : ℤ) (s : Span) → has_tick s t ≡ false → s.start ≤ℤ t → s.end ≤ℤ t
 not_within t s e h = grind (arith, ints)
 
 between : (u m : ℤ) → (u <ℤ m) ⊎ (m ≤ℤ u)
@@ -90,7 +90,7 @@ between u m = grind (arith, ints)
 none_before : (t : ℤ) (y : Span) (ys : List Span) → IsNormalized (y ∷ ys) → t <ℤ y.start → covers (y ∷ ys) t ≡ false
 none_before t y ys n h =
     let own = n.0 in
-    let off : within y t ≡ false = grind (arith, ints) in
+    let off : has_tick y t ≡ false = grind (arith, ints) in
     ap (λ b. b || covers ys t) off ∙ not_yet y.end t ys n.1 n.2 (omega (arith, ints))
 
 more : (gap t : ℤ) (x : Span) (xs : List Span) → IsInGap gap xs t → IsInGap gap (x ∷ xs) t
@@ -100,40 +100,40 @@ more gap t x xs g = record { front = x ∷ g.front; left = g.left; right = g.rig
 in_gap : (gap from t to : ℤ) (ranges : List Span) → IsNormalized ranges → covers ranges t ≡ false → covers ranges from ≡ true → covers ranges to ≡ true → from ≤ℤ t → t ≤ℤ to → to ≤ℤ (from +ℤ gap +ℤ pos 1) → IsInGap gap ranges t
 in_gap gap from t to [] n off a b l h w = absurd cc
 in_gap gap from t to (x ∷ []) n off a b l h w =
-    or_cases (within x from) false a
-    (λ f. or_cases (within x to) false b
+    or_cases (has_tick x from) false a
+    (λ f. or_cases (has_tick x to) false b
     (λ k. let f0 = within_start from x f in
     let k1 = within_end to x k in
-    absurd (true_false (within x t) (within_is t x (omega (arith, ints)) (omega (arith, ints))) (or_false_left (within x t) false off)))
+    absurd (true_false (has_tick x t) (within_is t x (omega (arith, ints)) (omega (arith, ints))) (or_false_left (has_tick x t) false off)))
     (λ k. absurd cc))
     (λ f. absurd cc)
 in_gap gap from t to (x ∷ y ∷ ys) n off a b l h w =
-    let off_x : within x t ≡ false = or_false_left (within x t) (covers (y ∷ ys) t) off in
-    let off_rest : covers (y ∷ ys) t ≡ false = or_false_right (within x t) (covers (y ∷ ys) t) off in
+    let off_x : has_tick x t ≡ false = or_false_left (has_tick x t) (covers (y ∷ ys) t) off in
+    let off_rest : covers (y ∷ ys) t ≡ false = or_false_right (has_tick x t) (covers (y ∷ ys) t) off in
     let rest : IsNormalized (y ∷ ys) = n.2 in
     let own : x.start <ℤ x.end = n.0 in
     let next : x.end <ℤ y.start = n.1 in
     let lasts : y.start <ℤ y.end = rest.0 in
     elim (between t y.start) as (λ _. IsInGap gap (x ∷ y ∷ ys) t) [
       | inl low ↦
-          or_cases (within x from) (covers (y ∷ ys) from) a
+          or_cases (has_tick x from) (covers (y ∷ ys) from) a
           (λ f. let f0 = within_start from x f in
           let f1 = within_end from x f in
           let past : x.end ≤ℤ t = not_within t x off_x (omega (arith, ints)) in
           elim (between to y.start) as (λ _. IsInGap gap (x ∷ y ∷ ys) t) [
-            | inl early ↦ or_cases (within x to) (covers (y ∷ ys) to) b
+            | inl early ↦ or_cases (has_tick x to) (covers (y ∷ ys) to) b
                 (λ k. let k1 = within_end to x k in absurd (omega (arith, ints)))
                 (λ k. absurd (true_false _ k (none_before to y ys rest early)))
             | inr reaches ↦ record { front = []; left = x; right = y; back = ys; neighbours = refl; short = omega (arith, ints); above = past; below = low }
           ])
           (λ f. absurd (true_false _ f (none_before from y ys rest (omega (arith, ints)))))
       | inr high ↦
-          let past : y.end ≤ℤ t = not_within t y (or_false_left (within y t) (covers ys t) off_rest) high in
-          let to_rest : covers (y ∷ ys) to ≡ true = or_cases (within x to) (covers (y ∷ ys) to) b (λ k. let k1 = within_end to x k in absurd (omega (arith, ints))) (λ k. k) in
+          let past : y.end ≤ℤ t = not_within t y (or_false_left (has_tick y t) (covers ys t) off_rest) high in
+          let to_rest : covers (y ∷ ys) to ≡ true = or_cases (has_tick x to) (covers (y ∷ ys) to) b (λ k. let k1 = within_end to x k in absurd (omega (arith, ints))) (λ k. k) in
           more gap t x (y ∷ ys)
-          (or_cases (within x from) (covers (y ∷ ys) from) a
+          (or_cases (has_tick x from) (covers (y ∷ ys) from) a
           (λ f. let f1 = within_end from x f in
-          in_gap gap (y.end -ℤ pos 1) t to (y ∷ ys) rest off_rest (or_left (within y (y.end -ℤ pos 1)) (covers ys (y.end -ℤ pos 1)) (within_is (y.end -ℤ pos 1) y (omega (arith, ints)) (omega (arith, ints)))) to_rest (omega (arith, ints)) h (omega (arith, ints)))
+          in_gap gap (y.end -ℤ pos 1) t to (y ∷ ys) rest off_rest (or_left (has_tick y (y.end -ℤ pos 1)) (covers ys (y.end -ℤ pos 1)) (within_is (y.end -ℤ pos 1) y (omega (arith, ints)) (omega (arith, ints)))) to_rest (omega (arith, ints)) h (omega (arith, ints)))
           (λ f. in_gap gap from t to (y ∷ ys) rest off_rest f to_rest l h w))
     ]
 
@@ -162,10 +162,10 @@ bridged_of_gap gap given joined t g j (inr i) =
     let above = i.above in
     let below = i.below in
     let before = i.left.end -ℤ pos 1 in
-    let in_left : within i.left before ≡ true = within_is before i.left (omega (arith, ints)) (omega (arith, ints)) in
-    let in_right : within i.right i.right.start ≡ true = within_is i.right.start i.right (omega (arith, ints)) lasts1 in
-    let has_left : covers (i.front ++ i.left ∷ i.right ∷ i.back) before ≡ true = covers-append i.front (i.left ∷ i.right ∷ i.back) before ∙ or_right (covers i.front before) _ (or_left (within i.left before) _ in_left) in
-    let has_right : covers (i.front ++ i.left ∷ i.right ∷ i.back) i.right.start ≡ true = covers-append i.front (i.left ∷ i.right ∷ i.back) i.right.start ∙ or_right (covers i.front i.right.start) _ (or_right (within i.left i.right.start) _ (or_left (within i.right i.right.start) _ in_right)) in
+    let in_left : has_tick i.left before ≡ true = within_is before i.left (omega (arith, ints)) (omega (arith, ints)) in
+    let in_right : has_tick i.right i.right.start ≡ true = within_is i.right.start i.right (omega (arith, ints)) lasts1 in
+    let has_left : covers (i.front ++ i.left ∷ i.right ∷ i.back) before ≡ true = covers-append i.front (i.left ∷ i.right ∷ i.back) before ∙ or_right (covers i.front before) _ (or_left (has_tick i.left before) _ in_left) in
+    let has_right : covers (i.front ++ i.left ∷ i.right ∷ i.back) i.right.start ≡ true = covers-append i.front (i.left ∷ i.right ∷ i.back) i.right.start ∙ or_right (covers i.front i.right.start) _ (or_right (has_tick i.left i.right.start) _ (or_left (has_tick i.right i.right.start) _ in_right)) in
     record {
       from = before;
       to = i.right.start;

@@ -2,14 +2,15 @@
 use Rattle.std.proofs.Common.{◌≡◌, ℤ, ◌≤ℤ◌, ◌<ℤ◌, int_lt, Bool, true, false, cond, ◌&&◌, ◌||◌, List, [], ◌∷◌, ◌++◌, length, get_or, take, drop, ◌-◌, ◌≤◌, ◌⊎◌, inl, inr, refl, ap, sym, subst, ◌∙◌, arith}
 use Rattle.std.proofs.lemmas.Int.{ints}
 use Rattle.std.proofs.lemmas.List.{same_from_push, append-nil, take_all}
+use Rattle.std.specs.Int.{int_max, int_min}
 use Rattle.mse_base.specs.declared.span.Span.{Span}
-use Rattle.mse_base.specs.Spans.{within, covers, StartsAfter, IsNormalized}
-use Rattle.mse_base.specs.Bridging.{greater, lesser, overlap}
+use Rattle.mse_base.specs.Spans.{has_tick, covers, StartsAfter, IsNormalized}
+use Rattle.mse_base.specs.Bridging.{overlap}
 use Rattle.mse_base.proofs.Sets.{covers-append}
 use Rattle.mse_base.proofs.Unique.{not_yet}
 
 abbrev both : Span → Span → Span
-both x y = record { start = greater x.start y.start; end = lesser x.end y.end }
+both x y = record { start = int_max x.start y.start; end = int_min x.end y.end }
 
 abbrev pub EndsBefore : List Span → ℤ → Type 0
 EndsBefore ss t = (front : List Span) (last : Span) → ss ≡ front ++ last ∷ [] → last.end <ℤ t
@@ -18,7 +19,7 @@ EndsBefore ss t = (front : List Span) (last : Span) → ss ≡ front ++ last ∷
 abbrev pub Clear : List Span → List Span → List Span → Type 0
 Clear met [] ys = Unit {0}
 Clear met (x ∷ xs) [] = Unit {0}
-Clear met (x ∷ xs) (y ∷ ys) = EndsBefore met (greater x.start y.start)
+Clear met (x ∷ xs) (y ∷ ys) = EndsBefore met (int_max x.start y.start)
 
 pub record Meeting (left right xs ys met : List Span) : Type 0 where
   pub same : (t : ℤ) → (covers met t || (covers xs t && covers ys t)) ≡ (covers left t && covers right t)
@@ -27,10 +28,10 @@ pub record Meeting (left right xs ys met : List Span) : Type 0 where
   pub ys_normalized : IsNormalized ys
   pub clear : Clear met xs ys
 
-within-both : (x y : Span) (t : ℤ) → within (both x y) t ≡ (within x t && within y t)
+within-both : (x y : Span) (t : ℤ) → has_tick (both x y) t ≡ (has_tick x t && has_tick y t)
 within-both x y t = grind (arith, ints)
 
-covers-overlap : (x y : Span) (t : ℤ) → covers (overlap x y) t ≡ (within x t && within y t)
+covers-overlap : (x y : Span) (t : ℤ) → covers (overlap x y) t ≡ (has_tick x t && has_tick y t)
 covers-overlap x y t = grind (arith, ints)
 
 and_false : (a : Bool) → (a && false) ≡ false
@@ -38,14 +39,14 @@ and_false true = refl
 and_false false = refl
 
 -- t below e or not
-below_or_not : (x : Span) (t e : ℤ) → x.end ≤ℤ e → (within x t ≡ false) ⊎ (t ≤ℤ e)
+below_or_not : (x : Span) (t e : ℤ) → x.end ≤ℤ e → (has_tick x t ≡ false) ⊎ (t ≤ℤ e)
 below_or_not x t e h = grind (arith, ints)
 
-x_and_later : (x : Span) (t e : ℤ) (ys : List Span) → x.end ≤ℤ e → StartsAfter e ys → IsNormalized ys → (within x t && covers ys t) ≡ false
+x_and_later : (x : Span) (t e : ℤ) (ys : List Span) → x.end ≤ℤ e → StartsAfter e ys → IsNormalized ys → (has_tick x t && covers ys t) ≡ false
 x_and_later x t e ys h a p =
-    elim (below_or_not x t e h) as (λ _. (within x t && covers ys t) ≡ false) [
+    elim (below_or_not x t e h) as (λ _. (has_tick x t && covers ys t) ≡ false) [
       | inl w ↦ rw w refl
-      | inr k ↦ let r : covers ys t ≡ false = not_yet e t ys a p k in rw r (and_false (within x t))
+      | inr k ↦ let r : covers ys t ≡ false = not_yet e t ys a p k in rw r (and_false (has_tick x t))
     ]
 
 spread-left : (m w x xs y ys : Bool) → w ≡ (x && y) → (x && ys) ≡ false → ((m || w) || (xs && (y || ys))) ≡ (m || ((x || xs) && (y || ys)))
@@ -74,9 +75,9 @@ normalized-push (x ∷ y ∷ xs) s b n h =
     (h.0, h.1, normalized-push (y ∷ xs) s c n h.2)
 
 -- what stands after the spans found, where their ticks overlap and where they do not
-found : (met : List Span) (x y : Span) (b : Bool) → int_lt (greater x.start y.start) (lesser x.end y.end) ≡ b → EndsBefore met (greater x.start y.start) → IsNormalized met → IsNormalized (met ++ cond b (both x y ∷ []) [])
+found : (met : List Span) (x y : Span) (b : Bool) → int_lt (int_max x.start y.start) (int_min x.end y.end) ≡ b → EndsBefore met (int_max x.start y.start) → IsNormalized met → IsNormalized (met ++ cond b (both x y ∷ []) [])
 found met x y true q c a =
-    let n : greater x.start y.start <ℤ lesser x.end y.end = grind (arith, ints) in
+    let n : int_max x.start y.start <ℤ int_min x.end y.end = grind (arith, ints) in
     normalized-push met (both x y) c n a
 found met x y false q c a = rw append-nil a
 
@@ -86,19 +87,19 @@ ends-later met t u h e = λ front last q. let k : last.end <ℤ t = e front last
 ends-push : (met : List Span) (s : Span) (u : ℤ) → s.end <ℤ u → EndsBefore (met ++ s ∷ []) u
 ends-push met s u h = λ front last e. let p = same_from_push met front s last e in subst (λ (z : Span). z.end <ℤ u) p.1 h
 
-ends-found : (met : List Span) (x y : Span) (u : ℤ) (b : Bool) → lesser x.end y.end <ℤ u → greater x.start y.start ≤ℤ u → EndsBefore met (greater x.start y.start) → EndsBefore (met ++ cond b (both x y ∷ []) []) u
+ends-found : (met : List Span) (x y : Span) (u : ℤ) (b : Bool) → int_min x.end y.end <ℤ u → int_max x.start y.start ≤ℤ u → EndsBefore met (int_max x.start y.start) → EndsBefore (met ++ cond b (both x y ∷ []) []) u
 ends-found met x y u true h g e = ends-push met (both x y) u h
-ends-found met x y u false h g e = rw append-nil (ends-later met (greater x.start y.start) u g e)
+ends-found met x y u false h g e = rw append-nil (ends-later met (int_max x.start y.start) u g e)
 
-clear-left : (met xs ys : List Span) (x y : Span) (b : Bool) → x.end ≤ℤ y.end → x.start <ℤ x.end → StartsAfter x.end xs → EndsBefore met (greater x.start y.start) → Clear (met ++ cond b (both x y ∷ []) []) xs (y ∷ ys)
+clear-left : (met xs ys : List Span) (x y : Span) (b : Bool) → x.end ≤ℤ y.end → x.start <ℤ x.end → StartsAfter x.end xs → EndsBefore met (int_max x.start y.start) → Clear (met ++ cond b (both x y ∷ []) []) xs (y ∷ ys)
 clear-left met [] ys x y b h n a e = tt
 clear-left met (z ∷ xs) ys x y b h n a e =
-    ends-found met x y (greater z.start y.start) b (grind (arith, ints)) (grind (arith, ints)) e
+    ends-found met x y (int_max z.start y.start) b (grind (arith, ints)) (grind (arith, ints)) e
 
-clear-right : (met xs ys : List Span) (x y : Span) (b : Bool) → y.end <ℤ x.end → y.start <ℤ y.end → StartsAfter y.end ys → EndsBefore met (greater x.start y.start) → Clear (met ++ cond b (both x y ∷ []) []) (x ∷ xs) ys
+clear-right : (met xs ys : List Span) (x y : Span) (b : Bool) → y.end <ℤ x.end → y.start <ℤ y.end → StartsAfter y.end ys → EndsBefore met (int_max x.start y.start) → Clear (met ++ cond b (both x y ∷ []) []) (x ∷ xs) ys
 clear-right met xs [] x y b h n a e = tt
 clear-right met xs (z ∷ ys) x y b h n a e =
-    ends-found met x y (greater x.start z.start) b (grind (arith, ints)) (grind (arith, ints)) e
+    ends-found met x y (int_max x.start z.start) b (grind (arith, ints)) (grind (arith, ints)) e
 
 covers-found : (met : List Span) (x y : Span) (t : ℤ) → covers (met ++ overlap x y) t ≡ (covers met t || covers (overlap x y) t)
 covers-found met x y t = covers-append met (overlap x y) t
@@ -107,7 +108,7 @@ pub step-left : (left right xs ys met new : List Span) (x y : Span) → x.end �
 step-left left right xs ys met new x y h e m =
     let same : (t : ℤ) → (covers (met ++ overlap x y) t || (covers xs t && covers (y ∷ ys) t)) ≡ (covers left t && covers right t) =
     λ t. ap (λ v. v || (covers xs t && covers (y ∷ ys) t)) (covers-found met x y t)
-    ∙ spread-left (covers met t) (covers (overlap x y) t) (within x t) (covers xs t) (within y t) (covers ys t) (covers-overlap x y t) (x_and_later x t y.end ys h m.ys_normalized.1 m.ys_normalized.2)
+    ∙ spread-left (covers met t) (covers (overlap x y) t) (has_tick x t) (covers xs t) (has_tick y t) (covers ys t) (covers-overlap x y t) (x_and_later x t y.end ys h m.ys_normalized.1 m.ys_normalized.2)
     ∙ m.same t
     in
     rw e (record {
@@ -123,7 +124,7 @@ step-right left right xs ys met new x y h e m =
     let k : y.end ≤ℤ x.end = omega (arith, ints) in
     let same : (t : ℤ) → (covers (met ++ overlap x y) t || (covers (x ∷ xs) t && covers ys t)) ≡ (covers left t && covers right t) =
     λ t. ap (λ v. v || (covers (x ∷ xs) t && covers ys t)) (covers-found met x y t)
-    ∙ spread-right (covers met t) (covers (overlap x y) t) (within x t) (covers xs t) (within y t) (covers ys t) (covers-overlap x y t) (x_and_later y t x.end xs k m.xs_normalized.1 m.xs_normalized.2)
+    ∙ spread-right (covers met t) (covers (overlap x y) t) (has_tick x t) (covers xs t) (has_tick y t) (covers ys t) (covers-overlap x y t) (x_and_later y t x.end xs k m.xs_normalized.1 m.xs_normalized.2)
     ∙ m.same t
     in
     rw e (record {

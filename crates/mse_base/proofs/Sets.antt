@@ -1,9 +1,10 @@
 -- Lists of spans as sets of ticks.
 use Rattle.std.proofs.Common.{◌≡◌, ◌∙◌, ℤ, pos, Bool, true, false, ◌||◌, ◌&&◌, not, List, [], ◌∷◌, ◌++◌, refl, ap, sym, arith, int_le, int_lt}
 use Rattle.std.proofs.lemmas.Int.{ints}
+use Rattle.std.specs.Int.{int_min, int_max}
 use Rattle.mse_base.specs.declared.span.Span.{Span}
-use Rattle.mse_base.specs.Spans.{within, covers}
-use Rattle.mse_base.specs.Bridging.{part, lesser, greater, carved, near, nears}
+use Rattle.mse_base.specs.Spans.{has_tick, covers}
+use Rattle.mse_base.specs.Bridging.{span_between, ranges_without, is_near, is_near_any}
 
 pub or_assoc : (a b c : Bool) → ((a || b) || c) ≡ (a || (b || c))
 or_assoc true b c = refl
@@ -21,23 +22,23 @@ or_none false = refl
 
 pub covers-append : (xs ys : List Span) (t : ℤ) → covers (xs ++ ys) t ≡ (covers xs t || covers ys t)
 covers-append [] ys t = refl
-covers-append (x ∷ xs) ys t = ap (λ b. within x t || b) (covers-append xs ys t) ∙ sym (or_assoc (within x t) (covers xs t) (covers ys t))
+covers-append (x ∷ xs) ys t = ap (λ b. has_tick x t || b) (covers-append xs ys t) ∙ sym (or_assoc (has_tick x t) (covers xs t) (covers ys t))
 
 -- with no gap, near a span is in it
-pub near_within : (t : ℤ) (s : Span) → near (pos 0) t s ≡ within s t
+pub near_within : (t : ℤ) (s : Span) → is_near (pos 0) t s ≡ has_tick s t
 near_within t s = grind (arith, ints)
 
-pub nears_covers : (t : ℤ) (ss : List Span) → nears (pos 0) t ss ≡ covers ss t
+pub nears_covers : (t : ℤ) (ss : List Span) → is_near_any (pos 0) t ss ≡ covers ss t
 nears_covers t [] = refl
-nears_covers t (s ∷ ss) = ap (λ b. b || nears (pos 0) t ss) (near_within t s) ∙ ap (λ b. within s t || b) (nears_covers t ss)
+nears_covers t (s ∷ ss) = ap (λ b. b || is_near_any (pos 0) t ss) (near_within t s) ∙ ap (λ b. has_tick s t || b) (nears_covers t ss)
 
-covers-part : (x y t : ℤ) → covers (part x y) t ≡ (int_le x t && int_lt t y)
+covers-part : (x y t : ℤ) → covers (span_between x y) t ≡ (int_le x t && int_lt t y)
 covers-part x y t = grind (arith, ints)
 
-lt_lesser : (t x a : ℤ) → int_lt t (lesser x a) ≡ (int_lt t x && int_lt t a)
+lt_lesser : (t x a : ℤ) → int_lt t (int_min x a) ≡ (int_lt t x && int_lt t a)
 lt_lesser t x a = grind (arith, ints)
 
-greater_le : (t x b : ℤ) → int_le (greater x b) t ≡ (int_le x t && int_le b t)
+greater_le : (t x b : ℤ) → int_le (int_max x b) t ≡ (int_le x t && int_le b t)
 greater_le t x b = grind (arith, ints)
 
 le_is_not_lt : (a t : ℤ) → int_le a t ≡ not (int_lt t a)
@@ -66,19 +67,19 @@ and_or true false false = refl
 and_or false b c = refl
 
 -- the ticks that a hole leaves
-pub covers-carved : (a b t : ℤ) (ss : List Span) → covers (carved a b ss) t ≡ (covers ss t && not (int_le a t && int_lt t b))
+pub covers-carved : (a b t : ℤ) (ss : List Span) → covers (ranges_without a b ss) t ≡ (covers ss t && not (int_le a t && int_lt t b))
 covers-carved a b t [] = refl
 covers-carved a b t (s ∷ ss) =
-    let rest = covers (carved a b ss) t in
+    let rest = covers (ranges_without a b ss) t in
     let hole = not (int_le a t && int_lt t b) in
     let same : not (not (int_lt t a) && not (int_le b t)) ≡ hole =
     ap (λ c. not (c && not (int_le b t))) (sym (le_is_not_lt a t)) ∙ ap (λ c. not (int_le a t && c)) (sym (lt_is_not_le t b))
     in
-    covers-append (part s.start (lesser s.end a)) (part (greater s.start b) s.end ++ carved a b ss) t
-    ∙ ap (λ c. covers (part s.start (lesser s.end a)) t || c) (covers-append (part (greater s.start b) s.end) (carved a b ss) t)
-    ∙ ap (λ c. c || (covers (part (greater s.start b) s.end) t || rest)) (covers-part s.start (lesser s.end a) t ∙ ap (λ c. int_le s.start t && c) (lt_lesser t s.end a))
-    ∙ ap (λ c. (int_le s.start t && (int_lt t s.end && int_lt t a)) || (c || rest)) (covers-part (greater s.start b) s.end t ∙ ap (λ c. c && int_lt t s.end) (greater_le t s.start b))
+    covers-append (span_between s.start (int_min s.end a)) (span_between (int_max s.start b) s.end ++ ranges_without a b ss) t
+    ∙ ap (λ c. covers (span_between s.start (int_min s.end a)) t || c) (covers-append (span_between (int_max s.start b) s.end) (ranges_without a b ss) t)
+    ∙ ap (λ c. c || (covers (span_between (int_max s.start b) s.end) t || rest)) (covers-part s.start (int_min s.end a) t ∙ ap (λ c. int_le s.start t && c) (lt_lesser t s.end a))
+    ∙ ap (λ c. (int_le s.start t && (int_lt t s.end && int_lt t a)) || (c || rest)) (covers-part (int_max s.start b) s.end t ∙ ap (λ c. c && int_lt t s.end) (greater_le t s.start b))
     ∙ cut-one (int_le s.start t) (int_lt t s.end) (int_lt t a) (int_le b t) rest
-    ∙ ap (λ c. (within s t && c) || rest) same
-    ∙ ap (λ c. (within s t && hole) || c) (covers-carved a b t ss)
-    ∙ and_or (within s t) (covers ss t) hole
+    ∙ ap (λ c. (has_tick s t && c) || rest) same
+    ∙ ap (λ c. (has_tick s t && hole) || c) (covers-carved a b t ss)
+    ∙ and_or (has_tick s t) (covers ss t) hole

@@ -2,7 +2,7 @@
 use Rattle.std.proofs.Common.{◌≡◌, ℤ, ◌≤ℤ◌, ◌<ℤ◌, Bool, true, false, ◌||◌, List, [], ◌∷◌, ◌⊎◌, inl, inr, refl, ap, sym, subst, ◌∙◌, arith}
 use Rattle.std.proofs.lemmas.Int.{ints}
 use Rattle.mse_base.specs.declared.span.Span.{Span}
-use Rattle.mse_base.specs.Spans.{within, covers, StartsAfter, IsNormalized}
+use Rattle.mse_base.specs.Spans.{has_tick, covers, StartsAfter, IsNormalized}
 
 pub not_yet : (e t : ℤ) (ys : List Span) → StartsAfter e ys → IsNormalized ys → t ≤ℤ e → covers ys t ≡ false
 not_yet e t [] a p h = refl
@@ -11,7 +11,7 @@ not_yet e t (y ∷ ys) a p h =
     let r : covers ys t ≡ false = not_yet y.end t ys p.1 p.2 k in
     rw r (grind (arith, ints))
 
-starts_in : (x : Span) (b : Bool) → x.start <ℤ x.end → (within x x.start || b) ≡ true
+starts_in : (x : Span) (b : Bool) → x.start <ℤ x.end → (has_tick x x.start || b) ≡ true
 starts_in x b h = grind (arith, ints)
 
 before_all : (x : Span) (xs : List Span) (t : ℤ) → IsNormalized (x ∷ xs) → t <ℤ x.start → covers (x ∷ xs) t ≡ false
@@ -25,7 +25,7 @@ at_end x xs p =
     let k : x.end ≤ℤ x.end = omega (arith, ints) in
     rw (not_yet x.end x.end xs p.1 p.2 k) (grind (arith, ints))
 
-inner : (y : Span) (t : ℤ) (b : Bool) → y.start ≤ℤ t → t <ℤ y.end → (within y t || b) ≡ true
+inner : (y : Span) (t : ℤ) (b : Bool) → y.start ≤ℤ t → t <ℤ y.end → (has_tick y t || b) ≡ true
 inner y t b h k = grind (arith, ints)
 
 not_before : (x y : Span) (xs ys : List Span) → IsNormalized (x ∷ xs) → IsNormalized (y ∷ ys) → ((t : ℤ) → covers (x ∷ xs) t ≡ covers (y ∷ ys) t) → x.start <ℤ y.start → ⊥
@@ -50,7 +50,7 @@ pick a b f g = grind (arith, ints)
 flip : (xs ys : List Span) → ((t : ℤ) → covers xs t ≡ covers ys t) → (t : ℤ) → covers ys t ≡ covers xs t
 flip xs ys same t = sym (same t)
 
-before_or_out : (x : Span) (t : ℤ) → (t ≤ℤ x.end) ⊎ (within x t ≡ false)
+before_or_out : (x : Span) (t : ℤ) → (t ≤ℤ x.end) ⊎ (has_tick x t ≡ false)
 before_or_out x t = grind (arith, ints)
 
 same_span : (x y : Span) → x.start ≡ y.start → x.end ≡ y.end → x ≡ y
@@ -72,10 +72,10 @@ unique (x ∷ xs) (y ∷ ys) p q same =
           let l : t ≤ℤ y.end = omega (arith, ints) in
           not_yet x.end t xs p.1 p.2 k ∙ sym (not_yet y.end t ys q.1 q.2 l)
       | inr w ↦
-          let v : within y t ≡ false = subst (λ (z : Span). within z t ≡ false) h w in
-          let e : (within x t || covers xs t) ≡ (within y t || covers ys t) = same t in
-          let a : (within x t || covers xs t) ≡ covers xs t = ap (λ b. b || covers xs t) w in
-          let b : (within y t || covers ys t) ≡ covers ys t = ap (λ b. b || covers ys t) v in
+          let v : has_tick y t ≡ false = subst (λ (z : Span). has_tick z t ≡ false) h w in
+          let e : (has_tick x t || covers xs t) ≡ (has_tick y t || covers ys t) = same t in
+          let a : (has_tick x t || covers xs t) ≡ covers xs t = ap (λ b. b || covers xs t) w in
+          let b : (has_tick y t || covers ys t) ≡ covers ys t = ap (λ b. b || covers ys t) v in
           sym a ∙ e ∙ b
     ]
     in

@@ -8,13 +8,13 @@ pub record RangesView : Type 0 where
   pub spare : ℕ
 
 -- the span has the tick: its start is in it, and its end is not
-abbrev pub within : Span → ℤ → Bool
-within s t = int_le s.start t && int_lt t s.end
+abbrev pub has_tick : Span → ℤ → Bool
+has_tick s t = int_le s.start t && int_lt t s.end
 
 -- some span has the tick
 abbrev pub covers : List Span → ℤ → Bool
 covers [] t = false
-covers (s ∷ ss) t = within s t || covers ss t
+covers (s ∷ ss) t = has_tick s t || covers ss t
 
 -- the first span, if any, begins after e
 abbrev pub StartsAfter : ℤ → List Span → Type 0

@@ -1,7 +1,7 @@
 ghost use Rattle.std.specs.Prelude.{◌≡◌, ◌<◌, ◌≤◌, ◌++◌, ◌≤ℤ◌, pos, vec_len, vec_capacity, length, take, drop, IfOk};
-ghost use Rattle.mse_base.specs.Bridging.{bridged, join_in, merged, hull, is_empty, IsRanges};
+ghost use Rattle.mse_base.specs.Bridging.{bridged_ranges, ranges_with, ranges_with_lasting, span_round, is_empty, IsRanges};
 
-use crate::lookup::{ends_before, place_reaching};
+use crate::lookup::{is_far_before, place_reaching};
 use crate::{OutOfMemory, Span, Ticks};
 use std::alloc::Global;
 
@@ -12,8 +12,8 @@ fn is_empty(s: &Span) -> bool
 }
 
 /// The least span round both.
-fn hull(s: &Span, r: &Span) -> Span
-    ensures { result ≡ hull s.now r.now }
+fn span_round(s: &Span, r: &Span) -> Span
+    ensures { result ≡ span_round s.now r.now }
 {
     Span {
         start: if s.start <= r.start { s.start } else { r.start },
@@ -25,20 +25,20 @@ fn hull(s: &Span, r: &Span) -> Span
 fn join_from(ranges: &mut Vec<Span>, gap: Ticks, from: usize, span: Span)
     requires room { vec_len ranges.old < vec_capacity ranges.old }
     requires within { from ≤ length ranges.old.items }
-    ensures items { ranges.new.items ≡ take from ranges.old.items ++ merged gap span (drop from ranges.old.items) }
+    ensures items { ranges.new.items ≡ take from ranges.old.items ++ ranges_with_lasting gap span (drop from ranges.old.items) }
     ensures capacity { vec_capacity ranges.new ≡ vec_capacity ranges.old }
 {
     let mut s = span;
     let mut i = from;
     while i < ranges.len() {
         let r = &ranges[i];
-        if ends_before(gap, &s, r) {
+        if is_far_before(gap, &s, r) {
             break;
         }
-        if ends_before(gap, r, &s) {
+        if is_far_before(gap, r, &s) {
             i += 1;
         } else {
-            s = hull(&s, r);
+            s = span_round(&s, r);
             ranges.remove(i);
         }
     }
@@ -51,9 +51,9 @@ fn join_from(ranges: &mut Vec<Span>, gap: Ticks, from: usize, span: Span)
 /// Joins a span to ranges.
 pub(crate) fn join_in(ranges: &mut Vec<Span>, gap: Ticks, span: Span)
     requires room { vec_len ranges.old < vec_capacity ranges.old }
-    requires forward { pos 0 ≤ℤ gap }
+    requires gap_from_zero { pos 0 ≤ℤ gap }
     requires ranges { IsRanges gap ranges.old.items }
-    ensures items { ranges.new.items ≡ join_in gap ranges.old.items span }
+    ensures items { ranges.new.items ≡ ranges_with gap ranges.old.items span }
     ensures capacity { vec_capacity ranges.new ≡ vec_capacity ranges.old }
 {
     if is_empty(&span) {
@@ -70,7 +70,7 @@ pub(crate) fn bridged_of(
     gap: Ticks,
 ) -> Result<Vec<Span>, OutOfMemory>
     requires { pos 0 ≤ℤ gap }
-    ensures { IfOk result (λ v. v.items ≡ bridged gap spans.now) }
+    ensures { IfOk result (λ v. v.items ≡ bridged_ranges gap spans.now) }
 {
     let mut ranges = Vec::new(alloc);
     for span in spans {

@@ -1,24 +1,13 @@
 ghost use Rattle.std.specs.Prelude.{◌≡◌, ◌+◌, ◌<◌, ◌≤◌, ◌++◌, ◌<ℤ◌, ◌≤ℤ◌, ◌+ℤ◌, ◌-ℤ◌, pos, int_lt, vec_len, vec_capacity, length, take, drop, option_to_list};
-ghost use Rattle.mse_base.specs.Bridging.{IsRanges, carved, part, lesser, greater};
+ghost use Rattle.std.specs.Int.{int_min, int_max};
+ghost use Rattle.mse_base.specs.Bridging.{IsRanges, ranges_without, span_between};
 
 use crate::lookup::place_reaching;
 use crate::{Span, Ticks};
 
-pub(crate) fn lesser(a: Ticks, b: Ticks) -> Ticks
-    ensures { result ≡ lesser a b }
-{
-    if a < b { a } else { b }
-}
-
-pub(crate) fn greater(a: Ticks, b: Ticks) -> Ticks
-    ensures { result ≡ greater a b }
-{
-    if a < b { b } else { a }
-}
-
 /// The span from a start up to an end, if it has a tick.
-pub(crate) fn part(start: Ticks, end: Ticks) -> Option<Span>
-    ensures { option_to_list result ≡ part start end }
+fn span_between(start: Ticks, end: Ticks) -> Option<Span>
+    ensures { option_to_list result ≡ span_between start end }
 {
     if start < end {
         Some(Span { start, end })
@@ -30,12 +19,12 @@ pub(crate) fn part(start: Ticks, end: Ticks) -> Option<Span>
 /// The part of a span that ends by the gap before a time.
 fn left_of(s: &Span, low: Ticks, gap: Ticks) -> Option<Span>
     requires { pos 0 ≤ℤ gap }
-    ensures { option_to_list result ≡ part s.now.start (lesser s.now.end (low -ℤ gap)) }
+    ensures { option_to_list result ≡ span_between s.now.start (int_min s.now.end (low -ℤ gap)) }
 {
     let _first = s.start.get();
     let _low = low.get();
     match low.checked_sub(gap) {
-        Some(cut) => part(s.start, lesser(s.end, cut)),
+        Some(cut) => span_between(s.start, s.end.min(cut)),
         None => None,
     }
 }
@@ -43,12 +32,12 @@ fn left_of(s: &Span, low: Ticks, gap: Ticks) -> Option<Span>
 /// The part of a span that begins after the gap after a time.
 fn right_of(s: &Span, high: Ticks, gap: Ticks) -> Option<Span>
     requires { pos 0 ≤ℤ gap }
-    ensures { option_to_list result ≡ part (greater s.now.start (high +ℤ gap)) s.now.end }
+    ensures { option_to_list result ≡ span_between (int_max s.now.start (high +ℤ gap)) s.now.end }
 {
     let _last = s.end.get();
     let _high = high.get();
     match high.checked_add(gap) {
-        Some(cut) => part(greater(s.start, cut), s.end),
+        Some(cut) => span_between(s.start.max(cut), s.end),
         None => None,
     }
 }
@@ -83,11 +72,11 @@ fn replace(ranges: &mut Vec<Span>, i: usize, part: Option<Span>) -> usize
 /// Cuts a hole out of the ranges from a place on, longer by the gap on both sides.
 fn carve_from(ranges: &mut Vec<Span>, gap: Ticks, from: usize, hole: &Span)
     requires room { vec_len ranges.old < vec_capacity ranges.old }
-    requires forward { pos 0 ≤ℤ gap }
-    requires lasts { hole.now.start <ℤ hole.now.end }
+    requires gap_from_zero { pos 0 ≤ℤ gap }
+    requires hole_not_empty { hole.now.start <ℤ hole.now.end }
     requires within { from ≤ length ranges.old.items }
     requires ranges { IsRanges gap (drop from ranges.old.items) }
-    ensures items { ranges.new.items ≡ take from ranges.old.items ++ carved (hole.now.start -ℤ gap) (hole.now.end +ℤ gap) (drop from ranges.old.items) }
+    ensures items { ranges.new.items ≡ take from ranges.old.items ++ ranges_without (hole.now.start -ℤ gap) (hole.now.end +ℤ gap) (drop from ranges.old.items) }
     ensures capacity { vec_capacity ranges.new ≡ vec_capacity ranges.old }
 {
     let mut i = from;
@@ -109,10 +98,10 @@ fn carve_from(ranges: &mut Vec<Span>, gap: Ticks, from: usize, hole: &Span)
 /// Cuts a hole out of ranges, longer by the gap on both sides.
 pub(crate) fn carve_out(ranges: &mut Vec<Span>, gap: Ticks, hole: &Span)
     requires room { vec_len ranges.old < vec_capacity ranges.old }
-    requires forward { pos 0 ≤ℤ gap }
-    requires lasts { hole.now.start <ℤ hole.now.end }
+    requires gap_from_zero { pos 0 ≤ℤ gap }
+    requires hole_not_empty { hole.now.start <ℤ hole.now.end }
     requires ranges { IsRanges gap ranges.old.items }
-    ensures items { ranges.new.items ≡ carved (hole.now.start -ℤ gap) (hole.now.end +ℤ gap) ranges.old.items }
+    ensures items { ranges.new.items ≡ ranges_without (hole.now.start -ℤ gap) (hole.now.end +ℤ gap) ranges.old.items }
     ensures capacity { vec_capacity ranges.new ≡ vec_capacity ranges.old }
 {
     let from = place_reaching(ranges, gap, hole);

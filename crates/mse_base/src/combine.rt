@@ -1,9 +1,8 @@
 ghost use Rattle.std.specs.Prelude.{◌≡◌, ◌++◌, [], None, IfOk, IfSome, OnOk};
 ghost use Rattle.mse_base.specs.Spans.{IsNormalized, Joined, Met};
-ghost use Rattle.mse_base.specs.Bridging.{overlap, TakesOne};
+ghost use Rattle.mse_base.specs.Bridging.{overlap, IsHeadOfOne};
 
 use crate::bridge::join_in;
-use crate::carve::{greater, lesser, part};
 use crate::{OutOfMemory, Span, Ticks};
 use std::alloc::Global;
 
@@ -11,9 +10,7 @@ use std::alloc::Global;
 fn push_overlap(met: &mut Vec<Span>, x: Span, y: Span) -> Result<(), OutOfMemory>
     ensures { OnOk result (met.new.items ≡ met.old.items ++ overlap x y) }
 {
-    let start = greater(x.start, y.start);
-    let end = lesser(x.end, y.end);
-    if let Some(span) = part(start, end) {
+    if let Some(span) = x.overlap(y) {
         met.push(span)?;
     }
     Ok(())
@@ -57,7 +54,7 @@ impl<'a> Heads<'a> {
     /// Takes the span that begins first.
     fn next(&mut self) -> Option<Span>
         ensures none { result ≡ None → (self.old.left.now ≡ []) × (self.old.right.now ≡ []) }
-        ensures some { IfSome result (λ s. TakesOne s self.old.left.now self.old.right.now self.new.left.now self.new.right.now) }
+        ensures some { IfSome result (λ s. IsHeadOfOne s self.old.left.now self.old.right.now self.new.left.now self.new.right.now) }
     {
         match (self.left.first(), self.right.first()) {
             (Some(x), Some(y)) => {

@@ -4,18 +4,18 @@ use crate::{Bytes, Ticks};
 /// "coded frame"; a sample of ISO/IEC 14496-12).
 #[derive(Debug, Drop)]
 pub struct CodedFrame {
-    /// The track that it is of, by its number in the file.
-    pub track_id: u32,
     /// When it is presented.
     pub pts: Ticks,
     /// When it is decoded.
     pub dts: Ticks,
     /// How long it lasts.
     pub dur: Ticks,
-    /// Whether it is a random access point: it can be decoded without the frames before it.
-    pub sync: bool,
     /// Its bytes.
     pub payload: Bytes,
+    /// The track that it is of, by its number in the file.
+    pub track_id: u32,
+    /// Whether it is a random access point: it can be decoded without the frames before it.
+    pub sync: bool,
 }
 
 /// Where the segment parser loop is (Media Source Extensions, "append state").

@@ -1,10 +1,12 @@
 //! What follows from the definitions of this crate: functions that do nothing, with the laws as
 //! their contracts.
 
-ghost use Rattle.std.specs.Prelude.{◌≡◌, ◌⊎◌, ◌↔◌, ℤ, ℕ, ◌<◌, ◌≤◌, ◌≤ℤ◌, pos, List, length, true};
+ghost use Rattle.std.specs.Prelude.{◌≡◌, ◌≢◌, ◌⊎◌, ◌↔◌, ℤ, ℕ, ◌<◌, ◌≤◌, ◌≤ℤ◌, pos, List, [], ◌∷◌, ◌++◌, length, map, find, Option, option_to_list, true};
+ghost use Rattle.std.specs.List.{AllByRecursion, list_all};
 ghost use Rattle.mse_base.specs.Time.{floor_div, IsFloor};
-ghost use Rattle.mse_base.specs.Spans.{covers, Joined, Met, CutOut, Bridged, IsBridged, IsInGap};
-ghost use Rattle.mse_base.specs.Bridging.{bridged};
+ghost use Rattle.mse_base.specs.Spans.{covers, reaches, IsNormalized, Joined, Met, CutOut, Bridged, IsBridged, IsInGap};
+ghost use Rattle.mse_base.specs.Bridging.{bridged_ranges, overlap};
+ghost use Rattle.mse_base.specs.Meets.{meet, meet_of_all, overlap_span, overlap_of_two, overlap_of_all};
 ghost use Rattle.mse_base.specs.declared.span.Span.{Span};
 
 /// `convert` rounds to the greatest whole number of ticks that is not above the quotient.
@@ -23,8 +25,8 @@ pub fn one_list()
 /// Joining spans one after another gives their bridged ranges, which are never more than the
 /// spans. With no gap these are the joined ranges.
 pub fn bridging()
-    ensures made { (gap : ℤ) (given : List Span) → pos 0 ≤ℤ gap → Bridged gap given (bridged gap given) }
-    ensures few { (gap : ℤ) (given : List Span) → length (bridged gap given) ≤ length given }
+    ensures made { (gap : ℤ) (given : List Span) → pos 0 ≤ℤ gap → Bridged gap given (bridged_ranges gap given) }
+    ensures not_more { (gap : ℤ) (given : List Span) → length (bridged_ranges gap given) ≤ length given }
     ensures no_gap { (given xs : List Span) → Bridged (pos 0) given xs ↔ Joined given xs }
 {}
 
@@ -32,4 +34,28 @@ pub fn bridging()
 /// `gap` ticks between two neighbours of them.
 pub fn gaps_between_neighbours()
     ensures { (gap : ℤ) (given joined : List Span) (t : ℤ) → pos 0 ≤ℤ gap → Joined given joined → IsBridged gap given t ↔ ((covers joined t ≡ true) ⊎ IsInGap gap joined t) }
+{}
+
+/// The meet of two lists of ranges is the one normalized list of the ticks that both have. Its
+/// range that has a time, or ends at it, is the overlap of the range of each list that does, where
+/// that overlap has a tick; elsewhere there is none.
+pub fn meets()
+    ensures met { (xs ys : List Span) → IsNormalized xs → IsNormalized ys → Met xs ys (meet xs ys) }
+    ensures found { (t : ℤ) (xs ys : List Span) → IsNormalized xs → IsNormalized ys
+        → find (reaches t) (meet xs ys) ≡ overlap_of_two (find (reaches t) xs) (find (reaches t) ys) }
+    ensures overlap { (x y : Span) → option_to_list (overlap_span x y) ≡ overlap x y }
+{}
+
+/// The same of the meet of some lists. A loop over the lists keeps the overlap so far: with one
+/// list more the meet is that of the meet so far and the list, and so is the overlap.
+pub fn meets_of_all()
+    ensures normalized { (rs : List (List Span)) → AllByRecursion IsNormalized rs → IsNormalized (meet_of_all rs) }
+    ensures ticks { (rs : List (List Span)) (t : ℤ) → rs ≢ []
+        → covers (meet_of_all rs) t ≡ list_all (λ r. covers r t) rs }
+    ensures found { (t : ℤ) (rs : List (List Span)) → AllByRecursion IsNormalized rs
+        → find (reaches t) (meet_of_all rs) ≡ overlap_of_all (map (find (reaches t)) rs) }
+    ensures one_more { (rs : List (List Span)) (r : List Span) → 1 ≤ length rs
+        → meet_of_all (rs ++ r ∷ []) ≡ meet (meet_of_all rs) r }
+    ensures overlap_of_one_more { (ss : List (Option Span)) (s : Option Span) → 1 ≤ length ss
+        → overlap_of_all (ss ++ s ∷ []) ≡ overlap_of_two (overlap_of_all ss) s }
 {}

@@ -12,8 +12,10 @@ mod carve;
 mod combine;
 mod frame;
 pub mod laws;
+mod list;
 mod lookup;
 mod memory;
+mod moments;
 mod ranges;
 mod span;
 #[cfg(test)]
@@ -24,6 +26,7 @@ mod track;
 
 pub use bytes::Bytes;
 pub use frame::{CodedFrame, Phase};
+pub use list::OwnedList;
 pub use memory::OutOfMemory;
 pub use ranges::Ranges;
 pub use span::Span;

@@ -1,29 +1,29 @@
 ghost use Rattle.std.specs.Prelude.{◌≡◌, ◌≤◌, ◌<ℤ◌, ◌≤ℤ◌, pos, length, take, drop, find, true};
 ghost use Rattle.std.specs.List.{AllByRecursion};
 ghost use Rattle.mse_base.specs.Spans.{IsNormalized, reaches};
-ghost use Rattle.mse_base.specs.Bridging.{IsRanges, ends_before};
+ghost use Rattle.mse_base.specs.Bridging.{IsRanges, is_far_before};
 
 use crate::{Span, Ticks};
 
 /// Whether the first span ends more than the gap before the second begins.
-pub(crate) fn ends_before(gap: Ticks, s: &Span, r: &Span) -> bool
-    ensures { result ≡ ends_before gap s.now r.now }
+pub(crate) fn is_far_before(gap: Ticks, s: &Span, r: &Span) -> bool
+    ensures { result ≡ is_far_before gap s.now r.now }
 {
     s.end.get() + gap.get() < r.start.get()
 }
 
 /// The place of the first range that does not end more than the gap before a span.
 pub(crate) fn place_reaching(ranges: &[Span], gap: Ticks, span: &Span) -> usize
-    requires forward { pos 0 ≤ℤ gap }
+    requires gap_from_zero { pos 0 ≤ℤ gap }
     requires ranges { IsRanges gap ranges.now }
     ensures within { result ≤ length ranges.now }
-    ensures skipped { AllByRecursion (λ r. ends_before gap r span.now ≡ true) (take result ranges.now) }
+    ensures skipped { AllByRecursion (λ r. is_far_before gap r span.now ≡ true) (take result ranges.now) }
 {
     let mut low = 0;
     let mut high = ranges.len();
     while low < high {
         let middle = low + (high - low) / 2;
-        if ends_before(gap, &ranges[middle], span) {
+        if is_far_before(gap, &ranges[middle], span) {
             low = middle + 1;
         } else {
             high = middle;

@@ -1,7 +1,9 @@
 ghost use Rattle.std.specs.Prelude.{◌≡◌, ◌↔◌, ◌+◌, ◌≤◌, ◌<ℤ◌, ◌≤ℤ◌, ◌+ℤ◌, ◌-ℤ◌, pos, [], ◌∷◌, ◌++◌, length, slice_get, find, IsTrue, IfOk, OnOk};
+ghost use Rattle.std.specs.Int.{int_max};
 ghost use Rattle.std.specs.Option.{ForSome};
 ghost use Rattle.mse_base.specs.Spans.{IsNormalized, Joined, Met, Bridged, CutOut, reaches, last_of};
-ghost use Rattle.mse_base.specs.Bridging.{IsRanges, join_in, bridged, carved};
+ghost use Rattle.mse_base.specs.Bridging.{IsRanges, ranges_with, bridged_ranges, ranges_without};
+ghost use Rattle.mse_base.specs.Meets.{meet};
 
 use crate::bridge::{bridged_of, join_in};
 use crate::carve::carve_out;
@@ -64,10 +66,10 @@ impl Ranges {
     pub fn add_last(&mut self, span: Span, gap: Ticks)
         requires room { 1 ≤ self.old.spare }
         requires order { ForSome (last_of self.old.spans) (λ last. last.start ≤ℤ span.start) }
-        requires forward { pos 0 ≤ℤ gap }
+        requires gap_from_zero { pos 0 ≤ℤ gap }
         requires ranges { IsRanges gap self.old.spans }
         ensures bridged { Bridged gap (self.old.spans ++ span ∷ []) self.new.spans }
-        ensures spans { self.new.spans ≡ join_in gap self.old.spans span }
+        ensures spans { self.new.spans ≡ ranges_with gap self.old.spans span }
         ensures ranges { IsRanges gap self.new.spans }
         ensures room { self.old.spare + length self.old.spans ≡ self.new.spare + length self.new.spans }
         ensures len { length self.new.spans ≤ length self.old.spans + 1 }
@@ -78,10 +80,10 @@ impl Ranges {
     /// Adds a span anywhere, and the gaps of at most `gap` ticks round it.
     pub fn add_span(&mut self, span: Span, gap: Ticks)
         requires room { 1 ≤ self.old.spare }
-        requires forward { pos 0 ≤ℤ gap }
+        requires gap_from_zero { pos 0 ≤ℤ gap }
         requires ranges { IsRanges gap self.old.spans }
         ensures bridged { Bridged gap (self.old.spans ++ span ∷ []) self.new.spans }
-        ensures spans { self.new.spans ≡ join_in gap self.old.spans span }
+        ensures spans { self.new.spans ≡ ranges_with gap self.old.spans span }
         ensures ranges { IsRanges gap self.new.spans }
         ensures room { self.old.spare + length self.old.spans ≡ self.new.spare + length self.new.spans }
         ensures len { length self.new.spans ≤ length self.old.spans + 1 }
@@ -92,11 +94,11 @@ impl Ranges {
     /// Takes away the ticks of a span, and `gap` ticks on both sides of it.
     pub fn carve(&mut self, hole: Span, gap: Ticks)
         requires room { 1 ≤ self.old.spare }
-        requires forward { pos 0 ≤ℤ gap }
-        requires lasts { hole.start <ℤ hole.end }
+        requires gap_from_zero { pos 0 ≤ℤ gap }
+        requires hole_not_empty { hole.start <ℤ hole.end }
         requires ranges { IsRanges gap self.old.spans }
         ensures cut_out { CutOut (hole.start -ℤ gap) (hole.end +ℤ gap) self.old.spans self.new.spans }
-        ensures spans { self.new.spans ≡ carved (hole.start -ℤ gap) (hole.end +ℤ gap) self.old.spans }
+        ensures spans { self.new.spans ≡ ranges_without (hole.start -ℤ gap) (hole.end +ℤ gap) self.old.spans }
         ensures ranges { IsRanges gap self.new.spans }
         ensures room { self.old.spare + length self.old.spans ≡ self.new.spare + length self.new.spans }
     {
@@ -152,7 +154,8 @@ impl Ranges {
 
     /// The ranges of the ticks that both have.
     pub fn meet(&self, other: &Ranges) -> Result<Ranges, OutOfMemory>
-        ensures { IfOk result (λ r. Met self.now.spans other.now.spans r.spans) }
+        ensures met { IfOk result (λ r. Met self.now.spans other.now.spans r.spans) }
+        ensures spans { IfOk result (λ r. r.spans ≡ meet self.now.spans other.now.spans) }
     {
         let spans = meet_of(self.alloc, self.spans.as_slice(), other.spans.as_slice())?;
         Ok(Ranges {
@@ -161,14 +164,16 @@ impl Ranges {
         })
     }
 
-    /// The ranges with the gaps of at most `gap` ticks filled.
+    /// The ranges with the gaps of at most `gap` ticks filled. A negative gap fills none, as 0
+    /// does.
     pub fn bridge(&self, gap: Ticks) -> Result<Ranges, OutOfMemory>
-        requires { pos 0 ≤ℤ gap }
-        ensures bridged { IfOk result (λ r. Bridged gap self.now.spans r.spans) }
-        ensures spans { IfOk result (λ r. r.spans ≡ bridged gap self.now.spans) }
-        ensures ranges { IfOk result (λ r. IsRanges gap r.spans) }
+        ensures bridged { IfOk result (λ r. Bridged (int_max gap (pos 0)) self.now.spans r.spans) }
+        ensures spans { IfOk result (λ r. r.spans ≡ bridged_ranges (int_max gap (pos 0)) self.now.spans) }
+        ensures ranges { IfOk result (λ r. IsRanges (int_max gap (pos 0)) r.spans) }
+        ensures unchanged { gap ≤ℤ pos 0 → IfOk result (λ r. r.spans ≡ self.now.spans) }
     {
-        let spans = bridged_of(self.alloc, self.spans.as_slice(), gap)?;
+        let filled = gap.max(Ticks::zero());
+        let spans = bridged_of(self.alloc, self.spans.as_slice(), filled)?;
         Ok(Ranges {
             alloc: self.alloc,
             spans,

@@ -82,6 +82,7 @@ fn bridges_gaps(rt: HostRuntime) -> Result<(), Fail> {
     let frames = [(0, 10), (14, 20), (25, 30), (36, 40)];
     let separate = ranges_of(&rt, rt.alloc(), &frames, zero)?;
     let cases = [
+        (-7, [(0, 10), (14, 20), (25, 30), (36, 40)].as_slice()),
         (0, [(0, 10), (14, 20), (25, 30), (36, 40)].as_slice()),
         (4, [(0, 20), (25, 30), (36, 40)].as_slice()),
         (5, [(0, 30), (36, 40)].as_slice()),
@@ -89,9 +90,10 @@ fn bridges_gaps(rt: HostRuntime) -> Result<(), Fail> {
     ];
     for (ticks, want) in cases {
         let gap = at(&rt, ticks);
-        assert!(rt; gap >= zero);
         expect_spans(&rt, &separate.bridge(gap)?, want);
-        expect_spans(&rt, &ranges_of(&rt, rt.alloc(), &frames, gap)?, want);
+        if gap >= zero {
+            expect_spans(&rt, &ranges_of(&rt, rt.alloc(), &frames, gap)?, want);
+        }
     }
     Ok(())
 }

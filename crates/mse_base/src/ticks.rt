@@ -1,11 +1,11 @@
-ghost use Rattle.std.specs.Prelude.{◌≡◌, ◌≤◌, ◌^◌, ◌+ℤ◌, ◌-ℤ◌, pos, unsigned_abs};
-ghost use Rattle.mse_base.specs.Time.{IsTick, tick, converted};
+ghost use Rattle.std.specs.Prelude.{◌≡◌, ◌≤◌, ◌^◌, ◌+ℤ◌, ◌-ℤ◌, ◌*ℤ◌, pos, unsigned_abs};
+ghost use Rattle.mse_base.specs.Time.{IsTick, tick, converted, SECOND as ticks_in_a_second};
 
 use std::marker::Model;
 
 /// How many ticks a second has: `2^12 * 3^2 * 5^7 * 7^2`, which the common frame rates and sample
 /// rates divide.
-const SECOND: i128 = 141_120_000_000;
+const SECOND: u64 = 141_120_000_000;
 
 /// The greatest number of ticks.
 const MOST: i128 = 1 << 110;
@@ -73,6 +73,15 @@ impl Ticks {
     }
 }
 
+/// A media time by a whole number of ticks.
+fn product(m: i128, ticks: u64) -> i128
+    requires small { unsigned_abs m ≤ 2 ^ 80 }
+    requires within_a_second { ticks ≤ ticks_in_a_second }
+    ensures { result ≡ m *ℤ pos ticks }
+{
+    m * i128::from(ticks)
+}
+
 /// A media time `m`, of which `scale` units make a second, in ticks: the floor of
 /// `m * 141120000000 / scale`, towards minus infinity. `None` exactly where that is more than
 /// `2^110` from 0.
@@ -81,7 +90,12 @@ pub fn convert(m: i128, scale: u32) -> Option<Ticks>
     requires positive { 1 ≤ scale }
     ensures { result ≡ tick (converted m scale) }
 {
-    let scaled = m * SECOND;
+    let scale = u64::from(scale);
+    // The usual scales divide a second, and a product costs less than a division of 128 bits.
+    if SECOND % scale == 0 {
+        return Ticks::new(product(m, SECOND / scale));
+    }
+    let scaled = product(m, SECOND);
     Ticks::new(scaled.div_euclid(i128::from(scale)))
 }
 

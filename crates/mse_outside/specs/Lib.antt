@@ -2,3 +2,4 @@ pub mod Count
 pub mod Folder
 pub mod Memory
 pub mod Outside
+pub mod Reading

@@ -1,9 +1,10 @@
 // The files of a folder.
-ghost use Rattle.std.specs.Prelude.{◌≡◌, ◌≢◌, ◌≤◌, ◌+◌, ◌^◌, ◌↔◌, ◌++◌, ℕ, List, None, vec_len};
+ghost use Rattle.std.specs.Prelude.{◌≡◌, ◌≢◌, ◌<◌, ◌≤◌, ◌+◌, ◌^◌, ◌↔◌, ◌++◌, ℕ, List, None, IfSome, OnOk, length, vec_len};
 ghost use Rattle.std.specs.IoError.{error_kind};
 ghost use Rattle.mse_outside.specs.Count.{next_count};
 ghost use Rattle.mse_outside.specs.Outside.{Appends, Rose};
 ghost use Rattle.mse_outside.specs.Folder.{faults_after};
+ghost use Rattle.mse_outside.specs.Reading.{IsWhole, IsFrontAppended, loaded_of};
 
 use crate::{Library, Loaded};
 use std::fs::{self, Files};
@@ -51,34 +52,60 @@ fn refused(error: &io::Error) -> Loaded
     }
 }
 
-// Appends what is left of a file.
-fn append_all<F: Read>(file: &mut F, into: &mut Vec<u8>) -> Loaded
-    ensures opened { result ≢ Loaded.NoFile }
+/// Why a file was not read to its end.
+#[derive(Clone, Copy, Debug, PartialEq, Eq)]
+pub(crate) enum Stop {
+    /// It has more bytes than it may.
+    TooLong,
+    /// The reader failed, and neither was interrupted nor wanted memory.
+    Reader(ErrorKind),
+    /// There was no memory for what it has.
+    OutOfMemory,
+    /// 2^64 - 1 reads came to no end.
+    Endless,
+}
+
+/// Appends what is left of a file, if that is at most so many bytes.
+pub(crate) fn append_all<F: Read>(file: &mut F, into: &mut Vec<u8>, most: usize) -> Result<(), Stop>
+    ensures whole { OnOk result (IsWhole most (F.remaining file.old) into.old.items into.new.items) }
+    ensures too_long { result ≡ Err Stop.TooLong → IfSome (F.remaining file.old) (λ bytes. most < length bytes) }
+    ensures front { IsFrontAppended (F.remaining file.old) into.old.items into.new.items }
     ensures appends { Appends into.old.items into.new.items }
-    ensures longest { vec_len into.new ≤ vec_len into.old + 2 ^ 30 }
+    ensures longest { vec_len into.new ≤ vec_len into.old + most }
 {
     let mut piece = [0u8; 4096];
     let mut taken = 0usize;
     for _ in 0..u64::MAX {
         match file.read(&mut piece) {
-            Ok(0) => return Loaded::Done,
+            Ok(0) => return Ok(()),
             Ok(count) => {
-                if count > LONGEST - taken {
-                    return Loaded::Failed;
+                if count > most - taken {
+                    return Err(Stop::TooLong);
                 }
                 taken += count;
                 if into.extend_from_slice(&piece[..count]).is_err() {
-                    return Loaded::OutOfMemory;
+                    return Err(Stop::OutOfMemory);
                 }
             }
             Err(error) => match error.kind() {
                 ErrorKind::Interrupted => {}
-                ErrorKind::OutOfMemory => return Loaded::OutOfMemory,
-                _ => return Loaded::Failed,
+                ErrorKind::OutOfMemory => return Err(Stop::OutOfMemory),
+                kind => return Err(Stop::Reader(kind)),
             },
         }
     }
-    Loaded::Failed
+    Err(Stop::Endless)
+}
+
+/// What a load answers whose file was opened.
+fn loaded(read: &Result<(), Stop>) -> Loaded
+    ensures { result ≡ loaded_of read.now }
+{
+    match read {
+        Ok(()) => Loaded::Done,
+        Err(Stop::OutOfMemory) => Loaded::OutOfMemory,
+        Err(Stop::TooLong | Stop::Reader(_) | Stop::Endless) => Loaded::Failed,
+    }
 }
 
 // The failures after an answer.
@@ -104,7 +131,7 @@ impl<R: Files + Drop> Library for FolderLibrary<R> {
     {
         let before = into.len();
         let answer = match fs::open(&self.rt, name) {
-            Ok(mut file) => append_all(&mut file, into),
+            Ok(mut file) => loaded(&append_all(&mut file, into, LONGEST)),
             Err(error) => refused(&error),
         };
         self.faults = counted(self.faults, answer);

@@ -1,6 +1,7 @@
 // What no clause says: that calls succeed where there is memory, and what the real folder and standard output do.
 ghost use Rattle.std.specs.Prelude.{◌≡◌, ◌<◌, IfOk, vec_len, length};
 
+use crate::folder::{Stop, append_all};
 use crate::*;
 use std::alloc::{AllocError, Global};
 use std::cell::RefCell;
@@ -76,6 +77,72 @@ fn loads_from_a_folder(rt: HostRuntime) -> Result<(), Fail> {
     }
     assert_eq!(rt; into.as_slice(), b"\x09abc".as_slice());
     fs::remove_dir_all(&rt, "loads_from_a_folder")?;
+    Ok(())
+}
+
+/// Gives its bytes in pieces of two; the read of that number fails, where there is one, and the
+/// read before it is interrupted.
+#[derive(Drop)]
+struct Pieces<'a> {
+    left: &'a [u8],
+    reads: u64,
+    failing: Option<u64>,
+}
+
+impl io::Read for Pieces<'_> {
+    fn read(&mut self, buf: &mut [u8]) -> io::Result<usize> {
+        self.reads = self.reads.saturating_add(1);
+        if Some(self.reads) == self.failing {
+            return Err(io::Error::from(io::ErrorKind::BrokenPipe));
+        }
+        if Some(self.reads.saturating_add(1)) == self.failing {
+            return Err(io::Error::from(io::ErrorKind::Interrupted));
+        }
+        let count = self.left.len().min(2).min(buf.len());
+        buf[..count].copy_from_slice(&self.left[..count]);
+        self.left = &self.left[count..];
+        Ok(count)
+    }
+}
+
+/// A file of as many bytes as it may have is read, and one of a byte more is not.
+#[test]
+fn reads_up_to_the_most(rt: HostRuntime) -> Result<(), Fail> {
+    let cases = [
+        (5, None, Ok(()), b"abcde".as_slice()),
+        (4, None, Err(Stop::TooLong), b"abcd"),
+        (3, None, Err(Stop::TooLong), b"ab"),
+        (
+            9,
+            Some(3),
+            Err(Stop::Reader(io::ErrorKind::BrokenPipe)),
+            b"ab",
+        ),
+        (9, Some(9), Ok(()), b"abcde"),
+        (0, None, Err(Stop::TooLong), b""),
+    ];
+    for (most, failing, want, appended) in cases {
+        let mut into = Vec::new(rt.alloc());
+        let mut file = Pieces {
+            left: b"abcde",
+            reads: 0,
+            failing,
+        };
+        assert_eq!(rt;
+            append_all(&mut file, &mut into, most),
+            want,
+            "at most {most}"
+        );
+        assert_eq!(rt; into.as_slice(), appended, "at most {most}");
+    }
+    let mut into = Vec::new(rt.alloc());
+    assert_eq!(rt; append_all(&mut b"".as_slice(), &mut into, 0), Ok(()));
+    assert_eq!(rt; append_all(&mut b"abc".as_slice(), &mut into, 3), Ok(()));
+    assert_eq!(rt;
+        append_all(&mut b"abcd".as_slice(), &mut into, 3),
+        Err(Stop::TooLong)
+    );
+    assert_eq!(rt; into.as_slice(), b"abc".as_slice());
     Ok(())
 }
 

@@ -1,4 +1,9 @@
 pub mod Walks
 pub mod Runs
 pub mod Pieces
+pub mod Parses
+pub mod Holding
+pub mod Latest
+pub mod Suffixes
+pub mod ItemLaws
 pub mod Examples

@@ -1,2 +1,4 @@
 pub mod Walk
+pub mod Items
+pub mod Parse
 pub mod Example

@@ -1,5 +1,9 @@
-ghost use Rattle.std.specs.Prelude.{◌≡◌, [], ◌∷◌, Some};
+ghost use Rattle.std.specs.Prelude.{◌≡◌, pos, true, List, [], ◌∷◌, Option, Some, None, length};
 ghost use lib.Chars.{codes};
+ghost use Rattle.mse_base.specs.declared.frame.CodedFrame.{CodedFrame};
+ghost use Rattle.mse_base.specs.declared.track.Presentation.{Presentation};
+ghost use Rattle.parser_loop.specs.Items.{Item, InitItem, FrameItem, SegmentEnd, FaultItem, latest_after_all, leading_frames, with_fault};
+ghost use Rattle.parser_loop.specs.Parse.{NoItem, ItemThen, parse_from, seen_before, items_of};
 ghost use Rattle.parser_loop.specs.Walk.{IsWalk, items_from, state_at, run, fed, first_item, after_first};
 ghost use Rattle.parser_loop.specs.Example.{zero_ended, reading};
 
@@ -8,9 +12,28 @@ pub fn example_law()
     ensures is_walk { IsWalk zero_ended }
     ensures items { items_from zero_ended (reading (codes "a b")) ≡ codes "ab" }
     ensures ended { items_from zero_ended (reading (97 ∷ 0 ∷ 98 ∷ [])) ≡ 97 ∷ 0 ∷ [] }
+    ensures parse { parse_from zero_ended (λ s. s.rest) (reading (codes "a b")) ≡
+        ItemThen (codes "a b") 97 (ItemThen (codes "b") 98 (NoItem [])) }
     ensures state { state_at zero_ended 1 (reading (codes "a bc")) ≡ reading (codes "bc") }
-    ensures ahead { run zero_ended (reading (97 ∷ 32 ∷ 0 ∷ 98 ∷ [])) ≡ record { items = codes "a"; state = reading (0 ∷ 98 ∷ []) } }
-    ensures pieces { fed zero_ended (run zero_ended (reading (codes "a "))) (codes " b") ≡ record { items = codes "ab"; state = reading [] } }
+    ensures ahead { run zero_ended (reading (97 ∷ 32 ∷ 0 ∷ 98 ∷ [])) ≡
+        record { items = codes "a"; state = reading (0 ∷ 98 ∷ []) } }
+    ensures pieces { fed zero_ended (run zero_ended (reading (codes "a "))) (codes " b") ≡
+        record { items = codes "ab"; state = reading [] } }
     ensures first { first_item zero_ended (run zero_ended (reading (codes " ab"))) ≡ Some 97 }
     ensures after { (after_first zero_ended (run zero_ended (reading (codes " ab")))).items ≡ codes "b" }
+{}
+
+/// What the definitions give for lists of items, and for a parse of three.
+pub fn item_example_law<F>()
+    ensures latest { (last : Option Presentation) (p q : Presentation) (f : F) →
+        latest_after_all last (InitItem p 0 ∷ InitItem q 9 ∷ SegmentEnd ∷ FaultItem f 20 ∷ []) ≡ Some q }
+    ensures frames { (x y : CodedFrame) (f : F) →
+        leading_frames {F = F} (FrameItem x 8 ∷ FrameItem y 9 ∷ SegmentEnd ∷ FrameItem x 20 ∷ []) ≡ x ∷ y ∷ [] }
+    ensures named { (f : F) → with_fault Some (FaultItem f 4) ≡ FaultItem (Some f) 4 }
+    ensures parse { (a b c : F) (x y : CodedFrame) →
+        items_of (ItemThen a x (ItemThen b y (NoItem c))) ≡ x ∷ y ∷ [] }
+    ensures seen { (a b c : F) (x y : CodedFrame) →
+        seen_before 1 (ItemThen a x (ItemThen b y (NoItem c))) ≡ b }
+    ensures end { (a b c : F) (x y : CodedFrame) →
+        seen_before 3 (ItemThen a x (ItemThen b y (NoItem c))) ≡ c }
 {}

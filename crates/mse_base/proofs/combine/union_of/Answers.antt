@@ -1,7 +1,7 @@
 use Rattle.std.proofs.Common.{◌≡◌, List, subst, refl, arith}
 use Rattle.std.proofs.lemmas.Int.{ints}
 use Rattle.mse_base.specs.declared.span.Span.{Span}
-use Rattle.mse_base.specs.Bridging.{join_in}
+use Rattle.mse_base.specs.Bridging.{ranges_with}
 use Rattle.mse_base.proofs.Unions.{begin, step, finish}
 use Rattle.mse_base.proofs.combine.union_of.Goals as goal
 
@@ -10,7 +10,7 @@ heads-init c = rw c.new-joined.ensures.items (begin c.args.left.now c.args.right
 
 pub heads-preserved : goal.heads-preserved
 heads-preserved c =
-    let new = subst (λ (rs : List Span). c.join_in.new.ranges.items ≡ join_in c.zero.result rs c.in-Some.span) c.in_ok-reserve.ensures.items c.join_in.ensures.items in
+    let new = subst (λ (rs : List Span). c.join_in.new.ranges.items ≡ ranges_with c.zero.result rs c.in-Some.span) c.in_ok-reserve.ensures.items c.join_in.ensures.items in
     step _ _ c.heads.heads.left.now c.heads.heads.right.now _ _ c.heads.joined.items _ c.in-Some.span c.zero.result c.zero.ensures (omega (arith, ints)) c.in-Some.ensures.some new c.heads.invariant
 
 pub returns : goal.returns

@@ -6,8 +6,8 @@ use Rattle.mse_base.proofs.laws.bridging.Goals as goal
 pub returns-clause-made : goal.returns-clause-made
 returns-clause-made c = bridged_law
 
-pub returns-clause-few : goal.returns-clause-few
-returns-clause-few c = length_bridged
+pub returns-clause-not_more : goal.returns-clause-not_more
+returns-clause-not_more c = length_bridged
 
 pub returns-clause-no_gap : goal.returns-clause-no_gap
 returns-clause-no_gap c = λ given xs. (joined_of_bridged given xs, bridged_of_joined given xs)

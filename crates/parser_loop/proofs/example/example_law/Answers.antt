@@ -1,5 +1,6 @@
 use Rattle.std.proofs.Common.{refl}
 use Rattle.parser_loop.specs.Walk.{items_from, settle, run}
+use Rattle.parser_loop.specs.Parse.{parse_from}
 use Rattle.parser_loop.proofs.example.example_law.Goals as goal
 
 pub returns-clause-items : goal.returns-clause-items
@@ -9,6 +10,10 @@ returns-clause-items c = refl
 pub returns-clause-ended : goal.returns-clause-ended
 unfolding items_from
 returns-clause-ended c = refl
+
+pub returns-clause-parse : goal.returns-clause-parse
+unfolding parse_from
+returns-clause-parse c = refl
 
 pub returns-clause-state : goal.returns-clause-state
 unfolding settle

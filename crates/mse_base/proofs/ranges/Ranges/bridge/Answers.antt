@@ -1,12 +1,35 @@
+use Rattle.std.proofs.Common.{◌≡◌, ◌∙◌, pos, ◌≤ℤ◌, sym, subst}
+use Rattle.std.specs.Int.{int_max}
+use Rattle.mse_base.specs.Bridging.{bridged_ranges}
 use Rattle.mse_base.proofs.Merging.{ranges_bridged}
 use Rattle.mse_base.proofs.Extended.{normalized_ranges, bridged_law}
+use Rattle.mse_base.proofs.Filling.{filled_is, from_zero, spans_are, unchanged}
 use Rattle.mse_base.proofs.ranges.Ranges.bridge.Goals as goal
 
+pub bridged_of-requires : goal.bridged_of-requires
+bridged_of-requires c = subst (λ z. pos 0 ≤ℤ z) (sym (filled_is c.args.gap c.max-filled.result c.zero.result c.max-filled.ensures c.zero.ensures)) (from_zero c.args.gap)
+
 pub invariant_of-result : goal.invariant_of-result
-invariant_of-result c = rw c.in_ok-spans.ensures (normalized_ranges c.args.gap _ c.requires (ranges_bridged c.args.gap c.as_slice.result.now c.requires))
+invariant_of-result c =
+    let e : c.in_ok-spans.spans.items ≡ bridged_ranges (int_max c.args.gap (pos 0)) c.self.inside.spans.items = spans_are c.args.gap c.max-filled.result c.zero.result c.self.inside.spans.items c.as_slice.result.now c.in_ok-spans.spans.items c.max-filled.ensures c.zero.ensures c.as_slice.ensures.value c.in_ok-spans.ensures in
+    rw e (normalized_ranges _ _ (from_zero c.args.gap) (ranges_bridged _ c.self.inside.spans.items (from_zero c.args.gap)))
 
 pub returns-clause-bridged : goal.returns-clause-bridged
-returns-clause-bridged c = rw (c.in_ok-spans.ensures, c.as_slice.ensures.value, ← c.self.view_is) (bridged_law c.args.gap c.self.inside.spans.items c.requires)
+returns-clause-bridged c =
+    let e : c.in_ok-spans.spans.items ≡ bridged_ranges (int_max c.args.gap (pos 0)) c.self.inside.spans.items = spans_are c.args.gap c.max-filled.result c.zero.result c.self.inside.spans.items c.as_slice.result.now c.in_ok-spans.spans.items c.max-filled.ensures c.zero.ensures c.as_slice.ensures.value c.in_ok-spans.ensures in
+    rw (e, ← c.self.view_is) (bridged_law _ c.self.inside.spans.items (from_zero c.args.gap))
+
+pub returns-clause-spans : goal.returns-clause-spans
+returns-clause-spans c =
+    let e : c.in_ok-spans.spans.items ≡ bridged_ranges (int_max c.args.gap (pos 0)) c.self.inside.spans.items = spans_are c.args.gap c.max-filled.result c.zero.result c.self.inside.spans.items c.as_slice.result.now c.in_ok-spans.spans.items c.max-filled.ensures c.zero.ensures c.as_slice.ensures.value c.in_ok-spans.ensures in
+    rw (← c.self.view_is) e
 
 pub returns-clause-ranges : goal.returns-clause-ranges
-returns-clause-ranges c = rw c.in_ok-spans.ensures (ranges_bridged c.args.gap c.as_slice.result.now c.requires)
+returns-clause-ranges c =
+    let e : c.in_ok-spans.spans.items ≡ bridged_ranges (int_max c.args.gap (pos 0)) c.self.inside.spans.items = spans_are c.args.gap c.max-filled.result c.zero.result c.self.inside.spans.items c.as_slice.result.now c.in_ok-spans.spans.items c.max-filled.ensures c.zero.ensures c.as_slice.ensures.value c.in_ok-spans.ensures in
+    rw e (ranges_bridged _ c.self.inside.spans.items (from_zero c.args.gap))
+
+pub returns-clause-unchanged : goal.returns-clause-unchanged
+returns-clause-unchanged c =
+    let e : c.in_ok-spans.spans.items ≡ bridged_ranges (int_max c.args.gap (pos 0)) c.self.inside.spans.items = spans_are c.args.gap c.max-filled.result c.zero.result c.self.inside.spans.items c.as_slice.result.now c.in_ok-spans.spans.items c.max-filled.ensures c.zero.ensures c.as_slice.ensures.value c.in_ok-spans.ensures in
+    λ h. rw (← c.self.view_is) (e ∙ unchanged c.args.gap c.self.inside.spans.items c.self.invariant h)

@@ -1,0 +1,23 @@
+-- What the loop over a file's reader appends, where the bytes that the reader has left are known.
+use Rattle.std.specs.Prelude.{◌≡◌, ◌≤◌, ℕ, List, ◌++◌, length, Option, Result, Ok, Err, IfSome}
+use Rattle.mse_outside.specs.Outside.{AppendsFront}
+use Rattle.mse_outside.specs.declared.folder.Stop.{Stop}
+use Rattle.mse_outside.specs.declared.folder.Stop.TheVariants.{TooLong, Reader, OutOfMemory as StopOutOfMemory, Endless}
+use Rattle.mse_outside.specs.declared.library.Loaded.{Loaded}
+use Rattle.mse_outside.specs.declared.library.Loaded.TheVariants.{Done as LoadDone, Failed as LoadFailed, OutOfMemory as LoadOutOfMemory}
+
+-- all that the reader had left was appended, and it is at most so many bytes
+abbrev pub IsWhole : ℕ → Option (List ℕ) → List ℕ → List ℕ → Type 0
+IsWhole most left old new = IfSome left (λ bytes. (new ≡ old ++ bytes) × (length bytes ≤ most))
+
+-- a front part of what the reader had left was appended
+abbrev pub IsFrontAppended : Option (List ℕ) → List ℕ → List ℕ → Type 0
+IsFrontAppended left old new = IfSome left (λ bytes. AppendsFront bytes old new)
+
+-- a load is done where the file was read to its end; each other stop but want of memory is a failure
+abbrev pub loaded_of : Result (Unit {0}) Stop → Loaded
+loaded_of (Ok u) = LoadDone
+loaded_of (Err TooLong) = LoadFailed
+loaded_of (Err (Reader kind)) = LoadFailed
+loaded_of (Err StopOutOfMemory) = LoadOutOfMemory
+loaded_of (Err Endless) = LoadFailed
