@@ -1,5 +1,5 @@
 -- Each slot of a plan is of a video or audio track of the presentation.
-use Rattle.std.proofs.Common.{◌≡◌, ℕ, ◌+◌, ℤ, pos, Bool, true, false, cond, List, [], ◌∷◌, ◌++◌, length, map, Option, Some, None, Result, Ok, Err, refl, ap, sym, subst, ◌∙◌, eqb, eqb-true}
+use Rattle.std.proofs.Common.{◌≡◌, ℕ, ◌+◌, ℤ, pos, Bool, true, false, cond, List, [], ◌∷◌, ◌++◌, length, map, Option, Some, Result, Ok, Err, refl, ap, sym, subst, ◌∙◌, eqb, eqb-true}
 use Rattle.std.specs.Prelude.{IsSomeAnd, IsTrue, is_none}
 use Rattle.std.specs.List.{All, find, enumerate_from}
 use Rattle.std.proofs.lemmas.List.Elements.{All-nil, All-cons, All-append, All-weaker, All-same}
@@ -10,29 +10,16 @@ use Rattle.bmff_boxes.specs.Rows.{BoxView, row_of, first_of, all_of}
 use Rattle.bmff_boxes.specs.FragmentFields.{tfdt_time_of}
 use Rattle.bmff_fragment.specs.declared.fault.MoofFault.{MoofFault}
 use Rattle.bmff_fragment.specs.declared.fault.MoofFault.TheVariants.{Size, NoTfhd, NoTfdt, BaseOffset, UnknownTrack}
-use Rattle.bmff_fragment.specs.declared.fragment.Fragment.{Fragment}
+use Rattle.bmff_fragment.specs.declared.track_fragment.TrackFragment.{TrackFragment}
 use Rattle.bmff_fragment.specs.declared.sample.Sample.{Sample}
 use Rattle.bmff_fragment.specs.declared.slot.Slot.{Slot}
-use Rattle.bmff_fragment.specs.Headers.{fragment_header_of}
+use Rattle.bmff_fragment.specs.Headers.{track_fragment_header_of}
 use Rattle.bmff_fragment.specs.Times.{Run, duration_of, slot_of, slot_at, slots_of_run, slots_behind}
-use Rattle.bmff_fragment.specs.Plans.{◌>>=◌, need, demand, track_of, is_media, fragment_of, runs_of, samples_in, data_end, kept, trafs_of}
-use Rattle.bmff_fragment.specs.Views.{IsPlaced, IsSlotOf}
+use Rattle.bmff_boxes.specs.Reading.{◌>>=◌, need, check}
+use Rattle.bmff_fragment.specs.Plans.{track_of, is_media, track_fragment_of, runs_of, samples_in, data_end, media_slots, trafs_of}
+use Rattle.bmff_fragment.specs.Slots.{IsWellFormed, IsSlotOf}
+use Rattle.bmff_boxes.proofs.ReadingLaws.{through, needed}
 use Rattle.bmff_fragment.proofs.Linking.{trafs_more, trafs_none}
-
--- ---- what was read on the way to what came of it
-
-record Through {A B : Type 0} (r : Result A MoofFault) (f : A → Result B MoofFault) (y : B) : Type 0 where
-  value : A
-  was : r ≡ Ok value
-  then : f value ≡ Ok y
-
-through : {A B : Type 0} (r : Result A MoofFault) (f : A → Result B MoofFault) (y : B) → (r >>= f) ≡ Ok y → Through r f y
-through (Ok x) f y e = record { value = x; was = refl; then = e }
-through (Err fault) f y e = absurd (cc)
-
-needed : {A : Type 0} (fault : MoofFault) (o : Option A) (x : A) → need fault o ≡ Ok x → o ≡ Some x
-needed fault None x e = absurd (cc)
-needed fault (Some y) x e = cc
 
 -- ---- the track of a fragment
 
@@ -49,12 +36,12 @@ found_again : (tracks : List TrackInfo) (id : ℕ) (x : TrackInfo) → track_of 
 found_again tracks id x e = ap (track_of tracks) (own_id id tracks x e) ∙ e
 
 -- the track of a track fragment is the one of its number
-track_known : (tracks : List TrackInfo) (end : ℤ) (row : List BoxView) (f : Fragment) → fragment_of tracks end row ≡ Ok f → track_of tracks f.track.id ≡ Some f.track
-unfolding fragment_of
+track_known : (tracks : List TrackInfo) (end : ℤ) (row : List BoxView) (f : TrackFragment) → track_fragment_of tracks end row ≡ Ok f → track_of tracks f.track.id ≡ Some f.track
+unfolding track_fragment_of
 track_known tracks end row f e =
     let a = through (need NoTfhd (first_of (codes "tfhd") row)) _ f e in
-    let b = through (need Size (fragment_header_of a.value)) _ f a.then in
-    let c = through (demand BaseOffset (is_none b.value.base_data_offset)) _ f b.then in
+    let b = through (need Size (track_fragment_header_of a.value)) _ f a.then in
+    let c = through (check BaseOffset (is_none b.value.base_data_offset)) _ f b.then in
     let d = through (need UnknownTrack (track_of tracks b.value.track_id)) _ f c.then in
     let g = through (need NoTfdt (first_of (codes "tfdt") row)) _ f d.then in
     let h = through (need Size (tfdt_time_of g.value)) _ f g.then in
@@ -62,7 +49,7 @@ track_known tracks end row f e =
     let P : TrackInfo → Type 0 = λ t. track_of tracks t.id ≡ Some t in
     subst P k (found_again tracks b.value.track_id d.value (needed UnknownTrack (track_of tracks b.value.track_id) d.value d.was))
   where
-    track_in : Result Fragment MoofFault → TrackInfo
+    track_in : Result TrackFragment MoofFault → TrackInfo
     track_in (Ok g) = g.track
     track_in (Err fault) = f.track
 
@@ -101,17 +88,17 @@ media_trafs tracks count end [] slots e =
     All-same (IsMedia tracks) slots [] (sym k) (All-nil (IsMedia tracks))
 media_trafs tracks count end (t ∷ ts) slots e =
     let a = through (need Size (row_of t)) _ slots (sym (trafs_more tracks count end t ts) ∙ e) in
-    let b = through (fragment_of tracks end a.value) _ slots a.then in
+    let b = through (track_fragment_of tracks end a.value) _ slots a.then in
     let f = b.value in
     let c = through (runs_of f count f.base (all_of (codes "trun") a.value)) _ slots b.then in
     let d = through (trafs_of tracks (count + length (samples_in c.value)) (data_end f.base c.value) ts) _ slots c.then in
     let own = slots_behind f.track f.decode_time [] c.value in
-    let k : slots ≡ kept f.track own ++ d.value = sym (ap slots_in d.then) in
-    All-same (IsMedia tracks) slots (kept f.track own ++ d.value) k
-    (All-append (IsMedia tracks) (kept f.track own) d.value
+    let k : slots ≡ media_slots f.track own ++ d.value = sym (ap slots_in d.then) in
+    All-same (IsMedia tracks) slots (media_slots f.track own ++ d.value) k
+    (All-append (IsMedia tracks) (media_slots f.track own) d.value
     (media_by tracks f.track own (is_media f.track.kind) refl (track_known tracks end a.value f b.was) (runs_tracks f.track f.decode_time [] c.value))
     (media_trafs tracks (count + length (samples_in c.value)) (data_end f.base c.value) ts d.value d.was))
 
 -- each slot of a plan is of a track of the presentation, and lies where it should
-pub belong : (tracks : List TrackInfo) (trafs : List (List ℕ)) (slots : List Slot) → trafs_of tracks 0 (pos 0) trafs ≡ Ok slots → All IsPlaced slots → All (IsSlotOf tracks) slots
-belong tracks trafs slots e h = λ k d l. record { placed = h k d l; media = media_trafs tracks 0 (pos 0) trafs slots e k d l }
+pub belong : (tracks : List TrackInfo) (trafs : List (List ℕ)) (slots : List Slot) → trafs_of tracks 0 (pos 0) trafs ≡ Ok slots → All IsWellFormed slots → All (IsSlotOf tracks) slots
+belong tracks trafs slots e h = λ k d l. record { well_formed = h k d l; media = media_trafs tracks 0 (pos 0) trafs slots e k d l }

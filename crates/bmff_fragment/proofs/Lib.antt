@@ -4,3 +4,4 @@ pub mod Placing
 pub mod Linking
 pub mod Stepping
 pub mod Belonging
+pub mod Counts

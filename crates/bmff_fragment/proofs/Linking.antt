@@ -4,22 +4,23 @@ use Rattle.std.proofs.lemmas.List.{append-nil, length-append}
 use Rattle.std.proofs.lemmas.List.Sums.{sum_by-append}
 use lib.Chars.{codes}
 use Rattle.mse_base.specs.declared.track.TrackInfo.{TrackInfo}
-use Rattle.bmff_boxes.specs.Children.{child_of}
 use Rattle.bmff_boxes.specs.Rows.{BoxView, row_of, first_of, all_of}
 use Rattle.bmff_fragment.specs.declared.fault.MoofFault.{MoofFault}
 use Rattle.bmff_fragment.specs.declared.fault.MoofFault.TheVariants.{Size, NoTraf}
-use Rattle.bmff_fragment.specs.declared.fragment.Fragment.{Fragment}
-use Rattle.bmff_fragment.specs.declared.fragment.Progress.{Progress}
-use Rattle.bmff_fragment.specs.declared.fragment.RunProgress.{RunProgress}
+use Rattle.bmff_fragment.specs.declared.track_fragment.TrackFragment.{TrackFragment}
+use Rattle.bmff_fragment.specs.declared.track_fragment.Progress.{Progress}
+use Rattle.bmff_fragment.specs.declared.track_fragment.RunProgress.{RunProgress}
 use Rattle.bmff_fragment.specs.declared.sample.Sample.{Sample}
 use Rattle.bmff_fragment.specs.declared.slot.Slot.{Slot}
 use Rattle.bmff_fragment.specs.Times.{Run, run_end, duration_of, slots_of_run, slots_behind}
-use Rattle.bmff_fragment.specs.Plans.{◌>>=◌, need, front_payload, plan_of, is_media, fragment_of, run_of, runs_of, samples_in, data_end, kept, trafs_of}
-use Rattle.bmff_fragment.specs.Steps.{behind_run, run_step, runs_steps, first_run, behind_runs, runs_part, traf_step, trafs_steps}
+use Rattle.bmff_boxes.specs.Reading.{◌>>=◌, need}
+use Rattle.bmff_boxes.specs.Children.{payload_of}
+use Rattle.bmff_fragment.specs.Plans.{plan_of, is_media, track_fragment_of, run_of, runs_of, samples_in, data_end, media_slots, trafs_of}
+use Rattle.bmff_fragment.specs.Steps.{progress_after_run, run_step, runs_steps, first_run, progress_after_runs, runs_part, traf_step, trafs_steps}
 
 -- behind all of the runs
-abbrev pub behind_all : RunProgress → List Run → RunProgress
-behind_all at runs = record { samples = at.samples + length (samples_in runs); data_end = data_end at.data_end runs; decode_time = at.decode_time + duration_of (samples_in runs) }
+abbrev pub progress_after_all : RunProgress → List Run → RunProgress
+progress_after_all at runs = record { samples = at.samples + length (samples_in runs); data_end = data_end at.data_end runs; decode_time = at.decode_time + duration_of (samples_in runs) }
 
 progress : ℕ → ℤ → ℕ → RunProgress
 progress n e t = record { samples = n; data_end = e; decode_time = t }
@@ -27,14 +28,14 @@ progress n e t = record { samples = n; data_end = e; decode_time = t }
 progress_same : (n n' t t' : ℕ) (e : ℤ) → n ≡ n' → t ≡ t' → progress n e t ≡ progress n' e t'
 progress_same n n' t t' e p q = ap (λ k. progress k e t) p ∙ ap (progress n' e) q
 
-behind_none : (at : RunProgress) → at ≡ behind_all at []
+behind_none : (at : RunProgress) → at ≡ progress_after_all at []
 unfolding progress
 behind_none at =
     let n : at.samples ≡ at.samples + 0 = omega arith in
     let t : at.decode_time ≡ at.decode_time + 0 = omega arith in
     progress_same at.samples (at.samples + 0) at.decode_time (at.decode_time + 0) at.data_end n t
 
-behind_more : (at : RunProgress) (run : Run) (runs : List Run) → behind_all (behind_run at run) runs ≡ behind_all at (run ∷ runs)
+behind_more : (at : RunProgress) (run : Run) (runs : List Run) → progress_after_all (progress_after_run at run) runs ≡ progress_after_all at (run ∷ runs)
 unfolding progress
 behind_more at run runs =
     let n : (at.samples + length run.samples) + length (samples_in runs) ≡ at.samples + length (run.samples ++ samples_in runs) = omega (arith, length-append run.samples (samples_in runs)) in
@@ -45,82 +46,82 @@ none_by : (b : Bool) → let none : List Slot = [] in none ≡ cond b [] []
 none_by true = refl
 none_by false = refl
 
-kept_none : (track : TrackInfo) → [] ≡ kept track []
-kept_none track = none_by (is_media track.kind)
+media_slots_none : (track : TrackInfo) → [] ≡ media_slots track []
+media_slots_none track = none_by (is_media track.kind)
 
 append_by : (b : Bool) (xs ys : List Slot) → cond b xs [] ++ cond b ys [] ≡ cond b (xs ++ ys) []
 append_by true xs ys = refl
 append_by false xs ys = refl
 
-kept-append : (track : TrackInfo) (xs ys : List Slot) → kept track xs ++ kept track ys ≡ kept track (xs ++ ys)
-kept-append track xs ys = append_by (is_media track.kind) xs ys
+media_slots-append : (track : TrackInfo) (xs ys : List Slot) → media_slots track xs ++ media_slots track ys ≡ media_slots track (xs ++ ys)
+media_slots-append track xs ys = append_by (is_media track.kind) xs ys
 
-runs_none : (f : Fragment) (count : ℕ) (end : ℤ) → runs_of f count end [] ≡ Ok []
+runs_none : (f : TrackFragment) (count : ℕ) (end : ℤ) → runs_of f count end [] ≡ Ok []
 unfolding runs_of
 runs_none f count end = refl
 
-runs_more : (f : Fragment) (count : ℕ) (end : ℤ) (t : List ℕ) (ts : List (List ℕ)) → runs_of f count end (t ∷ ts) ≡ (run_of f count end t >>= λ run. runs_of f (count + length run.samples) (run_end run) ts >>= λ runs. Ok (run ∷ runs))
+runs_more : (f : TrackFragment) (count : ℕ) (end : ℤ) (t : List ℕ) (ts : List (List ℕ)) → runs_of f count end (t ∷ ts) ≡ (run_of f count end t >>= λ run. runs_of f (count + length run.samples) (run_end run) ts >>= λ runs. Ok (run ∷ runs))
 unfolding runs_of
 runs_more f count end t ts = refl
 
-pub steps_none : (f : Fragment) (at : RunProgress) (slots : List Slot) → runs_steps f at slots [] ≡ Ok (at, slots)
+pub steps_none : (f : TrackFragment) (at : RunProgress) (slots : List Slot) → runs_steps f at slots [] ≡ Ok (at, slots)
 unfolding runs_steps
 steps_none f at slots = refl
 
-pub steps_more : (f : Fragment) (at : RunProgress) (slots : List Slot) (t : List ℕ) (ts : List (List ℕ)) → runs_steps f at slots (t ∷ ts) ≡ (run_step f at slots t >>= λ next. runs_steps f next.0 next.1 ts)
+pub steps_more : (f : TrackFragment) (at : RunProgress) (slots : List Slot) (t : List ℕ) (ts : List (List ℕ)) → runs_steps f at slots (t ∷ ts) ≡ (run_step f at slots t >>= λ next. runs_steps f next.0 next.1 ts)
 unfolding runs_steps
 steps_more f at slots t ts = refl
 
-step_is : (f : Fragment) (at : RunProgress) (slots : List Slot) (t : List ℕ) → run_step f at slots t ≡ (run_of f at.samples at.data_end t >>= λ run. Ok (behind_run at run, slots ++ kept f.track (slots_of_run f.track at.decode_time run)))
+step_is : (f : TrackFragment) (at : RunProgress) (slots : List Slot) (t : List ℕ) → run_step f at slots t ≡ (run_of f at.samples at.data_end t >>= λ run. Ok (progress_after_run at run, slots ++ media_slots f.track (slots_of_run f.track at.decode_time run)))
 unfolding run_step
 step_is f at slots t = refl
 
 -- what all runs give, behind the samples `before` of their track fragment
-abbrev pub runs_give : Fragment → RunProgress → List Slot → List Sample → List Run → RunProgress × List Slot
-runs_give f at slots before runs = (behind_all at runs, slots ++ kept f.track (slots_behind f.track f.decode_time before runs))
+abbrev pub runs_give : TrackFragment → RunProgress → List Slot → List Sample → List Run → RunProgress × List Slot
+runs_give f at slots before runs = (progress_after_all at runs, slots ++ media_slots f.track (slots_behind f.track f.decode_time before runs))
 
-give_more : (f : Fragment) (at : RunProgress) (slots : List Slot) (before : List Sample) (run : Run) (runs : List Run) → at.decode_time ≡ f.decode_time + duration_of before → runs_give f (behind_run at run) (slots ++ kept f.track (slots_of_run f.track at.decode_time run)) (before ++ run.samples) runs ≡ runs_give f at slots before (run ∷ runs)
+give_more : (f : TrackFragment) (at : RunProgress) (slots : List Slot) (before : List Sample) (run : Run) (runs : List Run) → at.decode_time ≡ f.decode_time + duration_of before → runs_give f (progress_after_run at run) (slots ++ media_slots f.track (slots_of_run f.track at.decode_time run)) (before ++ run.samples) runs ≡ runs_give f at slots before (run ∷ runs)
 give_more f at slots before run runs h =
     let one = slots_of_run f.track at.decode_time run in
     let rest = slots_behind f.track f.decode_time (before ++ run.samples) runs in
-    let s : (slots ++ kept f.track one) ++ kept f.track rest ≡ slots ++ kept f.track (slots_of_run f.track (f.decode_time + duration_of before) run ++ rest) =
-    append_assoc slots (kept f.track one) (kept f.track rest) ∙ ap (λ xs. slots ++ xs) (kept-append f.track one rest) ∙ ap (λ t. slots ++ kept f.track (slots_of_run f.track t run ++ rest)) h
+    let s : (slots ++ media_slots f.track one) ++ media_slots f.track rest ≡ slots ++ media_slots f.track (slots_of_run f.track (f.decode_time + duration_of before) run ++ rest) =
+    append_assoc slots (media_slots f.track one) (media_slots f.track rest) ∙ ap (λ xs. slots ++ xs) (media_slots-append f.track one rest) ∙ ap (λ t. slots ++ media_slots f.track (slots_of_run f.track t run ++ rest)) h
     in
-    let all = (slots ++ kept f.track one) ++ kept f.track rest in
-    ap (λ (p : RunProgress). let q : RunProgress × List Slot = (p, all) in q) (behind_more at run runs) ∙ ap (λ (xs : List Slot). let q : RunProgress × List Slot = (behind_all at (run ∷ runs), xs) in q) s
+    let all = (slots ++ media_slots f.track one) ++ media_slots f.track rest in
+    ap (λ (p : RunProgress). let q : RunProgress × List Slot = (p, all) in q) (behind_more at run runs) ∙ ap (λ (xs : List Slot). let q : RunProgress × List Slot = (progress_after_all at (run ∷ runs), xs) in q) s
 
 then_more : {A B : Type 0} (q : Result (List A) MoofFault) (x : A) (f g : List A → B) → ((xs : List A) → f xs ≡ g (x ∷ xs)) → (q >>= λ xs. Ok (f xs)) ≡ ((q >>= λ xs. Ok (x ∷ xs)) >>= λ xs. Ok (g xs))
 then_more (Ok xs) x f g e = ap Ok (e xs)
 then_more (Err fault) x f g e = refl
 
 -- one run and those behind it, where the ones behind it are what `go` says
-abbrev run_then : Fragment → RunProgress → List Slot → List (List ℕ) → Result Run MoofFault → Result (RunProgress × List Slot) MoofFault
+abbrev run_then : TrackFragment → RunProgress → List Slot → List (List ℕ) → Result Run MoofFault → Result (RunProgress × List Slot) MoofFault
 run_then f at slots ts r =
-    let next : Result (RunProgress × List Slot) MoofFault = r >>= λ run. Ok (behind_run at run, slots ++ kept f.track (slots_of_run f.track at.decode_time run)) in
+    let next : Result (RunProgress × List Slot) MoofFault = r >>= λ run. Ok (progress_after_run at run, slots ++ media_slots f.track (slots_of_run f.track at.decode_time run)) in
     next >>= λ next. runs_steps f next.0 next.1 ts
 
-linked_by : (f : Fragment) (at : RunProgress) (slots : List Slot) (before : List Sample) (ts : List (List ℕ)) → at.decode_time ≡ f.decode_time + duration_of before → ((run : Run) → let behind = before ++ run.samples in (behind_run at run).decode_time ≡ f.decode_time + duration_of behind → let more = slots ++ kept f.track (slots_of_run f.track at.decode_time run) in runs_steps f (behind_run at run) more ts ≡ (runs_of f (behind_run at run).samples (run_end run) ts >>= λ runs. Ok (runs_give f (behind_run at run) more behind runs))) → (r : Result Run MoofFault) → run_then f at slots ts r ≡ ((r >>= λ run. runs_of f (at.samples + length run.samples) (run_end run) ts >>= λ runs. Ok (run ∷ runs)) >>= λ runs. Ok (runs_give f at slots before runs))
+linked_by : (f : TrackFragment) (at : RunProgress) (slots : List Slot) (before : List Sample) (ts : List (List ℕ)) → at.decode_time ≡ f.decode_time + duration_of before → ((run : Run) → let behind = before ++ run.samples in (progress_after_run at run).decode_time ≡ f.decode_time + duration_of behind → let more = slots ++ media_slots f.track (slots_of_run f.track at.decode_time run) in runs_steps f (progress_after_run at run) more ts ≡ (runs_of f (progress_after_run at run).samples (run_end run) ts >>= λ runs. Ok (runs_give f (progress_after_run at run) more behind runs))) → (r : Result Run MoofFault) → run_then f at slots ts r ≡ ((r >>= λ run. runs_of f (at.samples + length run.samples) (run_end run) ts >>= λ runs. Ok (run ∷ runs)) >>= λ runs. Ok (runs_give f at slots before runs))
 linked_by f at slots before ts h go (Err fault) = refl
 linked_by f at slots before ts h go (Ok run) =
     let t' : at.decode_time + duration_of run.samples ≡ f.decode_time + duration_of (before ++ run.samples) = omega (arith, h, sum_by-append (λ (s : Sample). s.duration) before run.samples) in
     go run t'
-    ∙ then_more (runs_of f (at.samples + length run.samples) (run_end run) ts) run (runs_give f (behind_run at run) (slots ++ kept f.track (slots_of_run f.track at.decode_time run)) (before ++ run.samples)) (runs_give f at slots before) (λ runs. give_more f at slots before run runs h)
+    ∙ then_more (runs_of f (at.samples + length run.samples) (run_end run) ts) run (runs_give f (progress_after_run at run) (slots ++ media_slots f.track (slots_of_run f.track at.decode_time run)) (before ++ run.samples)) (runs_give f at slots before) (λ runs. give_more f at slots before run runs h)
 
-pub runs-linked : (f : Fragment) (at : RunProgress) (slots : List Slot) (before : List Sample) (truns : List (List ℕ)) → at.decode_time ≡ f.decode_time + duration_of before → runs_steps f at slots truns ≡ (runs_of f at.samples at.data_end truns >>= λ runs. Ok (runs_give f at slots before runs))
+pub runs-linked : (f : TrackFragment) (at : RunProgress) (slots : List Slot) (before : List Sample) (truns : List (List ℕ)) → at.decode_time ≡ f.decode_time + duration_of before → runs_steps f at slots truns ≡ (runs_of f at.samples at.data_end truns >>= λ runs. Ok (runs_give f at slots before runs))
 runs-linked f at slots before [] h =
-    let s : slots ≡ slots ++ kept f.track [] = sym (append-nil slots) ∙ ap (λ xs. slots ++ xs) (kept_none f.track) in
+    let s : slots ≡ slots ++ media_slots f.track [] = sym (append-nil slots) ∙ ap (λ xs. slots ++ xs) (media_slots_none f.track) in
     let give = runs_give f at slots before [] in
     let here : RunProgress × List Slot = (at, slots) in
-    let made : RunProgress × List Slot = (behind_all at [], slots) in
+    let made : RunProgress × List Slot = (progress_after_all at [], slots) in
     let e : here ≡ made = ap (λ (p : RunProgress). let q : RunProgress × List Slot = (p, slots) in q) (behind_none at) in
-    let g : made ≡ give = ap (λ (xs : List Slot). let q : RunProgress × List Slot = (behind_all at [], xs) in q) s in
+    let g : made ≡ give = ap (λ (xs : List Slot). let q : RunProgress × List Slot = (progress_after_all at [], xs) in q) s in
     steps_none f at slots ∙ ap Ok (e ∙ g) ∙ ap (λ r. r >>= λ runs. Ok (runs_give f at slots before runs)) (sym (runs_none f at.samples at.data_end))
 runs-linked f at slots before (t ∷ ts) h =
     let first : runs_steps f at slots (t ∷ ts) ≡ run_then f at slots ts (run_of f at.samples at.data_end t) =
     steps_more f at slots t ts ∙ ap (λ r. r >>= λ next. runs_steps f next.0 next.1 ts) (step_is f at slots t)
     in
     first
-    ∙ linked_by f at slots before ts h (λ run k. runs-linked f (behind_run at run) (slots ++ kept f.track (slots_of_run f.track at.decode_time run)) (before ++ run.samples) ts k) (run_of f at.samples at.data_end t)
+    ∙ linked_by f at slots before ts h (λ run k. runs-linked f (progress_after_run at run) (slots ++ media_slots f.track (slots_of_run f.track at.decode_time run)) (before ++ run.samples) ts k) (run_of f at.samples at.data_end t)
     ∙ ap (λ r. r >>= λ runs. Ok (runs_give f at slots before runs)) (sym (runs_more f at.samples at.data_end t ts))
 
 -- ---- track fragments
@@ -130,10 +131,10 @@ unfolding trafs_of
 trafs_none tracks count end = refl
 
 -- the slots of one more track fragment
-abbrev own_slots : Fragment → List Run → List Slot
-own_slots f runs = kept f.track (slots_behind f.track f.decode_time [] runs)
+abbrev own_slots : TrackFragment → List Run → List Slot
+own_slots f runs = media_slots f.track (slots_behind f.track f.decode_time [] runs)
 
-pub trafs_more : (tracks : List TrackInfo) (count : ℕ) (end : ℤ) (t : List ℕ) (ts : List (List ℕ)) → trafs_of tracks count end (t ∷ ts) ≡ (need Size (row_of t) >>= λ row. fragment_of tracks end row >>= λ f. runs_of f count f.base (all_of (codes "trun") row) >>= λ runs. trafs_of tracks (count + length (samples_in runs)) (data_end f.base runs) ts >>= λ slots. Ok (own_slots f runs ++ slots))
+pub trafs_more : (tracks : List TrackInfo) (count : ℕ) (end : ℤ) (t : List ℕ) (ts : List (List ℕ)) → trafs_of tracks count end (t ∷ ts) ≡ (need Size (row_of t) >>= λ row. track_fragment_of tracks end row >>= λ f. runs_of f count f.base (all_of (codes "trun") row) >>= λ runs. trafs_of tracks (count + length (samples_in runs)) (data_end f.base runs) ts >>= λ slots. Ok (own_slots f runs ++ slots))
 unfolding trafs_of
 trafs_more tracks count end t ts = refl
 
@@ -145,22 +146,22 @@ pub traf_steps_more : (tracks : List TrackInfo) (at : Progress) (slots : List Sl
 unfolding trafs_steps
 traf_steps_more tracks at slots t ts = refl
 
-traf_step_is : (tracks : List TrackInfo) (at : Progress) (slots : List Slot) (t : List ℕ) → traf_step tracks at slots t ≡ (need Size (row_of t) >>= λ row. fragment_of tracks at.data_end row >>= λ f. runs_part f at.samples slots (all_of (codes "trun") row))
+traf_step_is : (tracks : List TrackInfo) (at : Progress) (slots : List Slot) (t : List ℕ) → traf_step tracks at slots t ≡ (need Size (row_of t) >>= λ row. track_fragment_of tracks at.data_end row >>= λ f. runs_part f at.samples slots (all_of (codes "trun") row))
 unfolding traf_step
 traf_step_is tracks at slots t = refl
 
 -- what a track fragment gives
-abbrev traf_give : Fragment → ℕ → List Slot → List Run → Progress × List Slot
+abbrev traf_give : TrackFragment → ℕ → List Slot → List Run → Progress × List Slot
 traf_give f count slots runs = (record { samples = count + length (samples_in runs); data_end = data_end f.base runs }, slots ++ own_slots f runs)
 
-part_by : (f : Fragment) (count : ℕ) (slots : List Slot) (r : Result (List Run) MoofFault) → let last : Result (RunProgress × List Slot) MoofFault = (r >>= λ runs. Ok (runs_give f (first_run f count) slots [] runs)) in (last >>= λ last. let q : Progress × List Slot = (behind_runs last.0, last.1) in Ok q) ≡ (r >>= λ runs. Ok (traf_give f count slots runs))
+part_by : (f : TrackFragment) (count : ℕ) (slots : List Slot) (r : Result (List Run) MoofFault) → let last : Result (RunProgress × List Slot) MoofFault = (r >>= λ runs. Ok (runs_give f (first_run f count) slots [] runs)) in (last >>= λ last. let q : Progress × List Slot = (progress_after_runs last.0, last.1) in Ok q) ≡ (r >>= λ runs. Ok (traf_give f count slots runs))
 part_by f count slots (Ok runs) = refl
 part_by f count slots (Err fault) = refl
 
-part_is : (f : Fragment) (count : ℕ) (slots : List Slot) (truns : List (List ℕ)) → runs_part f count slots truns ≡ (runs_of f count f.base truns >>= λ runs. Ok (traf_give f count slots runs))
+part_is : (f : TrackFragment) (count : ℕ) (slots : List Slot) (truns : List (List ℕ)) → runs_part f count slots truns ≡ (runs_of f count f.base truns >>= λ runs. Ok (traf_give f count slots runs))
 part_is f count slots truns =
     let t : f.decode_time ≡ f.decode_time + 0 = omega arith in
-    ap (λ (r : Result (RunProgress × List Slot) MoofFault). r >>= λ last. let q : Progress × List Slot = (behind_runs last.0, last.1) in Ok q) (runs-linked f (first_run f count) slots [] truns t) ∙ part_by f count slots (runs_of f count f.base truns)
+    ap (λ (r : Result (RunProgress × List Slot) MoofFault). r >>= λ last. let q : Progress × List Slot = (progress_after_runs last.0, last.1) in Ok q) (runs-linked f (first_run f count) slots [] truns t) ∙ part_by f count slots (runs_of f count f.base truns)
 
 -- slots in front of those that are read
 abbrev pub with_front : List Slot → Result (List Slot) MoofFault → Result (List Slot) MoofFault
@@ -174,21 +175,21 @@ with_more front more (Err fault) = refl
 abbrev pub Goes : List TrackInfo → List (List ℕ) → Type 0
 Goes tracks ts = (at : Progress) (slots : List Slot) → trafs_steps tracks at slots ts ≡ with_front slots (trafs_of tracks at.samples at.data_end ts)
 
-by_runs : (tracks : List TrackInfo) (count : ℕ) (slots : List Slot) (ts : List (List ℕ)) → Goes tracks ts → (f : Fragment) (r : Result (List Run) MoofFault) → ((r >>= λ runs. Ok (traf_give f count slots runs)) >>= λ next. trafs_steps tracks next.0 next.1 ts) ≡ with_front slots (r >>= λ runs. trafs_of tracks (count + length (samples_in runs)) (data_end f.base runs) ts >>= λ more. Ok (own_slots f runs ++ more))
+by_runs : (tracks : List TrackInfo) (count : ℕ) (slots : List Slot) (ts : List (List ℕ)) → Goes tracks ts → (f : TrackFragment) (r : Result (List Run) MoofFault) → ((r >>= λ runs. Ok (traf_give f count slots runs)) >>= λ next. trafs_steps tracks next.0 next.1 ts) ≡ with_front slots (r >>= λ runs. trafs_of tracks (count + length (samples_in runs)) (data_end f.base runs) ts >>= λ more. Ok (own_slots f runs ++ more))
 by_runs tracks count slots ts go f (Err fault) = refl
 by_runs tracks count slots ts go f (Ok runs) =
     let next = traf_give f count slots runs in
     go next.0 next.1 ∙ with_more slots (own_slots f runs) (trafs_of tracks (count + length (samples_in runs)) (data_end f.base runs) ts)
 
-by_fragment : (tracks : List TrackInfo) (count : ℕ) (slots : List Slot) (ts : List (List ℕ)) → Goes tracks ts → (row : List BoxView) (r : Result Fragment MoofFault) → ((r >>= λ f. runs_part f count slots (all_of (codes "trun") row)) >>= λ next. trafs_steps tracks next.0 next.1 ts) ≡ with_front slots (r >>= λ f. runs_of f count f.base (all_of (codes "trun") row) >>= λ runs. trafs_of tracks (count + length (samples_in runs)) (data_end f.base runs) ts >>= λ more. Ok (own_slots f runs ++ more))
+by_fragment : (tracks : List TrackInfo) (count : ℕ) (slots : List Slot) (ts : List (List ℕ)) → Goes tracks ts → (row : List BoxView) (r : Result TrackFragment MoofFault) → ((r >>= λ f. runs_part f count slots (all_of (codes "trun") row)) >>= λ next. trafs_steps tracks next.0 next.1 ts) ≡ with_front slots (r >>= λ f. runs_of f count f.base (all_of (codes "trun") row) >>= λ runs. trafs_of tracks (count + length (samples_in runs)) (data_end f.base runs) ts >>= λ more. Ok (own_slots f runs ++ more))
 by_fragment tracks count slots ts go row (Err fault) = refl
 by_fragment tracks count slots ts go row (Ok f) =
     ap (λ r. r >>= λ next. trafs_steps tracks next.0 next.1 ts) (part_is f count slots (all_of (codes "trun") row))
     ∙ by_runs tracks count slots ts go f (runs_of f count f.base (all_of (codes "trun") row))
 
-by_row : (tracks : List TrackInfo) (at : Progress) (slots : List Slot) (ts : List (List ℕ)) → Goes tracks ts → (o : Option (List BoxView)) → ((need Size o >>= λ row. fragment_of tracks at.data_end row >>= λ f. runs_part f at.samples slots (all_of (codes "trun") row)) >>= λ next. trafs_steps tracks next.0 next.1 ts) ≡ with_front slots (need Size o >>= λ row. fragment_of tracks at.data_end row >>= λ f. runs_of f at.samples f.base (all_of (codes "trun") row) >>= λ runs. trafs_of tracks (at.samples + length (samples_in runs)) (data_end f.base runs) ts >>= λ more. Ok (own_slots f runs ++ more))
+by_row : (tracks : List TrackInfo) (at : Progress) (slots : List Slot) (ts : List (List ℕ)) → Goes tracks ts → (o : Option (List BoxView)) → ((need Size o >>= λ row. track_fragment_of tracks at.data_end row >>= λ f. runs_part f at.samples slots (all_of (codes "trun") row)) >>= λ next. trafs_steps tracks next.0 next.1 ts) ≡ with_front slots (need Size o >>= λ row. track_fragment_of tracks at.data_end row >>= λ f. runs_of f at.samples f.base (all_of (codes "trun") row) >>= λ runs. trafs_of tracks (at.samples + length (samples_in runs)) (data_end f.base runs) ts >>= λ more. Ok (own_slots f runs ++ more))
 by_row tracks at slots ts go None = refl
-by_row tracks at slots ts go (Some row) = by_fragment tracks at.samples slots ts go row (fragment_of tracks at.data_end row)
+by_row tracks at slots ts go (Some row) = by_fragment tracks at.samples slots ts go row (track_fragment_of tracks at.data_end row)
 
 pub trafs-linked : (tracks : List TrackInfo) (trafs : List (List ℕ)) → Goes tracks trafs
 trafs-linked tracks [] = λ at slots. traf_steps_none tracks at slots ∙ ap Ok (sym (append-nil slots)) ∙ ap (with_front slots) (sym (trafs_none tracks at.samples at.data_end))
@@ -207,7 +208,7 @@ no_front (Err fault) = refl
 pub trafs-whole : (tracks : List TrackInfo) (trafs : List (List ℕ)) → trafs_steps tracks (record { samples = 0; data_end = pos 0 }) [] trafs ≡ trafs_of tracks 0 (pos 0) trafs
 trafs-whole tracks trafs = trafs-linked tracks trafs (record { samples = 0; data_end = pos 0 }) [] ∙ no_front (trafs_of tracks 0 (pos 0) trafs)
 
-pub plan_is : (tracks : List TrackInfo) (moof payload first : List ℕ) (row : List BoxView) → Some payload ≡ front_payload (child_of moof) → Some row ≡ row_of payload → Some first ≡ first_of (codes "traf") row → plan_of tracks moof ≡ trafs_of tracks 0 (pos 0) (all_of (codes "traf") row)
+pub plan_is : (tracks : List TrackInfo) (moof payload first : List ℕ) (row : List BoxView) → Some payload ≡ payload_of moof → Some row ≡ row_of payload → Some first ≡ first_of (codes "traf") row → plan_of tracks moof ≡ trafs_of tracks 0 (pos 0) (all_of (codes "traf") row)
 unfolding plan_of
 plan_is tracks moof payload first row a b c =
     ap (λ o. need Size o >>= λ payload. need Size (row_of payload) >>= λ row. need NoTraf (first_of (codes "traf") row) >>= λ first. trafs_of tracks 0 (pos 0) (all_of (codes "traf") row)) (sym a)

@@ -3,14 +3,14 @@ use Rattle.std.specs.Prelude.{ℕ, List, Option, Some, bit_and, ◌==◌, not, u
 use Rattle.mse_base.specs.declared.track.TrackInfo.{TrackInfo}
 use Rattle.bmff_boxes.specs.Fields.{flags_of, ◌>>=◌}
 use Rattle.bmff_boxes.specs.FragmentFields.{tfhd_track_of, tfhd_base_of, tfhd_description_of, tfhd_duration_of, tfhd_size_of, tfhd_flags_of, trun_count_of, trun_data_offset_of, trun_first_flags_of}
-use Rattle.bmff_fragment.specs.declared.header.FragmentHeader.{FragmentHeader}
+use Rattle.bmff_fragment.specs.declared.header.TrackFragmentHeader.{TrackFragmentHeader}
 use Rattle.bmff_fragment.specs.declared.header.RunHeader.{RunHeader}
 use Rattle.bmff_fragment.specs.declared.header.Defaults.{Defaults}
 
 -- tfhd, track fragment header (ISO/IEC 14496-12, 8.8.7), with all fields that its flags announce; the flag
 -- default-base-is-moof is 0x020000
-unfoldable pub fragment_header_of : List ℕ → Option FragmentHeader
-fragment_header_of tfhd = do
+unfoldable pub track_fragment_header_of : List ℕ → Option TrackFragmentHeader
+track_fragment_header_of tfhd = do
   flags ← flags_of tfhd
   track ← tfhd_track_of tfhd
   base ← tfhd_base_of tfhd
@@ -22,7 +22,7 @@ fragment_header_of tfhd = do
 
 -- what a sample has that its run does not tell: what the track fragment header tells, else what the track
 -- extends box does (8.8.3)
-abbrev pub defaults_of : FragmentHeader → TrackInfo → Defaults
+abbrev pub defaults_of : TrackFragmentHeader → TrackInfo → Defaults
 defaults_of header track = record {
   duration = unwrap_or header.duration track.default_duration;
   size = unwrap_or header.size track.default_size;

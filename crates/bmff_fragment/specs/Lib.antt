@@ -3,4 +3,4 @@ pub mod Samples
 pub mod Times
 pub mod Plans
 pub mod Steps
-pub mod Views
+pub mod Slots

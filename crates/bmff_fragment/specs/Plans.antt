@@ -1,42 +1,22 @@
 -- What a movie fragment says of its samples, or the first fault in the order of reading (ISO/IEC 14496-12, 8.8).
-use Rattle.std.specs.Prelude.{ℕ, ◌+◌, ◌^◌, nat_le, ◌==◌, ◌||◌, ℤ, pos, ◌+ℤ◌, int_le, Bool, true, false, if◌then◌else◌, List, [], ◌∷◌, ◌++◌, length, find, Option, Some, None, is_none, Result, Ok, Err}
+use Rattle.std.specs.Prelude.{ℕ, ◌+◌, ◌^◌, nat_le, ◌==◌, ◌||◌, ℤ, pos, ◌+ℤ◌, int_le, Bool, true, false, if◌then◌else◌, List, [], ◌∷◌, ◌++◌, length, find, Option, Some, None, is_none, Result, Ok}
 use lib.Chars.{codes}
 use Rattle.mse_base.specs.declared.track.TrackInfo.{TrackInfo}
 use Rattle.mse_base.specs.declared.track.Kind.{Kind}
 use Rattle.mse_base.specs.declared.track.Kind.TheVariants.{Video, Audio, Other}
 use Rattle.mse_base.specs.Presentation.{has_id}
-use Rattle.bmff_boxes.specs.Children.{Step, Box, NoBytes, NoBox, child_of}
+use Rattle.bmff_boxes.specs.Children.{payload_of}
+use Rattle.bmff_boxes.specs.Reading.{◌>>=◌, need, check}
 use Rattle.bmff_boxes.specs.Rows.{BoxView, row_of, first_of, all_of}
 use Rattle.bmff_boxes.specs.FragmentFields.{tfdt_time_of}
 use Rattle.bmff_fragment.specs.declared.fault.MoofFault.{MoofFault}
 use Rattle.bmff_fragment.specs.declared.fault.MoofFault.TheVariants.{Size, NoTraf, NoTfhd, NoTfdt, BaseOffset, UnknownTrack, TooManySamples, Place}
-use Rattle.bmff_fragment.specs.declared.fragment.Fragment.{Fragment}
+use Rattle.bmff_fragment.specs.declared.track_fragment.TrackFragment.{TrackFragment}
 use Rattle.bmff_fragment.specs.declared.sample.Sample.{Sample}
 use Rattle.bmff_fragment.specs.declared.slot.Slot.{Slot}
-use Rattle.bmff_fragment.specs.Headers.{fragment_header_of, defaults_of, run_header_of}
+use Rattle.bmff_fragment.specs.Headers.{track_fragment_header_of, defaults_of, run_header_of}
 use Rattle.bmff_fragment.specs.Samples.{samples_of}
 use Rattle.bmff_fragment.specs.Times.{Run, run_end, slots_behind}
-
-infixl 10 ◌>>=◌
-abbrev pub ◌>>=◌ : {A B : Type 0} → Result A MoofFault → (A → Result B MoofFault) → Result B MoofFault
-(Ok x) >>= f = f x
-(Err e) >>= f = Err e
-
--- what has to be there, and the fault where it is not
-abbrev pub need : {A : Type 0} → MoofFault → Option A → Result A MoofFault
-need fault None = Err fault
-need fault (Some x) = Ok x
-
--- what has to hold, and the fault where it does not
-abbrev pub demand : MoofFault → Bool → Result (Unit {0}) MoofFault
-demand fault true = Ok tt
-demand fault false = Err fault
-
--- the payload of the box at the front of the bytes
-abbrev pub front_payload : Step × List ℕ → Option (List ℕ)
-front_payload (Box kind payload, rest) = Some payload
-front_payload (NoBytes, rest) = None
-front_payload (NoBox, rest) = None
 
 -- the track of a number
 abbrev pub track_of : List TrackInfo → ℕ → Option TrackInfo
@@ -52,11 +32,11 @@ is_media Other = false
 -- offsets count and its first decode time. That place is the first byte of the moof box in the first track
 -- fragment and where default-base-is-moof is set; else the data of the track fragment before end there,
 -- at `end` (8.8.7).
-unfoldable pub fragment_of : List TrackInfo → ℤ → List BoxView → Result Fragment MoofFault
-fragment_of tracks end row = do
+unfoldable pub track_fragment_of : List TrackInfo → ℤ → List BoxView → Result TrackFragment MoofFault
+track_fragment_of tracks end row = do
   tfhd ← need NoTfhd (first_of (codes "tfhd") row)
-  header ← need Size (fragment_header_of tfhd)
-  relative ← demand BaseOffset (is_none header.base_data_offset)
+  header ← need Size (track_fragment_header_of tfhd)
+  relative ← check BaseOffset (is_none header.base_data_offset)
   track ← need UnknownTrack (track_of tracks header.track_id)
   tfdt ← need NoTfdt (first_of (codes "tfdt") row)
   time ← need Size (tfdt_time_of tfdt)
@@ -70,15 +50,15 @@ run_start base end (Some offset) = base +ℤ offset
 
 -- a run, where `count` samples of the moof stand before it and `end` is the end of the run before it, or the
 -- base. The data of its first sample begin first, so it is in place where they do not begin before the moof.
-unfoldable pub run_of : Fragment → ℕ → ℤ → List ℕ → Result Run MoofFault
+unfoldable pub run_of : TrackFragment → ℕ → ℤ → List ℕ → Result Run MoofFault
 run_of fragment count end trun = do
   header ← need Size (run_header_of trun)
-  few ← demand TooManySamples (nat_le (count + header.count) (2 ^ 20))
+  few ← check TooManySamples (nat_le (count + header.count) (2 ^ 20))
   samples ← need Size (samples_of fragment.defaults header trun)
-  inside ← demand Place (header.count == 0 || int_le (pos 0) (run_start fragment.base end header.data_offset))
+  inside ← check Place (header.count == 0 || int_le (pos 0) (run_start fragment.base end header.data_offset))
   Ok (record { start = run_start fragment.base end header.data_offset; samples = samples })
 
-unfoldable pub runs_of : Fragment → ℕ → ℤ → List (List ℕ) → Result (List Run) MoofFault
+unfoldable pub runs_of : TrackFragment → ℕ → ℤ → List (List ℕ) → Result (List Run) MoofFault
 runs_of fragment count end [] = Ok []
 runs_of fragment count end (trun ∷ truns) = do
   run ← run_of fragment count end trun
@@ -96,8 +76,8 @@ data_end base [] = base
 data_end base (run ∷ runs) = data_end (run_end run) runs
 
 -- slots of a track, none where a buffer takes no frames of it
-abbrev pub kept : TrackInfo → List Slot → List Slot
-kept track slots = if is_media track.kind then slots else []
+abbrev pub media_slots : TrackInfo → List Slot → List Slot
+media_slots track slots = if is_media track.kind then slots else []
 
 -- the slots of track fragments, where `count` samples stand before them and `end` is the end of the data
 -- before them
@@ -105,15 +85,15 @@ unfoldable pub trafs_of : List TrackInfo → ℕ → ℤ → List (List ℕ) →
 trafs_of tracks count end [] = Ok []
 trafs_of tracks count end (traf ∷ trafs) = do
   row ← need Size (row_of traf)
-  fragment ← fragment_of tracks end row
+  fragment ← track_fragment_of tracks end row
   runs ← runs_of fragment count fragment.base (all_of (codes "trun") row)
   slots ← trafs_of tracks (count + length (samples_in runs)) (data_end fragment.base runs) trafs
-  Ok (kept fragment.track (slots_behind fragment.track fragment.decode_time [] runs) ++ slots)
+  Ok (media_slots fragment.track (slots_behind fragment.track fragment.decode_time [] runs) ++ slots)
 
 -- moof, movie fragment (8.8.4)
 unfoldable pub plan_of : List TrackInfo → List ℕ → Result (List Slot) MoofFault
 plan_of tracks moof = do
-  payload ← need Size (front_payload (child_of moof))
+  payload ← need Size (payload_of moof)
   row ← need Size (row_of payload)
   first ← need NoTraf (first_of (codes "traf") row)
   trafs_of tracks 0 (pos 0) (all_of (codes "traf") row)

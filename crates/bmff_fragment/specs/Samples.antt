@@ -10,8 +10,8 @@ use Rattle.bmff_fragment.specs.declared.sample.Sample.{Sample}
 
 -- a sample as the run tells it, with the defaults for what it does not tell. Flags that the run's header has
 -- for it stand before its own.
-abbrev pub filled : Defaults → Option ℕ → TrunSample → Sample
-filled defaults first_flags told = record {
+abbrev pub sample_with_defaults : Defaults → Option ℕ → TrunSample → Sample
+sample_with_defaults defaults first_flags told = record {
   duration = unwrap_or told.duration defaults.duration;
   size = unwrap_or told.size defaults.size;
   flags = unwrap_or first_flags (unwrap_or told.flags defaults.flags);
@@ -24,7 +24,7 @@ header_flags header i = if i == 0 then header.first_flags else None
 
 -- sample i of a run, the first being 0; none where the payload ends before
 unfoldable pub sample_of : Defaults → RunHeader → List ℕ → ℕ → Option Sample
-sample_of defaults header trun i = option_map (filled defaults (header_flags header i)) (trun_sample_of trun i)
+sample_of defaults header trun i = option_map (sample_with_defaults defaults (header_flags header i)) (trun_sample_of trun i)
 
 -- all of the list; none where one is missing
 abbrev pub each : {A : Type 0} → List (Option A) → Option (List A)

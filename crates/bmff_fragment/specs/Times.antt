@@ -26,8 +26,8 @@ run_end run = run.start +ℤ pos (data_len run.samples)
 
 -- a media time of a track in ticks, by its edit list (ISO/IEC 14496-12, 8.6.6): the presentation waits for
 -- the empty edit, and then begins with the media time of the edit behind it
-unfoldable pub presented : TrackInfo → ℤ → ℤ
-presented track m = converted (m -ℤ track.media_shift) track.scale +ℤ track.empty_shift
+unfoldable pub tick_at : TrackInfo → ℤ → ℤ
+tick_at track m = converted (m -ℤ track.media_shift) track.scale +ℤ track.empty_shift
 
 -- the slot of a sample that is decoded at media time `time` and whose data begin at `start`. It is presented
 -- by its composition offset later, and lasts from there to the end of its media time. It is a sync sample
@@ -35,9 +35,9 @@ presented track m = converted (m -ℤ track.media_shift) track.scale +ℤ track.
 unfoldable pub slot_of : TrackInfo → ℕ → ℕ → Sample → Slot
 slot_of track time start s = record {
   track_id = track.id;
-  pts = presented track (pos time +ℤ s.offset);
-  dts = presented track (pos time);
-  dur = presented track (pos time +ℤ s.offset +ℤ pos s.duration) -ℤ presented track (pos time +ℤ s.offset);
+  pts = tick_at track (pos time +ℤ s.offset);
+  dts = tick_at track (pos time);
+  dur = tick_at track (pos time +ℤ s.offset +ℤ pos s.duration) -ℤ tick_at track (pos time +ℤ s.offset);
   sync = bit_and s.flags 0x10000 == 0;
   start = start;
   end = start + s.size;

@@ -1,7 +1,4 @@
-ghost use Rattle.std.specs.Prelude.{◌≡◌};
-ghost use Rattle.bmff_fragment.specs.declared.fault.MoofError.TheVariants.{OutOfMemory};
-
-use std::alloc::{AllocError, AllocFailed};
+use bmff_boxes::ReadError;
 use thiserror::Error;
 
 /// What is wrong with a movie fragment.
@@ -34,29 +31,6 @@ pub enum MoofFault {
     Place,
 }
 
-/// Why a movie fragment was not read.
-#[derive(Clone, Copy, Debug, PartialEq, Eq, Error)]
-pub enum MoofError {
-    /// There was no memory for its samples.
-    #[error("out of memory")]
-    OutOfMemory,
-    /// The first fault in the order of reading.
-    #[error("{0}")]
-    Fault(MoofFault),
-}
-
-impl From<AllocError> for MoofError {
-    ghost from_gives = { λ _ e. e ≡ OutOfMemory };
-
-    fn from(_e: AllocError) -> MoofError {
-        MoofError::OutOfMemory
-    }
-}
-
-impl<T: Drop> From<AllocFailed<T>> for MoofError {
-    ghost from_gives = { λ _ e. e ≡ OutOfMemory };
-
-    fn from(_e: AllocFailed<T>) -> MoofError {
-        MoofError::OutOfMemory
-    }
-}
+/// Why a movie fragment was not read: there was no memory for its samples, or it has a fault, the first in the
+/// order of reading.
+pub type MoofError = ReadError<MoofFault>;

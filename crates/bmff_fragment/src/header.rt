@@ -1,5 +1,5 @@
 ghost use Rattle.std.specs.Prelude.{◌≡◌};
-ghost use Rattle.bmff_fragment.specs.Headers.{fragment_header_of, defaults_of, run_header_of};
+ghost use Rattle.bmff_fragment.specs.Headers.{track_fragment_header_of, defaults_of, run_header_of};
 
 use bmff_boxes::{
     flags, tfhd_base, tfhd_description, tfhd_duration, tfhd_flags, tfhd_size, tfhd_track,
@@ -12,7 +12,7 @@ const DEFAULT_BASE_IS_MOOF: u32 = 0x20000;
 
 /// A track fragment header (8.8.7).
 #[derive(Clone, Copy, Debug)]
-pub(crate) struct FragmentHeader {
+pub(crate) struct TrackFragmentHeader {
     pub(crate) track_id: u32,
     pub(crate) base_data_offset: Option<u64>,
     pub(crate) base_is_moof: bool,
@@ -39,9 +39,9 @@ pub(crate) struct RunHeader {
 
 /// The header in the payload of a tfhd box, or `None` exactly where the payload is shorter than the fields
 /// that its flags announce.
-#[tactic(auto, unfolding(crate::specs::Headers::fragment_header_of))]
-pub(crate) fn fragment_header(tfhd: &[u8]) -> Option<FragmentHeader>
-    ensures { result ≡ fragment_header_of tfhd.now }
+#[tactic(auto, unfolding(crate::specs::Headers::track_fragment_header_of))]
+pub(crate) fn track_fragment_header(tfhd: &[u8]) -> Option<TrackFragmentHeader>
+    ensures { result ≡ track_fragment_header_of tfhd.now }
 {
     let header_flags = flags(tfhd)?;
     let track_id = tfhd_track(tfhd)?;
@@ -50,7 +50,7 @@ pub(crate) fn fragment_header(tfhd: &[u8]) -> Option<FragmentHeader>
     let duration = tfhd_duration(tfhd)?;
     let size = tfhd_size(tfhd)?;
     let flags = tfhd_flags(tfhd)?;
-    Some(FragmentHeader {
+    Some(TrackFragmentHeader {
         track_id,
         base_data_offset,
         base_is_moof: header_flags & DEFAULT_BASE_IS_MOOF != 0,
@@ -61,7 +61,7 @@ pub(crate) fn fragment_header(tfhd: &[u8]) -> Option<FragmentHeader>
 }
 
 /// What a sample of the track fragment has that its run does not tell.
-pub(crate) fn sample_defaults(header: &FragmentHeader, track: &TrackInfo) -> Defaults
+pub(crate) fn sample_defaults(header: &TrackFragmentHeader, track: &TrackInfo) -> Defaults
     ensures { result ≡ defaults_of header.now track.now }
 {
     Defaults {

@@ -8,12 +8,12 @@
 #![tactic(auto)]
 
 mod fault;
-mod fragment;
 mod header;
 mod moof;
 mod sample;
 mod slot;
 mod timing;
+mod track_fragment;
 
 pub use fault::{MoofError, MoofFault};
 pub use moof::read_moof;

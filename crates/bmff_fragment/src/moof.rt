@@ -1,21 +1,20 @@
-ghost use Rattle.std.specs.Prelude.{◌≡◌, ℕ, ◌+◌, ◌*◌, ◌≤◌, ◌^◌, unsigned_abs, pos, [], length, vec_len, IfOk, IfSome};
+ghost use Rattle.std.specs.Prelude.{◌≡◌, ℕ, ◌+◌, ◌*◌, ◌≤◌, ◌^◌, unsigned_abs, pos, [], length, vec_len, IfOk};
 ghost use Rattle.std.specs.List.{All, AllByRecursion};
-ghost use Rattle.std.specs.Option.{option_copied};
 ghost use lib.Chars.{codes};
-ghost use Rattle.bmff_boxes.specs.Children.{child_of};
 ghost use Rattle.bmff_boxes.specs.Rows.{all_of};
-ghost use Rattle.mse_base.specs.Presentation.{IsReadable, IsPresentation};
-ghost use Rattle.bmff_fragment.specs.Plans.{plan_of, front_payload, run_start as run_start_of};
+ghost use Rattle.mse_base.specs.Presentation.{IsReadable};
+ghost use Rattle.bmff_fragment.specs.Plans.{plan_of, run_start as run_start_of};
 ghost use Rattle.bmff_fragment.specs.Steps.{run_step, runs_part, traf_step, trafs_steps};
-ghost use Rattle.bmff_fragment.specs.Views.{Gives, IsPlaced, IsSlotOf};
+ghost use Rattle.bmff_boxes.specs.Reading.{Gives};
+ghost use Rattle.bmff_fragment.specs.Slots.{IsWellFormed, IsSlotOf};
 
 use crate::fault::{MoofError, MoofFault};
-use crate::fragment::{Fragment, Progress, RunProgress, read_fragment};
 use crate::header::run_header;
 use crate::sample::{data_len, duration, read_samples};
 use crate::slot::{Plan, Slot, Slots};
-use crate::timing::keep_run;
-use bmff_boxes::{Child, Row, children, open};
+use crate::timing::push_run;
+use crate::track_fragment::{Progress, RunProgress, TrackFragment, read_track_fragment};
+use bmff_boxes::{Row, open, payload};
 use mse_base::{Presentation, TrackList};
 use std::alloc::Global;
 
@@ -39,7 +38,7 @@ fn run_start(base: i128, end: i128, data_offset: Option<i32>) -> i128
 #[tactic(auto, unfolding(crate::specs::Plans::run_of, crate::specs::Steps::run_step))]
 fn read_run(
     alloc: Global,
-    fragment: &Fragment,
+    fragment: &TrackFragment,
     from: RunProgress,
     trun: &[u8],
     slots: &mut Vec<Slot>,
@@ -47,15 +46,18 @@ fn read_run(
     requires readable { IsReadable fragment.now.track }
     requires base { unsigned_abs fragment.now.base ≤ 2 ^ 120 }
     requires few { from.samples ≤ 2 ^ 20 }
-    requires end { unsigned_abs from.data_end ≤ unsigned_abs fragment.now.base + 2 ^ 31 + from.samples * 2 ^ 32 }
+    requires end { unsigned_abs from.data_end
+        ≤ unsigned_abs fragment.now.base + 2 ^ 31 + from.samples * 2 ^ 32 }
     requires time { from.decode_time ≤ 2 ^ 64 + from.samples * 2 ^ 32 }
-    requires placed { All IsPlaced slots.old.items }
+    requires well_formed { All IsWellFormed slots.old.items }
     requires len { vec_len slots.old ≤ from.samples }
-    ensures value { Gives (λ to. (to, slots.new.items)) result (run_step fragment.now from slots.old.items trun.now) }
+    ensures value { Gives (λ to. (to, slots.new.items)) result
+        (run_step fragment.now from slots.old.items trun.now) }
     ensures few { IfOk result (λ to. to.samples ≤ 2 ^ 20) }
-    ensures end { IfOk result (λ to. unsigned_abs to.data_end ≤ unsigned_abs fragment.now.base + 2 ^ 31 + to.samples * 2 ^ 32) }
+    ensures end { IfOk result (λ to. unsigned_abs to.data_end
+        ≤ unsigned_abs fragment.now.base + 2 ^ 31 + to.samples * 2 ^ 32) }
     ensures time { IfOk result (λ to. to.decode_time ≤ 2 ^ 64 + to.samples * 2 ^ 32) }
-    ensures placed { IfOk result (λ to. All IsPlaced slots.new.items) }
+    ensures well_formed { IfOk result (λ to. All IsWellFormed slots.new.items) }
     ensures len { IfOk result (λ to. vec_len slots.new ≤ to.samples) }
 {
     let Some(header) = run_header(trun) else {
@@ -69,7 +71,7 @@ fn read_run(
     if header.count != 0 && start < 0 {
         return Err(MoofError::Fault(MoofFault::Place));
     }
-    keep_run(
+    push_run(
         &fragment.track,
         from.decode_time,
         start,
@@ -87,7 +89,7 @@ fn read_run(
 /// their slots.
 fn read_runs(
     alloc: Global,
-    fragment: &Fragment,
+    fragment: &TrackFragment,
     samples: u32,
     row: Row<'_>,
     slots: &mut Vec<Slot>,
@@ -95,12 +97,14 @@ fn read_runs(
     requires readable { IsReadable fragment.now.track }
     requires base { unsigned_abs fragment.now.base ≤ 2 ^ 120 }
     requires few { samples ≤ 2 ^ 20 }
-    requires placed { All IsPlaced slots.old.items }
+    requires well_formed { All IsWellFormed slots.old.items }
     requires len { vec_len slots.old ≤ samples }
-    ensures value { Gives (λ to. (to, slots.new.items)) result (runs_part fragment.now samples slots.old.items (all_of (codes "trun") row.entry)) }
+    ensures value { Gives (λ to. (to, slots.new.items)) result
+        (runs_part fragment.now samples slots.old.items (all_of (codes "trun") row.entry)) }
     ensures few { IfOk result (λ to. to.samples ≤ 2 ^ 20) }
-    ensures end { IfOk result (λ to. unsigned_abs to.data_end ≤ unsigned_abs fragment.now.base + 2 ^ 53) }
-    ensures placed { IfOk result (λ to. All IsPlaced slots.new.items) }
+    ensures end { IfOk result (λ to. unsigned_abs to.data_end
+        ≤ unsigned_abs fragment.now.base + 2 ^ 53) }
+    ensures well_formed { IfOk result (λ to. All IsWellFormed slots.new.items) }
     ensures len { IfOk result (λ to. vec_len slots.new ≤ to.samples) }
 {
     let mut row = row;
@@ -132,18 +136,20 @@ fn read_traf(
     requires readable { AllByRecursion IsReadable tracks.now }
     requires few { from.samples ≤ 2 ^ 20 }
     requires end { unsigned_abs from.data_end ≤ 2 ^ 120 }
-    requires placed { All IsPlaced slots.old.items }
+    requires well_formed { All IsWellFormed slots.old.items }
     requires len { vec_len slots.old ≤ from.samples }
-    ensures value { Gives (λ to. (to, slots.new.items)) result (traf_step tracks.now from slots.old.items traf.now) }
+    ensures value { Gives (λ to. (to, slots.new.items)) result
+        (traf_step tracks.now from slots.old.items traf.now) }
     ensures few { IfOk result (λ to. to.samples ≤ 2 ^ 20) }
-    ensures end { IfOk result (λ to. unsigned_abs to.data_end ≤ unsigned_abs from.data_end + 2 ^ 53) }
-    ensures placed { IfOk result (λ to. All IsPlaced slots.new.items) }
+    ensures end { IfOk result (λ to. unsigned_abs to.data_end
+        ≤ unsigned_abs from.data_end + 2 ^ 53) }
+    ensures well_formed { IfOk result (λ to. All IsWellFormed slots.new.items) }
     ensures len { IfOk result (λ to. vec_len slots.new ≤ to.samples) }
 {
     let Some(row) = open(traf) else {
         return Err(MoofError::Fault(MoofFault::Size));
     };
-    let fragment = read_fragment(tracks, from.data_end, &row)?;
+    let fragment = read_track_fragment(tracks, from.data_end, &row)?;
     read_runs(alloc, &fragment, from.samples, row, slots)
 }
 
@@ -151,8 +157,10 @@ fn read_traf(
 fn read_trafs(alloc: Global, tracks: &TrackList, row: Row<'_>) -> Result<Vec<Slot>, MoofError>
     requires readable { AllByRecursion IsReadable tracks.now }
     requires short { length row ≤ 2 ^ 64 }
-    ensures value { Gives (λ v. v.items) result (trafs_steps tracks.now (record { samples = 0; data_end = pos 0 }) [] (all_of (codes "traf") row.entry)) }
-    ensures placed { IfOk result (λ v. All IsPlaced v.items) }
+    ensures value { Gives (λ v. v.items) result
+        (trafs_steps tracks.now (record { samples = 0; data_end = pos 0 }) []
+        (all_of (codes "traf") row.entry)) }
+    ensures well_formed { IfOk result (λ v. All IsWellFormed v.items) }
     ensures len { IfOk result (λ v. vec_len v ≤ 2 ^ 20) }
 {
     let mut row = row;
@@ -169,32 +177,24 @@ fn read_trafs(alloc: Global, tracks: &TrackList, row: Row<'_>) -> Result<Vec<Slo
     Ok(slots)
 }
 
-/// The payload of the box at the front of the bytes, or `None` exactly where no whole box stands there.
-fn box_payload<'a>(bytes: &'a [u8]) -> Option<&'a [u8]>
-    ensures value { option_copied result ≡ front_payload (child_of bytes.now) }
-    ensures within { IfSome result (λ payload. length payload.now ≤ length bytes.now) }
-{
-    match children(bytes).next() {
-        Child::Found { payload, .. } => Some(payload),
-        Child::End => None,
-        Child::Uneven => None,
-    }
-}
-
-/// The samples that a movie fragment announces, for a presentation that was read. `moof` is the whole moof
-/// box with its header; its type is not looked at.
+/// The samples that a movie fragment announces. `moof` is the whole moof box with its header; its type is not
+/// looked at. Of `with` the tracks alone are looked at; each has a timescale of at least 1, a media shift that is
+/// not negative, and an empty shift from 0 to `2^109` ticks. Of several tracks of one number the first counts.
 ///
 /// The faults are found in the order of reading. Of a track fragment these are: its boxes, its header, where
 /// its places are counted from, its track, its decode time; and then of one run after the other: its header,
 /// its number of samples, the samples, their place.
+///
+/// `OutOfMemory` comes where there is no memory for the samples, and also for a run with samples of a video or
+/// audio track that begins more than `2^59` bytes behind the movie fragment's first byte.
 #[tactic(auto, unfolding(crate::specs::Plans::plan_of))]
 pub fn read_moof(alloc: Global, moof: &[u8], with: &Presentation) -> Result<Plan, MoofError>
-    requires presentation { IsPresentation with.now }
+    requires readable { AllByRecursion IsReadable with.now.tracks }
     ensures value { Gives (λ plan. plan.slots) result (plan_of with.now.tracks moof.now) }
     ensures slots { IfOk result (λ plan. All (IsSlotOf with.now.tracks) plan.slots) }
     ensures few { IfOk result (λ plan. length plan.slots ≤ 2 ^ 20) }
 {
-    let Some(payload) = box_payload(moof) else {
+    let Some(payload) = payload(moof) else {
         return Err(MoofError::Fault(MoofFault::Size));
     };
     let Some(row) = open(payload) else {

@@ -1,12 +1,13 @@
-ghost use Rattle.std.specs.Prelude.{◌≡◌, ◌*◌, ◌≤◌, ◌^◌, length, vec_len, IfOk};
-ghost use Rattle.bmff_fragment.specs.Samples.{sample_of, samples_of, header_flags as header_flags_of};
+ghost use Rattle.std.specs.Prelude.{◌≡◌, ◌*◌, ◌≤◌, ◌^◌, length, vec_len, IfOk, Some};
+ghost use Rattle.bmff_fragment.specs.Headers.{run_header_of};
+ghost use Rattle.bmff_fragment.specs.Samples.{samples_of, sample_with_defaults as sample_with_defaults_of, header_flags as header_flags_of};
 ghost use Rattle.bmff_fragment.specs.Times.{data_len as data_len_of, duration_of};
-ghost use Rattle.bmff_fragment.specs.Plans.{need};
-ghost use Rattle.bmff_fragment.specs.Views.{Gives};
+ghost use Rattle.bmff_boxes.specs.Reading.{need};
+ghost use Rattle.bmff_boxes.specs.Reading.{Gives};
 
 use crate::fault::{MoofError, MoofFault};
 use crate::header::{Defaults, RunHeader};
-use bmff_boxes::trun_sample;
+use bmff_boxes::{TrunSample, run_fields, run_sample};
 use std::alloc::Global;
 
 /// A sample of a track fragment run, with what it has by default.
@@ -28,37 +29,39 @@ fn header_flags(header: &RunHeader, i: u32) -> Option<u32>
     if i == 0 { header.first_flags } else { None }
 }
 
-/// Sample `i` of a run, or `None` exactly where the payload ends before.
-#[tactic(auto, unfolding(crate::specs::Samples::sample_of))]
-fn read_sample(defaults: &Defaults, header: &RunHeader, trun: &[u8], i: u32) -> Option<Sample>
-    ensures { result ≡ sample_of defaults.now header.now trun.now i }
+/// A sample as the run tells it, with the defaults for what it does not tell.
+fn sample_with_defaults(defaults: &Defaults, first_flags: Option<u32>, told: TrunSample) -> Sample
+    ensures { result ≡ sample_with_defaults_of defaults.now first_flags told }
 {
-    let told = trun_sample(trun, i)?;
     let flags = told.flags.unwrap_or(defaults.flags);
-    Some(Sample {
+    Sample {
         duration: told.duration.unwrap_or(defaults.duration),
         size: told.size.unwrap_or(defaults.size),
-        flags: header_flags(header, i).unwrap_or(flags),
+        flags: first_flags.unwrap_or(flags),
         offset: told.offset.unwrap_or(0),
-    })
+    }
 }
 
-/// The samples of a run.
+/// The samples of a run whose header was read.
 pub(crate) fn read_samples(
     alloc: Global,
     defaults: &Defaults,
     header: &RunHeader,
     trun: &[u8],
 ) -> Result<Vec<Sample>, MoofError>
-    ensures value { Gives (λ v. v.items) result (need MoofFault.Size (samples_of defaults.now header.now trun.now)) }
+    requires { Some header.now ≡ run_header_of trun.now }
+    ensures value { Gives (λ v. v.items) result
+        (need MoofFault.Size (samples_of defaults.now header.now trun.now)) }
     ensures count { IfOk result (λ v. vec_len v ≡ header.now.count) }
 {
-    let mut samples = Vec::new(alloc);
+    let Some(fields) = run_fields(trun, header.count) else {
+        return Err(MoofError::Fault(MoofFault::Size));
+    };
+    let mut samples = Vec::with_capacity(alloc, header.count as usize)?;
     for i in 0..header.count {
-        let Some(read) = read_sample(defaults, header, trun, i) else {
-            return Err(MoofError::Fault(MoofFault::Size));
-        };
-        samples.push(read)?;
+        let told = run_sample(trun, &fields, i);
+        let first_flags = header_flags(header, i);
+        samples.push_reserved(sample_with_defaults(defaults, first_flags, told));
     }
     Ok(samples)
 }

@@ -6,20 +6,20 @@ use std::marker::Model;
 /// A sample that a movie fragment announces: when it is presented and decoded, and where its data lie.
 #[derive(Clone, Copy, Debug, PartialEq, Eq)]
 pub struct Slot {
-    /// The track that it is of, by its number in the file.
-    pub track_id: u32,
     /// When it is presented.
     pub pts: Ticks,
     /// When it is decoded.
     pub dts: Ticks,
     /// How long it lasts: never below 0.
     pub dur: Ticks,
-    /// Whether it is a sync sample, which can be decoded without the samples before it.
-    pub sync: bool,
     /// The place of its first byte, counted from the first byte of the moof box.
     pub start: u64,
     /// The place behind its last byte, counted in the same way.
     pub end: u64,
+    /// The track that it is of, by its number in the file.
+    pub track_id: u32,
+    /// Whether it is a sync sample, which can be decoded without the samples before it.
+    pub sync: bool,
 }
 
 /// A list of slots, in the order of the movie fragment.

@@ -1,5 +1,6 @@
-ghost use Rattle.std.specs.Prelude.{◌≡◌, ◌≢◌, ◌≤◌, ◌^◌, pos, ◌≤ℤ◌, IfOk};
-ghost use Rattle.mse_base.specs.Presentation.{IsReadable, IsPresentation};
+ghost use Rattle.std.specs.Prelude.{◌≤◌, ◌^◌, pos, ◌≤ℤ◌, IfOk};
+ghost use Rattle.std.specs.List.{AllByRecursion};
+ghost use Rattle.mse_base.specs.Presentation.{IsReadable};
 
 mod moofs;
 
@@ -17,8 +18,7 @@ type Wanted = (u32, i128, i128, i128, bool, u64, u64);
 /// A track of the scale 90000 whose presentation waits for an empty edit.
 fn waiting(wait: Ticks) -> TrackInfo
     requires { (pos 0 ≤ℤ wait) × (wait ≤ℤ pos (2 ^ 109)) }
-    ensures readable { IsReadable result }
-    ensures id { result.id ≡ 1 }
+    ensures { IsReadable result }
 {
     TrackInfo {
         empty_shift: wait,
@@ -31,8 +31,7 @@ fn waiting(wait: Ticks) -> TrackInfo
 fn track(id: u32, kind: Kind, scale: u32, media_shift: i64) -> TrackInfo
     requires scale { 1 ≤ scale }
     requires shift { pos 0 ≤ℤ media_shift }
-    ensures readable { IsReadable result }
-    ensures id { result.id ≡ id }
+    ensures { IsReadable result }
 {
     TrackInfo {
         id,
@@ -50,8 +49,7 @@ fn track(id: u32, kind: Kind, scale: u32, media_shift: i64) -> TrackInfo
 fn presentation(alloc: Global, first: TrackInfo, second: TrackInfo) -> Result<Presentation, Fail>
     requires first { IsReadable first }
     requires second { IsReadable second }
-    requires distinct { first.id ≢ second.id }
-    ensures { IfOk result (λ p. IsPresentation p) }
+    ensures { IfOk result (λ p. AllByRecursion IsReadable p.tracks) }
 {
     let tracks = vec![in alloc; first, second]?;
     Ok(Presentation {
@@ -63,14 +61,13 @@ fn presentation(alloc: Global, first: TrackInfo, second: TrackInfo) -> Result<Pr
 
 /// A presentation of this track, and of one of kind Other with the number 7.
 fn alone(alloc: Global, media: TrackInfo) -> Result<Presentation, Fail>
-    requires readable { IsReadable media }
-    requires distinct { media.id ≢ 7 }
-    ensures { IfOk result (λ p. IsPresentation p) }
+    requires { IsReadable media }
+    ensures { IfOk result (λ p. AllByRecursion IsReadable p.tracks) }
 {
     presentation(alloc, media, track(7, Kind::Other, 1, 0))
 }
 
-fn seen(slot: &Slot) -> Wanted {
+fn parts_of(slot: &Slot) -> Wanted {
     (
         slot.track_id,
         slot.pts.get(),
@@ -89,14 +86,14 @@ fn check(
     moof: &str,
     wanted: &[Wanted],
 ) -> Result<(), Fail>
-    requires { IsPresentation with.now }
+    requires { AllByRecursion IsReadable with.now.tracks }
 {
     let bytes = hex::decode(alloc, moof)?;
     let plan = read_moof(alloc, bytes.as_slice(), with)?;
     let slots = plan.slots.as_slice();
     assert_eq!(rt; slots.len(), wanted.len(), "{moof}");
     for (slot, want) in slots.iter().zip(wanted.iter()) {
-        assert_eq!(rt; seen(slot), *want);
+        assert_eq!(rt; parts_of(slot), *want);
     }
     Ok(())
 }
@@ -131,6 +128,31 @@ fn frames_of_one_track(rt: HostRuntime) -> Result<(), Fail> {
         (1, 9408000000, 4704000000, 4704000000, false, 152, 156),
     ];
     check(&rt, alloc, &with, SHIFTED, &wanted)
+}
+
+/// What no initialization segment gives: more than 64 tracks, all of one number, and no duration.
+fn too_many_tracks(alloc: Global, media: TrackInfo) -> Result<Presentation, Fail>
+    requires { IsReadable media }
+    ensures { IfOk result (λ p. AllByRecursion IsReadable p.tracks) }
+{
+    let tracks = Vec::from_slice(alloc, &[media; 65])?;
+    Ok(Presentation {
+        scale: 0,
+        duration: Moment::Nan,
+        tracks: TrackList::from_vec(alloc, tracks),
+    })
+}
+
+#[test]
+fn frames_of_no_presentation(rt: HostRuntime) -> Result<(), Fail> {
+    let alloc = rt.alloc();
+    let with = too_many_tracks(alloc, track(1, Kind::Video, 90000, 0))?;
+    let wanted = [
+        (1, 0, 0, 4704000000, true, 144, 148),
+        (1, 4704000000, 4704000000, 4704000000, false, 148, 152),
+        (1, 9408000000, 9408000000, 4704000000, false, 152, 156),
+    ];
+    check(&rt, alloc, &with, THREE_FRAMES, &wanted)
 }
 
 /// An empty edit of half a second, and then the media from its start.
@@ -330,7 +352,7 @@ fn most_samples(rt: HostRuntime) -> Result<(), Fail> {
     let plan = read_moof(alloc, bytes.as_slice(), &with)?;
     let slots = plan.slots.into_vec();
     assert_eq!(rt; slots.len(), 1 << 20);
-    let last = slots.as_slice().last().map(seen);
+    let last = slots.as_slice().last().map(parts_of);
     let start = 1479749040000000;
     let wanted = (1, start, start, 1411200000, false, 5242875, 5242880);
     assert_eq!(rt; last, Some(wanted));

@@ -1,14 +1,15 @@
 ghost use Rattle.std.specs.Prelude.{◌≡◌, ◌+◌, ◌≤◌, ◌^◌, ◌++◌, pos, ◌-ℤ◌, unsigned_abs, length, vec_len, OnOk, IfErr};
 ghost use Rattle.std.specs.List.{All};
 ghost use Rattle.mse_base.specs.Presentation.{IsReadable};
-ghost use Rattle.bmff_fragment.specs.Times.{presented, slot_of, slots_of_run};
-ghost use Rattle.bmff_fragment.specs.Plans.{kept};
-ghost use Rattle.bmff_fragment.specs.Views.{IsPlaced};
+ghost use Rattle.bmff_boxes.specs.declared.reading.ReadError.TheVariants.{OutOfMemory};
+ghost use Rattle.bmff_fragment.specs.Times.{tick_at, slot_of, slots_of_run};
+ghost use Rattle.bmff_fragment.specs.Plans.{media_slots};
+ghost use Rattle.bmff_fragment.specs.Slots.{IsWellFormed};
 
 use crate::fault::MoofError;
-use crate::fragment::{Fragment, is_media};
 use crate::sample::Sample;
 use crate::slot::Slot;
+use crate::track_fragment::is_media;
 use mse_base::{Ticks, TrackInfo, convert};
 
 /// The flag sample_is_non_sync_sample of the sample flags (ISO/IEC 14496-12, 8.8.3.1).
@@ -19,11 +20,11 @@ const NON_SYNC_SAMPLE: u32 = 0x10000;
 const FARTHEST: u128 = 1 << 59;
 
 /// A media time of a track in ticks, by its edit list.
-#[tactic(auto, unfolding(crate::specs::Times::presented))]
+#[tactic(auto, unfolding(crate::specs::Times::tick_at))]
 fn tick_at(track: &TrackInfo, media_time: i128) -> Ticks
     requires readable { IsReadable track.now }
     requires small { unsigned_abs media_time ≤ 2 ^ 67 }
-    ensures value { result ≡ presented track.now media_time }
+    ensures value { result ≡ tick_at track.now media_time }
     ensures near { unsigned_abs (result -ℤ track.now.empty_shift) ≤ 2 ^ 106 }
 {
     let behind_edit = media_time - i128::from(track.media_shift);
@@ -38,7 +39,7 @@ fn make_slot(track: &TrackInfo, time: u128, start: u64, sample: &Sample) -> Slot
     requires time { time ≤ 2 ^ 66 }
     requires near { start ≤ 2 ^ 59 + 2 ^ 52 }
     ensures value { result ≡ slot_of track.now time start sample.now }
-    ensures placed { IsPlaced result }
+    ensures well_formed { IsWellFormed result }
 {
     let decoded = time as i128;
     let presented = decoded + i128::from(sample.offset);
@@ -67,18 +68,20 @@ fn push_slots(
     requires few { length samples.now ≤ 2 ^ 20 }
     requires time { time ≤ 2 ^ 65 }
     requires near { start ≤ 2 ^ 59 }
-    requires placed { All IsPlaced slots.old.items }
-    ensures slots { OnOk result (slots.new.items ≡ slots.old.items ++ slots_of_run track.now time (record { start = pos start; samples = samples.now })) }
+    requires well_formed { All IsWellFormed slots.old.items }
+    ensures slots { OnOk result (slots.new.items ≡ slots.old.items
+        ++ slots_of_run track.now time (record { start = pos start; samples = samples.now })) }
     ensures len { OnOk result (vec_len slots.new ≡ vec_len slots.old + length samples.now) }
-    ensures placed { OnOk result (All IsPlaced slots.new.items) }
-    ensures memory { IfErr result (λ e. e ≡ MoofError.OutOfMemory) }
+    ensures well_formed { OnOk result (All IsWellFormed slots.new.items) }
+    ensures memory { IfErr result (λ e. e ≡ OutOfMemory) }
 {
+    slots.reserve(samples.len())?;
     let mut decoded = time;
     let mut place = start;
     for sample in samples {
         let duration = u128::from(sample.duration);
         let size = u64::from(sample.size);
-        slots.push(make_slot(track, decoded, place, sample))?;
+        slots.push_reserved(make_slot(track, decoded, place, sample));
         decoded += duration;
         place += size;
     }
@@ -86,7 +89,7 @@ fn push_slots(
 }
 
 /// Adds the slots of a run of samples of a track fragment, where a buffer takes frames of its track.
-pub(crate) fn keep_run(
+pub(crate) fn push_run(
     track: &TrackInfo,
     time: u128,
     start: i128,
@@ -96,11 +99,13 @@ pub(crate) fn keep_run(
     requires readable { IsReadable track.now }
     requires few { length samples.now ≤ 2 ^ 20 }
     requires time { time ≤ 2 ^ 65 }
-    requires placed { All IsPlaced slots.old.items }
-    ensures slots { OnOk result (slots.new.items ≡ slots.old.items ++ kept track.now (slots_of_run track.now time (record { start = start; samples = samples.now }))) }
+    requires well_formed { All IsWellFormed slots.old.items }
+    ensures slots { OnOk result (slots.new.items ≡ slots.old.items
+        ++ media_slots track.now
+        (slots_of_run track.now time (record { start = start; samples = samples.now }))) }
     ensures len { OnOk result (vec_len slots.new ≤ vec_len slots.old + length samples.now) }
-    ensures placed { OnOk result (All IsPlaced slots.new.items) }
-    ensures memory { IfErr result (λ e. e ≡ MoofError.OutOfMemory) }
+    ensures well_formed { OnOk result (All IsWellFormed slots.new.items) }
+    ensures memory { IfErr result (λ e. e ≡ OutOfMemory) }
 {
     if samples.is_empty() || !is_media(track.kind) {
         return Ok(());

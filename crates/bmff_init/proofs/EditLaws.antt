@@ -11,8 +11,8 @@ use Rattle.bmff_boxes.specs.MovieFields.{elst_entry_of, long_edit_of, short_edit
 use Rattle.bmff_boxes.proofs.FieldLaws.{field-there}
 use Rattle.bmff_init.specs.declared.fault.InitFault.{InitFault}
 use Rattle.bmff_init.specs.declared.fault.InitFault.TheVariants.{Size, EditList}
-use Rattle.bmff_init.specs.Reading.{◌>>=◌, need}
-use Rattle.bmff_init.specs.Edits.{edit_len, edits_from, is_empty_edit, presents_media, media_time_of, empty_duration, empty_shift_of, shifts_by, shifts_with, shifts_of, no_shift}
+use Rattle.bmff_boxes.specs.Reading.{◌>>=◌, need}
+use Rattle.bmff_init.specs.Edits.{edit_len, edits_from, is_empty_edit, presents_media, media_time_of, empty_duration, empty_shift_of, shifts_by, both_shifts, shifts_of, no_shift}
 
 pub from-step : (elst : List ℕ) (i n : ℕ) → edits_from elst i (suc n) ≡ (need Size (elst_entry_of elst i) >>= λ edit. edits_from elst (i + 1) n >>= λ edits. Ok (edit ∷ edits))
 unfolding edits_from
@@ -195,7 +195,7 @@ pub media-time : (edit : EditEntry) (rest : List EditEntry) (t : Bool) → rest 
 media-time edit rest t e h = ap media_time_of e ∙ ap (λ b. cond b (Ok edit.media_time) (Err EditList)) h
 
 -- the shifts of edits that are not none
-pub shifts-some : (scale : ℕ) (edits : List EditEntry) → 0 < length edits → shifts_by scale edits ≡ shifts_with (media_time_of (drop (prefix_len is_empty_edit edits) edits)) (empty_shift_of scale (empty_duration edits))
+pub shifts-some : (scale : ℕ) (edits : List EditEntry) → 0 < length edits → shifts_by scale edits ≡ both_shifts (media_time_of (drop (prefix_len is_empty_edit edits) edits)) (empty_shift_of scale (empty_duration edits))
 shifts-some scale [] h = absurd (omega arith)
 shifts-some scale (edit ∷ edits) h = refl
 
@@ -204,8 +204,8 @@ none-shifts elst scale count e = sym (ap (λ n. shifts_of scale (edits_from elst
 
 pub some-shifts : (elst : List ℕ) (scale count : ℕ) (edits : List EditEntry) (place duration : ℕ) (media empty : Result ℤ InitFault) → edits_from elst 0 count ≡ Ok edits → 0 < length edits
     → place ≡ prefix_len is_empty_edit edits → duration ≡ empty_duration edits → media ≡ media_time_of (drop place edits) → empty ≡ empty_shift_of scale duration
-    → shifts_with media empty ≡ shifts_of scale (edits_from elst 0 count)
+    → both_shifts media empty ≡ shifts_of scale (edits_from elst 0 count)
 some-shifts elst scale count edits place duration media empty e some n d m s =
     let m' : media ≡ media_time_of (drop (prefix_len is_empty_edit edits) edits) = m ∙ ap (λ k. media_time_of (drop k edits)) n in
     let s' : empty ≡ empty_shift_of scale (empty_duration edits) = s ∙ ap (empty_shift_of scale) d in
-    ap (λ x. shifts_with x empty) m' ∙ (ap (shifts_with (media_time_of (drop (prefix_len is_empty_edit edits) edits))) s' ∙ (sym (shifts-some scale edits some) ∙ sym (ap (shifts_of scale) e)))
+    ap (λ x. both_shifts x empty) m' ∙ (ap (both_shifts (media_time_of (drop (prefix_len is_empty_edit edits) edits))) s' ∙ (sym (shifts-some scale edits some) ∙ sym (ap (shifts_of scale) e)))

@@ -7,7 +7,7 @@ use Rattle.bmff_boxes.proofs.RowLaws.{row-nil}
 use Rattle.bmff_init.specs.declared.fault.InitFault.{InitFault}
 use Rattle.bmff_init.specs.declared.form.Form.{Form}
 use Rattle.bmff_init.specs.declared.form.Form.TheVariants.{Classic}
-use Rattle.bmff_init.specs.Reading.{◌>>=◌}
+use Rattle.bmff_boxes.specs.Reading.{◌>>=◌}
 use Rattle.bmff_init.specs.Movies.{extends_of}
 use Rattle.bmff_init.specs.Tracks.{track_of, tracks_of}
 

@@ -16,28 +16,22 @@ use Rattle.mse_base.specs.declared.track.Presentation.{Presentation}
 use Rattle.bmff_boxes.specs.declared.entries.EditEntry.{EditEntry}
 use Rattle.bmff_boxes.specs.MovieFields.{mdhd_scale_of, tkhd_track_of}
 use Rattle.bmff_boxes.specs.Rows.{BoxView, row_of, first_of, all_of}
+use Rattle.bmff_boxes.proofs.ReadingLaws.{through, checked}
 use Rattle.bmff_init.specs.declared.fault.InitFault.{InitFault}
 use Rattle.bmff_init.specs.declared.fault.InitFault.TheVariants.{Size, Missing, EditList, ZeroTimescale, DuplicateTrack, TooManyTracks}
-use Rattle.bmff_init.specs.declared.fault.InitError.{InitError}
+use Rattle.bmff_boxes.specs.declared.reading.ReadError.{ReadError}
 use Rattle.bmff_init.specs.declared.form.Form.{Form}
 use Rattle.bmff_init.specs.declared.edits.Shifts.{Shifts}
 use Rattle.bmff_init.specs.declared.track.Content.{Content}
-use Rattle.bmff_init.specs.Reading.{◌>>=◌, need, check, payload_of}
-use Rattle.bmff_init.specs.Answers.{Gives}
-use Rattle.bmff_init.specs.Edits.{edits_of, is_empty_edit, presents_media, media_time_of, empty_duration, empty_shift_of, shifts_with, shifts_by, shifts_in_list, shifts_in}
+use Rattle.bmff_boxes.specs.Children.{payload_of}
+use Rattle.bmff_boxes.specs.Reading.{◌>>=◌, need, check}
+use Rattle.bmff_boxes.specs.Reading.{Gives}
+use Rattle.bmff_init.specs.Edits.{edits_of, is_empty_edit, presents_media, media_time_of, empty_duration, empty_shift_of, both_shifts, shifts_by, shifts_in_list, shifts_in}
 use Rattle.bmff_init.specs.Tracks.{media_scale_of, codec_in, media_content, content_of, number_of, media_of, kind_in, track_with, track_of, tracks_of}
 use Rattle.bmff_init.specs.Movies.{moment_of, times_of, extends_of, presentation_in, presentation_of}
 use Rattle.bmff_init.proofs.TimeLaws.{converted-is}
 
 -- ---- the parts of a reading that gave a value
-
-bound : {A B F : Type 0} (r : Result A F) (next : A → Result B F) (y : B) → (r >>= next) ≡ Ok y → (x : A) × (r ≡ Ok x) × (next x ≡ Ok y)
-bound (Ok x) next y e = (x, refl, e)
-bound (Err fault) next y e = absurd (cc)
-
-checked : (fault : InitFault) (t x : Bool) → check fault t ≡ Ok x → t ≡ true
-checked fault true x e = refl
-checked fault false x e = absurd (cc)
 
 same_ok : {A : Type 0} (x y : A) (r : Result A InitFault) → r ≡ Ok x → r ≡ Ok y → x ≡ y
 same_ok x y r e h = cc
@@ -77,20 +71,20 @@ media_in_range (edit ∷ next ∷ edits) media e = absurd (cc)
 
 empty_in_range : (scale duration : ℕ) (empty : ℤ) → empty_shift_of scale duration ≡ Ok empty → (pos 0 ≤ℤ empty) × (empty ≤ℤ pos (2 ^ 109))
 empty_in_range scale duration empty e =
-    let b = bound (check EditList (int_le (converted (pos duration) scale) (pos (2 ^ 109)))) (λ _. Ok (converted (pos duration) scale)) empty e in
-    let le = checked EditList _ _ b.1 in
-    let is : converted (pos duration) scale ≡ empty = same_ok _ _ (Ok (converted (pos duration) scale)) refl b.2 in
+    let b = through (check EditList (int_le (converted (pos duration) scale) (pos (2 ^ 109)))) (λ _. Ok (converted (pos duration) scale)) empty e in
+    let le = checked EditList _ _ b.was in
+    let is : converted (pos duration) scale ≡ empty = same_ok _ _ (Ok (converted (pos duration) scale)) refl b.then in
     let high : converted (pos duration) scale ≤ℤ pos (2 ^ 109) = grind (arith, ints, le) in
     let low : pos 0 ≤ℤ converted (pos duration) scale = rw (converted-is duration scale) (omega (arith, ints)) in
     subst (λ z. (pos 0 ≤ℤ z) × (z ≤ℤ pos (2 ^ 109))) is (low, high)
 
-with_in_range : (edits : List EditEntry) (scale duration : ℕ) (shifts : Shifts) → shifts_with (media_time_of edits) (empty_shift_of scale duration) ≡ Ok shifts → InRange shifts
+with_in_range : (edits : List EditEntry) (scale duration : ℕ) (shifts : Shifts) → both_shifts (media_time_of edits) (empty_shift_of scale duration) ≡ Ok shifts → InRange shifts
 with_in_range edits scale duration shifts e =
-    let m = bound (media_time_of edits) (λ media. empty_shift_of scale duration >>= λ empty. Ok (record { media = media; empty = empty })) shifts e in
-    let s = bound (empty_shift_of scale duration) (λ empty. Ok (record { media = m.0; empty = empty })) shifts m.2 in
-    let range = empty_in_range scale duration s.0 s.1 in
-    let all : InRange (record { media = m.0; empty = s.0 }) = record { media = media_in_range edits m.0 m.1; low = range.0; high = range.1 } in
-    subst InRange (same_ok _ _ (Ok (record { media = m.0; empty = s.0 })) refl s.2) all
+    let m = through (media_time_of edits) (λ media. empty_shift_of scale duration >>= λ empty. Ok (record { media = media; empty = empty })) shifts e in
+    let s = through (empty_shift_of scale duration) (λ empty. Ok (record { media = m.value; empty = empty })) shifts m.then in
+    let range = empty_in_range scale duration s.value s.was in
+    let all : InRange (record { media = m.value; empty = s.value }) = record { media = media_in_range edits m.value m.was; low = range.0; high = range.1 } in
+    subst InRange (same_ok _ _ (Ok (record { media = m.value; empty = s.value })) refl s.then) all
 
 by_in_range : (scale : ℕ) (edits : List EditEntry) (shifts : Shifts) → shifts_by scale edits ≡ Ok shifts → InRange shifts
 by_in_range scale [] shifts e = none_in_range shifts (same_ok _ _ (Ok (record { media = pos 0; empty = pos 0 })) refl e)
@@ -98,13 +92,13 @@ by_in_range scale (edit ∷ edits) shifts e = with_in_range (drop (prefix_len is
 
 list_in_range : (scale : ℕ) (elst : Option (List ℕ)) (shifts : Shifts) → shifts_in_list scale elst ≡ Ok shifts → InRange shifts
 list_in_range scale None shifts e = none_in_range shifts (same_ok _ _ (Ok (record { media = pos 0; empty = pos 0 })) refl e)
-list_in_range scale (Some elst) shifts e = let b = bound (edits_of elst) (shifts_by scale) shifts e in by_in_range scale b.0 shifts b.2
+list_in_range scale (Some elst) shifts e = let b = through (edits_of elst) (shifts_by scale) shifts e in by_in_range scale b.value shifts b.then
 
 shifts_in_range : (scale : ℕ) (edts : Option (List ℕ)) (shifts : Shifts) → shifts_in scale edts ≡ Ok shifts → InRange shifts
 shifts_in_range scale None shifts e = none_in_range shifts (same_ok _ _ (Ok (record { media = pos 0; empty = pos 0 })) refl e)
 shifts_in_range scale (Some edts) shifts e =
-    let b = bound (need Size (row_of edts)) (λ boxes. shifts_in_list scale (first_of (codes "elst") boxes)) shifts e in
-    list_in_range scale (first_of (codes "elst") b.0) shifts b.2
+    let b = through (need Size (row_of edts)) (λ boxes. shifts_in_list scale (first_of (codes "elst") boxes)) shifts e in
+    list_in_range scale (first_of (codes "elst") b.value) shifts b.then
 
 -- ---- a track
 
@@ -116,21 +110,21 @@ pub record Fits (content : Content) : Type 0 where
 
 scale_in_range : (media : List BoxView) (scale : ℕ) → media_scale_of media ≡ Ok scale → 1 ≤ scale
 scale_in_range media scale e =
-    let a = bound (need (Missing (codes "mdhd")) (first_of (codes "mdhd") media)) (λ mdhd. need Size (mdhd_scale_of mdhd) >>= λ s. check ZeroTimescale (not (s == 0)) >>= λ _. Ok s) scale e in
-    let b = bound (need Size (mdhd_scale_of a.0)) (λ s. check ZeroTimescale (not (s == 0)) >>= λ _. Ok s) scale a.2 in
-    let c = bound (check ZeroTimescale (not (b.0 == 0))) (λ _. Ok b.0) scale b.2 in
-    let some : 1 ≤ b.0 = not_zero b.0 (checked ZeroTimescale _ _ c.1) in
-    subst (λ n. 1 ≤ n) (same_ok _ _ (Ok b.0) refl c.2) some
+    let a = through (need (Missing (codes "mdhd")) (first_of (codes "mdhd") media)) (λ mdhd. need Size (mdhd_scale_of mdhd) >>= λ s. check ZeroTimescale (not (s == 0)) >>= λ _. Ok s) scale e in
+    let b = through (need Size (mdhd_scale_of a.value)) (λ s. check ZeroTimescale (not (s == 0)) >>= λ _. Ok s) scale a.then in
+    let c = through (check ZeroTimescale (not (b.value == 0))) (λ _. Ok b.value) scale b.then in
+    let some : 1 ≤ b.value = not_zero b.value (checked ZeroTimescale _ _ c.was) in
+    subst (λ n. 1 ≤ n) (same_ok _ _ (Ok b.value) refl c.then) some
 
 media_fits : (form : Form) (scale : ℕ) (track media : List BoxView) (content : Content) → media_content form scale track media ≡ Ok content → Fits content
 unfolding media_content
 media_fits form scale track media content e =
-    let a = bound (media_scale_of media) (λ s. codec_in form media >>= λ codec. shifts_in scale (first_of (codes "edts") track) >>= λ shifts. Ok (record { codec = codec; scale = s; media_shift = shifts.media; empty_shift = shifts.empty })) content e in
-    let b = bound (codec_in form media) (λ codec. shifts_in scale (first_of (codes "edts") track) >>= λ shifts. Ok (record { codec = codec; scale = a.0; media_shift = shifts.media; empty_shift = shifts.empty })) content a.2 in
-    let c = bound (shifts_in scale (first_of (codes "edts") track)) (λ shifts. Ok (record { codec = b.0; scale = a.0; media_shift = shifts.media; empty_shift = shifts.empty })) content b.2 in
-    let range = shifts_in_range scale (first_of (codes "edts") track) c.0 c.1 in
-    let all : Fits (record { codec = b.0; scale = a.0; media_shift = c.0.media; empty_shift = c.0.empty }) = record { scale = scale_in_range media a.0 a.1; media = range.media; low = range.low; high = range.high } in
-    subst Fits (same_ok _ _ (Ok (record { codec = b.0; scale = a.0; media_shift = c.0.media; empty_shift = c.0.empty })) refl c.2) all
+    let a = through (media_scale_of media) (λ s. codec_in form media >>= λ codec. shifts_in scale (first_of (codes "edts") track) >>= λ shifts. Ok (record { codec = codec; scale = s; media_shift = shifts.media; empty_shift = shifts.empty })) content e in
+    let b = through (codec_in form media) (λ codec. shifts_in scale (first_of (codes "edts") track) >>= λ shifts. Ok (record { codec = codec; scale = a.value; media_shift = shifts.media; empty_shift = shifts.empty })) content a.then in
+    let c = through (shifts_in scale (first_of (codes "edts") track)) (λ shifts. Ok (record { codec = b.value; scale = a.value; media_shift = shifts.media; empty_shift = shifts.empty })) content b.then in
+    let range = shifts_in_range scale (first_of (codes "edts") track) c.value c.was in
+    let all : Fits (record { codec = b.value; scale = a.value; media_shift = c.value.media; empty_shift = c.value.empty }) = record { scale = scale_in_range media a.value a.was; media = range.media; low = range.low; high = range.high } in
+    subst Fits (same_ok _ _ (Ok (record { codec = b.value; scale = a.value; media_shift = c.value.media; empty_shift = c.value.empty })) refl c.then) all
 
 content_fits : (form : Form) (scale : ℕ) (kind : Kind) (track media : List BoxView) (content : Content) → content_of form scale kind track media ≡ Ok content → Fits content
 content_fits form scale Other track media content e =
@@ -146,11 +140,11 @@ not_taken false e = refl
 
 new_number : (before : List TrackInfo) (track : List BoxView) (id : ℕ) → number_of before track ≡ Ok id → list_any (has_id id) before ≡ false
 new_number before track id e =
-    let a = bound (need (Missing (codes "tkhd")) (first_of (codes "tkhd") track)) (λ tkhd. need Size (tkhd_track_of tkhd) >>= λ n. check DuplicateTrack (not (list_any (has_id n) before)) >>= λ _. Ok n) id e in
-    let b = bound (need Size (tkhd_track_of a.0)) (λ n. check DuplicateTrack (not (list_any (has_id n) before)) >>= λ _. Ok n) id a.2 in
-    let c = bound (check DuplicateTrack (not (list_any (has_id b.0) before))) (λ _. Ok b.0) id b.2 in
-    let fresh = not_taken _ (checked DuplicateTrack _ _ c.1) in
-    subst (λ n. list_any (has_id n) before ≡ false) (same_ok _ _ (Ok b.0) refl c.2) fresh
+    let a = through (need (Missing (codes "tkhd")) (first_of (codes "tkhd") track)) (λ tkhd. need Size (tkhd_track_of tkhd) >>= λ n. check DuplicateTrack (not (list_any (has_id n) before)) >>= λ _. Ok n) id e in
+    let b = through (need Size (tkhd_track_of a.value)) (λ n. check DuplicateTrack (not (list_any (has_id n) before)) >>= λ _. Ok n) id a.then in
+    let c = through (check DuplicateTrack (not (list_any (has_id b.value) before))) (λ _. Ok b.value) id b.then in
+    let fresh = not_taken _ (checked DuplicateTrack _ _ c.was) in
+    subst (λ n. list_any (has_id n) before ≡ false) (same_ok _ _ (Ok b.value) refl c.then) fresh
 
 -- what a track has that comes behind others
 pub record Joins (before : List TrackInfo) (track : TrackInfo) : Type 0 where
@@ -160,14 +154,14 @@ pub record Joins (before : List TrackInfo) (track : TrackInfo) : Type 0 where
 track_joins : (form : Form) (scale : ℕ) (trexes : List (List ℕ)) (before : List TrackInfo) (trak : List ℕ) (track : TrackInfo) → track_of form scale trexes before trak ≡ Ok track → Joins before track
 unfolding track_of
 track_joins form scale trexes before trak track e =
-    let a = bound (need Size (row_of trak)) (λ boxes. number_of before boxes >>= λ id. media_of boxes >>= λ media. kind_in media >>= λ kind. content_of form scale kind boxes media >>= λ content. Ok (track_with trexes id kind content)) track e in
-    let b = bound (number_of before a.0) (λ id. media_of a.0 >>= λ media. kind_in media >>= λ kind. content_of form scale kind a.0 media >>= λ content. Ok (track_with trexes id kind content)) track a.2 in
-    let c = bound (media_of a.0) (λ media. kind_in media >>= λ kind. content_of form scale kind a.0 media >>= λ content. Ok (track_with trexes b.0 kind content)) track b.2 in
-    let d = bound (kind_in c.0) (λ kind. content_of form scale kind a.0 c.0 >>= λ content. Ok (track_with trexes b.0 kind content)) track c.2 in
-    let f = bound (content_of form scale d.0 a.0 c.0) (λ content. Ok (track_with trexes b.0 d.0 content)) track d.2 in
-    let fits = content_fits form scale d.0 a.0 c.0 f.0 f.1 in
-    let all : Joins before (track_with trexes b.0 d.0 f.0) = record { readable = (fits.scale, fits.media, fits.low, fits.high); fresh = new_number before a.0 b.0 b.1 } in
-    subst (Joins before) (same_ok _ _ (Ok (track_with trexes b.0 d.0 f.0)) refl f.2) all
+    let a = through (need Size (row_of trak)) (λ boxes. number_of before boxes >>= λ id. media_of boxes >>= λ media. kind_in media >>= λ kind. content_of form scale kind boxes media >>= λ content. Ok (track_with trexes id kind content)) track e in
+    let b = through (number_of before a.value) (λ id. media_of a.value >>= λ media. kind_in media >>= λ kind. content_of form scale kind a.value media >>= λ content. Ok (track_with trexes id kind content)) track a.then in
+    let c = through (media_of a.value) (λ media. kind_in media >>= λ kind. content_of form scale kind a.value media >>= λ content. Ok (track_with trexes b.value kind content)) track b.then in
+    let d = through (kind_in c.value) (λ kind. content_of form scale kind a.value c.value >>= λ content. Ok (track_with trexes b.value kind content)) track c.then in
+    let f = through (content_of form scale d.value a.value c.value) (λ content. Ok (track_with trexes b.value d.value content)) track d.then in
+    let fits = content_fits form scale d.value a.value c.value f.value f.was in
+    let all : Joins before (track_with trexes b.value d.value f.value) = record { readable = (fits.scale, fits.media, fits.low, fits.high); fresh = new_number before a.value b.value b.was } in
+    subst (Joins before) (same_ok _ _ (Ok (track_with trexes b.value d.value f.value)) refl f.then) all
 
 -- ---- the tracks
 
@@ -201,15 +195,15 @@ tracks_join [] form scale trexes before tracks count h e =
     let counted = h.counted in
     subst (λ ts. AreTracks ts (count + 0)) is (record { readable = h.readable; distinct = h.distinct; counted = omega arith })
 tracks_join (trak ∷ traks) form scale trexes before tracks count h e =
-    let b = bound (track_of form scale trexes before trak) (λ track. tracks_of form scale trexes (before ++ track ∷ []) traks) tracks e in
-    let j = track_joins form scale trexes before trak b.0 b.1 in
+    let b = through (track_of form scale trexes before trak) (λ track. tracks_of form scale trexes (before ++ track ∷ []) traks) tracks e in
+    let j = track_joins form scale trexes before trak b.value b.was in
     let counted = h.counted in
-    let next : AreTracks (before ++ b.0 ∷ []) (count + 1) = record {
-      readable = all_push IsReadable before b.0 h.readable j.readable;
-      distinct = distinct_push before b.0 h.distinct j.fresh;
-      counted = length-append before (b.0 ∷ []) ∙ (omega arith);
+    let next : AreTracks (before ++ b.value ∷ []) (count + 1) = record {
+      readable = all_push IsReadable before b.value h.readable j.readable;
+      distinct = distinct_push before b.value h.distinct j.fresh;
+      counted = length-append before (b.value ∷ []) ∙ (omega arith);
     } in
-    let rest = tracks_join traks form scale trexes (before ++ b.0 ∷ []) tracks (count + 1) next b.2 in
+    let rest = tracks_join traks form scale trexes (before ++ b.value ∷ []) tracks (count + 1) next b.then in
     let same : (count + 1) + length traks ≡ count + length (trak ∷ traks) = omega arith in
     subst (AreTracks tracks) same rest
 
@@ -223,31 +217,32 @@ presentation_in_is : (form : Form) (movie : List BoxView) (p : Presentation) →
 unfolding presentation_in
 presentation_in_is form movie p e =
     let traks = all_of (codes "trak") movie in
-    let a = bound (times_of movie) (λ times. extends_of form movie >>= λ extends. check TooManyTracks (nat_le (length traks) 64) >>= λ _. tracks_of form times.scale extends.trexes [] traks >>= λ tracks. Ok (record { scale = times.scale; duration = moment_of times.scale (if extends.duration == 0 then times.duration else extends.duration); tracks = tracks })) p e in
-    let b = bound (extends_of form movie) (λ extends. check TooManyTracks (nat_le (length traks) 64) >>= λ _. tracks_of form a.0.scale extends.trexes [] traks >>= λ tracks. Ok (record { scale = a.0.scale; duration = moment_of a.0.scale (if extends.duration == 0 then a.0.duration else extends.duration); tracks = tracks })) p a.2 in
-    let duration = if b.0.duration == 0 then a.0.duration else b.0.duration in
-    let c = bound (check TooManyTracks (nat_le (length traks) 64)) (λ _. tracks_of form a.0.scale b.0.trexes [] traks >>= λ tracks. Ok (record { scale = a.0.scale; duration = moment_of a.0.scale duration; tracks = tracks })) p b.2 in
-    let d = bound (tracks_of form a.0.scale b.0.trexes [] traks) (λ tracks. Ok (record { scale = a.0.scale; duration = moment_of a.0.scale duration; tracks = tracks })) p c.2 in
+    let a = through (times_of movie) (λ times. extends_of form movie >>= λ extends. check TooManyTracks (nat_le (length traks) 64) >>= λ _. tracks_of form times.scale extends.trexes [] traks >>= λ tracks. Ok (record { scale = times.scale; duration = moment_of times.scale (if extends.duration == 0 then times.duration else extends.duration); tracks = tracks })) p e in
+    let b = through (extends_of form movie) (λ extends. check TooManyTracks (nat_le (length traks) 64) >>= λ _. tracks_of form a.value.scale extends.trexes [] traks >>= λ tracks. Ok (record { scale = a.value.scale; duration = moment_of a.value.scale (if extends.duration == 0 then a.value.duration else extends.duration); tracks = tracks })) p a.then in
+    let duration = if b.value.duration == 0 then a.value.duration else b.value.duration in
+    let c = through (check TooManyTracks (nat_le (length traks) 64)) (λ _. tracks_of form a.value.scale b.value.trexes [] traks >>= λ tracks. Ok (record { scale = a.value.scale; duration = moment_of a.value.scale duration; tracks = tracks })) p b.then in
+    let d = through (tracks_of form a.value.scale b.value.trexes [] traks) (λ tracks. Ok (record { scale = a.value.scale; duration = moment_of a.value.scale duration; tracks = tracks })) p c.then in
     let none : AreTracks [] 0 = record { readable = tt; distinct = tt; counted = refl } in
-    let are = tracks_join traks form a.0.scale b.0.trexes [] d.0 0 none d.1 in
-    let few : length traks ≤ 64 = few_from (length traks) (checked TooManyTracks _ _ c.1) in
+    let are = tracks_join traks form a.value.scale b.value.trexes [] d.value 0 none d.was in
+    let few : length traks ≤ 64 = few_from (length traks) (checked TooManyTracks _ _ c.was) in
     let counted = are.counted in
-    let all : IsPresentation (record { scale = a.0.scale; duration = moment_of a.0.scale duration; tracks = d.0 }) = record {
+    let all : IsPresentation (record { scale = a.value.scale; duration = moment_of a.value.scale duration; tracks = d.value }) = record {
       readable = are.readable;
       distinct = are.distinct;
       few = omega arith;
-      timed = timed_by (duration == 0) (converted (pos duration) a.0.scale);
+      timed = timed_by (duration == 0) (converted (pos duration) a.value.scale);
     } in
-    subst IsPresentation (same_ok _ _ (Ok (record { scale = a.0.scale; duration = moment_of a.0.scale duration; tracks = d.0 })) refl d.2) all
+    subst IsPresentation (same_ok _ _ (Ok (record { scale = a.value.scale; duration = moment_of a.value.scale duration; tracks = d.value })) refl d.then) all
   where
     few_from : (n : ℕ) → nat_le n 64 ≡ true → n ≤ 64
     few_from n h = grind (arith, nat_tests)
 
 pub presentation-is : (form : Form) (moov : List ℕ) (p : Presentation) → presentation_of form moov ≡ Ok p → IsPresentation p
 presentation-is form moov p e =
-    let b = bound (need Size (row_of (payload_of moov))) (presentation_in form) p e in
-    presentation_in_is form b.0 p b.2
+    let b = through (need Size (payload_of moov)) (λ payload. need Size (row_of payload) >>= λ boxes. presentation_in form boxes) p e in
+    let c = through (need Size (row_of b.value)) (presentation_in form) p b.then in
+    presentation_in_is form c.value p c.then
 
-pub gives-presentation : (form : Form) (moov : List ℕ) (r : Result Presentation InitError) → Gives (λ p. p) r (presentation_of form moov) → IfOk r IsPresentation
+pub gives-presentation : (form : Form) (moov : List ℕ) (r : Result Presentation (ReadError InitFault)) → Gives (λ p. p) r (presentation_of form moov) → IfOk r IsPresentation
 gives-presentation form moov (Ok p) g = presentation-is form moov p g
 gives-presentation form moov (Err e) g = tt

@@ -3,13 +3,8 @@ use Rattle.std.proofs.Common.{◌≡◌, ℕ, List, [], ◌∷◌, Option, Some,
 use Rattle.std.specs.Str.{bytes_eq}
 use lib.Chars.{codes}
 use Rattle.bmff_boxes.specs.Rows.{BoxView, row_of, boxes_in, all_of}
+use Rattle.bmff_boxes.proofs.RowLaws.{all-here, all-later}
 use Rattle.bmff_init.specs.Tracks.{is_trex_of, trex_of}
-
-pub all-here : (k kind payload : List ℕ) (bs all : List BoxView) → bytes_eq k kind ≡ true → all ≡ record { kind = k; payload = payload } ∷ bs → all_of kind all ≡ payload ∷ all_of kind bs
-all-here k kind payload bs all e h = ap (all_of kind) h ∙ ap (λ v. cond v (payload ∷ all_of kind bs) (all_of kind bs)) e
-
-pub all-later : (k kind payload : List ℕ) (bs all : List BoxView) → bytes_eq k kind ≡ false → all ≡ record { kind = k; payload = payload } ∷ bs → all_of kind all ≡ all_of kind bs
-all-later k kind payload bs all e h = ap (all_of kind) h ∙ ap (λ v. cond v (payload ∷ all_of kind bs) (all_of kind bs)) e
 
 -- the first trex of a track, box by box
 pub trex-here : (k payload : List ℕ) (bs all : List BoxView) (track : ℕ) (x : Option (List ℕ)) → bytes_eq k (codes "trex") ≡ true → is_trex_of track payload ≡ true → all ≡ record { kind = k; payload = payload } ∷ bs

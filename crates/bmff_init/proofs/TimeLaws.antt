@@ -5,7 +5,7 @@ use Rattle.std.proofs.Math.Nat.{div-le_self}
 use Rattle.mse_base.specs.Time.{SECOND, IsTick, tick, converted}
 use Rattle.mse_base.proofs.TickLemmas.{tick_some, tick_none, tick_is}
 use Rattle.bmff_init.specs.declared.fault.InitFault.TheVariants.{EditList}
-use Rattle.bmff_init.specs.Reading.{◌>>=◌, check}
+use Rattle.bmff_boxes.specs.Reading.{◌>>=◌, check}
 use Rattle.bmff_init.specs.Edits.{empty_shift_of}
 use Rattle.bmff_init.specs.Movies.{moment_of}
 use Rattle.mse_base.specs.declared.ticks.Moment.TheVariants.{At, Infinite}

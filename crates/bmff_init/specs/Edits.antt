@@ -11,7 +11,7 @@ use Rattle.bmff_boxes.specs.Rows.{row_of, first_of}
 use Rattle.bmff_init.specs.declared.fault.InitFault.{InitFault}
 use Rattle.bmff_init.specs.declared.fault.InitFault.TheVariants.{Size, EditList}
 use Rattle.bmff_init.specs.declared.edits.Shifts.{Shifts}
-use Rattle.bmff_init.specs.Reading.{◌>>=◌, need, check}
+use Rattle.bmff_boxes.specs.Reading.{◌>>=◌, need, check}
 
 -- a track without edits begins with the movie
 abbrev pub no_shift : Shifts
@@ -65,8 +65,8 @@ empty_shift_of scale duration = do
   _ ← check EditList (int_le (converted (pos duration) scale) (pos (2 ^ 109)))
   Ok (converted (pos duration) scale)
 
-abbrev pub shifts_with : Result ℤ InitFault → Result ℤ InitFault → Result Shifts InitFault
-shifts_with media_time empty_shift = do
+abbrev pub both_shifts : Result ℤ InitFault → Result ℤ InitFault → Result Shifts InitFault
+both_shifts media_time empty_shift = do
   media ← media_time
   empty ← empty_shift
   Ok (record { media = media; empty = empty })
@@ -74,7 +74,7 @@ shifts_with media_time empty_shift = do
 -- no edits, or empty edits and then one that presents the media
 abbrev pub shifts_by : ℕ → List EditEntry → Result Shifts InitFault
 shifts_by scale [] = Ok no_shift
-shifts_by scale (edit ∷ edits) = shifts_with (media_time_of (drop (prefix_len is_empty_edit (edit ∷ edits)) (edit ∷ edits))) (empty_shift_of scale (empty_duration (edit ∷ edits)))
+shifts_by scale (edit ∷ edits) = both_shifts (media_time_of (drop (prefix_len is_empty_edit (edit ∷ edits)) (edit ∷ edits))) (empty_shift_of scale (empty_duration (edit ∷ edits)))
 
 abbrev pub shifts_of : ℕ → Result (List EditEntry) InitFault → Result Shifts InitFault
 shifts_of scale read = read >>= shifts_by scale

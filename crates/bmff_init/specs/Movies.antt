@@ -16,7 +16,8 @@ use Rattle.bmff_init.specs.declared.form.Form.{Form}
 use Rattle.bmff_init.specs.declared.form.Form.TheVariants.{Fragmented, Classic}
 use Rattle.bmff_init.specs.declared.movie.MovieTimes.{MovieTimes}
 use Rattle.bmff_init.specs.declared.movie.Extends.{Extends}
-use Rattle.bmff_init.specs.Reading.{◌>>=◌, need, check, payload_of}
+use Rattle.bmff_boxes.specs.Children.{payload_of}
+use Rattle.bmff_boxes.specs.Reading.{◌>>=◌, need, check}
 use Rattle.bmff_init.specs.Tracks.{tracks_of}
 
 -- a duration of all ones cannot be determined (8.2.2.3)
@@ -71,7 +72,10 @@ presentation_in form movie = do
 
 -- the presentation of a whole movie box with its header, or the first fault
 abbrev pub presentation_of : Form → List ℕ → Result Presentation InitFault
-presentation_of form moov = need Size (row_of (payload_of moov)) >>= presentation_in form
+presentation_of form moov = do
+  payload ← need Size (payload_of moov)
+  boxes ← need Size (row_of payload)
+  presentation_in form boxes
 
 abbrev pub init_of : List ℕ → Result Presentation InitFault
 init_of moov = presentation_of Fragmented moov

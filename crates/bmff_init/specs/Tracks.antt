@@ -18,7 +18,7 @@ use Rattle.bmff_init.specs.declared.fault.InitFault.TheVariants.{Size, Missing, 
 use Rattle.bmff_init.specs.declared.track.Content.{Content}
 use Rattle.bmff_init.specs.declared.form.Form.{Form}
 use Rattle.bmff_init.specs.declared.form.Form.TheVariants.{Fragmented, Classic}
-use Rattle.bmff_init.specs.Reading.{◌>>=◌, need, check}
+use Rattle.bmff_boxes.specs.Reading.{◌>>=◌, need, check}
 use Rattle.bmff_init.specs.Edits.{shifts_in}
 
 -- ---- the defaults of the samples in fragments: trex, track extends (8.8.3)

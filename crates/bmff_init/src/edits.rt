@@ -2,7 +2,7 @@ ghost use Rattle.std.specs.Prelude.{◌≡◌, ◌≤◌, ◌^◌, ◌+◌, ◌*
 ghost use Rattle.std.specs.Option.{option_copied};
 ghost use Rattle.std.specs.List.{prefix_len};
 ghost use Rattle.bmff_boxes.specs.declared.entries.EditEntry.{EditEntry};
-ghost use Rattle.bmff_init.specs.Edits.{edit_len, edits_from, is_empty_edit, presents_media, media_time_of, empty_duration, empty_shift_of, shifts_with, shifts_of, edit_count_of, shifts_in, shifts_in_list};
+ghost use Rattle.bmff_init.specs.Edits.{edit_len, edits_from, is_empty_edit, presents_media, media_time_of, empty_duration, empty_shift_of, both_shifts, shifts_of, edit_count_of, shifts_in, shifts_in_list};
 
 use crate::fault::InitFault;
 use bmff_boxes::{EditEntry, elst_entry, entry_count, open};
@@ -58,7 +58,8 @@ fn presents_media(edit: &EditEntry) -> bool
 /// How many empty edits an edit list begins with, and how long they last.
 fn empty_edits(elst: &[u8], count: u32) -> (u32, u128)
     requires { count ≤ 1000 }
-    ensures value { (edits : List EditEntry) → edits_from elst.now 0 count ≡ Ok edits → (result.0 ≡ prefix_len is_empty_edit edits) × (result.1 ≡ empty_duration edits) }
+    ensures value { (edits : List EditEntry) → edits_from elst.now 0 count ≡ Ok edits
+        → (result.0 ≡ prefix_len is_empty_edit edits) × (result.1 ≡ empty_duration edits) }
     ensures few { result.0 ≤ count }
     ensures short { result.1 ≤ result.0 * 2 ^ 64 }
 {
@@ -104,7 +105,8 @@ fn media_time_in(edit: &EditEntry) -> Result<i64, InitFault>
 fn media_time(elst: &[u8], count: u32, place: u32) -> Result<i64, InitFault>
     requires within { place ≤ count }
     requires few { count ≤ 1000 }
-    ensures { (edits : List EditEntry) → edits_from elst.now 0 count ≡ Ok edits → result ≡ media_time_of (drop place edits) }
+    ensures { (edits : List EditEntry) → edits_from elst.now 0 count ≡ Ok edits
+        → result ≡ media_time_of (drop place edits) }
 {
     if place + 1 != count {
         return Err(InitFault::EditList);
@@ -120,7 +122,7 @@ fn both_shifts(
     media: Result<i64, InitFault>,
     empty: Result<Ticks, InitFault>,
 ) -> Result<Shifts, InitFault>
-    ensures { result ≡ shifts_with media empty }
+    ensures { result ≡ both_shifts media empty }
 {
     let media = media?;
     let empty = empty?;

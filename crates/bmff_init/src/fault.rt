@@ -1,7 +1,7 @@
 ghost use Rattle.std.specs.Prelude.{◌≡◌};
-ghost use Rattle.bmff_init.specs.declared.fault.InitError.TheVariants.{OutOfMemory, Fault};
+ghost use Rattle.bmff_boxes.specs.declared.reading.ReadError.TheVariants.{Fault};
 
-use std::alloc::AllocFailed;
+use bmff_boxes::ReadError;
 use thiserror::Error;
 
 /// What is wrong with a movie box: the first fault in the order of reading.
@@ -33,29 +33,14 @@ pub enum InitFault {
     TooManyTracks,
 }
 
-/// Why a movie box was not read.
-#[derive(Clone, Copy, Debug, PartialEq, Eq, Error)]
-pub enum InitError {
-    /// There was no memory for the tracks.
-    #[error("out of memory")]
-    OutOfMemory,
-    /// The movie box has a fault.
-    #[error("{0}")]
-    Fault(InitFault),
-}
+/// Why a movie box was not read: there was no memory for its tracks, or it has a fault, the first in the order
+/// of reading.
+pub type InitError = ReadError<InitFault>;
 
 impl From<InitFault> for InitError {
     ghost from_gives = { λ fault error. error ≡ Fault fault };
 
     fn from(fault: InitFault) -> InitError {
         InitError::Fault(fault)
-    }
-}
-
-impl<T: Drop> From<AllocFailed<T>> for InitError {
-    ghost from_gives = { λ _ error. error ≡ OutOfMemory };
-
-    fn from(_failed: AllocFailed<T>) -> InitError {
-        InitError::OutOfMemory
     }
 }

@@ -4,15 +4,14 @@ ghost use Rattle.std.specs.Option.{option_copied};
 ghost use Rattle.std.specs.Result.{result_map_both};
 ghost use lib.Chars.{codes};
 ghost use Rattle.bmff_boxes.specs.Rows.{row_of, all_of};
-ghost use Rattle.bmff_init.specs.Reading.{payload_of};
 ghost use Rattle.bmff_init.specs.Movies.{extends_view, known_duration, times_of, fragments_duration_of, extends_of, moment_of, presentation_of, init_of, movie_of};
-ghost use Rattle.bmff_init.specs.Answers.{Gives};
+ghost use Rattle.bmff_boxes.specs.Reading.{Gives};
 ghost use Rattle.mse_base.specs.Presentation.{IsPresentation};
 
 use crate::fault::{InitError, InitFault};
 use crate::form::Form;
 use crate::track::read_tracks;
-use bmff_boxes::{Header, Row, header, mehd_duration, mvhd_duration, mvhd_scale, open};
+use bmff_boxes::{Row, mehd_duration, mvhd_duration, mvhd_scale, open, payload};
 use mse_base::{Moment, Presentation, TrackList, convert};
 use std::alloc::Global;
 
@@ -81,7 +80,8 @@ fn read_fragments_duration(mehd: Option<&[u8]>) -> Result<u64, InitFault>
 
 /// Whether each track extends box is whole.
 fn are_whole_trexes(mvex: Row<'_>) -> bool
-    ensures { result ≡ list_all (λ trex. nat_le 24 (length trex)) (all_of (codes "trex") mvex.entry) }
+    ensures { result ≡ list_all (λ trex. nat_le 24 (length trex))
+        (all_of (codes "trex") mvex.entry) }
 {
     let mut mvex = mvex;
     'boxes: while let Some(found) = mvex.next() {
@@ -95,7 +95,8 @@ fn are_whole_trexes(mvex: Row<'_>) -> bool
 /// Reads the movie extends box (8.8.1).
 #[tactic(auto, unfolding(crate::specs::Movies::extends_of))]
 fn read_extends<'a>(form: Form, movie: &Row<'a>) -> Result<Extends<'a>, InitFault>
-    ensures value { result_map_both extends_view (λ fault. fault) result ≡ extends_of form movie.now }
+    ensures value { result_map_both extends_view (λ fault. fault) result
+        ≡ extends_of form movie.now }
     ensures row { IfOk result (λ extends. IsSome (row_of extends.mvex.now)) }
 {
     match form {
@@ -146,23 +147,12 @@ fn moment(scale: u32, duration: u64) -> Moment
     }
 }
 
-/// The payload of a whole box with its header.
-fn payload(bytes: &[u8]) -> &[u8]
-    ensures { result.now ≡ payload_of bytes.now }
-{
-    match header(bytes) {
-        Header::Whole { head, .. } => &bytes[head as usize..],
-        Header::Short => bytes,
-        Header::Bad(_) => bytes,
-    }
-}
-
 /// Reads a movie box that is whole, with its header.
 #[tactic(auto, unfolding(crate::specs::Movies::presentation_in))]
 fn read_presentation(alloc: Global, form: Form, moov: &[u8]) -> Result<Presentation, InitError>
     ensures value { Gives (λ p. p) result (presentation_of form moov.now) }
 {
-    let payload = payload(moov);
+    let payload = payload(moov).ok_or(InitFault::Size)?;
     let movie = open(payload).ok_or(InitFault::Size)?;
     let times = read_times(&movie)?;
     let extends = read_extends(form, &movie)?;

@@ -6,8 +6,8 @@ ghost use Rattle.mse_base.specs.Presentation.{has_id};
 ghost use Rattle.bmff_boxes.specs.Rows.{boxes_in, row_of, all_of};
 ghost use Rattle.bmff_init.specs.Tracks.{kind_of, codec_of, is_empty_table, are_empty_tables, codec_in, media_scale_of, media_content, content_of, number_of, media_of, kind_in, is_trex_of, trex_of, track_with, track_of, tracks_of};
 ghost use Rattle.bmff_boxes.specs.MovieFields.{entry_count_of};
-ghost use Rattle.bmff_init.specs.Reading.{need};
-ghost use Rattle.bmff_init.specs.Answers.{Gives};
+ghost use Rattle.bmff_boxes.specs.Reading.{need};
+ghost use Rattle.bmff_boxes.specs.Reading.{Gives};
 
 use crate::edits::read_shifts;
 use crate::fault::{InitError, InitFault};
@@ -275,7 +275,8 @@ fn read_track(
 ) -> Result<TrackInfo, InitFault>
     requires scale { 1 ≤ movie_scale }
     requires row { IsSome (row_of mvex.now) }
-    ensures { result ≡ track_of form movie_scale (all_of (codes "trex") (boxes_in mvex.now)) before.now trak.now }
+    ensures { result ≡ track_of form movie_scale (all_of (codes "trex") (boxes_in mvex.now))
+        before.now trak.now }
 {
     let track = open(trak).ok_or(InitFault::Size)?;
     let id = read_number(before, &track)?;
@@ -295,7 +296,9 @@ pub fn read_tracks(
 ) -> Result<Vec<TrackInfo>, InitError>
     requires scale { 1 ≤ movie_scale }
     requires row { IsSome (row_of mvex.now) }
-    ensures { Gives (λ v. v.items) result (tracks_of form movie_scale (all_of (codes "trex") (boxes_in mvex.now)) [] (all_of (codes "trak") movie.entry)) }
+    ensures { Gives (λ v. v.items) result
+        (tracks_of form movie_scale (all_of (codes "trex") (boxes_in mvex.now)) []
+        (all_of (codes "trak") movie.entry)) }
 {
     let mut movie = movie;
     let mut tracks = Vec::new(alloc);

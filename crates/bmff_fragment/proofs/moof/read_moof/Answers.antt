@@ -6,7 +6,8 @@ use Rattle.bmff_boxes.specs.Rows.{all_of}
 use Rattle.bmff_boxes.proofs.RowLaws.{row-length}
 use Rattle.bmff_fragment.specs.declared.fault.MoofFault.{MoofFault}
 use Rattle.bmff_fragment.specs.declared.slot.Slot.{Slot}
-use Rattle.bmff_fragment.specs.Views.{Fails, IsSlotOf}
+use Rattle.bmff_boxes.specs.Reading.{Fails}
+use Rattle.bmff_fragment.specs.Slots.{IsSlotOf}
 use Rattle.bmff_fragment.proofs.Linking.{plan_is, trafs-whole}
 use Rattle.bmff_fragment.proofs.Belonging.{belong}
 use Rattle.bmff_fragment.proofs.moof.read_moof.Goals as goal
@@ -35,4 +36,4 @@ returns-clause-slots c =
     let tracks = c.args.with.now.tracks in
     let trafs = all_of (codes "traf") c.in-Some-open.row in
     let whole = trafs-whole tracks trafs in
-    All-same (IsSlotOf tracks) c.from_vec.result c.in_ok-slots.slots.items c.from_vec.ensures (belong tracks trafs c.in_ok-slots.slots.items (sym whole ∙ c.in_ok-slots.ensures.value) c.in_ok-slots.ensures.placed)
+    All-same (IsSlotOf tracks) c.from_vec.result c.in_ok-slots.slots.items c.from_vec.ensures (belong tracks trafs c.in_ok-slots.slots.items (sym whole ∙ c.in_ok-slots.ensures.value) c.in_ok-slots.ensures.well_formed)

@@ -5,8 +5,9 @@ use lib.Chars.{codes}
 use mir.Syntax.{w128}
 use mir.Val.{SFits}
 use Rattle.bmff_boxes.specs.Rows.{all_of}
+use Rattle.bmff_boxes.proofs.RowLaws.{all-here}
 use Rattle.bmff_fragment.specs.Steps.{runs_steps}
-use Rattle.bmff_fragment.proofs.Stepping.{all_here, run_goes, run_stops, part_stops, part_ends}
+use Rattle.bmff_fragment.proofs.Stepping.{run_goes, run_stops, part_stops, part_ends}
 use Rattle.bmff_fragment.proofs.moof.read_runs.Goals as goal
 
 pub returns-in_err-at-clause-value : goal.returns-in_err-at-clause-value
@@ -15,7 +16,7 @@ returns-in_err-at-clause-value c =
     let f = c.args.fragment.now in
     let found = c.in-Some.found in
     let left = all_of (codes "trun") c.next.new.self in
-    let here = all_here found.kind (codes "trun") found.payload.now c.next.new.self s.row (sym c.eq.ensures ∙ c.if-eq.true) c.in-Some.ensures.some in
+    let here = all-here found.kind (codes "trun") found.payload.now c.next.new.self s.row (sym c.eq.ensures ∙ c.if-eq.true) c.in-Some.ensures.some in
     let same = sym (ap (runs_steps f s.at s.slots.items) here) ∙ s.invariant.same in
     let stop = run_stops f s.at s.slots.items found.payload.now left _ c.in_err-at.field-0.0 c.in_err-at.ensures.value same in
     let p = err_from_is_err_and c.from_residual.result c.from_residual.ensures.1 in
@@ -27,14 +28,14 @@ boxes-preserved-then-eq c =
     let f = c.args.fragment.now in
     let found = c.in-Some.found in
     let left = all_of (codes "trun") c.next.new.self in
-    let here = all_here found.kind (codes "trun") found.payload.now c.next.new.self s.row (sym c.eq.ensures ∙ c.if-eq.true) c.in-Some.ensures.some in
+    let here = all-here found.kind (codes "trun") found.payload.now c.next.new.self s.row (sym c.eq.ensures ∙ c.if-eq.true) c.in-Some.ensures.some in
     let same = sym (ap (runs_steps f s.at s.slots.items) here) ∙ s.invariant.same in
     record {
       same = run_goes f s.at c.in_ok-at.at s.slots.items c.read_run.new.slots.items found.payload.now left _ c.in_ok-at.ensures.value same;
       few = c.in_ok-at.ensures.few;
       end = c.in_ok-at.ensures.end;
       time = c.in_ok-at.ensures.time;
-      placed = c.in_ok-at.ensures.placed;
+      well_formed = c.in_ok-at.ensures.well_formed;
       len = c.in_ok-at.ensures.len;
     }
 

@@ -4,7 +4,7 @@ use Rattle.std.specs.List.{All}
 use lib.Chars.{codes}
 use Rattle.bmff_boxes.specs.Rows.{all_of}
 use Rattle.bmff_fragment.specs.Steps.{runs_steps, first_run}
-use Rattle.bmff_fragment.specs.Views.{IsPlaced}
+use Rattle.bmff_fragment.specs.Slots.{IsWellFormed}
 use Rattle.bmff_fragment.proofs.moof.read_runs.Given as goal
 
 abbrev pub invariant-boxes : goal.invariant-boxes
@@ -13,7 +13,7 @@ invariant-boxes l = record {
   few : l.at.samples ≤ 2 ^ 20;
   end : unsigned_abs l.at.data_end ≤ unsigned_abs l.fragment.base + 2 ^ 31 + l.at.samples * 2 ^ 32;
   time : l.at.decode_time ≤ 2 ^ 64 + l.at.samples * 2 ^ 32;
-  placed : All IsPlaced l.slots.items;
+  well_formed : All IsWellFormed l.slots.items;
   len : vec_len l.slots ≤ l.at.samples;
 }
 

@@ -2,8 +2,9 @@ use Rattle.std.proofs.Common.{◌∙◌, List, ap, sym, arith}
 use Rattle.std.proofs.lemmas.Result.{err_from_is_err_and}
 use lib.Chars.{codes}
 use Rattle.bmff_boxes.specs.Rows.{BoxView, all_of}
+use Rattle.bmff_boxes.proofs.RowLaws.{all-here}
 use Rattle.bmff_fragment.specs.Steps.{trafs_steps}
-use Rattle.bmff_fragment.proofs.Stepping.{all_here, traf_goes, traf_stops, trafs_end}
+use Rattle.bmff_fragment.proofs.Stepping.{traf_goes, traf_stops, trafs_end}
 use Rattle.bmff_fragment.proofs.moof.read_trafs.Goals as goal
 
 pub returns-in_err-at-clause-value : goal.returns-in_err-at-clause-value
@@ -11,7 +12,7 @@ returns-in_err-at-clause-value c =
     let s = c.boxes in
     let found = c.in-Some.found in
     let left = all_of (codes "traf") c.next.new.self in
-    let here = all_here found.kind (codes "traf") found.payload.now c.next.new.self s.row (sym c.eq.ensures ∙ c.if-eq.true) c.in-Some.ensures.some in
+    let here = all-here found.kind (codes "traf") found.payload.now c.next.new.self s.row (sym c.eq.ensures ∙ c.if-eq.true) c.in-Some.ensures.some in
     let same = sym (ap (trafs_steps c.args.tracks.now s.at s.slots.items) here) ∙ s.invariant.same in
     let p = err_from_is_err_and c.from_residual.result c.from_residual.ensures.1 in
     rw (p.1, p.2) (traf_stops c.args.tracks.now s.at s.slots.items found.payload.now left _ c.in_err-at.field-0.0 c.in_err-at.ensures.value same)
@@ -21,13 +22,13 @@ boxes-preserved-then-eq c =
     let s = c.boxes in
     let found = c.in-Some.found in
     let left = all_of (codes "traf") c.next.new.self in
-    let here = all_here found.kind (codes "traf") found.payload.now c.next.new.self s.row (sym c.eq.ensures ∙ c.if-eq.true) c.in-Some.ensures.some in
+    let here = all-here found.kind (codes "traf") found.payload.now c.next.new.self s.row (sym c.eq.ensures ∙ c.if-eq.true) c.in-Some.ensures.some in
     let same = sym (ap (trafs_steps c.args.tracks.now s.at s.slots.items) here) ∙ s.invariant.same in
     record {
       same = traf_goes c.args.tracks.now s.at c.in_ok-at.at s.slots.items _ found.payload.now left _ c.in_ok-at.ensures.value same;
       few = c.in_ok-at.ensures.few;
       end = omega (arith, s.invariant.end, c.in_ok-at.ensures.end, c.in-Some.ensures.shorter);
-      placed = c.in_ok-at.ensures.placed;
+      well_formed = c.in_ok-at.ensures.well_formed;
       len = c.in_ok-at.ensures.len;
     }
 

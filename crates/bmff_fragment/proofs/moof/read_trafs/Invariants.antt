@@ -4,7 +4,7 @@ use Rattle.std.specs.List.{All}
 use lib.Chars.{codes}
 use Rattle.bmff_boxes.specs.Rows.{all_of}
 use Rattle.bmff_fragment.specs.Steps.{trafs_steps}
-use Rattle.bmff_fragment.specs.Views.{IsPlaced}
+use Rattle.bmff_fragment.specs.Slots.{IsWellFormed}
 use Rattle.bmff_fragment.proofs.moof.read_trafs.Given as goal
 
 abbrev pub invariant-boxes : goal.invariant-boxes
@@ -12,7 +12,7 @@ invariant-boxes l = record {
   same : trafs_steps l.tracks l.at l.slots.items (all_of (codes "traf") l.row) ≡ trafs_steps l.tracks (record { samples = 0; data_end = pos 0 }) [] (all_of (codes "traf") l.fn.row);
   few : l.at.samples ≤ 2 ^ 20;
   end : unsigned_abs l.at.data_end + length l.row * 2 ^ 53 ≤ 2 ^ 117;
-  placed : All IsPlaced l.slots.items;
+  well_formed : All IsWellFormed l.slots.items;
   len : vec_len l.slots ≤ l.at.samples;
 }
 

@@ -2,8 +2,8 @@ use Rattle.std.proofs.Common.{◌≡◌, ◌<◌, ◌^◌, ◌∙◌, ◌+◌, p
 use Rattle.std.proofs.lemmas.Int.{ints}
 use mir.Syntax.{w64, w128}
 use mir.Val.{SFits, to_z, of_z}
-use Rattle.bmff_fragment.specs.Times.{presented}
-use Rattle.bmff_fragment.proofs.Clock.{difference, slot_is, is_placed}
+use Rattle.bmff_fragment.specs.Times.{tick_at}
+use Rattle.bmff_fragment.proofs.Clock.{difference, slot_is, is_well_formed}
 use Rattle.bmff_fragment.proofs.timing.make_slot.Goals as goal
 
 pub unwrap-requires : goal.unwrap-requires
@@ -24,10 +24,10 @@ returns-clause-value c =
     let u = c.unwrap.ensures in
     let dur : c.unwrap.result ≡ c.tick_at-end.result -ℤ c.tick_at-pts.result = cc in
     slot_is t c.args.time c.args.start s c.tick_at-pts.result c.tick_at.result c.tick_at-end.result c.unwrap.result (c.args.start + c.from-3.result)
-    (c.tick_at-pts.ensures.value ∙ ap (presented t) ea) (c.tick_at.ensures.value ∙ ap (presented t) ed) (c.tick_at-end.ensures.value ∙ ap (presented t) eb) dur (ap (λ x. c.args.start + x) c.from-3.ensures)
+    (c.tick_at-pts.ensures.value ∙ ap (tick_at t) ea) (c.tick_at.ensures.value ∙ ap (tick_at t) ed) (c.tick_at-end.ensures.value ∙ ap (tick_at t) eb) dur (ap (λ x. c.args.start + x) c.from-3.ensures)
 
-pub returns-clause-placed : goal.returns-clause-placed
-returns-clause-placed c =
+pub returns-clause-well_formed : goal.returns-clause-well_formed
+returns-clause-well_formed c =
     let t = c.args.track.now in
     let s = c.args.sample.now in
     let f : SFits w64 s.offset = search rules in
@@ -40,5 +40,5 @@ returns-clause-placed c =
     let u = c.unwrap.ensures in
     let dur : c.unwrap.result ≡ c.tick_at-end.result -ℤ c.tick_at-pts.result = cc in
     let size : s.size < 2 ^ 32 = search rules in
-    is_placed t m t.id _ c.args.start c.tick_at-pts.result c.tick_at.result c.tick_at-end.result c.unwrap.result (c.args.start + c.from-3.result) s.size s.duration c.requires.readable.0
-    (c.tick_at-pts.ensures.value ∙ ap (presented t) ea) (c.tick_at-end.ensures.value ∙ ap (presented t) eb) dur (ap (λ x. c.args.start + x) c.from-3.ensures) c.requires.near size
+    is_well_formed t m t.id _ c.args.start c.tick_at-pts.result c.tick_at.result c.tick_at-end.result c.unwrap.result (c.args.start + c.from-3.result) s.size s.duration c.requires.readable.0
+    (c.tick_at-pts.ensures.value ∙ ap (tick_at t) ea) (c.tick_at-end.ensures.value ∙ ap (tick_at t) eb) dur (ap (λ x. c.args.start + x) c.from-3.ensures) c.requires.near size

@@ -3,7 +3,7 @@ use Rattle.std.proofs.lemmas.List.Elements.{All-push, All-same}
 use Rattle.std.proofs.lemmas.List.Sums.{sum_by_more}
 use Rattle.bmff_fragment.specs.declared.sample.Sample.{Sample}
 use Rattle.bmff_fragment.specs.Times.{Run, slot_at, data_len, duration_of}
-use Rattle.bmff_fragment.specs.Views.{IsPlaced}
+use Rattle.bmff_fragment.specs.Slots.{IsWellFormed}
 use Rattle.bmff_fragment.proofs.Placing.{slots_more, slot_same}
 use Rattle.bmff_fragment.proofs.timing.push_slots.Goals as goal
 
@@ -30,9 +30,10 @@ loop-sample-preserved c =
       soon = omega (arith, was.soon, c.from-duration.ensures);
       place = omega (arith, was.place, c.from-size.ensures, sizes);
       near = omega (arith, was.near, c.from-size.ensures);
-      slots = slots_more at samples i none c.make_slot.result c.args.slots.now.items c.loop-sample.slots.items c.push.new.self.items here
+      slots = slots_more at samples i none c.make_slot.result c.args.slots.now.items c.loop-sample.slots.items c.push_reserved.new.self.items here
           (c.make_slot.ensures.value ∙ slot_same c.args.track.now c.loop-sample.decoded (c.args.time + duration_of (take i samples)) c.loop-sample.place (c.args.start + data_len (take i samples)) s was.decoded was.place)
-          c.in_ok-push.ensures.items was.slots;
-      len = omega (arith, was.len, c.in_ok-push.ensures.len);
-      placed = All-same IsPlaced c.push.new.self.items _ c.in_ok-push.ensures.items (All-push IsPlaced c.loop-sample.slots.items c.make_slot.result was.placed c.make_slot.ensures.placed);
+          c.push_reserved.ensures.items was.slots;
+      len = omega (arith, was.len, c.push_reserved.ensures.len);
+      room = omega (arith, was.room, c.push_reserved.ensures.capacity);
+      well_formed = All-same IsWellFormed c.push_reserved.new.self.items _ c.push_reserved.ensures.items (All-push IsWellFormed c.loop-sample.slots.items c.make_slot.result was.well_formed c.make_slot.ensures.well_formed);
     }

@@ -3,8 +3,8 @@ use Rattle.std.specs.Prelude.{unsigned_abs}
 use Rattle.std.proofs.lemmas.Int.{ints}
 use mir.Syntax.{w64, w128}
 use mir.Val.{SFits, to_z, of_z}
-use Rattle.bmff_fragment.specs.Times.{presented}
-use Rattle.bmff_fragment.proofs.Clock.{converts, presents, presented_near}
+use Rattle.bmff_fragment.specs.Times.{tick_at}
+use Rattle.bmff_fragment.proofs.Clock.{converts, presents, tick_at-near}
 use Rattle.bmff_fragment.proofs.timing.tick_at.Goals as goal
 
 pub unwrap-time-requires : goal.unwrap-time-requires
@@ -39,7 +39,7 @@ pub returns-clause-near : goal.returns-clause-near
 returns-clause-near c =
     let f : SFits w64 c.args.track.now.media_shift = search rules in
     let s : unsigned_abs c.args.track.now.media_shift ≤ 2 ^ 63 = omega (arith, ints) in
-    let p = presented_near c.args.track.now c.args.media_time c.requires.small s in
-    let e : c.unwrap.result ≡ presented c.args.track.now c.args.media_time = returns-clause-value c in
+    let p = tick_at-near c.args.track.now c.args.media_time c.requires.small s in
+    let e : c.unwrap.result ≡ tick_at c.args.track.now c.args.media_time = returns-clause-value c in
     let P : ℤ → Type 0 = λ z. unsigned_abs (z -ℤ c.args.track.now.empty_shift) ≤ 2 ^ 106 in
     subst P (sym e) p

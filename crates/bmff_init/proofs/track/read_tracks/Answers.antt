@@ -3,7 +3,7 @@ use lib.Chars.{codes}
 use Rattle.std.proofs.lemmas.Result.{err_from_is_err_and}
 use Rattle.bmff_boxes.specs.Rows.{BoxView, boxes_in, all_of}
 use Rattle.bmff_init.specs.Tracks.{track_of, tracks_of}
-use Rattle.bmff_init.proofs.RowSteps.{all-here}
+use Rattle.bmff_boxes.proofs.RowLaws.{all-here}
 use Rattle.bmff_init.proofs.MovieLaws.{tracks-go, tracks-stop, tracks-done}
 use Rattle.bmff_init.proofs.track.read_tracks.Goals as goal
 

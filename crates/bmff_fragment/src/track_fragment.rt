@@ -1,17 +1,17 @@
 ghost use Rattle.std.specs.Prelude.{◌≡◌, ◌≤◌, unsigned_abs, IfOk};
 ghost use Rattle.std.specs.List.{AllByRecursion};
 ghost use Rattle.mse_base.specs.Presentation.{IsReadable};
-ghost use Rattle.bmff_fragment.specs.Plans.{fragment_of, is_media as is_media_kind};
-ghost use Rattle.bmff_fragment.specs.Views.{Gives};
+ghost use Rattle.bmff_fragment.specs.Plans.{track_fragment_of, is_media as is_media_kind};
+ghost use Rattle.bmff_boxes.specs.Reading.{Gives};
 
 use crate::fault::{MoofError, MoofFault};
-use crate::header::{Defaults, fragment_header, sample_defaults};
+use crate::header::{Defaults, sample_defaults, track_fragment_header};
 use bmff_boxes::{Row, tfdt_time};
 use mse_base::{Kind, TrackInfo, TrackList};
 
 /// A track fragment, before its runs.
 #[derive(Clone, Copy, Debug)]
-pub(crate) struct Fragment {
+pub(crate) struct TrackFragment {
     pub(crate) track: TrackInfo,
     pub(crate) defaults: Defaults,
     /// The place from which its data offsets count.
@@ -52,21 +52,21 @@ pub(crate) fn is_media(kind: Kind) -> bool
 }
 
 /// The track fragment whose boxes these are, where the data before it end at `end`.
-#[tactic(auto, unfolding(crate::specs::Plans::fragment_of))]
-pub(crate) fn read_fragment(
+#[tactic(auto, unfolding(crate::specs::Plans::track_fragment_of))]
+pub(crate) fn read_track_fragment(
     tracks: &TrackList,
     end: i128,
     row: &Row<'_>,
-) -> Result<Fragment, MoofError>
+) -> Result<TrackFragment, MoofError>
     requires { AllByRecursion IsReadable tracks.now }
-    ensures value { Gives (λ f. f) result (fragment_of tracks.now end row.now) }
+    ensures value { Gives (λ f. f) result (track_fragment_of tracks.now end row.now) }
     ensures readable { IfOk result (λ f. IsReadable f.track) }
     ensures bound { IfOk result (λ f. unsigned_abs f.base ≤ unsigned_abs end) }
 {
     let Some(tfhd) = row.first(*b"tfhd") else {
         return Err(MoofError::Fault(MoofFault::NoTfhd));
     };
-    let Some(header) = fragment_header(tfhd) else {
+    let Some(header) = track_fragment_header(tfhd) else {
         return Err(MoofError::Fault(MoofFault::Size));
     };
     if header.base_data_offset.is_some() {
@@ -81,7 +81,7 @@ pub(crate) fn read_fragment(
     let Some(decode_time) = tfdt_time(tfdt) else {
         return Err(MoofError::Fault(MoofFault::Size));
     };
-    Ok(Fragment {
+    Ok(TrackFragment {
         track: *track,
         defaults: sample_defaults(&header, track),
         base: if header.base_is_moof { 0 } else { end },
