@@ -1,0 +1,5 @@
+pub mod BoxLaws
+pub mod MovieSizes
+pub mod MovieLaws
+pub mod FragmentSizes
+pub mod MadeLaws
