@@ -2,5 +2,8 @@ pub mod HeaderLaws
 pub mod Durations
 pub mod WalkLaws
 pub mod Moves
+pub mod FrameLaws
+pub mod Places
+pub mod Lasting
 pub mod Latest
 pub mod StreamLaws

@@ -7,29 +7,31 @@ use Rattle.parser_loop.proofs.Walks.{settle-step, settle-same, IsSettled}
 use Rattle.adts_stream.specs.declared.header.FrameHeader.{FrameHeader}
 use Rattle.adts_stream.specs.declared.header.Found.{Found}
 use Rattle.adts_stream.specs.declared.header.Found.TheVariants as found
-use Rattle.adts_stream.specs.declared.place.Place.{Place}
-use Rattle.adts_stream.specs.declared.place.Place.TheVariants.{AtHeader, InTag, AtFrame, AtEnd}
-use Rattle.adts_stream.specs.declared.place.Spot.{Spot}
+use Rattle.adts_stream.specs.declared.position.ParsePoint.{ParsePoint}
+use Rattle.adts_stream.specs.declared.position.ParsePoint.TheVariants.{AtHeader, InTag, AtFrame, AtEnd}
+use Rattle.adts_stream.specs.declared.position.ParsePosition.{ParsePosition}
 use Rattle.adts_stream.specs.Headers.{found_at}
-use Rattle.adts_stream.specs.Frames.{Item, InitItem, FrameItem, SegmentEnd, State, presentation_of, has_rate, coded_frame, into, initialized, behind, faulted, frame_move, found_move, tag_move, move_unless, size_by, adts}
-use Rattle.adts_stream.specs.Kept.{IsMoved, state_of, kept_behind}
+use Rattle.parser_loop.specs.Items.{InitItem, FrameItem, SegmentEnd}
+use Rattle.adts_stream.specs.Frames.{AdtsItem, presentation_of, has_rate, coded_frame}
+use Rattle.adts_stream.specs.Walk.{State, into, initialized, behind, faulted, frame_move, found_move, tag_move, move_unless, size_by, adts}
+use Rattle.adts_stream.specs.Values.{IsMoveTo, state_of, state_behind}
 use Rattle.adts_stream.proofs.WalkLaws.{going, is_walk, tag-size, tag-most, once-short, once-there}
 
 -- ---- one move
 
 -- where it only passes on
-pub moved-on : (s t : State) → adts.move s ≡ Pass t → IsMoved s t true
+pub moved-on : (s t : State) → adts.move s ≡ Pass t → IsMoveTo s t true
 moved-on s t e =
     let d : Shrinks adts (adts.size s) (Pass t) = subst (Shrinks adts (adts.size s)) e (is_walk.shrinks s) in
     (sym (settle-step adts is_walk s ∙ ap (settle_by s (settle adts)) e), d)
 
 -- where it does not
-pub stays-there : (s : State) (m : Move State Item) → adts.move s ≡ m → IsSettled m → IsMoved s s false
+pub stays-there : (s : State) (m : Move State AdtsItem) → adts.move s ≡ m → IsSettled m → IsMoveTo s s false
 stays-there s m e h = sym (settle-same adts is_walk s (rw e h))
 
--- the state of a spot where no fault was met
-pub at-spot : (last : Option Presentation) (spot : Spot) (rest : List ℕ) (place : Place) → spot.place ≡ place → spot.failed ≡ false → state_of last spot rest ≡ going last place spot.offset rest
-at-spot last spot rest place e f = rw (e, f) refl
+-- the state of a position where no fault was met
+pub at-position : (last : Option Presentation) (position : ParsePosition) (rest : List ℕ) (point : ParsePoint) → position.point ≡ point → position.failed ≡ false → state_of last position rest ≡ going last point position.offset rest
+at-position last position rest point e f = rw (e, f) refl
 
 -- ---- the bytes of a tag
 
@@ -51,7 +53,7 @@ tag-over : (last : Option Presentation) (offset : ℕ) (rest : List ℕ) → set
 tag-over last offset rest = settle-step adts is_walk (going last (InTag 0) offset rest)
 
 -- a part of the tag is there
-pub part-passed : (last : Option Presentation) (offset left n : ℕ) (rest : List ℕ) → 0 < n → n < left → n ≤ length rest → IsMoved (going last (InTag left) offset rest) (going last (InTag (left - n)) (offset + n) (drop n rest)) true
+pub part-passed : (last : Option Presentation) (offset left n : ℕ) (rest : List ℕ) → 0 < n → n < left → n ≤ length rest → IsMoveTo (going last (InTag left) offset rest) (going last (InTag (left - n)) (offset + n) (drop n rest)) true
 part-passed last offset left n rest z h l = (
   sym (tag-passed n left last offset rest (omega arith) l),
   omega (arith, tag-size (length rest) left (omega arith), tag-most (length (drop n rest)) (left - n), length-drop n rest),
@@ -62,7 +64,7 @@ header-size zero n l k e h g = omega arith
 header-size (suc left) n l k e h g = omega arith
 
 -- all that is left of it
-pub all-passed : (last : Option Presentation) (offset left n : ℕ) (rest : List ℕ) → n ≡ left → n ≤ length rest → IsMoved (going last (InTag left) offset rest) (going last AtHeader (offset + n) (drop n rest)) true
+pub all-passed : (last : Option Presentation) (offset left n : ℕ) (rest : List ℕ) → n ≡ left → n ≤ length rest → IsMoveTo (going last (InTag left) offset rest) (going last AtHeader (offset + n) (drop n rest)) true
 all-passed last offset left n rest e l =
     let z : left - n ≡ 0 = omega arith in (
       sym (tag-passed n left last offset rest (omega arith) l ∙ ap (λ k. settle adts (going last (InTag k) (offset + n) (drop n rest))) z ∙ tag-over last (offset + n) (drop n rest)),
@@ -75,7 +77,7 @@ tag-waits last offset (suc left) [] z l = refl
 tag-waits last offset (suc left) (x ∷ rest) z l = absurd (omega arith)
 
 -- none of it
-pub none-passed : (last : Option Presentation) (offset left : ℕ) (rest : List ℕ) → 0 < left → length rest ≡ 0 → IsMoved (going last (InTag left) offset rest) (going last (InTag left) offset rest) false
+pub none-passed : (last : Option Presentation) (offset left : ℕ) (rest : List ℕ) → 0 < left → length rest ≡ 0 → IsMoveTo (going last (InTag left) offset rest) (going last (InTag left) offset rest) false
 none-passed last offset left rest z l = stays-there (going last (InTag left) offset rest) Stop (tag-waits last offset left rest z l) tt
 
 -- ---- before a header
@@ -89,10 +91,10 @@ frame-known s h e = ap (λ b. cond b (Pass (into s (AtFrame h))) (Give (InitItem
 frame-new : (s : State) (h : FrameHeader) → has_rate s.last h.rate ≡ false → frame_move s h ≡ Give (InitItem (presentation_of h.rate) s.offset) (initialized s h)
 frame-new s h e = ap (λ b. cond b (Pass (into s (AtFrame h))) (Give (InitItem (presentation_of h.rate) s.offset) (initialized s h))) e
 
-pub to-tag : (last : Option Presentation) (offset : ℕ) (rest : List ℕ) (n : ℕ) → found.Tag n ≡ found_at rest → IsMoved (going last AtHeader offset rest) (going last (InTag n) offset rest) true
+pub to-tag : (last : Option Presentation) (offset : ℕ) (rest : List ℕ) (n : ℕ) → found.Tag n ≡ found_at rest → IsMoveTo (going last AtHeader offset rest) (going last (InTag n) offset rest) true
 to-tag last offset rest n e = moved-on (going last AtHeader offset rest) (going last (InTag n) offset rest) (header-move last offset rest (found.Tag n) e)
 
-pub to-frame : (last : Option Presentation) (offset : ℕ) (rest : List ℕ) (h : FrameHeader) → found.Frame h ≡ found_at rest → has_rate last h.rate ≡ true → IsMoved (going last AtHeader offset rest) (going last (AtFrame h) offset rest) true
+pub to-frame : (last : Option Presentation) (offset : ℕ) (rest : List ℕ) (h : FrameHeader) → found.Frame h ≡ found_at rest → has_rate last h.rate ≡ true → IsMoveTo (going last AtHeader offset rest) (going last (AtFrame h) offset rest) true
 to-frame last offset rest h e r =
     let s = going last AtHeader offset rest in
     moved-on s (going last (AtFrame h) offset rest) (header-move last offset rest (found.Frame h) e ∙ frame-known s h r)
@@ -107,7 +109,7 @@ same-rate last offset rest h e r =
     let s = going last AtHeader offset rest in
     ap item_of (header-move last offset rest (found.Frame h) e ∙ frame-known s h r)
 
-pub header-stays : (last : Option Presentation) (offset : ℕ) (rest : List ℕ) (f : Found) → f ≡ found_at rest → IsSettled (found_move (going last AtHeader offset rest) f) → IsMoved (going last AtHeader offset rest) (going last AtHeader offset rest) false
+pub header-stays : (last : Option Presentation) (offset : ℕ) (rest : List ℕ) (f : Found) → f ≡ found_at rest → IsSettled (found_move (going last AtHeader offset rest) f) → IsMoveTo (going last AtHeader offset rest) (going last AtHeader offset rest) false
 header-stays last offset rest f e h = stays-there (going last AtHeader offset rest) (found_move (going last AtHeader offset rest) f) (header-move last offset rest f e) h
 
 pub header-front : (last : Option Presentation) (offset : ℕ) (rest : List ℕ) (f : Found) → f ≡ found_at rest → adts.move (going last AtHeader offset rest) ≡ found_move (going last AtHeader offset rest) f
@@ -115,7 +117,7 @@ header-front last offset rest f e = header-move last offset rest f e
 
 -- ---- a frame
 
-once-settled : (b : Bool) (item : Item) (t : State) → IsSettled (cond b Stop (Give item t))
+once-settled : (b : Bool) (item : AdtsItem) (t : State) → IsSettled (cond b Stop (Give item t))
 once-settled true item t = tt
 once-settled false item t = tt
 
@@ -125,10 +127,10 @@ frame-settled last offset rest h = once-settled (ltb (length rest) h.len) _ _
 pub end-settled : (last : Option Presentation) (offset : ℕ) (rest : List ℕ) (h : FrameHeader) → IsSettled (adts.move (going last (AtEnd h) offset rest))
 end-settled last offset rest h = once-settled (ltb (length rest) h.len) _ _
 
-pub frame-stays : (last : Option Presentation) (offset : ℕ) (rest : List ℕ) (h : FrameHeader) → IsMoved (going last (AtFrame h) offset rest) (going last (AtFrame h) offset rest) false
+pub frame-stays : (last : Option Presentation) (offset : ℕ) (rest : List ℕ) (h : FrameHeader) → IsMoveTo (going last (AtFrame h) offset rest) (going last (AtFrame h) offset rest) false
 frame-stays last offset rest h = stays-there (going last (AtFrame h) offset rest) _ refl (frame-settled last offset rest h)
 
-pub end-stays : (last : Option Presentation) (offset : ℕ) (rest : List ℕ) (h : FrameHeader) → IsMoved (going last (AtEnd h) offset rest) (going last (AtEnd h) offset rest) false
+pub end-stays : (last : Option Presentation) (offset : ℕ) (rest : List ℕ) (h : FrameHeader) → IsMoveTo (going last (AtEnd h) offset rest) (going last (AtEnd h) offset rest) false
 end-stays last offset rest h = stays-there (going last (AtEnd h) offset rest) _ refl (end-settled last offset rest h)
 
 pub frame-short : (last : Option Presentation) (offset : ℕ) (rest : List ℕ) (h : FrameHeader) → length rest < h.len → item_of (adts.move (going last (AtFrame h) offset rest)) ≡ None
@@ -155,69 +157,69 @@ tag-dry last offset (suc left) rest = tag-none (going last (InTag (suc left)) of
 
 -- ---- behind an item
 
-behind-by : (s t : State) (m : Move State Item) (item : Item) → m ≡ Give item t → IsSettled (adts.move t) → kept_behind s m ≡ t
-behind-by s t m item e h = ap (kept_behind s) e ∙ settle-same adts is_walk t h
+behind-by : (s t : State) (m : Move State AdtsItem) (item : AdtsItem) → m ≡ Give item t → IsSettled (adts.move t) → state_behind s m ≡ t
+behind-by s t m item e h = ap (state_behind s) e ∙ settle-same adts is_walk t h
 
 -- behind an initialization segment
-pub behind-init : (s : State) (h : FrameHeader) (item : Item) → adts.move s ≡ Give item (initialized s h) → going (Some (presentation_of h.rate)) (AtFrame h) s.offset s.rest ≡ kept_behind s (adts.move s)
+pub behind-init : (s : State) (h : FrameHeader) (item : AdtsItem) → adts.move s ≡ Give item (initialized s h) → going (Some (presentation_of h.rate)) (AtFrame h) s.offset s.rest ≡ state_behind s (adts.move s)
 behind-init s h item e = sym (behind-by s (initialized s h) (adts.move s) item e (frame-settled (Some (presentation_of h.rate)) s.offset s.rest h))
 
 -- behind a coded frame
-pub behind-frame : (s : State) (h : FrameHeader) (item : Item) → adts.move s ≡ Give item (into s (AtEnd h)) → going s.last (AtEnd h) s.offset s.rest ≡ kept_behind s (adts.move s)
+pub behind-frame : (s : State) (h : FrameHeader) (item : AdtsItem) → adts.move s ≡ Give item (into s (AtEnd h)) → going s.last (AtEnd h) s.offset s.rest ≡ state_behind s (adts.move s)
 behind-frame s h item e = sym (behind-by s (into s (AtEnd h)) (adts.move s) item e (end-settled s.last s.offset s.rest h))
 
 -- behind a fault
-pub behind-fault : (s : State) (item : Item) → adts.move s ≡ Give item (faulted s) → faulted s ≡ kept_behind s (adts.move s)
+pub behind-fault : (s : State) (item : AdtsItem) → adts.move s ≡ Give item (faulted s) → faulted s ≡ state_behind s (adts.move s)
 behind-fault s item e = sym (behind-by s (faulted s) (adts.move s) item e tt)
 
 -- behind a segment
-pub behind-end : (s : State) (n : ℕ) (item : Item) → adts.move s ≡ Give item (behind s n) → settle adts (behind s n) ≡ kept_behind s (adts.move s)
-behind-end s n item e = sym (ap (kept_behind s) e)
+pub behind-end : (s : State) (n : ℕ) (item : AdtsItem) → adts.move s ≡ Give item (behind s n) → settle adts (behind s n) ≡ state_behind s (adts.move s)
+behind-end s n item e = sym (ap (state_behind s) e)
 
-none-behind : (s : State) (m : Move State Item) → item_of m ≡ None → s ≡ kept_behind s m
+none-behind : (s : State) (m : Move State AdtsItem) → item_of m ≡ None → s ≡ state_behind s m
 none-behind s Stop e = refl
 none-behind s (Pass t) e = refl
 none-behind s (Give item t) e = absurd (cc)
 
 -- where there is no item, what is kept stays
-pub behind-none : (s : State) → item_of (adts.move s) ≡ None → s ≡ kept_behind s (adts.move s)
+pub behind-none : (s : State) → item_of (adts.move s) ≡ None → s ≡ state_behind s (adts.move s)
 behind-none s e = none-behind s (adts.move s) e
 
--- ---- moves of a spot
+-- ---- moves of a position
 
-pub spot-moved : (last : Option Presentation) (spot new : Spot) (rest new_rest : List ℕ) (p q : Place) (b : Bool) → spot.place ≡ p → new.place ≡ q → spot.failed ≡ false → new.failed ≡ false → IsMoved (going last p spot.offset rest) (going last q new.offset new_rest) b → IsMoved (state_of last spot rest) (state_of last new new_rest) b
-spot-moved last spot new rest new_rest p q b e f g h m = rw (at-spot last spot rest p e g, at-spot last new new_rest q f h) m
+pub position-moved : (last : Option Presentation) (position new : ParsePosition) (rest new_rest : List ℕ) (p q : ParsePoint) (b : Bool) → position.point ≡ p → new.point ≡ q → position.failed ≡ false → new.failed ≡ false → IsMoveTo (going last p position.offset rest) (going last q new.offset new_rest) b → IsMoveTo (state_of last position rest) (state_of last new new_rest) b
+position-moved last position new rest new_rest p q b e f g h m = rw (at-position last position rest p e g, at-position last new new_rest q f h) m
 
-pub is-true : (s t : State) (b : Bool) → b ≡ true → IsMoved s t b → IsMoved s t true
-is-true s t b e h = subst (IsMoved s t) e h
+pub is-true : (s t : State) (b : Bool) → b ≡ true → IsMoveTo s t b → IsMoveTo s t true
+is-true s t b e h = subst (IsMoveTo s t) e h
 
-pub is-false : (s t : State) (b : Bool) → b ≡ false → IsMoved s t b → IsMoved s t false
-is-false s t b e h = subst (IsMoved s t) e h
+pub is-false : (s t : State) (b : Bool) → b ≡ false → IsMoveTo s t b → IsMoveTo s t false
+is-false s t b e h = subst (IsMoveTo s t) e h
 
 -- ---- what the code keeps behind an item
 
-going-at : (s : State) (item : Item) (t : State) (b : Bool) → s.failed ≡ b → move_unless s b ≡ Give item t → s.failed ≡ false
+going-at : (s : State) (item : AdtsItem) (t : State) (b : Bool) → s.failed ≡ b → move_unless s b ≡ Give item t → s.failed ≡ false
 going-at s item t true e h = absurd (cc)
 going-at s item t false e h = e
 
 -- where an item comes, no fault was met
-pub going-on : (s : State) (item : Item) (t : State) → adts.move s ≡ Give item t → s.failed ≡ false
+pub going-on : (s : State) (item : AdtsItem) (t : State) → adts.move s ≡ Give item t → s.failed ≡ false
 going-on s item t h = going-at s item t s.failed refl h
 
-pub kept-init : (last new_last : Option Presentation) (spot new : Spot) (rest : List ℕ) (h : FrameHeader) (item : Item) → let s = state_of last spot rest in adts.move s ≡ Give item (initialized s h) → new_last ≡ Some (presentation_of h.rate) → new ≡ record { place = AtFrame h; offset = spot.offset; failed = spot.failed } → state_of new_last new rest ≡ kept_behind s (adts.move s)
-kept-init last new_last spot new rest h item e l n =
-    let s : State = state_of last spot rest in
-    let g : spot.failed ≡ false = going-on s item (initialized s h) e in
-    let kept : Option Presentation → Spot → State = λ l x. state_of l x rest in
-    let at : Bool → Spot = λ b. record { place = AtFrame h; offset = spot.offset; failed = b } in
+pub kept-init : (last new_last : Option Presentation) (position new : ParsePosition) (rest : List ℕ) (h : FrameHeader) (item : AdtsItem) → let s = state_of last position rest in adts.move s ≡ Give item (initialized s h) → new_last ≡ Some (presentation_of h.rate) → new ≡ record { point = AtFrame h; offset = position.offset; failed = position.failed } → state_of new_last new rest ≡ state_behind s (adts.move s)
+kept-init last new_last position new rest h item e l n =
+    let s : State = state_of last position rest in
+    let g : position.failed ≡ false = going-on s item (initialized s h) e in
+    let kept : Option Presentation → ParsePosition → State = λ l x. state_of l x rest in
+    let at : Bool → ParsePosition = λ b. record { point = AtFrame h; offset = position.offset; failed = b } in
     ap (λ l. kept l new) l ∙ ap (kept (Some (presentation_of h.rate))) (n ∙ ap at g) ∙ behind-init s h item e
 
-pub kept-frame : (last : Option Presentation) (spot new : Spot) (rest : List ℕ) (h : FrameHeader) (item : Item) → let s = state_of last spot rest in adts.move s ≡ Give item (into s (AtEnd h)) → new ≡ record { place = AtEnd h; offset = spot.offset; failed = spot.failed } → state_of last new rest ≡ kept_behind s (adts.move s)
-kept-frame last spot new rest h item e n =
-    let s : State = state_of last spot rest in
-    let g : spot.failed ≡ false = going-on s item (into s (AtEnd h)) e in
-    let at : Bool → Spot = λ b. record { place = AtEnd h; offset = spot.offset; failed = b } in
-    ap (λ (x : Spot). state_of last x rest) (n ∙ ap at g) ∙ behind-frame s h item e
+pub kept-frame : (last : Option Presentation) (position new : ParsePosition) (rest : List ℕ) (h : FrameHeader) (item : AdtsItem) → let s = state_of last position rest in adts.move s ≡ Give item (into s (AtEnd h)) → new ≡ record { point = AtEnd h; offset = position.offset; failed = position.failed } → state_of last new rest ≡ state_behind s (adts.move s)
+kept-frame last position new rest h item e n =
+    let s : State = state_of last position rest in
+    let g : position.failed ≡ false = going-on s item (into s (AtEnd h)) e in
+    let at : Bool → ParsePosition = λ b. record { point = AtEnd h; offset = position.offset; failed = b } in
+    ap (λ (x : ParsePosition). state_of last x rest) (n ∙ ap at g) ∙ behind-frame s h item e
 
 pub on-ok : {T E : Type 0} {P Q : Type 0} (r : Result T E) → (P → Q) → OnOk r P → OnOk r Q
 on-ok (Ok x) f p = f p

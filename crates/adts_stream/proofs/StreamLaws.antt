@@ -1,34 +1,40 @@
 -- What the fields of a stream are to its contracts.
 use Rattle.std.proofs.Common.{◌≡◌, ℕ, zero, suc, ◌+◌, ◌-◌, ◌<◌, ◌≤◌, ◌^◌, leb, ltb, cond, Bool, true, false, List, [], ◌∷◌, ◌++◌, length, take, drop, slice_get, Option, Some, None, Result, Ok, Err, IfOk, OnOk, ◌⊎◌, inl, inr, refl, ap, sym, ◌∙◌, subst, arith}
 use Rattle.std.specs.List.{concat}
-use Rattle.std.specs.Prelude.{IfSome}
+use Rattle.std.specs.Prelude.{IfSome, IsTrue, ◌↔◌}
+use Rattle.mse_base.specs.declared.frame.Phase.TheVariants.{Waiting}
 use Rattle.std.proofs.lemmas.List.{length-append, length-drop, length-take-le, append-nil, append_assoc, take-append-drop}
 use Rattle.std.proofs.lemmas.Bool.Decides.{nat_tests}
 use Rattle.mse_base.specs.declared.track.Presentation.{Presentation}
 use Rattle.parser_loop.specs.Walk.{Move, Stop, Pass, Give, Run, run, run_by, stay_at, settle, items_by, items_from, state_at, run_after, first_item, after_first, item_of, count_after}
 use Rattle.parser_loop.specs.Walk as walk
-use Rattle.parser_loop.proofs.Walks.{IsSettled, settled, settle-same, settled-at-state, items-at, items-step, state-more}
+use Rattle.parser_loop.proofs.Walks.{IsSettled, settled, settle-same, settled-at-state, items-at, items-step}
 use Rattle.parser_loop.proofs.Runs.{IsRested, run-rested, run-settle, stands-first, stands-after}
-use Rattle.parser_loop.proofs.Pieces.{more-items}
+use Rattle.parser_loop.specs.Items.{leading_frames, latest_after_all}
+use Rattle.parser_loop.specs.Parse.{ParserView}
+use Rattle.parser_loop.proofs.Pieces.{stands-piece, stands-start}
 use Rattle.adts_stream.specs.declared.header.FrameHeader.{FrameHeader}
 use Rattle.adts_stream.specs.declared.header.Found.{Found}
 use Rattle.adts_stream.specs.declared.header.Found.TheVariants as found
-use Rattle.adts_stream.specs.declared.place.Place.{Place}
-use Rattle.adts_stream.specs.declared.place.Place.TheVariants.{AtHeader, InTag, AtFrame, AtEnd}
-use Rattle.adts_stream.specs.declared.place.Spot.{Spot}
+use Rattle.adts_stream.specs.declared.position.ParsePoint.{ParsePoint}
+use Rattle.adts_stream.specs.declared.position.ParsePoint.TheVariants.{AtHeader, InTag, AtFrame, AtEnd}
+use Rattle.adts_stream.specs.declared.position.ParsePosition.{ParsePosition}
 use Rattle.adts_stream.specs.declared.next.AdtsNext.{AdtsNext}
 use Rattle.adts_stream.specs.Headers.{found_at}
-use Rattle.adts_stream.specs.Frames.{Item, InitItem, FrameItem, SegmentEnd, FaultItem, State, found_move, tag_move, move_unless, more_unless, presentation_of, has_rate, coded_frame, into, initialized, behind, adts}
-use Rattle.adts_stream.specs.Strings.{start, Items, state_before, phase_of, phase_before, frames_first, ready_before, held_before, latest}
-use Rattle.adts_stream.specs.Kept.{state_of, kept_behind, ready_at, ready_unless, ready_of, place_at_start, seen}
-use Rattle.adts_stream.specs.Streams.{Streamed, Stands, fed, fed_all, streamed, IsStream}
+use Rattle.parser_loop.specs.Items.{InitItem, FrameItem, SegmentEnd, FaultItem, latest_after_all}
+use Rattle.adts_stream.specs.Frames.{AdtsItem, presentation_of, has_rate, coded_frame, Items, phase_before, ready_before, held_before}
+use Rattle.adts_stream.specs.Walk.{State, found_move, tag_move, move_unless, more_unless, into, initialized, behind, adts, start, state_before, phase_of}
+use Rattle.adts_stream.specs.Values.{state_of, state_behind, ready_at, ready_unless, ready_of, position_at_start, seen}
+use Rattle.adts_stream.specs.Streams.{AdtsView, Stands, fed, fed_all, adts_view, IsStream}
 use Rattle.adts_stream.proofs.WalkLaws.{going, is_walk, once-short}
-use Rattle.adts_stream.proofs.Moves.{at-spot, behind-none, end-whole, frame-whole}
-use Rattle.adts_stream.proofs.Latest.{state-latest}
+use Rattle.adts_stream.proofs.Moves.{at-position, behind-none, end-whole, frame-whole}
+use Rattle.parser_loop.proofs.Latest.{state-latest}
+use Rattle.adts_stream.proofs.Latest.{last-move}
+use Rattle.adts_stream.proofs.FrameLaws.{items-frames, view-frames}
 
 -- ---- what is kept, as a walk that takes nothing ahead
 
-rested : (m : Move State Item) → IsSettled m → IsRested adts m
+rested : (m : Move State AdtsItem) → IsSettled m → IsRested adts m
 rested Stop h = tt
 rested (Pass t) h = h
 rested (Give item t) h = refl
@@ -36,37 +42,32 @@ rested (Give item t) h = refl
 run-is : (t : State) → run adts t ≡ stay_at (settle adts t)
 run-is t = sym (run-settle adts is_walk t) ∙ run-rested adts is_walk (settle adts t) (rested (adts.move (settle adts t)) (settled adts is_walk t))
 
-to-walk : (kept : State) (last : Option Presentation) (b : List ℕ) (n : ℕ) → Stands kept last b n → walk.Stands adts (stay_at kept) (start last b) n
-to-walk kept last b n h = record {
-  taken = h.given;
-  is = ap (λ s. stay_at s) h.is ∙ sym (run-rested adts is_walk (state_before last b n) (rested (adts.move (state_before last b n)) (settled-at-state adts is_walk n (start last b))));
-}
+run-state : (last : Option Presentation) (b : List ℕ) (n : ℕ) → run adts (state_before last b n) ≡ stay_at (state_before last b n)
+run-state last b n = run-rested adts is_walk (state_before last b n) (rested (adts.move (state_before last b n)) (settled-at-state adts is_walk n (start last b)))
 
-from-walk : (kept : State) (r : Run State Item) (last : Option Presentation) (b : List ℕ) (n : ℕ) → r ≡ stay_at kept → walk.Stands adts r (start last b) n → Stands kept last b n
-from-walk kept r last b n e h = record {
-  given = h.taken;
-  is = ap (λ (r : Run State Item). r.state) (sym e ∙ h.is ∙ run-rested adts is_walk (state_before last b n) (rested (adts.move (state_before last b n)) (settled-at-state adts is_walk n (start last b))));
-}
+-- it is the state just before the next item
+pub is-state : (kept : State) (last : Option Presentation) (b : List ℕ) (n : ℕ) → Stands kept last b n → kept ≡ state_before last b n
+is-state kept last b n h = ap (λ (r : Run State AdtsItem). r.state) (h.is ∙ run-state last b n)
+
+pub stands-given : (kept : State) (last : Option Presentation) (b : List ℕ) (n : ℕ) → Stands kept last b n → n ≤ length (Items last b)
+stands-given kept last b n h = omega (arith, h.taken, ap length (items-frames last b))
 
 -- the next item
 pub stands-item : (kept : State) (last : Option Presentation) (b : List ℕ) (n : ℕ) → Stands kept last b n → item_of (adts.move kept) ≡ slice_get (Items last b) n
-stands-item kept last b n h = stands-first adts is_walk (stay_at kept) (start last b) n (to-walk kept last b n h)
+stands-item kept last b n h = stands-first adts is_walk (stay_at kept) (start last b) n h ∙ ap (λ items. slice_get items n) (sym (items-frames last b))
 
-after-is : (kept : State) (m : Move State Item) → run_after adts kept m ≡ stay_at (kept_behind kept m)
+after-is : (kept : State) (m : Move State AdtsItem) → run_after adts kept m ≡ stay_at (state_behind kept m)
 after-is kept Stop = refl
 after-is kept (Pass t) = refl
 after-is kept (Give item t) = run-is t
 
 -- behind it
-pub stands-behind : (kept : State) (last : Option Presentation) (b : List ℕ) (n : ℕ) → Stands kept last b n → Stands (kept_behind kept (adts.move kept)) last b (count_after n (item_of (adts.move kept)))
-stands-behind kept last b n h = from-walk (kept_behind kept (adts.move kept)) (after_first adts (stay_at kept)) last b (count_after n (item_of (adts.move kept))) (after-is kept (adts.move kept)) (stands-after adts is_walk (stay_at kept) (start last b) n (to-walk kept last b n h))
+pub stands-behind : (kept : State) (last : Option Presentation) (b : List ℕ) (n : ℕ) → Stands kept last b n → Stands (state_behind kept (adts.move kept)) last b (count_after n (item_of (adts.move kept)))
+stands-behind kept last b n h = subst (λ r. walk.Stands adts r (start last b) (count_after n (item_of (adts.move kept)))) (after-is kept (adts.move kept)) (stands-after adts is_walk (stay_at kept) (start last b) n h)
 
 -- with more bytes
 pub stands-more : (kept : State) (last : Option Presentation) (b c : List ℕ) (n : ℕ) → Stands kept last b n → Stands (fed kept c) last (b ++ c) n
-stands-more kept last b c n h = record {
-  given = more-items adts is_walk (start last b) c n h.given;
-  is = ap (λ s. settle adts (adts.more s c)) h.is ∙ sym (state-more adts is_walk n (start last b) c h.given);
-}
+stands-more kept last b c n h = subst (λ r. walk.Stands adts r (start last (b ++ c)) n) (run-is (adts.more kept c)) (stands-piece adts is_walk (stay_at kept) (start last b) c n h)
 
 pub stands-pieces : (kept : State) (last : Option Presentation) (b : List ℕ) (n : ℕ) (cs : List (List ℕ)) → Stands kept last b n → Stands (fed_all kept cs) last (b ++ concat cs) n
 stands-pieces kept last b n [] h = rw (append-nil b) h
@@ -74,18 +75,27 @@ stands-pieces kept last b n (c ∷ cs) h =
     subst (λ v. Stands (fed_all (fed kept c) cs) last v n) (append_assoc b c (concat cs)) (stands-pieces (fed kept c) last (b ++ c) n cs (stands-more kept last b c n h))
 
 -- the presentation, the phase and the bytes
-pub stands-latest : (kept : State) (last : Option Presentation) (b : List ℕ) (n : ℕ) → Stands kept last b n → kept.last ≡ latest last (take n (Items last b))
-stands-latest kept last b n h = ap (λ (s : State). s.last) h.is ∙ state-latest n (start last b)
+pub stands-latest : (kept : State) (last : Option Presentation) (b : List ℕ) (n : ℕ) → Stands kept last b n → kept.last ≡ latest_after_all last (take n (Items last b))
+stands-latest kept last b n h = ap (λ (s : State). s.last) (is-state kept last b n h) ∙ state-latest adts is_walk (λ (s : State). s.last) last-move n (start last b) ∙ ap (λ items. latest_after_all last (take n items)) (sym (items-frames last b))
 
-pub stands-phase : (kept : State) (last : Option Presentation) (b : List ℕ) (n : ℕ) → Stands kept last b n → phase_of kept.place ≡ phase_before last b n
-stands-phase kept last b n h = ap (λ (s : State). phase_of s.place) h.is
+pub stands-phase : (kept : State) (last : Option Presentation) (b : List ℕ) (n : ℕ) → Stands kept last b n → phase_of kept.point ≡ phase_before last b n
+stands-phase kept last b n h = ap (λ (s : State). phase_of s.point) (is-state kept last b n h) ∙ ap (λ (v : ParserView). v.phase) (sym (view-frames last b n))
 
 pub stands-held : (kept : State) (last : Option Presentation) (b : List ℕ) (n : ℕ) → Stands kept last b n → kept.rest ≡ held_before last b n
-stands-held kept last b n h = ap (λ (s : State). s.rest) h.is
+stands-held kept last b n h = ap (λ (s : State). s.rest) (is-state kept last b n h) ∙ ap (λ (v : ParserView). v.held) (sym (view-frames last b n))
+
+pub waits-kept : (r : Bool) (point : ParsePoint) (kept : State) → point ≡ kept.point → (IsTrue r ↔ (phase_of point ≡ Waiting)) → (IsTrue r ↔ (phase_of kept.point ≡ Waiting))
+waits-kept r point kept e h = subst (λ p. IsTrue r ↔ (phase_of p ≡ Waiting)) e h
+
+pub waits : (r : Bool) (kept : State) (last : Option Presentation) (b : List ℕ) (n : ℕ) → Stands kept last b n → (IsTrue r ↔ (phase_of kept.point ≡ Waiting)) → (IsTrue r ↔ (phase_before last b n ≡ Waiting))
+waits r kept last b n st h = subst (λ p. IsTrue r ↔ (p ≡ Waiting)) (stands-phase kept last b n st) h
 
 -- ---- frames that are ready
 
-items-give : (s t : State) (item : Item) → adts.move s ≡ Give item t → items_from adts s ≡ item ∷ items_from adts t
+abbrev frames_first : List AdtsItem → ℕ
+frames_first items = length (leading_frames items)
+
+items-give : (s t : State) (item : AdtsItem) → adts.move s ≡ Give item t → items_from adts s ≡ item ∷ items_from adts t
 items-give s t item e = items-step adts is_walk s ∙ ap (items_by (items_from adts)) e
 
 items-stop : (s : State) → adts.move s ≡ Stop → items_from adts s ≡ []
@@ -101,7 +111,7 @@ one-frame last offset rest h l =
     ap frames_first e ∙ ap (λ items. suc (frames_first items)) f
 
 -- whether the item of a move is a coded frame
-abbrev gives_frame : Move State Item → Bool
+abbrev gives_frame : Move State AdtsItem → Bool
 gives_frame Stop = false
 gives_frame (Pass t) = false
 gives_frame (Give (InitItem p offset) t) = false
@@ -109,7 +119,7 @@ gives_frame (Give (FrameItem frame offset) t) = true
 gives_frame (Give SegmentEnd t) = false
 gives_frame (Give (FaultItem f offset) t) = false
 
-no-frame : (s : State) (m : Move State Item) → adts.move s ≡ m → IsSettled m → gives_frame m ≡ false → frames_first (items_from adts s) ≡ 0
+no-frame : (s : State) (m : Move State AdtsItem) → adts.move s ≡ m → IsSettled m → gives_frame m ≡ false → frames_first (items_from adts s) ≡ 0
 no-frame s Stop e h f = ap frames_first (items-stop s e)
 no-frame s (Pass t) e h f = absurd h
 no-frame s (Give (InitItem p offset) t) e h f = ap frames_first (items-give s t (InitItem p offset) e)
@@ -139,27 +149,27 @@ frame-there : (last : Option Presentation) (offset : ℕ) (rest : List ℕ) (h :
 frame-there last offset rest h true e = let l : h.len ≤ length rest = grind (arith, nat_tests) in sym (one-frame last offset rest h l)
 frame-there last offset rest h false e = let l : length rest < h.len = grind (arith, nat_tests) in sym (ap frames_first (items-stop (going last (AtFrame h) offset rest) (once-short (going last (AtFrame h) offset rest) h _ l)))
 
-ready-place : (last : Option Presentation) (p : Place) (offset : ℕ) (rest : List ℕ) → IsSettled (adts.move (going last p offset rest)) → ready_at (length rest) p ≡ frames_first (items_from adts (going last p offset rest))
+ready-place : (last : Option Presentation) (p : ParsePoint) (offset : ℕ) (rest : List ℕ) → IsSettled (adts.move (going last p offset rest)) → ready_at (length rest) p ≡ frames_first (items_from adts (going last p offset rest))
 ready-place last AtHeader offset rest h = sym (no-frame (going last AtHeader offset rest) _ refl h (found-frameless (going last AtHeader offset rest) (found_at rest)))
 ready-place last (InTag zero) offset rest h = absurd h
 ready-place last (InTag (suc left)) offset rest h = sym (no-frame (going last (InTag (suc left)) offset rest) _ refl h (tag-frameless (going last (InTag (suc left)) offset rest) left rest))
 ready-place last (AtFrame h) offset rest s = frame-there last offset rest h (leb h.len (length rest)) refl
 ready-place last (AtEnd h) offset rest s = sym (no-frame (going last (AtEnd h) offset rest) _ refl s (end-frameless (ltb (length rest) h.len) (behind (going last (AtEnd h) offset rest) h.len)))
 
-ready-unless : (last : Option Presentation) (p : Place) (offset : ℕ) (rest : List ℕ) (failed : Bool) → let s : State = record { last = last; place = p; offset = offset; rest = rest; failed = failed } in IsSettled (adts.move s) → ready_unless s failed ≡ frames_first (items_from adts s)
-ready-unless last p offset rest true h = let s : State = record { last = last; place = p; offset = offset; rest = rest; failed = true } in sym (ap frames_first (items-stop s refl))
+ready-unless : (last : Option Presentation) (p : ParsePoint) (offset : ℕ) (rest : List ℕ) (failed : Bool) → let s : State = record { last = last; point = p; offset = offset; rest = rest; failed = failed } in IsSettled (adts.move s) → ready_unless s failed ≡ frames_first (items_from adts s)
+ready-unless last p offset rest true h = let s : State = record { last = last; point = p; offset = offset; rest = rest; failed = true } in sym (ap frames_first (items-stop s refl))
 ready-unless last p offset rest false h = ready-place last p offset rest h
 
 pub stands-ready : (kept : State) (last : Option Presentation) (b : List ℕ) (n : ℕ) → Stands kept last b n → ready_of kept ≡ ready_before last b n
 stands-ready kept last b n h =
     let s : State = state_before last b n in
-    ap ready_of h.is ∙ ready-unless s.last s.place s.offset s.rest s.failed (settled-at-state adts is_walk n (start last b)) ∙ ap frames_first (items-at adts is_walk n (start last b))
+    ap ready_of (is-state kept last b n h) ∙ ready-unless s.last s.point s.offset s.rest s.failed (settled-at-state adts is_walk n (start last b)) ∙ ap frames_first (items-at adts is_walk n (start last b) ∙ ap (drop n) (sym (items-frames last b)))
 
 one-or-none : (b : Bool) → cond b 1 0 ≤ 1
 one-or-none true = omega arith
 one-or-none false = omega arith
 
-ready-most : (s : State) (p : Place) (n : ℕ) → ready_at n p ≤ 1
+ready-most : (s : State) (p : ParsePoint) (n : ℕ) → ready_at n p ≤ 1
 ready-most s AtHeader n = omega arith
 ready-most s (InTag left) n = omega arith
 ready-most s (AtFrame h) n = one-or-none (leb h.len n)
@@ -167,7 +177,7 @@ ready-most s (AtEnd h) n = omega arith
 
 ready-few : (s : State) (failed : Bool) → ready_unless s failed ≤ 1
 ready-few s true = omega arith
-ready-few s false = ready-most s s.place (length s.rest)
+ready-few s false = ready-most s s.point (length s.rest)
 
 -- only the next item can be looked at
 pub only-next : (s : State) (i : ℕ) → (i ≡ 0) ⊎ (i < ready_of s) → i ≡ 0
@@ -179,9 +189,9 @@ only-next s i (inr h) = omega (arith, h, ready-few s s.failed)
 some-none : (x : List ℕ) → Some x ≡ None → ⊥
 some-none x e = cc
 
-pub idle : (last : Option Presentation) (spot : Spot) (bytes : List ℕ) (n : ℕ) (o : Option ℕ) (v : Streamed) → streamed last spot bytes n o ≡ v → v.offered ≡ None → (streamed last spot bytes n None ≡ v) × (o ≡ None)
-idle last spot bytes n None v e q = (e, refl)
-idle last spot bytes n (Some len) v e q = absurd (some-none (drop (length bytes - len) bytes) (ap (λ (w : Streamed). w.offered) e ∙ q))
+pub idle : (last : Option Presentation) (position : ParsePosition) (bytes : List ℕ) (n : ℕ) (o : Option ℕ) (v : AdtsView) → adts_view last position bytes n o ≡ v → v.offered ≡ None → (adts_view last position bytes n None ≡ v) × (o ≡ None)
+idle last position bytes n None v e q = (e, refl)
+idle last position bytes n (Some len) v e q = absurd (some-none (drop (length bytes - len) bytes) (ap (λ (w : AdtsView). w.offered) e ∙ q))
 
 -- ---- the empty string
 
@@ -193,14 +203,14 @@ pub stands-empty : (last : Option Presentation) → Stands (start last []) last 
 stands-empty last =
     let s : State = start last [] in
     let e : adts.move s ≡ Stop = ap (found_move s) empty-found in
-    record { given = omega arith; is = sym (settle-same adts is_walk s (rw e tt)) }
+    subst (λ u. Stands u last [] 0) (settle-same adts is_walk s (rw e tt)) (subst (λ r. walk.Stands adts r s 0) (run-is s) (stands-start adts is_walk s))
 
 -- what is kept where nothing is
-pub start-is : (last : Option Presentation) (spot : Spot) (bytes : List ℕ) → spot ≡ place_at_start → bytes ≡ [] → state_of last spot bytes ≡ start last []
-start-is last spot bytes e f = ap (λ (x : Spot). state_of last x bytes) e ∙ ap (state_of last place_at_start) f
+pub start-is : (last : Option Presentation) (position : ParsePosition) (bytes : List ℕ) → position ≡ position_at_start → bytes ≡ [] → state_of last position bytes ≡ start last []
+start-is last position bytes e f = ap (λ (x : ParsePosition). state_of last x bytes) e ∙ ap (state_of last position_at_start) f
 
-pub holds-start : (spot : Spot) (bytes : List ℕ) → spot ≡ place_at_start → bytes ≡ [] → IsStream spot bytes 0 None
-holds-start spot bytes e f = rw (e, f) (record { inside = omega arith; total = omega arith; few = omega arith })
+pub holds-start : (position : ParsePosition) (bytes : List ℕ) → position ≡ position_at_start → bytes ≡ [] → IsStream position bytes 0 None
+holds-start position bytes e f = rw (e, f) (record { inside = omega arith; total = omega arith; bounded = omega arith })
 
 -- ---- bytes are offered
 
@@ -218,18 +228,18 @@ take-front xs ys n e = rw e (take-whole xs ys)
 drop-front : (xs ys : List ℕ) (n : ℕ) → n ≡ length xs → drop n (xs ++ ys) ≡ ys
 drop-front xs ys n e = rw e (drop-whole xs ys)
 
-pub offer-view : (last : Option Presentation) (spot : Spot) (old new bytes : List ℕ) (n len : ℕ) → new ≡ old ++ bytes → len ≡ length bytes → streamed last spot new n (Some len) ≡ record { kept = state_of last spot old; fed = n; offered = Some bytes }
-offer-view last spot old new bytes n len e f =
+pub offer-view : (last : Option Presentation) (position : ParsePosition) (old new bytes : List ℕ) (n len : ℕ) → new ≡ old ++ bytes → len ≡ length bytes → adts_view last position new n (Some len) ≡ record { state = state_of last position old; fed = n; offered = Some bytes }
+offer-view last position old new bytes n len e f =
     let k : length (old ++ bytes) - len ≡ length old = omega (arith, length-append old bytes) in
-    let view : List ℕ → List ℕ → Streamed = λ rest c. record { kept = state_of last spot rest; fed = n; offered = Some c } in
+    let view : List ℕ → List ℕ → AdtsView = λ rest c. record { state = state_of last position rest; fed = n; offered = Some c } in
     ap (λ b. view (take (length b - len) b) (drop (length b - len) b)) e
     ∙ ap (λ rest. view rest (drop (length (old ++ bytes) - len) (old ++ bytes))) (take-front old bytes (length (old ++ bytes) - len) k)
     ∙ ap (view old) (drop-front old bytes (length (old ++ bytes) - len) k)
 
-pub offer-holds : (spot : Spot) (old new bytes : List ℕ) (n len : ℕ) → new ≡ old ++ bytes → len ≡ length bytes → IsStream spot old n None → n + len < 2 ^ 62 → IsStream spot new n (Some len)
-offer-holds spot old new bytes n len e f h room =
+pub offer-holds : (position : ParsePosition) (old new bytes : List ℕ) (n len : ℕ) → new ≡ old ++ bytes → len ≡ length bytes → IsStream position old n None → n + len < 2 ^ 62 → IsStream position new n (Some len)
+offer-holds position old new bytes n len e f h room =
     let l : length new ≡ length old + length bytes = ap length e ∙ length-append old bytes in
-    record { inside = omega arith; total = omega (arith, h.total); few = room }
+    record { inside = omega arith; total = omega (arith, h.total); bounded = room }
 
 -- ---- the offered bytes are appended
 
@@ -238,44 +248,44 @@ more-still s c true e f = ap (more_unless s c) e
 more-still s c false e f = absurd (cc)
 
 -- behind a fault nothing is appended
-pub fed-failed : (last : Option Presentation) (spot : Spot) (bytes c : List ℕ) → spot.failed ≡ true → state_of last spot bytes ≡ fed (state_of last spot bytes) c
-fed-failed last spot bytes c e =
-    let s : State = state_of last spot bytes in
+pub fed-failed : (last : Option Presentation) (position : ParsePosition) (bytes c : List ℕ) → position.failed ≡ true → state_of last position bytes ≡ fed (state_of last position bytes) c
+fed-failed last position bytes c e =
+    let s : State = state_of last position bytes in
     let m : adts.move s ≡ Stop = ap (move_unless s) e in
-    sym (ap (settle adts) (more-still s c spot.failed refl e) ∙ settle-same adts is_walk s (rw m tt))
+    sym (ap (settle adts) (more-still s c position.failed refl e) ∙ settle-same adts is_walk s (rw m tt))
 
-pub fed-going : (last : Option Presentation) (spot : Spot) (bytes : List ℕ) (k : ℕ) → spot.failed ≡ false → settle adts (state_of last spot bytes) ≡ fed (state_of last spot (take k bytes)) (drop k bytes)
-fed-going last spot bytes k e =
-    let s : State = state_of last spot (take k bytes) in
-    let f : adts.more s (drop k bytes) ≡ going last spot.place spot.offset (take k bytes ++ drop k bytes) = ap (more_unless s (drop k bytes)) e in
-    let g : state_of last spot bytes ≡ going last spot.place spot.offset bytes = at-spot last spot bytes spot.place refl e in
-    ap (settle adts) (g ∙ ap (going last spot.place spot.offset) (sym (take-append-drop k bytes)) ∙ sym f)
+pub fed-going : (last : Option Presentation) (position : ParsePosition) (bytes : List ℕ) (k : ℕ) → position.failed ≡ false → settle adts (state_of last position bytes) ≡ fed (state_of last position (take k bytes)) (drop k bytes)
+fed-going last position bytes k e =
+    let s : State = state_of last position (take k bytes) in
+    let f : adts.more s (drop k bytes) ≡ going last position.point position.offset (take k bytes ++ drop k bytes) = ap (more_unless s (drop k bytes)) e in
+    let g : state_of last position bytes ≡ going last position.point position.offset bytes = at-position last position bytes position.point refl e in
+    ap (settle adts) (g ∙ ap (going last position.point position.offset) (sym (take-append-drop k bytes)) ∙ sym f)
 
 offered-length : (bytes : List ℕ) (len : ℕ) → len ≤ length bytes → length (drop (length bytes - len) bytes) ≡ len
 offered-length bytes len h = let l = length-drop (length bytes - len) bytes in omega (arith, l)
 
-pub accept-stands : (last : Option Presentation) (spot : Spot) (bytes : List ℕ) (n len : ℕ) (new : State) (v : Streamed) → streamed last spot bytes n (Some len) ≡ v → new ≡ fed (state_of last spot (take (length bytes - len) bytes)) (drop (length bytes - len) bytes) → IfSome v.offered (λ c. (before : Option Presentation) (b : List ℕ) (k : ℕ) → Stands v.kept before b k → Stands new before (b ++ c) k)
-accept-stands last spot bytes n len new v e f =
+pub accept-stands : (last : Option Presentation) (position : ParsePosition) (bytes : List ℕ) (n len : ℕ) (new : State) (v : AdtsView) → adts_view last position bytes n (Some len) ≡ v → new ≡ fed (state_of last position (take (length bytes - len) bytes)) (drop (length bytes - len) bytes) → IfSome v.offered (λ c. (before : Option Presentation) (b : List ℕ) (k : ℕ) → Stands v.state before b k → Stands new before (b ++ c) k)
+accept-stands last position bytes n len new v e f =
     let c = drop (length bytes - len) bytes in
-    let kept : State = state_of last spot (take (length bytes - len) bytes) in
+    let kept : State = state_of last position (take (length bytes - len) bytes) in
     let g : (before : Option Presentation) (b : List ℕ) (k : ℕ) → Stands kept before b k → Stands new before (b ++ c) k = λ before b k q. subst (λ w. Stands w before (b ++ c) k) (sym f) (stands-more kept before b c k q) in
-    subst (λ (v : Streamed). IfSome v.offered (λ c. (before : Option Presentation) (b : List ℕ) (k : ℕ) → Stands v.kept before b k → Stands new before (b ++ c) k)) e g
+    subst (λ (v : AdtsView). IfSome v.offered (λ c. (before : Option Presentation) (b : List ℕ) (k : ℕ) → Stands v.state before b k → Stands new before (b ++ c) k)) e g
 
-pub accept-fed : (last : Option Presentation) (spot : Spot) (bytes : List ℕ) (n len : ℕ) (v : Streamed) → streamed last spot bytes n (Some len) ≡ v → len ≤ length bytes → IfSome v.offered (λ c. n + len ≡ v.fed + length c)
-accept-fed last spot bytes n len v e h =
+pub accept-fed : (last : Option Presentation) (position : ParsePosition) (bytes : List ℕ) (n len : ℕ) (v : AdtsView) → adts_view last position bytes n (Some len) ≡ v → len ≤ length bytes → IfSome v.offered (λ c. n + len ≡ v.fed + length c)
+accept-fed last position bytes n len v e h =
     let g : n + len ≡ n + length (drop (length bytes - len) bytes) = ap (λ k. n + k) (sym (offered-length bytes len h)) in
-    subst (λ (v : Streamed). IfSome v.offered (λ c. n + len ≡ v.fed + length c)) e g
+    subst (λ (v : AdtsView). IfSome v.offered (λ c. n + len ≡ v.fed + length c)) e g
 
-pub decline-view : (last : Option Presentation) (spot : Spot) (bytes new : List ℕ) (n len : ℕ) (v : Streamed) → streamed last spot bytes n (Some len) ≡ v → new ≡ take (length bytes - len) bytes → streamed last spot new n None ≡ record { kept = v.kept; fed = v.fed; offered = None }
-decline-view last spot bytes new n len v e f =
-    let view : List ℕ → Streamed = λ rest. record { kept = state_of last spot rest; fed = n; offered = None } in
-    let view' : Streamed → Streamed = λ w. record { kept = w.kept; fed = w.fed; offered = None } in
+pub decline-view : (last : Option Presentation) (position : ParsePosition) (bytes new : List ℕ) (n len : ℕ) (v : AdtsView) → adts_view last position bytes n (Some len) ≡ v → new ≡ take (length bytes - len) bytes → adts_view last position new n None ≡ record { state = v.state; fed = v.fed; offered = None }
+decline-view last position bytes new n len v e f =
+    let view : List ℕ → AdtsView = λ rest. record { state = state_of last position rest; fed = n; offered = None } in
+    let view' : AdtsView → AdtsView = λ w. record { state = w.state; fed = w.fed; offered = None } in
     ap view f ∙ ap view' e
 
-pub decline-holds : (spot : Spot) (bytes new : List ℕ) (n len : ℕ) → IsStream spot bytes n (Some len) → new ≡ take (length bytes - len) bytes → IsStream spot new n None
-decline-holds spot bytes new n len h f =
+pub decline-holds : (position : ParsePosition) (bytes new : List ℕ) (n len : ℕ) → IsStream position bytes n (Some len) → new ≡ take (length bytes - len) bytes → IsStream position new n None
+decline-holds position bytes new n len h f =
     let l : length new ≡ length bytes - len = ap length f ∙ length-take-le (length bytes - len) bytes (omega arith) in
-    record { inside = omega arith; total = omega (arith, h.total, h.inside); few = omega (arith, h.few) }
+    record { inside = omega arith; total = omega (arith, h.total, h.inside); bounded = omega (arith, h.bounded) }
 
 -- ---- the next item
 
@@ -283,10 +293,10 @@ pub next-item : {E : Type 0} (result : Result AdtsNext E) (s : State) (last : Op
 next-item (Ok x) s last b n h g = g ∙ stands-item s last b n h
 next-item (Err e) s last b n h g = tt
 
-pub next-stands : {E : Type 0} (result : Result AdtsNext E) (s new : State) (last : Option Presentation) (b : List ℕ) (n : ℕ) → Stands s last b n → IfOk result (λ x. seen x ≡ item_of (adts.move s)) → OnOk result (new ≡ kept_behind s (adts.move s)) → IfOk result (λ x. Stands new last b (count_after n (seen x)))
-next-stands (Ok x) s new last b n h g k = subst (λ w. Stands w last b (count_after n (seen x))) (sym k) (subst (λ o. Stands (kept_behind s (adts.move s)) last b (count_after n o)) (sym g) (stands-behind s last b n h))
+pub next-stands : {E : Type 0} (result : Result AdtsNext E) (s new : State) (last : Option Presentation) (b : List ℕ) (n : ℕ) → Stands s last b n → IfOk result (λ x. seen x ≡ item_of (adts.move s)) → OnOk result (new ≡ state_behind s (adts.move s)) → IfOk result (λ x. Stands new last b (count_after n (seen x)))
+next-stands (Ok x) s new last b n h g k = subst (λ w. Stands w last b (count_after n (seen x))) (sym k) (subst (λ o. Stands (state_behind s (adts.move s)) last b (count_after n o)) (sym g) (stands-behind s last b n h))
 next-stands (Err e) s new last b n h g k = tt
 
-pub next-dry : {E : Type 0} (result : Result AdtsNext E) (s new : State) → IfOk result (λ x. seen x ≡ item_of (adts.move s)) → OnOk result (new ≡ kept_behind s (adts.move s)) → IfOk result (λ x. seen x ≡ None → new ≡ s)
+pub next-dry : {E : Type 0} (result : Result AdtsNext E) (s new : State) → IfOk result (λ x. seen x ≡ item_of (adts.move s)) → OnOk result (new ≡ state_behind s (adts.move s)) → IfOk result (λ x. seen x ≡ None → new ≡ s)
 next-dry (Ok x) s new g k = λ e. k ∙ sym (behind-none s (sym g ∙ e))
 next-dry (Err x) s new g k = tt

@@ -8,18 +8,20 @@ use Rattle.parser_loop.specs.Walk.{Move, Stop, Pass, Give, IsWalk}
 use Rattle.adts_stream.specs.declared.header.FrameHeader.{FrameHeader}
 use Rattle.adts_stream.specs.declared.header.Found.{Found}
 use Rattle.adts_stream.specs.declared.header.Found.TheVariants as found
-use Rattle.adts_stream.specs.declared.place.Place.{Place}
-use Rattle.adts_stream.specs.declared.place.Place.TheVariants.{AtHeader, InTag, AtFrame, AtEnd}
+use Rattle.adts_stream.specs.declared.position.ParsePoint.{ParsePoint}
+use Rattle.adts_stream.specs.declared.position.ParsePoint.TheVariants.{AtHeader, InTag, AtFrame, AtEnd}
 use Rattle.adts_stream.specs.Headers.{found_at}
-use Rattle.adts_stream.specs.Frames.{Item, InitItem, State, presentation_of, has_rate, into, initialized, found_move, tag_move, once, place_move, move_unless, size_by, size_unless, more_unless, is_fault, adts}
+use Rattle.parser_loop.specs.Items.{InitItem, is_fault}
+use Rattle.adts_stream.specs.Frames.{AdtsItem, presentation_of, has_rate}
+use Rattle.adts_stream.specs.Walk.{State, into, initialized, found_move, tag_move, once, point_move, move_unless, size_by, size_unless, more_unless, adts}
 use Rattle.adts_stream.proofs.HeaderLaws.{is_nothing, HasRoom, found-room, found-longer}
 
-abbrev pub going : Option Presentation → Place → ℕ → List ℕ → State
-going last place offset rest = record { last = last; place = place; offset = offset; rest = rest; failed = false }
+abbrev pub going : Option Presentation → ParsePoint → ℕ → List ℕ → State
+going last point offset rest = record { last = last; point = point; offset = offset; rest = rest; failed = false }
 
 -- ---- a move lowers the size
 
-abbrev Falls : ℕ → Move State Item → Type 0
+abbrev Falls : ℕ → Move State AdtsItem → Type 0
 Falls n Stop = Unit {0}
 Falls n (Pass t) = size_unless t t.failed < n
 Falls n (Give item t) = size_unless t t.failed < n
@@ -46,24 +48,24 @@ falls-tag : (s : State) (left : ℕ) (rest : List ℕ) → Falls (suc (3 * lengt
 falls-tag s left [] = tt
 falls-tag s left (x ∷ rest) = omega (arith, tag-most (length rest) left)
 
-falls-once : (s : State) (h : FrameHeader) (m : Move State Item) (n : ℕ) (b : Bool) → Falls n m → Falls n (cond b Stop m)
+falls-once : (s : State) (h : FrameHeader) (m : Move State AdtsItem) (n : ℕ) (b : Bool) → Falls n m → Falls n (cond b Stop m)
 falls-once s h m n true f = tt
 falls-once s h m n false f = f
 
-falls-place : (last : Option Presentation) (p : Place) (offset : ℕ) (rest : List ℕ) → Falls (suc (size_by (length rest) p)) (place_move (going last p offset rest) p)
+falls-place : (last : Option Presentation) (p : ParsePoint) (offset : ℕ) (rest : List ℕ) → Falls (suc (size_by (length rest) p)) (point_move (going last p offset rest) p)
 falls-place last AtHeader offset rest = falls-found last offset rest (found_at rest) (found-room rest)
 falls-place last (InTag zero) offset rest = omega arith
 falls-place last (InTag (suc left)) offset rest = falls-tag (going last (InTag (suc left)) offset rest) left rest
 falls-place last (AtFrame h) offset rest = falls-once (going last (AtFrame h) offset rest) h _ _ (ltb (length rest) h.len) (omega arith)
 falls-place last (AtEnd h) offset rest = falls-once (going last (AtEnd h) offset rest) h _ _ (ltb (length rest) h.len) (omega (arith, length-drop h.len rest))
 
-falls : (last : Option Presentation) (p : Place) (offset : ℕ) (rest : List ℕ) (failed : Bool) → let s : State = record { last = last; place = p; offset = offset; rest = rest; failed = failed } in Falls (size_unless s failed) (move_unless s failed)
+falls : (last : Option Presentation) (p : ParsePoint) (offset : ℕ) (rest : List ℕ) (failed : Bool) → let s : State = record { last = last; point = p; offset = offset; rest = rest; failed = failed } in Falls (size_unless s failed) (move_unless s failed)
 falls last p offset rest true = tt
 falls last p offset rest false = falls-place last p offset rest
 
 -- ---- what a move becomes when bytes are added
 
-abbrev Goes : List ℕ → Move State Item → Move State Item → Type 0
+abbrev Goes : List ℕ → Move State AdtsItem → Move State AdtsItem → Type 0
 Goes c Stop m = Unit {0}
 Goes c (Pass t) m = m ≡ Pass (more_unless t c t.failed)
 Goes c (Give item t) m = (m ≡ Give item (more_unless t c t.failed)) × (is_fault item ≡ true → more_unless t c t.failed ≡ t)
@@ -81,36 +83,36 @@ goes-found last offset rest c (found.Tag n) g e = rw (e refl) refl
 goes-found last offset rest c (found.Fault f) g e = rw (e refl) (refl, λ _. refl)
 goes-found last offset rest c (found.Frame h) g e = rw (e refl) (goes-frame (has_rate last h.rate) last offset rest c h)
 
-goes-tag : (last : Option Presentation) (p : Place) (offset left : ℕ) (all rest c : List ℕ) → Goes c (tag_move (going last p offset all) left rest) (tag_move (going last p offset (all ++ c)) left (rest ++ c))
+goes-tag : (last : Option Presentation) (p : ParsePoint) (offset left : ℕ) (all rest c : List ℕ) → Goes c (tag_move (going last p offset all) left rest) (tag_move (going last p offset (all ++ c)) left (rest ++ c))
 goes-tag last p offset left all [] c = tt
 goes-tag last p offset left all (x ∷ rest) c = refl
 
-pub once-short : (s : State) (h : FrameHeader) (m : Move State Item) → length s.rest < h.len → once s h m ≡ Stop
+pub once-short : (s : State) (h : FrameHeader) (m : Move State AdtsItem) → length s.rest < h.len → once s h m ≡ Stop
 once-short s h m l = let e : ltb (length s.rest) h.len ≡ true = grind (arith, nat_tests) in ap (λ b. cond b Stop m) e
 
-pub once-there : (s : State) (h : FrameHeader) (m : Move State Item) → h.len ≤ length s.rest → once s h m ≡ m
+pub once-there : (s : State) (h : FrameHeader) (m : Move State AdtsItem) → h.len ≤ length s.rest → once s h m ≡ m
 once-there s h m l = let e : ltb (length s.rest) h.len ≡ false = grind (arith, nat_tests) in ap (λ b. cond b Stop m) e
 
-goes-once : (s t : State) (h : FrameHeader) (c : List ℕ) (m k : Move State Item) → t.rest ≡ s.rest ++ c → (h.len ≤ length s.rest → Goes c m k) → Goes c (once s h m) (once t h k)
+goes-once : (s t : State) (h : FrameHeader) (c : List ℕ) (m k : Move State AdtsItem) → t.rest ≡ s.rest ++ c → (h.len ≤ length s.rest → Goes c m k) → Goes c (once s h m) (once t h k)
 goes-once s t h c m k e f =
     elim (cases_lt (length s.rest) h.len) as (λ _. Goes c (once s h m) (once t h k)) [
       | inl l ↦ rw (once-short s h m l) tt
       | inr l ↦ let g : h.len ≤ length t.rest = omega (arith, ap length e, length-append s.rest c) in rw (once-there s h m l, once-there t h k g) (f l)
     ]
 
-goes-place : (last : Option Presentation) (p : Place) (offset : ℕ) (rest c : List ℕ) → Goes c (place_move (going last p offset rest) p) (place_move (going last p offset (rest ++ c)) p)
+goes-place : (last : Option Presentation) (p : ParsePoint) (offset : ℕ) (rest c : List ℕ) → Goes c (point_move (going last p offset rest) p) (point_move (going last p offset (rest ++ c)) p)
 goes-place last AtHeader offset rest c = goes-found last offset rest c (found_at rest) (found_at (rest ++ c)) (found-longer rest c)
 goes-place last (InTag zero) offset rest c = refl
 goes-place last (InTag (suc left)) offset rest c = goes-tag last (InTag (suc left)) offset left rest rest c
 goes-place last (AtFrame h) offset rest c = goes-once (going last (AtFrame h) offset rest) (going last (AtFrame h) offset (rest ++ c)) h c _ _ refl (λ l. (rw (take-append-le h.len rest c l) refl, λ e. not-true e))
 goes-place last (AtEnd h) offset rest c = goes-once (going last (AtEnd h) offset rest) (going last (AtEnd h) offset (rest ++ c)) h c _ _ refl (λ l. (rw (drop-append-le h.len rest c l) refl, λ e. not-true e))
 
-goes : (last : Option Presentation) (p : Place) (offset : ℕ) (rest c : List ℕ) (failed : Bool) → let s : State = record { last = last; place = p; offset = offset; rest = rest; failed = failed } in let t : State = more_unless s c failed in Goes c (move_unless s failed) (move_unless t t.failed)
+goes : (last : Option Presentation) (p : ParsePoint) (offset : ℕ) (rest c : List ℕ) (failed : Bool) → let s : State = record { last = last; point = p; offset = offset; rest = rest; failed = failed } in let t : State = more_unless s c failed in Goes c (move_unless s failed) (move_unless t t.failed)
 goes last p offset rest c true = tt
 goes last p offset rest c false = goes-place last p offset rest c
 
 pub is_walk : IsWalk adts
 is_walk = record {
-  shrinks = λ s. falls s.last s.place s.offset s.rest s.failed;
-  follows = λ s c. goes s.last s.place s.offset s.rest c s.failed;
+  shrinks = λ s. falls s.last s.point s.offset s.rest s.failed;
+  follows = λ s c. goes s.last s.point s.offset s.rest c s.failed;
 }

@@ -1,37 +1,28 @@
--- The segment parser loop (Media Source Extensions, 3.5.1) on the MPEG audio byte stream format with ADTS frames, as a
--- walk over frames and tags. Its coded frames have no times of their own: they are generated.
-use Rattle.std.specs.Prelude.{ℕ, zero, suc, ◌+◌, ◌-◌, ◌*◌, pos, nat_lt, ◌==◌, Bool, true, false, if◌then◌else◌, List, [], ◌∷◌, ◌++◌, length, take, drop, Option, Some, None}
+-- What a whole string of ADTS frames gives, frame by frame (Media Source Extensions, 3.5.1, segment parser loop, on the
+-- MPEG audio byte stream format). Each frame is a media segment; an initialization segment is made up where a frame has
+-- another sampling frequency than the latest presentation, or there is none. The coded frames have no times of their own: they are generated.
+use Rattle.std.specs.Prelude.{ℕ, zero, suc, ◌+◌, pos, nat_le, ◌==◌, Bool, true, false, if◌then◌else◌, List, [], ◌∷◌, length, take, drop, Option, Some, None}
 use lib.Chars.{codes}
 use Rattle.mse_base.specs.declared.frame.CodedFrame.{CodedFrame}
+use Rattle.mse_base.specs.declared.frame.Phase.{Phase}
+use Rattle.mse_base.specs.declared.frame.Phase.TheVariants.{Waiting, InMedia}
 use Rattle.mse_base.specs.declared.ticks.Moment.TheVariants.{Infinite}
 use Rattle.mse_base.specs.declared.track.Kind.TheVariants.{Audio}
 use Rattle.mse_base.specs.declared.track.TrackInfo.{TrackInfo}
 use Rattle.mse_base.specs.declared.track.Presentation.{Presentation}
-use Rattle.parser_loop.specs.Walk.{Move, Stop, Pass, Give, Kind}
+use Rattle.parser_loop.specs.Items.{Item, InitItem, FrameItem, SegmentEnd, FaultItem, leading_frames}
+use Rattle.parser_loop.specs.Parse.{Parse, NoItem, ItemThen, ParserView, items_of, seen_before}
 use Rattle.adts_stream.specs.declared.next.AdtsFault.{AdtsFault}
 use Rattle.adts_stream.specs.declared.header.FrameHeader.{FrameHeader}
 use Rattle.adts_stream.specs.declared.header.Found.{Found}
 use Rattle.adts_stream.specs.declared.header.Found.TheVariants as found
-use Rattle.adts_stream.specs.declared.place.Place.{Place}
-use Rattle.adts_stream.specs.declared.place.Place.TheVariants.{AtHeader, InTag, AtFrame, AtEnd}
 use Rattle.adts_stream.specs.Headers.{found_at}
 
--- What the parser gives: an initialization segment and a coded frame, each with its offset in the string, the end of
--- a media segment, or the fault that ends the string for good, with its offset.
-pub data Item : Type 0 where
-  InitItem : Presentation → ℕ → Item
-  FrameItem : CodedFrame → ℕ → Item
-  SegmentEnd : Item
-  FaultItem : AdtsFault → ℕ → Item
+abbrev pub AdtsItem : Type 0
+AdtsItem = Item AdtsFault
 
--- The state of the walk: the presentation of the last initialization segment, which item comes next, the bytes of the
--- string from `offset` on, and whether a fault was met.
-pub record State : Type 0 where
-  pub last : Option Presentation
-  pub place : Place
-  pub offset : ℕ
-  pub rest : List ℕ
-  pub failed : Bool
+abbrev pub AdtsParse : Type 0
+AdtsParse = Parse ParserView AdtsItem
 
 -- ---- what the items are
 
@@ -65,86 +56,62 @@ has_rate (Some p) rate = has_scale p.tracks rate
 abbrev pub coded_frame : FrameHeader → List ℕ → CodedFrame
 coded_frame h rest = record { track_id = 1; pts = pos 0; dts = pos 0; dur = h.duration; sync = true; payload = take h.len rest }
 
--- ---- the moves
+-- ---- the string, frame by frame
 
-abbrev pub into : State → Place → State
-into s place = record { last = s.last; place = place; offset = s.offset; rest = s.rest; failed = false }
+-- What is seen of the parser: it waits for a media segment, or it is in one, once the header of a frame was accepted;
+-- the bytes are those that it holds.
+abbrev pub waiting : Option Presentation → List ℕ → ParserView
+waiting latest held = record { phase = Waiting; latest = latest; held = held }
 
--- behind an initialization segment: its frame comes next
-abbrev pub initialized : State → FrameHeader → State
-initialized s h = record { last = Some (presentation_of h.rate); place = AtFrame h; offset = s.offset; rest = s.rest; failed = false }
+abbrev pub in_media : Option Presentation → List ℕ → ParserView
+in_media latest held = record { phase = InMedia; latest = latest; held = held }
 
--- behind the first n bytes
-abbrev pub behind : State → ℕ → State
-behind s n = record { last = s.last; place = AtHeader; offset = s.offset + n; rest = drop n s.rest; failed = false }
+-- The frame at an offset, once all its bytes are there, and then the end of its media segment. Its bytes are held up
+-- to there. `next` goes on with the presentation from the offset behind it.
+abbrev pub frame_parse : (Option Presentation → ℕ → AdtsParse) → List ℕ → Option Presentation → ℕ → FrameHeader → AdtsParse
+frame_parse next b latest at h =
+    let now = in_media latest (drop at b) in
+    if nat_le (at + h.len) (length b)
+    then ItemThen now (FrameItem (coded_frame h (drop at b)) at) (ItemThen now SegmentEnd (next latest (at + h.len)))
+    else NoItem now
 
--- behind a fault: no byte is looked at any more
-abbrev pub faulted : State → State
-faulted s = record { last = s.last; place = AtHeader; offset = s.offset; rest = []; failed = true }
+-- What stands at an offset. A header that is not whole is held. Of a tag nothing is held, and it is passed over once
+-- all its bytes are there. A fault is the last item, and nothing is held behind it. A frame of a sampling frequency that
+-- the latest presentation does not have gives a presentation first.
+abbrev pub found_parse : (Option Presentation → ℕ → AdtsParse) → List ℕ → Option Presentation → ℕ → Found → AdtsParse
+found_parse next b latest at found.Nothing = NoItem (waiting latest (drop at b))
+found_parse next b latest at (found.Tag n) = if nat_le (at + n) (length b) then next latest (at + n) else NoItem (waiting latest [])
+found_parse next b latest at (found.Fault f) = ItemThen (waiting latest (drop at b)) (FaultItem f at) (NoItem (waiting latest []))
+found_parse next b latest at (found.Frame h) =
+    if has_rate latest h.rate then frame_parse next b latest at h
+    else ItemThen (waiting latest (drop at b)) (InitItem (presentation_of h.rate) at) (frame_parse next b (Some (presentation_of h.rate)) at h)
 
--- a frame of another rate begins with an initialization segment
-abbrev pub frame_move : State → FrameHeader → Move State Item
-frame_move s h = if has_rate s.last h.rate then Pass (into s (AtFrame h)) else Give (InitItem (presentation_of h.rate) s.offset) (initialized s h)
+-- at most n tags and frames from an offset on
+abbrev pub parse_at : ℕ → List ℕ → Option Presentation → ℕ → AdtsParse
+parse_at zero b latest at = NoItem (waiting latest (drop at b))
+parse_at (suc n) b latest at = found_parse (parse_at n b) b latest at (found_at (drop at b))
 
-abbrev pub found_move : State → Found → Move State Item
-found_move s found.Nothing = Stop
-found_move s (found.Tag n) = Pass (into s (InTag n))
-found_move s (found.Fault f) = Give (FaultItem f s.offset) (faulted s)
-found_move s (found.Frame h) = frame_move s h
+-- The whole string, read from its first byte on, where the presentation `last` was left by what came before: it has no
+-- more tags and frames than bytes.
+unfoldable pub string_parse : Option Presentation → List ℕ → AdtsParse
+string_parse last b = parse_at (suc (length b)) b last 0
 
--- a byte of a tag is let go as soon as it is there
-abbrev pub tag_move : State → ℕ → List ℕ → Move State Item
-tag_move s left [] = Stop
-tag_move s left (x ∷ rest) = Pass (record { last = s.last; place = InTag left; offset = s.offset + 1; rest = rest; failed = false })
+-- ---- its items, and what is seen before each
 
--- what waits for the whole frame
-abbrev pub once : State → FrameHeader → Move State Item → Move State Item
-once s h m = if nat_lt (length s.rest) h.len then Stop else m
+-- all items of the string
+abbrev pub Items : Option Presentation → List ℕ → List AdtsItem
+Items last b = items_of (string_parse last b)
 
--- Before a header; in a tag, with the number of its bytes that are left; before the coded frame of a header, and
--- before the end of its segment, each of which comes once the frame is whole.
-abbrev pub place_move : State → Place → Move State Item
-place_move s AtHeader = found_move s (found_at s.rest)
-place_move s (InTag zero) = Pass (into s AtHeader)
-place_move s (InTag (suc left)) = tag_move s left s.rest
-place_move s (AtFrame h) = once s h (Give (FrameItem (coded_frame h s.rest) s.offset) (into s (AtEnd h)))
-place_move s (AtEnd h) = once s h (Give SegmentEnd (behind s h.len))
+-- what is seen of the parser just before item n, counted from 0, or at the end where there is no item n
+abbrev pub view_before : Option Presentation → List ℕ → ℕ → ParserView
+view_before last b n = seen_before n (string_parse last b)
 
-abbrev pub move_unless : State → Bool → Move State Item
-move_unless s true = Stop
-move_unless s false = place_move s s.place
+abbrev pub phase_before : Option Presentation → List ℕ → ℕ → Phase
+phase_before last b n = (view_before last b n).phase
 
--- ---- the walk
+abbrev pub held_before : Option Presentation → List ℕ → ℕ → List ℕ
+held_before last b n = (view_before last b n).held
 
--- what each move lowers: the bytes that are not walked over, and the items of the frame that are left
-abbrev pub size_by : ℕ → Place → ℕ
-size_by n AtHeader = 3 * n + 1
-size_by n (InTag zero) = 3 * n + 2
-size_by n (InTag (suc left)) = 3 * n
-size_by n (AtFrame h) = 3 * (n - h.len) + 3
-size_by n (AtEnd h) = 3 * (n - h.len) + 2
-
-abbrev pub size_unless : State → Bool → ℕ
-size_unless s true = 0
-size_unless s false = suc (size_by (length s.rest) s.place)
-
--- behind a fault more bytes are let go
-abbrev pub more_unless : State → List ℕ → Bool → State
-more_unless s c true = s
-more_unless s c false = record { last = s.last; place = s.place; offset = s.offset; rest = s.rest ++ c; failed = false }
-
-abbrev pub is_fault : Item → Bool
-is_fault (InitItem p offset) = false
-is_fault (FrameItem frame offset) = false
-is_fault SegmentEnd = false
-is_fault (FaultItem f offset) = true
-
--- a fault ends the walk; nothing is taken ahead
-abbrev pub adts : Kind State Item
-adts = record {
-  move = λ s. move_unless s s.failed;
-  size = λ s. size_unless s s.failed;
-  more = λ s c. more_unless s c s.failed;
-  ends = is_fault;
-  runs = λ _. false;
-}
+-- how many of the items from n on are coded frames, up to the first that is none
+abbrev pub ready_before : Option Presentation → List ℕ → ℕ → ℕ
+ready_before last b n = length (leading_frames (drop n (Items last b)))

@@ -1,5 +1,7 @@
 pub mod Headers
 pub mod Frames
-pub mod Strings
-pub mod Kept
+pub mod Places
+pub mod Rows
+pub mod Walk
+pub mod Values
 pub mod Streams

@@ -3,13 +3,15 @@ ghost use Rattle.std.specs.List.{concat};
 ghost use Rattle.parser_loop.specs.Walk.{item_of, settle};
 ghost use Rattle.mse_base.specs.declared.track.Presentation.{Presentation};
 ghost use Rattle.adts_stream.specs.declared.header.FrameHeader.{FrameHeader};
-ghost use Rattle.adts_stream.specs.Frames.{FrameItem, InitItem, adts, behind, coded_frame, faulted, presentation_of};
-ghost use Rattle.adts_stream.specs.Kept.{kept_behind, last_shown, seen, state_of};
+ghost use Rattle.parser_loop.specs.Items.{FrameItem, InitItem, latest_after_any};
+ghost use Rattle.adts_stream.specs.Walk.{adts, behind, faulted};
+ghost use Rattle.adts_stream.specs.Frames.{coded_frame, presentation_of};
+ghost use Rattle.adts_stream.specs.Values.{state_behind, seen, state_of};
 
 use crate::header::FrameHeader;
 use crate::next::AdtsNext;
-use crate::place::{Front, Place, Spot};
-use crate::walk::{front_on, settle_on};
+use crate::position::{NextItem, ParsePoint, ParsePosition};
+use crate::walk::{next_item_of, settle_on};
 use input_chunks::Chunks;
 use mse_base::{CodedFrame, Kind, Moment, OutOfMemory, Presentation, Ticks, TrackInfo, TrackList};
 use std::alloc::Global;
@@ -40,7 +42,8 @@ fn presentation(alloc: Global, rate: u32) -> Result<Presentation, OutOfMemory>
 /// The coded frame of so many bytes at the front of the input.
 fn frame(duration: Ticks, len: u64, input: &Chunks) -> Result<CodedFrame, OutOfMemory>
     requires { len ≤ length (concat input.now) }
-    ensures { (h : FrameHeader) → h.duration ≡ duration → h.len ≡ len → IfOk result (λ f. f ≡ coded_frame h (concat input.now)) }
+    ensures { (h : FrameHeader) → h.duration ≡ duration → h.len ≡ len → IfOk result
+        (λ f. f ≡ coded_frame h (concat input.now)) }
 {
     let payload = input.copy(0, len as usize)?;
     Ok(CodedFrame {
@@ -57,21 +60,22 @@ fn frame(duration: Ticks, len: u64, input: &Chunks) -> Result<CodedFrame, OutOfM
 pub(crate) fn look_on(
     alloc: Global,
     last: &Option<Presentation>,
-    spot: Spot,
+    position: ParsePosition,
     input: &Chunks,
 ) -> Result<AdtsNext, OutOfMemory>
-    ensures { IfOk result (λ x. seen x ≡ item_of (adts.move (state_of last.now spot (concat input.now)))) }
+    ensures { IfOk result
+        (λ x. seen x ≡ item_of (adts.move (state_of last.now position (concat input.now)))) }
 {
-    let offset = spot.offset;
-    match front_on(last, spot, input) {
-        Front::Dry => Ok(AdtsNext::Dry),
-        Front::Init(header) => Ok(AdtsNext::Init(presentation(alloc, header.rate)?, offset)),
-        Front::Frame(header) => {
+    let offset = position.offset;
+    match next_item_of(last, position, input) {
+        NextItem::Dry => Ok(AdtsNext::Dry),
+        NextItem::Init(header) => Ok(AdtsNext::Init(presentation(alloc, header.rate)?, offset)),
+        NextItem::Frame(header) => {
             let frame = frame(header.duration, header.len, input)?;
             Ok(AdtsNext::Frame(frame, offset))
         },
-        Front::End(_) => Ok(AdtsNext::SegmentEnd),
-        Front::Fault(fault) => Ok(AdtsNext::Fault { fault, offset }),
+        NextItem::End(_) => Ok(AdtsNext::SegmentEnd),
+        NextItem::Fault(fault) => Ok(AdtsNext::Fault { fault, offset }),
     }
 }
 
@@ -79,83 +83,99 @@ pub(crate) fn look_on(
 fn init_on(
     alloc: Global,
     last: &mut Option<Presentation>,
-    spot: &mut Spot,
+    position: &mut ParsePosition,
     header: FrameHeader,
 ) -> Result<AdtsNext, OutOfMemory>
-    ensures item { IfOk result (λ x. seen x ≡ Some (InitItem (presentation_of header.rate) spot.old.offset)) }
+    ensures item { IfOk result
+        (λ x. seen x ≡ Some (InitItem (presentation_of header.rate) position.old.offset)) }
     ensures last { OnOk result (last.new ≡ Some (presentation_of header.rate)) }
-    ensures spot { OnOk result (spot.new ≡ record { place = Place.AtFrame header; offset = spot.old.offset; failed = spot.old.failed }) }
-    ensures err { OnErr result ((last.new ≡ last.old) × (spot.new ≡ spot.old)) }
+    ensures position { OnOk result (position.new
+        ≡ record { point = ParsePoint.AtFrame header; offset = position.old.offset; failed = position.old.failed }) }
+    ensures err { OnErr result ((last.new ≡ last.old) × (position.new ≡ position.old)) }
 {
     let given = presentation(alloc, header.rate)?;
     let kept = Some(presentation(alloc, header.rate)?);
     *last = kept;
-    spot.place = Place::AtFrame(header);
-    Ok(AdtsNext::Init(given, spot.offset))
+    position.point = ParsePoint::AtFrame(header);
+    Ok(AdtsNext::Init(given, position.offset))
 }
 
 /// Takes a coded frame. An `Err` changes nothing.
-fn frame_on(spot: &mut Spot, input: &Chunks, header: FrameHeader) -> Result<AdtsNext, OutOfMemory>
+fn frame_on(
+    position: &mut ParsePosition,
+    input: &Chunks,
+    header: FrameHeader,
+) -> Result<AdtsNext, OutOfMemory>
     requires { header.len ≤ length (concat input.now) }
-    ensures item { IfOk result (λ x. seen x ≡ Some (FrameItem (coded_frame header (concat input.now)) spot.old.offset)) }
-    ensures spot { OnOk result (spot.new ≡ record { place = Place.AtEnd header; offset = spot.old.offset; failed = spot.old.failed }) }
-    ensures err { OnErr result (spot.new ≡ spot.old) }
+    ensures item { IfOk result
+        (λ x. seen x
+        ≡ Some (FrameItem (coded_frame header (concat input.now)) position.old.offset)) }
+    ensures position { OnOk result (position.new
+        ≡ record { point = ParsePoint.AtEnd header; offset = position.old.offset; failed = position.old.failed }) }
+    ensures err { OnErr result (position.new ≡ position.old) }
 {
     let frame = frame(header.duration, header.len, input)?;
-    spot.place = Place::AtEnd(header);
-    Ok(AdtsNext::Frame(frame, spot.offset))
+    position.point = ParsePoint::AtEnd(header);
+    Ok(AdtsNext::Frame(frame, position.offset))
 }
 
 /// Takes the end of a segment of `len` bytes, and runs on behind it.
-fn end_on(last: &Option<Presentation>, spot: &mut Spot, input: &mut Chunks, len: u64)
+fn end_on(last: &Option<Presentation>, position: &mut ParsePosition, input: &mut Chunks, len: u64)
     requires inside { len ≤ length (concat input.old) }
-    requires going { spot.old.failed ≡ false }
-    requires small { spot.old.offset + length (concat input.old) < 2 ^ 62 }
-    ensures kept { state_of last.now spot.new (concat input.new) ≡ settle adts (behind (state_of last.now spot.old (concat input.old)) len) }
-    ensures total { spot.new.offset + length (concat input.new) ≡ spot.old.offset + length (concat input.old) }
+    requires unfailed { position.old.failed ≡ false }
+    requires bounded { position.old.offset + length (concat input.old) < 2 ^ 62 }
+    ensures kept { state_of last.now position.new (concat input.new)
+        ≡ settle adts (behind (state_of last.now position.old (concat input.old)) len) }
+    ensures total { position.new.offset + length (concat input.new)
+        ≡ position.old.offset + length (concat input.old) }
 {
     input.drop_front(len as usize);
-    spot.place = Place::AtHeader;
-    spot.offset += len;
-    settle_on(last, spot, input);
+    position.point = ParsePoint::AtHeader;
+    position.offset += len;
+    settle_on(last, position, input);
 }
 
 /// Takes a fault: no byte is kept.
-fn fail_on(spot: &mut Spot, input: &mut Chunks)
-    ensures kept { (last : Option Presentation) → state_of last spot.new (concat input.new) ≡ faulted (state_of last spot.old (concat input.old)) }
-    ensures total { spot.new.offset + length (concat input.new) ≡ spot.old.offset }
+fn fail_on(position: &mut ParsePosition, input: &mut Chunks)
+    ensures kept { (last : Option Presentation) → state_of last position.new (concat input.new)
+        ≡ faulted (state_of last position.old (concat input.old)) }
+    ensures total { position.new.offset + length (concat input.new) ≡ position.old.offset }
 {
     let all = input.len();
     input.drop_front(all);
-    spot.place = Place::AtHeader;
-    spot.failed = true;
+    position.point = ParsePoint::AtHeader;
+    position.failed = true;
 }
 
 /// Takes the next item. An `Err` changes nothing.
 pub(crate) fn next_on(
     alloc: Global,
     last: &mut Option<Presentation>,
-    spot: &mut Spot,
+    position: &mut ParsePosition,
     input: &mut Chunks,
 ) -> Result<AdtsNext, OutOfMemory>
-    requires { spot.old.offset + length (concat input.old) < 2 ^ 62 }
-    ensures item { IfOk result (λ x. seen x ≡ item_of (adts.move (state_of last.old spot.old (concat input.old)))) }
-    ensures kept { OnOk result (state_of last.new spot.new (concat input.new) ≡ kept_behind (state_of last.old spot.old (concat input.old)) (adts.move (state_of last.old spot.old (concat input.old)))) }
-    ensures last { IfOk result (λ x. last.new ≡ last_shown last.old (seen x)) }
-    ensures total { spot.new.offset + length (concat input.new) ≤ spot.old.offset + length (concat input.old) }
-    ensures err { OnErr result (state_of last.new spot.new (concat input.new) ≡ state_of last.old spot.old (concat input.old)) }
+    requires { position.old.offset + length (concat input.old) < 2 ^ 62 }
+    ensures item { IfOk result
+        (λ x. seen x ≡ item_of (adts.move (state_of last.old position.old (concat input.old)))) }
+    ensures kept { OnOk result (state_of last.new position.new (concat input.new)
+        ≡ state_behind (state_of last.old position.old (concat input.old)) (adts.move (state_of last.old position.old (concat input.old)))) }
+    ensures last { IfOk result (λ x. last.new ≡ latest_after_any last.old (seen x)) }
+    ensures total { position.new.offset + length (concat input.new)
+        ≤ position.old.offset + length (concat input.old) }
+    ensures err { OnErr result (state_of last.new position.new (concat input.new)
+        ≡ state_of last.old position.old (concat input.old)) }
 {
-    match front_on(last, *spot, input) {
-        Front::Dry => Ok(AdtsNext::Dry),
-        Front::Init(header) => init_on(alloc, last, spot, header),
-        Front::Frame(header) => frame_on(spot, input, header),
-        Front::End(header) => {
-            end_on(last, spot, input, header.len);
+    match next_item_of(last, *position, input) {
+        NextItem::Dry => Ok(AdtsNext::Dry),
+        NextItem::Init(header) => init_on(alloc, last, position, header),
+        NextItem::Frame(header) => frame_on(position, input, header),
+        NextItem::End(header) => {
+            end_on(last, position, input, header.len);
             Ok(AdtsNext::SegmentEnd)
         }
-        Front::Fault(fault) => {
-            let offset = spot.offset;
-            fail_on(spot, input);
+        NextItem::Fault(fault) => {
+            let offset = position.offset;
+            fail_on(position, input);
             Ok(AdtsNext::Fault { fault, offset })
         }
     }

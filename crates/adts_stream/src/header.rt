@@ -54,7 +54,7 @@ fn rate(index: u64) -> Option<u32>
 
 /// How long so many raw data blocks of 1024 samples last.
 fn duration(blocks: u64, rate: u32) -> Ticks
-    requires few { blocks ≤ 4 }
+    requires four { blocks ≤ 4 }
     requires positive { 1 ≤ rate }
     ensures { result ≡ converted (pos (1024 * blocks)) rate }
 {

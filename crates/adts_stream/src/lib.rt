@@ -11,11 +11,11 @@ mod arms;
 mod header;
 mod laws;
 mod next;
-mod place;
+mod position;
 mod stream;
 mod walk;
 
-pub use laws::{pieces_law, prefix_law};
+pub use laws::{fault_law, frames_law, held_law, pieces_law, place_law, prefix_law, row_law};
 pub use next::{AdtsFault, AdtsNext};
 pub use stream::AdtsStream;
 

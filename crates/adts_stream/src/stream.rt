@@ -3,12 +3,14 @@ ghost use Rattle.std.specs.List.{concat};
 ghost use Rattle.mse_base.specs.declared.frame.Phase.TheVariants.{Waiting};
 ghost use Rattle.mse_base.specs.declared.track.Presentation.{Presentation};
 ghost use Rattle.parser_loop.specs.Walk.{count_after};
-ghost use Rattle.adts_stream.specs.Strings.{Items, phase_before, ready_before, held_before, latest, phase_of};
-ghost use Rattle.adts_stream.specs.Kept.{place_at_start, ready_of as ready_in, state_of};
+ghost use Rattle.parser_loop.specs.Items.{latest_after_all, latest_after_any};
+ghost use Rattle.adts_stream.specs.Frames.{Items, phase_before, ready_before, held_before};
+ghost use Rattle.adts_stream.specs.Walk.{phase_of};
+ghost use Rattle.adts_stream.specs.Values.{position_at_start, ready_of as ready_in, state_of};
 
 use crate::arms::{look_on, next_on};
 use crate::next::AdtsNext;
-use crate::place::{Place, Spot};
+use crate::position::{ParsePoint, ParsePosition};
 use crate::walk::accept_on;
 use input_chunks::Chunks;
 use mse_base::{OutOfMemory, Presentation};
@@ -24,7 +26,7 @@ use std::marker::Model;
 pub struct AdtsStream {
     alloc: Global,
     last: Option<Presentation>,
-    spot: Spot,
+    position: ParsePosition,
     input: Chunks,
     fed: u64,
     /// How many bytes at the end of the input are offered.
@@ -33,66 +35,79 @@ pub struct AdtsStream {
 
 impl Model for AdtsStream {
     ghost use Rattle.std.specs.List.{concat};
-    ghost use Rattle.adts_stream.specs.Streams.{Streamed, streamed, IsStream};
+    ghost use Rattle.adts_stream.specs.Streams.{AdtsView, adts_view, IsStream};
 
-    ghost Value = { Streamed };
+    ghost Value = { AdtsView };
 
-    ghost view = { λ s. streamed s.last s.spot (concat s.input) s.fed s.offered };
+    ghost view = { λ s. adts_view s.last s.position (concat s.input) s.fed s.offered };
 
-    ghost invariant = { λ s. IsStream s.spot (concat s.input) s.fed s.offered };
+    ghost invariant = { λ s. IsStream s.position (concat s.input) s.fed s.offered };
 }
 
 /// The place before a string.
-fn start() -> Spot
-    ensures { result ≡ place_at_start }
+fn start() -> ParsePosition
+    ensures { result ≡ position_at_start }
 {
-    Spot {
-        place: Place::AtHeader,
+    ParsePosition {
+        point: ParsePoint::AtHeader,
         offset: 0,
         failed: false,
     }
 }
 
 /// Lets go of the string.
-fn restart(spot: &mut Spot, input: &mut Chunks)
-    ensures spot { spot.new ≡ place_at_start }
+fn restart(position: &mut ParsePosition, input: &mut Chunks)
+    ensures position { position.new ≡ position_at_start }
     ensures input { concat input.new ≡ [] }
 {
     let all = input.len();
     input.drop_front(all);
-    *spot = start();
+    *position = start();
 }
 
 /// How many frames are ready, where so many bytes are kept.
-fn ready(spot: Spot, there: usize) -> usize
-    ensures { (last : Option Presentation) (rest : List ℕ) → length rest ≡ there → result ≡ ready_in (state_of last spot rest) }
+fn ready(position: ParsePosition, there: usize) -> usize
+    ensures { (last : Option Presentation) (rest : List ℕ) → length rest ≡ there → result
+        ≡ ready_in (state_of last position rest) }
 {
-    if spot.failed {
+    if position.failed {
         return 0;
     }
-    match spot.place {
-        Place::AtFrame(header) => if header.len <= there as u64 { 1 } else { 0 },
-        Place::AtHeader => 0,
-        Place::InTag(_) => 0,
-        Place::AtEnd(_) => 0,
+    match position.point {
+        ParsePoint::AtFrame(header) => if header.len <= there as u64 { 1 } else { 0 },
+        ParsePoint::AtHeader => 0,
+        ParsePoint::InTag(_) => 0,
+        ParsePoint::AtEnd(_) => 0,
+    }
+}
+
+/// Whether the parser waits for a media segment.
+fn is_waiting(point: ParsePoint) -> bool
+    ensures { IsTrue result ↔ (phase_of point ≡ Waiting) }
+{
+    match point {
+        ParsePoint::AtHeader => true,
+        ParsePoint::InTag(_) => true,
+        ParsePoint::AtFrame(_) => false,
+        ParsePoint::AtEnd(_) => false,
     }
 }
 
 impl AdtsStream {
-    ghost use Rattle.adts_stream.specs.Kept.{seen, last_shown, ready_of};
+    ghost use Rattle.adts_stream.specs.Values.{seen, ready_of};
     ghost use Rattle.adts_stream.specs.Streams.{Stands};
 
     /// A stream of the empty string, with no presentation from before.
     pub fn new(alloc: Global) -> AdtsStream
-        ensures stands { Stands result.kept None [] 0 }
-        ensures last { result.kept.last ≡ None }
+        ensures stands { Stands result.state None [] 0 }
+        ensures last { result.state.last ≡ None }
         ensures fed { result.fed ≡ 0 }
         ensures idle { result.offered ≡ None }
     {
         AdtsStream {
             alloc,
             last: None,
-            spot: start(),
+            position: start(),
             input: Chunks::new(alloc),
             fed: 0,
             offered: None,
@@ -103,7 +118,8 @@ impl AdtsStream {
     pub fn offer(&mut self, bytes: &[u8]) -> Result<(), OutOfMemory>
         requires idle { self.old.offered ≡ None }
         requires room { self.old.fed + length bytes.now < 2 ^ 62 }
-        ensures ok { OnOk result (self.new ≡ record { kept = self.old.kept; fed = self.old.fed; offered = Some bytes.now }) }
+        ensures ok { OnOk result (self.new
+            ≡ record { state = self.old.state; fed = self.old.fed; offered = Some bytes.now }) }
         ensures err { OnErr result (self.new ≡ self.old) }
     {
         self.input.push(bytes)?;
@@ -111,18 +127,35 @@ impl AdtsStream {
         Ok(())
     }
 
+    /// As `offer`, of a vector whose memory the input takes over where its bytes are a piece of their own.
+    pub fn offer_vec(&mut self, bytes: Vec<u8>) -> Result<(), OutOfMemory>
+        requires idle { self.old.offered ≡ None }
+        requires room { self.old.fed + length bytes.items < 2 ^ 62 }
+        ensures ok { OnOk result (self.new
+            ≡ record { state = self.old.state; fed = self.old.fed; offered = Some bytes.items }) }
+        ensures err { OnErr result (self.new ≡ self.old) }
+    {
+        let len = bytes.len();
+        self.input.push_vec(bytes)?;
+        self.offered = Some(len);
+        Ok(())
+    }
+
     /// Appends the bytes that are offered to the string.
     pub fn accept(&mut self)
         requires { IsSome self.old.offered }
-        ensures stands { IfSome self.old.offered (λ bytes. (last : Option Presentation) (b : List ℕ) (n : ℕ) → Stands self.old.kept last b n → Stands self.new.kept last (b ++ bytes) n) }
-        ensures last { self.new.kept.last ≡ self.old.kept.last }
-        ensures fed { IfSome self.old.offered (λ bytes. self.new.fed ≡ self.old.fed + length bytes) }
+        ensures stands { IfSome self.old.offered
+            (λ bytes. (last : Option Presentation) (b : List ℕ) (n : ℕ) →
+            Stands self.old.state last b n → Stands self.new.state last (b ++ bytes) n) }
+        ensures last { self.new.state.last ≡ self.old.state.last }
+        ensures fed { IfSome self.old.offered
+            (λ bytes. self.new.fed ≡ self.old.fed + length bytes) }
         ensures idle { self.new.offered ≡ None }
     {
         let Some(len) = self.offered else {
             return;
         };
-        accept_on(&self.last, &mut self.spot, &mut self.input, len);
+        accept_on(&self.last, &mut self.position, &mut self.input, len);
         self.fed += len as u64;
         self.offered = None;
     }
@@ -130,7 +163,7 @@ impl AdtsStream {
     /// Forgets the bytes that are offered.
     pub fn decline(&mut self)
         requires { IsSome self.old.offered }
-        ensures { self.new ≡ record { kept = self.old.kept; fed = self.old.fed; offered = None } }
+        ensures { self.new ≡ record { state = self.old.state; fed = self.old.fed; offered = None } }
     {
         let Some(len) = self.offered else {
             return;
@@ -143,8 +176,9 @@ impl AdtsStream {
     pub fn feed(&mut self, bytes: &[u8]) -> Result<(), OutOfMemory>
         requires idle { self.old.offered ≡ None }
         requires room { self.old.fed + length bytes.now < 2 ^ 62 }
-        ensures stands { OnOk result ((last : Option Presentation) (b : List ℕ) (n : ℕ) → Stands self.old.kept last b n → Stands self.new.kept last (b ++ bytes.now) n) }
-        ensures last { OnOk result (self.new.kept.last ≡ self.old.kept.last) }
+        ensures stands { OnOk result ((last : Option Presentation) (b : List ℕ) (n : ℕ) →
+            Stands self.old.state last b n → Stands self.new.state last (b ++ bytes.now) n) }
+        ensures last { OnOk result (self.new.state.last ≡ self.old.state.last) }
         ensures fed { OnOk result (self.new.fed ≡ self.old.fed + length bytes.now) }
         ensures idle { self.new.offered ≡ None }
         ensures err { OnErr result (self.new ≡ self.old) }
@@ -158,25 +192,37 @@ impl AdtsStream {
     /// Nothing changes.
     pub fn look(&self, i: usize) -> Result<AdtsNext, OutOfMemory>
         requires idle { self.now.offered ≡ None }
-        requires ready { (i ≡ 0) ⊎ (i < ready_of self.now.kept) }
-        ensures { (last : Option Presentation) (b : List ℕ) (n : ℕ) → Stands self.now.kept last b n → IfOk result (λ next. seen next ≡ slice_get (Items last b) (n + i)) }
+        requires ready { (i ≡ 0) ⊎ (i < ready_of self.now.state) }
+        ensures { (last : Option Presentation) (b : List ℕ) (n : ℕ) →
+            Stands self.now.state last b n → IfOk result
+            (λ next. seen next ≡ slice_get (Items last b) (n + i)) }
     {
-        look_on(self.alloc, &self.last, self.spot, &self.input)
+        look_on(self.alloc, &self.last, self.position, &self.input)
     }
 
     /// The next item, or `Dry` exactly where the string gives none; then nothing changes. After a fault the
     /// string gives none until the next reset. An `Err` changes nothing.
     pub fn next(&mut self) -> Result<AdtsNext, OutOfMemory>
         requires { self.old.offered ≡ None }
-        ensures item { (last : Option Presentation) (b : List ℕ) (n : ℕ) → Stands self.old.kept last b n → IfOk result (λ next. seen next ≡ slice_get (Items last b) n) }
-        ensures stands { (last : Option Presentation) (b : List ℕ) (n : ℕ) → Stands self.old.kept last b n → IfOk result (λ next. Stands self.new.kept last b (count_after n (seen next))) }
-        ensures last { IfOk result (λ next. self.new.kept.last ≡ last_shown self.old.kept.last (seen next)) }
+        ensures item { (last : Option Presentation) (b : List ℕ) (n : ℕ) →
+            Stands self.old.state last b n → IfOk result
+            (λ next. seen next ≡ slice_get (Items last b) n) }
+        ensures stands { (last : Option Presentation) (b : List ℕ) (n : ℕ) →
+            Stands self.old.state last b n → IfOk result
+            (λ next. Stands self.new.state last b (count_after n (seen next))) }
+        ensures last { IfOk result
+            (λ next. self.new.state.last ≡ latest_after_any self.old.state.last (seen next)) }
         ensures fed { self.new.fed ≡ self.old.fed }
         ensures idle { self.new.offered ≡ None }
         ensures dry { IfOk result (λ next. seen next ≡ None → self.new ≡ self.old) }
         ensures err { OnErr result (self.new ≡ self.old) }
     {
-        next_on(self.alloc, &mut self.last, &mut self.spot, &mut self.input)
+        next_on(
+            self.alloc,
+            &mut self.last,
+            &mut self.position,
+            &mut self.input,
+        )
     }
 
     /// Whether the parser waits for a segment, before the next item, or at the end of the string where there
@@ -184,32 +230,30 @@ impl AdtsStream {
     /// its end.
     pub fn waiting(&self) -> bool
         requires { self.now.offered ≡ None }
-        ensures kept { IsTrue result ↔ (phase_of self.now.kept.place ≡ Waiting) }
-        ensures phase { (last : Option Presentation) (b : List ℕ) (n : ℕ) → Stands self.now.kept last b n → IsTrue result ↔ (phase_before last b n ≡ Waiting) }
+        ensures kept { IsTrue result ↔ (phase_of self.now.state.point ≡ Waiting) }
+        ensures phase { (last : Option Presentation) (b : List ℕ) (n : ℕ) →
+            Stands self.now.state last b n → IsTrue result ↔ (phase_before last b n ≡ Waiting) }
     {
-        match self.spot.place {
-            Place::AtHeader => true,
-            Place::InTag(_) => true,
-            Place::AtFrame(_) => false,
-            Place::AtEnd(_) => false,
-        }
+        is_waiting(self.position.point)
     }
 
     /// How many of the next items are coded frames, up to the first that is none: 1 or 0, since each frame is
     /// a segment of its own.
     pub fn ready_frames(&self) -> usize
         requires { self.now.offered ≡ None }
-        ensures kept { result ≡ ready_of self.now.kept }
-        ensures ready { (last : Option Presentation) (b : List ℕ) (n : ℕ) → Stands self.now.kept last b n → result ≡ ready_before last b n }
+        ensures kept { result ≡ ready_of self.now.state }
+        ensures ready { (last : Option Presentation) (b : List ℕ) (n : ℕ) →
+            Stands self.now.state last b n → result ≡ ready_before last b n }
     {
-        ready(self.spot, self.input.len())
+        ready(self.position, self.input.len())
     }
 
     /// How many bytes are kept.
     pub fn held_len(&self) -> usize
         requires { self.now.offered ≡ None }
-        ensures kept { result ≡ length self.now.kept.rest }
-        ensures held { (last : Option Presentation) (b : List ℕ) (n : ℕ) → Stands self.now.kept last b n → result ≡ length (held_before last b n) }
+        ensures kept { result ≡ length self.now.state.rest }
+        ensures held { (last : Option Presentation) (b : List ℕ) (n : ℕ) →
+            Stands self.now.state last b n → result ≡ length (held_before last b n) }
     {
         self.input.len()
     }
@@ -218,25 +262,27 @@ impl AdtsStream {
     /// that was given stays (Media Source Extensions, 3.5.2, reset parser state).
     pub fn reset(&mut self)
         requires { self.old.offered ≡ None }
-        ensures stands { Stands self.new.kept self.old.kept.last [] 0 }
-        ensures latest { (last : Option Presentation) (b : List ℕ) (n : ℕ) → Stands self.old.kept last b n → Stands self.new.kept (latest last (take n (Items last b))) [] 0 }
-        ensures last { self.new.kept.last ≡ self.old.kept.last }
+        ensures stands { Stands self.new.state self.old.state.last [] 0 }
+        ensures latest { (last : Option Presentation) (b : List ℕ) (n : ℕ) →
+            Stands self.old.state last b n →
+            Stands self.new.state (latest_after_all last (take n (Items last b))) [] 0 }
+        ensures last { self.new.state.last ≡ self.old.state.last }
         ensures fed { self.new.fed ≡ 0 }
         ensures idle { self.new.offered ≡ None }
     {
-        restart(&mut self.spot, &mut self.input);
+        restart(&mut self.position, &mut self.input);
         self.fed = 0;
     }
 
     /// As `reset`, and the presentation is dropped too.
     pub fn forget(&mut self)
         requires { self.old.offered ≡ None }
-        ensures stands { Stands self.new.kept None [] 0 }
-        ensures last { self.new.kept.last ≡ None }
+        ensures stands { Stands self.new.state None [] 0 }
+        ensures last { self.new.state.last ≡ None }
         ensures fed { self.new.fed ≡ 0 }
         ensures idle { self.new.offered ≡ None }
     {
-        restart(&mut self.spot, &mut self.input);
+        restart(&mut self.position, &mut self.input);
         self.last = None;
         self.fed = 0;
     }

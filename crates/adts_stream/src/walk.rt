@@ -1,14 +1,15 @@
 ghost use Rattle.std.specs.Prelude.{◌≡◌, ◌+◌, ◌-◌, ◌<◌, ◌≤◌, ◌^◌, take, drop, length, false, true, Some};
 ghost use Rattle.std.specs.List.{concat};
 ghost use Rattle.parser_loop.specs.Walk.{settle};
-ghost use Rattle.adts_stream.specs.declared.place.Place.TheVariants.{InTag};
+ghost use Rattle.adts_stream.specs.declared.position.ParsePoint.TheVariants.{InTag};
 ghost use Rattle.adts_stream.specs.Headers.{found_at};
-ghost use Rattle.adts_stream.specs.Frames.{has_rate as rated, adts};
-ghost use Rattle.adts_stream.specs.Kept.{IsFront, IsMoved, state_of};
+ghost use Rattle.adts_stream.specs.Frames.{has_rate as rated};
+ghost use Rattle.adts_stream.specs.Walk.{adts};
+ghost use Rattle.adts_stream.specs.Values.{IsNextItem, IsMoveTo, state_of};
 ghost use Rattle.adts_stream.specs.Streams.{fed};
 
 use crate::header::{Found, MOST, judge};
-use crate::place::{Front, Place, Spot};
+use crate::position::{NextItem, ParsePoint, ParsePosition};
 use input_chunks::Chunks;
 use mse_base::Presentation;
 
@@ -41,69 +42,79 @@ fn has_rate(last: &Option<Presentation>, rate: u32) -> bool
 }
 
 /// Passes over the bytes of a tag that are there; `false` where none is.
-fn pass_tag(spot: &mut Spot, left: u64, input: &mut Chunks) -> bool
-    requires in_tag { spot.old.place ≡ InTag left }
-    requires going { spot.old.failed ≡ false }
-    requires small { spot.old.offset + length (concat input.old) < 2 ^ 62 }
-    ensures moved { (last : _) → IsMoved (state_of last spot.old (concat input.old)) (state_of last spot.new (concat input.new)) result }
-    ensures total { spot.new.offset + length (concat input.new) ≡ spot.old.offset + length (concat input.old) }
-    ensures going { spot.new.failed ≡ false }
+fn pass_tag(position: &mut ParsePosition, left: u64, input: &mut Chunks) -> bool
+    requires in_tag { position.old.point ≡ InTag left }
+    requires unfailed { position.old.failed ≡ false }
+    requires bounded { position.old.offset + length (concat input.old) < 2 ^ 62 }
+    ensures moved { (last : _) →
+        IsMoveTo (state_of last position.old (concat input.old)) (state_of last position.new (concat input.new)) result }
+    ensures total { position.new.offset + length (concat input.new)
+        ≡ position.old.offset + length (concat input.old) }
+    ensures unfailed { position.new.failed ≡ false }
 {
     let there = input.len() as u64;
     if left <= there {
         input.drop_front(left as usize);
-        spot.offset += left;
-        spot.place = Place::AtHeader;
+        position.offset += left;
+        position.point = ParsePoint::AtHeader;
         return true;
     }
     if there == 0 {
         return false;
     }
     input.drop_front(there as usize);
-    spot.offset += there;
-    spot.place = Place::InTag(left - there);
+    position.offset += there;
+    position.point = ParsePoint::InTag(left - there);
     true
 }
 
 /// One move of the parser on its way to the next item; `false` where there is none.
-fn move_on(last: &Option<Presentation>, spot: &mut Spot, input: &mut Chunks) -> bool
-    requires going { spot.old.failed ≡ false }
-    requires small { spot.old.offset + length (concat input.old) < 2 ^ 62 }
-    ensures moved { IsMoved (state_of last.now spot.old (concat input.old)) (state_of last.now spot.new (concat input.new)) result }
-    ensures total { spot.new.offset + length (concat input.new) ≡ spot.old.offset + length (concat input.old) }
-    ensures going { spot.new.failed ≡ false }
+fn move_on(last: &Option<Presentation>, position: &mut ParsePosition, input: &mut Chunks) -> bool
+    requires unfailed { position.old.failed ≡ false }
+    requires bounded { position.old.offset + length (concat input.old) < 2 ^ 62 }
+    ensures moved { IsMoveTo (state_of last.now position.old (concat input.old))
+        (state_of last.now position.new (concat input.new)) result }
+    ensures total { position.new.offset + length (concat input.new)
+        ≡ position.old.offset + length (concat input.old) }
+    ensures unfailed { position.new.failed ≡ false }
 {
-    match spot.place {
-        Place::AtHeader => match found_in(input) {
+    match position.point {
+        ParsePoint::AtHeader => match found_in(input) {
             Found::Tag(len) => {
-                spot.place = Place::InTag(len);
+                position.point = ParsePoint::InTag(len);
                 true
             }
             Found::Frame(header) => {
                 if !has_rate(last, header.rate) {
                     return false;
                 }
-                spot.place = Place::AtFrame(header);
+                position.point = ParsePoint::AtFrame(header);
                 true
             }
             Found::Nothing => false,
             Found::Fault(_) => false,
         },
-        Place::InTag(left) => pass_tag(spot, left, input),
-        Place::AtFrame(_) => false,
-        Place::AtEnd(_) => false,
+        ParsePoint::InTag(left) => pass_tag(position, left, input),
+        ParsePoint::AtFrame(_) => false,
+        ParsePoint::AtEnd(_) => false,
     }
 }
 
 /// Runs the parser on to the next item, or as far as the bytes go. It takes no memory.
-pub(crate) fn settle_on(last: &Option<Presentation>, spot: &mut Spot, input: &mut Chunks)
-    requires going { spot.old.failed ≡ false }
-    requires small { spot.old.offset + length (concat input.old) < 2 ^ 62 }
-    ensures settled { state_of last.now spot.new (concat input.new) ≡ settle adts (state_of last.now spot.old (concat input.old)) }
-    ensures total { spot.new.offset + length (concat input.new) ≡ spot.old.offset + length (concat input.old) }
+pub(crate) fn settle_on(
+    last: &Option<Presentation>,
+    position: &mut ParsePosition,
+    input: &mut Chunks,
+)
+    requires unfailed { position.old.failed ≡ false }
+    requires bounded { position.old.offset + length (concat input.old) < 2 ^ 62 }
+    ensures settled { state_of last.now position.new (concat input.new)
+        ≡ settle adts (state_of last.now position.old (concat input.old)) }
+    ensures total { position.new.offset + length (concat input.new)
+        ≡ position.old.offset + length (concat input.old) }
 {
     'moves: loop {
-        let moved = move_on(last, spot, input);
+        let moved = move_on(last, position, input);
         if !moved {
             return;
         }
@@ -113,51 +124,57 @@ pub(crate) fn settle_on(last: &Option<Presentation>, spot: &mut Spot, input: &mu
 /// Appends to the string the last `len` bytes of the input; behind a fault they are let go. It takes no memory.
 pub(crate) fn accept_on(
     last: &Option<Presentation>,
-    spot: &mut Spot,
+    position: &mut ParsePosition,
     input: &mut Chunks,
     len: usize,
 )
     requires inside { len ≤ length (concat input.old) }
-    requires small { spot.old.offset + length (concat input.old) < 2 ^ 62 }
-    ensures kept { state_of last.now spot.new (concat input.new) ≡ fed (state_of last.now spot.old (take (length (concat input.old) - len) (concat input.old))) (drop (length (concat input.old) - len) (concat input.old)) }
-    ensures total { spot.new.offset + length (concat input.new) ≤ spot.old.offset + length (concat input.old) }
+    requires bounded { position.old.offset + length (concat input.old) < 2 ^ 62 }
+    ensures kept { state_of last.now position.new (concat input.new)
+        ≡ fed (state_of last.now position.old (take (length (concat input.old) - len) (concat input.old))) (drop (length (concat input.old) - len) (concat input.old)) }
+    ensures total { position.new.offset + length (concat input.new)
+        ≤ position.old.offset + length (concat input.old) }
 {
-    if spot.failed {
+    if position.failed {
         input.drop_back(len);
         return;
     }
-    settle_on(last, spot, input);
+    settle_on(last, position, input);
 }
 
 /// The next item.
-pub(crate) fn front_on(last: &Option<Presentation>, spot: Spot, input: &Chunks) -> Front
-    ensures { IsFront (state_of last.now spot (concat input.now)) result }
+pub(crate) fn next_item_of(
+    last: &Option<Presentation>,
+    position: ParsePosition,
+    input: &Chunks,
+) -> NextItem
+    ensures { IsNextItem (state_of last.now position (concat input.now)) result }
 {
-    if spot.failed {
-        return Front::Dry;
+    if position.failed {
+        return NextItem::Dry;
     }
     let there = input.len() as u64;
-    match spot.place {
-        Place::AtHeader => match found_in(input) {
+    match position.point {
+        ParsePoint::AtHeader => match found_in(input) {
             Found::Frame(header) => if has_rate(last, header.rate) {
-                Front::Dry
+                NextItem::Dry
             } else {
-                Front::Init(header)
+                NextItem::Init(header)
             },
-            Found::Fault(fault) => Front::Fault(fault),
-            Found::Nothing => Front::Dry,
-            Found::Tag(_) => Front::Dry,
+            Found::Fault(fault) => NextItem::Fault(fault),
+            Found::Nothing => NextItem::Dry,
+            Found::Tag(_) => NextItem::Dry,
         },
-        Place::InTag(_) => Front::Dry,
-        Place::AtFrame(header) => if there < header.len {
-            Front::Dry
+        ParsePoint::InTag(_) => NextItem::Dry,
+        ParsePoint::AtFrame(header) => if there < header.len {
+            NextItem::Dry
         } else {
-            Front::Frame(header)
+            NextItem::Frame(header)
         },
-        Place::AtEnd(header) => if there < header.len {
-            Front::Dry
+        ParsePoint::AtEnd(header) => if there < header.len {
+            NextItem::Dry
         } else {
-            Front::End(header)
+            NextItem::End(header)
         },
     }
 }

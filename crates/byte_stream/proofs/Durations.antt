@@ -8,13 +8,14 @@ use Rattle.std.proofs.Math.Nat.{div-zero}
 use lib.Chars.{codes}
 use Rattle.mse_base.specs.declared.track.TrackInfo.{TrackInfo}
 use Rattle.mse_base.specs.Time.{SECOND, floor_div}
-use Rattle.bmff_boxes.specs.Children.{child_of}
+use Rattle.bmff_boxes.specs.Children.{payload_of}
+use Rattle.bmff_boxes.specs.Reading.{◌>>=◌, need}
 use Rattle.bmff_boxes.specs.Rows.{row_of, first_of, all_of}
 use Rattle.bmff_fragment.specs.declared.fault.MoofFault.{MoofFault}
 use Rattle.bmff_fragment.specs.declared.fault.MoofFault.TheVariants.{Size, NoTraf}
 use Rattle.bmff_fragment.specs.declared.slot.Slot.{Slot}
-use Rattle.bmff_fragment.specs.Times.{Run, duration_of, presented, slot_of, slot_at, slots_of_run, slots_behind}
-use Rattle.bmff_fragment.specs.Plans.{◌>>=◌, need, front_payload, is_media, fragment_of, runs_of, samples_in, data_end, kept, trafs_of, plan_of}
+use Rattle.bmff_fragment.specs.Times.{Run, duration_of, tick_at, slot_of, slot_at, slots_of_run, slots_behind}
+use Rattle.bmff_fragment.specs.Plans.{is_media, track_fragment_of, runs_of, samples_in, data_end, media_slots, trafs_of, plan_of}
 use Rattle.bmff_fragment.proofs.Clock.{lasts}
 use Rattle.bmff_fragment.proofs.Linking.{trafs_more, trafs_none}
 
@@ -31,14 +32,14 @@ floor-at : (s : ℕ) (a b : ℤ) → s ≡ 0 → a ≤ℤ b → floor_div a s �
 floor-at zero a b e h = floor-none a b h
 floor-at (suc s) a b e h = absurd (omega arith)
 
-lasts-none : (t : TrackInfo) (m : ℤ) (d : ℕ) → t.scale ≡ 0 → pos 0 ≤ℤ (presented t (m +ℤ pos d) -ℤ presented t m)
-unfolding presented
+lasts-none : (t : TrackInfo) (m : ℤ) (d : ℕ) → t.scale ≡ 0 → pos 0 ≤ℤ (tick_at t (m +ℤ pos d) -ℤ tick_at t m)
+unfolding tick_at
 lasts-none t m d e =
     let k : ((m -ℤ t.media_shift) *ℤ pos SECOND) ≤ℤ (((m +ℤ pos d) -ℤ t.media_shift) *ℤ pos SECOND) = omega (arith, ints) in
     let f = floor-at t.scale ((m -ℤ t.media_shift) *ℤ pos SECOND) (((m +ℤ pos d) -ℤ t.media_shift) *ℤ pos SECOND) e k in
     omega (arith, ints, f)
 
-lasts-at : (t : TrackInfo) (m : ℤ) (d scale : ℕ) → t.scale ≡ scale → pos 0 ≤ℤ (presented t (m +ℤ pos d) -ℤ presented t m)
+lasts-at : (t : TrackInfo) (m : ℤ) (d scale : ℕ) → t.scale ≡ scale → pos 0 ≤ℤ (tick_at t (m +ℤ pos d) -ℤ tick_at t m)
 lasts-at t m d zero e = lasts-none t m d e
 lasts-at t m d (suc scale) e = lasts t m d (omega arith)
 
@@ -84,14 +85,14 @@ trafs-last tracks count end [] slots e =
     All-same Lasts slots [] k (All-nil Lasts)
 trafs-last tracks count end (t ∷ ts) slots e =
     let a = through (need Size (row_of t)) _ slots (sym (trafs_more tracks count end t ts) ∙ e) in
-    let b = through (fragment_of tracks end a.value) _ slots a.then in
+    let b = through (track_fragment_of tracks end a.value) _ slots a.then in
     let f = b.value in
     let c = through (runs_of f count f.base (all_of (codes "trun") a.value)) _ slots b.then in
-    let d = through (trafs_of tracks (count + length (samples_in c.value)) (data_end f.base c.value) ts) (λ rest. Ok (kept f.track (slots_behind f.track f.decode_time [] c.value) ++ rest)) slots c.then in
+    let d = through (trafs_of tracks (count + length (samples_in c.value)) (data_end f.base c.value) ts) (λ rest. Ok (media_slots f.track (slots_behind f.track f.decode_time [] c.value) ++ rest)) slots c.then in
     let own = slots_behind f.track f.decode_time [] c.value in
-    let k : slots ≡ kept f.track own ++ d.value = same-slots (kept f.track own ++ d.value) slots d.then in
-    All-same Lasts slots (kept f.track own ++ d.value) k
-    (All-append Lasts (kept f.track own) d.value
+    let k : slots ≡ media_slots f.track own ++ d.value = same-slots (media_slots f.track own ++ d.value) slots d.then in
+    All-same Lasts slots (media_slots f.track own ++ d.value) k
+    (All-append Lasts (media_slots f.track own) d.value
     (kept-last own (is_media f.track.kind) (runs-last f.track f.decode_time [] c.value))
     (trafs-last tracks (count + length (samples_in c.value)) (data_end f.base c.value) ts d.value d.was))
 
@@ -99,7 +100,7 @@ trafs-last tracks count end (t ∷ ts) slots e =
 pub plan-lasts : (tracks : List TrackInfo) (moof : List ℕ) (slots : List Slot) → plan_of tracks moof ≡ Ok slots → All Lasts slots
 unfolding plan_of
 plan-lasts tracks moof slots e =
-    let a = through (need Size (front_payload (child_of moof))) _ slots e in
+    let a = through (need Size (payload_of moof)) _ slots e in
     let b = through (need Size (row_of a.value)) _ slots a.then in
     let c = through (need NoTraf (first_of (codes "traf") b.value)) _ slots b.then in
     trafs-last tracks 0 (pos 0) (all_of (codes "traf") b.value) slots c.then

@@ -1,5 +1,6 @@
 pub mod Durations
 pub mod Lasting
-pub mod Mapped
-pub mod Standing
 pub mod Parsing
+pub mod Standing
+pub mod Resetting
+pub mod Placed

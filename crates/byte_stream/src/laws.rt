@@ -1,29 +1,48 @@
-ghost use Rattle.std.specs.Prelude.{◌≡◌, ℕ, ◌≤◌, List, ◌++◌, length, take, Option, All, fold};
+ghost use Rattle.std.specs.Prelude.{◌≡◌, ℕ, suc, ◌+◌, ◌≤◌, List, Some, length, slice_get, slice_range, All};
+ghost use Rattle.mse_base.specs.declared.frame.CodedFrame.{CodedFrame};
 ghost use Rattle.mse_base.specs.declared.track.Presentation.{Presentation};
-ghost use Rattle.mse_types.specs.declared.answer.Container.{Container};
-ghost use Rattle.byte_stream.specs.Items.{items_of, ready_at, phase_at, held_at, latest_by, IsLasting, Begins};
-ghost use Rattle.byte_stream.specs.Streams.{Kept, StandsIn, last_of, ready_of, phase_of, held_of};
+ghost use Rattle.parser_loop.specs.Items.{InitItem, FrameItem, FaultItem, IsPrefix};
+ghost use Rattle.parser_loop.specs.Parse.{IsSuffix};
+ghost use Rattle.byte_stream.specs.declared.next.ByteFault.{ByteFault};
+ghost use Rattle.byte_stream.specs.Readings.{Reading, items_in, ready_at, phase_at, held_at, latest_at, with_bytes, IsInitIn, IsLasting};
+ghost use Rattle.byte_stream.specs.Streams.{StreamView, Stands, latest_of, ready_of, phase_of, held_of};
 
 /// No coded frame of a string ends before it begins.
 pub fn lasting_law()
-    ensures { (container : Container) (before : Option Presentation) (whole : List ℕ) → All IsLasting (items_of container before whole) }
+    ensures { (r : Reading) → All IsLasting (items_in r) }
 {}
 
 /// The items of a string are the first items of each longer string, and all of them where one is a fault.
 pub fn prefix_law()
-    ensures { (container : Container) (before : Option Presentation) (b c : List ℕ) → Begins (items_of container before b) (items_of container before (b ++ c)) }
+    ensures { (r : Reading) (bytes : List ℕ) → IsPrefix (items_in r) (items_in (with_bytes bytes r)) }
 {}
 
-/// The presentation that is kept is that of the last initialization segment that was given, or the one from before.
-pub fn latest_law()
-    ensures { (kept : Kept) (container : Container) (before : Option Presentation) (whole : List ℕ) (n : ℕ) → StandsIn kept container before whole n → last_of kept ≡ fold latest_by before (take n (items_of container before whole)) }
-{}
-
-/// Of a string for which a stream stands no more items were given than there are, and what the stream keeps tells
-/// the coded frames that come next, the phase and the bytes that are held.
+/// Of a reading for which a stream stands no more items were given than there are, and what the stream keeps tells
+/// the coded frames that come next, the phase, the bytes that are held, and the presentation of the last
+/// initialization segment that was given.
 pub fn stands_law()
-    ensures given { (kept : Kept) (container : Container) (before : Option Presentation) (whole : List ℕ) (n : ℕ) → StandsIn kept container before whole n → n ≤ length (items_of container before whole) }
-    ensures ready { (kept : Kept) (container : Container) (before : Option Presentation) (whole : List ℕ) (n : ℕ) → StandsIn kept container before whole n → ready_of kept ≡ length (ready_at container before whole n) }
-    ensures phase { (kept : Kept) (container : Container) (before : Option Presentation) (whole : List ℕ) (n : ℕ) → StandsIn kept container before whole n → phase_of kept ≡ phase_at container before whole n }
-    ensures held { (kept : Kept) (container : Container) (before : Option Presentation) (whole : List ℕ) (n : ℕ) → StandsIn kept container before whole n → held_of kept ≡ held_at container before whole n }
+    ensures given { (s : StreamView) (r : Reading) → Stands s r → r.taken ≤ length (items_in r) }
+    ensures ready { (s : StreamView) (r : Reading) → Stands s r → ready_of s ≡ length (ready_at r) }
+    ensures phase { (s : StreamView) (r : Reading) → Stands s r → phase_of s ≡ phase_at r }
+    ensures held { (s : StreamView) (r : Reading) → Stands s r → held_of s ≡ held_at r }
+    ensures latest { (s : StreamView) (r : Reading) → Stands s r → latest_of s ≡ latest_at r }
+{}
+
+/// A presentation is what stands in the string at its offset. The payload of a coded frame is the bytes of the string
+/// from its offset on, all of which are there. A fault is the last item.
+pub fn place_law()
+    ensures init { (r : Reading) (n at : ℕ) (p : Presentation) →
+        slice_get (items_in r) n ≡ Some (InitItem p at) → IsInitIn r.container r.whole at p }
+    ensures frame { (r : Reading) (n at : ℕ) (f : CodedFrame) →
+        slice_get (items_in r) n ≡ Some (FrameItem f at) →
+        f.payload ≡ slice_range r.whole at (at + length f.payload) }
+    ensures there { (r : Reading) (n at : ℕ) (f : CodedFrame) →
+        slice_get (items_in r) n ≡ Some (FrameItem f at) → at + length f.payload ≤ length r.whole }
+    ensures fault { (r : Reading) (n at : ℕ) (f : ByteFault) →
+        slice_get (items_in r) n ≡ Some (FaultItem f at) → suc n ≡ length (items_in r) }
+{}
+
+/// The bytes that are held are the end of the string from some offset on.
+pub fn held_law()
+    ensures { (r : Reading) → IsSuffix (held_at r) r.whole }
 {}

@@ -12,7 +12,7 @@ mod parser;
 mod stream;
 
 pub use adts_stream::AdtsFault;
-pub use laws::{lasting_law, latest_law, prefix_law, stands_law};
+pub use laws::{held_law, lasting_law, place_law, prefix_law, stands_law};
 pub use mse_types::Container;
 pub use next::{ByteFault, Next};
 pub use segment_stream::StreamFault;

@@ -1,8 +1,8 @@
 ghost use Rattle.std.specs.Prelude.{◌≡◌};
 ghost use Rattle.std.specs.Option.{option_map};
 ghost use Rattle.segment_stream.specs.Kept.{seen as segment_seen};
-ghost use Rattle.adts_stream.specs.Kept.{seen as frame_seen};
-ghost use Rattle.byte_stream.specs.Items.{of_segments, of_frames};
+ghost use Rattle.adts_stream.specs.Values.{seen as frame_seen};
+ghost use Rattle.byte_stream.specs.Readings.{of_segments, of_frames};
 ghost use Rattle.byte_stream.specs.Streams.{seen};
 
 use adts_stream::{AdtsFault, AdtsNext};

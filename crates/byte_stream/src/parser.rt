@@ -1,10 +1,8 @@
-ghost use Rattle.std.specs.Prelude.{◌≡◌, ℕ, ◌+◌, ◌<◌, ◌^◌, ◌⊎◌, List, [], ◌++◌, length, slice_get, Option, None, Some, IsSome, IfSome, IfOk, OnOk, OnErr};
-ghost use Rattle.mse_base.specs.declared.track.Presentation.{Presentation};
-ghost use Rattle.mse_types.specs.declared.answer.Container.{Container};
-ghost use Rattle.parser_loop.specs.Walk.{count_after};
-ghost use Rattle.adts_stream.specs.Strings.{phase_of as phase_of_place};
-ghost use Rattle.byte_stream.specs.Items.{items_of};
-ghost use Rattle.byte_stream.specs.Streams.{Stands, streaming, last_of, ready_of, phase_of, held_of, seen, last_shown};
+ghost use Rattle.std.specs.Prelude.{◌≡◌, ◌+◌, ◌<◌, ◌^◌, ◌⊎◌, length, Option, None, Some, IsSome, IfSome, IfOk, OnOk, OnErr};
+ghost use Rattle.parser_loop.specs.Items.{latest_after_any};
+ghost use Rattle.adts_stream.specs.Walk.{phase_of as phase_of_point};
+ghost use Rattle.byte_stream.specs.Readings.{new_reading, next_item, item_ahead, with_bytes, after_answer, after_reset};
+ghost use Rattle.byte_stream.specs.Streams.{Stands, StandsAfter, ForEachReading, StreamView, stream_view, latest_of, ready_of, phase_of, held_of, seen};
 
 use crate::next::{Next, frame_next, segment_next};
 use adts_stream::AdtsStream;
@@ -23,10 +21,10 @@ pub(crate) enum Parser {
 impl Parser {
     /// A parser of the empty string, with no presentation from before.
     pub(crate) fn new(alloc: Global, container: Container) -> Parser
-        ensures stands { Stands (streaming result) container None [] 0 }
-        ensures last { last_of (streaming result).kept ≡ None }
-        ensures fed { (streaming result).fed ≡ 0 }
-        ensures idle { (streaming result).offered ≡ None }
+        ensures stands { Stands (stream_view result) (new_reading container) }
+        ensures latest { latest_of (stream_view result) ≡ None }
+        ensures fed { (stream_view result).fed ≡ 0 }
+        ensures idle { (stream_view result).offered ≡ None }
     {
         match container {
             Container::Mp4 => Parser::Segments(Stream::new(alloc)),
@@ -35,10 +33,14 @@ impl Parser {
     }
 
     pub(crate) fn offer(&mut self, bytes: &[u8]) -> Result<(), OutOfMemory>
-        requires idle { (streaming self.old).offered ≡ None }
-        requires room { (streaming self.old).fed + length bytes.now < 2 ^ 62 }
-        ensures ok { OnOk result (streaming self.new ≡ record { kept = (streaming self.old).kept; fed = (streaming self.old).fed; offered = Some bytes.now }) }
-        ensures err { OnErr result (streaming self.new ≡ streaming self.old) }
+        requires idle { (stream_view self.old).offered ≡ None }
+        requires room { (stream_view self.old).fed + length bytes.now < 2 ^ 62 }
+        ensures ok { OnOk result (stream_view self.new ≡ record {
+          parser = (stream_view self.old).parser;
+          fed = (stream_view self.old).fed;
+          offered = Some bytes.now;
+        }) }
+        ensures err { OnErr result (stream_view self.new ≡ stream_view self.old) }
     {
         match self {
             Parser::Segments(stream) => stream.offer(bytes),
@@ -46,12 +48,31 @@ impl Parser {
         }
     }
 
+    /// As `offer`, of a vector: ADTS frames take over its memory, and segments copy its bytes.
+    pub(crate) fn offer_vec(&mut self, bytes: Vec<u8>) -> Result<(), OutOfMemory>
+        requires idle { (stream_view self.old).offered ≡ None }
+        requires room { (stream_view self.old).fed + length bytes.items < 2 ^ 62 }
+        ensures ok { OnOk result (stream_view self.new ≡ record {
+          parser = (stream_view self.old).parser;
+          fed = (stream_view self.old).fed;
+          offered = Some bytes.items;
+        }) }
+        ensures err { OnErr result (stream_view self.new ≡ stream_view self.old) }
+    {
+        match self {
+            Parser::Segments(stream) => stream.offer(bytes.as_slice()),
+            Parser::Frames(stream) => stream.offer_vec(bytes),
+        }
+    }
+
     pub(crate) fn accept(&mut self)
-        requires { IsSome (streaming self.old).offered }
-        ensures stands { IfSome (streaming self.old).offered (λ bytes. (container : Container) (before : Option Presentation) (whole : List ℕ) (n : ℕ) → Stands (streaming self.old) container before whole n → Stands (streaming self.new) container before (whole ++ bytes) n) }
-        ensures last { last_of (streaming self.new).kept ≡ last_of (streaming self.old).kept }
-        ensures fed { IfSome (streaming self.old).offered (λ bytes. (streaming self.new).fed ≡ (streaming self.old).fed + length bytes) }
-        ensures idle { (streaming self.new).offered ≡ None }
+        requires { IsSome (stream_view self.old).offered }
+        ensures stands { IfSome (stream_view self.old).offered (λ bytes.
+            StandsAfter (stream_view self.old) (with_bytes bytes) (stream_view self.new)) }
+        ensures latest { latest_of (stream_view self.new) ≡ latest_of (stream_view self.old) }
+        ensures fed { IfSome (stream_view self.old).offered
+            (λ bytes. (stream_view self.new).fed ≡ (stream_view self.old).fed + length bytes) }
+        ensures idle { (stream_view self.new).offered ≡ None }
     {
         match self {
             Parser::Segments(stream) => stream.accept(),
@@ -60,8 +81,12 @@ impl Parser {
     }
 
     pub(crate) fn decline(&mut self)
-        requires { IsSome (streaming self.old).offered }
-        ensures { streaming self.new ≡ record { kept = (streaming self.old).kept; fed = (streaming self.old).fed; offered = None } }
+        requires { IsSome (stream_view self.old).offered }
+        ensures { stream_view self.new ≡ record {
+          parser = (stream_view self.old).parser;
+          fed = (stream_view self.old).fed;
+          offered = None;
+        } }
     {
         match self {
             Parser::Segments(stream) => stream.decline(),
@@ -70,9 +95,10 @@ impl Parser {
     }
 
     pub(crate) fn look(&self, i: usize) -> Result<Next, OutOfMemory>
-        requires idle { (streaming self.now).offered ≡ None }
-        requires ready { (i ≡ 0) ⊎ (i < ready_of (streaming self.now).kept) }
-        ensures { (container : Container) (before : Option Presentation) (whole : List ℕ) (n : ℕ) → Stands (streaming self.now) container before whole n → IfOk result (λ next. seen next ≡ slice_get (items_of container before whole) (n + i)) }
+        requires idle { (stream_view self.now).offered ≡ None }
+        requires ready { (i ≡ 0) ⊎ (i < ready_of (stream_view self.now)) }
+        ensures { ForEachReading (stream_view self.now) (λ r.
+            IfOk result (λ next. seen next ≡ item_ahead r i)) }
     {
         match self {
             Parser::Segments(stream) => Ok(segment_next(stream.look(i)?)),
@@ -81,14 +107,18 @@ impl Parser {
     }
 
     pub(crate) fn next(&mut self) -> Result<Next, OutOfMemory>
-        requires { (streaming self.old).offered ≡ None }
-        ensures item { (container : Container) (before : Option Presentation) (whole : List ℕ) (n : ℕ) → Stands (streaming self.old) container before whole n → IfOk result (λ next. seen next ≡ slice_get (items_of container before whole) n) }
-        ensures stands { (container : Container) (before : Option Presentation) (whole : List ℕ) (n : ℕ) → Stands (streaming self.old) container before whole n → IfOk result (λ next. Stands (streaming self.new) container before whole (count_after n (seen next))) }
-        ensures last { IfOk result (λ next. last_of (streaming self.new).kept ≡ last_shown (last_of (streaming self.old).kept) (seen next)) }
-        ensures fed { (streaming self.new).fed ≡ (streaming self.old).fed }
-        ensures idle { (streaming self.new).offered ≡ None }
-        ensures dry { IfOk result (λ next. seen next ≡ None → streaming self.new ≡ streaming self.old) }
-        ensures err { OnErr result (streaming self.new ≡ streaming self.old) }
+        requires { (stream_view self.old).offered ≡ None }
+        ensures item { ForEachReading (stream_view self.old) (λ r.
+            IfOk result (λ next. seen next ≡ next_item r)) }
+        ensures stands { ForEachReading (stream_view self.old) (λ r.
+            IfOk result (λ next. Stands (stream_view self.new) (after_answer (seen next) r))) }
+        ensures latest { IfOk result (λ next. latest_of (stream_view self.new)
+            ≡ latest_after_any (latest_of (stream_view self.old)) (seen next)) }
+        ensures fed { (stream_view self.new).fed ≡ (stream_view self.old).fed }
+        ensures idle { (stream_view self.new).offered ≡ None }
+        ensures dry { IfOk result
+            (λ next. seen next ≡ None → stream_view self.new ≡ stream_view self.old) }
+        ensures err { OnErr result (stream_view self.new ≡ stream_view self.old) }
     {
         match self {
             Parser::Segments(stream) => Ok(segment_next(stream.next()?)),
@@ -97,8 +127,8 @@ impl Parser {
     }
 
     pub(crate) fn phase(&self) -> Phase
-        requires { (streaming self.now).offered ≡ None }
-        ensures { result ≡ phase_of (streaming self.now).kept }
+        requires { (stream_view self.now).offered ≡ None }
+        ensures { result ≡ phase_of (stream_view self.now) }
     {
         match self {
             Parser::Segments(stream) => stream.phase(),
@@ -107,8 +137,8 @@ impl Parser {
     }
 
     pub(crate) fn ready_frames(&self) -> usize
-        requires { (streaming self.now).offered ≡ None }
-        ensures { result ≡ ready_of (streaming self.now).kept }
+        requires { (stream_view self.now).offered ≡ None }
+        ensures { result ≡ ready_of (stream_view self.now) }
     {
         match self {
             Parser::Segments(stream) => stream.ready_frames(),
@@ -117,8 +147,8 @@ impl Parser {
     }
 
     pub(crate) fn held_len(&self) -> usize
-        requires { (streaming self.now).offered ≡ None }
-        ensures { result ≡ length (held_of (streaming self.now).kept) }
+        requires { (stream_view self.now).offered ≡ None }
+        ensures { result ≡ length (held_of (stream_view self.now)) }
     {
         match self {
             Parser::Segments(stream) => stream.held_len(),
@@ -127,11 +157,11 @@ impl Parser {
     }
 
     pub(crate) fn reset(&mut self)
-        requires { (streaming self.old).offered ≡ None }
-        ensures stands { (container : Container) (before : Option Presentation) (whole : List ℕ) (n : ℕ) → Stands (streaming self.old) container before whole n → Stands (streaming self.new) container (last_of (streaming self.old).kept) [] 0 }
-        ensures last { last_of (streaming self.new).kept ≡ last_of (streaming self.old).kept }
-        ensures fed { (streaming self.new).fed ≡ 0 }
-        ensures idle { (streaming self.new).offered ≡ None }
+        requires { (stream_view self.old).offered ≡ None }
+        ensures stands { StandsAfter (stream_view self.old) after_reset (stream_view self.new) }
+        ensures latest { latest_of (stream_view self.new) ≡ latest_of (stream_view self.old) }
+        ensures fed { (stream_view self.new).fed ≡ 0 }
+        ensures idle { (stream_view self.new).offered ≡ None }
     {
         match self {
             Parser::Segments(stream) => stream.reset(),
@@ -144,7 +174,7 @@ impl Parser {
 /// that is being parsed.
 fn frame_phase(stream: &AdtsStream) -> Phase
     requires { stream.now.offered ≡ None }
-    ensures { result ≡ phase_of_place stream.now.kept.place }
+    ensures { result ≡ phase_of_point stream.now.state.point }
 {
     if stream.waiting() {
         Phase::Waiting

@@ -1,7 +1,6 @@
-ghost use Rattle.std.specs.Prelude.{◌≡◌, ℕ, ◌+◌, ◌<◌, ◌^◌, ◌⊎◌, List, [], ◌++◌, length, slice_get, Option, Some, None, IsSome, IfSome, IfOk, OnOk, OnErr};
-ghost use Rattle.mse_base.specs.declared.track.Presentation.{Presentation};
-ghost use Rattle.parser_loop.specs.Walk.{count_after};
-ghost use Rattle.byte_stream.specs.Items.{items_of, phase_at, ready_at, held_at, IsLasting};
+ghost use Rattle.std.specs.Prelude.{◌≡◌, ◌+◌, ◌<◌, ◌^◌, ◌⊎◌, length, Some, None, IsSome, IfSome, IfOk, OnOk, OnErr};
+ghost use Rattle.parser_loop.specs.Items.{latest_after_any};
+ghost use Rattle.byte_stream.specs.Readings.{new_reading, reading_from, next_item, item_ahead, ready_at, phase_at, held_at, with_bytes, after_answer, after_reset, IsLasting};
 
 use crate::next::Next;
 use crate::parser::Parser;
@@ -12,7 +11,8 @@ use std::marker::Model;
 
 /// The byte stream of a source buffer: a string of its container that comes in pieces, by its items.
 ///
-/// Bytes come by `offer` and then `accept` or `decline`: between these two no other call may be made. Items go by
+/// Bytes come by `offer` and then `accept` or `decline`: between these two no call may be made but `len`, `stands`
+/// and `restart`. Items go by
 /// `next`. The stream parses as far as the bytes go when they come, so that the frames that are ready are known at
 /// once.
 #[derive(Debug, Drop)]
@@ -26,22 +26,22 @@ pub struct ByteStream {
 }
 
 impl Model for ByteStream {
-    ghost use Rattle.byte_stream.specs.Streams.{Streaming, streaming, IsCounted};
+    ghost use Rattle.byte_stream.specs.Streams.{StreamView, stream_view, IsCounted};
 
-    ghost Value = { Streaming };
+    ghost Value = { StreamView };
 
-    ghost view = { λ s. streaming s.parser };
+    ghost view = { λ s. stream_view s.parser };
 
-    ghost invariant = { λ s. IsCounted (streaming s.parser) s.fed s.offered };
+    ghost invariant = { λ s. IsCounted (stream_view s.parser) s.fed s.offered };
 }
 
 impl ByteStream {
-    ghost use Rattle.byte_stream.specs.Streams.{Stands, StandsForSome, last_of, ready_of, phase_of, held_of, seen, last_shown};
+    ghost use Rattle.byte_stream.specs.Streams.{Stands, StandsForSome, StandsAfter, ForEachReading, latest_of, ready_of, phase_of, held_of, seen};
 
     /// A stream of the empty string of a container, with no presentation from before. It takes no memory.
     pub fn new(alloc: Global, container: Container) -> ByteStream
-        ensures stands { Stands result container None [] 0 }
-        ensures last { last_of result.kept ≡ None }
+        ensures stands { Stands result (new_reading container) }
+        ensures latest { latest_of result ≡ None }
         ensures fed { result.fed ≡ 0 }
         ensures idle { result.offered ≡ None }
     {
@@ -57,7 +57,8 @@ impl ByteStream {
     pub fn offer(&mut self, bytes: &[u8]) -> Result<(), OutOfMemory>
         requires idle { self.old.offered ≡ None }
         requires room { self.old.fed + length bytes.now < 2 ^ 62 }
-        ensures ok { OnOk result (self.new ≡ record { kept = self.old.kept; fed = self.old.fed; offered = Some bytes.now }) }
+        ensures ok { OnOk result (self.new
+            ≡ record { parser = self.old.parser; fed = self.old.fed; offered = Some bytes.now }) }
         ensures err { OnErr result (self.new ≡ self.old) }
     {
         self.parser.offer(bytes)?;
@@ -65,12 +66,28 @@ impl ByteStream {
         Ok(())
     }
 
+    /// As `offer`, of a vector. Where the container allows it, its memory becomes the input's, and no byte is copied.
+    pub fn offer_vec(&mut self, bytes: Vec<u8>) -> Result<(), OutOfMemory>
+        requires idle { self.old.offered ≡ None }
+        requires room { self.old.fed + length bytes.items < 2 ^ 62 }
+        ensures ok { OnOk result (self.new
+            ≡ record { parser = self.old.parser; fed = self.old.fed; offered = Some bytes.items }) }
+        ensures err { OnErr result (self.new ≡ self.old) }
+    {
+        let len = bytes.len();
+        self.parser.offer_vec(bytes)?;
+        self.offered = len;
+        Ok(())
+    }
+
     /// Appends the bytes that are offered to the string. It takes no memory.
     pub fn accept(&mut self)
         requires { IsSome self.old.offered }
-        ensures stands { IfSome self.old.offered (λ bytes. (container : Container) (before : Option Presentation) (whole : List ℕ) (n : ℕ) → Stands self.old container before whole n → Stands self.new container before (whole ++ bytes) n) }
-        ensures last { last_of self.new.kept ≡ last_of self.old.kept }
-        ensures fed { IfSome self.old.offered (λ bytes. self.new.fed ≡ self.old.fed + length bytes) }
+        ensures stands { IfSome self.old.offered
+            (λ bytes. StandsAfter self.old (with_bytes bytes) self.new) }
+        ensures latest { latest_of self.new ≡ latest_of self.old }
+        ensures fed { IfSome self.old.offered
+            (λ bytes. self.new.fed ≡ self.old.fed + length bytes) }
         ensures idle { self.new.offered ≡ None }
     {
         self.parser.accept();
@@ -81,7 +98,8 @@ impl ByteStream {
     /// Forgets the bytes that are offered. It takes no memory.
     pub fn decline(&mut self)
         requires { IsSome self.old.offered }
-        ensures { self.new ≡ record { kept = self.old.kept; fed = self.old.fed; offered = None } }
+        ensures { self.new
+            ≡ record { parser = self.old.parser; fed = self.old.fed; offered = None } }
     {
         self.parser.decline();
         self.offered = 0;
@@ -91,8 +109,9 @@ impl ByteStream {
     /// changes.
     pub fn look(&self, i: usize) -> Result<Next, OutOfMemory>
         requires idle { self.now.offered ≡ None }
-        requires ready { (i ≡ 0) ⊎ (i < ready_of self.now.kept) }
-        ensures item { (container : Container) (before : Option Presentation) (whole : List ℕ) (n : ℕ) → Stands self.now container before whole n → IfOk result (λ next. seen next ≡ slice_get (items_of container before whole) (n + i)) }
+        requires ready { (i ≡ 0) ⊎ (i < ready_of self.now) }
+        ensures item { ForEachReading self.now (λ r.
+            IfOk result (λ next. seen next ≡ item_ahead r i)) }
         ensures lasting { IfOk result (λ next. IfSome (seen next) IsLasting) }
     {
         self.parser.look(i)
@@ -102,9 +121,12 @@ impl ByteStream {
     /// gives none until the next reset. An `Err` changes nothing.
     pub fn next(&mut self) -> Result<Next, OutOfMemory>
         requires { self.old.offered ≡ None }
-        ensures item { (container : Container) (before : Option Presentation) (whole : List ℕ) (n : ℕ) → Stands self.old container before whole n → IfOk result (λ next. seen next ≡ slice_get (items_of container before whole) n) }
-        ensures stands { (container : Container) (before : Option Presentation) (whole : List ℕ) (n : ℕ) → Stands self.old container before whole n → IfOk result (λ next. Stands self.new container before whole (count_after n (seen next))) }
-        ensures last { IfOk result (λ next. last_of self.new.kept ≡ last_shown (last_of self.old.kept) (seen next)) }
+        ensures item { ForEachReading self.old
+            (λ r. IfOk result (λ next. seen next ≡ next_item r)) }
+        ensures stands { ForEachReading self.old (λ r.
+            IfOk result (λ next. Stands self.new (after_answer (seen next) r))) }
+        ensures latest { IfOk result (λ next.
+            latest_of self.new ≡ latest_after_any (latest_of self.old) (seen next)) }
         ensures fed { self.new.fed ≡ self.old.fed }
         ensures idle { self.new.offered ≡ None }
         ensures dry { IfOk result (λ next. seen next ≡ None → self.new ≡ self.old) }
@@ -131,8 +153,8 @@ impl ByteStream {
     /// Where the parser is before the next item, or at the end of the string where there is none.
     pub fn phase(&self) -> Phase
         requires { self.now.offered ≡ None }
-        ensures kept { result ≡ phase_of self.now.kept }
-        ensures phase { (container : Container) (before : Option Presentation) (whole : List ℕ) (n : ℕ) → Stands self.now container before whole n → result ≡ phase_at container before whole n }
+        ensures kept { result ≡ phase_of self.now }
+        ensures phase { ForEachReading self.now (λ r. result ≡ phase_at r) }
     {
         self.parser.phase()
     }
@@ -140,8 +162,8 @@ impl ByteStream {
     /// How many of the next items are coded frames, up to the first that is none. It takes no memory.
     pub fn ready_frames(&self) -> usize
         requires { self.now.offered ≡ None }
-        ensures kept { result ≡ ready_of self.now.kept }
-        ensures ready { (container : Container) (before : Option Presentation) (whole : List ℕ) (n : ℕ) → Stands self.now container before whole n → result ≡ length (ready_at container before whole n) }
+        ensures kept { result ≡ ready_of self.now }
+        ensures ready { ForEachReading self.now (λ r. result ≡ length (ready_at r)) }
     {
         self.parser.ready_frames()
     }
@@ -149,8 +171,8 @@ impl ByteStream {
     /// How many bytes are held in memory.
     pub fn held_len(&self) -> usize
         requires { self.now.offered ≡ None }
-        ensures kept { result ≡ length (held_of self.now.kept) }
-        ensures held { (container : Container) (before : Option Presentation) (whole : List ℕ) (n : ℕ) → Stands self.now container before whole n → result ≡ length (held_at container before whole n) }
+        ensures kept { result ≡ length (held_of self.now) }
+        ensures held { ForEachReading self.now (λ r. result ≡ length (held_at r)) }
     {
         self.parser.held_len()
     }
@@ -159,8 +181,10 @@ impl ByteStream {
     /// was given stays (Media Source Extensions, 3.5.2, reset parser state).
     pub fn reset(&mut self)
         requires { self.old.offered ≡ None }
-        ensures stands { (container : Container) (before : Option Presentation) (whole : List ℕ) (n : ℕ) → Stands self.old container before whole n → Stands self.new container (last_of self.old.kept) [] 0 }
-        ensures last { last_of self.new.kept ≡ last_of self.old.kept }
+        ensures stands { StandsAfter self.old after_reset self.new }
+        ensures stands_from { ForEachReading self.old
+            (λ r. Stands self.new (reading_from r.container (latest_of self.old))) }
+        ensures latest { latest_of self.new ≡ latest_of self.old }
         ensures fed { self.new.fed ≡ 0 }
         ensures idle { self.new.offered ≡ None }
     {
@@ -171,8 +195,8 @@ impl ByteStream {
     /// The stream begins anew with a container: the string becomes empty, no bytes are offered, and the presentation
     /// is dropped too (Media Source Extensions, `changeType`). It takes no memory.
     pub fn restart(&mut self, container: Container)
-        ensures stands { Stands self.new container None [] 0 }
-        ensures last { last_of self.new.kept ≡ None }
+        ensures stands { Stands self.new (new_reading container) }
+        ensures latest { latest_of self.new ≡ None }
         ensures fed { self.new.fed ≡ 0 }
         ensures idle { self.new.offered ≡ None }
     {

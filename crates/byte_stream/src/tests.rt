@@ -181,3 +181,75 @@ fn offers(rt: HostRuntime) -> Result<(), Fail> {
     );
     Ok(())
 }
+
+/// Takes all items that are there, and puts the payloads of coded frames one after the other.
+fn take_payloads(stream: &mut ByteStream, payloads: &mut Vec<u8>) -> Result<(), OutOfMemory>
+    requires { stream.old.offered ≡ None }
+    ensures { stream.new.offered ≡ None }
+{
+    'items: for _ in 0..20 {
+        match stream.next()? {
+            Next::Frame(frame, _) => payloads.extend_from_slice(frame.payload.as_slice())?,
+            Next::Dry => break,
+            _ => (),
+        }
+    }
+    Ok(())
+}
+
+/// The payloads of the coded frames of a string that is appended in pieces of so many bytes.
+fn payloads_by(
+    alloc: Global,
+    container: Container,
+    bytes: &[u8],
+    size: usize,
+) -> Result<Vec<u8>, OutOfMemory> {
+    let mut stream = ByteStream::new(alloc, container);
+    let mut payloads = Vec::new(alloc);
+    let mut rest = bytes;
+    'pieces: for _ in 0..1000 {
+        let (piece, behind) = rest.split_at(size.min(rest.len()));
+        if piece.is_empty() || piece.len() > 10_000 || stream.len() > 10_000 {
+            break;
+        }
+        feed(&mut stream, piece)?;
+        take_payloads(&mut stream, &mut payloads)?;
+        rest = behind;
+    }
+    Ok(payloads)
+}
+
+/// The payloads are the bytes of the string, whatever pieces it comes in.
+#[test]
+fn payloads_by_pieces(rt: HostRuntime) -> Result<(), Fail> {
+    let mut file = hex::decode(rt.alloc(), INIT)?;
+    file.extend_from_slice(hex::decode(rt.alloc(), THREE_FRAMES)?.as_slice())?;
+    let (_, data) = file.as_slice().split_at(739);
+    assert_eq!(rt; data, [1u8, 2, 3, 4, 5, 6, 7, 8, 9, 10, 11, 12].as_slice());
+    let by_1 = payloads_by(rt.alloc(), Container::Mp4, file.as_slice(), 1)?;
+    assert_eq!(rt; by_1.as_slice(), data);
+    let by_7 = payloads_by(rt.alloc(), Container::Mp4, file.as_slice(), 7)?;
+    assert_eq!(rt; by_7.as_slice(), data);
+    let whole = payloads_by(rt.alloc(), Container::Mp4, file.as_slice(), 751)?;
+    assert_eq!(rt; whole.as_slice(), data);
+    let by_1 = payloads_by(rt.alloc(), Container::Adts, &FRAMES, 1)?;
+    assert_eq!(rt; by_1.as_slice(), FRAMES.as_slice());
+    let by_7 = payloads_by(rt.alloc(), Container::Adts, &FRAMES, 7)?;
+    assert_eq!(rt; by_7.as_slice(), FRAMES.as_slice());
+    Ok(())
+}
+
+/// A vector that is offered gives what its bytes give.
+#[test]
+fn vectors(rt: HostRuntime) -> Result<(), Fail> {
+    let mut stream = ByteStream::new(rt.alloc(), Container::Adts);
+    stream.offer_vec(Vec::from_slice(rt.alloc(), &FRAMES)?)?;
+    stream.accept();
+    let items = take_all(rt.alloc(), &mut stream)?;
+    assert_eq!(rt; items.as_slice(), TWO.as_slice());
+    let mut stream = ByteStream::new(rt.alloc(), Container::Mp4);
+    stream.offer_vec(hex::decode(rt.alloc(), INIT)?)?;
+    stream.accept();
+    assert_eq!(rt; shown_of(&stream.next()?), SEGMENTS[0]);
+    Ok(())
+}

@@ -3,11 +3,11 @@ use Rattle.std.proofs.Common.{◌≡◌, ℕ, zero, suc, ◌+◌, ◌-◌, ◌<�
 use Rattle.std.specs.List.{concat}
 use Rattle.std.proofs.lemmas.List.{append-nil, append_assoc, length-append, length-drop, take_all, take-append-le, drop-append-le}
 use Rattle.std.proofs.lemmas.Bool.Decides.{nat_tests}
-use Rattle.input_chunks.specs.Pieces.{added, pushed, without_front, front_of, without_back, NoneEmpty}
+use Rattle.input_chunks.specs.Pieces.{pieces_with_tail, pieces_with, pieces_without_first, first_pieces, pieces_without_last, HasNoEmptyPiece}
 
 -- ---- push
 
-pub added-last : (bytes last : List ℕ) (front : List (List ℕ)) → added bytes (front ++ last ∷ []) ≡ front ++ added bytes (last ∷ [])
+pub added-last : (bytes last : List ℕ) (front : List (List ℕ)) → pieces_with_tail bytes (front ++ last ∷ []) ≡ front ++ pieces_with_tail bytes (last ∷ [])
 added-last bytes last [] = refl
 added-last bytes last (p ∷ []) = refl
 added-last bytes last (p ∷ q ∷ front) = ap (λ ps. p ∷ ps) (added-last bytes last (q ∷ front))
@@ -16,25 +16,25 @@ bytes-pair : (bytes p : List ℕ) (b : Bool) → concat (cond b ((p ++ bytes) �
 bytes-pair bytes p true = append-nil (p ++ bytes) ∙ ap (λ v. v ++ bytes) (sym (append-nil p))
 bytes-pair bytes p false = ap (λ v. p ++ v) (append-nil bytes) ∙ ap (λ v. v ++ bytes) (sym (append-nil p))
 
-pub bytes-added : (bytes : List ℕ) (ps : List (List ℕ)) → concat (added bytes ps) ≡ concat ps ++ bytes
+pub bytes-added : (bytes : List ℕ) (ps : List (List ℕ)) → concat (pieces_with_tail bytes ps) ≡ concat ps ++ bytes
 bytes-added bytes [] = append-nil bytes
 bytes-added bytes (p ∷ []) = bytes-pair bytes p (leb (length p + length bytes) 4096)
 bytes-added bytes (p ∷ q ∷ ps) = ap (λ v. p ++ v) (bytes-added bytes (q ∷ ps)) ∙ sym (append_assoc p (concat (q ∷ ps)) bytes)
 
-pub bytes-pushed : (bytes : List ℕ) (ps : List (List ℕ)) → concat (pushed bytes ps) ≡ concat ps ++ bytes
+pub bytes-pushed : (bytes : List ℕ) (ps : List (List ℕ)) → concat (pieces_with bytes ps) ≡ concat ps ++ bytes
 bytes-pushed [] ps = sym (append-nil (concat ps))
 bytes-pushed (x ∷ bytes) ps = bytes-added (x ∷ bytes) ps
 
-none-pair : (bytes p : List ℕ) (b : Bool) → 0 < length bytes → 0 < length p → NoneEmpty (cond b ((p ++ bytes) ∷ []) (p ∷ bytes ∷ []))
+none-pair : (bytes p : List ℕ) (b : Bool) → 0 < length bytes → 0 < length p → HasNoEmptyPiece (cond b ((p ++ bytes) ∷ []) (p ∷ bytes ∷ []))
 none-pair bytes p true h k = (omega (arith, length-append p bytes), tt)
 none-pair bytes p false h k = (k, (h, tt))
 
-pub none-added : (bytes : List ℕ) (ps : List (List ℕ)) → 0 < length bytes → NoneEmpty ps → NoneEmpty (added bytes ps)
+pub none-added : (bytes : List ℕ) (ps : List (List ℕ)) → 0 < length bytes → HasNoEmptyPiece ps → HasNoEmptyPiece (pieces_with_tail bytes ps)
 none-added bytes [] h k = (h, tt)
 none-added bytes (p ∷ []) h k = none-pair bytes p (leb (length p + length bytes) 4096) h k.0
 none-added bytes (p ∷ q ∷ ps) h k = (k.0, none-added bytes (q ∷ ps) h k.1)
 
-pub pushed-is : (bytes : List ℕ) (ps : List (List ℕ)) → 0 < length bytes → pushed bytes ps ≡ added bytes ps
+pub pushed-is : (bytes : List ℕ) (ps : List (List ℕ)) → 0 < length bytes → pieces_with bytes ps ≡ pieces_with_tail bytes ps
 pushed-is [] ps h = absurd (omega arith)
 pushed-is (x ∷ bytes) ps h = refl
 
@@ -68,66 +68,66 @@ is-gt a b h = grind (arith, nat_tests)
 
 -- ---- without the first bytes
 
-bytes-without-by : (n : ℕ) (p : List ℕ) (ps : List (List ℕ)) (b : Bool) → leb (length p) n ≡ b → concat (without_front (n - length p) ps) ≡ drop (n - length p) (concat ps) → concat (cond b (without_front (n - length p) ps) (drop n p ∷ ps)) ≡ drop n (p ++ concat ps)
+bytes-without-by : (n : ℕ) (p : List ℕ) (ps : List (List ℕ)) (b : Bool) → leb (length p) n ≡ b → concat (pieces_without_first (n - length p) ps) ≡ drop (n - length p) (concat ps) → concat (cond b (pieces_without_first (n - length p) ps) (drop n p ∷ ps)) ≡ drop n (p ++ concat ps)
 bytes-without-by n p ps true e h = h ∙ sym (drop-over p (concat ps) n (le-of (length p) n e))
 bytes-without-by n p ps false e h = let g = gt-of (length p) n e in sym (drop-append-le n p (concat ps) (omega arith))
 
-pub bytes-without : (n : ℕ) (ps : List (List ℕ)) → concat (without_front n ps) ≡ drop n (concat ps)
+pub bytes-without : (n : ℕ) (ps : List (List ℕ)) → concat (pieces_without_first n ps) ≡ drop n (concat ps)
 bytes-without n [] = sym (drop-nil n)
 bytes-without n (p ∷ ps) = bytes-without-by n p ps (leb (length p) n) refl (bytes-without (n - length p) ps)
 
-none-without-by : (n : ℕ) (p : List ℕ) (ps : List (List ℕ)) (b : Bool) → leb (length p) n ≡ b → NoneEmpty ps → NoneEmpty (without_front (n - length p) ps) → NoneEmpty (cond b (without_front (n - length p) ps) (drop n p ∷ ps))
+none-without-by : (n : ℕ) (p : List ℕ) (ps : List (List ℕ)) (b : Bool) → leb (length p) n ≡ b → HasNoEmptyPiece ps → HasNoEmptyPiece (pieces_without_first (n - length p) ps) → HasNoEmptyPiece (cond b (pieces_without_first (n - length p) ps) (drop n p ∷ ps))
 none-without-by n p ps true e k h = h
 none-without-by n p ps false e k h = let g = gt-of (length p) n e in (omega (arith, length-drop n p), k)
 
-pub none-without : (n : ℕ) (ps : List (List ℕ)) → NoneEmpty ps → NoneEmpty (without_front n ps)
+pub none-without : (n : ℕ) (ps : List (List ℕ)) → HasNoEmptyPiece ps → HasNoEmptyPiece (pieces_without_first n ps)
 none-without n [] k = tt
 none-without n (p ∷ ps) k = none-without-by n p ps (leb (length p) n) refl k.1 (none-without (n - length p) ps k.1)
 
-pub front-goes : (n : ℕ) (p : List ℕ) (ps : List (List ℕ)) → length p ≤ n → without_front n (p ∷ ps) ≡ without_front (n - length p) ps
-front-goes n p ps h = ap (λ b. cond b (without_front (n - length p) ps) (drop n p ∷ ps)) (is-le (length p) n h)
+pub front-goes : (n : ℕ) (p : List ℕ) (ps : List (List ℕ)) → length p ≤ n → pieces_without_first n (p ∷ ps) ≡ pieces_without_first (n - length p) ps
+front-goes n p ps h = ap (λ b. cond b (pieces_without_first (n - length p) ps) (drop n p ∷ ps)) (is-le (length p) n h)
 
-pub front-stays : (n : ℕ) (p : List ℕ) (ps : List (List ℕ)) → n < length p → without_front n (p ∷ ps) ≡ drop n p ∷ ps
-front-stays n p ps h = ap (λ b. cond b (without_front (n - length p) ps) (drop n p ∷ ps)) (is-gt (length p) n h)
+pub front-stays : (n : ℕ) (p : List ℕ) (ps : List (List ℕ)) → n < length p → pieces_without_first n (p ∷ ps) ≡ drop n p ∷ ps
+front-stays n p ps h = ap (λ b. cond b (pieces_without_first (n - length p) ps) (drop n p ∷ ps)) (is-gt (length p) n h)
 
 -- ---- the first bytes
 
-front-whole : (n : ℕ) (p : List ℕ) (ps : List (List ℕ)) → 0 < n → length p ≤ n → front_of n (p ∷ ps) ≡ p ∷ front_of (n - length p) ps
+front-whole : (n : ℕ) (p : List ℕ) (ps : List (List ℕ)) → 0 < n → length p ≤ n → first_pieces n (p ∷ ps) ≡ p ∷ first_pieces (n - length p) ps
 front-whole zero p ps z h = absurd (omega arith)
-front-whole (suc n) p ps z h = ap (λ b. cond b (p ∷ front_of (suc n - length p) ps) (take (suc n) p ∷ [])) (is-le (length p) (suc n) h)
+front-whole (suc n) p ps z h = ap (λ b. cond b (p ∷ first_pieces (suc n - length p) ps) (take (suc n) p ∷ [])) (is-le (length p) (suc n) h)
 
-front-part : (n : ℕ) (p : List ℕ) (ps : List (List ℕ)) → 0 < n → n < length p → front_of n (p ∷ ps) ≡ take n p ∷ []
+front-part : (n : ℕ) (p : List ℕ) (ps : List (List ℕ)) → 0 < n → n < length p → first_pieces n (p ∷ ps) ≡ take n p ∷ []
 front-part zero p ps z h = absurd (omega arith)
-front-part (suc n) p ps z h = ap (λ b. cond b (p ∷ front_of (suc n - length p) ps) (take (suc n) p ∷ [])) (is-gt (length p) (suc n) h)
+front-part (suc n) p ps z h = ap (λ b. cond b (p ∷ first_pieces (suc n - length p) ps) (take (suc n) p ∷ [])) (is-gt (length p) (suc n) h)
 
-pub front-none : (ps : List (List ℕ)) → front_of 0 ps ≡ []
+pub front-none : (ps : List (List ℕ)) → first_pieces 0 ps ≡ []
 front-none [] = refl
 front-none (p ∷ ps) = refl
 
 -- all of them
-pub front-all : (n : ℕ) (ps : List (List ℕ)) → n ≡ length (concat ps) → NoneEmpty ps → front_of n ps ≡ ps
+pub front-all : (n : ℕ) (ps : List (List ℕ)) → n ≡ length (concat ps) → HasNoEmptyPiece ps → first_pieces n ps ≡ ps
 front-all n [] e k = refl
 front-all n (p ∷ ps) e k =
     let l = length-append p (concat ps) in
     front-whole n p ps (omega (arith, k.0)) (omega arith) ∙ ap (λ qs. p ∷ qs) (front-all (n - length p) ps (omega arith) k.1)
 
 -- the last piece goes, or is shortened
-front-less-by : (n : ℕ) (p last : List ℕ) (front : List (List ℕ)) (b : Bool) → front_of (n - length p) (front ++ last ∷ []) ≡ front_of (n - length p) front → cond b (p ∷ front_of (n - length p) (front ++ last ∷ [])) (take n p ∷ []) ≡ cond b (p ∷ front_of (n - length p) front) (take n p ∷ [])
+front-less-by : (n : ℕ) (p last : List ℕ) (front : List (List ℕ)) (b : Bool) → first_pieces (n - length p) (front ++ last ∷ []) ≡ first_pieces (n - length p) front → cond b (p ∷ first_pieces (n - length p) (front ++ last ∷ [])) (take n p ∷ []) ≡ cond b (p ∷ first_pieces (n - length p) front) (take n p ∷ [])
 front-less-by n p last front true h = ap (λ qs. p ∷ qs) h
 front-less-by n p last front false h = refl
 
-pub front-less : (n : ℕ) (last : List ℕ) (front : List (List ℕ)) → n ≤ length (concat front) → front_of n (front ++ last ∷ []) ≡ front_of n front
+pub front-less : (n : ℕ) (last : List ℕ) (front : List (List ℕ)) → n ≤ length (concat front) → first_pieces n (front ++ last ∷ []) ≡ first_pieces n front
 front-less zero last front h = front-none (front ++ last ∷ []) ∙ sym (front-none front)
 front-less (suc n) last [] h = absurd (omega arith)
 front-less (suc n) last (p ∷ front) h = front-less-by (suc n) p last front (leb (length p) (suc n)) (front-less (suc n - length p) last front (omega (arith, length-append p (concat front))))
 
-pub front-last : (n j : ℕ) (last : List ℕ) (front : List (List ℕ)) → n ≡ length (concat front) + j → 0 < j → j < length last → front_of n (front ++ last ∷ []) ≡ front ++ take j last ∷ []
+pub front-last : (n j : ℕ) (last : List ℕ) (front : List (List ℕ)) → n ≡ length (concat front) + j → 0 < j → j < length last → first_pieces n (front ++ last ∷ []) ≡ front ++ take j last ∷ []
 front-last n j last [] e z h = front-part n last [] (omega arith) (omega arith) ∙ ap (λ m. take m last ∷ []) (omega arith)
 front-last n j last (p ∷ front) e z h =
     let l = length-append p (concat front) in
     front-whole n p (front ++ last ∷ []) (omega arith) (omega arith) ∙ ap (λ qs. p ∷ qs) (front-last (n - length p) j last front (omega arith) z h)
 
-pub none-front : (xs : List (List ℕ)) (ys : List (List ℕ)) → NoneEmpty (xs ++ ys) → NoneEmpty xs
+pub none-front : (xs : List (List ℕ)) (ys : List (List ℕ)) → HasNoEmptyPiece (xs ++ ys) → HasNoEmptyPiece xs
 none-front [] ys k = tt
 none-front (x ∷ xs) ys k = (k.0, none-front xs ys k.1)
 
@@ -136,12 +136,12 @@ bytes-last [] last = omega (arith, ap length (append-nil last))
 bytes-last (p ∷ front) last = omega (arith, length-append p (concat (front ++ last ∷ [])), length-append p (concat front), bytes-last front last)
 
 -- the bytes and the pieces of what is left of the back
-none-front_of-by : (n : ℕ) (p : List ℕ) (ps : List (List ℕ)) (b : Bool) → leb (length p) (suc n) ≡ b → 0 < length p → NoneEmpty (front_of (suc n - length p) ps) → NoneEmpty (cond b (p ∷ front_of (suc n - length p) ps) (take (suc n) p ∷ []))
+none-front_of-by : (n : ℕ) (p : List ℕ) (ps : List (List ℕ)) (b : Bool) → leb (length p) (suc n) ≡ b → 0 < length p → HasNoEmptyPiece (first_pieces (suc n - length p) ps) → HasNoEmptyPiece (cond b (p ∷ first_pieces (suc n - length p) ps) (take (suc n) p ∷ []))
 none-front_of-by n p ps true e z h = (z, h)
 none-front_of-by n (x ∷ p) ps false e z h = (omega arith, tt)
 none-front_of-by n [] ps false e z h = absurd (omega arith)
 
-pub none-front_of : (n : ℕ) (ps : List (List ℕ)) → NoneEmpty ps → NoneEmpty (front_of n ps)
+pub none-front_of : (n : ℕ) (ps : List (List ℕ)) → HasNoEmptyPiece ps → HasNoEmptyPiece (first_pieces n ps)
 none-front_of n [] k = tt
 none-front_of zero (p ∷ ps) k = tt
 none-front_of (suc n) (p ∷ ps) k = none-front_of-by n p ps (leb (length p) (suc n)) refl k.0 (none-front_of (suc n - length p) ps k.1)
@@ -150,36 +150,36 @@ pub take-nil : (n : ℕ) → take {A = ℕ} n [] ≡ []
 take-nil zero = refl
 take-nil (suc n) = refl
 
-bytes-front-by : (n : ℕ) (p : List ℕ) (ps : List (List ℕ)) (b : Bool) → leb (length p) n ≡ b → concat (front_of (n - length p) ps) ≡ take (n - length p) (concat ps) → concat (cond b (p ∷ front_of (n - length p) ps) (take n p ∷ [])) ≡ take n (p ++ concat ps)
+bytes-front-by : (n : ℕ) (p : List ℕ) (ps : List (List ℕ)) (b : Bool) → leb (length p) n ≡ b → concat (first_pieces (n - length p) ps) ≡ take (n - length p) (concat ps) → concat (cond b (p ∷ first_pieces (n - length p) ps) (take n p ∷ [])) ≡ take n (p ++ concat ps)
 bytes-front-by n p ps true e h = ap (λ v. p ++ v) h ∙ sym (take-over p (concat ps) n (le-of (length p) n e))
 bytes-front-by n p ps false e h = let g = gt-of (length p) n e in append-nil (take n p) ∙ sym (take-append-le n p (concat ps) (omega arith))
 
-pub bytes-front : (n : ℕ) (ps : List (List ℕ)) → concat (front_of n ps) ≡ take n (concat ps)
+pub bytes-front : (n : ℕ) (ps : List (List ℕ)) → concat (first_pieces n ps) ≡ take n (concat ps)
 bytes-front n [] = sym (take-nil n)
 bytes-front zero (p ∷ ps) = refl
 bytes-front (suc n) (p ∷ ps) = bytes-front-by (suc n) p ps (leb (length p) (suc n)) refl (bytes-front (suc n - length p) ps)
 
 -- ---- a push that is taken back
 
-back-pair : (n : ℕ) (bytes p : List ℕ) (b : Bool) → n ≡ length p → 0 < length bytes → 0 < length p → front_of n (cond b ((p ++ bytes) ∷ []) (p ∷ bytes ∷ [])) ≡ p ∷ []
+back-pair : (n : ℕ) (bytes p : List ℕ) (b : Bool) → n ≡ length p → 0 < length bytes → 0 < length p → first_pieces n (cond b ((p ++ bytes) ∷ []) (p ∷ bytes ∷ [])) ≡ p ∷ []
 back-pair n bytes p true e h k =
     let l = length-append p bytes in
     front-part n (p ++ bytes) [] (omega arith) (omega arith) ∙ ap (λ v. v ∷ []) (take-append-le n p bytes (omega arith) ∙ take_all n p (omega arith))
 back-pair n bytes p false e h k =
     let z : n - length p ≡ 0 = omega arith in
-    front-whole n p (bytes ∷ []) (omega arith) (omega arith) ∙ ap (λ m. p ∷ front_of m (bytes ∷ [])) z
+    front-whole n p (bytes ∷ []) (omega arith) (omega arith) ∙ ap (λ m. p ∷ first_pieces m (bytes ∷ [])) z
 
-front-added : (n : ℕ) (bytes : List ℕ) (ps : List (List ℕ)) → n ≡ length (concat ps) → 0 < length bytes → NoneEmpty ps → front_of n (added bytes ps) ≡ ps
-front-added n bytes [] e h k = ap (λ m. front_of m (bytes ∷ [])) e
+front-added : (n : ℕ) (bytes : List ℕ) (ps : List (List ℕ)) → n ≡ length (concat ps) → 0 < length bytes → HasNoEmptyPiece ps → first_pieces n (pieces_with_tail bytes ps) ≡ ps
+front-added n bytes [] e h k = ap (λ m. first_pieces m (bytes ∷ [])) e
 front-added n bytes (p ∷ []) e h k = back-pair n bytes p (leb (length p + length bytes) 4096) (e ∙ ap length (append-nil p)) h k.0
 front-added n bytes (p ∷ q ∷ ps) e h k =
     let l = length-append p (concat (q ∷ ps)) in
-    front-whole n p (added bytes (q ∷ ps)) (omega (arith, k.0)) (omega arith) ∙ ap (λ qs. p ∷ qs) (front-added (n - length p) bytes (q ∷ ps) (omega arith) h k.1)
+    front-whole n p (pieces_with_tail bytes (q ∷ ps)) (omega (arith, k.0)) (omega arith) ∙ ap (λ qs. p ∷ qs) (front-added (n - length p) bytes (q ∷ ps) (omega arith) h k.1)
 
-pub back-again : (bytes : List ℕ) (ps : List (List ℕ)) → NoneEmpty ps → without_back (length bytes) (pushed bytes ps) ≡ ps
+pub back-again : (bytes : List ℕ) (ps : List (List ℕ)) → HasNoEmptyPiece ps → pieces_without_last (length bytes) (pieces_with bytes ps) ≡ ps
 back-again [] ps k = front-all (length (concat ps) - 0) ps (omega arith) k
 back-again (x ∷ bytes) ps k =
-    let n : ℕ = length (concat (added (x ∷ bytes) ps)) - length (x ∷ bytes) in
+    let n : ℕ = length (concat (pieces_with_tail (x ∷ bytes) ps)) - length (x ∷ bytes) in
     front-added n (x ∷ bytes) ps (omega (arith, ap length (bytes-added (x ∷ bytes) ps), length-append (concat ps) (x ∷ bytes))) (omega arith) k
 
 -- ---- a part of the bytes, piece by piece
@@ -216,14 +216,14 @@ copy-past out p more all target skip left next f h e g =
     rw z (ap (λ v. out ++ v) (sym (part-past p more skip left h)) ∙ ap (λ v. out ++ take left (drop skip v)) (sym f) ∙ g)
 
 -- what a push does to the pieces, by its last one
-pair-apart : (bytes last : List ℕ) → 4096 < length last + length bytes → added bytes (last ∷ []) ≡ last ∷ bytes ∷ []
+pair-apart : (bytes last : List ℕ) → 4096 < length last + length bytes → pieces_with_tail bytes (last ∷ []) ≡ last ∷ bytes ∷ []
 pair-apart bytes last h = ap (λ b. cond b ((last ++ bytes) ∷ []) (last ∷ bytes ∷ [])) (is-gt (length last + length bytes) 4096 h)
 
-pair-joined : (bytes last : List ℕ) → length last + length bytes ≤ 4096 → added bytes (last ∷ []) ≡ (last ++ bytes) ∷ []
+pair-joined : (bytes last : List ℕ) → length last + length bytes ≤ 4096 → pieces_with_tail bytes (last ∷ []) ≡ (last ++ bytes) ∷ []
 pair-joined bytes last h = ap (λ b. cond b ((last ++ bytes) ∷ []) (last ∷ bytes ∷ [])) (is-le (length last + length bytes) 4096 h)
 
-pub push-apart : (bytes last : List ℕ) (front old new : List (List ℕ)) → old ≡ front ++ last ∷ [] → 4096 < length last + length bytes → new ≡ (front ++ last ∷ []) ++ bytes ∷ [] → new ≡ added bytes old
-push-apart bytes last front old new e h g = g ∙ append_assoc front (last ∷ []) (bytes ∷ []) ∙ sym (ap (added bytes) e ∙ added-last bytes last front ∙ ap (λ ps. front ++ ps) (pair-apart bytes last h))
+pub push-apart : (bytes last : List ℕ) (front old new : List (List ℕ)) → old ≡ front ++ last ∷ [] → 4096 < length last + length bytes → new ≡ (front ++ last ∷ []) ++ bytes ∷ [] → new ≡ pieces_with_tail bytes old
+push-apart bytes last front old new e h g = g ∙ append_assoc front (last ∷ []) (bytes ∷ []) ∙ sym (ap (pieces_with_tail bytes) e ∙ added-last bytes last front ∙ ap (λ ps. front ++ ps) (pair-apart bytes last h))
 
-pub push-joined : (bytes last : List ℕ) (front old new : List (List ℕ)) → old ≡ front ++ last ∷ [] → length last + length bytes ≤ 4096 → new ≡ front ++ (last ++ bytes) ∷ [] → new ≡ added bytes old
-push-joined bytes last front old new e h g = g ∙ sym (ap (added bytes) e ∙ added-last bytes last front ∙ ap (λ ps. front ++ ps) (pair-joined bytes last h))
+pub push-joined : (bytes last : List ℕ) (front old new : List (List ℕ)) → old ≡ front ++ last ∷ [] → length last + length bytes ≤ 4096 → new ≡ front ++ (last ++ bytes) ∷ [] → new ≡ pieces_with_tail bytes old
+push-joined bytes last front old new e h g = g ∙ sym (ap (pieces_with_tail bytes) e ∙ added-last bytes last front ∙ ap (λ ps. front ++ ps) (pair-joined bytes last h))

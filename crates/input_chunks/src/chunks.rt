@@ -1,11 +1,11 @@
-ghost use Rattle.std.specs.Prelude.{◌≡◌, ℕ, ◌+◌, ◌-◌, ◌<◌, ◌≤◌, ◌^◌, ◌%◌, List, [], ◌∷◌, ◌++◌, length, take, drop, slice_get, Some, IfOk, OnOk, OnErr};
+ghost use Rattle.std.specs.Prelude.{◌≡◌, ℕ, ◌+◌, ◌-◌, ◌<◌, ◌≤◌, ◌^◌, ◌%◌, List, [], ◌++◌, length, take, drop, slice_get, Some, true, false, IfOk, OnOk, OnErr};
 ghost use Rattle.std.specs.List.{concat};
-ghost use Rattle.input_chunks.specs.Pieces.{added, pushed, without_front, without_back, NoneEmpty};
-ghost use Rattle.input_chunks.specs.Entries.{pieces_of, Ended};
+ghost use Rattle.input_chunks.specs.Pieces.{pieces_with_tail, pieces_with, pieces_without_first, pieces_without_last, HasNoEmptyPiece};
+ghost use Rattle.input_chunks.specs.Ends.{pieces_of, bytes_of, bytes_from, HasEnds, HasNewEnds, IsWith, IsApart};
 
-use crate::entry::Entry;
-use crate::find::find;
-use crate::piece::Piece;
+use crate::piece_bytes::PieceBytes;
+use crate::piece_offset::piece_offset_of;
+use crate::piece_with_end::PieceWithEnd;
 use mse_base::{Bytes, OutOfMemory};
 use std::alloc::Global;
 use std::collections::VecDeque;
@@ -18,7 +18,7 @@ const LONGEST: u128 = 4096;
 #[derive(Debug, Drop)]
 pub struct Chunks {
     alloc: Global,
-    entries: VecDeque<Entry>,
+    entries: VecDeque<PieceWithEnd>,
     /// How many bytes were dropped in front, modulo `2^64`.
     dropped: u64,
     len: usize,
@@ -27,14 +27,17 @@ pub struct Chunks {
 impl Model for Chunks {
     ghost use Rattle.std.specs.Prelude.{List, ℕ, ◌≡◌, length};
     ghost use Rattle.std.specs.List.{concat};
-    ghost use Rattle.input_chunks.specs.Pieces.{NoneEmpty};
-    ghost use Rattle.input_chunks.specs.Entries.{pieces_of, Ended};
+    ghost use Rattle.input_chunks.specs.Pieces.{HasNoEmptyPiece};
+    ghost use Rattle.input_chunks.specs.Ends.{pieces_of, HasEnds};
 
     ghost Value = { List (List ℕ) };
 
     ghost view = { λ c. pieces_of c.entries.items };
 
-    ghost invariant = { λ c. NoneEmpty (pieces_of c.entries.items) × (c.len ≡ length (concat (pieces_of c.entries.items))) × Ended c.dropped c.entries.items };
+    ghost invariant = { λ c.
+        HasNoEmptyPiece (pieces_of c.entries.items)
+        × (c.len ≡ length (concat (pieces_of c.entries.items)))
+        × HasEnds c.dropped c.entries.items };
 }
 
 impl Chunks {
@@ -61,25 +64,46 @@ impl Chunks {
     /// as a new piece. No bytes change nothing, and neither does an `Err`.
     pub fn push(&mut self, piece: &[u8]) -> Result<(), OutOfMemory>
         requires { length (concat self.old) + length piece.now < 2 ^ 62 }
-        ensures ok { OnOk result (self.new ≡ pushed piece.now self.old) }
+        ensures ok { OnOk result (self.new ≡ pieces_with piece.now self.old) }
         // What was pushed can be taken back whole.
-        ensures back { OnOk result (without_back (length piece.now) self.new ≡ self.old) }
+        ensures undone { OnOk result (pieces_without_last (length piece.now) self.new ≡ self.old) }
         ensures err { OnErr result (self.new ≡ self.old) }
     {
         let len = self.len;
         if piece.is_empty() {
             return Ok(());
         }
-        let end = self.dropped.wrapping_add((len + piece.len()) as u64);
+        let total = len + piece.len();
+        let end = self.dropped.wrapping_add(total as u64);
         push_piece(self.alloc, &mut self.entries, piece, end)?;
-        self.len = len + piece.len();
+        self.len = total;
+        Ok(())
+    }
+
+    /// As `push` of the same bytes. Where they become a piece of their own, it takes over the vector's memory, with
+    /// what is spare of it, and no byte is copied. An `Err` changes nothing, and the vector is gone.
+    pub fn push_vec(&mut self, piece: Vec<u8>) -> Result<(), OutOfMemory>
+        requires { length (concat self.old) + length piece.items < 2 ^ 62 }
+        ensures ok { OnOk result (self.new ≡ pieces_with piece.items self.old) }
+        ensures undone { OnOk result (pieces_without_last (length piece.items) self.new
+            ≡ self.old) }
+        ensures err { OnErr result (self.new ≡ self.old) }
+    {
+        let len = self.len;
+        if piece.is_empty() {
+            return Ok(());
+        }
+        let total = len + piece.len();
+        let end = self.dropped.wrapping_add(total as u64);
+        push_owned(&mut self.entries, piece, end)?;
+        self.len = total;
         Ok(())
     }
 
     /// Removes the first `n` bytes: whole pieces go, and one is cut.
     pub fn drop_front(&mut self, n: usize)
         requires { n ≤ length (concat self.old) }
-        ensures { self.new ≡ without_front n self.old }
+        ensures { self.new ≡ pieces_without_first n self.old }
     {
         drop_front_of(&mut self.entries, n);
         self.dropped = self.dropped.wrapping_add(n as u64);
@@ -89,7 +113,7 @@ impl Chunks {
     /// Removes the last `n` bytes: whole pieces go, and one is cut.
     pub fn drop_back(&mut self, n: usize)
         requires { n ≤ length (concat self.old) }
-        ensures { self.new ≡ without_back n self.old }
+        ensures { self.new ≡ pieces_without_last n self.old }
     {
         let left = self.len - n;
         let end = self.dropped.wrapping_add(left as u64);
@@ -106,7 +130,7 @@ impl Chunks {
         if into.is_empty() {
             return;
         }
-        let place = find(&self.entries, self.dropped, from);
+        let place = piece_offset_of(&self.entries, self.dropped, from);
         read_of(&self.entries, place.index, place.skip, into);
     }
 
@@ -118,7 +142,7 @@ impl Chunks {
         let _len = self.len;
         let mut bytes = Vec::with_capacity(self.alloc, n)?;
         if n > 0 {
-            let first = find(&self.entries, self.dropped, from);
+            let first = piece_offset_of(&self.entries, self.dropped, from);
             copy_of(&self.entries, first.index, first.skip, n, &mut bytes)?;
         }
         Ok(Bytes::from_vec(self.alloc, bytes))
@@ -131,7 +155,7 @@ impl Chunks {
         self.entries.len()
     }
 
-    /// Piece `i`.
+    /// PieceBytes `i`.
     pub fn piece(&self, i: usize) -> &[u8]
         requires { i < length self.now }
         ensures { Some result.now ≡ slice_get self.now i }
@@ -141,47 +165,72 @@ impl Chunks {
     }
 }
 
-fn add_piece(
-    alloc: Global,
-    entries: &mut VecDeque<Entry>,
+/// Lengthens the last piece, where the two together have at most 4096 bytes, and tells whether it did. The last of
+/// these bytes is byte `end` of all that were pushed.
+fn extend_last(
+    entries: &mut VecDeque<PieceWithEnd>,
     bytes: &[u8],
     end: u64,
-) -> Result<(), OutOfMemory>
-    ensures ok { OnOk result (entries.new.items ≡ entries.old.items ++ (record { piece = bytes.now; end = end }) ∷ []) }
+) -> Result<bool, OutOfMemory>
+    ensures joined { IfOk result (λ b.
+        b ≡ true → IsWith bytes.now end entries.old.items entries.new.items) }
+    ensures apart { IfOk result (λ b. b ≡ false → IsApart bytes.now (pieces_of entries.old.items)) }
+    ensures same { IfOk result (λ b. b ≡ false → entries.new.items ≡ entries.old.items) }
     ensures err { OnErr result (entries.new.items ≡ entries.old.items) }
 {
-    let piece = Piece::copy_of(alloc, bytes)?;
-    entries.push_back(Entry { piece, end })?;
-    Ok(())
+    let Some(mut last) = entries.pop_back() else {
+        return Ok(false);
+    };
+    if last.piece.len() as u128 + bytes.len() as u128 > LONGEST {
+        entries.push_back_reserved(last);
+        return Ok(false);
+    }
+    let extended = last.extend(bytes, end);
+    entries.push_back_reserved(last);
+    extended?;
+    Ok(true)
 }
 
 /// Appends bytes whose last is byte `end` of all that were pushed.
 fn push_piece(
     alloc: Global,
-    entries: &mut VecDeque<Entry>,
+    entries: &mut VecDeque<PieceWithEnd>,
     bytes: &[u8],
     end: u64,
 ) -> Result<(), OutOfMemory>
-    ensures ok { OnOk result (pieces_of entries.new.items ≡ added bytes.now (pieces_of entries.old.items)) }
-    ensures ended { OnOk result ((at : ℕ) → Ended at entries.old.items → end ≡ (at + (length (concat (pieces_of entries.old.items)) + length bytes.now)) % 2 ^ 64 → Ended at entries.new.items) }
+    ensures ok { OnOk result (IsWith bytes.now end entries.old.items entries.new.items) }
     ensures err { OnErr result (entries.new.items ≡ entries.old.items) }
 {
-    let Some(mut last) = entries.pop_back() else {
-        return add_piece(alloc, entries, bytes, end);
-    };
-    if last.piece.len() as u128 + bytes.len() as u128 > LONGEST {
-        entries.push_back_reserved(last);
-        return add_piece(alloc, entries, bytes, end);
+    if extend_last(entries, bytes, end)? {
+        return Ok(());
     }
-    let extended = last.extend(bytes, end);
-    entries.push_back_reserved(last);
-    extended
+    let piece = PieceBytes::copy_of(alloc, bytes)?;
+    entries.push_back(PieceWithEnd { piece, end })?;
+    Ok(())
 }
 
-fn drop_front_of(entries: &mut VecDeque<Entry>, n: usize)
-    requires { n ≤ length (concat (pieces_of entries.old.items)) }
-    ensures pieces { pieces_of entries.new.items ≡ without_front n (pieces_of entries.old.items) }
-    ensures ended { (at : ℕ) → Ended at entries.old.items → Ended (at + n) entries.new.items }
+/// As `push_piece`, of bytes whose memory a piece of their own takes over.
+fn push_owned(
+    entries: &mut VecDeque<PieceWithEnd>,
+    bytes: Vec<u8>,
+    end: u64,
+) -> Result<(), OutOfMemory>
+    ensures ok { OnOk result (IsWith bytes.items end entries.old.items entries.new.items) }
+    ensures err { OnErr result (entries.new.items ≡ entries.old.items) }
+{
+    if extend_last(entries, bytes.as_slice(), end)? {
+        return Ok(());
+    }
+    let piece = PieceBytes::from_vec(bytes);
+    entries.push_back(PieceWithEnd { piece, end })?;
+    Ok(())
+}
+
+fn drop_front_of(entries: &mut VecDeque<PieceWithEnd>, n: usize)
+    requires { n ≤ length (bytes_of entries.old.items) }
+    ensures pieces { pieces_of entries.new.items
+        ≡ pieces_without_first n (pieces_of entries.old.items) }
+    ensures ended { (at : ℕ) → HasEnds at entries.old.items → HasEnds (at + n) entries.new.items }
 {
     let mut left = n;
     'entries: while let Some(mut first) = entries.pop_front() {
@@ -196,11 +245,13 @@ fn drop_front_of(entries: &mut VecDeque<Entry>, n: usize)
 }
 
 /// Removes the last `n` bytes; `end` is the end of those that stay.
-fn drop_back_of(entries: &mut VecDeque<Entry>, n: usize, end: u64)
-    requires inside { n ≤ length (concat (pieces_of entries.old.items)) }
-    requires full { NoneEmpty (pieces_of entries.old.items) }
-    ensures pieces { pieces_of entries.new.items ≡ without_back n (pieces_of entries.old.items) }
-    ensures ended { (at : ℕ) → Ended at entries.old.items → end ≡ (at + (length (concat (pieces_of entries.old.items)) - n)) % 2 ^ 64 → Ended at entries.new.items }
+fn drop_back_of(entries: &mut VecDeque<PieceWithEnd>, n: usize, end: u64)
+    requires inside { n ≤ length (bytes_of entries.old.items) }
+    requires full { HasNoEmptyPiece (pieces_of entries.old.items) }
+    ensures pieces { pieces_of entries.new.items
+        ≡ pieces_without_last n (pieces_of entries.old.items) }
+    ensures ended { HasNewEnds end (length (bytes_of entries.old.items) - n)
+        entries.old.items entries.new.items }
 {
     let mut left = n;
     'entries: while left > 0 {
@@ -220,15 +271,16 @@ fn drop_back_of(entries: &mut VecDeque<Entry>, n: usize, end: u64)
 
 /// Copies `n` bytes, from byte `skip` of piece `first` on.
 fn copy_of(
-    entries: &VecDeque<Entry>,
+    entries: &VecDeque<PieceWithEnd>,
     first: usize,
     skip: usize,
     n: usize,
     into: &mut Vec<u8>,
 ) -> Result<(), OutOfMemory>
-    requires inside { skip + n ≤ length (concat (drop first (pieces_of entries.now.items))) }
+    requires inside { skip + n ≤ length (bytes_from first entries.now.items) }
     requires empty { into.old.items ≡ [] }
-    ensures { OnOk result (into.new.items ≡ take n (drop skip (concat (drop first (pieces_of entries.now.items))))) }
+    ensures { OnOk result (into.new.items
+        ≡ take n (drop skip (bytes_from first entries.now.items))) }
 {
     let mut skip = skip;
     let mut left = n;
@@ -263,9 +315,9 @@ fn fill(into: &mut [u8], at: usize, bytes: &[u8])
 }
 
 /// Fills `into`, from byte `skip` of piece `first` on.
-fn read_of(entries: &VecDeque<Entry>, first: usize, skip: usize, into: &mut [u8])
-    requires inside { skip + length into.old ≤ length (concat (drop first (pieces_of entries.now.items))) }
-    ensures { into.new ≡ take (length into.old) (drop skip (concat (drop first (pieces_of entries.now.items)))) }
+fn read_of(entries: &VecDeque<PieceWithEnd>, first: usize, skip: usize, into: &mut [u8])
+    requires inside { skip + length into.old ≤ length (bytes_from first entries.now.items) }
+    ensures { into.new ≡ take (length into.old) (drop skip (bytes_from first entries.now.items)) }
 {
     let mut skip = skip;
     let mut filled = 0;

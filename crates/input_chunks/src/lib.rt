@@ -7,9 +7,9 @@
 #![tactic(auto)]
 
 mod chunks;
-mod entry;
-mod find;
-mod piece;
+mod piece_bytes;
+mod piece_offset;
+mod piece_with_end;
 
 pub use chunks::Chunks;
 

@@ -29,3 +29,22 @@ fn pieces_join_and_split(rt: HostRuntime) -> Result<(), Fail> {
     assert_eq!(rt; chunks.pieces(), 0);
     Ok(())
 }
+
+/// A vector that is taken over makes the pieces that its bytes make.
+#[test]
+fn owned_pieces_join_and_split(rt: HostRuntime) -> Result<(), Fail> {
+    let mut chunks = Chunks::new(rt.alloc());
+    chunks.push_vec(Vec::from_slice(rt.alloc(), b"abc")?)?;
+    chunks.push_vec(Vec::new(rt.alloc()))?;
+    chunks.push_vec(Vec::from_slice(rt.alloc(), b"de")?)?;
+    assert_eq!(rt; chunks.pieces(), 1);
+    assert_eq!(rt; chunks.piece(0), b"abcde".as_slice());
+    chunks.push_vec(Vec::from_slice(rt.alloc(), &[7u8; 4092])?)?;
+    assert_eq!(rt; chunks.pieces(), 2);
+    chunks.drop_front(4);
+    chunks.drop_back(4091);
+    assert_eq!(rt; chunks.pieces(), 2);
+    let bytes = chunks.copy(0, 2)?;
+    assert_eq!(rt; bytes.as_slice(), b"e\x07".as_slice());
+    Ok(())
+}

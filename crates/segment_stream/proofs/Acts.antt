@@ -12,7 +12,7 @@ use Rattle.bmff_fragment.specs.declared.slot.Slot.{Slot}
 use Rattle.bmff_fragment.specs.Plans.{plan_of}
 use Rattle.parser_loop.specs.Walk.{Move, Stop, Pass, Give, run, run_by, joined, Follows, Shrinks}
 use Rattle.parser_loop.proofs.Runs.{run-step, run-rested, IsRested}
-use Rattle.segment_walk.specs.declared.kinds.Begun.{Begun}
+use Rattle.mse_base.specs.declared.frame.Phase.{Phase}
 use Rattle.segment_walk.specs.declared.kinds.DataRange.{DataRange}
 use Rattle.segment_walk.specs.declared.kinds.Mode as code
 use Rattle.segment_walk.specs.declared.kinds.Mode.TheVariants as codes
@@ -20,19 +20,21 @@ use Rattle.segment_walk.specs.declared.kinds.Place.TheVariants.{AtBox, InData}
 use Rattle.segment_walk.specs.declared.kinds.Step.{Step}
 use Rattle.segment_walk.specs.declared.kinds.Step.TheVariants as step
 use Rattle.segment_walk.specs.declared.kinds.StreamFault.{StreamFault}
-use Rattle.segment_walk.specs.Segments.{Item, State, Mode, Between, Skipping, Within, step_of, act, pass_byte, into, initialized, opened, planned, is_frame, segments, opening, frame_of, size_by}
+use Rattle.segment_walk.specs.Tables.{SegmentItem}
+use Rattle.segment_walk.specs.Moves.{State, Mode, Between, Skipping, Within, step_of, act, pass_byte, into, initialized, opened, planned, segments, opening, frame_of, size_by}
+use Rattle.parser_loop.specs.Items.{is_frame}
 use Rattle.segment_walk.specs.Ranges.{IsAscending, SeesAscending, mode_of, open_at}
 use Rattle.segment_walk.proofs.WalkLaws.{going, good-step, Same, Fits, is_walk}
-use Rattle.segment_stream.specs.declared.reach.Reached.{Reached}
+use Rattle.segment_stream.specs.declared.progress.Progress.{Progress}
 use Rattle.segment_stream.specs.Kept
-use Rattle.segment_stream.specs.Kept.{state_of, fragment_in, turn, IsConsistent, IsCounted, Ordered, GoesOn, Since, Keeps, Rests, frames, frame_at, EndsBy, Ends, IsPlan}
+use Rattle.segment_stream.specs.Kept.{state_of, fragment_in, in_mode, IsConsistent, IsCounted, IsOrdered, GoesOn, Since, Keeps, Rests, frames, frame_at, IsSlotEndingBy, IsEndingBy, IsPlan}
 
 -- ---- where the walk rests
 
-rests-more : (s t : State) (item : Item) (c : List ℕ) (m : Move State Item) → segments.move s ≡ Give item t → Follows segments c (segments.move s) m → is_frame item ≡ false → IsRested segments m
+rests-more : (s t : State) (item : SegmentItem) (c : List ℕ) (m : Move State SegmentItem) → segments.move s ≡ Give item t → Follows segments c (segments.move s) m → is_frame item ≡ false → IsRested segments m
 rests-more s t item c m e h f = let g = subst (λ v. Follows segments c v m) e h in rw g.0 f
 
-pub rests-give : (s t : State) (item : Item) (w : ℕ) → segments.move s ≡ Give item t → is_frame item ≡ false → Rests s w
+pub rests-give : (s t : State) (item : SegmentItem) (w : ℕ) → segments.move s ≡ Give item t → is_frame item ≡ false → Rests s w
 rests-give s t item w e f = record {
   still = run-rested segments is_walk s (rw e f);
   waits = λ c h. run-rested segments is_walk (segments.more s c) (rests-more s t item c (segments.move (segments.more s c)) e (is_walk.follows s c) f);
@@ -46,12 +48,12 @@ rests-failed last mode offset rest failed w e =
 
 -- modes that act by a step
 abbrev pub IsActive : Mode → Type 0
-IsActive (Between begun) = Unit {0}
+IsActive (Between phase) = Unit {0}
 IsActive (Skipping to left) = ⊥
 IsActive (Within o) = Unit {0}
 
 move-is : (last : Option Presentation) (m : Mode) (offset : ℕ) (rest : List ℕ) → IsActive m → segments.move (going last m offset rest) ≡ act (going last m offset rest) (step_of (is_some last) rest m)
-move-is last (Between begun) offset rest a = refl
+move-is last (Between phase) offset rest a = refl
 move-is last (Skipping to left) offset rest a = absurd a
 move-is last (Within o) offset rest a = refl
 
@@ -69,12 +71,12 @@ rests-wait last m offset rest failed w f a e =
           run-rested segments is_walk (going last m offset (rest ++ c)) (rw (acts last m offset (rest ++ c) (step.Wait w) a (sym (g (omega (arith, length-append rest c))))) tt);
     })
 
-abbrev GivesOther : Move State Item → Type 0
+abbrev GivesOther : Move State SegmentItem → Type 0
 GivesOther Stop = ⊥
 GivesOther (Pass t) = ⊥
 GivesOther (Give item t) = is_frame item ≡ false
 
-rests-other-at : (s : State) (w : ℕ) (m : Move State Item) → segments.move s ≡ m → GivesOther m → Rests s w
+rests-other-at : (s : State) (w : ℕ) (m : Move State SegmentItem) → segments.move s ≡ m → GivesOther m → Rests s w
 rests-other-at s w Stop e g = absurd g
 rests-other-at s w (Pass t) e g = absurd g
 rests-other-at s w (Give item t) e g = rests-give s t item w e g
@@ -139,9 +141,9 @@ frames-end rest offset slots i (suc n) =
     let z : i + 1 + n ≡ i + suc n = omega arith in
     ap (λ xs. frame_at rest offset (slice_get slots i) ++ xs) (frames-end rest offset slots (i + 1) n) ∙ sym (append_assoc (frame_at rest offset (slice_get slots i)) (frames rest offset slots (i + 1) n) (frame_at rest offset (slice_get slots (i + 1 + n)))) ∙ ap (λ j. (frame_at rest offset (slice_get slots i) ++ frames rest offset slots (i + 1) n) ++ frame_at rest offset (slice_get slots j)) z
 
-ends-end : (m : ℕ) (slots : List Slot) (i n : ℕ) → Ends m slots i n → EndsBy m (slice_get slots (i + n)) → Ends m slots i (suc n)
-ends-end m slots i zero h e = (let z : i + 0 ≡ i = omega arith in subst (λ j. EndsBy m (slice_get slots j)) z e, tt)
-ends-end m slots i (suc n) h e = (h.0, ends-end m slots (i + 1) n h.1 (let z : i + suc n ≡ i + 1 + n = omega arith in subst (λ j. EndsBy m (slice_get slots j)) z e))
+ends-end : (m : ℕ) (slots : List Slot) (i n : ℕ) → IsEndingBy m slots i n → IsSlotEndingBy m (slice_get slots (i + n)) → IsEndingBy m slots i (suc n)
+ends-end m slots i zero h e = (let z : i + 0 ≡ i = omega arith in subst (λ j. IsSlotEndingBy m (slice_get slots j)) z e, tt)
+ends-end m slots i (suc n) h e = (h.0, ends-end m slots (i + 1) n h.1 (let z : i + suc n ≡ i + 1 + n = omega arith in subst (λ j. IsSlotEndingBy m (slice_get slots j)) z e))
 
 -- ---- the arms of the code
 
@@ -149,19 +151,19 @@ abbrev at_step : Option Presentation → code.Mode → List Slot → List DataRa
 at_step last m slots known rest = step_of (is_some last) rest (mode_of slots known m)
 
 pub is_active : (slots : List Slot) (known : List DataRange) (m : code.Mode) → Kept.IsActive m → IsActive (mode_of slots known m)
-is_active slots known (codes.Between begun) a = tt
+is_active slots known (codes.Between phase) a = tt
 is_active slots known (codes.Skipping to left) a = absurd a
 is_active slots known (codes.Within i) a = tt
 
 pub fits : (last : Option Presentation) (m : Mode) (rest : List ℕ) (st : Step) → st ≡ step_of (is_some last) rest m → Fits m (length rest) st
 fits last m rest st e = subst (Fits m (length rest)) (sym e) (good-step (is_some last) rest [] m).0
 
-pub sees-ascending : (m : code.Mode) (slots : List Slot) (known : List DataRange) (first ready : ℕ) → Kept.Counts m slots known first ready → SeesAscending m known
-sees-ascending (codes.Between begun) slots known first ready h = tt
+pub sees-ascending : (m : code.Mode) (slots : List Slot) (known : List DataRange) (first ready : ℕ) → Kept.IsCountedIn m slots known first ready → SeesAscending m known
+sees-ascending (codes.Between phase) slots known first ready h = tt
 sees-ascending (codes.Skipping to left) slots known first ready h = tt
 sees-ascending (codes.Within f) slots known first ready h = h.ascending
 
-pub moved-skip : (last : Option Presentation) (m : code.Mode) (offset from first ready want : ℕ) (failed : Bool) (slots : List Slot) (known : List DataRange) (bytes : List ℕ) (to : Begun) (len : ℕ) → let r : Reached = record { spot = record { mode = m; offset = offset; failed = failed }; from = from; first = first; ready = ready; want = want } in failed ≡ false → Kept.IsActive m → IsConsistent r slots known bytes → step.Skip to len ≡ at_step last m slots known (drop from bytes) → GoesOn last r (turn r (codes.Skipping to len)) slots known slots known bytes
+pub moved-skip : (last : Option Presentation) (m : code.Mode) (offset from first ready want : ℕ) (failed : Bool) (slots : List Slot) (known : List DataRange) (bytes : List ℕ) (to : Phase) (len : ℕ) → let r : Progress = record { position = record { mode = m; offset = offset; failed = failed }; from = from; first = first; ready = ready; want = want } in failed ≡ false → Kept.IsActive m → IsConsistent r slots known bytes → step.Skip to len ≡ at_step last m slots known (drop from bytes) → GoesOn last r (in_mode r (codes.Skipping to len)) slots known slots known bytes
 moved-skip last (codes.Skipping y z) offset from first ready want failed slots known bytes to len f g fine e = absurd g
 moved-skip last (codes.Within i) offset from first ready want failed slots known bytes to len f g fine e = absurd (fits last (Within (open_at slots known i)) (drop from bytes) (step.Skip to len) e).0
 moved-skip last (codes.Between o) offset from first ready want failed slots known bytes to len f g fine e =
@@ -178,7 +180,7 @@ moved-skip last (codes.Between o) offset from first ready want failed slots know
 none-known : (known : List DataRange) → known ≡ [] → IsAscending (take 0 known)
 none-known known e = record { starts = IsNonDecreasingBy-short (λ k. k.start) [] (omega arith); ends = IsNonDecreasingBy-short (λ k. k.end) [] (omega arith) }
 
-pub moved-plan : (last : Option Presentation) (m : code.Mode) (offset from first ready want : ℕ) (failed : Bool) (slots new_slots : List Slot) (known new_known : List DataRange) (bytes : List ℕ) (len : ℕ) → let r : Reached = record { spot = record { mode = m; offset = offset; failed = failed }; from = from; first = first; ready = ready; want = want } in failed ≡ false → Kept.IsActive m → IsConsistent r slots known bytes → step.ReadMoof len ≡ at_step last m slots known (drop from bytes) → PlanIs last (take len (drop from bytes)) new_slots → new_known ≡ [] → All Ordered new_slots → GoesOn last r (record { spot = record { mode = codes.Within (record { taken = 0; known = 0; end = 0; place = AtBox len }); offset = offset; failed = false }; from = from; first = 0; ready = 0; want = 0 }) slots known new_slots new_known bytes
+pub moved-plan : (last : Option Presentation) (m : code.Mode) (offset from first ready want : ℕ) (failed : Bool) (slots new_slots : List Slot) (known new_known : List DataRange) (bytes : List ℕ) (len : ℕ) → let r : Progress = record { position = record { mode = m; offset = offset; failed = failed }; from = from; first = first; ready = ready; want = want } in failed ≡ false → Kept.IsActive m → IsConsistent r slots known bytes → step.ReadMoof len ≡ at_step last m slots known (drop from bytes) → PlanIs last (take len (drop from bytes)) new_slots → new_known ≡ [] → All IsOrdered new_slots → GoesOn last r (record { position = record { mode = codes.Within (record { taken = 0; known = 0; end = 0; place = AtBox len }); offset = offset; failed = false }; from = from; first = 0; ready = 0; want = 0 }) slots known new_slots new_known bytes
 moved-plan last (codes.Skipping y z) offset from first ready want failed slots new_slots known new_known bytes len f g fine e h k a = absurd g
 moved-plan last (codes.Within i) offset from first ready want failed slots new_slots known new_known bytes len f g fine e h k a = absurd (fits last (Within (open_at slots known i)) (drop from bytes) (step.ReadMoof len) e).0
 moved-plan last (codes.Between o) offset from first ready want failed slots new_slots known new_known bytes len f g fine e h k a =
@@ -219,7 +221,7 @@ ascends-more ks n last_end start end l a h s e =
       ends = IsNonDecreasingBy-push (λ k. k.end) ks x a.ends (λ d z. let q = h d (omega arith) in subst (λ i. (get_or ks (i - 1) d).end ≤ end) (sym l) (omega arith));
     }
 
-pub moved-data : (last : Option Presentation) (m : code.Mode) (offset from first ready want : ℕ) (failed : Bool) (slots : List Slot) (known new_known : List DataRange) (bytes : List ℕ) (start end : ℕ) → let r : Reached = record { spot = record { mode = m; offset = offset; failed = failed }; from = from; first = first; ready = ready; want = want } in let i = fragment_in m in failed ≡ false → Kept.IsActive m → IsConsistent r slots known bytes → step.EnterData start end ≡ at_step last m slots known (drop from bytes) → new_known ≡ take i.known known ++ (record { start = start; end = end }) ∷ [] → GoesOn last r (turn r (codes.Within (record { taken = i.taken; known = i.known + 1; end = end; place = InData end }))) slots known slots new_known bytes
+pub moved-data : (last : Option Presentation) (m : code.Mode) (offset from first ready want : ℕ) (failed : Bool) (slots : List Slot) (known new_known : List DataRange) (bytes : List ℕ) (start end : ℕ) → let r : Progress = record { position = record { mode = m; offset = offset; failed = failed }; from = from; first = first; ready = ready; want = want } in let i = fragment_in m in failed ≡ false → Kept.IsActive m → IsConsistent r slots known bytes → step.EnterData start end ≡ at_step last m slots known (drop from bytes) → new_known ≡ take i.known known ++ (record { start = start; end = end }) ∷ [] → GoesOn last r (in_mode r (codes.Within (record { taken = i.taken; known = i.known + 1; end = end; place = InData end }))) slots known slots new_known bytes
 moved-data last (codes.Skipping y z) offset from first ready want failed slots known new_known bytes start end f g fine e k = absurd g
 moved-data last (codes.Between o) offset from first ready want failed slots known new_known bytes start end f g fine e k = absurd (fits last (Between o) (drop from bytes) (step.EnterData start end) e).0
 moved-data last (codes.Within i) offset from first ready want failed slots known new_known bytes start end f g fine e k =
@@ -254,7 +256,7 @@ moved-data last (codes.Within i) offset from first ready want failed slots known
       size = p.1;
     }
 
-pub moved-next : (last : Option Presentation) (m : code.Mode) (offset from first ready want : ℕ) (failed : Bool) (slots : List Slot) (known : List DataRange) (bytes : List ℕ) (at : ℕ) → let r : Reached = record { spot = record { mode = m; offset = offset; failed = failed }; from = from; first = first; ready = ready; want = want } in let i = fragment_in m in failed ≡ false → Kept.IsActive m → IsConsistent r slots known bytes → step.NextBox at ≡ at_step last m slots known (drop from bytes) → GoesOn last r (turn r (codes.Within (record { taken = i.taken; known = i.known; end = i.end; place = AtBox at }))) slots known slots known bytes
+pub moved-next : (last : Option Presentation) (m : code.Mode) (offset from first ready want : ℕ) (failed : Bool) (slots : List Slot) (known : List DataRange) (bytes : List ℕ) (at : ℕ) → let r : Progress = record { position = record { mode = m; offset = offset; failed = failed }; from = from; first = first; ready = ready; want = want } in let i = fragment_in m in failed ≡ false → Kept.IsActive m → IsConsistent r slots known bytes → step.NextBox at ≡ at_step last m slots known (drop from bytes) → GoesOn last r (in_mode r (codes.Within (record { taken = i.taken; known = i.known; end = i.end; place = AtBox at }))) slots known slots known bytes
 moved-next last (codes.Skipping y z) offset from first ready want failed slots known bytes at f g fine e = absurd g
 moved-next last (codes.Between o) offset from first ready want failed slots known bytes at f g fine e = absurd (fits last (Between o) (drop from bytes) (step.NextBox at) e).0
 moved-next last (codes.Within i) offset from first ready want failed slots known bytes at f g fine e =
@@ -282,9 +284,9 @@ frames-more rest offset slots i n at slot s t e g h =
     let z : n + 1 ≡ suc n = omega arith in
     let xs = frames rest offset slots i n in
     let l : frames rest offset slots i (n + 1) ≡ xs ++ frame_of rest offset slot ∷ [] = ap (frames rest offset slots i) z ∙ frames-end rest offset slots i n ∙ ap (λ o. xs ++ frame_at rest offset o) (ap (slice_get slots) e ∙ g) in
-    ap (λ ys. joined ys (run segments t)) l ∙ ap (λ (ys : List Item). record { items = ys; state = (run segments t).state }) (append_assoc xs (frame_of rest offset slot ∷ []) (run segments t).items) ∙ ap (joined xs) (sym h)
+    ap (λ ys. joined ys (run segments t)) l ∙ ap (λ (ys : List SegmentItem). record { items = ys; state = (run segments t).state }) (append_assoc xs (frame_of rest offset slot ∷ []) (run segments t).items) ∙ ap (joined xs) (sym h)
 
-pub moved-frame : (last : Option Presentation) (m : code.Mode) (offset from first ready want : ℕ) (failed : Bool) (slots : List Slot) (known : List DataRange) (bytes : List ℕ) (slot : Slot) → let r : Reached = record { spot = record { mode = m; offset = offset; failed = failed }; from = from; first = first; ready = ready; want = want } in let i = fragment_in m in failed ≡ false → Kept.IsActive m → IsConsistent r slots known bytes → step.GiveFrame slot ≡ at_step last m slots known (drop from bytes) → GoesOn last r (record { spot = record { mode = codes.Within (record { taken = i.taken + 1; known = i.known; end = i.end; place = i.place }); offset = offset; failed = false }; from = from; first = first; ready = ready + 1; want = 0 }) slots known slots known bytes
+pub moved-frame : (last : Option Presentation) (m : code.Mode) (offset from first ready want : ℕ) (failed : Bool) (slots : List Slot) (known : List DataRange) (bytes : List ℕ) (slot : Slot) → let r : Progress = record { position = record { mode = m; offset = offset; failed = failed }; from = from; first = first; ready = ready; want = want } in let i = fragment_in m in failed ≡ false → Kept.IsActive m → IsConsistent r slots known bytes → step.GiveFrame slot ≡ at_step last m slots known (drop from bytes) → GoesOn last r (record { position = record { mode = codes.Within (record { taken = i.taken + 1; known = i.known; end = i.end; place = i.place }); offset = offset; failed = false }; from = from; first = first; ready = ready + 1; want = 0 }) slots known slots known bytes
 moved-frame last (codes.Skipping y z) offset from first ready want failed slots known bytes slot f g fine e = absurd g
 moved-frame last (codes.Between o) offset from first ready want failed slots known bytes slot f g fine e = absurd (fits last (Between o) (drop from bytes) (step.GiveFrame slot) e).0
 moved-frame last (codes.Within i) offset from first ready want failed slots known bytes slot f g fine e =
@@ -307,7 +309,7 @@ moved-frame last (codes.Within i) offset from first ready want failed slots know
           behind = fine.counts.behind;
           near = fine.counts.near;
         };
-        ends = subst (Ends (length bytes - from) slots first) (sym z) (ends-end (length bytes - from) slots first ready fine.ends (subst (EndsBy (length bytes - from)) (sym at) l));
+        ends = subst (IsEndingBy (length bytes - from) slots first) (sym z) (ends-end (length bytes - from) slots first ready fine.ends (subst (IsSlotEndingBy (length bytes - from)) (sym at) l));
         small = fine.small;
       };
       since = (refl, refl, omega arith);
@@ -318,7 +320,7 @@ moved-frame last (codes.Within i) offset from first ready want failed slots know
 
 -- ---- a box that is passed over
 
-skip-run : (last : Option Presentation) (to : Begun) (offset n left : ℕ) (rest : List ℕ) → n ≤ left → n ≤ length rest → run segments (going last (Skipping to (left - n)) (offset + n) (drop n rest)) ≡ run segments (going last (Skipping to left) offset rest)
+skip-run : (last : Option Presentation) (to : Phase) (offset n left : ℕ) (rest : List ℕ) → n ≤ left → n ≤ length rest → run segments (going last (Skipping to (left - n)) (offset + n) (drop n rest)) ≡ run segments (going last (Skipping to left) offset rest)
 skip-run last to offset zero left rest h k =
     let y : left - 0 ≡ left = omega arith in
     let z : offset + 0 ≡ offset = omega arith in
@@ -330,30 +332,30 @@ skip-run last to offset (suc n) (suc left) (x ∷ rest) h k =
     let z : offset + suc n ≡ offset + 1 + n = omega arith in
     ap (λ m. run segments (going last (Skipping to m) (offset + suc n) (drop n rest))) y ∙ ap (λ o. run segments (going last (Skipping to (left - n)) o (drop n rest))) z ∙ skip-run last to (offset + 1) n left rest (omega arith) (omega arith) ∙ (passes-at (going last (Skipping to (suc left)) offset (x ∷ rest)) (going last (Skipping to left) (offset + 1) rest) refl).0
 
-skip-positive : (n left : ℕ) (to : Begun) → 0 < left → size_by n (Skipping to left) ≡ 1048580 * n
+skip-positive : (n left : ℕ) (to : Phase) → 0 < left → size_by n (Skipping to left) ≡ 1048580 * n
 skip-positive n zero to h = absurd (omega arith)
 skip-positive n (suc left) to h = refl
 
-skip-most : (n left : ℕ) (to : Begun) → size_by n (Skipping to left) ≤ 1048580 * n + 2
+skip-most : (n left : ℕ) (to : Phase) → size_by n (Skipping to left) ≤ 1048580 * n + 2
 skip-most n zero to = omega arith
 skip-most n (suc left) to = omega arith
 
-skip-falls : (left n k : ℕ) (to : Begun) → k ≡ n - left → left ≤ n → suc (1048580 * k + 1) < suc (size_by n (Skipping to left))
+skip-falls : (left n k : ℕ) (to : Phase) → k ≡ n - left → left ≤ n → suc (1048580 * k + 1) < suc (size_by n (Skipping to left))
 skip-falls zero n k to e h = omega arith
 skip-falls (suc left) n k to e h = omega arith
 
-skip-stop : (last : Option Presentation) (to : Begun) (offset left : ℕ) (rest : List ℕ) → 0 < left → rest ≡ [] → segments.move (going last (Skipping to left) offset rest) ≡ Stop
+skip-stop : (last : Option Presentation) (to : Phase) (offset left : ℕ) (rest : List ℕ) → 0 < left → rest ≡ [] → segments.move (going last (Skipping to left) offset rest) ≡ Stop
 skip-stop last to offset zero rest h e = absurd (omega arith)
 skip-stop last to offset (suc left) rest h e = ap (pass_byte (going last (Skipping to (suc left)) offset rest) to left) e
 
-pub skip-rests : (last : Option Presentation) (m : code.Mode) (to : Begun) (offset left : ℕ) (rest : List ℕ) (failed : Bool) (slots : List Slot) (known : List DataRange) → m ≡ codes.Skipping to left → failed ≡ false → 0 < left → length rest ≡ 0 → Rests (state_of last (record { mode = m; offset = offset; failed = failed }) slots known rest) 0
+pub skip-rests : (last : Option Presentation) (m : code.Mode) (to : Phase) (offset left : ℕ) (rest : List ℕ) (failed : Bool) (slots : List Slot) (known : List DataRange) → m ≡ codes.Skipping to left → failed ≡ false → 0 < left → length rest ≡ 0 → Rests (state_of last (record { mode = m; offset = offset; failed = failed }) slots known rest) 0
 skip-rests last m to offset left rest failed slots known e f h l =
     rw (e, f) (record {
       still = run-rested segments is_walk (going last (Skipping to left) offset rest) (rw (skip-stop last to offset left rest h (nil_from_length rest l)) tt);
       waits = λ c q. absurd (omega arith);
     })
 
-pub skip-part : (last : Option Presentation) (m : code.Mode) (to : Begun) (offset from first ready want left there : ℕ) (failed : Bool) (slots : List Slot) (known : List DataRange) (bytes : List ℕ) → let r : Reached = record { spot = record { mode = m; offset = offset; failed = failed }; from = from; first = first; ready = ready; want = want } in m ≡ codes.Skipping to left → failed ≡ false → ready ≡ 0 → from ≤ length bytes → there ≡ length bytes - from → 0 < there → there < left → offset + (length bytes - from) < 2 ^ 62 → GoesOn last r (record { spot = record { mode = codes.Skipping to (left - there); offset = offset + there; failed = false }; from = length bytes; first = first; ready = ready; want = 0 }) slots known slots known bytes
+pub skip-part : (last : Option Presentation) (m : code.Mode) (to : Phase) (offset from first ready want left there : ℕ) (failed : Bool) (slots : List Slot) (known : List DataRange) (bytes : List ℕ) → let r : Progress = record { position = record { mode = m; offset = offset; failed = failed }; from = from; first = first; ready = ready; want = want } in m ≡ codes.Skipping to left → failed ≡ false → ready ≡ 0 → from ≤ length bytes → there ≡ length bytes - from → 0 < there → there < left → offset + (length bytes - from) < 2 ^ 62 → GoesOn last r (record { position = record { mode = codes.Skipping to (left - there); offset = offset + there; failed = false }; from = length bytes; first = first; ready = ready; want = 0 }) slots known slots known bytes
 skip-part last m to offset from first ready want left there failed slots known bytes e f z inside t h k small =
     let l = length-drop from bytes in
     let y : from + there ≡ length bytes = omega arith in
@@ -367,7 +369,7 @@ skip-part last m to offset from first ready want left there failed slots known b
       size = rw d (omega (arith, length-drop there (drop from bytes), skip-most (length (drop there (drop from bytes))) (left - there) to, skip-positive (length (drop from bytes)) left to (omega arith)));
     })
 
-pub skip-all : (last : Option Presentation) (m : code.Mode) (to : Begun) (offset from first ready want left : ℕ) (failed : Bool) (slots : List Slot) (known : List DataRange) (bytes : List ℕ) → let r : Reached = record { spot = record { mode = m; offset = offset; failed = failed }; from = from; first = first; ready = ready; want = want } in m ≡ codes.Skipping to left → failed ≡ false → ready ≡ 0 → from ≤ length bytes → left ≤ length bytes - from → offset + (length bytes - from) < 2 ^ 62 → GoesOn last r (record { spot = record { mode = codes.Between to; offset = offset + left; failed = false }; from = from + left; first = first; ready = ready; want = 0 }) slots known slots known bytes
+pub skip-all : (last : Option Presentation) (m : code.Mode) (to : Phase) (offset from first ready want left : ℕ) (failed : Bool) (slots : List Slot) (known : List DataRange) (bytes : List ℕ) → let r : Progress = record { position = record { mode = m; offset = offset; failed = failed }; from = from; first = first; ready = ready; want = want } in m ≡ codes.Skipping to left → failed ≡ false → ready ≡ 0 → from ≤ length bytes → left ≤ length bytes - from → offset + (length bytes - from) < 2 ^ 62 → GoesOn last r (record { position = record { mode = codes.Between to; offset = offset + left; failed = false }; from = from + left; first = first; ready = ready; want = 0 }) slots known slots known bytes
 skip-all last m to offset from first ready want left failed slots known bytes e f z inside k small =
     let l = length-drop from bytes in
     let y : left - left ≡ 0 = omega arith in
@@ -393,9 +395,9 @@ pub plan-none : (last : Option Presentation) (b : List ℕ) (o : Option (Vec Slo
 plan-none last b None h f = h
 plan-none last b (Some w) h f = absurd (f w refl)
 
-pub ordered-is : (o : Option (Vec Slot Global)) (v : Vec Slot Global) → IfSome o (λ slots. All Ordered slots.items) → o ≡ Some v → All Ordered v.items
+pub ordered-is : (o : Option (Vec Slot Global)) (v : Vec Slot Global) → IfSome o (λ slots. All IsOrdered slots.items) → o ≡ Some v → All IsOrdered v.items
 ordered-is None v h e = absurd (cc)
-ordered-is (Some w) v h e = subst (λ (u : Vec Slot Global). All Ordered u.items) (let q : w ≡ v = cc in q) h
+ordered-is (Some w) v h e = subst (λ (u : Vec Slot Global). All IsOrdered u.items) (let q : w ≡ v = cc in q) h
 
 -- ---- a run of moves
 

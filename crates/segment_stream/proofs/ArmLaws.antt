@@ -5,21 +5,21 @@ use Rattle.std.proofs.lemmas.List.{length-drop, drop_all}
 use Rattle.std.proofs.lemmas.Bool.Decides.{nat_tests}
 use Rattle.mse_base.specs.declared.track.Presentation.{Presentation}
 use Rattle.bmff_fragment.specs.declared.slot.Slot.{Slot}
-use Rattle.input_chunks.specs.Pieces.{without_front, NoneEmpty}
+use Rattle.input_chunks.specs.Pieces.{pieces_without_first, HasNoEmptyPiece}
 use Rattle.input_chunks.proofs.Rows.{bytes-without}
 use Rattle.parser_loop.specs.Walk.{run, stay_at, first_item, after_first, item_of, run_after}
 use Rattle.segment_walk.specs.declared.kinds.DataRange.{DataRange}
 use Rattle.segment_walk.specs.declared.kinds.Mode as code
-use Rattle.segment_walk.specs.Segments.{State, segments}
+use Rattle.segment_walk.specs.Moves.{State, segments}
 use Rattle.segment_walk.specs.Ranges.{mode_of}
-use Rattle.segment_stream.specs.declared.reach.Reached.{Reached}
-use Rattle.segment_stream.specs.declared.reach.Front.{Front}
-use Rattle.segment_stream.specs.Kept.{Ends, Counts, IsAtRest, front_move, state_of, kept_of, last_bytes}
+use Rattle.segment_stream.specs.declared.progress.Progress.{Progress}
+use Rattle.segment_stream.specs.declared.progress.PendingItem.{PendingItem}
+use Rattle.segment_stream.specs.Kept.{IsEndingBy, IsCountedIn, IsAtRest, move_of_pending, state_of, kept_of, last_bytes}
 use Rattle.segment_stream.proofs.Acts.{rests-failed}
 use Rattle.segment_stream.proofs.Found.{failed-more}
 
 -- where no frame is ready, the front is the next item
-pub front-item : (last : Option Presentation) (m : code.Mode) (offset from first ready want : ℕ) (failed : Bool) (slots : List Slot) (known : List DataRange) (bytes : List ℕ) (f : Front) → let r : Reached = record { spot = record { mode = m; offset = offset; failed = failed }; from = from; first = first; ready = ready; want = want } in let s : State = state_of last (record { mode = m; offset = offset; failed = failed }) slots known bytes in from ≡ 0 → ready ≡ 0 → segments.move s ≡ front_move s f → (first_item segments (kept_of last r slots known bytes) ≡ item_of (front_move s f)) × (after_first segments (kept_of last r slots known bytes) ≡ run_after segments s (front_move s f))
+pub front-item : (last : Option Presentation) (m : code.Mode) (offset from first ready want : ℕ) (failed : Bool) (slots : List Slot) (known : List DataRange) (bytes : List ℕ) (f : PendingItem) → let r : Progress = record { position = record { mode = m; offset = offset; failed = failed }; from = from; first = first; ready = ready; want = want } in let s : State = state_of last (record { mode = m; offset = offset; failed = failed }) slots known bytes in from ≡ 0 → ready ≡ 0 → segments.move s ≡ move_of_pending s f → (first_item segments (kept_of last r slots known bytes) ≡ item_of (move_of_pending s f)) × (after_first segments (kept_of last r slots known bytes) ≡ run_after segments s (move_of_pending s f))
 front-item last m offset (suc from) first ready want failed slots known bytes f z i e = absurd (omega arith)
 front-item last m offset zero first (suc ready) want failed slots known bytes f z i e = absurd (omega arith)
 front-item last m offset zero first zero want failed slots known bytes f z i e =
@@ -27,40 +27,40 @@ front-item last m offset zero first zero want failed slots known bytes f z i e =
     (ap item_of e, ap (run_after segments s) e)
 
 -- a place with no frame that is ready is what is kept of its state
-pub kept-still : (last : Option Presentation) (m : code.Mode) (offset from first ready want : ℕ) (failed : Bool) (slots : List Slot) (known : List DataRange) (bytes : List ℕ) → let r : Reached = record { spot = record { mode = m; offset = offset; failed = failed }; from = from; first = first; ready = ready; want = want } in from ≡ 0 → ready ≡ 0 → kept_of last r slots known bytes ≡ stay_at (state_of last (record { mode = m; offset = offset; failed = failed }) slots known bytes)
+pub kept-still : (last : Option Presentation) (m : code.Mode) (offset from first ready want : ℕ) (failed : Bool) (slots : List Slot) (known : List DataRange) (bytes : List ℕ) → let r : Progress = record { position = record { mode = m; offset = offset; failed = failed }; from = from; first = first; ready = ready; want = want } in from ≡ 0 → ready ≡ 0 → kept_of last r slots known bytes ≡ stay_at (state_of last (record { mode = m; offset = offset; failed = failed }) slots known bytes)
 kept-still last m offset (suc from) first ready want failed slots known bytes z i = absurd (omega arith)
 kept-still last m offset zero first (suc ready) want failed slots known bytes z i = absurd (omega arith)
 kept-still last m offset zero first zero want failed slots known bytes z i = refl
 
 -- the place behind a fault
-pub kept-failed : (last : Option Presentation) (m : code.Mode) (offset first ready want : ℕ) (slots : List Slot) (known : List DataRange) (bytes : List ℕ) → bytes ≡ [] → ready ≡ 0 → let r : Reached = record { spot = record { mode = m; offset = offset; failed = true }; from = 0; first = first; ready = ready; want = want } in kept_of last r slots known bytes ≡ run segments (record { last = last; mode = mode_of slots known m; offset = offset; rest = []; failed = true })
+pub kept-failed : (last : Option Presentation) (m : code.Mode) (offset first ready want : ℕ) (slots : List Slot) (known : List DataRange) (bytes : List ℕ) → bytes ≡ [] → ready ≡ 0 → let r : Progress = record { position = record { mode = m; offset = offset; failed = true }; from = 0; first = first; ready = ready; want = want } in kept_of last r slots known bytes ≡ run segments (record { last = last; mode = mode_of slots known m; offset = offset; rest = []; failed = true })
 kept-failed last m offset first ready want slots known bytes e i =
     let s : State = state_of last (record { mode = m; offset = offset; failed = true }) slots known [] in
     rw e (kept-still last m offset 0 first ready want true slots known [] refl i ∙ sym (failed-more last m offset slots known []))
 
-pub rest-failed : (last : Option Presentation) (m : code.Mode) (offset first ready want : ℕ) (slots : List Slot) (known : List DataRange) (bytes : List ℕ) → bytes ≡ [] → ready ≡ 0 → offset < 2 ^ 62 → Counts m slots known first ready → let r : Reached = record { spot = record { mode = m; offset = offset; failed = true }; from = 0; first = first; ready = ready; want = want } in IsAtRest last r slots known bytes
+pub rest-failed : (last : Option Presentation) (m : code.Mode) (offset first ready want : ℕ) (slots : List Slot) (known : List DataRange) (bytes : List ℕ) → bytes ≡ [] → ready ≡ 0 → offset < 2 ^ 62 → IsCountedIn m slots known first ready → let r : Progress = record { position = record { mode = m; offset = offset; failed = true }; from = 0; first = first; ready = ready; want = want } in IsAtRest last r slots known bytes
 rest-failed last m offset first ready want slots known bytes e i l h = record {
   front = refl;
-  consistent = record { inside = omega arith; counts = h; ends = subst (Ends (length bytes - 0) slots first) (sym i) tt; small = omega (arith, ap length e) };
+  consistent = record { inside = omega arith; counts = h; ends = subst (IsEndingBy (length bytes - 0) slots first) (sym i) tt; small = omega (arith, ap length e) };
   rests = rests-failed last (mode_of slots known m) offset bytes true want refl;
 }
 
 -- ---- pieces
 
-pub dropped : (n : ℕ) (old new : List (List ℕ)) → n ≤ length (concat old) → new ≡ without_front n old → new ≡ last_bytes (length (concat new)) old
+pub dropped : (n : ℕ) (old new : List (List ℕ)) → n ≤ length (concat old) → new ≡ pieces_without_first n old → new ≡ last_bytes (length (concat new)) old
 dropped n old new h e =
     let l : length (concat new) ≡ length (concat old) - n = ap (λ ps. length (concat ps)) e ∙ ap length (bytes-without n old) ∙ length-drop n (concat old) in
     let z : length (concat old) - length (concat new) ≡ n = omega arith in
-    e ∙ ap (λ k. without_front k old) (sym z)
+    e ∙ ap (λ k. pieces_without_first k old) (sym z)
 
-none-dropped : (p : List ℕ) (ps : List (List ℕ)) → 0 < length p → without_front 0 (p ∷ ps) ≡ p ∷ ps
-none-dropped p ps h = let e : leb (length p) 0 ≡ false = grind (arith, nat_tests) in ap (λ b. cond b (without_front (0 - length p) ps) (p ∷ ps)) e
+none-dropped : (p : List ℕ) (ps : List (List ℕ)) → 0 < length p → pieces_without_first 0 (p ∷ ps) ≡ p ∷ ps
+none-dropped p ps h = let e : leb (length p) 0 ≡ false = grind (arith, nat_tests) in ap (λ b. cond b (pieces_without_first (0 - length p) ps) (p ∷ ps)) e
 
-pub all-kept : (ps : List (List ℕ)) → NoneEmpty ps → ps ≡ last_bytes (length (concat ps)) ps
+pub all-kept : (ps : List (List ℕ)) → HasNoEmptyPiece ps → ps ≡ last_bytes (length (concat ps)) ps
 all-kept [] h = refl
 all-kept (p ∷ ps) h =
     let z : length (concat (p ∷ ps)) - length (concat (p ∷ ps)) ≡ 0 = omega arith in
-    sym (ap (λ n. without_front n (p ∷ ps)) z ∙ none-dropped p ps h.0)
+    sym (ap (λ n. pieces_without_first n (p ∷ ps)) z ∙ none-dropped p ps h.0)
 
-pub bytes-gone : (old new : List (List ℕ)) → new ≡ without_front (length (concat old)) old → concat new ≡ []
+pub bytes-gone : (old new : List (List ℕ)) → new ≡ pieces_without_first (length (concat old)) old → concat new ≡ []
 bytes-gone old new e = ap concat e ∙ bytes-without (length (concat old)) old ∙ drop_all (length (concat old)) (concat old) (omega arith)

@@ -8,31 +8,32 @@ use Rattle.parser_loop.proofs.Runs.{run-rested}
 use Rattle.segment_walk.specs.declared.kinds.DataRange.{DataRange}
 use Rattle.segment_walk.specs.declared.kinds.Mode as code
 use Rattle.segment_walk.specs.declared.kinds.Mode.TheVariants as codes
-use Rattle.segment_walk.specs.Segments.{Item, State, segments}
+use Rattle.segment_walk.specs.Tables.{SegmentItem}
+use Rattle.segment_walk.specs.Moves.{State, segments}
 use Rattle.segment_walk.specs.Ranges.{IsAscending, mode_of}
 use Rattle.segment_walk.proofs.WalkLaws.{slice-longer, is_walk}
-use Rattle.segment_stream.specs.declared.reach.Reached.{Reached}
-use Rattle.segment_stream.specs.Kept.{frames, frame_at, Ends, EndsBy, Counts, IsCounted, IsConsistent, Rests, Since, Keeps, IsAtRest, IsFound, IsEmptied, kept_of, state_of, run_on}
+use Rattle.segment_stream.specs.declared.progress.Progress.{Progress}
+use Rattle.segment_stream.specs.Kept.{frames, frame_at, IsEndingBy, IsSlotEndingBy, IsCountedIn, IsCounted, IsConsistent, Rests, Since, Keeps, IsAtRest, IsFoundWith, IsEmptied, kept_of, state_of, run_on}
 use Rattle.segment_stream.proofs.Acts.{rests-failed}
 
-frame-longer : (b c : List ℕ) (offset : ℕ) (s : Option Slot) → EndsBy (length b) s → frame_at (b ++ c) offset s ≡ frame_at b offset s
+frame-longer : (b c : List ℕ) (offset : ℕ) (s : Option Slot) → IsSlotEndingBy (length b) s → frame_at (b ++ c) offset s ≡ frame_at b offset s
 frame-longer b c offset None h = refl
 frame-longer b c offset (Some slot) h = rw (slice-longer b c slot.start slot.end h) refl
 
-pub frames-longer : (b c : List ℕ) (offset : ℕ) (slots : List Slot) (i n : ℕ) → Ends (length b) slots i n → frames (b ++ c) offset slots i n ≡ frames b offset slots i n
+pub frames-longer : (b c : List ℕ) (offset : ℕ) (slots : List Slot) (i n : ℕ) → IsEndingBy (length b) slots i n → frames (b ++ c) offset slots i n ≡ frames b offset slots i n
 frames-longer b c offset slots i zero h = refl
 frames-longer b c offset slots i (suc n) h = rw (frame-longer b c offset (slice_get slots i) h.0, frames-longer b c offset slots (i + 1) n h.1) refl
 
-ends-by-longer : (n m : ℕ) (s : Option Slot) → n ≤ m → EndsBy n s → EndsBy m s
+ends-by-longer : (n m : ℕ) (s : Option Slot) → n ≤ m → IsSlotEndingBy n s → IsSlotEndingBy m s
 ends-by-longer n m None l h = tt
 ends-by-longer n m (Some slot) l h = omega arith
 
-pub ends-longer : (n m : ℕ) (slots : List Slot) (i k : ℕ) → n ≤ m → Ends n slots i k → Ends m slots i k
+pub ends-longer : (n m : ℕ) (slots : List Slot) (i k : ℕ) → n ≤ m → IsEndingBy n slots i k → IsEndingBy m slots i k
 ends-longer n m slots i zero l h = tt
 ends-longer n m slots i (suc k) l h = (ends-by-longer n m (slice_get slots i) l h.0, ends-longer n m slots (i + 1) k l h.1)
 
 -- over the parts of a place with nothing before it
-pub consistent-longer : (m : code.Mode) (offset from first ready want : ℕ) (failed : Bool) (slots : List Slot) (known : List DataRange) (b c : List ℕ) → let r : Reached = record { spot = record { mode = m; offset = offset; failed = failed }; from = from; first = first; ready = ready; want = want } in from ≡ 0 → offset + (length b + length c) < 2 ^ 62 → IsConsistent r slots known b → IsConsistent r slots known (b ++ c)
+pub consistent-longer : (m : code.Mode) (offset from first ready want : ℕ) (failed : Bool) (slots : List Slot) (known : List DataRange) (b c : List ℕ) → let r : Progress = record { position = record { mode = m; offset = offset; failed = failed }; from = from; first = first; ready = ready; want = want } in from ≡ 0 → offset + (length b + length c) < 2 ^ 62 → IsConsistent r slots known b → IsConsistent r slots known (b ++ c)
 consistent-longer m offset from first ready want failed slots known b c z room f = record {
   inside = omega arith;
   counts = f.counts;
@@ -40,16 +41,16 @@ consistent-longer m offset from first ready want failed slots known b c z room f
   small = omega (arith, length-append b c);
 }
 
-ran : (last : Option Presentation) (m : code.Mode) (offset from first ready want : ℕ) (failed : Bool) (slots : List Slot) (known : List DataRange) (b c : List ℕ) → let r : Reached = record { spot = record { mode = m; offset = offset; failed = failed }; from = from; first = first; ready = ready; want = want } in from ≡ 0 → failed ≡ false → IsConsistent r slots known b → run_on (kept_of last r slots known (b ++ c)) ≡ fed segments (kept_of last r slots known b) c
+ran : (last : Option Presentation) (m : code.Mode) (offset from first ready want : ℕ) (failed : Bool) (slots : List Slot) (known : List DataRange) (b c : List ℕ) → let r : Progress = record { position = record { mode = m; offset = offset; failed = failed }; from = from; first = first; ready = ready; want = want } in from ≡ 0 → failed ≡ false → IsConsistent r slots known b → run_on (kept_of last r slots known (b ++ c)) ≡ fed segments (kept_of last r slots known b) c
 ran last m offset (suc from) first ready want failed slots known b c z g f = absurd (omega arith)
 ran last m offset zero first ready want true slots known b c z g f = cc
 ran last m offset zero first ready want false slots known b c z g f =
-    let e : Ends (length b) slots first ready = ends-longer (length b - 0) (length b) slots first ready (omega arith) f.ends in
+    let e : IsEndingBy (length b) slots first ready = ends-longer (length b - 0) (length b) slots first ready (omega arith) f.ends in
     ap (λ xs. joined xs (run segments (state_of last (record { mode = m; offset = offset; failed = false }) slots known (b ++ c)))) (frames-longer b c offset slots first ready e)
 
 -- ---- the place that was left sees what it saw
 
-pub keeps-kept : (last : Option Presentation) (m : code.Mode) (offset from first ready want : ℕ) (failed : Bool) (slots new_slots : List Slot) (known new_known : List DataRange) (b : List ℕ) → let r : Reached = record { spot = record { mode = m; offset = offset; failed = failed }; from = from; first = first; ready = ready; want = want } in Counts m slots known first ready → Keeps m slots known new_slots new_known → kept_of last r new_slots new_known b ≡ kept_of last r slots known b
+pub keeps-kept : (last : Option Presentation) (m : code.Mode) (offset from first ready want : ℕ) (failed : Bool) (slots new_slots : List Slot) (known new_known : List DataRange) (b : List ℕ) → let r : Progress = record { position = record { mode = m; offset = offset; failed = failed }; from = from; first = first; ready = ready; want = want } in IsCountedIn m slots known first ready → Keeps m slots known new_slots new_known → kept_of last r new_slots new_known b ≡ kept_of last r slots known b
 keeps-kept last (codes.Between o) offset from first ready want failed slots new_slots known new_known b h k = rw h refl
 keeps-kept last (codes.Skipping y l) offset from first ready want failed slots new_slots known new_known b h k = rw h refl
 keeps-kept last (codes.Within i) offset from first ready want failed slots new_slots known new_known b h k = rw (k.0, k.1) refl
@@ -69,7 +70,7 @@ length-front (suc n) (x ∷ xs) e = let h = length-front n xs (omega arith) in o
 known-enough : (known new_known : List DataRange) (n : ℕ) → n ≤ length known → take n new_known ≡ take n known → n ≤ length new_known
 known-enough known new_known n h e = let l = ap length e ∙ length-take-le n known h in length-front n new_known l
 
-counts-kept : (m : code.Mode) (slots new_slots : List Slot) (known new_known : List DataRange) (first ready : ℕ) → Counts m slots known first ready → Keeps m slots known new_slots new_known → Counts m new_slots new_known first ready
+counts-kept : (m : code.Mode) (slots new_slots : List Slot) (known new_known : List DataRange) (first ready : ℕ) → IsCountedIn m slots known first ready → Keeps m slots known new_slots new_known → IsCountedIn m new_slots new_known first ready
 counts-kept (codes.Between o) slots new_slots known new_known first ready h k = h
 counts-kept (codes.Skipping y l) slots new_slots known new_known first ready h k = h
 counts-kept (codes.Within i) slots new_slots known new_known first ready h k =
@@ -86,10 +87,10 @@ counts-kept (codes.Within i) slots new_slots known new_known first ready h k =
       near = g.near;
     }
 
-slots-kept : (m : code.Mode) (slots new_slots : List Slot) (known new_known : List DataRange) (n first ready : ℕ) → Counts m slots known first ready → Keeps m slots known new_slots new_known → Ends n slots first ready → Ends n new_slots first ready
-slots-kept (codes.Between o) slots new_slots known new_known n first ready h k e = subst (Ends n new_slots first) (sym h) tt
-slots-kept (codes.Skipping y l) slots new_slots known new_known n first ready h k e = subst (Ends n new_slots first) (sym h) tt
-slots-kept (codes.Within i) slots new_slots known new_known n first ready h k e = subst (λ ss. Ends n ss first ready) (sym k.0) e
+slots-kept : (m : code.Mode) (slots new_slots : List Slot) (known new_known : List DataRange) (n first ready : ℕ) → IsCountedIn m slots known first ready → Keeps m slots known new_slots new_known → IsEndingBy n slots first ready → IsEndingBy n new_slots first ready
+slots-kept (codes.Between o) slots new_slots known new_known n first ready h k e = subst (IsEndingBy n new_slots first) (sym h) tt
+slots-kept (codes.Skipping y l) slots new_slots known new_known n first ready h k e = subst (IsEndingBy n new_slots first) (sym h) tt
+slots-kept (codes.Within i) slots new_slots known new_known n first ready h k e = subst (λ ss. IsEndingBy n ss first ready) (sym k.0) e
 
 mode-kept : (m : code.Mode) (slots new_slots : List Slot) (known new_known : List DataRange) → Keeps m slots known new_slots new_known → mode_of new_slots new_known m ≡ mode_of slots known m
 mode-kept (codes.Between o) slots new_slots known new_known k = refl
@@ -97,21 +98,21 @@ mode-kept (codes.Skipping y l) slots new_slots known new_known k = refl
 mode-kept (codes.Within i) slots new_slots known new_known k = rw (k.0, k.1) refl
 
 -- and rests where it rested
-pub keeps-rest : (last : Option Presentation) (r : Reached) (slots new_slots : List Slot) (known new_known : List DataRange) (b : List ℕ) → Keeps r.spot.mode slots known new_slots new_known → IsAtRest last r slots known b → IsAtRest last r new_slots new_known b
+pub keeps-rest : (last : Option Presentation) (r : Progress) (slots new_slots : List Slot) (known new_known : List DataRange) (b : List ℕ) → Keeps r.position.mode slots known new_slots new_known → IsAtRest last r slots known b → IsAtRest last r new_slots new_known b
 keeps-rest last r slots new_slots known new_known b k h = record {
   front = h.front;
   consistent = record {
     inside = h.consistent.inside;
-    counts = counts-kept r.spot.mode slots new_slots known new_known r.first r.ready h.consistent.counts k;
-    ends = slots-kept r.spot.mode slots new_slots known new_known (length b - r.from) r.first r.ready h.consistent.counts k h.consistent.ends;
+    counts = counts-kept r.position.mode slots new_slots known new_known r.first r.ready h.consistent.counts k;
+    ends = slots-kept r.position.mode slots new_slots known new_known (length b - r.from) r.first r.ready h.consistent.counts k h.consistent.ends;
     small = h.consistent.small;
   };
-  rests = subst (λ m. Rests (record { last = last; mode = m; offset = r.spot.offset; rest = b; failed = r.spot.failed }) r.want) (sym (mode-kept r.spot.mode slots new_slots known new_known k)) h.rests;
+  rests = subst (λ m. Rests (record { last = last; mode = m; offset = r.position.offset; rest = b; failed = r.position.failed }) r.want) (sym (mode-kept r.position.mode slots new_slots known new_known k)) h.rests;
 }
 
 -- ---- what is found
 
-found-run : (last : Option Presentation) (m : code.Mode) (offset from first ready want : ℕ) (failed : Bool) (slots new_slots : List Slot) (known new_known : List DataRange) (b c : List ℕ) (s : Reached) → let r : Reached = record { spot = record { mode = m; offset = offset; failed = failed }; from = from; first = first; ready = ready; want = want } in failed ≡ false → IsAtRest last r slots known b → kept_of last r new_slots new_known b ≡ kept_of last r slots known b → kept_of last s new_slots new_known (b ++ c) ≡ run_on (kept_of last r slots known (b ++ c)) → IsConsistent s new_slots new_known (b ++ c) → Rests (state_of last s.spot new_slots new_known (drop s.from (b ++ c))) s.want → s.spot.offset + (length (b ++ c) - s.from) ≡ offset + (length (b ++ c) - from) → IsFound last (kept_of last r new_slots new_known b) s new_slots new_known (b ++ c) c
+found-run : (last : Option Presentation) (m : code.Mode) (offset from first ready want : ℕ) (failed : Bool) (slots new_slots : List Slot) (known new_known : List DataRange) (b c : List ℕ) (s : Progress) → let r : Progress = record { position = record { mode = m; offset = offset; failed = failed }; from = from; first = first; ready = ready; want = want } in failed ≡ false → IsAtRest last r slots known b → kept_of last r new_slots new_known b ≡ kept_of last r slots known b → kept_of last s new_slots new_known (b ++ c) ≡ run_on (kept_of last r slots known (b ++ c)) → IsConsistent s new_slots new_known (b ++ c) → Rests (state_of last s.position new_slots new_known (drop s.from (b ++ c))) s.want → s.position.offset + (length (b ++ c) - s.from) ≡ offset + (length (b ++ c) - from) → IsFoundWith last (kept_of last r new_slots new_known b) s new_slots new_known (b ++ c) c
 found-run last m offset from first ready want failed slots new_slots known new_known b c s g h q e f w t = record {
   same = e ∙ ran last m offset from first ready want failed slots known b c h.front g h.consistent ∙ ap (λ k. fed segments k c) (sym q);
   consistent = f;
@@ -119,8 +120,8 @@ found-run last m offset from first ready want failed slots new_slots known new_k
   total = omega (arith, t, h.front, length-append b c, length-drop from b);
 }
 
-stays : (k : Run State Item) → run segments k.state ≡ stay_at k.state → run_on k ≡ k
-stays k e = ap (joined k.items) e ∙ ap (λ (xs : List Item). record { items = xs; state = k.state }) (append-nil k.items)
+stays : (k : Run State SegmentItem) → run segments k.state ≡ stay_at k.state → run_on k ≡ k
+stays k e = ap (joined k.items) e ∙ ap (λ (xs : List SegmentItem). record { items = xs; state = k.state }) (append-nil k.items)
 
 still-more : (last : Option Presentation) (m : code.Mode) (offset : ℕ) (failed : Bool) (want : ℕ) (slots : List Slot) (known : List DataRange) (b c : List ℕ) → failed ≡ false → Rests (state_of last (record { mode = m; offset = offset; failed = failed }) slots known b) want → length b + length c < want → let t : State = state_of last (record { mode = m; offset = offset; failed = false }) slots known (b ++ c) in run segments t ≡ stay_at t
 still-more last m offset failed want slots known b c g h l =
@@ -137,44 +138,44 @@ rests-longer last m offset failed want slots known b c g x h =
     }
 
 -- fewer bytes than are wanted
-pub found-same : (last : Option Presentation) (m : code.Mode) (offset from first ready want : ℕ) (failed : Bool) (slots : List Slot) (known : List DataRange) (b c all : List ℕ) → let r : Reached = record { spot = record { mode = m; offset = offset; failed = failed }; from = from; first = first; ready = ready; want = want } in all ≡ b ++ c → failed ≡ false → IsAtRest last r slots known b → length b + length c < want → offset + (length b + length c) < 2 ^ 62 → IsFound last (kept_of last r slots known b) r slots known all c
+pub found-same : (last : Option Presentation) (m : code.Mode) (offset from first ready want : ℕ) (failed : Bool) (slots : List Slot) (known : List DataRange) (b c all : List ℕ) → let r : Progress = record { position = record { mode = m; offset = offset; failed = failed }; from = from; first = first; ready = ready; want = want } in all ≡ b ++ c → failed ≡ false → IsAtRest last r slots known b → length b + length c < want → offset + (length b + length c) < 2 ^ 62 → IsFoundWith last (kept_of last r slots known b) r slots known all c
 found-same last m offset from first ready want failed slots known b c all x' g h l room =
-    let r : Reached = record { spot = record { mode = m; offset = offset; failed = failed }; from = from; first = first; ready = ready; want = want } in
+    let r : Progress = record { position = record { mode = m; offset = offset; failed = failed }; from = from; first = first; ready = ready; want = want } in
     let t : List ℕ → State = λ rest. state_of last (record { mode = m; offset = offset; failed = failed }) slots known rest in
     let u : List ℕ → State = λ rest. state_of last (record { mode = m; offset = offset; failed = false }) slots known rest in
     let y : run segments (u (b ++ c)) ≡ stay_at (u (b ++ c)) = still-more last m offset failed want slots known b c g h.rests l in
     let x : run segments (t (b ++ c)) ≡ stay_at (t (b ++ c)) = rw g y in
-    let k : Run State Item = kept_of last r slots known (b ++ c) in
-    subst (λ v. IsFound last (kept_of last r slots known b) r slots known v c) (sym x') (record {
+    let k : Run State SegmentItem = kept_of last r slots known (b ++ c) in
+    subst (λ v. IsFoundWith last (kept_of last r slots known b) r slots known v c) (sym x') (record {
       same = sym (stays k (rw h.front x)) ∙ ran last m offset from first ready want failed slots known b c h.front g h.consistent;
       consistent = consistent-longer m offset from first ready want failed slots known b c h.front room h.consistent;
       rests = rw h.front (rests-longer last m offset failed want slots known b c g x h.rests);
       total = omega (arith, h.front, length-append b c, length-drop from b);
     })
 
-pub found-ok : (s : Reached) (last : Option Presentation) (r : Reached) (slots new_slots : List Slot) (known new_known : List DataRange) (b c bytes : List ℕ) → bytes ≡ b ++ c → r.spot.failed ≡ false → IsAtRest last r slots known b → Since r.spot.mode s.spot.mode slots known new_slots new_known → kept_of last s new_slots new_known bytes ≡ run_on (kept_of last r slots known bytes) → IsConsistent s new_slots new_known bytes → Rests (state_of last s.spot new_slots new_known (drop s.from bytes)) s.want → s.spot.offset + (length bytes - s.from) ≡ r.spot.offset + (length bytes - r.from) → IsFound last (kept_of last r new_slots new_known b) s new_slots new_known bytes c
+pub found-ok : (s : Progress) (last : Option Presentation) (r : Progress) (slots new_slots : List Slot) (known new_known : List DataRange) (b c bytes : List ℕ) → bytes ≡ b ++ c → r.position.failed ≡ false → IsAtRest last r slots known b → Since r.position.mode s.position.mode slots known new_slots new_known → kept_of last s new_slots new_known bytes ≡ run_on (kept_of last r slots known bytes) → IsConsistent s new_slots new_known bytes → Rests (state_of last s.position new_slots new_known (drop s.from bytes)) s.want → s.position.offset + (length bytes - s.from) ≡ r.position.offset + (length bytes - r.from) → IsFoundWith last (kept_of last r new_slots new_known b) s new_slots new_known bytes c
 found-ok s last r slots new_slots known new_known b c bytes d g h q e f w t =
-    let k = keeps-kept last r.spot.mode r.spot.offset r.from r.first r.ready r.want r.spot.failed slots new_slots known new_known b h.consistent.counts (since-keeps r.spot.mode s.spot.mode slots new_slots known new_known q) in
-    subst (λ v. IsFound last (kept_of last r new_slots new_known b) s new_slots new_known v c) (sym d) (found-run last r.spot.mode r.spot.offset r.from r.first r.ready r.want r.spot.failed slots new_slots known new_known b c s g h k (subst (λ v. kept_of last s new_slots new_known v ≡ run_on (kept_of last r slots known v)) d e) (subst (λ v. IsConsistent s new_slots new_known v) d f) (subst (λ v. Rests (state_of last s.spot new_slots new_known (drop s.from v)) s.want) d w) (subst (λ (v : List ℕ). s.spot.offset + (length v - s.from) ≡ r.spot.offset + (length v - r.from)) d t))
+    let k = keeps-kept last r.position.mode r.position.offset r.from r.first r.ready r.want r.position.failed slots new_slots known new_known b h.consistent.counts (since-keeps r.position.mode s.position.mode slots new_slots known new_known q) in
+    subst (λ v. IsFoundWith last (kept_of last r new_slots new_known b) s new_slots new_known v c) (sym d) (found-run last r.position.mode r.position.offset r.from r.first r.ready r.want r.position.failed slots new_slots known new_known b c s g h k (subst (λ v. kept_of last s new_slots new_known v ≡ run_on (kept_of last r slots known v)) d e) (subst (λ v. IsConsistent s new_slots new_known v) d f) (subst (λ v. Rests (state_of last s.position new_slots new_known (drop s.from v)) s.want) d w) (subst (λ (v : List ℕ). s.position.offset + (length v - s.from) ≡ r.position.offset + (length v - r.from)) d t))
 
 -- behind a fault all bytes are let go
 pub failed-more : (last : Option Presentation) (m : code.Mode) (offset : ℕ) (slots : List Slot) (known : List DataRange) (b : List ℕ) → let s : State = state_of last (record { mode = m; offset = offset; failed = true }) slots known b in run segments s ≡ stay_at s
 failed-more last m offset slots known b = run-rested segments is_walk (state_of last (record { mode = m; offset = offset; failed = true }) slots known b) tt
 
-pub found-failed : (last : Option Presentation) (m : code.Mode) (offset from first ready want new_want len : ℕ) (failed : Bool) (slots : List Slot) (known : List DataRange) (b c all : List ℕ) → let r : Reached = record { spot = record { mode = m; offset = offset; failed = failed }; from = from; first = first; ready = ready; want = want } in all ≡ b ++ c → failed ≡ true → len ≡ length all → IsAtRest last r slots known b → (b ≡ []) × (ready ≡ 0) → IsFound last (kept_of last r slots known b) (record { spot = record { mode = m; offset = offset; failed = failed }; from = len; first = first; ready = ready; want = new_want }) slots known all c
+pub found-failed : (last : Option Presentation) (m : code.Mode) (offset from first ready want new_want len : ℕ) (failed : Bool) (slots : List Slot) (known : List DataRange) (b c all : List ℕ) → let r : Progress = record { position = record { mode = m; offset = offset; failed = failed }; from = from; first = first; ready = ready; want = want } in all ≡ b ++ c → failed ≡ true → len ≡ length all → IsAtRest last r slots known b → (b ≡ []) × (ready ≡ 0) → IsFoundWith last (kept_of last r slots known b) (record { position = record { mode = m; offset = offset; failed = failed }; from = len; first = first; ready = ready; want = new_want }) slots known all c
 found-failed last m offset from first ready want new_want len false slots known b c all x' g e h z = cc
 found-failed last m offset from first ready want new_want len true slots known b c all x' g e h z =
-    let r : Reached = record { spot = record { mode = m; offset = offset; failed = true }; from = from; first = first; ready = ready; want = want } in
+    let r : Progress = record { position = record { mode = m; offset = offset; failed = true }; from = from; first = first; ready = ready; want = want } in
     let none : drop len all ≡ [] = drop_all len all (omega arith) in
     let empty : drop from b ≡ [] = ap (λ n. drop n b) h.front ∙ z.0 in
-    let k : Run State Item = kept_of last r slots known b in
+    let k : Run State SegmentItem = kept_of last r slots known b in
     let still : run segments (segments.more k.state c) ≡ stay_at k.state = failed-more last m offset slots known (drop from b) in
-    let mk : List Item → List ℕ → Run State Item = λ items rest. record { items = items; state = state_of last (record { mode = m; offset = offset; failed = true }) slots known rest } in
+    let mk : List SegmentItem → List ℕ → Run State SegmentItem = λ items rest. record { items = items; state = state_of last (record { mode = m; offset = offset; failed = true }) slots known rest } in
     let a : mk (frames (drop len all) offset slots first ready) (drop len all) ≡ mk [] [] = ap (λ v. mk (frames v offset slots first ready) v) none ∙ ap (λ n. mk (frames [] offset slots first n) []) z.1 in
     let d : mk (frames (drop from b) offset slots first ready ++ []) (drop from b) ≡ mk [] [] = ap (λ n. mk (frames (drop from b) offset slots first n ++ []) (drop from b)) z.1 ∙ ap (mk []) empty in
     record {
       same = a ∙ sym (ap (joined k.items) still ∙ d);
-      consistent = record { inside = omega arith; counts = h.consistent.counts; ends = subst (Ends (length all - len) slots first) (sym z.1) tt; small = omega (arith, h.consistent.small) };
+      consistent = record { inside = omega arith; counts = h.consistent.counts; ends = subst (IsEndingBy (length all - len) slots first) (sym z.1) tt; small = omega (arith, h.consistent.small) };
       rests = rests-failed last (mode_of slots known m) offset (drop len all) true new_want refl;
       total = omega arith;
     }
@@ -182,15 +183,15 @@ found-failed last m offset from first ready want new_want len true slots known b
 both : (b : Bool) → b ≡ false → b ≡ true → ⊥
 both b g e = cc
 
-pub found-emptied : (r : Reached) (b : List ℕ) → r.spot.failed ≡ false → IsEmptied r b
-found-emptied r b g = λ e. absurd (both r.spot.failed g e)
+pub found-emptied : (r : Progress) (b : List ℕ) → r.position.failed ≡ false → IsEmptied r b
+found-emptied r b g = λ e. absurd (both r.position.failed g e)
 
 -- ---- what was found is put in place
 
-pub accepted-kept : (last : Option Presentation) (r : Reached) (slots : List Slot) (known : List DataRange) (old new : List ℕ) → new ≡ drop r.from old → kept_of last (record { spot = r.spot; from = 0; first = r.first; ready = r.ready; want = r.want }) slots known new ≡ kept_of last r slots known old
+pub accepted-kept : (last : Option Presentation) (r : Progress) (slots : List Slot) (known : List DataRange) (old new : List ℕ) → new ≡ drop r.from old → kept_of last (record { position = r.position; from = 0; first = r.first; ready = r.ready; want = r.want }) slots known new ≡ kept_of last r slots known old
 accepted-kept last r slots known old new e = rw e refl
 
-pub accepted-rest : (last : Option Presentation) (r : Reached) (slots : List Slot) (known : List DataRange) (old new : List ℕ) → new ≡ drop r.from old → IsConsistent r slots known old → Rests (state_of last r.spot slots known (drop r.from old)) r.want → IsAtRest last (record { spot = r.spot; from = 0; first = r.first; ready = r.ready; want = r.want }) slots known new
+pub accepted-rest : (last : Option Presentation) (r : Progress) (slots : List Slot) (known : List DataRange) (old new : List ℕ) → new ≡ drop r.from old → IsConsistent r slots known old → Rests (state_of last r.position slots known (drop r.from old)) r.want → IsAtRest last (record { position = r.position; from = 0; first = r.first; ready = r.ready; want = r.want }) slots known new
 accepted-rest last r slots known old new e f w =
     let l : length new ≡ length old - r.from = ap length e ∙ length-drop r.from old in
     record {

@@ -1,5 +1,5 @@
 pub mod Acts
 pub mod Found
-pub mod FrontLaws
+pub mod PendingLaws
 pub mod ArmLaws
 pub mod StreamLaws

@@ -5,48 +5,52 @@ use Rattle.std.specs.Prelude.{IfSome}
 use Rattle.std.proofs.lemmas.List.{length-append, length-drop, append-nil, append_assoc}
 use Rattle.std.proofs.lemmas.Bool.Decides.{nat_tests}
 use Rattle.mse_base.specs.declared.track.Presentation.{Presentation}
-use Rattle.mse_base.specs.declared.frame.Phase.TheVariants.{InMedia}
+use Rattle.mse_base.specs.declared.frame.Phase.TheVariants.{InMedia, Waiting}
 use Rattle.bmff_boxes.specs.Headers.{header_of}
 use Rattle.bmff_init.specs.declared.fault.InitFault.{InitFault}
 use Rattle.bmff_init.specs.Movies.{init_of}
 use Rattle.bmff_fragment.specs.declared.fault.MoofFault.{MoofFault}
 use Rattle.bmff_fragment.specs.declared.slot.Slot.{Slot}
 use Rattle.bmff_fragment.specs.Plans.{plan_of}
-use Rattle.input_chunks.specs.Pieces.{pushed, without_front, without_back, NoneEmpty}
+use Rattle.input_chunks.specs.Pieces.{pieces_with, pieces_without_first, pieces_without_last, HasNoEmptyPiece}
 use Rattle.input_chunks.proofs.Rows.{bytes-pushed, bytes-without, none-added, none-without}
 use Rattle.parser_loop.specs.Walk.{Move, Stop, Pass, Give, Run, run, run_by, run_give, stay_at, fed, fed_all, first_by, after_by, run_after, first_item, after_first, count_after}
 use Rattle.parser_loop.proofs.Walks.{IsSettled, settled-at-state}
-use Rattle.parser_loop.proofs.Runs.{run-step, run-rested, keeps, Keeps, IsRested, stands-first, stands-after}
+use Rattle.parser_loop.proofs.Runs.{run-step, run-rested, keeps, Keeps, IsRested, stands-first, stands-after, stands-look, stands-ready}
 use Rattle.parser_loop.proofs.Pieces.{stands-start, stands-piece}
-use Rattle.segment_walk.specs.declared.kinds.Begun.{Begun}
-use Rattle.segment_walk.specs.declared.kinds.Begun.TheVariants.{Nothing}
+use Rattle.mse_base.specs.declared.frame.Phase.{Phase}
 use Rattle.segment_walk.specs.declared.kinds.DataRange.{DataRange}
 use Rattle.segment_walk.specs.declared.kinds.Mode as code
 use Rattle.segment_walk.specs.declared.kinds.Mode.TheVariants as codes
 use Rattle.segment_walk.specs.declared.kinds.Step.{Step}
 use Rattle.segment_walk.specs.declared.kinds.Step.TheVariants as step
-use Rattle.segment_walk.specs.Segments.{Item, InitItem, FrameItem, SegmentEnd, FaultItem, State, Mode, Between, Skipping, Within, Open, initialized, opened, planned, pass_byte, act, step_of, segments, move_unless}
-use Rattle.segment_walk.specs.Strings.{start, Items, state_before, phase_of, phase_before, held_before, latest, latest_by}
+use Rattle.segment_walk.specs.Tables.{SegmentItem}
+use Rattle.parser_loop.specs.Items.{InitItem, FrameItem, SegmentEnd, FaultItem, latest_after_all, latest_after}
+use Rattle.segment_walk.specs.Moves.{State, Mode, Between, Skipping, Within, Open, initialized, opened, planned, pass_byte, act, step_of, segments, move_unless}
+use Rattle.segment_walk.specs.Strings.{start, state_before, phase_of}
+use Rattle.segment_walk.specs.Segments.{Items, held_before, phase_before, ready_before}
+use Rattle.segment_walk.proofs.Boxes.{items-boxes, ready-boxes, seen-boxes}
+use Rattle.parser_loop.specs.Parse.{ParserView}
 use Rattle.segment_walk.proofs.WalkLaws.{going, is_walk, good-step, Fits}
 use Rattle.segment_walk.proofs.Latest.{last-move, LastAfter, state-latest}
-use Rattle.segment_stream.specs.declared.reach.Reached.{Reached}
-use Rattle.segment_stream.specs.declared.reach.Spot.{Spot}
+use Rattle.segment_stream.specs.declared.progress.Progress.{Progress}
+use Rattle.segment_stream.specs.declared.progress.ParserPosition.{ParserPosition}
 use Rattle.segment_stream.specs.declared.next.Next.{Next}
 use Rattle.segment_stream.specs.declared.stream.Offered.{Offered}
-use Rattle.segment_stream.specs.Kept.{frames, Counts, Rests, IsAtRest, IsEmptied, IsFound, IsLast, IsUnchanged, kept_of, state_of, place_at_start, last_bytes, seen}
-use Rattle.segment_stream.specs.Streams.{Stands, Streamed, streamed, pushed_last, Holds, HoldsOffer, IsStream}
-use Rattle.segment_stream.proofs.FrontLaws.{some-there, rested}
+use Rattle.segment_stream.specs.Kept.{frames, IsCountedIn, Rests, IsAtRest, IsEmptied, IsFoundWith, IsLast, IsUnchanged, kept_of, state_of, progress_at_start, last_bytes, seen}
+use Rattle.segment_stream.specs.Streams.{Stands, Streamed, streamed, pushed_last, IsStreamAtRest, IsStreamWithOffer, IsStream}
+use Rattle.segment_stream.proofs.PendingLaws.{some-there, rested}
 use Rattle.segment_stream.proofs.ArmLaws.{all-kept, dropped}
 
 -- ---- the state behind a run is the state before it, but for the frames
 
 abbrev IsWithin : Mode → Type 0
-IsWithin (Between begun) = ⊥
+IsWithin (Between phase) = ⊥
 IsWithin (Skipping to left) = ⊥
 IsWithin (Within o) = Unit {0}
 
 -- a frame, and what passes in a movie fragment, leave the bytes
-abbrev Keeping : State → Move State Item → Type 0
+abbrev Keeping : State → Move State SegmentItem → Type 0
 Keeping s Stop = Unit {0}
 Keeping s (Pass t) = IsWithin s.mode → IsWithin t.mode × (t.rest ≡ s.rest)
 Keeping s (Give item t) = segments.runs item ≡ true → IsWithin s.mode × IsWithin t.mode × (t.rest ≡ s.rest)
@@ -54,28 +58,28 @@ Keeping s (Give item t) = segments.runs item ≡ true → IsWithin s.mode × IsW
 not-true : {P : Type 0} → false ≡ true → P
 not-true e = absurd (cc)
 
-keeping-init : (last : Option Presentation) (begun : Begun) (offset : ℕ) (rest : List ℕ) (len : ℕ) (r : Result Presentation InitFault) → let s = going last (Between begun) offset rest in Keeping s (initialized s len r)
-keeping-init last begun offset rest len (Ok p) = λ e. not-true e
-keeping-init last begun offset rest len (Err f) = λ e. not-true e
+keeping-init : (last : Option Presentation) (phase : Phase) (offset : ℕ) (rest : List ℕ) (len : ℕ) (r : Result Presentation InitFault) → let s = going last (Between phase) offset rest in Keeping s (initialized s len r)
+keeping-init last phase offset rest len (Ok p) = λ e. not-true e
+keeping-init last phase offset rest len (Err f) = λ e. not-true e
 
-keeping-opened : (last : Option Presentation) (begun : Begun) (offset : ℕ) (rest : List ℕ) (len : ℕ) (r : Result (List Slot) MoofFault) → let s = going last (Between begun) offset rest in Keeping s (opened s len r)
-keeping-opened last begun offset rest len (Ok slots) = λ w. absurd w
-keeping-opened last begun offset rest len (Err f) = λ e. not-true e
+keeping-opened : (last : Option Presentation) (phase : Phase) (offset : ℕ) (rest : List ℕ) (len : ℕ) (r : Result (List Slot) MoofFault) → let s = going last (Between phase) offset rest in Keeping s (opened s len r)
+keeping-opened last phase offset rest len (Ok slots) = λ w. absurd w
+keeping-opened last phase offset rest len (Err f) = λ e. not-true e
 
-keeping-planned : (last with : Option Presentation) (begun : Begun) (offset : ℕ) (rest : List ℕ) (len : ℕ) → let s = going last (Between begun) offset rest in Keeping s (planned s len with)
-keeping-planned last None begun offset rest len = λ e. not-true e
-keeping-planned last (Some p) begun offset rest len = keeping-opened last begun offset rest len (plan_of p.tracks (take len rest))
+keeping-planned : (last with : Option Presentation) (phase : Phase) (offset : ℕ) (rest : List ℕ) (len : ℕ) → let s = going last (Between phase) offset rest in Keeping s (planned s len with)
+keeping-planned last None phase offset rest len = λ e. not-true e
+keeping-planned last (Some p) phase offset rest len = keeping-opened last phase offset rest len (plan_of p.tracks (take len rest))
 
-keeping-between : (last : Option Presentation) (begun : Begun) (offset : ℕ) (rest : List ℕ) (st : Step) → Fits (Between begun) (length rest) st → let s = going last (Between begun) offset rest in Keeping s (act s st)
-keeping-between last begun offset rest (step.Wait w) f = tt
-keeping-between last begun offset rest (step.Skip to len) f = λ w. absurd w
-keeping-between last begun offset rest (step.ReadInit len) f = keeping-init last begun offset rest len (init_of (take len rest))
-keeping-between last begun offset rest (step.ReadMoof len) f = keeping-planned last last begun offset rest len
-keeping-between last begun offset rest (step.EnterData start end) f = absurd f.0
-keeping-between last begun offset rest (step.NextBox at) f = absurd f.0
-keeping-between last begun offset rest (step.GiveFrame slot) f = absurd f.0
-keeping-between last begun offset rest (step.EndSegment end) f = absurd f.0
-keeping-between last begun offset rest (step.Fail g at) f = λ e. not-true e
+keeping-between : (last : Option Presentation) (phase : Phase) (offset : ℕ) (rest : List ℕ) (st : Step) → Fits (Between phase) (length rest) st → let s = going last (Between phase) offset rest in Keeping s (act s st)
+keeping-between last phase offset rest (step.Wait w) f = tt
+keeping-between last phase offset rest (step.Skip to len) f = λ w. absurd w
+keeping-between last phase offset rest (step.ReadInit len) f = keeping-init last phase offset rest len (init_of (take len rest))
+keeping-between last phase offset rest (step.ReadMoof len) f = keeping-planned last last phase offset rest len
+keeping-between last phase offset rest (step.EnterData start end) f = absurd f.0
+keeping-between last phase offset rest (step.NextBox at) f = absurd f.0
+keeping-between last phase offset rest (step.GiveFrame slot) f = absurd f.0
+keeping-between last phase offset rest (step.EndSegment end) f = absurd f.0
+keeping-between last phase offset rest (step.Fail g at) f = λ e. not-true e
 
 keeping-within : (last : Option Presentation) (o : Open) (offset : ℕ) (rest : List ℕ) (st : Step) → Fits (Within o) (length rest) st → let s = going last (Within o) offset rest in Keeping s (act s st)
 keeping-within last o offset rest (step.Wait w) f = tt
@@ -88,13 +92,13 @@ keeping-within last o offset rest (step.GiveFrame slot) f = λ _. (tt, tt, refl)
 keeping-within last o offset rest (step.EndSegment end) f = λ e. not-true e
 keeping-within last o offset rest (step.Fail g at) f = λ e. not-true e
 
-keeping-byte : (last : Option Presentation) (to : Begun) (offset left : ℕ) (all rest : List ℕ) → let s = going last (Skipping to (suc left)) offset all in Keeping s (pass_byte s to left rest)
+keeping-byte : (last : Option Presentation) (to : Phase) (offset left : ℕ) (all rest : List ℕ) → let s = going last (Skipping to (suc left)) offset all in Keeping s (pass_byte s to left rest)
 keeping-byte last to offset left all [] = tt
 keeping-byte last to offset left all (x ∷ rest) = λ w. absurd w
 
 keeping : (last : Option Presentation) (m : Mode) (offset : ℕ) (rest : List ℕ) (failed : Bool) → let s : State = record { last = last; mode = m; offset = offset; rest = rest; failed = failed } in Keeping s (move_unless s failed)
 keeping last m offset rest true = tt
-keeping last (Between begun) offset rest false = keeping-between last begun offset rest (step_of (is_some last) rest (Between begun)) (good-step (is_some last) rest [] (Between begun)).0
+keeping last (Between phase) offset rest false = keeping-between last phase offset rest (step_of (is_some last) rest (Between phase)) (good-step (is_some last) rest [] (Between phase)).0
 keeping last (Skipping to zero) offset rest false = λ w. absurd w
 keeping last (Skipping to (suc left)) offset rest false = keeping-byte last to offset left rest rest
 keeping last (Within o) offset rest false = keeping-within last o offset rest (step_of (is_some last) rest (Within o)) (good-step (is_some last) rest [] (Within o)).0
@@ -102,7 +106,7 @@ keeping last (Within o) offset rest false = keeping-within last o offset rest (s
 abbrev Held : List ℕ → State → Type 0
 Held rest s = IsWithin s.mode × (s.rest ≡ rest)
 
-held-by : (rest : List ℕ) (s : State) (m : Move State Item) → Keeping s m → Held rest s → Keeps segments (Held rest) m
+held-by : (rest : List ℕ) (s : State) (m : Move State SegmentItem) → Keeping s m → Held rest s → Keeps segments (Held rest) m
 held-by rest s Stop f p = tt
 held-by rest s (Pass t) f p = let q = f p.0 in (q.0, q.1 ∙ p.1)
 held-by rest s (Give item t) f p = λ e. let q = f e in (q.1, q.2 ∙ p.1)
@@ -111,7 +115,7 @@ held-move : (rest : List ℕ) (s : State) → Held rest s → Keeps segments (He
 held-move rest s p = held-by rest s (segments.move s) (keeping s.last s.mode s.offset s.rest s.failed) p
 
 phase-within : (m : Mode) → IsWithin m → phase_of m ≡ InMedia
-phase-within (Between begun) w = absurd w
+phase-within (Between phase) w = absurd w
 phase-within (Skipping to left) w = absurd w
 phase-within (Within o) w = refl
 
@@ -119,44 +123,54 @@ phase-within (Within o) w = refl
 abbrev Alike : State → State → Type 0
 Alike s t = (t.rest ≡ s.rest) × (phase_of t.mode ≡ phase_of s.mode)
 
-alike-give : (s t : State) (item : Item) (b : Bool) → segments.runs item ≡ b → run segments s ≡ run_give s item (run segments t) b → Keeping s (Give item t) → Alike s (run segments s).state
-alike-give s t item false e r f = (ap (λ (k : Run State Item). k.state.rest) r, ap (λ (k : Run State Item). phase_of k.state.mode) r)
+alike-give : (s t : State) (item : SegmentItem) (b : Bool) → segments.runs item ≡ b → run segments s ≡ run_give s item (run segments t) b → Keeping s (Give item t) → Alike s (run segments s).state
+alike-give s t item false e r f = (ap (λ (k : Run State SegmentItem). k.state.rest) r, ap (λ (k : Run State SegmentItem). phase_of k.state.mode) r)
 alike-give s t item true e r f =
     let q = f e in
     let h = keeps segments is_walk (Held s.rest) (held-move s.rest) t (q.1, q.2) in (
-      ap (λ (k : Run State Item). k.state.rest) r ∙ h.1,
-      ap (λ (k : Run State Item). phase_of k.state.mode) r ∙ phase-within (run segments t).state.mode h.0 ∙ sym (phase-within s.mode q.0),
+      ap (λ (k : Run State SegmentItem). k.state.rest) r ∙ h.1,
+      ap (λ (k : Run State SegmentItem). phase_of k.state.mode) r ∙ phase-within (run segments t).state.mode h.0 ∙ sym (phase-within s.mode q.0),
     )
 
-alike-at : (s : State) (m : Move State Item) → segments.move s ≡ m → IsSettled m → Keeping s m → Alike s (run segments s).state
-alike-at s Stop e d f = let r = run-step segments is_walk s ∙ ap (run_by segments s (run segments)) e in (ap (λ (k : Run State Item). k.state.rest) r, ap (λ (k : Run State Item). phase_of k.state.mode) r)
+alike-at : (s : State) (m : Move State SegmentItem) → segments.move s ≡ m → IsSettled m → Keeping s m → Alike s (run segments s).state
+alike-at s Stop e d f = let r = run-step segments is_walk s ∙ ap (run_by segments s (run segments)) e in (ap (λ (k : Run State SegmentItem). k.state.rest) r, ap (λ (k : Run State SegmentItem). phase_of k.state.mode) r)
 alike-at s (Pass t) e d f = absurd d
 alike-at s (Give item t) e d f = alike-give s t item (segments.runs item) refl (run-step segments is_walk s ∙ ap (run_by segments s (run segments)) e) f
 
 alike-run : (s : State) → IsSettled (segments.move s) → Alike s (run segments s).state
 alike-run s d = alike-at s (segments.move s) refl d (keeping s.last s.mode s.offset s.rest s.failed)
 
-alike-stands : (kept : Run State Item) (last : Option Presentation) (b : List ℕ) (n : ℕ) → Stands kept last b n → Alike (state_before last b n) kept.state
+alike-stands : (kept : Run State SegmentItem) (last : Option Presentation) (b : List ℕ) (n : ℕ) → Stands kept last b n → Alike (state_before last b n) kept.state
 alike-stands kept last b n h =
     let s : State = state_before last b n in
     let a = alike-run s (settled-at-state segments is_walk n (start last b)) in
-    (ap (λ (k : Run State Item). k.state.rest) h.is ∙ a.0, ap (λ (k : Run State Item). phase_of k.state.mode) h.is ∙ a.1)
+    (ap (λ (k : Run State SegmentItem). k.state.rest) h.is ∙ a.0, ap (λ (k : Run State SegmentItem). phase_of k.state.mode) h.is ∙ a.1)
 
-pub stands-phase : (kept : Run State Item) (last : Option Presentation) (b : List ℕ) (n : ℕ) → Stands kept last b n → phase_of kept.state.mode ≡ phase_before last b n
-stands-phase kept last b n h = (alike-stands kept last b n h).1
+pub stands-phase : (kept : Run State SegmentItem) (last : Option Presentation) (b : List ℕ) (n : ℕ) → Stands kept last b n → phase_of kept.state.mode ≡ phase_before last b n
+stands-phase kept last b n h = (alike-stands kept last b n h).1 ∙ ap (λ (v : ParserView). v.phase) (seen-boxes last b n)
 
-pub stands-held : (kept : Run State Item) (last : Option Presentation) (b : List ℕ) (n : ℕ) → Stands kept last b n → kept.state.rest ≡ held_before last b n
-stands-held kept last b n h = (alike-stands kept last b n h).0
+pub stands-held : (kept : Run State SegmentItem) (last : Option Presentation) (b : List ℕ) (n : ℕ) → Stands kept last b n → kept.state.rest ≡ held_before last b n
+stands-held kept last b n h = (alike-stands kept last b n h).0 ∙ ap (λ (v : ParserView). v.held) (seen-boxes last b n)
+
+-- the items are those that the boxes tell
+pub stands-item : (kept : Run State SegmentItem) (last : Option Presentation) (b : List ℕ) (n : ℕ) → Stands kept last b n → first_item segments kept ≡ slice_get (Items last b) n
+stands-item kept last b n h = stands-first segments is_walk kept (start last b) n h ∙ ap (λ items. slice_get items n) (items-boxes last b)
+
+pub stands-ahead : (kept : Run State SegmentItem) (last : Option Presentation) (b : List ℕ) (n i : ℕ) → i < length kept.items → Stands kept last b n → slice_get kept.items i ≡ slice_get (Items last b) (n + i)
+stands-ahead kept last b n i l h = stands-look segments is_walk kept (start last b) n i l h ∙ ap (λ items. slice_get items (n + i)) (items-boxes last b)
+
+pub stands-count : (kept : Run State SegmentItem) (last : Option Presentation) (b : List ℕ) (n : ℕ) → Stands kept last b n → length kept.items ≡ ready_before last b n
+stands-count kept last b n h = stands-ready segments is_walk kept (start last b) n h ∙ ready-boxes last b n
 
 -- ---- the presentation
 
-frame-latest : (last : Option Presentation) (item : Item) → segments.runs item ≡ true → latest_by last item ≡ last
+frame-latest : (last : Option Presentation) (item : SegmentItem) → segments.runs item ≡ true → latest_after last item ≡ last
 frame-latest last (InitItem p offset) e = not-true e
 frame-latest last (FrameItem frame offset) e = refl
 frame-latest last SegmentEnd e = refl
 frame-latest last (FaultItem f offset) e = refl
 
-last-by : (last : Option Presentation) (s : State) (m : Move State Item) → LastAfter s m → s.last ≡ last → Keeps segments (λ t. t.last ≡ last) m
+last-by : (last : Option Presentation) (s : State) (m : Move State SegmentItem) → LastAfter s m → s.last ≡ last → Keeps segments (λ t. t.last ≡ last) m
 last-by last s Stop f p = tt
 last-by last s (Pass t) f p = f ∙ p
 last-by last s (Give item t) f p = λ e. f ∙ frame-latest s.last item e ∙ p
@@ -164,15 +178,15 @@ last-by last s (Give item t) f p = λ e. f ∙ frame-latest s.last item e ∙ p
 last-run : (s : State) → (run segments s).state.last ≡ s.last
 last-run s = keeps segments is_walk (λ t. t.last ≡ s.last) (λ t p. last-by s.last t (segments.move t) (last-move t) p) s refl
 
-pub stands-latest : (kept : Run State Item) (last : Option Presentation) (b : List ℕ) (n : ℕ) → Stands kept last b n → kept.state.last ≡ latest last (take n (Items last b))
-stands-latest kept last b n h = ap (λ (k : Run State Item). k.state.last) h.is ∙ last-run (state_before last b n) ∙ state-latest n (start last b)
+pub stands-latest : (kept : Run State SegmentItem) (last : Option Presentation) (b : List ℕ) (n : ℕ) → Stands kept last b n → kept.state.last ≡ latest_after_all last (take n (Items last b))
+stands-latest kept last b n h = ap (λ (k : Run State SegmentItem). k.state.last) h.is ∙ last-run (state_before last b n) ∙ state-latest n (start last b) ∙ ap (λ items. latest_after_all last (take n items)) (items-boxes last b)
 
 -- ---- pieces
 
-pub stands-more : (kept : Run State Item) (last : Option Presentation) (b c : List ℕ) (n : ℕ) → Stands kept last b n → Stands (fed segments kept c) last (b ++ c) n
+pub stands-more : (kept : Run State SegmentItem) (last : Option Presentation) (b c : List ℕ) (n : ℕ) → Stands kept last b n → Stands (fed segments kept c) last (b ++ c) n
 stands-more kept last b c n h = stands-piece segments is_walk kept (start last b) c n h
 
-pub stands-pieces : (kept : Run State Item) (last : Option Presentation) (b : List ℕ) (n : ℕ) (cs : List (List ℕ)) → Stands kept last b n → Stands (fed_all segments kept cs) last (b ++ concat cs) n
+pub stands-pieces : (kept : Run State SegmentItem) (last : Option Presentation) (b : List ℕ) (n : ℕ) (cs : List (List ℕ)) → Stands kept last b n → Stands (fed_all segments kept cs) last (b ++ concat cs) n
 stands-pieces kept last b n [] h = rw (append-nil b) h
 stands-pieces kept last b n (c ∷ cs) h =
     subst (λ v. Stands (fed_all segments (fed segments kept c) cs) last v n) (append_assoc b c (concat cs)) (stands-pieces (fed segments kept c) last (b ++ c) n cs (stands-more kept last b c n h))
@@ -182,7 +196,7 @@ stands-pieces kept last b n (c ∷ cs) h =
 some-none : (x : List ℕ) → Some x ≡ None → ⊥
 some-none x e = cc
 
-pub idle : (last : Option Presentation) (r : Reached) (slots : List Slot) (known : List DataRange) (input : List (List ℕ)) (fed : ℕ) (o : Option Offered) (v : Streamed) → streamed last r slots known input fed o ≡ v → v.offered ≡ None → IsStream last r slots known input fed o → Holds last r slots known input fed × (streamed last r slots known input fed None ≡ v) × (o ≡ None)
+pub idle : (last : Option Presentation) (r : Progress) (slots : List Slot) (known : List DataRange) (input : List (List ℕ)) (fed : ℕ) (o : Option Offered) (v : Streamed) → streamed last r slots known input fed o ≡ v → v.offered ≡ None → IsStream last r slots known input fed o → IsStreamAtRest last r slots known input fed × (streamed last r slots known input fed None ≡ v) × (o ≡ None)
 idle last r slots known input fed None v e q h = (h, e, refl)
 idle last r slots known input fed (Some o) v e q h = absurd (some-none (pushed_last o.len input) (ap (λ (w : Streamed). w.offered) e ∙ q))
 
@@ -193,29 +207,29 @@ frames-length rest offset slots first (suc ready) h =
     rw q.1 (ap suc (frames-length rest offset slots (first + 1) ready (omega arith)))
 
 -- as many frames are kept as are counted
-pub frames-counted : (m : code.Mode) (rest : List ℕ) (offset : ℕ) (slots : List Slot) (known : List DataRange) (first ready : ℕ) → Counts m slots known first ready → length (frames rest offset slots first ready) ≡ ready
+pub frames-counted : (m : code.Mode) (rest : List ℕ) (offset : ℕ) (slots : List Slot) (known : List DataRange) (first ready : ℕ) → IsCountedIn m slots known first ready → length (frames rest offset slots first ready) ≡ ready
 frames-counted (codes.Between o) rest offset slots known first ready h = rw h refl
 frames-counted (codes.Skipping to left) rest offset slots known first ready h = rw h refl
 frames-counted (codes.Within f) rest offset slots known first ready h = frames-length rest offset slots first ready (omega (arith, h.taken, h.slots_there))
 
 -- ---- the empty string
 
-pub all-gone : (ps : List (List ℕ)) → without_front (length (concat ps)) ps ≡ []
+pub all-gone : (ps : List (List ℕ)) → pieces_without_first (length (concat ps)) ps ≡ []
 all-gone [] = refl
 all-gone (p ∷ ps) =
     let l = length-append p (concat ps) in
     let e : leb (length p) (length (p ++ concat ps)) ≡ true = grind (arith, nat_tests) in
     let z : length (p ++ concat ps) - length p ≡ length (concat ps) = omega arith in
-    ap (λ b. cond b (without_front (length (p ++ concat ps) - length p) ps) (drop (length (p ++ concat ps)) p ∷ ps)) e ∙ ap (λ n. without_front n ps) z ∙ all-gone ps
+    ap (λ b. cond b (pieces_without_first (length (p ++ concat ps) - length p) ps) (drop (length (p ++ concat ps)) p ∷ ps)) e ∙ ap (λ n. pieces_without_first n ps) z ∙ all-gone ps
 
-empty-step : (ready : Bool) → step_of ready [] (Between Nothing) ≡ step.Wait 0
+empty-step : (ready : Bool) → step_of ready [] (Between Waiting) ≡ step.Wait 0
 unfolding step_of header_of
 empty-step ready = refl
 
 start-still : (last : Option Presentation) → run segments (start last []) ≡ stay_at (start last [])
 start-still last = run-rested segments is_walk (start last []) (rw (ap (act (start last [])) (empty-step (is_some last))) tt)
 
-pub holds-start : (last : Option Presentation) (slots : List Slot) (known : List DataRange) → IsLast last → Holds last place_at_start slots known [] 0
+pub holds-start : (last : Option Presentation) (slots : List Slot) (known : List DataRange) → IsLast last → IsStreamAtRest last progress_at_start slots known [] 0
 holds-start last slots known h = record {
   rest = record {
     front = refl;
@@ -229,12 +243,12 @@ holds-start last slots known h = record {
   few = omega arith;
 }
 
-pub stands-empty : (last : Option Presentation) (slots : List Slot) (known : List DataRange) → Stands (kept_of last place_at_start slots known []) last [] 0
+pub stands-empty : (last : Option Presentation) (slots : List Slot) (known : List DataRange) → Stands (kept_of last progress_at_start slots known []) last [] 0
 stands-empty last slots known = subst (λ k. Stands k last [] 0) (start-still last) (stands-start segments is_walk (start last []))
 
 -- ---- bytes are offered
 
-none-pushed : (bytes : List ℕ) (ps : List (List ℕ)) → NoneEmpty ps → NoneEmpty (pushed bytes ps)
+none-pushed : (bytes : List ℕ) (ps : List (List ℕ)) → HasNoEmptyPiece ps → HasNoEmptyPiece (pieces_with bytes ps)
 none-pushed [] ps h = h
 none-pushed (x ∷ bytes) ps h = none-added (x ∷ bytes) ps (omega arith) h
 
@@ -242,93 +256,93 @@ drop-front : (xs ys : List ℕ) → drop (length xs) (xs ++ ys) ≡ ys
 drop-front [] ys = refl
 drop-front (x ∷ xs) ys = drop-front xs ys
 
-pushed-is-last : (bytes : List ℕ) (old new : List (List ℕ)) (len : ℕ) → len ≡ length bytes → without_back (length bytes) new ≡ old → new ≡ pushed bytes old → pushed_last len new ≡ bytes
+pushed-is-last : (bytes : List ℕ) (old new : List (List ℕ)) (len : ℕ) → len ≡ length bytes → pieces_without_last (length bytes) new ≡ old → new ≡ pieces_with bytes old → pushed_last len new ≡ bytes
 pushed-is-last bytes old new len l b e =
-    let w : without_back len new ≡ old = ap (λ n. without_back n new) l ∙ b in
+    let w : pieces_without_last len new ≡ old = ap (λ n. pieces_without_last n new) l ∙ b in
     ap (λ ps. drop (length (concat ps)) (concat new)) w ∙ ap (drop (length (concat old))) (ap concat e ∙ bytes-pushed bytes old) ∙ drop-front (concat old) bytes
 
-pub offer-view : (last : Option Presentation) (r found : Reached) (slots new_slots : List Slot) (known new_known : List DataRange) (old new : List (List ℕ)) (bytes : List ℕ) (fed len : ℕ) → len ≡ length bytes → without_back (length bytes) new ≡ old → new ≡ pushed bytes old → kept_of last r new_slots new_known (concat old) ≡ kept_of last r slots known (concat old) → streamed last r new_slots new_known new fed (Some (record { len = len; reached = found })) ≡ record { kept = kept_of last r slots known (concat old); pieces = old; fed = fed; offered = Some bytes }
+pub offer-view : (last : Option Presentation) (r found : Progress) (slots new_slots : List Slot) (known new_known : List DataRange) (old new : List (List ℕ)) (bytes : List ℕ) (fed len : ℕ) → len ≡ length bytes → pieces_without_last (length bytes) new ≡ old → new ≡ pieces_with bytes old → kept_of last r new_slots new_known (concat old) ≡ kept_of last r slots known (concat old) → streamed last r new_slots new_known new fed (Some (record { len = len; progress = found })) ≡ record { kept = kept_of last r slots known (concat old); pieces = old; fed = fed; offered = Some bytes }
 offer-view last r found slots new_slots known new_known old new bytes fed len l b e k =
-    let w : without_back len new ≡ old = ap (λ n. without_back n new) l ∙ b in
+    let w : pieces_without_last len new ≡ old = ap (λ n. pieces_without_last n new) l ∙ b in
     let p : pushed_last len new ≡ bytes = pushed-is-last bytes old new len l b e in
     let view : List (List ℕ) → List ℕ → Streamed = λ ps c. record { kept = kept_of last r new_slots new_known (concat ps); pieces = ps; fed = fed; offered = Some c } in
-    let view' : Run State Item → Streamed = λ v. record { kept = v; pieces = old; fed = fed; offered = Some bytes } in
+    let view' : Run State SegmentItem → Streamed = λ v. record { kept = v; pieces = old; fed = fed; offered = Some bytes } in
     ap (λ ps. view ps (pushed_last len new)) w ∙ ap (view old) p ∙ ap view' k
 
-pub offer-holds : (last : Option Presentation) (r found : Reached) (slots new_slots : List Slot) (known new_known : List DataRange) (old new : List (List ℕ)) (bytes : List ℕ) (fed len : ℕ) → len ≡ length bytes → without_back (length bytes) new ≡ old → new ≡ pushed bytes old → Holds last r slots known old fed → IsAtRest last r new_slots new_known (concat old) → IsFound last (kept_of last r new_slots new_known (concat old)) found new_slots new_known (concat new) bytes → IsEmptied found (drop found.from (concat new)) → fed + len < 2 ^ 62 → HoldsOffer last r new_slots new_known new fed (record { len = len; reached = found })
+pub offer-holds : (last : Option Presentation) (r found : Progress) (slots new_slots : List Slot) (known new_known : List DataRange) (old new : List (List ℕ)) (bytes : List ℕ) (fed len : ℕ) → len ≡ length bytes → pieces_without_last (length bytes) new ≡ old → new ≡ pieces_with bytes old → IsStreamAtRest last r slots known old fed → IsAtRest last r new_slots new_known (concat old) → IsFoundWith last (kept_of last r new_slots new_known (concat old)) found new_slots new_known (concat new) bytes → IsEmptied found (drop found.from (concat new)) → fed + len < 2 ^ 62 → IsStreamWithOffer last r new_slots new_known new fed (record { len = len; progress = found })
 offer-holds last r found slots new_slots known new_known old new bytes fed len l b e h rest f q room =
-    let w : without_back len new ≡ old = ap (λ n. without_back n new) l ∙ b in
+    let w : pieces_without_last len new ≡ old = ap (λ n. pieces_without_last n new) l ∙ b in
     let p : pushed_last len new ≡ bytes = pushed-is-last bytes old new len l b e in
     record {
-      before = subst (λ ps. Holds last r new_slots new_known ps fed) (sym w) (record { rest = rest; emptied = h.emptied; readable = h.readable; full = h.full; total = h.total; few = h.few });
-      is_pushed = e ∙ ap (λ c. pushed c old) (sym p) ∙ ap (pushed (pushed_last len new)) (sym w);
+      before = subst (λ ps. IsStreamAtRest last r new_slots new_known ps fed) (sym w) (record { rest = rest; emptied = h.emptied; readable = h.readable; full = h.full; total = h.total; few = h.few });
+      is_pushed = e ∙ ap (λ c. pieces_with c old) (sym p) ∙ ap (pieces_with (pushed_last len new)) (sym w);
       len = l ∙ ap length (sym p);
-      found = subst (λ ps. IsFound last (kept_of last r new_slots new_known (concat ps)) found new_slots new_known (concat new) (pushed_last len new)) (sym w) (subst (λ c. IsFound last (kept_of last r new_slots new_known (concat old)) found new_slots new_known (concat new) c) (sym p) f);
+      found = subst (λ ps. IsFoundWith last (kept_of last r new_slots new_known (concat ps)) found new_slots new_known (concat new) (pushed_last len new)) (sym w) (subst (λ c. IsFoundWith last (kept_of last r new_slots new_known (concat old)) found new_slots new_known (concat new) c) (sym p) f);
       found_emptied = q;
       room = room;
     }
 
-emptied-as : (r s : Reached) (a b : List ℕ) → s.spot ≡ r.spot → s.ready ≡ r.ready → b ≡ a → IsEmptied r a → IsEmptied s b
-emptied-as r s a b e f g h = λ q. let k = h (ap (λ (x : Spot). x.failed) (sym e) ∙ q) in (g ∙ k.0, f ∙ k.1)
+emptied-as : (r s : Progress) (a b : List ℕ) → s.position ≡ r.position → s.ready ≡ r.ready → b ≡ a → IsEmptied r a → IsEmptied s b
+emptied-as r s a b e f g h = λ q. let k = h (ap (λ (x : ParserPosition). x.failed) (sym e) ∙ q) in (g ∙ k.0, f ∙ k.1)
 
-pub accept-holds : (last : Option Presentation) (r s : Reached) (slots : List Slot) (known : List DataRange) (input new : List (List ℕ)) (fed : ℕ) (o : Offered) → HoldsOffer last r slots known input fed o → IsAtRest last s slots known (concat new) → s.spot ≡ o.reached.spot → s.ready ≡ o.reached.ready → new ≡ without_front o.reached.from input → Holds last s slots known new (fed + o.len)
+pub accept-holds : (last : Option Presentation) (r s : Progress) (slots : List Slot) (known : List DataRange) (input new : List (List ℕ)) (fed : ℕ) (o : Offered) → IsStreamWithOffer last r slots known input fed o → IsAtRest last s slots known (concat new) → s.position ≡ o.progress.position → s.ready ≡ o.progress.ready → new ≡ pieces_without_first o.progress.from input → IsStreamAtRest last s slots known new (fed + o.len)
 accept-holds last r s slots known input new fed o h rest e f g =
-    let b : concat new ≡ drop o.reached.from (concat input) = ap concat g ∙ bytes-without o.reached.from input in
-    let before = without_back o.len input in
+    let b : concat new ≡ drop o.progress.from (concat input) = ap concat g ∙ bytes-without o.progress.from input in
+    let before = pieces_without_last o.len input in
     let z : drop r.from (concat before) ≡ concat before = ap (λ n. drop n (concat before)) h.before.rest.front in
     record {
       rest = rest;
-      emptied = emptied-as o.reached s (drop o.reached.from (concat input)) (concat new) e f b h.found_emptied;
+      emptied = emptied-as o.progress s (drop o.progress.from (concat input)) (concat new) e f b h.found_emptied;
       readable = h.before.readable;
-      full = subst NoneEmpty (sym g) (none-without o.reached.from input (subst NoneEmpty (sym h.is_pushed) (none-pushed (pushed_last o.len input) before h.before.full)));
-      total = omega (arith, ap (λ (x : Spot). x.offset) e, ap length b ∙ length-drop o.reached.from (concat input), h.found.total, h.before.total, h.len, ap length z);
+      full = subst HasNoEmptyPiece (sym g) (none-without o.progress.from input (subst HasNoEmptyPiece (sym h.is_pushed) (none-pushed (pushed_last o.len input) before h.before.full)));
+      total = omega (arith, ap (λ (x : ParserPosition). x.offset) e, ap length b ∙ length-drop o.progress.from (concat input), h.found.total, h.before.total, h.len, ap length z);
       few = h.room;
     }
 
-pub accept-stands : (last : Option Presentation) (r s : Reached) (slots : List Slot) (known : List DataRange) (input new : List (List ℕ)) (fed : ℕ) (o : Offered) (v : Streamed) → streamed last r slots known input fed (Some o) ≡ v → HoldsOffer last r slots known input fed o → kept_of last s slots known (concat new) ≡ kept_of last o.reached slots known (concat input) → IfSome v.offered (λ bytes. (last' : Option Presentation) (b : List ℕ) (n : ℕ) → Stands v.kept last' b n → Stands (kept_of last s slots known (concat new)) last' (b ++ bytes) n)
+pub accept-stands : (last : Option Presentation) (r s : Progress) (slots : List Slot) (known : List DataRange) (input new : List (List ℕ)) (fed : ℕ) (o : Offered) (v : Streamed) → streamed last r slots known input fed (Some o) ≡ v → IsStreamWithOffer last r slots known input fed o → kept_of last s slots known (concat new) ≡ kept_of last o.progress slots known (concat input) → IfSome v.offered (λ bytes. (last' : Option Presentation) (b : List ℕ) (n : ℕ) → Stands v.kept last' b n → Stands (kept_of last s slots known (concat new)) last' (b ++ bytes) n)
 accept-stands last r s slots known input new fed o v e h k =
     let c = pushed_last o.len input in
-    let kept : Run State Item = kept_of last r slots known (concat (without_back o.len input)) in
+    let kept : Run State SegmentItem = kept_of last r slots known (concat (pieces_without_last o.len input)) in
     let f : (last' : Option Presentation) (b : List ℕ) (n : ℕ) → Stands kept last' b n → Stands (kept_of last s slots known (concat new)) last' (b ++ c) n = λ last' b n q. subst (λ v. Stands v last' (b ++ c) n) (sym (k ∙ h.found.same)) (stands-more kept last' b c n q) in
     subst (λ (v : Streamed). IfSome v.offered (λ bytes. (last' : Option Presentation) (b : List ℕ) (n : ℕ) → Stands v.kept last' b n → Stands (kept_of last s slots known (concat new)) last' (b ++ bytes) n)) e f
 
-pub accept-pieces : (last : Option Presentation) (r : Reached) (slots : List Slot) (known : List DataRange) (input new : List (List ℕ)) (fed from : ℕ) (o : Offered) (v : Streamed) → streamed last r slots known input fed (Some o) ≡ v → HoldsOffer last r slots known input fed o → from ≡ 0 → new ≡ without_front o.reached.from input → IfSome v.offered (λ bytes. new ≡ last_bytes (length (drop from (concat new))) (pushed bytes v.pieces))
+pub accept-pieces : (last : Option Presentation) (r : Progress) (slots : List Slot) (known : List DataRange) (input new : List (List ℕ)) (fed from : ℕ) (o : Offered) (v : Streamed) → streamed last r slots known input fed (Some o) ≡ v → IsStreamWithOffer last r slots known input fed o → from ≡ 0 → new ≡ pieces_without_first o.progress.from input → IfSome v.offered (λ bytes. new ≡ last_bytes (length (drop from (concat new))) (pieces_with bytes v.pieces))
 accept-pieces last r slots known input new fed from o v e h z g =
-    let f : new ≡ last_bytes (length (drop from (concat new))) (pushed (pushed_last o.len input) (without_back o.len input)) = dropped o.reached.from input new h.found.consistent.inside g ∙ ap (λ n. last_bytes (length (drop n (concat new))) input) (sym z) ∙ ap (last_bytes (length (drop from (concat new)))) h.is_pushed in
-    subst (λ (v : Streamed). IfSome v.offered (λ bytes. new ≡ last_bytes (length (drop from (concat new))) (pushed bytes v.pieces))) e f
+    let f : new ≡ last_bytes (length (drop from (concat new))) (pieces_with (pushed_last o.len input) (pieces_without_last o.len input)) = dropped o.progress.from input new h.found.consistent.inside g ∙ ap (λ n. last_bytes (length (drop n (concat new))) input) (sym z) ∙ ap (last_bytes (length (drop from (concat new)))) h.is_pushed in
+    subst (λ (v : Streamed). IfSome v.offered (λ bytes. new ≡ last_bytes (length (drop from (concat new))) (pieces_with bytes v.pieces))) e f
 
 -- ---- the next item
 
 -- where there is no next item, what is kept stays
-after-none : (items : List Item) (s : State) (m : Move State Item) → segments.move s ≡ m → IsRested segments m → first_by items m ≡ None → after_by segments s items ≡ record { items = items; state = s }
+after-none : (items : List SegmentItem) (s : State) (m : Move State SegmentItem) → segments.move s ≡ m → IsRested segments m → first_by items m ≡ None → after_by segments s items ≡ record { items = items; state = s }
 after-none [] s Stop e h q = ap (run_after segments s) e
 after-none [] s (Pass t) e h q = absurd h
 after-none [] s (Give item t) e h q = cc
 after-none (x ∷ items) s m e h q = cc
 
-pub dry-kept : (kept : Run State Item) (want : ℕ) → Rests kept.state want → first_item segments kept ≡ None → after_first segments kept ≡ kept
+pub dry-kept : (kept : Run State SegmentItem) (want : ℕ) → Rests kept.state want → first_item segments kept ≡ None → after_first segments kept ≡ kept
 dry-kept kept want r q = after-none kept.items kept.state (segments.move kept.state) refl (rested kept.state want r) q
 
 -- and the pieces
-pub dry-pieces : (old new : List (List ℕ)) → NoneEmpty old → concat new ≡ concat old → new ≡ last_bytes (length (concat new)) old → new ≡ old
+pub dry-pieces : (old new : List (List ℕ)) → HasNoEmptyPiece old → concat new ≡ concat old → new ≡ last_bytes (length (concat new)) old → new ≡ old
 dry-pieces old new h e p = p ∙ ap (λ (b : List ℕ). last_bytes (length b) old) e ∙ sym (all-kept old h)
 
-pub next-holds : {E : Type 0} (result : Result Next E) (last new_last : Option Presentation) (r new_r : Reached) (slots new_slots : List Slot) (known new_known : List DataRange) (input new : List (List ℕ)) (fed : ℕ) → Holds last r slots known input fed → OnOk result (IsAtRest new_last new_r new_slots new_known (concat new)) → OnOk result (IsEmptied new_r (concat new)) → IsLast new_last → OnOk result (new_r.spot.offset + length (concat new) ≤ r.spot.offset + length (concat input)) → OnOk result (new ≡ last_bytes (length (concat new)) input) → OnErr result (IsUnchanged last new_last r new_r slots new_slots known new_known input new) → Holds new_last new_r new_slots new_known new fed
+pub next-holds : {E : Type 0} (result : Result Next E) (last new_last : Option Presentation) (r new_r : Progress) (slots new_slots : List Slot) (known new_known : List DataRange) (input new : List (List ℕ)) (fed : ℕ) → IsStreamAtRest last r slots known input fed → OnOk result (IsAtRest new_last new_r new_slots new_known (concat new)) → OnOk result (IsEmptied new_r (concat new)) → IsLast new_last → OnOk result (new_r.position.offset + length (concat new) ≤ r.position.offset + length (concat input)) → OnOk result (new ≡ last_bytes (length (concat new)) input) → OnErr result (IsUnchanged last new_last r new_r slots new_slots known new_known input new) → IsStreamAtRest new_last new_r new_slots new_known new fed
 next-holds (Ok x) last new_last r new_r slots new_slots known new_known input new fed h rest emptied readable total pieces err = record {
   rest = rest;
   emptied = emptied;
   readable = readable;
-  full = subst NoneEmpty (sym pieces) (none-without (length (concat input) - length (concat new)) input h.full);
+  full = subst HasNoEmptyPiece (sym pieces) (none-without (length (concat input) - length (concat new)) input h.full);
   total = omega (arith, h.total, total);
   few = h.few;
 }
 next-holds (Err e) last new_last r new_r slots new_slots known new_known input new fed h rest emptied readable total pieces u = rw (u.same_last, u.same_place, u.same_slots, u.same_known, u.same_input) h
 
-pub next-item : {E : Type 0} (result : Result Next E) (last : Option Presentation) (r : Reached) (slots : List Slot) (known : List DataRange) (input : List (List ℕ)) (fed : ℕ) (v : Streamed) → streamed last r slots known input fed None ≡ v → (before : Option Presentation) (b : List ℕ) (n : ℕ) → Stands v.kept before b n → IfOk result (λ x. seen x ≡ first_item segments (kept_of last r slots known (concat input))) → IfOk result (λ x. seen x ≡ slice_get (Items before b) n)
-next-item (Ok x) last r slots known input fed v e before b n st g = g ∙ ap (λ (w : Streamed). first_item segments w.kept) e ∙ stands-first segments is_walk v.kept (start before b) n st
+pub next-item : {E : Type 0} (result : Result Next E) (last : Option Presentation) (r : Progress) (slots : List Slot) (known : List DataRange) (input : List (List ℕ)) (fed : ℕ) (v : Streamed) → streamed last r slots known input fed None ≡ v → (before : Option Presentation) (b : List ℕ) (n : ℕ) → Stands v.kept before b n → IfOk result (λ x. seen x ≡ first_item segments (kept_of last r slots known (concat input))) → IfOk result (λ x. seen x ≡ slice_get (Items before b) n)
+next-item (Ok x) last r slots known input fed v e before b n st g = g ∙ ap (λ (w : Streamed). first_item segments w.kept) e ∙ stands-item v.kept before b n st
 next-item (Err x) last r slots known input fed v e before b n st g = tt
 
-pub next-stands : {E : Type 0} (result : Result Next E) (last new_last : Option Presentation) (r new_r : Reached) (slots new_slots : List Slot) (known new_known : List DataRange) (input new : List (List ℕ)) (fed : ℕ) (v : Streamed) → streamed last r slots known input fed None ≡ v → (before : Option Presentation) (b : List ℕ) (n : ℕ) → Stands v.kept before b n → IfOk result (λ x. seen x ≡ first_item segments (kept_of last r slots known (concat input))) → OnOk result (kept_of new_last new_r new_slots new_known (concat new) ≡ after_first segments (kept_of last r slots known (concat input))) → IfOk result (λ x. Stands (kept_of new_last new_r new_slots new_known (concat new)) before b (count_after n (seen x)))
+pub next-stands : {E : Type 0} (result : Result Next E) (last new_last : Option Presentation) (r new_r : Progress) (slots new_slots : List Slot) (known new_known : List DataRange) (input new : List (List ℕ)) (fed : ℕ) (v : Streamed) → streamed last r slots known input fed None ≡ v → (before : Option Presentation) (b : List ℕ) (n : ℕ) → Stands v.kept before b n → IfOk result (λ x. seen x ≡ first_item segments (kept_of last r slots known (concat input))) → OnOk result (kept_of new_last new_r new_slots new_known (concat new) ≡ after_first segments (kept_of last r slots known (concat input))) → IfOk result (λ x. Stands (kept_of new_last new_r new_slots new_known (concat new)) before b (count_after n (seen x)))
 next-stands (Ok x) last new_last r new_r slots new_slots known new_known input new fed v e before b n st g k =
     let f : seen x ≡ first_item segments v.kept = g ∙ ap (λ (w : Streamed). first_item segments w.kept) e in
     let q : kept_of new_last new_r new_slots new_known (concat new) ≡ after_first segments v.kept = k ∙ ap (λ (w : Streamed). after_first segments w.kept) e in
@@ -336,16 +350,16 @@ next-stands (Ok x) last new_last r new_r slots new_slots known new_known input n
     subst (λ w. Stands w before b (count_after n (seen x))) (sym q) (subst (λ o. Stands (after_first segments v.kept) before b (count_after n o)) (sym f) a)
 next-stands (Err x) last new_last r new_r slots new_slots known new_known input new fed v e before b n st g k = tt
 
-pub next-dry : {E : Type 0} (result : Result Next E) (last new_last : Option Presentation) (r new_r : Reached) (slots new_slots : List Slot) (known new_known : List DataRange) (input new : List (List ℕ)) (fed : ℕ) (v : Streamed) → Holds last r slots known input fed → streamed last r slots known input fed None ≡ v → IfOk result (λ x. seen x ≡ first_item segments (kept_of last r slots known (concat input))) → OnOk result (kept_of new_last new_r new_slots new_known (concat new) ≡ after_first segments (kept_of last r slots known (concat input))) → OnOk result (IsAtRest new_last new_r new_slots new_known (concat new)) → OnOk result (new ≡ last_bytes (length (concat new)) input) → IfOk result (λ x. seen x ≡ None → streamed new_last new_r new_slots new_known new fed None ≡ v)
+pub next-dry : {E : Type 0} (result : Result Next E) (last new_last : Option Presentation) (r new_r : Progress) (slots new_slots : List Slot) (known new_known : List DataRange) (input new : List (List ℕ)) (fed : ℕ) (v : Streamed) → IsStreamAtRest last r slots known input fed → streamed last r slots known input fed None ≡ v → IfOk result (λ x. seen x ≡ first_item segments (kept_of last r slots known (concat input))) → OnOk result (kept_of new_last new_r new_slots new_known (concat new) ≡ after_first segments (kept_of last r slots known (concat input))) → OnOk result (IsAtRest new_last new_r new_slots new_known (concat new)) → OnOk result (new ≡ last_bytes (length (concat new)) input) → IfOk result (λ x. seen x ≡ None → streamed new_last new_r new_slots new_known new fed None ≡ v)
 next-dry (Err x) last new_last r new_r slots new_slots known new_known input new fed v h e g k rest pieces = tt
 next-dry (Ok x) last new_last r new_r slots new_slots known new_known input new fed v h e g k rest pieces = λ z.
-    let old_kept : Run State Item = kept_of last r slots known (concat input) in
-    let new_kept : Run State Item = kept_of new_last new_r new_slots new_known (concat new) in
+    let old_kept : Run State SegmentItem = kept_of last r slots known (concat input) in
+    let new_kept : Run State SegmentItem = kept_of new_last new_r new_slots new_known (concat new) in
     let y : drop r.from (concat input) ≡ concat input = ap (λ i. drop i (concat input)) h.rest.front in
     let y' : drop new_r.from (concat new) ≡ concat new = ap (λ i. drop i (concat new)) rest.front in
-    let w : Rests old_kept.state r.want = subst (λ bytes. Rests (state_of last r.spot slots known bytes) r.want) (sym y) h.rest.rests in
+    let w : Rests old_kept.state r.want = subst (λ bytes. Rests (state_of last r.position slots known bytes) r.want) (sym y) h.rest.rests in
     let same : new_kept ≡ old_kept = k ∙ dry-kept old_kept r.want w (sym g ∙ z) in
-    let bytes : concat new ≡ concat input = sym y' ∙ ap (λ (q : Run State Item). q.state.rest) same ∙ y in
+    let bytes : concat new ≡ concat input = sym y' ∙ ap (λ (q : Run State SegmentItem). q.state.rest) same ∙ y in
     let p : new ≡ input = dry-pieces input new h.full bytes pieces in
-    let view : Run State Item → List (List ℕ) → Streamed = λ q ps. record { kept = q; pieces = ps; fed = fed; offered = None } in
+    let view : Run State SegmentItem → List (List ℕ) → Streamed = λ q ps. record { kept = q; pieces = ps; fed = fed; offered = None } in
     ap (λ q. view q new) same ∙ ap (view old_kept) p ∙ e

@@ -8,12 +8,12 @@
 #![tactic(auto)]
 
 mod arms;
-mod fronts;
 mod laws;
 mod moves;
 mod next;
 mod offers;
-mod reach;
+mod pending;
+mod progress;
 mod stream;
 
 pub use laws::pieces_law;

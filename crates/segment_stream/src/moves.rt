@@ -3,57 +3,58 @@ ghost use Rattle.std.specs.List.{concat};
 ghost use Rattle.mse_base.specs.declared.track.Presentation.{Presentation};
 ghost use Rattle.bmff_fragment.specs.declared.slot.Slot.{Slot};
 ghost use Rattle.segment_walk.specs.declared.kinds.DataRange.{DataRange};
-ghost use Rattle.segment_walk.specs.Segments.{step_of, segments};
+ghost use Rattle.segment_walk.specs.Moves.{step_of, segments};
 ghost use Rattle.segment_walk.specs.Ranges.{mode_of, SeesAscending};
-ghost use Rattle.segment_stream.specs.Kept.{kept_of, run_on as runs_on, IsConsistent, IsActive, IsLast, IsMoved, IsPlan, Keeps, Ordered, Rests, Since, fragment_in, state_of, turn};
+ghost use Rattle.segment_stream.specs.Kept.{kept_of, run_on as runs_on, IsConsistent, IsActive, IsLast, IsMoveResult, IsPlan, Keeps, IsOrdered, Rests, Since, fragment_in, state_of, in_mode};
 
-use crate::reach::{Moved, Reached, Spot, Tables};
+use crate::progress::{MoveResult, ParserPosition, Progress, Tables};
 use bmff_fragment::{MoofError, Slot, read_moof};
 use input_chunks::Chunks;
-use mse_base::{OutOfMemory, Presentation};
-use segment_walk::{Begun, DataRange, Fragment, Mode, Place, Step, step};
+use mse_base::{OutOfMemory, Phase, Presentation};
+use segment_walk::{DataRange, Fragment, Mode, Place, Step, step};
 use std::alloc::Global;
 
 /// More bytes change nothing.
 pub(crate) const NEVER: u64 = u64::MAX;
 
 /// Passes over the bytes of a box that are there.
-fn pass_over(at: Reached, to: Begun, left: u64, input: &Chunks) -> Moved
+fn pass_over(at: Progress, to: Phase, left: u64, input: &Chunks) -> MoveResult
     requires inside { at.from ≤ length (concat input.now) }
     requires idle { at.ready ≡ 0 }
-    requires small { at.spot.offset + (length (concat input.now) - at.from) < 2 ^ 62 }
-    requires skipping { at.spot.mode ≡ Mode.Skipping to left }
-    requires going { at.spot.failed ≡ false }
-    ensures { (last : Option Presentation) (slots : List Slot) (known : List DataRange) → IsMoved last at slots known slots known (concat input.now) result }
+    requires small { at.position.offset + (length (concat input.now) - at.from) < 2 ^ 62 }
+    requires skipping { at.position.mode ≡ Mode.Skipping to left }
+    requires going { at.position.failed ≡ false }
+    ensures { (last : Option Presentation) (slots : List Slot) (known : List DataRange) →
+        IsMoveResult last at slots known slots known (concat input.now) result }
 {
     let there = (input.len() - at.from) as u64;
     if there == 0 && left > 0 {
-        return Moved::Rest(0);
+        return MoveResult::Rest(0);
     }
     if there < left {
-        let spot = Spot {
+        let position = ParserPosition {
             mode: Mode::Skipping {
                 to,
                 left: left - there,
             },
-            offset: at.spot.offset + there,
+            offset: at.position.offset + there,
             failed: false,
         };
-        return Moved::Go(Reached {
-            spot,
+        return MoveResult::Go(Progress {
+            position,
             from: input.len(),
             first: at.first,
             ready: at.ready,
             want: 0,
         });
     }
-    let spot = Spot {
+    let position = ParserPosition {
         mode: Mode::Between(to),
-        offset: at.spot.offset + left,
+        offset: at.position.offset + left,
         failed: false,
     };
-    Moved::Go(Reached {
-        spot,
+    MoveResult::Go(Progress {
+        position,
         from: at.from + left as usize,
         first: at.first,
         ready: at.ready,
@@ -72,7 +73,7 @@ fn plan(
     requires inside { from + len ≤ length (concat input.now) }
     requires readable { IsLast last.now }
     ensures plan { IfOk result (IsPlan last.now (take len (drop from (concat input.now)))) }
-    ensures ordered { IfOk result (λ found. IfSome found (λ slots. All Ordered slots.items)) }
+    ensures ordered { IfOk result (λ found. IfSome found (λ slots. All IsOrdered slots.items)) }
 {
     let Some(last) = last else {
         return Ok(None);
@@ -108,17 +109,18 @@ fn fragment(mode: Mode) -> Fragment
 /// What the parser does next at a place.
 pub(crate) fn next_step(
     last: &Option<Presentation>,
-    at: Reached,
+    at: Progress,
     tables: &Tables,
     input: &Chunks,
 ) -> Step
     requires inside { at.from ≤ length (concat input.now) }
-    requires ascending { SeesAscending at.spot.mode tables.now.known.items }
-    ensures { result ≡ step_of (is_some last.now) (drop at.from (concat input.now)) (mode_of tables.now.slots.items tables.now.known.items at.spot.mode) }
+    requires ascending { SeesAscending at.position.mode tables.now.known.items }
+    ensures { result ≡ step_of (is_some last.now) (drop at.from (concat input.now)) (mode_of
+        tables.now.slots.items tables.now.known.items at.position.mode) }
 {
     step(
         last.is_some(),
-        at.spot.mode,
+        at.position.mode,
         tables.slots.as_slice(),
         tables.known.as_slice(),
         input,
@@ -127,16 +129,16 @@ pub(crate) fn next_step(
 }
 
 /// The same place, in another mode.
-fn turned(at: Reached, mode: Mode) -> Reached
-    ensures { result ≡ turn at mode }
+fn in_mode(at: Progress, mode: Mode) -> Progress
+    ensures { result ≡ in_mode at mode }
 {
-    let spot = Spot {
+    let position = ParserPosition {
         mode,
-        offset: at.spot.offset,
+        offset: at.position.offset,
         failed: false,
     };
-    Reached {
-        spot,
+    Progress {
+        position,
         from: at.from,
         first: at.first,
         ready: at.ready,
@@ -148,24 +150,27 @@ fn turned(at: Reached, mode: Mode) -> Reached
 fn act_on(
     alloc: Global,
     last: &Option<Presentation>,
-    at: Reached,
+    at: Progress,
     tables: &mut Tables,
     input: &Chunks,
-) -> Result<Moved, OutOfMemory>
-    requires consistent { IsConsistent at tables.old.slots.items tables.old.known.items (concat input.now) }
+) -> Result<MoveResult, OutOfMemory>
+    requires consistent { IsConsistent at tables.old.slots.items tables.old.known.items (concat
+        input.now) }
     requires readable { IsLast last.now }
-    requires going { at.spot.failed ≡ false }
-    requires active { IsActive at.spot.mode }
-    ensures ok { IfOk result (IsMoved last.now at tables.old.slots.items tables.old.known.items tables.new.slots.items tables.new.known.items (concat input.now)) }
-    ensures err { OnErr result (Keeps at.spot.mode tables.old.slots.items tables.old.known.items tables.new.slots.items tables.new.known.items) }
+    requires going { at.position.failed ≡ false }
+    requires active { IsActive at.position.mode }
+    ensures ok { IfOk result (IsMoveResult last.now at tables.old.slots.items tables.old.known.items
+        tables.new.slots.items tables.new.known.items (concat input.now)) }
+    ensures err { OnErr result (Keeps at.position.mode tables.old.slots.items tables.old.known.items
+        tables.new.slots.items tables.new.known.items) }
 {
-    let open = fragment(at.spot.mode);
+    let open = fragment(at.position.mode);
     match next_step(last, at, tables, input) {
-        Step::Wait(want) => Ok(Moved::Rest(want)),
-        Step::Skip { to, len } => Ok(Moved::Go(turned(at, Mode::Skipping { to, left: len }))),
+        Step::Wait(want) => Ok(MoveResult::Rest(want)),
+        Step::Skip { to, len } => Ok(MoveResult::Go(in_mode(at, Mode::Skipping { to, left: len }))),
         Step::ReadMoof(len) => {
             let Some(slots) = plan(alloc, last, at.from, len as usize, input)? else {
-                return Ok(Moved::Rest(NEVER));
+                return Ok(MoveResult::Rest(NEVER));
             };
             tables.slots = slots;
             tables.known.clear();
@@ -175,13 +180,13 @@ fn act_on(
                 end: 0,
                 place: Place::AtBox(len),
             };
-            let spot = Spot {
+            let position = ParserPosition {
                 mode: Mode::Within(opened),
-                offset: at.spot.offset,
+                offset: at.position.offset,
                 failed: false,
             };
-            Ok(Moved::Go(Reached {
-                spot,
+            Ok(MoveResult::Go(Progress {
+                position,
                 from: at.from,
                 first: 0,
                 ready: 0,
@@ -197,7 +202,7 @@ fn act_on(
                 end,
                 place: Place::InData(end),
             };
-            Ok(Moved::Go(turned(at, Mode::Within(entered))))
+            Ok(MoveResult::Go(in_mode(at, Mode::Within(entered))))
         }
         Step::NextBox(place) => {
             let passed = Fragment {
@@ -206,7 +211,7 @@ fn act_on(
                 end: open.end,
                 place: Place::AtBox(place),
             };
-            Ok(Moved::Go(turned(at, Mode::Within(passed))))
+            Ok(MoveResult::Go(in_mode(at, Mode::Within(passed))))
         }
         Step::GiveFrame(_) => {
             let given = Fragment {
@@ -215,22 +220,22 @@ fn act_on(
                 end: open.end,
                 place: open.place,
             };
-            let spot = Spot {
+            let position = ParserPosition {
                 mode: Mode::Within(given),
-                offset: at.spot.offset,
+                offset: at.position.offset,
                 failed: false,
             };
-            Ok(Moved::Go(Reached {
-                spot,
+            Ok(MoveResult::Go(Progress {
+                position,
                 from: at.from,
                 first: at.first,
                 ready: at.ready + 1,
                 want: 0,
             }))
         }
-        Step::ReadInit(_) => Ok(Moved::Rest(NEVER)),
-        Step::EndSegment(_) => Ok(Moved::Rest(NEVER)),
-        Step::Fail(_, _) => Ok(Moved::Rest(NEVER)),
+        Step::ReadInit(_) => Ok(MoveResult::Rest(NEVER)),
+        Step::EndSegment(_) => Ok(MoveResult::Rest(NEVER)),
+        Step::Fail(_, _) => Ok(MoveResult::Rest(NEVER)),
     }
 }
 
@@ -239,19 +244,22 @@ fn act_on(
 fn move_on(
     alloc: Global,
     last: &Option<Presentation>,
-    at: Reached,
+    at: Progress,
     tables: &mut Tables,
     input: &Chunks,
-) -> Result<Moved, OutOfMemory>
-    requires consistent { IsConsistent at tables.old.slots.items tables.old.known.items (concat input.now) }
+) -> Result<MoveResult, OutOfMemory>
+    requires consistent { IsConsistent at tables.old.slots.items tables.old.known.items (concat
+        input.now) }
     requires readable { IsLast last.now }
-    ensures ok { IfOk result (IsMoved last.now at tables.old.slots.items tables.old.known.items tables.new.slots.items tables.new.known.items (concat input.now)) }
-    ensures err { OnErr result (Keeps at.spot.mode tables.old.slots.items tables.old.known.items tables.new.slots.items tables.new.known.items) }
+    ensures ok { IfOk result (IsMoveResult last.now at tables.old.slots.items tables.old.known.items
+        tables.new.slots.items tables.new.known.items (concat input.now)) }
+    ensures err { OnErr result (Keeps at.position.mode tables.old.slots.items tables.old.known.items
+        tables.new.slots.items tables.new.known.items) }
 {
-    if at.spot.failed {
-        return Ok(Moved::Rest(NEVER));
+    if at.position.failed {
+        return Ok(MoveResult::Rest(NEVER));
     }
-    match at.spot.mode {
+    match at.position.mode {
         Mode::Skipping { to, left } => Ok(pass_over(at, to, left, input)),
         Mode::Between(_) => act_on(alloc, last, at, tables, input),
         Mode::Within(_) => act_on(alloc, last, at, tables, input),
@@ -262,34 +270,42 @@ fn move_on(
 pub(crate) fn run_on(
     alloc: Global,
     last: &Option<Presentation>,
-    start: Reached,
+    start: Progress,
     tables: &mut Tables,
     input: &Chunks,
-) -> Result<Reached, OutOfMemory>
-    requires consistent { IsConsistent start tables.old.slots.items tables.old.known.items (concat input.now) }
+) -> Result<Progress, OutOfMemory>
+    requires consistent { IsConsistent start tables.old.slots.items tables.old.known.items (concat
+        input.now) }
     requires readable { IsLast last.now }
-    ensures same { IfOk result (λ r. kept_of last.now r tables.new.slots.items tables.new.known.items (concat input.now) ≡ runs_on (kept_of last.now start tables.old.slots.items tables.old.known.items (concat input.now))) }
-    ensures consistent { IfOk result (λ r. IsConsistent r tables.new.slots.items tables.new.known.items (concat input.now)) }
-    ensures since { IfOk result (λ r. Since start.spot.mode r.spot.mode tables.old.slots.items tables.old.known.items tables.new.slots.items tables.new.known.items) }
-    ensures total { IfOk result (λ r. r.spot.offset + (length (concat input.now) - r.from) ≡ start.spot.offset + (length (concat input.now) - start.from)) }
-    ensures going { IfOk result (λ r. r.spot.failed ≡ start.spot.failed) }
-    ensures rests { IfOk result (λ r. Rests (state_of last.now r.spot tables.new.slots.items tables.new.known.items (drop r.from (concat input.now))) r.want) }
-    ensures err { OnErr result (Keeps start.spot.mode tables.old.slots.items tables.old.known.items tables.new.slots.items tables.new.known.items) }
+    ensures same { IfOk result (λ r. kept_of last.now r tables.new.slots.items
+        tables.new.known.items (concat input.now) ≡ runs_on (kept_of last.now start
+        tables.old.slots.items tables.old.known.items (concat input.now))) }
+    ensures consistent { IfOk result (λ r. IsConsistent r tables.new.slots.items
+        tables.new.known.items (concat input.now)) }
+    ensures since { IfOk result (λ r. Since start.position.mode r.position.mode
+        tables.old.slots.items tables.old.known.items tables.new.slots.items tables.new.known.items) }
+    ensures total { IfOk result (λ r. r.position.offset + (length (concat input.now) - r.from) ≡
+        start.position.offset + (length (concat input.now) - start.from)) }
+    ensures going { IfOk result (λ r. r.position.failed ≡ start.position.failed) }
+    ensures rests { IfOk result (λ r. Rests (state_of last.now r.position tables.new.slots.items
+        tables.new.known.items (drop r.from (concat input.now))) r.want) }
+    ensures err { OnErr result (Keeps start.position.mode tables.old.slots.items
+        tables.old.known.items tables.new.slots.items tables.new.known.items) }
 {
     let mut at = start;
     'moves: loop {
         let moved = move_on(alloc, last, at, tables, input)?;
         match moved {
-            Moved::Rest(want) => {
-                return Ok(Reached {
-                    spot: at.spot,
+            MoveResult::Rest(want) => {
+                return Ok(Progress {
+                    position: at.position,
                     from: at.from,
                     first: at.first,
                     ready: at.ready,
                     want,
                 });
             }
-            Moved::Go(next) => at = next,
+            MoveResult::Go(next) => at = next,
         }
     }
 }

@@ -2,21 +2,23 @@ ghost use Rattle.std.specs.Prelude.{◌≡◌, ℕ, ◌+◌, ◌-◌, ◌<◌, �
 ghost use Rattle.std.specs.List.{concat};
 ghost use Rattle.mse_base.specs.declared.track.Presentation.{Presentation};
 ghost use Rattle.parser_loop.specs.Walk.{count_after};
-ghost use Rattle.input_chunks.specs.Pieces.{pushed};
+ghost use Rattle.input_chunks.specs.Pieces.{pieces_with};
 ghost use Rattle.segment_walk.specs.declared.kinds.DataRange.{DataRange};
 ghost use Rattle.bmff_fragment.specs.declared.slot.Slot.{Slot};
 ghost use Rattle.segment_walk.specs.Ranges.{mode_of};
-ghost use Rattle.segment_walk.specs.Strings.{Items, phase_before, ready_before, held_before, latest, phase_of, phase_begun as phase_of_begun};
-ghost use Rattle.segment_stream.specs.Kept.{place_at_start};
+ghost use Rattle.segment_walk.specs.Segments.{Items, phase_before, ready_before, held_before};
+ghost use Rattle.parser_loop.specs.Items.{latest_after_all};
+ghost use Rattle.segment_walk.specs.Strings.{phase_of};
+ghost use Rattle.segment_stream.specs.Kept.{progress_at_start};
 
 use crate::arms::next_on;
-use crate::fronts::{front_on, look_frame, shown};
 use crate::next::Next;
 use crate::offers::{accept_on, offer_on};
-use crate::reach::{Reached, Spot, Tables};
+use crate::pending::{look_frame, pending_item, shown};
+use crate::progress::{ParserPosition, Progress, Tables};
 use input_chunks::Chunks;
 use mse_base::{OutOfMemory, Phase, Presentation};
-use segment_walk::{Begun, Mode};
+use segment_walk::Mode;
 use std::alloc::Global;
 use std::marker::Model;
 
@@ -24,7 +26,7 @@ use std::marker::Model;
 #[derive(Clone, Copy, Debug)]
 pub(crate) struct Offered {
     pub(crate) len: usize,
-    pub(crate) reached: Reached,
+    pub(crate) progress: Progress,
 }
 
 /// A string of initialization and media segments that comes in pieces, by its items.
@@ -36,7 +38,7 @@ pub(crate) struct Offered {
 pub struct Stream {
     alloc: Global,
     last: Option<Presentation>,
-    reached: Reached,
+    progress: Progress,
     tables: Tables,
     input: Chunks,
     fed: u64,
@@ -48,22 +50,24 @@ impl Model for Stream {
 
     ghost Value = { Streamed };
 
-    ghost view = { λ s. streamed s.last s.reached s.tables.slots.items s.tables.known.items s.input s.fed s.offered };
+    ghost view = { λ s. streamed s.last s.progress s.tables.slots.items s.tables.known.items s.input
+        s.fed s.offered };
 
-    ghost invariant = { λ s. IsStream s.last s.reached s.tables.slots.items s.tables.known.items s.input s.fed s.offered };
+    ghost invariant = { λ s. IsStream s.last s.progress s.tables.slots.items s.tables.known.items
+        s.input s.fed s.offered };
 }
 
 /// The place before a string.
-fn start() -> Reached
-    ensures { result ≡ place_at_start }
+fn start() -> Progress
+    ensures { result ≡ progress_at_start }
 {
-    let spot = Spot {
-        mode: Mode::Between(Begun::Nothing),
+    let position = ParserPosition {
+        mode: Mode::Between(Phase::Waiting),
         offset: 0,
         failed: false,
     };
-    Reached {
-        spot,
+    Progress {
+        position,
         from: 0,
         first: 0,
         ready: 0,
@@ -72,38 +76,30 @@ fn start() -> Reached
 }
 
 /// Lets go of the string.
-fn restart(reached: &mut Reached, input: &mut Chunks)
-    ensures reached { reached.new ≡ place_at_start }
+fn restart(progress: &mut Progress, input: &mut Chunks)
+    ensures progress { progress.new ≡ progress_at_start }
     ensures input { input.new ≡ [] }
 {
     let all = input.len();
     input.drop_front(all);
-    *reached = start();
-}
-
-fn phase_begun(begun: Begun) -> Phase
-    ensures { result ≡ phase_of_begun begun }
-{
-    match begun {
-        Begun::Nothing => Phase::Waiting,
-        Begun::InitSegment => Phase::InInit,
-        Begun::MediaSegment => Phase::InMedia,
-    }
+    *progress = start();
 }
 
 fn phase_in(mode: Mode) -> Phase
-    ensures { (slots : List Slot) (known : List DataRange) → result ≡ phase_of (mode_of slots known mode) }
+    ensures { (slots : List Slot) (known : List DataRange) → result ≡ phase_of (mode_of slots known
+        mode) }
 {
     match mode {
-        Mode::Between(begun) => phase_begun(begun),
-        Mode::Skipping { to, .. } => phase_begun(to),
+        Mode::Between(phase) => phase,
+        Mode::Skipping { to, .. } => to,
         Mode::Within(_) => Phase::InMedia,
     }
 }
 
 impl Stream {
-    ghost use Rattle.segment_stream.specs.Kept.{seen, last_bytes, last_shown};
+    ghost use Rattle.segment_stream.specs.Kept.{seen, last_bytes};
     ghost use Rattle.segment_stream.specs.Streams.{Stands};
+    ghost use Rattle.parser_loop.specs.Items.{latest_after_any};
 
     /// A stream of the empty string, with no presentation from before.
     pub fn new(alloc: Global) -> Stream
@@ -116,7 +112,7 @@ impl Stream {
         Stream {
             alloc,
             last: None,
-            reached: start(),
+            progress: start(),
             tables: Tables {
                 slots: Vec::new(alloc),
                 known: Vec::new(alloc),
@@ -132,7 +128,8 @@ impl Stream {
     pub fn input(&self) -> &Chunks
         requires { self.now.offered ≡ None }
         ensures pieces { result.now ≡ self.now.pieces }
-        ensures held { (last : Option Presentation) (b : List ℕ) (n : ℕ) → Stands self.now.kept last b n → concat result.now ≡ held_before last b n }
+        ensures held { (last : Option Presentation) (b : List ℕ) (n : ℕ) → Stands self.now.kept last
+            b n → concat result.now ≡ held_before last b n }
     {
         &self.input
     }
@@ -141,35 +138,59 @@ impl Stream {
     pub fn offer(&mut self, bytes: &[u8]) -> Result<(), OutOfMemory>
         requires idle { self.old.offered ≡ None }
         requires room { self.old.fed + length bytes.now < 2 ^ 62 }
-        ensures ok { OnOk result (self.new ≡ record { kept = self.old.kept; pieces = self.old.pieces; fed = self.old.fed; offered = Some bytes.now }) }
+        ensures ok { OnOk result (self.new ≡ record {
+          kept = self.old.kept;
+          pieces = self.old.pieces;
+          fed = self.old.fed;
+          offered = Some bytes.now;
+        }) }
+        ensures err { OnErr result (self.new ≡ self.old) }
+    {
+        let mut copy = Vec::new(self.alloc);
+        copy.extend_from_slice(bytes)?;
+        self.offer_vec(copy)
+    }
+
+    /// As `offer` of the same bytes, whose memory the input takes over where they become a piece of their own.
+    pub fn offer_vec(&mut self, bytes: Vec<u8>) -> Result<(), OutOfMemory>
+        requires idle { self.old.offered ≡ None }
+        requires room { self.old.fed + length bytes.items < 2 ^ 62 }
+        ensures ok { OnOk result (self.new ≡ record {
+          kept = self.old.kept;
+          pieces = self.old.pieces;
+          fed = self.old.fed;
+          offered = Some bytes.items;
+        }) }
         ensures err { OnErr result (self.new ≡ self.old) }
     {
         let len = bytes.len();
-        let reached = offer_on(
+        let progress = offer_on(
             self.alloc,
             &self.last,
-            self.reached,
+            self.progress,
             &mut self.tables,
             &mut self.input,
             bytes,
         )?;
-        self.offered = Some(Offered { len, reached });
+        self.offered = Some(Offered { len, progress });
         Ok(())
     }
 
     /// Appends the bytes that are offered to the string.
     pub fn accept(&mut self)
         requires { IsSome self.old.offered }
-        ensures stands { IfSome self.old.offered (λ bytes. (last : Option Presentation) (b : List ℕ) (n : ℕ) → Stands self.old.kept last b n → Stands self.new.kept last (b ++ bytes) n) }
+        ensures stands { IfSome self.old.offered (λ bytes. (last : Option Presentation) (b : List ℕ)
+            (n : ℕ) → Stands self.old.kept last b n → Stands self.new.kept last (b ++ bytes) n) }
         ensures last { self.new.kept.state.last ≡ self.old.kept.state.last }
-        ensures pieces { IfSome self.old.offered (λ bytes. self.new.pieces ≡ last_bytes (length self.new.kept.state.rest) (pushed bytes self.old.pieces)) }
+        ensures pieces { IfSome self.old.offered (λ bytes. self.new.pieces ≡ last_bytes (length
+            self.new.kept.state.rest) (pieces_with bytes self.old.pieces)) }
         ensures fed { IfSome self.old.offered (λ bytes. self.new.fed ≡ self.old.fed + length bytes) }
         ensures idle { self.new.offered ≡ None }
     {
         let Some(offered) = self.offered else {
             return;
         };
-        self.reached = accept_on(offered.reached, &mut self.input);
+        self.progress = accept_on(offered.progress, &mut self.input);
         self.fed += offered.len as u64;
         self.offered = None;
     }
@@ -177,7 +198,12 @@ impl Stream {
     /// Forgets the bytes that are offered.
     pub fn decline(&mut self)
         requires { IsSome self.old.offered }
-        ensures { self.new ≡ record { kept = self.old.kept; pieces = self.old.pieces; fed = self.old.fed; offered = None } }
+        ensures { self.new ≡ record {
+          kept = self.old.kept;
+          pieces = self.old.pieces;
+          fed = self.old.fed;
+          offered = None;
+        } }
     {
         let Some(offered) = self.offered else {
             return;
@@ -190,9 +216,11 @@ impl Stream {
     pub fn feed(&mut self, bytes: &[u8]) -> Result<(), OutOfMemory>
         requires idle { self.old.offered ≡ None }
         requires room { self.old.fed + length bytes.now < 2 ^ 62 }
-        ensures stands { OnOk result ((last : Option Presentation) (b : List ℕ) (n : ℕ) → Stands self.old.kept last b n → Stands self.new.kept last (b ++ bytes.now) n) }
+        ensures stands { OnOk result ((last : Option Presentation) (b : List ℕ) (n : ℕ) → Stands
+            self.old.kept last b n → Stands self.new.kept last (b ++ bytes.now) n) }
         ensures last { OnOk result (self.new.kept.state.last ≡ self.old.kept.state.last) }
-        ensures pieces { OnOk result (self.new.pieces ≡ last_bytes (length self.new.kept.state.rest) (pushed bytes.now self.old.pieces)) }
+        ensures pieces { OnOk result (self.new.pieces ≡ last_bytes (length self.new.kept.state.rest)
+            (pieces_with bytes.now self.old.pieces)) }
         ensures fed { OnOk result (self.new.fed ≡ self.old.fed + length bytes.now) }
         ensures idle { self.new.offered ≡ None }
         ensures err { OnErr result (self.new ≡ self.old) }
@@ -207,29 +235,34 @@ impl Stream {
     pub fn look(&self, i: usize) -> Result<Next, OutOfMemory>
         requires idle { self.now.offered ≡ None }
         requires ready { (i ≡ 0) ⊎ (i < length self.now.kept.items) }
-        ensures { (last : Option Presentation) (b : List ℕ) (n : ℕ) → Stands self.now.kept last b n → IfOk result (λ next. seen next ≡ slice_get (Items last b) (n + i)) }
+        ensures { (last : Option Presentation) (b : List ℕ) (n : ℕ) → Stands self.now.kept last b n
+            → IfOk result (λ next. seen next ≡ slice_get (Items last b) (n + i)) }
     {
-        if i < self.reached.ready {
-            return look_frame(&self.reached, &self.tables, &self.input, i);
+        if i < self.progress.ready {
+            return look_frame(&self.progress, &self.tables, &self.input, i);
         }
-        let front = front_on(
+        let front = pending_item(
             self.alloc,
             &self.last,
-            &self.reached,
+            &self.progress,
             &self.tables,
             &self.input,
         )?;
-        Ok(shown(front, self.reached.spot.offset))
+        Ok(shown(front, self.progress.position.offset))
     }
 
     /// The next item, or `Dry` exactly where the string gives none; then nothing changes. After a fault the
     /// string gives none until the next reset. An `Err` changes nothing.
     pub fn next(&mut self) -> Result<Next, OutOfMemory>
         requires { self.old.offered ≡ None }
-        ensures item { (last : Option Presentation) (b : List ℕ) (n : ℕ) → Stands self.old.kept last b n → IfOk result (λ next. seen next ≡ slice_get (Items last b) n) }
-        ensures stands { (last : Option Presentation) (b : List ℕ) (n : ℕ) → Stands self.old.kept last b n → IfOk result (λ next. Stands self.new.kept last b (count_after n (seen next))) }
-        ensures last { IfOk result (λ next. self.new.kept.state.last ≡ last_shown self.old.kept.state.last (seen next)) }
-        ensures pieces { OnOk result (self.new.pieces ≡ last_bytes (length self.new.kept.state.rest) self.old.pieces) }
+        ensures item { (last : Option Presentation) (b : List ℕ) (n : ℕ) → Stands self.old.kept last
+            b n → IfOk result (λ next. seen next ≡ slice_get (Items last b) n) }
+        ensures stands { (last : Option Presentation) (b : List ℕ) (n : ℕ) → Stands self.old.kept
+            last b n → IfOk result (λ next. Stands self.new.kept last b (count_after n (seen next))) }
+        ensures last { IfOk result (λ next. self.new.kept.state.last ≡ latest_after_any
+            self.old.kept.state.last (seen next)) }
+        ensures pieces { OnOk result (self.new.pieces ≡ last_bytes (length self.new.kept.state.rest)
+            self.old.pieces) }
         ensures fed { OnOk result (self.new.fed ≡ self.old.fed) }
         ensures idle { self.new.offered ≡ None }
         ensures dry { IfOk result (λ next. seen next ≡ None → self.new ≡ self.old) }
@@ -238,7 +271,7 @@ impl Stream {
         next_on(
             self.alloc,
             &mut self.last,
-            &mut self.reached,
+            &mut self.progress,
             &mut self.tables,
             &mut self.input,
         )
@@ -248,25 +281,28 @@ impl Stream {
     pub fn phase(&self) -> Phase
         requires { self.now.offered ≡ None }
         ensures kept { result ≡ phase_of self.now.kept.state.mode }
-        ensures phase { (last : Option Presentation) (b : List ℕ) (n : ℕ) → Stands self.now.kept last b n → result ≡ phase_before last b n }
+        ensures phase { (last : Option Presentation) (b : List ℕ) (n : ℕ) → Stands self.now.kept
+            last b n → result ≡ phase_before last b n }
     {
-        phase_in(self.reached.spot.mode)
+        phase_in(self.progress.position.mode)
     }
 
     /// How many of the next items are coded frames, up to the first that is none.
     pub fn ready_frames(&self) -> usize
         requires { self.now.offered ≡ None }
         ensures kept { result ≡ length self.now.kept.items }
-        ensures ready { (last : Option Presentation) (b : List ℕ) (n : ℕ) → Stands self.now.kept last b n → result ≡ ready_before last b n }
+        ensures ready { (last : Option Presentation) (b : List ℕ) (n : ℕ) → Stands self.now.kept
+            last b n → result ≡ ready_before last b n }
     {
-        self.reached.ready
+        self.progress.ready
     }
 
     /// How many bytes are kept.
     pub fn held_len(&self) -> usize
         requires { self.now.offered ≡ None }
         ensures kept { result ≡ length self.now.kept.state.rest }
-        ensures held { (last : Option Presentation) (b : List ℕ) (n : ℕ) → Stands self.now.kept last b n → result ≡ length (held_before last b n) }
+        ensures held { (last : Option Presentation) (b : List ℕ) (n : ℕ) → Stands self.now.kept last
+            b n → result ≡ length (held_before last b n) }
     {
         self.input.len()
     }
@@ -276,13 +312,14 @@ impl Stream {
     pub fn reset(&mut self)
         requires { self.old.offered ≡ None }
         ensures stands { Stands self.new.kept self.old.kept.state.last [] 0 }
-        ensures latest { (last : Option Presentation) (b : List ℕ) (n : ℕ) → Stands self.old.kept last b n → Stands self.new.kept (latest last (take n (Items last b))) [] 0 }
+        ensures latest { (last : Option Presentation) (b : List ℕ) (n : ℕ) → Stands self.old.kept
+            last b n → Stands self.new.kept (latest_after_all last (take n (Items last b))) [] 0 }
         ensures last { self.new.kept.state.last ≡ self.old.kept.state.last }
         ensures pieces { self.new.pieces ≡ [] }
         ensures fed { self.new.fed ≡ 0 }
         ensures idle { self.new.offered ≡ None }
     {
-        restart(&mut self.reached, &mut self.input);
+        restart(&mut self.progress, &mut self.input);
         self.fed = 0;
     }
 
@@ -295,7 +332,7 @@ impl Stream {
         ensures fed { self.new.fed ≡ 0 }
         ensures idle { self.new.offered ≡ None }
     {
-        restart(&mut self.reached, &mut self.input);
+        restart(&mut self.progress, &mut self.input);
         self.last = None;
         self.fed = 0;
     }

@@ -1,5 +1,7 @@
 pub mod Heads
 pub mod Lying
-pub mod Slots
 pub mod WalkLaws
 pub mod Latest
+pub mod Ordered
+pub mod Places
+pub mod Boxes

@@ -4,7 +4,7 @@ use Rattle.std.proofs.lemmas.Bool.Decides.{nat_tests}
 use Rattle.std.proofs.lemmas.Bool.{cases_lt}
 use Rattle.bmff_fragment.specs.declared.slot.Slot.{Slot}
 use Rattle.segment_walk.specs.declared.kinds.DataRange.{DataRange}
-use Rattle.segment_walk.specs.Segments.{lies_in}
+use Rattle.segment_walk.specs.Moves.{lies_in}
 use Rattle.segment_walk.specs.Ranges.{IsAscending}
 
 or-true : (a b : Bool) → b ≡ true → (a || b) ≡ true

@@ -14,24 +14,26 @@ use Rattle.bmff_init.specs.Movies.{init_of}
 use Rattle.bmff_fragment.specs.declared.fault.MoofFault.{MoofFault}
 use Rattle.bmff_fragment.specs.declared.slot.Slot.{Slot}
 use Rattle.bmff_fragment.specs.Plans.{plan_of}
+use Rattle.bmff_fragment.proofs.Counts.{plan-length}
 use Rattle.parser_loop.specs.Walk.{Move, Stop, Pass, Give, IsWalk}
 use Rattle.segment_walk.specs.declared.kinds.StreamFault.{StreamFault}
 use Rattle.segment_walk.specs.declared.kinds.StreamFault.TheVariants as fault
 use Rattle.segment_walk.specs.declared.kinds.TopLevelBox.{TopLevelBox}
 use Rattle.segment_walk.specs.declared.kinds.TopLevelBox.TheVariants.{FileType, SegmentType, Movie, MovieFragment, MediaData, Other}
-use Rattle.segment_walk.specs.declared.kinds.Begun.{Begun}
-use Rattle.segment_walk.specs.declared.kinds.Begun.TheVariants.{Nothing, InitSegment, MediaSegment}
+use Rattle.mse_base.specs.declared.frame.Phase.{Phase}
+use Rattle.mse_base.specs.declared.frame.Phase.TheVariants.{Waiting, InInit, InMedia}
 use Rattle.segment_walk.specs.declared.kinds.Place.{Place}
 use Rattle.segment_walk.specs.declared.kinds.Place.TheVariants.{AtBox, InData}
 use Rattle.segment_walk.specs.declared.kinds.Step.{Step}
 use Rattle.segment_walk.specs.declared.kinds.Step.TheVariants as step
-use Rattle.segment_walk.specs.Segments.{Item, box_type, Open, Mode, Between, Skipping, Within, State, once, place_fault, most_of, take_box, judge_between, box_between, judge_within, box_within, data_end, place_step, lies_in, slot_step, step_of, initialized, opened, planned, open_of, act, pass_byte, mode_move, move_unless, walked, place_size, size_by, size_unless, more_unless, is_fault, segments}
-use Rattle.segment_walk.proofs.Slots.{few}
+use Rattle.segment_walk.specs.Tables.{SegmentItem, box_type, greatest_size}
+use Rattle.segment_walk.specs.Moves.{Open, Mode, Between, Skipping, Within, State, once, place_fault, take_box, judge_between, box_between, judge_within, box_within, data_end, place_step, lies_in, slot_step, step_of, initialized, opened, planned, open_of, act, pass_byte, mode_move, move_unless, walked, place_size, size_by, size_unless, more_unless, segments}
+use Rattle.parser_loop.specs.Items.{is_fault}
 
 -- ---- what a step may be, where n bytes are there
 
 abbrev pub IsBetween : Mode → Type 0
-IsBetween (Between begun) = Unit {0}
+IsBetween (Between phase) = Unit {0}
 IsBetween (Skipping to left) = ⊥
 IsBetween (Within o) = ⊥
 
@@ -40,12 +42,12 @@ abbrev ahead : ℕ → Place → ℕ
 ahead n p = 1048580 * (n - walked p) + place_size p
 
 abbrev pub Nearer : ℕ → Mode → Place → Type 0
-Nearer n (Between begun) q = ⊥
+Nearer n (Between phase) q = ⊥
 Nearer n (Skipping to left) q = ⊥
 Nearer n (Within o) q = ahead n q < ahead n o.place
 
 abbrev pub HasSlot : Mode → Slot → Type 0
-HasSlot (Between begun) slot = ⊥
+HasSlot (Between phase) slot = ⊥
 HasSlot (Skipping to left) slot = ⊥
 HasSlot (Within o) slot = slice_get o.slots o.taken ≡ Some slot
 
@@ -89,10 +91,10 @@ same-refl k (step.GiveFrame slot) = refl
 same-refl k (step.EndSegment end) = refl
 same-refl k (step.Fail f at) = refl
 
-once-short : (n len : ℕ) (st : Step) → n < len → once n len st ≡ step.Wait len
+pub once-short : (n len : ℕ) (st : Step) → n < len → once n len st ≡ step.Wait len
 once-short n len st h = let e : ltb n len ≡ true = grind (arith, nat_tests) in ap (λ b. cond b (step.Wait len) st) e
 
-once-there : (n len : ℕ) (st : Step) → len ≤ n → once n len st ≡ st
+pub once-there : (n len : ℕ) (st : Step) → len ≤ n → once n len st ≡ st
 once-there n len st h = let e : ltb n len ≡ false = grind (arith, nat_tests) in ap (λ b. cond b (step.Wait len) st) e
 
 good-once : (m : Mode) (n k len : ℕ) (st : Step) → n ≤ k → (len ≤ n → Fits m n st) → Good m n k (once n len st) (once k len st)
@@ -102,38 +104,38 @@ good-once m n k len st l f =
       | inr h ↦ let g : len ≤ k = omega arith in rw (once-there n len st h, once-there k len st g) (f h, same-refl k st)
     ]
 
-good-take : (begun : Begun) (kind : TopLevelBox) (n k len : ℕ) → n ≤ k → 8 ≤ len → Good (Between begun) n k (take_box begun kind n len) (take_box begun kind k len)
-good-take Nothing FileType n k len l h = ((tt, h), refl)
-good-take Nothing SegmentType n k len l h = ((tt, h), refl)
-good-take Nothing Movie n k len l h = ((tt, h), refl)
-good-take Nothing MovieFragment n k len l h = good-once (Between Nothing) n k len (step.ReadMoof len) l (λ q. (tt, h, q))
-good-take Nothing MediaData n k len l h = ((tt, h), refl)
-good-take Nothing Other n k len l h = ((tt, h), refl)
-good-take InitSegment FileType n k len l h = ((tt, h), refl)
-good-take InitSegment SegmentType n k len l h = ((tt, h), refl)
-good-take InitSegment Movie n k len l h = good-once (Between InitSegment) n k len (step.ReadInit len) l (λ q. (tt, h, q))
-good-take InitSegment MovieFragment n k len l h = good-once (Between InitSegment) n k len (step.ReadMoof len) l (λ q. (tt, h, q))
-good-take InitSegment MediaData n k len l h = ((tt, h), refl)
-good-take InitSegment Other n k len l h = ((tt, h), refl)
-good-take MediaSegment FileType n k len l h = ((tt, h), refl)
-good-take MediaSegment SegmentType n k len l h = ((tt, h), refl)
-good-take MediaSegment Movie n k len l h = ((tt, h), refl)
-good-take MediaSegment MovieFragment n k len l h = good-once (Between MediaSegment) n k len (step.ReadMoof len) l (λ q. (tt, h, q))
-good-take MediaSegment MediaData n k len l h = ((tt, h), refl)
-good-take MediaSegment Other n k len l h = ((tt, h), refl)
+good-take : (phase : Phase) (kind : TopLevelBox) (n k len : ℕ) → n ≤ k → 8 ≤ len → Good (Between phase) n k (take_box phase kind n len) (take_box phase kind k len)
+good-take Waiting FileType n k len l h = ((tt, h), refl)
+good-take Waiting SegmentType n k len l h = ((tt, h), refl)
+good-take Waiting Movie n k len l h = ((tt, h), refl)
+good-take Waiting MovieFragment n k len l h = good-once (Between Waiting) n k len (step.ReadMoof len) l (λ q. (tt, h, q))
+good-take Waiting MediaData n k len l h = ((tt, h), refl)
+good-take Waiting Other n k len l h = ((tt, h), refl)
+good-take InInit FileType n k len l h = ((tt, h), refl)
+good-take InInit SegmentType n k len l h = ((tt, h), refl)
+good-take InInit Movie n k len l h = good-once (Between InInit) n k len (step.ReadInit len) l (λ q. (tt, h, q))
+good-take InInit MovieFragment n k len l h = good-once (Between InInit) n k len (step.ReadMoof len) l (λ q. (tt, h, q))
+good-take InInit MediaData n k len l h = ((tt, h), refl)
+good-take InInit Other n k len l h = ((tt, h), refl)
+good-take InMedia FileType n k len l h = ((tt, h), refl)
+good-take InMedia SegmentType n k len l h = ((tt, h), refl)
+good-take InMedia Movie n k len l h = ((tt, h), refl)
+good-take InMedia MovieFragment n k len l h = good-once (Between InMedia) n k len (step.ReadMoof len) l (λ q. (tt, h, q))
+good-take InMedia MediaData n k len l h = ((tt, h), refl)
+good-take InMedia Other n k len l h = ((tt, h), refl)
 
 good-if : (m : Mode) (n k : ℕ) (b : Bool) (x y x' y' : Step) → Good m n k x x' → (b ≡ false → Good m n k y y') → Good m n k (cond b x y) (cond b x' y')
 good-if m n k true x y x' y' h g = h
 good-if m n k false x y x' y' h g = g refl
 
-good-judge : (begun : Begun) (kind : TopLevelBox) (n k len : ℕ) (f : Option StreamFault) → n ≤ k → 8 ≤ len → Good (Between begun) n k (judge_between begun kind n len f) (judge_between begun kind k len f)
-good-judge begun kind n k len (Some f) l h = (omega arith, refl)
-good-judge begun kind n k len None l h = good-if (Between begun) n k (ltb (most_of kind) len) _ _ _ _ (omega arith, refl) (λ _. good-take begun kind n k len l h)
+good-judge : (phase : Phase) (kind : TopLevelBox) (n k len : ℕ) (f : Option StreamFault) → n ≤ k → 8 ≤ len → Good (Between phase) n k (judge_between phase kind n len f) (judge_between phase kind k len f)
+good-judge phase kind n k len (Some f) l h = (omega arith, refl)
+good-judge phase kind n k len None l h = good-if (Between phase) n k (ltb (greatest_size kind) len) _ _ _ _ (omega arith, refl) (λ _. good-take phase kind n k len l h)
 
-good-between : (ready : Bool) (begun : Begun) (n k : ℕ) (h h' : Header) → n ≤ k → HasRoom n h → (is_short h ≡ false → h' ≡ h) → Good (Between begun) n k (box_between ready begun n h) (box_between ready begun k h')
-good-between ready begun n k head.Short h' l m e = (tt, λ q. absurd (omega arith))
-good-between ready begun n k (head.Bad f) h' l m e = rw (e refl) (omega arith, refl)
-good-between ready begun n k (head.Whole kind start len) h' l m e = rw (e refl) (good-judge begun (box_type kind) n k len (place_fault ready begun (box_type kind)) l (omega (arith, m.0, m.1)))
+good-between : (ready : Bool) (phase : Phase) (n k : ℕ) (h h' : Header) → n ≤ k → HasRoom n h → (is_short h ≡ false → h' ≡ h) → Good (Between phase) n k (box_between ready phase n h) (box_between ready phase k h')
+good-between ready phase n k head.Short h' l m e = (tt, λ q. absurd (omega arith))
+good-between ready phase n k (head.Bad f) h' l m e = rw (e refl) (omega arith, refl)
+good-between ready phase n k (head.Whole kind start len) h' l m e = rw (e refl) (good-judge phase (box_type kind) n k len (place_fault ready phase (box_type kind)) l (omega (arith, m.0, m.1)))
 
 near : (n at to : ℕ) (o : Open) → o.place ≡ AtBox at → at + 8 ≤ n → at + 8 ≤ to → Nearer n (Within o) (AtBox to) × (walked o.place ≤ to)
 near n at to o e h g = rw e (omega arith, omega arith)
@@ -200,13 +202,13 @@ good-slot o rest c (Some slot) e =
 
 pub good-step : (ready : Bool) (rest c : List ℕ) (m : Mode) → Good m (length rest) (length (rest ++ c)) (step_of ready rest m) (step_of ready (rest ++ c) m)
 unfolding step_of
-good-step ready rest c (Between begun) = good-between ready begun (length rest) (length (rest ++ c)) (header_of rest) (header_of (rest ++ c)) (omega (arith, length-append rest c)) (header-room rest) (header-longer rest c)
+good-step ready rest c (Between phase) = good-between ready phase (length rest) (length (rest ++ c)) (header_of rest) (header_of (rest ++ c)) (omega (arith, length-append rest c)) (header-room rest) (header-longer rest c)
 good-step ready rest c (Skipping to left) = (tt, λ q. absurd (omega arith))
 good-step ready rest c (Within o) = good-slot o rest c (slice_get o.slots o.taken) refl
 
 -- ---- a move lowers the size
 
-abbrev Falls : ℕ → Move State Item → Type 0
+abbrev Falls : ℕ → Move State SegmentItem → Type 0
 Falls n Stop = Unit {0}
 Falls n (Pass t) = size_unless t t.failed < n
 Falls n (Give item t) = size_unless t t.failed < n
@@ -214,57 +216,57 @@ Falls n (Give item t) = size_unless t t.failed < n
 abbrev pub going : Option Presentation → Mode → ℕ → List ℕ → State
 going last mode offset rest = record { last = last; mode = mode; offset = offset; rest = rest; failed = false }
 
-size-skip : (n len : ℕ) (to : Begun) → 8 ≤ len → size_by n (Skipping to len) ≡ 1048580 * n
+size-skip : (n len : ℕ) (to : Phase) → 8 ≤ len → size_by n (Skipping to len) ≡ 1048580 * n
 size-skip n zero to h = absurd (omega arith)
 size-skip n (suc len) to h = refl
 
-skip-most : (n left : ℕ) (to : Begun) → size_by n (Skipping to left) ≤ 1048580 * n + 2
+skip-most : (n left : ℕ) (to : Phase) → size_by n (Skipping to left) ≤ 1048580 * n + 2
 skip-most n zero to = omega arith
 skip-most n (suc left) to = omega arith
 
-falls-init : (last : Option Presentation) (begun : Begun) (offset : ℕ) (rest : List ℕ) (len : ℕ) (r : Result Presentation InitFault) → 8 ≤ len → len ≤ length rest → Falls (suc (size_by (length rest) (Between begun))) (initialized (going last (Between begun) offset rest) len r)
-falls-init last begun offset rest len (Ok p) h k = omega (arith, length-drop len rest)
-falls-init last begun offset rest len (Err f) h k = omega arith
+falls-init : (last : Option Presentation) (phase : Phase) (offset : ℕ) (rest : List ℕ) (len : ℕ) (r : Result Presentation InitFault) → 8 ≤ len → len ≤ length rest → Falls (suc (size_by (length rest) (Between phase))) (initialized (going last (Between phase) offset rest) len r)
+falls-init last phase offset rest len (Ok p) h k = omega (arith, length-drop len rest)
+falls-init last phase offset rest len (Err f) h k = omega arith
 
-falls-opened : (last : Option Presentation) (begun : Begun) (offset : ℕ) (rest : List ℕ) (len : ℕ) (r : Result (List Slot) MoofFault) → ((slots : List Slot) → r ≡ Ok slots → length slots ≤ 2 ^ 20) → 8 ≤ len → len ≤ length rest → Falls (suc (size_by (length rest) (Between begun))) (opened (going last (Between begun) offset rest) len r)
-falls-opened last begun offset rest len (Ok slots) f h k = let g : length slots ≤ 2 ^ 20 = f slots refl in omega arith
-falls-opened last begun offset rest len (Err e) f h k = omega arith
+falls-opened : (last : Option Presentation) (phase : Phase) (offset : ℕ) (rest : List ℕ) (len : ℕ) (r : Result (List Slot) MoofFault) → ((slots : List Slot) → r ≡ Ok slots → length slots ≤ 2 ^ 20) → 8 ≤ len → len ≤ length rest → Falls (suc (size_by (length rest) (Between phase))) (opened (going last (Between phase) offset rest) len r)
+falls-opened last phase offset rest len (Ok slots) f h k = let g : length slots ≤ 2 ^ 20 = f slots refl in omega arith
+falls-opened last phase offset rest len (Err e) f h k = omega arith
 
-falls-planned : (last with : Option Presentation) (begun : Begun) (offset : ℕ) (rest : List ℕ) (len : ℕ) → 8 ≤ len → len ≤ length rest → Falls (suc (size_by (length rest) (Between begun))) (planned (going last (Between begun) offset rest) len with)
-falls-planned last None begun offset rest len h k = omega arith
-falls-planned last (Some p) begun offset rest len h k = falls-opened last begun offset rest len (plan_of p.tracks (take len rest)) (few p.tracks (take len rest)) h k
+falls-planned : (last with : Option Presentation) (phase : Phase) (offset : ℕ) (rest : List ℕ) (len : ℕ) → 8 ≤ len → len ≤ length rest → Falls (suc (size_by (length rest) (Between phase))) (planned (going last (Between phase) offset rest) len with)
+falls-planned last None phase offset rest len h k = omega arith
+falls-planned last (Some p) phase offset rest len h k = falls-opened last phase offset rest len (plan_of p.tracks (take len rest)) (plan-length p.tracks (take len rest)) h k
 
 falls-act : (last : Option Presentation) (m : Mode) (offset : ℕ) (rest : List ℕ) (st : Step) → Fits m (length rest) st → Falls (suc (size_by (length rest) m)) (act (going last m offset rest) st)
 falls-act last m offset rest (step.Wait w) f = tt
-falls-act last (Between begun) offset rest (step.Skip to len) f = omega (arith, size-skip (length rest) len to f.1)
+falls-act last (Between phase) offset rest (step.Skip to len) f = omega (arith, size-skip (length rest) len to f.1)
 falls-act last (Skipping a l) offset rest (step.Skip to len) f = absurd f.0
 falls-act last (Within o) offset rest (step.Skip to len) f = absurd f.0
-falls-act last (Between begun) offset rest (step.ReadInit len) f = falls-init last begun offset rest len (init_of (take len rest)) f.1 f.2
+falls-act last (Between phase) offset rest (step.ReadInit len) f = falls-init last phase offset rest len (init_of (take len rest)) f.1 f.2
 falls-act last (Skipping a l) offset rest (step.ReadInit len) f = absurd f.0
 falls-act last (Within o) offset rest (step.ReadInit len) f = absurd f.0
-falls-act last (Between begun) offset rest (step.ReadMoof len) f = falls-planned last last begun offset rest len f.1 f.2
+falls-act last (Between phase) offset rest (step.ReadMoof len) f = falls-planned last last phase offset rest len f.1 f.2
 falls-act last (Skipping a l) offset rest (step.ReadMoof len) f = absurd f.0
 falls-act last (Within o) offset rest (step.ReadMoof len) f = absurd f.0
-falls-act last (Between begun) offset rest (step.EnterData start end) f = absurd f.0
+falls-act last (Between phase) offset rest (step.EnterData start end) f = absurd f.0
 falls-act last (Skipping a l) offset rest (step.EnterData start end) f = absurd f.0
 falls-act last (Within o) offset rest (step.EnterData start end) f = omega (arith, f.0)
-falls-act last (Between begun) offset rest (step.NextBox at) f = absurd f.0
+falls-act last (Between phase) offset rest (step.NextBox at) f = absurd f.0
 falls-act last (Skipping a l) offset rest (step.NextBox at) f = absurd f.0
 falls-act last (Within o) offset rest (step.NextBox at) f = omega (arith, f.0)
-falls-act last (Between begun) offset rest (step.GiveFrame slot) f = absurd f.0
+falls-act last (Between phase) offset rest (step.GiveFrame slot) f = absurd f.0
 falls-act last (Skipping a l) offset rest (step.GiveFrame slot) f = absurd f.0
 falls-act last (Within o) offset rest (step.GiveFrame slot) f = omega (arith, slice_get_within o.slots o.taken slot f.0)
-falls-act last (Between begun) offset rest (step.EndSegment end) f = absurd f.0
+falls-act last (Between phase) offset rest (step.EndSegment end) f = absurd f.0
 falls-act last (Skipping a l) offset rest (step.EndSegment end) f = absurd f.0
 falls-act last (Within o) offset rest (step.EndSegment end) f = omega (arith, f.0, length-drop end rest)
 falls-act last m offset rest (step.Fail e at) f = omega arith
 
-falls-byte : (s : State) (to : Begun) (left : ℕ) (rest : List ℕ) → Falls (suc (1048580 * length rest)) (pass_byte s to left rest)
+falls-byte : (s : State) (to : Phase) (left : ℕ) (rest : List ℕ) → Falls (suc (1048580 * length rest)) (pass_byte s to left rest)
 falls-byte s to left [] = tt
 falls-byte s to left (x ∷ rest) = omega (arith, skip-most (length rest) left to)
 
 falls-mode : (last : Option Presentation) (m : Mode) (offset : ℕ) (rest : List ℕ) → Falls (suc (size_by (length rest) m)) (mode_move (going last m offset rest) m)
-falls-mode last (Between begun) offset rest = falls-act last (Between begun) offset rest (step_of (is_some last) rest (Between begun)) (good-step (is_some last) rest [] (Between begun)).0
+falls-mode last (Between phase) offset rest = falls-act last (Between phase) offset rest (step_of (is_some last) rest (Between phase)) (good-step (is_some last) rest [] (Between phase)).0
 falls-mode last (Skipping to zero) offset rest = omega arith
 falls-mode last (Skipping to (suc left)) offset rest = falls-byte (going last (Skipping to (suc left)) offset rest) to left rest
 falls-mode last (Within o) offset rest = falls-act last (Within o) offset rest (step_of (is_some last) rest (Within o)) (good-step (is_some last) rest [] (Within o)).0
@@ -275,7 +277,7 @@ falls last mode offset rest false = falls-mode last mode offset rest
 
 -- ---- what a move becomes when bytes are added
 
-abbrev Goes : List ℕ → Move State Item → Move State Item → Type 0
+abbrev Goes : List ℕ → Move State SegmentItem → Move State SegmentItem → Type 0
 Goes c Stop m = Unit {0}
 Goes c (Pass t) m = m ≡ Pass (more_unless t c t.failed)
 Goes c (Give item t) m = (m ≡ Give item (more_unless t c t.failed)) × (is_fault item ≡ true → more_unless t c t.failed ≡ t)
@@ -332,12 +334,12 @@ goes-step last m offset rest c =
     let g = good-step (is_some last) rest c m in
     goes-same last m offset (length (rest ++ c)) rest c (step_of (is_some last) rest m) (step_of (is_some last) (rest ++ c) m) g.0 g.1
 
-goes-byte : (last : Option Presentation) (m : Mode) (offset left : ℕ) (to : Begun) (all rest c : List ℕ) → Goes c (pass_byte (going last m offset all) to left rest) (pass_byte (going last m offset (all ++ c)) to left (rest ++ c))
+goes-byte : (last : Option Presentation) (m : Mode) (offset left : ℕ) (to : Phase) (all rest c : List ℕ) → Goes c (pass_byte (going last m offset all) to left rest) (pass_byte (going last m offset (all ++ c)) to left (rest ++ c))
 goes-byte last m offset left to all [] c = tt
 goes-byte last m offset left to all (x ∷ rest) c = refl
 
 goes-mode : (last : Option Presentation) (m : Mode) (offset : ℕ) (rest c : List ℕ) → Goes c (mode_move (going last m offset rest) m) (mode_move (going last m offset (rest ++ c)) m)
-goes-mode last (Between begun) offset rest c = goes-step last (Between begun) offset rest c
+goes-mode last (Between phase) offset rest c = goes-step last (Between phase) offset rest c
 goes-mode last (Skipping to zero) offset rest c = refl
 goes-mode last (Skipping to (suc left)) offset rest c = goes-byte last (Skipping to (suc left)) offset left to rest rest c
 goes-mode last (Within o) offset rest c = goes-step last (Within o) offset rest c

@@ -5,8 +5,8 @@ use Rattle.segment_walk.specs.declared.kinds.DataRange.{DataRange}
 use Rattle.segment_walk.specs.declared.kinds.Fragment.{Fragment}
 use Rattle.segment_walk.specs.declared.kinds.Mode as code
 use Rattle.segment_walk.specs.declared.kinds.Mode.TheVariants as codes
-use Rattle.segment_walk.specs.Segments.{Open, open_of, Between, Skipping, Within}
-use Rattle.segment_walk.specs.Segments as walk
+use Rattle.segment_walk.specs.Moves.{Open, open_of, Between, Skipping, Within}
+use Rattle.segment_walk.specs.Moves as walk
 use Rattle.bmff_fragment.specs.declared.slot.Slot.{Slot}
 
 -- neither starts nor ends fall
@@ -16,7 +16,7 @@ pub record IsAscending (ks : List DataRange) : Type 0 where
 
 -- the data ranges that a place of the walk sees come in order
 abbrev pub SeesAscending : code.Mode → List DataRange → Type 0
-SeesAscending (codes.Between begun) known = Unit {0}
+SeesAscending (codes.Between phase) known = Unit {0}
 SeesAscending (codes.Skipping to left) known = Unit {0}
 SeesAscending (codes.Within f) known = IsAscending (take f.known known)
 
@@ -25,6 +25,6 @@ abbrev pub open_at : List Slot → List DataRange → Fragment → Open
 open_at slots known f = record { slots = slots; taken = f.taken; known = take f.known known; end = f.end; place = f.place }
 
 abbrev pub mode_of : List Slot → List DataRange → code.Mode → walk.Mode
-mode_of slots known (codes.Between begun) = Between begun
+mode_of slots known (codes.Between phase) = Between phase
 mode_of slots known (codes.Skipping to left) = Skipping to left
 mode_of slots known (codes.Within f) = Within (open_at slots known f)

@@ -1,284 +1,218 @@
--- The segment parser loop (Media Source Extensions, 3.5.1) on initialization and media segments of the ISO BMFF
--- byte stream format, as a walk over top-level boxes.
-use Rattle.std.specs.Prelude.{ℕ, zero, suc, ◌+◌, ◌-◌, ◌*◌, ◌^◌, nat_lt, nat_le, Bool, true, false, ◌&&◌, ◌||◌, if◌then◌else◌, List, [], ◌∷◌, ◌++◌, length, take, drop, slice_range, slice_get, Option, Some, None, is_some, Result, Ok, Err}
-use Rattle.std.specs.Str.{bytes_eq}
-use lib.Chars.{codes}
-use Rattle.mse_base.specs.declared.frame.CodedFrame.{CodedFrame}
+-- What a string of initialization and media segments gives (Media Source Extensions, 3.5.1, segment parser loop; ISO
+-- BMFF byte stream format), told by its top-level boxes: its items, and what is seen of the parser before each. It is a
+-- recursion on the boxes of the whole string, and knows no pieces. All places are offsets in the string.
+use Rattle.std.specs.Prelude.{ℕ, zero, suc, ◌+◌, ◌^◌, nat_lt, nat_le, Bool, false, ◌&&◌, ◌||◌, if◌then◌else◌, List, [], ◌∷◌, ◌++◌, length, drop, slice_range, Option, Some, Result, Ok, Err}
+use Rattle.mse_base.specs.declared.frame.Phase.{Phase}
+use Rattle.mse_base.specs.declared.frame.Phase.TheVariants.{Waiting, InMedia}
 use Rattle.mse_base.specs.declared.track.Presentation.{Presentation}
 use Rattle.bmff_boxes.specs.declared.box_header.Header.{Header}
 use Rattle.bmff_boxes.specs.declared.box_header.Header.TheVariants as head
-use Rattle.bmff_boxes.specs.declared.box_header.HeadFault.{HeadFault}
-use Rattle.bmff_boxes.specs.declared.box_header.HeadFault.TheVariants as sizes
 use Rattle.bmff_boxes.specs.Headers.{header_of}
 use Rattle.bmff_init.specs.declared.fault.InitFault.{InitFault}
 use Rattle.bmff_init.specs.Movies.{init_of}
 use Rattle.bmff_fragment.specs.declared.fault.MoofFault.{MoofFault}
 use Rattle.bmff_fragment.specs.declared.slot.Slot.{Slot}
 use Rattle.bmff_fragment.specs.Plans.{plan_of}
-use Rattle.parser_loop.specs.Walk.{Move, Stop, Pass, Give, Kind}
+use Rattle.parser_loop.specs.Items.{InitItem, FrameItem, SegmentEnd, FaultItem, leading_frames}
+use Rattle.parser_loop.specs.Parse.{Parse, NoItem, ItemThen, ParserView, items_of, seen_before}
 use Rattle.segment_walk.specs.declared.kinds.StreamFault.{StreamFault}
 use Rattle.segment_walk.specs.declared.kinds.StreamFault.TheVariants as fault
 use Rattle.segment_walk.specs.declared.kinds.TopLevelBox.{TopLevelBox}
 use Rattle.segment_walk.specs.declared.kinds.TopLevelBox.TheVariants.{FileType, SegmentType, Movie, MovieFragment, MediaData, Other}
-use Rattle.segment_walk.specs.declared.kinds.Begun.{Begun}
-use Rattle.segment_walk.specs.declared.kinds.Begun.TheVariants.{Nothing, InitSegment, MediaSegment}
-use Rattle.segment_walk.specs.declared.kinds.Place.{Place}
-use Rattle.segment_walk.specs.declared.kinds.Place.TheVariants.{AtBox, InData}
 use Rattle.segment_walk.specs.declared.kinds.DataRange.{DataRange}
-use Rattle.segment_walk.specs.declared.kinds.Step.{Step}
-use Rattle.segment_walk.specs.declared.kinds.Step.TheVariants as step
+use Rattle.segment_walk.specs.Tables.{SegmentItem, BoxUse, PassOver, ReadMovie, ReadFragment, box_type, size_fault, greatest_size, box_use}
 
--- What the parser gives: an initialization segment that was received and a coded frame, each with its offset in the
--- string, the end of a media segment, or the fault that ends the string for good, with its offset.
-pub data Item : Type 0 where
-  InitItem : Presentation → ℕ → Item
-  FrameItem : CodedFrame → ℕ → Item
-  SegmentEnd : Item
-  FaultItem : StreamFault → ℕ → Item
-
-abbrev pub box_type : List ℕ → TopLevelBox
-box_type kind =
-    if bytes_eq kind (codes "ftyp") then FileType
-    else (if bytes_eq kind (codes "styp") then SegmentType
-    else (if bytes_eq kind (codes "moov") then Movie
-    else (if bytes_eq kind (codes "moof") then MovieFragment
-    else (if bytes_eq kind (codes "mdat") then MediaData else Other))))
-
--- An open movie fragment: the slots of its samples and how many of them were taken, the payloads of the mdats that
--- were met and the end of the last of these, and the place of the walk. All places are counted from the first byte
--- of the moof.
-pub record Open : Type 0 where
+-- A movie fragment whose coded frames have not all come: the offset of its moof, the slots of these frames, the payloads
+-- of the mdats behind it up to here, and the end of the last of these, or the offset of the moof.
+pub record OpenFragment : Type 0 where
+  pub moof : ℕ
   pub slots : List Slot
-  pub taken : ℕ
-  pub known : List DataRange
+  pub payloads : List DataRange
   pub end : ℕ
-  pub place : Place
 
--- Before a top-level box; in a box that is passed over, with the number of bytes to its end and what was begun
--- behind its header; in a movie fragment.
-pub data Mode : Type 0 where
-  Between : Begun → Mode
-  Skipping : Begun → ℕ → Mode
-  Within : Open → Mode
+-- before a box: no movie fragment is open in this append state, or this movie fragment is open
+pub data Context : Type 0 where
+  NoFragment : Phase → Context
+  InFragment : OpenFragment → Context
 
--- The state of the walk: the presentation of the last initialization segment, the bytes of the string from `offset`
--- on, which in a movie fragment is the first byte of its moof, and whether a fault was met.
-pub record State : Type 0 where
-  pub last : Option Presentation
-  pub mode : Mode
-  pub offset : ℕ
-  pub rest : List ℕ
-  pub failed : Bool
+-- The bytes are held from the box on, and of an open movie fragment from its moof on.
+abbrev pub view_at : List ℕ → Option Presentation → Context → ℕ → ParserView
+view_at b last (NoFragment phase) at = record { phase = phase; latest = last; held = drop at b }
+view_at b last (InFragment f) at = record { phase = InMedia; latest = last; held = drop f.moof b }
 
--- ---- what comes next, by the bytes that are there
+-- no byte is held
+abbrev pub view_without_bytes : Phase → Option Presentation → ParserView
+view_without_bytes phase last = record { phase = phase; latest = last; held = [] }
 
--- once there are `len` bytes
-abbrev pub once : ℕ → ℕ → Step → Step
-once n len st = if nat_lt n len then step.Wait len else st
+abbrev pub SegmentParse : Type 0
+SegmentParse = Parse ParserView SegmentItem
 
-abbrev pub size_fault : HeadFault → StreamFault
-size_fault sizes.SizeZero = fault.SizeZero
-size_fault sizes.BoxSize = fault.BoxSize
+-- what the boxes from an offset on give, by the latest presentation and by what came before
+abbrev pub Onwards : Type 0
+Onwards = Option Presentation → Context → ℕ → SegmentParse
 
--- a box that is out of place where no movie fragment is open; `ready` says that an initialization segment came
-abbrev pub place_fault : Bool → Begun → TopLevelBox → Option StreamFault
-place_fault ready Nothing Movie = Some fault.MoovPlace
-place_fault ready MediaSegment Movie = Some fault.MoovPlace
-place_fault ready InitSegment MovieFragment = Some fault.MoofPlace
-place_fault false Nothing MovieFragment = Some fault.NoInit
-place_fault false MediaSegment MovieFragment = Some fault.NoInit
-place_fault ready begun kind = None
+-- this comes once the string reaches `end`; until then no item comes, and this is seen
+abbrev pub parse_once_there : List ℕ → ℕ → ParserView → SegmentParse → SegmentParse
+parse_once_there b end now parse = if nat_le end (length b) then parse else NoItem now
 
--- the most bytes of a box: one that is read is held in memory whole
-abbrev pub most_of : TopLevelBox → ℕ
-most_of Movie = 2 ^ 24
-most_of MovieFragment = 2 ^ 24
-most_of kind = 2 ^ 40
+-- no item follows a fault
+abbrev pub parse_of_fault : ParserView → StreamFault → ℕ → SegmentParse
+parse_of_fault now f at = ItemThen now (FaultItem f at) (NoItem (view_without_bytes now.phase now.latest))
 
--- A box in its place. `ftyp` begins an initialization segment and `styp` a media segment; `moov` and `moof` are read
--- once they are whole; all others are passed over.
-abbrev pub take_box : Begun → TopLevelBox → ℕ → ℕ → Step
-take_box Nothing FileType n len = step.Skip InitSegment len
-take_box MediaSegment FileType n len = step.Skip InitSegment len
-take_box Nothing SegmentType n len = step.Skip MediaSegment len
-take_box InitSegment Movie n len = once n len (step.ReadInit len)
-take_box begun MovieFragment n len = once n len (step.ReadMoof len)
-take_box begun kind n len = step.Skip begun len
+-- a top-level box: what it is, its offset, and where its payload begins and ends
+pub record TopBox : Type 0 where
+  pub kind : TopLevelBox
+  pub at : ℕ
+  pub start : ℕ
+  pub end : ℕ
 
-abbrev pub judge_between : Begun → TopLevelBox → ℕ → ℕ → Option StreamFault → Step
-judge_between begun kind n len (Some f) = step.Fail f 0
-judge_between begun kind n len None = if nat_lt (most_of kind) len then step.Fail fault.TooLarge 0 else take_box begun kind n len
+-- ---- where no movie fragment is open
 
--- a box by its header, of which and behind which n bytes are there
-abbrev pub box_between : Bool → Begun → ℕ → Header → Step
-box_between ready begun n head.Short = step.Wait 0
-box_between ready begun n (head.Bad f) = step.Fail (size_fault f) 0
-box_between ready begun n (head.Whole kind start len) = judge_between begun (box_type kind) n len (place_fault ready begun (box_type kind))
+abbrev pub parse_of_moov : Onwards → ParserView → TopBox → Result Presentation InitFault → SegmentParse
+parse_of_moov onwards now box (Ok p) =
+    ItemThen now (InitItem p box.at) (onwards (Some p) (NoFragment Waiting) box.end)
+parse_of_moov onwards now box (Err f) = parse_of_fault now (fault.Init f) box.at
 
--- A box at a place of a movie fragment. No other segment may begin. The payload of an mdat is known once its header
--- is there; all others are passed over.
-abbrev pub judge_within : ℕ → ℕ → TopLevelBox → ℕ → ℕ → Step
-judge_within n at FileType start len = step.Fail fault.InSegment at
-judge_within n at SegmentType start len = step.Fail fault.InSegment at
-judge_within n at Movie start len = step.Fail fault.InSegment at
-judge_within n at MovieFragment start len = step.Fail fault.InSegment at
-judge_within n at MediaData start len = if nat_lt (2 ^ 27) (at + len) then step.Fail fault.TooLarge at else step.EnterData (at + start) (at + len)
-judge_within n at Other start len = if nat_lt (2 ^ 27) (at + len) then step.Fail fault.TooLarge at else once n (at + len) (step.NextBox (at + len))
+abbrev pub fragment_behind : TopBox → List Slot → OpenFragment
+fragment_behind moof slots = record { moof = moof.at; slots = slots; payloads = []; end = moof.at }
 
-abbrev pub box_within : ℕ → ℕ → Header → Step
-box_within n at head.Short = step.Wait 0
-box_within n at (head.Bad f) = step.Fail (size_fault f) at
-box_within n at (head.Whole kind start len) = judge_within n at (box_type kind) start len
+abbrev pub parse_of_moof : Onwards → ParserView → TopBox → Result (List Slot) MoofFault → SegmentParse
+parse_of_moof onwards now box (Ok slots) = onwards now.latest (InFragment (fragment_behind box slots)) box.end
+parse_of_moof onwards now box (Err f) = parse_of_fault now (fault.Moof f) box.at
+
+-- of a box that is passed over no byte is held
+abbrev pub parse_of_use : Onwards → List ℕ → ParserView → TopBox → BoxUse → SegmentParse
+parse_of_use onwards b now box (PassOver phase) =
+    parse_once_there b box.end (view_without_bytes phase now.latest) (onwards now.latest (NoFragment phase) box.end)
+parse_of_use onwards b now box ReadMovie =
+    parse_once_there b box.end now (parse_of_moov onwards now box (init_of (slice_range b box.at box.end)))
+parse_of_use onwards b now box (ReadFragment p) =
+    parse_once_there b box.end now (parse_of_moof onwards now box (plan_of p.tracks (slice_range b box.at box.end)))
+
+-- a fault comes as soon as the header is there
+abbrev pub parse_outside : Onwards → List ℕ → ParserView → TopBox → Result BoxUse StreamFault → SegmentParse
+parse_outside onwards b now box (Err f) = parse_of_fault now f box.at
+parse_outside onwards b now box (Ok usage) =
+    if nat_lt (box.at + greatest_size box.kind) box.end then parse_of_fault now fault.TooLarge box.at
+    else parse_of_use onwards b now box usage
+
+-- ---- in a movie fragment
+
+-- the data of the slot lie inside one of the payloads
+abbrev pub is_inside : ℕ → List DataRange → Slot → Bool
+is_inside moof [] s = false
+is_inside moof (k ∷ ks) s = (nat_le k.start (moof + s.start) && nat_le (moof + s.end) k.end) || is_inside moof ks s
+
+-- the coded frame of a slot is the part of the string at its place
+abbrev pub frame_at : List ℕ → ℕ → Slot → SegmentItem
+frame_at b moof s = FrameItem (record {
+  track_id = s.track_id;
+  pts = s.pts;
+  dts = s.dts;
+  dur = s.dur;
+  sync = s.sync;
+  payload = slice_range b (moof + s.start) (moof + s.end);
+}) (moof + s.start)
+
+-- The frames of the first slots, as far as their data lie inside the payloads. A slot whose data lie in none of them,
+-- and begin before the end of the last, will never have its data in one. `next` is what comes with the slots left.
+abbrev pub parse_of_slots : List ℕ → ParserView → OpenFragment → (List Slot → SegmentParse) → List Slot → SegmentParse
+parse_of_slots b now f next [] = next []
+parse_of_slots b now f next (s ∷ slots) =
+    if is_inside f.moof f.payloads s then
+    parse_once_there b (f.moof + s.end) now (ItemThen now (frame_at b f.moof s) (parse_of_slots b now f next slots))
+    else (if nat_lt (f.moof + s.start) f.end then parse_of_fault now fault.OutsideMdat (f.moof + s.start)
+    else next (s ∷ slots))
 
 -- at the end of an mdat: the media segment ends there if no slot is left
-abbrev pub data_end : Bool → ℕ → Step
-data_end true end = step.EndSegment end
-data_end false end = step.NextBox end
+abbrev pub parse_of_data_end : Onwards → ParserView → OpenFragment → List Slot → SegmentParse
+parse_of_data_end onwards now f [] = ItemThen now SegmentEnd (onwards now.latest (NoFragment Waiting) f.end)
+parse_of_data_end onwards now f (s ∷ slots) =
+    onwards now.latest (InFragment (record { moof = f.moof; slots = s ∷ slots; payloads = f.payloads; end = f.end })) f.end
 
-abbrev pub place_step : List ℕ → Bool → Place → Step
-place_step rest done (AtBox at) = box_within (length rest) at (header_of (drop at rest))
-place_step rest done (InData end) = once (length rest) end (data_end done end)
-
--- the slot lies inside the payload of an mdat
-abbrev pub lies_in : List DataRange → Slot → Bool
-lies_in [] s = false
-lies_in (k ∷ ks) s = (nat_le k.start s.start && nat_le s.end k.end) || lies_in ks s
-
--- The next slot comes before the next box: its frame is given once its bytes are there. A slot that lies in no mdat
--- up to the last, and begins before the end of that one, will never lie in one.
-abbrev pub slot_step : List ℕ → List DataRange → ℕ → Place → Option Slot → Step
-slot_step rest known end place None = place_step rest true place
-slot_step rest known end place (Some slot) =
-    if lies_in known slot then once (length rest) slot.end (step.GiveFrame slot)
-    else (if nat_lt slot.start end then step.Fail fault.OutsideMdat slot.start else place_step rest false place)
-
-unfoldable pub step_of : Bool → List ℕ → Mode → Step
-step_of ready rest (Between begun) = box_between ready begun (length rest) (header_of rest)
-step_of ready rest (Skipping to left) = step.Wait 0
-step_of ready rest (Within o) = slot_step rest o.known o.end o.place (slice_get o.slots o.taken)
-
--- ---- what a step does
-
--- a fault at a place behind `offset`: no byte is looked at any more
-abbrev pub fail : State → StreamFault → ℕ → Move State Item
-fail s f at = Give (FaultItem f (s.offset + at)) (record { last = s.last; mode = s.mode; offset = s.offset; rest = []; failed = true })
-
--- behind the first n bytes, with nothing begun
-abbrev pub behind : State → Option Presentation → ℕ → State
-behind s last n = record { last = last; mode = Between Nothing; offset = s.offset + n; rest = drop n s.rest; failed = false }
-
-abbrev pub into : State → Mode → State
-into s mode = record { last = s.last; mode = mode; offset = s.offset; rest = s.rest; failed = false }
-
-abbrev pub initialized : State → ℕ → Result Presentation InitFault → Move State Item
-initialized s len (Ok p) = Give (InitItem p s.offset) (behind s (Some p) len)
-initialized s len (Err f) = fail s (fault.Init f) 0
-
--- a movie fragment whose moof has `len` bytes
-abbrev pub opening : List Slot → ℕ → Mode
-opening slots len = Within (record { slots = slots; taken = 0; known = []; end = 0; place = AtBox len })
-
-abbrev pub opened : State → ℕ → Result (List Slot) MoofFault → Move State Item
-opened s len (Ok slots) = Pass (into s (opening slots len))
-opened s len (Err f) = fail s (fault.Moof f) 0
-
-abbrev pub planned : State → ℕ → Option Presentation → Move State Item
-planned s len None = fail s fault.NoInit 0
-planned s len (Some p) = opened s len (plan_of p.tracks (take len s.rest))
-
--- the movie fragment that is open, or an empty one
-abbrev pub open_of : Mode → Open
-open_of (Between begun) = record { slots = []; taken = 0; known = []; end = 0; place = AtBox 0 }
-open_of (Skipping to left) = record { slots = []; taken = 0; known = []; end = 0; place = AtBox 0 }
-open_of (Within o) = o
-
-abbrev pub in_data : Open → ℕ → ℕ → Mode
-in_data o start end = Within (record { slots = o.slots; taken = o.taken; known = o.known ++ (record { start = start; end = end }) ∷ []; end = end; place = InData end })
-
-abbrev pub at_box : Open → ℕ → Mode
-at_box o at = Within (record { slots = o.slots; taken = o.taken; known = o.known; end = o.end; place = AtBox at })
-
-abbrev pub one_taken : Open → Mode
-one_taken o = Within (record { slots = o.slots; taken = o.taken + 1; known = o.known; end = o.end; place = o.place })
-
--- the coded frame of a slot, with the bytes that lie there
-abbrev pub coded_frame : List ℕ → Slot → CodedFrame
-coded_frame rest slot = record { track_id = slot.track_id; pts = slot.pts; dts = slot.dts; dur = slot.dur; sync = slot.sync; payload = slice_range rest slot.start slot.end }
-
-abbrev pub frame_of : List ℕ → ℕ → Slot → Item
-frame_of rest offset slot = FrameItem (coded_frame rest slot) (offset + slot.start)
-
-abbrev pub act : State → Step → Move State Item
-act s (step.Wait n) = Stop
-act s (step.Skip to len) = Pass (into s (Skipping to len))
-act s (step.ReadInit len) = initialized s len (init_of (take len s.rest))
-act s (step.ReadMoof len) = planned s len s.last
-act s (step.EnterData start end) = Pass (into s (in_data (open_of s.mode) start end))
-act s (step.NextBox at) = Pass (into s (at_box (open_of s.mode) at))
-act s (step.GiveFrame slot) = Give (frame_of s.rest s.offset slot) (into s (one_taken (open_of s.mode)))
-act s (step.EndSegment end) = Give SegmentEnd (behind s s.last end)
-act s (step.Fail f at) = fail s f at
-
--- a byte of a box that is passed over: it is let go as soon as it is there
-abbrev pub pass_byte : State → Begun → ℕ → List ℕ → Move State Item
-pass_byte s to left [] = Stop
-pass_byte s to left (x ∷ rest) = Pass (record { last = s.last; mode = Skipping to left; offset = s.offset + 1; rest = rest; failed = false })
-
-abbrev pub mode_move : State → Mode → Move State Item
-mode_move s (Between begun) = act s (step_of (is_some s.last) s.rest (Between begun))
-mode_move s (Skipping to zero) = Pass (into s (Between to))
-mode_move s (Skipping to (suc left)) = pass_byte s to left s.rest
-mode_move s (Within o) = act s (step_of (is_some s.last) s.rest (Within o))
-
-abbrev pub move_unless : State → Bool → Move State Item
-move_unless s true = Stop
-move_unless s false = mode_move s s.mode
-
--- ---- the walk
-
-abbrev pub walked : Place → ℕ
-walked (AtBox at) = at
-walked (InData end) = end
-
-abbrev pub place_size : Place → ℕ
-place_size (AtBox at) = 1
-place_size (InData end) = 2
-
--- What each move lowers: the bytes that are not walked over, each of which stands for more moves than a movie
--- fragment has slots, which are at most 2^20.
-abbrev pub size_by : ℕ → Mode → ℕ
-size_by n (Between begun) = 1048580 * n + 1
-size_by n (Skipping to zero) = 1048580 * n + 2
-size_by n (Skipping to (suc left)) = 1048580 * n
-size_by n (Within o) = 1048580 * (n - walked o.place) + (length o.slots - o.taken) + place_size o.place
-
-abbrev pub size_unless : State → Bool → ℕ
-size_unless s true = 0
-size_unless s false = suc (size_by (length s.rest) s.mode)
-
--- behind a fault more bytes are let go
-abbrev pub more_unless : State → List ℕ → Bool → State
-more_unless s c true = s
-more_unless s c false = record { last = s.last; mode = s.mode; offset = s.offset; rest = s.rest ++ c; failed = false }
-
-abbrev pub is_fault : Item → Bool
-is_fault (InitItem p offset) = false
-is_fault (FrameItem frame offset) = false
-is_fault SegmentEnd = false
-is_fault (FaultItem f offset) = true
-
-abbrev pub is_frame : Item → Bool
-is_frame (InitItem p offset) = false
-is_frame (FrameItem frame offset) = true
-is_frame SegmentEnd = false
-is_frame (FaultItem f offset) = false
-
--- a fault ends the walk; coded frames may be taken ahead
-abbrev pub segments : Kind State Item
-segments = record {
-  move = λ s. move_unless s s.failed;
-  size = λ s. size_unless s s.failed;
-  more = λ s c. more_unless s c s.failed;
-  ends = is_fault;
-  runs = is_frame;
+-- the fragment once the header of an mdat is there, whose payload is known from then on
+abbrev pub fragment_with : OpenFragment → TopBox → OpenFragment
+fragment_with f mdat = record {
+  moof = f.moof;
+  slots = f.slots;
+  payloads = f.payloads ++ (record { start = mdat.start; end = mdat.end }) ∷ [];
+  end = mdat.end;
 }
+
+-- behind the header of an mdat that ends the payloads of the fragment
+abbrev pub parse_of_mdat : Onwards → List ℕ → ParserView → OpenFragment → SegmentParse
+parse_of_mdat onwards b now f =
+    parse_of_slots b now f (λ slots. parse_once_there b f.end now (parse_of_data_end onwards now f slots)) f.slots
+
+-- a movie fragment with its data is held in memory whole
+abbrev pub parse_unless_large : ParserView → OpenFragment → TopBox → SegmentParse → SegmentParse
+parse_unless_large now f box parse =
+    if nat_lt (f.moof + 2 ^ 27) box.end then parse_of_fault now fault.TooLarge box.at else parse
+
+-- no other segment may begin in a movie fragment
+abbrev pub parse_inside : Onwards → List ℕ → ParserView → OpenFragment → TopBox → TopLevelBox → SegmentParse
+parse_inside onwards b now f box FileType = parse_of_fault now fault.InSegment box.at
+parse_inside onwards b now f box SegmentType = parse_of_fault now fault.InSegment box.at
+parse_inside onwards b now f box Movie = parse_of_fault now fault.InSegment box.at
+parse_inside onwards b now f box MovieFragment = parse_of_fault now fault.InSegment box.at
+parse_inside onwards b now f box MediaData =
+    parse_unless_large now f box (parse_of_mdat onwards b now (fragment_with f box))
+parse_inside onwards b now f box Other =
+    parse_unless_large now f box (parse_once_there b box.end now (onwards now.latest (InFragment f) box.end))
+
+-- ---- the string
+
+abbrev pub parse_of_box : Onwards → List ℕ → ParserView → Context → TopBox → SegmentParse
+parse_of_box onwards b now (NoFragment phase) box = parse_outside onwards b now box (box_use phase box.kind now.latest)
+parse_of_box onwards b now (InFragment f) box = parse_inside onwards b now f box box.kind
+
+-- the box of a header at an offset
+abbrev pub box_behind : ℕ → List ℕ → ℕ → ℕ → TopBox
+box_behind at kind head len = record { kind = box_type kind; at = at; start = at + head; end = at + len }
+
+abbrev pub parse_of_header : Onwards → List ℕ → ParserView → Context → ℕ → Header → SegmentParse
+parse_of_header onwards b now before at head.Short = NoItem now
+parse_of_header onwards b now before at (head.Bad f) = parse_of_fault now (size_fault f) at
+parse_of_header onwards b now before at (head.Whole kind start len) =
+    parse_of_box onwards b now before (box_behind at kind start len)
+
+-- what at most n boxes from an offset on give
+abbrev pub parse_of_boxes : ℕ → List ℕ → Onwards
+parse_of_boxes zero b last before at = NoItem (view_at b last before at)
+parse_of_boxes (suc n) b last before at =
+    parse_of_header (parse_of_boxes n b) b (view_at b last before at) before at (header_of (drop at b))
+
+-- What the whole string gives, where the presentation `last` was left by what came before. It has no more boxes than
+-- bytes.
+unfoldable pub segment_parse : Option Presentation → List ℕ → SegmentParse
+segment_parse last b = parse_of_boxes (suc (length b)) b last (NoFragment Waiting) 0
+
+-- all items of the string
+abbrev pub Items : Option Presentation → List ℕ → List SegmentItem
+Items last b = items_of (segment_parse last b)
+
+-- Just before item n, counted from 0, or at the end where there is no item n: where the segment parser loop is (Media
+-- Source Extensions, append state), the latest presentation, and the bytes of the string that are held in memory.
+abbrev pub phase_before : Option Presentation → List ℕ → ℕ → Phase
+phase_before last b n = (seen_before n (segment_parse last b)).phase
+
+abbrev pub latest_before : Option Presentation → List ℕ → ℕ → Option Presentation
+latest_before last b n = (seen_before n (segment_parse last b)).latest
+
+abbrev pub held_before : Option Presentation → List ℕ → ℕ → List ℕ
+held_before last b n = (seen_before n (segment_parse last b)).held
+
+-- how many of the items from n on are coded frames, up to the first that is none
+abbrev pub ready_before : Option Presentation → List ℕ → ℕ → ℕ
+ready_before last b n = length (leading_frames (drop n (Items last b)))
+
+-- ---- the box at an offset
+
+-- its bytes, or none where it is not whole
+abbrev pub box_by : List ℕ → ℕ → Header → List ℕ
+box_by b at head.Short = []
+box_by b at (head.Bad f) = []
+box_by b at (head.Whole kind start len) = if nat_le (at + len) (length b) then slice_range b at (at + len) else []
+
+abbrev pub box_at : List ℕ → ℕ → List ℕ
+box_at b at = box_by b at (header_of (drop at b))

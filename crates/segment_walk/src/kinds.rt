@@ -1,5 +1,6 @@
 use bmff_fragment::{MoofFault, Slot};
 use bmff_init::InitFault;
+use mse_base::Phase;
 
 /// Why a byte stream cannot be parsed any further.
 #[derive(Clone, Copy, Debug, PartialEq, Eq)]
@@ -44,17 +45,6 @@ pub enum TopLevelBox {
     Other,
 }
 
-/// Which segment was begun, where no movie fragment is open.
-#[derive(Clone, Copy, Debug, PartialEq, Eq)]
-pub enum Begun {
-    /// None.
-    Nothing,
-    /// An initialization segment: its `ftyp` was met.
-    InitSegment,
-    /// A media segment: its `styp` was met.
-    MediaSegment,
-}
-
 /// A place in an open movie fragment, counted from the first byte of its moof.
 #[derive(Clone, Copy, Debug, PartialEq, Eq)]
 pub enum Place {
@@ -64,7 +54,8 @@ pub enum Place {
     InData(u64),
 }
 
-/// The payload of an mdat, counted from the first byte of the moof before it: from `start` up to `end`.
+/// The payload of an mdat, from `start` up to `end`. The parser counts from the first byte of the moof before it, the
+/// definition of a string of segments from the first byte of the string.
 #[derive(Clone, Copy, Debug, PartialEq, Eq)]
 pub struct DataRange {
     pub start: u64,
@@ -84,10 +75,10 @@ pub struct Fragment {
 /// What the parser is doing.
 #[derive(Clone, Copy, Debug, PartialEq, Eq)]
 pub enum Mode {
-    /// It stands before a top-level box, and no movie fragment is open.
-    Between(Begun),
-    /// It passes over the bytes of a box that are left.
-    Skipping { to: Begun, left: u64 },
+    /// It stands before a top-level box, and no movie fragment is open in this append state.
+    Between(Phase),
+    /// It passes over the bytes of a box that are left; the append state counts from the header on.
+    Skipping { to: Phase, left: u64 },
     /// A movie fragment is open.
     Within(Fragment),
 }
@@ -98,7 +89,7 @@ pub enum Step {
     /// It waits; below so many bytes there is nothing to do.
     Wait(u64),
     /// It passes over a box of so many bytes.
-    Skip { to: Begun, len: u64 },
+    Skip { to: Phase, len: u64 },
     /// It reads a moov of so many bytes.
     ReadInit(u64),
     /// It reads a moof of so many bytes.

@@ -1,15 +1,17 @@
 ghost use Rattle.std.specs.Prelude.{◌≡◌, ℕ, ◌+◌, ◌≤◌, ◌<◌, ◌^◌, List, length, take, drop};
 ghost use Rattle.std.specs.List.{concat};
 ghost use Rattle.bmff_boxes.specs.Headers.{header_of};
-ghost use Rattle.segment_walk.specs.Segments.{size_fault as fault_of, box_type as type_of, place_fault as fault_at, most_of, judge_between as judged_between, take_box as taken_by, box_between as between_step, judge_within as judged_within, box_within as within_step, place_step as placed_step, lies_in as lying, slot_step as slotted_step, step_of};
+ghost use Rattle.segment_walk.specs.Tables.{size_fault as fault_of, box_type as type_of, greatest_size as greatest};
+ghost use Rattle.segment_walk.specs.Moves.{place_fault as fault_at, judge_between as judged_between, take_box as taken_by, box_between as between_step, judge_within as judged_within, box_within as within_step, place_step as placed_step, lies_in as lying, slot_step as slotted_step, step_of};
 ghost use Rattle.segment_walk.specs.Ranges.{mode_of, IsAscending, SeesAscending};
 ghost use Rattle.segment_walk.specs.Bounds.{IsHead, is_segment_start};
 
-use crate::kinds::{Begun, DataRange, Mode, Place, Step, StreamFault, TopLevelBox};
+use crate::kinds::{DataRange, Mode, Place, Step, StreamFault, TopLevelBox};
 use crate::search::lies_in;
 use bmff_boxes::{HeadFault, Header, header};
 use bmff_fragment::Slot;
 use input_chunks::Chunks;
+use mse_base::Phase;
 
 /// The most bytes of a movie fragment with its data.
 const LONGEST_FRAGMENT: u128 = 1 << 27;
@@ -42,19 +44,19 @@ fn size_fault(fault: HeadFault) -> StreamFault
 }
 
 /// What is out of place.
-fn place_fault(ready: bool, begun: Begun, kind: TopLevelBox) -> Option<StreamFault>
-    ensures { result ≡ fault_at ready begun kind }
+fn place_fault(ready: bool, phase: Phase, kind: TopLevelBox) -> Option<StreamFault>
+    ensures { result ≡ fault_at ready phase kind }
 {
-    match (begun, kind) {
-        (Begun::Nothing, TopLevelBox::Movie) => Some(StreamFault::MoovPlace),
-        (Begun::MediaSegment, TopLevelBox::Movie) => Some(StreamFault::MoovPlace),
-        (Begun::InitSegment, TopLevelBox::MovieFragment) => Some(StreamFault::MoofPlace),
-        (Begun::Nothing, TopLevelBox::MovieFragment) => if ready {
+    match (phase, kind) {
+        (Phase::Waiting, TopLevelBox::Movie) => Some(StreamFault::MoovPlace),
+        (Phase::InMedia, TopLevelBox::Movie) => Some(StreamFault::MoovPlace),
+        (Phase::InInit, TopLevelBox::MovieFragment) => Some(StreamFault::MoofPlace),
+        (Phase::Waiting, TopLevelBox::MovieFragment) => if ready {
             None
         } else {
             Some(StreamFault::NoInit)
         },
-        (Begun::MediaSegment, TopLevelBox::MovieFragment) => if ready {
+        (Phase::InMedia, TopLevelBox::MovieFragment) => if ready {
             None
         } else {
             Some(StreamFault::NoInit)
@@ -63,8 +65,8 @@ fn place_fault(ready: bool, begun: Begun, kind: TopLevelBox) -> Option<StreamFau
     }
 }
 
-fn most(kind: TopLevelBox) -> u64
-    ensures { result ≡ most_of kind }
+fn greatest_size(kind: TopLevelBox) -> u64
+    ensures { result ≡ greatest kind }
 {
     match kind {
         TopLevelBox::Movie => 1 << 24,
@@ -77,11 +79,11 @@ fn most(kind: TopLevelBox) -> u64
 }
 
 /// What a box does where no movie fragment is open and `there` bytes of it and of what follows are there.
-fn take_box(begun: Begun, kind: TopLevelBox, there: u64, len: u64) -> Step
-    ensures { result ≡ taken_by begun kind there len }
+fn take_box(phase: Phase, kind: TopLevelBox, there: u64, len: u64) -> Step
+    ensures { result ≡ taken_by phase kind there len }
 {
-    match (begun, kind) {
-        (Begun::InitSegment, TopLevelBox::Movie) => if there < len {
+    match (phase, kind) {
+        (Phase::InInit, TopLevelBox::Movie) => if there < len {
             Step::Wait(len)
         } else {
             Step::ReadInit(len)
@@ -91,37 +93,37 @@ fn take_box(begun: Begun, kind: TopLevelBox, there: u64, len: u64) -> Step
         } else {
             Step::ReadMoof(len)
         },
-        (Begun::Nothing, TopLevelBox::FileType) => Step::Skip {
-            to: Begun::InitSegment,
+        (Phase::Waiting, TopLevelBox::FileType) => Step::Skip {
+            to: Phase::InInit,
             len,
         },
-        (Begun::MediaSegment, TopLevelBox::FileType) => Step::Skip {
-            to: Begun::InitSegment,
+        (Phase::InMedia, TopLevelBox::FileType) => Step::Skip {
+            to: Phase::InInit,
             len,
         },
-        (Begun::Nothing, TopLevelBox::SegmentType) => Step::Skip {
-            to: Begun::MediaSegment,
+        (Phase::Waiting, TopLevelBox::SegmentType) => Step::Skip {
+            to: Phase::InMedia,
             len,
         },
-        _ => Step::Skip { to: begun, len },
+        _ => Step::Skip { to: phase, len },
     }
 }
 
-fn box_between(ready: bool, begun: Begun, there: u64, front: Header) -> Step
-    ensures { result ≡ between_step ready begun there front }
+fn box_between(ready: bool, phase: Phase, there: u64, front: Header) -> Step
+    ensures { result ≡ between_step ready phase there front }
 {
     match front {
         Header::Short => Step::Wait(0),
         Header::Bad(fault) => Step::Fail(size_fault(fault), 0),
         Header::Whole { kind, len, .. } => {
             let kind = box_type(kind);
-            if let Some(fault) = place_fault(ready, begun, kind) {
+            if let Some(fault) = place_fault(ready, phase, kind) {
                 return Step::Fail(fault, 0);
             }
-            if len > most(kind) {
+            if len > greatest_size(kind) {
                 return Step::Fail(StreamFault::TooLarge, 0);
             }
-            take_box(begun, kind, there, len)
+            take_box(phase, kind, there, len)
         }
     }
 }
@@ -253,7 +255,7 @@ fn first(known: &[DataRange], n: usize) -> &[DataRange]
 /// What the parser does next, in the mode that `mode` and the tables tell, where the bytes from place `from`
 /// of the input on are those from its offset on, and `ready` says that an initialization segment came. It
 /// takes no memory, and reads of a box no more than its header.
-#[tactic(auto, unfolding(crate::specs::Segments::step_of))]
+#[tactic(auto, unfolding(crate::specs::Moves::step_of))]
 pub fn step(
     ready: bool,
     mode: Mode,
@@ -267,9 +269,9 @@ pub fn step(
     ensures { result ≡ step_of ready (drop from (concat input.now)) (mode_of slots.now known.now mode) }
 {
     match mode {
-        Mode::Between(begun) => {
+        Mode::Between(phase) => {
             let there = (input.len() - from) as u64;
-            box_between(ready, begun, there, header_at(input, from, 0))
+            box_between(ready, phase, there, header_at(input, from, 0))
         }
         Mode::Skipping { .. } => Step::Wait(0),
         Mode::Within(fragment) => {

@@ -1,5 +1,5 @@
 ghost use Rattle.std.specs.Prelude.{◌≡◌};
-ghost use Rattle.segment_walk.specs.Segments.{lies_in as lying};
+ghost use Rattle.segment_walk.specs.Moves.{lies_in as lying};
 ghost use Rattle.segment_walk.specs.Ranges.{IsAscending};
 
 use crate::kinds::DataRange;

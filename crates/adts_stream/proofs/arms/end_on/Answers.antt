@@ -3,20 +3,20 @@ use Rattle.std.specs.List.{concat}
 use Rattle.std.proofs.lemmas.List.{length-drop}
 use Rattle.input_chunks.proofs.Rows.{bytes-without}
 use Rattle.parser_loop.specs.Walk.{settle}
-use Rattle.adts_stream.specs.declared.place.Place.TheVariants.{AtHeader}
-use Rattle.adts_stream.specs.Frames.{State, adts}
+use Rattle.adts_stream.specs.declared.position.ParsePoint.TheVariants.{AtHeader}
+use Rattle.adts_stream.specs.Walk.{State, adts}
 use Rattle.adts_stream.proofs.arms.end_on.Goals as goal
 
-pub settle_on-requires-clause-small : goal.settle_on-requires-clause-small
-settle_on-requires-clause-small c =
+pub settle_on-requires-clause-bounded : goal.settle_on-requires-clause-bounded
+settle_on-requires-clause-bounded c =
     let e = ap concat c.drop_front.ensures ∙ bytes-without c.args.len c.args.input.now in
-    omega (arith, c.requires.small, c.requires.inside, ap length e, length-drop c.args.len (concat c.args.input.now))
+    omega (arith, c.requires.bounded, c.requires.inside, ap length e, length-drop c.args.len (concat c.args.input.now))
 
 pub returns-clause-kept : goal.returns-clause-kept
 returns-clause-kept c =
     let e = ap concat c.drop_front.ensures ∙ bytes-without c.args.len c.args.input.now in
-    let s : List ℕ → Bool → State = λ rest failed. record { last = c.args.last.now; place = AtHeader; offset = c.args.spot.now.offset + c.args.len; rest = rest; failed = failed } in
-    c.settle_on.ensures.settled ∙ ap (λ rest. settle adts (s rest c.args.spot.now.failed)) e ∙ ap (λ failed. settle adts (s (drop c.args.len (concat c.args.input.now)) failed)) c.requires.going
+    let s : List ℕ → Bool → State = λ rest failed. record { last = c.args.last.now; point = AtHeader; offset = c.args.position.now.offset + c.args.len; rest = rest; failed = failed } in
+    c.settle_on.ensures.settled ∙ ap (λ rest. settle adts (s rest c.args.position.now.failed)) e ∙ ap (λ failed. settle adts (s (drop c.args.len (concat c.args.input.now)) failed)) c.requires.unfailed
 
 pub returns-clause-total : goal.returns-clause-total
 returns-clause-total c =

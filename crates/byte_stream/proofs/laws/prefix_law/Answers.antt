@@ -1,5 +1,5 @@
-use Rattle.byte_stream.proofs.Mapped.{items-begin}
+use Rattle.byte_stream.proofs.Placed.{items-begin}
 use Rattle.byte_stream.proofs.laws.prefix_law.Goals as goal
 
 pub returns : goal.returns
-returns c = λ container before b more. items-begin container before b more
+returns c = λ r bytes. items-begin r.container r.before r.whole bytes

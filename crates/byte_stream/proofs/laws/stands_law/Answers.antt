@@ -1,10 +1,11 @@
-use Rattle.byte_stream.proofs.Standing.{given-is, ready-is, phase-is, held-is}
+use Rattle.byte_stream.proofs.Standing.{given-is, ready-is, phase-is, held-is, latest-is}
 use Rattle.byte_stream.proofs.laws.stands_law.Goals as goal
 
 pub returns : goal.returns
 returns c = record {
-  given = λ kept container before whole n h. given-is kept container before whole n h;
-  ready = λ kept container before whole n h. ready-is kept container before whole n h;
-  phase = λ kept container before whole n h. phase-is kept container before whole n h;
-  held = λ kept container before whole n h. held-is kept container before whole n h;
+  given = λ s r h. given-is s.parser r.container r.before r.whole r.taken h.parser;
+  ready = λ s r h. ready-is s.parser r.container r.before r.whole r.taken h.parser;
+  phase = λ s r h. phase-is s.parser r.container r.before r.whole r.taken h.parser;
+  held = λ s r h. held-is s.parser r.container r.before r.whole r.taken h.parser;
+  latest = λ s r h. latest-is s.parser r.container r.before r.whole r.taken h.parser;
 }

@@ -2,7 +2,7 @@ use Rattle.std.proofs.Common.{◌+◌, length, drop, ap, ◌∙◌, arith}
 use Rattle.std.specs.List.{concat}
 use Rattle.std.proofs.lemmas.List.{length-append}
 use Rattle.input_chunks.proofs.Rows.{bytes-from, copy-end, copy-through, copy-past}
-use Rattle.input_chunks.specs.Entries.{pieces_of}
+use Rattle.input_chunks.specs.Ends.{pieces_of}
 use Rattle.input_chunks.proofs.Kept.{pieces-length, piece-at, copy-done}
 use Rattle.input_chunks.proofs.chunks.copy_of.Goals as goal
 use Rattle.input_chunks.proofs.chunks.copy_of.Goals.{then-skip-bytes+else-left-rest+in_ok-extend_from_slice-2, else-skip-bytes}

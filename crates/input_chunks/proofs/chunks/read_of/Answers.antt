@@ -2,7 +2,7 @@ use Rattle.std.proofs.Common.{◌≡◌, ◌+◌, ◌-◌, length, take, drop, a
 use Rattle.std.specs.List.{concat}
 use Rattle.std.proofs.lemmas.List.{length-append, take_all}
 use Rattle.input_chunks.proofs.Rows.{bytes-from, copy-through, copy-past}
-use Rattle.input_chunks.specs.Entries.{pieces_of}
+use Rattle.input_chunks.specs.Ends.{pieces_of}
 use Rattle.input_chunks.proofs.Kept.{pieces-length, piece-at, copy-done, none-left, read-end}
 use Rattle.input_chunks.proofs.chunks.read_of.Goals as goal
 use Rattle.input_chunks.proofs.chunks.read_of.Goals.{then-skip-bytes+else-left-rest, else-skip-bytes}

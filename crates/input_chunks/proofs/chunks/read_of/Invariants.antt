@@ -1,6 +1,6 @@
 use Rattle.std.proofs.Common.{◌≡◌, ◌+◌, ◌-◌, ◌≤◌, ◌++◌, length, take, drop}
 use Rattle.std.specs.List.{concat}
-use Rattle.input_chunks.specs.Entries.{pieces_of}
+use Rattle.input_chunks.specs.Ends.{pieces_of}
 use Rattle.input_chunks.proofs.chunks.read_of.Given as goal
 
 abbrev pub invariant-entries : goal.invariant-entries

@@ -1,7 +1,7 @@
 use Rattle.std.proofs.Common.{Some, length, length-drop, ap, ◌∙◌, arith}
 use Rattle.std.specs.List.{concat}
 use Rattle.input_chunks.proofs.Rows.{bytes-without}
-use Rattle.segment_stream.specs.declared.reach.Spot.{Spot}
+use Rattle.segment_stream.specs.declared.progress.ParserPosition.{ParserPosition}
 use Rattle.segment_stream.proofs.ArmLaws.{dropped}
 use Rattle.segment_stream.proofs.arms.init_on.Goals as goal
 
@@ -11,8 +11,8 @@ returns-clause-kept c = rw (← c.in_ok-copy.ensures) (c.enter.ensures.kept (Som
 pub returns-clause-total : goal.returns-clause-total
 returns-clause-total c =
     let old = c.args.input.now in
-    let from = c.in_ok-opened.opened.reached.from in
-    omega (arith, ap (λ (s : Spot). s.offset) c.enter.ensures.spot, ap (λ ps. length (concat ps)) c.enter.ensures.pieces ∙ ap length (bytes-without from old) ∙ length-drop from (concat old), c.in_ok-opened.ensures.total)
+    let from = c.in_ok-opened.opened.progress.from in
+    omega (arith, ap (λ (s : ParserPosition). s.offset) c.enter.ensures.position, ap (λ ps. length (concat ps)) c.enter.ensures.pieces ∙ ap length (bytes-without from old) ∙ length-drop from (concat old), c.in_ok-opened.ensures.total)
 
 pub returns-clause-pieces : goal.returns-clause-pieces
-returns-clause-pieces c = dropped c.in_ok-opened.opened.reached.from c.args.input.now _ c.in_ok-opened.ensures.consistent.inside c.enter.ensures.pieces
+returns-clause-pieces c = dropped c.in_ok-opened.opened.progress.from c.args.input.now _ c.in_ok-opened.ensures.consistent.inside c.enter.ensures.pieces

@@ -1,9 +1,9 @@
 use Rattle.std.proofs.Common.{Ok, Err, Result, OnOk, length, ap, ◌∙◌, sym, arith}
 use Rattle.std.specs.List.{concat}
-use Rattle.segment_walk.specs.Segments.{State}
-use Rattle.segment_stream.specs.declared.reach.Reached.{Reached}
-use Rattle.segment_stream.specs.declared.reach.Front.TheVariants as front
-use Rattle.segment_stream.specs.Kept.{state_of, front_move}
+use Rattle.segment_walk.specs.Moves.{State}
+use Rattle.segment_stream.specs.declared.progress.Progress.{Progress}
+use Rattle.segment_stream.specs.declared.progress.PendingItem.TheVariants as pending
+use Rattle.segment_stream.specs.Kept.{state_of, move_of_pending}
 use Rattle.segment_stream.proofs.ArmLaws.{all-kept, bytes-gone, dropped, front-item, kept-failed, rest-failed}
 use Rattle.segment_stream.proofs.arms.next_on.Goals as goal
 
@@ -11,37 +11,37 @@ on_any : {T E P : Type 0} (r : Result T E) → P → OnOk r P
 on_any (Ok x) p = p
 on_any (Err e) p = tt
 
-pub returns-then-reached-gt0-clause-last : goal.returns-then-reached-gt0-clause-last
-returns-then-reached-gt0-clause-last c = c.take_frame.ensures.last c.args.last.now
+pub returns-then-progress-gt0-clause-last : goal.returns-then-progress-gt0-clause-last
+returns-then-progress-gt0-clause-last c = c.take_frame.ensures.last c.args.last.now
 
-pub returns-then-reached-gt0-clause-pieces : goal.returns-then-reached-gt0-clause-pieces
-returns-then-reached-gt0-clause-pieces c = on_any c.take_frame.result (all-kept c.args.input.now c.requires.full)
+pub returns-then-progress-gt0-clause-pieces : goal.returns-then-progress-gt0-clause-pieces
+returns-then-progress-gt0-clause-pieces c = on_any c.take_frame.result (all-kept c.args.input.now c.requires.full)
 
 pub returns-in-Dry-clause-pieces : goal.returns-in-Dry-clause-pieces
 returns-in-Dry-clause-pieces c = all-kept c.args.input.now c.requires.full
 
 pub returns-in-Fault-clause-kept : goal.returns-in-Fault-clause-kept
 returns-in-Fault-clause-kept c =
-    let r = c.args.reached.now in
+    let r = c.args.progress.now in
     let sl = c.args.tables.now.slots.items in
     let kn = c.args.tables.now.known.items in
     let b = concat c.args.input.now in
     let last = c.args.last.now in
-    let s : State = state_of last r.spot sl kn b in
-    let e = c.in_ok-front_on.ensures.value ∙ ap (front_move s) c.in-Fault.is in
-    let q = front-item last r.spot.mode r.spot.offset r.from r.first r.ready r.want r.spot.failed sl kn b (front.Fault c.in-Fault.fault c.in-Fault.at) c.requires.rest.front (omega arith) e in
-    rw c.fail_on.ensures.reached (kept-failed last r.spot.mode r.spot.offset r.first r.ready 0 sl kn _ (bytes-gone c.args.input.now _ c.fail_on.ensures.input) (omega arith) ∙ sym q.1)
+    let s : State = state_of last r.position sl kn b in
+    let e = c.in_ok-pending_item.ensures.value ∙ ap (move_of_pending s) c.in-Fault.is in
+    let q = front-item last r.position.mode r.position.offset r.from r.first r.ready r.want r.position.failed sl kn b (pending.Fault c.in-Fault.fault c.in-Fault.at) c.requires.rest.front (omega arith) e in
+    rw c.fail_on.ensures.progress (kept-failed last r.position.mode r.position.offset r.first r.ready 0 sl kn _ (bytes-gone c.args.input.now _ c.fail_on.ensures.input) (omega arith) ∙ sym q.1)
 
 pub returns-in-Fault-clause-rest : goal.returns-in-Fault-clause-rest
 returns-in-Fault-clause-rest c =
-    let r = c.args.reached.now in
-    rw c.fail_on.ensures.reached (rest-failed c.args.last.now r.spot.mode r.spot.offset r.first r.ready _ c.args.tables.now.slots.items c.args.tables.now.known.items _ (bytes-gone c.args.input.now _ c.fail_on.ensures.input) (omega arith) (omega (arith, c.requires.rest.consistent.small)) c.requires.rest.consistent.counts)
+    let r = c.args.progress.now in
+    rw c.fail_on.ensures.progress (rest-failed c.args.last.now r.position.mode r.position.offset r.first r.ready _ c.args.tables.now.slots.items c.args.tables.now.known.items _ (bytes-gone c.args.input.now _ c.fail_on.ensures.input) (omega arith) (omega (arith, c.requires.rest.consistent.small)) c.requires.rest.consistent.counts)
 
 pub returns-in-Fault-clause-emptied : goal.returns-in-Fault-clause-emptied
-returns-in-Fault-clause-emptied c = λ e. (bytes-gone c.args.input.now _ c.fail_on.ensures.input, omega (arith, ap (λ (r : Reached). r.ready) c.fail_on.ensures.reached))
+returns-in-Fault-clause-emptied c = λ e. (bytes-gone c.args.input.now _ c.fail_on.ensures.input, omega (arith, ap (λ (r : Progress). r.ready) c.fail_on.ensures.progress))
 
 pub returns-in-Fault-clause-total : goal.returns-in-Fault-clause-total
-returns-in-Fault-clause-total c = omega (arith, ap (λ (r : Reached). r.spot.offset) c.fail_on.ensures.reached, ap length (bytes-gone c.args.input.now _ c.fail_on.ensures.input))
+returns-in-Fault-clause-total c = omega (arith, ap (λ (r : Progress). r.position.offset) c.fail_on.ensures.progress, ap length (bytes-gone c.args.input.now _ c.fail_on.ensures.input))
 
 pub returns-in-Fault-clause-pieces : goal.returns-in-Fault-clause-pieces
 returns-in-Fault-clause-pieces c = dropped (length (concat c.args.input.now)) c.args.input.now _ (omega arith) c.fail_on.ensures.input

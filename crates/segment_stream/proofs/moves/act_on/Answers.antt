@@ -13,8 +13,8 @@ plan-requires-clause-inside c =
     let kn = c.args.tables.now.known.items in
     let bytes = concat c.args.input.now in
     let rest = drop at.from bytes in
-    let a = is_active sl kn at.spot.mode c.requires.active in
-    let f = fits c.args.last.now (mode_of sl kn at.spot.mode) rest (step.ReadMoof c.in-ReadMoof.len) c.in-ReadMoof.ensures in omega (arith, f.2, length-drop at.from bytes, c.requires.consistent.inside)
+    let a = is_active sl kn at.position.mode c.requires.active in
+    let f = fits c.args.last.now (mode_of sl kn at.position.mode) rest (step.ReadMoof c.in-ReadMoof.len) c.in-ReadMoof.ensures in omega (arith, f.2, length-drop at.from bytes, c.requires.consistent.inside)
 
 pub returns-in_default-clause-ok : goal.returns-in_default-clause-ok
 returns-in_default-clause-ok c =
@@ -23,8 +23,8 @@ returns-in_default-clause-ok c =
     let kn = c.args.tables.now.known.items in
     let bytes = concat c.args.input.now in
     let rest = drop at.from bytes in
-    let a = is_active sl kn at.spot.mode c.requires.active in
-    (rests-plan c.args.last.now (mode_of sl kn at.spot.mode) at.spot.offset rest at.spot.failed _ c.in-ReadMoof.len c.requires.going a c.in-ReadMoof.ensures (plan-none c.args.last.now (take c.in-ReadMoof.len rest) c.in_ok-slots-in-ReadMoof.field-0 c.in_ok-slots-in-ReadMoof.ensures.plan (λ v e. c.in_default.not-Some v e)), (refl, refl))
+    let a = is_active sl kn at.position.mode c.requires.active in
+    (rests-plan c.args.last.now (mode_of sl kn at.position.mode) at.position.offset rest at.position.failed _ c.in-ReadMoof.len c.requires.going a c.in-ReadMoof.ensures (plan-none c.args.last.now (take c.in-ReadMoof.len rest) c.in_ok-slots-in-ReadMoof.field-0 c.in_ok-slots-in-ReadMoof.ensures.plan (λ v e. c.in_default.not-Some v e)), (refl, refl))
 
 pub returns-in-Wait-clause-ok : goal.returns-in-Wait-clause-ok
 returns-in-Wait-clause-ok c =
@@ -33,8 +33,8 @@ returns-in-Wait-clause-ok c =
     let kn = c.args.tables.now.known.items in
     let bytes = concat c.args.input.now in
     let rest = drop at.from bytes in
-    let a = is_active sl kn at.spot.mode c.requires.active in
-    (rests-wait c.args.last.now (mode_of sl kn at.spot.mode) at.spot.offset rest at.spot.failed _ c.requires.going a c.in-Wait.ensures, (refl, refl))
+    let a = is_active sl kn at.position.mode c.requires.active in
+    (rests-wait c.args.last.now (mode_of sl kn at.position.mode) at.position.offset rest at.position.failed _ c.requires.going a c.in-Wait.ensures, (refl, refl))
 
 pub returns-in-ReadInit-clause-ok : goal.returns-in-ReadInit-clause-ok
 returns-in-ReadInit-clause-ok c =
@@ -43,8 +43,8 @@ returns-in-ReadInit-clause-ok c =
     let kn = c.args.tables.now.known.items in
     let bytes = concat c.args.input.now in
     let rest = drop at.from bytes in
-    let a = is_active sl kn at.spot.mode c.requires.active in
-    (rests-init c.args.last.now (mode_of sl kn at.spot.mode) at.spot.offset rest at.spot.failed _ _ c.requires.going a c.in-ReadInit.ensures, (refl, refl))
+    let a = is_active sl kn at.position.mode c.requires.active in
+    (rests-init c.args.last.now (mode_of sl kn at.position.mode) at.position.offset rest at.position.failed _ _ c.requires.going a c.in-ReadInit.ensures, (refl, refl))
 
 pub returns-in-EndSegment-clause-ok : goal.returns-in-EndSegment-clause-ok
 returns-in-EndSegment-clause-ok c =
@@ -53,8 +53,8 @@ returns-in-EndSegment-clause-ok c =
     let kn = c.args.tables.now.known.items in
     let bytes = concat c.args.input.now in
     let rest = drop at.from bytes in
-    let a = is_active sl kn at.spot.mode c.requires.active in
-    (rests-end c.args.last.now (mode_of sl kn at.spot.mode) at.spot.offset rest at.spot.failed _ _ c.requires.going a c.in-EndSegment.ensures, (refl, refl))
+    let a = is_active sl kn at.position.mode c.requires.active in
+    (rests-end c.args.last.now (mode_of sl kn at.position.mode) at.position.offset rest at.position.failed _ _ c.requires.going a c.in-EndSegment.ensures, (refl, refl))
 
 pub returns-in-Fail-clause-ok : goal.returns-in-Fail-clause-ok
 returns-in-Fail-clause-ok c =
@@ -63,8 +63,8 @@ returns-in-Fail-clause-ok c =
     let kn = c.args.tables.now.known.items in
     let bytes = concat c.args.input.now in
     let rest = drop at.from bytes in
-    let a = is_active sl kn at.spot.mode c.requires.active in
-    (rests-fail c.args.last.now (mode_of sl kn at.spot.mode) at.spot.offset rest at.spot.failed _ _ _ c.requires.going a c.in-Fail.ensures, (refl, refl))
+    let a = is_active sl kn at.position.mode c.requires.active in
+    (rests-fail c.args.last.now (mode_of sl kn at.position.mode) at.position.offset rest at.position.failed _ _ _ c.requires.going a c.in-Fail.ensures, (refl, refl))
 
 pub returns-in-Skip-clause-ok : goal.returns-in-Skip-clause-ok
 returns-in-Skip-clause-ok c =
@@ -73,8 +73,8 @@ returns-in-Skip-clause-ok c =
     let kn = c.args.tables.now.known.items in
     let bytes = concat c.args.input.now in
     let rest = drop at.from bytes in
-    let a = is_active sl kn at.spot.mode c.requires.active in
-    rw c.turned.ensures (moved-skip c.args.last.now at.spot.mode at.spot.offset at.from at.first at.ready at.want at.spot.failed sl kn bytes _ _ c.requires.going c.requires.active c.requires.consistent c.in-Skip.ensures)
+    let a = is_active sl kn at.position.mode c.requires.active in
+    rw c.in_mode.ensures (moved-skip c.args.last.now at.position.mode at.position.offset at.from at.first at.ready at.want at.position.failed sl kn bytes _ _ c.requires.going c.requires.active c.requires.consistent c.in-Skip.ensures)
 
 pub returns-in-Some-clause-ok : goal.returns-in-Some-clause-ok
 returns-in-Some-clause-ok c =
@@ -83,8 +83,8 @@ returns-in-Some-clause-ok c =
     let kn = c.args.tables.now.known.items in
     let bytes = concat c.args.input.now in
     let rest = drop at.from bytes in
-    let a = is_active sl kn at.spot.mode c.requires.active in
-    moved-plan c.args.last.now at.spot.mode at.spot.offset at.from at.first at.ready at.want at.spot.failed sl _ kn _ bytes _ c.requires.going c.requires.active c.requires.consistent c.in-ReadMoof.ensures (plan-is c.args.last.now (take c.in-ReadMoof.len rest) c.in_ok-slots-in-ReadMoof.field-0 c.in-Some.slots c.in_ok-slots-in-ReadMoof.ensures.plan c.in-Some.is) c.clear.ensures.items (ordered-is c.in_ok-slots-in-ReadMoof.field-0 c.in-Some.slots c.in_ok-slots-in-ReadMoof.ensures.ordered c.in-Some.is)
+    let a = is_active sl kn at.position.mode c.requires.active in
+    moved-plan c.args.last.now at.position.mode at.position.offset at.from at.first at.ready at.want at.position.failed sl _ kn _ bytes _ c.requires.going c.requires.active c.requires.consistent c.in-ReadMoof.ensures (plan-is c.args.last.now (take c.in-ReadMoof.len rest) c.in_ok-slots-in-ReadMoof.field-0 c.in-Some.slots c.in_ok-slots-in-ReadMoof.ensures.plan c.in-Some.is) c.clear.ensures.items (ordered-is c.in_ok-slots-in-ReadMoof.field-0 c.in-Some.slots c.in_ok-slots-in-ReadMoof.ensures.ordered c.in-Some.is)
 
 pub returns-in_ok-push-in-EnterData-clause-ok : goal.returns-in_ok-push-in-EnterData-clause-ok
 returns-in_ok-push-in-EnterData-clause-ok c =
@@ -93,9 +93,9 @@ returns-in_ok-push-in-EnterData-clause-ok c =
     let kn = c.args.tables.now.known.items in
     let bytes = concat c.args.input.now in
     let rest = drop at.from bytes in
-    let a = is_active sl kn at.spot.mode c.requires.active in
+    let a = is_active sl kn at.position.mode c.requires.active in
     let t = c.in_ok-push-in-EnterData.ensures.items ∙ ap (λ v. v ++ (record { start = c.in-EnterData.start; end = c.in-EnterData.end }) ∷ []) (c.truncate.ensures.items ∙ ap (λ (i : Fragment). take i.known kn) c.fragment-open.ensures) in
-    rw (c.turned-in-EnterData.ensures, c.fragment-open.ensures) (moved-data c.args.last.now at.spot.mode at.spot.offset at.from at.first at.ready at.want at.spot.failed sl kn _ bytes c.in-EnterData.start c.in-EnterData.end c.requires.going c.requires.active c.requires.consistent c.in-EnterData.ensures t)
+    rw (c.in_mode-in-EnterData.ensures, c.fragment-open.ensures) (moved-data c.args.last.now at.position.mode at.position.offset at.from at.first at.ready at.want at.position.failed sl kn _ bytes c.in-EnterData.start c.in-EnterData.end c.requires.going c.requires.active c.requires.consistent c.in-EnterData.ensures t)
 
 pub returns-in-NextBox-clause-ok : goal.returns-in-NextBox-clause-ok
 returns-in-NextBox-clause-ok c =
@@ -104,8 +104,8 @@ returns-in-NextBox-clause-ok c =
     let kn = c.args.tables.now.known.items in
     let bytes = concat c.args.input.now in
     let rest = drop at.from bytes in
-    let a = is_active sl kn at.spot.mode c.requires.active in
-    rw (c.turned-in-NextBox.ensures, c.fragment-open.ensures) (moved-next c.args.last.now at.spot.mode at.spot.offset at.from at.first at.ready at.want at.spot.failed sl kn bytes _ c.requires.going c.requires.active c.requires.consistent c.in-NextBox.ensures)
+    let a = is_active sl kn at.position.mode c.requires.active in
+    rw (c.in_mode-in-NextBox.ensures, c.fragment-open.ensures) (moved-next c.args.last.now at.position.mode at.position.offset at.from at.first at.ready at.want at.position.failed sl kn bytes _ c.requires.going c.requires.active c.requires.consistent c.in-NextBox.ensures)
 
 pub returns-in-GiveFrame-clause-ok : goal.returns-in-GiveFrame-clause-ok
 returns-in-GiveFrame-clause-ok c =
@@ -114,5 +114,5 @@ returns-in-GiveFrame-clause-ok c =
     let kn = c.args.tables.now.known.items in
     let bytes = concat c.args.input.now in
     let rest = drop at.from bytes in
-    let a = is_active sl kn at.spot.mode c.requires.active in
-    rw c.fragment-open.ensures (moved-frame c.args.last.now at.spot.mode at.spot.offset at.from at.first at.ready at.want at.spot.failed sl kn bytes _ c.requires.going c.requires.active c.requires.consistent c.in-GiveFrame.ensures)
+    let a = is_active sl kn at.position.mode c.requires.active in
+    rw c.fragment-open.ensures (moved-frame c.args.last.now at.position.mode at.position.offset at.from at.first at.ready at.want at.position.failed sl kn bytes _ c.requires.going c.requires.active c.requires.consistent c.in-GiveFrame.ensures)

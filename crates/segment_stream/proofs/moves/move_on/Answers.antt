@@ -9,7 +9,7 @@ returns-then-at-clause-ok c =
     let at = c.args.at in
     let sl = c.args.tables.now.slots.items in
     let kn = c.args.tables.now.known.items in
-    (rests-failed c.args.last.now (mode_of sl kn at.spot.mode) at.spot.offset (drop at.from (concat c.args.input.now)) at.spot.failed _ c.if-at.true, (refl, refl))
+    (rests-failed c.args.last.now (mode_of sl kn at.position.mode) at.position.offset (drop at.from (concat c.args.input.now)) at.position.failed _ c.if-at.true, (refl, refl))
 
 pub returns-in-Skipping-clause-ok : goal.returns-in-Skipping-clause-ok
 returns-in-Skipping-clause-ok c = c.pass_over.ensures c.args.last.now c.args.tables.now.slots.items c.args.tables.now.known.items

@@ -2,39 +2,47 @@ use Rattle.std.proofs.Common.{length, ap, ◌∙◌, arith, length-append, sym, 
 use Rattle.std.specs.List.{concat}
 use Rattle.input_chunks.proofs.Rows.{bytes-pushed}
 use Rattle.segment_stream.specs.Kept.{IsConsistent}
-use Rattle.segment_stream.proofs.Found.{found-same, found-ok, found-failed, consistent-longer}
+use Rattle.segment_stream.proofs.Found.{found-same, found-ok, found-failed, consistent-longer, keeps-rest, since-keeps}
 use Rattle.segment_stream.proofs.offers.offer_on.Goals as goal
 
-pub returns-then-len-reached-clause-found : goal.returns-then-len-reached-clause-found
-returns-then-len-reached-clause-found c =
-    let r = c.args.reached in
+pub returns-then-len-progress-clause-found : goal.returns-then-len-progress-clause-found
+returns-then-len-progress-clause-found c =
+    let r = c.args.progress in
     let b = concat c.args.input.now in
-    let e = ap concat c.in_ok-push.ensures.ok ∙ bytes-pushed c.args.bytes.now c.args.input.now in
-    let l = ap length e ∙ length-append b c.args.bytes.now in
-    found-same c.args.last.now r.spot.mode r.spot.offset r.from r.first r.ready r.want r.spot.failed c.args.tables.now.slots.items c.args.tables.now.known.items b c.args.bytes.now _ e c.if-reached.false c.requires.rest (omega (arith, l, c.len-2.ensures)) c.requires.room
+    let e = ap concat c.in_ok-push_vec.ensures.ok ∙ bytes-pushed c.args.bytes.items c.args.input.now in
+    let l = ap length e ∙ length-append b c.args.bytes.items in
+    found-same c.args.last.now r.position.mode r.position.offset r.from r.first r.ready r.want r.position.failed c.args.tables.now.slots.items c.args.tables.now.known.items b c.args.bytes.items _ e c.if-progress.false c.requires.rest (omega (arith, l, c.len-2.ensures)) c.requires.room
 
 pub run_on-requires-clause-consistent : goal.run_on-requires-clause-consistent
 run_on-requires-clause-consistent c =
-    let r = c.args.reached in
+    let r = c.args.progress in
     let b = concat c.args.input.now in
-    let e = ap concat c.in_ok-push.ensures.ok ∙ bytes-pushed c.args.bytes.now c.args.input.now in
-    subst (λ v. IsConsistent r c.args.tables.now.slots.items c.args.tables.now.known.items v) (sym e) (consistent-longer r.spot.mode r.spot.offset r.from r.first r.ready r.want r.spot.failed c.args.tables.now.slots.items c.args.tables.now.known.items b c.args.bytes.now c.requires.rest.front c.requires.room c.requires.rest.consistent)
+    let e = ap concat c.in_ok-push_vec.ensures.ok ∙ bytes-pushed c.args.bytes.items c.args.input.now in
+    subst (λ v. IsConsistent r c.args.tables.now.slots.items c.args.tables.now.known.items v) (sym e) (consistent-longer r.position.mode r.position.offset r.from r.first r.ready r.want r.position.failed c.args.tables.now.slots.items c.args.tables.now.known.items b c.args.bytes.items c.requires.rest.front c.requires.room c.requires.rest.consistent)
 
 pub drop_back-requires : goal.drop_back-requires
 drop_back-requires c =
     let b = concat c.args.input.now in
-    let e = ap concat c.in_ok-push.ensures.ok ∙ bytes-pushed c.args.bytes.now c.args.input.now in
-    omega (arith, ap length e, length-append b c.args.bytes.now)
+    let e = ap concat c.in_ok-push_vec.ensures.ok ∙ bytes-pushed c.args.bytes.items c.args.input.now in
+    omega (arith, ap length e, length-append b c.args.bytes.items)
 
 pub returns-in-Ok-clause-found : goal.returns-in-Ok-clause-found
 returns-in-Ok-clause-found c =
     let b = concat c.args.input.now in
-    let e = ap concat c.in_ok-push.ensures.ok ∙ bytes-pushed c.args.bytes.now c.args.input.now in
-    found-ok c.in-Ok.found c.args.last.now c.args.reached c.args.tables.now.slots.items _ c.args.tables.now.known.items _ b c.args.bytes.now _ e c.if-reached.false c.requires.rest c.in-Ok.ensures.since c.in-Ok.ensures.same c.in-Ok.ensures.consistent c.in-Ok.ensures.rests c.in-Ok.ensures.total
+    let e = ap concat c.in_ok-push_vec.ensures.ok ∙ bytes-pushed c.args.bytes.items c.args.input.now in
+    found-ok c.in-Ok.found c.args.last.now c.args.progress c.args.tables.now.slots.items _ c.args.tables.now.known.items _ b c.args.bytes.items _ e c.if-progress.false c.requires.rest c.in-Ok.ensures.since c.in-Ok.ensures.same c.in-Ok.ensures.consistent c.in-Ok.ensures.rests c.in-Ok.ensures.total
 
-pub returns-then-reached-clause-found : goal.returns-then-reached-clause-found
-returns-then-reached-clause-found c =
-    let r = c.args.reached in
+pub returns-then-progress-clause-found : goal.returns-then-progress-clause-found
+returns-then-progress-clause-found c =
+    let r = c.args.progress in
     let b = concat c.args.input.now in
-    let e = ap concat c.in_ok-push.ensures.ok ∙ bytes-pushed c.args.bytes.now c.args.input.now in
-    rw c.past_all.ensures (found-failed c.args.last.now r.spot.mode r.spot.offset r.from r.first r.ready r.want _ _ r.spot.failed c.args.tables.now.slots.items c.args.tables.now.known.items b c.args.bytes.now _ e c.if-reached.true c.len.ensures c.requires.rest (c.requires.emptied c.if-reached.true))
+    let e = ap concat c.in_ok-push_vec.ensures.ok ∙ bytes-pushed c.args.bytes.items c.args.input.now in
+    rw c.past_all.ensures (found-failed c.args.last.now r.position.mode r.position.offset r.from r.first r.ready r.want _ _ r.position.failed c.args.tables.now.slots.items c.args.tables.now.known.items b c.args.bytes.items _ e c.if-progress.true c.len.ensures c.requires.rest (c.requires.emptied c.if-progress.true))
+
+pub returns-in-Ok-clause-rest : goal.returns-in-Ok-clause-rest
+returns-in-Ok-clause-rest c =
+    let r = c.args.progress in
+    let sl = c.args.tables.now.slots.items in
+    let kn = c.args.tables.now.known.items in
+    let new = c.run_on.new.tables in
+    keeps-rest c.args.last.now r sl new.slots.items kn new.known.items (concat c.args.input.now) (since-keeps r.position.mode c.in-Ok.found.position.mode sl new.slots.items kn new.known.items c.in-Ok.ensures.since) c.requires.rest

@@ -1,14 +1,14 @@
 use Rattle.std.proofs.Common.{ℕ, [], None, Option, sym, subst}
 use Rattle.std.specs.List.{concat}
-use Rattle.adts_stream.specs.Kept.{state_of}
-use Rattle.adts_stream.specs.Streams.{Stands, streamed}
+use Rattle.adts_stream.specs.Values.{state_of}
+use Rattle.adts_stream.specs.Streams.{Stands, adts_view}
 use Rattle.adts_stream.proofs.StreamLaws.{idle, start-is, stands-empty}
 use Rattle.adts_stream.proofs.stream.AdtsStream.forget.Goals as goal
 
 pub returns-clause-stands : goal.returns-clause-stands
 returns-clause-stands c =
     let s = c.self.inside in
-    let h = idle s.last s.spot (concat s.input) s.fed s.offered c.args.self.now c.self.view_is c.requires in
+    let h = idle s.last s.position (concat s.input) s.fed s.offered c.args.self.now c.self.view_is c.requires in
     let new = c.restart.new in
-    let q : Stands (state_of None new.spot (concat new.input)) None [] 0 = subst (λ k. Stands k None [] 0) (sym (start-is None new.spot (concat new.input) c.restart.ensures.spot c.restart.ensures.input)) (stands-empty None) in
-    subst (λ (o : Option ℕ). Stands (streamed None new.spot (concat new.input) 0 o).kept None [] 0) (sym h.1) q
+    let q : Stands (state_of None new.position (concat new.input)) None [] 0 = subst (λ k. Stands k None [] 0) (sym (start-is None new.position (concat new.input) c.restart.ensures.position c.restart.ensures.input)) (stands-empty None) in
+    subst (λ (o : Option ℕ). Stands (adts_view None new.position (concat new.input) 0 o).state None [] 0) (sym h.1) q

@@ -1,6 +1,6 @@
 use Rattle.std.proofs.Common.{◌+◌}
 use Rattle.segment_stream.specs.Kept as segment_kept
-use Rattle.adts_stream.specs.Kept as frame_kept
+use Rattle.adts_stream.specs.Values as frame_kept
 use Rattle.byte_stream.specs.Streams.{seen}
 use Rattle.byte_stream.proofs.Parsing.{seen-segments, seen-frames}
 use Rattle.byte_stream.proofs.parser.Parser.look.Goals as goal

@@ -1,5 +1,5 @@
 use Rattle.segment_stream.specs.Kept as segment_kept
-use Rattle.adts_stream.specs.Kept as frame_kept
+use Rattle.adts_stream.specs.Values as frame_kept
 use Rattle.byte_stream.specs.Streams.{seen}
 use Rattle.byte_stream.proofs.Parsing.{seen-segments, seen-frames, behind-segments, behind-frames}
 use Rattle.byte_stream.proofs.parser.Parser.next.Goals as goal

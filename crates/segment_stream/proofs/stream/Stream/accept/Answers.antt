@@ -1,6 +1,6 @@
 use Rattle.std.proofs.Common.{Option, ap, ◌∙◌, sym, subst}
 use Rattle.segment_stream.specs.declared.stream.Offered.{Offered}
-use Rattle.segment_stream.specs.Streams.{streamed, HoldsOffer, IsStream}
+use Rattle.segment_stream.specs.Streams.{streamed, IsStreamWithOffer, IsStream}
 use Rattle.segment_stream.proofs.StreamLaws.{accept-holds, accept-stands, accept-pieces}
 use Rattle.segment_stream.proofs.stream.Stream.accept.Goals as goal
 
@@ -12,8 +12,8 @@ invariant_of-self c =
     let kn = s.tables.known.items in
     let new = c.accept_on-self-inside.new.input in
     let q = c.accept_on-self-inside.ensures in
-    let h : HoldsOffer s.last s.reached sl kn s.input s.fed o = subst (λ (x : Option Offered). IsStream s.last s.reached sl kn s.input s.fed x) c.in-Some.is c.self.invariant in
-    accept-holds s.last s.reached c.accept_on-self-inside.result sl kn s.input new s.fed o h (q.rest s.last sl kn h.found.consistent h.found.rests) q.spot q.ready q.pieces
+    let h : IsStreamWithOffer s.last s.progress sl kn s.input s.fed o = subst (λ (x : Option Offered). IsStream s.last s.progress sl kn s.input s.fed x) c.in-Some.is c.self.invariant in
+    accept-holds s.last s.progress c.accept_on-self-inside.result sl kn s.input new s.fed o h (q.rest s.last sl kn h.found.consistent h.found.rests) q.position q.ready q.pieces
 
 pub returns-clause-stands : goal.returns-clause-stands
 returns-clause-stands c =
@@ -23,9 +23,9 @@ returns-clause-stands c =
     let kn = s.tables.known.items in
     let new = c.accept_on-self-inside.new.input in
     let q = c.accept_on-self-inside.ensures in
-    let h : HoldsOffer s.last s.reached sl kn s.input s.fed o = subst (λ (x : Option Offered). IsStream s.last s.reached sl kn s.input s.fed x) c.in-Some.is c.self.invariant in
-    let e = ap (λ (x : Option Offered). streamed s.last s.reached sl kn s.input s.fed x) (sym c.in-Some.is) ∙ c.self.view_is in
-    accept-stands s.last s.reached c.accept_on-self-inside.result sl kn s.input new s.fed o c.args.self.now e h (q.kept s.last sl kn)
+    let h : IsStreamWithOffer s.last s.progress sl kn s.input s.fed o = subst (λ (x : Option Offered). IsStream s.last s.progress sl kn s.input s.fed x) c.in-Some.is c.self.invariant in
+    let e = ap (λ (x : Option Offered). streamed s.last s.progress sl kn s.input s.fed x) (sym c.in-Some.is) ∙ c.self.view_is in
+    accept-stands s.last s.progress c.accept_on-self-inside.result sl kn s.input new s.fed o c.args.self.now e h (q.kept s.last sl kn)
 
 pub returns-clause-pieces : goal.returns-clause-pieces
 returns-clause-pieces c =
@@ -35,6 +35,6 @@ returns-clause-pieces c =
     let kn = s.tables.known.items in
     let new = c.accept_on-self-inside.new.input in
     let q = c.accept_on-self-inside.ensures in
-    let h : HoldsOffer s.last s.reached sl kn s.input s.fed o = subst (λ (x : Option Offered). IsStream s.last s.reached sl kn s.input s.fed x) c.in-Some.is c.self.invariant in
-    let e = ap (λ (x : Option Offered). streamed s.last s.reached sl kn s.input s.fed x) (sym c.in-Some.is) ∙ c.self.view_is in
-    accept-pieces s.last s.reached sl kn s.input new s.fed c.accept_on-self-inside.result.from o c.args.self.now e h (q.rest s.last sl kn h.found.consistent h.found.rests).front q.pieces
+    let h : IsStreamWithOffer s.last s.progress sl kn s.input s.fed o = subst (λ (x : Option Offered). IsStream s.last s.progress sl kn s.input s.fed x) c.in-Some.is c.self.invariant in
+    let e = ap (λ (x : Option Offered). streamed s.last s.progress sl kn s.input s.fed x) (sym c.in-Some.is) ∙ c.self.view_is in
+    accept-pieces s.last s.progress sl kn s.input new s.fed c.accept_on-self-inside.result.from o c.args.self.now e h (q.rest s.last sl kn h.found.consistent h.found.rests).front q.pieces

@@ -1,14 +1,12 @@
 use Rattle.std.proofs.Common.{◌≡◌, ℕ, ◌+◌, ◌<◌, ◌≤◌, ◌⊎◌, inl, inr, Result, Ok, Err, IfOk, length, drop, slice_get, ap, ◌∙◌, sym, refl, arith}
 use Rattle.std.specs.List.{concat}
 use Rattle.parser_loop.specs.Walk.{first_item}
-use Rattle.parser_loop.proofs.Runs.{stands-first, stands-look}
-use Rattle.segment_walk.specs.Segments.{State, segments}
-use Rattle.segment_walk.specs.Strings.{start, Items}
-use Rattle.segment_walk.proofs.WalkLaws.{is_walk}
+use Rattle.segment_walk.specs.Moves.{State, segments}
+use Rattle.segment_walk.specs.Segments.{Items}
 use Rattle.segment_stream.specs.Kept.{state_of}
 use Rattle.segment_stream.specs.Streams.{Streamed}
 use Rattle.segment_stream.proofs.ArmLaws.{front-item}
-use Rattle.segment_stream.proofs.StreamLaws.{idle, frames-counted}
+use Rattle.segment_stream.proofs.StreamLaws.{idle, frames-counted, stands-item, stands-ahead}
 use Rattle.segment_stream.proofs.stream.Stream.look.Goals as goal
 
 if_ok : {T E : Type 0} (r : Result T E) (P R : T → Type 0) → IfOk r P → ((x : T) → P x → R x) → IfOk r R
@@ -22,24 +20,24 @@ none-ready i ready count l e (inr h) = absurd (omega arith)
 pub returns-then-i-self : goal.returns-then-i-self
 returns-then-i-self c = λ last b n st.
     let s = c.self.inside in
-    let h = idle s.last s.reached s.tables.slots.items s.tables.known.items s.input s.fed s.offered c.args.self.now c.self.view_is c.requires.idle c.self.invariant in
-    let r = s.reached in
-    let l = frames-counted r.spot.mode (drop r.from (concat s.input)) r.spot.offset s.tables.slots.items s.tables.known.items r.first r.ready h.0.rest.consistent.counts in
+    let h = idle s.last s.progress s.tables.slots.items s.tables.known.items s.input s.fed s.offered c.args.self.now c.self.view_is c.requires.idle c.self.invariant in
+    let r = s.progress in
+    let l = frames-counted r.position.mode (drop r.from (concat s.input)) r.position.offset s.tables.slots.items s.tables.known.items r.first r.ready h.0.rest.consistent.counts in
     let k = ap (λ (v : Streamed). v.kept.items) h.1 in
-    let e = ap (λ items. slice_get items c.args.i) k ∙ stands-look segments is_walk c.args.self.now.kept (start last b) n c.args.i (omega (arith, l, ap length k)) st in
+    let e = ap (λ items. slice_get items c.args.i) k ∙ stands-ahead c.args.self.now.kept last b n c.args.i (omega (arith, l, ap length k)) st in
     if_ok c.look_frame.result _ _ (c.look_frame.ensures.item s.last) (λ x g. g ∙ e)
 
 pub returns : goal.returns
 returns c = λ last b n st.
     let s = c.self.inside in
-    let h = idle s.last s.reached s.tables.slots.items s.tables.known.items s.input s.fed s.offered c.args.self.now c.self.view_is c.requires.idle c.self.invariant in
-    let r = s.reached in
+    let h = idle s.last s.progress s.tables.slots.items s.tables.known.items s.input s.fed s.offered c.args.self.now c.self.view_is c.requires.idle c.self.invariant in
+    let r = s.progress in
     let sl = s.tables.slots.items in
     let kn = s.tables.known.items in
-    let l = frames-counted r.spot.mode (drop r.from (concat s.input)) r.spot.offset sl kn r.first r.ready h.0.rest.consistent.counts in
+    let l = frames-counted r.position.mode (drop r.from (concat s.input)) r.position.offset sl kn r.first r.ready h.0.rest.consistent.counts in
     let k = ap (λ (v : Streamed). length v.kept.items) h.1 in
     let z = none-ready c.args.i r.ready (length c.args.self.now.kept.items) (omega arith) (omega arith) c.requires.ready in
-    let t : State = state_of s.last r.spot sl kn (concat s.input) in
-    let q = front-item s.last r.spot.mode r.spot.offset r.from r.first r.ready r.want r.spot.failed sl kn (concat s.input) c.in_ok-front.front h.0.rest.front z.1 c.in_ok-front.ensures.value in
+    let t : State = state_of s.last r.position sl kn (concat s.input) in
+    let q = front-item s.last r.position.mode r.position.offset r.from r.first r.ready r.want r.position.failed sl kn (concat s.input) c.in_ok-front.front h.0.rest.front z.1 c.in_ok-front.ensures.value in
     let y : n ≡ n + c.args.i = omega arith in
-    c.shown.ensures t refl ∙ sym q.0 ∙ ap (λ (v : Streamed). first_item segments v.kept) h.1 ∙ stands-first segments is_walk c.args.self.now.kept (start last b) n st ∙ ap (slice_get (Items last b)) y
+    c.shown.ensures t refl ∙ sym q.0 ∙ ap (λ (v : Streamed). first_item segments v.kept) h.1 ∙ stands-item c.args.self.now.kept last b n st ∙ ap (slice_get (Items last b)) y

@@ -1,0 +1,61 @@
+-- What the values of the code are to the walk.
+use Rattle.std.specs.Prelude.{◌≡◌, ℕ, ◌<◌, ◌≤◌, nat_le, if◌then◌else◌, Bool, true, false, List, length, Option, Some, None}
+use Rattle.mse_base.specs.declared.track.Presentation.{Presentation}
+use Rattle.parser_loop.specs.Walk.{Move, Stop, Pass, Give, item_of, settle}
+use Rattle.adts_stream.specs.declared.next.AdtsNext.{AdtsNext}
+use Rattle.adts_stream.specs.declared.next.AdtsNext.TheVariants as next
+use Rattle.adts_stream.specs.declared.position.ParsePoint.{ParsePoint}
+use Rattle.adts_stream.specs.declared.position.ParsePoint.TheVariants.{AtHeader, InTag, AtFrame, AtEnd}
+use Rattle.adts_stream.specs.declared.position.ParsePosition.{ParsePosition}
+use Rattle.adts_stream.specs.declared.position.NextItem.{NextItem}
+use Rattle.adts_stream.specs.declared.position.NextItem.TheVariants as front
+use Rattle.parser_loop.specs.Items.{InitItem, FrameItem, SegmentEnd, FaultItem}
+use Rattle.adts_stream.specs.Frames.{AdtsItem, presentation_of, coded_frame}
+use Rattle.adts_stream.specs.Walk.{State, into, initialized, behind, faulted, adts}
+
+-- what an answer of the stream shows of the items
+abbrev pub seen : AdtsNext → Option AdtsItem
+seen (next.Init p offset) = Some (InitItem p offset)
+seen (next.Frame frame offset) = Some (FrameItem frame offset)
+seen next.SegmentEnd = Some SegmentEnd
+seen (next.Fault f offset) = Some (FaultItem f offset)
+seen next.Dry = None
+
+abbrev pub state_of : Option Presentation → ParsePosition → List ℕ → State
+state_of last position rest = record { last = last; point = position.point; offset = position.offset; rest = rest; failed = position.failed }
+
+-- one move on the way to the next item, where there is one, or the state just before that item
+abbrev pub IsMoveTo : State → State → Bool → Type 0
+IsMoveTo s t true = (settle adts t ≡ settle adts s) × (adts.size t < adts.size s)
+IsMoveTo s t false = t ≡ settle adts s
+
+-- the next item, with what the walk comes to behind it
+abbrev pub IsNextItem : State → NextItem → Type 0
+IsNextItem s front.Dry = item_of (adts.move s) ≡ None
+IsNextItem s (front.Init h) = adts.move s ≡ Give (InitItem (presentation_of h.rate) s.offset) (initialized s h)
+IsNextItem s (front.Frame h) = (adts.move s ≡ Give (FrameItem (coded_frame h s.rest) s.offset) (into s (AtEnd h))) × (h.len ≤ length s.rest)
+IsNextItem s (front.End h) = (adts.move s ≡ Give SegmentEnd (behind s h.len)) × (h.len ≤ length s.rest) × (s.failed ≡ false)
+IsNextItem s (front.Fault f) = adts.move s ≡ Give (FaultItem f s.offset) (faulted s)
+
+-- what is kept behind the item of a move
+abbrev pub state_behind : State → Move State AdtsItem → State
+state_behind s Stop = s
+state_behind s (Pass t) = s
+state_behind s (Give item t) = settle adts t
+
+-- whether a frame comes next, of which n bytes are there
+abbrev pub ready_at : ℕ → ParsePoint → ℕ
+ready_at n AtHeader = 0
+ready_at n (InTag left) = 0
+ready_at n (AtFrame h) = if nat_le h.len n then 1 else 0
+ready_at n (AtEnd h) = 0
+
+abbrev pub ready_unless : State → Bool → ℕ
+ready_unless s true = 0
+ready_unless s false = ready_at (length s.rest) s.point
+
+abbrev pub ready_of : State → ℕ
+ready_of s = ready_unless s s.failed
+
+abbrev pub position_at_start : ParsePosition
+position_at_start = record { point = AtHeader; offset = 0; failed = false }

@@ -1,0 +1,191 @@
+ghost use Rattle.std.specs.Prelude.{◌≡◌, ℕ, ◌-◌, is_some, drop, slice_range, slice_get, Option, Some, ◌+◌, ◌≤◌, ◌<◌, ◌^◌, List, All, length, IfOk, take, false};
+ghost use Rattle.std.specs.List.{concat};
+ghost use Rattle.mse_base.specs.declared.track.Presentation.{Presentation};
+ghost use Rattle.parser_loop.specs.Walk.{item_of};
+ghost use Rattle.segment_walk.specs.Moves.{State, segments, step_of};
+ghost use Rattle.segment_walk.specs.Ranges.{mode_of};
+ghost use Rattle.segment_walk.specs.declared.kinds.Step.TheVariants.{ReadInit, ReadMoof};
+ghost use Rattle.segment_stream.specs.Kept.{IsConsistent, IsAtRest, HasPendingBytes, IsLast, IsActive, move_of_pending, kept_of, seen, skips, state_of};
+ghost use Rattle.parser_loop.specs.Items.{latest_after_any};
+
+use crate::moves::next_step;
+use crate::next::Next;
+use crate::progress::{PendingItem, Progress, Tables};
+use bmff_fragment::{MoofError, Slot, read_moof};
+use bmff_init::{InitError, read_init};
+use input_chunks::Chunks;
+use mse_base::{Bytes, CodedFrame, OutOfMemory, Presentation};
+use segment_walk::{Mode, Step, StreamFault};
+use std::alloc::Global;
+
+/// The bytes from `start` up to `end`.
+fn copy_payload(input: &Chunks, start: u64, end: u64) -> Result<Bytes, OutOfMemory>
+    requires inside { end ≤ length (concat input.now) }
+    requires ordered { start ≤ end }
+    ensures { IfOk result (λ b. b ≡ slice_range (concat input.now) start end) }
+{
+    input.copy(start as usize, (end - start) as usize)
+}
+
+fn slot_at(slots: &[Slot], i: usize) -> Option<Slot>
+    ensures { result ≡ slice_get slots.now i }
+{
+    slots.get(i).copied()
+}
+
+/// The ready frame that stands `i` places after the next one.
+pub(crate) fn look_frame(
+    progress: &Progress,
+    tables: &Tables,
+    input: &Chunks,
+    i: usize,
+) -> Result<Next, OutOfMemory>
+    requires ready { i < progress.now.ready }
+    requires front { progress.now.from ≡ 0 }
+    requires consistent { IsConsistent progress.now tables.now.slots.items tables.now.known.items
+        (concat input.now) }
+    ensures item { (last : Option Presentation) → IfOk result (λ x. seen x ≡ slice_get (kept_of last
+        progress.now tables.now.slots.items tables.now.known.items (concat input.now)).items i) }
+    ensures last { (last : Option Presentation) → IfOk result (λ x. last ≡ latest_after_any last
+        (seen x)) }
+{
+    let Some(slot) = slot_at(tables.slots.as_slice(), progress.first + i) else {
+        return Ok(Next::Dry);
+    };
+    let payload = copy_payload(input, slot.start, slot.end)?;
+    let offset = progress.position.offset + slot.start;
+    let frame = CodedFrame {
+        track_id: slot.track_id,
+        pts: slot.pts,
+        dts: slot.dts,
+        dur: slot.dur,
+        sync: slot.sync,
+        payload,
+    };
+    Ok(Next::Frame(frame, offset))
+}
+
+/// The initialization segment whose moov is whole.
+fn pending_init(
+    alloc: Global,
+    last: &Option<Presentation>,
+    progress: &Progress,
+    tables: &Tables,
+    input: &Chunks,
+    len: u64,
+) -> Result<PendingItem, OutOfMemory>
+    requires rest { IsAtRest last.now progress.now tables.now.slots.items tables.now.known.items
+        (concat input.now) }
+    requires going { progress.now.position.failed ≡ false }
+    requires active { IsActive progress.now.position.mode }
+    requires step { ReadInit len ≡ step_of (is_some last.now) (concat input.now) (mode_of
+        tables.now.slots.items tables.now.known.items progress.now.position.mode) }
+    ensures value { IfOk result (λ f. segments.move (state_of last.now progress.now.position
+        tables.now.slots.items tables.now.known.items (concat input.now)) ≡ move_of_pending
+        (state_of last.now progress.now.position tables.now.slots.items tables.now.known.items
+        (concat input.now)) f) }
+    ensures inside { IfOk result (HasPendingBytes (length (concat input.now))) }
+{
+    let moov = input.copy(0, len as usize)?;
+    match read_init(alloc, moov.as_slice()) {
+        Ok(presentation) => Ok(PendingItem::Init(presentation, len)),
+        Err(InitError::OutOfMemory) => Err(OutOfMemory),
+        Err(InitError::Fault(fault)) => Ok(PendingItem::Fault(StreamFault::Init(fault), 0)),
+    }
+}
+
+/// The fault of the moof that is whole and was not passed.
+fn pending_moof(
+    alloc: Global,
+    last: &Option<Presentation>,
+    progress: &Progress,
+    tables: &Tables,
+    input: &Chunks,
+    len: u64,
+) -> Result<PendingItem, OutOfMemory>
+    requires rest { IsAtRest last.now progress.now tables.now.slots.items tables.now.known.items
+        (concat input.now) }
+    requires readable { IsLast last.now }
+    requires going { progress.now.position.failed ≡ false }
+    requires active { IsActive progress.now.position.mode }
+    requires step { ReadMoof len ≡ step_of (is_some last.now) (concat input.now) (mode_of
+        tables.now.slots.items tables.now.known.items progress.now.position.mode) }
+    ensures value { IfOk result (λ f. segments.move (state_of last.now progress.now.position
+        tables.now.slots.items tables.now.known.items (concat input.now)) ≡ move_of_pending
+        (state_of last.now progress.now.position tables.now.slots.items tables.now.known.items
+        (concat input.now)) f) }
+    ensures inside { IfOk result (HasPendingBytes (length (concat input.now))) }
+{
+    let Some(with) = last else {
+        return Ok(PendingItem::Fault(StreamFault::NoInit, 0));
+    };
+    let moof = input.copy(0, len as usize)?;
+    match read_moof(alloc, moof.as_slice(), with) {
+        Ok(_) => Ok(PendingItem::Dry),
+        Err(MoofError::OutOfMemory) => Err(OutOfMemory),
+        Err(MoofError::Fault(fault)) => Ok(PendingItem::Fault(StreamFault::Moof(fault), 0)),
+    }
+}
+
+fn is_skipping(mode: Mode) -> bool
+    ensures { result ≡ skips mode }
+{
+    match mode {
+        Mode::Between(_) => false,
+        Mode::Skipping { .. } => true,
+        Mode::Within(_) => false,
+    }
+}
+
+/// The next item, where no frame is ready.
+pub(crate) fn pending_item(
+    alloc: Global,
+    last: &Option<Presentation>,
+    progress: &Progress,
+    tables: &Tables,
+    input: &Chunks,
+) -> Result<PendingItem, OutOfMemory>
+    requires rest { IsAtRest last.now progress.now tables.now.slots.items tables.now.known.items
+        (concat input.now) }
+    requires readable { IsLast last.now }
+    ensures value { IfOk result (λ f. segments.move (state_of last.now progress.now.position
+        tables.now.slots.items tables.now.known.items (concat input.now)) ≡ move_of_pending
+        (state_of last.now progress.now.position tables.now.slots.items tables.now.known.items
+        (concat input.now)) f) }
+    ensures inside { IfOk result (HasPendingBytes (length (concat input.now))) }
+{
+    if progress.position.failed {
+        return Ok(PendingItem::Dry);
+    }
+    if is_skipping(progress.position.mode) {
+        return Ok(PendingItem::Dry);
+    }
+    match next_step(last, *progress, tables, input) {
+        Step::ReadInit(len) => pending_init(alloc, last, progress, tables, input, len),
+        Step::ReadMoof(len) => pending_moof(alloc, last, progress, tables, input, len),
+        Step::EndSegment(end) => Ok(PendingItem::End(end)),
+        Step::Fail(fault, at) => Ok(PendingItem::Fault(fault, at)),
+        Step::Wait(_) => Ok(PendingItem::Dry),
+        Step::Skip { .. } => Ok(PendingItem::Dry),
+        Step::EnterData { .. } => Ok(PendingItem::Dry),
+        Step::NextBox(_) => Ok(PendingItem::Dry),
+        Step::GiveFrame(_) => Ok(PendingItem::Dry),
+    }
+}
+
+/// What the stream shows of a front at an offset.
+pub(crate) fn shown(front: PendingItem, offset: u64) -> Next
+    requires small { (at : ℕ) (f : StreamFault) → front ≡ PendingItem.Fault f at → offset + at < 2 ^
+        64 }
+    ensures { (s : State) → s.offset ≡ offset → seen result ≡ item_of (move_of_pending s front) }
+{
+    match front {
+        PendingItem::Dry => Next::Dry,
+        PendingItem::Init(presentation, _) => Next::Init(presentation, offset),
+        PendingItem::End(_) => Next::SegmentEnd,
+        PendingItem::Fault(fault, at) => Next::Fault {
+            fault,
+            offset: offset + at,
+        },
+    }
+}

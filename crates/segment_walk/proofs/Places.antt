@@ -1,0 +1,299 @@
+-- Where the items of a string stand in it.
+use Rattle.std.proofs.Common.{◌≡◌, ℕ, zero, suc, ◌+◌, ◌-◌, ◌^◌, ◌≤◌, ltb, leb, cond, Bool, true, false, List, [], ◌∷◌, length, take, drop, slice_range, slice_get, Option, Some, None, is_some, Result, Ok, Err, refl, ap, sym, subst, ◌∙◌, arith}
+use Rattle.std.proofs.lemmas.List.{drop-drop, drop_all, take_min, length-take, length-drop}
+use Rattle.mse_base.specs.declared.track.Presentation.{Presentation}
+use Rattle.bmff_boxes.specs.declared.box_header.Header.{Header}
+use Rattle.bmff_boxes.specs.declared.box_header.Header.TheVariants as head
+use Rattle.bmff_boxes.specs.Headers.{header_of}
+use Rattle.bmff_init.specs.declared.fault.InitFault.{InitFault}
+use Rattle.bmff_init.specs.Movies.{init_of}
+use Rattle.bmff_fragment.specs.declared.fault.MoofFault.{MoofFault}
+use Rattle.bmff_fragment.specs.declared.slot.Slot.{Slot}
+use Rattle.bmff_fragment.specs.Plans.{plan_of}
+use Rattle.parser_loop.specs.Walk.{Move}
+use Rattle.segment_walk.specs.declared.kinds.StreamFault.{StreamFault}
+use Rattle.segment_walk.specs.declared.kinds.StreamFault.TheVariants as fault
+use Rattle.segment_walk.specs.declared.kinds.TopLevelBox.{TopLevelBox}
+use Rattle.segment_walk.specs.declared.kinds.TopLevelBox.TheVariants.{FileType, SegmentType, Movie, MovieFragment, MediaData, Other}
+use Rattle.mse_base.specs.declared.frame.Phase.{Phase}
+use Rattle.mse_base.specs.declared.frame.Phase.TheVariants.{Waiting, InInit, InMedia}
+use Rattle.segment_walk.specs.declared.kinds.Place.{Place}
+use Rattle.segment_walk.specs.declared.kinds.Place.TheVariants.{AtBox, InData}
+use Rattle.segment_walk.specs.declared.kinds.Step.{Step}
+use Rattle.segment_walk.specs.declared.kinds.Step.TheVariants as step
+use Rattle.segment_walk.specs.Tables.{SegmentItem, box_type, greatest_size}
+use Rattle.parser_loop.specs.Items.{InitItem, FrameItem, SegmentEnd, FaultItem, is_fault}
+use Rattle.segment_walk.specs.Moves.{Open, Mode, Between, Skipping, Within, State, once, place_fault, take_box, judge_between, box_between, judge_within, box_within, data_end, place_step, lies_in, slot_step, step_of, initialized, opened, planned, open_of, act, pass_byte, mode_move, move_unless, segments}
+use Rattle.segment_walk.specs.Strings.{start, walk_items, state_before}
+use Rattle.segment_walk.specs.Segments.{box_by, box_at}
+use Rattle.segment_walk.proofs.WalkLaws.{is_walk, HasSlot, Fits, good-step, going}
+use Rattle.std.proofs.lemmas.Bool.Decides.{nat_tests}
+use Rattle.parser_loop.specs.Parse.{Keeps, Halts, IsSuffix, ParserView}
+use Rattle.parser_loop.proofs.Holding.{each-item, each-state, last-item}
+use Rattle.std.specs.List.{All}
+use Rattle.std.proofs.lemmas.List.Elements.{All-nil}
+use Rattle.std.proofs.lemmas.Option.{slice_get_within, get_or_from_slice_get}
+use Rattle.segment_walk.specs.Segments.{Items, held_before}
+use Rattle.segment_walk.proofs.Boxes.{items-boxes, seen-boxes}
+use Rattle.segment_walk.proofs.Ordered.{IsOrdered, plan-ordered}
+
+-- what the walk holds are the bytes of the string from its offset on, or none behind a fault
+abbrev pub HasSuffix : List ℕ → State → Type 0
+HasSuffix b s = s.rest ≡ cond s.failed [] (drop s.offset b)
+
+-- the slots of the movie fragment that is open end behind their start
+abbrev HasOrder : Mode → Type 0
+HasOrder (Between phase) = Unit {0}
+HasOrder (Skipping to left) = Unit {0}
+HasOrder (Within o) = All IsOrdered o.slots
+
+record IsFine (b : List ℕ) (s : State) : Type 0 where
+  suffix : HasSuffix b s
+  inside : s.offset ≤ length b
+  order : HasOrder s.mode
+
+-- an item and its place
+abbrev pub IsPlaced : List ℕ → SegmentItem → Type 0
+IsPlaced b (InitItem p at) = init_of (box_at b at) ≡ Ok p
+IsPlaced b (FrameItem f at) = (f.payload ≡ slice_range b at (at + length f.payload)) × (at + length f.payload ≤ length b)
+IsPlaced b SegmentEnd = Unit {0}
+IsPlaced b (FaultItem f at) = Unit {0}
+
+-- ---- a presentation is read from a whole box
+
+abbrev Reads : Header → Step → Type 0
+Reads h (step.Wait n) = Unit {0}
+Reads h (step.Skip to len) = Unit {0}
+Reads h (step.ReadInit len) = (b : List ℕ) (at : ℕ) → at + len ≤ length b → box_by b at h ≡ slice_range b at (at + len)
+Reads h (step.ReadMoof len) = Unit {0}
+Reads h (step.EnterData begin end) = Unit {0}
+Reads h (step.NextBox at) = Unit {0}
+Reads h (step.GiveFrame slot) = Unit {0}
+Reads h (step.EndSegment end) = Unit {0}
+Reads h (step.Fail f at) = Unit {0}
+
+reads-if : (h : Header) (b : Bool) (x y : Step) → Reads h x → Reads h y → Reads h (cond b x y)
+reads-if h true x y p q = p
+reads-if h false x y p q = q
+
+reads-once : (h : Header) (n len : ℕ) (st : Step) → Reads h st → Reads h (once n len st)
+reads-once h n len st p = reads-if h (ltb n len) (step.Wait len) st tt p
+
+reads-take : (phase : Phase) (type : TopLevelBox) (n : ℕ) (kind : List ℕ) (start len : ℕ) → Reads (head.Whole kind start len) (take_box phase type n len)
+reads-take Waiting FileType n kind start len = tt
+reads-take Waiting SegmentType n kind start len = tt
+reads-take Waiting Movie n kind start len = tt
+reads-take Waiting MovieFragment n kind start len = reads-once (head.Whole kind start len) n len (step.ReadMoof len) tt
+reads-take Waiting MediaData n kind start len = tt
+reads-take Waiting Other n kind start len = tt
+reads-take InInit FileType n kind start len = tt
+reads-take InInit SegmentType n kind start len = tt
+reads-take InInit Movie n kind start len = reads-once (head.Whole kind start len) n len (step.ReadInit len) (λ b at l. let e : leb (at + len) (length b) ≡ true = grind (arith, nat_tests) in ap (λ c. cond c (slice_range b at (at + len)) []) e)
+reads-take InInit MovieFragment n kind start len = reads-once (head.Whole kind start len) n len (step.ReadMoof len) tt
+reads-take InInit MediaData n kind start len = tt
+reads-take InInit Other n kind start len = tt
+reads-take InMedia FileType n kind start len = tt
+reads-take InMedia SegmentType n kind start len = tt
+reads-take InMedia Movie n kind start len = tt
+reads-take InMedia MovieFragment n kind start len = reads-once (head.Whole kind start len) n len (step.ReadMoof len) tt
+reads-take InMedia MediaData n kind start len = tt
+reads-take InMedia Other n kind start len = tt
+
+reads-judge : (phase : Phase) (n : ℕ) (kind : List ℕ) (start len : ℕ) (f : Option StreamFault) → Reads (head.Whole kind start len) (judge_between phase (box_type kind) n len f)
+reads-judge phase n kind start len (Some f) = tt
+reads-judge phase n kind start len None = reads-if (head.Whole kind start len) (ltb (greatest_size (box_type kind)) len) _ _ tt (reads-take phase (box_type kind) n kind start len)
+
+reads-between : (ready : Bool) (phase : Phase) (n : ℕ) (h : Header) → Reads h (box_between ready phase n h)
+reads-between ready phase n head.Short = tt
+reads-between ready phase n (head.Bad f) = tt
+reads-between ready phase n (head.Whole kind start len) = reads-judge phase n kind start len (place_fault ready phase (box_type kind))
+
+reads-judge-in : (h : Header) (n at : ℕ) (type : TopLevelBox) (start len : ℕ) → Reads h (judge_within n at type start len)
+reads-judge-in h n at FileType start len = tt
+reads-judge-in h n at SegmentType start len = tt
+reads-judge-in h n at Movie start len = tt
+reads-judge-in h n at MovieFragment start len = tt
+reads-judge-in h n at MediaData start len = reads-if h (ltb (2 ^ 27) (at + len)) (step.Fail fault.TooLarge at) (step.EnterData (at + start) (at + len)) tt tt
+reads-judge-in h n at Other start len = reads-if h (ltb (2 ^ 27) (at + len)) (step.Fail fault.TooLarge at) (once n (at + len) (step.NextBox (at + len))) tt (reads-once h n (at + len) (step.NextBox (at + len)) tt)
+
+reads-within : (h : Header) (n at : ℕ) (g : Header) → Reads h (box_within n at g)
+reads-within h n at head.Short = tt
+reads-within h n at (head.Bad f) = tt
+reads-within h n at (head.Whole kind start len) = reads-judge-in h n at (box_type kind) start len
+
+reads-end : (h : Header) (done : Bool) (end : ℕ) → Reads h (data_end done end)
+reads-end h true end = tt
+reads-end h false end = tt
+
+reads-place : (h : Header) (rest : List ℕ) (done : Bool) (p : Place) → Reads h (place_step rest done p)
+reads-place h rest done (AtBox at) = reads-within h (length rest) at (header_of (drop at rest))
+reads-place h rest done (InData end) = reads-once h (length rest) end (data_end done end) (reads-end h done end)
+
+reads-slot : (h : Header) (rest : List ℕ) (o : Open) (slot : Option Slot) → Reads h (slot_step rest o.known o.end o.place slot)
+reads-slot h rest o None = reads-place h rest true o.place
+reads-slot h rest o (Some slot) = reads-if h (lies_in o.known slot) _ _ (reads-once h (length rest) slot.end (step.GiveFrame slot) tt) (reads-if h (ltb slot.start o.end) _ _ tt (reads-place h rest false o.place))
+
+reads : (ready : Bool) (rest : List ℕ) (m : Mode) → Reads (header_of rest) (step_of ready rest m)
+unfolding step_of
+reads ready rest (Between phase) = reads-between ready phase (length rest) (header_of rest)
+reads ready rest (Skipping to left) = tt
+reads ready rest (Within o) = reads-slot (header_of rest) rest o (slice_get o.slots o.taken)
+
+-- ---- a move
+
+taken-own : {X : Type 0} (n : ℕ) (xs : List X) → take n xs ≡ take (length (take n xs)) xs
+taken-own n xs = sym (take_min n xs) ∙ ap (λ k. take k xs) (sym (length-take n xs))
+
+sliced : {X : Type 0} (b : List X) (at n : ℕ) → slice_range b at (at + n) ≡ take n (drop at b)
+sliced b at n = let e : at + n - at ≡ n = omega arith in ap (λ k. take k (drop at b)) e
+
+own-slice : (b rest : List ℕ) (offset i j : ℕ) → rest ≡ drop offset b → slice_range rest i j ≡ slice_range b (offset + i) (offset + i + length (slice_range rest i j))
+own-slice b rest offset i j e = taken-own (j - i) (drop i rest) ∙ ap (take (length (slice_range rest i j))) (ap (drop i) e ∙ drop-drop i offset b) ∙ sym (sliced b (offset + i) (length (slice_range rest i j)))
+
+own-there : (b rest : List ℕ) (offset i j : ℕ) → rest ≡ drop offset b → offset ≤ length b → i ≤ j → j ≤ length rest → offset + i + length (slice_range rest i j) ≤ length b
+own-there b rest offset i j e o h k =
+    let l : length (slice_range rest i j) ≤ j - i = omega (arith, length-take (j - i) (drop i rest)) in
+    let m : length rest ≡ length b - offset = ap length e ∙ length-drop offset b in
+    omega arith
+
+-- behind n bytes that are there
+behind-there : (b rest : List ℕ) (offset n : ℕ) → rest ≡ drop offset b → offset ≤ length b → n ≤ length rest → offset + n ≤ length b
+behind-there b rest offset n e o k = let m : length rest ≡ length b - offset = ap length e ∙ length-drop offset b in omega arith
+
+abbrev Stays : List ℕ → Move State SegmentItem → Type 0
+Stays b m = Keeps (IsFine b) (IsPlaced b) m
+
+-- the same place, in another mode or behind a fault
+abbrev at_place : Option Presentation → Mode → ℕ → List ℕ → Bool → State
+at_place last m offset rest failed = record { last = last; mode = m; offset = offset; rest = rest; failed = failed }
+
+fine : (b : List ℕ) (last : Option Presentation) (m : Mode) (offset : ℕ) (rest : List ℕ) (failed : Bool) → rest ≡ cond failed [] (drop offset b) → offset ≤ length b → HasOrder m → IsFine b (at_place last m offset rest failed)
+fine b last m offset rest failed e o g = record { suffix = e; inside = o; order = g }
+
+stays-init : (b : List ℕ) (last : Option Presentation) (m : Mode) (offset : ℕ) (rest : List ℕ) (len : ℕ) (r : Result Presentation InitFault) → IsFine b (going last m offset rest) → Reads (header_of rest) (step.ReadInit len) → 8 ≤ len → len ≤ length rest → init_of (take len rest) ≡ r → Stays b (initialized (going last m offset rest) len r)
+stays-init b last m offset rest len (Ok p) e h n k q =
+    let whole : offset + len ≤ length b = behind-there b rest offset len e.suffix e.inside k in
+    let box : box_at b offset ≡ take len rest = ap (λ xs. box_by b offset (header_of xs)) (sym e.suffix) ∙ h b offset whole ∙ sliced b offset len ∙ ap (take len) (sym e.suffix) in
+    (ap init_of box ∙ q, fine b (Some p) (Between Waiting) (offset + len) (drop len rest) false (ap (drop len) e.suffix ∙ drop-drop len offset b) whole tt)
+stays-init b last m offset rest len (Err f) e h n k q = (tt, fine b last m offset [] true refl e.inside e.order)
+
+stays-opened : (b : List ℕ) (last : Option Presentation) (m : Mode) (offset : ℕ) (rest : List ℕ) (len : ℕ) (r : Result (List Slot) MoofFault) → IsFine b (going last m offset rest) → ((slots : List Slot) → r ≡ Ok slots → All IsOrdered slots) → Stays b (opened (going last m offset rest) len r)
+stays-opened b last m offset rest len (Ok slots) e h = record { suffix = e.suffix; inside = e.inside; order = h slots refl }
+stays-opened b last m offset rest len (Err f) e h = (tt, fine b last m offset [] true refl e.inside e.order)
+
+stays-planned : (b : List ℕ) (last with : Option Presentation) (m : Mode) (offset : ℕ) (rest : List ℕ) (len : ℕ) → IsFine b (going last m offset rest) → Stays b (planned (going last m offset rest) len with)
+stays-planned b last None m offset rest len e = (tt, fine b last m offset [] true refl e.inside e.order)
+stays-planned b last (Some p) m offset rest len e = stays-opened b last m offset rest len (plan_of p.tracks (take len rest)) e (plan-ordered p.tracks (take len rest))
+
+order-open : (m : Mode) → HasOrder m → All IsOrdered (open_of m).slots
+order-open (Between phase) g = All-nil IsOrdered
+order-open (Skipping to left) g = All-nil IsOrdered
+order-open (Within o) g = g
+
+slot-order : (m : Mode) (slot : Slot) → HasOrder m → HasSlot m slot → slot.start ≤ slot.end
+slot-order (Between phase) slot g f = absurd f
+slot-order (Skipping to left) slot g f = absurd f
+slot-order (Within o) slot g f = subst IsOrdered (get_or_from_slice_get o.slots o.taken slot slot f) (g o.taken slot (slice_get_within o.slots o.taken slot f))
+
+stays-act : (b : List ℕ) (last : Option Presentation) (m : Mode) (offset : ℕ) (rest : List ℕ) (st : Step) → IsFine b (going last m offset rest) → Reads (header_of rest) st → Fits m (length rest) st → Stays b (act (going last m offset rest) st)
+stays-act b last m offset rest (step.Wait n) e h f = tt
+stays-act b last m offset rest (step.Skip to len) e h f = record { suffix = e.suffix; inside = e.inside; order = tt }
+stays-act b last m offset rest (step.ReadInit len) e h f = stays-init b last m offset rest len (init_of (take len rest)) e h f.1 f.2 refl
+stays-act b last m offset rest (step.ReadMoof len) e h f = stays-planned b last last m offset rest len e
+stays-act b last m offset rest (step.EnterData begin end) e h f = record { suffix = e.suffix; inside = e.inside; order = order-open m e.order }
+stays-act b last m offset rest (step.NextBox at) e h f = record { suffix = e.suffix; inside = e.inside; order = order-open m e.order }
+stays-act b last m offset rest (step.GiveFrame slot) e h f = ((own-slice b rest offset slot.start slot.end e.suffix, own-there b rest offset slot.start slot.end e.suffix e.inside (slot-order m slot e.order f.0) f.1), record { suffix = e.suffix; inside = e.inside; order = order-open m e.order })
+stays-act b last m offset rest (step.EndSegment end) e h f = (tt, fine b last (Between Waiting) (offset + end) (drop end rest) false (ap (drop end) e.suffix ∙ drop-drop end offset b) (behind-there b rest offset end e.suffix e.inside f.1) tt)
+stays-act b last m offset rest (step.Fail k at) e h f = (tt, fine b last m offset [] true refl e.inside e.order)
+
+stays-byte : (b : List ℕ) (last : Option Presentation) (m : Mode) (offset : ℕ) (to : Phase) (left : ℕ) (all rest : List ℕ) → rest ≡ drop offset b → offset ≤ length b → Stays b (pass_byte (going last m offset all) to left rest)
+stays-byte b last m offset to left all [] e o = tt
+stays-byte b last m offset to left all (x ∷ rest) e o = fine b last (Skipping to left) (offset + 1) rest false (ap (drop 1) e ∙ drop-drop 1 offset b) (behind-there b (x ∷ rest) offset 1 e o (omega arith)) tt
+
+stays-mode : (b : List ℕ) (last : Option Presentation) (m : Mode) (offset : ℕ) (rest : List ℕ) → IsFine b (going last m offset rest) → Stays b (mode_move (going last m offset rest) m)
+stays-mode b last (Between phase) offset rest e = stays-act b last (Between phase) offset rest (step_of (is_some last) rest (Between phase)) e (reads (is_some last) rest (Between phase)) (good-step (is_some last) rest [] (Between phase)).0
+stays-mode b last (Skipping to zero) offset rest e = record { suffix = e.suffix; inside = e.inside; order = tt }
+stays-mode b last (Skipping to (suc left)) offset rest e = stays-byte b last (Skipping to (suc left)) offset to left rest rest e.suffix e.inside
+stays-mode b last (Within o) offset rest e = stays-act b last (Within o) offset rest (step_of (is_some last) rest (Within o)) e (reads (is_some last) rest (Within o)) (good-step (is_some last) rest [] (Within o)).0
+
+stays-unless : (b : List ℕ) (last : Option Presentation) (m : Mode) (offset : ℕ) (rest : List ℕ) (failed : Bool) → IsFine b (at_place last m offset rest failed) → Stays b (move_unless (at_place last m offset rest failed) failed)
+stays-unless b last m offset rest true e = tt
+stays-unless b last m offset rest false e = stays-mode b last m offset rest e
+
+stays : (b : List ℕ) (s : State) → IsFine b s → Stays b (segments.move s)
+stays b s e = stays-unless b s.last s.mode s.offset s.rest s.failed e
+
+at-start : (b : List ℕ) (last : Option Presentation) → IsFine b (start last b)
+at-start b last = record { suffix = refl; inside = omega arith; order = tt }
+
+-- ---- the laws
+
+walk-place : (last : Option Presentation) (b : List ℕ) (i : ℕ) (item : SegmentItem) → slice_get (walk_items last b) i ≡ Some item → IsPlaced b item
+walk-place last b i item e = each-item segments is_walk (IsFine b) (IsPlaced b) (stays b) (start last b) (at-start b last) i item e
+
+pub item-place : (last : Option Presentation) (b : List ℕ) (i : ℕ) (item : SegmentItem) → slice_get (Items last b) i ≡ Some item → IsPlaced b item
+item-place last b i item e = walk-place last b i item (ap (λ items. slice_get items i) (items-boxes last b) ∙ e)
+
+-- what a state of the walk holds
+pub state-suffix : (last : Option Presentation) (b : List ℕ) (n : ℕ) → HasSuffix b (state_before last b n)
+state-suffix last b n = (each-state segments is_walk (IsFine b) (IsPlaced b) (stays b) n (start last b) (at-start b last)).suffix
+
+suffix-by : (b rest : List ℕ) (offset : ℕ) (failed : Bool) → rest ≡ cond failed [] (drop offset b) → IsSuffix rest b
+suffix-by b rest offset true e = record { offset = length b; is = e ∙ sym (drop_all (length b) b (omega arith)) }
+suffix-by b rest offset false e = record { offset = offset; is = e }
+
+pub held-suffix : (last : Option Presentation) (b : List ℕ) (n : ℕ) → IsSuffix (held_before last b n) b
+held-suffix last b n =
+    let s : State = state_before last b n in
+    rw (← ap (λ (v : ParserView). v.held) (seen-boxes last b n)) (suffix-by b s.rest s.offset s.failed (state-suffix last b n))
+
+-- ---- a fault is the last item
+
+abbrev IsFault : SegmentItem → Type 0
+IsFault item = is_fault item ≡ true
+
+abbrev Halting : Move State SegmentItem → Type 0
+Halting m = Halts segments IsFault m
+
+halts-init : (s : State) (len : ℕ) (r : Result Presentation InitFault) → Halting (initialized s len r)
+halts-init s len (Ok p) = λ e. cc
+halts-init s len (Err f) = λ e. refl
+
+halts-opened : (s : State) (len : ℕ) (r : Result (List Slot) MoofFault) → Halting (opened s len r)
+halts-opened s len (Ok slots) = tt
+halts-opened s len (Err f) = λ e. refl
+
+halts-planned : (s : State) (len : ℕ) (with : Option Presentation) → Halting (planned s len with)
+halts-planned s len None = λ e. refl
+halts-planned s len (Some p) = halts-opened s len (plan_of p.tracks (take len s.rest))
+
+halts-act : (s : State) (st : Step) → Halting (act s st)
+halts-act s (step.Wait n) = tt
+halts-act s (step.Skip to len) = tt
+halts-act s (step.ReadInit len) = halts-init s len (init_of (take len s.rest))
+halts-act s (step.ReadMoof len) = halts-planned s len s.last
+halts-act s (step.EnterData begin end) = tt
+halts-act s (step.NextBox at) = tt
+halts-act s (step.GiveFrame slot) = λ e. cc
+halts-act s (step.EndSegment end) = λ e. cc
+halts-act s (step.Fail f at) = λ e. refl
+
+halts-byte : (s : State) (to : Phase) (left : ℕ) (rest : List ℕ) → Halting (pass_byte s to left rest)
+halts-byte s to left [] = tt
+halts-byte s to left (x ∷ rest) = tt
+
+halts-mode : (s : State) (m : Mode) → Halting (mode_move s m)
+halts-mode s (Between phase) = halts-act s (step_of (is_some s.last) s.rest (Between phase))
+halts-mode s (Skipping to zero) = tt
+halts-mode s (Skipping to (suc left)) = halts-byte s to left s.rest
+halts-mode s (Within o) = halts-act s (step_of (is_some s.last) s.rest (Within o))
+
+halts-unless : (s : State) (failed : Bool) → Halting (move_unless s failed)
+halts-unless s true = tt
+halts-unless s false = halts-mode s s.mode
+
+walk-fault : (last : Option Presentation) (b : List ℕ) (i : ℕ) (f : StreamFault) (at : ℕ) → slice_get (walk_items last b) i ≡ Some (FaultItem f at) → suc i ≡ length (walk_items last b)
+walk-fault last b i f at e = last-item segments is_walk IsFault (λ s. halts-unless s s.failed) (start last b) i (FaultItem f at) e refl
+
+pub fault-last : (last : Option Presentation) (b : List ℕ) (i : ℕ) (f : StreamFault) (at : ℕ) → slice_get (Items last b) i ≡ Some (FaultItem f at) → suc i ≡ length (Items last b)
+fault-last last b i f at e = walk-fault last b i f at (ap (λ items. slice_get items i) (items-boxes last b) ∙ e) ∙ ap length (items-boxes last b)

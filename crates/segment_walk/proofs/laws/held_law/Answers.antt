@@ -1,0 +1,5 @@
+use Rattle.segment_walk.proofs.Places.{held-suffix}
+use Rattle.segment_walk.proofs.laws.held_law.Goals as goal
+
+pub returns : goal.returns
+returns c = λ last b n. held-suffix last b n

@@ -1,0 +1,245 @@
+-- The moves of the parser, by which the code goes over a string that comes in pieces: a device of the proof, which has
+-- the states that the code has. What a string gives is told in Segments.antt, and `boxes_law` says that the walk by
+-- these moves gives the same.
+use Rattle.std.specs.Prelude.{ℕ, zero, suc, ◌+◌, ◌-◌, ◌*◌, ◌^◌, nat_lt, nat_le, Bool, true, false, ◌&&◌, ◌||◌, if◌then◌else◌, List, [], ◌∷◌, ◌++◌, length, take, drop, slice_range, slice_get, Option, Some, None, is_some, Result, Ok, Err}
+use Rattle.mse_base.specs.declared.frame.CodedFrame.{CodedFrame}
+use Rattle.mse_base.specs.declared.track.Presentation.{Presentation}
+use Rattle.bmff_boxes.specs.declared.box_header.Header.{Header}
+use Rattle.bmff_boxes.specs.declared.box_header.Header.TheVariants as head
+use Rattle.bmff_boxes.specs.Headers.{header_of}
+use Rattle.bmff_init.specs.declared.fault.InitFault.{InitFault}
+use Rattle.bmff_init.specs.Movies.{init_of}
+use Rattle.bmff_fragment.specs.declared.fault.MoofFault.{MoofFault}
+use Rattle.bmff_fragment.specs.declared.slot.Slot.{Slot}
+use Rattle.bmff_fragment.specs.Plans.{plan_of}
+use Rattle.parser_loop.specs.Items.{InitItem, FrameItem, SegmentEnd, FaultItem, is_fault, is_frame}
+use Rattle.parser_loop.specs.Walk.{Move, Stop, Pass, Give, Kind}
+use Rattle.segment_walk.specs.declared.kinds.StreamFault.{StreamFault}
+use Rattle.segment_walk.specs.declared.kinds.StreamFault.TheVariants as fault
+use Rattle.segment_walk.specs.declared.kinds.TopLevelBox.{TopLevelBox}
+use Rattle.segment_walk.specs.declared.kinds.TopLevelBox.TheVariants.{FileType, SegmentType, Movie, MovieFragment, MediaData, Other}
+use Rattle.mse_base.specs.declared.frame.Phase.{Phase}
+use Rattle.mse_base.specs.declared.frame.Phase.TheVariants.{Waiting, InInit, InMedia}
+use Rattle.segment_walk.specs.declared.kinds.Place.{Place}
+use Rattle.segment_walk.specs.declared.kinds.Place.TheVariants.{AtBox, InData}
+use Rattle.segment_walk.specs.declared.kinds.DataRange.{DataRange}
+use Rattle.segment_walk.specs.declared.kinds.Step.{Step}
+use Rattle.segment_walk.specs.declared.kinds.Step.TheVariants as step
+use Rattle.segment_walk.specs.Tables.{SegmentItem, box_type, size_fault, greatest_size}
+
+-- An open movie fragment: the slots of its samples and how many of them were taken, the payloads of the mdats that
+-- were met and the end of the last of these, and the place of the walk. All places are counted from the first byte
+-- of the moof.
+pub record Open : Type 0 where
+  pub slots : List Slot
+  pub taken : ℕ
+  pub known : List DataRange
+  pub end : ℕ
+  pub place : Place
+
+-- Before a top-level box; in a box that is passed over, with the number of bytes to its end and the append state
+-- behind its header; in a movie fragment.
+pub data Mode : Type 0 where
+  Between : Phase → Mode
+  Skipping : Phase → ℕ → Mode
+  Within : Open → Mode
+
+-- The state of the walk: the presentation of the last initialization segment, the bytes of the string from `offset`
+-- on, which in a movie fragment is the first byte of its moof, and whether a fault was met.
+pub record State : Type 0 where
+  pub last : Option Presentation
+  pub mode : Mode
+  pub offset : ℕ
+  pub rest : List ℕ
+  pub failed : Bool
+
+-- ---- what comes next, by the bytes that are there
+
+-- once there are `len` bytes
+abbrev pub once : ℕ → ℕ → Step → Step
+once n len st = if nat_lt n len then step.Wait len else st
+
+-- a box that is out of place where no movie fragment is open; `ready` says that an initialization segment came
+abbrev pub place_fault : Bool → Phase → TopLevelBox → Option StreamFault
+place_fault ready Waiting Movie = Some fault.MoovPlace
+place_fault ready InMedia Movie = Some fault.MoovPlace
+place_fault ready InInit MovieFragment = Some fault.MoofPlace
+place_fault false Waiting MovieFragment = Some fault.NoInit
+place_fault false InMedia MovieFragment = Some fault.NoInit
+place_fault ready phase kind = None
+
+-- A box in its place. `ftyp` begins an initialization segment and `styp` a media segment; `moov` and `moof` are read
+-- once they are whole; all others are passed over.
+abbrev pub take_box : Phase → TopLevelBox → ℕ → ℕ → Step
+take_box Waiting FileType n len = step.Skip InInit len
+take_box InMedia FileType n len = step.Skip InInit len
+take_box Waiting SegmentType n len = step.Skip InMedia len
+take_box InInit Movie n len = once n len (step.ReadInit len)
+take_box phase MovieFragment n len = once n len (step.ReadMoof len)
+take_box phase kind n len = step.Skip phase len
+
+abbrev pub judge_between : Phase → TopLevelBox → ℕ → ℕ → Option StreamFault → Step
+judge_between phase kind n len (Some f) = step.Fail f 0
+judge_between phase kind n len None = if nat_lt (greatest_size kind) len then step.Fail fault.TooLarge 0 else take_box phase kind n len
+
+-- a box by its header, of which and behind which n bytes are there
+abbrev pub box_between : Bool → Phase → ℕ → Header → Step
+box_between ready phase n head.Short = step.Wait 0
+box_between ready phase n (head.Bad f) = step.Fail (size_fault f) 0
+box_between ready phase n (head.Whole kind start len) = judge_between phase (box_type kind) n len (place_fault ready phase (box_type kind))
+
+-- A box at a place of a movie fragment. No other segment may begin. The payload of an mdat is known once its header
+-- is there; all others are passed over.
+abbrev pub judge_within : ℕ → ℕ → TopLevelBox → ℕ → ℕ → Step
+judge_within n at FileType start len = step.Fail fault.InSegment at
+judge_within n at SegmentType start len = step.Fail fault.InSegment at
+judge_within n at Movie start len = step.Fail fault.InSegment at
+judge_within n at MovieFragment start len = step.Fail fault.InSegment at
+judge_within n at MediaData start len = if nat_lt (2 ^ 27) (at + len) then step.Fail fault.TooLarge at else step.EnterData (at + start) (at + len)
+judge_within n at Other start len = if nat_lt (2 ^ 27) (at + len) then step.Fail fault.TooLarge at else once n (at + len) (step.NextBox (at + len))
+
+abbrev pub box_within : ℕ → ℕ → Header → Step
+box_within n at head.Short = step.Wait 0
+box_within n at (head.Bad f) = step.Fail (size_fault f) at
+box_within n at (head.Whole kind start len) = judge_within n at (box_type kind) start len
+
+-- at the end of an mdat: the media segment ends there if no slot is left
+abbrev pub data_end : Bool → ℕ → Step
+data_end true end = step.EndSegment end
+data_end false end = step.NextBox end
+
+abbrev pub place_step : List ℕ → Bool → Place → Step
+place_step rest done (AtBox at) = box_within (length rest) at (header_of (drop at rest))
+place_step rest done (InData end) = once (length rest) end (data_end done end)
+
+-- the slot lies inside the payload of an mdat
+abbrev pub lies_in : List DataRange → Slot → Bool
+lies_in [] s = false
+lies_in (k ∷ ks) s = (nat_le k.start s.start && nat_le s.end k.end) || lies_in ks s
+
+-- The next slot comes before the next box: its frame is given once its bytes are there. A slot that lies in no mdat
+-- up to the last, and begins before the end of that one, will never lie in one.
+abbrev pub slot_step : List ℕ → List DataRange → ℕ → Place → Option Slot → Step
+slot_step rest known end place None = place_step rest true place
+slot_step rest known end place (Some slot) =
+    if lies_in known slot then once (length rest) slot.end (step.GiveFrame slot)
+    else (if nat_lt slot.start end then step.Fail fault.OutsideMdat slot.start else place_step rest false place)
+
+unfoldable pub step_of : Bool → List ℕ → Mode → Step
+step_of ready rest (Between phase) = box_between ready phase (length rest) (header_of rest)
+step_of ready rest (Skipping to left) = step.Wait 0
+step_of ready rest (Within o) = slot_step rest o.known o.end o.place (slice_get o.slots o.taken)
+
+-- ---- what a step does
+
+-- a fault at a place behind `offset`: no byte is looked at any more
+abbrev pub fail : State → StreamFault → ℕ → Move State SegmentItem
+fail s f at = Give (FaultItem f (s.offset + at)) (record { last = s.last; mode = s.mode; offset = s.offset; rest = []; failed = true })
+
+-- behind the first n bytes, where no segment was begun
+abbrev pub behind : State → Option Presentation → ℕ → State
+behind s last n = record { last = last; mode = Between Waiting; offset = s.offset + n; rest = drop n s.rest; failed = false }
+
+abbrev pub into : State → Mode → State
+into s mode = record { last = s.last; mode = mode; offset = s.offset; rest = s.rest; failed = false }
+
+abbrev pub initialized : State → ℕ → Result Presentation InitFault → Move State SegmentItem
+initialized s len (Ok p) = Give (InitItem p s.offset) (behind s (Some p) len)
+initialized s len (Err f) = fail s (fault.Init f) 0
+
+-- a movie fragment whose moof has `len` bytes
+abbrev pub opening : List Slot → ℕ → Mode
+opening slots len = Within (record { slots = slots; taken = 0; known = []; end = 0; place = AtBox len })
+
+abbrev pub opened : State → ℕ → Result (List Slot) MoofFault → Move State SegmentItem
+opened s len (Ok slots) = Pass (into s (opening slots len))
+opened s len (Err f) = fail s (fault.Moof f) 0
+
+abbrev pub planned : State → ℕ → Option Presentation → Move State SegmentItem
+planned s len None = fail s fault.NoInit 0
+planned s len (Some p) = opened s len (plan_of p.tracks (take len s.rest))
+
+-- the movie fragment that is open, or an empty one
+abbrev pub open_of : Mode → Open
+open_of (Between phase) = record { slots = []; taken = 0; known = []; end = 0; place = AtBox 0 }
+open_of (Skipping to left) = record { slots = []; taken = 0; known = []; end = 0; place = AtBox 0 }
+open_of (Within o) = o
+
+abbrev pub in_data : Open → ℕ → ℕ → Mode
+in_data o start end = Within (record { slots = o.slots; taken = o.taken; known = o.known ++ (record { start = start; end = end }) ∷ []; end = end; place = InData end })
+
+abbrev pub at_box : Open → ℕ → Mode
+at_box o at = Within (record { slots = o.slots; taken = o.taken; known = o.known; end = o.end; place = AtBox at })
+
+abbrev pub one_taken : Open → Mode
+one_taken o = Within (record { slots = o.slots; taken = o.taken + 1; known = o.known; end = o.end; place = o.place })
+
+-- the coded frame of a slot, with the bytes that lie there
+abbrev pub coded_frame : List ℕ → Slot → CodedFrame
+coded_frame rest slot = record { track_id = slot.track_id; pts = slot.pts; dts = slot.dts; dur = slot.dur; sync = slot.sync; payload = slice_range rest slot.start slot.end }
+
+abbrev pub frame_of : List ℕ → ℕ → Slot → SegmentItem
+frame_of rest offset slot = FrameItem (coded_frame rest slot) (offset + slot.start)
+
+abbrev pub act : State → Step → Move State SegmentItem
+act s (step.Wait n) = Stop
+act s (step.Skip to len) = Pass (into s (Skipping to len))
+act s (step.ReadInit len) = initialized s len (init_of (take len s.rest))
+act s (step.ReadMoof len) = planned s len s.last
+act s (step.EnterData start end) = Pass (into s (in_data (open_of s.mode) start end))
+act s (step.NextBox at) = Pass (into s (at_box (open_of s.mode) at))
+act s (step.GiveFrame slot) = Give (frame_of s.rest s.offset slot) (into s (one_taken (open_of s.mode)))
+act s (step.EndSegment end) = Give SegmentEnd (behind s s.last end)
+act s (step.Fail f at) = fail s f at
+
+-- a byte of a box that is passed over: it is let go as soon as it is there
+abbrev pub pass_byte : State → Phase → ℕ → List ℕ → Move State SegmentItem
+pass_byte s to left [] = Stop
+pass_byte s to left (x ∷ rest) = Pass (record { last = s.last; mode = Skipping to left; offset = s.offset + 1; rest = rest; failed = false })
+
+abbrev pub mode_move : State → Mode → Move State SegmentItem
+mode_move s (Between phase) = act s (step_of (is_some s.last) s.rest (Between phase))
+mode_move s (Skipping to zero) = Pass (into s (Between to))
+mode_move s (Skipping to (suc left)) = pass_byte s to left s.rest
+mode_move s (Within o) = act s (step_of (is_some s.last) s.rest (Within o))
+
+abbrev pub move_unless : State → Bool → Move State SegmentItem
+move_unless s true = Stop
+move_unless s false = mode_move s s.mode
+
+-- ---- the walk
+
+abbrev pub walked : Place → ℕ
+walked (AtBox at) = at
+walked (InData end) = end
+
+abbrev pub place_size : Place → ℕ
+place_size (AtBox at) = 1
+place_size (InData end) = 2
+
+-- What each move lowers: the bytes that are not walked over, each of which stands for more moves than a movie
+-- fragment has slots, which are at most 2^20.
+abbrev pub size_by : ℕ → Mode → ℕ
+size_by n (Between phase) = 1048580 * n + 1
+size_by n (Skipping to zero) = 1048580 * n + 2
+size_by n (Skipping to (suc left)) = 1048580 * n
+size_by n (Within o) = 1048580 * (n - walked o.place) + (length o.slots - o.taken) + place_size o.place
+
+abbrev pub size_unless : State → Bool → ℕ
+size_unless s true = 0
+size_unless s false = suc (size_by (length s.rest) s.mode)
+
+-- behind a fault more bytes are let go
+abbrev pub more_unless : State → List ℕ → Bool → State
+more_unless s c true = s
+more_unless s c false = record { last = s.last; mode = s.mode; offset = s.offset; rest = s.rest ++ c; failed = false }
+
+-- a fault ends the walk; coded frames may be taken ahead
+abbrev pub segments : Kind State SegmentItem
+segments = record {
+  move = λ s. move_unless s s.failed;
+  size = λ s. size_unless s s.failed;
+  more = λ s c. more_unless s c s.failed;
+  ends = is_fault;
+  runs = is_frame;
+}
