@@ -4,4 +4,4 @@ pub mod Ranges
 pub mod Evictions
 pub mod Places
 pub mod Between
-pub mod Fixture
+pub mod Spared

@@ -9,7 +9,8 @@ use Rattle.mse_base.specs.Time.{IsTick, tick}
 use Rattle.mse_base.proofs.TickLemmas.{tick_some, tick_none}
 use Rattle.track_store.specs.declared.store.Stored.{Stored}
 use Rattle.track_store.specs.declared.tracks.Track.{Track}
-use Rattle.track_store.specs.Frames.{is_before, starts, greatest, greater_of}
+use Rattle.mse_base.specs.Moments.{is_before, greatest, greater_of}
+use Rattle.track_store.specs.Frames.{starts}
 use Rattle.track_store.specs.State.{TrackState, state_of, states_of}
 use Rattle.eviction.specs.Evicting.{first_of, frames_of, is_video, lead_of, sync_times}
 use Rattle.eviction.specs.Steps.{Has, times_at}
@@ -87,16 +88,16 @@ next_le t v = grind (arith, ints)
 pub after_tick : (t u : ℤ) (ts : List ℤ) → tick (t +ℤ pos 1) ≡ Some u → filter (λ v. not (is_before v (At u))) ts ≡ filter (int_lt t) ts
 after_tick t u ts e = filter_same _ (int_lt t) ts (each_of _ ts (λ v. ap (λ w. not (int_lt v w)) (tick_some _ u e) ∙ next_le t v))
 
-next_tick : (t v : ℤ) → t <ℤ v → IsTick t → IsTick v → IsTick (t +ℤ pos 1)
-next_tick t v less h k = let low = h.0 in let high = k.1 in (omega (arith, ints), omega (arith, ints))
+next_tick : (t v top : ℤ) → t <ℤ v → v ≤ℤ top → IsTick t → IsTick top → IsTick (t +ℤ pos 1)
+next_tick t v top less most h k = let low = h.0 in let high = k.1 in (omega (arith, ints), omega (arith, ints))
 
-none_pick : (t v : ℤ) (b : Bool) → int_lt t v ≡ b → tick (t +ℤ pos 1) ≡ None → IsTick t → IsTick v → b ≡ false
-none_pick t v true e none h k = absurd (tick_none _ none (next_tick t v (let less : t <ℤ v = grind (arith, ints) in less) h k))
-none_pick t v false e none h k = refl
+none_pick : (t v top : ℤ) (b : Bool) → int_lt t v ≡ b → tick (t +ℤ pos 1) ≡ None → IsTick t → v ≤ℤ top → IsTick top → b ≡ false
+none_pick t v top true e none h most k = absurd (tick_none _ none (next_tick t v top (let less : t <ℤ v = grind (arith, ints) in less) most h k))
+none_pick t v top false e none h most k = refl
 
 -- after the last time that is in range there is none
-pub none_after : (t : ℤ) (ts : List ℤ) → tick (t +ℤ pos 1) ≡ None → IsTick t → AllByRecursion IsTick ts → None ≡ first_of (filter (int_lt t) ts)
-none_after t ts none h all = sym (ap first_of (filter_none (int_lt t) ts (all_along IsTick (λ v. int_lt t v ≡ false) ts (λ v k. none_pick t v (int_lt t v) refl none h k) all)))
+none_after : (t top : ℤ) (ts : List ℤ) → tick (t +ℤ pos 1) ≡ None → IsTick t → IsTick top → AllByRecursion (λ v. v ≤ℤ top) ts → None ≡ first_of (filter (int_lt t) ts)
+none_after t top ts none h k all = sym (ap first_of (filter_none (int_lt t) ts (all_along (λ v. v ≤ℤ top) (λ v. int_lt t v ≡ false) ts (λ v most. none_pick t v top (int_lt t v) refl none h most k) all)))
 
 -- ---- the highest start
 
@@ -119,3 +120,12 @@ none_high (f ∷ fs) low e has = absurd (some_high (Some f.frame.pts) (starts fs
 pub highest_is : (next : Option ℤ) (low : ℤ) (fs : List Stored) (o : Option ℤ) → o ≡ greatest (starts fs) → Has low (sync_times fs) → AllByRecursion (λ u. u ≤ℤ unwrap_or o low) (sync_times fs)
 highest_is next low fs None e has = none_high fs low (sym e) has
 highest_is next low fs (Some h) e has = times_under h fs (sym e)
+
+none_of_none : (t : ℤ) (fs : List Stored) → greatest (starts fs) ≡ None → None ≡ first_of (filter (int_lt t) (sync_times fs))
+none_of_none t [] e = refl
+none_of_none t (f ∷ fs) e = absurd (some_high (Some f.frame.pts) (starts fs) tt e)
+
+-- no random access point is after the last time that is in range
+pub none_past : (t : ℤ) (fs : List Stored) (o : Option ℤ) → o ≡ greatest (starts fs) → IfSome o IsTick → tick (t +ℤ pos 1) ≡ None → IsTick t → None ≡ first_of (filter (int_lt t) (sync_times fs))
+none_past t fs None e range none h = none_of_none t fs (sym e)
+none_past t fs (Some top) e range none h = none_after t top (sync_times fs) none h range (times_under top fs (sym e))

@@ -5,9 +5,9 @@ use Rattle.std.proofs.lemmas.Int.{ints}
 use Rattle.std.proofs.lemmas.List.{reverse-append}
 use Rattle.mse_base.specs.declared.ticks.Moment.{Moment}
 use Rattle.mse_base.specs.declared.ticks.Moment.TheVariants.{Nan, At, Infinite}
-use Rattle.track_store.specs.Frames.{is_before}
-use Rattle.range_removal.specs.Removal.{time_or}
-use Rattle.eviction.specs.Evicting.{RemovalRange, first_of, removal_ranges, is_up_to, ends_up_to, starts_after}
+use Rattle.mse_base.specs.Moments.{is_before, is_at_or_before}
+use Rattle.mse_base.specs.Moments.{time_or}
+use Rattle.eviction.specs.Evicting.{RemovalRange, first_of, removal_ranges, ends_up_to, starts_after}
 use Rattle.eviction.specs.Steps.{Has, IsLatest, is_below, ranges_back, times_from, times_between}
 use Rattle.eviction.proofs.Times.{IsRising, all_along, all_both, all_has, each_of, filter-step, filter_all, filter_none, filter_same, filter_both, first_least, first_none}
 use Rattle.eviction.proofs.Syncs.{is_gone, gone_to}
@@ -130,12 +130,12 @@ last_pick p s x ts t up last h (Some w) e g =
     let most = not_lt_of s w (all_has (λ u. int_lt s u ≡ false) w ts last facts.1) in
     absurd (omega (arith, ints))
 
-gone_last : (p s : ℤ) (d : Moment) (ts : List ℤ) (t : ℤ) → IsRising ts → AllByRecursion (λ u. int_lt s u ≡ false) ts → is_up_to p d ≡ true → is_gone s (gone_to d d ts) t ≡ true → t ≤ℤ p
+gone_last : (p s : ℤ) (d : Moment) (ts : List ℤ) (t : ℤ) → IsRising ts → AllByRecursion (λ u. int_lt s u ≡ false) ts → is_at_or_before d p ≡ true → is_gone s (gone_to d d ts) t ≡ true → t ≤ℤ p
 gone_last p s Nan ts t up last h g = absurd cc
 gone_last p s Infinite ts t up last h g = absurd cc
 gone_last p s (At x) ts t up last h g = last_pick p s x ts t up last h (first_of (filter (λ v. not (is_before v (At x))) ts)) refl g
 
-gone_any : (p s : ℤ) (d : Moment) (ts : List ℤ) (o : Option ℤ) (t : ℤ) → IsRising ts → first_of (filter (int_lt s) ts) ≡ o → is_up_to p (time_or o d) ≡ true → is_gone s (gone_to (time_or o d) d ts) t ≡ true → t ≤ℤ p
+gone_any : (p s : ℤ) (d : Moment) (ts : List ℤ) (o : Option ℤ) (t : ℤ) → IsRising ts → first_of (filter (int_lt s) ts) ≡ o → is_at_or_before (time_or o d) p ≡ true → is_gone s (gone_to (time_or o d) d ts) t ≡ true → t ≤ℤ p
 gone_any p s d ts None t up e h g = gone_last p s d ts t up (first_none (int_lt s) ts e) h g
 gone_any p s d ts (Some u) t up e h g =
     let facts = first_least (int_lt s) ts u up e in
@@ -143,15 +143,15 @@ gone_any p s d ts (Some u) t up e h g =
     let high = le_of u p h in
     omega (arith, ints)
 
-pub after_stay : (p s : ℤ) (d : Moment) (ts : List ℤ) (o : Option ℤ) → IsRising ts → first_of (filter (int_lt s) ts) ≡ o → is_up_to p (time_or o d) ≡ true → filter (int_lt p) (filter (λ t. not (is_gone s (gone_to (time_or o d) d ts) t)) ts) ≡ filter (int_lt p) ts
+pub after_stay : (p s : ℤ) (d : Moment) (ts : List ℤ) (o : Option ℤ) → IsRising ts → first_of (filter (int_lt s) ts) ≡ o → is_at_or_before (time_or o d) p ≡ true → filter (int_lt p) (filter (λ t. not (is_gone s (gone_to (time_or o d) d ts) t)) ts) ≡ filter (int_lt p) ts
 after_stay p s d ts o up e h = filter_both (int_lt p) (λ t. not (is_gone s (gone_to (time_or o d) d ts) t)) ts (each_of _ ts (λ t a. stays_of (is_gone s (gone_to (time_or o d) d ts) t) (λ g. (let low = gone_any p s d ts o t up e h g in let high = lt_of p t a in omega (arith, ints)))))
 
 -- ---- where no more ranges end at or before the position
 
-pub ends-step : (p : ℤ) (r : RemovalRange) (rs : List RemovalRange) (b : Bool) → is_up_to p r.end ≡ b → filter (ends_up_to p) (r ∷ rs) ≡ cond b (r ∷ filter (ends_up_to p) rs) (filter (ends_up_to p) rs)
+pub ends-step : (p : ℤ) (r : RemovalRange) (rs : List RemovalRange) (b : Bool) → is_at_or_before r.end p ≡ b → filter (ends_up_to p) (r ∷ rs) ≡ cond b (r ∷ filter (ends_up_to p) rs) (filter (ends_up_to p) rs)
 ends-step p r rs b e = ap (λ c. cond c (r ∷ filter (ends_up_to p) rs) (filter (ends_up_to p) rs)) e
 
-pub no_more : (p : ℤ) (d : Moment) (ts : List ℤ) → IsRising ts → AllByRecursion (λ t. p ≤ℤ t) ts → is_up_to p d ≡ false → filter (ends_up_to p) (removal_ranges d ts) ≡ []
+pub no_more : (p : ℤ) (d : Moment) (ts : List ℤ) → IsRising ts → AllByRecursion (λ t. p ≤ℤ t) ts → is_at_or_before d p ≡ false → filter (ends_up_to p) (removal_ranges d ts) ≡ []
 no_more p d [] up h e = refl
 no_more p d (t ∷ []) up h e = ends-step p (record { start = t; end = d }) [] false e
 no_more p d (t ∷ u ∷ ts) up h e = ends-step p (record { start = t; end = At u }) (removal_ranges d (u ∷ ts)) false (no_le p u (let less = up.0.0 in let low = h.0 in omega (arith, ints))) ∙ no_more p d (u ∷ ts) up.1 h.1 e

@@ -7,9 +7,12 @@ use Rattle.std.specs.Int.{int_max}
 use Rattle.std.proofs.lemmas.Option.{slice_get-map}
 use Rattle.mse_base.specs.declared.ticks.Moment.{Moment}
 use Rattle.track_store.specs.declared.store.Stored.{Stored}
-use Rattle.track_store.specs.Frames.{is_before, starts, cleared, cleared_after, lesser_of, least, greater_of, greatest, sync_times_from}
+use Rattle.mse_base.specs.Moments.{is_before, lesser_of, least, greater_of, greatest}
+use Rattle.track_store.specs.Frames.{starts, frames_without, frames_left, sync_times_from}
 use Rattle.track_store.specs.State.{TrackState}
-use Rattle.range_removal.specs.Removal.{is_between, remove_end, removed_from_track, removed_frames, time_or}
+use Rattle.mse_base.specs.Moments.{time_or}
+use Rattle.track_store.specs.Frames.{is_between}
+use Rattle.range_removal.specs.Removal.{remove_end, track_after_removal, tracks_after_removal}
 use Rattle.eviction.specs.Evicting.{with_time, first_of, sync_times, frames_of}
 use Rattle.eviction.specs.Steps.{times_at}
 use Rattle.eviction.proofs.Times.{IsRising, rising_fold, filter-step, filter-fold, fold-each}
@@ -63,6 +66,18 @@ syncs-each P (f ∷ fs) h = elim (f.frame.sync) as (λ s. AllByRecursion P (star
 pub times-each : (P : ℤ → Type 0) (fs : List Stored) → AllByRecursion (λ f. P f.frame.pts) fs → AllByRecursion P (sync_times fs)
 times-each P fs h = fold-each P [] (syncs fs) tt (syncs-each P fs h)
 
+sync-step : (P : ℤ → Type 0) (f : Stored) (fs : List Stored) (s : Bool) → f.frame.sync ≡ s → (f.frame.sync ≡ true → P f.frame.pts) → AllByRecursion P (syncs fs) → AllByRecursion P (starts (cond s (f ∷ filter (λ g. g.frame.sync) fs) (filter (λ g. g.frame.sync) fs)))
+sync-step P f fs true e h rest = (h e, rest)
+sync-step P f fs false e h rest = rest
+
+syncs-each_sync : (P : ℤ → Type 0) (fs : List Stored) → AllByRecursion (λ f. f.frame.sync ≡ true → P f.frame.pts) fs → AllByRecursion P (syncs fs)
+syncs-each_sync P [] h = h
+syncs-each_sync P (f ∷ fs) h = sync-step P f fs f.frame.sync refl h.0 (syncs-each_sync P fs h.1)
+
+-- what holds of all random access points holds of their times
+pub times-each_sync : (P : ℤ → Type 0) (fs : List Stored) → AllByRecursion (λ f. f.frame.sync ≡ true → P f.frame.pts) fs → AllByRecursion P (sync_times fs)
+times-each_sync P fs h = fold-each P [] (syncs fs) tt (syncs-each_sync P fs h)
+
 -- ---- what a removal leaves
 
 -- the time goes
@@ -80,26 +95,26 @@ left-step p f gone false true xs ys fs e k h g = h
 left-step p f true false false xs ys fs e k h g = h
 left-step p f false false false xs ys fs e k h g = syncs-first f ys false e ∙ g
 
-syncs_left : (start : ℤ) (to : Moment) (gone : Bool) (fs : List Stored) → syncs (cleared_after gone (is_between start to) fs) ≡ filter (λ t. not (is_gone start to t)) (syncs fs)
+syncs_left : (start : ℤ) (to : Moment) (gone : Bool) (fs : List Stored) → syncs (frames_left gone (is_between start to) fs) ≡ filter (λ t. not (is_gone start to t)) (syncs fs)
 syncs_left start to gone [] = refl
 syncs_left start to gone (f ∷ fs) = left-step (λ t. not (is_gone start to t)) f gone f.frame.sync (is_between start to f) _ _ fs refl refl (syncs_left start to true fs) (syncs_left start to false fs)
 
-pub times_left : (start : ℤ) (to : Moment) (fs : List Stored) → sync_times (cleared (is_between start to) fs) ≡ filter (λ t. not (is_gone start to t)) (sync_times fs)
+pub times_left : (start : ℤ) (to : Moment) (fs : List Stored) → sync_times (frames_without (is_between start to) fs) ≡ filter (λ t. not (is_gone start to t)) (sync_times fs)
 times_left start to fs = ap (fold with_time []) (syncs_left start to false fs) ∙ sym (filter_times (λ t. not (is_gone start to t)) fs)
 
 -- the moment before which times go
 abbrev pub gone_to : Moment → Moment → List ℤ → Moment
 gone_to end duration ts = time_or (first_of (filter (λ t. not (is_before t end)) ts)) duration
 
-track_left : (start : ℤ) (end duration : Moment) (o : Option TrackState) → sync_times (frames_of (option_map (removed_from_track start end duration) o)) ≡ filter (λ t. not (is_gone start (gone_to end duration (sync_times (frames_of o))) t)) (sync_times (frames_of o))
+track_left : (start : ℤ) (end duration : Moment) (o : Option TrackState) → sync_times (frames_of (option_map (track_after_removal start end duration) o)) ≡ filter (λ t. not (is_gone start (gone_to end duration (sync_times (frames_of o))) t)) (sync_times (frames_of o))
 track_left start end duration None = refl
 track_left start end duration (Some t) =
     times_left start (remove_end end duration t.frames) t.frames
     ∙ ap (λ (o : Option ℤ). filter (λ u. not (is_gone start (time_or o duration) u)) (sync_times t.frames)) (least_from end t.frames)
 
 -- the random access points of a track after a removal, by those before it
-pub times_removed : (k : ℕ) (start : ℤ) (end duration : Moment) (ts : List TrackState) → times_at k (removed_frames start end duration ts) ≡ filter (λ t. not (is_gone start (gone_to end duration (times_at k ts)) t)) (times_at k ts)
-times_removed k start end duration ts = ap (λ o. sync_times (frames_of o)) (slice_get-map (removed_from_track start end duration) ts k) ∙ track_left start end duration (slice_get ts k)
+pub times_removed : (k : ℕ) (start : ℤ) (end duration : Moment) (ts : List TrackState) → times_at k (tracks_after_removal start end duration ts) ≡ filter (λ t. not (is_gone start (gone_to end duration (times_at k ts)) t)) (times_at k ts)
+times_removed k start end duration ts = ap (λ o. sync_times (frames_of o)) (slice_get-map (track_after_removal start end duration) ts k) ∙ track_left start end duration (slice_get ts k)
 
 -- ---- the highest start
 

@@ -1,15 +1,15 @@
 -- Coded frame eviction as one function on lists (Media Source Extensions, 3.5.10).
-use Rattle.std.specs.Prelude.{ℕ, ◌+◌, ℤ, int_le, int_lt, nat_le, nat_lt, Bool, true, false, List, [], ◌∷◌, ◌++◌, filter, find, fold, reverse, slice_get, Option, Some, None, if◌then◌else◌}
+use Rattle.std.specs.Prelude.{ℕ, ◌+◌, ℤ, int_le, int_lt, nat_le, nat_lt, Bool, true, false, ◌&&◌, List, [], ◌∷◌, ◌++◌, filter, find, fold, reverse, slice_get, Option, Some, None, if◌then◌else◌}
 use Rattle.std.specs.Option.{option_or}
 use Rattle.mse_base.specs.declared.ticks.Moment.{Moment}
-use Rattle.mse_base.specs.declared.ticks.Moment.TheVariants.{Nan, At, Infinite}
 use Rattle.mse_base.specs.declared.track.Kind.{Kind}
 use Rattle.mse_base.specs.declared.track.Kind.TheVariants.{Video, Audio, Other}
 use Rattle.track_store.specs.declared.store.Stored.{Stored}
 use Rattle.track_store.specs.Frames.{starts}
 use Rattle.track_store.specs.Kept.{bytes_in}
 use Rattle.track_store.specs.State.{TrackState}
-use Rattle.range_removal.specs.Removal.{removed_frames, time_or}
+use Rattle.mse_base.specs.Moments.{is_at_or_before, is_before, time_or}
+use Rattle.range_removal.specs.Removal.{tracks_after_removal}
 
 abbrev pub is_video : Kind → Bool
 is_video Video = true
@@ -49,22 +49,22 @@ abbrev pub removal_ranges : Moment → List ℤ → List RemovalRange
 removal_ranges duration [] = []
 removal_ranges duration (t ∷ ts) = record { start = t; end = time_or (first_of ts) duration } ∷ removal_ranges duration ts
 
--- the moment is a time that is not after the position
-abbrev pub is_up_to : ℤ → Moment → Bool
-is_up_to position (At t) = int_le t position
-is_up_to position Infinite = false
-is_up_to position Nan = false
-
+-- the range ends at or before the position
 abbrev pub ends_up_to : ℤ → RemovalRange → Bool
-ends_up_to position r = is_up_to position r.end
+ends_up_to position r = is_at_or_before r.end position
 
+-- the range starts after the position
 abbrev pub starts_after : ℤ → RemovalRange → Bool
 starts_after position r = int_lt position r.start
 
+-- the range holds a time
+abbrev pub holds : RemovalRange → ℤ → Bool
+holds r t = int_le r.start t && is_before t r.end
+
 -- step 3: the removal ranges in the order in which they go. First those that end at or before the current
 -- playback position, from the earliest on, and then those that start after it, from the latest back.
-abbrev pub in_order : ℤ → List RemovalRange → List RemovalRange
-in_order position rs = filter (ends_up_to position) rs ++ reverse (filter (starts_after position) rs)
+abbrev pub ranges_in_order : ℤ → List RemovalRange → List RemovalRange
+ranges_in_order position rs = filter (ends_up_to position) rs ++ reverse (filter (starts_after position) rs)
 
 -- the new bytes have room beside those that are stored
 abbrev pub fits : ℕ → ℕ → ℕ → Bool
@@ -74,14 +74,14 @@ abbrev pub has_room : ℕ → ℕ → List TrackState → Bool
 has_room new quota ts = fits (bytes_in ts) new quota
 
 -- step 4: one range after another is removed, until the new bytes have room
-abbrev pub removed_while_full : ℕ → ℕ → Moment → List RemovalRange → List TrackState → List TrackState
-removed_while_full new quota duration [] ts = ts
-removed_while_full new quota duration (r ∷ rs) ts =
-    if has_room new quota ts then ts else removed_while_full new quota duration rs (removed_frames r.start r.end duration ts)
+abbrev pub tracks_while_full : ℕ → ℕ → Moment → List RemovalRange → List TrackState → List TrackState
+tracks_while_full new quota duration [] ts = ts
+tracks_while_full new quota duration (r ∷ rs) ts =
+    if has_room new quota ts then ts else tracks_while_full new quota duration rs (tracks_after_removal r.start r.end duration ts)
 
 -- coded frame eviction. Where the stored bytes are below the quota, the buffer is not full and nothing
 -- happens (step 2).
-abbrev pub evicted : ℤ → ℕ → ℕ → Moment → List TrackState → List TrackState
-evicted position new quota duration ts =
+abbrev pub tracks_after_eviction : ℤ → ℕ → ℕ → Moment → List TrackState → List TrackState
+tracks_after_eviction position new quota duration ts =
     if nat_lt (bytes_in ts) quota then ts
-    else removed_while_full new quota duration (in_order position (removal_ranges duration (sync_times (frames_of (lead_of ts))))) ts
+    else tracks_while_full new quota duration (ranges_in_order position (removal_ranges duration (sync_times (frames_of (lead_of ts))))) ts

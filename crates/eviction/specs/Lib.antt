@@ -1,3 +1,3 @@
 pub mod Evicting
-pub mod Counted
+pub mod Spared
 pub mod Steps

@@ -4,7 +4,7 @@ use Rattle.std.specs.List.{AllByRecursion}
 use Rattle.mse_base.specs.declared.ticks.Moment.{Moment}
 use Rattle.mse_base.specs.declared.ticks.Moment.TheVariants.{At}
 use Rattle.track_store.specs.State.{TrackState}
-use Rattle.range_removal.specs.Removal.{time_or}
+use Rattle.mse_base.specs.Moments.{time_or}
 use Rattle.eviction.specs.Evicting.{RemovalRange, frames_of, sync_times, removal_ranges, ends_up_to}
 
 -- the times of the track at place k

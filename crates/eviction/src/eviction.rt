@@ -1,15 +1,15 @@
 ghost use Rattle.std.specs.Prelude.{◌≡◌, ◌<◌, ◌≤◌, ◌+◌, ℕ, ℤ, Some, None, int_lt, not, filter, length, if◌then◌else◌, MatchOption};
-ghost use Rattle.track_store.specs.Kept.{AreKept, EndBy, HasRoom, gaps_of};
+ghost use Rattle.track_store.specs.Kept.{AreKept, AreEndedBy, AreStillSound, HasRoom, gaps_of};
 ghost use Rattle.track_store.specs.State.{states_of};
-ghost use Rattle.range_removal.specs.Numbered.{KeepsRoom};
-ghost use Rattle.range_removal.specs.Removal.{removed_frames, time_or};
-ghost use Rattle.eviction.specs.Counted.{AreCounted};
-ghost use Rattle.eviction.specs.Evicting.{ends_up_to, evicted, first_of, has_room, in_order, is_up_to, removal_ranges, removed_while_full, starts_after};
+ghost use Rattle.range_removal.specs.Rooms.{IsRoomKept};
+ghost use Rattle.range_removal.specs.Removal.{tracks_after_removal};
+ghost use Rattle.mse_base.specs.Moments.{is_at_or_before, time_or};
+ghost use Rattle.eviction.specs.Evicting.{ends_up_to, tracks_after_eviction, first_of, has_room, ranges_in_order, removal_ranges, tracks_while_full, starts_after};
 ghost use Rattle.eviction.specs.Steps.{left_after, left_before, times_at, times_between, times_from};
 
 use crate::latest::latest_sync;
 use crate::lead::{first_sync, lead_of, sync_after};
-use crate::need::{Need, has_room};
+use crate::need::{Need, has_room, is_below_quota};
 use mse_base::{Moment, Ticks};
 use range_removal::remove_frames;
 use track_store::{FrameStore, Tracks};
@@ -18,20 +18,14 @@ use track_store::{FrameStore, Tracks};
 fn time_or(time: &Option<Ticks>, duration: &Moment) -> Moment
     ensures { result ≡ time_or time.now duration.now }
 {
-    match time {
-        Some(t) => Moment::At(*t),
-        None => *duration,
-    }
+    Moment::time_or(*time, *duration)
 }
 
 /// Whether a moment is a time that is not after the position.
 fn is_up_to(position: Ticks, moment: &Moment) -> bool
-    ensures { result ≡ is_up_to position moment.now }
+    ensures { result ≡ is_at_or_before moment.now position }
 {
-    match moment {
-        Moment::At(t) => *t <= position,
-        Moment::Infinite | Moment::Nan => false,
-    }
+    moment.is_at_or_before(position)
 }
 
 /// Removes a range, unless the new bytes have room. Tells whether it was removed.
@@ -42,13 +36,14 @@ fn remove_while_full<S: FrameStore>(
     need: &Need,
     duration: &Moment,
 ) -> bool
-    requires { AreCounted (states_of S.frames tracks.old.items) }
-    ensures answer { has_room need.now.new_bytes need.now.quota (states_of S.frames tracks.old.items) ≡ not result }
+    ensures answer { has_room need.now.new_bytes need.now.quota
+        (states_of S.frames tracks.old.items) ≡ not result }
     ensures states { states_of S.frames tracks.new.items
-        ≡ (if result then removed_frames start end.now duration.now (states_of S.frames tracks.old.items) else states_of S.frames tracks.old.items) }
-    ensures counted { AreCounted (states_of S.frames tracks.new.items) }
-    ensures spare { KeepsRoom S.spare tracks.old.items tracks.new.items }
+        ≡ (if result then tracks_after_removal start end.now duration.now
+        (states_of S.frames tracks.old.items) else states_of S.frames tracks.old.items) }
+    ensures spare { IsRoomKept S.spare tracks.old.items tracks.new.items }
     ensures gaps { gaps_of S.gap tracks.new.items ≡ gaps_of S.gap tracks.old.items }
+    ensures places { tracks.new.spare ≡ tracks.old.spare }
 {
     if has_room(tracks, need) {
         return false;
@@ -67,20 +62,23 @@ fn evict_before_step<S: FrameStore>(
     need: &Need,
     duration: &Moment,
 ) -> Option<Ticks>
-    requires counted { AreCounted (states_of S.frames tracks.old.items) }
-    requires first { first_of (times_from (Some start) (times_at lead (states_of S.frames tracks.old.items))) ≡ Some start }
-    ensures states { removed_while_full need.now.new_bytes need.now.quota duration.now
-        (left_before position lead duration.now result (states_of S.frames tracks.new.items)) (states_of S.frames tracks.new.items)
-        ≡ removed_while_full need.now.new_bytes need.now.quota duration.now
-        (left_before position lead duration.now (Some start) (states_of S.frames tracks.old.items)) (states_of S.frames tracks.old.items) }
-    ensures first { first_of (times_from result (times_at lead (states_of S.frames tracks.new.items))) ≡ result }
+    requires first { first_of (times_from (Some start)
+        (times_at lead (states_of S.frames tracks.old.items))) ≡ Some start }
+    ensures states { tracks_while_full need.now.new_bytes need.now.quota duration.now
+        (left_before position lead duration.now result (states_of S.frames tracks.new.items))
+        (states_of S.frames tracks.new.items)
+        ≡ tracks_while_full need.now.new_bytes need.now.quota duration.now
+        (left_before position lead duration.now (Some start) (states_of S.frames tracks.old.items))
+        (states_of S.frames tracks.old.items) }
+    ensures first { first_of (times_from result
+        (times_at lead (states_of S.frames tracks.new.items))) ≡ result }
     ensures fewer { length (times_from result (times_at lead (states_of S.frames tracks.new.items)))
         < length (times_from (Some start) (times_at lead (states_of S.frames tracks.old.items))) }
     ensures later { filter (int_lt position) (times_at lead (states_of S.frames tracks.new.items))
         ≡ filter (int_lt position) (times_at lead (states_of S.frames tracks.old.items)) }
-    ensures counted { AreCounted (states_of S.frames tracks.new.items) }
-    ensures spare { KeepsRoom S.spare tracks.old.items tracks.new.items }
+    ensures spare { IsRoomKept S.spare tracks.old.items tracks.new.items }
     ensures gaps { gaps_of S.gap tracks.new.items ≡ gaps_of S.gap tracks.old.items }
+    ensures places { tracks.new.spare ≡ tracks.old.spare }
 {
     if position <= start && !is_up_to(position, duration) {
         return None;
@@ -101,15 +99,16 @@ fn evict_before<S: FrameStore>(
     need: &Need,
     duration: &Moment,
 )
-    requires { AreCounted (states_of S.frames tracks.old.items) }
     ensures states { states_of S.frames tracks.new.items
-        ≡ removed_while_full need.now.new_bytes need.now.quota duration.now
-        (filter (ends_up_to position) (removal_ranges duration.now (times_at lead (states_of S.frames tracks.old.items)))) (states_of S.frames tracks.old.items) }
+        ≡ tracks_while_full need.now.new_bytes need.now.quota duration.now
+        (filter (ends_up_to position) (removal_ranges duration.now
+        (times_at lead (states_of S.frames tracks.old.items))))
+        (states_of S.frames tracks.old.items) }
     ensures later { filter (int_lt position) (times_at lead (states_of S.frames tracks.new.items))
         ≡ filter (int_lt position) (times_at lead (states_of S.frames tracks.old.items)) }
-    ensures counted { AreCounted (states_of S.frames tracks.new.items) }
-    ensures spare { KeepsRoom S.spare tracks.old.items tracks.new.items }
+    ensures spare { IsRoomKept S.spare tracks.old.items tracks.new.items }
     ensures gaps { gaps_of S.gap tracks.new.items ≡ gaps_of S.gap tracks.old.items }
+    ensures places { tracks.new.spare ≡ tracks.old.spare }
 {
     let mut next = first_sync(tracks, lead);
     while let Some(start) = next {
@@ -127,19 +126,24 @@ fn evict_after_step<S: FrameStore>(
     need: &Need,
     duration: &Moment,
 ) -> Option<Ticks>
-    requires { AreCounted (states_of S.frames tracks.old.items) }
     ensures states { MatchOption result
-        (states_of S.frames tracks.new.items ≡ removed_while_full need.now.new_bytes need.now.quota duration.now
-        (left_after position lead duration.now next.now (states_of S.frames tracks.old.items)) (states_of S.frames tracks.old.items))
-        (λ start. (removed_while_full need.now.new_bytes need.now.quota duration.now
-        (left_after position lead duration.now (Some start) (states_of S.frames tracks.new.items)) (states_of S.frames tracks.new.items)
-        ≡ removed_while_full need.now.new_bytes need.now.quota duration.now
-        (left_after position lead duration.now next.now (states_of S.frames tracks.old.items)) (states_of S.frames tracks.old.items))
-        × (length (times_between position (Some start) (times_at lead (states_of S.frames tracks.new.items)))
-        < length (times_between position next.now (times_at lead (states_of S.frames tracks.old.items))))) }
-    ensures counted { AreCounted (states_of S.frames tracks.new.items) }
-    ensures spare { KeepsRoom S.spare tracks.old.items tracks.new.items }
+        (states_of S.frames tracks.new.items
+        ≡ tracks_while_full need.now.new_bytes need.now.quota duration.now
+        (left_after position lead duration.now next.now (states_of S.frames tracks.old.items))
+        (states_of S.frames tracks.old.items))
+        (λ start. (tracks_while_full need.now.new_bytes need.now.quota duration.now
+        (left_after position lead duration.now (Some start) (states_of S.frames tracks.new.items))
+        (states_of S.frames tracks.new.items)
+        ≡ tracks_while_full need.now.new_bytes need.now.quota duration.now
+        (left_after position lead duration.now next.now (states_of S.frames tracks.old.items))
+        (states_of S.frames tracks.old.items))
+        × (length (times_between position (Some start)
+        (times_at lead (states_of S.frames tracks.new.items)))
+        < length (times_between position next.now
+        (times_at lead (states_of S.frames tracks.old.items))))) }
+    ensures spare { IsRoomKept S.spare tracks.old.items tracks.new.items }
     ensures gaps { gaps_of S.gap tracks.new.items ≡ gaps_of S.gap tracks.old.items }
+    ensures places { tracks.new.spare ≡ tracks.old.spare }
 {
     match latest_sync(tracks, lead, position, next) {
         Some(start) => {
@@ -162,11 +166,13 @@ fn evict_after<S: FrameStore>(
     need: &Need,
     duration: &Moment,
 )
-    requires { AreCounted (states_of S.frames tracks.old.items) }
-    ensures states { states_of S.frames tracks.new.items ≡ removed_while_full need.now.new_bytes need.now.quota duration.now
-        (left_after position lead duration.now None (states_of S.frames tracks.old.items)) (states_of S.frames tracks.old.items) }
-    ensures spare { KeepsRoom S.spare tracks.old.items tracks.new.items }
+    ensures states { states_of S.frames tracks.new.items
+        ≡ tracks_while_full need.now.new_bytes need.now.quota duration.now
+        (left_after position lead duration.now None (states_of S.frames tracks.old.items))
+        (states_of S.frames tracks.old.items) }
+    ensures spare { IsRoomKept S.spare tracks.old.items tracks.new.items }
     ensures gaps { gaps_of S.gap tracks.new.items ≡ gaps_of S.gap tracks.old.items }
+    ensures places { tracks.new.spare ≡ tracks.old.spare }
 {
     let mut next = None;
     while let Some(start) = evict_after_step(tracks, lead, position, &next, need, duration) {
@@ -179,7 +185,10 @@ fn evict_after<S: FrameStore>(
 /// track, the first video track or else the first track, and after its last up to the duration.
 /// First go those that end at or before the current playback position, from the earliest on, then
 /// those that start after it, from the latest back, until the new bytes have room. The range that
-/// holds the position stays. It needs no memory.
+/// holds the position is never named: of its frames those of the lead track go only as decoding
+/// dependencies of a frame that goes, and of another track those too that begin before its next
+/// random access point. It needs no memory, no store loses room, the places for further tracks
+/// stay, and each track that was sound stays so.
 pub fn evict<S: FrameStore>(
     tracks: &mut Tracks<S>,
     position: Ticks,
@@ -187,17 +196,23 @@ pub fn evict<S: FrameStore>(
     quota: u64,
     duration: Moment,
 )
-    requires counted { AreCounted (states_of S.frames tracks.old.items) }
-    ensures states { states_of S.frames tracks.new.items ≡ evicted position new_bytes quota duration (states_of S.frames tracks.old.items) }
-    ensures counted { AreCounted (states_of S.frames tracks.new.items) }
-    ensures kept { AreKept (states_of S.frames tracks.old.items) → AreKept (states_of S.frames tracks.new.items) }
-    ensures ends { (limit : ℤ) → EndBy limit (states_of S.frames tracks.old.items) → EndBy limit (states_of S.frames tracks.new.items) }
-    ensures spare { KeepsRoom S.spare tracks.old.items tracks.new.items }
-    ensures room { (n : ℕ) → HasRoom S.spare n tracks.old.items → HasRoom S.spare n tracks.new.items }
+    ensures states { states_of S.frames tracks.new.items
+        ≡ tracks_after_eviction position new_bytes quota duration
+        (states_of S.frames tracks.old.items) }
+    ensures sound { AreStillSound (states_of S.frames tracks.old.items)
+        (states_of S.frames tracks.new.items) }
+    ensures kept { AreKept (states_of S.frames tracks.old.items)
+        → AreKept (states_of S.frames tracks.new.items) }
+    ensures ends { (limit : ℤ) → AreEndedBy limit (states_of S.frames tracks.old.items)
+        → AreEndedBy limit (states_of S.frames tracks.new.items) }
+    ensures spare { IsRoomKept S.spare tracks.old.items tracks.new.items }
+    ensures room { (n : ℕ) → HasRoom S.spare n tracks.old.items
+        → HasRoom S.spare n tracks.new.items }
     ensures gaps { gaps_of S.gap tracks.new.items ≡ gaps_of S.gap tracks.old.items }
+    ensures places { tracks.new.spare ≡ tracks.old.spare }
     ensures len { length tracks.new.items ≡ length tracks.old.items }
 {
-    if tracks.used() < quota {
+    if is_below_quota(tracks, quota) {
         return;
     }
     let lead = lead_of(tracks);

@@ -2,7 +2,6 @@ ghost use Rattle.std.specs.Prelude.{◌≡◌, ◌+ℤ◌, ◌<ℤ◌, ◌≤ℤ
 ghost use Rattle.std.specs.List.{AllByRecursion};
 ghost use Rattle.mse_base.specs.Time.{IsTick, floor_div, tick};
 ghost use Rattle.track_store.specs.State.{states_of};
-ghost use Rattle.eviction.specs.Counted.{AreCounted};
 ghost use Rattle.eviction.specs.Evicting.{first_of};
 ghost use Rattle.eviction.specs.Steps.{Has, IsLatest, is_below, times_at, times_between};
 
@@ -27,8 +26,8 @@ fn sync_between<S: FrameStore>(
     after: Ticks,
     next: &Option<Ticks>,
 ) -> Option<Ticks>
-    requires { AreCounted (states_of S.frames tracks.now.items) }
-    ensures { result ≡ first_of (times_between after next.now (times_at lead (states_of S.frames tracks.now.items))) }
+    ensures { result ≡ first_of (times_between after next.now
+        (times_at lead (states_of S.frames tracks.now.items))) }
 {
     match sync_after(tracks, lead, after) {
         Some(t) => { if is_below(next, t) { Some(t) } else { None } }
@@ -38,8 +37,8 @@ fn sync_between<S: FrameStore>(
 
 fn half_way(low: Ticks, high: Ticks) -> Option<Ticks>
     ensures value { result ≡ tick (floor_div (low +ℤ high) 2) }
-    ensures low { IsTick low }
-    ensures high { IsTick high }
+    ensures low_in_range { IsTick low }
+    ensures high_in_range { IsTick high }
 {
     let sum = low.get() + high.get();
     Ticks::new(sum.div_euclid(2))
@@ -64,7 +63,8 @@ fn highest<S: FrameStore>(
     next: &Option<Ticks>,
 ) -> Ticks
     requires { Has low (times_at lead (states_of S.frames tracks.now.items)) }
-    ensures { AllByRecursion (λ u. is_below next.now u ≡ true → u ≤ℤ result) (times_at lead (states_of S.frames tracks.now.items)) }
+    ensures { AllByRecursion (λ u. is_below next.now u ≡ true
+        → u ≤ℤ result) (times_at lead (states_of S.frames tracks.now.items)) }
 {
     match next {
         Some(t) => *t,
@@ -80,10 +80,10 @@ fn latest_from<S: FrameStore>(
     mut low: Ticks,
     next: &Option<Ticks>,
 ) -> Ticks
-    requires counted { AreCounted (states_of S.frames tracks.now.items) }
     requires has { Has low (times_at lead (states_of S.frames tracks.now.items)) }
     requires below { is_below next.now low ≡ true }
-    ensures latest { IsLatest next.now (times_at lead (states_of S.frames tracks.now.items)) result }
+    ensures latest { IsLatest next.now (times_at lead
+        (states_of S.frames tracks.now.items)) result }
     ensures later { low ≤ℤ result }
 {
     let mut high = highest(tracks, lead, low, next);
@@ -104,11 +104,11 @@ pub fn latest_sync<S: FrameStore>(
     after: Ticks,
     next: &Option<Ticks>,
 ) -> Option<Ticks>
-    requires { AreCounted (states_of S.frames tracks.now.items) }
     ensures { MatchOption result
         (times_between after next.now (times_at lead (states_of S.frames tracks.now.items)) ≡ [])
         (λ t. times_between after next.now (times_at lead (states_of S.frames tracks.now.items))
-        ≡ times_between after (Some t) (times_at lead (states_of S.frames tracks.now.items)) ++ t ∷ []) }
+        ≡ times_between after (Some t) (times_at lead (states_of S.frames tracks.now.items))
+        ++ t ∷ []) }
 {
     match sync_between(tracks, lead, after, next) {
         Some(low) => Some(latest_from(tracks, lead, low, next)),

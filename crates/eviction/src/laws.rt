@@ -1,22 +1,34 @@
 //! What follows from the definitions of this crate: functions that do nothing, with the laws as
 //! their contracts.
 
-ghost use Rattle.std.specs.Prelude.{◌≡◌, ◌⊎◌, ℤ, true, List};
+ghost use Rattle.std.specs.Prelude.{◌≡◌, ℕ, ℤ, true, false, List, Option, Some, slice_get, IfSome};
 ghost use Rattle.std.specs.List.{AllByRecursion};
-ghost use Rattle.eviction.specs.Counted.{AreCounted};
-ghost use Rattle.eviction.specs.Evicting.{RemovalRange, ends_up_to, in_order, starts_after};
-ghost use Rattle.track_store.specs.Kept.{AreKept};
+ghost use Rattle.mse_base.specs.declared.ticks.Moment.{Moment};
+ghost use Rattle.eviction.specs.Evicting.{RemovalRange, frames_of, holds, lead_of, ranges_in_order, removal_ranges, sync_times, tracks_after_eviction};
+ghost use Rattle.eviction.specs.Spared.{HasRange, IsLeftOf, IsSparedIn};
 ghost use Rattle.track_store.specs.State.{TrackState};
 
-/// What a source buffer keeps of its tracks is more than an eviction asks for.
-pub fn kept_are_counted()
-    ensures { (ts : List TrackState) → AreKept ts → AreCounted ts }
+/// No range that is removed holds the current playback position.
+pub fn no_range_holds_the_position()
+    ensures { (position : ℤ) (ranges : List RemovalRange)
+        → AllByRecursion (λ r. holds r position ≡ false) (ranges_in_order position ranges) }
 {}
 
-/// The range that holds the current playback position is never removed: each that is named ends at
-/// or before it, or starts after it.
+/// What is left after an eviction of the frames that begin in the removal range which holds the
+/// position. In the lead track such a frame goes only as a decoding dependency of a frame that
+/// begins elsewhere. In another track a frame may go by itself too, where it begins before each
+/// random access point that its track has in the range.
 pub fn position_stays()
-    ensures { (position : ℤ) (ranges : List RemovalRange)
-        → AllByRecursion (λ r. (ends_up_to position r ≡ true) ⊎ (starts_after position r ≡ true))
-        (in_order position ranges) }
+    ensures lead { (position : ℤ) (new quota : ℕ) (d : Moment) (ts : List TrackState)
+        (r : RemovalRange) (k : ℕ) (t : TrackState)
+        → HasRange r (removal_ranges d (sync_times (frames_of (lead_of ts))))
+        → holds r position ≡ true → lead_of ts ≡ Some t → slice_get ts k ≡ Some t
+        → IfSome (slice_get (tracks_after_eviction position new quota d ts) k)
+        (λ u. IsSparedIn r t.frames u.frames) }
+    ensures every_track { (position : ℤ) (new quota : ℕ) (d : Moment) (ts : List TrackState)
+        (r : RemovalRange) (k : ℕ) (t : TrackState)
+        → HasRange r (removal_ranges d (sync_times (frames_of (lead_of ts))))
+        → holds r position ≡ true → slice_get ts k ≡ Some t
+        → IfSome (slice_get (tracks_after_eviction position new quota d ts) k)
+        (λ u. IsLeftOf r t.frames u.frames) }
 {}

@@ -1,14 +1,8 @@
 //! Worked examples of eviction, on a plain store. Times are in milliseconds, a frame lasts 100 and
 //! has 4 bytes.
 
-ghost use Rattle.std.specs.Prelude.{◌≡◌, ◌≤◌, ◌+◌, ◌+ℤ◌, pos, ◌≤ℤ◌, true, length, IfOk, IfSome};
-ghost use Rattle.std.specs.List.{AllByRecursion};
+ghost use Rattle.std.specs.Prelude.{◌≡◌, ◌≤◌, ◌+ℤ◌, pos, ◌≤ℤ◌, true, length, IfOk, IfSome};
 ghost use Rattle.mse_base.specs.Time.{IsTick};
-ghost use Rattle.track_store.specs.Frames.{used_of};
-ghost use Rattle.track_store.specs.Kept.{bytes_in};
-ghost use Rattle.track_store.specs.State.{states_of};
-ghost use Rattle.range_removal.specs.Numbered.{IsNumbered};
-ghost use Rattle.eviction.specs.Counted.{AreCounted};
 
 use crate::evict;
 use mse_base::{Bytes, CodedFrame, Kind, Moment, Ticks, convert};
@@ -25,7 +19,7 @@ fn time(ms: u16) -> Result<Ticks, Fail> {
 }
 
 fn duration_from(pts: Ticks, dur: Ticks) -> Option<Ticks>
-    ensures forward { IfSome result (λ d. pos 0 ≤ℤ d) }
+    ensures dur_not_negative { IfSome result (λ d. pos 0 ≤ℤ d) }
     ensures in_range { IfSome result (λ d. IsTick (pts +ℤ d)) }
 {
     let end = pts.checked_add(dur)?;
@@ -36,13 +30,11 @@ fn duration_from(pts: Ticks, dur: Ticks) -> Option<Ticks>
 fn frame_of(alloc: Global, serial: u64, ms: u16, sync: bool) -> Result<Stored, Fail>
     ensures serial { IfOk result (λ f. f.serial ≡ serial) }
     ensures sync { IfOk result (λ f. f.frame.sync ≡ sync) }
-    ensures forward { IfOk result (λ f. pos 0 ≤ℤ f.frame.dur) }
+    ensures dur_not_negative { IfOk result (λ f. pos 0 ≤ℤ f.frame.dur) }
     ensures in_range { IfOk result (λ f. IsTick (f.frame.pts +ℤ f.frame.dur)) }
-    ensures begins { IfOk result (λ f. IsTick f.frame.pts) }
     ensures small { IfOk result (λ f. length f.frame.payload ≡ 4) }
 {
     let pts = time(ms)?;
-    let _in_range = pts.get();
     let dur = duration_from(pts, time(100)?).ok_or("no duration")?;
     let payload = Bytes::copy_of(alloc, &[0; 4])?;
     Ok(Stored {
@@ -61,9 +53,6 @@ fn frame_of(alloc: Global, serial: u64, ms: u16, sync: bool) -> Result<Stored, F
 /// The frames in order of appending; the first is a random access point.
 fn store_of<S: FrameStore>(alloc: Global, samples: &[Sample]) -> Result<S, Fail>
     requires { length samples.now ≤ 100 }
-    ensures numbered { IfOk result (λ s. IsNumbered (S.frames s)) }
-    ensures in_range { IfOk result (λ s. AllByRecursion (λ f. IsTick f.frame.pts) (S.frames s)) }
-    ensures small { IfOk result (λ s. used_of (S.frames s) ≤ 400) }
 {
     let mut store = S::new(alloc, Ticks::zero());
     store.reserve(samples.len())?;
@@ -80,11 +69,7 @@ fn add_track<S: FrameStore>(
     kind: Kind,
     samples: &[Sample],
 ) -> Result<(), Fail>
-    requires counted { AreCounted (states_of S.frames tracks.old.items) }
-    requires small { bytes_in (states_of S.frames tracks.old.items) ≤ 1000 }
-    requires few { length samples.now ≤ 100 }
-    ensures counted { AreCounted (states_of S.frames tracks.new.items) }
-    ensures small { bytes_in (states_of S.frames tracks.new.items) ≤ bytes_in (states_of S.frames tracks.old.items) + 400 }
+    requires { length samples.now ≤ 100 }
 {
     let store = store_of(alloc, samples)?;
     tracks.reserve(1)?;
@@ -178,4 +163,27 @@ fn evicts_by_the_first_video_track(rt: HostRuntime) -> Result<(), Fail> {
     evict(&mut tracks, time(0)?, 4, 20, Moment::Infinite);
     assert_left(&rt, &tracks, 0, &[0, 500])?;
     assert_left(&rt, &tracks, 1, &[0, 500])
+}
+
+/// Without a duration the last range has no end, and nothing of it goes.
+#[test]
+fn evicts_without_a_duration(rt: HostRuntime) -> Result<(), Fail> {
+    let mut tracks = Tracks::<ListStore>::new(rt.alloc());
+    add_track(&mut tracks, rt.alloc(), Kind::Audio, &SECONDS)?;
+    evict(&mut tracks, time(3000)?, 100, 1, Moment::Nan);
+    assert_left(&rt, &tracks, 0, &[2000])
+}
+
+/// What goes of the frames that begin in the range which holds the position: of the lead track a
+/// decoding dependency, and of another track what begins before its next random access point.
+#[test]
+fn evicts_around_the_position(rt: HostRuntime) -> Result<(), Fail> {
+    let mut tracks = Tracks::<ListStore>::new(rt.alloc());
+    let video = [(0, true), (1200, false), (1000, true)];
+    add_track(&mut tracks, rt.alloc(), Kind::Video, &video)?;
+    let audio = [(0, true), (1100, false), (1500, true)];
+    add_track(&mut tracks, rt.alloc(), Kind::Audio, &audio)?;
+    evict(&mut tracks, time(1300)?, 4, 24, Moment::Infinite);
+    assert_left(&rt, &tracks, 0, &[1000])?;
+    assert_left(&rt, &tracks, 1, &[1500])
 }

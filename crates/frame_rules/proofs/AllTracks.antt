@@ -1,5 +1,5 @@
 -- From one track buffer to all of a source buffer.
-use Rattle.std.proofs.Common.{zero, suc, ◌≡◌, ◌<◌, ◌≤◌, ◌^◌, ◌+◌, ℕ, ℤ, Bool, true, false, cond, List, [], ◌∷◌, length, map, set, slice_get, get_or, Option, Some, None, refl, ap, ◌∙◌, inl, inr, arith}
+use Rattle.std.proofs.Common.{zero, suc, ◌≡◌, ◌<◌, ◌≤◌, ◌^◌, ◌+◌, ℕ, ℤ, Bool, true, false, cond, ◌||◌, List, [], ◌∷◌, length, map, set, slice_get, get_or, Option, Some, None, refl, sym, ap, subst, ◌∙◌, inl, inr, arith}
 use Rattle.std.specs.Option.{IfSome, option_map}
 use Rattle.std.proofs.lemmas.Option.{slice_get_cases, slice_get-map}
 use Rattle.mse_base.specs.declared.frame.CodedFrame.{CodedFrame}
@@ -7,30 +7,29 @@ use Rattle.track_store.specs.declared.store.Stored.{Stored}
 use Rattle.track_store.specs.declared.tracks.Track.{Track}
 use Rattle.track_store.specs.declared.tracks.Marks.{Marks}
 use Rattle.track_store.specs.declared.tracks.Settings.{Settings}
-use Rattle.track_store.specs.State.{TrackState, state_of, states_of}
+use Rattle.track_store.specs.State.{TrackState, state_of, states_of, unset_marks, marks_needing_sync}
 use Rattle.track_store.specs.Sound.{Sound, AreTogether}
 use Rattle.frame_rules.specs.declared.timing.Timing.{Timing}
+use Rattle.frame_rules.specs.Timing.{timing_of}
 use Rattle.frame_rules.specs.declared.answer.Placed.{Placed}
 use Rattle.frame_rules.specs.declared.answer.Placed.TheVariants as placed_as
-use Rattle.frame_rules.specs.Timing.{timing_of}
 use Rattle.std.proofs.lemmas.Bool.Decides.{nat_tests}
 use Rattle.std.proofs.lemmas.List.{length-map, get_or-map}
 use Rattle.std.proofs.lemmas.List.Sums.{get_or-le-sum_by}
-use Rattle.track_store.specs.Frames.{used_of}
-use Rattle.frame_rules.specs.Put.{drop_reason, put, put_answer}
-use Rattle.track_store.specs.Kept.{bytes_in, AreKept}
-use Rattle.frame_rules.specs.Place.{outcome, reset_marks, reset_in, reset_track, placed_in, placed_by, placed, too_many, settings_after, IsReady}
-use Rattle.std.specs.List.{AllByRecursion}
+use Rattle.track_store.specs.Frames.{bytes_of}
+use Rattle.frame_rules.specs.Put.{drop_reason, track_after_frame, answer_by_reason}
+use Rattle.track_store.specs.Kept.{bytes_in}
+use Rattle.frame_rules.specs.Place.{Placement, new_placement, marks_after_reset, with_reset_marks, track_after_reset, placement_in_track, placement_by_times, placement, is_over_limit, settings_after_frame, IsReady}
 
 pub if_some_map : {X Y : Type 0} (o : Option X) (f : X → Y) (P : X → Type 0) (Q : Y → Type 0) → ((x : X) → P x → Q (f x)) → IfSome o P → IfSome (option_map f o) Q
 if_some_map None f P Q k h = h
 if_some_map (Some x) f P Q k h = k x h
 
-pub states_marked : {S : Type 0} (frames : S → List Stored) (w : Timing) (ts : List (Track S)) → states_of frames (map (reset_in w) ts) ≡ map (reset_track w) (states_of frames ts)
+pub states_marked : {S : Type 0} (frames : S → List Stored) (w : Timing) (ts : List (Track S)) → states_of frames (map (with_reset_marks w) ts) ≡ map (track_after_reset w) (states_of frames ts)
 states_marked frames w [] = refl
-states_marked frames w (t ∷ ts) = ap (λ rest. reset_track w (state_of frames t) ∷ rest) (states_marked frames w ts)
+states_marked frames w (t ∷ ts) = ap (λ rest. track_after_reset w (state_of frames t) ∷ rest) (states_marked frames w ts)
 
-pub outcome_in : {S : Type 0} (frames : S → List Stored) (w : Timing) (f : CodedFrame) (i : ℕ) (ts : List (Track S)) (answer : Placed) (news : List TrackState) (settings : Settings) → i < length ts → IfSome (slice_get ts i) (λ t. news ≡ set (states_of frames ts) i (put w f (state_of frames t))) → IfSome (slice_get ts i) (λ t. answer ≡ put_answer (drop_reason w f.sync t.marks.need_sync)) → settings ≡ settings_after answer w → outcome answer news settings ≡ placed_in (slice_get (states_of frames ts) i) w f i (states_of frames ts)
+pub outcome_in : {S : Type 0} (frames : S → List Stored) (w : Timing) (f : CodedFrame) (i : ℕ) (ts : List (Track S)) (answer : Placed) (news : List TrackState) (settings : Settings) → i < length ts → IfSome (slice_get ts i) (λ t. news ≡ set (states_of frames ts) i (track_after_frame w f (state_of frames t))) → IfSome (slice_get ts i) (λ t. answer ≡ answer_by_reason (drop_reason w f.sync t.marks.need_sync)) → settings ≡ settings_after_frame answer w → new_placement answer news settings ≡ placement_in_track (slice_get (states_of frames ts) i) w f i (states_of frames ts)
 outcome_in frames w f i ts answer news settings low news_are answer_is settings_are =
     elim (slice_get_cases ts i).1 [
       | inl found ↦
@@ -48,38 +47,38 @@ together_needs None None None None need h = refl
 together_needs decode duration end first need h = absurd h
 
 unset_sound : (t : TrackState) → Sound t → Sound (record t { marks = record t.marks { last_decode = None; last_duration = None; highest_end = None; group_first = None; need_sync = true } })
-unset_sound t h = record { count = h.count; chained = h.chained; ascending = h.ascending; below = h.below; forward = h.forward; timed = h.timed; follows = λ e. cc; together = refl; group_below = tt; group_sync = tt }
+unset_sound t h = record { count = h.count; chained = h.chained; ascending = h.ascending; below = h.below; not_negative = h.not_negative; timed = h.timed; last_held = λ e. cc; together = refl; group_below = tt; group_sync = tt }
 
 needing_sound : (t : TrackState) → Sound t → Sound (record t { marks = record t.marks { need_sync = true } })
-needing_sound t h = record { count = h.count; chained = h.chained; ascending = h.ascending; below = h.below; forward = h.forward; timed = h.timed; follows = λ e. cc; together = together_needs _ t.marks.last_duration _ _ t.marks.need_sync h.together; group_below = h.group_below; group_sync = h.group_sync }
+needing_sound t h = record { count = h.count; chained = h.chained; ascending = h.ascending; below = h.below; not_negative = h.not_negative; timed = h.timed; last_held = λ e. cc; together = together_needs _ t.marks.last_duration _ _ t.marks.need_sync h.together; group_below = h.group_below; group_sync = h.group_sync }
 
 sound_either : (t : TrackState) (b : Bool) (m n : Marks) → Sound (record t { marks = m }) → Sound (record t { marks = n }) → Sound (record t { marks = cond b m n })
 sound_either t true m n p q = p
 sound_either t false m n p q = q
 
-pub sound_break : (w : Timing) (t : TrackState) → Sound t → Sound (reset_track w t)
+pub sound_break : (w : Timing) (t : TrackState) → Sound t → Sound (track_after_reset w t)
 sound_break w t h = sound_either t w.discontinuity _ _ (unset_sound t h) (sound_either t w.starts_group (record t.marks { need_sync = true }) t.marks (needing_sound t h) h)
 
 received_either : (n : ℕ) (b : Bool) (k m : Marks) → k.received < n → m.received < n → (cond b k m).received < n
 received_either n true k m p q = p
 received_either n false k m p q = q
 
-pub received_broken : (w : Timing) (m : Marks) → m.received < 2 ^ 62 → (reset_marks w m).received < 2 ^ 62
+pub received_broken : (w : Timing) (m : Marks) → m.received < 2 ^ 62 → (marks_after_reset w m).received < 2 ^ 62
 received_broken w m h = received_either (2 ^ 62) w.discontinuity _ _ h (received_either (2 ^ 62) w.starts_group (record m { need_sync = true }) m h h)
 
-pub ready_marked : {S : Type 0} (frames : S → List Stored) (spare : S → ℕ) (bytes : ℕ) (w : Timing) (t : Track S) → IsReady frames spare bytes t → IsReady frames spare bytes (reset_in w t)
+pub ready_marked : {S : Type 0} (frames : S → List Stored) (spare : S → ℕ) (bytes : ℕ) (w : Timing) (t : Track S) → IsReady frames spare bytes t → IsReady frames spare bytes (with_reset_marks w t)
 ready_marked frames spare bytes w t h = record { sound = sound_break w (state_of frames t) h.sound; room = h.room; count = received_broken w t.marks h.count; small = h.small }
 
 -- the bytes of the track at a place are among those of all
-used_within : {S : Type 0} (frames : S → List Stored) (ts : List (Track S)) (i : ℕ) (t : Track S) → i < length ts → get_or ts i t ≡ t → used_of (frames t.store) ≤ bytes_in (states_of frames ts)
+used_within : {S : Type 0} (frames : S → List Stored) (ts : List (Track S)) (i : ℕ) (t : Track S) → i < length ts → get_or ts i t ≡ t → bytes_of (frames t.store) ≤ bytes_in (states_of frames ts)
 used_within frames ts i t here at =
     let long = length-map ts (state_of frames) in
     let there : i < length (states_of frames ts) = omega arith in
-    let part = get_or-le-sum_by (λ s. used_of s.frames) (states_of frames ts) i (state_of frames t) there in
+    let part = get_or-le-sum_by (λ s. bytes_of s.frames) (states_of frames ts) i (state_of frames t) there in
     rw (get_or-map (state_of frames) ts i t (state_of frames t) here, at) at part
 
 -- the definition, where a count would pass its limit
-pub placed_full : {S : Type 0} (frames : S → List Stored) (ts : List (Track S)) (s : Settings) (i : ℕ) (f : CodedFrame) → i < length ts → IfSome (slice_get ts i) (λ t. true ≡ too_many t.marks.received (bytes_in (states_of frames ts)) (length f.payload)) → outcome placed_as.Counts (states_of frames ts) s ≡ placed (states_of frames ts) s i f
+pub placed_full : {S : Type 0} (frames : S → List Stored) (ts : List (Track S)) (s : Settings) (i : ℕ) (f : CodedFrame) → i < length ts → IfSome (slice_get ts i) (λ t. true ≡ is_over_limit t.marks.received (bytes_in (states_of frames ts)) (length f.payload)) → new_placement placed_as.Counts (states_of frames ts) s ≡ placement (states_of frames ts) s i f
 placed_full frames ts s i f low full =
     elim (slice_get_cases ts i).1 [
       | inl found ↦
@@ -90,21 +89,21 @@ placed_full frames ts s i f low full =
     ]
 
 -- the definition, where none would
-pub placed_fits : {S : Type 0} (frames : S → List Stored) (ts : List (Track S)) (s : Settings) (i : ℕ) (f : CodedFrame) (o : Option Timing) → i < length ts → IfSome (slice_get ts i) (λ t. false ≡ too_many t.marks.received (bytes_in (states_of frames ts)) (length f.payload)) → IfSome (slice_get ts i) (λ t. o ≡ timing_of s t.marks f) → placed_by o s f i (states_of frames ts) ≡ placed (states_of frames ts) s i f
-placed_fits frames ts s i f o low full times =
+pub placed_counted : {S : Type 0} (frames : S → List Stored) (ts : List (Track S)) (s : Settings) (i : ℕ) (f : CodedFrame) (p : Placement) → i < length ts → IfSome (slice_get ts i) (λ t. false ≡ is_over_limit t.marks.received (bytes_in (states_of frames ts)) (length f.payload)) → IfSome (slice_get ts i) (λ t. p ≡ placement_by_times (timing_of s t.marks f) s f i (states_of frames ts)) → p ≡ placement (states_of frames ts) s i f
+placed_counted frames ts s i f p low full is =
     elim (slice_get_cases ts i).1 [
       | inl found ↦
           (let here = slice_get-map (state_of frames) ts i ∙ ap (option_map (state_of frames)) found.2 in
-          let no = rw found.2 at full in
-          let own = rw found.2 at times in
-          rw (here, ← no, ← own) refl)
+          let fits = rw found.2 at full in
+          let own = rw found.2 at is in
+          rw (here, ← fits) own)
       | inr past ↦ absurd (omega arith)
     ]
 
-pub fits_of : (received bytes more : ℕ) → received ≤ 2 ^ 62 → false ≡ too_many received bytes more → (received < 2 ^ 62) × (bytes + more < 2 ^ 62)
+pub fits_of : (received bytes more : ℕ) → received ≤ 2 ^ 62 → false ≡ is_over_limit received bytes more → (received < 2 ^ 62) × (bytes + more < 2 ^ 62)
 fits_of received bytes more low fits = grind (arith, nat_tests)
 
-ready_at : {S : Type 0} (frames : S → List Stored) (spare : S → ℕ) (ts : List (Track S)) (i : ℕ) (bytes : ℕ) → IfSome (slice_get ts i) (λ t. Sound (state_of frames t)) → IfSome (slice_get ts i) (λ t. 1 ≤ spare t.store) → IfSome (slice_get ts i) (λ t. t.marks.received ≤ 2 ^ 62) → IfSome (slice_get ts i) (λ t. false ≡ too_many t.marks.received (bytes_in (states_of frames ts)) bytes) → IfSome (slice_get ts i) (λ t. IsReady frames spare bytes t)
+ready_at : {S : Type 0} (frames : S → List Stored) (spare : S → ℕ) (ts : List (Track S)) (i : ℕ) (bytes : ℕ) → IfSome (slice_get ts i) (λ t. Sound (state_of frames t)) → IfSome (slice_get ts i) (λ t. 1 ≤ spare t.store) → IfSome (slice_get ts i) (λ t. t.marks.received ≤ 2 ^ 62) → IfSome (slice_get ts i) (λ t. false ≡ is_over_limit t.marks.received (bytes_in (states_of frames ts)) bytes) → IfSome (slice_get ts i) (λ t. IsReady frames spare bytes t)
 ready_at frames spare ts i bytes sound room count fits =
     elim (slice_get_cases ts i).1 [
       | inl found ↦
@@ -117,17 +116,39 @@ ready_at frames spare ts i bytes sound room count fits =
       | inr past ↦ rw past.1 tt
     ]
 
--- what holds of all tracks holds of the one at a place
-sound_here : {S : Type 0} (frames : S → List Stored) (ts : List (Track S)) (i : ℕ) → AllByRecursion Sound (states_of frames ts) → IfSome (slice_get ts i) (λ t. Sound (state_of frames t))
-sound_here frames [] i h = tt
-sound_here frames (t ∷ ts) zero h = h.0
-sound_here frames (t ∷ ts) (suc i) h = sound_here frames ts i h.1
+-- a state that is sound is that of a track
+sound_track : {S : Type 0} (frames : S → List Stored) (o : Option (Track S)) → IfSome (option_map (state_of frames) o) Sound → IfSome o (λ t. Sound (state_of frames t))
+sound_track frames None h = tt
+sound_track frames (Some t) h = h
 
 count_here : {S : Type 0} (frames : S → List Stored) (o : Option (Track S)) → IfSome o (λ t. Sound (state_of frames t)) → IfSome o (λ t. t.marks.received ≤ 2 ^ 62)
 count_here frames None h = tt
 count_here frames (Some t) h = h.count
 
-pub ready_kept : {S : Type 0} (frames : S → List Stored) (spare : S → ℕ) (ts : List (Track S)) (i : ℕ) (bytes : ℕ) → AreKept (states_of frames ts) → IfSome (slice_get ts i) (λ t. 1 ≤ spare t.store) → IfSome (slice_get ts i) (λ t. false ≡ too_many t.marks.received (bytes_in (states_of frames ts)) bytes) → IfSome (slice_get ts i) (λ t. IsReady frames spare bytes t)
-ready_kept frames spare ts i bytes h room fits =
-    let sound = sound_here frames ts i h.sound in
+pub ready_sound : {S : Type 0} (frames : S → List Stored) (spare : S → ℕ) (ts : List (Track S)) (i : ℕ) (bytes : ℕ) → IfSome (slice_get (states_of frames ts) i) Sound → IfSome (slice_get ts i) (λ t. 1 ≤ spare t.store) → IfSome (slice_get ts i) (λ t. false ≡ is_over_limit t.marks.received (bytes_in (states_of frames ts)) bytes) → IfSome (slice_get ts i) (λ t. IsReady frames spare bytes t)
+ready_sound frames spare ts i bytes h room fits =
+    let sound = sound_track frames (slice_get ts i) (rw (slice_get-map (state_of frames) ts i) at h) in
     ready_at frames spare ts i bytes sound room (count_here frames (slice_get ts i) sound) fits
+
+-- where neither step has anything to do, no marks change
+idle_marks : {S : Type 0} (w : Timing) (t : Track S) → w.discontinuity ≡ false → w.starts_group ≡ false → t ≡ with_reset_marks w t
+idle_marks w t a b =
+    ap (λ c. record t { marks = cond c (marks_needing_sync t.marks) t.marks }) (sym b)
+    ∙ ap (λ c. record t { marks = cond c (unset_marks t.marks) (cond w.starts_group (marks_needing_sync t.marks) t.marks) }) (sym a)
+
+pub idle_reset : {S : Type 0} (w : Timing) (ts : List (Track S)) → w.discontinuity ≡ false → w.starts_group ≡ false → ts ≡ map (with_reset_marks w) ts
+idle_reset w [] a b = refl
+idle_reset w (t ∷ ts) a b = ap (λ u. u ∷ ts) (idle_marks w t a b) ∙ ap (λ us. with_reset_marks w t ∷ us) (idle_reset w ts a b)
+
+pub or_parts : (a b : Bool) → (a || b) ≡ false → (a ≡ false) × (b ≡ false)
+or_parts true b e = cc
+or_parts false b e = (refl, e)
+
+-- ---- by the times that are found
+
+if_found : {S : Type 0} (o : Option (Track S)) (s : Settings) (f : CodedFrame) (q : Option Timing) (P : Option Timing → Type 0) → IfSome o (λ t. q ≡ timing_of s t.marks f) → P q → IfSome o (λ t. P (timing_of s t.marks f))
+if_found None s f q P h p = tt
+if_found (Some t) s f q P h p = subst P h p
+
+pub by_found : {S : Type 0} (frames : S → List Stored) (ts : List (Track S)) (s : Settings) (i : ℕ) (f : CodedFrame) (q : Option Timing) (p : Placement) → IfSome (slice_get ts i) (λ t. q ≡ timing_of s t.marks f) → p ≡ placement_by_times q s f i (states_of frames ts) → IfSome (slice_get ts i) (λ t. p ≡ placement_by_times (timing_of s t.marks f) s f i (states_of frames ts))
+by_found frames ts s i f q p h is = if_found (slice_get ts i) s f q (λ o. p ≡ placement_by_times o s f i (states_of frames ts)) h is

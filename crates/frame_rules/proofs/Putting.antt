@@ -7,19 +7,21 @@ use Rattle.std.specs.Int.{int_max}
 use Rattle.std.specs.List.{AllByRecursion}
 use Rattle.mse_base.specs.declared.frame.CodedFrame.{CodedFrame}
 use Rattle.track_store.specs.declared.store.Stored.{Stored}
-use Rattle.track_store.specs.Frames.{used_of, IsTimed}
+use Rattle.track_store.specs.Frames.{bytes_of, IsTimed}
 use Rattle.track_store.specs.State.{TrackState}
-use Rattle.track_store.specs.Sound.{Sound, HasPredecessor, IsNext, last_serial, IsForward, AreTogether}
+use Rattle.track_store.specs.Sound.{Sound, HasPredecessor, IsNext, last_serial, IsNotNegative, AreTogether}
 use Rattle.track_store.proofs.Clearing.{ascending_push, each-push}
 use Rattle.track_store.proofs.Soundness.{predecessor_last, chained_push, last_push}
-use Rattle.overlap_rules.specs.Overlap.{with_room}
+use Rattle.overlap_rules.specs.Overlap.{track_with_room}
 use Rattle.overlap_rules.proofs.Firm.{firm_room, used_room, last_room, end_room}
 use Rattle.frame_rules.specs.declared.timing.Timing.{Timing}
 use Rattle.frame_rules.specs.declared.answer.Why.{Why}
 use Rattle.frame_rules.specs.declared.answer.Why.TheVariants.{Window, NoSync}
 use Rattle.frame_rules.specs.Timing.{IsTimingOf}
-use Rattle.frame_rules.specs.Put.{is_past, drop_reason, dropped, stored, stored_frame, put, put_by, put_answer}
-use Rattle.frame_rules.specs.Place.{limit_after, settings_after}
+use Rattle.mse_base.specs.Moments.{is_after}
+use Rattle.track_store.proofs.Limits.{later_all, max_left, max_right}
+use Rattle.frame_rules.specs.Put.{drop_reason, track_after_drop, track_with_frame, stored_frame, track_after_frame, track_by_reason, answer_by_reason}
+use Rattle.frame_rules.specs.Place.{limit_after, settings_after_frame}
 
 -- a frame that is not dropped is a random access point where one is needed
 needs_sync : (a b n s : Bool) (x y z : Why) → cond a (Some x) (cond b (Some y) (cond (n && not s) (Some z) None)) ≡ None → s ≡ false → n ≡ false
@@ -29,8 +31,8 @@ needs_sync false false true true x y z e f = cc
 needs_sync false false true false x y z e f = cc
 needs_sync false false false s x y z e f = refl
 
-pub may_follow : (w : Timing) (sync : Bool) (t : TrackState) → Sound t → drop_reason w sync t.marks.need_sync ≡ None → sync ≡ false → HasPredecessor t.marks.received (with_room w.pts w.end t).frames
-may_follow w sync t h kept none = predecessor_last _ _ (last_room w.pts w.end t h (needs_sync (int_lt w.pts w.settings.window_start) (is_past w.end w.settings.window_end) t.marks.need_sync sync Window Window NoSync kept none))
+pub may_follow : (w : Timing) (sync : Bool) (t : TrackState) → Sound t → drop_reason w sync t.marks.need_sync ≡ None → sync ≡ false → HasPredecessor t.marks.received (track_with_room w.pts w.end t).frames
+may_follow w sync t h kept none = predecessor_last _ _ (last_room w.pts w.end t h (needs_sync (int_lt w.pts w.settings.window_start) (is_after w.end w.settings.window_end) t.marks.need_sync sync Window Window NoSync kept none))
 
 -- a frame that is not dropped begins in the window
 in_window : (b c d : Bool) (x y z : Why) → cond b (Some x) (cond c (Some y) (cond d (Some z) None)) ≡ None → b ≡ false
@@ -54,15 +56,15 @@ together_true (Some decode) (Some duration) (Some end) (Some first) need h = h
 together_true None None None None need h = refl
 together_true decode duration end first need h = absurd h
 
-sound_dropped : (t : TrackState) → Sound t → t.marks.received < 2 ^ 62 → Sound (dropped t)
+sound_dropped : (t : TrackState) → Sound t → t.marks.received < 2 ^ 62 → Sound (track_after_drop t)
 sound_dropped t h less = record {
   count = omega arith;
   chained = h.chained;
   ascending = h.ascending;
   below = below_more_serials t.marks.received t.frames h.below;
-  forward = h.forward;
+  not_negative = h.not_negative;
   timed = h.timed;
-  follows = λ e. cc;
+  last_held = λ e. cc;
   together = together_true _ t.marks.last_duration _ _ t.marks.need_sync h.together;
   group_below = first_below t.marks.group_first t.marks.received h.group_below;
   group_sync = h.group_sync;
@@ -90,9 +92,9 @@ sync_or : (b : Bool) (P : Type 0) → (b ≡ false → P) → (b ≡ true) ⊎ P
 sync_or true P h = inl refl
 sync_or false P h = inr (h refl)
 
-sound_stored : (w : Timing) (f : CodedFrame) (t : TrackState) → Sound t → t.marks.received < 2 ^ 62 → pos 0 ≤ℤ w.pts → pos 0 ≤ℤ f.dur → IsTimingOf f w → (f.sync ≡ false → t.marks.need_sync ≡ false) → Sound (stored w f t)
+sound_stored : (w : Timing) (f : CodedFrame) (t : TrackState) → Sound t → t.marks.received < 2 ^ 62 → pos 0 ≤ℤ w.pts → pos 0 ≤ℤ f.dur → IsTimingOf f w → (f.sync ≡ false → t.marks.need_sync ≡ false) → Sound (track_with_frame w f t)
 sound_stored w f t h less begins lasts timing needs =
-    let left = (with_room w.pts w.end t).frames in
+    let left = (track_with_room w.pts w.end t).frames in
     let n = t.marks.received in
     let x = stored_frame w n f in
     let firm = firm_room w.pts w.end t h in
@@ -101,57 +103,47 @@ sound_stored w f t h less begins lasts timing needs =
       chained = chained_push None left x firm.chained (sync_or f.sync (IsNext (last_serial None left) n) (λ e. last_room w.pts w.end t h (needs e)));
       ascending = ascending_push left x firm.ascending firm.below;
       below = each-push (λ g. g.serial < n + 1) left x (below_more_serials n left firm.below) (omega arith);
-      forward = each-push IsForward left x firm.forward (begins, lasts);
+      not_negative = each-push IsNotNegative left x firm.not_negative (begins, lasts);
       timed = each-push IsTimed left x firm.timed (lasts, timing.1);
-      follows = λ _. subst (λ o. IsNext o (n + 1)) (sym (last_push None left x)) refl;
+      last_held = λ _. subst (λ o. IsNext o (n + 1)) (sym (last_push None left x)) refl;
       together = tt;
       group_below = first_low t.marks.group_first n h.group_below;
       group_sync = group_of _ t.marks.last_duration _ t.marks.group_first t.marks.need_sync n x left h.together (need_gives t.marks.need_sync f.sync needs) refl firm.below h.group_below firm.group_sync;
     }
 
-sound_by : (why : Option Why) (w : Timing) (f : CodedFrame) (t : TrackState) → Sound t → t.marks.received < 2 ^ 62 → (why ≡ None → Sound (stored w f t)) → Sound (put_by why w f t)
+sound_by : (why : Option Why) (w : Timing) (f : CodedFrame) (t : TrackState) → Sound t → t.marks.received < 2 ^ 62 → (why ≡ None → Sound (track_with_frame w f t)) → Sound (track_by_reason why w f t)
 sound_by (Some why) w f t h less kept = sound_dropped t h less
 sound_by None w f t h less kept = kept refl
 
 -- a track stays sound where a frame is put into it
-pub sound_put : (w : Timing) (f : CodedFrame) (t : TrackState) → Sound t → t.marks.received < 2 ^ 62 → pos 0 ≤ℤ w.settings.window_start → pos 0 ≤ℤ f.dur → IsTimingOf f w → Sound (put w f t)
+pub sound_put : (w : Timing) (f : CodedFrame) (t : TrackState) → Sound t → t.marks.received < 2 ^ 62 → pos 0 ≤ℤ w.settings.window_start → pos 0 ≤ℤ f.dur → IsTimingOf f w → Sound (track_after_frame w f t)
 sound_put w f t h less low lasts timing =
-    sound_by (drop_reason w f.sync t.marks.need_sync) w f t h less (λ kept. sound_stored w f t h less (not_before w.pts w.pts w.settings.window_start low (in_window _ (is_past w.end w.settings.window_end) (t.marks.need_sync && not f.sync) Window Window NoSync kept)) lasts timing (needs_sync (int_lt w.pts w.settings.window_start) (is_past w.end w.settings.window_end) t.marks.need_sync f.sync Window Window NoSync kept))
+    sound_by (drop_reason w f.sync t.marks.need_sync) w f t h less (λ kept. sound_stored w f t h less (not_before w.pts w.pts w.settings.window_start low (in_window _ (is_after w.end w.settings.window_end) (t.marks.need_sync && not f.sync) Window Window NoSync kept)) lasts timing (needs_sync (int_lt w.pts w.settings.window_start) (is_after w.end w.settings.window_end) t.marks.need_sync f.sync Window Window NoSync kept))
 
-used_by : (why : Option Why) (w : Timing) (f : CodedFrame) (t : TrackState) → used_of (put_by why w f t).frames ≤ used_of t.frames + length f.payload
+used_by : (why : Option Why) (w : Timing) (f : CodedFrame) (t : TrackState) → bytes_of (track_by_reason why w f t).frames ≤ bytes_of t.frames + length f.payload
 used_by (Some why) w f t = omega arith
 used_by None w f t =
     let room = used_room w.pts w.end t in
-    let more = sum_by_push (λ g. length g.frame.payload) (with_room w.pts w.end t).frames (stored_frame w t.marks.received f) in
+    let more = sum_by_push (λ g. length g.frame.payload) (track_with_room w.pts w.end t).frames (stored_frame w t.marks.received f) in
     omega arith
 
-pub used_put : (w : Timing) (f : CodedFrame) (t : TrackState) → used_of (put w f t).frames ≤ used_of t.frames + length f.payload
+pub used_put : (w : Timing) (f : CodedFrame) (t : TrackState) → bytes_of (track_after_frame w f t).frames ≤ bytes_of t.frames + length f.payload
 used_put w f t = used_by (drop_reason w f.sync t.marks.need_sync) w f t
 
 -- all frames of the track end by a time still, or by the group end timestamp after a frame that was stored
 abbrev pub AllEnd : ℤ → List Stored → Type 0
 AllEnd limit fs = AllByRecursion (λ f. (f.frame.pts +ℤ f.frame.dur) ≤ℤ limit) fs
 
-pub later_all : (limit more : ℤ) (fs : List Stored) → limit ≤ℤ more → AllEnd limit fs → AllEnd more fs
-later_all limit more [] le h = h
-later_all limit more (f ∷ fs) le h = ((let low = h.0 in omega (arith, ints)), later_all limit more fs le h.1)
-
-pub max_left : (a b : ℤ) → a ≤ℤ int_max a b
-max_left a b = grind (arith, ints)
-
-pub max_right : (a b : ℤ) → b ≤ℤ int_max a b
-max_right a b = grind (arith, ints)
-
-end_by : (why : Option Why) (w : Timing) (f : CodedFrame) (limit : ℤ) (t : TrackState) → Sound t → IsTimingOf f w → AllEnd limit t.frames → AllEnd (limit_after (put_answer why) limit (settings_after (put_answer why) w).group_end) (put_by why w f t).frames
+end_by : (why : Option Why) (w : Timing) (f : CodedFrame) (limit : ℤ) (t : TrackState) → Sound t → IsTimingOf f w → AllEnd limit t.frames → AllEnd (limit_after (answer_by_reason why) limit (settings_after_frame (answer_by_reason why) w).group_end) (track_by_reason why w f t).frames
 end_by (Some why) w f limit t h timing low = low
 end_by None w f limit t h timing low =
     let group_end = int_max w.settings.group_end w.end in
-    let room = later_all limit (int_max limit group_end) (with_room w.pts w.end t).frames (max_left limit group_end) (end_room limit w.pts w.end t h low) in
+    let room = later_all limit (int_max limit group_end) (track_with_room w.pts w.end t).frames (max_left limit group_end) (end_room limit w.pts w.end t h low) in
     let right = max_right limit group_end in
     let end = max_right w.settings.group_end w.end in
     let same = timing.0 in
     let own : (w.pts +ℤ f.dur) ≤ℤ int_max limit group_end = omega (arith, ints) in
-    each-push (λ g. (g.frame.pts +ℤ g.frame.dur) ≤ℤ int_max limit group_end) (with_room w.pts w.end t).frames (stored_frame w t.marks.received f) room own
+    each-push (λ g. (g.frame.pts +ℤ g.frame.dur) ≤ℤ int_max limit group_end) (track_with_room w.pts w.end t).frames (stored_frame w t.marks.received f) room own
 
-pub end_put : (w : Timing) (f : CodedFrame) (limit : ℤ) (t : TrackState) → Sound t → IsTimingOf f w → AllEnd limit t.frames → AllEnd (limit_after (put_answer (drop_reason w f.sync t.marks.need_sync)) limit (settings_after (put_answer (drop_reason w f.sync t.marks.need_sync)) w).group_end) (put w f t).frames
+pub end_put : (w : Timing) (f : CodedFrame) (limit : ℤ) (t : TrackState) → Sound t → IsTimingOf f w → AllEnd limit t.frames → AllEnd (limit_after (answer_by_reason (drop_reason w f.sync t.marks.need_sync)) limit (settings_after_frame (answer_by_reason (drop_reason w f.sync t.marks.need_sync)) w).group_end) (track_after_frame w f t).frames
 end_put w f limit t h timing low = end_by (drop_reason w f.sync t.marks.need_sync) w f limit t h timing low

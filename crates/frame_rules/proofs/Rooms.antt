@@ -6,7 +6,7 @@ use Rattle.std.proofs.lemmas.List.{length-map}
 use Rattle.track_store.specs.declared.tracks.Track.{Track}
 use Rattle.frame_rules.specs.declared.timing.Timing.{Timing}
 use Rattle.track_store.specs.Kept.{HasRoom, gaps_of}
-use Rattle.frame_rules.specs.Place.{reset_in, TakesRoomAt}
+use Rattle.frame_rules.specs.Place.{with_reset_marks, IsRoomTakenAt}
 
 -- ---- room
 
@@ -15,7 +15,7 @@ same_room : {S : Type 0} (spare : S → ℕ) (own : Type 0) (o : Option (Track S
 same_room spare own None = tt
 same_room spare own (Some t) = (omega arith, λ _. omega arith)
 
-pub takes_nothing : {S : Type 0} (spare : S → ℕ) (i : ℕ) (ts : List (Track S)) → TakesRoomAt spare i ts ts
+pub takes_nothing : {S : Type 0} (spare : S → ℕ) (i : ℕ) (ts : List (Track S)) → IsRoomTakenAt spare i ts ts
 takes_nothing spare i ts k = same_room spare (k ≢ i) (slice_get ts k)
 
 -- the same of other places
@@ -27,7 +27,7 @@ if_other spare own other (Some t) (Some u) f h = (h.0, λ e. h.1 (f e))
 not_next : (k i : ℕ) → suc k ≢ suc i → k ≢ i
 not_next k i h e = h (ap suc e)
 
-pub takes_set : {S : Type 0} (spare : S → ℕ) (ts : List (Track S)) (i : ℕ) (t u : Track S) → slice_get ts i ≡ Some t → spare t.store ≤ spare u.store + 1 → TakesRoomAt spare i ts (set ts i u)
+pub takes_set : {S : Type 0} (spare : S → ℕ) (ts : List (Track S)) (i : ℕ) (t u : Track S) → slice_get ts i ≡ Some t → spare t.store ≤ spare u.store + 1 → IsRoomTakenAt spare i ts (set ts i u)
 takes_set spare [] i t u e h k = absurd cc
 takes_set spare (v ∷ ts) zero t u e h zero =
     let same : v ≡ t = cc in
@@ -37,13 +37,13 @@ takes_set spare (v ∷ ts) zero t u e h (suc k) = same_room spare (suc k ≢ zer
 takes_set spare (v ∷ ts) (suc i) t u e h zero = (omega arith, λ _. omega arith)
 takes_set spare (v ∷ ts) (suc i) t u e h (suc k) = if_other spare (k ≢ i) (suc k ≢ suc i) (slice_get ts k) (slice_get (set ts i u) k) (not_next k i) (takes_set spare ts i t u e h k)
 
-if_reset : {S : Type 0} (w : Timing) (P : S → Type 0) (o : Option (Track S)) → IfSome (option_map (reset_in w) o) (λ t. P t.store) → IfSome o (λ t. P t.store)
+if_reset : {S : Type 0} (w : Timing) (P : S → Type 0) (o : Option (Track S)) → IfSome (option_map (with_reset_marks w) o) (λ t. P t.store) → IfSome o (λ t. P t.store)
 if_reset w P None h = tt
 if_reset w P (Some t) h = h
 
 -- the marks are no part of it
-pub takes_reset : {S : Type 0} (spare : S → ℕ) (i : ℕ) (w : Timing) (ts us : List (Track S)) → TakesRoomAt spare i (map (reset_in w) ts) us → TakesRoomAt spare i ts us
-takes_reset spare i w ts us h k = if_reset w (λ s. IfSome (slice_get us k) (λ u. (spare s ≤ spare u.store + 1) × (k ≢ i → spare s ≤ spare u.store))) (slice_get ts k) (rw (slice_get-map (reset_in w) ts k) at (h k))
+pub takes_reset : {S : Type 0} (spare : S → ℕ) (i : ℕ) (w : Timing) (ts us : List (Track S)) → IsRoomTakenAt spare i (map (with_reset_marks w) ts) us → IsRoomTakenAt spare i ts us
+takes_reset spare i w ts us h k = if_reset w (λ s. IfSome (slice_get us k) (λ u. (spare s ≤ spare u.store + 1) × (k ≢ i → spare s ≤ spare u.store))) (slice_get ts k) (rw (slice_get-map (with_reset_marks w) ts k) at (h k))
 
 -- what holds at each place, but for the room that one of them loses
 room_pair : {S : Type 0} (spare : S → ℕ) (n : ℕ) (ts us : List (Track S)) → length us ≡ length ts → ((k : ℕ) → IfSome (slice_get ts k) (λ t. IfSome (slice_get us k) (λ u. spare t.store ≤ spare u.store + 1))) → HasRoom spare (n + 1) ts → HasRoom spare n us
@@ -57,7 +57,7 @@ if_less spare own (Some t) None h = tt
 if_less spare own (Some t) (Some u) h = h.0
 
 -- each store has room for one frame less at most
-pub room_left : {S : Type 0} (spare : S → ℕ) (i n : ℕ) (ts us : List (Track S)) → length us ≡ length ts → TakesRoomAt spare i ts us → HasRoom spare (n + 1) ts → HasRoom spare n us
+pub room_left : {S : Type 0} (spare : S → ℕ) (i n : ℕ) (ts us : List (Track S)) → length us ≡ length ts → IsRoomTakenAt spare i ts us → HasRoom spare (n + 1) ts → HasRoom spare n us
 room_left spare i n ts us e h all = room_pair spare n ts us e (λ k. if_less spare (k ≢ i) (slice_get ts k) (slice_get us k) (h k)) all
 
 -- as many gaps, as many tracks
@@ -66,7 +66,7 @@ same_length gap ts us e = sym (length-map us (λ t. gap t.store)) ∙ ap length 
 
 -- ---- gaps
 
-pub gaps_reset : {S : Type 0} (gap : S → ℤ) (w : Timing) (ts : List (Track S)) → gaps_of gap (map (reset_in w) ts) ≡ gaps_of gap ts
+pub gaps_reset : {S : Type 0} (gap : S → ℤ) (w : Timing) (ts : List (Track S)) → gaps_of gap (map (with_reset_marks w) ts) ≡ gaps_of gap ts
 gaps_reset gap w [] = refl
 gaps_reset gap w (t ∷ ts) = ap (λ rest. gap t.store ∷ rest) (gaps_reset gap w ts)
 

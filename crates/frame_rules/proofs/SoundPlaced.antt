@@ -12,17 +12,19 @@ use Rattle.track_store.specs.declared.tracks.Settings.{Settings}
 use Rattle.track_store.specs.State.{TrackState}
 use Rattle.track_store.specs.Sound.{Sound}
 use Rattle.frame_rules.specs.declared.timing.Timing.{Timing}
-use Rattle.frame_rules.specs.Timing.{raw_time, with_group_start, offset_to, one_pass, is_discontinuous, after_discontinuity, timing_of, IsTimingOf}
-use Rattle.frame_rules.specs.Put.{put, put_answer, drop_reason}
+use Rattle.frame_rules.specs.Timing.{raw_time, settings_at_group_start, offset_to, timing_in_pass, is_discontinuous, settings_after_discontinuity, timing_of, IsTimingOf}
+use Rattle.frame_rules.specs.Put.{track_after_frame, answer_by_reason, drop_reason}
 use Rattle.frame_rules.specs.declared.answer.Placed.{Placed}
-use Rattle.track_store.specs.Kept.{bytes_in, AreKept, EndBy}
-use Rattle.frame_rules.specs.Place.{Outcome, reset_track, placed_in, placed_at, placed_by, placed_of, placed, too_many, outcome, settings_after, limit_after}
+use Rattle.track_store.specs.Kept.{bytes_in, AreKept, AreEndedBy, AreStillSound}
+use Rattle.frame_rules.specs.Place.{Placement, track_after_reset, placement_in_track, placement_at_times, placement_by_times, placement_in, placement, is_over_limit, new_placement, settings_after_frame, limit_after}
 use Rattle.frame_rules.specs.declared.answer.Placed.TheVariants as placed_as
 use Rattle.std.proofs.lemmas.List.Sums.{sum_by-cons}
 use Rattle.std.proofs.lemmas.Option.{same_Some, slice_get_cases}
 use Rattle.track_store.specs.declared.tracks.Track.{Track}
-use Rattle.track_store.specs.Frames.{used_of}
-use Rattle.frame_rules.proofs.Putting.{sound_put, used_put, end_put, later_all, max_left}
+use Rattle.track_store.specs.Frames.{bytes_of}
+use Rattle.track_store.proofs.Limits.{ended_later, max_left}
+use Rattle.track_store.proofs.StillSound.{still_same, still_map, still_both, still_set, all_still}
+use Rattle.frame_rules.proofs.Putting.{sound_put, used_put, end_put}
 use Rattle.frame_rules.proofs.AllTracks.{sound_break, received_broken, fits_of}
 
 -- what holds of each value that a chain of steps gives
@@ -44,15 +46,15 @@ tick_by z None k Q e h = tt
 tick_by z (Some t) k Q e h = h t (tick_some z t e) (tick_in_range z t e)
 
 -- the frame end timestamp is the sum
-pass_is : (s : Settings) (f : CodedFrame) → IfSome (one_pass s f) (IsTimingOf f)
+pass_is : (s : Settings) (f : CodedFrame) → IfSome (timing_in_pass s f) (IsTimingOf f)
 pass_is s f =
-    if_some_then (with_group_start s (raw_time s f.pts)) _ (IsTimingOf f) (λ t. if_some_then (tick _) _ _ (λ p. if_some_then (tick _) _ _ (λ d. tick_by (p +ℤ f.dur) (tick (p +ℤ f.dur)) _ (IsTimingOf f) refl (λ e same range. (same, range)))))
+    if_some_then (settings_at_group_start s (raw_time s f.pts)) _ (IsTimingOf f) (λ t. if_some_then (tick _) _ _ (λ p. if_some_then (tick _) _ _ (λ d. tick_by (p +ℤ f.dur) (tick (p +ℤ f.dur)) _ (IsTimingOf f) refl (λ e same range. (same, range)))))
 
 pub timing_is : (s : Settings) (m : Marks) (f : CodedFrame) → IfSome (timing_of s m f) (IsTimingOf f)
 timing_is s m f =
-    if_some_chain (one_pass s f) _ (IsTimingOf f) (IsTimingOf f) (pass_is s f)
+    if_some_chain (timing_in_pass s f) _ (IsTimingOf f) (IsTimingOf f) (pass_is s f)
     (λ w own. if_some_cond (is_discontinuous m w.dts) _ (Some w) (IsTimingOf f)
-    (if_some_chain (one_pass (after_discontinuity w.settings w.pts) f) _ (IsTimingOf f) (IsTimingOf f) (pass_is (after_discontinuity w.settings w.pts) f) (λ v step. step))
+    (if_some_chain (timing_in_pass (settings_after_discontinuity w.settings w.pts) f) _ (IsTimingOf f) (IsTimingOf f) (pass_is (settings_after_discontinuity w.settings w.pts) f) (λ v step. step))
     own)
 
 -- the window stays where a frame is placed
@@ -63,9 +65,9 @@ aligned_window : (s : Settings) (g : Option ℤ) (p : ℤ) → IfSome (offset_to
 aligned_window s None p = refl
 aligned_window s (Some g) p = if_some_then (tick _) _ (SameWindow s) (λ offset. refl)
 
-moved_window : (s : Settings) (f : CodedFrame) → IfSome (one_pass s f) (λ w. SameWindow s w.settings)
+moved_window : (s : Settings) (f : CodedFrame) → IfSome (timing_in_pass s f) (λ w. SameWindow s w.settings)
 moved_window s f =
-    if_some_chain (with_group_start s (raw_time s f.pts)) _ (SameWindow s) (λ w. SameWindow s w.settings) (if_some_cond s.sequence (offset_to s s.group_start (raw_time s f.pts)) (Some s) (SameWindow s) (aligned_window s s.group_start (raw_time s f.pts)) refl)
+    if_some_chain (settings_at_group_start s (raw_time s f.pts)) _ (SameWindow s) (λ w. SameWindow s w.settings) (if_some_cond s.sequence (offset_to s s.group_start (raw_time s f.pts)) (Some s) (SameWindow s) (aligned_window s s.group_start (raw_time s f.pts)) refl)
     (λ t same. if_some_then (tick _) _ _ (λ p. if_some_then (tick _) _ _ (λ d. if_some_then (tick _) _ _ (λ e. same))))
 
 broken_window : (s : Settings) (p : ℤ) (b : Bool) → SameWindow s (cond b (record s { group_start = Some s.group_end }) (record s { group_end = p }))
@@ -74,112 +76,108 @@ broken_window s p false = refl
 
 times_window : (s : Settings) (m : Marks) (f : CodedFrame) → IfSome (timing_of s m f) (λ w. SameWindow s w.settings)
 times_window s m f =
-    if_some_chain (one_pass s f) _ (λ w. SameWindow s w.settings) (λ w. SameWindow s w.settings) (moved_window s f)
+    if_some_chain (timing_in_pass s f) _ (λ w. SameWindow s w.settings) (λ w. SameWindow s w.settings) (moved_window s f)
     (λ w same. if_some_cond (is_discontinuous m w.dts) _ (Some w) (λ v. SameWindow s v.settings)
-    (if_some_chain (one_pass (after_discontinuity w.settings w.pts) f) _ (λ v. SameWindow (after_discontinuity w.settings w.pts) v.settings) (λ v. SameWindow s v.settings) (moved_window (after_discontinuity w.settings w.pts) f)
+    (if_some_chain (timing_in_pass (settings_after_discontinuity w.settings w.pts) f) _ (λ v. SameWindow (settings_after_discontinuity w.settings w.pts) v.settings) (λ v. SameWindow s v.settings) (moved_window (settings_after_discontinuity w.settings w.pts) f)
     (λ v step. step ∙ broken_window w.settings w.pts w.settings.sequence ∙ same))
     same)
 
-each-break : (w : Timing) (ts : List TrackState) → AllByRecursion Sound ts → AllByRecursion Sound (map (reset_track w) ts)
-each-break w [] h = h
-each-break w (t ∷ ts) h = (sound_break w t h.0, each-break w ts h.1)
+less_reset : (w : Timing) (ts : List TrackState) (i : ℕ) → IfSome (slice_get ts i) (λ t. t.marks.received < 2 ^ 62) → IfSome (slice_get (map (track_after_reset w) ts) i) (λ t. t.marks.received < 2 ^ 62)
+less_reset w [] i h = h
+less_reset w (t ∷ ts) zero h = received_broken w t.marks h
+less_reset w (t ∷ ts) (suc i) h = less_reset w ts i h
 
-each-set : (ts : List TrackState) (i : ℕ) (t : TrackState) → AllByRecursion Sound ts → Sound t → AllByRecursion Sound (set ts i t)
-each-set [] i t h k = h
-each-set (u ∷ ts) zero t h k = (k, h.1)
-each-set (u ∷ ts) (suc i) t h k = (h.0, each-set ts i t h.1 k)
+sound_reset : (w : Timing) (ts : List TrackState) (i : ℕ) → IfSome (slice_get ts i) Sound → IfSome (slice_get (map (track_after_reset w) ts) i) Sound
+sound_reset w [] i h = h
+sound_reset w (t ∷ ts) zero h = sound_break w t h
+sound_reset w (t ∷ ts) (suc i) h = sound_reset w ts i h
 
-each_in : (ts : List TrackState) (i : ℕ) → AllByRecursion Sound ts → IfSome (slice_get ts i) Sound
-each_in [] i h = tt
-each_in (t ∷ ts) zero h = h.0
-each_in (t ∷ ts) (suc i) h = each_in ts i h.1
+bytes_reset : (w : Timing) (ts : List TrackState) → bytes_in (map (track_after_reset w) ts) ≡ bytes_in ts
+bytes_reset w [] = refl
+bytes_reset w (t ∷ ts) = sum_by-cons (λ s. bytes_of s.frames) (track_after_reset w t) (map (track_after_reset w) ts) ∙ ap (λ n. bytes_of t.frames + n) (bytes_reset w ts) ∙ sym (sum_by-cons (λ s. bytes_of s.frames) t ts)
 
-less_break : (w : Timing) (ts : List TrackState) (i : ℕ) → IfSome (slice_get ts i) (λ t. t.marks.received < 2 ^ 62) → IfSome (slice_get (map (reset_track w) ts) i) (λ t. t.marks.received < 2 ^ 62)
-less_break w [] i h = h
-less_break w (t ∷ ts) zero h = received_broken w t.marks h
-less_break w (t ∷ ts) (suc i) h = less_break w ts i h
-
-bytes_break : (w : Timing) (ts : List TrackState) → bytes_in (map (reset_track w) ts) ≡ bytes_in ts
-bytes_break w [] = refl
-bytes_break w (t ∷ ts) = sum_by-cons (λ s. used_of s.frames) (reset_track w t) (map (reset_track w) ts) ∙ ap (λ n. used_of t.frames + n) (bytes_break w ts) ∙ sym (sum_by-cons (λ s. used_of s.frames) t ts)
-
-bytes_set : (ts : List TrackState) (i : ℕ) (t u : TrackState) (n : ℕ) → slice_get ts i ≡ Some t → used_of u.frames ≤ used_of t.frames + n → bytes_in (set ts i u) ≤ bytes_in ts + n
+bytes_set : (ts : List TrackState) (i : ℕ) (t u : TrackState) (n : ℕ) → slice_get ts i ≡ Some t → bytes_of u.frames ≤ bytes_of t.frames + n → bytes_in (set ts i u) ≤ bytes_in ts + n
 bytes_set [] i t u n e h = absurd cc
 bytes_set (s ∷ ts) zero t u n e h =
-    let same = ap (λ x. used_of x.frames) (same_Some s t e) in
-    let old = sum_by-cons (λ x. used_of x.frames) s ts in
-    let new = sum_by-cons (λ x. used_of x.frames) u ts in
+    let same = ap (λ x. bytes_of x.frames) (same_Some s t e) in
+    let old = sum_by-cons (λ x. bytes_of x.frames) s ts in
+    let new = sum_by-cons (λ x. bytes_of x.frames) u ts in
     omega arith
 bytes_set (s ∷ ts) (suc i) t u n e h =
     let rest = bytes_set ts i t u n e h in
-    let old = sum_by-cons (λ x. used_of x.frames) s ts in
-    let new = sum_by-cons (λ x. used_of x.frames) s (set ts i u) in
+    let old = sum_by-cons (λ x. bytes_of x.frames) s ts in
+    let new = sum_by-cons (λ x. bytes_of x.frames) s (set ts i u) in
     omega arith
 
-kept_in : (o : Option TrackState) (w : Timing) (f : CodedFrame) (i : ℕ) (ts : List TrackState) → slice_get ts i ≡ o → IfSome o (λ t. t.marks.received < 2 ^ 62) → AreKept ts → bytes_in ts + length f.payload < 2 ^ 62 → pos 0 ≤ℤ w.settings.window_start → pos 0 ≤ℤ f.dur → IsTimingOf f w → AreKept (placed_in o w f i ts).tracks
-kept_in None w f i ts e less h fits low lasts timing = h
-kept_in (Some t) w f i ts e less h fits low lasts timing =
-    let own = rw e at (each_in ts i h.sound) in
-    let bytes = bytes_set ts i t (put w f t) (length f.payload) e (used_put w f t) in
+-- of the tracks that are left each that was sound is sound, and the bytes of all can be counted
+pub record IsFirm (ts us : List TrackState) : Type 0 where
+  pub sound : AreStillSound ts us
+  pub small : bytes_in us < 2 ^ 62
+
+firm_same : (ts : List TrackState) → bytes_in ts < 2 ^ 62 → IsFirm ts ts
+firm_same ts small = record { sound = still_same ts; small = small }
+
+firm_in : (o : Option TrackState) (w : Timing) (f : CodedFrame) (i : ℕ) (ts : List TrackState) → slice_get ts i ≡ o → IfSome o (λ t. t.marks.received < 2 ^ 62) → bytes_in ts + length f.payload < 2 ^ 62 → pos 0 ≤ℤ w.settings.window_start → pos 0 ≤ℤ f.dur → IsTimingOf f w → IsFirm ts (placement_in_track o w f i ts).tracks
+firm_in None w f i ts e less fits low lasts timing = firm_same ts (omega arith)
+firm_in (Some t) w f i ts e less fits low lasts timing =
+    let bytes = bytes_set ts i t (track_after_frame w f t) (length f.payload) e (used_put w f t) in
     record {
-      sound = each-set ts i (put w f t) h.sound (sound_put w f t own less low lasts timing);
+      sound = still_set ts i t (track_after_frame w f t) e (λ h. sound_put w f t h less low lasts timing);
       small = omega arith;
     }
 
-kept_at : (w : Timing) (f : CodedFrame) (i : ℕ) (ts : List TrackState) → IfSome (slice_get ts i) (λ t. t.marks.received < 2 ^ 62) → AreKept ts → bytes_in ts + length f.payload < 2 ^ 62 → pos 0 ≤ℤ w.settings.window_start → pos 0 ≤ℤ f.dur → IsTimingOf f w → AreKept (placed_at w f i ts).tracks
-kept_at w f i ts less h fits low lasts timing =
-    let reset = map (reset_track w) ts in
-    let same = bytes_break w ts in
-    let small = h.small in
-    let all : AreKept reset = record { sound = each-break w ts h.sound; small = omega arith } in
-    kept_in (slice_get reset i) w f i reset refl (less_break w ts i less) all (omega arith) low lasts timing
+firm_at : (w : Timing) (f : CodedFrame) (i : ℕ) (ts : List TrackState) → IfSome (slice_get ts i) (λ t. t.marks.received < 2 ^ 62) → bytes_in ts + length f.payload < 2 ^ 62 → pos 0 ≤ℤ w.settings.window_start → pos 0 ≤ℤ f.dur → IsTimingOf f w → IsFirm ts (placement_at_times w f i ts).tracks
+firm_at w f i ts less fits low lasts timing =
+    let reset = map (track_after_reset w) ts in
+    let same = bytes_reset w ts in
+    let put = firm_in (slice_get reset i) w f i reset refl (less_reset w ts i less) (omega arith) low lasts timing in
+    record { sound = still_both ts reset _ (still_map (track_after_reset w) ts (sound_break w)) put.sound; small = put.small }
 
-kept_times : (o : Option Timing) (s : Settings) (f : CodedFrame) (i : ℕ) (ts : List TrackState) → IfSome o (λ w. SameWindow s w.settings) → IfSome o (IsTimingOf f) → IfSome (slice_get ts i) (λ t. t.marks.received < 2 ^ 62) → AreKept ts → bytes_in ts + length f.payload < 2 ^ 62 → pos 0 ≤ℤ s.window_start → pos 0 ≤ℤ f.dur → AreKept (placed_by o s f i ts).tracks
-kept_times None s f i ts same timing less h fits low lasts = h
-kept_times (Some w) s f i ts same timing less h fits low lasts = kept_at w f i ts less h fits (subst (λ (z : ℤ). pos 0 ≤ℤ z) (sym same) low) lasts timing
+firm_times : (o : Option Timing) (s : Settings) (f : CodedFrame) (i : ℕ) (ts : List TrackState) → IfSome o (λ w. SameWindow s w.settings) → IfSome o (IsTimingOf f) → IfSome (slice_get ts i) (λ t. t.marks.received < 2 ^ 62) → bytes_in ts + length f.payload < 2 ^ 62 → pos 0 ≤ℤ s.window_start → pos 0 ≤ℤ f.dur → IsFirm ts (placement_by_times o s f i ts).tracks
+firm_times None s f i ts same timing less fits low lasts = firm_same ts (omega arith)
+firm_times (Some w) s f i ts same timing less fits low lasts = firm_at w f i ts less fits (subst (λ (z : ℤ). pos 0 ≤ℤ z) (sym same) low) lasts timing
 
-kept_cond : (b : Bool) (t : TrackState) (s : Settings) (f : CodedFrame) (i : ℕ) (ts : List TrackState) → b ≡ too_many t.marks.received (bytes_in ts) (length f.payload) → slice_get ts i ≡ Some t → AreKept ts → pos 0 ≤ℤ s.window_start → pos 0 ≤ℤ f.dur → AreKept (cond b (outcome placed_as.Counts ts s) (placed_by (timing_of s t.marks f) s f i ts)).tracks
-kept_cond true t s f i ts full e h low lasts = h
-kept_cond false t s f i ts full e h low lasts =
-    let own = rw e at (each_in ts i h.sound) in
+firm_cond : (b : Bool) (t : TrackState) (s : Settings) (f : CodedFrame) (i : ℕ) (ts : List TrackState) → b ≡ is_over_limit t.marks.received (bytes_in ts) (length f.payload) → slice_get ts i ≡ Some t → Sound t → bytes_in ts < 2 ^ 62 → pos 0 ≤ℤ s.window_start → pos 0 ≤ℤ f.dur → IsFirm ts (cond b (new_placement placed_as.Counts ts s) (placement_by_times (timing_of s t.marks f) s f i ts)).tracks
+firm_cond true t s f i ts full e own small low lasts = firm_same ts small
+firm_cond false t s f i ts full e own small low lasts =
     let both = fits_of t.marks.received (bytes_in ts) (length f.payload) own.count full in
-    kept_times (timing_of s t.marks f) s f i ts (times_window s t.marks f) (timing_is s t.marks f) (rw e both.0) h both.1 low lasts
+    firm_times (timing_of s t.marks f) s f i ts (times_window s t.marks f) (timing_is s t.marks f) (rw e both.0) both.1 low lasts
 
-kept_of : (o : Option TrackState) (ts : List TrackState) (s : Settings) (i : ℕ) (f : CodedFrame) → slice_get ts i ≡ o → AreKept ts → pos 0 ≤ℤ s.window_start → pos 0 ≤ℤ f.dur → AreKept (placed_of o ts s i f).tracks
-kept_of None ts s i f e h low lasts = h
-kept_of (Some t) ts s i f e h low lasts = kept_cond (too_many t.marks.received (bytes_in ts) (length f.payload)) t s f i ts refl e h low lasts
-
-pub kept_placed : (ts : List TrackState) (s : Settings) (i : ℕ) (f : CodedFrame) → AreKept ts → pos 0 ≤ℤ s.window_start → pos 0 ≤ℤ f.dur → AreKept (placed ts s i f).tracks
-kept_placed ts s i f h low lasts = kept_of (slice_get ts i) ts s i f refl h low lasts
+firm_of : (o : Option TrackState) (ts : List TrackState) (s : Settings) (i : ℕ) (f : CodedFrame) → slice_get ts i ≡ o → IfSome o Sound → bytes_in ts < 2 ^ 62 → pos 0 ≤ℤ s.window_start → pos 0 ≤ℤ f.dur → IsFirm ts (placement_in o ts s i f).tracks
+firm_of None ts s i f e own small low lasts = firm_same ts small
+firm_of (Some t) ts s i f e own small low lasts = firm_cond (is_over_limit t.marks.received (bytes_in ts) (length f.payload)) t s f i ts refl e own small low lasts
 
 -- the same of tracks that are what the definition leaves
-pub kept_left : (news : List TrackState) (o : Outcome) (ts : List TrackState) (s : Settings) (i : ℕ) (f : CodedFrame) → o.tracks ≡ news → o ≡ placed ts s i f → AreKept ts → pos 0 ≤ℤ s.window_start → pos 0 ≤ℤ f.dur → AreKept news
-kept_left news o ts s i f own is h low lasts = subst (λ (us : List TrackState). AreKept us) (sym (ap (λ p. p.tracks) is) ∙ own) (kept_placed ts s i f h low lasts)
+pub firm_left : (news : List TrackState) (o : Placement) (ts : List TrackState) (s : Settings) (i : ℕ) (f : CodedFrame) → o.tracks ≡ news → o ≡ placement ts s i f → IfSome (slice_get ts i) Sound → bytes_in ts < 2 ^ 62 → pos 0 ≤ℤ s.window_start → pos 0 ≤ℤ f.dur → IsFirm ts news
+firm_left news o ts s i f own is sound small low lasts = subst (λ (us : List TrackState). IsFirm ts us) (sym (ap (λ p. p.tracks) is) ∙ own) (firm_of (slice_get ts i) ts s i f refl sound small low lasts)
+
+pub kept_of : (ts us : List TrackState) → IsFirm ts us → AreKept ts → AreKept us
+kept_of ts us firm h = record { sound = all_still ts us firm.sound h.sound; small = firm.small }
 
 -- the window stays
-answer_window : (answer : Placed) (w : Timing) → SameWindow w.settings (settings_after answer w)
+answer_window : (answer : Placed) (w : Timing) → SameWindow w.settings (settings_after_frame answer w)
 answer_window placed_as.Stored w = refl
 answer_window (placed_as.Dropped why) w = refl
 answer_window placed_as.TimeRange w = refl
 answer_window placed_as.Counts w = refl
 
-in_window : (o : Option TrackState) (w : Timing) (f : CodedFrame) (i : ℕ) (ts : List TrackState) → SameWindow w.settings (placed_in o w f i ts).settings
+in_window : (o : Option TrackState) (w : Timing) (f : CodedFrame) (i : ℕ) (ts : List TrackState) → SameWindow w.settings (placement_in_track o w f i ts).settings
 in_window None w f i ts = refl
-in_window (Some t) w f i ts = answer_window (put_answer (drop_reason w f.sync t.marks.need_sync)) w
+in_window (Some t) w f i ts = answer_window (answer_by_reason (drop_reason w f.sync t.marks.need_sync)) w
 
-by_window : (o : Option Timing) (s : Settings) (f : CodedFrame) (i : ℕ) (ts : List TrackState) → IfSome o (λ w. SameWindow s w.settings) → SameWindow s (placed_by o s f i ts).settings
+by_window : (o : Option Timing) (s : Settings) (f : CodedFrame) (i : ℕ) (ts : List TrackState) → IfSome o (λ w. SameWindow s w.settings) → SameWindow s (placement_by_times o s f i ts).settings
 by_window None s f i ts same = refl
-by_window (Some w) s f i ts same = in_window (slice_get (map (reset_track w) ts) i) w f i (map (reset_track w) ts) ∙ same
+by_window (Some w) s f i ts same = in_window (slice_get (map (track_after_reset w) ts) i) w f i (map (track_after_reset w) ts) ∙ same
 
-cond_window : (b : Bool) (s : Settings) (x y : Outcome) → SameWindow s x.settings → SameWindow s y.settings → SameWindow s (cond b x y).settings
+cond_window : (b : Bool) (s : Settings) (x y : Placement) → SameWindow s x.settings → SameWindow s y.settings → SameWindow s (cond b x y).settings
 cond_window true s x y p q = p
 cond_window false s x y p q = q
 
-of_window : (o : Option TrackState) (ts : List TrackState) (s : Settings) (i : ℕ) (f : CodedFrame) → SameWindow s (placed_of o ts s i f).settings
+of_window : (o : Option TrackState) (ts : List TrackState) (s : Settings) (i : ℕ) (f : CodedFrame) → SameWindow s (placement_in o ts s i f).settings
 of_window None ts s i f = refl
-of_window (Some t) ts s i f = cond_window (too_many t.marks.received (bytes_in ts) (length f.payload)) s _ _ refl (by_window (timing_of s t.marks f) s f i ts (times_window s t.marks f))
+of_window (Some t) ts s i f = cond_window (is_over_limit t.marks.received (bytes_in ts) (length f.payload)) s _ _ refl (by_window (timing_of s t.marks f) s f i ts (times_window s t.marks f))
 
-pub placed_window : (ts : List TrackState) (s : Settings) (i : ℕ) (f : CodedFrame) → (placed ts s i f).settings.window_start ≡ s.window_start
+pub placed_window : (ts : List TrackState) (s : Settings) (i : ℕ) (f : CodedFrame) → (placement ts s i f).settings.window_start ≡ s.window_start
 placed_window ts s i f = of_window (slice_get ts i) ts s i f
 
 -- the frame of a track that is there
@@ -198,54 +196,50 @@ limit_later (placed_as.Dropped why) limit group_end = omega (arith, ints)
 limit_later placed_as.TimeRange limit group_end = omega (arith, ints)
 limit_later placed_as.Counts limit group_end = omega (arith, ints)
 
-end_later : (limit more : ℤ) (ts : List TrackState) → limit ≤ℤ more → EndBy limit ts → EndBy more ts
-end_later limit more [] le h = h
-end_later limit more (t ∷ ts) le h = (later_all limit more t.frames le h.0, end_later limit more ts le h.1)
-
-end_set : (limit : ℤ) (ts : List TrackState) (i : ℕ) (u : TrackState) → EndBy limit ts → EndBy limit (u ∷ []) → EndBy limit (set ts i u)
+end_set : (limit : ℤ) (ts : List TrackState) (i : ℕ) (u : TrackState) → AreEndedBy limit ts → AreEndedBy limit (u ∷ []) → AreEndedBy limit (set ts i u)
 end_set limit [] i u h k = h
 end_set limit (t ∷ ts) zero u h k = (k.0, h.1)
 end_set limit (t ∷ ts) (suc i) u h k = (h.0, end_set limit ts i u h.1 k)
 
-end_own : (limit : ℤ) (ts : List TrackState) (i : ℕ) (t : TrackState) → slice_get ts i ≡ Some t → EndBy limit ts → EndBy limit (t ∷ [])
+end_own : (limit : ℤ) (ts : List TrackState) (i : ℕ) (t : TrackState) → slice_get ts i ≡ Some t → AreEndedBy limit ts → AreEndedBy limit (t ∷ [])
 end_own limit [] i t e h = absurd cc
 end_own limit (u ∷ ts) zero t e h = let same : u ≡ t = cc in (subst (λ (x : TrackState). AllByRecursion (λ f. (f.frame.pts +ℤ f.frame.dur) ≤ℤ limit) x.frames) same h.0, tt)
 end_own limit (u ∷ ts) (suc i) t e h = end_own limit ts i t e h.1
 
-end_reset : (limit : ℤ) (w : Timing) (ts : List TrackState) → EndBy limit ts → EndBy limit (map (reset_track w) ts)
+end_reset : (limit : ℤ) (w : Timing) (ts : List TrackState) → AreEndedBy limit ts → AreEndedBy limit (map (track_after_reset w) ts)
 end_reset limit w [] h = h
 end_reset limit w (t ∷ ts) h = (h.0, end_reset limit w ts h.1)
 
-end_in : (o : Option TrackState) (w : Timing) (f : CodedFrame) (i : ℕ) (ts : List TrackState) (limit : ℤ) → slice_get ts i ≡ o → AllByRecursion Sound ts → IsTimingOf f w → EndBy limit ts → EndBy (limit_after (placed_in o w f i ts).answer limit (placed_in o w f i ts).settings.group_end) (placed_in o w f i ts).tracks
+end_in : (o : Option TrackState) (w : Timing) (f : CodedFrame) (i : ℕ) (ts : List TrackState) (limit : ℤ) → slice_get ts i ≡ o → IfSome (slice_get ts i) Sound → IsTimingOf f w → AreEndedBy limit ts → AreEndedBy (limit_after (placement_in_track o w f i ts).answer limit (placement_in_track o w f i ts).settings.group_end) (placement_in_track o w f i ts).tracks
 end_in None w f i ts limit e sound timing h = h
 end_in (Some t) w f i ts limit e sound timing h =
-    let own = rw e at (each_in ts i sound) in
-    let answer = put_answer (drop_reason w f.sync t.marks.need_sync) in
-    let group_end = (settings_after answer w).group_end in
-    end_set (limit_after answer limit group_end) ts i (put w f t) (end_later limit (limit_after answer limit group_end) ts (limit_later answer limit group_end) h) (end_put w f limit t own timing (end_own limit ts i t e h).0, tt)
+    let own = rw e at sound in
+    let answer = answer_by_reason (drop_reason w f.sync t.marks.need_sync) in
+    let group_end = (settings_after_frame answer w).group_end in
+    end_set (limit_after answer limit group_end) ts i (track_after_frame w f t) (ended_later limit (limit_after answer limit group_end) ts (limit_later answer limit group_end) h) (end_put w f limit t own timing (end_own limit ts i t e h).0, tt)
 
-end_at : (w : Timing) (f : CodedFrame) (i : ℕ) (ts : List TrackState) (limit : ℤ) → AllByRecursion Sound ts → IsTimingOf f w → EndBy limit ts → EndBy (limit_after (placed_at w f i ts).answer limit (placed_at w f i ts).settings.group_end) (placed_at w f i ts).tracks
-end_at w f i ts limit sound timing h = end_in (slice_get (map (reset_track w) ts) i) w f i (map (reset_track w) ts) limit refl (each-break w ts sound) timing (end_reset limit w ts h)
+end_at : (w : Timing) (f : CodedFrame) (i : ℕ) (ts : List TrackState) (limit : ℤ) → IfSome (slice_get ts i) Sound → IsTimingOf f w → AreEndedBy limit ts → AreEndedBy (limit_after (placement_at_times w f i ts).answer limit (placement_at_times w f i ts).settings.group_end) (placement_at_times w f i ts).tracks
+end_at w f i ts limit sound timing h = end_in (slice_get (map (track_after_reset w) ts) i) w f i (map (track_after_reset w) ts) limit refl (sound_reset w ts i sound) timing (end_reset limit w ts h)
 
-end_times : (o : Option Timing) (s : Settings) (f : CodedFrame) (i : ℕ) (ts : List TrackState) (limit : ℤ) → IfSome o (IsTimingOf f) → AllByRecursion Sound ts → EndBy limit ts → EndBy (limit_after (placed_by o s f i ts).answer limit (placed_by o s f i ts).settings.group_end) (placed_by o s f i ts).tracks
+end_times : (o : Option Timing) (s : Settings) (f : CodedFrame) (i : ℕ) (ts : List TrackState) (limit : ℤ) → IfSome o (IsTimingOf f) → IfSome (slice_get ts i) Sound → AreEndedBy limit ts → AreEndedBy (limit_after (placement_by_times o s f i ts).answer limit (placement_by_times o s f i ts).settings.group_end) (placement_by_times o s f i ts).tracks
 end_times None s f i ts limit timing sound h = h
 end_times (Some w) s f i ts limit timing sound h = end_at w f i ts limit sound timing h
 
--- an outcome whose frames end by a time, or by the group end timestamp
-abbrev EndsBy : ℤ → Outcome → Type 0
-EndsBy limit o = EndBy (limit_after o.answer limit o.settings.group_end) o.tracks
+-- a placement whose frames end by a time, or by the group end timestamp
+abbrev EndsBy : ℤ → Placement → Type 0
+EndsBy limit o = AreEndedBy (limit_after o.answer limit o.settings.group_end) o.tracks
 
-end_cond : (limit : ℤ) (b : Bool) (x y : Outcome) → EndsBy limit x → EndsBy limit y → EndsBy limit (cond b x y)
+end_cond : (limit : ℤ) (b : Bool) (x y : Placement) → EndsBy limit x → EndsBy limit y → EndsBy limit (cond b x y)
 end_cond limit true x y p q = p
 end_cond limit false x y p q = q
 
-end_of : (o : Option TrackState) (ts : List TrackState) (s : Settings) (i : ℕ) (f : CodedFrame) (limit : ℤ) → AllByRecursion Sound ts → EndBy limit ts → EndsBy limit (placed_of o ts s i f)
+end_of : (o : Option TrackState) (ts : List TrackState) (s : Settings) (i : ℕ) (f : CodedFrame) (limit : ℤ) → IfSome (slice_get ts i) Sound → AreEndedBy limit ts → EndsBy limit (placement_in o ts s i f)
 end_of None ts s i f limit sound h = h
-end_of (Some t) ts s i f limit sound h = end_cond limit (too_many t.marks.received (bytes_in ts) (length f.payload)) (outcome placed_as.Counts ts s) (placed_by (timing_of s t.marks f) s f i ts) h (end_times (timing_of s t.marks f) s f i ts limit (timing_is s t.marks f) sound h)
+end_of (Some t) ts s i f limit sound h = end_cond limit (is_over_limit t.marks.received (bytes_in ts) (length f.payload)) (new_placement placed_as.Counts ts s) (placement_by_times (timing_of s t.marks f) s f i ts) h (end_times (timing_of s t.marks f) s f i ts limit (timing_is s t.marks f) sound h)
 
-pub end_placed : (ts : List TrackState) (s : Settings) (i : ℕ) (f : CodedFrame) (limit : ℤ) → AllByRecursion Sound ts → EndBy limit ts → EndsBy limit (placed ts s i f)
+pub end_placed : (ts : List TrackState) (s : Settings) (i : ℕ) (f : CodedFrame) (limit : ℤ) → IfSome (slice_get ts i) Sound → AreEndedBy limit ts → EndsBy limit (placement ts s i f)
 end_placed ts s i f limit sound h = end_of (slice_get ts i) ts s i f limit sound h
 
--- the same of an outcome that is what the definition leaves
-pub end_left : (answer : Placed) (news : List TrackState) (settings : Settings) (ts : List TrackState) (s : Settings) (i : ℕ) (f : CodedFrame) (limit : ℤ) → outcome answer news settings ≡ placed ts s i f → AllByRecursion Sound ts → EndBy limit ts → EndBy (limit_after answer limit settings.group_end) news
-end_left answer news settings ts s i f limit is sound h = subst (λ (o : Outcome). EndsBy limit o) (sym is) (end_placed ts s i f limit sound h)
+-- the same of a placement that is what the definition leaves
+pub end_left : (answer : Placed) (news : List TrackState) (settings : Settings) (ts : List TrackState) (s : Settings) (i : ℕ) (f : CodedFrame) (limit : ℤ) → new_placement answer news settings ≡ placement ts s i f → IfSome (slice_get ts i) Sound → AreEndedBy limit ts → AreEndedBy (limit_after answer limit settings.group_end) news
+end_left answer news settings ts s i f limit is sound h = subst (λ (o : Placement). EndsBy limit o) (sym is) (end_placed ts s i f limit sound h)

@@ -1,25 +1,17 @@
 -- A frame whose times are known is dropped or stored (Media Source Extensions, coded frame processing, steps
 -- 1.8 to 1.19).
 use Rattle.std.specs.Prelude.{ℕ, ◌+◌, ℤ, int_lt, Bool, true, false, not, ◌&&◌, [], ◌∷◌, ◌++◌, Option, Some, None, unwrap_or, if◌then◌else◌}
-use Rattle.std.specs.Int.{int_max}
 use Rattle.mse_base.specs.declared.frame.CodedFrame.{CodedFrame}
-use Rattle.mse_base.specs.declared.ticks.Moment.{Moment}
-use Rattle.mse_base.specs.declared.ticks.Moment.TheVariants.{Nan, At, Infinite}
+use Rattle.mse_base.specs.Moments.{is_after, greater_with}
 use Rattle.track_store.specs.declared.store.Stored.{Stored}
 use Rattle.track_store.specs.declared.tracks.Marks.{Marks}
 use Rattle.track_store.specs.State.{TrackState}
-use Rattle.overlap_rules.specs.Overlap.{with_room}
+use Rattle.overlap_rules.specs.Overlap.{track_with_room}
 use Rattle.frame_rules.specs.declared.timing.Timing.{Timing}
 use Rattle.frame_rules.specs.declared.answer.Why.{Why}
 use Rattle.frame_rules.specs.declared.answer.Why.TheVariants.{Window, NoSync}
 use Rattle.frame_rules.specs.declared.answer.Placed.{Placed}
-use Rattle.frame_rules.specs.declared.answer.Placed.TheVariants as placed
-
--- a time is after a moment
-abbrev pub is_past : ℤ → Moment → Bool
-is_past t (At m) = int_lt m t
-is_past t Infinite = false
-is_past t Nan = false
+use Rattle.frame_rules.specs.declared.answer.Placed.TheVariants as placed_as
 
 -- why the frame is dropped, if it is. Step 1.8: its presentation timestamp is less than the append window
 -- start. Step 1.9: its frame end timestamp is greater than the append window end. Step 1.10: a random access
@@ -27,17 +19,12 @@ is_past t Nan = false
 abbrev pub drop_reason : Timing → Bool → Bool → Option Why
 drop_reason w sync need =
     if int_lt w.pts w.settings.window_start then Some Window
-    else (if is_past w.end w.settings.window_end then Some Window
+    else (if is_after w.end w.settings.window_end then Some Window
     else (if need && not sync then Some NoSync else None))
 
 -- a dropped frame counts, and a random access point is needed from then on
-abbrev pub dropped : TrackState → TrackState
-dropped t = record t { marks = record t.marks { need_sync = true; received = t.marks.received + 1 } }
-
--- the later of two ends
-abbrev pub greater_end : Option ℤ → ℤ → ℤ
-greater_end None e = e
-greater_end (Some h) e = int_max h e
+abbrev pub track_after_drop : TrackState → TrackState
+track_after_drop t = record t { marks = record t.marks { need_sync = true; received = t.marks.received + 1 } }
 
 -- steps 1.10.2 and 1.17 to 1.19: the marks after a frame that was stored. Its serial is the count of frames
 -- received before it; where the group has no first frame, it is that.
@@ -45,7 +32,7 @@ abbrev pub marks_after : Timing → ℤ → Marks → Marks
 marks_after w dur m = record {
   last_decode = Some w.dts;
   last_duration = Some dur;
-  highest_end = Some (greater_end m.highest_end w.end);
+  highest_end = Some (greater_with m.highest_end w.end);
   group_first = Some (unwrap_or m.group_first m.received);
   need_sync = false;
   received = m.received + 1;
@@ -56,20 +43,20 @@ abbrev pub stored_frame : Timing → ℕ → CodedFrame → Stored
 stored_frame w serial f = record { serial = serial; frame = record f { pts = w.pts; dts = w.dts } }
 
 -- steps 1.13 to 1.19: room is made, and the frame is added
-abbrev pub stored : Timing → CodedFrame → TrackState → TrackState
-stored w f t = record t {
-  frames = (with_room w.pts w.end t).frames ++ stored_frame w t.marks.received f ∷ [];
+abbrev pub track_with_frame : Timing → CodedFrame → TrackState → TrackState
+track_with_frame w f t = record t {
+  frames = (track_with_room w.pts w.end t).frames ++ stored_frame w t.marks.received f ∷ [];
   marks = marks_after w f.dur t.marks;
 }
 
-abbrev pub put_by : Option Why → Timing → CodedFrame → TrackState → TrackState
-put_by (Some why) w f t = dropped t
-put_by None w f t = stored w f t
+abbrev pub track_by_reason : Option Why → Timing → CodedFrame → TrackState → TrackState
+track_by_reason (Some why) w f t = track_after_drop t
+track_by_reason None w f t = track_with_frame w f t
 
 -- the track buffer after the frame
-abbrev pub put : Timing → CodedFrame → TrackState → TrackState
-put w f t = put_by (drop_reason w f.sync t.marks.need_sync) w f t
+abbrev pub track_after_frame : Timing → CodedFrame → TrackState → TrackState
+track_after_frame w f t = track_by_reason (drop_reason w f.sync t.marks.need_sync) w f t
 
-abbrev pub put_answer : Option Why → Placed
-put_answer (Some why) = placed.Dropped why
-put_answer None = placed.Stored
+abbrev pub answer_by_reason : Option Why → Placed
+answer_by_reason (Some why) = placed_as.Dropped why
+answer_by_reason None = placed_as.Stored

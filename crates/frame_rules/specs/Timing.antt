@@ -16,8 +16,8 @@ abbrev pub raw_time : Settings → ℤ → ℤ
 raw_time s t = if s.generate then pos 0 else t
 
 -- step 1.3 has something to do: in mode "sequence" a group start timestamp is set
-abbrev pub starts_group : Settings → Bool
-starts_group s = s.sequence && is_some s.group_start
+abbrev pub has_group_start : Settings → Bool
+has_group_start s = s.sequence && is_some s.group_start
 
 -- step 1.3: the offset becomes the group start timestamp minus the presentation timestamp, the group end
 -- timestamp becomes the group start timestamp, and that is unset
@@ -27,40 +27,40 @@ offset_to s (Some start) p = do
   offset ← tick (start -ℤ p)
   Some (record s { offset = offset; group_end = start; group_start = None })
 
-abbrev pub with_group_start : Settings → ℤ → Option Settings
-with_group_start s p = if s.sequence then offset_to s s.group_start p else Some s
+abbrev pub settings_at_group_start : Settings → ℤ → Option Settings
+settings_at_group_start s p = if s.sequence then offset_to s s.group_start p else Some s
 
 -- steps 1.1 to 1.4, and 1.7: both timestamps with the offset, and the frame end timestamp
-abbrev pub one_pass : Settings → CodedFrame → Option Timing
-one_pass s f = do
-  t ← with_group_start s (raw_time s f.pts)
+abbrev pub timing_in_pass : Settings → CodedFrame → Option Timing
+timing_in_pass s f = do
+  t ← settings_at_group_start s (raw_time s f.pts)
   p ← tick (raw_time s f.pts +ℤ t.offset)
   d ← tick (raw_time s f.dts +ℤ t.offset)
   e ← tick (p +ℤ f.dur)
-  Some (record { pts = p; dts = d; end = e; settings = t; starts_group = starts_group s; discontinuity = false })
+  Some (record { pts = p; dts = d; end = e; settings = t; starts_group = has_group_start s; discontinuity = false })
 
 -- step 1.6: the decode timestamp is less than the last decode timestamp, or their difference is more than
 -- twice the last frame duration
-abbrev pub leaps : Option ℤ → Option ℤ → ℤ → Bool
-leaps (Some last) (Some dur) d = int_lt d last || int_lt (pos 2 *ℤ dur) (d -ℤ last)
-leaps (Some last) None d = false
-leaps None dur d = false
+abbrev pub is_leap : Option ℤ → Option ℤ → ℤ → Bool
+is_leap (Some last) (Some dur) d = int_lt d last || int_lt (pos 2 *ℤ dur) (d -ℤ last)
+is_leap (Some last) None d = false
+is_leap None dur d = false
 
 abbrev pub is_discontinuous : Marks → ℤ → Bool
-is_discontinuous m d = leaps m.last_decode m.last_duration d
+is_discontinuous m d = is_leap m.last_decode m.last_duration d
 
 -- step 1.6.1: in mode "sequence" the group start timestamp becomes the group end timestamp, and in mode
 -- "segments" the group end timestamp becomes the presentation timestamp
-abbrev pub after_discontinuity : Settings → ℤ → Settings
-after_discontinuity s p = if s.sequence then record s { group_start = Some s.group_end } else record s { group_end = p }
+abbrev pub settings_after_discontinuity : Settings → ℤ → Settings
+settings_after_discontinuity s p = if s.sequence then record s { group_start = Some s.group_end } else record s { group_end = p }
 
 -- steps 1.1 to 1.7: after a discontinuity they start over with all marks unset, so that there is no second
 abbrev pub timing_of : Settings → Marks → CodedFrame → Option Timing
 timing_of s m f = do
-  w ← one_pass s f
+  w ← timing_in_pass s f
   if is_discontinuous m w.dts
       then (do
-        v ← one_pass (after_discontinuity w.settings w.pts) f
+        v ← timing_in_pass (settings_after_discontinuity w.settings w.pts) f
         Some (record v { discontinuity = true }))
       else Some w
 

@@ -3,7 +3,7 @@
 //! removed.
 //!
 //! It stands on `mse_base`, `track_store` and `overlap_rules`. Its main contract is that of
-//! [`place`]: answer, tracks and settings are those of `placed` of `specs/Place.antt`, the
+//! [`place`]: answer, tracks and settings are those of `placement` of `specs/Place.antt`, the
 //! standard's steps as one function on lists of frames, and each track buffer stays `Sound`, so
 //! that each frame held can be decoded from what is held.
 //!

@@ -1,50 +1,71 @@
-ghost use Rattle.std.specs.Prelude.{◌≡◌, ◌+◌, ◌<◌, ◌≤◌, ◌^◌, ℕ, ℤ, pos, ◌≤ℤ◌, length, map, slice_get, slice_set, IfSome};
+ghost use Rattle.std.specs.Prelude.{◌≡◌, ◌+◌, ◌<◌, ◌≤◌, ◌^◌, ℕ, ℤ, pos, ◌≤ℤ◌, ◌||◌, length, map, slice_get, slice_set, IfSome};
 ghost use Rattle.track_store.specs.State.{state_of, states_of};
-ghost use Rattle.frame_rules.specs.Put.{drop_reason, put, put_answer};
+ghost use Rattle.track_store.specs.Sound.{Sound};
+ghost use Rattle.track_store.specs.Kept.{bytes_in, AreKept, AreStillSound, HasRoom, gaps_of, AreEndedBy};
+ghost use Rattle.frame_rules.specs.Put.{drop_reason, track_after_frame, answer_by_reason};
 ghost use Rattle.frame_rules.specs.Timing.{timing_of, IsTimingOf};
-ghost use Rattle.track_store.specs.Kept.{bytes_in, AreKept, HasRoom, gaps_of, EndBy};
-ghost use Rattle.frame_rules.specs.Place.{reset_marks, reset_in, too_many, settings_after, outcome, placed, placed_at, IsReady, TakesRoomAt, limit_after};
+ghost use Rattle.frame_rules.specs.Place.{marks_after_reset, with_reset_marks, is_over_limit, settings_after_frame, new_placement, placement, placement_at_times, placement_by_times, IsReady, IsRoomTakenAt, limit_after};
 
 use crate::answer::Placed;
-use crate::storing::{greater_end, put};
+use crate::storing::put;
 use crate::timing::{Timing, timing_of};
 use mse_base::CodedFrame;
 use track_store::{FrameStore, Marks, Settings, Tracks};
 
 /// What steps 1.3 and 1.6 do to the marks of each track buffer.
-fn reset_marks(marks: &Marks, timing: &Timing) -> Marks
-    ensures { result ≡ reset_marks timing.now marks.now }
+fn marks_after_reset(marks: &Marks, timing: &Timing) -> Marks
+    ensures { result ≡ marks_after_reset timing.now marks.now }
 {
     if timing.discontinuity {
-        marks.unset()
+        marks.unset_marks()
     } else if timing.starts_group {
-        marks.needing_sync()
+        marks.marks_needing_sync()
     } else {
         *marks
     }
 }
 
 fn reset_at<S: FrameStore>(tracks: &mut Tracks<S>, i: usize, timing: &Timing)
-    ensures { IfSome (slice_get tracks.old.items i)
-        (λ t. tracks.new.items ≡ slice_set tracks.old.items i (reset_in timing.now t)) }
+    ensures items { IfSome (slice_get tracks.old.items i)
+        (λ t. tracks.new.items ≡ slice_set tracks.old.items i (with_reset_marks timing.now t)) }
+    ensures places { tracks.new.spare ≡ tracks.old.spare }
 {
     if let Some(track) = tracks.get_mut(i) {
-        track.marks = reset_marks(&track.marks, timing);
+        track.marks = marks_after_reset(&track.marks, timing);
     }
 }
 
 fn reset_all<S: FrameStore>(tracks: &mut Tracks<S>, timing: &Timing)
-    ensures { tracks.new.items ≡ map (reset_in timing.now) tracks.old.items }
+    ensures items { tracks.new.items ≡ map (with_reset_marks timing.now) tracks.old.items }
+    ensures places { tracks.new.spare ≡ tracks.old.spare }
 {
     for i in 0..tracks.len() {
         reset_at(tracks, i, timing);
     }
 }
 
+/// Whether steps 1.3.3 or 1.6.2 to 1.6.5 have something to do.
+fn is_reset_due(timing: &Timing) -> bool
+    ensures { result ≡ (timing.now.discontinuity || timing.now.starts_group) }
+{
+    timing.discontinuity || timing.starts_group
+}
+
+/// Steps 1.3.3 and 1.6.2 to 1.6.5, which touch the other tracks only after a discontinuity and at
+/// a group start timestamp.
+fn reset_where_due<S: FrameStore>(tracks: &mut Tracks<S>, timing: &Timing)
+    ensures items { tracks.new.items ≡ map (with_reset_marks timing.now) tracks.old.items }
+    ensures places { tracks.new.spare ≡ tracks.old.spare }
+{
+    if is_reset_due(timing) {
+        reset_all(tracks, timing);
+    }
+}
+
 /// Whether a count would pass its limit.
-fn too_many(received: u64, bytes: u64, more: usize) -> bool
+fn is_over_limit(received: u64, bytes: u64, more: usize) -> bool
     requires { bytes < 2 ^ 62 }
-    ensures { result ≡ too_many received bytes more }
+    ensures { result ≡ is_over_limit received bytes more }
 {
     received == 1 << 62 || (1 << 62) - bytes <= more as u64
 }
@@ -52,10 +73,10 @@ fn too_many(received: u64, bytes: u64, more: usize) -> bool
 fn is_full<S: FrameStore>(tracks: &Tracks<S>, index: usize, more: usize) -> bool
     requires { bytes_in (states_of S.frames tracks.now.items) < 2 ^ 62 }
     ensures { IfSome (slice_get tracks.now.items index) (λ t. result
-        ≡ too_many t.marks.received (bytes_in (states_of S.frames tracks.now.items)) more) }
+        ≡ is_over_limit t.marks.received (bytes_in (states_of S.frames tracks.now.items)) more) }
 {
     match tracks.get(index) {
-        Some(track) => too_many(track.marks.received, tracks.used(), more),
+        Some(track) => is_over_limit(track.marks.received, tracks.used(), more),
         None => true,
     }
 }
@@ -76,12 +97,12 @@ fn timing_at<S: FrameStore>(
 }
 
 /// The settings after a frame: steps 1.20 and 1.21.
-fn settings_after(timing: &Timing, placed: &Placed) -> Settings
-    ensures { result ≡ settings_after placed.now timing.now }
+fn settings_after_frame(timing: &Timing, placed: &Placed) -> Settings
+    ensures { result ≡ settings_after_frame placed.now timing.now }
 {
     let mut settings = timing.settings;
     if let Placed::Stored = placed {
-        settings.group_end = greater_end(Some(settings.group_end), timing.end);
+        settings.group_end = settings.group_end.max(timing.end);
         if settings.generate {
             settings.offset = timing.end;
         }
@@ -99,16 +120,18 @@ fn put_at<S: FrameStore>(
     requires in_range { index < length tracks.old.items }
     requires ready { IfSome (slice_get tracks.old.items index)
         (λ t. IsReady S.frames S.spare (length frame.payload) t) }
-    requires forward { pos 0 ≤ℤ frame.dur }
+    requires dur_not_negative { pos 0 ≤ℤ frame.dur }
     requires timed { IsTimingOf frame timing.now }
     ensures states { IfSome (slice_get tracks.old.items index)
         (λ t. states_of S.frames tracks.new.items
         ≡ slice_set (states_of S.frames tracks.old.items) index
-        (put timing.now frame (state_of S.frames t))) }
+        (track_after_frame timing.now frame (state_of S.frames t))) }
     ensures answer { IfSome (slice_get tracks.old.items index) (λ t. result
-        ≡ put_answer (drop_reason timing.now frame.sync t.marks.need_sync)) }
-    ensures spare { TakesRoomAt S.spare index tracks.old.items tracks.new.items }
+        ≡ answer_by_reason (drop_reason timing.now frame.sync
+        t.marks.need_sync)) }
+    ensures spare { IsRoomTakenAt S.spare index tracks.old.items tracks.new.items }
     ensures gaps { gaps_of S.gap tracks.new.items ≡ gaps_of S.gap tracks.old.items }
+    ensures places { tracks.new.spare ≡ tracks.old.spare }
 {
     match tracks.get_mut(index) {
         Some(track) => put(track, timing, frame),
@@ -117,7 +140,7 @@ fn put_at<S: FrameStore>(
 }
 
 /// Places a frame whose times are known: all steps but those that find them.
-fn place_at<S: FrameStore>(
+fn place_at_times<S: FrameStore>(
     tracks: &mut Tracks<S>,
     settings: &mut Settings,
     index: usize,
@@ -127,24 +150,52 @@ fn place_at<S: FrameStore>(
     requires in_range { index < length tracks.old.items }
     requires ready { IfSome (slice_get tracks.old.items index)
         (λ t. IsReady S.frames S.spare (length frame.payload) t) }
-    requires forward { pos 0 ≤ℤ frame.dur }
+    requires dur_not_negative { pos 0 ≤ℤ frame.dur }
     requires timed { IsTimingOf frame timing.now }
-    ensures outcome { outcome result (states_of S.frames tracks.new.items) settings.new
-        ≡ placed_at timing.now frame index (states_of S.frames tracks.old.items) }
-    ensures spare { TakesRoomAt S.spare index tracks.old.items tracks.new.items }
+    ensures placement { new_placement result (states_of S.frames tracks.new.items) settings.new
+        ≡ placement_at_times timing.now frame index (states_of S.frames tracks.old.items) }
+    ensures spare { IsRoomTakenAt S.spare index tracks.old.items tracks.new.items }
     ensures gaps { gaps_of S.gap tracks.new.items ≡ gaps_of S.gap tracks.old.items }
+    ensures places { tracks.new.spare ≡ tracks.old.spare }
 {
-    reset_all(tracks, timing);
+    reset_where_due(tracks, timing);
     let placed = put_at(tracks, index, timing, frame);
-    *settings = settings_after(timing, &placed);
+    *settings = settings_after_frame(timing, &placed);
     placed
 }
 
+/// Places a frame where no count passes its limit.
+fn place_counted<S: FrameStore>(
+    tracks: &mut Tracks<S>,
+    settings: &mut Settings,
+    index: usize,
+    frame: CodedFrame,
+) -> Placed
+    requires in_range { index < length tracks.old.items }
+    requires ready { IfSome (slice_get tracks.old.items index)
+        (λ t. IsReady S.frames S.spare (length frame.payload) t) }
+    requires dur_not_negative { pos 0 ≤ℤ frame.dur }
+    ensures placement { IfSome (slice_get tracks.old.items index)
+        (λ t. new_placement result (states_of S.frames tracks.new.items) settings.new
+        ≡ placement_by_times (timing_of settings.old t.marks frame) settings.old frame index
+        (states_of S.frames tracks.old.items)) }
+    ensures spare { IsRoomTakenAt S.spare index tracks.old.items tracks.new.items }
+    ensures gaps { gaps_of S.gap tracks.new.items ≡ gaps_of S.gap tracks.old.items }
+    ensures places { tracks.new.spare ≡ tracks.old.spare }
+{
+    match timing_at(tracks, settings, index, &frame) {
+        Some(timing) => place_at_times(tracks, settings, index, &timing, frame),
+        None => Placed::TimeRange,
+    }
+}
+
 /// Processes a coded frame of the track at place `index` (Media Source Extensions, 3.5.8, step 1).
-/// It needs no memory: the track's store has room for the frame.
+/// It needs no memory: the track's store has room for the frame. Its room falls by one frame at
+/// most, that of the other stores does not fall, and the places for further tracks stay.
 ///
 /// After `Placed::TimeRange` and `Placed::Counts` all is as before. A frame that was stored ends at
-/// or before the group end timestamp.
+/// or before the group end timestamp. Each track that was sound stays so, also where its marks
+/// are reset.
 pub fn place<S: FrameStore>(
     tracks: &mut Tracks<S>,
     settings: &mut Settings,
@@ -153,27 +204,30 @@ pub fn place<S: FrameStore>(
 ) -> Placed
     requires in_range { index < length tracks.old.items }
     requires spare { IfSome (slice_get tracks.old.items index) (λ t. 1 ≤ S.spare t.store) }
-    requires kept { AreKept (states_of S.frames tracks.old.items) }
-    requires low { pos 0 ≤ℤ settings.old.window_start }
-    requires forward { pos 0 ≤ℤ frame.dur }
-    ensures outcome { outcome result (states_of S.frames tracks.new.items) settings.new
-        ≡ placed (states_of S.frames tracks.old.items) settings.old index frame }
-    ensures kept { AreKept (states_of S.frames tracks.new.items) }
-    ensures low { pos 0 ≤ℤ settings.new.window_start }
-    ensures ends { (limit : ℤ) → EndBy limit (states_of S.frames tracks.old.items)
-        → EndBy (limit_after result limit settings.new.group_end)
+    requires sound { IfSome (slice_get (states_of S.frames tracks.old.items) index) Sound }
+    requires small { bytes_in (states_of S.frames tracks.old.items) < 2 ^ 62 }
+    requires window_start { pos 0 ≤ℤ settings.old.window_start }
+    requires dur_not_negative { pos 0 ≤ℤ frame.dur }
+    ensures placement { new_placement result (states_of S.frames tracks.new.items) settings.new
+        ≡ placement (states_of S.frames tracks.old.items) settings.old index frame }
+    ensures sound { AreStillSound (states_of S.frames tracks.old.items)
         (states_of S.frames tracks.new.items) }
-    ensures spare { TakesRoomAt S.spare index tracks.old.items tracks.new.items }
+    ensures small { bytes_in (states_of S.frames tracks.new.items) < 2 ^ 62 }
+    ensures kept { AreKept (states_of S.frames tracks.old.items)
+        → AreKept (states_of S.frames tracks.new.items) }
+    ensures window_start { pos 0 ≤ℤ settings.new.window_start }
+    ensures ends { (limit : ℤ) → AreEndedBy limit (states_of S.frames tracks.old.items)
+        → AreEndedBy (limit_after result limit settings.new.group_end)
+        (states_of S.frames tracks.new.items) }
+    ensures spare { IsRoomTakenAt S.spare index tracks.old.items tracks.new.items }
     ensures room { (n : ℕ) → HasRoom S.spare (n + 1) tracks.old.items
         → HasRoom S.spare n tracks.new.items }
     ensures gaps { gaps_of S.gap tracks.new.items ≡ gaps_of S.gap tracks.old.items }
     ensures len { length tracks.new.items ≡ length tracks.old.items }
+    ensures places { tracks.new.spare ≡ tracks.old.spare }
 {
     if is_full(tracks, index, frame.payload.len()) {
         return Placed::Counts;
     }
-    match timing_at(tracks, settings, index, &frame) {
-        None => Placed::TimeRange,
-        Some(timing) => place_at(tracks, settings, index, &timing, frame),
-    }
+    place_counted(tracks, settings, index, frame)
 }

@@ -1,24 +1,15 @@
 ghost use Rattle.std.specs.Prelude.{◌≡◌, ◌+◌, ◌<◌, ◌≤◌, ◌^◌, pos, ◌≤ℤ◌, length};
-ghost use Rattle.track_store.specs.Frames.{used_of};
+ghost use Rattle.track_store.specs.Frames.{bytes_of};
 ghost use Rattle.track_store.specs.State.{state_of};
 ghost use Rattle.track_store.specs.Sound.{Sound};
 ghost use Rattle.frame_rules.specs.Timing.{IsTimingOf};
-ghost use Rattle.frame_rules.specs.Put.{is_past, drop_reason, marks_after, put, put_answer, greater_end, stored_frame};
+ghost use Rattle.frame_rules.specs.Put.{drop_reason, marks_after, track_after_frame, answer_by_reason, stored_frame};
 
 use crate::answer::{Placed, Why};
 use crate::timing::Timing;
-use mse_base::{CodedFrame, Moment, Ticks};
+use mse_base::{CodedFrame, Ticks};
 use overlap_rules::make_room;
 use track_store::{FrameStore, Marks, Stored, Track};
-
-fn is_past(t: Ticks, moment: &Moment) -> bool
-    ensures { result ≡ is_past t moment.now }
-{
-    match moment {
-        Moment::At(m) => *m < t,
-        Moment::Infinite | Moment::Nan => false,
-    }
-}
 
 /// Why a frame is dropped, if it is: steps 1.8 to 1.10.
 fn drop_reason(timing: &Timing, sync: bool, need_sync: bool) -> Option<Why>
@@ -27,7 +18,7 @@ fn drop_reason(timing: &Timing, sync: bool, need_sync: bool) -> Option<Why>
     if timing.pts < timing.settings.window_start {
         return Some(Why::Window);
     }
-    if is_past(timing.end, &timing.settings.window_end) {
+    if timing.end.is_after(timing.settings.window_end) {
         return Some(Why::Window);
     }
     if need_sync && !sync {
@@ -36,54 +27,26 @@ fn drop_reason(timing: &Timing, sync: bool, need_sync: bool) -> Option<Why>
     None
 }
 
-/// The later of two ends.
-pub fn greater_end(best: Option<Ticks>, t: Ticks) -> Ticks
-    ensures { result ≡ greater_end best t }
+/// Sets the marks after a frame that was stored: steps 1.17 to 1.19.
+fn mark(marks: &mut Marks, timing: &Timing, dur: Ticks)
+    requires { marks.old.received < 2 ^ 62 }
+    ensures { marks.new ≡ marks_after timing.now dur marks.old }
 {
-    match best {
-        Some(s) => { if t <= s { s } else { t } }
-        None => t,
-    }
-}
-
-/// The marks after a frame that was stored: steps 1.17 to 1.19.
-fn marks_after(marks: &Marks, timing: &Timing, dur: Ticks) -> Marks
-    requires { marks.now.received < 2 ^ 62 }
-    ensures { result ≡ marks_after timing.now dur marks.now }
-{
-    Marks {
-        last_decode: Some(timing.dts),
-        last_duration: Some(dur),
-        highest_end: Some(greater_end(marks.highest_end, timing.end)),
-        group_first: Some(marks.group_first.unwrap_or(marks.received)),
-        need_sync: false,
-        received: marks.received + 1,
-    }
+    marks.last_decode = Some(timing.dts);
+    marks.last_duration = Some(dur);
+    marks.highest_end = Some(timing.end.greater_with(marks.highest_end));
+    marks.group_first = Some(marks.group_first.unwrap_or(marks.received));
+    marks.need_sync = false;
+    marks.received += 1;
 }
 
 /// The frame with its timestamps in the track buffer.
-fn stored_frame(timing: &Timing, serial: u64, frame: CodedFrame) -> Stored
+fn stored_frame(timing: &Timing, serial: u64, mut frame: CodedFrame) -> Stored
     ensures { result ≡ stored_frame timing.now serial frame }
 {
-    let CodedFrame {
-        track_id,
-        pts: _,
-        dts: _,
-        dur,
-        sync,
-        payload,
-    } = frame;
-    Stored {
-        serial,
-        frame: CodedFrame {
-            track_id,
-            pts: timing.pts,
-            dts: timing.dts,
-            dur,
-            sync,
-            payload,
-        },
-    }
+    frame.pts = timing.pts;
+    frame.dts = timing.dts;
+    Stored { frame, serial }
 }
 
 /// Puts a frame into its track buffer, or drops it: steps 1.8 to 1.19.
@@ -91,13 +54,14 @@ pub fn put<S: FrameStore>(track: &mut Track<S>, timing: &Timing, frame: CodedFra
     requires sound { Sound (state_of S.frames track.old) }
     requires room { 1 ≤ S.spare track.old.store }
     requires count { track.old.marks.received < 2 ^ 62 }
-    requires small { used_of (S.frames track.old.store) + length frame.payload < 2 ^ 62 }
-    requires forward { pos 0 ≤ℤ frame.dur }
+    requires small { bytes_of (S.frames track.old.store) + length frame.payload < 2 ^ 62 }
+    requires dur_not_negative { pos 0 ≤ℤ frame.dur }
     requires timed { IsTimingOf frame timing.now }
     ensures state { state_of S.frames track.new
-        ≡ put timing.now frame (state_of S.frames track.old) }
-    ensures answer { result
-        ≡ put_answer (drop_reason timing.now frame.sync track.old.marks.need_sync) }
+        ≡ track_after_frame timing.now frame
+        (state_of S.frames track.old) }
+    ensures answer { result ≡ answer_by_reason
+        (drop_reason timing.now frame.sync track.old.marks.need_sync) }
     ensures spare { S.spare track.old.store ≤ S.spare track.new.store + 1 }
     ensures gap { S.gap track.new.store ≡ S.gap track.old.store }
 {
@@ -110,6 +74,6 @@ pub fn put<S: FrameStore>(track: &mut Track<S>, timing: &Timing, frame: CodedFra
     make_room(track, timing.pts, timing.end);
     let stored = stored_frame(timing, track.marks.received, frame);
     track.store.add(stored);
-    track.marks = marks_after(&track.marks, timing, dur);
+    mark(&mut track.marks, timing, dur);
     Placed::Stored
 }

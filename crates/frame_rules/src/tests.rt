@@ -4,7 +4,7 @@
 ghost use Rattle.std.specs.Prelude.{◌≡◌, ◌<◌, ◌≤◌, ◌^◌, [], ℤ, pos, ◌≤ℤ◌, length, IfOk, IfSome, slice_get, OnOk};
 ghost use Rattle.track_store.specs.State.{state_of, states_of};
 ghost use Rattle.track_store.specs.Sound.{Sound};
-ghost use Rattle.track_store.specs.Kept.{AreKept};
+ghost use Rattle.track_store.specs.Kept.{bytes_in, AreKept};
 
 use crate::{Placed, Why, place};
 use mse_base::{Bytes, CodedFrame, Kind, Moment, OutOfMemory, Ticks, convert};
@@ -129,11 +129,11 @@ fn feed<S: FrameStore>(
 ) -> Result<Placed, OutOfMemory>
     requires in_range { index < length tracks.old.items }
     requires kept { AreKept (states_of S.frames tracks.old.items) }
-    requires low { pos 0 ≤ℤ settings.old.window_start }
-    requires forward { pos 0 ≤ℤ frame.dur }
+    requires window_start { pos 0 ≤ℤ settings.old.window_start }
+    requires dur_not_negative { pos 0 ≤ℤ frame.dur }
     ensures len { length tracks.new.items ≡ length tracks.old.items }
     ensures kept { AreKept (states_of S.frames tracks.new.items) }
-    ensures low { pos 0 ≤ℤ settings.new.window_start }
+    ensures window_start { pos 0 ≤ℤ settings.new.window_start }
 {
     reserve_at(tracks, index)?;
     Ok(place(tracks, settings, index, frame))
@@ -148,16 +148,31 @@ fn feed_all<S: FrameStore>(
 ) -> Result<(), Fail>
     requires one { length tracks.old.items ≡ 1 }
     requires kept { AreKept (states_of S.frames tracks.old.items) }
-    requires low { pos 0 ≤ℤ settings.old.window_start }
+    requires window_start { pos 0 ≤ℤ settings.old.window_start }
     ensures one { length tracks.new.items ≡ 1 }
     ensures kept { AreKept (states_of S.frames tracks.new.items) }
-    ensures low { pos 0 ≤ℤ settings.new.window_start }
+    ensures window_start { pos 0 ≤ℤ settings.new.window_start }
 {
     for sample in samples {
         let frame = frame_of(alloc, scale, sample)?;
         let _placed = feed(tracks, settings, 0, frame)?;
     }
     Ok(())
+}
+
+/// Two tracks with no frames, of which the second claims to hold the frame it received last.
+fn beside_unsound<S: FrameStore>(alloc: Global) -> Result<Tracks<S>, OutOfMemory>
+    ensures two { IfOk result (λ ts. length ts.items ≡ 2) }
+    ensures sound { IfOk result (λ ts. IfSome (slice_get (states_of S.frames ts.items) 0) Sound) }
+    ensures small { IfOk result (λ ts. bytes_in (states_of S.frames ts.items) < 2 ^ 62) }
+{
+    let mut tracks = Tracks::new(alloc);
+    tracks.reserve(2)?;
+    tracks.add(empty_track(alloc, Kind::Video, 0));
+    let mut other = empty_track(alloc, Kind::Audio, 0);
+    other.marks.need_sync = false;
+    tracks.add(other);
+    Ok(tracks)
 }
 
 /// Places a sample of the track at a place, in milliseconds, and asserts what becomes of it.
@@ -171,10 +186,10 @@ fn feed_at<S: FrameStore>(
 ) -> Result<(), Fail>
     requires in_range { index < length tracks.old.items }
     requires kept { AreKept (states_of S.frames tracks.old.items) }
-    requires low { pos 0 ≤ℤ settings.old.window_start }
+    requires window_start { pos 0 ≤ℤ settings.old.window_start }
     ensures len { length tracks.new.items ≡ length tracks.old.items }
     ensures kept { AreKept (states_of S.frames tracks.new.items) }
-    ensures low { pos 0 ≤ℤ settings.new.window_start }
+    ensures window_start { pos 0 ≤ℤ settings.new.window_start }
 {
     let frame = frame_of(rt.alloc(), 1000, sample)?;
     let placed = feed(tracks, settings, index, frame)?;
@@ -234,7 +249,7 @@ fn first_call(
     pts: i64,
     sync: bool,
 ) -> Result<(Placed, Marks, usize), Fail>
-    requires low { pos 0 ≤ℤ settings.old.window_start }
+    requires window_start { pos 0 ≤ℤ settings.old.window_start }
     requires count { received ≤ 2 ^ 62 }
 {
     let mut tracks = one_track::<ListStore>(alloc, Kind::Video, received)?;
@@ -566,7 +581,7 @@ fn a_leap_is_of_all_tracks(rt: HostRuntime) -> Result<(), Fail> {
     let (leap, third) = ((1000, 100, 0, true), (200, 100, 0, false));
     feed_at(&rt, &mut tracks, &mut settings, 0, &leap, Placed::Stored)?;
     let marks = tracks.get(1).ok_or("no track")?.marks;
-    assert!(rt; marks == marks.unset());
+    assert!(rt; marks == marks.unset_marks());
     let dropped = Placed::Dropped(Why::NoSync);
     feed_at(&rt, &mut tracks, &mut settings, 1, &third, dropped)?;
     let fourth = (300, 100, 0, true);
@@ -600,5 +615,18 @@ fn keeps_the_highest_end(rt: HostRuntime) -> Result<(), Fail> {
         let highest = highest_end(rt.alloc(), front)?;
         assert!(rt; highest == Some(time(end, 1000)?), "after {count}");
     }
+    Ok(())
+}
+
+/// Only the track of the frame is asked to be sound.
+#[test]
+fn places_beside_a_track_that_is_not_sound(rt: HostRuntime) -> Result<(), Fail> {
+    let mut tracks = beside_unsound::<ListStore>(rt.alloc())?;
+    let mut settings = segments();
+    reserve_at(&mut tracks, 0)?;
+    let frame = frame_of(rt.alloc(), 1000, &(0, 100, 0, true))?;
+    assert_eq!(rt; place(&mut tracks, &mut settings, 0, frame), Placed::Stored);
+    let other = tracks.get(1).ok_or("no track")?.marks;
+    assert!(rt; !other.need_sync && other.received == 0);
     Ok(())
 }

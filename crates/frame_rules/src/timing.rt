@@ -1,5 +1,5 @@
 ghost use Rattle.std.specs.Prelude.{◌≡◌, ◌||◌, ◌&&◌, ◌+ℤ◌, ◌-ℤ◌, ◌*ℤ◌, pos, Some, None, is_some};
-ghost use Rattle.frame_rules.specs.Timing.{raw_time, with_group_start, starts_group, one_pass, is_discontinuous, after_discontinuity, timing_of};
+ghost use Rattle.frame_rules.specs.Timing.{raw_time, settings_at_group_start, has_group_start, timing_in_pass, is_discontinuous, settings_after_discontinuity, timing_of};
 
 use mse_base::{CodedFrame, Ticks};
 use track_store::{Marks, Settings};
@@ -29,15 +29,15 @@ fn raw_time(settings: &Settings, t: Ticks) -> Ticks
 }
 
 /// Whether step 1.3 has something to do.
-fn starts_group(settings: &Settings) -> bool
-    ensures { result ≡ starts_group settings.now }
+fn has_group_start(settings: &Settings) -> bool
+    ensures { result ≡ has_group_start settings.now }
 {
     settings.sequence && settings.group_start.is_some()
 }
 
 /// Step 1.3: the settings where the offset moves so that the frame begins at the group start.
-fn with_group_start(settings: &Settings, pts: Ticks) -> Option<Settings>
-    ensures { result ≡ with_group_start settings.now pts }
+fn settings_at_group_start(settings: &Settings, pts: Ticks) -> Option<Settings>
+    ensures { result ≡ settings_at_group_start settings.now pts }
 {
     let mut moved = *settings;
     if settings.sequence {
@@ -51,13 +51,13 @@ fn with_group_start(settings: &Settings, pts: Ticks) -> Option<Settings>
 }
 
 /// Steps 1.1 to 1.4, and 1.7.
-fn one_pass(settings: &Settings, frame: &CodedFrame) -> Option<Timing>
-    ensures { result ≡ one_pass settings.now frame.now }
+fn timing_in_pass(settings: &Settings, frame: &CodedFrame) -> Option<Timing>
+    ensures { result ≡ timing_in_pass settings.now frame.now }
 {
-    let starts_group = starts_group(settings);
+    let starts_group = has_group_start(settings);
     let raw_pts = raw_time(settings, frame.pts);
     let raw_dts = raw_time(settings, frame.dts);
-    let settings = with_group_start(settings, raw_pts)?;
+    let settings = settings_at_group_start(settings, raw_pts)?;
     let pts = raw_pts.checked_add(settings.offset)?;
     let dts = raw_dts.checked_add(settings.offset)?;
     let end = pts.checked_add(frame.dur)?;
@@ -95,8 +95,8 @@ fn is_discontinuous(marks: &Marks, dts: Ticks) -> bool
 }
 
 /// Step 1.6.1: the settings after a discontinuity at a presentation timestamp.
-fn after_discontinuity(settings: &Settings, pts: Ticks) -> Settings
-    ensures { result ≡ after_discontinuity settings.now pts }
+fn settings_after_discontinuity(settings: &Settings, pts: Ticks) -> Settings
+    ensures { result ≡ settings_after_discontinuity settings.now pts }
 {
     let mut after = *settings;
     if settings.sequence {
@@ -112,11 +112,12 @@ fn after_discontinuity(settings: &Settings, pts: Ticks) -> Settings
 pub fn timing_of(settings: &Settings, marks: &Marks, frame: &CodedFrame) -> Option<Timing>
     ensures { result ≡ timing_of settings.now marks.now frame.now }
 {
-    let first = one_pass(settings, frame)?;
+    let first = timing_in_pass(settings, frame)?;
     if !is_discontinuous(marks, first.dts) {
         return Some(first);
     }
-    let mut second = one_pass(&after_discontinuity(&first.settings, first.pts), frame)?;
+    let settings = settings_after_discontinuity(&first.settings, first.pts);
+    let mut second = timing_in_pass(&settings, frame)?;
     second.discontinuity = true;
     Some(second)
 }

@@ -6,7 +6,7 @@ use Rattle.mse_base.specs.declared.track.Kind.{Kind}
 use Rattle.mse_base.specs.declared.track.Kind.TheVariants.{Video, Audio, Other}
 use Rattle.track_store.specs.declared.store.Stored.{Stored}
 use Rattle.track_store.specs.declared.tracks.Marks.{Marks}
-use Rattle.track_store.specs.Frames.{cleared, shortened, has_serial, overlapped}
+use Rattle.track_store.specs.Frames.{frames_without, frames_with_dur, has_serial, overlapped}
 use Rattle.track_store.specs.State.{TrackState}
 use Rattle.overlap_rules.specs.declared.room.OverlapRule.{OverlapRule}
 use Rattle.overlap_rules.specs.declared.room.OverlapRule.TheVariants.{Remove, Shorten, Keep}
@@ -46,15 +46,15 @@ is_removed m p e f = is_removed_from (removed_from m.highest_end p) e m.group_fi
 
 -- step 1.15: the frames that are left where some are removed, and the overlapped frame, which its serial
 -- names, has this rule
-abbrev pub left_by_rule : OverlapRule → ℕ → (Stored → Bool) → List Stored → List Stored
-left_by_rule Remove serial removed fs = cleared (λ f. has_serial serial f || removed f) fs
-left_by_rule (Shorten dur) serial removed fs = cleared removed (shortened serial dur fs)
-left_by_rule Keep serial removed fs = cleared removed fs
+abbrev pub frames_left_by_rule : OverlapRule → ℕ → (Stored → Bool) → List Stored → List Stored
+frames_left_by_rule Remove serial removed fs = frames_without (λ f. has_serial serial f || removed f) fs
+frames_left_by_rule (Shorten dur) serial removed fs = frames_without removed (frames_with_dur serial dur fs)
+frames_left_by_rule Keep serial removed fs = frames_without removed fs
 
-abbrev pub left_by_overlap : Kind → ℤ → Option Stored → (Stored → Bool) → List Stored → List Stored
-left_by_overlap kind p None removed fs = cleared removed fs
-left_by_overlap kind p (Some g) removed fs = left_by_rule (rule_for kind p g) g.serial removed fs
+abbrev pub frames_left_by_overlap : Kind → ℤ → Option Stored → (Stored → Bool) → List Stored → List Stored
+frames_left_by_overlap kind p None removed fs = frames_without removed fs
+frames_left_by_overlap kind p (Some g) removed fs = frames_left_by_rule (rule_for kind p g) g.serial removed fs
 
 -- the track buffer with room for a frame from p to e
-abbrev pub with_room : ℤ → ℤ → TrackState → TrackState
-with_room p e t = record t { frames = left_by_overlap t.kind p (overlapped_after t.marks.last_decode p t.frames) (is_removed t.marks p e) t.frames }
+abbrev pub track_with_room : ℤ → ℤ → TrackState → TrackState
+track_with_room p e t = record t { frames = frames_left_by_overlap t.kind p (overlapped_after t.marks.last_decode p t.frames) (is_removed t.marks p e) t.frames }

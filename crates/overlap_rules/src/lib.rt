@@ -5,7 +5,7 @@
 //! removed frames go their decoding dependencies.
 //!
 //! It stands on `mse_base` and `track_store`. Its main contract is that of [`make_room`]: the
-//! track becomes `with_room` of `specs/Overlap.antt`, one removal on the list of frames.
+//! track becomes `track_with_room` of `specs/Overlap.antt`, one removal on the list of frames.
 #![tactic(auto)]
 
 mod room;

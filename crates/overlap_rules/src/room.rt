@@ -1,13 +1,12 @@
-ghost use Rattle.std.specs.Prelude.{◌≡◌, ◌<◌, ◌≤◌, ◌^◌, true, int_lt, ◌+ℤ◌, ◌-ℤ◌, pos, length, IfSome, slice_get};
-ghost use Rattle.std.specs.List.{AllByRecursion};
-ghost use Rattle.track_store.specs.Frames.{covers, overlapped};
+ghost use Rattle.std.specs.Prelude.{◌≡◌, ◌<◌, ◌≤◌, true, Some, int_lt, ◌+ℤ◌, ◌-ℤ◌, pos, length, IfSome, slice_get};
+ghost use Rattle.track_store.specs.Frames.{frames_without, is_in_frame, overlapped};
 ghost use Rattle.track_store.specs.Sound.{Sound};
 ghost use Rattle.track_store.specs.State.{state_of};
-ghost use Rattle.overlap_rules.specs.Overlap.{rule_for, removed_from, with_room};
-ghost use Rattle.overlap_rules.specs.Steps.{CanApply, applied, applied_to, after_overlap, after_removal};
+ghost use Rattle.overlap_rules.specs.Overlap.{rule_for, removed_from, is_removed_from, track_with_room};
+ghost use Rattle.overlap_rules.specs.Steps.{CanApply, frames_after_rule, frames_after_overlap, track_after_overlap, track_without_older};
 
 use mse_base::{Kind, Moment, Ticks};
-use track_store::{FrameStore, Marks, Stored, Track};
+use track_store::{FrameStore, Marks, Stored, Track, remove_between};
 
 /// One microsecond in ticks: a video frame that began less than this before the new one goes.
 const MICROSECOND: i128 = 141_120;
@@ -32,7 +31,7 @@ fn is_in_remove_window(stored: &Stored, pts: Ticks) -> bool
 
 /// What becomes of an overlapped frame.
 fn rule_for(kind: Kind, pts: Ticks, stored: &Stored) -> OverlapRule
-    requires { covers pts stored.now ≡ true }
+    requires { is_in_frame pts stored.now ≡ true }
     ensures { result ≡ rule_for kind pts stored.now }
 {
     match kind {
@@ -56,7 +55,7 @@ fn rule_for(kind: Kind, pts: Ticks, stored: &Stored) -> OverlapRule
 
 /// The frame is cut to end at a time that falls within it.
 fn shortened_to(stored: &Stored, pts: Ticks) -> OverlapRule
-    requires { covers pts stored.now ≡ true }
+    requires { is_in_frame pts stored.now ≡ true }
     ensures { result ≡ OverlapRule.Shorten (pts -ℤ stored.now.frame.pts) }
 {
     // The part that stays is no longer than the frame, whose duration is in range.
@@ -72,7 +71,7 @@ fn apply<S: FrameStore>(store: &mut S, i: usize, rule: OverlapRule)
     requires in_range { i < length (S.frames store.old) }
     requires shorter { IfSome (slice_get (S.frames store.old) i) (λ f. CanApply rule f) }
     ensures frames { IfSome (slice_get (S.frames store.old) i)
-        (λ f. S.frames store.new ≡ applied rule f.serial (S.frames store.old)) }
+        (λ f. S.frames store.new ≡ frames_after_rule rule f.serial (S.frames store.old)) }
     ensures spare { S.spare store.old ≤ S.spare store.new }
     ensures gap { S.gap store.new ≡ S.gap store.old }
 {
@@ -86,7 +85,7 @@ fn apply<S: FrameStore>(store: &mut S, i: usize, rule: OverlapRule)
 /// Looks for the overlapped frame, and does with it what its rule says.
 fn resolve_overlap<S: FrameStore>(store: &mut S, kind: Kind, pts: Ticks)
     ensures frames { S.frames store.new
-        ≡ applied_to kind pts (overlapped pts (S.frames store.old)) (S.frames store.old) }
+        ≡ frames_after_overlap kind pts (overlapped pts (S.frames store.old)) (S.frames store.old) }
     ensures spare { S.spare store.old ≤ S.spare store.new }
     ensures gap { S.gap store.new ≡ S.gap store.old }
 {
@@ -100,7 +99,8 @@ fn resolve_overlap<S: FrameStore>(store: &mut S, kind: Kind, pts: Ticks)
 
 /// Step 1.13, which looks for an overlapped frame only where no last decode timestamp is set.
 fn resolve_overlap_of_first<S: FrameStore>(track: &mut Track<S>, pts: Ticks)
-    ensures state { state_of S.frames track.new ≡ after_overlap pts (state_of S.frames track.old) }
+    ensures state { state_of S.frames track.new
+        ≡ track_after_overlap pts (state_of S.frames track.old) }
     ensures spare { S.spare track.old.store ≤ S.spare track.new.store }
     ensures gap { S.gap track.new.store ≡ S.gap track.old.store }
 {
@@ -119,31 +119,41 @@ fn removed_from(marks: &Marks, pts: Ticks) -> Option<Ticks>
     }
 }
 
+/// Removes the frames older than a group that begin from one time on and before another, with
+/// their decoding dependencies; where there is no group yet all frames are older.
+fn remove_older<S: FrameStore>(store: &mut S, group_first: Option<u64>, from: Ticks, end: Ticks)
+    ensures frames { S.frames store.new
+        ≡ frames_without (is_removed_from (Some from) end group_first) (S.frames store.old) }
+    ensures spare { S.spare store.old ≤ S.spare store.new }
+    ensures gap { S.gap store.new ≡ S.gap store.old }
+{
+    match group_first {
+        Some(below) => store.remove_where_time(from, Moment::At(end), below),
+        None => remove_between(store, from, Moment::At(end)),
+    }
+}
+
 /// Steps 1.14 and 1.15: existing frames go that begin from the highest end of the group of the new
 /// one on, where that is not above its start, or from its start on if it is the first, and before
 /// its end, with their decoding dependencies.
 fn remove_existing<S: FrameStore>(track: &mut Track<S>, pts: Ticks, end: Ticks)
-    requires { AllByRecursion (λ f. f.serial < 2 ^ 62) (S.frames track.old.store) }
     ensures state { state_of S.frames track.new
-        ≡ after_removal pts end (state_of S.frames track.old) }
+        ≡ track_without_older pts end (state_of S.frames track.old) }
     ensures spare { S.spare track.old.store ≤ S.spare track.new.store }
     ensures gap { S.gap track.new.store ≡ S.gap track.old.store }
 {
     match removed_from(&track.marks, pts) {
-        Some(from) => {
-            let below = track.marks.group_first.unwrap_or(u64::MAX);
-            track.store.remove_where_time(from, Moment::At(end), below);
-        }
+        Some(from) => remove_older(&mut track.store, track.marks.group_first, from, end),
         None => {}
     }
 }
 
 /// Makes room in a track buffer for a frame from `pts` to `end` (Media Source Extensions, coded
-/// frame processing, steps 1.13 to 1.15). It needs no memory. A track numbers its frames from 0,
-/// and receives at most `2^62`.
+/// frame processing, steps 1.13 to 1.15). It needs no memory, and its store loses no room. A track
+/// that was sound stays sound.
 pub fn make_room<S: FrameStore>(track: &mut Track<S>, pts: Ticks, end: Ticks)
-    requires { AllByRecursion (λ f. f.serial < 2 ^ 62) (S.frames track.old.store) }
-    ensures state { state_of S.frames track.new ≡ with_room pts end (state_of S.frames track.old) }
+    ensures state { state_of S.frames track.new
+        ≡ track_with_room pts end (state_of S.frames track.old) }
     ensures sound { Sound (state_of S.frames track.old) → Sound (state_of S.frames track.new) }
     ensures spare { S.spare track.old.store ≤ S.spare track.new.store }
     ensures gap { S.gap track.new.store ≡ S.gap track.old.store }

@@ -1,8 +1,7 @@
 //! Which frames go for a new frame, and which are cut, tick by tick, on a plain store. All frames
 //! are random access points.
 
-ghost use Rattle.std.specs.Prelude.{◌≡◌, ◌<◌, ◌≤◌, ◌^◌, ◌+ℤ◌, pos, ◌≤ℤ◌, true, length, IfOk, IfSome};
-ghost use Rattle.std.specs.List.{AllByRecursion};
+ghost use Rattle.std.specs.Prelude.{◌≡◌, ◌+ℤ◌, pos, ◌≤ℤ◌, true, length, IfOk, IfSome};
 ghost use Rattle.mse_base.specs.Time.{IsTick};
 
 use crate::make_room;
@@ -54,10 +53,7 @@ fn frame_of(alloc: Global, serial: u64, interval: Interval) -> Result<Stored, Fa
 }
 
 /// The frames in order of appending, with the serials from 0 on.
-fn store_of<S: FrameStore>(alloc: Global, intervals: &[Interval]) -> Result<S, Fail>
-    requires { length intervals.now ≤ 100 }
-    ensures { IfOk result (λ s. AllByRecursion (λ f. f.serial < 2 ^ 62) (S.frames s)) }
-{
+fn store_of<S: FrameStore>(alloc: Global, intervals: &[Interval]) -> Result<S, Fail> {
     let mut store = S::new(alloc, Ticks::zero());
     store.reserve(intervals.len())?;
     for (i, interval) in intervals.iter().enumerate() {
@@ -75,9 +71,7 @@ fn leaves(
     frames: &[Interval],
     new: Interval,
     left: &[Interval],
-) -> Result<(), Fail>
-    requires { length frames.now ≤ 100 }
-{
+) -> Result<(), Fail> {
     let mut track = Track {
         id: 1,
         kind,
@@ -166,5 +160,25 @@ fn next_frame_of_a_group(rt: HostRuntime) -> Result<(), Fail> {
         };
         leaves(&rt, Kind::Video, marks, &frames, (10, 10), left)?;
     }
+    Ok(())
+}
+
+/// A frame of the greatest serial that there is goes like any other.
+#[test]
+fn removes_the_greatest_serial(rt: HostRuntime) -> Result<(), Fail> {
+    let mut store = ListStore::new(rt.alloc(), Ticks::zero());
+    store.reserve(1)?;
+    store.add(frame_of(rt.alloc(), u64::MAX, (15, 10))?);
+    let mut track = Track {
+        id: 1,
+        kind: Kind::Video,
+        codec: *b"avc1",
+        store,
+        marks: Marks::new(),
+    };
+    make_room(&mut track, ticks(10)?, ticks(15)?);
+    assert_eq!(rt; track.store.len(), 1);
+    make_room(&mut track, ticks(10)?, ticks(16)?);
+    assert_eq!(rt; track.store.len(), 0);
     Ok(())
 }

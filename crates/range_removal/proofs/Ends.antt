@@ -5,23 +5,23 @@ use Rattle.std.proofs.Math.Dec.{eqb}
 use Rattle.std.proofs.lemmas.Bool.{eqb-true, eq-eqb}
 use Rattle.std.specs.List.{AllByRecursion}
 use Rattle.track_store.specs.declared.store.Stored.{Stored}
-use Rattle.track_store.specs.Frames.{cleared_after, IsAscending}
+use Rattle.track_store.specs.Frames.{frames_left, IsAscending}
 use Rattle.track_store.specs.Sound.{last_serial}
 use Rattle.track_store.proofs.Clearing.{goes, cleared-goes, cleared-stays}
-use Rattle.range_removal.specs.Removal.{last_goes_after}
+use Rattle.range_removal.specs.Removal.{is_last_removed_after}
 
 -- ---- where the last frame stays, it is the last that stays
 
-stays-step : (named : Stored → Bool) (gone : Bool) (b : Option ℕ) (f : Stored) (fs : List Stored) (n : Option ℕ) (g : Bool) → goes named gone f ≡ g → (g ≡ true → last_serial b (cleared_after true named fs) ≡ n) → (g ≡ false → last_serial (Some f.serial) (cleared_after false named fs) ≡ n) → last_serial b (cleared_after gone named (f ∷ fs)) ≡ n
+stays-step : (named : Stored → Bool) (gone : Bool) (b : Option ℕ) (f : Stored) (fs : List Stored) (n : Option ℕ) (g : Bool) → goes named gone f ≡ g → (g ≡ true → last_serial b (frames_left true named fs) ≡ n) → (g ≡ false → last_serial (Some f.serial) (frames_left false named fs) ≡ n) → last_serial b (frames_left gone named (f ∷ fs)) ≡ n
 stays-step named gone b f fs n true e went stayed = ap (last_serial b) (cleared-goes named gone f fs e) ∙ went refl
 stays-step named gone b f fs n false e went stayed = ap (last_serial b) (cleared-stays named gone f fs e) ∙ stayed refl
 
-pub last_stays : (named : Stored → Bool) (gone : Bool) (b before : Option ℕ) (fs : List Stored) → last_goes_after gone named fs ≡ false → (gone ≡ false → b ≡ before) → last_serial b (cleared_after gone named fs) ≡ last_serial before fs
+pub last_stays : (named : Stored → Bool) (gone : Bool) (b before : Option ℕ) (fs : List Stored) → is_last_removed_after gone named fs ≡ false → (gone ≡ false → b ≡ before) → last_serial b (frames_left gone named fs) ≡ last_serial before fs
 last_stays named gone b before [] h same = same h
 last_stays named gone b before (f ∷ fs) h same =
     stays-step named gone b f fs (last_serial (Some f.serial) fs) (goes named gone f) refl
-    (λ g. last_stays named true b (Some f.serial) fs (ap (λ x. last_goes_after x named fs) (sym g) ∙ h) (λ e. absurd cc))
-    (λ g. last_stays named false (Some f.serial) (Some f.serial) fs (ap (λ x. last_goes_after x named fs) (sym g) ∙ h) (λ e. refl))
+    (λ g. last_stays named true b (Some f.serial) fs (ap (λ x. is_last_removed_after x named fs) (sym g) ∙ h) (λ e. absurd cc))
+    (λ g. last_stays named false (Some f.serial) (Some f.serial) fs (ap (λ x. is_last_removed_after x named fs) (sym g) ∙ h) (λ e. refl))
 
 -- ---- where it goes, the last that stays has a lesser serial, if there is one
 
@@ -42,16 +42,16 @@ rest_of : (b : Option ℕ) (f : Stored) (fs : List Stored) → IfSome b (λ j. A
 rest_of None f fs h = tt
 rest_of (Some j) f fs h = h.1
 
-goes-step : (named : Stored → Bool) (gone : Bool) (b : Option ℕ) (f : Stored) (fs : List Stored) (n : Option ℕ) (g : Bool) → goes named gone f ≡ g → (g ≡ true → IsUnder (last_serial b (cleared_after true named fs)) n) → (g ≡ false → IsUnder (last_serial (Some f.serial) (cleared_after false named fs)) n) → IsUnder (last_serial b (cleared_after gone named (f ∷ fs))) n
+goes-step : (named : Stored → Bool) (gone : Bool) (b : Option ℕ) (f : Stored) (fs : List Stored) (n : Option ℕ) (g : Bool) → goes named gone f ≡ g → (g ≡ true → IsUnder (last_serial b (frames_left true named fs)) n) → (g ≡ false → IsUnder (last_serial (Some f.serial) (frames_left false named fs)) n) → IsUnder (last_serial b (frames_left gone named (f ∷ fs))) n
 goes-step named gone b f fs n true e went stayed = subst (λ gs. IsUnder (last_serial b gs) n) (sym (cleared-goes named gone f fs e)) (went refl)
 goes-step named gone b f fs n false e went stayed = subst (λ gs. IsUnder (last_serial b gs) n) (sym (cleared-stays named gone f fs e)) (stayed refl)
 
-pub last_lesser : (named : Stored → Bool) (gone : Bool) (b before : Option ℕ) (fs : List Stored) → IsAscending fs → IfSome b (λ j. AllByRecursion (λ g. j < g.serial) fs) → last_goes_after gone named fs ≡ true → (gone ≡ true → IsUnder b before) → IsUnder (last_serial b (cleared_after gone named fs)) (last_serial before fs)
+pub last_lesser : (named : Stored → Bool) (gone : Bool) (b before : Option ℕ) (fs : List Stored) → IsAscending fs → IfSome b (λ j. AllByRecursion (λ g. j < g.serial) fs) → is_last_removed_after gone named fs ≡ true → (gone ≡ true → IsUnder b before) → IsUnder (last_serial b (frames_left gone named fs)) (last_serial before fs)
 last_lesser named gone b before [] up low h under = under h
 last_lesser named gone b before (f ∷ fs) up low h under =
     goes-step named gone b f fs (last_serial (Some f.serial) fs) (goes named gone f) refl
-    (λ g. last_lesser named true b (Some f.serial) fs up.1 (rest_of b f fs low) (ap (λ x. last_goes_after x named fs) (sym g) ∙ h) (λ e. under_first b f.serial (first_of b f fs low)))
-    (λ g. last_lesser named false (Some f.serial) (Some f.serial) fs up.1 up.0 (ap (λ x. last_goes_after x named fs) (sym g) ∙ h) (λ e. absurd cc))
+    (λ g. last_lesser named true b (Some f.serial) fs up.1 (rest_of b f fs low) (ap (λ x. is_last_removed_after x named fs) (sym g) ∙ h) (λ e. under_first b f.serial (first_of b f fs low)))
+    (λ g. last_lesser named false (Some f.serial) (Some f.serial) fs up.1 up.0 (ap (λ x. is_last_removed_after x named fs) (sym g) ∙ h) (λ e. absurd cc))
 
 pub under_differs : (a b : Option ℕ) → IsUnder a b → a ≢ b
 under_differs a None h e = h
@@ -87,25 +87,25 @@ cons-pick : (f : Stored) (b : Bool) (xs ys : List Stored) → f ∷ cond b xs ys
 cons-pick f true xs ys = refl
 cons-pick f false xs ys = refl
 
-append-step : (named : Stored → Bool) (g : Stored) (fs : List Stored) (f : Stored) (b : Bool) → cleared_after b named (fs ++ f ∷ []) ≡ cond (last_goes_after b named (fs ++ f ∷ [])) (cleared_after b named fs) (cleared_after b named fs ++ f ∷ []) → cond b (cleared_after true named (fs ++ f ∷ [])) (g ∷ cleared_after false named (fs ++ f ∷ [])) ≡ cond (last_goes_after b named (fs ++ f ∷ [])) (cond b (cleared_after true named fs) (g ∷ cleared_after false named fs)) (cond b (cleared_after true named fs) (g ∷ cleared_after false named fs) ++ f ∷ [])
+append-step : (named : Stored → Bool) (g : Stored) (fs : List Stored) (f : Stored) (b : Bool) → frames_left b named (fs ++ f ∷ []) ≡ cond (is_last_removed_after b named (fs ++ f ∷ [])) (frames_left b named fs) (frames_left b named fs ++ f ∷ []) → cond b (frames_left true named (fs ++ f ∷ [])) (g ∷ frames_left false named (fs ++ f ∷ [])) ≡ cond (is_last_removed_after b named (fs ++ f ∷ [])) (cond b (frames_left true named fs) (g ∷ frames_left false named fs)) (cond b (frames_left true named fs) (g ∷ frames_left false named fs) ++ f ∷ [])
 append-step named g fs f true h = h
-append-step named g fs f false h = ap (λ gs. g ∷ gs) h ∙ cons-pick g (last_goes_after false named (fs ++ f ∷ [])) _ _
+append-step named g fs f false h = ap (λ gs. g ∷ gs) h ∙ cons-pick g (is_last_removed_after false named (fs ++ f ∷ [])) _ _
 
-pub cleared-last : (named : Stored → Bool) (gone : Bool) (fs : List Stored) (f : Stored) → cleared_after gone named (fs ++ f ∷ []) ≡ cond (last_goes_after gone named (fs ++ f ∷ [])) (cleared_after gone named fs) (cleared_after gone named fs ++ f ∷ [])
+pub cleared-last : (named : Stored → Bool) (gone : Bool) (fs : List Stored) (f : Stored) → frames_left gone named (fs ++ f ∷ []) ≡ cond (is_last_removed_after gone named (fs ++ f ∷ [])) (frames_left gone named fs) (frames_left gone named fs ++ f ∷ [])
 cleared-last named gone [] f = refl
 cleared-last named gone (g ∷ fs) f = append-step named g fs f (goes named gone g) (cleared-last named (goes named gone g) fs f)
 
 -- ---- the last serial tells whether the last frame goes
 
-tells : (named : Stored → Bool) (fs : List Stored) (b : Bool) → last_goes_after false named fs ≡ b → IsAscending fs → (last_serial None (cleared_after false named fs) ≡ last_serial None fs → b ≡ false) × (last_serial None (cleared_after false named fs) ≢ last_serial None fs → b ≡ true)
+tells : (named : Stored → Bool) (fs : List Stored) (b : Bool) → is_last_removed_after false named fs ≡ b → IsAscending fs → (last_serial None (frames_left false named fs) ≡ last_serial None fs → b ≡ false) × (last_serial None (frames_left false named fs) ≢ last_serial None fs → b ≡ true)
 tells named fs true e up = ((λ same. absurd (under_differs _ _ (last_lesser named false None None fs up tt e (λ h. absurd cc)) same)), (λ other. refl))
 tells named fs false e up = ((λ same. refl), (λ other. absurd (other (last_stays named false None None fs e (λ h. refl)))))
 
-pub same_serial : (named : Stored → Bool) (fs : List Stored) → IsAscending fs → last_serial None (cleared_after false named fs) ≡ last_serial None fs → last_goes_after false named fs ≡ false
-same_serial named fs up h = (tells named fs (last_goes_after false named fs) refl up).0 h
+pub same_serial : (named : Stored → Bool) (fs : List Stored) → IsAscending fs → last_serial None (frames_left false named fs) ≡ last_serial None fs → is_last_removed_after false named fs ≡ false
+same_serial named fs up h = (tells named fs (is_last_removed_after false named fs) refl up).0 h
 
-pub other_serial : (named : Stored → Bool) (fs : List Stored) → IsAscending fs → last_serial None (cleared_after false named fs) ≢ last_serial None fs → last_goes_after false named fs ≡ true
-other_serial named fs up h = (tells named fs (last_goes_after false named fs) refl up).1 h
+pub other_serial : (named : Stored → Bool) (fs : List Stored) → IsAscending fs → last_serial None (frames_left false named fs) ≢ last_serial None fs → is_last_removed_after false named fs ≡ true
+other_serial named fs up h = (tells named fs (is_last_removed_after false named fs) refl up).1 h
 
 -- ---- as the code compares serials
 

@@ -3,17 +3,16 @@ use Rattle.std.proofs.Common.{◌≡◌, ◌⊎◌, ℕ, ◌+◌, ◌*◌, ◌<�
 use Rattle.std.specs.List.{AllByRecursion}
 use Rattle.std.proofs.lemmas.List.Sums.{sum_by_push}
 use Rattle.track_store.specs.declared.store.Stored.{Stored}
-use Rattle.track_store.specs.Frames.{IsAscending, used_of}
+use Rattle.track_store.specs.Frames.{IsAscending, bytes_of}
 use Rattle.track_store.specs.Sound.{HasPredecessor}
 use Rattle.track_store.proofs.Clearing.{each-push, ascending_push}
-use Rattle.range_removal.specs.Numbered.{IsNumbered}
 
 -- n frames of four bytes with the serials from 0 on
 pub record IsFixture (n : ℕ) (fs : List Stored) : Type 0 where
   pub ascending : IsAscending fs
   pub below : AllByRecursion (λ f. f.serial < n) fs
   pub follows : (n ≡ 0) ⊎ HasPredecessor n fs
-  pub used : used_of fs ≤ 4 * n
+  pub used : bytes_of fs ≤ 4 * n
 
 pub fixture_none : IsFixture 0 []
 fixture_none = record { ascending = tt; below = tt; follows = inl refl; used = omega arith }
@@ -38,10 +37,3 @@ fixture_push n fs x h e four =
       follows = inr (predecessor_push (n + 1) fs x (omega arith));
       used = omega arith;
     }
-
-small_serials : (n : ℕ) (fs : List Stored) → n ≤ 100 → AllByRecursion (λ f. f.serial < n) fs → AllByRecursion (λ f. f.serial < 2 ^ 62) fs
-small_serials n [] le h = h
-small_serials n (f ∷ fs) le h = (let low = h.0 in omega arith, small_serials n fs le h.1)
-
-pub fixture_numbered : (n : ℕ) (fs : List Stored) → n ≤ 100 → IsFixture n fs → IsNumbered fs
-fixture_numbered n fs le h = record { ascending = h.ascending; below = small_serials n fs le h.below }

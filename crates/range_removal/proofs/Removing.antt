@@ -7,30 +7,19 @@ use Rattle.std.proofs.lemmas.List.Sums.{sum_by-cons}
 use Rattle.mse_base.specs.declared.ticks.Moment.{Moment}
 use Rattle.track_store.specs.declared.store.Stored.{Stored}
 use Rattle.track_store.specs.declared.tracks.Marks.{Marks}
-use Rattle.track_store.specs.Frames.{IsAscending, cleared, cleared_after, is_before, is_within, used_of}
-use Rattle.track_store.specs.Kept.{bytes_in, AreKept, EndBy}
+use Rattle.mse_base.specs.Moments.{is_before}
+use Rattle.track_store.specs.Frames.{IsAscending, frames_without, frames_left, is_within, bytes_of}
+use Rattle.track_store.specs.Kept.{bytes_in, AreKept, AreEndedBy, AreStillSound}
 use Rattle.track_store.specs.Sound.{Sound, IsNext, AreTogether, last_serial}
-use Rattle.track_store.specs.State.{TrackState, unset}
+use Rattle.track_store.specs.State.{TrackState, unset_marks}
 use Rattle.track_store.proofs.Clearing.{goes, each-cleared, ascending-cleared, used-cleared, cleared-same}
 use Rattle.track_store.proofs.Soundness.{chained-cleared}
-use Rattle.range_removal.specs.Removal.{is_between, last_goes, remove_end, without, removed_from_track, removed_frames}
-use Rattle.range_removal.specs.Numbered.{IsNumbered, AreNumbered}
+use Rattle.track_store.proofs.StillSound.{still_map}
+use Rattle.track_store.specs.Frames.{is_between}
+use Rattle.range_removal.specs.Removal.{is_last_removed, remove_end, track_without, track_after_removal, tracks_after_removal}
 use Rattle.range_removal.proofs.Ends.{last_stays, same_serial, other_serial}
 
 -- ---- which frames are named
-
-and_true : (a b c : Bool) → c ≡ true → (a && b && c) ≡ (a && b)
-and_true true true c e = e
-and_true true false c e = refl
-and_true false b c e = refl
-
-each_between : (start : ℤ) (to : Moment) (fs : List Stored) → AllByRecursion (λ f. f.serial < 2 ^ 62) fs → AllByRecursion (λ f. is_within start to (2 ^ 64 - 1) f ≡ is_between start to f) fs
-each_between start to [] h = h
-each_between start to (f ∷ fs) h = (let low = h.0 in let under : nat_lt f.serial (2 ^ 64 - 1) ≡ true = grind (arith, nat_tests) in and_true (int_le start f.frame.pts) (is_before f.frame.pts to) _ under, each_between start to fs h.1)
-
--- no frame has a serial that is not below the greatest number
-pub cleared-between : (start : ℤ) (to : Moment) (fs : List Stored) → AllByRecursion (λ f. f.serial < 2 ^ 62) fs → cleared (is_within start to (2 ^ 64 - 1)) fs ≡ cleared (is_between start to) fs
-cleared-between start to fs h = cleared-same false _ _ fs (each_between start to fs h)
 
 or_left : (a b : Bool) → (a || b) ≡ false → a ≡ false
 or_left true b h = h
@@ -41,25 +30,25 @@ unnamed-step named f gone xs ys true e p q = p
 unnamed-step named f gone xs ys false e p q = (or_left (named f) (gone && not f.frame.sync) e, q)
 
 -- no frame that stays is named
-pub unnamed-cleared : (named : Stored → Bool) (gone : Bool) (fs : List Stored) → AllByRecursion (λ f. named f ≡ false) (cleared_after gone named fs)
+pub unnamed-cleared : (named : Stored → Bool) (gone : Bool) (fs : List Stored) → AllByRecursion (λ f. named f ≡ false) (frames_left gone named fs)
 unnamed-cleared named gone [] = tt
 unnamed-cleared named gone (f ∷ fs) = unnamed-step named f gone _ _ (goes named gone f) refl (unnamed-cleared named true fs) (unnamed-cleared named false fs)
 
 -- ---- one track
 
-together_of : (b : Bool) (m : Marks) → AreTogether m.last_decode m.last_duration m.highest_end m.group_first m.need_sync → AreTogether (cond b (unset m) m).last_decode (cond b (unset m) m).last_duration (cond b (unset m) m).highest_end (cond b (unset m) m).group_first (cond b (unset m) m).need_sync
+together_of : (b : Bool) (m : Marks) → AreTogether m.last_decode m.last_duration m.highest_end m.group_first m.need_sync → AreTogether (cond b (unset_marks m) m).last_decode (cond b (unset_marks m) m).last_duration (cond b (unset_marks m) m).highest_end (cond b (unset_marks m) m).group_first (cond b (unset_marks m) m).need_sync
 together_of true m h = refl
 together_of false m h = h
 
-received_of : (P : ℕ → Type 0) (b : Bool) (m : Marks) → P m.received → P (cond b (unset m) m).received
+received_of : (P : ℕ → Type 0) (b : Bool) (m : Marks) → P m.received → P (cond b (unset_marks m) m).received
 received_of P true m h = h
 received_of P false m h = h
 
-first_of : (P : ℕ → ℕ → Type 0) (b : Bool) (m : Marks) → IfSome m.group_first (λ n. P n m.received) → IfSome (cond b (unset m) m).group_first (λ n. P n (cond b (unset m) m).received)
+first_of : (P : ℕ → ℕ → Type 0) (b : Bool) (m : Marks) → IfSome m.group_first (λ n. P n m.received) → IfSome (cond b (unset_marks m) m).group_first (λ n. P n (cond b (unset_marks m) m).received)
 first_of P true m h = tt
 first_of P false m h = h
 
-follows_of : (named : Stored → Bool) (fs : List Stored) (b : Bool) (m : Marks) → last_goes named fs ≡ b → (m.need_sync ≡ false → IsNext (last_serial None fs) m.received) → (cond b (unset m) m).need_sync ≡ false → IsNext (last_serial None (cleared named fs)) (cond b (unset m) m).received
+follows_of : (named : Stored → Bool) (fs : List Stored) (b : Bool) (m : Marks) → is_last_removed named fs ≡ b → (m.need_sync ≡ false → IsNext (last_serial None fs) m.received) → (cond b (unset_marks m) m).need_sync ≡ false → IsNext (last_serial None (frames_without named fs)) (cond b (unset_marks m) m).received
 follows_of named fs true m e h none = absurd cc
 follows_of named fs false m e h none = subst (λ o. IsNext o m.received) (sym (last_stays named false None None fs e (λ _. refl))) (h none)
 
@@ -67,26 +56,23 @@ if_some : (o : Option ℕ) (P Q : ℕ → Type 0) → ((n : ℕ) → P n → Q n
 if_some None P Q f h = h
 if_some (Some n) P Q f h = f n h
 
-pub sound_without : (named : Stored → Bool) (t : TrackState) → Sound t → Sound (without named t)
+pub sound_without : (named : Stored → Bool) (t : TrackState) → Sound t → Sound (track_without named t)
 sound_without named t h =
-    let b = last_goes named t.frames in
+    let b = is_last_removed named t.frames in
     let m = t.marks in
     let fs = t.frames in
     record {
       count = received_of (λ n. n ≤ 2 ^ 62) b m h.count;
       chained = chained-cleared named false None None fs (λ _. refl) h.chained;
       ascending = ascending-cleared false named fs h.ascending;
-      below = received_of (λ n. AllByRecursion (λ f. f.serial < n) (cleared named fs)) b m (each-cleared (λ f. f.serial < m.received) false named fs h.below);
-      forward = each-cleared _ false named fs h.forward;
+      below = received_of (λ n. AllByRecursion (λ f. f.serial < n) (frames_without named fs)) b m (each-cleared (λ f. f.serial < m.received) false named fs h.below);
+      not_negative = each-cleared _ false named fs h.not_negative;
       timed = each-cleared _ false named fs h.timed;
-      follows = follows_of named fs b m refl h.follows;
+      last_held = follows_of named fs b m refl h.last_held;
       together = together_of b m h.together;
       group_below = first_of (λ n k. n < k) b m h.group_below;
-      group_sync = first_of (λ n k. AllByRecursion (λ f. f.serial ≡ n → f.frame.sync ≡ true) (cleared named fs)) b m (if_some m.group_first (λ n. AllByRecursion (λ f. f.serial ≡ n → f.frame.sync ≡ true) fs) _ (λ n k. each-cleared (λ f. f.serial ≡ n → f.frame.sync ≡ true) false named fs k) h.group_sync);
+      group_sync = first_of (λ n k. AllByRecursion (λ f. f.serial ≡ n → f.frame.sync ≡ true) (frames_without named fs)) b m (if_some m.group_first (λ n. AllByRecursion (λ f. f.serial ≡ n → f.frame.sync ≡ true) fs) _ (λ n k. each-cleared (λ f. f.serial ≡ n → f.frame.sync ≡ true) false named fs k) h.group_sync);
     }
-
-pub numbered-cleared : (named : Stored → Bool) (fs : List Stored) → IsNumbered fs → IsNumbered (cleared named fs)
-numbered-cleared named fs h = record { ascending = ascending-cleared false named fs h.ascending; below = each-cleared (λ f. f.serial < 2 ^ 62) false named fs h.below }
 
 -- ---- all tracks
 
@@ -94,45 +80,37 @@ pub each-map : {X : Type 0} (P Q : X → Type 0) (f : X → X) (xs : List X) →
 each-map P Q f [] h all = all
 each-map P Q f (x ∷ xs) h all = (h x all.0, each-map P Q f xs h all.1)
 
-pub numbered_removed : (start : ℤ) (end duration : Moment) (ts : List TrackState) → AreNumbered ts → AreNumbered (removed_frames start end duration ts)
-numbered_removed start end duration ts h = each-map (λ t. IsNumbered t.frames) (λ t. IsNumbered t.frames) (removed_from_track start end duration) ts (λ t n. numbered-cleared (is_between start (remove_end end duration t.frames)) t.frames n) h
-
-pub bytes_removed : (start : ℤ) (end duration : Moment) (ts : List TrackState) → bytes_in (removed_frames start end duration ts) ≤ bytes_in ts
+pub bytes_removed : (start : ℤ) (end duration : Moment) (ts : List TrackState) → bytes_in (tracks_after_removal start end duration ts) ≤ bytes_in ts
 bytes_removed start end duration [] = omega arith
 bytes_removed start end duration (t ∷ ts) =
     let own = used-cleared false (is_between start (remove_end end duration t.frames)) t.frames in
     let rest = bytes_removed start end duration ts in
-    let before = sum_by-cons (λ (u : TrackState). used_of u.frames) t ts in
-    let after = sum_by-cons (λ (u : TrackState). used_of u.frames) (removed_from_track start end duration t) (removed_frames start end duration ts) in
+    let before = sum_by-cons (λ (u : TrackState). bytes_of u.frames) t ts in
+    let after = sum_by-cons (λ (u : TrackState). bytes_of u.frames) (track_after_removal start end duration t) (tracks_after_removal start end duration ts) in
     omega arith
 
-pub kept_removed : (start : ℤ) (end duration : Moment) (ts : List TrackState) → AreKept ts → AreKept (removed_frames start end duration ts)
+pub kept_removed : (start : ℤ) (end duration : Moment) (ts : List TrackState) → AreKept ts → AreKept (tracks_after_removal start end duration ts)
 kept_removed start end duration ts h = record {
-  sound = each-map Sound Sound (removed_from_track start end duration) ts (λ t s. sound_without (is_between start (remove_end end duration t.frames)) t s) h.sound;
+  sound = each-map Sound Sound (track_after_removal start end duration) ts (λ t s. sound_without (is_between start (remove_end end duration t.frames)) t s) h.sound;
   small = let less = bytes_removed start end duration ts in let most = h.small in omega arith;
 }
 
-pub ends_removed : (start : ℤ) (end duration : Moment) (limit : ℤ) (ts : List TrackState) → EndBy limit ts → EndBy limit (removed_frames start end duration ts)
+pub ends_removed : (start : ℤ) (end duration : Moment) (limit : ℤ) (ts : List TrackState) → AreEndedBy limit ts → AreEndedBy limit (tracks_after_removal start end duration ts)
 ends_removed start end duration limit ts h =
-    each-map (λ t. AllByRecursion (λ f. (f.frame.pts +ℤ f.frame.dur) ≤ℤ limit) t.frames) (λ t. AllByRecursion (λ f. (f.frame.pts +ℤ f.frame.dur) ≤ℤ limit) t.frames) (removed_from_track start end duration) ts
+    each-map (λ t. AllByRecursion (λ f. (f.frame.pts +ℤ f.frame.dur) ≤ℤ limit) t.frames) (λ t. AllByRecursion (λ f. (f.frame.pts +ℤ f.frame.dur) ≤ℤ limit) t.frames) (track_after_removal start end duration) ts
     (λ t e. each-cleared (λ f. (f.frame.pts +ℤ f.frame.dur) ≤ℤ limit) false (is_between start (remove_end end duration t.frames)) t.frames e) h
 
-below_of : (received : ℕ) (fs : List Stored) → received ≤ 2 ^ 62 → AllByRecursion (λ f. f.serial < received) fs → AllByRecursion (λ f. f.serial < 2 ^ 62) fs
-below_of received [] most h = h
-below_of received (f ∷ fs) most h = (let low = h.0 in omega arith, below_of received fs most h.1)
-
-pub numbered_of : (ts : List TrackState) → AllByRecursion Sound ts → AreNumbered ts
-numbered_of [] h = h
-numbered_of (t ∷ ts) h = (record { ascending = h.0.ascending; below = below_of t.marks.received t.frames h.0.count h.0.below }, numbered_of ts h.1)
+pub still_removed : (start : ℤ) (end duration : Moment) (ts : List TrackState) → AreStillSound ts (tracks_after_removal start end duration ts)
+still_removed start end duration ts = still_map (track_after_removal start end duration) ts (λ t. sound_without (is_between start (remove_end end duration t.frames)) t)
 
 -- ---- the track after the code has compared the last serials
 
-pub without_same : (named : Stored → Bool) (t : TrackState) (fs : List Stored) → IsAscending t.frames → fs ≡ cleared named t.frames → last_serial None fs ≡ last_serial None t.frames → record t { frames = fs } ≡ without named t
+pub without_same : (named : Stored → Bool) (t : TrackState) (fs : List Stored) → IsAscending t.frames → fs ≡ frames_without named t.frames → last_serial None fs ≡ last_serial None t.frames → record t { frames = fs } ≡ track_without named t
 without_same named t fs up left same =
     let stays = same_serial named t.frames up (ap (last_serial None) (sym left) ∙ same) in
-    ap (λ gs. record t { frames = gs }) left ∙ ap (λ b. record t { frames = cleared named t.frames; marks = cond b (unset t.marks) t.marks }) (sym stays)
+    ap (λ gs. record t { frames = gs }) left ∙ ap (λ b. record t { frames = frames_without named t.frames; marks = cond b (unset_marks t.marks) t.marks }) (sym stays)
 
-pub without_other : (named : Stored → Bool) (t : TrackState) (fs : List Stored) (m : Marks) → IsAscending t.frames → fs ≡ cleared named t.frames → m ≡ unset t.marks → last_serial None fs ≢ last_serial None t.frames → record t { frames = fs; marks = m } ≡ without named t
+pub without_other : (named : Stored → Bool) (t : TrackState) (fs : List Stored) (m : Marks) → IsAscending t.frames → fs ≡ frames_without named t.frames → m ≡ unset_marks t.marks → last_serial None fs ≢ last_serial None t.frames → record t { frames = fs; marks = m } ≡ track_without named t
 without_other named t fs m up left marks other =
     let goes_too = other_serial named t.frames up (λ same. other (ap (last_serial None) left ∙ same)) in
-    ap (λ gs. record t { frames = gs; marks = m }) left ∙ ap (λ k. record t { frames = cleared named t.frames; marks = k }) marks ∙ ap (λ b. record t { frames = cleared named t.frames; marks = cond b (unset t.marks) t.marks }) (sym goes_too)
+    ap (λ gs. record t { frames = gs; marks = m }) left ∙ ap (λ k. record t { frames = frames_without named t.frames; marks = k }) marks ∙ ap (λ b. record t { frames = frames_without named t.frames; marks = cond b (unset_marks t.marks) t.marks }) (sym goes_too)

@@ -1,2 +1,2 @@
 pub mod Removal
-pub mod Numbered
+pub mod Rooms

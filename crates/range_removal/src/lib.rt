@@ -2,8 +2,8 @@
 //! from the track buffers of a source buffer, with their decoding dependencies.
 //!
 //! It stands on `mse_base` and `track_store`. Its main contract is that of [`remove_frames`]: the
-//! tracks become `removed_frames` of `specs/Removal.antt`, the standard's steps as one function on
-//! lists of frames, and a track buffer that was `Sound` stays so.
+//! tracks become `tracks_after_removal` of `specs/Removal.antt`, the standard's steps as one
+//! function on lists of frames, and a track buffer that was `Sound` stays so.
 //!
 //! Where the frame that a track stored last is removed, directly or as a decoding dependency, its
 //! marks are unset and it needs a random access point. Other tracks keep their marks. The standard

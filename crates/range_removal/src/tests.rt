@@ -3,8 +3,6 @@
 
 ghost use Rattle.std.specs.Prelude.{◌≡◌, ◌≤◌, ◌+ℤ◌, pos, ◌≤ℤ◌, true, length, IfOk, IfSome};
 ghost use Rattle.mse_base.specs.Time.{IsTick};
-ghost use Rattle.track_store.specs.State.{states_of};
-ghost use Rattle.range_removal.specs.Numbered.{AreNumbered, IsNumbered};
 
 use crate::remove_frames;
 use mse_base::{Bytes, CodedFrame, Kind, Moment, Ticks, convert};
@@ -21,7 +19,7 @@ fn time(ms: u16) -> Result<Ticks, Fail> {
 }
 
 fn duration_from(pts: Ticks, dur: Ticks) -> Option<Ticks>
-    ensures forward { IfSome result (λ d. pos 0 ≤ℤ d) }
+    ensures dur_not_negative { IfSome result (λ d. pos 0 ≤ℤ d) }
     ensures in_range { IfSome result (λ d. IsTick (pts +ℤ d)) }
 {
     let end = pts.checked_add(dur)?;
@@ -32,7 +30,7 @@ fn duration_from(pts: Ticks, dur: Ticks) -> Option<Ticks>
 fn frame_of(alloc: Global, serial: u64, ms: u16, sync: bool) -> Result<Stored, Fail>
     ensures serial { IfOk result (λ f. f.serial ≡ serial) }
     ensures sync { IfOk result (λ f. f.frame.sync ≡ sync) }
-    ensures forward { IfOk result (λ f. pos 0 ≤ℤ f.frame.dur) }
+    ensures dur_not_negative { IfOk result (λ f. pos 0 ≤ℤ f.frame.dur) }
     ensures in_range { IfOk result (λ f. IsTick (f.frame.pts +ℤ f.frame.dur)) }
     ensures small { IfOk result (λ f. length f.frame.payload ≡ 4) }
 {
@@ -55,7 +53,6 @@ fn frame_of(alloc: Global, serial: u64, ms: u16, sync: bool) -> Result<Stored, F
 /// The frames in order of appending; the first is a random access point.
 fn store_of<S: FrameStore>(alloc: Global, samples: &[Sample]) -> Result<S, Fail>
     requires { length samples.now ≤ 100 }
-    ensures { IfOk result (λ s. IsNumbered (S.frames s)) }
 {
     let mut store = S::new(alloc, Ticks::zero());
     store.reserve(samples.len())?;
@@ -83,9 +80,7 @@ fn add_track<S: FrameStore>(
     alloc: Global,
     samples: &[Sample],
 ) -> Result<(), Fail>
-    requires numbered { AreNumbered (states_of S.frames tracks.old.items) }
-    requires few { length samples.now ≤ 100 }
-    ensures { AreNumbered (states_of S.frames tracks.new.items) }
+    requires { length samples.now ≤ 100 }
 {
     let store = store_of(alloc, samples)?;
     tracks.reserve(1)?;
@@ -113,7 +108,7 @@ fn assert_left<S: FrameStore>(
         let stored = track.store.get(i).ok_or("no frame")?;
         assert_eq!(rt; stored.frame.pts, time(*ms)?);
     }
-    let unset = track.marks.unset();
+    let unset = track.marks.unset_marks();
     assert_eq!(rt; track.marks == unset, !kept);
     assert_eq!(rt; track.marks.need_sync, !kept);
     Ok(())
@@ -181,4 +176,25 @@ fn removes_from_two_tracks(rt: HostRuntime) -> Result<(), Fail> {
     remove_frames(&mut tracks, time(100)?, end, Moment::Infinite);
     assert_left(&rt, &tracks, 0, &[0], false)?;
     assert_left(&rt, &tracks, 1, &[0, 200], true)
+}
+
+/// A frame of the greatest serial that there is goes like any other.
+#[test]
+fn removes_the_greatest_serial(rt: HostRuntime) -> Result<(), Fail> {
+    let mut store = ListStore::new(rt.alloc(), Ticks::zero());
+    store.reserve(1)?;
+    store.add(frame_of(rt.alloc(), u64::MAX, 100, true)?);
+    let mut tracks = Tracks::<ListStore>::new(rt.alloc());
+    tracks.reserve(1)?;
+    tracks.add(Track {
+        id: 1,
+        kind: Kind::Video,
+        codec: *b"avc1",
+        store,
+        marks: marked(1),
+    });
+    remove_frames(&mut tracks, time(50)?, Moment::At(time(60)?), Moment::Nan);
+    assert_left(&rt, &tracks, 0, &[100], true)?;
+    remove_frames(&mut tracks, time(50)?, Moment::Infinite, Moment::Infinite);
+    assert_left(&rt, &tracks, 0, &[], false)
 }

@@ -1,284 +1,299 @@
--- Running ends.
-use Rattle.std.proofs.Common.{◌≡◌, ◌∙◌, ℕ, zero, suc, ℤ, pos, ◌+◌, ◌-◌, ◌<◌, ◌≤◌, ◌+ℤ◌, ◌≤ℤ◌, ◌<ℤ◌, Bool, true, false, cond, ◌&&◌, List, [], ◌∷◌, ◌++◌, length, get_or, set, take, drop, insert, Option, Some, None, refl, sym, ap, subst, inl, inr, ◌⊎◌, arith, add-one, fold, map, int_le, int_lt}
-use Rattle.std.specs.Option.{IfSome}
+-- The greatest ends of blocks, and their running ends.
+use Rattle.std.proofs.Common.{◌≡◌, ◌∙◌, ℕ, zero, suc, ℤ, ◌+◌, ◌-◌, ◌<◌, ◌≤◌, ◌≤ℤ◌, cond, Bool, true, false, ◌||◌, List, [], ◌∷◌, ◌++◌, length, get_or, set, take, drop, insert, remove, Option, Some, None, refl, sym, ap, subst, inl, inr, ◌⊎◌, arith, fold, map, int_le}
 use Rattle.std.specs.Int.{int_max}
-use Rattle.std.specs.List.{AllByRecursion}
+use Rattle.std.specs.List.{AllByRecursion, list_any}
 use Rattle.std.proofs.lemmas.Int.{ints}
-use Rattle.std.proofs.lemmas.List.{drop_more, drop_all, take_more, take-append-drop, take_more_set, drop-set-lt, append_assoc, append-nil}
-use Rattle.track_store.specs.declared.store.Stored.{Stored}
-use Rattle.track_store.specs.Frames.{greater_of, greatest, ends}
-use Rattle.track_index.specs.declared.order.Entry.{Entry}
-use Rattle.track_index.specs.Order.{put, put_all, entry_of, end_of, entry_covers, ordered}
-use Rattle.track_index.specs.Ends.{raised, running, ends_of, last_or, RunsFrom}
-use Rattle.track_index.proofs.Ordering.{each_weaker, each_both}
+use Rattle.std.proofs.lemmas.List.{drop_more, drop_all, take_more, take-append-drop, take_more_set, drop-set-lt, append_assoc, append-nil, map-append}
+use Rattle.std.proofs.lemmas.List.Sums.{fold-append}
+use Rattle.mse_base.specs.Moments.{greater_of, greatest}
+use Rattle.block_list.specs.Rows.{joined, row}
+use Rattle.track_index.specs.declared.entry.Entry.{Entry}
+use Rattle.track_index.specs.declared.known.Known.{Known}
+use Rattle.track_index.specs.Order.{end_of, entry_covers, is_ended, last_that, or_else}
+use Rattle.track_index.specs.Known.{is_sync, greatest_end, later_end, known_of}
+use Rattle.track_index.specs.Tops.{running, tops_of, RunsFrom}
 
--- one more entry
-pub running_push : (best : Option ℤ) (os : List Entry) (x : Entry) → running best (os ++ x ∷ []) ≡ running best os ++ raised (last_or best (running best os)) (end_of x) ∷ []
-running_push best [] x = refl
-running_push best (o ∷ os) x = ap (λ ts. raised best (end_of o) ∷ ts) (running_push (Some (raised best (end_of o))) os x)
+-- ---- the later of two ends
 
-pub length_running : (best : Option ℤ) (os : List Entry) → length (running best os) ≡ length os
+max_assoc : (a b c : ℤ) → int_max (int_max a b) c ≡ int_max a (int_max b c)
+max_assoc a b c = grind (arith, ints)
+
+max_comm : (a b : ℤ) → int_max a b ≡ int_max b a
+max_comm a b = grind (arith, ints)
+
+pub later_assoc : (a b c : Option ℤ) → later_end (later_end a b) c ≡ later_end a (later_end b c)
+later_assoc None b c = refl
+later_assoc (Some a) None c = refl
+later_assoc (Some a) (Some b) None = refl
+later_assoc (Some a) (Some b) (Some c) = ap (λ z. Some z) (max_assoc a b c)
+
+pub later_comm : (a b : Option ℤ) → later_end a b ≡ later_end b a
+later_comm None None = refl
+later_comm None (Some b) = refl
+later_comm (Some a) None = refl
+later_comm (Some a) (Some b) = ap (λ z. Some z) (max_comm a b)
+
+later_none : (a : Option ℤ) → later_end a None ≡ a
+later_none None = refl
+later_none (Some a) = refl
+
+pub greater_is : (a : Option ℤ) (t : ℤ) → greater_of a t ≡ later_end a (Some t)
+greater_is None t = refl
+greater_is (Some s) t = refl
+
+fold_later : (a : Option ℤ) (ts : List ℤ) → fold greater_of a ts ≡ later_end a (greatest ts)
+fold_later a [] = sym (later_none a)
+fold_later a (t ∷ ts) =
+    fold_later (greater_of a t) ts ∙ ap (λ z. later_end z (greatest ts)) (greater_is a t) ∙ later_assoc a (Some t) (greatest ts) ∙ ap (later_end a) (sym (fold_later (Some t) ts))
+
+pub greatest-append : (xs ys : List Entry) → greatest_end (xs ++ ys) ≡ later_end (greatest_end xs) (greatest_end ys)
+greatest-append xs ys =
+    ap greatest (map-append end_of xs ys) ∙ fold-append greater_of None (map end_of xs) (map end_of ys) ∙ fold_later (greatest_end xs) (map end_of ys)
+
+pub greatest_more : (os : List Entry) (i : ℕ) (x : Entry) → i < length os → x ≡ get_or os i x → later_end (greatest_end (take i os)) (Some (end_of x)) ≡ greatest_end (take (i + 1) os)
+greatest_more os i x l at =
+    sym (greatest-append (take i os) (x ∷ [])) ∙ ap greatest_end (ap (λ z. take i os ++ z ∷ []) at ∙ sym (take_more os i x l))
+
+-- one item more among some
+greatest_with : (xs ys : List Entry) (x : Entry) → later_end (greatest_end (xs ++ ys)) (Some (end_of x)) ≡ greatest_end (xs ++ x ∷ ys)
+greatest_with xs ys x =
+    let a = greatest_end xs in let b = greatest_end ys in let c = Some (end_of x) in
+    let here : greatest_end (x ∷ ys) ≡ later_end (Some (end_of x)) (greatest_end ys) = greatest-append (x ∷ []) ys in
+    ap (λ z. later_end z (Some (end_of x))) (greatest-append xs ys) ∙ later_assoc (greatest_end xs) (greatest_end ys) (Some (end_of x)) ∙ ap (later_end (greatest_end xs)) (later_comm (greatest_end ys) (Some (end_of x)) ∙ sym here) ∙ sym (greatest-append xs (x ∷ ys))
+
+or_turn : (a b c : Bool) → ((a || b) || c) ≡ (a || (c || b))
+or_turn true b c = refl
+or_turn false true true = refl
+or_turn false true false = refl
+or_turn false false true = refl
+or_turn false false false = refl
+
+or_assoc : (a b c : Bool) → ((a || b) || c) ≡ (a || (b || c))
+or_assoc true b c = refl
+or_assoc false b c = refl
+
+pub any-append : {X : Type 0} (p : X → Bool) (xs ys : List X) → list_any p (xs ++ ys) ≡ (list_any p xs || list_any p ys)
+any-append p [] ys = refl
+any-append p (x ∷ xs) ys = ap (λ b. p x || b) (any-append p xs ys) ∙ sym (or_assoc (p x) (list_any p xs) (list_any p ys))
+
+pub any_with : {X : Type 0} (p : X → Bool) (xs ys : List X) (x : X) → (list_any p (xs ++ ys) || p x) ≡ list_any p (xs ++ x ∷ ys)
+any_with p xs ys x = ap (λ b. b || p x) (any-append p xs ys) ∙ or_turn (list_any p xs) (list_any p ys) (p x) ∙ sym (any-append p xs (x ∷ ys))
+
+pub known_with : (known : Known) (xs ys : List Entry) (x : Entry) (end : Option ℤ) (sync : Bool) → known ≡ known_of (xs ++ ys) → end ≡ later_end known.end (Some (end_of x)) → sync ≡ (known.sync || x.sync) → record { end = end; sync = sync } ≡ known_of (xs ++ x ∷ ys)
+known_with known xs ys x end sync k e s =
+    let a : end ≡ greatest_end (xs ++ x ∷ ys) = e ∙ ap (λ (z : Known). later_end z.end (Some (end_of x))) k ∙ greatest_with xs ys x in
+    let b : sync ≡ list_any is_sync (xs ++ x ∷ ys) = s ∙ ap (λ (z : Known). z.sync || x.sync) k ∙ any_with is_sync xs ys x in
+    ap (λ z. record { end = z; sync = sync }) a ∙ ap (λ z. record { end = greatest_end (xs ++ x ∷ ys); sync = z }) b
+
+-- ---- what the running ends are
+
+pub length_running : (best : Option ℤ) (rows : List (List Entry)) → length (running best rows) ≡ length rows
 length_running best [] = refl
-length_running best (o ∷ os) = ap suc (length_running (Some (raised best (end_of o))) os)
+length_running best (r ∷ rows) = ap suc (length_running (later_end best (greatest_end r)) rows)
 
-pub length_ends : (os : List Entry) → length (ends_of os) ≡ length os
-length_ends os = length_running None os
+top_is : (best : Option ℤ) (rows : List (List Entry)) (i : ℕ) (d : Option ℤ) → i < length rows → get_or (running best rows) i d ≡ later_end best (greatest_end (joined (take (suc i) rows)))
+top_is best [] i d l = absurd (omega arith)
+top_is best (r ∷ rows) zero d l = ap (λ q. later_end best (greatest_end q)) (sym (append-nil r))
+top_is best (r ∷ rows) (suc i) d l =
+    top_is (later_end best (greatest_end r)) rows i d (omega arith) ∙ later_assoc best (greatest_end r) (greatest_end (joined (take (suc i) rows))) ∙ ap (later_end best) (sym (greatest-append r (joined (take (suc i) rows))))
 
-take_running : (best : Option ℤ) (os : List Entry) (n : ℕ) → take n (running best os) ≡ running best (take n os)
-take_running best os zero = refl
-take_running best [] (suc n) = refl
-take_running best (o ∷ os) (suc n) = ap (λ ts. raised best (end_of o) ∷ ts) (take_running (Some (raised best (end_of o))) os n)
+pub top_at : (ts : List (Option ℤ)) (rows : List (List Entry)) (b : ℕ) (d : Option ℤ) → ts ≡ tops_of rows → 0 < b → b ≤ length rows → get_or ts (b - 1) d ≡ greatest_end (joined (take b rows))
+top_at ts rows zero d e p l = absurd (omega arith)
+top_at ts rows (suc b) d e p l = let k : suc b - 1 ≡ b = omega arith in ap (λ n. get_or ts n d) k ∙ ap (λ q. get_or q b d) e ∙ top_is None rows b d (omega arith)
 
--- the running ends in two parts
-running_parts : (best : Option ℤ) (os : List Entry) (n : ℕ) → take n (running best os) ++ running (last_or best (take n (running best os))) (drop n os) ≡ running best os
-running_parts best os zero = refl
-running_parts best [] (suc n) = refl
-running_parts best (o ∷ os) (suc n) = ap (λ ts. raised best (end_of o) ∷ ts) (running_parts (Some (raised best (end_of o))) os n)
+pub top_of : (ts : List (Option ℤ)) (rows : List (List Entry)) (b : ℕ) (r : Option ℤ) → ts ≡ tops_of rows → b ≤ length rows → (b ≡ 0 → r ≡ None) → (0 < b → r ≡ get_or ts (b - 1) r) → r ≡ greatest_end (joined (take b rows))
+top_of ts rows zero r e l z p = z refl
+top_of ts rows (suc b) r e l z p = p (omega arith) ∙ top_at ts rows (suc b) r e (omega arith) l
 
-drop_running : (best : Option ℤ) (os : List Entry) (n : ℕ) → drop n (running best os) ≡ running (last_or best (take n (running best os))) (drop n os)
-drop_running best os zero = refl
-drop_running best [] (suc n) = refl
-drop_running best (o ∷ os) (suc n) = drop_running (Some (raised best (end_of o))) os n
+-- ---- the ends after rows changed
 
--- the last of the ends before a place
-last_suc : (best : Option ℤ) (ts : List ℤ) (i : ℕ) (d : ℤ) → i < length ts → Some (get_or ts i d) ≡ last_or best (take (suc i) ts)
-last_suc best [] i d l = absurd (omega arith)
-last_suc best (t ∷ ts) zero d l = refl
-last_suc best (t ∷ ts) (suc i) d l = last_suc (Some t) ts i d (omega arith)
+row_drop : (rows : List (List Entry)) (i : ℕ) → i < length rows → drop i rows ≡ row rows i ∷ drop (i + 1) rows
+row_drop [] i l = absurd (omega arith)
+row_drop (r ∷ rows) zero l = refl
+row_drop (r ∷ rows) (suc i) l = let z : suc i + 1 ≡ suc (i + 1) = omega arith in row_drop rows i (omega arith) ∙ ap (λ n. row rows i ∷ drop n (r ∷ rows)) (sym z)
 
-pub last_before : (ts : List ℤ) (i : ℕ) (d : ℤ) → 0 < i → i ≤ length ts → Some (get_or ts (i - 1) d) ≡ last_or None (take i ts)
-last_before ts zero d p l = absurd (omega arith)
-last_before ts (suc i) d p l = let k : suc i - 1 ≡ i = omega arith in ap (λ n. Some (get_or ts n d)) k ∙ last_suc None ts i d (omega arith)
+drop_running : (best : Option ℤ) (rows : List (List Entry)) (i : ℕ) (d : Option ℤ) → i < length rows → drop (suc i) (running best rows) ≡ running (get_or (running best rows) i d) (drop (suc i) rows)
+drop_running best [] i d l = absurd (omega arith)
+drop_running best (r ∷ rows) zero d l = refl
+drop_running best (r ∷ rows) (suc i) d l = drop_running (later_end best (greatest_end r)) rows i d (omega arith)
 
-pub last_whole : (ts : List ℤ) (n : ℕ) → n ≡ length ts → last_or None (take n ts) ≡ last_or None ts
-last_whole ts n e = ap (last_or None) (sym (append-nil (take n ts)) ∙ ap (λ zs. take n ts ++ zs) (sym (drop_all n ts (omega arith))) ∙ take-append-drop n ts)
-
-length_taken : (os : List Entry) (n : ℕ) → n ≤ length os → length (take n os) ≡ n
-length_taken os zero l = refl
-length_taken [] (suc n) l = absurd (omega arith)
-length_taken (o ∷ os) (suc n) l = ap suc (length_taken os n (omega arith))
-
-pub length_so_far : (ts : List ℤ) (os : List Entry) (n : ℕ) → ts ≡ ends_of (take n os) → n ≤ length os → length ts ≡ n
-length_so_far ts os n e l = ap length e ∙ length_ends (take n os) ∙ length_taken os n l
-
--- one more end
-pub ends_more : (ts : List ℤ) (os : List Entry) (i : ℕ) (x : Entry) (best : Option ℤ) (top : ℤ) → i < length os → x ≡ get_or os i x → ts ≡ ends_of (take i os) → best ≡ last_or None ts → top ≡ raised best (end_of x) → ts ++ top ∷ [] ≡ ends_of (take (i + 1) os)
-ends_more ts os i x best top l at e b new =
-    let more : take (i + 1) os ≡ take i os ++ x ∷ [] = take_more os i x l ∙ ap (λ z. take i os ++ z ∷ []) (sym at) in
-    ap (λ z. ts ++ z ∷ []) (new ∙ ap (λ z. raised z (end_of x)) b) ∙ ap (λ zs. zs ++ raised (last_or None zs) (end_of x) ∷ []) e ∙ sym (running_push None (take i os) x) ∙ ap ends_of (sym more)
-
--- ---- the ends after entries changed
+same_at : (xs ys : List (Option ℤ)) (n i : ℕ) (d : Option ℤ) → take n xs ≡ take n ys → i < n → i < length xs → i < length ys → get_or xs i d ≡ get_or ys i d
+same_at xs ys zero i d e l p q = absurd (omega arith)
+same_at [] ys (suc n) i d e l p q = absurd (omega arith)
+same_at (x ∷ xs) [] (suc n) i d e l p q = absurd (omega arith)
+same_at (x ∷ xs) (y ∷ ys) (suc n) zero d e l p q = cc
+same_at (x ∷ xs) (y ∷ ys) (suc n) (suc i) d e l p q = let f : take n xs ≡ take n ys = cc in same_at xs ys n i d f (omega arith) (omega arith) (omega arith)
 
 -- the ends up to a place and the running ends from there on
-pub follow_init : (ts : List ℤ) (os : List Entry) (n : ℕ) → take n ts ≡ ends_of (take n os) → take n ts ++ running (last_or None (take n ts)) (drop n os) ≡ ends_of os
-follow_init ts os n h =
-    let e = h ∙ sym (take_running None os n) in
-    subst (λ (zs : List ℤ). zs ++ running (last_or None zs) (drop n os) ≡ ends_of os) (sym e) (running_parts None os n)
+pub follow_init : (ts : List (Option ℤ)) (rows : List (List Entry)) (n : ℕ) (best : Option ℤ) → (n ≡ 0 → best ≡ None) → (0 < n → best ≡ get_or ts (n - 1) best) → n ≤ length rows → length ts ≡ length rows → take n ts ≡ take n (tops_of rows) → take n ts ++ running best (drop n rows) ≡ tops_of rows
+follow_init ts rows zero best z p l m h = ap (λ b. running b rows) (z refl)
+follow_init ts rows (suc n) best z p l m h =
+    let k : suc n - 1 ≡ n = omega arith in
+    let long = length_running None rows in
+    let b : best ≡ get_or (tops_of rows) n best = p (omega arith) ∙ ap (λ i. get_or ts i best) k ∙ same_at ts (tops_of rows) (suc n) n best h (omega arith) (omega arith) (omega arith) in
+    ap (λ c. take (suc n) ts ++ running c (drop (suc n) rows)) b ∙ ap (λ zs. zs ++ running (get_or (tops_of rows) n best) (drop (suc n) rows)) h
+    ∙ ap (λ zs. take (suc n) (tops_of rows) ++ zs) (sym (drop_running None rows n best (omega arith))) ∙ take-append-drop (suc n) (tops_of rows)
 
-at_drop : (os : List Entry) (i : ℕ) (x : Entry) → i < length os → x ≡ get_or os i x → drop i os ≡ x ∷ drop (i + 1) os
-at_drop os i x l at = drop_more os i x l ∙ ap (λ z. z ∷ drop (i + 1) os) (sym at)
-
-head_same : (s t : ℤ) (ss ts : List ℤ) → s ∷ ss ≡ t ∷ ts → s ≡ t
+head_same : (s t : Option ℤ) (ss ts : List (Option ℤ)) → s ∷ ss ≡ t ∷ ts → s ≡ t
 head_same s t ss ts e = cc
 
-tail_same : (s t : ℤ) (ss ts : List ℤ) → s ∷ ss ≡ t ∷ ts → ss ≡ ts
+tail_same : (s t : Option ℤ) (ss ts : List (Option ℤ)) → s ∷ ss ≡ t ∷ ts → ss ≡ ts
 tail_same s t ss ts e = cc
 
+-- from a place on the ends are the running ends of the rows from there on, behind some end
+abbrev Runs : ℕ → List (Option ℤ) → List (List Entry) → Type 0
+Runs i ts rows = RunsFrom i ts i rows
+
 -- an end that stays as it is: all behind it do too
-pub follow_stop : (best : Option ℤ) (ts : List ℤ) (os : List Entry) (i : ℕ) (x : Entry) (top : ℤ) → i < length os → i < length ts → x ≡ get_or os i x → top ≡ raised best (end_of x) → get_or ts i top ≡ top → RunsFrom i ts os → take i ts ++ running best (drop i os) ≡ ends_of os → ts ≡ ends_of os
-follow_stop best ts os i x top l m at new same h inv =
+pub follow_stop : (best : Option ℤ) (ts : List (Option ℤ)) (rows : List (List Entry)) (i : ℕ) (top : Option ℤ) → i < length rows → i < length ts → top ≡ later_end best (greatest_end (row rows i)) → get_or ts i top ≡ top → Runs i ts rows → take i ts ++ running best (drop i rows) ≡ tops_of rows → ts ≡ tops_of rows
+follow_stop best ts rows i top l m new same h inv =
     let b = h.0 in
-    let entries = at_drop os i x l at in
+    let x = row rows i in
+    let entries = row_drop rows i l in
     let there : drop i ts ≡ get_or ts i top ∷ drop (i + 1) ts = drop_more ts i top m in
-    let runs : get_or ts i top ∷ drop (i + 1) ts ≡ raised b (end_of x) ∷ running (Some (raised b (end_of x))) (drop (i + 1) os) = sym there ∙ h.1 ∙ ap (running b) entries in
-    let now : raised b (end_of x) ≡ raised best (end_of x) = sym (head_same _ _ _ _ runs) ∙ same ∙ new in
-    let all : drop i ts ≡ running best (drop i os) = h.1 ∙ ap (running b) entries ∙ ap (λ z. z ∷ running (Some z) (drop (i + 1) os)) now ∙ sym (ap (running best) entries) in
+    let runs : get_or ts i top ∷ drop (i + 1) ts ≡ later_end b (greatest_end x) ∷ running (later_end b (greatest_end x)) (drop (i + 1) rows) = sym there ∙ h.1 ∙ ap (running b) entries in
+    let now : later_end b (greatest_end x) ≡ later_end best (greatest_end x) = sym (head_same _ _ _ _ runs) ∙ same ∙ new in
+    let all : drop i ts ≡ running best (drop i rows) = h.1 ∙ ap (running b) entries ∙ ap (λ z. z ∷ running z (drop (i + 1) rows)) now ∙ sym (ap (running best) entries) in
     sym (take-append-drop i ts) ∙ ap (λ zs. take i ts ++ zs) all ∙ inv
 
 -- an end that is written
-pub follow_front : (best : Option ℤ) (ts : List ℤ) (os : List Entry) (i : ℕ) (x : Entry) (top : ℤ) → i < length os → i < length ts → x ≡ get_or os i x → top ≡ raised best (end_of x) → take i ts ++ running best (drop i os) ≡ ends_of os → take (i + 1) (set ts i top) ++ running (Some top) (drop (i + 1) os) ≡ ends_of os
-follow_front best ts os i x top l m at new inv =
-    let entries = at_drop os i x l at in
-    ap (λ zs. zs ++ running (Some top) (drop (i + 1) os)) (take_more_set ts i top m) ∙ append_assoc (take i ts) (top ∷ []) (running (Some top) (drop (i + 1) os))
-    ∙ ap (λ z. take i ts ++ (z ∷ running (Some z) (drop (i + 1) os))) new ∙ ap (λ zs. take i ts ++ running best zs) (sym entries) ∙ inv
+pub follow_front : (best : Option ℤ) (ts : List (Option ℤ)) (rows : List (List Entry)) (i : ℕ) (top : Option ℤ) → i < length rows → i < length ts → top ≡ later_end best (greatest_end (row rows i)) → take i ts ++ running best (drop i rows) ≡ tops_of rows → take (i + 1) (set ts i top) ++ running top (drop (i + 1) rows) ≡ tops_of rows
+follow_front best ts rows i top l m new inv =
+    let entries = row_drop rows i l in
+    ap (λ zs. zs ++ running top (drop (i + 1) rows)) (take_more_set ts i top m) ∙ append_assoc (take i ts) (top ∷ []) (running top (drop (i + 1) rows))
+    ∙ ap (λ z. take i ts ++ (z ∷ running z (drop (i + 1) rows))) new ∙ ap (λ zs. take i ts ++ running best zs) (sym entries) ∙ inv
 
-runs_set : (ts : List ℤ) (os : List Entry) (i n : ℕ) (top : ℤ) → i < n → RunsFrom n ts os → RunsFrom n (set ts i top) os
-runs_set ts os i n top l h = (h.0, drop-set-lt n ts i top l ∙ h.1)
+runs_set : (ts : List (Option ℤ)) (rows : List (List Entry)) (i n : ℕ) (top : Option ℤ) → i < n → Runs n ts rows → Runs n (set ts i top) rows
+runs_set ts rows i n top l h = (h.0, drop-set-lt n ts i top l ∙ h.1)
 
-runs_next : (ts : List ℤ) (os : List Entry) (i : ℕ) (x : Entry) → i < length os → i < length ts → x ≡ get_or os i x → RunsFrom i ts os → RunsFrom (i + 1) ts os
-runs_next ts os i x l m at h =
+runs_next : (ts : List (Option ℤ)) (rows : List (List Entry)) (i : ℕ) → i < length rows → i < length ts → Runs i ts rows → Runs (i + 1) ts rows
+runs_next ts rows i l m h =
     let b = h.0 in
-    let there : drop i ts ≡ get_or ts i (end_of x) ∷ drop (i + 1) ts = drop_more ts i (end_of x) m in
-    let runs : get_or ts i (end_of x) ∷ drop (i + 1) ts ≡ raised b (end_of x) ∷ running (Some (raised b (end_of x))) (drop (i + 1) os) = sym there ∙ h.1 ∙ ap (running b) (at_drop os i x l at) in
-    (Some (raised b (end_of x)), tail_same _ _ _ _ runs)
+    let x = row rows i in
+    let there : drop i ts ≡ get_or ts i None ∷ drop (i + 1) ts = drop_more ts i None m in
+    let runs : get_or ts i None ∷ drop (i + 1) ts ≡ later_end b (greatest_end x) ∷ running (later_end b (greatest_end x)) (drop (i + 1) rows) = sym there ∙ h.1 ∙ ap (running b) (row_drop rows i l) in
+    (later_end b (greatest_end x), tail_same _ _ _ _ runs)
 
--- the ends that were not looked at yet, from a place on or from where the entries stayed
-abbrev pub Unseen : ℕ → ℕ → List ℤ → List Entry → Type 0
-Unseen to i ts os = (i ≤ to → RunsFrom to ts os) × (to ≤ i → RunsFrom i ts os)
+-- the ends that were not looked at yet, from a place on or from where the rows stayed
+abbrev pub Unseen : ℕ → ℕ → List (Option ℤ) → List (List Entry) → Type 0
+Unseen to i ts rows = (i ≤ to → Runs to ts rows) × (to ≤ i → Runs i ts rows)
 
-same_place : (ts : List ℤ) (os : List Entry) (m n : ℕ) → m ≡ n → RunsFrom m ts os → RunsFrom n ts os
-same_place ts os m n e h = subst (λ (k : ℕ). RunsFrom k ts os) e h
+same_place : (ts : List (Option ℤ)) (rows : List (List Entry)) (m n : ℕ) → m ≡ n → Runs m ts rows → Runs n ts rows
+same_place ts rows m n e h = subst (λ (k : ℕ). Runs k ts rows) e h
 
-pub unseen_init : (ts : List ℤ) (os : List Entry) (from to : ℕ) → from ≤ to → RunsFrom to ts os → Unseen to from ts os
-unseen_init ts os from to l h = (λ _. h, λ k. same_place ts os to from (omega arith) h)
+pub unseen_init : (ts : List (Option ℤ)) (rows : List (List Entry)) (from to : ℕ) → from ≤ to → RunsFrom to ts to rows → Unseen to from ts rows
+unseen_init ts rows from to l h = (λ _. h, λ k. same_place ts rows to from (omega arith) h)
 
 next_cases : (to i : ℕ) → (to ≤ i) ⊎ (i + 1 ≤ to)
 next_cases to i = grind arith
 
-pub unseen_next : (ts : List ℤ) (os : List Entry) (to i : ℕ) (x : Entry) (top : ℤ) → i < length os → i < length ts → x ≡ get_or os i x → Unseen to i ts os → Unseen to (i + 1) (set ts i top) os
-unseen_next ts os to i x top l m at h = (
-  λ k. runs_set ts os i to top (omega arith) (h.0 (omega arith)),
-  λ k. elim (next_cases to i) as (λ _. RunsFrom (i + 1) (set ts i top) os) [
-    | inl low ↦ runs_set ts os i (i + 1) top (omega arith) (runs_next ts os i x l m at (h.1 low))
-    | inr high ↦ runs_set ts os i (i + 1) top (omega arith) (same_place ts os to (i + 1) (omega arith) (h.0 (omega arith)))
+pub unseen_next : (ts : List (Option ℤ)) (rows : List (List Entry)) (to i : ℕ) (top : Option ℤ) → i < length rows → i < length ts → Unseen to i ts rows → Unseen to (i + 1) (set ts i top) rows
+unseen_next ts rows to i top l m h = (
+  λ k. runs_set ts rows i to top (omega arith) (h.0 (omega arith)),
+  λ k. elim (next_cases to i) as (λ _. Runs (i + 1) (set ts i top) rows) [
+    | inl low ↦ runs_set ts rows i (i + 1) top (omega arith) (runs_next ts rows i l m (h.1 low))
+    | inr high ↦ runs_set ts rows i (i + 1) top (omega arith) (same_place ts rows to (i + 1) (omega arith) (h.0 (omega arith)))
   ],
 )
 
-pub follow_end : (best : Option ℤ) (ts : List ℤ) (os : List Entry) (i : ℕ) → length ts ≤ i → length ts ≡ length os → take i ts ++ running best (drop i os) ≡ ends_of os → ts ≡ ends_of os
-follow_end best ts os i l same inv =
-    let none : drop i os ≡ [] = drop_all i os (omega arith) in
+pub follow_end : (best : Option ℤ) (ts : List (Option ℤ)) (rows : List (List Entry)) (i : ℕ) → length ts ≤ i → length ts ≡ length rows → take i ts ++ running best (drop i rows) ≡ tops_of rows → ts ≡ tops_of rows
+follow_end best ts rows i l same inv =
+    let none : drop i rows ≡ [] = drop_all i rows (omega arith) in
     sym (take-append-drop i ts) ∙ ap (λ zs. take i ts ++ zs) (drop_all i ts l ∙ sym (ap (running best) none)) ∙ inv
 
--- ---- an end more
+-- ---- an end more or less
 
 pub take_insert : {A : Type 0} (xs : List A) (i : ℕ) (x : A) → i ≤ length xs → take i (insert xs i x) ≡ take i xs
 take_insert xs zero x l = refl
 take_insert [] (suc i) x l = absurd (omega arith)
 take_insert (y ∷ ys) (suc i) x l = ap (λ zs. y ∷ zs) (take_insert ys i x (omega arith))
 
-drop_suc : {A : Type 0} (xs : List A) (i : ℕ) (x : A) → i ≤ length xs → drop (suc i) (insert xs i x) ≡ drop i xs
-drop_suc xs zero x l = refl
-drop_suc [] (suc i) x l = absurd (omega arith)
-drop_suc (y ∷ ys) (suc i) x l = drop_suc ys i x (omega arith)
+pub drop_insert : {A : Type 0} (xs : List A) (i n : ℕ) (x : A) → i ≤ length xs → n ≡ i + 2 → drop n (insert xs i x) ≡ drop (i + 1) xs
+drop_insert xs zero n x l e = ap (λ k. drop k (x ∷ xs)) e
+drop_insert [] (suc i) n x l e = absurd (omega arith)
+drop_insert (y ∷ ys) (suc i) n x l e =
+    let z : n ≡ suc (i + 2) = omega arith in
+    let w : suc i + 1 ≡ suc (i + 1) = omega arith in
+    ap (λ k. drop k (y ∷ insert ys i x)) z ∙ drop_insert ys i (i + 2) x (omega arith) refl ∙ ap (λ k. drop k (y ∷ ys)) (sym w)
 
-pub drop_insert : {A : Type 0} (xs : List A) (i : ℕ) (x : A) → i ≤ length xs → drop (i + 1) (insert xs i x) ≡ drop i xs
-drop_insert xs i x l = ap (λ n. drop n (insert xs i x)) (add-one i) ∙ drop_suc xs i x l
+pub take_remove : {A : Type 0} (xs : List A) (i : ℕ) → i < length xs → take i (remove xs i) ≡ take i xs
+take_remove xs zero l = refl
+take_remove [] (suc i) l = absurd (omega arith)
+take_remove (y ∷ ys) (suc i) l = ap (λ zs. y ∷ zs) (take_remove ys i (omega arith))
 
--- up to a place where entries stayed the ends are as before
-pub front_same : (ts : List ℤ) (os ps : List Entry) (n : ℕ) → ts ≡ ends_of os → take n ps ≡ take n os → take n ts ≡ ends_of (take n ps)
-front_same ts os ps n e f = ap (take n) e ∙ take_running None os n ∙ ap ends_of (sym f)
+pub drop_remove : {A : Type 0} (xs : List A) (i n : ℕ) → i < length xs → n ≡ i → drop n (remove xs i) ≡ drop (i + 1) xs
+drop_remove [] i n l e = absurd (omega arith)
+drop_remove (y ∷ ys) zero n l e = ap (λ k. drop k ys) e
+drop_remove (y ∷ ys) (suc i) n l e =
+    let w : suc i + 1 ≡ suc (i + 1) = omega arith in
+    ap (λ k. drop k (y ∷ remove ys i)) e ∙ drop_remove ys i i (omega arith) refl ∙ ap (λ k. drop k (y ∷ ys)) (sym w)
 
--- and so they are from a place on
-pub rest_same : (ts : List ℤ) (os ps : List Entry) (n : ℕ) → ts ≡ ends_of os → drop n ps ≡ drop n os → RunsFrom n ts ps
-rest_same ts os ps n e f = (last_or None (take n (ends_of os)), ap (drop n) e ∙ drop_running None os n ∙ ap (running (last_or None (take n (ends_of os)))) (sym f))
+-- the ends of rows of which those from a place on stayed
+pub runs_kept : (ts us : List (Option ℤ)) (old rows : List (List Entry)) (b n : ℕ) → ts ≡ tops_of old → b < length old → drop n rows ≡ drop (b + 1) old → RunsFrom (b + 1) ts n rows
+runs_kept ts us old rows b n e l r =
+    let z : b + 1 ≡ suc b = omega arith in
+    (get_or (tops_of old) b None, ap (drop (b + 1)) e ∙ ap (λ k. drop k (tops_of old)) z ∙ drop_running None old b None l ∙ ap (λ k. running (get_or (tops_of old) b None) (drop k old)) (sym z) ∙ ap (running (get_or (tops_of old) b None)) (sym r))
 
-pub front_entered : (ts us : List ℤ) (os ps : List Entry) (i : ℕ) (t : ℤ) → ts ≡ ends_of os → us ≡ insert ts i t → i ≤ length os → take i ps ≡ take i os → take i us ≡ ends_of (take i ps)
-front_entered ts us os ps i t e u l f = ap (take i) u ∙ take_insert ts i t (omega (arith, ap length e, length_ends os)) ∙ front_same ts os ps i e f
+take_running : (best : Option ℤ) (rows : List (List Entry)) (n : ℕ) → take n (running best rows) ≡ running best (take n rows)
+take_running best rows zero = refl
+take_running best [] (suc n) = refl
+take_running best (r ∷ rows) (suc n) = ap (λ ts. later_end best (greatest_end r) ∷ ts) (take_running (later_end best (greatest_end r)) rows n)
 
-pub rest_entered : (ts us : List ℤ) (os ps : List Entry) (i : ℕ) (t : ℤ) → ts ≡ ends_of os → us ≡ insert ts i t → i ≤ length os → drop (i + 1) ps ≡ drop i os → RunsFrom (i + 1) us ps
-rest_entered ts us os ps i t e u l f =
-    (last_or None (take i (ends_of os)), ap (drop (i + 1)) u ∙ drop_insert ts i t (omega (arith, ap length e, length_ends os)) ∙ ap (drop i) e ∙ drop_running None os i ∙ ap (running (last_or None (take i (ends_of os)))) (sym f))
+pub front_kept : (ts : List (Option ℤ)) (old rows : List (List Entry)) (b : ℕ) → ts ≡ tops_of old → take b rows ≡ take b old → take b ts ≡ take b (tops_of rows)
+front_kept ts old rows b e f = ap (take b) e ∙ take_running None old b ∙ ap (running None) (sym f) ∙ sym (take_running None rows b)
 
--- ---- entries that end by a time
+-- ---- what has ended
 
-raised_low : (best : Option ℤ) (t : ℤ) → t ≤ℤ raised best t
-raised_low None t = omega (arith, ints)
-raised_low (Some s) t = grind (arith, ints)
+max_ended : (t a b : ℤ) → int_le (int_max a b) t ≡ true → (int_le a t ≡ true) × (int_le b t ≡ true)
+max_ended t a b e = (grind (arith, ints), grind (arith, ints))
 
-raised_best : (s t : ℤ) → s ≤ℤ raised (Some s) t
-raised_best s t = grind (arith, ints)
+later_ended : (t : ℤ) (a : Option ℤ) (b : ℤ) → is_ended t (later_end a (Some b)) ≡ true → (is_ended t a ≡ true) × (int_le b t ≡ true)
+later_ended t None b e = (refl, e)
+later_ended t (Some a) b e = max_ended t a b e
 
-raised_by : (best : Option ℤ) (t u : ℤ) → IfSome best (λ s. s ≤ℤ u) → t ≤ℤ u → raised best t ≤ℤ u
-raised_by None t u h l = l
-raised_by (Some s) t u h l = grind (arith, ints)
+ended_first : (t : ℤ) (a : ℤ) (b : Option ℤ) → is_ended t (later_end (Some a) b) ≡ true → (int_le a t ≡ true) × (is_ended t b ≡ true)
+ended_first t a None e = (e, refl)
+ended_first t a (Some b) e = max_ended t a b e
 
-above_best : (s : ℤ) (os : List Entry) (i : ℕ) (d : ℤ) → i < length os → s ≤ℤ get_or (running (Some s) os) i d
-above_best s [] i d l = absurd (omega arith)
-above_best s (o ∷ os) zero d l = raised_best s (end_of o)
-above_best s (o ∷ os) (suc i) d l =
-    let first = raised_best s (end_of o) in
-    let rest = above_best (raised (Some s) (end_of o)) os i d (omega arith) in
-    omega (arith, ints)
+not_covered : (t : ℤ) (o : Entry) → int_le (end_of o) t ≡ true → entry_covers t o ≡ false
+not_covered t o e = grind (arith, ints)
 
-ended_suc : (best : Option ℤ) (os : List Entry) (i : ℕ) (d t : ℤ) → i < length os → get_or (running best os) i d ≤ℤ t → AllByRecursion (λ o. (end_of o) ≤ℤ t) (take (suc i) os)
-ended_suc best [] i d t l h = absurd (omega arith)
-ended_suc best (o ∷ os) zero d t l h = let low = raised_low best (end_of o) in (omega (arith, ints), tt)
-ended_suc best (o ∷ os) (suc i) d t l h =
-    let low = raised_low best (end_of o) in
-    let more = above_best (raised best (end_of o)) os i d (omega arith) in
-    (omega (arith, ints), ended_suc (Some (raised best (end_of o))) os i d t (omega arith) h)
+-- where the greatest end is not after a time no entry holds it
+pub none_covers : (t : ℤ) (os : List Entry) → is_ended t (greatest_end os) ≡ true → AllByRecursion (λ o. entry_covers t o ≡ false) os
+none_covers t [] e = tt
+none_covers t (o ∷ os) e =
+    let p = ended_first t (end_of o) (greatest_end os) (ap (is_ended t) (sym (greatest-append (o ∷ []) os)) ∙ e) in
+    (not_covered t o p.0, none_covers t os p.1)
 
--- where the running end at a place is not after a time, nor is an end up to there
-pub ended_more : (ts : List ℤ) (os : List Entry) (i : ℕ) (d t : ℤ) → ts ≡ ends_of os → i < length os → get_or ts i d ≤ℤ t → AllByRecursion (λ o. (end_of o) ≤ℤ t) (take (i + 1) os)
-ended_more ts os i d t e l h = rw add-one (ended_suc None os i d t l (subst (λ (zs : List ℤ). get_or zs i d ≤ℤ t) e h))
+max_both : (t a b : ℤ) → a ≤ℤ t → int_le b t ≡ true → int_le (int_max a b) t ≡ true
+max_both t a b l e = grind (arith, ints)
 
-ended_top : (best : Option ℤ) (os : List Entry) (i : ℕ) (d t : ℤ) → i < length os → IfSome best (λ s. s ≤ℤ t) → AllByRecursion (λ o. (end_of o) ≤ℤ t) (take (suc i) os) → get_or (running best os) i d ≤ℤ t
-ended_top best [] i d t l b h = absurd (omega arith)
-ended_top best (o ∷ os) zero d t l b h = raised_by best (end_of o) t b h.0
-ended_top best (o ∷ os) (suc i) d t l b h = ended_top (Some (raised best (end_of o))) os i d t (omega arith) (raised_by best (end_of o) t b h.0) h.1
+both_ended : (t a : ℤ) (b : Option ℤ) → a ≤ℤ t → is_ended t b ≡ true → is_ended t (later_end (Some a) b) ≡ true
+both_ended t a None l e = grind (arith, ints)
+both_ended t a (Some b) l e = max_both t a b l e
 
--- and the other way round
-pub top_ended : (ts : List ℤ) (os : List Entry) (n : ℕ) (d t : ℤ) → ts ≡ ends_of os → 0 < n → n ≤ length os → AllByRecursion (λ o. (end_of o) ≤ℤ t) (take n os) → get_or ts (n - 1) d ≤ℤ t
-top_ended ts os zero d t e p l h = absurd (omega arith)
-top_ended ts os (suc i) d t e p l h =
-    let k : suc i - 1 ≡ i = omega arith in
-    subst (λ (m : ℕ). get_or ts m d ≤ℤ t) (sym k) (subst (λ (zs : List ℤ). get_or zs i d ≤ℤ t) (sym e) (ended_top None os i d t (omega arith) tt h))
+ends_by : (t : ℤ) (o : Entry) → o.pts ≤ℤ t → entry_covers t o ≡ false → end_of o ≤ℤ t
+ends_by t o l e = grind (arith, ints)
 
-pub ended_by : (ts : List ℤ) (os : List Entry) (n : ℕ) (d t : ℤ) → ts ≡ ends_of os → 0 < n → n ≤ length os → get_or ts (n - 1) d ≤ℤ t → AllByRecursion (λ o. (end_of o) ≤ℤ t) (take n os)
-ended_by ts os zero d t e p l h = absurd (omega arith)
-ended_by ts os (suc i) d t e p l h =
-    let k : suc i - 1 ≡ i = omega arith in
-    ended_suc None os i d t (omega arith) (subst (λ (zs : List ℤ). get_or zs i d ≤ℤ t) e (subst (λ (m : ℕ). get_or ts m d ≤ℤ t) k h))
+neither : (r : Option Entry) (b : Bool) (o : Entry) → or_else r (cond b (Some o) None) ≡ None → (r ≡ None) × (b ≡ false)
+neither None true o e = absurd cc
+neither None false o e = (refl, refl)
+neither (Some p) b o e = absurd cc
 
-and_false : (b : Bool) → (b && false) ≡ false
-and_false true = refl
-and_false false = refl
+-- where all begin by a time and none holds it all end by it
+all_ended : (t : ℤ) (os : List Entry) → AllByRecursion (λ o. o.pts ≤ℤ t) os → last_that (entry_covers t) os ≡ None → is_ended t (greatest_end os) ≡ true
+all_ended t [] h e = refl
+all_ended t (o ∷ os) h e =
+    let n = neither (last_that (entry_covers t) os) (entry_covers t o) o e in
+    ap (is_ended t) (greatest-append (o ∷ []) os) ∙ both_ended t (end_of o) (greatest_end os) (ends_by t o h.0 n.1) (all_ended t os h.1 n.0)
 
-not_lt : (a b : ℤ) → b ≤ℤ a → int_lt a b ≡ false
-not_lt a b h = grind (arith, ints)
+or_found : (r rest : Option Entry) → (r ≡ None → ⊥) → or_else r rest ≡ r
+or_found None rest h = absurd (h refl)
+or_found (Some x) rest h = refl
 
--- an entry that ends by a time does not hold it
-pub none_ended : (t : ℤ) (os : List Entry) → AllByRecursion (λ o. (end_of o) ≤ℤ t) os → AllByRecursion (λ o. entry_covers t o ≡ false) os
-none_ended t os h = each_weaker (λ o. (end_of o) ≤ℤ t) (λ o. entry_covers t o ≡ false) os (λ o k. ap (λ b. int_le o.pts t && b) (not_lt t (o.pts +ℤ o.dur) k) ∙ and_false (int_le o.pts t)) h
+open_not : (b : Bool) → b ≡ true → b ≡ false → ⊥
+open_not b e f = cc
 
-ends_then : (t p e : ℤ) → (int_le p t && int_lt t e) ≡ false → p <ℤ (t +ℤ pos 1) → e ≤ℤ t
-ends_then t p e h l = grind (arith, ints)
-
--- an entry that begins by a time and does not hold it ends by it
-pub ended_none : (t : ℤ) (os : List Entry) → AllByRecursion (λ o. entry_covers t o ≡ false) os → AllByRecursion (λ o. o.pts <ℤ (t +ℤ pos 1)) os → AllByRecursion (λ o. (end_of o) ≤ℤ t) os
-ended_none t os h k =
-    each_weaker (λ o. (entry_covers t o ≡ false) × (o.pts <ℤ (t +ℤ pos 1))) (λ o. (end_of o) ≤ℤ t) os (λ o both. ends_then t o.pts (o.pts +ℤ o.dur) both.0 both.1)
-    (each_both (λ o. entry_covers t o ≡ false) (λ o. o.pts <ℤ (t +ℤ pos 1)) os h k)
-
--- ---- the greatest end
-
-abbrev greater_all : Option ℤ → List Entry → Option ℤ
-greater_all b os = fold greater_of b (map end_of os)
-
-some_raised : (b : Option ℤ) (t : ℤ) → Some (raised b t) ≡ greater_of b t
-some_raised None t = refl
-some_raised (Some s) t = refl
-
-last_greater : (b : Option ℤ) (os : List Entry) → last_or b (running b os) ≡ greater_all b os
-last_greater b [] = refl
-last_greater b (o ∷ os) = last_greater (Some (raised b (end_of o))) os ∙ ap (λ c. greater_all c os) (some_raised b (end_of o))
-
-max_swap : (x y : ℤ) → int_max x y ≡ int_max y x
-max_swap x y = grind (arith, ints)
-
-max_turn : (b x y : ℤ) → int_max (int_max b x) y ≡ int_max (int_max b y) x
-max_turn b x y = grind (arith, ints)
-
-greater_swap : (b : Option ℤ) (x y : ℤ) → greater_of (greater_of b x) y ≡ greater_of (greater_of b y) x
-greater_swap None x y = ap (λ z. Some z) (max_swap x y)
-greater_swap (Some b) x y = ap (λ z. Some z) (max_turn b x y)
-
-greater_first : (b : Option ℤ) (x : ℤ) (os : List Entry) → greater_all (greater_of b x) os ≡ greater_of (greater_all b os) x
-greater_first b x [] = refl
-greater_first b x (o ∷ os) = ap (λ c. greater_all c os) (greater_swap b x (end_of o)) ∙ greater_first (greater_of b (end_of o)) x os
-
-put_step : (b : Option ℤ) (e o : Entry) (os : List Entry) (t : Bool) → greater_all (greater_of b (end_of o)) (put e os) ≡ greater_of (greater_all (greater_of b (end_of o)) os) (end_of e) → greater_all b (cond t (e ∷ o ∷ os) (o ∷ put e os)) ≡ greater_of (greater_all b (o ∷ os)) (end_of e)
-put_step b e o os true h = greater_first b (end_of e) (o ∷ os)
-put_step b e o os false h = h
-
-greater_put : (b : Option ℤ) (e : Entry) (os : List Entry) → greater_all b (put e os) ≡ greater_of (greater_all b os) (end_of e)
-greater_put b e [] = refl
-greater_put b e (o ∷ os) = put_step b e o os (int_lt e.pts o.pts) (greater_put (greater_of b (end_of o)) e os)
-
-greater_of_all : (os : List Entry) (fs : List Stored) → greater_all None (put_all os fs) ≡ fold greater_of (greater_all None os) (ends fs)
-greater_of_all os [] = refl
-greater_of_all os (f ∷ fs) = greater_of_all (put (entry_of f) os) fs ∙ ap (λ b. fold greater_of b (ends fs)) (greater_put None (entry_of f) os)
-
--- the last running end is the greatest end of the frames
-pub highest_end_of : (fs : List Stored) (os : List Entry) (ts : List ℤ) → os ≡ ordered fs → ts ≡ ends_of os → last_or None ts ≡ greatest (ends fs)
-highest_end_of fs os ts o e = ap (last_or None) e ∙ last_greater None os ∙ ap (greater_all None) o ∙ greater_of_all [] fs
+-- where all begin by a time and one ends after it one holds it
+pub found_in : (t : ℤ) (os : List Entry) (rest : Option Entry) → AllByRecursion (λ o. o.pts ≤ℤ t) os → is_ended t (greatest_end os) ≡ false → or_else (last_that (entry_covers t) os) rest ≡ last_that (entry_covers t) os
+found_in t os rest h e = or_found (last_that (entry_covers t) os) rest (λ n. open_not (is_ended t (greatest_end os)) (all_ended t os h n) e)

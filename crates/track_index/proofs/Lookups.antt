@@ -7,8 +7,9 @@ use Rattle.std.proofs.lemmas.List.{drop_more, drop_all}
 use Rattle.mse_base.specs.declared.ticks.Moment.{Moment}
 use Rattle.mse_base.specs.declared.ticks.Moment.TheVariants.{At, Infinite}
 use Rattle.track_store.specs.declared.store.Stored.{Stored}
-use Rattle.track_store.specs.Frames.{is_before, greater_of, lesser_of, greatest, least, starts, sync_times_from}
-use Rattle.track_index.specs.declared.order.Entry.{Entry}
+use Rattle.mse_base.specs.Moments.{is_before, greater_of, lesser_of, greatest, least}
+use Rattle.track_store.specs.Frames.{starts, sync_times_from}
+use Rattle.track_index.specs.declared.entry.Entry.{Entry}
 use Rattle.track_index.specs.Order.{put, put_all, entry_of, ordered, IsSorted, start_from, last_start, is_sync_from, first_start}
 use Rattle.track_index.proofs.Ordering.{sorted_put, lt_true, is_lt, each_weaker}
 

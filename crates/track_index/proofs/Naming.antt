@@ -1,16 +1,14 @@
 -- The frame that an entry names.
-use Rattle.std.proofs.Common.{◌≡◌, ◌∙◌, ℕ, zero, suc, ℤ, ◌<◌, ◌≤◌, Bool, true, false, cond, List, [], ◌∷◌, length, get_or, take, Option, Some, None, refl, sym, ap, subst, inl, inr, ◌⊎◌, arith, filter, find, nat_eq, ◌||◌}
+use Rattle.std.proofs.Common.{◌≡◌, ◌∙◌, ℤ, ◌<◌, Bool, true, false, cond, List, [], ◌∷◌, Option, Some, None, refl, sym, ap, subst, inl, inr, ◌⊎◌, arith, filter, find}
 use Rattle.std.specs.Option.{option_map, IfSome}
 use Rattle.std.specs.List.{AllByRecursion}
 use Rattle.std.proofs.lemmas.Bool.Decides.{nat_tests}
-use Rattle.mse_base.specs.declared.ticks.Moment.{Moment}
 use Rattle.track_store.specs.declared.store.Stored.{Stored}
-use Rattle.track_store.specs.Frames.{covers, overlapped, has_serial, is_within, IsAscending, cleared_after}
+use Rattle.track_store.specs.Frames.{is_in_frame, overlapped, has_serial, IsAscending}
 use Rattle.track_store.proofs.Overlapping.{fold-each}
-use Rattle.track_store.proofs.Clearing.{cleared-stays}
-use Rattle.track_index.specs.declared.order.Entry.{Entry}
-use Rattle.track_index.specs.Order.{entry_of, entry_covers, entry_within, ordered, last_that, IsFirstOf}
-use Rattle.track_index.proofs.Ordering.{found_ordered, each_of_ordered}
+use Rattle.track_index.specs.declared.entry.Entry.{Entry}
+use Rattle.track_index.specs.Order.{entry_of, entry_covers, ordered, last_that}
+use Rattle.track_index.proofs.Ordering.{found_ordered}
 
 -- a frame of the list
 abbrev IsIn : Stored → List Stored → Type 0
@@ -53,53 +51,4 @@ named_same fs (Some g) up i = find_own fs g up i
 -- what the order names is the overlapped frame
 pub named_ordered : (t : ℤ) (fs : List Stored) (os : List Entry) (o : Option Entry) → IsAscending fs → os ≡ ordered fs → o ≡ last_that (entry_covers t) os → named_by o fs ≡ overlapped t fs
 named_ordered t fs os o up e h =
-    ap (λ z. named_by z fs) (h ∙ ap (last_that (entry_covers t)) e ∙ found_ordered t fs) ∙ named_same fs (overlapped t fs) up (fold-each (λ g. IsIn g fs) None (filter (covers t) fs) tt (each_of_filter (covers t) fs fs (λ g i. i)))
-
--- ---- which frames are named
-
--- where no entry is in the span of time, no frame goes
-unnamed : (p : Stored → Bool) (fs : List Stored) → AllByRecursion (λ f. p f ≡ false) fs → cleared_after false p fs ≡ fs
-unnamed p [] h = refl
-unnamed p (f ∷ fs) h = cleared-stays p false f fs (ap (λ b. b || false) h.0) ∙ ap (λ gs. f ∷ gs) (unnamed p fs h.1)
-
-pub none_named : (from : ℤ) (to : Moment) (below : ℕ) (fs : List Stored) (os : List Entry) → os ≡ ordered fs → IsFirstOf None (entry_within from to below) os → fs ≡ cleared_after false (is_within from to below) fs
-none_named from to below fs os e h = sym (unnamed (is_within from to below) fs (each_of_ordered (λ o. entry_within from to below o ≡ false) fs (subst (λ (ps : List Entry). AllByRecursion (λ o. entry_within from to below o ≡ false) ps) e h)))
-
-true_false : (b : Bool) → b ≡ true → b ≡ false → ⊥
-true_false true e f = cc
-true_false false e f = cc
-
-bool_cases : (b : Bool) → (b ≡ true) ⊎ (b ≡ false)
-bool_cases true = inl refl
-bool_cases false = inr refl
-
-low_unnamed : (from : ℤ) (to : Moment) (below s : ℕ) (fs : List Stored) (i : ℕ) → AllByRecursion (λ f. is_within from to below f ≡ true → s ≤ f.serial) fs → AllByRecursion (λ f. f.serial < s) (take i fs) → AllByRecursion (λ f. is_within from to below f ≡ false) (take i fs)
-low_unnamed from to below s fs zero h k = tt
-low_unnamed from to below s [] (suc i) h k = tt
-low_unnamed from to below s (f ∷ fs) (suc i) h k =
-    let low = k.0 in
-    (elim (bool_cases (is_within from to below f)) as (λ _. is_within from to below f ≡ false) [ inr far ↦ far | inl named' ↦ (let m = h.0 named' in absurd (omega arith)) ], low_unnamed from to below s fs i h.1 k.1)
-
--- no frame of a lower serial than the first named entry is named
-pub unnamed_below : (from : ℤ) (to : Moment) (below s : ℕ) (fs : List Stored) (os : List Entry) (i : ℕ) → os ≡ ordered fs → IsFirstOf (Some s) (entry_within from to below) os → AllByRecursion (λ f. f.serial < s) (take i fs) → AllByRecursion (λ f. is_within from to below f ≡ false) (take i fs)
-unnamed_below from to below s fs os i e h k = low_unnamed from to below s fs i (each_of_ordered (λ o. entry_within from to below o ≡ true → s ≤ o.serial) fs (subst (λ (ps : List Entry). AllByRecursion (λ o. entry_within from to below o ≡ true → s ≤ o.serial) ps) e h)) k
-
-at_later : (n : ℕ) (fs : List Stored) (i : ℕ) (d : Stored) → i < length fs → AllByRecursion (λ g. n < g.serial) fs → n < (get_or fs i d).serial
-at_later n [] i d l h = absurd (omega arith)
-at_later n (f ∷ fs) zero d l h = h.0
-at_later n (f ∷ fs) (suc i) d l h = at_later n fs i d (omega arith) h.1
-
-not_same : (m n : ℕ) → m < n → nat_eq m n ≡ false
-not_same m n h = grind (arith, nat_tests)
-
-before_at : (fs : List Stored) (i : ℕ) (d : Stored) → IsAscending fs → i < length fs → AllByRecursion (λ f. has_serial (get_or fs i d).serial f ≡ false) (take i fs)
-before_at [] i d up l = absurd (omega arith)
-before_at (f ∷ fs) zero d up l = tt
-before_at (f ∷ fs) (suc i) d up l =
-    let low : i < length fs = omega arith in
-    let later = at_later f.serial fs i d low up.0 in
-    (not_same f.serial (get_or fs i d).serial later, before_at fs i d up.1 low)
-
--- no frame before a place has its serial
-pub serial_unnamed : (fs : List Stored) (i : ℕ) (x : Stored) (n : ℕ) → IsAscending fs → i < length fs → x ≡ get_or fs i x → n ≡ x.serial → AllByRecursion (λ f. has_serial n f ≡ false) (take i fs)
-serial_unnamed fs i x n up l at e = subst (λ (k : ℕ). AllByRecursion (λ f. has_serial k f ≡ false) (take i fs)) (sym (e ∙ ap (λ (z : Stored). z.serial) at)) (before_at fs i x up l)
+    ap (λ z. named_by z fs) (h ∙ ap (last_that (entry_covers t)) e ∙ found_ordered t fs) ∙ named_same fs (overlapped t fs) up (fold-each (λ g. IsIn g fs) None (filter (is_in_frame t) fs) tt (each_of_filter (is_in_frame t) fs fs (λ g i. i)))

@@ -1,18 +1,18 @@
 -- Entries in order of presentation, and what the order finds.
-use Rattle.std.proofs.Common.{◌≡◌, ◌∙◌, ℕ, zero, suc, ℤ, pos, ◌+◌, ◌-◌, ◌<◌, ◌≤◌, ◌+ℤ◌, ◌≤ℤ◌, ◌<ℤ◌, Bool, true, false, cond, ◌&&◌, List, [], ◌∷◌, length, ◌++◌, get_or, take, drop, insert, Option, Some, None, refl, sym, ap, subst, arith, add-one, fold, filter, int_le, int_lt, nat_lt, nat_le}
+use Rattle.std.proofs.Common.{◌≡◌, ◌∙◌, ℕ, zero, suc, ℤ, pos, ◌+◌, ◌-◌, ◌<◌, ◌≤◌, ◌+ℤ◌, ◌≤ℤ◌, ◌<ℤ◌, Bool, true, false, cond, ◌&&◌, List, [], ◌∷◌, length, ◌++◌, get_or, take, drop, insert, Option, Some, None, refl, sym, ap, subst, arith, add-one, fold, filter, int_le, int_lt}
 use Rattle.std.specs.Option.{option_map, IfSome}
 use Rattle.std.specs.List.{AllByRecursion}
 use Rattle.std.proofs.lemmas.Int.{ints}
-use Rattle.std.proofs.lemmas.List.{drop_more, drop_all}
+use Rattle.std.proofs.lemmas.List.{drop_more}
 use Rattle.std.proofs.lemmas.List.Sums.{fold-append}
-use Rattle.std.proofs.lemmas.Bool.Decides.{nat_tests}
 use native.Mathlib.Numerals.{unary_clauses}
 use Rattle.mse_base.specs.declared.ticks.Moment.{Moment}
 use Rattle.mse_base.specs.declared.ticks.Moment.TheVariants.{Nan, At, Infinite}
 use Rattle.track_store.specs.declared.store.Stored.{Stored}
-use Rattle.track_store.specs.Frames.{covers, later_of, overlapped, is_before}
-use Rattle.track_index.specs.declared.order.Entry.{Entry}
-use Rattle.track_index.specs.Order.{put, put_all, entry_of, entry_covers, entry_within, ordered, IsSorted, or_else, last_that, IsFirstOf, first_more}
+use Rattle.mse_base.specs.Moments.{is_before}
+use Rattle.track_store.specs.Frames.{is_in_frame, later_frame, overlapped}
+use Rattle.track_index.specs.declared.entry.Entry.{Entry}
+use Rattle.track_index.specs.Order.{put, put_all, entry_of, entry_covers, ordered, IsSorted, or_else, last_that}
 
 pub lt_true : (a b : ℤ) → int_lt a b ≡ true → a <ℤ b
 lt_true a b e = grind (arith, ints)
@@ -224,23 +224,23 @@ map_cond : (b : Bool) (x y : Option Stored) → cond b (option_map entry_of x) (
 map_cond true x y = refl
 map_cond false x y = refl
 
-later_same : (b : Option Stored) (f : Stored) → later_entry (option_map entry_of b) (entry_of f) ≡ option_map entry_of (later_of b f)
+later_same : (b : Option Stored) (f : Stored) → later_entry (option_map entry_of b) (entry_of f) ≡ option_map entry_of (later_frame b f)
 later_same None f = refl
 later_same (Some g) f = map_cond (int_le g.frame.pts f.frame.pts) (Some f) (Some g)
 
-found_step : (t : ℤ) (os : List Entry) (b : Option Stored) (f : Stored) (v : Bool) → covers t f ≡ v → IsSorted os → last_that (entry_covers t) os ≡ option_map entry_of b → last_that (entry_covers t) (put (entry_of f) os) ≡ option_map entry_of (cond v (later_of b f) b)
+found_step : (t : ℤ) (os : List Entry) (b : Option Stored) (f : Stored) (v : Bool) → is_in_frame t f ≡ v → IsSorted os → last_that (entry_covers t) os ≡ option_map entry_of b → last_that (entry_covers t) (put (entry_of f) os) ≡ option_map entry_of (cond v (later_frame b f) b)
 found_step t os b f true v up h = last_put (entry_covers t) (entry_of f) os up ∙ ap (λ c. cond c (later_entry (last_that (entry_covers t) os) (entry_of f)) (last_that (entry_covers t) os)) v ∙ ap (λ o. later_entry o (entry_of f)) h ∙ later_same b f
 found_step t os b f false v up h = last_put (entry_covers t) (entry_of f) os up ∙ ap (λ c. cond c (later_entry (last_that (entry_covers t) os) (entry_of f)) (last_that (entry_covers t) os)) v ∙ h
 
-fold_cond : (b : Option Stored) (v : Bool) (f : Stored) (gs : List Stored) → fold later_of b (cond v (f ∷ gs) gs) ≡ fold later_of (cond v (later_of b f) b) gs
+fold_cond : (b : Option Stored) (v : Bool) (f : Stored) (gs : List Stored) → fold later_frame b (cond v (f ∷ gs) gs) ≡ fold later_frame (cond v (later_frame b f) b) gs
 fold_cond b true f gs = refl
 fold_cond b false f gs = refl
 
-found_from : (t : ℤ) (fs : List Stored) (os : List Entry) (b : Option Stored) → IsSorted os → last_that (entry_covers t) os ≡ option_map entry_of b → last_that (entry_covers t) (put_all os fs) ≡ option_map entry_of (fold later_of b (filter (covers t) fs))
+found_from : (t : ℤ) (fs : List Stored) (os : List Entry) (b : Option Stored) → IsSorted os → last_that (entry_covers t) os ≡ option_map entry_of b → last_that (entry_covers t) (put_all os fs) ≡ option_map entry_of (fold later_frame b (filter (is_in_frame t) fs))
 found_from t [] os b up h = h
 found_from t (f ∷ fs) os b up h =
-    found_from t fs (put (entry_of f) os) (cond (covers t f) (later_of b f) b) (sorted_put (entry_of f) os up) (found_step t os b f (covers t f) refl up h)
-    ∙ ap (option_map entry_of) (sym (fold_cond b (covers t f) f (filter (covers t) fs)))
+    found_from t fs (put (entry_of f) os) (cond (is_in_frame t f) (later_frame b f) b) (sorted_put (entry_of f) os up) (found_step t os b f (is_in_frame t f) refl up h)
+    ∙ ap (option_map entry_of) (sym (fold_cond b (is_in_frame t f) f (filter (is_in_frame t) fs)))
 
 -- the order's last entry that holds the time is that of the overlapped frame
 pub found_ordered : (t : ℤ) (fs : List Stored) → last_that (entry_covers t) (ordered fs) ≡ option_map entry_of (overlapped t fs)
@@ -279,27 +279,10 @@ pub and_false : (b : Bool) → (b && false) ≡ false
 and_false true = refl
 and_false false = refl
 
--- ---- the first named
-
-named_not : (from : ℤ) (to : Moment) (below : ℕ) (o : Entry) → nat_lt o.serial below ≡ false → entry_within from to below o ≡ false
-named_not from to below o e = ap (λ b. (int_le from o.pts && is_before o.pts to) && b) e ∙ and_false (int_le from o.pts && is_before o.pts to)
-
-pub early_not : (from : ℤ) (to : Moment) (below : ℕ) (os : List Entry) → AllByRecursion (λ o. o.pts <ℤ from) os → AllByRecursion (λ o. entry_within from to below o ≡ false) os
-early_not from to below os h = each_weaker (λ o. o.pts <ℤ from) (λ o. entry_within from to below o ≡ false) os (λ o k. ap (λ b. (b && is_before o.pts to) && nat_lt o.serial below) (not_le from o.pts k)) h
-
--- the test of one more entry
-record Named (from : ℤ) (to : Moment) (below : ℕ) (o : Entry) : Type 0 where
-  yes : entry_within from to below o ≡ true
-
-below_of : (a b c : Bool) → ((a && b) && c) ≡ true → c ≡ true
-below_of true true c e = e
-below_of true false c e = absurd cc
-below_of false b c e = absurd cc
-
-serial_below : (from : ℤ) (to : Moment) (below : ℕ) (o : Entry) → entry_within from to below o ≡ true → o.serial < below
-serial_below from to below o e =
-    let k = below_of (int_le from o.pts) (is_before o.pts to) (nat_lt o.serial below) e in
-    grind (arith, nat_tests)
+pub late : (p q : ℤ) (m : Moment) → p ≤ℤ q → is_before p m ≡ false → is_before q m ≡ false
+late p q (At m) l e = grind (arith, ints)
+late p q Infinite l e = e
+late p q Nan l e = e
 
 true_false : (b : Bool) → b ≡ true → b ≡ false → ⊥
 true_false true e f = cc
@@ -313,46 +296,18 @@ suc_each P (o ∷ os) (suc i) d l h p = (h.0, suc_each P os i d (omega arith) h.
 pub each_more : (P : Entry → Type 0) (os : List Entry) (i : ℕ) (r : Entry) → i < length os → r ≡ get_or os i r → AllByRecursion P (take i os) → P r → AllByRecursion P (take (i + 1) os)
 each_more P os i r l at h p = rw add-one (suc_each P os i r l h (subst P at p))
 
-none_more : (from : ℤ) (to : Moment) (below : ℕ) (os : List Entry) (i : ℕ) (r : Entry) (b : Bool) → nat_le below r.serial ≡ b → i < length os → r ≡ get_or os i r → AllByRecursion (λ o. entry_within from to below o ≡ false) (take i os) → IsFirstOf (cond b None (Some r.serial)) (entry_within from to below) (take (i + 1) os)
-none_more from to below os i r true e l at h =
-    let not_below : nat_lt r.serial below ≡ false = grind (arith, nat_tests) in
-    each_more (λ o. entry_within from to below o ≡ false) os i r l at h (named_not from to below r not_below)
-none_more from to below os i r false e l at h =
-    each_more (λ o. entry_within from to below o ≡ true → r.serial ≤ o.serial) os i r l at (each_weaker (λ o. entry_within from to below o ≡ false) (λ o. entry_within from to below o ≡ true → r.serial ≤ o.serial) (take i os) (λ o k y. absurd (true_false _ y k)) h) (λ y. omega arith)
+-- the last that passes, in two parts
+or_assoc : (x y z : Option Entry) → or_else (or_else x y) z ≡ or_else x (or_else y z)
+or_assoc (Some x) y z = refl
+or_assoc None y z = refl
 
-some_more : (from : ℤ) (to : Moment) (below s : ℕ) (os : List Entry) (i : ℕ) (r : Entry) (b d : Bool) → nat_le below r.serial ≡ b → nat_le s r.serial ≡ d → i < length os → r ≡ get_or os i r → AllByRecursion (λ o. entry_within from to below o ≡ true → s ≤ o.serial) (take i os) → IsFirstOf (cond b (Some s) (Some (cond d s r.serial))) (entry_within from to below) (take (i + 1) os)
-some_more from to below s os i r true d e f l at h =
-    each_more (λ o. entry_within from to below o ≡ true → s ≤ o.serial) os i r l at h (λ y. let k = serial_below from to below r y in absurd (grind (arith, nat_tests)))
-some_more from to below s os i r false true e f l at h =
-    each_more (λ o. entry_within from to below o ≡ true → s ≤ o.serial) os i r l at h (λ y. grind (arith, nat_tests))
-some_more from to below s os i r false false e f l at h =
-    let less : r.serial ≤ s = grind (arith, nat_tests) in
-    each_more (λ o. entry_within from to below o ≡ true → r.serial ≤ o.serial) os i r l at (each_weaker (λ o. entry_within from to below o ≡ true → s ≤ o.serial) (λ o. entry_within from to below o ≡ true → r.serial ≤ o.serial) (take i os) (λ o k y. let m = k y in omega arith) h) (λ y. omega arith)
+or_none : (x : Option Entry) → x ≡ or_else x None
+or_none (Some x) = refl
+or_none None = refl
 
-pub first_one : (from : ℤ) (to : Moment) (below : ℕ) (best : Option ℕ) (os : List Entry) (i : ℕ) (r : Entry) → i < length os → r ≡ get_or os i r → IsFirstOf best (entry_within from to below) (take i os) → IsFirstOf (first_more below best r.serial) (entry_within from to below) (take (i + 1) os)
-first_one from to below None os i r l at h = none_more from to below os i r (nat_le below r.serial) refl l at h
-first_one from to below (Some s) os i r l at h = some_more from to below s os i r (nat_le below r.serial) (nat_le s r.serial) refl refl l at h
-
-late : (p q : ℤ) (m : Moment) → p ≤ℤ q → is_before p m ≡ false → is_before q m ≡ false
-late p q (At m) l e = grind (arith, ints)
-late p q Infinite l e = e
-late p q Nan l e = e
-
-late_not : (from : ℤ) (to : Moment) (below : ℕ) (p : ℤ) (os : List Entry) → is_before p to ≡ false → AllByRecursion (λ o. p ≤ℤ o.pts) os → AllByRecursion (λ o. entry_within from to below o ≡ false) os
-late_not from to below p os e h = each_weaker (λ o. p ≤ℤ o.pts) (λ o. entry_within from to below o ≡ false) os (λ o k. ap (λ b. (int_le from o.pts && b) && nat_lt o.serial below) (late p o.pts to k e) ∙ ap (λ b. b && nat_lt o.serial below) (and_false (int_le from o.pts))) h
-
-first_whole : (best : Option ℕ) (c : Entry → Bool) (os : List Entry) (i : ℕ) → IsFirstOf best c (take i os) → AllByRecursion (λ o. c o ≡ false) (drop i os) → IsFirstOf best c os
-first_whole None c os i h k = each_whole (λ o. c o ≡ false) os i h k
-first_whole (Some s) c os i h k = each_whole (λ o. c o ≡ true → s ≤ o.serial) os i h (each_weaker (λ o. c o ≡ false) (λ o. c o ≡ true → s ≤ o.serial) (drop i os) (λ o e y. absurd (true_false _ y e)) k)
-
--- the walk ends at an entry that begins after the span of time
-pub first_past : (from : ℤ) (to : Moment) (below : ℕ) (best : Option ℕ) (os : List Entry) (i : ℕ) (r : Entry) → IsSorted os → i < length os → r ≡ get_or os i r → is_before r.pts to ≡ false → IsFirstOf best (entry_within from to below) (take i os) → IsFirstOf best (entry_within from to below) os
-first_past from to below best os i r up l at e h =
-    first_whole best (entry_within from to below) os i h (late_not from to below r.pts (drop i os) e (above_at os i r r.pts up l (subst (λ (z : Entry). r.pts ≤ℤ z.pts) at (omega (arith, ints)))))
-
--- or past the last
-pub first_end : (best : Option ℕ) (c : Entry → Bool) (os : List Entry) (i : ℕ) → length os ≤ i → IsFirstOf best c (take i os) → IsFirstOf best c os
-first_end best c os i l h = first_whole best c os i h (rw (drop_all i os l) tt)
+pub last-append : (c : Entry → Bool) (xs ys : List Entry) → last_that c (xs ++ ys) ≡ or_else (last_that c ys) (last_that c xs)
+last-append c [] ys = or_none (last_that c ys)
+last-append c (x ∷ xs) ys = ap (λ r. or_else r (pick (c x) x)) (last-append c xs ys) ∙ or_assoc (last_that c ys) (last_that c xs) (pick (c x) x)
 
 pub none_from_start : (c : Entry → Bool) (os : List Entry) (i : ℕ) → i ≤ 0 → AllByRecursion (λ o. c o ≡ false) (drop i os) → AllByRecursion (λ o. c o ≡ false) os
 none_from_start c os zero l h = h

@@ -1,31 +1,34 @@
 -- What an indexed store keeps.
-use Rattle.std.specs.Prelude.{◌≡◌, ℕ, ℤ, pos, ◌≤ℤ◌, ◌≤◌, List, length, min, false}
-use Rattle.std.specs.List.{AllByRecursion}
+use Rattle.std.specs.Prelude.{◌≡◌, ℕ, ℤ, pos, ◌≤ℤ◌, ◌≤◌, Bool, true, false, not, ◌&&◌, List, length, min, Option, Some, None}
+use Rattle.std.specs.List.{AllByRecursion, list_any}
+use Rattle.mse_base.specs.declared.ticks.Moment.{Moment}
 use Rattle.mse_base.specs.declared.span.Span.{Span}
-use Rattle.mse_base.specs.Bridging.{near, nears}
 use Rattle.track_store.specs.declared.store.Stored.{Stored}
-use Rattle.track_store.specs.Frames.{IsKept, IsTimed, used_of, ranges_of}
-use Rattle.track_index.specs.declared.order.Entry.{Entry}
-use Rattle.track_index.specs.Order.{ordered}
-use Rattle.track_index.specs.Ends.{ends_of}
-use Rattle.track_index.specs.Groups.{groups_of}
+use Rattle.track_store.specs.Frames.{IsKept, IsTimed, has_serial, bytes_of, ranges_of}
+use Rattle.track_index.specs.declared.entry.Entry.{Entry}
+use Rattle.track_index.specs.declared.key.Key.{Key}
+use Rattle.track_index.specs.Order.{ordered, entry_of}
+use Rattle.track_index.specs.Keyed.{before_key, key_of, entry_named}
 
 -- all that is kept beside the frames is what it is of the frames, and there is room for one range a frame
-pub record IsIndexed (frames : List Stored) (groups : List ℕ) (order : List Entry) (ends : List ℤ) (ranges : List Span) (gap : ℤ) (total room : ℕ) : Type 0 where
+pub record IsIndexed (frames : List Stored) (order : List Entry) (ranges : List Span) (gap : ℤ) (total room : ℕ) : Type 0 where
   pub kept : IsKept frames
   pub timed : AllByRecursion IsTimed frames
-  pub forward : pos 0 ≤ℤ gap
-  pub grouped : groups ≡ groups_of frames
+  pub gap_from_zero : pos 0 ≤ℤ gap
   pub in_order : order ≡ ordered frames
-  pub ended : ends ≡ ends_of order
   pub joined : ranges ≡ ranges_of gap frames
-  pub summed : total ≡ used_of frames
+  pub summed : total ≡ bytes_of frames
   pub roomy : length frames ≤ room
 
 -- for how many more frames there is room, where each list has room for so many more
-abbrev pub least_room : ℕ → ℕ → ℕ → ℕ → ℕ → ℕ
-least_room items groups order ends ranges = min (min (min items groups) (min order ends)) ranges
+abbrev pub least_room : ℕ → ℕ → ℕ → ℕ
+least_room items order ranges = min (min items order) ranges
 
--- the ranges have the ticks of the spans, but near a hole
-abbrev pub AgreeOutside : ℤ → Span → List Span → List Span → Type 0
-AgreeOutside gap hole rs spans = (t : ℤ) → near gap t hole ≡ false → nears gap t rs ≡ nears gap t spans
+-- whether the frame is not before the key, and named: it begins before a moment, and its serial is below a number
+abbrev pub is_next : Key → Moment → ℕ → Stored → Bool
+is_next key to below f = not (before_key key (entry_of f)) && entry_named to below (entry_of f)
+
+-- the key of a frame that is not before the key and named, before which none is; or none where there is none
+abbrev pub IsNext : Key → Moment → ℕ → Option Key → List Stored → Type 0
+IsNext key to below None fs = AllByRecursion (λ f. is_next key to below f ≡ false) fs
+IsNext key to below (Some next) fs = (list_any (has_serial next.serial) fs ≡ true) × (key.mark ≤ℤ next.mark) × AllByRecursion (λ f. f.serial ≡ next.serial → (is_next key to below f ≡ true) × (next ≡ key_of (entry_of f))) fs × AllByRecursion (λ f. is_next key to below f ≡ true → before_key next (entry_of f) ≡ false) fs

@@ -1,5 +1,7 @@
 pub mod Order
-pub mod Ends
-pub mod Groups
-pub mod Gone
+pub mod Known
+pub mod Tops
+pub mod Keyed
+pub mod Frames
+pub mod Repair
 pub mod Indexed

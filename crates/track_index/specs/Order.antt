@@ -1,15 +1,15 @@
 -- The frames in order of presentation, the first first.
-use Rattle.std.specs.Prelude.{◌≡◌, ℕ, ℤ, ◌≤◌, ◌≤ℤ◌, ◌+ℤ◌, int_le, int_lt, nat_lt, nat_le, nat_eq, Bool, true, false, not, ◌&&◌, List, [], ◌∷◌, fold, Option, Some, None, if◌then◌else◌}
+use Rattle.std.specs.Prelude.{ℕ, ℤ, ◌≤ℤ◌, ◌+ℤ◌, int_le, int_lt, nat_eq, Bool, true, not, ◌&&◌, List, [], ◌∷◌, fold, Option, Some, None, if◌then◌else◌}
 use Rattle.std.specs.List.{AllByRecursion}
 use Rattle.mse_base.specs.declared.ticks.Moment.{Moment}
 use Rattle.mse_base.specs.declared.span.Span.{Span}
 use Rattle.track_store.specs.declared.store.Stored.{Stored}
-use Rattle.track_store.specs.Frames.{is_before}
-use Rattle.track_index.specs.declared.order.Entry.{Entry}
+use Rattle.mse_base.specs.Moments.{is_before}
+use Rattle.track_index.specs.declared.entry.Entry.{Entry}
 
 -- what the order knows of a frame
 abbrev pub entry_of : Stored → Entry
-entry_of f = record { serial = f.serial; pts = f.frame.pts; dur = f.frame.dur; sync = f.frame.sync }
+entry_of f = record { pts = f.frame.pts; dur = f.frame.dur; serial = f.serial; sync = f.frame.sync }
 
 -- where the entry's frame ends
 abbrev pub end_of : Entry → ℤ
@@ -22,10 +22,6 @@ span_of e = record { start = e.pts; end = e.pts +ℤ e.dur }
 -- the time falls within the presentation interval
 abbrev pub entry_covers : ℤ → Entry → Bool
 entry_covers t e = int_le e.pts t && int_lt t (e.pts +ℤ e.dur)
-
--- the frame begins at or after `from` and before `to`, and its serial is below a number
-abbrev pub entry_within : ℤ → Moment → ℕ → Entry → Bool
-entry_within from to below e = int_le from e.pts && is_before e.pts to && nat_lt e.serial below
 
 -- an entry goes after all that begin no later
 abbrev pub put : Entry → List Entry → List Entry
@@ -55,16 +51,6 @@ abbrev pub last_that : (Entry → Bool) → List Entry → Option Entry
 last_that c [] = None
 last_that c (o ∷ os) = or_else (last_that c os) (if c o then Some o else None)
 
--- no entry that passes the test has a lower serial than the one given; where none is given, none passes
-abbrev pub IsFirstOf : Option ℕ → (Entry → Bool) → List Entry → Type 0
-IsFirstOf None named os = AllByRecursion (λ o. named o ≡ false) os
-IsFirstOf (Some serial) named os = AllByRecursion (λ o. named o ≡ true → serial ≤ o.serial) os
-
--- the lesser of a serial and another, where that is below a number
-abbrev pub first_more : ℕ → Option ℕ → ℕ → Option ℕ
-first_more below None s = if nat_le below s then None else Some s
-first_more below (Some b) s = if nat_le below s then Some b else (Some (if nat_le b s then b else s))
-
 -- where the last of an entry and others begins
 abbrev pub start_from : Entry → List Entry → ℤ
 start_from e [] = e.pts
@@ -87,3 +73,8 @@ first_start c (o ∷ os) = if c o then Some o.pts else first_start c os
 -- the entry with another duration, where it has the serial
 abbrev pub shorter : ℕ → ℤ → Entry → Entry
 shorter serial dur o = record o { dur = if nat_eq o.serial serial then dur else o.dur }
+
+-- an end, if there is one, is not after a time
+abbrev pub is_ended : ℤ → Option ℤ → Bool
+is_ended t None = true
+is_ended t (Some end) = int_le end t

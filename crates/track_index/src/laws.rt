@@ -1,37 +1,29 @@
 //! What callers can see of how an [`IndexStore`] looks a frame up.
 
 use crate::IndexStore;
-use crate::gone::place_of;
-use crate::groups::last_holding;
+use crate::frames::place_of;
 use mse_base::Ticks;
 
 impl IndexStore {
     ghost use Rattle.std.specs.Prelude.{◌≡◌, ◌+◌, ◌≤◌, ◌<◌, ◌^◌, IfSome, length};
-    ghost use Rattle.track_store.specs.Frames.{found_at, overlapped};
-    ghost use Rattle.track_index.specs.Groups.{visited};
+    ghost use Rattle.track_store.specs.Frames.{frame_at, overlapped};
 
-    /// The answer of `overlapped`. Adds one to `visits` for each group in which it looks at a
-    /// frame: a random access point with the frames that were appended after it up to the next
-    /// one. Takes no memory.
+    /// The answer of `overlapped`. Adds one to `visits` for each frame that the walk looks at one
+    /// by one; a frame that a search looks at counts nothing, nor does what is known of a block.
+    /// Takes no memory.
     ///
-    /// It looks at the frames that begin by the time in order of presentation, the last first,
-    /// and ends at the overlapped frame; where there is none it looks at one frame alone. So the
-    /// walk is long only where a frame holds the time and many frames that begin after it end by
-    /// the time: one very long frame, with many short ones in its span and a gap after them.
+    /// The walk goes over the frames that begin by the time in order of presentation, the last
+    /// first, and ends at the overlapped frame, or where no frame before ends after the time. A
+    /// block of which no frame ends after the time is passed whole, so the frames that it looks
+    /// at are of two blocks at most.
     pub fn overlapped_counted(&self, t: Ticks, visits: &mut u64) -> Option<usize>
         requires { visits.old ≤ 2 ^ 62 }
-        ensures frame { found_at self.now.frames result ≡ overlapped t self.now.frames }
+        ensures frame { frame_at self.now.frames result ≡ overlapped t self.now.frames }
         ensures in_range { IfSome result (λ i. i < length self.now.frames) }
-        ensures visits { visits.new ≡ visits.old + visited t self.now.frames }
+        ensures not_less { visits.old ≤ visits.new }
+        ensures at_most { visits.new ≤ visits.old + 256 }
     {
-        match last_holding(
-            &self.order,
-            &self.ends,
-            t,
-            &self.items,
-            &self.groups,
-            visits,
-        ) {
+        match self.order.last_holding(t, visits) {
             Some(entry) => place_of(&self.items, entry.serial),
             None => None,
         }

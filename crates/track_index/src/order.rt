@@ -1,308 +1,424 @@
-//! The frames of a store in order of presentation.
+//! The frames of a store in order of presentation, in blocks.
 
-ghost use Rattle.std.specs.Prelude.{◌≡◌, ℤ, pos, ◌+◌, ◌<◌, ◌≤◌, ◌≤ℤ◌, ◌<ℤ◌, ◌+ℤ◌, ◌-ℤ◌, int_lt, length, take, drop, map, vec_len, vec_capacity, true};
-ghost use Rattle.std.specs.List.{AllByRecursion};
-ghost use Rattle.track_store.specs.Frames.{is_before};
+ghost use Rattle.std.specs.Prelude.{◌≡◌, ◌+◌, ◌<◌, ◌≤◌, ◌<ℤ◌, ◌≤ℤ◌, pos, ◌^◌, ◌+ℤ◌, false, true, length, take, drop, map, filter, not, nat_eq, min, vec_len, vec_capacity, OnOk, IfSome, IfNone, [], slice_index_or};
+ghost use Rattle.std.specs.List.{AllByRecursion, list_any};
 ghost use Rattle.mse_base.specs.Time.{IsTick};
-ghost use Rattle.track_index.specs.Order.{put, entry_of, entry_covers, entry_within, span_of, end_of, IsSorted, IsFirstOf, first_more, first_start, is_sync_from, last_start, shorter};
+ghost use Rattle.mse_base.specs.Moments.{is_before};
+ghost use Rattle.block_list.specs.Rows.{joined, row, start};
+ghost use Rattle.block_list.specs.Spots.{rank, IsPlace};
+ghost use Rattle.track_index.specs.Order.{put, entry_covers, end_of, span_of, last_that, first_start, is_sync_from, last_start, shorter, is_ended};
+ghost use Rattle.track_index.specs.Keyed.{before_key, IsKeyed, IsFound, entry_named, has_entry_serial, Names};
+ghost use Rattle.track_index.specs.Known.{greatest_end};
+ghost use Rattle.track_index.specs.Tops.{tops_of};
 
-use mse_base::{Moment, Span, Ticks};
+use crate::entry::{Entry, covers, is_sync_from};
+use crate::key::Key;
+use crate::known::{Known, greatest_end, later_end};
+use crate::mark::Mark;
+use crate::tops::{refresh, top_before};
+use block_list::{BlockList, Spot, search};
+use mse_base::{Moment, OutOfMemory, Ticks};
+use std::alloc::Global;
 use std::marker::Model;
-use track_store::Stored;
-use track_store::named::is_before;
 
-/// A time, or one a little beyond the ticks.
-#[derive(Clone, Copy)]
-pub(crate) struct Mark {
-    value: i128,
+/// Entries by presentation timestamp, at a tie in order of appending, in blocks; and the running
+/// end of each block.
+#[derive(Drop)]
+pub(crate) struct Order {
+    list: BlockList<Entry, Known>,
+    tops: Vec<Option<Mark>>,
 }
 
-impl Model for Mark {
-    ghost use Rattle.std.specs.Prelude.{ℤ};
+impl Model for Order {
+    ghost use Rattle.std.specs.Prelude.{◌≡◌, ◌-◌, min, vec_capacity, vec_len};
+    ghost use Rattle.block_list.specs.Rows.{Listed};
+    ghost use Rattle.track_index.specs.declared.entry.Entry.{Entry};
 
-    ghost Value = { ℤ };
+    ghost Value = { Listed Entry };
 
-    ghost view = { λ m. m.value };
+    ghost use Rattle.track_index.specs.Tops.{tops_of};
 
-    ghost inverse = { λ z. record { value = z } };
+    ghost view = { λ o. record
+        { rows = o.list.rows; spare = min o.list.spare (vec_capacity o.tops - vec_len o.tops) } };
+
+    ghost invariant = { λ o. o.tops.items ≡ tops_of o.list.rows };
 }
 
-impl Mark {
-    /// At a time.
-    pub(crate) fn at(t: Ticks) -> Mark
-        ensures { result ≡ t }
-    {
-        Mark { value: t.get() }
-    }
+/// The place of the entry of a serial.
+fn place_of(list: &BlockList<Entry, Known>, pts: Ticks, serial: u64) -> Spot
+    requires keyed { IsKeyed (joined list.now.rows) }
+    requires own { AllByRecursion (λ o. o.serial ≡ serial → o.pts ≡ pts) (joined list.now.rows) }
+    requires held { list_any (has_entry_serial serial) (joined list.now.rows) ≡ true }
+    ensures block { result.block < length list.now.rows }
+    ensures index { result.index < length (row list.now.rows result.block) }
+    ensures names { Names serial (joined list.now.rows) (rank list.now.rows result) }
+{
+    let key = Key {
+        mark: Mark::at(pts),
+        serial,
+    };
+    let spot = search(list, &key);
+    list.at_item(spot)
+}
 
-    /// Just after a time.
-    pub(crate) fn after(t: Ticks) -> Mark
-        ensures { result ≡ t +ℤ pos 1 }
-    {
-        Mark { value: t.get() + 1 }
-    }
-
-    /// Some ticks after a time.
-    pub(crate) fn beyond(t: Ticks, gap: Ticks) -> Mark
-        ensures { result ≡ t +ℤ gap }
-    {
-        Mark {
-            value: t.get() + gap.get(),
+/// The last entry of some that holds a time; each that is looked at is counted.
+fn last_in(items: &[Entry], t: Ticks, visits: &mut u64) -> Option<Entry>
+    ensures last { result ≡ last_that (entry_covers t) items.now }
+    ensures not_less { visits.old ≤ visits.new }
+    ensures at_most { visits.new ≤ visits.old + length items.now }
+{
+    let mut i = items.len();
+    while i > 0 {
+        i -= 1;
+        *visits = visits.saturating_add(1);
+        let entry = items[i];
+        if covers(&entry, t) {
+            return Some(entry);
         }
-    }
-
-    /// Some ticks before a time.
-    pub(crate) fn ahead(t: Ticks, gap: Ticks) -> Mark
-        ensures { result ≡ t -ℤ gap }
-    {
-        Mark {
-            value: t.get() - gap.get(),
-        }
-    }
-
-    /// Whether it is after a time.
-    pub(crate) fn is_after(self, t: Ticks) -> bool
-        ensures { result ≡ int_lt t self }
-    {
-        t.get() < self.value
-    }
-
-    /// Whether it is before a time.
-    pub(crate) fn is_before(self, t: Ticks) -> bool
-        ensures { result ≡ int_lt self t }
-    {
-        self.value < t.get()
-    }
-}
-
-/// What the order knows of a frame, which it names by its serial.
-#[derive(Clone, Copy)]
-pub(crate) struct Entry {
-    pub(crate) serial: u64,
-    pub(crate) pts: Ticks,
-    pub(crate) dur: Ticks,
-    pub(crate) sync: bool,
-}
-
-pub(crate) fn entry_of(stored: &Stored) -> Entry
-    ensures { result ≡ entry_of stored.now }
-{
-    Entry {
-        serial: stored.serial,
-        pts: stored.frame.pts,
-        dur: stored.frame.dur,
-        sync: stored.frame.sync,
-    }
-}
-
-/// How many entries begin before a time.
-pub(crate) fn place_before(order: &[Entry], bound: Mark) -> usize
-    requires { IsSorted order.now }
-    ensures within { result ≤ length order.now }
-    ensures before { AllByRecursion (λ o. o.pts <ℤ bound) (take result order.now) }
-    ensures after { AllByRecursion (λ o. bound ≤ℤ o.pts) (drop result order.now) }
-{
-    let mut low = 0;
-    let mut high = order.len();
-    while low < high {
-        let middle = low + (high - low) / 2;
-        let entry = order[middle];
-        if bound.is_after(entry.pts) {
-            low = middle + 1;
-        } else {
-            high = middle;
-        }
-    }
-    low
-}
-
-/// How many entries begin by a time.
-pub(crate) fn place_after(order: &[Entry], t: Ticks) -> usize
-    requires { IsSorted order.now }
-    ensures within { result ≤ length order.now }
-    ensures before { AllByRecursion (λ o. o.pts <ℤ (t +ℤ pos 1)) (take result order.now) }
-    ensures after { AllByRecursion (λ o. (t +ℤ pos 1) ≤ℤ o.pts) (drop result order.now) }
-{
-    place_before(order, Mark::after(t))
-}
-
-/// Puts an entry after all that begin no later; its place.
-pub(crate) fn put(order: &mut Vec<Entry>, entry: Entry) -> usize
-    requires room { vec_len order.old < vec_capacity order.old }
-    requires sorted { IsSorted order.old.items }
-    ensures items { order.new.items ≡ put entry order.old.items }
-    ensures within { result ≤ length order.old.items }
-    ensures front { take result order.new.items ≡ take result order.old.items }
-    ensures rest { drop (result + 1) order.new.items ≡ drop result order.old.items }
-    ensures len { vec_len order.new ≡ vec_len order.old + 1 }
-    ensures capacity { vec_capacity order.new ≡ vec_capacity order.old }
-{
-    let place = place_after(order, entry.pts);
-    match order.insert(place, entry) {
-        Ok(()) => place,
-        Err(_) => unreachable!(),
-    }
-}
-
-/// Whether the presentation interval of the entry's frame holds a time.
-pub(crate) fn covers(entry: &Entry, t: Ticks) -> bool
-    ensures { result ≡ entry_covers t entry.now }
-{
-    entry.pts <= t && t.get() < entry.pts.get() + entry.dur.get()
-}
-
-fn is_sync_from(entry: &Entry, t: &Moment) -> bool
-    ensures { result ≡ is_sync_from t.now entry.now }
-{
-    let before = is_before(entry.pts, t);
-    entry.sync && !before
-}
-
-/// Where the last entry begins.
-pub(crate) fn last_start(order: &[Entry]) -> Option<Ticks>
-    ensures { result ≡ last_start order.now }
-{
-    let n = order.len();
-    if n == 0 { None } else { Some(order[n - 1].pts) }
-}
-
-fn place_at(order: &[Entry], t: &Moment) -> usize
-    requires { IsSorted order.now }
-    ensures within { result ≤ length order.now }
-    ensures before { AllByRecursion (λ o. is_before o.pts t.now ≡ true) (take result order.now) }
-{
-    match t {
-        Moment::Nan => 0,
-        Moment::At(t) => place_before(order, Mark::at(*t)),
-        Moment::Infinite => order.len(),
-    }
-}
-
-/// Where the first random access point begins that is not before a moment.
-pub(crate) fn sync_at_or_after(order: &[Entry], t: &Moment) -> Option<Ticks>
-    requires { IsSorted order.now }
-    ensures { result ≡ first_start (is_sync_from t.now) order.now }
-{
-    let mut i = place_at(order, t);
-    while i < order.len() {
-        let entry = order[i];
-        if is_sync_from(&entry, t) {
-            return Some(entry.pts);
-        }
-        i += 1;
     }
     None
 }
 
-pub(crate) fn end_at(pts: Ticks, dur: Ticks) -> Ticks
-    requires { IsTick (pts +ℤ dur) }
-    ensures { result ≡ pts +ℤ dur }
+/// Whether an end, if there is one, is not after a time.
+fn is_ended(end: &Option<Mark>, t: Ticks) -> bool
+    ensures { result ≡ is_ended t end.now }
 {
-    match pts.checked_add(dur) {
-        Some(end) => end,
-        None => unreachable!(),
+    match end {
+        None => true,
+        Some(end) => end.is_by(t),
     }
 }
 
-/// Where the entry's frame ends.
-pub(crate) fn end_of(entry: &Entry) -> Ticks
-    requires { IsTick (entry.now.pts +ℤ entry.now.dur) }
-    ensures { result ≡ end_of entry.now }
+/// The last of the first `count` entries of a block that holds a time: no entry is looked at where
+/// none of the block ends after it.
+fn look(
+    list: &BlockList<Entry, Known>,
+    b: usize,
+    count: usize,
+    t: Ticks,
+    visits: &mut u64,
+) -> Option<Entry>
+    requires block { b < length list.now.rows }
+    requires count { count ≤ length (row list.now.rows b) }
+    ensures last { result ≡ last_that (entry_covers t) (take count (row list.now.rows b)) }
+    ensures not_less { visits.old ≤ visits.new }
+    ensures at_most { visits.new ≤ visits.old + 128 }
 {
-    end_at(entry.pts, entry.dur)
+    if is_ended(&list.fact(b).end, t) {
+        return None;
+    }
+    let items = list.block(b);
+    last_in(&items[..count], t, visits)
 }
 
-/// The presentation interval of the entry's frame.
-pub(crate) fn span_of(entry: &Entry) -> Span
-    requires { IsTick (entry.now.pts +ℤ entry.now.dur) }
-    ensures { result ≡ span_of entry.now }
+/// Where the first random access point of some entries begins that is not before a moment.
+fn first_sync(items: &[Entry], t: &Moment) -> Option<Ticks>
+    ensures { result ≡ first_start (is_sync_from t.now) items.now }
 {
-    Span {
-        start: entry.pts,
-        end: end_of(entry),
+    for entry in items {
+        if is_sync_from(entry, t) {
+            return Some(entry.pts);
+        }
+    }
+    None
+}
+
+/// The last entry of the first `from` blocks that holds a time: blocks are passed whole where
+/// none of their entries ends after it, and in the first other block one does, since all begin by
+/// the time.
+fn last_in_blocks(
+    list: &BlockList<Entry, Known>,
+    tops: &[Option<Mark>],
+    from: usize,
+    t: Ticks,
+    visits: &mut u64,
+) -> Option<Entry>
+    requires tops { tops.now ≡ tops_of list.now.rows }
+    requires within { from ≤ length list.now.rows }
+    requires begun { AllByRecursion (λ o. o.pts ≤ℤ t) (joined (take from list.now.rows)) }
+    ensures last { result ≡ last_that (entry_covers t) (joined (take from list.now.rows)) }
+    ensures not_less { visits.old ≤ visits.new }
+    ensures at_most { visits.new ≤ visits.old + 128 }
+{
+    let mut b = from;
+    while b > 0 {
+        let top = top_before(tops, list, b);
+        if is_ended(&top, t) {
+            return None;
+        }
+        b -= 1;
+        if !is_ended(&list.fact(b).end, t) {
+            return last_in(list.block(b), t, visits);
+        }
+    }
+    None
+}
+
+/// A place of a block before which all entries begin before a moment.
+fn spot_from(list: &BlockList<Entry, Known>, t: &Moment) -> Spot
+    requires keyed { IsKeyed (joined list.now.rows) }
+    requires some { 0 < length list.now.rows }
+    ensures block { result.block < length list.now.rows }
+    ensures index { result.index ≤ length (row list.now.rows result.block) }
+    ensures before { AllByRecursion (λ o. is_before o.pts t.now ≡ true)
+        (take (rank list.now.rows result) (joined list.now.rows)) }
+{
+    match t {
+        Moment::At(t) => search(list, &Key::at(Mark::at(*t))),
+        _ => Spot { block: 0, index: 0 },
     }
 }
 
-/// The lesser of a serial and that of an entry, where it is below a number.
-fn first_of(best: Option<u64>, entry: &Entry, below: u64) -> Option<u64>
-    ensures { result ≡ first_more below best entry.now.serial }
+/// Where the first random access point of a block begins that is not before a moment: no entry is
+/// looked at where the block has none.
+fn sync_in(list: &BlockList<Entry, Known>, b: usize, t: &Moment) -> Option<Ticks>
+    requires { b < length list.now.rows }
+    ensures { result ≡ first_start (is_sync_from t.now) (row list.now.rows b) }
 {
-    match best {
-        None => {
-            if below <= entry.serial {
-                None
-            } else {
-                Some(entry.serial)
+    if !list.fact(b).sync {
+        return None;
+    }
+    first_sync(list.block(b), t)
+}
+
+/// Where the first random access point of the blocks from one on begins that is not before a
+/// moment: blocks without one are passed whole.
+fn sync_in_blocks(list: &BlockList<Entry, Known>, from: usize, t: &Moment) -> Option<Ticks>
+    requires { from ≤ length list.now.rows }
+    ensures { result ≡ first_start (is_sync_from t.now) (joined (drop from list.now.rows)) }
+{
+    for b in from..list.blocks() {
+        match sync_in(list, b, t) {
+            Some(pts) => return Some(pts),
+            None => {}
+        }
+    }
+    None
+}
+
+impl Order {
+    /// An order of no entry, in blocks of at most `2 * half`.
+    pub(crate) fn new(alloc: Global, half: usize) -> Order
+        requires half_not_zero { 0 < half }
+        requires half_at_most_64 { half ≤ 64 }
+        ensures { joined result.rows ≡ [] }
+    {
+        Order {
+            list: BlockList::new(alloc, half),
+            tops: Vec::new(alloc),
+        }
+    }
+
+    /// Makes room for `n` more entries.
+    pub(crate) fn reserve(&mut self, n: usize) -> Result<(), OutOfMemory>
+        ensures rows { self.new.rows ≡ self.old.rows }
+        ensures kept { self.old.spare ≤ self.new.spare }
+        ensures ok { OnOk result (n ≤ self.new.spare) }
+    {
+        self.list.reserve(n)?;
+        self.tops.reserve(n)?;
+        Ok(())
+    }
+
+    /// Puts an entry after all that begin no later.
+    pub(crate) fn put(&mut self, entry: Entry)
+        requires spare { 1 ≤ self.old.spare }
+        requires keyed { IsKeyed (joined self.old.rows) }
+        ensures items { joined self.new.rows ≡ put entry (joined self.old.rows) }
+        ensures spare { self.old.spare ≤ self.new.spare + 1 }
+    {
+        let key = Key::at(Mark::after(entry.pts));
+        if self.list.blocks() == 0 {
+            self.list.push(entry);
+            refresh(&mut self.tops, &self.list, 0);
+            return;
+        }
+        let spot = search(&self.list, &key);
+        self.list.insert(spot, entry);
+        refresh(&mut self.tops, &self.list, spot.block);
+    }
+
+    /// Takes out the entry of a serial, which begins at `pts`.
+    pub(crate) fn take_out(&mut self, pts: Ticks, serial: u64)
+        requires keyed { IsKeyed (joined self.old.rows) }
+        requires own { AllByRecursion (λ o. o.serial ≡ serial → o.pts ≡ pts)
+            (joined self.old.rows) }
+        requires held { list_any (has_entry_serial serial) (joined self.old.rows) ≡ true }
+        ensures items { joined self.new.rows
+            ≡ filter (λ o. not (has_entry_serial serial o)) (joined self.old.rows) }
+        ensures spare { self.old.spare ≤ self.new.spare }
+    {
+        let spot = place_of(&self.list, pts, serial);
+        self.list.remove(spot);
+        refresh(&mut self.tops, &self.list, spot.block);
+    }
+
+    /// Gives the entry of a serial, which begins at `pts`, another duration.
+    pub(crate) fn shorten(&mut self, pts: Ticks, serial: u64, dur: Ticks)
+        requires keyed { IsKeyed (joined self.old.rows) }
+        requires own { AllByRecursion (λ o. o.serial ≡ serial → o.pts ≡ pts)
+            (joined self.old.rows) }
+        requires held { list_any (has_entry_serial serial) (joined self.old.rows) ≡ true }
+        ensures items { joined self.new.rows ≡ map (shorter serial dur) (joined self.old.rows) }
+        ensures spare { self.old.spare ≤ self.new.spare }
+    {
+        let spot = place_of(&self.list, pts, serial);
+        let entry = *self.list.item(spot);
+        let shorter = Entry {
+            pts: entry.pts,
+            dur,
+            serial: entry.serial,
+            sync: entry.sync,
+        };
+        self.list.set(spot, shorter);
+        refresh(&mut self.tops, &self.list, spot.block);
+    }
+
+    /// The last entry that holds a time.
+    pub(crate) fn last_holding(&self, t: Ticks, visits: &mut u64) -> Option<Entry>
+        requires keyed { IsKeyed (joined self.now.rows) }
+        ensures last { result ≡ last_that (entry_covers t) (joined self.now.rows) }
+        ensures not_less { visits.old ≤ visits.new }
+        ensures at_most { visits.new ≤ visits.old + 256 }
+    {
+        let key = Key::at(Mark::after(t));
+        if self.list.blocks() == 0 {
+            return None;
+        }
+        let spot = search(&self.list, &key);
+        match look(&self.list, spot.block, spot.index, t, visits) {
+            Some(entry) => Some(entry),
+            None => last_in_blocks(&self.list, &self.tops, spot.block, t, visits),
+        }
+    }
+
+    /// Where the first random access point begins that is not before a moment.
+    pub(crate) fn sync_at_or_after(&self, t: &Moment) -> Option<Ticks>
+        requires keyed { IsKeyed (joined self.now.rows) }
+        ensures { result ≡ first_start (is_sync_from t.now) (joined self.now.rows) }
+    {
+        if self.list.blocks() == 0 {
+            return None;
+        }
+        let spot = spot_from(&self.list, t);
+        let items = self.list.block(spot.block);
+        match first_sync(&items[spot.index..], t) {
+            Some(pts) => Some(pts),
+            None => sync_in_blocks(&self.list, spot.block + 1, t),
+        }
+    }
+
+    /// Where the last entry begins.
+    pub(crate) fn last_start(&self) -> Option<Ticks>
+        ensures { result ≡ last_start (joined self.now.rows) }
+    {
+        let n = self.list.blocks();
+        if n == 0 {
+            return None;
+        }
+        // No block is empty.
+        let _spare = self.list.spare();
+        let index = self.list.block(n - 1).len() - 1;
+        let entry = self.list.item(Spot {
+            block: n - 1,
+            index,
+        });
+        Some(entry.pts)
+    }
+
+    /// The greatest end.
+    pub(crate) fn highest_end(&self) -> Option<Mark>
+        ensures { result ≡ greatest_end (joined self.now.rows) }
+    {
+        top_before(&self.tops, &self.list, self.list.blocks())
+    }
+
+    /// The greatest end of the entries that stand before a key.
+    pub(crate) fn greatest_end_before(&self, key: &Key) -> Option<Mark>
+        requires keyed { IsKeyed (joined self.now.rows) }
+        ensures { result ≡ greatest_end (filter (before_key key.now) (joined self.now.rows)) }
+    {
+        if self.list.blocks() == 0 {
+            return None;
+        }
+        let spot = search(&self.list, key);
+        let items = self.list.block(spot.block);
+        let within = greatest_end(&items[..spot.index]);
+        later_end(top_before(&self.tops, &self.list, spot.block), within)
+    }
+
+    /// The place of the first entry that does not stand before a key.
+    pub(crate) fn place_at(&self, key: &Key) -> Spot
+        requires keyed { IsKeyed (joined self.now.rows) }
+        ensures place { IsPlace self.now.rows result }
+        ensures before { AllByRecursion (λ o. before_key key.now o ≡ true)
+            (take (rank self.now.rows result) (joined self.now.rows)) }
+        ensures after { AllByRecursion (λ o. before_key key.now o ≡ false)
+            (drop (rank self.now.rows result) (joined self.now.rows)) }
+    {
+        if self.list.blocks() == 0 {
+            return Spot { block: 0, index: 0 };
+        }
+        let spot = search(&self.list, key);
+        self.list.at_item(spot)
+    }
+
+    /// The place of the first entry.
+    pub(crate) fn start(&self) -> Spot
+        ensures place { IsPlace self.now.rows result }
+        ensures rank { rank self.now.rows result ≡ 0 }
+    {
+        // No block is empty.
+        let _spare = self.list.spare();
+        Spot { block: 0, index: 0 }
+    }
+
+    /// How many blocks there are.
+    pub(crate) fn blocks(&self) -> usize
+        ensures { result ≡ length self.now.rows }
+    {
+        self.list.blocks()
+    }
+
+    /// The entry at a place.
+    pub(crate) fn entry(&self, spot: Spot) -> Entry
+        requires block { spot.block < length self.now.rows }
+        requires index { spot.index < length (row self.now.rows spot.block) }
+        ensures { result ≡ slice_index_or (joined self.now.rows) (rank self.now.rows spot) result }
+    {
+        *self.list.item(spot)
+    }
+
+    /// The place behind that of an entry.
+    pub(crate) fn next(&self, spot: Spot) -> Spot
+        requires block { spot.block < length self.now.rows }
+        requires index { spot.index < length (row self.now.rows spot.block) }
+        ensures rank { rank self.now.rows result ≡ rank self.now.rows spot + 1 }
+        ensures place { IsPlace self.now.rows result }
+    {
+        self.list.next(spot)
+    }
+
+    /// The first entry not before a key that begins before a moment and has a serial below a
+    /// number.
+    pub(crate) fn first_named(&self, key: &Key, to: &Moment, below: u64) -> Option<Entry>
+        requires keyed { IsKeyed (joined self.now.rows) }
+        ensures found { IfSome result (λ e. IsFound key.now to.now below e (joined self.now.rows)) }
+        ensures none { IfNone result
+            (AllByRecursion (λ o. before_key key.now o ≡ false → entry_named to.now below o ≡ false)
+            (joined self.now.rows)) }
+    {
+        let mut spot = self.place_at(key);
+        while spot.block < self.blocks() {
+            let entry = self.entry(spot);
+            if !entry.pts.is_before(*to) {
+                return None;
             }
-        }
-        Some(b) => {
-            if below <= entry.serial {
-                Some(b)
-            } else {
-                Some(if b <= entry.serial { b } else { entry.serial })
+            if entry.serial < below {
+                return Some(entry);
             }
+            spot = self.next(spot);
         }
+        None
     }
-}
-
-/// The least serial below a number, of the entries from a time on that begin before a moment.
-pub(crate) fn first_named(order: &[Entry], from: Ticks, to: &Moment, below: u64) -> Option<u64>
-    requires { IsSorted order.now }
-    ensures { IsFirstOf result (entry_within from to.now below) order.now }
-{
-    let mut best = None;
-    let mut i = place_before(order, Mark::at(from));
-    while i < order.len() {
-        let entry = order[i];
-        if !is_before(entry.pts, to) {
-            return best;
-        }
-        best = first_of(best, &entry, below);
-        i += 1;
-    }
-    best
-}
-
-/// An entry with another duration, where it has the serial.
-fn shorter(entry: &Entry, serial: u64, dur: Ticks) -> Entry
-    ensures { result ≡ shorter serial dur entry.now }
-{
-    Entry {
-        serial: entry.serial,
-        pts: entry.pts,
-        dur: if entry.serial == serial {
-            dur
-        } else {
-            entry.dur
-        },
-        sync: entry.sync,
-    }
-}
-
-/// The places of some entries that stand side by side: from the first up to before `to`.
-#[derive(Clone, Copy)]
-pub(crate) struct Places {
-    pub(crate) from: usize,
-    pub(crate) to: usize,
-}
-
-/// Gives the entry of a serial, which begins at `pts`, another duration; where it may stand.
-pub(crate) fn shorten(order: &mut Vec<Entry>, pts: Ticks, serial: u64, dur: Ticks) -> Places
-    requires sorted { IsSorted order.old.items }
-    requires own { AllByRecursion (λ o. o.serial ≡ serial → o.pts ≡ pts) order.old.items }
-    ensures items { order.new.items ≡ map (shorter serial dur) order.old.items }
-    ensures capacity { vec_capacity order.new ≡ vec_capacity order.old }
-    ensures len { vec_len order.new ≡ vec_len order.old }
-    ensures in_order { result.from ≤ result.to }
-    ensures within { result.to ≤ length order.old.items }
-    ensures front { take result.from order.new.items ≡ take result.from order.old.items }
-    ensures rest { drop result.to order.new.items ≡ drop result.to order.old.items }
-{
-    let from = place_before(order, Mark::at(pts));
-    let to = place_after(order, pts);
-    for i in from..to {
-        let entry = shorter(&order[i], serial, dur);
-        order[i] = entry;
-    }
-    Places { from, to }
 }

@@ -1,6 +1,11 @@
+pub mod Betweens
 pub mod Clearing
 pub mod Counting
 pub mod Folding
+pub mod Grouping
+pub mod Limits
 pub mod Listing
 pub mod Overlapping
+pub mod Runs
 pub mod Soundness
+pub mod StillSound

@@ -6,15 +6,15 @@ use Rattle.std.proofs.lemmas.List.{map_push, length-map, length-append}
 use Rattle.std.proofs.lemmas.List.Sums.{fold-append}
 use Rattle.mse_base.specs.Time.{IsTick}
 use Rattle.mse_base.specs.declared.span.Span.{Span}
-use Rattle.mse_base.specs.Bridging.{IsRanges, join_in, bridged}
+use Rattle.mse_base.specs.Bridging.{IsRanges, ranges_with, bridged_ranges}
 use Rattle.mse_base.proofs.Merging.{ranges_bridged, length_bridged}
 use Rattle.track_store.specs.declared.store.Stored.{Stored}
-use Rattle.track_store.specs.Frames.{IsTimed, used_of, interval, intervals, ranges_of, cleared_after, with_dur}
+use Rattle.track_store.specs.Frames.{IsTimed, bytes_of, interval, intervals, ranges_of, frames_left, with_dur}
 use Rattle.track_store.specs.Listed.{IsListed}
 use Rattle.track_store.proofs.Clearing.{kept_push, kept-cleared, kept-shortened, each-cleared, each-push, shortened_at}
 
-join_push : (gap : ℤ) (fs : List Stored) (x : Stored) → ranges_of gap (fs ++ x ∷ []) ≡ join_in gap (ranges_of gap fs) (interval x)
-join_push gap fs x = ap (bridged gap) (map_push interval fs x) ∙ fold-append (join_in gap) [] (intervals fs) (interval x ∷ [])
+join_push : (gap : ℤ) (fs : List Stored) (x : Stored) → ranges_of gap (fs ++ x ∷ []) ≡ ranges_with gap (ranges_of gap fs) (interval x)
+join_push gap fs x = ap (bridged_ranges gap) (map_push interval fs x) ∙ fold-append (ranges_with gap) [] (intervals fs) (interval x ∷ [])
 
 -- there are no more ranges than frames
 pub few_ranges : (gap : ℤ) (fs : List Stored) (rs : List Span) → rs ≡ ranges_of gap fs → length rs ≤ length fs
@@ -29,21 +29,21 @@ pub are_ranges : (gap : ℤ) (fs : List Stored) (rs : List Span) → pos 0 ≤�
 are_ranges gap fs rs g e = subst (λ (ps : List Span). IsRanges gap ps) (sym e) (ranges_bridged gap (intervals fs) g)
 
 -- one more frame
-pub listed_push : (fs gs : List Stored) (rs ps : List Span) (gap : ℤ) (room next : ℕ) (x : Stored) → IsListed fs rs gap room → gs ≡ fs ++ x ∷ [] → ps ≡ join_in gap rs (interval x) → length fs + 1 ≤ next → AllByRecursion (λ f. f.serial < x.serial) fs → IsTimed x → used_of fs + length x.frame.payload < 2 ^ 62 → IsListed gs ps gap next
+pub listed_push : (fs gs : List Stored) (rs ps : List Span) (gap : ℤ) (room next : ℕ) (x : Stored) → IsListed fs rs gap room → gs ≡ fs ++ x ∷ [] → ps ≡ ranges_with gap rs (interval x) → length fs + 1 ≤ next → AllByRecursion (λ f. f.serial < x.serial) fs → IsTimed x → bytes_of fs + length x.frame.payload < 2 ^ 62 → IsListed gs ps gap next
 listed_push fs gs rs ps gap room next x h e joined r l t s = record {
   kept = rw e (kept_push fs x h.kept l s);
   timed = rw e (each-push IsTimed fs x h.timed t);
-  forward = h.forward;
-  joined = joined ∙ ap (λ qs. join_in gap qs (interval x)) h.joined ∙ sym (join_push gap fs x) ∙ ap (ranges_of gap) (sym e);
+  gap_not_negative = h.gap_not_negative;
+  joined = joined ∙ ap (λ qs. ranges_with gap qs (interval x)) h.joined ∙ sym (join_push gap fs x) ∙ ap (ranges_of gap) (sym e);
   roomy = let a = length-append fs (x ∷ []) in let b : length (x ∷ []) ≡ 1 = refl in let c = ap length e in omega arith;
 }
 
 -- fewer frames
-pub listed_cleared : (named : Stored → Bool) (fs gs : List Stored) (rs ps : List Span) (gap : ℤ) (room next : ℕ) → IsListed fs rs gap room → gs ≡ cleared_after false named fs → length gs ≤ length fs → ps ≡ ranges_of gap gs → room ≤ next → IsListed gs ps gap next
+pub listed_cleared : (named : Stored → Bool) (fs gs : List Stored) (rs ps : List Span) (gap : ℤ) (room next : ℕ) → IsListed fs rs gap room → gs ≡ frames_left false named fs → length gs ≤ length fs → ps ≡ ranges_of gap gs → room ≤ next → IsListed gs ps gap next
 listed_cleared named fs gs rs ps gap room next h e few joined more = record {
   kept = rw e (kept-cleared false named fs h.kept);
   timed = rw e (each-cleared IsTimed false named fs h.timed);
-  forward = h.forward;
+  gap_not_negative = h.gap_not_negative;
   joined = joined;
   roomy = let low = h.roomy in omega arith;
 }
@@ -75,7 +75,7 @@ pub listed_cut : (fs : List Stored) (rs ps : List Span) (gap dur : ℤ) (room ne
 listed_cut fs rs ps gap dur room next i x h at timed joined more = record {
   kept = rw (shortened_at fs i x dur h.kept.ascending at) (kept-shortened x.serial dur fs h.kept);
   timed = timed;
-  forward = h.forward;
+  gap_not_negative = h.gap_not_negative;
   joined = joined;
   roomy = let low = h.roomy in let same = length-set_at fs i (with_dur dur x) in omega arith;
 }

@@ -4,12 +4,12 @@ use Rattle.std.specs.Option.{IfSome}
 use Rattle.std.specs.List.{AllByRecursion}
 use Rattle.std.proofs.lemmas.Bool.{cases_lt}
 use Rattle.track_store.specs.declared.store.Stored.{Stored}
-use Rattle.track_store.specs.Frames.{cleared_after, IsAscending, shortened, has_serial, with_dur, from_sync}
+use Rattle.track_store.specs.Frames.{frames_left, IsAscending, frames_with_dur, has_serial, with_dur, from_sync}
 use Rattle.track_store.specs.Sound.{HasPredecessor, IsDecodable, IsNext, IsChained, last_serial}
 use Rattle.track_store.proofs.Clearing.{goes, cleared-goes, cleared-stays}
 
 -- where no frame is named all stay
-pub cleared-unnamed : (named : Stored → Bool) (fs : List Stored) → AllByRecursion (λ f. named f ≡ false) fs → cleared_after false named fs ≡ fs
+pub cleared-unnamed : (named : Stored → Bool) (fs : List Stored) → AllByRecursion (λ f. named f ≡ false) fs → frames_left false named fs ≡ fs
 cleared-unnamed named [] h = refl
 cleared-unnamed named (f ∷ fs) h = cleared-stays named false f fs (ap (λ b. b || false) h.0) ∙ ap (λ gs. f ∷ gs) (cleared-unnamed named fs h.1)
 
@@ -21,18 +21,18 @@ stays_linked n false false before before' serial e same (inr h) = inr (subst (λ
 stays_linked false true false before before' serial e same (inr h) = cc
 stays_linked true true false before before' serial e same (inr h) = cc
 
-chained-step : (named : Stored → Bool) (gone : Bool) (before before' : Option ℕ) (f : Stored) (fs : List Stored) (b : Bool) → goes named gone f ≡ b → (gone ≡ false → before ≡ before') → IsChained before (f ∷ fs) → IsChained before' (cleared_after true named fs) → IsChained (Some f.serial) (cleared_after false named fs) → IsChained before' (cleared_after gone named (f ∷ fs))
+chained-step : (named : Stored → Bool) (gone : Bool) (before before' : Option ℕ) (f : Stored) (fs : List Stored) (b : Bool) → goes named gone f ≡ b → (gone ≡ false → before ≡ before') → IsChained before (f ∷ fs) → IsChained before' (frames_left true named fs) → IsChained (Some f.serial) (frames_left false named fs) → IsChained before' (frames_left gone named (f ∷ fs))
 chained-step named gone before before' f fs true e same h went stayed = subst (λ gs. IsChained before' gs) (sym (cleared-goes named gone f fs e)) went
 chained-step named gone before before' f fs false e same h went stayed =
     subst (λ gs. IsChained before' gs) (sym (cleared-stays named gone f fs e)) (stays_linked (named f) gone f.frame.sync before before' f.serial e same h.0, stayed)
 
-pub chained-cleared : (named : Stored → Bool) (gone : Bool) (before before' : Option ℕ) (fs : List Stored) → (gone ≡ false → before ≡ before') → IsChained before fs → IsChained before' (cleared_after gone named fs)
+pub chained-cleared : (named : Stored → Bool) (gone : Bool) (before before' : Option ℕ) (fs : List Stored) → (gone ≡ false → before ≡ before') → IsChained before fs → IsChained before' (frames_left gone named fs)
 chained-cleared named gone before before' [] same h = h
 chained-cleared named gone before before' (f ∷ fs) same h =
     chained-step named gone before before' f fs (goes named gone f) refl same h (chained-cleared named true (Some f.serial) before' fs (λ e. cc) h.1) (chained-cleared named false (Some f.serial) (Some f.serial) fs (λ _. refl) h.1)
 
 -- the last frame stays, where only frames older than its group are named and its group begins with a random access point
-last-step : (named : Stored → Bool) (gone : Bool) (before : Option ℕ) (m : Option ℕ) (f : Stored) (fs : List Stored) → last_serial before (cleared_after true named fs) ≡ m → last_serial (Some f.serial) (cleared_after false named fs) ≡ m → (b : Bool) → goes named gone f ≡ b → last_serial before (cleared_after gone named (f ∷ fs)) ≡ m
+last-step : (named : Stored → Bool) (gone : Bool) (before : Option ℕ) (m : Option ℕ) (f : Stored) (fs : List Stored) → last_serial before (frames_left true named fs) ≡ m → last_serial (Some f.serial) (frames_left false named fs) ≡ m → (b : Bool) → goes named gone f ≡ b → last_serial before (frames_left gone named (f ∷ fs)) ≡ m
 last-step named gone before m f fs went stayed true e = ap (last_serial before) (cleared-goes named gone f fs e) ∙ went
 last-step named gone before m f fs went stayed false e = ap (last_serial before) (cleared-stays named gone f fs e) ∙ stayed
 
@@ -49,7 +49,7 @@ begins_group before n f le older first (inl h) = h
 begins_group None n f le older first (inr h) = absurd h
 begins_group (Some m) n f le older first (inr h) = first (omega arith)
 
-pub last-cleared : (named : Stored → Bool) (gone : Bool) (before before' : Option ℕ) (n m : ℕ) (fs : List Stored) → AllByRecursion (λ f. n ≤ f.serial → named f ≡ false) fs → AllByRecursion (λ f. f.serial ≡ n → f.frame.sync ≡ true) fs → IsAscending fs → IsChained before fs → IfSome before (λ k. k < n) → last_serial before fs ≡ Some m → n ≤ m → last_serial before' (cleared_after gone named fs) ≡ Some m
+pub last-cleared : (named : Stored → Bool) (gone : Bool) (before before' : Option ℕ) (n m : ℕ) (fs : List Stored) → AllByRecursion (λ f. n ≤ f.serial → named f ≡ false) fs → AllByRecursion (λ f. f.serial ≡ n → f.frame.sync ≡ true) fs → IsAscending fs → IsChained before fs → IfSome before (λ k. k < n) → last_serial before fs ≡ Some m → n ≤ m → last_serial before' (frames_left gone named fs) ≡ Some m
 last-cleared named gone None before' n m [] older first up chain low last le = cc
 last-cleared named gone (Some k) before' n m [] older first up chain low last le = (let same : k ≡ m = cc in absurd (omega arith))
 last-cleared named gone before before' n m (f ∷ fs) older first up chain low last le =
@@ -89,7 +89,7 @@ chain_along : (serial : ℕ) (dur : ℤ) (b : Bool) (f : Stored) (fs : List Stor
 chain_along serial dur true f fs h = h
 chain_along serial dur false f fs h = h
 
-pub chained-shortened : (serial : ℕ) (dur : ℤ) (before : Option ℕ) (fs : List Stored) → IsChained before fs → IsChained before (shortened serial dur fs)
+pub chained-shortened : (serial : ℕ) (dur : ℤ) (before : Option ℕ) (fs : List Stored) → IsChained before fs → IsChained before (frames_with_dur serial dur fs)
 chained-shortened serial dur before [] h = h
 chained-shortened serial dur before (f ∷ fs) h =
     (link_along before (has_serial serial f) dur f h.0, chain_along serial dur (has_serial serial f) f _ (chained-shortened serial dur (Some f.serial) fs h.1))
@@ -111,17 +111,17 @@ or_false : (b : Bool) → (b || false) ≡ b
 or_false true = refl
 or_false false = refl
 
-from_cases : (named : Stored → Bool) (f : Stored) (fs : List Stored) (s : Bool) → f.frame.sync ≡ s → cleared_after true named fs ≡ cleared_after false named (from_sync fs) → cleared_after true named (f ∷ fs) ≡ cleared_after false named (cond s (f ∷ fs) (from_sync fs))
+from_cases : (named : Stored → Bool) (f : Stored) (fs : List Stored) (s : Bool) → f.frame.sync ≡ s → frames_left true named fs ≡ frames_left false named (from_sync fs) → frames_left true named (f ∷ fs) ≡ frames_left false named (cond s (f ∷ fs) (from_sync fs))
 from_cases named f fs true e ih =
-    ap (λ s. cond (named f || (true && not s)) (cleared_after true named fs) (f ∷ cleared_after false named fs)) e
+    ap (λ s. cond (named f || (true && not s)) (frames_left true named fs) (f ∷ frames_left false named fs)) e
 from_cases named f fs false e ih =
     cleared-goes named true f fs (ap (λ s. named f || (true && not s)) e ∙ or_true (named f)) ∙ ih
 
 -- after a removed frame the list goes on at the next random access point
-pub cleared-from_sync : (named : Stored → Bool) (fs : List Stored) → cleared_after true named fs ≡ cleared_after false named (from_sync fs)
+pub cleared-from_sync : (named : Stored → Bool) (fs : List Stored) → frames_left true named fs ≡ frames_left false named (from_sync fs)
 cleared-from_sync named [] = refl
 cleared-from_sync named (f ∷ fs) = from_cases named f fs f.frame.sync refl (cleared-from_sync named fs)
 
-pub cleared-append : (named : Stored → Bool) (before after : List Stored) → AllByRecursion (λ f. named f ≡ false) before → cleared_after false named (before ++ after) ≡ before ++ cleared_after false named after
+pub cleared-append : (named : Stored → Bool) (before after : List Stored) → AllByRecursion (λ f. named f ≡ false) before → frames_left false named (before ++ after) ≡ before ++ frames_left false named after
 cleared-append named [] after h = refl
 cleared-append named (f ∷ before) after h = cleared-stays named false f (before ++ after) (ap (λ b. b || false) h.0) ∙ ap (λ gs. f ∷ gs) (cleared-append named before after h.1)

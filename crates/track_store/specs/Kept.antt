@@ -1,23 +1,30 @@
 -- What holds of all tracks of a source buffer.
-use Rattle.std.specs.Prelude.{ℕ, ◌<◌, ◌≤◌, ◌^◌, ℤ, ◌+ℤ◌, ◌≤ℤ◌, List, map, sum_by}
+use Rattle.std.specs.Prelude.{ℕ, ◌<◌, ◌≤◌, ◌^◌, ℤ, ◌+ℤ◌, ◌≤ℤ◌, List, [], ◌∷◌, map, sum_by, ⊤}
 use Rattle.std.specs.List.{AllByRecursion}
 use Rattle.track_store.specs.declared.tracks.Track.{Track}
-use Rattle.track_store.specs.Frames.{used_of}
+use Rattle.track_store.specs.Frames.{bytes_of}
 use Rattle.track_store.specs.State.{TrackState}
 use Rattle.track_store.specs.Sound.{Sound}
 
 -- the bytes stored in all track buffers
 abbrev pub bytes_in : List TrackState → ℕ
-bytes_in ts = sum_by (λ t. used_of t.frames) ts
+bytes_in ts = sum_by (λ t. bytes_of t.frames) ts
 
 -- what every step keeps: each track buffer is sound, and the bytes of all can be counted
 pub record AreKept (ts : List TrackState) : Type 0 where
   pub sound : AllByRecursion Sound ts
   pub small : bytes_in ts < 2 ^ 62
 
+-- of two lists of the same tracks, each track that is sound in the first is sound in the second
+abbrev pub AreStillSound : List TrackState → List TrackState → Type 0
+AreStillSound [] [] = ⊤
+AreStillSound [] (u ∷ us) = ⊥
+AreStillSound (t ∷ ts) [] = ⊥
+AreStillSound (t ∷ ts) (u ∷ us) = (Sound t → Sound u) × AreStillSound ts us
+
 -- each stored frame ends at or before a time
-abbrev pub EndBy : ℤ → List TrackState → Type 0
-EndBy limit ts = AllByRecursion (λ t. AllByRecursion (λ f. (f.frame.pts +ℤ f.frame.dur) ≤ℤ limit) t.frames) ts
+abbrev pub AreEndedBy : ℤ → List TrackState → Type 0
+AreEndedBy limit ts = AllByRecursion (λ t. AllByRecursion (λ f. (f.frame.pts +ℤ f.frame.dur) ≤ℤ limit) t.frames) ts
 
 -- each store has room for so many more frames
 abbrev pub HasRoom : {S : Type 0} → (S → ℕ) → ℕ → List (Track S) → Type 0

@@ -6,3 +6,4 @@ pub mod State
 pub mod Sound
 pub mod Kept
 pub mod Listed
+pub mod Calls

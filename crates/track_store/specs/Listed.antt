@@ -9,6 +9,6 @@ use Rattle.track_store.specs.Frames.{IsKept, IsTimed, ranges_of}
 pub record IsListed (frames : List Stored) (ranges : List Span) (gap : ℤ) (room : ℕ) : Type 0 where
   pub kept : IsKept frames
   pub timed : AllByRecursion IsTimed frames
-  pub forward : pos 0 ≤ℤ gap
+  pub gap_not_negative : pos 0 ≤ℤ gap
   pub joined : ranges ≡ ranges_of gap frames
   pub roomy : length frames ≤ room

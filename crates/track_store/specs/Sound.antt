@@ -32,8 +32,8 @@ last_serial before [] = before
 last_serial before (f ∷ fs) = last_serial (Some f.serial) fs
 
 -- a frame neither begins before 0 nor ends before it begins
-abbrev pub IsForward : Stored → Type 0
-IsForward f = (pos 0 ≤ℤ f.frame.pts) × (pos 0 ≤ℤ f.frame.dur)
+abbrev pub IsNotNegative : Stored → Type 0
+IsNotNegative f = (pos 0 ≤ℤ f.frame.pts) × (pos 0 ≤ℤ f.frame.dur)
 
 -- the marks are set or unset together, and where they are unset a random access point is needed
 abbrev pub AreTogether : Option ℤ → Option ℤ → Option ℤ → Option ℕ → Bool → Type 0
@@ -48,10 +48,10 @@ pub record Sound (t : TrackState) : Type 0 where
   pub chained : IsChained None t.frames
   pub ascending : IsAscending t.frames
   pub below : AllByRecursion (λ f. f.serial < t.marks.received) t.frames
-  pub forward : AllByRecursion IsForward t.frames
+  pub not_negative : AllByRecursion IsNotNegative t.frames
   pub timed : AllByRecursion IsTimed t.frames
   -- while no random access point is needed, the frame that was received last is held, and last
-  pub follows : t.marks.need_sync ≡ false → IsNext (last_serial None t.frames) t.marks.received
+  pub last_held : t.marks.need_sync ≡ false → IsNext (last_serial None t.frames) t.marks.received
   pub together : AreTogether t.marks.last_decode t.marks.last_duration t.marks.highest_end t.marks.group_first t.marks.need_sync
   -- the group of frames since the last discontinuity begins with a random access point
   pub group_below : IfSome t.marks.group_first (λ n. n < t.marks.received)

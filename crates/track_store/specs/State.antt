@@ -25,9 +25,9 @@ new_marks = record { last_decode = None; last_duration = None; highest_end = Non
 
 -- the marks after a discontinuity: all unset, and a random access point is needed; the count goes on
 -- (Media Source Extensions, coded frame processing, steps 1.6.2 to 1.6.5)
-abbrev pub unset : Marks → Marks
-unset m = record m { last_decode = None; last_duration = None; highest_end = None; group_first = None; need_sync = true }
+abbrev pub unset_marks : Marks → Marks
+unset_marks m = record m { last_decode = None; last_duration = None; highest_end = None; group_first = None; need_sync = true }
 
 -- the marks where a random access point is needed
-abbrev pub needing_sync : Marks → Marks
-needing_sync m = record m { need_sync = true }
+abbrev pub marks_needing_sync : Marks → Marks
+marks_needing_sync m = record m { need_sync = true }

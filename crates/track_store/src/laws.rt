@@ -1,11 +1,16 @@
 //! What follows from the definitions of this crate: functions that do nothing, with the laws as
 //! their contracts.
 
-ghost use Rattle.std.specs.Prelude.{◌≡◌, Bool, true, false, List, [], ◌∷◌, ◌++◌, ◌||◌};
+ghost use Rattle.std.specs.Prelude.{◌≡◌, ◌+ℤ◌, ◌≤ℤ◌, ℤ, Bool, true, false, List, [], ◌∷◌, ◌++◌, ◌||◌, Some, None};
 ghost use Rattle.std.specs.List.{AllByRecursion};
-ghost use Rattle.track_store.specs.Frames.{cleared, from_sync};
+ghost use Rattle.track_store.specs.Calls.{IsRun};
+ghost use Rattle.mse_base.specs.Moments.{greatest};
+ghost use Rattle.track_store.specs.Frames.{ends, frames_without, from_sync};
+ghost use Rattle.track_store.specs.Kept.{AreEndedBy};
 ghost use Rattle.track_store.specs.Sound.{Sound, IsDecodable};
 ghost use Rattle.track_store.specs.State.{TrackState};
+ghost use Rattle.track_store.specs.declared.calls.StoreAnswer.{StoreAnswer};
+ghost use Rattle.track_store.specs.declared.calls.StoreCall.{StoreCall};
 ghost use Rattle.track_store.specs.declared.store.Stored.{Stored};
 
 /// What a removal is, in the words of the standard (Media Source Extensions, coded frame removal,
@@ -13,18 +18,42 @@ ghost use Rattle.track_store.specs.declared.store.Stored.{Stored};
 /// the next random access point, and frames before the first that is named stay. The first three
 /// laws determine the removal; by the fourth, two removals one after the other are one of both.
 pub fn clearing()
-    ensures none { (named : Stored → Bool) → cleared named [] ≡ [] }
+    ensures none { (named : Stored → Bool) → frames_without named [] ≡ [] }
     ensures named { (named : Stored → Bool) (f : Stored) (fs : List Stored) → named f ≡ true
-        → cleared named (f ∷ fs) ≡ cleared named (from_sync fs) }
+        → frames_without named (f ∷ fs) ≡ frames_without named (from_sync fs) }
     ensures unnamed { (named : Stored → Bool) (before after : List Stored)
         → AllByRecursion (λ f. named f ≡ false) before
-        → cleared named (before ++ after) ≡ before ++ cleared named after }
+        → frames_without named (before ++ after) ≡ before ++ frames_without named after }
     ensures twice { (p q : Stored → Bool) (fs : List Stored)
-        → cleared q (cleared p fs) ≡ cleared (λ f. p f || q f) fs }
+        → frames_without q (frames_without p fs) ≡ frames_without (λ f. p f || q f) fs }
 {}
 
 /// In a track buffer that is sound each frame is a random access point, or the frame that the
 /// track received just before it is held too.
 pub fn decodable()
     ensures { (t : TrackState) → Sound t → IsDecodable t.frames }
+{}
+
+/// Any two stores give the same answers: from the same frames and gap, over the same calls, the
+/// answers to the look-ups are the same, and so are the frames that are left. So any store gives
+/// the answers of the plain store. What `change` and `look_up` ensure is, call by call, what the
+/// law asks of a store, and they know of it only the contract of `FrameStore`.
+pub fn same_answers()
+    ensures { (gap : ℤ) (fs gs hs : List Stored) (calls : List StoreCall)
+        (xs ys : List StoreAnswer) → IsRun gap fs calls xs gs → IsRun gap fs calls ys hs
+        → (xs ≡ ys) × (gs ≡ hs) }
+{}
+
+/// The greatest frame end timestamp bounds those of all frames, and there is one where there is a
+/// frame.
+pub fn highest_end_bounds()
+    ensures bound { (fs : List Stored) (end : ℤ) → greatest (ends fs) ≡ Some end
+        → AllByRecursion (λ f. (f.frame.pts +ℤ f.frame.dur) ≤ℤ end) fs }
+    ensures none { (fs : List Stored) → greatest (ends fs) ≡ None → fs ≡ [] }
+{}
+
+/// Frames that end at or before a time end at or before a later one.
+pub fn raised_limit()
+    ensures { (limit more : ℤ) (ts : List TrackState) → limit ≤ℤ more → AreEndedBy limit ts
+        → AreEndedBy more ts }
 {}

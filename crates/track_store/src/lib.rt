@@ -9,14 +9,18 @@
 //! point, or the frame received just before it is held too.
 #![tactic(auto)]
 
+pub mod calls;
 pub mod laws;
 mod list_store;
 pub mod named;
+pub mod places;
+mod removal;
 mod store;
 #[cfg(test)]
 mod tests;
 mod tracks;
 
 pub use list_store::ListStore;
+pub use removal::remove_between;
 pub use store::{FrameStore, Stored};
 pub use tracks::{Marks, Settings, Track, Tracks};

@@ -1,17 +1,19 @@
 ghost use Rattle.std.specs.Prelude.{◌≡◌, ◌||◌, ◌&&◌, not, ◌+◌, ◌<◌, ◌^◌, ◌≤◌, ◌≤ℤ◌, ◌+ℤ◌, pos, false, slice_get, vec_capacity, vec_len, IfSome, length, if◌then◌else◌, Some};
 ghost use Rattle.std.specs.List.{AllByRecursion};
 ghost use Rattle.mse_base.specs.Time.{IsTick};
-ghost use Rattle.track_store.specs.Frames.{cleared_after, is_before, covers, later_of, overlapped, found_at, lesser_of, greater_of, least, greatest, starts, ends, interval, ranges_of, sync_times_from, used_of, IsTimed};
+ghost use Rattle.mse_base.specs.Moments.{is_before, least, greatest};
+ghost use Rattle.track_store.specs.Frames.{frames_left, is_in_frame, later_frame, overlapped, frame_at, starts, ends, interval, ranges_of, sync_times_from, bytes_of, IsTimed};
 ghost use Rattle.track_store.specs.Named.{is_named};
 
-use crate::named::{Named, is_before};
+use crate::named::Named;
+use crate::places::{group_start, place_of};
 use crate::{FrameStore, Stored};
 use mse_base::{Moment, OutOfMemory, Ranges, Span, Ticks};
 use std::alloc::Global;
 use std::marker::Model;
 
 fn clear(frames: &mut Vec<Stored>, named: &Named)
-    ensures items { frames.new.items ≡ cleared_after false (is_named named.now) frames.old.items }
+    ensures items { frames.new.items ≡ frames_left false (is_named named.now) frames.old.items }
     ensures capacity { vec_capacity frames.new ≡ vec_capacity frames.old }
     ensures shorter { vec_len frames.new ≤ vec_len frames.old }
 {
@@ -27,16 +29,16 @@ fn clear(frames: &mut Vec<Stored>, named: &Named)
     }
 }
 
-fn covers(stored: &Stored, t: Ticks) -> bool
-    ensures { result ≡ covers t stored.now }
+fn is_in_frame(stored: &Stored, t: Ticks) -> bool
+    ensures { result ≡ is_in_frame t stored.now }
 {
     stored.frame.pts <= t && t.get() < stored.frame.pts.get() + stored.frame.dur.get()
 }
 
 fn begins_no_later(frames: &[Stored], best: Option<usize>, stored: &Stored) -> bool
     requires { IfSome best (λ i. i < length frames.now) }
-    ensures { later_of (found_at frames.now best) stored.now
-        ≡ (if result then Some stored.now else found_at frames.now best) }
+    ensures { later_frame (frame_at frames.now best) stored.now
+        ≡ (if result then Some stored.now else frame_at frames.now best) }
 {
     match best {
         None => true,
@@ -48,13 +50,13 @@ fn begins_no_later(frames: &[Stored], best: Option<usize>, stored: &Stored) -> b
 fn later(frames: &[Stored], best: Option<usize>, i: usize, t: Ticks) -> Option<usize>
     requires found { IfSome best (λ j. j < length frames.now) }
     requires in_range { i < length frames.now }
-    ensures frame { IfSome (slice_get frames.now i) (λ f. found_at frames.now result
-        ≡ (if covers t f then later_of (found_at frames.now best) f
-        else found_at frames.now best)) }
+    ensures frame { IfSome (slice_get frames.now i) (λ f. frame_at frames.now result
+        ≡ (if is_in_frame t f then later_frame (frame_at frames.now best) f
+        else frame_at frames.now best)) }
     ensures found { IfSome result (λ j. j < length frames.now) }
 {
     let stored = &frames[i];
-    if covers(stored, t) && begins_no_later(frames, best, stored) {
+    if is_in_frame(stored, t) && begins_no_later(frames, best, stored) {
         Some(i)
     } else {
         best
@@ -62,7 +64,7 @@ fn later(frames: &[Stored], best: Option<usize>, i: usize, t: Ticks) -> Option<u
 }
 
 fn overlapped(frames: &[Stored], t: Ticks) -> Option<usize>
-    ensures frame { found_at frames.now result ≡ overlapped t frames.now }
+    ensures frame { frame_at frames.now result ≡ overlapped t frames.now }
     ensures in_range { IfSome result (λ i. i < length frames.now) }
 {
     let mut best = None;
@@ -72,28 +74,10 @@ fn overlapped(frames: &[Stored], t: Ticks) -> Option<usize>
     best
 }
 
-fn lesser(best: Option<Ticks>, t: Ticks) -> Option<Ticks>
-    ensures { result ≡ lesser_of best t }
-{
-    match best {
-        None => Some(t),
-        Some(s) => Some(if s <= t { s } else { t }),
-    }
-}
-
-fn greater(best: Option<Ticks>, t: Ticks) -> Option<Ticks>
-    ensures { result ≡ greater_of best t }
-{
-    match best {
-        None => Some(t),
-        Some(s) => Some(if s <= t { t } else { s }),
-    }
-}
-
 fn is_sync_from(stored: &Stored, t: &Moment) -> bool
     ensures { result ≡ (stored.now.frame.sync && not (is_before stored.now.frame.pts t.now)) }
 {
-    let before = is_before(stored.frame.pts, t);
+    let before = stored.frame.pts.is_before(*t);
     stored.frame.sync && !before
 }
 
@@ -103,7 +87,7 @@ fn sync_at_or_after(frames: &[Stored], t: &Moment) -> Option<Ticks>
     let mut best = None;
     for stored in frames {
         if is_sync_from(stored, t) {
-            best = lesser(best, stored.frame.pts);
+            best = stored.frame.pts.lesser_of(best);
         }
     }
     best
@@ -114,7 +98,7 @@ fn highest_start(frames: &[Stored]) -> Option<Ticks>
 {
     let mut best = None;
     for stored in frames {
-        best = greater(best, stored.frame.pts);
+        best = stored.frame.pts.greater_of(best);
     }
     best
 }
@@ -135,14 +119,14 @@ fn highest_end(frames: &[Stored]) -> Option<Ticks>
 {
     let mut best = None;
     for stored in frames {
-        best = greater(best, end_of(stored));
+        best = end_of(stored).greater_of(best);
     }
     best
 }
 
 fn used(frames: &[Stored]) -> u64
-    requires { used_of frames.now < 2 ^ 62 }
-    ensures { result ≡ used_of frames.now }
+    requires { bytes_of frames.now < 2 ^ 62 }
+    ensures { result ≡ bytes_of frames.now }
 {
     let mut total = 0;
     for stored in frames {
@@ -163,7 +147,7 @@ fn interval(stored: &Stored) -> Span
 
 /// Makes the ranges anew from all frames.
 fn rejoin(ranges: &mut Ranges, frames: &[Stored], gap: Ticks)
-    requires forward { pos 0 ≤ℤ gap }
+    requires gap_not_negative { pos 0 ≤ℤ gap }
     requires timed { AllByRecursion IsTimed frames.now }
     requires room { length frames.now ≤ ranges.old.spare + length ranges.old.spans }
     ensures spans { ranges.new.spans ≡ ranges_of gap frames.now }
@@ -187,10 +171,10 @@ pub struct ListStore {
 
 impl Model for ListStore {
     ghost use Rattle.std.specs.Prelude.{◌-◌, ◌+◌, length, min, vec_capacity, vec_len};
-    ghost use Rattle.track_store.specs.Frames.{Held};
+    ghost use Rattle.track_store.specs.Frames.{StoreState};
     ghost use Rattle.track_store.specs.Listed.{IsListed};
 
-    ghost Value = { Held };
+    ghost Value = { StoreState };
 
     ghost view = { λ s. record {
       frames = s.items.items;
@@ -204,10 +188,10 @@ impl Model for ListStore {
 }
 
 impl ListStore {
-    ghost use Rattle.track_store.specs.Frames.{cleared};
+    ghost use Rattle.track_store.specs.Frames.{frames_without};
 
     fn remove(&mut self, named: &Named)
-        ensures frames { self.new.frames ≡ cleared (is_named named.now) self.old.frames }
+        ensures frames { self.new.frames ≡ frames_without (is_named named.now) self.old.frames }
         ensures spare { self.old.spare ≤ self.new.spare }
         ensures gap { self.new.gap ≡ self.old.gap }
     {
@@ -231,6 +215,11 @@ impl FrameStore for ListStore {
         }
     }
 
+    fn serials_ascend(&self) {
+        // It is kept of the items.
+        let _frames = self.items.len();
+    }
+
     fn reserve(&mut self, n: usize) -> Result<(), OutOfMemory> {
         self.items.reserve(n)?;
         self.ranges
@@ -248,6 +237,14 @@ impl FrameStore for ListStore {
 
     fn get(&self, i: usize) -> Option<&Stored> {
         self.items.get(i)
+    }
+
+    fn place_of(&self, serial: u64) -> Option<usize> {
+        place_of(&self.items, serial)
+    }
+
+    fn group_start(&self, i: usize) -> Option<usize> {
+        group_start(&self.items, i)
     }
 
     fn cut(&mut self, i: usize, dur: Ticks) {

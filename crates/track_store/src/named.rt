@@ -1,7 +1,7 @@
 //! The frames that a removal names, for stores.
 
 ghost use Rattle.std.specs.Prelude.{◌≡◌, ◌||◌, ◌&&◌, not};
-ghost use Rattle.track_store.specs.Frames.{is_before};
+ghost use Rattle.mse_base.specs.Moments.{is_before};
 ghost use Rattle.track_store.specs.Named.{is_named};
 
 use crate::Stored;
@@ -20,11 +20,7 @@ pub enum Named {
 pub fn is_before(t: Ticks, moment: &Moment) -> bool
     ensures { result ≡ is_before t moment.now }
 {
-    match moment {
-        Moment::At(m) => t < *m,
-        Moment::Infinite => true,
-        Moment::Nan => false,
-    }
+    t.is_before(*moment)
 }
 
 impl Named {

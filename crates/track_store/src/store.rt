@@ -1,8 +1,9 @@
 ghost use Rattle.std.specs.Prelude.{◌≡◌, ◌+◌, ◌<◌, ◌≤◌, ◌^◌, ℕ, ℤ, pos, ◌≤ℤ◌, ◌+ℤ◌, find, IfOk, List, [], ◌∷◌, ◌++◌, length, false, slice_get, option_copied, OnOk, IfSome};
-ghost use Rattle.std.specs.List.{AllByRecursion};
+ghost use Rattle.std.specs.List.{AllByRecursion, position};
 ghost use Rattle.mse_base.specs.Time.{IsTick};
 ghost use Rattle.mse_base.specs.Spans.{reaches, last_of};
-ghost use Rattle.track_store.specs.Frames.{used_of, ends, ranges_of, has_serial, is_within, cleared, shortened, overlapped, found_at, sync_times_from, least, starts, greatest};
+ghost use Rattle.mse_base.specs.Moments.{least, greatest};
+ghost use Rattle.track_store.specs.Frames.{bytes_of, ends, ranges_of, has_serial, is_within, frames_without, frames_with_dur, group_start_of, overlapped, frame_at, sync_times_from, starts, IsKept};
 ghost use Rattle.track_store.specs.Sound.{HasPredecessor};
 ghost use Rattle.track_store.specs.declared.store.Stored.{Stored};
 
@@ -12,9 +13,9 @@ use std::alloc::Global;
 /// A coded frame, and its number among all frames that its track received.
 #[derive(Debug, Drop)]
 pub struct Stored {
+    pub frame: CodedFrame,
     /// How many frames of the track were processed before it, dropped ones included.
     pub serial: u64,
-    pub frame: CodedFrame,
 }
 
 /// The coded frames of one track, in the order in which they were appended.
@@ -37,6 +38,11 @@ pub trait FrameStore: Sized + Drop {
         ensures frames { frames result ≡ [] }
         ensures gap { gap result ≡ tolerance };
 
+    /// What is true of every store, for proofs: it does nothing. Serials ascend, and the bytes
+    /// stored can be counted.
+    fn serials_ascend(&self)
+        ensures { IsKept (frames self.now) };
+
     /// Makes room for `n` more frames.
     fn reserve(&mut self, n: usize) -> Result<(), OutOfMemory>
         ensures frames { frames self.new ≡ frames self.old }
@@ -48,11 +54,11 @@ pub trait FrameStore: Sized + Drop {
     fn add(&mut self, frame: Stored)
         requires room { 1 ≤ spare self.old }
         requires later { AllByRecursion (λ f. f.serial < frame.serial) (frames self.old) }
-        requires follows { frame.frame.sync ≡ false
+        requires predecessor { frame.frame.sync ≡ false
             → HasPredecessor frame.serial (frames self.old) }
-        requires forward { pos 0 ≤ℤ frame.frame.dur }
+        requires dur_not_negative { pos 0 ≤ℤ frame.frame.dur }
         requires in_range { IsTick (frame.frame.pts +ℤ frame.frame.dur) }
-        requires small { used_of (frames self.old) + length frame.frame.payload < 2 ^ 62 }
+        requires small { bytes_of (frames self.old) + length frame.frame.payload < 2 ^ 62 }
         ensures frames { frames self.new ≡ frames self.old ++ frame ∷ [] }
         ensures spare { spare self.old ≤ spare self.new + 1 }
         ensures gap { gap self.new ≡ gap self.old };
@@ -65,13 +71,22 @@ pub trait FrameStore: Sized + Drop {
     fn get(&self, i: usize) -> Option<&Stored>
         ensures { option_copied result ≡ slice_get (frames self.now) i };
 
+    /// The place of the frame of a serial; `None` exactly where no frame has it.
+    fn place_of(&self, serial: u64) -> Option<usize>
+        ensures { result ≡ position (has_serial serial) (frames self.now) };
+
+    /// The place of the last random access point at or before a place, in order of appending: the
+    /// one with which the group of the frame there begins. `None` exactly where there is none.
+    fn group_start(&self, i: usize) -> Option<usize>
+        ensures { result ≡ group_start_of i (frames self.now) };
+
     /// Gives the frame at a place a duration that is not greater than it has.
     fn cut(&mut self, i: usize, dur: Ticks)
         requires in_range { i < length (frames self.old) }
         requires shorter { IfSome (slice_get (frames self.old) i)
             (λ f. (pos 0 ≤ℤ dur) × (dur ≤ℤ f.frame.dur)) }
         ensures frames { IfSome (slice_get (frames self.old) i)
-            (λ f. frames self.new ≡ shortened f.serial dur (frames self.old)) }
+            (λ f. frames self.new ≡ frames_with_dur f.serial dur (frames self.old)) }
         ensures spare { spare self.old ≤ spare self.new }
         ensures gap { gap self.new ≡ gap self.old };
 
@@ -79,21 +94,22 @@ pub trait FrameStore: Sized + Drop {
     fn remove_at(&mut self, i: usize)
         requires { i < length (frames self.old) }
         ensures frames { IfSome (slice_get (frames self.old) i)
-            (λ f. frames self.new ≡ cleared (has_serial f.serial) (frames self.old)) }
+            (λ f. frames self.new ≡ frames_without (has_serial f.serial) (frames self.old)) }
         ensures spare { spare self.old ≤ spare self.new }
         ensures gap { gap self.new ≡ gap self.old };
 
     /// Removes the frames with `from <= pts`, `pts < to` and a serial below `below`, and their
     /// decoding dependencies. Where `to` is `Moment::Nan` there is none.
     fn remove_where_time(&mut self, from: Ticks, to: Moment, below: u64)
-        ensures frames { frames self.new ≡ cleared (is_within from to below) (frames self.old) }
+        ensures frames { frames self.new ≡ frames_without (is_within from to below)
+            (frames self.old) }
         ensures spare { spare self.old ≤ spare self.new }
         ensures gap { gap self.new ≡ gap self.old };
 
     /// The place of the frame that begins last of those whose presentation interval holds a time,
     /// at a tie of the later appended; `None` exactly where no frame's does.
     fn overlapped(&self, t: Ticks) -> Option<usize>
-        ensures frame { found_at (frames self.now) result ≡ overlapped t (frames self.now) }
+        ensures frame { frame_at (frames self.now) result ≡ overlapped t (frames self.now) }
         ensures in_range { IfSome result (λ i. i < length (frames self.now)) };
 
     /// The least presentation timestamp of a random access point that is not before a moment;
@@ -119,7 +135,7 @@ pub trait FrameStore: Sized + Drop {
 
     /// The sum of the payloads' lengths in bytes.
     fn used(&self) -> u64
-        ensures value { result ≡ used_of (frames self.now) }
+        ensures value { result ≡ bytes_of (frames self.now) }
         ensures small { result < 2 ^ 62 };
 
     /// The ranges of time that the frames cover (Media Source Extensions, "track buffer ranges").

@@ -82,7 +82,7 @@ fn keeps_tracks(rt: HostRuntime) -> Result<(), Fail> {
         track.marks.received = 3;
     }
     let track = tracks.get(0).ok_or("no track")?;
-    assert_eq!(rt; track.marks.unset(), track.marks);
+    assert_eq!(rt; track.marks.unset_marks(), track.marks);
     assert!(rt; track.id == 7 && track.marks.received == 3 && tracks.get(1).is_none());
     Ok(())
 }

@@ -27,7 +27,7 @@ pub struct Marks {
 }
 
 impl Marks {
-    ghost use Rattle.track_store.specs.State.{new_marks, unset, needing_sync};
+    ghost use Rattle.track_store.specs.State.{new_marks, unset_marks, marks_needing_sync};
 
     /// The marks of a track that has received nothing.
     pub fn new() -> Marks
@@ -44,8 +44,8 @@ impl Marks {
     }
 
     /// The marks after a discontinuity: all unset, and a random access point is needed.
-    pub fn unset(&self) -> Marks
-        ensures { result ≡ unset self.now }
+    pub fn unset_marks(&self) -> Marks
+        ensures { result ≡ unset_marks self.now }
     {
         Marks {
             received: self.received,
@@ -54,8 +54,8 @@ impl Marks {
     }
 
     /// The same marks where a random access point is needed.
-    pub fn needing_sync(&self) -> Marks
-        ensures { result ≡ needing_sync self.now }
+    pub fn marks_needing_sync(&self) -> Marks
+        ensures { result ≡ marks_needing_sync self.now }
     {
         Marks {
             need_sync: true,
@@ -117,7 +117,7 @@ impl<S: FrameStore> Model for Tracks<S> {
 
 impl<S: FrameStore> Tracks<S> {
     ghost use Rattle.std.specs.Prelude.{◌<◌, ◌^◌, IfSome};
-    ghost use Rattle.track_store.specs.Frames.{used_of};
+    ghost use Rattle.track_store.specs.Frames.{bytes_of};
     ghost use Rattle.track_store.specs.Kept.{bytes_in};
     ghost use Rattle.track_store.specs.State.{states_of};
     ghost use Rattle.track_store.specs.TrackLends.{lends_track};
@@ -166,7 +166,8 @@ impl<S: FrameStore> Tracks<S> {
 
     // The bytes that are stored in the track buffer at a place, where there is one.
     fn used_at(&self, i: usize) -> u64
-        ensures value { IfSome (slice_get (states_of S.frames self.now.items) i) (λ t. result ≡ used_of t.frames) }
+        ensures value { IfSome (slice_get (states_of S.frames self.now.items) i) (λ t. result
+            ≡ bytes_of t.frames) }
         ensures small { result < 2 ^ 62 }
     {
         match self.items.get(i) {

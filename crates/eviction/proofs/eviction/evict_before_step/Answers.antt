@@ -4,8 +4,8 @@ use Rattle.mse_base.specs.declared.ticks.Moment.{Moment}
 use Rattle.track_store.specs.Room.{Room}
 use Rattle.track_store.specs.declared.tracks.Track.{Track}
 use Rattle.track_store.specs.State.{states_of}
-use Rattle.range_removal.specs.Removal.{removed_frames}
-use Rattle.eviction.specs.Evicting.{is_up_to}
+use Rattle.range_removal.specs.Removal.{tracks_after_removal}
+use Rattle.mse_base.specs.Moments.{is_at_or_before}
 use Rattle.eviction.proofs.Evictions.{before_removed, before_skipped, before_stopped, before_ended, first_removed, first_skipped, fewer_removed, fewer_skipped, later_removed}
 use Rattle.eviction.proofs.eviction.evict_before_step.Goals as goal
 use Rattle.eviction.proofs.eviction.evict_before_step.Goals.{else-is_up_to-via-then-is_up_to+else-not-remove_while_full, else-is_up_to-via-else-is_up_to}
@@ -29,11 +29,11 @@ returns-clause-states g c =
     let next = sym c.sync_after-next.ensures in
     elim c.else-is_up_to.branch [
       | else-is_up_to-via-then-is_up_to+else-not-remove_while_full w ↦
-          (let up = ap (is_up_to c.args.position) (sym c.time_or-end.ensures) ∙ sym c.is_up_to-2.ensures ∙ w.if-is_up_to.true in
-          let is = ap (λ (room : Room (Track g.row.S.Denot)). states_of F room.items) w.tracks-is ∙ w.if-not-remove_while_full.ensures.states ∙ ap (λ (e : Moment). removed_frames c.args.start e d ts) c.time_or-end.ensures in
+          (let up = ap (λ (m : Moment). is_at_or_before m c.args.position) (sym c.time_or-end.ensures) ∙ sym c.is_up_to-2.ensures ∙ w.if-is_up_to.true in
+          let is = ap (λ (room : Room (Track g.row.S.Denot)). states_of F room.items) w.tracks-is ∙ w.if-not-remove_while_full.ensures.states ∙ ap (λ (e : Moment). tracks_after_removal c.args.start e d ts) c.time_or-end.ensures in
           before_removed c.args.need.now.new_bytes c.args.need.now.quota c.args.position c.args.lead d c.args.start ts (states_of F c.else-is_up_to.tracks.items) c.sync_after-next.result c.requires.first next up w.if-not-remove_while_full.ensures.answer is)
       | else-is_up_to-via-else-is_up_to w ↦
-          (let up = ap (is_up_to c.args.position) (sym c.time_or-end.ensures) ∙ sym c.is_up_to-2.ensures ∙ w.if-is_up_to.false in
+          (let up = ap (λ (m : Moment). is_at_or_before m c.args.position) (sym c.time_or-end.ensures) ∙ sym c.is_up_to-2.ensures ∙ w.if-is_up_to.false in
           rw w.tracks-is (before_skipped c.args.need.now.new_bytes c.args.need.now.quota c.args.position c.args.lead d c.args.start ts c.sync_after-next.result c.requires.first next up))
     ]
 
@@ -45,7 +45,7 @@ returns-clause-first g c =
     let next = sym c.sync_after-next.ensures in
     elim c.else-is_up_to.branch [
       | else-is_up_to-via-then-is_up_to+else-not-remove_while_full w ↦
-          (let is = ap (λ (room : Room (Track g.row.S.Denot)). states_of F room.items) w.tracks-is ∙ w.if-not-remove_while_full.ensures.states ∙ ap (λ (e : Moment). removed_frames c.args.start e d ts) c.time_or-end.ensures in
+          (let is = ap (λ (room : Room (Track g.row.S.Denot)). states_of F room.items) w.tracks-is ∙ w.if-not-remove_while_full.ensures.states ∙ ap (λ (e : Moment). tracks_after_removal c.args.start e d ts) c.time_or-end.ensures in
           first_removed c.args.lead d c.args.start ts (states_of F c.else-is_up_to.tracks.items) c.sync_after-next.result next is)
       | else-is_up_to-via-else-is_up_to w ↦ rw w.tracks-is (first_skipped c.args.lead c.args.start ts c.sync_after-next.result next)
     ]
@@ -58,7 +58,7 @@ returns-clause-fewer g c =
     let next = sym c.sync_after-next.ensures in
     elim c.else-is_up_to.branch [
       | else-is_up_to-via-then-is_up_to+else-not-remove_while_full w ↦
-          (let is = ap (λ (room : Room (Track g.row.S.Denot)). states_of F room.items) w.tracks-is ∙ w.if-not-remove_while_full.ensures.states ∙ ap (λ (e : Moment). removed_frames c.args.start e d ts) c.time_or-end.ensures in
+          (let is = ap (λ (room : Room (Track g.row.S.Denot)). states_of F room.items) w.tracks-is ∙ w.if-not-remove_while_full.ensures.states ∙ ap (λ (e : Moment). tracks_after_removal c.args.start e d ts) c.time_or-end.ensures in
           fewer_removed c.args.lead c.args.position d c.args.start ts (states_of F c.else-is_up_to.tracks.items) c.sync_after-next.result c.requires.first next is)
       | else-is_up_to-via-else-is_up_to w ↦ rw w.tracks-is (fewer_skipped c.args.lead c.args.position d c.args.start ts c.sync_after-next.result c.requires.first next)
     ]
@@ -71,8 +71,8 @@ returns-clause-later g c =
     let next = sym c.sync_after-next.ensures in
     elim c.else-is_up_to.branch [
       | else-is_up_to-via-then-is_up_to+else-not-remove_while_full w ↦
-          (let up = ap (is_up_to c.args.position) (sym c.time_or-end.ensures) ∙ sym c.is_up_to-2.ensures ∙ w.if-is_up_to.true in
-          let is = ap (λ (room : Room (Track g.row.S.Denot)). states_of F room.items) w.tracks-is ∙ w.if-not-remove_while_full.ensures.states ∙ ap (λ (e : Moment). removed_frames c.args.start e d ts) c.time_or-end.ensures in
+          (let up = ap (λ (m : Moment). is_at_or_before m c.args.position) (sym c.time_or-end.ensures) ∙ sym c.is_up_to-2.ensures ∙ w.if-is_up_to.true in
+          let is = ap (λ (room : Room (Track g.row.S.Denot)). states_of F room.items) w.tracks-is ∙ w.if-not-remove_while_full.ensures.states ∙ ap (λ (e : Moment). tracks_after_removal c.args.start e d ts) c.time_or-end.ensures in
           later_removed c.args.lead c.args.position d c.args.start ts (states_of F c.else-is_up_to.tracks.items) c.sync_after-next.result next up is)
       | else-is_up_to-via-else-is_up_to w ↦ rw w.tracks-is refl
     ]

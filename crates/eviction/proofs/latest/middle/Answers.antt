@@ -7,7 +7,7 @@ use Rattle.eviction.proofs.latest.middle.Goals as goal
 pub unreachable-requires : goal.unreachable-requires
 unreachable-requires c =
     let both = half_between c.args.low c.args.high c.requires in
-    tick_none (floor_div (c.args.low +ℤ c.args.high) 2) (sym c.in-None.ensures.value) (half_ticks c.args.low c.args.high _ c.in-None.ensures.low c.in-None.ensures.high both)
+    tick_none (floor_div (c.args.low +ℤ c.args.high) 2) (sym c.in-None.ensures.value) (half_ticks c.args.low c.args.high _ c.in-None.ensures.low_in_range c.in-None.ensures.high_in_range both)
 
 pub returns : goal.returns
 returns c =

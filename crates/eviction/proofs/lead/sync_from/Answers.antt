@@ -1,5 +1,5 @@
 use Rattle.std.proofs.Common.{◌≡◌, ◌∙◌, sym, ap, not, filter, slice_get, option_copied, Some, None, ℤ, List}
-use Rattle.track_store.specs.Frames.{is_before}
+use Rattle.mse_base.specs.Moments.{is_before}
 use Rattle.eviction.specs.Evicting.{first_of}
 use Rattle.eviction.proofs.Syncs.{least_from}
 use Rattle.eviction.proofs.Places.{times_here, times_nowhere}

@@ -1,12 +1,9 @@
 use Rattle.std.proofs.Common.{◌+◌, ◌≤◌, length}
-use Rattle.std.specs.List.{AllByRecursion}
-use Rattle.mse_base.specs.Time.{IsTick}
 use Rattle.range_removal.proofs.Fixture.{IsFixture}
 use Rattle.eviction.proofs.tests.store_of.Given as goal
 
 abbrev pub invariant-loop-i : goal.invariant-loop-i
 invariant-loop-i g l = record {
   frames : IsFixture l.i (g.S.FrameStore.frames l.store);
-  in_range : AllByRecursion (λ f. IsTick f.frame.pts) (g.S.FrameStore.frames l.store);
   spare : length l.samples ≤ g.S.FrameStore.spare l.store + l.i;
 }

@@ -1,56 +1,58 @@
-use Rattle.std.proofs.Common.{◌∙◌, ◌≤ℤ◌, ℤ, pos, ap, sym, subst, length, refl, None, Some}
-use Rattle.frame_rules.proofs.AllTracks.{placed_full, placed_fits, ready_kept}
+use Rattle.std.proofs.Common.{◌∙◌, ◌≤ℤ◌, ℤ, pos, ap, sym, subst, length, refl}
 use Rattle.track_store.specs.State.{states_of}
-use Rattle.frame_rules.proofs.SoundPlaced.{kept_left, placed_window, end_left, timing_here}
+use Rattle.track_store.proofs.StillSound.{still_same}
+use Rattle.frame_rules.proofs.AllTracks.{placed_full, placed_counted, ready_sound}
+use Rattle.frame_rules.proofs.SoundPlaced.{firm_left, kept_of, placed_window, end_left}
 use Rattle.frame_rules.proofs.Rooms.{takes_nothing, room_left, same_length}
-use Rattle.frame_rules.specs.Place.{Outcome}
+use Rattle.frame_rules.specs.Place.{Placement}
 use Rattle.frame_rules.proofs.processing.place.Goals as goal
 
-pub returns-then-is_full-clause-outcome : goal.returns-then-is_full-clause-outcome
-returns-then-is_full-clause-outcome g c =
+pub is_full-requires : goal.is_full-requires
+is_full-requires g c = c.requires.small
+
+pub returns-then-is_full-clause-placement : goal.returns-then-is_full-clause-placement
+returns-then-is_full-clause-placement g c =
     placed_full g.S.FrameStore.frames c.args.tracks.now.items c.args.settings.now c.args.index c.args.frame c.requires.in_range (rw c.len.ensures at c.if-is_full.ensures)
 
-pub place_at-requires-clause-ready : goal.place_at-requires-clause-ready
-place_at-requires-clause-ready g c =
-    ready_kept g.S.FrameStore.frames g.S.FrameStore.spare c.args.tracks.now.items c.args.index (length c.args.frame.payload) c.requires.kept c.requires.spare (rw c.len.ensures at c.if-is_full.ensures)
+pub place_counted-requires-clause-ready : goal.place_counted-requires-clause-ready
+place_counted-requires-clause-ready g c =
+    ready_sound g.S.FrameStore.frames g.S.FrameStore.spare c.args.tracks.now.items c.args.index (length c.args.frame.payload) c.requires.sound c.requires.spare (rw c.len.ensures at c.if-is_full.ensures)
 
-pub returns-in-None-clause-outcome : goal.returns-in-None-clause-outcome
-returns-in-None-clause-outcome g c =
-    placed_fits g.S.FrameStore.frames c.args.tracks.now.items c.args.settings.now c.args.index c.args.frame None c.requires.in_range (rw c.len.ensures at c.if-is_full.ensures) c.in-None.ensures
+pub returns-clause-placement : goal.returns-clause-placement
+returns-clause-placement g c =
+    placed_counted g.S.FrameStore.frames c.args.tracks.now.items c.args.settings.now c.args.index c.args.frame _ c.requires.in_range (rw c.len.ensures at c.if-is_full.ensures) c.place_counted.ensures.placement
 
-pub returns-in-Some-clause-outcome : goal.returns-in-Some-clause-outcome
-returns-in-Some-clause-outcome g c =
-    c.place_at.ensures.outcome ∙ placed_fits g.S.FrameStore.frames c.args.tracks.now.items c.args.settings.now c.args.index c.args.frame (Some c.in-Some.timing) c.requires.in_range (rw c.len.ensures at c.if-is_full.ensures) c.in-Some.ensures
+pub returns-then-is_full-clause-sound : goal.returns-then-is_full-clause-sound
+returns-then-is_full-clause-sound g c = still_same (states_of g.S.FrameStore.frames c.args.tracks.now.items)
 
-pub returns-in-Some-clause-kept : goal.returns-in-Some-clause-kept
-returns-in-Some-clause-kept g c =
-    kept_left _ _ (states_of g.S.FrameStore.frames c.args.tracks.now.items) c.args.settings.now c.args.index c.args.frame refl (returns-in-Some-clause-outcome g c) c.requires.kept c.requires.low c.requires.forward
+pub returns-clause-sound : goal.returns-clause-sound
+returns-clause-sound g c =
+    (firm_left _ _ (states_of g.S.FrameStore.frames c.args.tracks.now.items) c.args.settings.now c.args.index c.args.frame refl (returns-clause-placement g c) c.requires.sound c.requires.small c.requires.window_start c.requires.dur_not_negative).sound
 
-pub is_full-requires : goal.is_full-requires
-is_full-requires g c = c.requires.kept.small
+pub returns-clause-small : goal.returns-clause-small
+returns-clause-small g c =
+    (firm_left _ _ (states_of g.S.FrameStore.frames c.args.tracks.now.items) c.args.settings.now c.args.index c.args.frame refl (returns-clause-placement g c) c.requires.sound c.requires.small c.requires.window_start c.requires.dur_not_negative).small
 
-pub returns-in-Some-clause-low : goal.returns-in-Some-clause-low
-returns-in-Some-clause-low g c =
+pub returns-clause-kept : goal.returns-clause-kept
+returns-clause-kept g c = kept_of (states_of g.S.FrameStore.frames c.args.tracks.now.items) _
+    (firm_left _ _ (states_of g.S.FrameStore.frames c.args.tracks.now.items) c.args.settings.now c.args.index c.args.frame refl (returns-clause-placement g c) c.requires.sound c.requires.small c.requires.window_start c.requires.dur_not_negative)
+
+pub returns-clause-window_start : goal.returns-clause-window_start
+returns-clause-window_start g c =
     let ts = states_of g.S.FrameStore.frames c.args.tracks.now.items in
-    let same = ap (λ (o : Outcome). o.settings.window_start) (returns-in-Some-clause-outcome g c) ∙ placed_window ts c.args.settings.now c.args.index c.args.frame in
-    subst (λ (z : ℤ). pos 0 ≤ℤ z) (sym same) c.requires.low
+    let same = ap (λ (o : Placement). o.settings.window_start) (returns-clause-placement g c) ∙ placed_window ts c.args.settings.now c.args.index c.args.frame in
+    subst (λ (z : ℤ). pos 0 ≤ℤ z) (sym same) c.requires.window_start
 
-pub place_at-requires-clause-timed : goal.place_at-requires-clause-timed
-place_at-requires-clause-timed g c = timing_here c.args.tracks.now.items c.args.settings.now c.args.index c.args.frame c.in-Some.timing c.requires.in_range c.in-Some.ensures
+pub returns-clause-ends : goal.returns-clause-ends
+returns-clause-ends g c = λ limit h.
+    end_left _ _ _ (states_of g.S.FrameStore.frames c.args.tracks.now.items) c.args.settings.now c.args.index c.args.frame limit (returns-clause-placement g c) c.requires.sound h
 
-pub returns-in-Some-clause-ends : goal.returns-in-Some-clause-ends
-returns-in-Some-clause-ends g c = λ limit h.
-    end_left _ _ _ (states_of g.S.FrameStore.frames c.args.tracks.now.items) c.args.settings.now c.args.index c.args.frame limit (returns-in-Some-clause-outcome g c) c.requires.kept.sound h
-
-pub returns-in-Some-clause-room : goal.returns-in-Some-clause-room
-returns-in-Some-clause-room g c = λ n all.
-    room_left g.S.FrameStore.spare c.args.index n c.args.tracks.now.items c.place_at.new.tracks.items (same_length g.S.FrameStore.gap c.args.tracks.now.items c.place_at.new.tracks.items c.place_at.ensures.gaps) c.place_at.ensures.spare all
+pub returns-clause-room : goal.returns-clause-room
+returns-clause-room g c = λ n all.
+    room_left g.S.FrameStore.spare c.args.index n c.args.tracks.now.items c.place_counted.new.tracks.items (same_length g.S.FrameStore.gap c.args.tracks.now.items c.place_counted.new.tracks.items c.place_counted.ensures.gaps) c.place_counted.ensures.spare all
 
 pub returns-then-is_full-clause-spare : goal.returns-then-is_full-clause-spare
 returns-then-is_full-clause-spare g c = takes_nothing g.S.FrameStore.spare c.args.index c.args.tracks.now.items
 
-pub returns-in-None-clause-spare : goal.returns-in-None-clause-spare
-returns-in-None-clause-spare g c = takes_nothing g.S.FrameStore.spare c.args.index c.args.tracks.now.items
-
-pub returns-in-Some-clause-len : goal.returns-in-Some-clause-len
-returns-in-Some-clause-len g c = same_length g.S.FrameStore.gap c.args.tracks.now.items c.place_at.new.tracks.items c.place_at.ensures.gaps
+pub returns-clause-len : goal.returns-clause-len
+returns-clause-len g c = same_length g.S.FrameStore.gap c.args.tracks.now.items c.place_counted.new.tracks.items c.place_counted.ensures.gaps

@@ -7,5 +7,5 @@ abbrev pub invariant-loop-sample : goal.invariant-loop-sample
 invariant-loop-sample g l = record {
   one : length l.tracks.items ≡ 1;
   kept : AreKept (states_of g.S.FrameStore.frames l.tracks.items);
-  low : pos 0 ≤ℤ l.settings.window_start;
+  window_start : pos 0 ≤ℤ l.settings.window_start;
 }

@@ -2,7 +2,7 @@ use Rattle.std.proofs.Common.{◌≡◌, ℕ, ◌+◌, ◌<◌, ◌≤◌, ◌^�
 use Rattle.std.specs.List.{AllByRecursion}
 use Rattle.std.proofs.lemmas.List.Sums.{sum_by_push}
 use Rattle.track_store.specs.declared.store.Stored.{Stored}
-use Rattle.track_store.specs.Frames.{used_of}
+use Rattle.track_store.specs.Frames.{bytes_of}
 use Rattle.track_store.proofs.Clearing.{each-push}
 use Rattle.overlap_rules.proofs.tests.store_of.Goals as goal
 
@@ -14,7 +14,7 @@ serials_below n m (f ∷ fs) le h = (let low = h.0 in omega arith, serials_below
 serials_push : (n : ℕ) (fs : List Stored) (x : Stored) → x.serial ≡ n → AllByRecursion (λ f. f.serial < n) fs → AllByRecursion (λ f. f.serial < n + 1) (fs ++ x ∷ [])
 serials_push n fs x e h = each-push (λ f. f.serial < n + 1) fs x (serials_below n (n + 1) fs (omega arith) h) (omega arith)
 
-empty_push : (fs : List Stored) (x : Stored) → used_of fs ≡ 0 → length x.frame.payload ≡ 0 → used_of (fs ++ x ∷ []) ≡ 0
+empty_push : (fs : List Stored) (x : Stored) → bytes_of fs ≡ 0 → length x.frame.payload ≡ 0 → bytes_of (fs ++ x ∷ []) ≡ 0
 empty_push fs x none zero = let more = sum_by_push (λ (f : Stored). length f.frame.payload) fs x in omega arith
 
 pub loop-i-preserved : goal.loop-i-preserved
@@ -25,8 +25,3 @@ loop-i-preserved g c =
       empty = rw c.add.ensures.frames (empty_push frames c.in_ok-frame.frame c.loop-i.invariant.empty c.in_ok-frame.ensures.empty);
       spare = omega (arith, c.add.ensures.spare, c.loop-i.invariant.spare);
     }
-
-pub returns : goal.returns
-returns g c =
-    let low : c.loop-i.i ≤ 100 = omega (arith, c.loop-i.auto.i-end, c.requires) in
-    serials_below c.loop-i.i (2 ^ 62) (g.S.FrameStore.frames c.loop-i.store) (omega arith) c.loop-i.invariant.below

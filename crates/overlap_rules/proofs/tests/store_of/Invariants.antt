@@ -1,11 +1,11 @@
 use Rattle.std.proofs.Common.{◌≡◌, ◌+◌, ◌<◌, ◌≤◌, length}
 use Rattle.std.specs.List.{AllByRecursion}
-use Rattle.track_store.specs.Frames.{used_of}
+use Rattle.track_store.specs.Frames.{bytes_of}
 use Rattle.overlap_rules.proofs.tests.store_of.Given as goal
 
 abbrev pub invariant-loop-i : goal.invariant-loop-i
 invariant-loop-i g l = record {
   below : AllByRecursion (λ f. f.serial < l.i) (g.S.FrameStore.frames l.store);
-  empty : used_of (g.S.FrameStore.frames l.store) ≡ 0;
+  empty : bytes_of (g.S.FrameStore.frames l.store) ≡ 0;
   spare : length l.intervals ≤ g.S.FrameStore.spare l.store + l.i;
 }

@@ -1,5 +1,6 @@
 use Rattle.std.proofs.Common.{false}
-use Rattle.range_removal.specs.Removal.{is_between, remove_end}
+use Rattle.track_store.specs.Frames.{is_between}
+use Rattle.range_removal.specs.Removal.{remove_end}
 use Rattle.range_removal.proofs.Removing.{unnamed-cleared}
 use Rattle.range_removal.proofs.laws.nothing_left.Goals as goal
 

@@ -1,21 +1,10 @@
-use Rattle.std.proofs.Common.{◌≡◌, ◌∙◌, ap, sym, subst, set, map, slice_get, Some, None}
+use Rattle.std.proofs.Common.{◌≡◌, ◌∙◌, ap, sym, set, map, slice_get, Some, None}
 use Rattle.std.specs.Option.{option_copied_mut, option_map}
 use Rattle.std.proofs.lemmas.Option.{slice_get-map}
 use Rattle.std.proofs.lemmas.List.{map-set}
 use Rattle.track_store.specs.State.{TrackState, state_of}
-use Rattle.range_removal.specs.Removal.{is_between, remove_end}
-use Rattle.range_removal.specs.Numbered.{IsNumbered}
-use Rattle.range_removal.proofs.Loops.{all_at, all_set}
-use Rattle.range_removal.proofs.Removing.{numbered-cleared}
 use Rattle.range_removal.proofs.Rooms.{keeps_set, gaps_set}
 use Rattle.range_removal.proofs.removal.remove_at.Goals as goal
-
-pub remove_from-requires : goal.remove_from-requires
-remove_from-requires g c =
-    let st = state_of {S = g.row.S.Denot} g.S.FrameStore.frames in
-    let ts = c.args.tracks.now.items in
-    let at : slice_get ts c.args.i ≡ Some c.in-Some.track.now = sym c.get_mut.ensures.value ∙ ap option_copied_mut c.in-Some.is in
-    all_at (λ (t : TrackState). IsNumbered t.frames) (map st ts) c.args.i (st c.in-Some.track.now) c.requires (slice_get-map st ts c.args.i ∙ ap (option_map st) at)
 
 pub returns-in-Some-clause-states : goal.returns-in-Some-clause-states
 returns-in-Some-clause-states g c =
@@ -23,17 +12,6 @@ returns-in-Some-clause-states g c =
     let ts = c.args.tracks.now.items in
     let at : slice_get ts c.args.i ≡ Some c.in-Some.track.now = sym c.get_mut.ensures.value ∙ ap option_copied_mut c.in-Some.is in
     rw (slice_get-map st ts c.args.i, at) (map-set st ts c.args.i c.remove_from.new.track ∙ ap (λ (t : TrackState). set (map st ts) c.args.i t) c.remove_from.ensures.state)
-
-pub returns-in-Some-clause-numbered : goal.returns-in-Some-clause-numbered
-returns-in-Some-clause-numbered g c =
-    let st = state_of {S = g.row.S.Denot} g.S.FrameStore.frames in
-    let ts = c.args.tracks.now.items in
-    let t = st c.in-Some.track.now in
-    let named = is_between c.args.start (remove_end c.args.end.now c.args.duration.now t.frames) in
-    let at : slice_get ts c.args.i ≡ Some c.in-Some.track.now = sym c.get_mut.ensures.value ∙ ap option_copied_mut c.in-Some.is in
-    let before = all_at (λ (u : TrackState). IsNumbered u.frames) (map st ts) c.args.i t c.requires (slice_get-map st ts c.args.i ∙ ap (option_map st) at) in
-    let own = subst (λ (u : TrackState). IsNumbered u.frames) (sym c.remove_from.ensures.state) (numbered-cleared named t.frames before) in
-    rw (map-set st ts c.args.i c.remove_from.new.track) (all_set (λ (u : TrackState). IsNumbered u.frames) (map st ts) c.args.i (st c.remove_from.new.track) c.requires own)
 
 pub returns-in-Some-clause-spare : goal.returns-in-Some-clause-spare
 returns-in-Some-clause-spare g c =

@@ -1,5 +1,5 @@
-use Rattle.std.proofs.Common.{◌≤◌, arith}
-use Rattle.range_removal.proofs.Fixture.{fixture_push, fixture_numbered}
+use Rattle.std.proofs.Common.{arith}
+use Rattle.range_removal.proofs.Fixture.{fixture_push}
 use Rattle.range_removal.proofs.tests.store_of.Goals as goal
 
 pub loop-i-preserved : goal.loop-i-preserved
@@ -7,8 +7,3 @@ loop-i-preserved g c = record {
   frames = rw c.add.ensures.frames (fixture_push c.loop-i.i (g.S.FrameStore.frames c.loop-i.store) c.in_ok-frame.frame c.loop-i.invariant.frames c.in_ok-frame.ensures.serial c.in_ok-frame.ensures.small);
   spare = omega (arith, c.add.ensures.spare, c.loop-i.invariant.spare);
 }
-
-pub returns : goal.returns
-returns g c =
-    let low : c.loop-i.i ≤ 100 = omega (arith, c.loop-i.auto.i-end, c.requires) in
-    fixture_numbered c.loop-i.i (g.S.FrameStore.frames c.loop-i.store) low c.loop-i.invariant.frames

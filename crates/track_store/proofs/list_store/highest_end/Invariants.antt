@@ -1,5 +1,6 @@
 use Rattle.std.proofs.Common.{◌≡◌, take}
-use Rattle.track_store.specs.Frames.{greatest, ends}
+use Rattle.mse_base.specs.Moments.{greatest}
+use Rattle.track_store.specs.Frames.{ends}
 use Rattle.track_store.proofs.list_store.highest_end.Given as goal
 
 abbrev pub invariant-loop-stored : goal.invariant-loop-stored

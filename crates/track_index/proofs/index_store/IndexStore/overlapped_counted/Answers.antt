@@ -1,20 +1,24 @@
-use Rattle.std.proofs.Common.{◌≡◌, ◌∙◌, List, subst, Some, None, find}
-use Rattle.track_store.specs.declared.store.Stored.{Stored}
-use Rattle.track_store.specs.Frames.{found_at, has_serial}
-use Rattle.track_index.proofs.Ordering.{sorted_of}
+use Rattle.std.proofs.Common.{◌∙◌, ap, Some, None}
+use Rattle.block_list.specs.Rows.{joined}
+use Rattle.track_store.specs.Frames.{frame_at, has_serial}
+use Rattle.track_index.proofs.Keys.{keyed_of}
 use Rattle.track_index.proofs.Naming.{named_ordered}
+use Rattle.track_index.proofs.Framing.{frame_position}
 use Rattle.track_index.proofs.index_store.IndexStore.overlapped_counted.Goals as goal
 
-pub last_holding-requires-clause-sorted : goal.last_holding-requires-clause-sorted
-last_holding-requires-clause-sorted c = sorted_of c.deref.result.now c.self.inside.items.items (c.deref.ensures.value ∙ c.self.invariant.in_order)
+pub last_holding-requires : goal.last_holding-requires
+last_holding-requires c = record { keyed = keyed_of (joined c.self.inside.order.rows) (joined c.self.inside.items.rows) c.self.invariant.in_order c.self.invariant.kept.ascending }
+
+pub place_of-requires : goal.place_of-requires
+place_of-requires c = c.self.invariant.kept.ascending
 
 pub returns-in-Some-clause-frame : goal.returns-in-Some-clause-frame
 returns-in-Some-clause-frame c =
-    let fs = c.self.inside.items.items in
-    let named = named_ordered c.args.t fs c.deref.result.now (Some c.in-Some.entry) c.self.invariant.kept.ascending (c.deref.ensures.value ∙ c.self.invariant.in_order) c.in-Some.ensures.found in
-    rw (← c.self.view_is) (subst (λ (gs : List Stored). found_at gs c.place_of.result ≡ find (has_serial c.in-Some.entry.serial) gs) c.deref-in-Some.ensures.value c.place_of.ensures.frame ∙ named)
+    let fs = joined c.self.inside.items.rows in
+    let named = named_ordered c.args.t fs (joined c.self.inside.order.rows) (Some c.in-Some.entry) c.self.invariant.kept.ascending c.self.invariant.in_order c.in-Some.ensures.last in
+    rw (← c.self.view_is) (ap (frame_at fs) c.place_of.ensures.place ∙ frame_position (has_serial c.in-Some.entry.serial) fs ∙ named)
 
 pub returns-in-None-clause-frame : goal.returns-in-None-clause-frame
 returns-in-None-clause-frame c =
-    let fs = c.self.inside.items.items in
-    rw (← c.self.view_is) (named_ordered c.args.t fs c.deref.result.now None c.self.invariant.kept.ascending (c.deref.ensures.value ∙ c.self.invariant.in_order) c.in-None.ensures.found)
+    let fs = joined c.self.inside.items.rows in
+    rw (← c.self.view_is) (named_ordered c.args.t fs (joined c.self.inside.order.rows) None c.self.invariant.kept.ascending c.self.invariant.in_order c.in-None.ensures.last)

@@ -1,8 +1,9 @@
-use Rattle.std.proofs.Common.{arith}
+use Rattle.std.proofs.Common.{ap, length, arith}
+use Rattle.block_list.specs.Rows.{joined}
 use Rattle.track_store.proofs.Listing.{few_ranges}
 use Rattle.track_index.proofs.index_store.IndexStoreFrameStore.reserve.Goals as goal
 
-pub overflow_sub-len : goal.overflow_sub-len
-overflow_sub-len c =
-    let few = few_ranges c.self.inside.gap c.self.inside.items.items c.self.inside.ranges.spans c.self.invariant.joined in
-    omega (arith, c.len.ensures, c.len-2.ensures.len, c.reserve.ensures.len, c.self.inside.items.ok.0)
+pub overflow_sub-held : goal.overflow_sub-held
+overflow_sub-held c =
+    let few = few_ranges c.self.inside.gap (joined c.self.inside.items.rows) c.self.inside.ranges.spans c.self.invariant.joined in
+    omega (arith, few, c.len.ensures, c.len-2.ensures.len, ap (λ rs. length (joined rs)) c.reserve.ensures.rows)

@@ -1,0 +1,106 @@
+//! The place up to which a test passes, by binary search.
+
+ghost use Rattle.std.specs.Prelude.{◌≡◌, ◌+◌, ◌-◌, ◌^◌, ◌<◌, ◌≤◌, length, take, drop, true, false, IfSome, IfNone};
+ghost use Rattle.std.specs.List.{AllByRecursion};
+ghost use Rattle.block_list.specs.Rows.{joined, row, IsCut, NoneEmpty};
+ghost use Rattle.block_list.specs.Spots.{rank};
+
+use crate::block::Fact;
+use crate::block_list::{BlockList, Spot};
+
+/// A test of items.
+pub trait Test<T>: Sized {
+    ghost use Rattle.std.specs.Prelude.{Bool};
+
+    ghost passes: { Self → T → Bool };
+
+    fn passes(&self, x: &T) -> bool
+        ensures { result ≡ passes self.now x.now };
+}
+
+/// How many items pass.
+fn place_in<T, P: Test<T>>(items: &[T], test: &P) -> usize
+    requires cut { IsCut (P.passes test.now) items.now }
+    requires small { length items.now < 2 ^ 63 }
+    ensures within { result ≤ length items.now }
+    ensures before { AllByRecursion (λ x. P.passes test.now x ≡ true) (take result items.now) }
+    ensures after { AllByRecursion (λ x. P.passes test.now x ≡ false) (drop result items.now) }
+{
+    let mut low = 0;
+    let mut high = items.len();
+    'search: while low < high {
+        let middle = low + (high - low) / 2;
+        let x = &items[middle];
+        if test.passes(x) {
+            low = middle + 1;
+        } else {
+            high = middle;
+        }
+    }
+    low
+}
+
+/// Whether the first item of a block passes.
+fn passes_first<T, F: Fact<T>, P: Test<T>>(list: &BlockList<T, F>, test: &P, b: usize) -> bool
+    requires cut { IsCut (P.passes test.now) (joined list.now.rows) }
+    requires full { NoneEmpty list.now.rows }
+    requires block { b < length list.now.rows }
+    ensures before { result ≡ true
+        → AllByRecursion (λ x. P.passes test.now x ≡ true) (joined (take b list.now.rows)) }
+    ensures after { result ≡ false
+        → AllByRecursion (λ x. P.passes test.now x ≡ false) (joined (drop b list.now.rows)) }
+{
+    let items = list.block(b);
+    let x = &items[0];
+    test.passes(x)
+}
+
+/// How many blocks have a first item that passes.
+fn block_of<T, F: Fact<T>, P: Test<T>>(list: &BlockList<T, F>, test: &P) -> usize
+    requires cut { IsCut (P.passes test.now) (joined list.now.rows) }
+    requires full { NoneEmpty list.now.rows }
+    ensures within { result ≤ length list.now.rows }
+    ensures before { AllByRecursion (λ x. P.passes test.now x ≡ true)
+        (joined (take (result - 1) list.now.rows)) }
+    ensures after { AllByRecursion (λ x. P.passes test.now x ≡ false)
+        (joined (drop result list.now.rows)) }
+{
+    let mut low = 0;
+    let mut high = list.blocks();
+    // Most items are put behind all others.
+    if high > 0 && passes_first(list, test, high - 1) {
+        return high;
+    }
+    'search: while low < high {
+        let middle = low + (high - low) / 2;
+        if passes_first(list, test, middle) {
+            low = middle + 1;
+        } else {
+            high = middle;
+        }
+    }
+    low
+}
+
+/// The place behind the last item that passes.
+pub fn search<T, F: Fact<T>, P: Test<T>>(list: &BlockList<T, F>, test: &P) -> Spot
+    requires { IsCut (P.passes test.now) (joined list.now.rows) }
+    ensures block { 0 < length list.now.rows → result.block < length list.now.rows }
+    ensures index { result.index ≤ length (row list.now.rows result.block) }
+    ensures before { AllByRecursion (λ x. P.passes test.now x ≡ true)
+        (take (rank list.now.rows result) (joined list.now.rows)) }
+    ensures after { AllByRecursion (λ x. P.passes test.now x ≡ false)
+        (drop (rank list.now.rows result) (joined list.now.rows)) }
+{
+    let _spare = list.spare();
+    let b = block_of(list, test);
+    if b == 0 {
+        return Spot { block: 0, index: 0 };
+    }
+    let items = list.block(b - 1);
+    let index = place_in(items, test);
+    Spot {
+        block: b - 1,
+        index,
+    }
+}

@@ -1,0 +1,10 @@
+//! A list in blocks.
+#![tactic(auto)]
+
+mod block;
+mod block_list;
+mod finding;
+
+pub use block::{Block, Change, Fact};
+pub use block_list::{BlockList, Spot};
+pub use finding::{Test, search};

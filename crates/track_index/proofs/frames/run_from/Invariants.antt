@@ -1,0 +1,19 @@
+use Rattle.std.proofs.Common.{◌≡◌, ◌+◌, ◌-◌, ◌<◌, ◌≤◌, length, drop}
+use Rattle.block_list.specs.Rows.{joined, row}
+use Rattle.block_list.specs.Spots.{rank, IsPlace}
+use Rattle.track_store.specs.Frames.{from_sync}
+use Rattle.track_index.proofs.frames.run_from.Given as goal
+
+abbrev pub invariant-loop-next : goal.invariant-loop-next
+invariant-loop-next l = record {
+  block : l.last.block < length l.frames.rows;
+  index : l.last.index < length (row l.frames.rows l.last.block);
+  count : rank l.frames.rows l.last + 1 ≡ rank l.frames.rows l.fn.from + l.count;
+  some : 1 ≤ l.count;
+  place : IsPlace l.frames.rows l.next;
+  next : rank l.frames.rows l.next ≡ rank l.frames.rows l.fn.from + l.count;
+  rest : from_sync (drop (rank l.frames.rows l.fn.from + l.count) (joined l.frames.rows)) ≡ from_sync (drop (rank l.frames.rows l.fn.from + 1) (joined l.frames.rows));
+}
+
+abbrev pub decreases-loop-next : goal.decreases-loop-next
+decreases-loop-next l = length (joined l.frames.rows) - rank l.frames.rows l.next

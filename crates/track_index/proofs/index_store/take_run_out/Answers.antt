@@ -1,0 +1,102 @@
+use Rattle.std.proofs.Common.{◌≡◌, ◌∙◌, ◌<◌, ◌+◌, ◌++◌, ◌∷◌, ℕ, not, length, take, drop, get_or, filter, ap, sym, subst, arith}
+use Rattle.std.specs.List.{AllByRecursion, list_any}
+use Rattle.std.proofs.lemmas.List.{take-append-drop}
+use Rattle.block_list.specs.Rows.{joined}
+use Rattle.block_list.specs.Spots.{rank}
+use Rattle.track_store.specs.Frames.{IsAscending, bytes_of}
+use Rattle.track_index.specs.declared.entry.Entry.{Entry}
+use Rattle.track_index.specs.Order.{ordered}
+use Rattle.track_index.specs.Keyed.{IsKeyed, has_entry_serial}
+use Rattle.track_index.proofs.Keys.{keyed_ordered}
+use Rattle.track_index.proofs.Removing.{first_place, without_more, ascending_without, own_pts, held_mid, order_without, bytes_mid}
+use Rattle.track_index.proofs.Blocks.{item_place}
+use Rattle.track_index.proofs.index_store.take_run_out.Goals as goal
+
+pub loop-n-init : goal.loop-n-init
+loop-n-init c =
+    let fs = joined c.args.frames.now.rows in
+    let i = rank c.args.frames.now.rows c.args.run.from in
+    let z : i + 0 ≡ i = omega arith in
+    let whole : take i fs ++ drop (i + 0) fs ≡ fs = ap (λ (k : ℕ). take i fs ++ drop k fs) z ∙ take-append-drop i fs in
+    record {
+      place = first_place c.args.frames.now.rows c.args.run.from c.requires.block c.requires.index;
+      next = omega arith;
+      order = c.requires.in_order ∙ ap ordered (sym whole);
+      bytes = c.requires.bytes ∙ ap bytes_of (sym whole);
+      spare = omega arith;
+    }
+
+pub item-stored-requires : goal.item-stored-requires
+item-stored-requires c =
+    let rows = c.args.frames.now.rows in
+    let k : rank rows c.loop-n.spot < length (joined rows) = omega (arith, c.loop-n.invariant.next, c.requires.within) in
+    let p = item_place rows c.loop-n.spot c.loop-n.invariant.place k in
+    record { block = p.0; index = p.1 }
+
+pub take_out-requires : goal.take_out-requires
+take_out-requires c =
+    let rows = c.args.frames.now.rows in
+    let fs = joined rows in
+    let i = rank rows c.args.run.from in
+    let n = c.loop-n.n in
+    let x = c.item-stored.result.now in
+    let ys = drop (i + (n + 1)) fs in
+    let at : x ≡ get_or fs (i + n) x = c.item-stored.ensures ∙ ap (λ (k : ℕ). get_or fs k x) c.loop-n.invariant.next in
+    let e = without_more fs i n x (omega (arith, c.requires.within)) at in
+    let u = subst IsAscending e (ascending_without fs i (i + n) (omega arith) c.requires.ascending) in
+    let o = c.loop-n.invariant.order ∙ ap ordered e in
+    record {
+      keyed = subst IsKeyed (sym o) (keyed_ordered (take i fs ++ x ∷ ys) u);
+      own = subst (λ os. AllByRecursion (λ p. p.serial ≡ x.serial → p.pts ≡ x.frame.pts) os) (sym o) (own_pts (take i fs) x ys u);
+      held = ap (list_any (has_entry_serial x.serial)) o ∙ held_mid (take i fs) x ys;
+    }
+
+pub overflow_sub-left : goal.overflow_sub-left
+overflow_sub-left c =
+    let rows = c.args.frames.now.rows in
+    let fs = joined rows in
+    let i = rank rows c.args.run.from in
+    let n = c.loop-n.n in
+    let x = c.item-stored.result.now in
+    let ys = drop (i + (n + 1)) fs in
+    let at : x ≡ get_or fs (i + n) x = c.item-stored.ensures ∙ ap (λ (k : ℕ). get_or fs k x) c.loop-n.invariant.next in
+    let e = ap bytes_of (without_more fs i n x (omega (arith, c.requires.within)) at) in
+    omega (arith, c.loop-n.invariant.bytes, e, bytes_mid (take i fs) x ys, c.len.ensures)
+
+pub next-spot-requires : goal.next-spot-requires
+next-spot-requires c =
+    let rows = c.args.frames.now.rows in
+    let k : rank rows c.loop-n.spot < length (joined rows) = omega (arith, c.loop-n.invariant.next, c.requires.within) in
+    let p = item_place rows c.loop-n.spot c.loop-n.invariant.place k in
+    record { block = p.0; index = p.1 }
+
+pub loop-n-preserved : goal.loop-n-preserved
+loop-n-preserved c =
+    let rows = c.args.frames.now.rows in
+    let fs = joined rows in
+    let i = rank rows c.args.run.from in
+    let n = c.loop-n.n in
+    let x = c.item-stored.result.now in
+    let ys = drop (i + (n + 1)) fs in
+    let at : x ≡ get_or fs (i + n) x = c.item-stored.ensures ∙ ap (λ (k : ℕ). get_or fs k x) c.loop-n.invariant.next in
+    let e = without_more fs i n x (omega (arith, c.requires.within)) at in
+    let u = subst IsAscending e (ascending_without fs i (i + n) (omega arith) c.requires.ascending) in
+    let o = c.loop-n.invariant.order ∙ ap ordered e in
+    record {
+      place = c.next-spot.ensures.place;
+      next = omega (arith, c.next-spot.ensures.rank, c.loop-n.invariant.next);
+      order = c.take_out.ensures.items ∙ ap (filter (λ (p : Entry). not (has_entry_serial x.serial p))) o ∙ order_without (take i fs) x ys u;
+      bytes = omega (arith, c.loop-n.invariant.bytes, ap bytes_of e, bytes_mid (take i fs) x ys, c.len.ensures);
+      spare = omega (arith, c.loop-n.invariant.spare, c.take_out.ensures.spare);
+    }
+
+pub returns : goal.returns
+returns c =
+    let z : c.loop-n.n ≡ c.args.run.count = omega arith in
+    let fs = joined c.args.frames.now.rows in
+    let i = rank c.args.frames.now.rows c.args.run.from in
+    record {
+      order = c.loop-n.invariant.order ∙ ap (λ (k : ℕ). ordered (take i fs ++ drop (i + k) fs)) z;
+      bytes = c.loop-n.invariant.bytes ∙ ap (λ (k : ℕ). bytes_of (take i fs ++ drop (i + k) fs)) z;
+      spare = c.loop-n.invariant.spare;
+    }

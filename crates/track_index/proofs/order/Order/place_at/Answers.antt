@@ -1,0 +1,8 @@
+use Rattle.std.proofs.Common.{sym, subst}
+use Rattle.block_list.specs.Rows.{joined}
+use Rattle.track_index.specs.Keyed.{IsKeyed}
+use Rattle.track_index.proofs.Keys.{cut_keyed}
+use Rattle.track_index.proofs.order.Order.place_at.Goals as goal
+
+pub search-spot-requires : goal.search-spot-requires
+search-spot-requires c = cut_keyed c.args.key.now (joined c.self.inside.list.rows) (subst (λ w. IsKeyed (joined w.rows)) (sym c.self.view_is) c.requires.keyed)

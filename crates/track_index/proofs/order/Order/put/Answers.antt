@@ -1,0 +1,67 @@
+use Rattle.std.proofs.Common.{◌∙◌, ◌<◌, ◌++◌, ◌∷◌, [], length, ap, subst, sym, arith, None, vec_capacity, ◌+ℤ◌, pos, ℤ}
+use Rattle.block_list.specs.Rows.{joined}
+use Rattle.block_list.specs.Spots.{rank}
+use Rattle.track_index.specs.declared.key.Key.{Key}
+use Rattle.track_index.specs.Order.{put}
+use Rattle.track_index.specs.Keyed.{IsKeyed}
+use Rattle.track_index.proofs.Ending.{length_running}
+use Rattle.track_index.proofs.Keys.{cut_keyed, put_with}
+use Rattle.track_index.proofs.Blocks.{ready, first_ready, joined_none}
+use Rattle.track_index.proofs.order.Order.put.Goals as goal
+
+pub refresh-requires : goal.refresh-requires
+refresh-requires c =
+    let ts = c.self.inside.tops.items in
+    let old = c.self.inside.list.rows in
+    let new = c.push.new.self.rows in
+    let few1 = c.push.ensures.one_block_apart.1 in
+    let r = first_ready ts old new (vec_capacity c.self.inside.tops) c.self.invariant (omega (arith, c.blocks-2.ensures, c.if-blocks-eq0.true)) (omega (arith, few1, c.blocks-2.ensures, c.if-blocks-eq0.true)) (omega (arith, few1, c.blocks-2.ensures, c.if-blocks-eq0.true, ap (λ w. w.spare) c.self.view_is, c.requires.spare)) in
+    record { within = r.within; more = r.more; fewer = r.fewer; gone = r.gone; room = r.room; front = r.front; rest = r.rest }
+
+pub returns-then-blocks-eq0-clause-items : goal.returns-then-blocks-eq0-clause-items
+returns-then-blocks-eq0-clause-items c =
+    let none = joined_none c.self.inside.list.rows (omega (arith, c.blocks-2.ensures, c.if-blocks-eq0.true)) in
+    c.push.ensures.items ∙ ap (λ os. os ++ c.args.entry ∷ []) none ∙ ap (put c.args.entry) (sym none) ∙ ap (λ w. put c.args.entry (joined w.rows)) c.self.view_is
+
+pub returns-then-blocks-eq0-clause-spare : goal.returns-then-blocks-eq0-clause-spare
+returns-then-blocks-eq0-clause-spare c =
+    let old = c.self.inside.list.rows in
+    let new = c.push.new.self.rows in
+    let n = ap length c.self.invariant ∙ length_running None old in
+    let m = ap length c.refresh.ensures.items ∙ length_running None new in
+    let few1 = c.push.ensures.one_block_apart.1 in
+    omega (arith, ap (λ w. w.spare) c.self.view_is, c.push.ensures.spare, c.refresh.ensures.capacity, n, m, few1, c.refresh.new.tops.ok.0, c.self.inside.tops.ok.0)
+
+pub search-spot-requires : goal.search-spot-requires
+search-spot-requires c = cut_keyed _ (joined c.self.inside.list.rows) (subst (λ w. IsKeyed (joined w.rows)) (sym c.self.view_is) c.requires.keyed)
+
+pub refresh-requires-2 : goal.refresh-requires-2
+refresh-requires-2 c =
+    let ts = c.self.inside.tops.items in
+    let old = c.self.inside.list.rows in
+    let new = c.insert.new.self.rows in
+    let b = c.search-spot.result.block in
+    let n = ap length c.self.invariant ∙ length_running None old in
+    let few0 = c.insert.ensures.one_block_apart.0 in
+    let few1 = c.insert.ensures.one_block_apart.1 in
+    let l : b < length old = c.search-spot.ensures.block (omega (arith, c.blocks-2.ensures, c.if-blocks-eq0.false)) in
+    let r = ready ts old new b (vec_capacity c.self.inside.tops) c.self.invariant l few1 (omega (arith, few0)) (omega (arith, few1, n, ap (λ w. w.spare) c.self.view_is, c.requires.spare, c.self.inside.tops.ok.0)) c.insert.ensures.front c.insert.ensures.rest in
+    record { within = r.within; more = r.more; fewer = r.fewer; gone = r.gone; room = r.room; front = r.front; rest = r.rest }
+
+pub returns-clause-items : goal.returns-clause-items
+returns-clause-items c =
+    let os = joined c.self.inside.list.rows in
+    let k : Key = record { mark = c.args.entry.pts +ℤ pos 1; serial = 0 } in
+    let e = c.at-key.ensures ∙ ap (λ (m : ℤ). record { mark = m; serial = 0 }) c.after.ensures in
+    c.insert.ensures.items ∙ put_with c.args.entry os (rank c.self.inside.list.rows c.search-spot.result) c.at-key.result e c.search-spot.ensures.before c.search-spot.ensures.after ∙ ap (λ w. put c.args.entry (joined w.rows)) c.self.view_is
+
+pub returns-clause-spare : goal.returns-clause-spare
+returns-clause-spare c =
+    let ts = c.self.inside.tops.items in
+    let old = c.self.inside.list.rows in
+    let new = c.insert.new.self.rows in
+    let b = c.search-spot.result.block in
+    let n = ap length c.self.invariant ∙ length_running None old in
+    let m = ap length c.refresh-2.ensures.items ∙ length_running None new in
+    let few1 = c.insert.ensures.one_block_apart.1 in
+    omega (arith, ap (λ w. w.spare) c.self.view_is, c.insert.ensures.spare, c.refresh-2.ensures.capacity, n, m, few1, c.refresh-2.new.tops.ok.0, c.self.inside.tops.ok.0)

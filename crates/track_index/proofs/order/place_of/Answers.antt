@@ -1,0 +1,31 @@
+use Rattle.std.proofs.Common.{◌≡◌, ℤ, true, false, take, drop, subst, sym}
+use Rattle.std.specs.List.{AllByRecursion}
+use Rattle.block_list.specs.Rows.{joined}
+use Rattle.block_list.specs.Spots.{rank}
+use Rattle.track_index.specs.Keyed.{before_key, Names, has_entry_serial}
+use Rattle.track_index.proofs.Keys.{cut_keyed, names_at, any_rows}
+use Rattle.track_index.proofs.Blocks.{item_place}
+use Rattle.track_index.proofs.order.place_of.Goals as goal
+
+pub search-spot-requires : goal.search-spot-requires
+search-spot-requires c = cut_keyed _ (joined c.args.list.now.rows) c.requires.keyed
+
+pub at_item-requires : goal.at_item-requires
+at_item-requires c = record { block = c.search-spot.ensures.block (any_rows (has_entry_serial c.args.serial) c.args.list.now.rows c.requires.held); index = c.search-spot.ensures.index }
+
+names_of : goal.returns-clause-names
+names_of c =
+    let os = joined c.args.list.now.rows in
+    let k = rank c.args.list.now.rows c.search-spot.result in
+    let before = subst (λ (m : ℤ). AllByRecursion (λ o. before_key (record { mark = m; serial = c.args.serial }) o ≡ true) (take k os)) c.at.ensures c.search-spot.ensures.before in
+    let after = subst (λ (m : ℤ). AllByRecursion (λ o. before_key (record { mark = m; serial = c.args.serial }) o ≡ false) (drop k os)) c.at.ensures c.search-spot.ensures.after in
+    subst (Names c.args.serial os) (sym c.at_item.ensures.rank) (names_at c.args.pts c.args.serial os k c.requires.keyed c.requires.own c.requires.held before after)
+
+pub returns-clause-names : goal.returns-clause-names
+returns-clause-names c = names_of c
+
+pub returns-clause-block : goal.returns-clause-block
+returns-clause-block c = (item_place c.args.list.now.rows c.at_item.result c.at_item.ensures.place (names_of c).within).0
+
+pub returns-clause-index : goal.returns-clause-index
+returns-clause-index c = (item_place c.args.list.now.rows c.at_item.result c.at_item.ensures.place (names_of c).within).1

@@ -1,0 +1,17 @@
+use Rattle.std.proofs.Common.{◌≡◌, ◌+◌, ◌-◌, length}
+use Rattle.block_list.specs.Rows.{joined}
+use Rattle.block_list.specs.Spots.{rank, IsPlace}
+use Rattle.mse_base.specs.Bridging.{IsRanges}
+use Rattle.track_index.specs.Repair.{Joining}
+use Rattle.track_index.proofs.repair.join_between.Given as goal
+
+abbrev pub invariant-loop-spot : goal.invariant-loop-spot
+invariant-loop-spot l = record {
+  place : IsPlace l.order.rows l.spot;
+  ranges : IsRanges l.gap l.ranges.spans;
+  room : l.ranges.spare + length l.ranges.spans ≡ l.fn.ranges.spare + length l.fn.ranges.spans;
+  ticks : Joining l.gap l.key l.high (joined l.order.rows) l.fn.ranges.spans l.ranges.spans (rank l.order.rows l.spot);
+}
+
+abbrev pub decreases-loop-spot : goal.decreases-loop-spot
+decreases-loop-spot l = length (joined l.order.rows) - rank l.order.rows l.spot

@@ -1,0 +1,33 @@
+//! A place in the order of presentation, by what stands before it.
+
+ghost use Rattle.std.specs.Prelude.{◌≡◌};
+
+use crate::entry::Entry;
+use crate::mark::Mark;
+use block_list::Test;
+
+/// The entries that begin before `mark` ticks, and those that begin there whose serial is lower.
+#[derive(Clone, Copy, Drop)]
+pub(crate) struct Key {
+    pub(crate) mark: Mark,
+    pub(crate) serial: u64,
+}
+
+impl Test<Entry> for Key {
+    ghost use Rattle.track_index.specs.Keyed.{before_key};
+
+    ghost passes = { before_key };
+
+    fn passes(&self, x: &Entry) -> bool {
+        self.mark.is_after(x.pts) || (self.mark.is_from(x.pts) && x.serial < self.serial)
+    }
+}
+
+impl Key {
+    /// Before it stands what begins before a mark.
+    pub(crate) fn at(mark: Mark) -> Key
+        ensures { result ≡ record { mark = mark; serial = 0 } }
+    {
+        Key { mark, serial: 0 }
+    }
+}

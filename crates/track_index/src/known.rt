@@ -1,0 +1,86 @@
+//! What is known of a block of entries.
+
+ghost use Rattle.std.specs.Prelude.{◌≡◌, ◌||◌, ◌+ℤ◌, map, List, take};
+ghost use Rattle.std.specs.List.{list_any};
+ghost use Rattle.mse_base.specs.Moments.{greatest};
+ghost use Rattle.track_index.specs.Order.{end_of};
+ghost use Rattle.track_index.specs.Known.{is_sync, greatest_end, later_end, known_of};
+
+use crate::entry::Entry;
+use crate::mark::Mark;
+use block_list::Fact;
+
+/// Whether one of two is true.
+pub(crate) fn either(a: bool, b: bool) -> bool
+    ensures { result ≡ (a || b) }
+{
+    a || b
+}
+
+/// The greatest end of some entries, and whether one is a random access point.
+#[derive(Drop)]
+pub(crate) struct Known {
+    pub(crate) end: Option<Mark>,
+    pub(crate) sync: bool,
+}
+
+/// The later of two ends, of which each may be absent.
+pub(crate) fn later_end(a: Option<Mark>, b: Option<Mark>) -> Option<Mark>
+    ensures { result ≡ later_end a b }
+{
+    match a {
+        None => b,
+        Some(s) => match b {
+            None => Some(s),
+            Some(t) => Some(if s.is_up_to(t) { t } else { s }),
+        },
+    }
+}
+
+fn end_mark(entry: &Entry) -> Mark
+    ensures { result ≡ end_of entry.now }
+{
+    Mark::beyond(entry.pts, entry.dur)
+}
+
+/// The greatest end of some entries.
+pub(crate) fn greatest_end(items: &[Entry]) -> Option<Mark>
+    ensures { result ≡ greatest_end items.now }
+{
+    let mut best = None;
+    for entry in items {
+        best = later_end(best, Some(end_mark(entry)));
+    }
+    best
+}
+
+fn has_sync(items: &[Entry]) -> bool
+    ensures { result ≡ list_any is_sync items.now }
+{
+    for entry in items {
+        if entry.sync {
+            return true;
+        }
+    }
+    false
+}
+
+impl Fact<Entry> for Known {
+    ghost use Rattle.track_index.specs.Known.{known_of};
+
+    ghost of = { known_of };
+
+    fn of(items: &[Entry]) -> Known {
+        Known {
+            end: greatest_end(items),
+            sync: has_sync(items),
+        }
+    }
+
+    fn with(&self, x: &Entry) -> Known {
+        Known {
+            end: later_end(self.end, Some(end_mark(x))),
+            sync: either(self.sync, x.sync),
+        }
+    }
+}

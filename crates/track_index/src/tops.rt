@@ -1,0 +1,115 @@
+//! The running ends of an order in blocks: for each block the greatest end of its entries and of
+//! all before them.
+
+ghost use Rattle.std.specs.Prelude.{◌≡◌, ◌+◌, ◌-◌, ◌<◌, ◌≤◌, length, take, vec_len, vec_capacity, drop, slice_index_or, None, true};
+ghost use Rattle.block_list.specs.Rows.{joined, row};
+ghost use Rattle.track_index.specs.Known.{greatest_end};
+ghost use Rattle.track_index.specs.Tops.{tops_of, RunsFrom};
+
+use crate::entry::Entry;
+use crate::known::{Known, later_end};
+use crate::mark::Mark;
+use block_list::BlockList;
+
+/// The running end of the block before one.
+pub(crate) fn top_before(
+    tops: &[Option<Mark>],
+    list: &BlockList<Entry, Known>,
+    b: usize,
+) -> Option<Mark>
+    requires tops { tops.now ≡ tops_of list.now.rows }
+    requires within { b ≤ length list.now.rows }
+    ensures { result ≡ greatest_end (joined (take b list.now.rows)) }
+{
+    end_before(tops, b)
+}
+
+/// The end before a place.
+fn end_before(tops: &[Option<Mark>], b: usize) -> Option<Mark>
+    requires { b ≤ length tops.now }
+    ensures none { b ≡ 0 → result ≡ None }
+    ensures some { 0 < b → result ≡ slice_index_or tops.now (b - 1) result }
+{
+    if b == 0 { None } else { tops[b - 1] }
+}
+
+fn is_same(a: &Option<Mark>, b: &Option<Mark>) -> bool
+    ensures { result ≡ true → a.now ≡ b.now }
+{
+    match a {
+        None => b.is_none(),
+        Some(s) => match b {
+            None => false,
+            Some(t) => s.is_same(*t),
+        },
+    }
+}
+
+/// Makes the running ends anew from a block on; from `to` on only until one stays as it is.
+fn follow(tops: &mut Vec<Option<Mark>>, list: &BlockList<Entry, Known>, from: usize, to: usize)
+    requires len { length tops.old.items ≡ length list.now.rows }
+    requires in_order { from ≤ to }
+    requires within { from ≤ length list.now.rows }
+    requires front { take from tops.old.items ≡ take from (tops_of list.now.rows) }
+    requires rest { RunsFrom to tops.old.items to list.now.rows }
+    ensures items { tops.new.items ≡ tops_of list.now.rows }
+    ensures capacity { vec_capacity tops.new ≡ vec_capacity tops.old }
+{
+    let mut best = end_before(tops, from);
+    let mut i = from;
+    while i < tops.len() {
+        let top = later_end(best, list.fact(i).end);
+        if to <= i && is_same(&tops[i], &top) {
+            return;
+        }
+        tops[i] = top;
+        best = top;
+        i += 1;
+    }
+}
+
+/// Makes as many ends as there are blocks, after block `b` was cut in two or went.
+fn adjust(tops: &mut Vec<Option<Mark>>, b: usize, after: usize)
+    requires within { b ≤ length tops.old.items }
+    requires more { after ≤ length tops.old.items + 1 }
+    requires fewer { length tops.old.items ≤ after + 1 }
+    requires gone { after < length tops.old.items → b < length tops.old.items }
+    requires room { after ≤ vec_capacity tops.old }
+    ensures len { length tops.new.items ≡ after }
+    ensures front { take b tops.new.items ≡ take b tops.old.items }
+    ensures rest { drop ((b + 1 + after) - length tops.old.items) tops.new.items
+        ≡ drop (b + 1) tops.old.items }
+    ensures capacity { vec_capacity tops.new ≡ vec_capacity tops.old }
+{
+    let before = tops.len();
+    if after > before {
+        match tops.insert(b, None) {
+            Ok(()) => {}
+            Err(_) => unreachable!(),
+        }
+        return;
+    }
+    if after < before {
+        tops.remove(b);
+    }
+}
+
+/// Makes the running ends anew after a change in block `b`, which may have been cut in two or
+/// have gone.
+pub(crate) fn refresh(tops: &mut Vec<Option<Mark>>, list: &BlockList<Entry, Known>, b: usize)
+    requires within { b ≤ length tops.old.items }
+    requires more { length list.now.rows ≤ length tops.old.items + 1 }
+    requires fewer { length tops.old.items ≤ length list.now.rows + 1 }
+    requires gone { length list.now.rows < length tops.old.items → b < length tops.old.items }
+    requires room { length list.now.rows ≤ vec_capacity tops.old }
+    requires front { take b tops.old.items ≡ take b (tops_of list.now.rows) }
+    requires rest { RunsFrom (b + 1) tops.old.items
+        ((b + 1 + length list.now.rows) - length tops.old.items) list.now.rows }
+    ensures items { tops.new.items ≡ tops_of list.now.rows }
+    ensures capacity { vec_capacity tops.new ≡ vec_capacity tops.old }
+{
+    let before = tops.len();
+    let after = list.blocks();
+    adjust(tops, b, after);
+    follow(tops, list, b, (b + 1 + after) - before);
+}

@@ -1,0 +1,5 @@
+use Rattle.track_store.proofs.Runs.{one_run}
+use Rattle.track_store.proofs.laws.same_answers.Goals as goal
+
+pub returns : goal.returns
+returns c = one_run

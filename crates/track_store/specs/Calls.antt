@@ -1,0 +1,66 @@
+-- What the contract of a store says of lists of calls.
+use Rattle.std.specs.Prelude.{◌≡◌, ◌<◌, ◌≤◌, ◌+◌, ◌^◌, ℕ, ℤ, pos, ◌≤ℤ◌, ◌+ℤ◌, false, List, [], ◌∷◌, ◌++◌, length, slice_get, find, Option, Some}
+use Rattle.std.specs.List.{AllByRecursion, position}
+use Rattle.std.specs.Option.{IfSome}
+use Rattle.mse_base.specs.Time.{IsTick}
+use Rattle.mse_base.specs.Spans.{reaches, last_of}
+use Rattle.track_store.specs.declared.store.Stored.{Stored}
+use Rattle.track_store.specs.declared.calls.StoreChange.{StoreChange}
+use Rattle.track_store.specs.declared.calls.StoreChange.TheVariants.{Add, Cut, RemoveAt, RemoveWhereTime}
+use Rattle.track_store.specs.declared.calls.StoreLook.{StoreLook}
+use Rattle.track_store.specs.declared.calls.StoreLook.TheVariants.{Len, PlaceOf, GroupStart, Overlapped, SyncAtOrAfter, SpanHolding, LastSpan, HighestStart, HighestEnd, Used}
+use Rattle.track_store.specs.declared.calls.StoreAnswer.{StoreAnswer}
+use Rattle.track_store.specs.declared.calls.StoreAnswer.TheVariants.{Frames, Bytes, Place, Time, Range}
+use Rattle.track_store.specs.declared.calls.StoreCall.{StoreCall}
+use Rattle.track_store.specs.declared.calls.StoreCall.TheVariants.{Change, Look}
+use Rattle.mse_base.specs.Moments.{least, greatest}
+use Rattle.track_store.specs.Frames.{bytes_of, frames_without, frames_with_dur, frame_at, has_serial, is_within, overlapped, group_start_of, sync_times_from, starts, ends, ranges_of, IsAscending}
+use Rattle.track_store.specs.Sound.{HasPredecessor}
+
+-- a frame can be added to a list for which there is room
+pub record CanAdd (spare : ℕ) (f : Stored) (fs : List Stored) : Type 0 where
+  pub room : 1 ≤ spare
+  pub later : AllByRecursion (λ g. g.serial < f.serial) fs
+  pub predecessor : f.frame.sync ≡ false → HasPredecessor f.serial fs
+  pub dur_not_negative : pos 0 ≤ℤ f.frame.dur
+  pub in_range : IsTick (f.frame.pts +ℤ f.frame.dur)
+  pub small : bytes_of fs + length f.frame.payload < 2 ^ 62
+
+-- what the contract asks of a change
+abbrev pub CanChange : ℕ → StoreChange → List Stored → Type 0
+CanChange spare (Add f) fs = CanAdd spare f fs
+CanChange spare (Cut i dur) fs = (i < length fs) × IfSome (slice_get fs i) (λ f. (pos 0 ≤ℤ dur) × (dur ≤ℤ f.frame.dur))
+CanChange spare (RemoveAt i) fs = i < length fs
+CanChange spare (RemoveWhereTime from to below) fs = Unit {0}
+
+-- the frames before a change and after it
+abbrev pub IsChange : StoreChange → List Stored → List Stored → Type 0
+IsChange (Add f) fs gs = gs ≡ fs ++ f ∷ []
+IsChange (Cut i dur) fs gs = (i < length fs) × IfSome (slice_get fs i) (λ f. gs ≡ frames_with_dur f.serial dur fs)
+IsChange (RemoveAt i) fs gs = (i < length fs) × IfSome (slice_get fs i) (λ f. gs ≡ frames_without (has_serial f.serial) fs)
+IsChange (RemoveWhereTime from to below) fs gs = gs ≡ frames_without (is_within from to below) fs
+
+-- the place is that of a frame of the list, if there is one
+abbrev pub IsPlaceOf : Option Stored → List Stored → Option ℕ → Type 0
+IsPlaceOf f fs place = (frame_at fs place ≡ f) × IfSome place (λ i. i < length fs)
+
+-- the answer to a look-up in frames whose ranges join across a gap
+abbrev pub IsAnswer : ℤ → StoreLook → List Stored → StoreAnswer → Type 0
+IsAnswer gap Len fs a = a ≡ Frames (length fs)
+IsAnswer gap (PlaceOf serial) fs a = a ≡ Place (position (has_serial serial) fs)
+IsAnswer gap (GroupStart i) fs a = a ≡ Place (group_start_of i fs)
+IsAnswer gap (Overlapped t) fs a = (place : Option ℕ) × (a ≡ Place place) × IsPlaceOf (overlapped t fs) fs place
+IsAnswer gap (SyncAtOrAfter t) fs a = a ≡ Time (least (sync_times_from t fs))
+IsAnswer gap (SpanHolding t) fs a = a ≡ Range (find (reaches t) (ranges_of gap fs))
+IsAnswer gap LastSpan fs a = a ≡ Range (last_of (ranges_of gap fs))
+IsAnswer gap HighestStart fs a = a ≡ Time (greatest (starts fs))
+IsAnswer gap HighestEnd fs a = a ≡ Time (greatest (ends fs))
+IsAnswer gap Used fs a = a ≡ Bytes (bytes_of fs)
+
+-- over a list of calls a store gives these answers to those that look something up, and is left with the frames
+-- `gs`; serials ascend in every store
+abbrev pub IsRun : ℤ → List Stored → List StoreCall → List StoreAnswer → List Stored → Type 0
+IsRun gap fs [] answers gs = (answers ≡ []) × (gs ≡ fs)
+IsRun gap fs (Change c ∷ cs) answers gs = (ms : List Stored) × IsChange c fs ms × IsRun gap ms cs answers gs
+IsRun gap fs (Look l ∷ cs) [] gs = ⊥
+IsRun gap fs (Look l ∷ cs) (a ∷ answers) gs = IsAscending fs × IsAnswer gap l fs a × IsRun gap fs cs answers gs
