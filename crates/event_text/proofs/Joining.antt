@@ -5,7 +5,7 @@ use Rattle.std.proofs.lemmas.List.{map_push, take_more}
 use Rattle.std.proofs.lemmas.Option.{slice_get_within, get_or_from_slice_get}
 use mathlib.Core.List.{append_assoc}
 use Rattle.mse_base.specs.declared.span.Span.{Span}
-use Rattle.event_text.specs.Words.{words, numbered}
+use Rattle.event_text.specs.Words.{words, name_at}
 use Rattle.event_text.specs.Times.{span_text}
 
 -- one more word
@@ -30,9 +30,9 @@ spans_more (x ∷ xs) (suc j) s one there =
     ∙ words-push (span_text x) (map span_text (take j xs)) (span_text s)
 
 -- a number past the last name
-pub numbered-past : (names : List (List ℕ)) (n : ℕ) → length names < n
-    → numbered names n ≡ codes "Unknown"
-numbered-past names zero past = refl
-numbered-past [] (suc n) past = refl
-numbered-past (name ∷ names) (suc zero) past = absurd (omega arith)
-numbered-past (name ∷ names) (suc (suc n)) past = numbered-past names (suc n) (omega arith)
+pub name_at-past : (names : List (List ℕ)) (n : ℕ) → length names < n
+    → name_at names n ≡ codes "Unknown"
+name_at-past names zero past = refl
+name_at-past [] (suc n) past = refl
+name_at-past (name ∷ names) (suc zero) past = absurd (omega arith)
+name_at-past (name ∷ names) (suc (suc n)) past = name_at-past names (suc n) (omega arith)

@@ -11,7 +11,7 @@ use Rattle.mse_calls.specs.declared.views.TrackView.{TrackView}
 use Rattle.mse_calls.specs.declared.views.BufferView.{BufferView}
 use Rattle.mse_calls.specs.declared.views.FaultView.{FaultView}
 use Rattle.mse_calls.specs.declared.views.View.{View}
-use Rattle.event_text.specs.Words.{line, shown}
+use Rattle.event_text.specs.Words.{line, sign_of}
 use Rattle.event_text.specs.Times.{moment_text, ranges_text}
 use Rattle.event_text.specs.Answers.{state_text}
 use Rattle.event_text.specs.Faults.{fault_line}
@@ -28,7 +28,7 @@ track_kind_text Other = codes "other"
 
 abbrev pub track_line : ℕ → TrackView → List ℕ
 track_line buffer t =
-    line (codes "track" ∷ decimal buffer ∷ decimal t.id ∷ track_kind_text t.kind ∷ map shown t.codec
+    line (codes "track" ∷ decimal buffer ∷ decimal t.id ∷ track_kind_text t.kind ∷ map sign_of t.codec
     ∷ codes "frames" ∷ decimal t.frames ∷ codes "ranges" ∷ ranges_text t.ranges ∷ [])
 
 abbrev pub buffer_line : BufferView → List ℕ

@@ -8,7 +8,7 @@ ghost use Rattle.event_text.specs.Block.{phase_text, track_kind_text, track_line
 use crate::answers::state_words;
 use crate::faults::fault_words;
 use crate::times::{moment_word, ranges_word};
-use crate::words::printed_code;
+use crate::words::code_signs;
 use mse_base::{Kind, Moment, OutOfMemory, Phase, Text};
 use mse_calls::{BufferView, FaultView, StateView, TrackView, View};
 use std::alloc::{AllocError, Global};
@@ -50,7 +50,7 @@ fn track_words(alloc: Global, buffer: u32, track: &TrackView) -> Result<String, 
 {
     let id = track.id;
     let kind = track_kind_word(track.kind);
-    let codec = printed_code(alloc, &track.codec)?;
+    let codec = code_signs(alloc, &track.codec)?;
     let frames = frames_words(alloc, track)?;
     format!(in alloc; "track {buffer} {id} {kind} {codec} {frames}")
 }

@@ -5,7 +5,7 @@ ghost use Rattle.event_text.specs.Times.{moment_text};
 ghost use Rattle.event_text.specs.Calls.{mode_text, end_text, type_text, append_text, call_text};
 
 use crate::times::moment_word;
-use crate::words::printed;
+use crate::words::signs_of;
 use mse_base::Moment;
 use mse_calls::{Call, EndKind, Mode, Piece};
 use std::alloc::{AllocError, Global};
@@ -95,7 +95,7 @@ fn type_word(alloc: Global, kind: &str) -> Result<String, AllocError>
     if kind.is_empty() {
         return Ok(String::new(alloc));
     }
-    let kind = printed(alloc, kind)?;
+    let kind = signs_of(alloc, kind)?;
     format!(in alloc; " {kind}")
 }
 

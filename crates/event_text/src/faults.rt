@@ -1,15 +1,15 @@
 ghost use Rattle.std.specs.Prelude.{◌≡◌, ◌++◌, IfOk, string_bytes};
-ghost use Rattle.event_text.specs.Words.{numbered};
+ghost use Rattle.event_text.specs.Words.{name_at};
 ghost use Rattle.event_text.specs.Faults.{stream_faults, init_faults, moof_faults, init_fault_text, inner_text, fault_line};
 
-use crate::words::printed_code;
+use crate::words::code_signs;
 use mse_base::{OutOfMemory, Text};
 use mse_calls::FaultView;
 use std::alloc::{AllocError, Global};
 
 /// The name of a violation of a byte stream format.
 fn stream_fault_word(number: u8) -> &'static str
-    ensures { result.now ≡ numbered stream_faults number }
+    ensures { result.now ≡ name_at stream_faults number }
 {
     match number {
         1 => "SizeZero",
@@ -36,7 +36,7 @@ fn stream_fault_word(number: u8) -> &'static str
 
 /// The name of what is wrong in an initialization segment.
 fn init_fault_word(inner: u8) -> &'static str
-    ensures { result.now ≡ numbered init_faults inner }
+    ensures { result.now ≡ name_at init_faults inner }
 {
     match inner {
         1 => "Size",
@@ -53,7 +53,7 @@ fn init_fault_word(inner: u8) -> &'static str
 
 /// The name of what is wrong in a movie fragment.
 fn moof_fault_word(inner: u8) -> &'static str
-    ensures { result.now ≡ numbered moof_faults inner }
+    ensures { result.now ≡ name_at moof_faults inner }
 {
     match inner {
         1 => "Size",
@@ -76,7 +76,7 @@ fn init_fault_words(alloc: Global, inner: u8, missing: &[u8; 4]) -> Result<Strin
     if inner != 2 {
         return String::from_str(alloc, name);
     }
-    let missing = printed_code(alloc, missing)?;
+    let missing = code_signs(alloc, missing)?;
     format!(in alloc; "{name} {missing}")
 }
 

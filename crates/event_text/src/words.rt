@@ -1,19 +1,19 @@
 ghost use Rattle.std.specs.Prelude.{◌≡◌, ◌<◌, IfOk, map, string_bytes};
-ghost use Rattle.event_text.specs.Words.{shown, printable_text, bool_text};
+ghost use Rattle.event_text.specs.Words.{sign_of, printable_text, bool_text};
 
 use mse_base::{OutOfMemory, Text};
 use std::alloc::{AllocError, Global};
 
 /// The sign that a character prints as: itself from 0x20 to 0x7E, else a question mark.
 fn sign_of(c: char) -> char
-    ensures sign { result ≡ shown c }
+    ensures sign { result ≡ sign_of c }
     ensures ascii { result < 128 }
 {
     if ' ' <= c && c <= '~' { c } else { '?' }
 }
 
 /// A text with one sign for each character.
-pub fn printed(alloc: Global, text: &str) -> Result<String, AllocError>
+pub fn signs_of(alloc: Global, text: &str) -> Result<String, AllocError>
     ensures { IfOk result (λ s. string_bytes s ≡ printable_text text.now) }
 {
     let mut signs = String::new(alloc);
@@ -24,8 +24,8 @@ pub fn printed(alloc: Global, text: &str) -> Result<String, AllocError>
 }
 
 /// The four bytes of a type of a box or a coding, with one sign for each byte.
-pub fn printed_code(alloc: Global, code: &[u8; 4]) -> Result<String, AllocError>
-    ensures { IfOk result (λ s. string_bytes s ≡ map shown code.now) }
+pub fn code_signs(alloc: Global, code: &[u8; 4]) -> Result<String, AllocError>
+    ensures { IfOk result (λ s. string_bytes s ≡ map sign_of code.now) }
 {
     let mut signs = String::new(alloc);
     for byte in code {
@@ -39,7 +39,7 @@ pub fn printed_code(alloc: Global, code: &[u8; 4]) -> Result<String, AllocError>
 pub fn printable(alloc: Global, text: &str) -> Result<Text, OutOfMemory>
     ensures { IfOk result (λ t. t ≡ printable_text text.now) }
 {
-    let signs = printed(alloc, text)?;
+    let signs = signs_of(alloc, text)?;
     Ok(Text::from_string(alloc, signs))
 }
 

@@ -1,2 +1,5 @@
+pub mod Answered
 pub mod Book
 pub mod Level
+pub mod Pieces
+pub mod Ready

@@ -1,6 +1,8 @@
 ghost use Rattle.std.specs.Prelude.{◌≡◌, ◌++◌, ◌∷◌, [], OnOk, OnErr, length, slice_get};
 ghost use Rattle.std.specs.Option.{option_copied};
+ghost use Rattle.mse_calls.specs.Pieces.{bytes_of, part_of};
 
+use crate::Piece;
 use mse_base::{Bytes, OutOfMemory};
 use std::alloc::Global;
 use std::marker::Model;
@@ -50,5 +52,33 @@ impl Blobs {
         ensures { option_copied result ≡ slice_get self.now i }
     {
         self.items.get(i)
+    }
+
+    /// The bytes of a piece; `None` exactly where there is no such blob, or where the part does
+    /// not lie inside it.
+    pub fn part(&self, piece: &Piece) -> Option<&[u8]>
+        ensures { option_copied result ≡ bytes_of self.now piece.now }
+    {
+        match self.get(piece.blob as usize) {
+            Some(blob) => part_of(blob.as_slice(), piece.part),
+            None => None,
+        }
+    }
+}
+
+/// The part of some bytes, by its start and its length; `None` exactly where it does not lie
+/// inside them.
+fn part_of(bytes: &[u8], part: Option<(u64, u64)>) -> Option<&[u8]>
+    ensures { option_copied result ≡ part_of part bytes.now }
+{
+    let Some((start, len)) = part else {
+        return Some(bytes);
+    };
+    let size = bytes.len() as u64;
+    if len <= size && start <= size - len {
+        let from = start as usize;
+        Some(&bytes[from..from + len as usize])
+    } else {
+        None
     }
 }

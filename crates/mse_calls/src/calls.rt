@@ -25,7 +25,9 @@ pub enum EndKind {
 /// How the frames of a media segment get their times (Media Source Extensions, `AppendMode`).
 #[derive(Clone, Copy, Debug, PartialEq, Eq)]
 pub enum Mode {
+    /// By the times in the segment (`segments`).
     Segments,
+    /// One after another, in the order of appending (`sequence`).
     Sequence,
 }
 

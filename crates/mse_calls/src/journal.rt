@@ -62,9 +62,11 @@ impl Journal {
         self.entries.get(i)
     }
 
-    /// Makes room for at least `n` more entries.
+    /// Makes room for at least `n` more entries. The room from before stays, also where it finds
+    /// no memory.
     pub fn reserve(&mut self, n: usize) -> Result<(), OutOfMemory>
         ensures spare { OnOk result (n ≤ self.new.spare) }
+        ensures kept { self.old.spare ≤ self.new.spare }
         ensures entries { self.new.entries ≡ self.old.entries }
     {
         self.entries.try_reserve(n)?;

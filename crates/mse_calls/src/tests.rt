@@ -1,4 +1,4 @@
-use crate::{Answer, Blobs, Call, Entry, Event, EventKind, Journal, Target, TimeRanges};
+use crate::{Answer, Blobs, Call, Entry, Event, EventKind, Journal, Piece, Target, TimeRanges};
 use mse_base::{Bytes, Ranges, Span, Text, Ticks};
 use std::test::Fail;
 
@@ -42,6 +42,21 @@ fn keeps_blobs_and_entries(rt: HostRuntime) -> Result<(), Fail> {
     blobs.push(Bytes::copy_of(rt.alloc(), &[3])?)?;
     assert_eq!(rt; blobs.get(1).ok_or("no blob")?.as_slice(), [3].as_slice());
     assert!(rt; blobs.get(2).is_none());
+    let cases = [
+        (0, None, Some([1, 2].as_slice())),
+        (0, Some((1, 1)), Some([2].as_slice())),
+        (0, Some((2, 0)), Some([].as_slice())),
+        (0, Some((1, 2)), None),
+        (1, Some((u64::MAX, 1)), None),
+        (2, None, None),
+    ];
+    for (blob, part, want) in cases {
+        assert_eq!(rt;
+            blobs.part(&Piece { blob, part }),
+            want,
+            "{part:?} of {blob}"
+        );
+    }
     let event = Event {
         target: Target::Buffer(1),
         kind: EventKind::Update,

@@ -1,15 +1,12 @@
-ghost use Rattle.std.specs.Prelude.{◌≡◌, length, slice_get};
-ghost use Rattle.std.specs.Option.{option_copied};
-
 use crate::{StateView, TimeRanges};
-use mse_base::{Kind, Phase};
-use std::marker::Model;
+use mse_base::{Kind, OwnedList, Phase};
 
 /// What a track buffer holds.
 #[derive(Debug, Drop)]
 pub struct TrackView {
     /// The track's number in the file.
     pub id: u32,
+    /// What it carries.
     pub kind: Kind,
     /// The four-character code of its coding.
     pub codec: [u8; 4],
@@ -20,62 +17,14 @@ pub struct TrackView {
 }
 
 /// A list of track buffers, in the order of the file.
-#[derive(Debug, Drop)]
-pub struct TrackViews {
-    items: Vec<TrackView>,
-}
-
-impl Model for TrackViews {
-    ghost use Rattle.std.specs.Prelude.{List};
-    ghost use Rattle.mse_calls.specs.declared.views.TrackView.{TrackView};
-
-    ghost Value = { List TrackView };
-
-    ghost view = { λ t. t.items.items };
-}
-
-impl TrackViews {
-    /// The track buffers of a vector, which it takes over.
-    pub fn from_vec(items: Vec<TrackView>) -> TrackViews
-        ensures { result ≡ items.items }
-    {
-        TrackViews { items }
-    }
-
-    /// The vector of the track buffers.
-    pub fn into_vec(self) -> Vec<TrackView>
-        ensures { result.items ≡ self }
-    {
-        self.items
-    }
-
-    /// The track buffers as a slice.
-    pub fn as_slice(&self) -> &[TrackView]
-        ensures { result.now ≡ self.now }
-    {
-        self.items.as_slice()
-    }
-
-    /// How many track buffers there are.
-    pub fn len(&self) -> usize
-        ensures { result ≡ length self.now }
-    {
-        self.items.len()
-    }
-
-    /// The track buffer at a place; `None` exactly past the end.
-    pub fn get(&self, i: usize) -> Option<&TrackView>
-        ensures { option_copied result ≡ slice_get self.now i }
-    {
-        self.items.get(i)
-    }
-}
+pub type TrackViews = OwnedList<TrackView>;
 
 /// What a source buffer holds.
 #[derive(Debug, Drop)]
 pub struct BufferView {
     /// The number that it was made with.
     pub number: u32,
+    /// Where its segment parser loop is.
     pub phase: Phase,
     /// How many bytes of its input are kept.
     pub held: u64,
@@ -83,60 +32,12 @@ pub struct BufferView {
     pub used: u64,
     /// What it has buffered.
     pub ranges: TimeRanges,
+    /// Its track buffers.
     pub tracks: TrackViews,
 }
 
 /// A list of source buffers, in the order of `MediaSource.sourceBuffers`.
-#[derive(Debug, Drop)]
-pub struct BufferViews {
-    items: Vec<BufferView>,
-}
-
-impl Model for BufferViews {
-    ghost use Rattle.std.specs.Prelude.{List};
-    ghost use Rattle.mse_calls.specs.declared.views.BufferView.{BufferView};
-
-    ghost Value = { List BufferView };
-
-    ghost view = { λ b. b.items.items };
-}
-
-impl BufferViews {
-    /// The buffers of a vector, which it takes over.
-    pub fn from_vec(items: Vec<BufferView>) -> BufferViews
-        ensures { result ≡ items.items }
-    {
-        BufferViews { items }
-    }
-
-    /// The vector of the buffers.
-    pub fn into_vec(self) -> Vec<BufferView>
-        ensures { result.items ≡ self }
-    {
-        self.items
-    }
-
-    /// The buffers as a slice.
-    pub fn as_slice(&self) -> &[BufferView]
-        ensures { result.now ≡ self.now }
-    {
-        self.items.as_slice()
-    }
-
-    /// How many buffers there are.
-    pub fn len(&self) -> usize
-        ensures { result ≡ length self.now }
-    {
-        self.items.len()
-    }
-
-    /// The buffer at a place; `None` exactly past the end.
-    pub fn get(&self, i: usize) -> Option<&BufferView>
-        ensures { option_copied result ≡ slice_get self.now i }
-    {
-        self.items.get(i)
-    }
-}
+pub type BufferViews = OwnedList<BufferView>;
 
 /// The first violation of a byte stream format, and where it is.
 #[derive(Clone, Copy, Debug, PartialEq, Eq)]
@@ -157,6 +58,7 @@ pub struct FaultView {
 /// What the whole engine shows.
 #[derive(Debug, Drop)]
 pub struct View {
+    /// The state of the source and of the element.
     pub state: StateView,
     /// The buffers in the list of source buffers.
     pub buffers: BufferViews,

@@ -2,10 +2,10 @@ use Rattle.std.proofs.Common.{map, sym, ap, ◌∙◌}
 use Rattle.std.proofs.lemmas.Iterator.{YieldsList-from_chars}
 use Rattle.std.proofs.lemmas.Iterator.Consumers.{YieldsList-end}
 use Rattle.std.proofs.lemmas.List.{map-id}
-use Rattle.event_text.specs.Words.{shown}
-use Rattle.event_text.proofs.words.printed.Goals as goal
+use Rattle.event_text.specs.Words.{sign_of}
+use Rattle.event_text.proofs.words.signs_of.Goals as goal
 
 pub returns : goal.returns
 returns c =
     let all = YieldsList-end (YieldsList-from_chars c.args.text.now c.utf8.text cc) c.loop-c.yielded _ c.loop-c.yielded_by _ _ c.in-None.is c.next.ensures.steps in
-    c.loop-c.invariant ∙ ap (map shown) (sym (map-id c.loop-c.yielded) ∙ all.0)
+    c.loop-c.invariant ∙ ap (map sign_of) (sym (map-id c.loop-c.yielded) ∙ all.0)

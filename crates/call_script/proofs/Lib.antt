@@ -1,0 +1,11 @@
+pub mod Marks
+pub mod Parsing
+pub mod Signs
+pub mod Growing
+pub mod KeyLists
+pub mod Answering
+pub mod Spaces
+pub mod Decimals
+pub mod PrintedTimes
+pub mod PrintedCalls
+pub mod PrintedNumbers

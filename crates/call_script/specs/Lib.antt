@@ -1,0 +1,13 @@
+pub mod Words
+pub mod Numbers
+pub mod Times
+pub mod Names
+pub mod CallWords
+pub mod Lines
+pub mod Events
+pub mod Blobs
+pub mod Keys
+pub mod Members
+pub mod Rules
+pub mod Script
+pub mod ReadBack

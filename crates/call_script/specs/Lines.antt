@@ -1,0 +1,125 @@
+-- The lines of a script: a call's word with the kinds of its arguments, and the steps.
+use Rattle.std.specs.Prelude.{ℕ, nat_le, Bool, ◌&&◌, List, [], ◌∷◌, Option, Some, None, option_map, option_and_then, if◌then◌else◌, codes, bytes_eq}
+use Rattle.std.specs.List.{list_all}
+use Rattle.mse_calls.specs.declared.calls.Call.{Call}
+use Rattle.mse_calls.specs.declared.calls.Call.TheVariants as call
+use Rattle.mse_calls.specs.declared.calls.Piece.{Piece}
+use Rattle.mse_calls.specs.declared.calls.Mode.{Mode as AppendMode}
+use Rattle.mse_calls.specs.declared.calls.Mode.TheVariants.{Segments, Sequence}
+use Rattle.mse_calls.specs.declared.calls.EndKind.TheVariants as kind
+use Rattle.call_script.specs.declared.call_word.CallWord.{CallWord}
+use Rattle.call_script.specs.declared.call_word.CallWord.TheVariants.{Attach, Add, RemoveBuffer, Duration, EndOfStream, Live, ClearLive, Mode, Offset, WindowStart, WindowEnd, Append, Abort, Remove, ChangeType, Buffered, State, Seek, Play, Pause, Advance, ElementBuffered, Seekable}
+use Rattle.call_script.specs.declared.script.StepLine.{StepLine}
+use Rattle.call_script.specs.declared.script.StepLine.TheVariants as step
+use Rattle.call_script.specs.Words.{first_word, after_word}
+use Rattle.call_script.specs.Numbers.{index_of, size_of}
+use Rattle.call_script.specs.Times.{time_of}
+use Rattle.call_script.specs.CallWords.{call_word_of}
+
+-- both, where both are there
+abbrev pub both : {A B : Type 0} → Option A → Option B → Option (A × B)
+both None y = None
+both (Some x) None = None
+both (Some x) (Some y) = Some (x, y)
+
+-- two arguments: the first word, and what stands behind it
+abbrev pub pair : {A B : Type 0} → (List ℕ → Option A) → (List ℕ → Option B) → List ℕ → Option (A × B)
+pair first second text = both (first (first_word text)) (option_and_then second (after_word text))
+
+-- The kinds of arguments. A number is `index_of`, a time is `time_of`.
+abbrev pub mode_of : List ℕ → Option AppendMode
+mode_of text =
+    if bytes_eq text (codes "segments") then Some Segments
+    else (if bytes_eq text (codes "sequence") then Some Sequence else None)
+
+abbrev pub piece_with : ℕ → Option (List ℕ) → Option Piece
+piece_with blob None = Some (record { blob = blob; part = None })
+piece_with blob (Some text) =
+    option_map (λ part. record { blob = blob; part = Some part }) (pair size_of size_of text)
+
+-- a blob, and where more follows the first byte and the length of the part
+unfoldable pub piece_of : List ℕ → Option Piece
+piece_of text = option_and_then (λ blob. piece_with blob (after_word text)) (index_of (first_word text))
+
+-- the type is all that stands behind the space; no space is the empty type
+abbrev pub type_of : Option (List ℕ) → Option (List ℕ)
+type_of None = Some []
+type_of (Some []) = None
+type_of (Some (byte ∷ bytes)) = Some (byte ∷ bytes)
+
+-- What stands behind the word of a call, by the kinds of its arguments.
+abbrev pub alone : Call → Option (List ℕ) → Option Call
+alone call None = Some call
+alone call (Some text) = None
+
+abbrev pub one : {A : Type 0} → (List ℕ → Option A) → (A → Call) → Option (List ℕ) → Option Call
+one first make rest = option_map make (option_and_then first rest)
+
+abbrev pub two : {A B : Type 0} → (List ℕ → Option A) → (List ℕ → Option B) → (A → B → Call)
+    → Option (List ℕ) → Option Call
+two first second make rest = option_map (λ p. make p.0 p.1) (option_and_then (pair first second) rest)
+
+abbrev pub typed : (List ℕ → Call) → Option (List ℕ) → Option Call
+typed make rest = option_map make (type_of rest)
+
+abbrev pub numbered_type : (ℕ → List ℕ → Call) → Option (List ℕ) → Option Call
+numbered_type make None = None
+numbered_type make (Some text) =
+    option_map (λ p. make p.0 p.1) (both (index_of (first_word text)) (type_of (after_word text)))
+
+abbrev pub ending : Option (List ℕ) → Option Call
+ending None = Some (call.EndOfStream kind.Plain)
+ending (Some text) =
+    if bytes_eq text (codes "network") then Some (call.EndOfStream kind.Network)
+    else (if bytes_eq text (codes "decode") then Some (call.EndOfStream kind.Decode) else None)
+
+-- the call of a word and of what stands behind it
+abbrev pub call_with : CallWord → Option (List ℕ) → Option Call
+call_with Attach = alone call.Attach
+call_with Add = typed (λ kind. call.AddSourceBuffer kind)
+call_with RemoveBuffer = one index_of (λ k. call.RemoveSourceBuffer k)
+call_with Duration = one time_of (λ d. call.SetDuration d)
+call_with EndOfStream = ending
+call_with Live = two time_of time_of (λ a b. call.SetLiveSeekableRange a b)
+call_with ClearLive = alone call.ClearLiveSeekableRange
+call_with Mode = two index_of mode_of (λ k mode. call.SetMode k mode)
+call_with Offset = two index_of time_of (λ k t. call.SetTimestampOffset k t)
+call_with WindowStart = two index_of time_of (λ k t. call.SetAppendWindowStart k t)
+call_with WindowEnd = two index_of time_of (λ k t. call.SetAppendWindowEnd k t)
+call_with Append = two index_of piece_of (λ k piece. call.AppendBuffer k piece)
+call_with Abort = one index_of (λ k. call.Abort k)
+call_with Remove = two index_of (pair time_of time_of) (λ k span. call.Remove k span.0 span.1)
+call_with ChangeType = numbered_type (λ k kind. call.ChangeType k kind)
+call_with Buffered = one index_of (λ k. call.Buffered k)
+call_with State = alone call.SourceState
+call_with Seek = one time_of (λ t. call.Seek t)
+call_with Play = alone call.Play
+call_with Pause = alone call.Pause
+call_with Advance = one time_of (λ t. call.Advance t)
+call_with ElementBuffered = alone call.ElementBuffered
+call_with Seekable = alone call.Seekable
+
+-- the bytes from 0x20 to 0x7E
+abbrev pub is_printable : ℕ → Bool
+is_printable byte = nat_le 32 byte && nat_le byte 126
+
+abbrev pub call_in : List ℕ → Option Call
+call_in line = option_and_then (λ word. call_with word (after_word line)) (call_word_of (first_word line))
+
+-- the call of a call line
+unfoldable pub call_of_line : List ℕ → Option Call
+call_of_line line = if list_all is_printable line then call_in line else None
+
+abbrev pub other_step : List ℕ → Option StepLine
+other_step line =
+    if bytes_eq (first_word line) (codes "work")
+    then option_map (λ k. step.Work k) (option_and_then index_of (after_word line))
+    else option_map (λ c. step.Call c) (call_of_line line)
+
+-- the step of a step line
+unfoldable pub step_of_line : List ℕ → Option StepLine
+step_of_line line =
+    if bytes_eq line (codes "fire") then Some step.Fire
+    else (if bytes_eq line (codes "element") then Some step.Element
+    else (if bytes_eq line (codes "drain") then Some step.Drain
+    else other_step line))

@@ -1,0 +1,19 @@
+-- The first word of a text, and what stands behind it.
+use Rattle.std.specs.Prelude.{ℕ, ◌==◌, List, [], ◌∷◌, Option, Some, None, if◌then◌else◌}
+use Rattle.std.specs.List.{before_first}
+
+-- what stands before the first such byte; the whole text where there is none
+abbrev pub before : ℕ → List ℕ → List ℕ
+before mark text = before_first (λ b. b == mark) text
+
+-- what stands behind the first such byte; nothing where there is none
+abbrev pub behind : ℕ → List ℕ → Option (List ℕ)
+behind mark [] = None
+behind mark (byte ∷ bytes) = if byte == mark then Some bytes else behind mark bytes
+
+-- words are parted by one space
+abbrev pub first_word : List ℕ → List ℕ
+first_word text = before 32 text
+
+abbrev pub after_word : List ℕ → Option (List ℕ)
+after_word text = behind 32 text
