@@ -1,53 +1,132 @@
 -- One step of an append, put together of its parts.
-use Rattle.std.proofs.Common.{◌≡◌, ◌∙◌, ℕ, List, refl, ap, subst}
-use Rattle.std.specs.Prelude.{Option, Some, None, slice_get}
+use Rattle.std.proofs.Common.{◌≡◌, ◌∙◌, ℕ, List, Bool, true, false, refl, ap, sym, subst}
+use Rattle.std.specs.Prelude.{Option, Some, None, is_some, slice_get}
 use Rattle.mse_base.specs.declared.track.Presentation.{Presentation}
 use Rattle.mse_types.specs.declared.answer.Container.{Container}
 use Rattle.parser_loop.specs.Walk.{count_after}
-use Rattle.byte_stream.specs.Items.{Item, items_of}
-use Rattle.byte_stream.specs.Streams.{Streaming, last_of, last_shown}
+use Rattle.parser_loop.specs.Items.{InitItem, FrameItem, latest_after_any}
+use Rattle.byte_stream.specs.Readings.{Reading, ByteItem, after_answer}
+use Rattle.byte_stream.specs.Readings as reading
+use Rattle.byte_stream.specs.Streams.{StreamView, latest_of}
 use Rattle.byte_stream.specs.Streams as byte_stream
-use Rattle.track_buffers.specs.Media.{Media}
+use Rattle.mse_base.specs.declared.frame.CodedFrame.{CodedFrame}
+use Rattle.mse_base.specs.declared.ticks.Moment.{Moment}
+use Rattle.track_buffers.specs.declared.effects.MediaFault.{MediaFault}
+use Rattle.track_buffers.specs.declared.effects.MediaEffect.{MediaEffect}
+use Rattle.track_buffers.specs.declared.effects.MediaEffect.TheVariants as effects
+use Rattle.track_buffers.specs.Media.{Media, MediaResult}
+use Rattle.track_buffers.specs.Media as media
+use Rattle.track_buffers.specs.Effects.{media_result}
+use Rattle.track_buffers.specs.Initialized.{init_fault, init_result, init_result_of, segment_effect}
+use Rattle.track_buffers.specs.Frames.{frame_result}
 use Rattle.buffer_state.specs.declared.running.Running.{Running}
 use Rattle.buffer_state.specs.declared.reply.Reply.{Reply}
-use Rattle.buffer_state.specs.declared.turns.Step.{Step}
-use Rattle.buffer_state.specs.declared.turns.Step.TheVariants as step
+use Rattle.buffer_state.specs.declared.turns.ItemEffect.{ItemEffect}
+use Rattle.buffer_state.specs.declared.turns.ItemEffect.TheVariants as step
 use Rattle.buffer_state.specs.State.{Feed, Content, Surroundings, kept, Stands, next_item}
-use Rattle.buffer_state.specs.Replies.{Answered, Answers, AnsweredAs}
-use Rattle.buffer_state.specs.Turns.{Taken, Went, Broke, take_item, taken_turn, item_turn}
-use Rattle.buffer_state.specs.Steps.{stepped, item_stepped, after_given, step_turn}
+use Rattle.buffer_state.specs.Replies.{CallResult, Answers, IsResult}
+use Rattle.buffer_state.specs.Turns.{ItemResult, Done, AppendError, media_item_result, item_result, item_turn_result, append_turn_result}
+use Rattle.buffer_state.specs.Steps.{Took, stepped, item_stepped, after_given, step_turn, content_at, IsRefused}
 use Rattle.buffer_state.proofs.Standing.{answers, feed_at, content_of}
 
 -- a step that did what the item does answers what a turn with the item does
-pub step-turns : (oi : Option Item) (st : Step) (c d : Content) (a : Surroundings) (f : Feed) → stepped st d ≡ item_stepped oi c a.duration → step_turn st a (after_given oi f) d ≡ item_turn oi a f c
-step-turns None step.Dry c d a f e = let same : d ≡ c = cc in ap (λ (x : Content). item_turn None a f x) same
-step-turns None (step.Went b) c d a f e = absurd (cc)
-step-turns None (step.Broke fault at b) c d a f e = absurd (cc)
-step-turns (Some item) step.Dry c d a f e = absurd (cc)
-step-turns (Some item) (step.Went b) c d a f e = let same : Went d b ≡ take_item item c a.duration = cc in ap (λ (t : Taken). taken_turn t a f) same
-step-turns (Some item) (step.Broke fault at b) c d a f e = let same : Broke fault at d b ≡ take_item item c a.duration = cc in ap (λ (t : Taken). taken_turn t a f) same
+pub step-turns : (oi : Option ByteItem) (st : ItemEffect) (c d : Content) (a : Surroundings) (f : Feed) → stepped st d ≡ item_stepped oi c a.duration → step_turn st a (after_given oi f) d ≡ append_turn_result oi a f c
+step-turns None step.NoItem c d a f e = let same : d ≡ c = cc in ap (λ (x : Content). append_turn_result None a f x) same
+step-turns None (step.Done b) c d a f e = absurd (cc)
+step-turns None (step.AppendError fault at b) c d a f e = absurd (cc)
+step-turns (Some item) step.NoItem c d a f e = absurd (cc)
+step-turns (Some item) (step.Done b) c d a f e = let same : Done d b ≡ item_result item c a.duration = cc in ap (λ (t : ItemResult). item_turn_result t a f) same
+step-turns (Some item) (step.AppendError fault at b) c d a f e = let same : AppendError fault at d b ≡ item_result item c a.duration = cc in ap (λ (t : ItemResult). item_turn_result t a f) same
 
 -- behind the item that was given
-pub stands-given : (oi : Option Item) (stream : Streaming) (media : Media) (running : Running) (f : Feed) (c : Content) → byte_stream.Stands stream f.container f.before f.whole (count_after f.taken oi) → media ≡ c.media → last_of stream.kept ≡ c.latest → running ≡ f.running → Stands (kept stream media running) (after_given oi f) c
+pub stands-given : (oi : Option ByteItem) (stream : StreamView) (media : Media) (running : Running) (f : Feed) (c : Content) → byte_stream.Stands stream (after_answer oi f.reading) → media ≡ c.media → latest_of stream ≡ c.latest → running ≡ f.running → Stands (kept stream media running) (after_given oi f) c
 stands-given None stream media running f c s m l r = record { stream = s; media = m; latest = l; running = r }
 stands-given (Some item) stream media running f c s m l r = record { stream = s; media = m; latest = l; running = r }
 
-abbrev pub GivesItem : Streaming → Option Item → Type 0
-GivesItem s oi = (container : Container) (before : Option Presentation) (whole : List ℕ) (n : ℕ) → byte_stream.Stands s container before whole n → oi ≡ slice_get (items_of container before whole) n
+abbrev pub GivesItem : StreamView → Option ByteItem → Type 0
+GivesItem s oi = (r : Reading) → byte_stream.Stands s r → oi ≡ reading.next_item r
 
-abbrev pub GoesOn : Streaming → Option Item → Streaming → Type 0
-GoesOn s oi t = (container : Container) (before : Option Presentation) (whole : List ℕ) (n : ℕ) → byte_stream.Stands s container before whole n → byte_stream.Stands t container before whole (count_after n oi)
+abbrev pub GoesOn : StreamView → Option ByteItem → StreamView → Type 0
+GoesOn s oi t = (r : Reading) → byte_stream.Stands s r → byte_stream.Stands t (after_answer oi r)
 
-pub append-turns : (s0 s1 s2 : Streaming) (m0 m1 m2 : Media) (r0 r2 : Running) (oi : Option Item) (st : Step) (reply : Reply) (a : Surroundings) → GivesItem s0 oi → GoesOn s0 oi s1 → last_of s1.kept ≡ last_shown (last_of s0.kept) oi
-    → ((latest : Option Presentation) → stepped st (record { media = m1; latest = last_shown latest oi }) ≡ item_stepped oi (record { media = m0; latest = latest }) a.duration)
+pub append-turns : (s0 s1 s2 : StreamView) (m0 m1 m2 : Media) (r0 r2 : Running) (oi : Option ByteItem) (st : ItemEffect) (reply : Reply) (a : Surroundings) → GivesItem s0 oi → GoesOn s0 oi s1 → latest_of s1 ≡ latest_after_any (latest_of s0) oi
+    → ((latest : Option Presentation) → stepped st (record { media = m1; latest = latest_after_any latest oi }) ≡ item_stepped oi (record { media = m0; latest = latest }) a.duration)
     → Answers (kept s1 m1 r0) reply (kept s2 m2 r2) (step_turn st a)
-    → Answers (kept s0 m0 r0) reply (kept s2 m2 r2) (λ f c. item_turn (next_item f) a f c)
+    → Answers (kept s0 m0 r0) reply (kept s2 m2 r2) (λ f c. append_turn_result (next_item f) a f c)
 append-turns s0 s1 s2 m0 m1 m2 r0 r2 oi st reply a gives goes last does done =
-    answers (kept s0 m0 r0) reply (kept s2 m2 r2) (λ f c. item_turn (next_item f) a f c) (λ container before whole taken s.
-    let f : Feed = feed_at container before whole taken r0 in
+    answers (kept s0 m0 r0) reply (kept s2 m2 r2) (λ f c. append_turn_result (next_item f) a f c) (λ r s.
+    let f : Feed = feed_at r r0 in
     let c : Content = content_of m0 s0 in
-    let d : Content = record { media = m1; latest = last_shown (last_of s0.kept) oi } in
-    let there : Stands (kept s1 m1 r0) (after_given oi f) d = stands-given oi s1 m1 r0 f d (goes container before whole taken s) refl last refl in
-    let is : step_turn st a (after_given oi f) d ≡ item_turn oi a f c = step-turns oi st c d a f (does (last_of s0.kept)) in
-    let read : item_turn oi a f c ≡ item_turn (next_item f) a f c = ap (λ (o : Option Item). item_turn o a f c) (gives container before whole taken s) in
-    subst (λ (x : Answered). AnsweredAs reply (kept s2 m2 r2) x) (is ∙ read) (done (after_given oi f) d there))
+    let d : Content = record { media = m1; latest = latest_after_any (latest_of s0) oi } in
+    let there : Stands (kept s1 m1 r0) (after_given oi f) d = stands-given oi s1 m1 r0 f d (goes r s) refl last refl in
+    let is : step_turn st a (after_given oi f) d ≡ append_turn_result oi a f c = step-turns oi st c d a f (does (latest_of s0)) in
+    let read : append_turn_result oi a f c ≡ append_turn_result (next_item f) a f c = ap (λ (o : Option ByteItem). append_turn_result o a f c) (gives r s) in
+    subst (λ (x : CallResult). IsResult reply (kept s2 m2 r2) x) (is ∙ read) (done (after_given oi f) d there))
+
+-- ---- an item that is refused
+
+-- what comes of it does not depend on whether it was given
+error-given : (st : ItemEffect) (o : Option ByteItem) (m : Media) (d : Moment) (a : Surroundings) (f : Feed) (c : Content) → IsRefused st o m d → step_turn st a f c ≡ step_turn st a (after_given o f) c
+error-given step.NoItem o m d a f c h = absurd h
+error-given (step.Done e) o m d a f c h = absurd h
+error-given (step.AppendError fault at e) None m d a f c h = refl
+error-given (step.AppendError fault at e) (Some item) m d a f c h = refl
+
+refused-stepped : (st : ItemEffect) (o : Option ByteItem) (m : Media) (d : Moment) (latest : Option Presentation) → IsRefused st o m d → stepped st (record { media = m; latest = latest }) ≡ item_stepped o (record { media = m; latest = latest }) d
+refused-stepped step.NoItem o m d latest h = absurd h
+refused-stepped (step.Done e) o m d latest h = absurd h
+refused-stepped (step.AppendError fault at e) o m d latest h = sym (h latest)
+
+pub refusal-turns : (s0 s2 : StreamView) (m0 m2 : Media) (r0 r2 : Running) (st : ItemEffect) (reply : Reply) (a : Surroundings)
+    → ((r : Reading) → byte_stream.Stands s0 r → IsRefused st (reading.next_item r) m0 a.duration)
+    → Answers (kept s0 m0 r0) reply (kept s2 m2 r2) (step_turn st a)
+    → Answers (kept s0 m0 r0) reply (kept s2 m2 r2) (λ f c. append_turn_result (next_item f) a f c)
+refusal-turns s0 s2 m0 m2 r0 r2 st reply a refused done =
+    answers (kept s0 m0 r0) reply (kept s2 m2 r2) (λ f c. append_turn_result (next_item f) a f c) (λ r s.
+    let f : Feed = feed_at r r0 in
+    let c : Content = content_of m0 s0 in
+    let no : IsRefused st (next_item f) m0 a.duration = refused r s in
+    let there : Stands (kept s0 m0 r0) f c = record { stream = s; media = refl; latest = refl; running = refl } in
+    let is : step_turn st a (after_given (next_item f) f) c ≡ append_turn_result (next_item f) a f c = step-turns (next_item f) st c c a f (refused-stepped st (next_item f) m0 a.duration (latest_of s0) no) in
+    subst (λ (x : CallResult). IsResult reply (kept s2 m2 r2) x) (error-given st (next_item f) m0 a.duration a f c no ∙ is) (done f c there))
+
+-- ---- what an item does to the media
+
+-- a segment that is not refused
+pub accepted-step : (st : ItemEffect) (e : MediaEffect) (p : Presentation) (at : ℕ) (m0 m1 : Media) (latest : Option Presentation) (d : Moment) → init_fault p m0 ≡ None → media_result e m1 ≡ init_result p m0 d
+    → stepped st (content_at m1 (Some p) (record { media = m0; latest = latest }) e) ≡ Took (media_item_result (media_result e m1) at (Some p) (record { media = m0; latest = latest }))
+    → stepped st (record { media = m1; latest = Some p }) ≡ Took (item_result (InitItem p at) (record { media = m0; latest = latest }) d)
+accepted-step st (effects.Done e) p at m0 m1 latest d none is h = h ∙ ap (λ (r : MediaResult). Took (media_item_result r at (Some p) (record { media = m0; latest = latest }))) is
+accepted-step st (effects.AppendError fault e) p at m0 m1 latest d none is h =
+    let no = is ∙ ap (λ (o : Option MediaFault). init_result_of o p m0 (segment_effect p d)) none in
+    absurd cc
+
+-- a frame
+pub frame-step : (st : ItemEffect) (e : MediaEffect) (f : CodedFrame) (at : ℕ) (m0 m1 : Media) (latest : Option Presentation) (d : Moment) → media_result e m1 ≡ frame_result f m0 d
+    → stepped st (content_at m1 latest (record { media = m0; latest = latest }) e) ≡ Took (media_item_result (media_result e m1) at latest (record { media = m0; latest = latest }))
+    → stepped st (record { media = m1; latest = latest }) ≡ Took (item_result (FrameItem f at) (record { media = m0; latest = latest }) d)
+frame-step st (effects.Done e) f at m0 m1 latest d is h = h ∙ ap (λ (r : MediaResult). Took (media_item_result r at latest (record { media = m0; latest = latest }))) is
+frame-step st (effects.AppendError fault e) f at m0 m1 latest d is h = h ∙ ap (λ (r : MediaResult). Took (media_item_result r at latest (record { media = m0; latest = latest }))) is
+
+-- a segment that is refused
+abbrev pub DoesStep : ItemEffect → MediaEffect → ℕ → Type 0
+DoesStep st e at = (m : Media) (latest : Option Presentation) (c : Content) → stepped st (content_at m latest c e) ≡ Took (media_item_result (media_result e m) at latest c)
+
+refused-by : (st : ItemEffect) (e : MediaEffect) (p : Presentation) (at : ℕ) (fault : MediaFault) (m0 m1 : Media) (d : Moment) → media_result e m1 ≡ media.AppendError fault m0 (segment_effect p d) → init_result p m0 d ≡ media.AppendError fault m0 (segment_effect p d) → DoesStep st e at → IsRefused st (Some (InitItem p at)) m1 d
+refused-by st (effects.Done x) p at fault m0 m1 d is there h = absurd cc
+refused-by step.NoItem (effects.AppendError g x) p at fault m0 m1 d is there h = let no = h m1 None (record { media = m1; latest = None }) in absurd cc
+refused-by (step.Done y) (effects.AppendError g x) p at fault m0 m1 d is there h = let no = h m1 None (record { media = m1; latest = None }) in absurd cc
+refused-by (step.AppendError s i y) (effects.AppendError g x) p at fault m0 m1 d is there h = λ latest.
+    let same : m1 ≡ m0 = cc in
+    let c : Content = record { media = m1; latest = latest } in
+    ap (λ (r : MediaResult). Took (media_item_result r at (Some p) c)) (ap (λ (m : Media). init_result p m d) same ∙ there ∙ sym is) ∙ sym (h m1 (Some p) c)
+
+pub refused-step : (st : ItemEffect) (e : MediaEffect) (p : Presentation) (at : ℕ) (o : Option MediaFault) (m0 m1 : Media) (d : Moment) → o ≡ init_fault p m0 → is_some o ≡ true → media_result e m1 ≡ init_result p m0 d → DoesStep st e at → IsRefused st (Some (InitItem p at)) m1 d
+refused-step st e p at None m0 m1 d has some is h = absurd cc
+refused-step st e p at (Some fault) m0 m1 d has some is h =
+    let there : init_result p m0 d ≡ media.AppendError fault m0 (segment_effect p d) = ap (λ (o : Option MediaFault). init_result_of o p m0 (segment_effect p d)) (sym has) in
+    refused-by st e p at fault m0 m1 d (is ∙ there) there h
+
+pub no-fault : (p : Presentation) (m : Media) (o : Option MediaFault) → o ≡ init_fault p m → is_some o ≡ false → init_fault p m ≡ None
+no-fault p m None has none = sym has
+no-fault p m (Some fault) has none = absurd cc

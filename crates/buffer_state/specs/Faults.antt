@@ -11,8 +11,8 @@ use Rattle.adts_stream.specs.declared.next.AdtsFault.{AdtsFault}
 use Rattle.adts_stream.specs.declared.next.AdtsFault.TheVariants as adts
 use Rattle.byte_stream.specs.declared.next.ByteFault.{ByteFault}
 use Rattle.byte_stream.specs.declared.next.ByteFault.TheVariants.{Segments, Frames}
-use Rattle.track_buffers.specs.declared.answers.MediaFault.{MediaFault}
-use Rattle.track_buffers.specs.declared.answers.MediaFault.TheVariants.{NoTracks, UnknownCodec, TracksDiffer, TimeRange, Counts}
+use Rattle.track_buffers.specs.declared.effects.MediaFault.{MediaFault}
+use Rattle.track_buffers.specs.declared.effects.MediaFault.TheVariants.{NoTracks, UnknownCodec, TracksDiffer, TimeRange, Counts}
 use Rattle.buffer_state.specs.declared.faults.Fault.{Fault}
 use Rattle.buffer_state.specs.declared.faults.Fault.TheVariants.{Bytes, Media}
 

@@ -1,8 +1,8 @@
 -- How many steps of running work are left, by what is kept.
 use Rattle.std.specs.Prelude.{◌≡◌, ℕ, ◌+◌, ◌<◌, true, false, length}
 use Rattle.parser_loop.specs.Walk.{items_from}
-use Rattle.segment_walk.specs.Segments.{segments}
-use Rattle.adts_stream.specs.Frames.{adts}
+use Rattle.segment_walk.specs.Moves.{segments}
+use Rattle.adts_stream.specs.Walk.{adts}
 use Rattle.byte_stream.specs.Streams.{OfSegments, OfFrames}
 use Rattle.byte_stream.specs.Streams as byte_stream
 use Rattle.buffer_state.specs.declared.running.Running.{Running}
@@ -12,18 +12,18 @@ use Rattle.buffer_state.specs.declared.reply.Turned.TheVariants.{Did, Idle}
 use Rattle.buffer_state.specs.State.{Kept, is_updating}
 
 -- how many items the stream will give of the bytes that it has
-abbrev pub items_left : byte_stream.Kept → ℕ
+abbrev pub items_left : byte_stream.ParserState → ℕ
 items_left (OfSegments k) = length k.items + length (items_from segments k.state)
 items_left (OfFrames s) = length (items_from adts s)
 
-abbrev pub work_left : Running → byte_stream.Kept → ℕ
+abbrev pub work_left : Running → byte_stream.ParserState → ℕ
 work_left Nothing k = 0
 work_left Append k = items_left k + 1
 work_left (Removal start end) k = 1
 
 -- a removal is one step; an append has one for each item, and one for its end
 abbrev pub steps_left : Kept → ℕ
-steps_left k = work_left k.running k.stream.kept
+steps_left k = work_left k.running k.stream.parser
 
 -- a step lowers them
 abbrev pub IsFewer : Turned → Kept → Kept → Type 0

@@ -1,19 +1,20 @@
 -- What a call or a turn answers, and the state behind it.
-use Rattle.std.specs.Prelude.{◌≡◌, ℕ, Bool, true, false, List, [], Option, Some, None}
+use Rattle.std.specs.Prelude.{◌≡◌, ℕ, Bool, true, false, List, [], ◌∷◌, Option, Some, None, Result, IfOk}
 use Rattle.mse_base.specs.declared.ticks.Moment.{Moment}
 use Rattle.mse_calls.specs.declared.answers.Name.{Name}
 use Rattle.mse_calls.specs.declared.answers.Ready.{Ready}
 use Rattle.mse_calls.specs.declared.answers.Ready.TheVariants.{Closed, Opened, Ended}
 use Rattle.mse_calls.specs.declared.events.EventKind.{EventKind}
+use Rattle.mse_calls.specs.declared.events.EventKind.TheVariants.{Error, UpdateEnd}
 use Rattle.mse_calls.specs.declared.views.FaultView.{FaultView}
-use Rattle.track_buffers.specs.declared.answers.Brought.{Brought}
-use Rattle.track_buffers.specs.Media.{Media, EndsWithin}
+use Rattle.track_buffers.specs.declared.effects.SourceEffect.{SourceEffect}
+use Rattle.track_buffers.specs.Media.{Media, EndsWithin, no_effect}
 use Rattle.buffer_state.specs.declared.reply.Reply.{Reply}
 use Rattle.buffer_state.specs.declared.reply.Turned.{Turned}
 use Rattle.buffer_state.specs.declared.reply.Turned.TheVariants.{Did, Idle}
 use Rattle.buffer_state.specs.State.{Feed, Content, Surroundings, Kept, Stands}
 
-pub record Answered : Type 0 where
+pub record CallResult : Type 0 where
   pub reply : Reply
   pub feed : Feed
   pub content : Content
@@ -30,47 +31,66 @@ reopens Closed = false
 reopens Opened = false
 reopens Ended = true
 
+-- ---- replies
+
 -- a refusal by a name; nothing comes of the call but that the source was opened again before it
 abbrev pub refusal : Name → Bool → Moment → Reply
-refusal name reopened duration = record { refused = Some name; reopened = reopened; duration_changes = 0; duration = duration; activated = false; fault = None; events = [] }
+refusal name reopened duration = record { refused = Some name; reopened = reopened; events_first = false; duration_changes = 0; duration = duration; activated = false; fault = None; events = [] }
 
-abbrev pub reply_of : Bool → Brought → Option FaultView → List EventKind → Reply
-reply_of reopened b fault events = record { refused = None; reopened = reopened; duration_changes = b.changes; duration = b.duration; activated = b.activated; fault = fault; events = events }
+-- what comes of a call or a turn at the source, and behind it the events at the buffer
+abbrev pub effect_reply : Bool → SourceEffect → List EventKind → Reply
+effect_reply reopened e events = record { refused = None; reopened = reopened; events_first = false; duration_changes = e.duration_changes; duration = e.duration; activated = e.activated; fault = None; events = events }
 
-abbrev pub refuse : Name → Bool → Surroundings → Feed → Content → Answered
-refuse name reopened a f c = record { reply = refusal name reopened a.duration; feed = f; content = c }
+-- events at the buffer alone
+abbrev pub event_reply : Bool → Moment → List EventKind → Reply
+event_reply reopened duration events = effect_reply reopened (no_effect duration) events
 
-abbrev pub replied : Bool → Brought → Option FaultView → List EventKind → Feed → Content → Answered
-replied reopened b fault events f c = record { reply = reply_of reopened b fault events; feed = f; content = c }
+-- events at the buffer, and behind them what comes of it at the source
+abbrev pub events_first_reply : List EventKind → SourceEffect → Reply
+events_first_reply events e = record (effect_reply false e events) { events_first = true }
+
+-- an append error (3.5.3): its events at the buffer, and the end of the source with a decode error
+abbrev pub error_reply : FaultView → SourceEffect → Reply
+error_reply fault e = record (effect_reply false e (Error ∷ UpdateEnd ∷ [])) { fault = Some fault }
+
+abbrev pub refused_result : Name → Bool → Surroundings → Feed → Content → CallResult
+refused_result name reopened a f c = record { reply = refusal name reopened a.duration; feed = f; content = c }
+
+abbrev pub result_with : Reply → Feed → Content → CallResult
+result_with reply f c = record { reply = reply; feed = f; content = c }
 
 -- ---- the code and this
 
 -- the reply is the one that is meant, and what is kept stands for the state that is meant
-pub record AnsweredAs (reply : Reply) (k : Kept) (answered : Answered) : Type 0 where
-  pub replies : reply ≡ answered.reply
-  pub stands : Stands k answered.feed answered.content
+pub record IsResult (reply : Reply) (k : Kept) (result : CallResult) : Type 0 where
+  pub replies : reply ≡ result.reply
+  pub stands : Stands k result.feed result.content
 
 -- a call answers a reply and leaves what is kept, for every feed and content that was stood for
-abbrev pub Answers : Kept → Reply → Kept → (Feed → Content → Answered) → Type 0
-Answers old reply new call = (f : Feed) (c : Content) → Stands old f c → AnsweredAs reply new (call f c)
+abbrev pub Answers : Kept → Reply → Kept → (Feed → Content → CallResult) → Type 0
+Answers old reply new call = (f : Feed) (c : Content) → Stands old f c → IsResult reply new (call f c)
+
+-- the same of a call that answers one where there is memory
+abbrev pub AnswersIfOk : {E : Type 0} → Kept → Result Reply E → Kept → (Feed → Content → CallResult) → Type 0
+AnswersIfOk old result new call = (f : Feed) (c : Content) → Stands old f c → IfOk result (λ reply. IsResult reply new (call f c))
 
 -- where each stored frame ended within the duration, each does so within the duration that is replied
-abbrev pub KeepsEnds : Moment → Media → Reply → Media → Type 0
-KeepsEnds duration old reply new = EndsWithin duration old.tracks → EndsWithin reply.duration new.tracks
+abbrev pub StaysWithin : Moment → Media → Reply → Media → Type 0
+StaysWithin duration old reply new = EndsWithin duration old.tracks → EndsWithin reply.duration new.tracks
 
 -- something ran, or nothing did
-abbrev pub TurnedAs : Turned → Kept → Option Answered → Type 0
-TurnedAs (Did reply) k None = ⊥
-TurnedAs (Did reply) k (Some answered) = AnsweredAs reply k answered
-TurnedAs Idle k None = Unit {0}
-TurnedAs Idle k (Some answered) = ⊥
+abbrev pub IsTurn : Turned → Kept → Option CallResult → Type 0
+IsTurn (Did reply) k None = ⊥
+IsTurn (Did reply) k (Some result) = IsResult reply k result
+IsTurn Idle k None = Unit {0}
+IsTurn Idle k (Some result) = ⊥
 
--- the same of a step
-abbrev pub TurnKeepsEnds : Moment → Media → Turned → Media → Type 0
-TurnKeepsEnds duration old (Did reply) new = KeepsEnds duration old reply new
-TurnKeepsEnds duration old Idle new = Unit {0}
+-- what is said of a reply, said of a turn
+abbrev pub OfTurn : Turned → (Reply → Type 0) → Type 0
+OfTurn (Did reply) P = P reply
+OfTurn Idle P = Unit {0}
 
--- how often the duration changed in a step
+-- how often the duration changed in a turn
 abbrev pub changes_of : Turned → ℕ
 changes_of (Did reply) = reply.duration_changes
 changes_of Idle = 0

@@ -6,22 +6,18 @@ use Rattle.mse_base.specs.declared.ticks.Moment.{Moment}
 use Rattle.mse_base.specs.declared.track.Presentation.{Presentation}
 use Rattle.mse_types.specs.declared.answer.Container.{Container}
 use Rattle.mse_calls.specs.declared.answers.Ready.{Ready}
-use Rattle.byte_stream.specs.Items.{Item, items_of, phase_at, ready_at}
-use Rattle.byte_stream.specs.Streams.{Streaming, last_of}
+use Rattle.byte_stream.specs.Readings.{Reading, ByteItem, reading_from, with_bytes, phase_at, ready_at}
+use Rattle.byte_stream.specs.Readings as reading
+use Rattle.byte_stream.specs.Streams.{StreamView, latest_of}
 use Rattle.byte_stream.specs.Streams as byte_stream
 use Rattle.track_buffers.specs.Media.{Media}
 use Rattle.buffer_state.specs.declared.around.Around.{Around}
 use Rattle.buffer_state.specs.declared.running.Running.{Running}
 use Rattle.buffer_state.specs.declared.running.Running.TheVariants.{Nothing, Append, Removal}
 
--- What feeds a buffer: the container of its byte stream, the presentation that the last reset left, the string of all
--- bytes that were appended since that reset (Media Source Extensions, input buffer), how many of its items were taken,
--- and what runs.
+-- What feeds a buffer: its byte stream as it is read (Media Source Extensions, input buffer), and what runs.
 pub record Feed : Type 0 where
-  pub container : Container
-  pub before : Option Presentation
-  pub whole : List ℕ
-  pub taken : ℕ
+  pub reading : Reading
   pub running : Running
 
 -- Its media, and the presentation of the last initialization segment that was taken, or that a reset left.
@@ -32,29 +28,28 @@ pub record Content : Type 0 where
 -- What a buffer is told of what it does not keep. The position and the quota are told to `append` alone.
 pub record Surroundings : Type 0 where
   pub number : ℕ
-  pub removed : Bool
   pub ready : Ready
   pub error : Bool
   pub duration : Moment
 
 abbrev pub surroundings : Around → Surroundings
-surroundings a = record { number = a.number; removed = a.removed; ready = a.ready; error = a.error; duration = a.duration }
+surroundings a = record { number = a.number; ready = a.ready; error = a.error; duration = a.duration }
 
 -- ---- what the code keeps
 
 pub record Kept : Type 0 where
-  pub stream : Streaming
+  pub stream : StreamView
   pub media : Media
   pub running : Running
 
-abbrev pub kept : Streaming → Media → Running → Kept
+abbrev pub kept : StreamView → Media → Running → Kept
 kept stream media running = record { stream = stream; media = media; running = running }
 
 -- A buffer stands for a feed and a content. Many strings may belong to one buffer.
 pub record Stands (k : Kept) (f : Feed) (c : Content) : Type 0 where
-  pub stream : byte_stream.Stands k.stream f.container f.before f.whole f.taken
+  pub stream : byte_stream.Stands k.stream f.reading
   pub media : k.media ≡ c.media
-  pub latest : last_of k.stream.kept ≡ c.latest
+  pub latest : latest_of k.stream ≡ c.latest
   pub running : k.running ≡ f.running
 
 -- ---- the feed
@@ -75,30 +70,30 @@ is_removing Nothing = false
 is_removing Append = false
 is_removing (Removal start end) = true
 
-abbrev pub running_on : Running → Feed → Feed
-running_on running f = record f { running = running }
+abbrev pub feed_running : Running → Feed → Feed
+feed_running running f = record f { running = running }
 
-abbrev pub rested : Feed → Feed
-rested f = running_on Nothing f
+abbrev pub idle_feed : Feed → Feed
+idle_feed f = feed_running Nothing f
 
 -- more bytes at the end of the string (Media Source Extensions, 3.2, appendBuffer)
-abbrev pub fed_with : List ℕ → Feed → Feed
-fed_with bytes f = record f { whole = f.whole ++ bytes; running = Append }
+abbrev pub feed_with : List ℕ → Feed → Feed
+feed_with bytes f = record { reading = with_bytes bytes f.reading; running = Append }
 
-abbrev pub one_taken : Feed → Feed
-one_taken f = record f { taken = f.taken + 1 }
+abbrev pub feed_after_item : Feed → Feed
+feed_after_item f = record f { reading = record f.reading { taken = f.reading.taken + 1 } }
 
 -- an empty string, read with the presentation that is left (Media Source Extensions, 3.5.2, reset parser state)
-abbrev pub restarted : Container → Option Presentation → Feed
-restarted container before = record { container = container; before = before; whole = []; taken = 0; running = Nothing }
+abbrev pub new_feed : Container → Option Presentation → Feed
+new_feed container before = record { reading = reading_from container before; running = Nothing }
 
 -- the append state, just before the next item
 abbrev pub phase_in : Feed → Phase
-phase_in f = phase_at f.container f.before f.whole f.taken
+phase_in f = phase_at f.reading
 
 -- the coded frames that come next, up to the first item that is none
 abbrev pub ready_in : Feed → List CodedFrame
-ready_in f = ready_at f.container f.before f.whole f.taken
+ready_in f = ready_at f.reading
 
-abbrev pub next_item : Feed → Option Item
-next_item f = slice_get (items_of f.container f.before f.whole) f.taken
+abbrev pub next_item : Feed → Option ByteItem
+next_item f = reading.next_item f.reading

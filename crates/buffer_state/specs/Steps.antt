@@ -1,74 +1,100 @@
 -- What the code does in one step of an append, in parts.
-use Rattle.std.specs.Prelude.{◌≡◌, ℕ, ◌≤◌, true, false, [], ◌∷◌, length, Option, Some, None}
+use Rattle.std.specs.Prelude.{◌≡◌, ℕ, ◌≤◌, true, false, [], length, Option, Some, None}
 use Rattle.mse_base.specs.declared.frame.CodedFrame.{CodedFrame}
 use Rattle.mse_base.specs.declared.ticks.Moment.{Moment}
-use Rattle.mse_calls.specs.declared.events.EventKind.TheVariants.{Update, UpdateEnd, Error}
-use Rattle.byte_stream.specs.Items.{Item, InitItem, FrameItem, SegmentEnd, FaultItem}
-use Rattle.byte_stream.specs.Streams.{Streaming}
-use Rattle.track_buffers.specs.Media.{MediaView, awaits_first, nothing_brought}
-use Rattle.track_buffers.specs.Initialized.{media_tracks}
+use Rattle.mse_base.specs.declared.track.Presentation.{Presentation}
+use Rattle.parser_loop.specs.Items.{InitItem, FrameItem, SegmentEnd, FaultItem}
+use Rattle.byte_stream.specs.Readings.{ByteItem}
+use Rattle.byte_stream.specs.Streams.{StreamView}
+use Rattle.track_buffers.specs.Media.{Media, MediaView, awaits_first}
+use Rattle.track_buffers.specs.Initialized.{media_tracks, init_fault}
+use Rattle.track_buffers.specs.declared.effects.MediaEffect.{MediaEffect}
+use Rattle.track_buffers.specs.declared.effects.MediaEffect.TheVariants as effects
 use Rattle.buffer_state.specs.declared.running.Running.{Running}
 use Rattle.buffer_state.specs.declared.running.Running.TheVariants.{Nothing}
-use Rattle.buffer_state.specs.declared.turns.Step.{Step}
-use Rattle.buffer_state.specs.declared.turns.Step.TheVariants as step
-use Rattle.buffer_state.specs.State.{Feed, Content, Surroundings, rested, one_taken, restarted}
-use Rattle.buffer_state.specs.Faults.{fault_view}
-use Rattle.buffer_state.specs.Replies.{Answered, replied}
-use Rattle.buffer_state.specs.Turns.{Taken, Went, Broke, take_item, broken}
+use Rattle.buffer_state.specs.declared.turns.ItemEffect.{ItemEffect}
+use Rattle.buffer_state.specs.declared.turns.ItemEffect.TheVariants as step
+use Rattle.buffer_state.specs.State.{Feed, Content, Surroundings, feed_after_item}
+use Rattle.buffer_state.specs.Replies.{CallResult, effect_reply, result_with}
+use Rattle.buffer_state.specs.Turns.{ItemResult, Done, AppendError, item_result, append_error_result, last_turn_result}
 
--- there is room for what the item stores
-abbrev pub HasPlace : Option Item → MediaView → Type 0
-HasPlace None m = Unit {0}
-HasPlace (Some (InitItem p at)) m = awaits_first m.media ≡ true → length (media_tracks p) ≤ m.places
-HasPlace (Some (FrameItem f at)) m = 1 ≤ m.room
-HasPlace (Some SegmentEnd) m = Unit {0}
-HasPlace (Some (FaultItem f at)) m = Unit {0}
+-- the media is ready for the item: an initialization segment is not refused, and there is room for what it stores
+abbrev pub IsReadyFor : Option ByteItem → MediaView → Type 0
+IsReadyFor None m = Unit {0}
+IsReadyFor (Some (InitItem p at)) m = (init_fault p m.media ≡ None) × (awaits_first m.media ≡ true → length (media_tracks p) ≤ m.places)
+IsReadyFor (Some (FrameItem f at)) m = 1 ≤ m.room
+IsReadyFor (Some SegmentEnd) m = Unit {0}
+IsReadyFor (Some (FaultItem f at)) m = Unit {0}
+
+-- the item is no initialization segment
+abbrev pub IsNoInit : Option ByteItem → Type 0
+IsNoInit None = Unit {0}
+IsNoInit (Some (InitItem p at)) = ⊥
+IsNoInit (Some (FrameItem f at)) = Unit {0}
+IsNoInit (Some SegmentEnd) = Unit {0}
+IsNoInit (Some (FaultItem f at)) = Unit {0}
 
 -- what the next item did, or that there was none
 pub data Stepped : Type 0 where
   Ended : Content → Stepped
-  Took : Taken → Stepped
+  Took : ItemResult → Stepped
 
-abbrev pub stepped : Step → Content → Stepped
-stepped step.Dry c = Ended c
-stepped (step.Went b) c = Took (Went c b)
-stepped (step.Broke fault at b) c = Took (Broke fault at c b)
+abbrev pub stepped : ItemEffect → Content → Stepped
+stepped step.NoItem c = Ended c
+stepped (step.Done b) c = Took (Done c b)
+stepped (step.AppendError fault at b) c = Took (AppendError fault at c b)
 
-abbrev pub item_stepped : Option Item → Content → Moment → Stepped
+abbrev pub item_stepped : Option ByteItem → Content → Moment → Stepped
 item_stepped None c d = Ended c
-item_stepped (Some item) c d = Took (take_item item c d)
+item_stepped (Some item) c d = Took (item_result item c d)
+
+-- the content behind an item that did this to the media; one that is refused leaves the presentation from before
+abbrev pub content_at : Media → Option Presentation → Content → MediaEffect → Content
+content_at m latest c (effects.Done e) = record { media = m; latest = latest }
+content_at m latest c (effects.AppendError fault e) = record { media = m; latest = c.latest }
+
+-- the item is refused, and this is what comes of it: it leaves the media and the presentation
+abbrev pub IsRefused : ItemEffect → Option ByteItem → Media → Moment → Type 0
+IsRefused step.NoItem o m d = ⊥
+IsRefused (step.Done e) o m d = ⊥
+IsRefused (step.AppendError fault at e) o m d = (latest : Option Presentation) → item_stepped o (record { media = m; latest = latest }) d ≡ Took (AppendError fault at (record { media = m; latest = latest }) e)
+
+-- the item is refused, or the media is ready for it
+abbrev pub IsPrepared : Option ItemEffect → Option ByteItem → MediaView → Moment → Type 0
+IsPrepared None o m d = IsReadyFor o m
+IsPrepared (Some st) o m d = IsRefused st o m.media d
 
 -- the duration after a step
-abbrev pub duration_after : Step → Moment → Moment
-duration_after step.Dry d = d
-duration_after (step.Went b) d = b.duration
-duration_after (step.Broke fault at b) d = b.duration
+abbrev pub duration_after : ItemEffect → Moment → Moment
+duration_after step.NoItem d = d
+duration_after (step.Done b) d = b.duration
+duration_after (step.AppendError fault at b) d = b.duration
 
 -- how often it changed
-abbrev pub changes_after : Step → ℕ
-changes_after step.Dry = 0
-changes_after (step.Went b) = b.changes
-changes_after (step.Broke fault at b) = b.changes
+abbrev pub changes_after : ItemEffect → ℕ
+changes_after step.NoItem = 0
+changes_after (step.Done b) = b.duration_changes
+changes_after (step.AppendError fault at b) = b.duration_changes
 
 -- the feed where an item was given
-abbrev pub after_given : Option Item → Feed → Feed
+abbrev pub after_given : Option ByteItem → Feed → Feed
 after_given None f = f
-after_given (Some item) f = one_taken f
+after_given (Some item) f = feed_after_item f
 
 -- what a step answers, where the item was given
-abbrev pub step_turn : Step → Surroundings → Feed → Content → Answered
-step_turn step.Dry a f c = replied false (nothing_brought a.duration) None (Update ∷ UpdateEnd ∷ []) (rested f) c
-step_turn (step.Went b) a f c = replied false b None [] f c
-step_turn (step.Broke fault at b) a f c = replied false b (Some (fault_view fault a.number at)) (Error ∷ UpdateEnd ∷ []) (restarted f.container c.latest) (broken c)
+abbrev pub step_turn : ItemEffect → Surroundings → Feed → Content → CallResult
+step_turn step.NoItem a f c = last_turn_result a f c
+step_turn (step.Done b) a f c = result_with (effect_reply false b []) f c
+step_turn (step.AppendError fault at b) a f c = append_error_result fault at b a f c
 
 -- a step that went well leaves the stream and the append; behind another nothing runs
-abbrev pub Leaves : Step → Streaming → Running → Streaming → Running → Type 0
-Leaves step.Dry old running new rest = rest ≡ Nothing
-Leaves (step.Went b) old running new rest = (new ≡ old) × (rest ≡ running)
-Leaves (step.Broke fault at b) old running new rest = rest ≡ Nothing
+abbrev pub Leaves : ItemEffect → StreamView → Running → StreamView → Running → Type 0
+Leaves step.NoItem old running new rest = rest ≡ Nothing
+Leaves (step.Done b) old running new rest = (new ≡ old) × (rest ≡ running)
+Leaves (step.AppendError fault at b) old running new rest = rest ≡ Nothing
 
 -- the coded frame of an item, if it is one
-abbrev pub frame_in : Option Item → Option CodedFrame
+abbrev pub frame_in : Option ByteItem → Option CodedFrame
 frame_in None = None
 frame_in (Some (InitItem p at)) = None
 frame_in (Some (FrameItem f at)) = Some f

@@ -2,63 +2,72 @@
 use Rattle.std.specs.Prelude.{ℕ, ℤ, false, [], ◌∷◌, Option, Some, None}
 use Rattle.mse_base.specs.declared.ticks.Moment.{Moment}
 use Rattle.mse_base.specs.declared.track.Presentation.{Presentation}
-use Rattle.mse_calls.specs.declared.events.EventKind.TheVariants.{Update, UpdateEnd, Error}
-use Rattle.byte_stream.specs.Items.{Item, InitItem, FrameItem, SegmentEnd, FaultItem}
-use Rattle.track_buffers.specs.declared.answers.Brought.{Brought}
-use Rattle.track_buffers.specs.Media.{nothing_brought}
+use Rattle.mse_calls.specs.declared.events.EventKind.TheVariants.{Update, UpdateEnd}
+use Rattle.parser_loop.specs.Items.{InitItem, FrameItem, SegmentEnd, FaultItem}
+use Rattle.byte_stream.specs.Readings.{ByteItem}
+use Rattle.track_buffers.specs.declared.effects.SourceEffect.{SourceEffect}
+use Rattle.track_buffers.specs.Media.{no_effect}
 use Rattle.track_buffers.specs.Media as media
-use Rattle.track_buffers.specs.Initialized.{initialized}
-use Rattle.track_buffers.specs.Frames.{framed, parser_reset, without_frames}
+use Rattle.track_buffers.specs.Initialized.{init_result}
+use Rattle.track_buffers.specs.Frames.{frame_result, media_after_reset, media_after_removal}
 use Rattle.buffer_state.specs.declared.faults.Fault.{Fault}
 use Rattle.buffer_state.specs.declared.faults.Fault.TheVariants.{Bytes, Media}
 use Rattle.buffer_state.specs.declared.running.Running.{Running}
 use Rattle.buffer_state.specs.declared.running.Running.TheVariants.{Nothing, Append, Removal}
-use Rattle.buffer_state.specs.State.{Feed, Content, Surroundings, rested, one_taken, restarted, next_item}
+use Rattle.buffer_state.specs.State.{Feed, Content, Surroundings, idle_feed, feed_after_item, new_feed, next_item}
 use Rattle.buffer_state.specs.Faults.{fault_view}
-use Rattle.buffer_state.specs.Replies.{Answered, replied}
+use Rattle.buffer_state.specs.Replies.{CallResult, effect_reply, event_reply, error_reply, result_with}
 
--- What an item did: it went well, or it breaks the byte stream, with the place of the fault in the string. What it
--- brought about before the fault stands.
-pub data Taken : Type 0 where
-  Went : Content → Brought → Taken
-  Broke : Fault → ℕ → Content → Brought → Taken
+-- What an item does: all of it, or it breaks the byte stream, with the place of the fault in the string. What came at
+-- the source before the fault stands.
+pub data ItemResult : Type 0 where
+  Done : Content → SourceEffect → ItemResult
+  AppendError : Fault → ℕ → Content → SourceEffect → ItemResult
 
--- what an item at a place of the string did to the media, with the presentation behind it
-abbrev pub taken_at : media.Taken → ℕ → Option Presentation → Taken
-taken_at (media.Went m b) at latest = Went (record { media = m; latest = latest }) b
-taken_at (media.Broke fault m b) at latest = Broke (Media fault) at (record { media = m; latest = latest }) b
+-- What an item at a place of the string does to the content, by what it does to the media, where it leaves this
+-- presentation. One that is refused was not taken, so that it leaves the presentation from before.
+abbrev pub media_item_result : media.MediaResult → ℕ → Option Presentation → Content → ItemResult
+media_item_result (media.Done m e) at latest c = Done (record { media = m; latest = latest }) e
+media_item_result (media.AppendError fault m e) at latest c = AppendError (Media fault) at (record { media = m; latest = c.latest }) e
 
 -- What an item does to the content, where the duration is d (Media Source Extensions, 3.5.1, segment parser loop, steps
 -- 5.2 and 6.2). It sees neither the string, nor the count, nor what runs.
-abbrev pub take_item : Item → Content → Moment → Taken
-take_item (InitItem p at) c d = taken_at (initialized p c.media d) at (Some p)
-take_item (FrameItem f at) c d = taken_at (framed f c.media d) at c.latest
-take_item SegmentEnd c d = Went c (nothing_brought d)
-take_item (FaultItem f at) c d = Broke (Bytes f) at c (nothing_brought d)
+abbrev pub item_result : ByteItem → Content → Moment → ItemResult
+item_result (InitItem p at) c d = media_item_result (init_result p c.media d) at (Some p) c
+item_result (FrameItem f at) c d = media_item_result (frame_result f c.media d) at c.latest c
+item_result SegmentEnd c d = Done c (no_effect d)
+item_result (FaultItem f at) c d = AppendError (Bytes f) at c (no_effect d)
 
 -- reset parser state behind a fault, of whose string nothing follows, so that no frame is ready (3.5.2)
-abbrev pub broken : Content → Content
-broken c = record { media = parser_reset c.media; latest = c.latest }
+abbrev pub content_after_error : Content → Content
+content_after_error c = record { media = media_after_reset c.media; latest = c.latest }
 
--- the append error (3.5.3): the reset, then the events, and the end of the source with a decode error
-abbrev pub taken_turn : Taken → Surroundings → Feed → Answered
-taken_turn (Went c b) a f = replied false b None [] (one_taken f) c
-taken_turn (Broke fault at c b) a f = replied false b (Some (fault_view fault a.number at)) (Error ∷ UpdateEnd ∷ []) (restarted f.container c.latest) (broken c)
+-- the append error (3.5.3): the parser is reset, and the append has ended
+abbrev pub append_error_result : Fault → ℕ → SourceEffect → Surroundings → Feed → Content → CallResult
+append_error_result fault at e a f c = result_with (error_reply (fault_view fault a.number at) e) (new_feed f.reading.container c.latest) (content_after_error c)
+
+-- the end of work (3.5.5, buffer append, and 3.5.6, range removal, last steps)
+abbrev pub last_turn_result : Surroundings → Feed → Content → CallResult
+last_turn_result a f c = result_with (event_reply false a.duration (Update ∷ UpdateEnd ∷ [])) (idle_feed f) c
+
+abbrev pub item_turn_result : ItemResult → Surroundings → Feed → CallResult
+item_turn_result (Done c e) a f = result_with (effect_reply false e []) (feed_after_item f) c
+item_turn_result (AppendError fault at c e) a f = append_error_result fault at e a f c
 
 -- one step of an append (Media Source Extensions, 3.5.5, buffer append): the next item, or the end where there is none
-abbrev pub item_turn : Option Item → Surroundings → Feed → Content → Answered
-item_turn None a f c = replied false (nothing_brought a.duration) None (Update ∷ UpdateEnd ∷ []) (rested f) c
-item_turn (Some item) a f c = taken_turn (take_item item c a.duration) a f
+abbrev pub append_turn_result : Option ByteItem → Surroundings → Feed → Content → CallResult
+append_turn_result None a f c = last_turn_result a f c
+append_turn_result (Some item) a f c = item_turn_result (item_result item c a.duration) a f
 
 -- a removal, in one step (Media Source Extensions, 3.5.6, range removal, steps 6 to 9)
-abbrev pub removal_turn : ℤ → Moment → Surroundings → Feed → Content → Answered
-removal_turn start end a f c = replied false (nothing_brought a.duration) None (Update ∷ UpdateEnd ∷ []) (rested f) (record { media = without_frames start end a.duration c.media; latest = c.latest })
+abbrev pub removal_turn_result : ℤ → Moment → Surroundings → Feed → Content → CallResult
+removal_turn_result start end a f c = last_turn_result a f (record { media = media_after_removal start end a.duration c.media; latest = c.latest })
 
-abbrev pub turn_by : Running → Surroundings → Feed → Content → Option Answered
-turn_by Nothing a f c = None
-turn_by Append a f c = Some (item_turn (next_item f) a f c)
-turn_by (Removal start end) a f c = Some (removal_turn start end a f c)
+abbrev pub turn_result_by_work : Running → Surroundings → Feed → Content → Option CallResult
+turn_result_by_work Nothing a f c = None
+turn_result_by_work Append a f c = Some (append_turn_result (next_item f) a f c)
+turn_result_by_work (Removal start end) a f c = Some (removal_turn_result start end a f c)
 
 -- one step of what runs, or none where nothing runs
-abbrev pub turn : Surroundings → Feed → Content → Option Answered
-turn a f c = turn_by f.running a f c
+abbrev pub turn_result : Surroundings → Feed → Content → Option CallResult
+turn_result a f c = turn_result_by_work f.running a f c

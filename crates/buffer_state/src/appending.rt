@@ -2,15 +2,14 @@
 
 ghost use Rattle.std.specs.Prelude.{◌≡◌, ◌+◌, ◌^◌, nat_le, false, length, Some, None, IfOk, OnErr};
 ghost use Rattle.track_buffers.specs.Media.{EndsWithin};
-ghost use Rattle.track_buffers.specs.Frames.{evicted_media, used_in};
+ghost use Rattle.track_buffers.specs.Frames.{media_after_eviction, used_in};
 ghost use Rattle.buffer_state.specs.State.{kept, surroundings};
-ghost use Rattle.buffer_state.specs.Replies.{Answers, KeepsEnds, refusal, reopens};
-ghost use Rattle.buffer_state.specs.Calls.{append_evicted, appended};
+ghost use Rattle.buffer_state.specs.Replies.{Answers, StaysWithin, refusal, reopens};
+ghost use Rattle.buffer_state.specs.Calls.{append_result_after_eviction, append_result};
 
 use crate::around::Around;
-use crate::reply::{Reply, one, quiet, refused, reopens};
+use crate::reply::{Reply, event_reply, one, reopens};
 use crate::running::Running;
-use crate::settings_calls::is_locked;
 use byte_stream::ByteStream;
 use mse_base::OutOfMemory;
 use mse_calls::{EventKind, Name};
@@ -30,10 +29,10 @@ fn is_too_long(len: u64, more: usize) -> bool
 /// Coded frame eviction for an append. It tells how many bytes are stored after it.
 fn evict<S: FrameStore>(media: &mut TrackBuffers<S>, new_bytes: usize, around: &Around) -> u64
     ensures media { media.new.media
-        ≡ evicted_media around.now.position new_bytes around.now.quota around.now.duration
+        ≡ media_after_eviction around.now.position new_bytes around.now.quota around.now.duration
         media.old.media }
     ensures used { result ≡ used_in media.new.media }
-    ensures ends { EndsWithin around.now.duration media.old.media.tracks
+    ensures within_duration { EndsWithin around.now.duration media.old.media.tracks
         → EndsWithin around.now.duration media.new.media.tracks }
 {
     let more = new_bytes as u64;
@@ -44,7 +43,7 @@ fn evict<S: FrameStore>(media: &mut TrackBuffers<S>, new_bytes: usize, around: &
 fn refuse_full(around: &Around) -> Reply
     ensures { result ≡ refusal Name.QuotaExceeded (reopens around.now.ready) around.now.duration }
 {
-    refused(Name::QuotaExceeded, reopens(around.ready), &around.duration)
+    Reply::refused(Name::QuotaExceeded, reopens(around.ready), &around.duration)
 }
 
 /// Evicts, and then takes the bytes that are offered or declines them.
@@ -59,11 +58,12 @@ fn settle<S: FrameStore>(
     requires short { nat_le (2 ^ 62) (stream.old.fed + length bytes.now) ≡ false }
     ensures answered { Answers (kept stream.old media.old.media running.old) result
         (kept stream.new media.new.media running.new)
-        (append_evicted bytes.now around.now.position around.now.quota
+        (append_result_after_eviction bytes.now around.now.position around.now.quota
         (surroundings around.now)) }
-    ensures ends { KeepsEnds around.now.duration media.old.media result media.new.media }
-    ensures few { result.duration_changes ≡ 0 }
-    ensures idle { stream.new.offered ≡ None }
+    ensures within_duration { StaysWithin around.now.duration media.old.media result media.new.media }
+    ensures changes { result.duration_changes ≡ 0 }
+    ensures duration { result.duration ≡ around.now.duration }
+    ensures none_offered { stream.new.offered ≡ None }
 {
     let used = evict(media, bytes.len(), around);
     if used >= around.quota {
@@ -73,7 +73,7 @@ fn settle<S: FrameStore>(
     stream.accept();
     *running = Running::Append;
     let reopened = reopens(around.ready);
-    quiet(reopened, &around.duration, one(EventKind::UpdateStart))
+    event_reply(reopened, &around.duration, one(EventKind::UpdateStart))
 }
 
 /// Begins an append of bytes.
@@ -88,16 +88,17 @@ pub(crate) fn append<S: FrameStore>(
     ensures answered { IfOk result (λ reply. Answers
         (kept stream.old media.old.media running.old) reply
         (kept stream.new media.new.media running.new)
-        (appended bytes.now around.now.position around.now.quota (surroundings around.now))) }
-    ensures ends { IfOk result
-        (λ reply. KeepsEnds around.now.duration media.old.media reply media.new.media) }
-    ensures few { IfOk result (λ reply. reply.duration_changes ≡ 0) }
-    ensures idle { stream.new.offered ≡ None }
+        (append_result bytes.now around.now.position around.now.quota (surroundings around.now))) }
+    ensures within_duration { IfOk result
+        (λ reply. StaysWithin around.now.duration media.old.media reply media.new.media) }
+    ensures changes { IfOk result (λ reply. reply.duration_changes ≡ 0) }
+    ensures duration { IfOk result (λ reply. reply.duration ≡ around.now.duration) }
+    ensures none_offered { stream.new.offered ≡ None }
     ensures err { OnErr result (kept stream.new media.new.media running.new
         ≡ kept stream.old media.old.media running.old) }
 {
-    if is_locked(around, running) || around.error {
-        return Ok(refused(Name::InvalidState, false, &around.duration));
+    if running.is_updating() || around.error {
+        return Ok(Reply::refused(Name::InvalidState, false, &around.duration));
     }
     if is_too_long(stream.len(), bytes.len()) {
         let _used = evict(media, bytes.len(), around);

@@ -6,8 +6,6 @@ use mse_calls::Ready;
 pub struct Around {
     /// The number that the buffer was made with.
     pub number: u32,
-    /// Whether it is no more in the list of source buffers.
-    pub removed: bool,
     /// The state of the source.
     pub ready: Ready,
     /// Whether the element has an error.

@@ -1,31 +1,33 @@
-ghost use Rattle.std.specs.Prelude.{◌≡◌, ◌+◌, ◌<◌, ◌≤◌, ◌^◌, ℕ, ℤ, pos, ◌≤ℤ◌, not, [], length, Option, None, Some, IfOk, OnErr};
+ghost use Rattle.std.specs.Prelude.{◌≡◌, ◌≢◌, ◌+◌, ◌<◌, ◌≤◌, ◌^◌, ℕ, ℤ, pos, ◌≤ℤ◌, not, find, [], length, Option, None, Some, IfOk, OnErr};
 ghost use Rattle.std.specs.List.{AllByRecursion};
+ghost use Rattle.mse_base.specs.declared.ticks.Moment.{Moment};
+ghost use Rattle.mse_base.specs.Spans.{reaches};
 ghost use Rattle.track_store.specs.Kept.{AreKept};
 ghost use Rattle.track_store.specs.Sound.{Sound};
 ghost use Rattle.track_store.specs.State.{states_of};
 ghost use Rattle.track_buffers.specs.Settings.{new_media};
-ghost use Rattle.track_buffers.specs.Media.{awaits_first};
+ghost use Rattle.track_buffers.specs.Media.{awaits_first, IsNotAfter};
 ghost use Rattle.track_buffers.specs.Frames.{used_in, highest_start_in, highest_end_in};
 ghost use Rattle.track_buffers.specs.Buffered.{buffered_of};
-ghost use Rattle.buffer_state.specs.State.{Feed, Content, Kept, Stands, surroundings, restarted, phase_in, ready_in, is_updating};
-ghost use Rattle.buffer_state.specs.Replies.{Answers, KeepsEnds, TurnedAs, TurnKeepsEnds, changes_of};
-ghost use Rattle.buffer_state.specs.Turns.{turn};
-ghost use Rattle.buffer_state.specs.Calls.{generates_timestamps, mode_set, offset_set, window_start_set, window_end_set, removal_begun, appended, aborted, type_changed, work_ended, buffer_view};
+ghost use Rattle.buffer_state.specs.State.{Feed, Content, Kept, Stands, surroundings, new_feed, phase_in, ready_in, is_updating, is_appending, is_removing};
+ghost use Rattle.buffer_state.specs.Replies.{Answers, AnswersIfOk, StaysWithin, IsTurn, OfTurn, changes_of};
+ghost use Rattle.buffer_state.specs.Turns.{turn_result};
+ghost use Rattle.buffer_state.specs.Calls.{generates_timestamps, mode_result, offset_result, window_start_result, window_end_result, remove_result, append_result, abort_result, change_type_result, end_work_result, buffer_view};
 ghost use Rattle.buffer_state.specs.Left.{IsFewer, IsIdle};
-ghost use Rattle.byte_stream.specs.Items.{held_at};
+ghost use Rattle.byte_stream.specs.Readings.{held_at};
 ghost use Rattle.byte_stream.specs.Streams.{StandsForSome, ready_of};
 
 use crate::around::Around;
-use crate::reply::{Reply, Turned};
+use crate::reply::{Reply, Turned, event_reply};
 use crate::running::Running;
 use crate::{appending, removal, resets, settings_calls, turns};
 use byte_stream::{ByteStream, Container};
-use mse_base::{Moment, OutOfMemory, Phase, Ranges, Ticks};
-use mse_calls::{BufferView, Changes, Mode, TimeRanges};
+use mse_base::{Moment, OutOfMemory, Phase, Ranges, Span, Ticks};
+use mse_calls::{BufferView, Mode, TimeRanges};
 use std::alloc::Global;
 use std::marker::Model;
 use track_buffers::TrackBuffers;
-use track_store::{FrameStore, Tracks};
+use track_store::{FrameStore, Settings, Tracks};
 
 /// A source buffer over a store of frames.
 #[derive(Drop)]
@@ -52,7 +54,7 @@ impl<S: FrameStore> Buffer<S> {
     /// `gap` ticks. It takes no memory.
     pub fn new(alloc: Global, gap: Ticks, container: Container) -> Self
         requires { pos 0 ≤ℤ gap }
-        ensures { Stands result (restarted container None)
+        ensures { Stands result (new_feed container None)
             (record { media = new_media gap (generates_timestamps container); latest = None }) }
     {
         Buffer {
@@ -66,14 +68,15 @@ impl<S: FrameStore> Buffer<S> {
     /// Sets the append mode (Media Source Extensions, 3.1, `mode`). With "sequence" the group start
     /// timestamp becomes the group end timestamp.
     ///
-    /// InvalidState where the buffer is removed, or an append or a removal runs; TypeError where
+    /// InvalidState where an append or a removal runs; TypeError where
     /// timestamps are generated and the mode is "segments"; and, after an ended source is opened
     /// again, InvalidState where the segment parser loop is in a media segment.
     pub fn set_mode(&mut self, mode: Mode, around: &Around) -> Reply
         ensures answered { Answers self.old result self.new
-            (mode_set mode (surroundings around.now)) }
-        ensures ends { KeepsEnds around.now.duration self.old.media result self.new.media }
-        ensures few { result.duration_changes ≡ 0 }
+            (mode_result mode (surroundings around.now)) }
+        ensures within_duration { StaysWithin around.now.duration self.old.media result self.new.media }
+        ensures changes { result.duration_changes ≡ 0 }
+        ensures duration { result.duration ≡ around.now.duration }
     {
         settings_calls::set_mode(&self.stream, &mut self.media, &self.running, mode, around)
     }
@@ -81,13 +84,14 @@ impl<S: FrameStore> Buffer<S> {
     /// Sets the timestamp offset, in ticks (Media Source Extensions, 3.1, `timestampOffset`). In mode
     /// "sequence" the group start timestamp becomes it too.
     ///
-    /// InvalidState where the buffer is removed, or an append or a removal runs; and, after an ended
+    /// InvalidState where an append or a removal runs; and, after an ended
     /// source is opened again, InvalidState where the segment parser loop is in a media segment.
     pub fn set_offset(&mut self, t: Ticks, around: &Around) -> Reply
         ensures answered { Answers self.old result self.new
-            (offset_set t (surroundings around.now)) }
-        ensures ends { KeepsEnds around.now.duration self.old.media result self.new.media }
-        ensures few { result.duration_changes ≡ 0 }
+            (offset_result t (surroundings around.now)) }
+        ensures within_duration { StaysWithin around.now.duration self.old.media result self.new.media }
+        ensures changes { result.duration_changes ≡ 0 }
+        ensures duration { result.duration ≡ around.now.duration }
     {
         settings_calls::set_offset(&self.stream, &mut self.media, &self.running, t, around)
     }
@@ -95,13 +99,14 @@ impl<S: FrameStore> Buffer<S> {
     /// Sets the start of the append window, in ticks (Media Source Extensions, 3.1,
     /// `appendWindowStart`).
     ///
-    /// InvalidState where the buffer is removed, or an append or a removal runs; TypeError where the
+    /// InvalidState where an append or a removal runs; TypeError where the
     /// start is negative, or at or after the end of the window.
     pub fn set_window_start(&mut self, t: Ticks, around: &Around) -> Reply
         ensures answered { Answers self.old result self.new
-            (window_start_set t (surroundings around.now)) }
-        ensures ends { KeepsEnds around.now.duration self.old.media result self.new.media }
-        ensures few { result.duration_changes ≡ 0 }
+            (window_start_result t (surroundings around.now)) }
+        ensures within_duration { StaysWithin around.now.duration self.old.media result self.new.media }
+        ensures changes { result.duration_changes ≡ 0 }
+        ensures duration { result.duration ≡ around.now.duration }
     {
         settings_calls::set_window_start(&self.stream, &mut self.media, &self.running, t, around)
     }
@@ -109,13 +114,14 @@ impl<S: FrameStore> Buffer<S> {
     /// Sets the end of the append window, in ticks (Media Source Extensions, 3.1,
     /// `appendWindowEnd`).
     ///
-    /// InvalidState where the buffer is removed, or an append or a removal runs; TypeError where the
+    /// InvalidState where an append or a removal runs; TypeError where the
     /// end is NaN, or at or before the start of the window.
     pub fn set_window_end(&mut self, t: Moment, around: &Around) -> Reply
         ensures answered { Answers self.old result self.new
-            (window_end_set t (surroundings around.now)) }
-        ensures ends { KeepsEnds around.now.duration self.old.media result self.new.media }
-        ensures few { result.duration_changes ≡ 0 }
+            (window_end_result t (surroundings around.now)) }
+        ensures within_duration { StaysWithin around.now.duration self.old.media result self.new.media }
+        ensures changes { result.duration_changes ≡ 0 }
+        ensures duration { result.duration ≡ around.now.duration }
     {
         settings_calls::set_window_end(&self.stream, &mut self.media, &self.running, t, around)
     }
@@ -123,14 +129,15 @@ impl<S: FrameStore> Buffer<S> {
     /// Begins a removal from `start` on and before `end`, in ticks (Media Source Extensions, 3.2,
     /// `remove`). An ended source is opened again.
     ///
-    /// InvalidState where the buffer is removed, or an append or a removal runs; TypeError where the
+    /// InvalidState where an append or a removal runs; TypeError where the
     /// duration is NaN, where `start` is negative or later than the duration, or where `end` is NaN,
     /// or at or before `start`.
     pub fn remove(&mut self, start: Ticks, end: Moment, around: &Around) -> Reply
         ensures answered { Answers self.old result self.new
-            (removal_begun start end (surroundings around.now)) }
-        ensures ends { KeepsEnds around.now.duration self.old.media result self.new.media }
-        ensures few { result.duration_changes ≡ 0 }
+            (remove_result start end (surroundings around.now)) }
+        ensures within_duration { StaysWithin around.now.duration self.old.media result self.new.media }
+        ensures changes { result.duration_changes ≡ 0 }
+        ensures duration { result.duration ≡ around.now.duration }
     {
         removal::remove(&mut self.running, start, end, around)
     }
@@ -138,17 +145,17 @@ impl<S: FrameStore> Buffer<S> {
     /// Begins an append of bytes (Media Source Extensions, 3.2, `appendBuffer`). It takes its memory
     /// first; an `Err` changes nothing.
     ///
-    /// InvalidState where the buffer is removed, where an append or a removal runs, or where the
-    /// element has an error. Else an ended source is opened again and coded frames are evicted
+    /// InvalidState where an append or a removal runs, or where the element has an error. Else an ended source is opened again and coded frames are evicted
     /// (3.5.4), also where the append is then refused: QuotaExceeded where, after eviction, the
     /// stored frames have as many bytes as the quota or more, or where the bytes appended since the
     /// last reset would be `2^62` or more.
     pub fn append(&mut self, bytes: &[u8], around: &Around) -> Result<Reply, OutOfMemory>
-        ensures answered { IfOk result (λ reply. Answers self.old reply self.new
-            (appended bytes.now around.now.position around.now.quota (surroundings around.now))) }
-        ensures ends { IfOk result
-            (λ reply. KeepsEnds around.now.duration self.old.media reply self.new.media) }
-        ensures few { IfOk result (λ reply. reply.duration_changes ≡ 0) }
+        ensures answered { AnswersIfOk self.old result self.new
+            (append_result bytes.now around.now.position around.now.quota (surroundings around.now)) }
+        ensures within_duration { IfOk result
+            (λ reply. StaysWithin around.now.duration self.old.media reply self.new.media) }
+        ensures changes { IfOk result (λ reply. reply.duration_changes ≡ 0) }
+        ensures duration { IfOk result (λ reply. reply.duration ≡ around.now.duration) }
         ensures err { OnErr result (self.new ≡ self.old) }
     {
         appending::append(
@@ -164,15 +171,15 @@ impl<S: FrameStore> Buffer<S> {
     /// coded frames that are ready are processed in the append window as it was; then the window is
     /// from 0 on and without an end. It takes its memory first; an `Err` changes nothing.
     ///
-    /// InvalidState where the buffer is removed, where the source is not open, or where a removal
-    /// runs.
+    /// InvalidState where the source is not open, or where a removal runs.
     pub fn abort(&mut self, around: &Around) -> Result<Reply, OutOfMemory>
-        ensures answered { IfOk result (λ reply. Answers self.old reply self.new
-            (aborted (surroundings around.now))) }
-        ensures ends { IfOk result
-            (λ reply. KeepsEnds around.now.duration self.old.media reply self.new.media) }
-        ensures few { IfOk result
-            (λ reply. reply.duration_changes ≤ ready_of self.old.stream.kept) }
+        ensures answered { AnswersIfOk self.old result self.new
+            (abort_result (surroundings around.now)) }
+        ensures within_duration { IfOk result
+            (λ reply. StaysWithin around.now.duration self.old.media reply self.new.media) }
+        ensures changes { IfOk result
+            (λ reply. reply.duration_changes ≤ ready_of self.old.stream) }
+        ensures no_fall { IfOk result (λ reply. IsNotAfter around.now.duration reply.duration) }
         ensures err { OnErr result (self.new ≡ self.old) }
     {
         resets::abort(
@@ -190,15 +197,15 @@ impl<S: FrameStore> Buffer<S> {
     /// the mode becomes "sequence". An ended source is opened again. It takes its memory first; an
     /// `Err` changes nothing.
     ///
-    /// TypeError where the type is empty; InvalidState where the buffer is removed, or an append or
-    /// a removal runs; NotSupported where the type is not supported.
+    /// TypeError where the type is empty; InvalidState where an append or a removal runs; NotSupported where the type is not supported.
     pub fn change_type(&mut self, text: &str, around: &Around) -> Result<Reply, OutOfMemory>
-        ensures answered { IfOk result (λ reply. Answers self.old reply self.new
-            (type_changed text.now (surroundings around.now))) }
-        ensures ends { IfOk result
-            (λ reply. KeepsEnds around.now.duration self.old.media reply self.new.media) }
-        ensures few { IfOk result
-            (λ reply. reply.duration_changes ≤ ready_of self.old.stream.kept) }
+        ensures answered { AnswersIfOk self.old result self.new
+            (change_type_result text.now (surroundings around.now)) }
+        ensures within_duration { IfOk result
+            (λ reply. StaysWithin around.now.duration self.old.media reply self.new.media) }
+        ensures changes { IfOk result
+            (λ reply. reply.duration_changes ≤ ready_of self.old.stream) }
+        ensures no_fall { IfOk result (λ reply. IsNotAfter around.now.duration reply.duration) }
         ensures err { OnErr result (self.new ≡ self.old) }
     {
         resets::change_type(
@@ -213,29 +220,32 @@ impl<S: FrameStore> Buffer<S> {
 
     /// Ends running work, as when the buffer is removed from the list of source buffers. It tells
     /// the events that are fired at the buffer.
-    pub fn end_work(&mut self) -> Changes
-        ensures events { (f : Feed) (c : Content) → Stands self.old f c
-            → result ≡ (work_ended f).events }
-        ensures stands { (f : Feed) (c : Content) → Stands self.old f c
-            → Stands self.new (work_ended f).feed c }
-        ensures media { self.new.media ≡ self.old.media }
+    pub fn end_work(&mut self, around: &Around) -> Reply
+        ensures answered { Answers self.old result self.new
+            (end_work_result (surroundings around.now)) }
+        ensures within_duration { StaysWithin around.now.duration self.old.media result self.new.media }
+        ensures changes { result.duration_changes ≡ 0 }
+        ensures duration { result.duration ≡ around.now.duration }
     {
         let events = resets::abort_events(self.running.is_updating());
         self.running = Running::Nothing;
-        events
+        event_reply(false, &around.duration, events)
     }
 
     /// One step of the work that runs: the next item of an append or its end, or the whole of a
     /// removal. It takes its memory first; an `Err` changes nothing.
     pub fn turn(&mut self, around: &Around) -> Result<Turned, OutOfMemory>
         ensures turned { (f : Feed) (c : Content) → Stands self.old f c
-            → IfOk result (λ turned. TurnedAs turned self.new
-            (turn (surroundings around.now) f c)) }
+            → IfOk result (λ turned. IsTurn turned self.new
+            (turn_result (surroundings around.now) f c)) }
         ensures idle { IfOk result (λ turned. IsIdle turned self.old self.new) }
         ensures fewer { IfOk result (λ turned. IsFewer turned self.old self.new) }
-        ensures few { IfOk result (λ turned. changes_of turned ≤ 1) }
-        ensures ends { IfOk result
-            (λ turned. TurnKeepsEnds around.now.duration self.old.media turned self.new.media) }
+        ensures changes { IfOk result (λ turned. changes_of turned ≤ 1) }
+        ensures within_duration { IfOk result
+            (λ turned. OfTurn turned
+            (λ reply. StaysWithin around.now.duration self.old.media reply self.new.media)) }
+        ensures no_fall { IfOk result (λ turned. OfTurn turned
+            (λ reply. IsNotAfter around.now.duration reply.duration)) }
         ensures err { OnErr result (self.new ≡ self.old) }
     {
         match &self.running {
@@ -271,6 +281,38 @@ impl<S: FrameStore> Buffer<S> {
         self.media.buffered(ended)
     }
 
+    /// The buffered range with `start <= t` and `t <= end`, where the source is ended or not;
+    /// `None` exactly where there is none. It takes no memory.
+    pub fn span_holding(&self, t: Ticks, ended: bool) -> Option<Span>
+        ensures { result ≡ find (reaches t) (buffered_of ended self.now.media) }
+    {
+        self.media.span_holding(t, ended)
+    }
+
+    /// How frames are placed: the mode, whether timestamps are generated, the offset and the append
+    /// window.
+    pub fn settings(&self) -> Settings
+        ensures settings { result ≡ self.now.media.settings }
+        ensures window_start { pos 0 ≤ℤ result.window_start }
+        ensures window_end { result.window_end ≢ Moment.Nan }
+    {
+        self.media.settings()
+    }
+
+    /// Whether an append runs.
+    pub fn is_appending(&self) -> bool
+        ensures { result ≡ is_appending self.now.running }
+    {
+        self.running.is_appending()
+    }
+
+    /// Whether a removal runs.
+    pub fn is_removing(&self) -> bool
+        ensures { result ≡ is_removing self.now.running }
+    {
+        self.running.is_removing()
+    }
+
     /// Whether an append or a removal runs.
     pub fn updating(&self) -> bool
         ensures { result ≡ is_updating self.now.running }
@@ -294,7 +336,7 @@ impl<S: FrameStore> Buffer<S> {
 
     /// How many of the next items are coded frames, up to the first that is none.
     pub fn ready_frames(&self) -> usize
-        ensures kept { result ≡ ready_of self.now.stream.kept }
+        ensures kept { result ≡ ready_of self.now.stream }
         ensures ready { (f : Feed) (c : Content) → Stands self.now f c
             → result ≡ length (ready_in f) }
     {
@@ -304,7 +346,7 @@ impl<S: FrameStore> Buffer<S> {
     /// How many bytes of the string are held in memory.
     pub fn held_len(&self) -> usize
         ensures { (f : Feed) (c : Content) → Stands self.now f c
-            → result ≡ length (held_at f.container f.before f.whole f.taken) }
+            → result ≡ length (held_at f.reading) }
     {
         self.stream.held_len()
     }

@@ -1,28 +1,33 @@
-ghost use Rattle.std.specs.Prelude.{◌≡◌, [], ◌∷◌, ◌++◌};
-ghost use Rattle.track_buffers.specs.Media.{nothing_brought};
-ghost use Rattle.buffer_state.specs.Replies.{refusal, reply_of, reopens};
+ghost use Rattle.std.specs.Prelude.{◌≡◌, [], ◌∷◌, ◌++◌, Some};
+ghost use Rattle.track_buffers.specs.Media.{no_effect};
+ghost use Rattle.buffer_state.specs.Replies.{refusal, effect_reply, event_reply, events_first_reply, error_reply, reopens};
 
 use mse_base::Moment;
 use mse_calls::{Changes, EventKind, FaultView, Name, Ready};
-use track_buffers::Brought;
+use track_buffers::SourceEffect;
 
-/// What a call or a step brings about at the source, the element and the buffer.
+/// What comes of a call or a turn at the source, the element and the buffer. The parts come in the
+/// order of the fields, but for the events at the buffer: where `events_first` is set they fire
+/// before the duration changes, and else behind `activated`, before the source ends by a fault.
 #[derive(Debug, Drop)]
 pub struct Reply {
     /// The name by which the call is refused, if it is.
     pub refused: Option<Name>,
     /// Whether the source is opened again before all else.
     pub reopened: bool,
+    /// Whether the events at the buffer fire before the duration changes: those of an abort, whose
+    /// reset of the parser comes behind them.
+    pub events_first: bool,
     /// How often the duration changed.
     pub duration_changes: u64,
     /// What the duration is now.
     pub duration: Moment,
     /// Whether the buffer became active.
     pub activated: bool,
-    /// The fault of an append error.
-    pub fault: Option<FaultView>,
     /// The events at the buffer, in order.
     pub events: Changes,
+    /// The fault of an append error.
+    pub fault: Option<FaultView>,
 }
 
 /// What one step of running work did.
@@ -34,51 +39,75 @@ pub enum Turned {
     Idle,
 }
 
-/// A refusal by a name.
-pub(crate) fn refused(name: Name, reopened: bool, duration: &Moment) -> Reply
-    ensures { result ≡ refusal name reopened duration.now }
-{
-    Reply {
-        refused: Some(name),
-        reopened,
-        duration_changes: 0,
-        duration: *duration,
-        activated: false,
-        fault: None,
-        events: Changes::new(),
+impl Reply {
+    /// A refusal by a name, where the duration is this.
+    pub fn refused(name: Name, reopened: bool, duration: &Moment) -> Reply
+        ensures { result ≡ refusal name reopened duration.now }
+    {
+        Reply {
+            refused: Some(name),
+            reopened,
+            events_first: false,
+            duration_changes: 0,
+            duration: *duration,
+            activated: false,
+            events: Changes::new(),
+            fault: None,
+        }
     }
 }
 
-/// What comes of a call that is not refused.
-pub(crate) fn replied(
-    reopened: bool,
-    brought: Brought,
-    fault: Option<FaultView>,
-    events: Changes,
-) -> Reply
-    ensures { result ≡ reply_of reopened brought fault events }
+/// What comes of it at the source, and behind it the events at the buffer.
+pub(crate) fn effect_reply(reopened: bool, effect: SourceEffect, events: Changes) -> Reply
+    ensures { result ≡ effect_reply reopened effect events }
 {
     Reply {
         refused: None,
         reopened,
-        duration_changes: brought.changes,
-        duration: brought.duration,
-        activated: brought.activated,
-        fault,
+        events_first: false,
+        duration_changes: effect.duration_changes,
+        duration: effect.duration,
+        activated: effect.activated,
         events,
+        fault: None,
     }
 }
 
-/// The answer of a call that only fires events.
-pub(crate) fn quiet(reopened: bool, duration: &Moment, events: Changes) -> Reply
-    ensures { result ≡ reply_of reopened (nothing_brought duration.now) None events }
+/// The events at the buffer, and behind them what comes of it at the source.
+pub(crate) fn events_first_reply(events: Changes, effect: SourceEffect) -> Reply
+    ensures { result ≡ events_first_reply events effect }
 {
-    let brought = Brought {
-        changes: 0,
+    let mut reply = effect_reply(false, effect, events);
+    reply.events_first = true;
+    reply
+}
+
+/// An append error, behind what came at the source before it.
+pub(crate) fn error_reply(fault: FaultView, effect: SourceEffect) -> Reply
+    ensures { result ≡ error_reply fault effect }
+{
+    let events = two(EventKind::Error, EventKind::UpdateEnd);
+    let mut reply = effect_reply(false, effect, events);
+    reply.fault = Some(fault);
+    reply
+}
+
+/// Nothing at the source, where this is the duration.
+pub(crate) fn no_effect(duration: &Moment) -> SourceEffect
+    ensures { result ≡ no_effect duration.now }
+{
+    SourceEffect {
+        duration_changes: 0,
         duration: *duration,
         activated: false,
-    };
-    replied(reopened, brought, None, events)
+    }
+}
+
+/// Events at the buffer alone.
+pub(crate) fn event_reply(reopened: bool, duration: &Moment, events: Changes) -> Reply
+    ensures { result ≡ event_reply reopened duration.now events }
+{
+    effect_reply(reopened, no_effect(duration), events)
 }
 
 /// Whether the source is opened again: where it was ended.

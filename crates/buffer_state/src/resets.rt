@@ -4,25 +4,24 @@ ghost use Rattle.std.specs.Prelude.{◌≡◌, ◌≤◌, ◌≤ℤ◌, pos, ℕ
 ghost use Rattle.std.specs.List.{AllByRecursion};
 ghost use Rattle.mse_base.specs.declared.track.Presentation.{Presentation};
 ghost use Rattle.mse_types.specs.declared.answer.Container.{Container};
-ghost use Rattle.byte_stream.specs.Items.{ready_at};
-ghost use Rattle.byte_stream.specs.Streams.{Stands as StreamStands, ready_of, seen};
-ghost use Rattle.track_buffers.specs.Media.{EndsWithin};
-ghost use Rattle.track_buffers.specs.Frames.{flushed};
+ghost use Rattle.byte_stream.specs.Readings.{ready_at};
+ghost use Rattle.byte_stream.specs.Streams.{ForEachReading, ready_of, seen};
+ghost use Rattle.track_buffers.specs.Media.{EndsWithin, IsNotAfter};
+ghost use Rattle.track_buffers.specs.Frames.{flush_result};
 ghost use Rattle.buffer_state.specs.State.{kept, ready_in, surroundings};
-ghost use Rattle.buffer_state.specs.Replies.{Answers, KeepsEnds, is_open};
-ghost use Rattle.buffer_state.specs.Calls.{aborted, abort_events, generates_timestamps, type_changed, type_flushed};
+ghost use Rattle.buffer_state.specs.Replies.{Answers, StaysWithin, is_open};
+ghost use Rattle.buffer_state.specs.Calls.{abort_result, abort_events, generates_timestamps, change_type_result, change_type_result_after_flush};
 ghost use Rattle.buffer_state.specs.Steps.{frame_in};
 
 use crate::around::Around;
-use crate::reply::{Reply, refused, reopens, replied, two};
+use crate::reply::{Reply, effect_reply, events_first_reply, reopens, two};
 use crate::running::Running;
-use crate::settings_calls::is_locked;
 use byte_stream::{ByteStream, Container, Next};
 use mse_base::{CodedFrame, Moment, OutOfMemory};
 use mse_calls::{Changes, EventKind, Name, Ready};
 use mse_types::{TypeAnswer, read_type};
 use std::alloc::Global;
-use track_buffers::{Brought, TrackBuffers};
+use track_buffers::{SourceEffect, TrackBuffers};
 use track_store::FrameStore;
 
 /// The coded frame of an item, if it is one.
@@ -38,10 +37,9 @@ fn frame_of(next: Next) -> Option<CodedFrame>
 /// The coded frames that come next, up to the first item that is none.
 fn ready_frames(alloc: Global, stream: &ByteStream) -> Result<Vec<CodedFrame>, OutOfMemory>
     requires { stream.now.offered ≡ None }
-    ensures frames { IfOk result (λ frames. (container : Container) (before : Option Presentation)
-        (whole : List ℕ) (n : ℕ) → StreamStands stream.now container before whole n
-        → frames.items ≡ ready_at container before whole n) }
-    ensures few { IfOk result (λ frames. length frames.items ≤ ready_of stream.now.kept) }
+    ensures frames { IfOk result (λ frames.
+        ForEachReading stream.now (λ r. frames.items ≡ ready_at r)) }
+    ensures changes { IfOk result (λ frames. length frames.items ≤ ready_of stream.now) }
     ensures lasting { IfOk result (λ frames. AllByRecursion (λ f. pos 0 ≤ℤ f.dur) frames.items) }
 {
     let mut frames = Vec::new(alloc);
@@ -61,16 +59,15 @@ fn flush<S: FrameStore>(
     stream: &ByteStream,
     media: &mut TrackBuffers<S>,
     duration: Moment,
-) -> Result<Brought, OutOfMemory>
+) -> Result<SourceEffect, OutOfMemory>
     requires { stream.now.offered ≡ None }
-    ensures flushed { IfOk result (λ brought. (container : Container)
-        (before : Option Presentation) (whole : List ℕ) (n : ℕ)
-        → StreamStands stream.now container before whole n
-        → flushed (ready_at container before whole n) media.old.media duration ≡
-        record { media = media.new.media; brought = brought }) }
-    ensures ends { IfOk result (λ brought. EndsWithin duration media.old.media.tracks
-        → EndsWithin brought.duration media.new.media.tracks) }
-    ensures few { IfOk result (λ brought. brought.changes ≤ ready_of stream.now.kept) }
+    ensures flush_result { IfOk result (λ effect. ForEachReading stream.now (λ r.
+        flush_result (ready_at r) media.old.media duration ≡
+        record { media = media.new.media; effect = effect })) }
+    ensures within_duration { IfOk result (λ effect. EndsWithin duration media.old.media.tracks
+        → EndsWithin effect.duration media.new.media.tracks) }
+    ensures changes { IfOk result (λ effect. effect.duration_changes ≤ ready_of stream.now) }
+    ensures no_fall { IfOk result (λ effect. IsNotAfter duration effect.duration) }
     ensures err { OnErr result (media.new.media ≡ media.old.media) }
 {
     let frames = ready_frames(alloc, stream)?;
@@ -109,24 +106,25 @@ pub(crate) fn abort<S: FrameStore>(
     requires { stream.old.offered ≡ None }
     ensures answered { IfOk result (λ reply. Answers
         (kept stream.old media.old.media running.old) reply
-        (kept stream.new media.new.media running.new) (aborted (surroundings around.now))) }
-    ensures ends { IfOk result
-        (λ reply. KeepsEnds around.now.duration media.old.media reply media.new.media) }
-    ensures few { IfOk result (λ reply. reply.duration_changes ≤ ready_of stream.old.kept) }
-    ensures idle { stream.new.offered ≡ None }
+        (kept stream.new media.new.media running.new) (abort_result (surroundings around.now))) }
+    ensures within_duration { IfOk result
+        (λ reply. StaysWithin around.now.duration media.old.media reply media.new.media) }
+    ensures changes { IfOk result (λ reply. reply.duration_changes ≤ ready_of stream.old) }
+    ensures no_fall { IfOk result (λ reply. IsNotAfter around.now.duration reply.duration) }
+    ensures none_offered { stream.new.offered ≡ None }
     ensures err { OnErr result (kept stream.new media.new.media running.new
         ≡ kept stream.old media.old.media running.old) }
 {
-    if around.removed || !is_open(around.ready) || running.is_removing() {
-        return Ok(refused(Name::InvalidState, false, &around.duration));
+    if !is_open(around.ready) || running.is_removing() {
+        return Ok(Reply::refused(Name::InvalidState, false, &around.duration));
     }
-    let brought = flush(alloc, stream, media, around.duration)?;
+    let effect = flush(alloc, stream, media, around.duration)?;
     let events = abort_events(running.is_appending());
     media.reset_parser();
     media.reset_window();
     stream.reset();
     *running = Running::Nothing;
-    Ok(replied(false, brought, None, events))
+    Ok(events_first_reply(events, effect))
 }
 
 /// Whether the byte stream format of a container generates timestamps.
@@ -149,19 +147,20 @@ fn take_type<S: FrameStore>(
     requires { stream.old.offered ≡ None }
     ensures answered { IfOk result (λ reply. Answers
         (kept stream.old media.old.media Running.Nothing) reply
-        (kept stream.new media.new.media Running.Nothing) (λ f c. type_flushed container
-        (flushed (ready_in f) c.media around.now.duration) (surroundings around.now))) }
-    ensures ends { IfOk result
-        (λ reply. KeepsEnds around.now.duration media.old.media reply media.new.media) }
-    ensures few { IfOk result (λ reply. reply.duration_changes ≤ ready_of stream.old.kept) }
-    ensures idle { stream.new.offered ≡ None }
+        (kept stream.new media.new.media Running.Nothing) (λ f c. change_type_result_after_flush container
+        (flush_result (ready_in f) c.media around.now.duration) (surroundings around.now))) }
+    ensures within_duration { IfOk result
+        (λ reply. StaysWithin around.now.duration media.old.media reply media.new.media) }
+    ensures changes { IfOk result (λ reply. reply.duration_changes ≤ ready_of stream.old) }
+    ensures no_fall { IfOk result (λ reply. IsNotAfter around.now.duration reply.duration) }
+    ensures none_offered { stream.new.offered ≡ None }
     ensures err { OnErr result ((stream.new ≡ stream.old) × (media.new.media ≡ media.old.media)) }
 {
     let done = flush(alloc, stream, media, around.duration)?;
     media.reset_parser();
     media.change_container(generates_timestamps(container));
     stream.restart(container);
-    Ok(replied(reopens(around.ready), done, None, Changes::new()))
+    Ok(effect_reply(reopens(around.ready), done, Changes::new()))
 }
 
 /// `SourceBuffer.changeType`.
@@ -176,26 +175,27 @@ pub(crate) fn change_type<S: FrameStore>(
     requires { stream.old.offered ≡ None }
     ensures answered { IfOk result (λ reply. Answers
         (kept stream.old media.old.media running.now) reply
-        (kept stream.new media.new.media running.now) (type_changed text.now
+        (kept stream.new media.new.media running.now) (change_type_result text.now
         (surroundings around.now))) }
-    ensures ends { IfOk result
-        (λ reply. KeepsEnds around.now.duration media.old.media reply media.new.media) }
-    ensures few { IfOk result (λ reply. reply.duration_changes ≤ ready_of stream.old.kept) }
-    ensures idle { stream.new.offered ≡ None }
+    ensures within_duration { IfOk result
+        (λ reply. StaysWithin around.now.duration media.old.media reply media.new.media) }
+    ensures changes { IfOk result (λ reply. reply.duration_changes ≤ ready_of stream.old) }
+    ensures no_fall { IfOk result (λ reply. IsNotAfter around.now.duration reply.duration) }
+    ensures none_offered { stream.new.offered ≡ None }
     ensures err { OnErr result (kept stream.new media.new.media running.now
         ≡ kept stream.old media.old.media running.now) }
 {
     let answer = read_type(text);
     if let TypeAnswer::Empty = answer {
-        return Ok(refused(Name::TypeError, false, &around.duration));
+        return Ok(Reply::refused(Name::TypeError, false, &around.duration));
     }
-    if is_locked(around, running) {
-        return Ok(refused(Name::InvalidState, false, &around.duration));
+    if running.is_updating() {
+        return Ok(Reply::refused(Name::InvalidState, false, &around.duration));
     }
     match answer {
         TypeAnswer::Supported(container) => take_type(alloc, stream, media, container, around),
         TypeAnswer::Empty | TypeAnswer::Unsupported => {
-            Ok(refused(Name::NotSupported, false, &around.duration))
+            Ok(Reply::refused(Name::NotSupported, false, &around.duration))
         }
     }
 }

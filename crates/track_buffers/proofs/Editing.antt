@@ -7,7 +7,7 @@ use Rattle.mse_base.specs.declared.track.TrackInfo.{TrackInfo}
 use Rattle.track_store.specs.declared.store.Stored.{Stored}
 use Rattle.track_store.specs.declared.tracks.Track.{Track}
 use Rattle.track_store.specs.State.{TrackState, state_of, states_of}
-use Rattle.track_buffers.specs.Initialized.{partner_of, renewed_by}
+use Rattle.track_buffers.specs.Initialized.{partner_of, track_with_partner}
 use Rattle.track_buffers.proofs.Loops.{set_itself}
 
 pub if_there : {S : Type 0} (frames : S → List Stored) (P : TrackState → Type 0) (ts : List (Track S)) (i : ℕ) (t : Track S) → slice_get ts i ≡ Some t → P (state_of frames t) → IfSome (slice_get (states_of frames ts) i) P
@@ -27,15 +27,15 @@ pub unedited : {S : Type 0} (frames : S → List Stored) (ts : List (Track S)) (
 unedited frames ts i t u here same = states_set frames ts i u (state_of frames t) same ∙ set_itself (states_of frames ts) i (state_of frames t) (slice_get-map (state_of frames) ts i ∙ ap (option_map (state_of frames)) here)
 
 -- by the partner that was found
-pub renewed_some : (ts us : List TrackState) (news : List TrackInfo) (i : ℕ) (p : Option TrackInfo) (o : Option TrackState) → IfSome o (λ t. p ≡ partner_of ts news t) → IfSome o (λ t. us ≡ set ts i (renewed_by t p)) → IfSome o (λ t. us ≡ set ts i (renewed_by t (partner_of ts news t)))
+pub renewed_some : (ts us : List TrackState) (news : List TrackInfo) (i : ℕ) (p : Option TrackInfo) (o : Option TrackState) → IfSome o (λ t. p ≡ partner_of ts news t) → IfSome o (λ t. us ≡ set ts i (track_with_partner t p)) → IfSome o (λ t. us ≡ set ts i (track_with_partner t (partner_of ts news t)))
 renewed_some ts us news i p None own h = h
-renewed_some ts us news i p (Some t) own h = h ∙ ap (λ (q : Option TrackInfo). set ts i (renewed_by t q)) own
+renewed_some ts us news i p (Some t) own h = h ∙ ap (λ (q : Option TrackInfo). set ts i (track_with_partner t q)) own
 
-renewed_kept : (ts : List TrackState) (i : ℕ) (o : Option TrackState) → slice_get ts i ≡ o → IfSome o (λ t. ts ≡ set ts i (renewed_by t None))
+renewed_kept : (ts : List TrackState) (i : ℕ) (o : Option TrackState) → slice_get ts i ≡ o → IfSome o (λ t. ts ≡ set ts i (track_with_partner t None))
 renewed_kept ts i None here = tt
 renewed_kept ts i (Some t) here = sym (set_itself ts i t here)
 
-pub renewed_none : (ts : List TrackState) (i : ℕ) → IfSome (slice_get ts i) (λ t. ts ≡ set ts i (renewed_by t None))
+pub renewed_none : (ts : List TrackState) (i : ℕ) → IfSome (slice_get ts i) (λ t. ts ≡ set ts i (track_with_partner t None))
 renewed_none ts i = renewed_kept ts i (slice_get ts i) refl
 
 pub get_set : {X : Type 0} (xs : List X) (i : ℕ) (x y : X) → slice_get xs i ≡ Some x → slice_get (set xs i y) i ≡ Some y

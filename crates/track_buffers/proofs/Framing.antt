@@ -8,23 +8,24 @@ use Rattle.std.proofs.lemmas.Bool.Decides.{Decides-int_eq}
 use Rattle.std.proofs.lemmas.Int.{ints}
 use Rattle.std.proofs.lemmas.List.{length-map}
 use Rattle.mse_base.specs.Time.{tick}
+use Rattle.mse_base.specs.Moments.{same_moment, greater_moment}
 use Rattle.mse_base.specs.declared.frame.CodedFrame.{CodedFrame}
 use Rattle.mse_base.specs.declared.ticks.Moment.{Moment}
 use Rattle.mse_base.specs.declared.ticks.Moment.TheVariants.{Nan, At, Infinite}
 use Rattle.track_store.specs.declared.tracks.Marks.{Marks}
 use Rattle.track_store.specs.declared.tracks.Settings.{Settings}
-use Rattle.track_store.specs.Kept.{bytes_in, EndBy}
+use Rattle.track_store.specs.Kept.{bytes_in, AreEndedBy}
 use Rattle.track_store.specs.State.{TrackState}
 use Rattle.frame_rules.specs.declared.answer.Placed.{Placed}
 use Rattle.frame_rules.specs.declared.answer.Placed.TheVariants as placed_as
 use Rattle.frame_rules.specs.declared.answer.Why.{Why}
 use Rattle.frame_rules.specs.declared.timing.Timing.{Timing}
-use Rattle.frame_rules.specs.Timing.{raw_time, with_group_start, offset_to, one_pass, is_discontinuous, after_discontinuity, timing_of}
-use Rattle.frame_rules.specs.Put.{put_answer, drop_reason}
-use Rattle.frame_rules.specs.Place.{Outcome, outcome, reset_track, placed_in, placed_at, placed_by, placed_of, placed, too_many, settings_after}
-use Rattle.track_buffers.specs.declared.answers.Brought.{Brought}
-use Rattle.track_buffers.specs.declared.answers.MediaFault.{MediaFault}
-use Rattle.track_buffers.specs.Media.{EndsWithin, nothing_brought, same_moment, change_duration, at_least, Broke}
+use Rattle.frame_rules.specs.Timing.{raw_time, settings_at_group_start, offset_to, timing_in_pass, is_discontinuous, settings_after_discontinuity, timing_of}
+use Rattle.frame_rules.specs.Put.{answer_by_reason, drop_reason}
+use Rattle.frame_rules.specs.Place.{Placement, new_placement, track_after_reset, placement_in_track, placement_at_times, placement_by_times, placement_in, placement, is_over_limit, settings_after_frame}
+use Rattle.track_buffers.specs.declared.effects.SourceEffect.{SourceEffect}
+use Rattle.track_buffers.specs.declared.effects.MediaFault.{MediaFault}
+use Rattle.track_buffers.specs.Media.{EndsWithin, no_effect, with_duration, AppendError}
 use Rattle.track_buffers.proofs.Keeping.{endby_none}
 
 -- ---- after a fault all is as before
@@ -36,10 +37,10 @@ IsFault placed_as.TimeRange = Unit {0}
 IsFault placed_as.Counts = Unit {0}
 
 -- the tracks and settings are those before, where the answer is a fault
-abbrev AsBefore : List TrackState → Settings → Outcome → Type 0
+abbrev AsBefore : List TrackState → Settings → Placement → Type 0
 AsBefore ts s o = IsFault o.answer → (o.tracks ≡ ts) × (o.settings ≡ s)
 
-put_goes : (why : Option Why) → IsFault (put_answer why) → ⊥
+put_goes : (why : Option Why) → IsFault (answer_by_reason why) → ⊥
 put_goes None h = h
 put_goes (Some why) h = h
 
@@ -48,39 +49,39 @@ none_within [] i low e = omega arith
 none_within (x ∷ xs) zero low e = cc
 none_within (x ∷ xs) (suc i) low e = none_within xs i (omega arith) e
 
-goes_in : (o : Option TrackState) (w : Timing) (f : CodedFrame) (i : ℕ) (ts : List TrackState) → slice_get ts i ≡ o → i < length ts → IsFault (placed_in o w f i ts).answer → ⊥
+goes_in : (o : Option TrackState) (w : Timing) (f : CodedFrame) (i : ℕ) (ts : List TrackState) → slice_get ts i ≡ o → i < length ts → IsFault (placement_in_track o w f i ts).answer → ⊥
 goes_in None w f i ts e low h = none_within ts i low e
 goes_in (Some t) w f i ts e low h = put_goes (drop_reason w f.sync t.marks.need_sync) h
 
-goes_at : (w : Timing) (f : CodedFrame) (i : ℕ) (ts : List TrackState) → i < length ts → IsFault (placed_at w f i ts).answer → ⊥
-goes_at w f i ts low h = goes_in (slice_get (map (reset_track w) ts) i) w f i (map (reset_track w) ts) refl (rw length-map low) h
+goes_at : (w : Timing) (f : CodedFrame) (i : ℕ) (ts : List TrackState) → i < length ts → IsFault (placement_at_times w f i ts).answer → ⊥
+goes_at w f i ts low h = goes_in (slice_get (map (track_after_reset w) ts) i) w f i (map (track_after_reset w) ts) refl (rw length-map low) h
 
-before_by : (o : Option Timing) (s : Settings) (f : CodedFrame) (i : ℕ) (ts : List TrackState) → i < length ts → AsBefore ts s (placed_by o s f i ts)
+before_by : (o : Option Timing) (s : Settings) (f : CodedFrame) (i : ℕ) (ts : List TrackState) → i < length ts → AsBefore ts s (placement_by_times o s f i ts)
 before_by None s f i ts low h = (refl, refl)
 before_by (Some w) s f i ts low h = absurd (goes_at w f i ts low h)
 
-before_pick : (b : Bool) (ts : List TrackState) (s : Settings) (x y : Outcome) → AsBefore ts s x → AsBefore ts s y → AsBefore ts s (cond b x y)
+before_pick : (b : Bool) (ts : List TrackState) (s : Settings) (x y : Placement) → AsBefore ts s x → AsBefore ts s y → AsBefore ts s (cond b x y)
 before_pick true ts s x y p q = p
 before_pick false ts s x y p q = q
 
-before_of : (o : Option TrackState) (ts : List TrackState) (s : Settings) (i : ℕ) (f : CodedFrame) → i < length ts → AsBefore ts s (placed_of o ts s i f)
+before_of : (o : Option TrackState) (ts : List TrackState) (s : Settings) (i : ℕ) (f : CodedFrame) → i < length ts → AsBefore ts s (placement_in o ts s i f)
 before_of None ts s i f low h = (refl, refl)
-before_of (Some t) ts s i f low h = before_pick (too_many t.marks.received (bytes_in ts) (length f.payload)) ts s (outcome placed_as.Counts ts s) (placed_by (timing_of s t.marks f) s f i ts) (λ k. (refl, refl)) (before_by (timing_of s t.marks f) s f i ts low) h
+before_of (Some t) ts s i f low h = before_pick (is_over_limit t.marks.received (bytes_in ts) (length f.payload)) ts s (new_placement placed_as.Counts ts s) (placement_by_times (timing_of s t.marks f) s f i ts) (λ k. (refl, refl)) (before_by (timing_of s t.marks f) s f i ts low) h
 
-before_placed : (ts : List TrackState) (s : Settings) (i : ℕ) (f : CodedFrame) → i < length ts → AsBefore ts s (placed ts s i f)
+before_placed : (ts : List TrackState) (s : Settings) (i : ℕ) (f : CodedFrame) → i < length ts → AsBefore ts s (placement ts s i f)
 before_placed ts s i f low h = before_of (slice_get ts i) ts s i f low h
 
--- the same of an outcome that is what the definition leaves
-pub as_before : (answer : Placed) (news ts : List TrackState) (t s : Settings) (i : ℕ) (f : CodedFrame) → outcome answer news t ≡ placed ts s i f → i < length ts → IsFault answer → (news ≡ ts) × (t ≡ s)
+-- the same of an new_placement that is what the definition leaves
+pub as_before : (answer : Placed) (news ts : List TrackState) (t s : Settings) (i : ℕ) (f : CodedFrame) → new_placement answer news t ≡ placement ts s i f → i < length ts → IsFault answer → (news ≡ ts) × (t ≡ s)
 as_before answer news ts t s i f is low h =
-    let both = before_placed ts s i f low (subst (λ (o : Outcome). IsFault o.answer) is h) in
-    (ap (λ (o : Outcome). o.tracks) is ∙ both.0, ap (λ (o : Outcome). o.settings) is ∙ both.1)
+    let both = before_placed ts s i f low (subst (λ (o : Placement). IsFault o.answer) is h) in
+    (ap (λ (o : Placement). o.tracks) is ∙ both.0, ap (λ (o : Placement). o.settings) is ∙ both.1)
 
-pub broke_same : (fault : MediaFault) (news ts : List TrackState) (t s : Settings) (pending : Bool) (gap : ℤ) (b : Brought) (d : Moment) → news ≡ ts → t ≡ s → b ≡ nothing_brought d → Broke fault (record { tracks = news; settings = t; pending = pending; gap = gap }) b ≡ Broke fault (record { tracks = ts; settings = s; pending = pending; gap = gap }) (nothing_brought d)
+pub broke_same : (fault : MediaFault) (news ts : List TrackState) (t s : Settings) (pending : Bool) (gap : ℤ) (b : SourceEffect) (d : Moment) → news ≡ ts → t ≡ s → b ≡ no_effect d → AppendError fault (record { tracks = news; settings = t; pending = pending; gap = gap }) b ≡ AppendError fault (record { tracks = ts; settings = s; pending = pending; gap = gap }) (no_effect d)
 broke_same fault news ts t s pending gap b d same_tracks same_settings is =
-    ap (λ (us : List TrackState). Broke fault (record { tracks = us; settings = t; pending = pending; gap = gap }) b) same_tracks
-    ∙ ap (λ (u : Settings). Broke fault (record { tracks = ts; settings = u; pending = pending; gap = gap }) b) same_settings
-    ∙ ap (λ (x : Brought). Broke fault (record { tracks = ts; settings = s; pending = pending; gap = gap }) x) is
+    ap (λ (us : List TrackState). AppendError fault (record { tracks = us; settings = t; pending = pending; gap = gap }) b) same_tracks
+    ∙ ap (λ (u : Settings). AppendError fault (record { tracks = ts; settings = u; pending = pending; gap = gap }) b) same_settings
+    ∙ ap (λ (x : SourceEffect). AppendError fault (record { tracks = ts; settings = s; pending = pending; gap = gap }) x) is
 
 -- ---- the append window end stays
 
@@ -103,9 +104,9 @@ aligned_end : (s : Settings) (g : Option ℤ) (p : ℤ) → IfSome (offset_to s 
 aligned_end s None p = refl
 aligned_end s (Some g) p = if_some_then (tick _) _ (SameEnd s) (λ offset. refl)
 
-moved_end : (s : Settings) (f : CodedFrame) → IfSome (one_pass s f) (λ w. SameEnd s w.settings)
+moved_end : (s : Settings) (f : CodedFrame) → IfSome (timing_in_pass s f) (λ w. SameEnd s w.settings)
 moved_end s f =
-    if_some_chain (with_group_start s (raw_time s f.pts)) _ (SameEnd s) (λ w. SameEnd s w.settings) (if_some_cond s.sequence (offset_to s s.group_start (raw_time s f.pts)) (Some s) (SameEnd s) (aligned_end s s.group_start (raw_time s f.pts)) refl)
+    if_some_chain (settings_at_group_start s (raw_time s f.pts)) _ (SameEnd s) (λ w. SameEnd s w.settings) (if_some_cond s.sequence (offset_to s s.group_start (raw_time s f.pts)) (Some s) (SameEnd s) (aligned_end s s.group_start (raw_time s f.pts)) refl)
     (λ t same. if_some_then (tick _) _ _ (λ p. if_some_then (tick _) _ _ (λ d. if_some_then (tick _) _ _ (λ e. same))))
 
 broken_end : (s : Settings) (p : ℤ) (b : Bool) → SameEnd s (cond b (record s { group_start = Some s.group_end }) (record s { group_end = p }))
@@ -114,36 +115,36 @@ broken_end s p false = refl
 
 times_end : (s : Settings) (m : Marks) (f : CodedFrame) → IfSome (timing_of s m f) (λ w. SameEnd s w.settings)
 times_end s m f =
-    if_some_chain (one_pass s f) _ (λ w. SameEnd s w.settings) (λ w. SameEnd s w.settings) (moved_end s f)
+    if_some_chain (timing_in_pass s f) _ (λ w. SameEnd s w.settings) (λ w. SameEnd s w.settings) (moved_end s f)
     (λ w same. if_some_cond (is_discontinuous m w.dts) _ (Some w) (λ v. SameEnd s v.settings)
-    (if_some_chain (one_pass (after_discontinuity w.settings w.pts) f) _ (λ v. SameEnd (after_discontinuity w.settings w.pts) v.settings) (λ v. SameEnd s v.settings) (moved_end (after_discontinuity w.settings w.pts) f)
+    (if_some_chain (timing_in_pass (settings_after_discontinuity w.settings w.pts) f) _ (λ v. SameEnd (settings_after_discontinuity w.settings w.pts) v.settings) (λ v. SameEnd s v.settings) (moved_end (settings_after_discontinuity w.settings w.pts) f)
     (λ v step. step ∙ broken_end w.settings w.pts w.settings.sequence ∙ same))
     same)
 
-answer_end : (answer : Placed) (w : Timing) → SameEnd w.settings (settings_after answer w)
+answer_end : (answer : Placed) (w : Timing) → SameEnd w.settings (settings_after_frame answer w)
 answer_end placed_as.Stored w = refl
 answer_end (placed_as.Dropped why) w = refl
 answer_end placed_as.TimeRange w = refl
 answer_end placed_as.Counts w = refl
 
-in_end : (o : Option TrackState) (w : Timing) (f : CodedFrame) (i : ℕ) (ts : List TrackState) → SameEnd w.settings (placed_in o w f i ts).settings
+in_end : (o : Option TrackState) (w : Timing) (f : CodedFrame) (i : ℕ) (ts : List TrackState) → SameEnd w.settings (placement_in_track o w f i ts).settings
 in_end None w f i ts = refl
-in_end (Some t) w f i ts = answer_end (put_answer (drop_reason w f.sync t.marks.need_sync)) w
+in_end (Some t) w f i ts = answer_end (answer_by_reason (drop_reason w f.sync t.marks.need_sync)) w
 
-by_end : (o : Option Timing) (s : Settings) (f : CodedFrame) (i : ℕ) (ts : List TrackState) → IfSome o (λ w. SameEnd s w.settings) → SameEnd s (placed_by o s f i ts).settings
+by_end : (o : Option Timing) (s : Settings) (f : CodedFrame) (i : ℕ) (ts : List TrackState) → IfSome o (λ w. SameEnd s w.settings) → SameEnd s (placement_by_times o s f i ts).settings
 by_end None s f i ts same = refl
-by_end (Some w) s f i ts same = in_end (slice_get (map (reset_track w) ts) i) w f i (map (reset_track w) ts) ∙ same
+by_end (Some w) s f i ts same = in_end (slice_get (map (track_after_reset w) ts) i) w f i (map (track_after_reset w) ts) ∙ same
 
-cond_end : (b : Bool) (s : Settings) (x y : Outcome) → SameEnd s x.settings → SameEnd s y.settings → SameEnd s (cond b x y).settings
+cond_end : (b : Bool) (s : Settings) (x y : Placement) → SameEnd s x.settings → SameEnd s y.settings → SameEnd s (cond b x y).settings
 cond_end true s x y p q = p
 cond_end false s x y p q = q
 
-of_end : (o : Option TrackState) (ts : List TrackState) (s : Settings) (i : ℕ) (f : CodedFrame) → SameEnd s (placed_of o ts s i f).settings
+of_end : (o : Option TrackState) (ts : List TrackState) (s : Settings) (i : ℕ) (f : CodedFrame) → SameEnd s (placement_in o ts s i f).settings
 of_end None ts s i f = refl
-of_end (Some t) ts s i f = cond_end (too_many t.marks.received (bytes_in ts) (length f.payload)) s _ _ refl (by_end (timing_of s t.marks f) s f i ts (times_end s t.marks f))
+of_end (Some t) ts s i f = cond_end (is_over_limit t.marks.received (bytes_in ts) (length f.payload)) s _ _ refl (by_end (timing_of s t.marks f) s f i ts (times_end s t.marks f))
 
-pub window_end_stays : (answer : Placed) (news ts : List TrackState) (t s : Settings) (i : ℕ) (f : CodedFrame) → outcome answer news t ≡ placed ts s i f → t.window_end ≡ s.window_end
-window_end_stays answer news ts t s i f is = ap (λ (o : Outcome). o.settings.window_end) is ∙ of_end (slice_get ts i) ts s i f
+pub window_end_stays : (answer : Placed) (news ts : List TrackState) (t s : Settings) (i : ℕ) (f : CodedFrame) → new_placement answer news t ≡ placement ts s i f → t.window_end ≡ s.window_end
+window_end_stays answer news ts t s i f is = ap (λ (o : Placement). o.settings.window_end) is ∙ of_end (slice_get ts i) ts s i f
 
 -- ---- the duration
 
@@ -161,29 +162,29 @@ same_is Infinite Nan h = absurd cc
 same_is Infinite (At b) h = absurd cc
 same_is Infinite Infinite h = refl
 
-changed_by : (to : Moment) (b : Brought) (same : Bool) → same_moment to b.duration ≡ same → (cond same b (record { changes = b.changes + 1; duration = to; activated = b.activated })).duration ≡ to
+changed_by : (to : Moment) (b : SourceEffect) (same : Bool) → same_moment to b.duration ≡ same → (cond same b (record { duration_changes = b.duration_changes + 1; duration = to; activated = b.activated })).duration ≡ to
 changed_by to b true e = sym (same_is to b.duration e)
 changed_by to b false e = refl
 
-pub changed_is : (to : Moment) (b : Brought) → (change_duration to b).duration ≡ to
+pub changed_is : (to : Moment) (b : SourceEffect) → (with_duration to b).duration ≡ to
 changed_is to b = changed_by to b (same_moment to b.duration) refl
 
-few_by : (to : Moment) (b : Brought) (same : Bool) → (cond same b (record { changes = b.changes + 1; duration = to; activated = b.activated })).changes ≤ b.changes + 1
+few_by : (to : Moment) (b : SourceEffect) (same : Bool) → (cond same b (record { duration_changes = b.duration_changes + 1; duration = to; activated = b.activated })).duration_changes ≤ b.duration_changes + 1
 few_by to b true = omega arith
 few_by to b false = omega arith
 
-pub changed_few : (to : Moment) (b : Brought) → (change_duration to b).changes ≤ b.changes + 1
+pub changed_few : (to : Moment) (b : SourceEffect) → (with_duration to b).duration_changes ≤ b.duration_changes + 1
 changed_few to b = few_by to b (same_moment to b.duration)
 
-max_self : (a : ℤ) → int_max a a ≡ a
+pub max_self : (a : ℤ) → int_max a a ≡ a
 max_self a = grind (arith, ints)
 
-ends_raised : (ts us : List TrackState) (g : ℤ) → ((limit : ℤ) → EndBy limit ts → EndBy (int_max limit g) us) → (d : Moment) → EndsWithin d ts → EndsWithin (at_least d g) us
-ends_raised ts us g keep Nan h = subst (λ (l : ℤ). EndBy l us) (max_self g) (keep g (endby_none g ts h))
+ends_raised : (ts us : List TrackState) (g : ℤ) → ((limit : ℤ) → AreEndedBy limit ts → AreEndedBy (int_max limit g) us) → (d : Moment) → EndsWithin d ts → EndsWithin (greater_moment d g) us
+ends_raised ts us g keep Nan h = subst (λ (l : ℤ). AreEndedBy l us) (max_self g) (keep g (endby_none g ts h))
 ends_raised ts us g keep (At d) h = keep d h
 ends_raised ts us g keep Infinite h = tt
 
 -- a stored frame ends by the duration that it raises
-pub ends_stored : (ts us : List TrackState) (g : ℤ) (d r : Moment) (b : Brought) → ((limit : ℤ) → EndBy limit ts → EndBy (int_max limit g) us) → r ≡ at_least d g → b ≡ change_duration r (nothing_brought d) → EndsWithin d ts → EndsWithin b.duration us
+pub ends_stored : (ts us : List TrackState) (g : ℤ) (d r : Moment) (b : SourceEffect) → ((limit : ℤ) → AreEndedBy limit ts → AreEndedBy (int_max limit g) us) → r ≡ greater_moment d g → b ≡ with_duration r (no_effect d) → EndsWithin d ts → EndsWithin b.duration us
 ends_stored ts us g d r b keep raised is h =
-    subst (λ (m : Moment). EndsWithin m us) (sym (ap (λ (x : Brought). x.duration) is ∙ changed_is r (nothing_brought d) ∙ raised)) (ends_raised ts us g keep d h)
+    subst (λ (m : Moment). EndsWithin m us) (sym (ap (λ (x : SourceEffect). x.duration) is ∙ changed_is r (no_effect d) ∙ raised)) (ends_raised ts us g keep d h)

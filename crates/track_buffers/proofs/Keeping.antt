@@ -4,7 +4,7 @@ use Rattle.std.specs.List.{AllByRecursion}
 use Rattle.std.specs.Option.{IfSome}
 use Rattle.std.specs.Result.{OnOk, IfOk}
 use Rattle.mse_calls.specs.declared.views.TrackView.{TrackView}
-use Rattle.track_buffers.specs.declared.answers.Brought.{Brought}
+use Rattle.track_buffers.specs.declared.effects.SourceEffect.{SourceEffect}
 use Rattle.track_buffers.specs.Views.{track_view}
 use Rattle.std.proofs.lemmas.Int.{ints}
 use Rattle.std.proofs.lemmas.List.{take_more, drop_more, map-append, length-append}
@@ -16,15 +16,15 @@ use Rattle.mse_base.specs.declared.track.TrackInfo.{TrackInfo}
 use Rattle.mse_base.specs.declared.track.Presentation.{Presentation}
 use Rattle.track_store.specs.declared.store.Stored.{Stored}
 use Rattle.track_store.specs.declared.tracks.Track.{Track}
-use Rattle.track_store.specs.Frames.{used_of}
-use Rattle.track_store.specs.Kept.{bytes_in, AreKept, EndBy, HasRoom, gaps_of}
+use Rattle.track_store.specs.Frames.{bytes_of}
+use Rattle.track_store.specs.Kept.{bytes_in, AreKept, AreEndedBy, HasRoom, gaps_of}
 use Rattle.track_store.specs.Sound.{Sound, AreTogether}
 use Rattle.track_store.specs.State.{TrackState, state_of, states_of}
-use Rattle.range_removal.specs.Numbered.{KeepsRoom}
+use Rattle.range_removal.specs.Rooms.{IsRoomKept}
 use Rattle.track_buffers.proofs.Loops.{found_at}
 use Rattle.track_buffers.specs.Media.{EndsWithin, least_room, room_of}
 use Rattle.track_buffers.specs.Frames.{unset_track}
-use Rattle.track_buffers.specs.Initialized.{is_media_track, told_duration, new_track, renewed, renewed_by, partner_of, tracks_after}
+use Rattle.track_buffers.specs.Initialized.{is_media_track, segment_effect, new_track, tracks_with_partners, track_with_partner, partner_of, tracks_after}
 
 -- ---- sound
 
@@ -34,24 +34,24 @@ together_needs None None None None need h = refl
 together_needs decode duration end first need h = absurd h
 
 unset_sound : (t : TrackState) → Sound t → Sound (unset_track t)
-unset_sound t h = record { count = h.count; chained = h.chained; ascending = h.ascending; below = h.below; forward = h.forward; timed = h.timed; follows = λ e. cc; together = refl; group_below = tt; group_sync = tt }
+unset_sound t h = record { count = h.count; chained = h.chained; ascending = h.ascending; below = h.below; not_negative = h.not_negative; timed = h.timed; last_held = λ e. cc; together = refl; group_below = tt; group_sync = tt }
 
 new_sound : (u : TrackInfo) → Sound (new_track u)
-new_sound u = record { count = omega arith; chained = tt; ascending = tt; below = tt; forward = tt; timed = tt; follows = λ e. cc; together = refl; group_below = tt; group_sync = tt }
+new_sound u = record { count = omega arith; chained = tt; ascending = tt; below = tt; not_negative = tt; timed = tt; last_held = λ e. cc; together = refl; group_below = tt; group_sync = tt }
 
-renewed_sound : (t : TrackState) (o : Option TrackInfo) → Sound t → Sound (renewed_by t o)
+renewed_sound : (t : TrackState) (o : Option TrackInfo) → Sound t → Sound (track_with_partner t o)
 renewed_sound t None h = h
-renewed_sound t (Some u) h = record { count = h.count; chained = h.chained; ascending = h.ascending; below = h.below; forward = h.forward; timed = h.timed; follows = λ e. cc; together = together_needs _ t.marks.last_duration _ _ t.marks.need_sync h.together; group_below = h.group_below; group_sync = h.group_sync }
+renewed_sound t (Some u) h = record { count = h.count; chained = h.chained; ascending = h.ascending; below = h.below; not_negative = h.not_negative; timed = h.timed; last_held = λ e. cc; together = together_needs _ t.marks.last_duration _ _ t.marks.need_sync h.together; group_below = h.group_below; group_sync = h.group_sync }
 
 -- steps that leave the frames of each track
 module _ (f : TrackState → TrackState) (frames : (t : TrackState) → (f t).frames ≡ t.frames) where
   bytes-map : (ts : List TrackState) → bytes_in (map f ts) ≡ bytes_in ts
   bytes-map [] = refl
   bytes-map (t ∷ ts) =
-      sum_by-cons (λ (u : TrackState). used_of u.frames) (f t) (map f ts)
-      ∙ ap (λ (fs : List Stored). used_of fs + bytes_in (map f ts)) (frames t)
-      ∙ ap (λ (n : ℕ). used_of t.frames + n) (bytes-map ts)
-      ∙ sym (sum_by-cons (λ (u : TrackState). used_of u.frames) t ts)
+      sum_by-cons (λ (u : TrackState). bytes_of u.frames) (f t) (map f ts)
+      ∙ ap (λ (fs : List Stored). bytes_of fs + bytes_in (map f ts)) (frames t)
+      ∙ ap (λ (n : ℕ). bytes_of t.frames + n) (bytes-map ts)
+      ∙ sym (sum_by-cons (λ (u : TrackState). bytes_of u.frames) t ts)
 
   sound-map : ((t : TrackState) → Sound t → Sound (f t)) → (ts : List TrackState) → AllByRecursion Sound ts → AllByRecursion Sound (map f ts)
   sound-map sound [] h = tt
@@ -60,7 +60,7 @@ module _ (f : TrackState → TrackState) (frames : (t : TrackState) → (f t).fr
   kept-map : ((t : TrackState) → Sound t → Sound (f t)) → (ts : List TrackState) → AreKept ts → AreKept (map f ts)
   kept-map sound ts h = record { sound = sound-map sound ts h.sound; small = subst (λ (n : ℕ). n < 2 ^ 62) (sym (bytes-map ts)) h.small }
 
-  endby-map : (limit : ℤ) (ts : List TrackState) → EndBy limit ts → EndBy limit (map f ts)
+  endby-map : (limit : ℤ) (ts : List TrackState) → AreEndedBy limit ts → AreEndedBy limit (map f ts)
   endby-map limit [] h = tt
   endby-map limit (t ∷ ts) h = (subst (λ (fs : List Stored). AllByRecursion (λ g. (g.frame.pts +ℤ g.frame.dur) ≤ℤ limit) fs) (sym (frames t)) h.0, endby-map limit ts h.1)
 
@@ -79,15 +79,15 @@ kept_unset ts h = kept-map unset_track (λ t. refl) unset_sound ts h
 pub ends_unset : (d : Moment) (ts : List TrackState) → EndsWithin d ts → EndsWithin d (map unset_track ts)
 ends_unset d ts h = ends-map unset_track (λ t. refl) d ts h
 
-frames_renewed : (t : TrackState) (o : Option TrackInfo) → (renewed_by t o).frames ≡ t.frames
+frames_renewed : (t : TrackState) (o : Option TrackInfo) → (track_with_partner t o).frames ≡ t.frames
 frames_renewed t None = refl
 frames_renewed t (Some u) = refl
 
-pub kept_renewed : (news : List TrackInfo) (ts : List TrackState) → AreKept ts → AreKept (renewed news ts)
-kept_renewed news ts h = kept-map (λ t. renewed_by t (partner_of ts news t)) (λ t. frames_renewed t (partner_of ts news t)) (λ t s. renewed_sound t (partner_of ts news t) s) ts h
+pub kept_renewed : (news : List TrackInfo) (ts : List TrackState) → AreKept ts → AreKept (tracks_with_partners news ts)
+kept_renewed news ts h = kept-map (λ t. track_with_partner t (partner_of ts news t)) (λ t. frames_renewed t (partner_of ts news t)) (λ t s. renewed_sound t (partner_of ts news t) s) ts h
 
-pub ends_renewed : (news : List TrackInfo) (d : Moment) (ts : List TrackState) → EndsWithin d ts → EndsWithin d (renewed news ts)
-ends_renewed news d ts h = ends-map (λ t. renewed_by t (partner_of ts news t)) (λ t. frames_renewed t (partner_of ts news t)) d ts h
+pub ends_renewed : (news : List TrackInfo) (d : Moment) (ts : List TrackState) → EndsWithin d ts → EndsWithin d (tracks_with_partners news ts)
+ends_renewed news d ts h = ends-map (λ t. track_with_partner t (partner_of ts news t)) (λ t. frames_renewed t (partner_of ts news t)) d ts h
 
 sound_new : (news : List TrackInfo) → AllByRecursion Sound (map new_track news)
 sound_new [] = tt
@@ -95,7 +95,7 @@ sound_new (u ∷ news) = (new_sound u, sound_new news)
 
 bytes_new : (news : List TrackInfo) → bytes_in (map new_track news) ≡ 0
 bytes_new [] = refl
-bytes_new (u ∷ news) = sum_by-cons (λ (t : TrackState). used_of t.frames) (new_track u) (map new_track news) ∙ ap (λ (n : ℕ). 0 + n) (bytes_new news)
+bytes_new (u ∷ news) = sum_by-cons (λ (t : TrackState). bytes_of t.frames) (new_track u) (map new_track news) ∙ ap (λ (n : ℕ). 0 + n) (bytes_new news)
 
 pub kept_new : (news : List TrackInfo) → AreKept (map new_track news)
 kept_new news = record { sound = sound_new news; small = let none = bytes_new news in omega arith }
@@ -109,7 +109,7 @@ empty_new (u ∷ news) = (refl, empty_new news)
 frames_none : (limit : ℤ) (fs : List Stored) → fs ≡ [] → AllByRecursion (λ f. (f.frame.pts +ℤ f.frame.dur) ≤ℤ limit) fs
 frames_none limit fs e = subst (λ gs. AllByRecursion (λ f. (f.frame.pts +ℤ f.frame.dur) ≤ℤ limit) gs) (sym e) tt
 
-pub endby_none : (limit : ℤ) (ts : List TrackState) → AllByRecursion (λ t. t.frames ≡ []) ts → EndBy limit ts
+pub endby_none : (limit : ℤ) (ts : List TrackState) → AllByRecursion (λ t. t.frames ≡ []) ts → AreEndedBy limit ts
 endby_none limit [] h = tt
 endby_none limit (t ∷ ts) h = (frames_none limit t.frames h.0, endby_none limit ts h.1)
 
@@ -127,12 +127,12 @@ none_all : (fs : List Stored) → ((limit : ℤ) → AllByRecursion (λ f. (f.fr
 none_all [] h = refl
 none_all (f ∷ fs) h = let low = (h ((f.frame.pts +ℤ f.frame.dur) -ℤ pos 1)).0 in absurd (omega (arith, ints))
 
-pub none_by_all : (ts : List TrackState) → ((limit : ℤ) → EndBy limit ts) → AllByRecursion (λ t. t.frames ≡ []) ts
+pub none_by_all : (ts : List TrackState) → ((limit : ℤ) → AreEndedBy limit ts) → AllByRecursion (λ t. t.frames ≡ []) ts
 none_by_all [] h = tt
 none_by_all (t ∷ ts) h = (none_all t.frames (λ limit. (h limit).0), none_by_all ts (λ limit. (h limit).1))
 
 -- a step that keeps every time that the frames end by
-pub ends_kept : (ts us : List TrackState) → ((limit : ℤ) → EndBy limit ts → EndBy limit us) → (d : Moment) → EndsWithin d ts → EndsWithin d us
+pub ends_kept : (ts us : List TrackState) → ((limit : ℤ) → AreEndedBy limit ts → AreEndedBy limit us) → (d : Moment) → EndsWithin d ts → EndsWithin d us
 ends_kept ts us keep Nan h = none_by_all us (λ limit. keep limit (endby_none limit ts h))
 ends_kept ts us keep (At d) h = keep d h
 ends_kept ts us keep Infinite h = h
@@ -184,7 +184,7 @@ push_room : {S : Type 0} (spare : S → ℕ) (n : ℕ) (ts : List (Track S)) (t 
 push_room spare n [] t h own = (own, tt)
 push_room spare n (u ∷ ts) t h own = (h.0, push_room spare n ts t h.1 own)
 
-room_take : {S : Type 0} (spare : S → ℕ) (n : ℕ) (ts us : List (Track S)) (i : ℕ) → KeepsRoom spare ts us → length us ≡ length ts → HasRoom spare n (take i ts) → HasRoom spare n (take i us)
+room_take : {S : Type 0} (spare : S → ℕ) (n : ℕ) (ts us : List (Track S)) (i : ℕ) → IsRoomKept spare ts us → length us ≡ length ts → HasRoom spare n (take i ts) → HasRoom spare n (take i us)
 room_take spare n ts us zero keep e h = tt
 room_take spare n [] [] (suc i) keep e h = tt
 room_take spare n [] (u ∷ us) (suc i) keep e h = absurd (omega arith)
@@ -192,7 +192,7 @@ room_take spare n (t ∷ ts) [] (suc i) keep e h = tt
 room_take spare n (t ∷ ts) (u ∷ us) (suc i) keep e h = (let own = h.0 in let more = keep zero in omega arith, room_take spare n ts us i (λ k. keep (suc k)) (omega arith) h.1)
 
 -- one more store has room
-pub room_more : {S : Type 0} (spare : S → ℕ) (n : ℕ) (ts us : List (Track S)) (i : ℕ) → i < length us → KeepsRoom spare ts us → length us ≡ length ts → HasRoom spare n (take i ts) → IfSome (slice_get us i) (λ t. n ≤ spare t.store) → HasRoom spare n (take (i + 1) us)
+pub room_more : {S : Type 0} (spare : S → ℕ) (n : ℕ) (ts us : List (Track S)) (i : ℕ) → i < length us → IsRoomKept spare ts us → length us ≡ length ts → HasRoom spare n (take i ts) → IfSome (slice_get us i) (λ t. n ≤ spare t.store) → HasRoom spare n (take (i + 1) us)
 room_more spare n ts us i low keep e so_far h =
     let at = found_at (λ t. n ≤ spare t.store) us i low h in
     subst (λ vs. HasRoom spare n vs) (sym at.more) (push_room spare n (take i us) at.x (room_take spare n ts us i keep e so_far) at.holds)
@@ -232,10 +232,10 @@ pub places_left : (us : List TrackInfo) (i : ℕ) (u : TrackInfo) (n m : ℕ) �
 places_left us i u n m low e h k = let both = media_left us i u low e in omega arith
 
 -- the duration that a segment tells
-pub ends_told : (p : Presentation) (d : Moment) (b : Brought) (ts : List TrackState) → b ≡ told_duration p d → EndsWithin d ts → EndsWithin b.duration ts
+pub ends_told : (p : Presentation) (d : Moment) (b : SourceEffect) (ts : List TrackState) → b ≡ segment_effect p d → EndsWithin d ts → EndsWithin b.duration ts
 ends_told p Nan b ts is h = ends_none b.duration ts h
-ends_told p (At d) b ts is h = subst (λ (m : Moment). EndsWithin m ts) (sym (ap (λ (x : Brought). x.duration) is)) h
-ends_told p Infinite b ts is h = subst (λ (m : Moment). EndsWithin m ts) (sym (ap (λ (x : Brought). x.duration) is)) h
+ends_told p (At d) b ts is h = subst (λ (m : Moment). EndsWithin m ts) (sym (ap (λ (x : SourceEffect). x.duration) is)) h
+ends_told p Infinite b ts is h = subst (λ (m : Moment). EndsWithin m ts) (sym (ap (λ (x : SourceEffect). x.duration) is)) h
 
 -- ---- answers
 

@@ -9,8 +9,7 @@ use Rattle.std.proofs.lemmas.List.{append-nil, map-append}
 use Rattle.std.proofs.lemmas.List.Folds.{list_all-append}
 use Rattle.std.proofs.lemmas.Grind.{flat_map-append}
 use Rattle.std.proofs.lemmas.List.Sums.{fold-append, sum_by-cons, sum_by_push}
-use Rattle.track_store.specs.Frames.{greatest, greater_of}
-use Rattle.track_buffers.specs.Buffered.{later_of}
+use Rattle.mse_base.specs.Moments.{greatest, greater_of, greatest_of_two}
 
 -- the element at a place, and what is known of it
 pub record Found {X : Type 0} (P : X → Type 0) (xs : List X) (i : ℕ) : Type 0 where
@@ -163,23 +162,23 @@ position_none p xs i past le = grind (arith, nat_tests)
 later_max : (a b c : ℤ) → int_max (int_max a b) c ≡ int_max a (int_max b c)
 later_max a b c = grind (arith, ints)
 
-later-greater : (o : Option ℤ) (t : Option ℤ) (u : ℤ) → later_of o (greater_of t u) ≡ greater_of (later_of o t) u
+later-greater : (o : Option ℤ) (t : Option ℤ) (u : ℤ) → greatest_of_two o (greater_of t u) ≡ greater_of (greatest_of_two o t) u
 later-greater None t u = refl
 later-greater (Some s) None u = refl
 later-greater (Some s) (Some t) u = ap Some (sym (later_max s t u))
 
-pub later-fold : (o t : Option ℤ) (us : List ℤ) → later_of o (fold greater_of t us) ≡ fold greater_of (later_of o t) us
+pub later-fold : (o t : Option ℤ) (us : List ℤ) → greatest_of_two o (fold greater_of t us) ≡ fold greater_of (greatest_of_two o t) us
 later-fold o t [] = refl
 later-fold o t (u ∷ us) = later-fold o (greater_of t u) us ∙ ap (λ s. fold greater_of s us) (later-greater o t u)
 
-later_none : (o : Option ℤ) → later_of o None ≡ o
+later_none : (o : Option ℤ) → greatest_of_two o None ≡ o
 later_none None = refl
 later_none (Some s) = refl
 
-pub highest_more : {X : Type 0} (f : X → List ℤ) (xs : List X) (i : ℕ) (best o : Option ℤ) → i < length xs → best ≡ greatest (flat_map f (take i xs)) → IfSome (slice_get xs i) (λ x. o ≡ greatest (f x)) → later_of best o ≡ greatest (flat_map f (take (i + 1) xs))
+pub highest_more : {X : Type 0} (f : X → List ℤ) (xs : List X) (i : ℕ) (best o : Option ℤ) → i < length xs → best ≡ greatest (flat_map f (take i xs)) → IfSome (slice_get xs i) (λ x. o ≡ greatest (f x)) → greatest_of_two best o ≡ greatest (flat_map f (take (i + 1) xs))
 highest_more f xs i best o low so_far h =
     let at = found_at (λ x. o ≡ greatest (f x)) xs i low h in
-    ap (later_of best) at.holds ∙ later-fold best None (f at.x) ∙ ap (λ s. fold greater_of s (f at.x)) (later_none best ∙ so_far)
+    ap (greatest_of_two best) at.holds ∙ later-fold best None (f at.x) ∙ ap (λ s. fold greater_of s (f at.x)) (later_none best ∙ so_far)
     ∙ sym (ap greatest (ap (flat_map f) at.more ∙ flat_map-append f (take i xs) (at.x ∷ []) ∙ ap (λ ys. flat_map f (take i xs) ++ ys) (append-nil (f at.x))) ∙ fold-append greater_of None (flat_map f (take i xs)) (f at.x))
 
 -- ---- one element is written over

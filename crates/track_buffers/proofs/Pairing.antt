@@ -5,7 +5,7 @@ use Rattle.std.specs.Option.{IfSome}
 use Rattle.mse_base.specs.declared.track.Kind.{Kind}
 use Rattle.mse_base.specs.declared.track.TrackInfo.{TrackInfo}
 use Rattle.track_store.specs.State.{TrackState}
-use Rattle.track_buffers.specs.Initialized.{is_media_track, count_of, kinds_of, is_of_kind, is_numbered, partner_of, renewed_by}
+use Rattle.track_buffers.specs.Initialized.{is_media_track, count_of, kinds_of, is_of_kind, is_numbered, partner_of, track_with_partner}
 use Rattle.std.proofs.lemmas.List.{length-map}
 use Rattle.track_buffers.proofs.Loops.{find-filter, found_at}
 
@@ -17,7 +17,7 @@ find_by false kind id news = find-filter (is_numbered kind id) is_media_track ne
 pub partner_same : (ts us : List TrackState) (news : List TrackInfo) (t : TrackState) → kinds_of ts ≡ kinds_of us → partner_of ts news t ≡ partner_of us news t
 partner_same ts us news t same = ap (λ (kinds : List Kind). cond (count_of t.kind kinds == 1) (find (is_of_kind t.kind) news) (find (is_numbered t.kind t.id) news)) same
 
-kind_renewed : (t : TrackState) (o : Option TrackInfo) → (renewed_by t o).kind ≡ t.kind
+kind_renewed : (t : TrackState) (o : Option TrackInfo) → (track_with_partner t o).kind ≡ t.kind
 kind_renewed t None = refl
 kind_renewed t (Some u) = refl
 
@@ -27,20 +27,20 @@ kinds_set (v ∷ ts) zero t u e h = let same : v ≡ t = cc in ap (λ (k : Kind)
 kinds_set (v ∷ ts) (suc i) t u e h = ap (λ (ks : List Kind). v.kind ∷ ks) (kinds_set ts i t u e h)
 
 -- a track takes number and codec of its partner
-kinds_renewed : (ts us : List TrackState) (i : ℕ) (t : TrackState) (o : Option TrackInfo) → slice_get ts i ≡ Some t → us ≡ set ts i (renewed_by t o) → kinds_of us ≡ kinds_of ts
-kinds_renewed ts us i t o here is = ap kinds_of is ∙ kinds_set ts i t (renewed_by t o) here (kind_renewed t o)
+kinds_renewed : (ts us : List TrackState) (i : ℕ) (t : TrackState) (o : Option TrackInfo) → slice_get ts i ≡ Some t → us ≡ set ts i (track_with_partner t o) → kinds_of us ≡ kinds_of ts
+kinds_renewed ts us i t o here is = ap kinds_of is ∙ kinds_set ts i t (track_with_partner t o) here (kind_renewed t o)
 
-pub kinds_renewed_here : (ts us : List TrackState) (news : List TrackInfo) (i : ℕ) → i < length ts → IfSome (slice_get ts i) (λ t. us ≡ set ts i (renewed_by t (partner_of ts news t))) → kinds_of us ≡ kinds_of ts
+pub kinds_renewed_here : (ts us : List TrackState) (news : List TrackInfo) (i : ℕ) → i < length ts → IfSome (slice_get ts i) (λ t. us ≡ set ts i (track_with_partner t (partner_of ts news t))) → kinds_of us ≡ kinds_of ts
 kinds_renewed_here ts us news i low h =
-    let at = found_at (λ t. us ≡ set ts i (renewed_by t (partner_of ts news t))) ts i low h in
+    let at = found_at (λ t. us ≡ set ts i (track_with_partner t (partner_of ts news t))) ts i low h in
     kinds_renewed ts us i at.x (partner_of ts news at.x) at.here at.holds
 
-renewed_if : (old ts us : List TrackState) (news : List TrackInfo) (i : ℕ) (o : Option TrackState) → kinds_of ts ≡ kinds_of old → IfSome o (λ t. us ≡ set ts i (renewed_by t (partner_of ts news t))) → IfSome o (λ t. us ≡ set ts i (renewed_by t (partner_of old news t)))
+renewed_if : (old ts us : List TrackState) (news : List TrackInfo) (i : ℕ) (o : Option TrackState) → kinds_of ts ≡ kinds_of old → IfSome o (λ t. us ≡ set ts i (track_with_partner t (partner_of ts news t))) → IfSome o (λ t. us ≡ set ts i (track_with_partner t (partner_of old news t)))
 renewed_if old ts us news i None same h = h
-renewed_if old ts us news i (Some t) same h = h ∙ ap (λ (p : Option TrackInfo). set ts i (renewed_by t p)) (partner_same ts old news t same)
+renewed_if old ts us news i (Some t) same h = h ∙ ap (λ (p : Option TrackInfo). set ts i (track_with_partner t p)) (partner_same ts old news t same)
 
 -- the partners are those by the tracks at the start
-pub renewed_here : (old ts us : List TrackState) (news : List TrackInfo) (i : ℕ) → kinds_of ts ≡ kinds_of old → IfSome (slice_get ts i) (λ t. us ≡ set ts i (renewed_by t (partner_of ts news t))) → IfSome (slice_get ts i) (λ t. us ≡ set ts i (renewed_by t (partner_of old news t)))
+pub renewed_here : (old ts us : List TrackState) (news : List TrackInfo) (i : ℕ) → kinds_of ts ≡ kinds_of old → IfSome (slice_get ts i) (λ t. us ≡ set ts i (track_with_partner t (partner_of ts news t))) → IfSome (slice_get ts i) (λ t. us ≡ set ts i (track_with_partner t (partner_of old news t)))
 renewed_here old ts us news i same h = renewed_if old ts us news i (slice_get ts i) same h
 
 -- as many kinds, as many tracks

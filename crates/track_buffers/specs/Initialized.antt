@@ -5,16 +5,17 @@ use Rattle.std.specs.Str.{bytes_eq}
 use Rattle.mse_base.specs.declared.ticks.Moment.{Moment}
 use Rattle.mse_base.specs.declared.ticks.Moment.TheVariants.{Nan, At, Infinite}
 use Rattle.mse_base.specs.declared.track.Kind.{Kind}
-use Rattle.mse_base.specs.declared.track.Kind.TheVariants.{Video, Audio, Other}
+use Rattle.mse_base.specs.declared.track.Kind.TheVariants.{Video, Audio}
+use Rattle.mse_base.specs.Moments.{same_kind}
 use Rattle.mse_base.specs.declared.track.Presentation.{Presentation}
 use Rattle.mse_base.specs.declared.track.TrackInfo.{TrackInfo}
 use Rattle.mse_types.specs.Names.{sample_entries, is_among}
 use Rattle.bmff_fragment.specs.Plans.{is_media}
-use Rattle.track_store.specs.State.{TrackState, new_marks, needing_sync}
-use Rattle.track_buffers.specs.declared.answers.Brought.{Brought}
-use Rattle.track_buffers.specs.declared.answers.MediaFault.{MediaFault}
-use Rattle.track_buffers.specs.declared.answers.MediaFault.TheVariants.{NoTracks, UnknownCodec, TracksDiffer}
-use Rattle.track_buffers.specs.Media.{Media, is_empty_list, awaits_first, nothing_brought, change_duration, Taken, Went, Broke}
+use Rattle.track_store.specs.State.{TrackState, new_marks, marks_needing_sync}
+use Rattle.track_buffers.specs.declared.effects.SourceEffect.{SourceEffect}
+use Rattle.track_buffers.specs.declared.effects.MediaFault.{MediaFault}
+use Rattle.track_buffers.specs.declared.effects.MediaFault.TheVariants.{NoTracks, UnknownCodec, TracksDiffer}
+use Rattle.track_buffers.specs.Media.{Media, is_empty_list, awaits_first, no_effect, with_duration, MediaResult, Done, AppendError}
 
 -- the tracks of an initialization segment that a buffer takes frames of: video and audio
 abbrev pub is_media_track : TrackInfo → Bool
@@ -24,21 +25,10 @@ abbrev pub media_tracks : Presentation → List TrackInfo
 media_tracks p = filter is_media_track p.tracks
 
 -- step 1: where there is no duration yet, it becomes that of the segment
-abbrev pub told_duration : Presentation → Moment → Brought
-told_duration p Nan = change_duration p.duration (nothing_brought Nan)
-told_duration p (At d) = nothing_brought (At d)
-told_duration p Infinite = nothing_brought Infinite
-
-abbrev pub same_kind : Kind → Kind → Bool
-same_kind Video Video = true
-same_kind Video Audio = false
-same_kind Video Other = false
-same_kind Audio Video = false
-same_kind Audio Audio = true
-same_kind Audio Other = false
-same_kind Other Video = false
-same_kind Other Audio = false
-same_kind Other Other = true
+abbrev pub segment_effect : Presentation → Moment → SourceEffect
+segment_effect p Nan = with_duration p.duration (no_effect Nan)
+segment_effect p (At d) = no_effect (At d)
+segment_effect p Infinite = no_effect Infinite
 
 -- how many are of the kind
 abbrev pub count_of : Kind → List Kind → ℕ
@@ -71,8 +61,8 @@ is_partner pending t None = false
 is_partner pending t (Some u) = pending || bytes_eq u.codec t.codec
 
 -- step 3: the numbers of tracks of each kind are those of the buffer, and each track buffer has a partner
-abbrev pub fits : List TrackInfo → Media → Bool
-fits news m =
+abbrev pub has_same_tracks : List TrackInfo → Media → Bool
+has_same_tracks news m =
     (count_of Video (new_kinds news) == count_of Video (kinds_of m.tracks))
     && ((count_of Audio (new_kinds news) == count_of Audio (kinds_of m.tracks))
     && list_all (λ t. is_partner m.pending t (partner_of m.tracks news t)) m.tracks)
@@ -87,28 +77,28 @@ abbrev pub init_fault : Presentation → Media → Option MediaFault
 init_fault p m =
     if is_empty_list (media_tracks p) then Some NoTracks
     else (if not (list_all is_known (media_tracks p)) then Some UnknownCodec
-    else (if awaits_first m || fits (media_tracks p) m then None else Some TracksDiffer))
+    else (if awaits_first m || has_same_tracks (media_tracks p) m then None else Some TracksDiffer))
 
 -- step 5: a track buffer for each track of the first segment, in order of the file
 abbrev pub new_track : TrackInfo → TrackState
 new_track u = record { id = u.id; kind = u.kind; codec = u.codec; frames = []; marks = new_marks }
 
 -- step 3, else: a track buffer takes number and codec of its partner, and needs a random access point
-abbrev pub renewed_by : TrackState → Option TrackInfo → TrackState
-renewed_by t None = t
-renewed_by t (Some u) = record { id = u.id; kind = t.kind; codec = u.codec; frames = t.frames; marks = needing_sync t.marks }
+abbrev pub track_with_partner : TrackState → Option TrackInfo → TrackState
+track_with_partner t None = t
+track_with_partner t (Some u) = record { id = u.id; kind = t.kind; codec = u.codec; frames = t.frames; marks = marks_needing_sync t.marks }
 
-abbrev pub renewed : List TrackInfo → List TrackState → List TrackState
-renewed news ts = map (λ t. renewed_by t (partner_of ts news t)) ts
+abbrev pub tracks_with_partners : List TrackInfo → List TrackState → List TrackState
+tracks_with_partners news ts = map (λ t. track_with_partner t (partner_of ts news t)) ts
 
 abbrev pub tracks_after : List TrackInfo → List TrackState → List TrackState
 tracks_after news [] = map new_track news
-tracks_after news (t ∷ ts) = renewed news (t ∷ ts)
+tracks_after news (t ∷ ts) = tracks_with_partners news (t ∷ ts)
 
-abbrev pub initialized_by : Option MediaFault → Presentation → Media → Brought → Taken
-initialized_by (Some fault) p m b = Broke fault m b
-initialized_by None p m b = Went (record { tracks = tracks_after (media_tracks p) m.tracks; settings = m.settings; pending = false; gap = m.gap }) (record { changes = b.changes; duration = b.duration; activated = awaits_first m })
+abbrev pub init_result_of : Option MediaFault → Presentation → Media → SourceEffect → MediaResult
+init_result_of (Some fault) p m b = AppendError fault m b
+init_result_of None p m b = Done (record { tracks = tracks_after (media_tracks p) m.tracks; settings = m.settings; pending = false; gap = m.gap }) (record { duration_changes = b.duration_changes; duration = b.duration; activated = awaits_first m })
 
 -- the segment received, where the duration is d
-abbrev pub initialized : Presentation → Media → Moment → Taken
-initialized p m d = initialized_by (init_fault p m) p m (told_duration p d)
+abbrev pub init_result : Presentation → Media → Moment → MediaResult
+init_result p m d = init_result_of (init_fault p m) p m (segment_effect p d)

@@ -3,5 +3,5 @@ pub mod Settings
 pub mod Initialized
 pub mod Frames
 pub mod Buffered
-pub mod Answers
+pub mod Effects
 pub mod Views

@@ -1,17 +1,16 @@
--- The media of a source buffer: its track buffers and settings, and what an item of its byte stream brings about.
+-- The media of a source buffer: its track buffers and settings, and what an item of its byte stream does.
 use Rattle.std.specs.Prelude.{◌≡◌, ◌≢◌, ℕ, ◌+◌, ◌^◌, min, ℤ, pos, ◌≤ℤ◌, Bool, true, false, List, [], ◌∷◌, map, if◌then◌else◌}
-use Rattle.std.specs.Int.{int_max}
 use Rattle.std.specs.List.{AllByRecursion}
-use Rattle.std.specs.Ordering.{int_eq}
 use Rattle.mse_base.specs.declared.ticks.Moment.{Moment}
 use Rattle.mse_base.specs.declared.ticks.Moment.TheVariants.{Nan, At, Infinite}
+use Rattle.mse_base.specs.Moments.{same_moment}
 use Rattle.track_store.specs.declared.store.Stored.{Stored}
 use Rattle.track_store.specs.declared.tracks.Settings.{Settings}
 use Rattle.track_store.specs.declared.tracks.Track.{Track}
-use Rattle.track_store.specs.Kept.{AreKept, EndBy}
+use Rattle.track_store.specs.Kept.{AreKept, AreEndedBy}
 use Rattle.track_store.specs.State.{TrackState, states_of}
-use Rattle.track_buffers.specs.declared.answers.Brought.{Brought}
-use Rattle.track_buffers.specs.declared.answers.MediaFault.{MediaFault}
+use Rattle.track_buffers.specs.declared.effects.SourceEffect.{SourceEffect}
+use Rattle.track_buffers.specs.declared.effects.MediaFault.{MediaFault}
 
 -- The track buffers in order of the first initialization segment, how frames are placed, whether a changeType waits for
 -- its initialization segment ("pending initialization segment for changeType flag"), and the gap across which ranges join.
@@ -56,45 +55,33 @@ room_of spare ts = least_room (map (λ t. spare t.store) ts)
 -- across the same gap
 pub record IsSteady (tracks : List TrackState) (gaps : List ℤ) (settings : Settings) (gap : ℤ) : Type 0 where
   pub kept : AreKept tracks
-  pub low : pos 0 ≤ℤ settings.window_start
-  pub ends : settings.window_end ≢ Nan
+  pub window_start : pos 0 ≤ℤ settings.window_start
+  pub window_end : settings.window_end ≢ Nan
   pub gaps_are : AllByRecursion (λ g. g ≡ gap) gaps
-  pub forward : pos 0 ≤ℤ gap
+  pub gap_not_negative : pos 0 ≤ℤ gap
 
 -- each stored frame ends at or before the duration; without a duration there is none
 abbrev pub EndsWithin : Moment → List TrackState → Type 0
 EndsWithin Nan ts = AllByRecursion (λ t. t.frames ≡ []) ts
-EndsWithin (At d) ts = EndBy d ts
+EndsWithin (At d) ts = AreEndedBy d ts
 EndsWithin Infinite ts = Unit {0}
 
--- ---- what is brought about at the media source
+-- a duration is not after another one: what ends within it ends within the other
+abbrev pub IsNotAfter : Moment → Moment → Type 0
+IsNotAfter d e = (ts : List TrackState) → EndsWithin d ts → EndsWithin e ts
 
-abbrev pub nothing_brought : Moment → Brought
-nothing_brought d = record { changes = 0; duration = d; activated = false }
+-- ---- what comes of an item at the media source
 
-abbrev pub same_moment : Moment → Moment → Bool
-same_moment Nan Nan = true
-same_moment Nan (At b) = false
-same_moment Nan Infinite = false
-same_moment (At a) Nan = false
-same_moment (At a) (At b) = int_eq a b
-same_moment (At a) Infinite = false
-same_moment Infinite Nan = false
-same_moment Infinite (At b) = false
-same_moment Infinite Infinite = true
+-- nothing, where this is the duration
+abbrev pub no_effect : Moment → SourceEffect
+no_effect d = record { duration_changes = 0; duration = d; activated = false }
 
 -- duration change (Media Source Extensions, 2.4.6): to the duration that it has already, nothing
-abbrev pub change_duration : Moment → Brought → Brought
-change_duration d b = if same_moment d b.duration then b else record { changes = b.changes + 1; duration = d; activated = b.activated }
+abbrev pub with_duration : Moment → SourceEffect → SourceEffect
+with_duration d b = if same_moment d b.duration then b else record { duration_changes = b.duration_changes + 1; duration = d; activated = b.activated }
 
--- the greater of the duration and a time
-abbrev pub at_least : Moment → ℤ → Moment
-at_least Nan t = At t
-at_least (At d) t = At (int_max d t)
-at_least Infinite t = Infinite
-
--- What an item did: it went well, or it breaks the byte stream, which is an append error; what came before the fault
--- stands.
-pub data Taken : Type 0 where
-  Went : Media → Brought → Taken
-  Broke : MediaFault → Media → Brought → Taken
+-- What an item does to the media and at the source: all of it, or that it breaks the byte stream, which is an append
+-- error; what came before the fault stands.
+pub data MediaResult : Type 0 where
+  Done : Media → SourceEffect → MediaResult
+  AppendError : MediaFault → Media → SourceEffect → MediaResult

@@ -3,14 +3,16 @@
 ghost use Rattle.std.specs.Prelude.{◌≡◌, ◌≤ℤ◌, ℤ, pos, Bool, true, false, map, slice_get, IfSome, IfOk, OnOk};
 ghost use Rattle.std.specs.List.{AllByRecursion};
 ghost use Rattle.mse_base.specs.Bridging.{IsRanges};
+ghost use Rattle.std.specs.Int.{int_max};
 ghost use Rattle.mse_base.specs.Spans.{IsNormalized};
-ghost use Rattle.track_store.specs.Frames.{greatest, ranges_of};
+ghost use Rattle.mse_base.specs.Meets.{meet_of_all};
+ghost use Rattle.mse_base.specs.Moments.{greatest};
+ghost use Rattle.track_store.specs.Frames.{ranges_of};
 ghost use Rattle.track_store.specs.Kept.{gaps_of};
 ghost use Rattle.track_store.specs.State.{state_of};
-ghost use Rattle.track_buffers.specs.Buffered.{shared, shared_by_all, last_end, last_ends, grown_last, grown_to, grown, ranges_in};
+ghost use Rattle.track_buffers.specs.Buffered.{last_end, last_ends, with_last_end, with_end, with_common_end, ranges_in};
 
-use crate::answers::later;
-use crate::looks::later_of;
+use crate::looks::greatest_of_two;
 use mse_base::{OutOfMemory, Ranges, Span, Ticks};
 use std::alloc::Global;
 use track_store::{FrameStore, Track, Tracks};
@@ -34,24 +36,30 @@ fn highest_range_end<S: FrameStore>(tracks: &Tracks<S>) -> Option<Ticks>
 {
     let mut best = None;
     for i in 0..tracks.len() {
-        best = later_of(best, last_end_at(tracks, i));
+        best = greatest_of_two(best, last_end_at(tracks, i));
     }
     best
 }
 
+/// A span that lasts to an end, if it ends before.
+pub(crate) fn span_up_to(span: Span, end: Ticks) -> Span
+    ensures { result ≡ record { start = span.start; end = int_max span.end end } }
+{
+    Span {
+        start: span.start,
+        end: span.end.max(end),
+    }
+}
+
 /// The last range lasts to an end, if it ends before.
-fn grow(ranges: &mut Ranges, end: Ticks) -> Result<(), OutOfMemory>
+fn extend_last(ranges: &mut Ranges, end: Ticks) -> Result<(), OutOfMemory>
     requires { IsNormalized ranges.old.spans }
-    ensures { OnOk result (ranges.new.spans ≡ grown_last end ranges.old.spans) }
+    ensures { OnOk result (ranges.new.spans ≡ with_last_end end ranges.old.spans) }
 {
     match ranges.last() {
         Some(last) => {
             ranges.reserve(1)?;
-            let span = Span {
-                start: last.start,
-                end: later(last.end, end),
-            };
-            ranges.add_span(span, Ticks::zero());
+            ranges.add_span(span_up_to(last, end), Ticks::zero());
             Ok(())
         }
         None => Ok(()),
@@ -59,14 +67,17 @@ fn grow(ranges: &mut Ranges, end: Ticks) -> Result<(), OutOfMemory>
 }
 
 /// The ranges of a track, of which the last lasts to an end, where there is one.
-fn grown_ranges<S: FrameStore>(track: &Track<S>, end: &Option<Ticks>) -> Result<Ranges, OutOfMemory>
+fn ranges_with_end<S: FrameStore>(
+    track: &Track<S>,
+    end: &Option<Ticks>,
+) -> Result<Ranges, OutOfMemory>
     requires { pos 0 ≤ℤ S.gap track.now.store }
     ensures { IfOk result (λ r. r.spans
-        ≡ grown_to end.now (ranges_of (S.gap track.now.store) (S.frames track.now.store))) }
+        ≡ with_end end.now (ranges_of (S.gap track.now.store) (S.frames track.now.store))) }
 {
     let mut ranges = track.store.copy_ranges()?;
     if let Some(end) = end {
-        grow(&mut ranges, *end)?;
+        extend_last(&mut ranges, *end)?;
     }
     Ok(ranges)
 }
@@ -79,23 +90,23 @@ fn ranges_at<S: FrameStore>(
 ) -> Result<Ranges, OutOfMemory>
     requires { AllByRecursion (λ g. pos 0 ≤ℤ g) (gaps_of S.gap tracks.now.items) }
     ensures { IfOk result (λ r. IfSome (slice_get
-        (map (grown_to end.now) (ranges_in S.frames S.gap tracks.now.items)) i) (λ x. r.spans ≡ x)) }
+        (map (with_end end.now) (ranges_in S.frames S.gap tracks.now.items)) i) (λ x. r.spans ≡ x)) }
 {
     match tracks.get(i) {
-        Some(track) => grown_ranges(track, end),
+        Some(track) => ranges_with_end(track, end),
         None => Ok(Ranges::new(alloc)),
     }
 }
 
 /// The ticks that all tracks have, where the last range of each lasts to an end.
-fn shared_by_all<S: FrameStore>(
+fn meet_of_all<S: FrameStore>(
     tracks: &Tracks<S>,
     alloc: Global,
     end: &Option<Ticks>,
 ) -> Result<Ranges, OutOfMemory>
     requires { AllByRecursion (λ g. pos 0 ≤ℤ g) (gaps_of S.gap tracks.now.items) }
     ensures { IfOk result (λ r. r.spans
-        ≡ shared_by_all (map (grown_to end.now) (ranges_in S.frames S.gap tracks.now.items))) }
+        ≡ meet_of_all (map (with_end end.now) (ranges_in S.frames S.gap tracks.now.items))) }
 {
     if tracks.len() == 0 {
         return Ok(Ranges::new(alloc));
@@ -110,9 +121,9 @@ fn shared_by_all<S: FrameStore>(
 
 /// The end that the last range of each track lasts to: where the source is ended, the highest of
 /// all.
-fn common_end<S: FrameStore>(tracks: &Tracks<S>, ended: bool) -> Option<Ticks>
-    ensures { map (grown_to result) (ranges_in S.frames S.gap tracks.now.items)
-        ≡ grown ended (ranges_in S.frames S.gap tracks.now.items) }
+pub(crate) fn common_end<S: FrameStore>(tracks: &Tracks<S>, ended: bool) -> Option<Ticks>
+    ensures { map (with_end result) (ranges_in S.frames S.gap tracks.now.items)
+        ≡ with_common_end ended (ranges_in S.frames S.gap tracks.now.items) }
 {
     if ended {
         highest_range_end(tracks)
@@ -129,8 +140,8 @@ pub(crate) fn buffered_of<S: FrameStore>(
 ) -> Result<Ranges, OutOfMemory>
     requires { AllByRecursion (λ g. pos 0 ≤ℤ g) (gaps_of S.gap tracks.now.items) }
     ensures { IfOk result (λ r. r.spans
-        ≡ shared_by_all (grown ended (ranges_in S.frames S.gap tracks.now.items))) }
+        ≡ meet_of_all (with_common_end ended (ranges_in S.frames S.gap tracks.now.items))) }
 {
     let end = common_end(tracks, ended);
-    shared_by_all(tracks, alloc, &end)
+    meet_of_all(tracks, alloc, &end)
 }

@@ -1,25 +1,27 @@
-ghost use Rattle.std.specs.Prelude.{◌≡◌, ◌≢◌, ◌≤◌, ◌<◌, ◌^◌, ◌+◌, ℤ, pos, ◌≤ℤ◌, Bool, true, length, IfOk, OnOk};
+ghost use Rattle.std.specs.Prelude.{◌≡◌, ◌≢◌, ◌≤◌, ◌<◌, ◌^◌, ◌+◌, ℤ, pos, ◌≤ℤ◌, Bool, true, find, length, None, IfOk, OnOk};
 ghost use Rattle.std.specs.List.{AllByRecursion};
 ghost use Rattle.mse_base.specs.declared.ticks.Moment.{Moment};
+ghost use Rattle.mse_base.specs.Spans.{reaches};
 ghost use Rattle.track_store.specs.Kept.{AreKept};
 ghost use Rattle.track_store.specs.Sound.{Sound};
 ghost use Rattle.track_store.specs.State.{states_of};
-ghost use Rattle.track_buffers.specs.Answers.{taken, brought_by};
-ghost use Rattle.track_buffers.specs.Media.{awaits_first, EndsWithin};
+ghost use Rattle.track_buffers.specs.Effects.{media_result, source_effect};
+ghost use Rattle.track_buffers.specs.Media.{awaits_first, EndsWithin, IsNotAfter};
 ghost use Rattle.track_buffers.specs.Settings.{new_media, with_mode, with_offset, with_window_start, with_window_end, with_whole_window, with_container};
-ghost use Rattle.track_buffers.specs.Initialized.{media_tracks, initialized};
-ghost use Rattle.track_buffers.specs.Frames.{framed, Flushed, flushed, parser_reset, without_frames, evicted_media, used_in, highest_start_in, highest_end_in};
+ghost use Rattle.track_buffers.specs.Initialized.{media_tracks, init_fault, init_result};
+ghost use Rattle.track_buffers.specs.Frames.{frame_result, FlushResult, flush_result, media_after_reset, media_after_removal, media_after_eviction, used_in, highest_start_in, highest_end_in};
 ghost use Rattle.track_buffers.specs.Buffered.{buffered_of, IsBuffered};
 ghost use Rattle.track_buffers.specs.Views.{track_views_of};
 
-use crate::answers::{Brought, Taken, brought_then, nothing_brought};
 use crate::buffered::buffered_of;
+use crate::effects::{MediaEffect, MediaFault, SourceEffect, effect_of_both, no_effect};
 use crate::frames::{place_of, process_at, unset_all};
-use crate::incoming::{init_fault, take_tracks, told_duration};
+use crate::holding::span_holding;
+use crate::incoming::{init_fault, segment_effect, take_tracks};
 use crate::looks::{highest_end, highest_start, track_views};
 use crate::rooms::reserve_all;
 use eviction::evict;
-use mse_base::{CodedFrame, Moment, OutOfMemory, Presentation, Ranges, Ticks};
+use mse_base::{CodedFrame, Moment, OutOfMemory, Presentation, Ranges, Span, Ticks};
 use mse_calls::TrackViews;
 use range_removal::remove_frames;
 use std::alloc::Global;
@@ -108,27 +110,37 @@ impl<S: FrameStore> TrackBuffers<S> {
         self.tracks.len() == 0
     }
 
+    /// The fault by which an initialization segment is refused, if it is (Media Source Extensions,
+    /// 3.5.7).
+    pub fn init_fault(&self, presentation: &Presentation) -> Option<MediaFault>
+        ensures { result ≡ init_fault presentation.now self.now.media }
+    {
+        init_fault(&self.tracks, self.pending, presentation)
+    }
+
     /// An initialization segment is received (Media Source Extensions, 3.5.7). `duration` is that
     /// of the media source, NaN where it has none. The first one makes the track buffers.
-    pub fn receive(&mut self, presentation: &Presentation, duration: Moment) -> Taken
-        requires { awaits_first self.old.media ≡ true
+    pub fn receive(&mut self, presentation: &Presentation, duration: Moment) -> MediaEffect
+        requires places { init_fault presentation.now self.old.media ≡ None
+            → awaits_first self.old.media ≡ true
             → length (media_tracks presentation.now) ≤ self.old.places }
-        ensures taken { taken result self.new.media ≡ initialized presentation.now self.old.media duration }
-        ensures few { (brought_by result).changes ≤ 1 }
-        ensures ends { EndsWithin duration self.old.media.tracks
-            → EndsWithin (brought_by result).duration self.new.media.tracks }
+        ensures result { media_result result self.new.media ≡ init_result presentation.now self.old.media duration }
+        ensures changes { (source_effect result).duration_changes ≤ 1 }
+        ensures within_duration { EndsWithin duration self.old.media.tracks
+            → EndsWithin (source_effect result).duration self.new.media.tracks }
+        ensures no_fall { IsNotAfter duration (source_effect result).duration }
     {
-        let brought = told_duration(presentation, &duration);
+        let effect = segment_effect(presentation, &duration);
         match init_fault(&self.tracks, self.pending, presentation) {
-            Some(fault) => Taken::Broke(fault, brought),
+            Some(fault) => MediaEffect::AppendError(fault, effect),
             None => {
                 let activated = self.tracks.len() == 0;
                 let news = presentation.tracks.as_slice();
                 take_tracks(&mut self.tracks, self.alloc, self.gap, news);
                 self.pending = false;
-                Taken::Went(Brought {
-                    changes: brought.changes,
-                    duration: brought.duration,
+                MediaEffect::Done(SourceEffect {
+                    duration_changes: effect.duration_changes,
+                    duration: effect.duration,
                     activated,
                 })
             }
@@ -138,49 +150,55 @@ impl<S: FrameStore> TrackBuffers<S> {
     /// A coded frame of the byte stream is processed (Media Source Extensions, 3.5.8). `duration`
     /// is that of the media source, NaN where it has none. A frame of no track buffer is passed
     /// over.
-    pub fn process(&mut self, frame: CodedFrame, duration: Moment) -> Taken
+    pub fn process(&mut self, frame: CodedFrame, duration: Moment) -> MediaEffect
         requires room { 1 ≤ self.old.room }
-        requires forward { pos 0 ≤ℤ frame.dur }
-        ensures taken { taken result self.new.media ≡ framed frame self.old.media duration }
-        ensures few { (brought_by result).changes ≤ 1 }
-        ensures ends { EndsWithin duration self.old.media.tracks
-            → EndsWithin (brought_by result).duration self.new.media.tracks }
+        requires dur { pos 0 ≤ℤ frame.dur }
+        ensures result { media_result result self.new.media ≡ frame_result frame self.old.media duration }
+        ensures changes { (source_effect result).duration_changes ≤ 1 }
+        ensures within_duration { EndsWithin duration self.old.media.tracks
+            → EndsWithin (source_effect result).duration self.new.media.tracks }
+        ensures no_fall { IsNotAfter duration (source_effect result).duration }
         ensures room { self.old.room ≤ self.new.room + 1 }
+        ensures places { self.new.places ≡ self.old.places }
     {
         match place_of(&self.tracks, frame.track_id) {
             Some(i) => process_at(&mut self.tracks, &mut self.settings, i, frame, &duration),
-            None => Taken::Went(nothing_brought(&duration)),
+            None => MediaEffect::Done(no_effect(&duration)),
         }
     }
 
     /// Frames that are ready are processed one after the other (Media Source Extensions, 3.5.2,
     /// step 1). `duration` is that of the media source, NaN where it has none. A frame whose times
     /// are out of range, or that passes a count, ends this, and nothing else comes of it.
-    pub fn flush(&mut self, frames: Vec<CodedFrame>, duration: Moment) -> Brought
+    pub fn flush(&mut self, frames: Vec<CodedFrame>, duration: Moment) -> SourceEffect
         requires room { length frames.items ≤ self.old.room }
-        requires forward { AllByRecursion (λ f. pos 0 ≤ℤ f.dur) frames.items }
-        ensures flushed { flushed frames.items self.old.media duration
-            ≡ record { media = self.new.media; brought = result } }
-        ensures few { result.changes ≤ length frames.items }
-        ensures ends { EndsWithin duration self.old.media.tracks
+        requires durs { AllByRecursion (λ f. pos 0 ≤ℤ f.dur) frames.items }
+        ensures result { flush_result frames.items self.old.media duration
+            ≡ record { media = self.new.media; effect = result } }
+        ensures changes { result.duration_changes ≤ length frames.items }
+        ensures within_duration { EndsWithin duration self.old.media.tracks
             → EndsWithin result.duration self.new.media.tracks }
+        ensures no_fall { IsNotAfter duration result.duration }
+        ensures room { self.old.room ≤ self.new.room + length frames.items }
+        ensures places { self.new.places ≡ self.old.places }
     {
-        let mut brought = nothing_brought(&duration);
+        let mut effect = no_effect(&duration);
         for frame in frames {
-            match self.process(frame, brought.duration) {
-                Taken::Went(more) => brought = brought_then(&brought, &more),
-                Taken::Broke(_, _) => return brought,
+            match self.process(frame, effect.duration) {
+                MediaEffect::Done(more) => effect = effect_of_both(&effect, &more),
+                MediaEffect::AppendError(_, _) => return effect,
             }
         }
-        brought
+        effect
     }
 
     /// Resets the parser behind the frames that are ready (Media Source Extensions, 3.5.2).
     pub fn reset_parser(&mut self)
-        ensures media { self.new.media ≡ parser_reset self.old.media }
-        ensures ends { (duration : Moment) → EndsWithin duration self.old.media.tracks
+        ensures media { self.new.media ≡ media_after_reset self.old.media }
+        ensures within_duration { (duration : Moment) → EndsWithin duration self.old.media.tracks
             → EndsWithin duration self.new.media.tracks }
         ensures room { self.old.room ≤ self.new.room }
+        ensures places { self.new.places ≡ self.old.places }
     {
         unset_all(&mut self.tracks);
         if self.settings.sequence {
@@ -191,10 +209,11 @@ impl<S: FrameStore> TrackBuffers<S> {
     /// Removes frames (Media Source Extensions, 3.5.9). `duration` is that of the media source, NaN
     /// where it has none.
     pub fn remove(&mut self, start: Ticks, end: Moment, duration: Moment)
-        ensures media { self.new.media ≡ without_frames start end duration self.old.media }
-        ensures ends { (moment : Moment) → EndsWithin moment self.old.media.tracks
+        ensures media { self.new.media ≡ media_after_removal start end duration self.old.media }
+        ensures within_duration { (moment : Moment) → EndsWithin moment self.old.media.tracks
             → EndsWithin moment self.new.media.tracks }
         ensures room { self.old.room ≤ self.new.room }
+        ensures places { self.new.places ≡ self.old.places }
     {
         remove_frames(&mut self.tracks, start, end, duration);
     }
@@ -202,10 +221,11 @@ impl<S: FrameStore> TrackBuffers<S> {
     /// Makes room for new bytes, where the source buffer is full (Media Source Extensions,
     /// 3.5.10).
     pub fn evict(&mut self, position: Ticks, new_bytes: u64, quota: u64, duration: Moment)
-        ensures media { self.new.media ≡ evicted_media position new_bytes quota duration self.old.media }
-        ensures ends { (moment : Moment) → EndsWithin moment self.old.media.tracks
+        ensures media { self.new.media ≡ media_after_eviction position new_bytes quota duration self.old.media }
+        ensures within_duration { (moment : Moment) → EndsWithin moment self.old.media.tracks
             → EndsWithin moment self.new.media.tracks }
         ensures room { self.old.room ≤ self.new.room }
+        ensures places { self.new.places ≡ self.old.places }
     {
         evict(&mut self.tracks, position, new_bytes, quota, duration);
     }
@@ -213,8 +233,8 @@ impl<S: FrameStore> TrackBuffers<S> {
     /// How frames are placed.
     pub fn settings(&self) -> Settings
         ensures settings { result ≡ self.now.media.settings }
-        ensures low { pos 0 ≤ℤ result.window_start }
-        ensures end { result.window_end ≢ Moment.Nan }
+        ensures window_start { pos 0 ≤ℤ result.window_start }
+        ensures window_end { result.window_end ≢ Moment.Nan }
     {
         self.settings
     }
@@ -327,6 +347,14 @@ impl<S: FrameStore> TrackBuffers<S> {
         buffered_of(&self.tracks, self.alloc, ended)
     }
 
+    /// The buffered range with `start <= t` and `t <= end`, as [`buffered`](Self::buffered) has it;
+    /// `None` exactly where there is none. It takes no memory.
+    pub fn span_holding(&self, t: Ticks, ended: bool) -> Option<Span>
+        ensures { result ≡ find (reaches t) (buffered_of ended self.now.media) }
+    {
+        span_holding(&self.tracks, t, ended)
+    }
+
     /// What the track buffers hold.
     pub fn track_views(&self) -> Result<TrackViews, OutOfMemory>
         ensures { IfOk result (λ v. v ≡ track_views_of self.now.media) }
@@ -340,9 +368,9 @@ impl<S: FrameStore> TrackBuffers<S> {
     pub fn sound(&self)
         ensures kept { AreKept self.now.media.tracks }
         ensures sound { AllByRecursion Sound self.now.media.tracks }
-        ensures low { pos 0 ≤ℤ self.now.media.settings.window_start }
-        ensures end { self.now.media.settings.window_end ≢ Moment.Nan }
-        ensures forward { pos 0 ≤ℤ self.now.media.gap }
+        ensures window_start { pos 0 ≤ℤ self.now.media.settings.window_start }
+        ensures window_end { self.now.media.settings.window_end ≢ Moment.Nan }
+        ensures gap { pos 0 ≤ℤ self.now.media.gap }
     {
         let _tracks = &self.tracks;
     }

@@ -4,12 +4,12 @@ ghost use Rattle.std.specs.Prelude.{◌≡◌, ◌≤◌, ◌<◌, ◌+◌, ℕ,
 ghost use Rattle.mse_base.specs.declared.ticks.Moment.{Moment};
 ghost use Rattle.track_store.specs.Kept.{AreKept, HasRoom, gaps_of};
 ghost use Rattle.track_store.specs.State.{state_of, states_of};
-ghost use Rattle.range_removal.specs.Numbered.{KeepsRoom};
-ghost use Rattle.track_buffers.specs.Answers.{taken, brought_by};
-ghost use Rattle.track_buffers.specs.Media.{media_of, EndsWithin};
-ghost use Rattle.track_buffers.specs.Frames.{has_number, place_of, framed_at, unset_track};
+ghost use Rattle.range_removal.specs.Rooms.{IsRoomKept};
+ghost use Rattle.track_buffers.specs.Effects.{media_result, source_effect};
+ghost use Rattle.track_buffers.specs.Media.{media_of, EndsWithin, IsNotAfter};
+ghost use Rattle.track_buffers.specs.Frames.{has_number, place_of, frame_result_at, unset_track};
 
-use crate::answers::{MediaFault, Taken, at_least, changed_duration, nothing_brought};
+use crate::effects::{MediaEffect, MediaFault, duration_change, no_effect};
 use frame_rules::{Placed, place};
 use mse_base::{CodedFrame, Moment};
 use track_store::{FrameStore, Settings, Track, Tracks};
@@ -43,33 +43,35 @@ pub(crate) fn process_at<S: FrameStore>(
     i: usize,
     frame: CodedFrame,
     duration: &Moment,
-) -> Taken
+) -> MediaEffect
     requires in_range { i < length tracks.old.items }
     requires room { HasRoom S.spare 1 tracks.old.items }
     requires kept { AreKept (states_of S.frames tracks.old.items) }
-    requires low { pos 0 ≤ℤ settings.old.window_start }
-    requires forward { pos 0 ≤ℤ frame.dur }
-    ensures taken { (pending : Bool) (gap : ℤ)
-        → taken result (media_of S.frames tracks.new.items settings.new pending gap)
-        ≡ framed_at (Some i) frame (media_of S.frames tracks.old.items settings.old pending gap) duration.now }
-    ensures few { (brought_by result).changes ≤ 1 }
+    requires window_start { pos 0 ≤ℤ settings.old.window_start }
+    requires dur { pos 0 ≤ℤ frame.dur }
+    ensures result { (pending : Bool) (gap : ℤ)
+        → media_result result (media_of S.frames tracks.new.items settings.new pending gap)
+        ≡ frame_result_at (Some i) frame (media_of S.frames tracks.old.items settings.old pending gap) duration.now }
+    ensures changes { (source_effect result).duration_changes ≤ 1 }
     ensures kept { AreKept (states_of S.frames tracks.new.items) }
-    ensures low { pos 0 ≤ℤ settings.new.window_start }
-    ensures end { settings.new.window_end ≡ settings.old.window_end }
-    ensures ends { EndsWithin duration.now (states_of S.frames tracks.old.items)
-        → EndsWithin (brought_by result).duration (states_of S.frames tracks.new.items) }
+    ensures window_start { pos 0 ≤ℤ settings.new.window_start }
+    ensures window_end { settings.new.window_end ≡ settings.old.window_end }
+    ensures within_duration { EndsWithin duration.now (states_of S.frames tracks.old.items)
+        → EndsWithin (source_effect result).duration (states_of S.frames tracks.new.items) }
+    ensures no_fall { IsNotAfter duration.now (source_effect result).duration }
     ensures room { (n : ℕ) → HasRoom S.spare (n + 1) tracks.old.items
         → HasRoom S.spare n tracks.new.items }
     ensures gaps { gaps_of S.gap tracks.new.items ≡ gaps_of S.gap tracks.old.items }
+    ensures places { tracks.new.spare ≡ tracks.old.spare }
 {
     match place(tracks, settings, i, frame) {
         Placed::Stored => {
-            let raised = at_least(duration, settings.group_end);
-            Taken::Went(changed_duration(&raised, duration))
+            let raised = duration.at_least(settings.group_end);
+            MediaEffect::Done(duration_change(&raised, duration))
         }
-        Placed::Dropped(_) => Taken::Went(nothing_brought(duration)),
-        Placed::TimeRange => Taken::Broke(MediaFault::TimeRange, nothing_brought(duration)),
-        Placed::Counts => Taken::Broke(MediaFault::Counts, nothing_brought(duration)),
+        Placed::Dropped(_) => MediaEffect::Done(no_effect(duration)),
+        Placed::TimeRange => MediaEffect::AppendError(MediaFault::TimeRange, no_effect(duration)),
+        Placed::Counts => MediaEffect::AppendError(MediaFault::Counts, no_effect(duration)),
     }
 }
 
@@ -78,15 +80,16 @@ fn unset<S: FrameStore>(track: &mut Track<S>)
     ensures spare { S.spare track.old.store ≤ S.spare track.new.store }
     ensures gap { S.gap track.new.store ≡ S.gap track.old.store }
 {
-    track.marks = track.marks.unset();
+    track.marks = track.marks.unset_marks();
 }
 
 fn unset_at<S: FrameStore>(tracks: &mut Tracks<S>, i: usize)
     ensures states { IfSome (slice_get (states_of S.frames tracks.old.items) i)
         (λ t. states_of S.frames tracks.new.items
         ≡ slice_set (states_of S.frames tracks.old.items) i (unset_track t)) }
-    ensures spare { KeepsRoom S.spare tracks.old.items tracks.new.items }
+    ensures spare { IsRoomKept S.spare tracks.old.items tracks.new.items }
     ensures gaps { gaps_of S.gap tracks.new.items ≡ gaps_of S.gap tracks.old.items }
+    ensures places { tracks.new.spare ≡ tracks.old.spare }
 {
     match tracks.get_mut(i) {
         Some(track) => unset(track),
@@ -103,6 +106,7 @@ pub(crate) fn unset_all<S: FrameStore>(tracks: &mut Tracks<S>)
     ensures room { (n : ℕ) → HasRoom S.spare n tracks.old.items
         → HasRoom S.spare n tracks.new.items }
     ensures gaps { gaps_of S.gap tracks.new.items ≡ gaps_of S.gap tracks.old.items }
+    ensures places { tracks.new.spare ≡ tracks.old.spare }
 {
     for i in 0..tracks.len() {
         unset_at(tracks, i);

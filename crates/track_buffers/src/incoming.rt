@@ -7,9 +7,9 @@ ghost use Rattle.track_store.specs.declared.tracks.Settings.{Settings};
 ghost use Rattle.track_store.specs.Kept.{AreKept, gaps_of};
 ghost use Rattle.track_store.specs.State.{state_of, states_of};
 ghost use Rattle.track_buffers.specs.Media.{media_of, is_empty_list, EndsWithin};
-ghost use Rattle.track_buffers.specs.Initialized.{is_media_track, media_tracks, told_duration, fits, init_fault, new_track, tracks_after};
+ghost use Rattle.track_buffers.specs.Initialized.{is_media_track, media_tracks, segment_effect, has_same_tracks, init_fault, new_track, tracks_after};
 
-use crate::answers::{Brought, MediaFault, changed_duration, nothing_brought};
+use crate::effects::{MediaFault, SourceEffect, duration_change, no_effect};
 use crate::kinds::{all_known, count_new, is_media, media_track_count};
 use crate::partners::{all_fit, count_held, renew_all};
 use mse_base::{Kind, Moment, Presentation, Ticks, TrackInfo};
@@ -17,18 +17,18 @@ use std::alloc::Global;
 use track_store::{FrameStore, Marks, Track, Tracks};
 
 /// Step 1: what the segment tells of the duration.
-pub(crate) fn told_duration(presentation: &Presentation, duration: &Moment) -> Brought
-    ensures { result ≡ told_duration presentation.now duration.now }
+pub(crate) fn segment_effect(presentation: &Presentation, duration: &Moment) -> SourceEffect
+    ensures { result ≡ segment_effect presentation.now duration.now }
 {
     match duration {
-        Moment::Nan => changed_duration(&presentation.duration, duration),
-        Moment::At(_) | Moment::Infinite => nothing_brought(duration),
+        Moment::Nan => duration_change(&presentation.duration, duration),
+        Moment::At(_) | Moment::Infinite => no_effect(duration),
     }
 }
 
 /// Whether the tracks of a segment are those of the buffer.
-fn fits<S: FrameStore>(tracks: &Tracks<S>, pending: bool, news: &[TrackInfo]) -> bool
-    ensures { (settings : Settings) (gap : ℤ) → result ≡ fits (filter is_media_track news.now)
+fn has_same_tracks<S: FrameStore>(tracks: &Tracks<S>, pending: bool, news: &[TrackInfo]) -> bool
+    ensures { (settings : Settings) (gap : ℤ) → result ≡ has_same_tracks (filter is_media_track news.now)
         (media_of S.frames tracks.now.items settings pending gap) }
 {
     count_new(news, Kind::Video) == count_held(tracks, Kind::Video)
@@ -52,7 +52,7 @@ pub(crate) fn init_fault<S: FrameStore>(
     if !all_known(news) {
         return Some(MediaFault::UnknownCodec);
     }
-    if tracks.len() == 0 || fits(tracks, pending, news) {
+    if tracks.len() == 0 || has_same_tracks(tracks, pending, news) {
         None
     } else {
         Some(MediaFault::TracksDiffer)
@@ -76,7 +76,7 @@ fn new_track<S: FrameStore>(alloc: Global, gap: Ticks, track: &TrackInfo) -> Tra
 /// A track buffer is made for a video or audio track.
 fn add_one<S: FrameStore>(tracks: &mut Tracks<S>, alloc: Global, gap: Ticks, track: &TrackInfo)
     requires room { length (filter is_media_track (track.now ∷ [])) ≤ tracks.old.spare }
-    requires forward { pos 0 ≤ℤ gap }
+    requires gap { pos 0 ≤ℤ gap }
     ensures states { states_of S.frames tracks.new.items ≡ states_of S.frames tracks.old.items
         ++ map new_track (filter is_media_track (track.now ∷ [])) }
     ensures room { tracks.old.spare
@@ -92,7 +92,7 @@ fn add_one<S: FrameStore>(tracks: &mut Tracks<S>, alloc: Global, gap: Ticks, tra
 /// Step 5: a track buffer for each video or audio track.
 fn add_all<S: FrameStore>(tracks: &mut Tracks<S>, alloc: Global, gap: Ticks, news: &[TrackInfo])
     requires room { length (filter is_media_track news.now) ≤ tracks.old.spare }
-    requires forward { pos 0 ≤ℤ gap }
+    requires gap { pos 0 ≤ℤ gap }
     ensures states { states_of S.frames tracks.new.items ≡ states_of S.frames tracks.old.items
         ++ map new_track (filter is_media_track news.now) }
     ensures gaps { AllByRecursion (λ g. g ≡ gap) (gaps_of S.gap tracks.old.items)
@@ -112,12 +112,12 @@ pub(crate) fn take_tracks<S: FrameStore>(
 )
     requires room { is_empty_list (states_of S.frames tracks.old.items) ≡ true
         → length (filter is_media_track news.now) ≤ tracks.old.spare }
-    requires forward { pos 0 ≤ℤ gap }
+    requires gap { pos 0 ≤ℤ gap }
     ensures states { states_of S.frames tracks.new.items
         ≡ tracks_after (filter is_media_track news.now) (states_of S.frames tracks.old.items) }
     ensures kept { AreKept (states_of S.frames tracks.old.items)
         → AreKept (states_of S.frames tracks.new.items) }
-    ensures ends { (duration : Moment) → EndsWithin duration (states_of S.frames tracks.old.items)
+    ensures within_duration { (duration : Moment) → EndsWithin duration (states_of S.frames tracks.old.items)
         → EndsWithin duration (states_of S.frames tracks.new.items) }
     ensures gaps { AllByRecursion (λ g. g ≡ gap) (gaps_of S.gap tracks.old.items)
         → AllByRecursion (λ g. g ≡ gap) (gaps_of S.gap tracks.new.items) }

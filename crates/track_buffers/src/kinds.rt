@@ -1,7 +1,7 @@
 ghost use Rattle.std.specs.Prelude.{◌≡◌, length, map, filter};
 ghost use Rattle.std.specs.List.{list_all};
 ghost use Rattle.bmff_fragment.specs.Plans.{is_media as is_media_kind};
-ghost use Rattle.track_buffers.specs.Initialized.{is_media_track, media_tracks, same_kind, count_of, new_kinds, is_known, is_of_kind};
+ghost use Rattle.track_buffers.specs.Initialized.{is_media_track, media_tracks, count_of, new_kinds, is_known, is_of_kind};
 
 use mse_base::{Kind, Presentation, TrackInfo};
 use mse_types::codec_known;
@@ -13,17 +13,6 @@ pub(crate) fn is_media(track: &TrackInfo) -> bool
     match track.kind {
         Kind::Video | Kind::Audio => true,
         Kind::Other => false,
-    }
-}
-
-pub(crate) fn same_kind(a: Kind, b: Kind) -> bool
-    ensures { result ≡ same_kind a b }
-{
-    match (a, b) {
-        (Kind::Video, Kind::Video) | (Kind::Audio, Kind::Audio) | (Kind::Other, Kind::Other) => {
-            true
-        }
-        _ => false,
     }
 }
 
@@ -53,7 +42,7 @@ pub(crate) fn count_new(tracks: &[TrackInfo], kind: Kind) -> usize
 {
     let mut count = 0;
     for track in tracks {
-        if is_media(track) && same_kind(kind, track.kind) {
+        if is_media(track) && kind == track.kind {
             count += 1;
         }
     }

@@ -1,18 +1,41 @@
 //! What follows from the definitions of this crate: functions that do nothing, with the laws as
 //! their contracts.
 
-ghost use Rattle.std.specs.Prelude.{◌≡◌, ℤ, pos, ◌≤ℤ◌, Bool, List};
+ghost use Rattle.std.specs.Prelude.{◌≡◌, ◌++◌, ℤ, pos, ◌≤ℤ◌, Bool, List, [], None, Some};
+ghost use Rattle.std.specs.List.{AllByRecursion};
 ghost use Rattle.mse_base.specs.declared.span.Span.{Span};
-ghost use Rattle.mse_base.specs.Spans.{IsNormalized, Met};
-ghost use Rattle.track_buffers.specs.Media.{Media};
-ghost use Rattle.track_buffers.specs.Buffered.{shared, buffered_of, IsBuffered};
-
-/// What two normalized lists of ranges share is the normalized list of the ticks that both have.
-pub fn sharing()
-    ensures { (xs ys : List Span) → IsNormalized xs → IsNormalized ys → Met xs ys (shared xs ys) }
-{}
+ghost use Rattle.mse_base.specs.declared.ticks.Moment.{Moment};
+ghost use Rattle.mse_base.specs.Moments.{greater_moment};
+ghost use Rattle.mse_base.specs.Spans.{IsNormalized, Joined};
+ghost use Rattle.track_buffers.specs.Media.{Media, EndsWithin, IsNotAfter};
+ghost use Rattle.track_buffers.specs.Frames.{highest_end_in};
+ghost use Rattle.track_buffers.specs.Buffered.{last_up_to, with_last_end, buffered_of, IsBuffered};
 
 /// The buffered ranges cover the ticks that the ranges of all tracks cover.
 pub fn buffered_law()
     ensures { (ended : Bool) (m : Media) → pos 0 ≤ℤ m.gap → IsBuffered ended m (buffered_of ended m) }
+{}
+
+/// Where the last range lasts to an end, the ranges are the normalized list of the ticks that they
+/// have and of those from the start of the last on up to the end.
+pub fn last_end()
+    ensures { (e : ℤ) (ranges : List Span) → IsNormalized ranges
+        → Joined (ranges ++ last_up_to e ranges) (with_last_end e ranges) }
+{}
+
+/// One duration is not after another: of two times, without a duration, without an end, and where
+/// it is raised to a time.
+pub fn durations()
+    ensures times { (d e : ℤ) → d ≤ℤ e → IsNotAfter (Moment.At d) (Moment.At e) }
+    ensures nan { (e : Moment) → IsNotAfter Moment.Nan e }
+    ensures infinite { (d : Moment) → IsNotAfter d Moment.Infinite }
+    ensures raised { (d : Moment) (t : ℤ) → IsNotAfter d (greater_moment d t) }
+{}
+
+/// The highest end bounds the ends of all frames; there is none exactly where no frame is stored.
+pub fn highest_end()
+    ensures bound { (m : Media) (e : ℤ) → highest_end_in m ≡ Some e
+        → EndsWithin (Moment.At e) m.tracks }
+    ensures none { (m : Media) → highest_end_in m ≡ None
+        → AllByRecursion (λ t. t.frames ≡ []) m.tracks }
 {}

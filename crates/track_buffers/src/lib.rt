@@ -5,15 +5,16 @@
 //! It stands on `track_store`, `frame_rules`, `range_removal` and `eviction`, on the plain types of
 //! `mse_base`, `mse_types` and `mse_calls`, and takes from `bmff_fragment` which tracks are media
 //! tracks; it knows nothing else of the byte stream. Its main contract is that of [`TrackBuffers`]: each call makes of the media
-//! what one function on lists of frames says, `initialized`, `framed`, `flushed`, `parser_reset`,
-//! `without_frames` and `evicted_media` of `specs/`. The buffered ranges are the ticks that all
+//! what one function on lists of frames says, `init_result`, `frame_result`, `flush_result`, `media_after_reset`,
+//! `media_after_removal` and `media_after_eviction` of `specs/`. The buffered ranges are the ticks that all
 //! tracks have.
 #![tactic(auto)]
 
-mod answers;
 mod buffered;
 mod buffers;
+mod effects;
 mod frames;
+mod holding;
 mod incoming;
 mod kinds;
 pub mod laws;
@@ -23,6 +24,6 @@ mod rooms;
 #[cfg(test)]
 mod tests;
 
-pub use answers::{Brought, MediaFault, Taken};
 pub use buffers::TrackBuffers;
+pub use effects::{MediaEffect, MediaFault, SourceEffect};
 pub use kinds::media_track_count;

@@ -1,25 +1,21 @@
 //! What is stored in all track buffers.
 
 ghost use Rattle.std.specs.Prelude.{◌≡◌, ◌≤◌, map, slice_get, IfSome, IfOk, OnOk, flat_map, [], ◌∷◌, ◌++◌};
-ghost use Rattle.track_store.specs.Frames.{greatest, starts, ends};
+ghost use Rattle.mse_base.specs.Moments.{greatest, greatest_of_two};
+ghost use Rattle.track_store.specs.Frames.{starts, ends};
 ghost use Rattle.track_store.specs.State.{state_of, states_of};
 ghost use Rattle.track_buffers.specs.Views.{track_view};
-ghost use Rattle.track_buffers.specs.Buffered.{later_of};
 
-use crate::answers::later;
 use mse_base::{OutOfMemory, Ticks};
 use mse_calls::{TimeRanges, TrackView, TrackViews};
 use std::alloc::Global;
 use track_store::{FrameStore, Track, Tracks};
 
-/// The greater of two times, where there are.
-pub(crate) fn later_of(a: Option<Ticks>, b: Option<Ticks>) -> Option<Ticks>
-    ensures { result ≡ later_of a b }
+/// The greater of two times, each of which may be missing.
+pub(crate) fn greatest_of_two(a: Option<Ticks>, b: Option<Ticks>) -> Option<Ticks>
+    ensures { result ≡ greatest_of_two a b }
 {
-    match (a, b) {
-        (None, time) | (time, None) => time,
-        (Some(s), Some(t)) => Some(later(s, t)),
-    }
+    a.max(b)
 }
 
 fn highest_start_at<S: FrameStore>(tracks: &Tracks<S>, i: usize) -> Option<Ticks>
@@ -38,7 +34,7 @@ pub(crate) fn highest_start<S: FrameStore>(tracks: &Tracks<S>) -> Option<Ticks>
 {
     let mut best = None;
     for i in 0..tracks.len() {
-        best = later_of(best, highest_start_at(tracks, i));
+        best = greatest_of_two(best, highest_start_at(tracks, i));
     }
     best
 }
@@ -59,7 +55,7 @@ pub(crate) fn highest_end<S: FrameStore>(tracks: &Tracks<S>) -> Option<Ticks>
 {
     let mut best = None;
     for i in 0..tracks.len() {
-        best = later_of(best, highest_end_at(tracks, i));
+        best = greatest_of_two(best, highest_end_at(tracks, i));
     }
     best
 }

@@ -2,11 +2,12 @@
 
 ghost use Rattle.std.specs.Prelude.{◌≡◌, ◌&&◌, Some, filter, find, if◌then◌else◌, slice_get, slice_set, IfSome, option_copied};
 ghost use Rattle.std.specs.List.{list_all};
+ghost use Rattle.mse_base.specs.Moments.{same_kind};
 ghost use Rattle.track_store.specs.State.{state_of, states_of};
 ghost use Rattle.track_store.specs.Kept.{gaps_of};
-ghost use Rattle.track_buffers.specs.Initialized.{is_media_track, same_kind, count_of, kinds_of, is_of_kind, is_numbered, partner_of, is_partner, renewed, renewed_by};
+ghost use Rattle.track_buffers.specs.Initialized.{is_media_track, count_of, kinds_of, is_of_kind, is_numbered, partner_of, is_partner, tracks_with_partners, track_with_partner};
 
-use crate::kinds::{is_media, same_kind};
+use crate::kinds::is_media;
 use mse_base::{Kind, TrackInfo};
 use track_store::{FrameStore, Track, Tracks};
 
@@ -14,7 +15,7 @@ fn is_kind_at<S: FrameStore>(tracks: &Tracks<S>, i: usize, kind: Kind) -> bool
     ensures { IfSome (slice_get tracks.now.items i) (λ t. result ≡ same_kind kind t.kind) }
 {
     match tracks.get(i) {
-        Some(track) => same_kind(kind, track.kind),
+        Some(track) => kind == track.kind,
         None => false,
     }
 }
@@ -38,7 +39,7 @@ fn is_partner_of(track: &TrackInfo, kind: Kind, id: u32, alone: bool) -> bool
     ensures { result ≡ (is_media_track track.now
         && (if alone then is_of_kind kind track.now else is_numbered kind id track.now)) }
 {
-    is_media(track) && same_kind(kind, track.kind) && (alone || track.id == id)
+    is_media(track) && kind == track.kind && (alone || track.id == id)
 }
 
 fn find_partner<'a>(
@@ -113,18 +114,18 @@ pub(crate) fn all_fit<S: FrameStore>(tracks: &Tracks<S>, news: &[TrackInfo], pen
 /// A track buffer takes number and codec of its partner.
 fn renew<S: FrameStore>(track: &mut Track<S>, partner: &TrackInfo)
     ensures state { state_of S.frames track.new
-        ≡ renewed_by (state_of S.frames track.old) (Some partner.now) }
+        ≡ track_with_partner (state_of S.frames track.old) (Some partner.now) }
     ensures gap { S.gap track.new.store ≡ S.gap track.old.store }
 {
     track.id = partner.id;
     track.codec = partner.codec;
-    track.marks = track.marks.needing_sync();
+    track.marks = track.marks.marks_needing_sync();
 }
 
 fn renew_by<S: FrameStore>(tracks: &mut Tracks<S>, i: usize, partner: &TrackInfo)
     ensures states { IfSome (slice_get (states_of S.frames tracks.old.items) i)
         (λ t. states_of S.frames tracks.new.items ≡ slice_set (states_of S.frames tracks.old.items) i
-        (renewed_by t (Some partner.now))) }
+        (track_with_partner t (Some partner.now))) }
     ensures gaps { gaps_of S.gap tracks.new.items ≡ gaps_of S.gap tracks.old.items }
 {
     match tracks.get_mut(i) {
@@ -136,7 +137,7 @@ fn renew_by<S: FrameStore>(tracks: &mut Tracks<S>, i: usize, partner: &TrackInfo
 fn renew_at<S: FrameStore>(tracks: &mut Tracks<S>, i: usize, news: &[TrackInfo])
     ensures states { IfSome (slice_get (states_of S.frames tracks.old.items) i)
         (λ t. states_of S.frames tracks.new.items ≡ slice_set (states_of S.frames tracks.old.items) i
-        (renewed_by t (partner_of (states_of S.frames tracks.old.items)
+        (track_with_partner t (partner_of (states_of S.frames tracks.old.items)
         (filter is_media_track news.now) t))) }
     ensures gaps { gaps_of S.gap tracks.new.items ≡ gaps_of S.gap tracks.old.items }
 {
@@ -149,7 +150,7 @@ fn renew_at<S: FrameStore>(tracks: &mut Tracks<S>, i: usize, news: &[TrackInfo])
 /// Each track buffer takes number and codec of its partner.
 pub(crate) fn renew_all<S: FrameStore>(tracks: &mut Tracks<S>, news: &[TrackInfo])
     ensures states { states_of S.frames tracks.new.items
-        ≡ renewed (filter is_media_track news.now) (states_of S.frames tracks.old.items) }
+        ≡ tracks_with_partners (filter is_media_track news.now) (states_of S.frames tracks.old.items) }
     ensures gaps { gaps_of S.gap tracks.new.items ≡ gaps_of S.gap tracks.old.items }
 {
     for i in 0..tracks.len() {

@@ -3,7 +3,7 @@
 ghost use Rattle.std.specs.Prelude.{◌≡◌, ◌≤◌, ℕ, length, slice_get, IfSome, OnOk};
 ghost use Rattle.track_store.specs.Kept.{HasRoom, gaps_of};
 ghost use Rattle.track_store.specs.State.{state_of, states_of};
-ghost use Rattle.range_removal.specs.Numbered.{KeepsRoom};
+ghost use Rattle.range_removal.specs.Rooms.{IsRoomKept};
 
 use mse_base::OutOfMemory;
 use track_store::{FrameStore, Tracks};
@@ -11,7 +11,7 @@ use track_store::{FrameStore, Tracks};
 fn reserve_at<S: FrameStore>(tracks: &mut Tracks<S>, i: usize, n: usize) -> Result<(), OutOfMemory>
     ensures states { states_of S.frames tracks.new.items ≡ states_of S.frames tracks.old.items }
     ensures ok { OnOk result (IfSome (slice_get tracks.new.items i) (λ t. n ≤ S.spare t.store)) }
-    ensures spare { KeepsRoom S.spare tracks.old.items tracks.new.items }
+    ensures spare { IsRoomKept S.spare tracks.old.items tracks.new.items }
     ensures gaps { gaps_of S.gap tracks.new.items ≡ gaps_of S.gap tracks.old.items }
     ensures places { tracks.new.spare ≡ tracks.old.spare }
 {

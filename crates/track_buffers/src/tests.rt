@@ -3,7 +3,7 @@
 ghost use Rattle.std.specs.Prelude.{◌≡◌, ◌≤◌, pos, ◌≤ℤ◌, length, IfOk, IfSome, OnOk};
 ghost use Rattle.std.specs.List.{AllByRecursion};
 
-use crate::{Brought, MediaFault, Taken, TrackBuffers, media_track_count};
+use crate::{MediaEffect, MediaFault, SourceEffect, TrackBuffers, media_track_count};
 use mse_base::{
     Bytes, CodedFrame, Kind, Moment, Presentation, Ranges, Span, Ticks, TrackInfo, TrackList,
     convert,
@@ -82,7 +82,7 @@ fn receive(
     buffers: &mut Buffers,
     tracks: &[Told],
     duration: Moment,
-    want: &Taken,
+    want: &MediaEffect,
 ) -> Result<(), Fail> {
     let presentation = presentation_of(rt.alloc(), tracks)?;
     buffers.reserve_tracks(media_track_count(&presentation))?;
@@ -94,7 +94,7 @@ fn receive(
 /// Track buffers in mode "segments" that received an initialization segment.
 fn begun(rt: &(impl Abort + AllocGlobal), tracks: &[Told]) -> Result<Buffers, Fail> {
     let mut buffers = Buffers::new(rt.alloc(), Ticks::zero(), false);
-    let want = Taken::Went(nothing(true));
+    let want = MediaEffect::Done(nothing(true));
     receive(rt, &mut buffers, tracks, Moment::Infinite, &want)?;
     Ok(buffers)
 }
@@ -104,8 +104,8 @@ fn process(alloc: Global, buffers: &mut Buffers, sample: &Sample) -> Result<(), 
     let frame = frame_of(alloc, sample)?;
     buffers.reserve_frames(1)?;
     match buffers.process(frame, Moment::Infinite) {
-        Taken::Went(_) => Ok(()),
-        Taken::Broke(_, _) => Err("a fault".into()),
+        MediaEffect::Done(_) => Ok(()),
+        MediaEffect::AppendError(_, _) => Err("a fault".into()),
     }
 }
 
@@ -117,9 +117,9 @@ fn process_all(alloc: Global, buffers: &mut Buffers, samples: &[Sample]) -> Resu
 }
 
 /// Nothing new, where the duration is infinite.
-fn nothing(activated: bool) -> Brought {
-    Brought {
-        changes: 0,
+fn nothing(activated: bool) -> SourceEffect {
+    SourceEffect {
+        duration_changes: 0,
         duration: Moment::Infinite,
         activated,
     }
@@ -159,7 +159,7 @@ fn expect_ranges(rt: &impl Abort, ranges: &Ranges, want: &[(u32, u32)]) -> Resul
 
 #[test]
 fn goes_on_by_kind(rt: HostRuntime) -> Result<(), Fail> {
-    let went = Taken::Went(nothing(false));
+    let went = MediaEffect::Done(nothing(false));
     let mut buffers = begun(&rt, &[VIDEO, AUDIO])?;
     process_all(
         rt.alloc(),
@@ -179,8 +179,8 @@ fn goes_on_by_kind(rt: HostRuntime) -> Result<(), Fail> {
 
 #[test]
 fn tells_other_tracks(rt: HostRuntime) -> Result<(), Fail> {
-    let differ = Taken::Broke(MediaFault::TracksDiffer, nothing(false));
-    let went = Taken::Went(nothing(false));
+    let differ = MediaEffect::AppendError(MediaFault::TracksDiffer, nothing(false));
+    let went = MediaEffect::Done(nothing(false));
     let second = (2, Kind::Video, *b"hvc1");
     let others = [second, (3, Kind::Video, *b"avc1")];
     let exchanged = [(1, Kind::Video, *b"hvc1"), (2, Kind::Video, *b"avc1")];
@@ -201,8 +201,8 @@ fn tells_other_tracks(rt: HostRuntime) -> Result<(), Fail> {
 
 #[test]
 fn changes_codecs_where_it_may(rt: HostRuntime) -> Result<(), Fail> {
-    let differ = Taken::Broke(MediaFault::TracksDiffer, nothing(false));
-    let went = Taken::Went(nothing(false));
+    let differ = MediaEffect::AppendError(MediaFault::TracksDiffer, nothing(false));
+    let went = MediaEffect::Done(nothing(false));
     let other = [(9, Kind::Video, *b"hvc1")];
     let mut buffers = begun(&rt, &[VIDEO])?;
     receive(&rt, &mut buffers, &other, Moment::Infinite, &differ)?;
@@ -217,14 +217,14 @@ fn changes_codecs_where_it_may(rt: HostRuntime) -> Result<(), Fail> {
 fn tells_what_is_wrong_first(rt: HostRuntime) -> Result<(), Fail> {
     let text = (3, Kind::Other, *b"wvtt");
     let unknown = [VIDEO, (2, Kind::Audio, *b"flac")];
-    let unknown_codec = Taken::Broke(MediaFault::UnknownCodec, nothing(false));
+    let unknown_codec = MediaEffect::AppendError(MediaFault::UnknownCodec, nothing(false));
     // The duration is told before the fault.
-    let told = Brought {
-        changes: 1,
+    let told = SourceEffect {
+        duration_changes: 1,
         duration: Moment::At(time(900_000)?),
         activated: false,
     };
-    let no_tracks = Taken::Broke(MediaFault::NoTracks, told);
+    let no_tracks = MediaEffect::AppendError(MediaFault::NoTracks, told);
     let mut buffers = Buffers::new(rt.alloc(), Ticks::zero(), false);
     receive(&rt, &mut buffers, &[text], Moment::Nan, &no_tracks)?;
     receive(
@@ -236,7 +236,7 @@ fn tells_what_is_wrong_first(rt: HostRuntime) -> Result<(), Fail> {
     )?;
     assert!(rt; buffers.awaits_first());
     // A track that is neither video nor audio may have any codec.
-    let went = Taken::Went(nothing(true));
+    let went = MediaEffect::Done(nothing(true));
     receive(&rt, &mut buffers, &[text, VIDEO], Moment::Infinite, &went)?;
     receive(
         &rt,
@@ -254,7 +254,7 @@ fn flush(
     buffers: &mut Buffers,
     samples: &[Sample; 3],
     far: bool,
-    changes: u64,
+    duration_changes: u64,
     duration: Ticks,
 ) -> Result<(), Fail> {
     let alloc = rt.alloc();
@@ -269,9 +269,9 @@ fn flush(
     frames.push(second)?;
     frames.push(third)?;
     buffers.reserve_frames(3)?;
-    let brought = buffers.flush(frames, Moment::At(Ticks::zero()));
-    assert_eq!(rt; brought.changes, changes);
-    assert!(rt; brought.duration == Moment::At(duration));
+    let effect = buffers.flush(frames, Moment::At(Ticks::zero()));
+    assert_eq!(rt; effect.duration_changes, duration_changes);
+    assert!(rt; effect.duration == Moment::At(duration));
     Ok(())
 }
 
@@ -334,6 +334,41 @@ fn buffers_what_all_tracks_have(rt: HostRuntime) -> Result<(), Fail> {
     expect_ranges(&rt, &buffers.buffered(false)?, &[(1000, 3000)])?;
     let none = Buffers::new(alloc, Ticks::zero(), true);
     expect_ranges(&rt, &none.buffered(true)?, &[])
+}
+
+/// The range that holds a time: in a gap there is none, and a range holds the time at which it
+/// ends. Where the source is ended, the last range of each track lasts to the highest end.
+#[test]
+fn finds_the_range_of_a_time(rt: HostRuntime) -> Result<(), Fail> {
+    let mut buffers = begun(&rt, &[VIDEO, AUDIO])?;
+    assert_eq!(rt; buffers.span_holding(Ticks::zero(), true), None);
+    let samples = [
+        (1, 0, 3000, true),
+        (1, 6000, 3000, true),
+        (2, 1000, 6000, true),
+    ];
+    process_all(rt.alloc(), &mut buffers, &samples)?;
+    let first = Span {
+        start: time(1000)?,
+        end: time(3000)?,
+    };
+    let second = Span {
+        start: time(6000)?,
+        end: time(7000)?,
+    };
+    let longer = Span {
+        start: time(6000)?,
+        end: time(9000)?,
+    };
+    assert_eq!(rt; buffers.span_holding(time(999)?, false), None);
+    assert_eq!(rt; buffers.span_holding(time(1000)?, false), Some(first));
+    assert_eq!(rt; buffers.span_holding(time(3000)?, true), Some(first));
+    assert_eq!(rt; buffers.span_holding(time(4000)?, false), None);
+    assert_eq!(rt; buffers.span_holding(time(7000)?, false), Some(second));
+    assert_eq!(rt; buffers.span_holding(time(8000)?, false), None);
+    assert_eq!(rt; buffers.span_holding(time(8000)?, true), Some(longer));
+    assert_eq!(rt; buffers.span_holding(time(9001)?, true), None);
+    Ok(())
 }
 
 #[test]

@@ -67,7 +67,6 @@ pub(super) fn new_scene(alloc: Global, container: Container, quota: u64) -> Scen
         buffer: Buffer::new(alloc, Ticks::zero(), container),
         around: Around {
             number: 0,
-            removed: false,
             ready: Ready::Opened,
             error: false,
             duration: Moment::Nan,
@@ -176,11 +175,7 @@ fn remove(scene: &mut Scene, from: Ticks) -> Heard {
 }
 
 fn end_work(scene: &mut Scene) -> Heard {
-    let events = scene.buffer.end_work();
-    Heard {
-        events: (events.get(0), events.get(1)),
-        ..quiet()
-    }
+    hear(&scene.buffer.end_work(&scene.around))
 }
 
 /// Does it, with the bytes of a file.

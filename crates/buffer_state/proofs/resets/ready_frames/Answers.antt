@@ -1,5 +1,5 @@
 use Rattle.std.proofs.Common.{◌≡◌, ◌<◌, ◌++◌, ◌∷◌, [], length, length-append, arith}
-use Rattle.byte_stream.specs.Items.{items_of, ready_at}
+use Rattle.byte_stream.specs.Readings.{items_in, ready_at}
 use Rattle.byte_stream.specs.Streams.{seen}
 use Rattle.buffer_state.proofs.Front.{ready-more, ready-none, long-frame, long-more}
 use Rattle.buffer_state.proofs.resets.ready_frames.Goals as goal
@@ -13,17 +13,17 @@ loop-i-preserved c =
           record {
             lasting = rw items (long-more c.loop-i.frames.items w.in-Some.frame c.loop-i.invariant.lasting (long-frame (seen c.in_ok-next.next) w.in-Some.frame c.in_ok-next.ensures.lasting w.in-Some.ensures));
             few = rw (items, length-append c.loop-i.frames.items (w.in-Some.frame ∷ [])) (omega (arith, c.loop-i.invariant.few));
-            taken = λ container before whole n s.
-                (let inside : c.loop-i.i < length (ready_at container before whole n) = omega (arith, c.ready_frames-i-end.ensures.ready container before whole n s) in
-                rw items (ready-more (items_of container before whole) n c.loop-i.i (seen c.in_ok-next.next) w.in-Some.frame c.loop-i.frames.items inside (c.in_ok-next.ensures.item container before whole n s) w.in-Some.ensures (c.loop-i.invariant.taken container before whole n s)));
+            taken = λ r s.
+                (let inside : c.loop-i.i < length (ready_at r) = omega (arith, c.ready_frames-i-end.ensures.ready r s) in
+                rw items (ready-more (items_in r) r.taken c.loop-i.i (seen c.in_ok-next.next) w.in-Some.frame c.loop-i.frames.items inside (c.in_ok-next.ensures.item r s) w.in-Some.ensures (c.loop-i.invariant.taken r s)));
           })
       | in-None w ↦
           (let items : c.match-frame_of.frames.items ≡ c.loop-i.frames.items = cc (w.frames-is) in
           record {
             lasting = rw items c.loop-i.invariant.lasting;
             few = rw items (omega (arith, c.loop-i.invariant.few));
-            taken = λ container before whole n s.
-                (let inside : c.loop-i.i < length (ready_at container before whole n) = omega (arith, c.ready_frames-i-end.ensures.ready container before whole n s) in
-                absurd (ready-none (items_of container before whole) n c.loop-i.i (seen c.in_ok-next.next) inside (c.in_ok-next.ensures.item container before whole n s) w.in-None.ensures));
+            taken = λ r s.
+                (let inside : c.loop-i.i < length (ready_at r) = omega (arith, c.ready_frames-i-end.ensures.ready r s) in
+                absurd (ready-none (items_in r) r.taken c.loop-i.i (seen c.in_ok-next.next) inside (c.in_ok-next.ensures.item r s) w.in-None.ensures));
           })
     ]

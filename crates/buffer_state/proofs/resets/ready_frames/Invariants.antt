@@ -3,7 +3,7 @@ use Rattle.std.specs.Prelude.{Option}
 use Rattle.std.specs.List.{AllByRecursion}
 use Rattle.mse_base.specs.declared.track.Presentation.{Presentation}
 use Rattle.mse_types.specs.declared.answer.Container.{Container}
-use Rattle.byte_stream.specs.Items.{ready_at}
+use Rattle.byte_stream.specs.Readings.{Reading, ready_at}
 use Rattle.byte_stream.specs.Streams.{Stands as StreamStands}
 use Rattle.buffer_state.proofs.resets.ready_frames.Given as goal
 
@@ -11,5 +11,5 @@ abbrev pub invariant-loop-i : goal.invariant-loop-i
 invariant-loop-i l = record {
   lasting : AllByRecursion (λ f. pos 0 ≤ℤ f.dur) l.frames.items;
   few : length l.frames.items ≤ l.i;
-  taken : (container : Container) (before : Option Presentation) (whole : List ℕ) (n : ℕ) → StreamStands l.stream container before whole n → l.frames.items ≡ take l.i (ready_at container before whole n);
+  taken : (r : Reading) → StreamStands l.stream r → l.frames.items ≡ take l.i (ready_at r);
 }

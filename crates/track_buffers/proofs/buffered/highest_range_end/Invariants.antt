@@ -1,5 +1,5 @@
 use Rattle.std.proofs.Common.{◌≡◌, take}
-use Rattle.track_store.specs.Frames.{greatest}
+use Rattle.mse_base.specs.Moments.{greatest}
 use Rattle.track_buffers.specs.Buffered.{last_ends, ranges_in}
 use Rattle.track_buffers.proofs.buffered.highest_range_end.Given as goal
 

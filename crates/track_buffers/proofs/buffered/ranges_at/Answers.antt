@@ -3,12 +3,12 @@ use Rattle.std.specs.Option.{option_copied, option_map}
 use Rattle.std.proofs.lemmas.Option.{slice_get-map}
 use Rattle.track_store.specs.declared.tracks.Track.{Track}
 use Rattle.track_store.specs.Frames.{ranges_of}
-use Rattle.track_buffers.specs.Buffered.{grown_to}
+use Rattle.track_buffers.specs.Buffered.{with_end}
 use Rattle.track_buffers.proofs.Ranging.{all_here}
 use Rattle.track_buffers.proofs.buffered.ranges_at.Goals as goal
 
-pub grown_ranges-requires : goal.grown_ranges-requires
-grown_ranges-requires g c =
+pub ranges_with_end-requires : goal.ranges_with_end-requires
+ranges_with_end-requires g c =
     let ts = c.args.tracks.now.items in
     let own = λ (t : Track g.row.S.Denot). g.S.FrameStore.gap t.store in
     let at : slice_get ts c.args.i ≡ Some c.in-Some.track.now = sym c.get.ensures ∙ ap option_copied c.in-Some.is in
@@ -19,11 +19,11 @@ returns-in-Some g c =
     let ts = c.args.tracks.now.items in
     let ranged = λ (t : Track g.row.S.Denot). ranges_of (g.S.FrameStore.gap t.store) (g.S.FrameStore.frames t.store) in
     let at : slice_get ts c.args.i ≡ Some c.in-Some.track.now = sym c.get.ensures ∙ ap option_copied c.in-Some.is in
-    rw (slice_get-map (grown_to c.args.end.now) (map ranged ts) c.args.i, slice_get-map ranged ts c.args.i, at) c.grown_ranges.ensures
+    rw (slice_get-map (with_end c.args.end.now) (map ranged ts) c.args.i, slice_get-map ranged ts c.args.i, at) c.ranges_with_end.ensures
 
 pub returns-in-None : goal.returns-in-None
 returns-in-None g c =
     let ts = c.args.tracks.now.items in
     let ranged = λ (t : Track g.row.S.Denot). ranges_of (g.S.FrameStore.gap t.store) (g.S.FrameStore.frames t.store) in
     let at : slice_get ts c.args.i ≡ None = sym c.get.ensures ∙ ap option_copied c.in-None.is in
-    rw (slice_get-map (grown_to c.args.end.now) (map ranged ts) c.args.i, slice_get-map ranged ts c.args.i, at) tt
+    rw (slice_get-map (with_end c.args.end.now) (map ranged ts) c.args.i, slice_get-map ranged ts c.args.i, at) tt

@@ -1,89 +1,109 @@
 use Rattle.std.proofs.Common.{◌∙◌, ◌≤◌, ap, sym, subst}
 use Rattle.std.proofs.lemmas.List.{length-map}
 use Rattle.track_store.specs.State.{states_of}
-use Rattle.frame_rules.specs.Place.{Outcome}
+use Rattle.frame_rules.specs.Place.{Placement}
 use Rattle.frame_rules.specs.declared.answer.Placed.TheVariants as placed_as
-use Rattle.track_buffers.specs.declared.answers.Brought.{Brought}
-use Rattle.track_buffers.specs.declared.answers.MediaFault.TheVariants.{TimeRange, Counts}
-use Rattle.track_buffers.specs.Media.{EndsWithin, media_of, nothing_brought}
-use Rattle.track_buffers.specs.Frames.{framed_by}
+use Rattle.track_buffers.specs.declared.effects.SourceEffect.{SourceEffect}
+use Rattle.track_buffers.specs.declared.effects.MediaFault.TheVariants.{TimeRange, Counts}
+use Rattle.track_buffers.specs.Media.{EndsWithin, media_of, no_effect}
+use Rattle.track_buffers.specs.Frames.{frame_result_of}
 use Rattle.track_buffers.proofs.Framing.{as_before, broke_same, window_end_stays, ends_stored, changed_few}
 use Rattle.track_buffers.proofs.Keeping.{ends_kept}
+use Rattle.track_buffers.proofs.Durations.{not_after_stored, not_after_none}
+use Rattle.track_store.proofs.StillSound.{sound_in}
 use Rattle.track_buffers.proofs.frames.process_at.Goals as goal
 
-pub returns-in-Stored-clause-end : goal.returns-in-Stored-clause-end
-returns-in-Stored-clause-end g c =
+pub place-requires-clause-sound : goal.place-requires-clause-sound
+place-requires-clause-sound g c = sound_in (states_of g.S.FrameStore.frames c.args.tracks.now.items) c.args.i c.requires.kept.sound
+
+pub place-requires-clause-small : goal.place-requires-clause-small
+place-requires-clause-small g c = c.requires.kept.small
+
+pub returns-in-Stored-clause-window_end : goal.returns-in-Stored-clause-window_end
+returns-in-Stored-clause-window_end g c =
     let F = g.S.FrameStore.frames in
     let ts = states_of F c.args.tracks.now.items in
     let us = states_of F c.place.new.tracks.items in
-    window_end_stays placed_as.Stored us ts c.place.new.settings c.args.settings.now c.args.i c.args.frame c.in-Stored.ensures.outcome
+    window_end_stays placed_as.Stored us ts c.place.new.settings c.args.settings.now c.args.i c.args.frame c.in-Stored.ensures.placement
 
-pub returns-in-Stored-clause-few : goal.returns-in-Stored-clause-few
-returns-in-Stored-clause-few g c = subst (λ (b : Brought). b.changes ≤ 1) (sym c.changed_duration.ensures) (changed_few c.at_least-raised.result (nothing_brought c.args.duration.now))
+pub returns-in-Stored-clause-changes : goal.returns-in-Stored-clause-changes
+returns-in-Stored-clause-changes g c = subst (λ (b : SourceEffect). b.duration_changes ≤ 1) (sym c.duration_change.ensures) (changed_few c.at_least-raised.result (no_effect c.args.duration.now))
 
-pub returns-in-Stored-clause-ends : goal.returns-in-Stored-clause-ends
-returns-in-Stored-clause-ends g c =
+pub returns-in-Stored-clause-within_duration : goal.returns-in-Stored-clause-within_duration
+returns-in-Stored-clause-within_duration g c =
     let F = g.S.FrameStore.frames in
     let ts = states_of F c.args.tracks.now.items in
     let us = states_of F c.place.new.tracks.items in
-    ends_stored ts us c.place.new.settings.group_end c.args.duration.now c.at_least-raised.result c.changed_duration.result c.in-Stored.ensures.ends c.at_least-raised.ensures c.changed_duration.ensures
+    ends_stored ts us c.place.new.settings.group_end c.args.duration.now c.at_least-raised.result c.duration_change.result c.in-Stored.ensures.ends c.at_least-raised.ensures c.duration_change.ensures
 
-pub returns-in-Dropped-clause-end : goal.returns-in-Dropped-clause-end
-returns-in-Dropped-clause-end g c =
+pub returns-in-Stored-clause-no_fall : goal.returns-in-Stored-clause-no_fall
+returns-in-Stored-clause-no_fall g c = not_after_stored c.place.new.settings.group_end c.args.duration.now c.at_least-raised.result c.duration_change.result c.at_least-raised.ensures c.duration_change.ensures
+
+pub returns-in-Dropped-clause-window_end : goal.returns-in-Dropped-clause-window_end
+returns-in-Dropped-clause-window_end g c =
     let F = g.S.FrameStore.frames in
     let ts = states_of F c.args.tracks.now.items in
     let us = states_of F c.place.new.tracks.items in
-    window_end_stays (placed_as.Dropped c.in-Dropped.field-0) us ts c.place.new.settings c.args.settings.now c.args.i c.args.frame c.in-Dropped.ensures.outcome
+    window_end_stays (placed_as.Dropped c.in-Dropped.field-0) us ts c.place.new.settings c.args.settings.now c.args.i c.args.frame c.in-Dropped.ensures.placement
 
-pub returns-in-Dropped-clause-ends : goal.returns-in-Dropped-clause-ends
-returns-in-Dropped-clause-ends g c = λ h.
+pub returns-in-Dropped-clause-within_duration : goal.returns-in-Dropped-clause-within_duration
+returns-in-Dropped-clause-within_duration g c = λ h.
     let F = g.S.FrameStore.frames in
     let ts = states_of F c.args.tracks.now.items in
     let us = states_of F c.place.new.tracks.items in
-    subst (λ (b : Brought). EndsWithin b.duration us) (sym c.nothing_brought.ensures) (ends_kept ts us c.in-Dropped.ensures.ends c.args.duration.now h)
+    subst (λ (b : SourceEffect). EndsWithin b.duration us) (sym c.no_effect.ensures) (ends_kept ts us c.in-Dropped.ensures.ends c.args.duration.now h)
 
-pub returns-in-TimeRange-clause-end : goal.returns-in-TimeRange-clause-end
-returns-in-TimeRange-clause-end g c =
+pub returns-in-Dropped-clause-no_fall : goal.returns-in-Dropped-clause-no_fall
+returns-in-Dropped-clause-no_fall g c = not_after_none c.args.duration.now c.no_effect.result c.no_effect.ensures
+
+pub returns-in-TimeRange-clause-window_end : goal.returns-in-TimeRange-clause-window_end
+returns-in-TimeRange-clause-window_end g c =
     let F = g.S.FrameStore.frames in
     let ts = states_of F c.args.tracks.now.items in
     let us = states_of F c.place.new.tracks.items in
-    window_end_stays placed_as.TimeRange us ts c.place.new.settings c.args.settings.now c.args.i c.args.frame c.in-TimeRange.ensures.outcome
+    window_end_stays placed_as.TimeRange us ts c.place.new.settings c.args.settings.now c.args.i c.args.frame c.in-TimeRange.ensures.placement
 
-pub returns-in-TimeRange-clause-ends : goal.returns-in-TimeRange-clause-ends
-returns-in-TimeRange-clause-ends g c = λ h.
+pub returns-in-TimeRange-clause-within_duration : goal.returns-in-TimeRange-clause-within_duration
+returns-in-TimeRange-clause-within_duration g c = λ h.
     let F = g.S.FrameStore.frames in
     let ts = states_of F c.args.tracks.now.items in
     let us = states_of F c.place.new.tracks.items in
-    subst (λ (b : Brought). EndsWithin b.duration us) (sym c.nothing_brought-in-TimeRange.ensures) (ends_kept ts us c.in-TimeRange.ensures.ends c.args.duration.now h)
+    subst (λ (b : SourceEffect). EndsWithin b.duration us) (sym c.no_effect-in-TimeRange.ensures) (ends_kept ts us c.in-TimeRange.ensures.ends c.args.duration.now h)
 
-pub returns-in-TimeRange-clause-taken : goal.returns-in-TimeRange-clause-taken
-returns-in-TimeRange-clause-taken g c = λ pending gap.
+pub returns-in-TimeRange-clause-result : goal.returns-in-TimeRange-clause-result
+returns-in-TimeRange-clause-result g c = λ pending gap.
     let F = g.S.FrameStore.frames in
     let ts = states_of F c.args.tracks.now.items in
     let us = states_of F c.place.new.tracks.items in
-    let both = as_before placed_as.TimeRange us ts c.place.new.settings c.args.settings.now c.args.i c.args.frame c.in-TimeRange.ensures.outcome (rw length-map c.requires.in_range) tt in
-    broke_same TimeRange us ts c.place.new.settings c.args.settings.now pending gap c.nothing_brought-in-TimeRange.result c.args.duration.now both.0 both.1 c.nothing_brought-in-TimeRange.ensures
-    ∙ ap (λ (o : Outcome). framed_by o (media_of F c.args.tracks.now.items c.args.settings.now pending gap) c.args.duration.now) c.in-TimeRange.ensures.outcome
+    let both = as_before placed_as.TimeRange us ts c.place.new.settings c.args.settings.now c.args.i c.args.frame c.in-TimeRange.ensures.placement (rw length-map c.requires.in_range) tt in
+    broke_same TimeRange us ts c.place.new.settings c.args.settings.now pending gap c.no_effect-in-TimeRange.result c.args.duration.now both.0 both.1 c.no_effect-in-TimeRange.ensures
+    ∙ ap (λ (o : Placement). frame_result_of o (media_of F c.args.tracks.now.items c.args.settings.now pending gap) c.args.duration.now) c.in-TimeRange.ensures.placement
 
-pub returns-in-Counts-clause-end : goal.returns-in-Counts-clause-end
-returns-in-Counts-clause-end g c =
+pub returns-in-TimeRange-clause-no_fall : goal.returns-in-TimeRange-clause-no_fall
+returns-in-TimeRange-clause-no_fall g c = not_after_none c.args.duration.now c.no_effect-in-TimeRange.result c.no_effect-in-TimeRange.ensures
+
+pub returns-in-Counts-clause-window_end : goal.returns-in-Counts-clause-window_end
+returns-in-Counts-clause-window_end g c =
     let F = g.S.FrameStore.frames in
     let ts = states_of F c.args.tracks.now.items in
     let us = states_of F c.place.new.tracks.items in
-    window_end_stays placed_as.Counts us ts c.place.new.settings c.args.settings.now c.args.i c.args.frame c.in-Counts.ensures.outcome
+    window_end_stays placed_as.Counts us ts c.place.new.settings c.args.settings.now c.args.i c.args.frame c.in-Counts.ensures.placement
 
-pub returns-in-Counts-clause-ends : goal.returns-in-Counts-clause-ends
-returns-in-Counts-clause-ends g c = λ h.
+pub returns-in-Counts-clause-within_duration : goal.returns-in-Counts-clause-within_duration
+returns-in-Counts-clause-within_duration g c = λ h.
     let F = g.S.FrameStore.frames in
     let ts = states_of F c.args.tracks.now.items in
     let us = states_of F c.place.new.tracks.items in
-    subst (λ (b : Brought). EndsWithin b.duration us) (sym c.nothing_brought-in-Counts.ensures) (ends_kept ts us c.in-Counts.ensures.ends c.args.duration.now h)
+    subst (λ (b : SourceEffect). EndsWithin b.duration us) (sym c.no_effect-in-Counts.ensures) (ends_kept ts us c.in-Counts.ensures.ends c.args.duration.now h)
 
-pub returns-in-Counts-clause-taken : goal.returns-in-Counts-clause-taken
-returns-in-Counts-clause-taken g c = λ pending gap.
+pub returns-in-Counts-clause-result : goal.returns-in-Counts-clause-result
+returns-in-Counts-clause-result g c = λ pending gap.
     let F = g.S.FrameStore.frames in
     let ts = states_of F c.args.tracks.now.items in
     let us = states_of F c.place.new.tracks.items in
-    let both = as_before placed_as.Counts us ts c.place.new.settings c.args.settings.now c.args.i c.args.frame c.in-Counts.ensures.outcome (rw length-map c.requires.in_range) tt in
-    broke_same Counts us ts c.place.new.settings c.args.settings.now pending gap c.nothing_brought-in-Counts.result c.args.duration.now both.0 both.1 c.nothing_brought-in-Counts.ensures
-    ∙ ap (λ (o : Outcome). framed_by o (media_of F c.args.tracks.now.items c.args.settings.now pending gap) c.args.duration.now) c.in-Counts.ensures.outcome
+    let both = as_before placed_as.Counts us ts c.place.new.settings c.args.settings.now c.args.i c.args.frame c.in-Counts.ensures.placement (rw length-map c.requires.in_range) tt in
+    broke_same Counts us ts c.place.new.settings c.args.settings.now pending gap c.no_effect-in-Counts.result c.args.duration.now both.0 both.1 c.no_effect-in-Counts.ensures
+    ∙ ap (λ (o : Placement). frame_result_of o (media_of F c.args.tracks.now.items c.args.settings.now pending gap) c.args.duration.now) c.in-Counts.ensures.placement
+
+pub returns-in-Counts-clause-no_fall : goal.returns-in-Counts-clause-no_fall
+returns-in-Counts-clause-no_fall g c = not_after_none c.args.duration.now c.no_effect-in-Counts.result c.no_effect-in-Counts.ensures

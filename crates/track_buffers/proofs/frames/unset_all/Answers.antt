@@ -17,6 +17,7 @@ loop-i-preserved g c =
       states = written_more unset_track (states_of F old) (states_of F c.loop-i.tracks.items) (states_of F c.unset_at.new.tracks.items) c.loop-i.i here c.loop-i.invariant.states c.unset_at.ensures.states;
       spare = keeps_both g.S.FrameStore.spare g.S.FrameStore.gap old c.loop-i.tracks.items c.unset_at.new.tracks.items c.unset_at.ensures.gaps c.loop-i.invariant.spare c.unset_at.ensures.spare;
       gaps = c.unset_at.ensures.gaps ∙ c.loop-i.invariant.gaps;
+      places = c.unset_at.ensures.places ∙ c.loop-i.invariant.places;
       end = c.loop-i.invariant.end;
     }
 

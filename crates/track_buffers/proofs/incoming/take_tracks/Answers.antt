@@ -19,8 +19,8 @@ returns-then-len-eq0-clause-kept g c = λ h.
     let news = filter is_media_track c.args.news.now in
     subst AreKept (sym (returns-then-len-eq0-clause-states g c)) (kept_after news ts h)
 
-pub returns-then-len-eq0-clause-ends : goal.returns-then-len-eq0-clause-ends
-returns-then-len-eq0-clause-ends g c = λ d h.
+pub returns-then-len-eq0-clause-within_duration : goal.returns-then-len-eq0-clause-within_duration
+returns-then-len-eq0-clause-within_duration g c = λ d h.
     let ts = states_of g.S.FrameStore.frames c.args.tracks.now.items in
     let news = filter is_media_track c.args.news.now in
     subst (λ (us : List TrackState). EndsWithin d us) (sym (returns-then-len-eq0-clause-states g c)) (ends_after news ts d h)
@@ -31,8 +31,8 @@ returns-else-len-eq0-clause-kept g c = λ h.
     let news = filter is_media_track c.args.news.now in
     subst AreKept (sym c.renew_all.ensures.states) (kept_renewed news ts h)
 
-pub returns-else-len-eq0-clause-ends : goal.returns-else-len-eq0-clause-ends
-returns-else-len-eq0-clause-ends g c = λ d h.
+pub returns-else-len-eq0-clause-within_duration : goal.returns-else-len-eq0-clause-within_duration
+returns-else-len-eq0-clause-within_duration g c = λ d h.
     let ts = states_of g.S.FrameStore.frames c.args.tracks.now.items in
     let news = filter is_media_track c.args.news.now in
     subst (λ (us : List TrackState). EndsWithin d us) (sym c.renew_all.ensures.states) (ends_renewed news d ts h)

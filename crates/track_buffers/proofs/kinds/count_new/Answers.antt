@@ -1,8 +1,9 @@
+use Rattle.mse_base.specs.Moments.{same_kind}
 use Rattle.std.proofs.Common.{sym, ◌∙◌, ◌&&◌, ap, filter}
 use Rattle.std.specs.List.{count_by}
 use Rattle.std.proofs.lemmas.List.{take_all}
 use Rattle.mse_base.specs.declared.track.TrackInfo.{TrackInfo}
-use Rattle.track_buffers.specs.Initialized.{is_media_track, same_kind, is_of_kind}
+use Rattle.track_buffers.specs.Initialized.{is_media_track, is_of_kind}
 use Rattle.track_buffers.proofs.Loops.{count-filter, count-map}
 use Rattle.track_buffers.proofs.kinds.count_new.Goals as goal
 

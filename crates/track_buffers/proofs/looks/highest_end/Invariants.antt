@@ -1,6 +1,7 @@
 use Rattle.std.proofs.Common.{◌≡◌, take}
 use Rattle.std.specs.List.{flat_map}
-use Rattle.track_store.specs.Frames.{greatest, ends}
+use Rattle.mse_base.specs.Moments.{greatest}
+use Rattle.track_store.specs.Frames.{ends}
 use Rattle.track_store.specs.State.{states_of}
 use Rattle.track_buffers.proofs.looks.highest_end.Given as goal
 

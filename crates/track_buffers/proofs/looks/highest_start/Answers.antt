@@ -1,7 +1,8 @@
 use Rattle.std.proofs.Common.{◌<◌, ◌≤◌, ◌∙◌, length, arith, ap}
 use Rattle.std.specs.List.{flat_map}
 use Rattle.std.proofs.lemmas.List.{length-map, take_all}
-use Rattle.track_store.specs.Frames.{greatest, starts}
+use Rattle.mse_base.specs.Moments.{greatest}
+use Rattle.track_store.specs.Frames.{starts}
 use Rattle.track_store.specs.State.{TrackState, states_of}
 use Rattle.track_buffers.proofs.Loops.{highest_more}
 use Rattle.track_buffers.proofs.looks.highest_start.Goals as goal
@@ -10,7 +11,7 @@ pub loop-i-preserved : goal.loop-i-preserved
 loop-i-preserved g c =
     let ts = states_of g.S.FrameStore.frames c.args.tracks.now.items in
     let here : c.loop-i.i < length ts = rw length-map (omega (arith, c.len-i-end.ensures)) in
-    c.later_of-best.ensures ∙ highest_more (λ (t : TrackState). starts t.frames) ts c.loop-i.i c.loop-i.best c.highest_start_at.result here c.loop-i.invariant c.highest_start_at.ensures
+    c.greatest_of_two-best.ensures ∙ highest_more (λ (t : TrackState). starts t.frames) ts c.loop-i.i c.loop-i.best c.highest_start_at.result here c.loop-i.invariant c.highest_start_at.ensures
 
 pub returns : goal.returns
 returns g c =

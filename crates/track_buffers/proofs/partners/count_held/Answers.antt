@@ -1,6 +1,6 @@
 use Rattle.std.proofs.Common.{◌∙◌, ◌<◌, arith, length}
 use Rattle.track_store.specs.declared.tracks.Track.{Track}
-use Rattle.track_buffers.specs.Initialized.{same_kind}
+use Rattle.mse_base.specs.Moments.{same_kind}
 use Rattle.track_buffers.proofs.Loops.{count_more, count_same}
 use Rattle.track_buffers.proofs.partners.count_held.Goals as goal
 use Rattle.track_buffers.proofs.partners.count_held.Goals.{then-is_kind_at, else-is_kind_at}

@@ -1,7 +1,7 @@
 use Rattle.std.proofs.Common.{◌≡◌, ◌≤◌, take}
 use Rattle.std.specs.List.{count_by}
 use Rattle.track_store.specs.declared.tracks.Track.{Track}
-use Rattle.track_buffers.specs.Initialized.{same_kind}
+use Rattle.mse_base.specs.Moments.{same_kind}
 use Rattle.track_buffers.proofs.partners.count_held.Given as goal
 
 abbrev pub invariant-loop-i : goal.invariant-loop-i

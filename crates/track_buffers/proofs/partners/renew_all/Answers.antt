@@ -2,7 +2,7 @@ use Rattle.std.proofs.Common.{◌∙◌, ◌<◌, ◌≤◌, filter, length, ari
 use Rattle.std.proofs.lemmas.List.{length-map}
 use Rattle.range_removal.proofs.Loops.{written_more, all_written}
 use Rattle.track_store.specs.State.{TrackState, states_of}
-use Rattle.track_buffers.specs.Initialized.{is_media_track, partner_of, renewed_by}
+use Rattle.track_buffers.specs.Initialized.{is_media_track, partner_of, track_with_partner}
 use Rattle.track_buffers.proofs.Pairing.{renewed_here, kinds_renewed_here, same_length}
 use Rattle.track_buffers.proofs.partners.renew_all.Goals as goal
 
@@ -13,7 +13,7 @@ loop-i-preserved g c =
     let now = states_of F c.loop-i.tracks.items in
     let next = states_of F c.renew_at.new.tracks.items in
     let news = filter is_media_track c.args.news.now in
-    let f = λ (t : TrackState). renewed_by t (partner_of old news t) in
+    let f = λ (t : TrackState). track_with_partner t (partner_of old news t) in
     let here : c.loop-i.i < length old = rw length-map (omega (arith, c.loop-i.invariant.end, c.loop-i-test.true)) in
     record {
       states = written_more f old now next c.loop-i.i here c.loop-i.invariant.states (renewed_here old now next news c.loop-i.i c.loop-i.invariant.kinds c.renew_at.ensures.states);
@@ -28,4 +28,4 @@ returns-clause-states g c =
     let old = states_of F c.args.tracks.now.items in
     let news = filter is_media_track c.args.news.now in
     let past : length old ≤ c.loop-i.i = rw length-map (omega (arith, c.loop-i.invariant.end, c.loop-i-test.false)) in
-    all_written (λ (t : TrackState). renewed_by t (partner_of old news t)) old (states_of F c.loop-i.tracks.items) c.loop-i.i past c.loop-i.invariant.states
+    all_written (λ (t : TrackState). track_with_partner t (partner_of old news t)) old (states_of F c.loop-i.tracks.items) c.loop-i.i past c.loop-i.invariant.states

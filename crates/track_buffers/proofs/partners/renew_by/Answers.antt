@@ -2,7 +2,7 @@ use Rattle.std.proofs.Common.{◌≡◌, ◌∙◌, ap, sym, set, slice_get, Som
 use Rattle.std.specs.Option.{option_copied_mut}
 use Rattle.range_removal.proofs.Rooms.{gaps_set}
 use Rattle.track_store.specs.State.{TrackState, states_of}
-use Rattle.track_buffers.specs.Initialized.{renewed_by}
+use Rattle.track_buffers.specs.Initialized.{track_with_partner}
 use Rattle.track_buffers.proofs.Editing.{edited, not_there}
 use Rattle.track_buffers.proofs.partners.renew_by.Goals as goal
 
@@ -10,7 +10,7 @@ pub returns-in-Some-clause-states : goal.returns-in-Some-clause-states
 returns-in-Some-clause-states g c =
     let ts = c.args.tracks.now.items in
     let at : slice_get ts c.args.i ≡ Some c.in-Some.track.now = sym c.get_mut.ensures.value ∙ ap option_copied_mut c.in-Some.is in
-    edited g.S.FrameStore.frames (λ (t : TrackState). renewed_by t (Some c.args.partner.now)) ts c.args.i c.in-Some.track.now c.renew.new.track at c.renew.ensures.state
+    edited g.S.FrameStore.frames (λ (t : TrackState). track_with_partner t (Some c.args.partner.now)) ts c.args.i c.in-Some.track.now c.renew.new.track at c.renew.ensures.state
 
 pub returns-in-Some-clause-gaps : goal.returns-in-Some-clause-gaps
 returns-in-Some-clause-gaps g c =
@@ -23,4 +23,4 @@ returns-in-None-clause-states g c =
     let ts = c.args.tracks.now.items in
     let at : slice_get ts c.args.i ≡ None = sym c.get_mut.ensures.value ∙ ap option_copied_mut c.in-None.is in
     let ss = states_of {S = g.row.S.Denot} g.S.FrameStore.frames ts in
-    not_there g.S.FrameStore.frames (λ (t : TrackState). ss ≡ set ss c.args.i (renewed_by t (Some c.args.partner.now))) ts c.args.i at
+    not_there g.S.FrameStore.frames (λ (t : TrackState). ss ≡ set ss c.args.i (track_with_partner t (Some c.args.partner.now))) ts c.args.i at

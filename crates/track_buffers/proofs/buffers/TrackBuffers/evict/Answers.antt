@@ -2,8 +2,8 @@ use Rattle.track_store.specs.State.{states_of}
 use Rattle.track_buffers.proofs.Keeping.{ends_kept, room_kept_by}
 use Rattle.track_buffers.proofs.buffers.TrackBuffers.evict.Goals as goal
 
-pub returns-clause-ends : goal.returns-clause-ends
-returns-clause-ends g c = λ moment.
+pub returns-clause-within_duration : goal.returns-clause-within_duration
+returns-clause-within_duration g c = λ moment.
     let F = g.S.FrameStore.frames in
     rw (← c.self.view_is) (ends_kept (states_of F c.self.inside.tracks.items) (states_of F c.evict.new.tracks.items) c.evict.ensures.ends moment)
 

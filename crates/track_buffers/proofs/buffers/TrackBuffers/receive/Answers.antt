@@ -1,8 +1,18 @@
 use Rattle.track_store.specs.State.{states_of}
 use Rattle.track_buffers.proofs.Keeping.{ends_told}
+use Rattle.track_buffers.proofs.Durations.{not_after_told}
 use Rattle.track_buffers.proofs.buffers.TrackBuffers.receive.Goals as goal
 
-pub returns-in-None-clause-ends : goal.returns-in-None-clause-ends
-returns-in-None-clause-ends g c =
+pub returns-in-None-clause-within_duration : goal.returns-in-None-clause-within_duration
+returns-in-None-clause-within_duration g c =
     let ts = states_of g.S.FrameStore.frames c.self.inside.tracks.items in
-    rw (← c.self.view_is) (λ h. c.take_tracks.ensures.ends c.told_duration-brought.result.duration (ends_told c.args.presentation.now c.args.duration c.told_duration-brought.result ts c.told_duration-brought.ensures h))
+    rw (← c.self.view_is) (λ h. c.take_tracks.ensures.within_duration c.segment_effect-effect.result.duration (ends_told c.args.presentation.now c.args.duration c.segment_effect-effect.result ts c.segment_effect-effect.ensures h))
+
+pub returns-in-Some-clause-no_fall : goal.returns-in-Some-clause-no_fall
+returns-in-Some-clause-no_fall g c = not_after_told c.args.presentation.now c.args.duration c.segment_effect-effect.result c.segment_effect-effect.ensures
+
+pub returns-in-None-clause-no_fall : goal.returns-in-None-clause-no_fall
+returns-in-None-clause-no_fall g c = not_after_told c.args.presentation.now c.args.duration c.segment_effect-effect.result c.segment_effect-effect.ensures
+
+pub returns-in-Some-clause-within_duration : goal.returns-in-Some-clause-within_duration
+returns-in-Some-clause-within_duration g c = ends_told c.args.presentation.now c.args.duration c.segment_effect-effect.result c.args.self.now.media.tracks c.segment_effect-effect.ensures

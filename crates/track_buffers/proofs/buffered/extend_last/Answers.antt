@@ -1,8 +1,8 @@
 use Rattle.std.proofs.Common.{◌∙◌, ℤ, List, pos, sym, ap}
 use Rattle.mse_base.specs.declared.span.Span.{Span}
-use Rattle.mse_base.specs.Bridging.{join_in}
+use Rattle.mse_base.specs.Bridging.{ranges_with}
 use Rattle.track_buffers.proofs.Ranging.{ranges_normalized, joined_last, none_grown}
-use Rattle.track_buffers.proofs.buffered.grow.Goals as goal
+use Rattle.track_buffers.proofs.buffered.extend_last.Goals as goal
 
 pub add_span-requires-clause-ranges : goal.add_span-requires-clause-ranges
 add_span-requires-clause-ranges c = rw (c.zero.ensures, c.in_ok-reserve-in-Some.ensures.spans) (ranges_normalized c.args.ranges.now.spans c.requires)
@@ -11,11 +11,10 @@ pub returns-in_ok-reserve-in-Some : goal.returns-in_ok-reserve-in-Some
 returns-in_ok-reserve-in-Some c =
     let last = c.in-Some.last in
     let old = c.args.ranges.now.spans in
-    let span : ℤ → Span = λ e. record { start = last.start; end = e } in
     c.add_span.ensures.spans
-    ∙ ap (λ (z : ℤ). join_in z c.reserve.new.self.spans (span c.later.result)) c.zero.ensures
-    ∙ ap (λ (ss : List Span). join_in (pos 0) ss (span c.later.result)) c.in_ok-reserve-in-Some.ensures.spans
-    ∙ ap (λ (e : ℤ). join_in (pos 0) old (span e)) c.later.ensures
+    ∙ ap (λ (z : ℤ). ranges_with z c.reserve.new.self.spans c.span_up_to.result) c.zero.ensures
+    ∙ ap (λ (ss : List Span). ranges_with (pos 0) ss c.span_up_to.result) c.in_ok-reserve-in-Some.ensures.spans
+    ∙ ap (λ (s : Span). ranges_with (pos 0) old s) c.span_up_to.ensures
     ∙ joined_last old last c.args.end c.requires (sym c.last.ensures ∙ c.in-Some.is)
 
 pub returns-in-None : goal.returns-in-None

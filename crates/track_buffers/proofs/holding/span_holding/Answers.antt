@@ -1,0 +1,25 @@
+use Rattle.std.proofs.Common.{◌≡◌, ◌∙◌, ◌≤◌, ◌<◌, List, map, take, length, ap, arith}
+use Rattle.std.specs.List.{find}
+use Rattle.std.proofs.lemmas.List.{length-map, length-take, take_all}
+use Rattle.mse_base.specs.declared.span.Span.{Span}
+use Rattle.mse_base.specs.Spans.{reaches}
+use Rattle.mse_base.specs.Meets.{meet_of_all}
+use Rattle.track_store.specs.declared.tracks.Track.{Track}
+use Rattle.track_store.specs.Frames.{ranges_of}
+use Rattle.track_buffers.specs.Buffered.{with_end, with_common_end, ranges_in}
+use Rattle.track_buffers.proofs.Ranging.{grown_all, ranges_all}
+use Rattle.track_buffers.proofs.Lookups.{held_first, held_more, held_none}
+use Rattle.track_buffers.proofs.holding.span_holding.Goals as goal
+
+pub loop-i-preserved : goal.loop-i-preserved
+loop-i-preserved g c =
+    let qs = ranges_in {S = g.row.S.Denot} g.S.FrameStore.frames g.S.FrameStore.gap c.args.tracks.now.items in
+    let rs = map (with_end c.common_end-end.result) qs in
+    let long : length rs ≡ length c.args.tracks.now.items = length-map qs (with_end c.common_end-end.result) ∙ length-map c.args.tracks.now.items (λ (t : Track g.row.S.Denot). ranges_of (g.S.FrameStore.gap t.store) (g.S.FrameStore.frames t.store)) in
+    let here : c.loop-i.i < length rs = omega (arith, c.len-i-end.ensures, c.loop-i-test.true) in
+    let front : 1 ≤ length (take c.loop-i.i rs) = rw length-take (omega (arith, c.loop-i.invariant.some)) in
+    let all = grown_all c.common_end-end.result qs (ranges_all g.S.FrameStore.frames g.S.FrameStore.gap c.args.tracks.now.items c.requires) in
+    record {
+      held = held_more c.args.t rs c.loop-i.i c.loop-i.held c.span_at.result c.overlap_of_two-held.result here front all c.loop-i.invariant.held c.span_at.ensures c.overlap_of_two-held.ensures;
+      some = omega arith;
+    }

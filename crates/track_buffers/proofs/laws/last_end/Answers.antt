@@ -1,0 +1,5 @@
+use Rattle.track_buffers.proofs.Ranging.{last_joined}
+use Rattle.track_buffers.proofs.laws.last_end.Goals as goal
+
+pub returns : goal.returns
+returns c = last_joined
