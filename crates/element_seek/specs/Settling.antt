@@ -1,0 +1,25 @@
+-- The end of each step: the level that the position has now, with its events (HTML, media elements, ready states).
+use Rattle.std.specs.Prelude.{◌&&◌, ◌||◌, if◌then◌else◌}
+use Rattle.mse_calls.specs.Level.{has_metadata}
+use Rattle.mse_calls.specs.declared.answers.Level.{Level}
+use Rattle.element_ready.specs.declared.facts.Facts.{Facts}
+use Rattle.element_ready.specs.Levels.{level_at}
+use Rattle.element_ready.specs.Events.{change_events, is_first_data}
+use Rattle.element_seek.specs.declared.scene.Scene.{Scene}
+use Rattle.element_seek.specs.State.{PlayerState, Told, telling, has_ended, is_playing}
+
+-- the level of the position; HAVE_NOTHING stays until the metadata is there
+abbrev pub level_in : Scene → PlayerState → Level
+level_in scene p = if has_metadata p.level then level_at scene.span p.position scene.duration else p.level
+
+abbrev pub facts_in : Scene → PlayerState → Facts
+facts_in scene p = record { playing = is_playing scene p; paused = p.paused; first_loaded = p.loaded_before }
+
+-- a new level, with its events; where playback has not ended, its end was not told
+abbrev pub at_level : Level → Scene → PlayerState → Told
+at_level new scene p =
+    telling (change_events p.level new (facts_in scene p))
+    (record p { level = new; loaded_before = p.loaded_before || is_first_data p.level new; finished = p.finished && has_ended scene p })
+
+abbrev pub after_settle : Scene → PlayerState → Told
+after_settle scene p = at_level (level_in scene p) scene p

@@ -1,0 +1,10 @@
+use mse_calls::{Changes, Name};
+
+/// What a call on an element answers that may be refused.
+#[derive(Debug, Drop)]
+pub enum Acted {
+    /// The events at the element, in order.
+    Done(Changes),
+    /// Nothing changed.
+    Refused(Name),
+}

@@ -1,0 +1,17 @@
+ghost use Rattle.std.specs.Prelude.{◌≡◌, vec_capacity};
+ghost use Rattle.source_state.specs.State.{has, without};
+
+/// Whether the list has the buffer of a number.
+pub(crate) fn has(list: &Vec<u32>, k: u32) -> bool
+    ensures { result ≡ has k list.now.items }
+{
+    list.contains(&k)
+}
+
+/// Takes the buffer of a number off the list, and keeps its room.
+pub(crate) fn remove_number(list: &mut Vec<u32>, k: u32)
+    ensures items { list.new.items ≡ without k list.old.items }
+    ensures capacity { vec_capacity list.new ≡ vec_capacity list.old }
+{
+    list.retain(|n| *n != k);
+}

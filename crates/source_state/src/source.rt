@@ -1,0 +1,311 @@
+ghost use Rattle.std.specs.Prelude.{◌≡◌, true, false, not, length, slice_get, IfOk, OnErr};
+ghost use Rattle.source_state.specs.State.{new_source, has};
+ghost use Rattle.mse_base.specs.Moments.{same_moment};
+ghost use Rattle.source_state.specs.Calls.{after_attach, after_set_live, after_clear_live, after_add_buffer, after_remove_buffer, with_active, after_duration_change, after_set_duration, end_refusal, after_end, after_reopen};
+ghost use Rattle.source_state.specs.Seekable.{seekable_span};
+
+use crate::answers::{Added, AllBuffers, Changed, Removed};
+use crate::lists::{has, remove_number};
+use crate::seekable::seekable_span;
+use mse_base::{Moment, OutOfMemory, Span, Ticks};
+use mse_calls::{EndKind, Name, Ready};
+use std::alloc::Global;
+use std::marker::Model;
+
+/// How many source buffers a source has at most at one time.
+const MOST: usize = 16;
+
+/// A media source.
+#[derive(Debug, Drop)]
+pub struct Source {
+    ready: Ready,
+    duration: Moment,
+    live: Option<Span>,
+    made: u32,
+    listed: Vec<u32>,
+    active: Vec<u32>,
+}
+
+impl Model for Source {
+    ghost use Rattle.std.specs.Prelude.{vec_capacity};
+    ghost use Rattle.source_state.specs.State.{SourceState};
+    ghost use Rattle.source_state.specs.Room.{HasRoomToActivate};
+
+    ghost Value = { SourceState };
+
+    ghost view = { λ s. record { ready = s.ready; duration = s.duration; live = s.live; made = s.made; listed = s.listed.items; active = s.active.items } };
+
+    ghost invariant = { λ s. HasRoomToActivate s.listed.items s.active.items (vec_capacity s.active) };
+}
+
+impl Source {
+    /// A closed source without buffers, whose duration is NaN. It takes no memory.
+    pub fn new(alloc: Global) -> Source
+        ensures { result ≡ new_source }
+    {
+        Source {
+            ready: Ready::Closed,
+            duration: Moment::Nan,
+            live: None,
+            made: 0,
+            listed: Vec::new(alloc),
+            active: Vec::new(alloc),
+        }
+    }
+
+    /// Opens the source (Media Source Extensions, 2.4.1, attaching to a media element).
+    ///
+    /// InvalidState where it is not closed.
+    pub fn attach(&mut self) -> Option<Name>
+        ensures answer { result ≡ (after_attach self.old).answer }
+        ensures state { self.new ≡ (after_attach self.old).state }
+    {
+        if !self.ready.is_closed() {
+            return Some(Name::InvalidState);
+        }
+        self.ready = Ready::Opened;
+        None
+    }
+
+    /// Sets the live seekable range (Media Source Extensions, 2.2, `setLiveSeekableRange`), from
+    /// `start` on and to `end`, in ticks.
+    ///
+    /// InvalidState where the source is not open; TypeError where `start` is negative or after
+    /// `end`.
+    pub fn set_live(&mut self, start: Ticks, end: Ticks) -> Option<Name>
+        ensures answer { result ≡ (after_set_live start end self.old).answer }
+        ensures state { self.new ≡ (after_set_live start end self.old).state }
+    {
+        if !self.ready.is_open() {
+            return Some(Name::InvalidState);
+        }
+        if start < Ticks::zero() || end < start {
+            return Some(Name::TypeError);
+        }
+        self.live = Some(Span { start, end });
+        None
+    }
+
+    /// Takes the live seekable range away (Media Source Extensions, 2.2,
+    /// `clearLiveSeekableRange`).
+    ///
+    /// InvalidState where the source is not open.
+    pub fn clear_live(&mut self) -> Option<Name>
+        ensures answer { result ≡ (after_clear_live self.old).answer }
+        ensures state { self.new ≡ (after_clear_live self.old).state }
+    {
+        if !self.ready.is_open() {
+            return Some(Name::InvalidState);
+        }
+        self.live = None;
+        None
+    }
+
+    /// Puts a buffer with the next number at the end of the list (Media Source Extensions, 2.2,
+    /// `addSourceBuffer`, once the type is known to be supported). An `Err` changes nothing.
+    ///
+    /// QuotaExceeded where 16 buffers are in the list, or `2^32 - 1` were ever made; InvalidState
+    /// where the source is not open.
+    #[tactic(auto, using(crate::proofs::Activating::few))]
+    pub fn add_buffer(&mut self) -> Result<Added, OutOfMemory>
+        ensures answer { IfOk result (λ added. added ≡ (after_add_buffer self.old).answer) }
+        ensures state { IfOk result (λ _. self.new ≡ (after_add_buffer self.old).state) }
+        ensures err { OnErr result (self.new ≡ self.old) }
+    {
+        if self.listed.len() >= MOST || self.made == u32::MAX {
+            return Ok(Added::Refused(Name::QuotaExceeded));
+        }
+        if !self.ready.is_open() {
+            return Ok(Added::Refused(Name::InvalidState));
+        }
+        self.listed.reserve(1)?;
+        // A buffer becomes active without memory.
+        self.active.reserve(MOST)?;
+        let number = self.made;
+        self.listed.push_reserved(number);
+        self.made += 1;
+        Ok(Added::Number(number))
+    }
+
+    /// Takes a buffer off the list, and off the list of active buffers if it is there (Media Source
+    /// Extensions, 2.2, `removeSourceBuffer`).
+    ///
+    /// NotFound where the buffer is not in the list.
+    pub fn remove_buffer(&mut self, k: u32) -> Removed
+        ensures answer { result ≡ (after_remove_buffer k self.old).answer }
+        ensures state { self.new ≡ (after_remove_buffer k self.old).state }
+    {
+        if !has(&self.listed, k) {
+            return Removed::Refused(Name::NotFound);
+        }
+        let active = has(&self.active, k);
+        remove_number(&mut self.listed, k);
+        remove_number(&mut self.active, k);
+        Removed::Gone { active }
+    }
+
+    /// Puts a buffer on the list of active buffers (Media Source Extensions, 3.5.7, initialization
+    /// segment received). It takes no memory.
+    pub fn activate(&mut self, k: u32)
+        requires listed { has k self.old.listed ≡ true }
+        requires inactive { has k self.old.active ≡ false }
+        ensures { self.new ≡ with_active k self.old }
+    {
+        self.active.push_reserved(k);
+    }
+
+    /// Sets the duration (Media Source Extensions, 2.1, `duration`, on setting), with what is told
+    /// of all buffers in the list.
+    ///
+    /// TypeError where `d` is NaN or negative; InvalidState where the source is not open, where a
+    /// buffer is updating, or where `d` is another duration and a frame starts after it.
+    pub fn set_duration(&mut self, d: Moment, all: &AllBuffers) -> Changed
+        ensures answer { result ≡ (after_set_duration d all.now self.old).answer }
+        ensures state { self.new ≡ (after_set_duration d all.now self.old).state }
+    {
+        if d.is_nan() || Ticks::zero().is_after(d) {
+            return Changed::Refused(Name::TypeError);
+        }
+        if !self.ready.is_open() || all.updating {
+            return Changed::Refused(Name::InvalidState);
+        }
+        if d == self.duration {
+            return Changed::Same;
+        }
+        if let Some(start) = all.highest_start
+            && start.is_after(d)
+        {
+            return Changed::Refused(Name::InvalidState);
+        }
+        let duration = match all.highest_end {
+            Some(end) => d.at_least(end),
+            None => d,
+        };
+        if duration == self.duration {
+            return Changed::Same;
+        }
+        self.duration = duration;
+        Changed::To(duration)
+    }
+
+    /// Changes the duration (Media Source Extensions, 2.4.6, duration change): true exactly where it
+    /// was another.
+    pub fn change_duration(&mut self, d: Moment) -> bool
+        ensures answer { result ≡ not (same_moment d self.old.duration) }
+        ensures state { self.new ≡ (after_duration_change d self.old).state }
+    {
+        if d == self.duration {
+            return false;
+        }
+        self.duration = d;
+        true
+    }
+
+    /// Why the source cannot be ended now (Media Source Extensions, 2.2, `endOfStream`), where a
+    /// buffer is updating or not: InvalidState where it is not open or a buffer is updating.
+    pub fn end_refusal(&self, updating: bool) -> Option<Name>
+        ensures { result ≡ end_refusal updating self.now }
+    {
+        if !self.ready.is_open() || updating {
+            return Some(Name::InvalidState);
+        }
+        None
+    }
+
+    /// Ends the source (Media Source Extensions, 2.4.7, end of stream algorithm, the source's part).
+    /// Without an error the duration becomes the highest end of all frames in ticks, or 0.
+    pub fn end(&mut self, kind: EndKind, highest_end: Option<Ticks>) -> Changed
+        ensures answer { result ≡ (after_end kind highest_end self.old).answer }
+        ensures state { self.new ≡ (after_end kind highest_end self.old).state }
+    {
+        self.ready = Ready::Ended;
+        match kind {
+            EndKind::Plain => {
+                let duration = Moment::At(highest_end.unwrap_or(Ticks::zero()));
+                if duration == self.duration {
+                    return Changed::Same;
+                }
+                self.duration = duration;
+                Changed::To(duration)
+            }
+            EndKind::Network | EndKind::Decode => Changed::Same,
+        }
+    }
+
+    /// Opens an ended source again: true exactly where it was ended.
+    pub fn reopen(&mut self) -> bool
+        ensures answer { result ≡ (after_reopen self.old).answer }
+        ensures state { self.new ≡ (after_reopen self.old).state }
+    {
+        if !self.ready.is_ended() {
+            return false;
+        }
+        self.ready = Ready::Opened;
+        true
+    }
+
+    /// What can be sought (Media Source Extensions, 6, `seekable`), by the time where the first
+    /// buffered range of the element starts and the time where the last one ends, in ticks; `None`
+    /// where nothing can.
+    pub fn seekable(&self, first: Option<Ticks>, last: Option<Ticks>) -> Option<Span>
+        ensures { result ≡ seekable_span self.now.duration self.now.live first last }
+    {
+        seekable_span(&self.duration, &self.live, first, last)
+    }
+
+    /// The state (Media Source Extensions, 2.1, `readyState`).
+    pub fn ready(&self) -> Ready
+        ensures { result ≡ self.now.ready }
+    {
+        self.ready
+    }
+
+    /// The duration.
+    pub fn duration(&self) -> Moment
+        ensures { result ≡ self.now.duration }
+    {
+        self.duration
+    }
+
+    /// The live seekable range, if there is one.
+    pub fn live(&self) -> Option<Span>
+        ensures { result ≡ self.now.live }
+    {
+        self.live
+    }
+
+    /// How many buffers were ever made. Their numbers are those below it.
+    pub fn made(&self) -> u32
+        ensures { result ≡ self.now.made }
+    {
+        self.made
+    }
+
+    /// How many buffers are in the list.
+    pub fn len(&self) -> usize
+        ensures { result ≡ length self.now.listed }
+    {
+        self.listed.len()
+    }
+
+    /// The number of the buffer at a place of the list; `None` exactly past the end.
+    pub fn at(&self, i: usize) -> Option<u32>
+        ensures { result ≡ slice_get self.now.listed i }
+    {
+        self.listed.get(i).copied()
+    }
+
+    /// Whether the buffer of a number is in the list.
+    pub fn listed(&self, k: u32) -> bool
+        ensures { result ≡ has k self.now.listed }
+    {
+        has(&self.listed, k)
+    }
+
+    /// Whether the buffer of a number is in the list of active buffers.
+    pub fn active(&self, k: u32) -> bool
+        ensures { result ≡ has k self.now.active }
+    {
+        has(&self.active, k)
+    }
+}
