@@ -1,13 +1,16 @@
 #!/usr/bin/env python3
-"""Makes the files that ranges.sh measures.
+"""Makes the files that ranges.sh and store.sh measure.
 
-    make.py samples COUNT FILE      COUNT samples of one video track in B-frame order
-    make.py bytes COUNT SIZE FILE   COUNT samples of SIZE bytes each
+    make.py samples COUNT SIZE FILE   COUNT samples of one video track in B-frame order, of SIZE bytes on average
+    make.py bytes COUNT SIZE FILE     COUNT samples of SIZE bytes each
+    make.py store CASE COUNT FILE     COUNT samples that come as CASE says: twice, sound-twice, backwards, gaps-filled,
+                                      gaps-backwards, random
 
 The initialization segment is that of examples/plain.mp4: one video track, number 1, 90000 units a second. A media
 segment has at most 100 samples of 3000 units; each tenth sample is a random access point.
 """
 import os
+import random
 import struct
 import sys
 
@@ -20,13 +23,12 @@ def box(kind, payload):
     return struct.pack(">I4s", 8 + len(payload), kind) + payload
 
 
-def moof(number, start, sizes, shown):
+def moof(number, start, sizes, shown, sync):
     def with_offset(offset):
         run = struct.pack(">IIi", 0x01000F01, len(sizes), offset)
         for i, size in enumerate(sizes):
             at = start + i
-            sync = at % 10 == 0
-            flags = 0x02000000 if sync else 0x01010000
+            flags = 0x02000000 if sync(at) else 0x01010000
             run += struct.pack(">IIIi", UNITS, size, flags, (shown(at) - at) * UNITS)
         traf = box(b"tfhd", struct.pack(">II", 0x00020000, 1))
         traf += box(b"tfdt", struct.pack(">IQ", 0x01000000, start * UNITS))
@@ -36,25 +38,63 @@ def moof(number, start, sizes, shown):
     return with_offset(len(with_offset(0)) + 8)
 
 
-def write(file, count, size_of, shown, per_segment):
+def segment(start, sizes, shown=lambda i: i, sync=lambda i: i % 10 == 0):
+    return moof(1, start, sizes, shown, sync) + box(b"mdat", b"\x55" * sum(sizes))
+
+
+def write(file, segments):
     here = os.path.dirname(os.path.abspath(__file__))
     with open(os.path.join(here, "..", "examples", "plain.mp4"), "rb") as plain:
         init = plain.read()[:595]
     with open(file, "wb") as out:
         out.write(init)
-        for number, start in enumerate(range(0, count, per_segment), 1):
-            sizes = [size_of(i) for i in range(start, min(start + per_segment, count))]
-            out.write(moof(number, start, sizes, shown))
-            out.write(box(b"mdat", b"\x55" * sum(sizes)))
+        for part in segments:
+            out.write(part)
+
+
+# segments of at most so many samples, from the first sample on
+def parts(count, per_segment, size_of, shown=lambda i: i, sync=lambda i: i % 10 == 0):
+    for start in range(0, count, per_segment):
+        sizes = [size_of(i) for i in range(start, min(start + per_segment, count))]
+        yield segment(start, sizes, shown, sync)
+
+
+def reordered(i):
+    return i - i % 10 + SHOWN[i % 10]
+
+
+def every(i):
+    return True
+
+
+def store(case, count):
+    if case == "twice":
+        return 2 * list(parts(count, 100, lambda i: 32, reordered))
+    if case == "sound-twice":
+        return 2 * list(parts(count, 100, lambda i: 16, sync=every))
+    if case == "backwards":
+        return reversed(list(parts(count, 10, lambda i: 32, reordered)))
+    if case == "gaps-backwards":
+        return [segment(2 * i, [16], sync=every) for i in reversed(range(count))]
+    if case == "gaps-filled":
+        return [segment(2 * i, [16], sync=every) for i in range(count)] + [
+            segment(2 * i + 1, [16], sync=every) for i in range(count)]
+    if case == "random":
+        places = random.Random(1)
+        return parts(count, 100, lambda i: 8, lambda i: places.randrange(count), every)
+    sys.exit(f"no case {case}")
 
 
 def main():
-    if sys.argv[1] == "samples":
-        count = int(sys.argv[2])
-        write(sys.argv[3], count, lambda i: 100 + i * 37 % 200, lambda i: i - i % 10 + SHOWN[i % 10], 100)
-    else:
+    command = sys.argv[1]
+    if command == "samples":
         count, size = int(sys.argv[2]), int(sys.argv[3])
-        write(sys.argv[4], count, lambda i: size, lambda i: i, 10)
+        write(sys.argv[4], parts(count, 100, lambda i: size // 2 + i * 37 % size, reordered))
+    elif command == "bytes":
+        count, size = int(sys.argv[2]), int(sys.argv[3])
+        write(sys.argv[4], parts(count, 10, lambda i: size))
+    else:
+        write(sys.argv[4], store(sys.argv[2], int(sys.argv[3])))
 
 
 main()

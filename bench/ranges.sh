@@ -12,11 +12,12 @@ work=$(mktemp -d)
 trap 'rm -rf "$work"' EXIT
 cd "$work"
 
-python3 "$here/make.py" samples 30000 30000.mp4
-python3 "$here/make.py" samples 300000 300000.mp4
-python3 "$here/make.py" bytes 100 1000000 few.mp4
-python3 "$here/make.py" samples 4600 1m.mp4
-python3 "$here/make.py" samples 9200 2m.mp4
+python3 "$here/make.py" samples 300000 40 small.mp4
+python3 "$here/make.py" samples 30000 40 tenth.mp4
+python3 "$here/make.py" samples 300000 200 medium.mp4
+python3 "$here/make.py" bytes 2500 40000 large.mp4
+python3 "$here/make.py" samples 4600 200 1m.mp4
+python3 "$here/make.py" samples 9200 200 2m.mp4
 if command -v rustc >/dev/null; then
     rustc --edition 2021 -O -o yardstick "$here/yardstick.rs"
 else
@@ -65,7 +66,7 @@ def memory(words):
 def show(name, words):
     used, took = times(words)
     size = os.path.getsize(words[-1])
-    line = f"{name:28} {size / 1e6:6.1f} MB {used:7.3f} s {took:7.3f} s by the clock"
+    line = f"{name:38} {size / 1e6:6.1f} MB {used:7.3f} s {took:7.3f} s by the clock"
     most = memory(words)
     if most is not None:
         line += f" {most / 1e6:7.1f} MB at most, {most / size:.2f} times the file"
@@ -73,14 +74,16 @@ def show(name, words):
     return used
 
 
-many = show("ranges, 300,000 samples", [program, "ranges", "300000.mp4"])
-tenth = show("ranges, 30,000 samples", [program, "ranges", "30000.mp4"])
-show("ranges, 100 samples of 1 MB", [program, "ranges", "few.mp4"])
+FILES = [("300,000 samples of 40 bytes", "small.mp4"), ("300,000 samples of 200 bytes", "medium.mp4"), ("2,500 samples of 40,000 bytes", "large.mp4")]
+for name, file in FILES:
+    took = show(f"ranges, {name}", [program, "ranges", file])
+    if os.path.exists("yardstick"):
+        floor = show(f"floor, {name}", ["./yardstick", file])
+        print(f"{name}: {took / floor:.2f} times the floor")
+many = show("ranges, 300,000 samples", [program, "ranges", "small.mp4"])
+tenth = show("ranges, 30,000 samples", [program, "ranges", "tenth.mp4"])
+print(f"ten times the samples: {many / tenth:.1f} times the time")
 one = show("pieces 1, 1 MB", [program, "pieces", "1", "1m.mp4"])
 two = show("pieces 1, 2 MB", [program, "pieces", "1", "2m.mp4"])
-print(f"ten times the samples: {many / tenth:.1f} times the time")
 print(f"pieces 1, twice the bytes: {two / one:.2f} times the time")
-if os.path.exists("yardstick"):
-    plain = show("yardstick, 300,000 samples", ["./yardstick", "300000.mp4"])
-    print(f"300,000 samples: {many / plain:.2f} times the yardstick")
 END

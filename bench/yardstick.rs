@@ -1,6 +1,5 @@
-//! The yardstick of ranges.sh: reads a file, walks its boxes, and stores each sample's payload apart, with its times.
-//! It checks nothing that a reader of hostile files has to check.
-use std::collections::BTreeMap;
+//! The floor that ranges.sh measures against: reads a file, walks its boxes, and copies each sample's payload into a
+//! list of its own. It keeps no times, no order and no ranges, and checks nothing that a reader of hostile files has to.
 use std::env;
 use std::fs;
 
@@ -21,9 +20,8 @@ fn boxes<'a>(bytes: &'a [u8], mut each: impl FnMut(&[u8], &'a [u8], usize)) {
 fn main() {
     let name = env::args().nth(1).expect("a file");
     let bytes = fs::read(name).expect("a file that can be read");
-    let mut stored: BTreeMap<(u64, usize), Vec<u8>> = BTreeMap::new();
+    let mut stored: Vec<Vec<u8>> = Vec::new();
     let mut used = 0;
-    let mut end = 0;
     boxes(&bytes, |kind, payload, start| {
         if kind != b"moof" {
             return;
@@ -32,26 +30,19 @@ fn main() {
             if kind != b"traf" {
                 return;
             }
-            let mut time = 0u64;
-            boxes(traf, |kind, run, _| match kind {
-                b"tfdt" => time = u64::from_be_bytes(run[4..12].try_into().unwrap()),
-                b"trun" => {
-                    let mut place = start + number(run, 8);
-                    for i in 0..number(run, 4) {
-                        let at = 12 + 16 * i;
-                        let (units, size) = (number(run, at) as u64, number(run, at + 4));
-                        let shown = time.wrapping_add(number(run, at + 12) as i32 as u64);
-                        let serial = stored.len();
-                        stored.insert((shown, serial), bytes[place..place + size].to_vec());
-                        end = end.max(shown + units);
-                        used += size;
-                        place += size;
-                        time += units;
-                    }
+            boxes(traf, |kind, run, _| {
+                if kind != b"trun" {
+                    return;
                 }
-                _ => {}
+                let mut place = start + number(run, 8);
+                for i in 0..number(run, 4) {
+                    let size = number(run, 12 + 16 * i + 4);
+                    stored.push(bytes[place..place + size].to_vec());
+                    used += size;
+                    place += size;
+                }
             });
         });
     });
-    println!("frames {} used {used} end {end}", stored.len());
+    println!("frames {} used {used}", stored.len());
 }

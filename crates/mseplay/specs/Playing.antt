@@ -10,13 +10,13 @@ use Rattle.mse_calls.specs.declared.answers.StateView.{StateView}
 use Rattle.mse_calls.specs.declared.views.FaultView.{FaultView}
 use Rattle.mse_calls.specs.declared.views.View.{View}
 use Rattle.event_text.specs.Block.{closing_text}
-use Rattle.byte_stream.specs.Items.{Item, items_of}
+use Rattle.byte_stream.specs.Readings.{ByteItem, items_of}
 use Rattle.track_buffers.specs.Settings.{new_media}
 use Rattle.buffer_state.specs.declared.running.Running.{Running}
 use Rattle.buffer_state.specs.declared.running.Running.TheVariants.{Nothing}
-use Rattle.buffer_state.specs.State.{Feed, Content, restarted}
+use Rattle.buffer_state.specs.State.{Feed, Content, new_feed}
 use Rattle.buffer_state.specs.Faults.{fault_view}
-use Rattle.buffer_state.specs.Turns.{Taken, Went, Broke, take_item, broken}
+use Rattle.buffer_state.specs.Turns.{ItemResult, Done, AppendError, item_result, content_after_error}
 use Rattle.buffer_state.specs.Calls.{buffer_view}
 
 -- What the buffer holds, the duration of the source, and the first fault.
@@ -26,32 +26,32 @@ pub record Heard : Type 0 where
   pub fault : Option FaultView
 
 -- after an item that went well come the others; a fault ends all
-abbrev pub heard_by : Taken → (Content → Moment → Heard) → Heard
-heard_by (Went c b) others = others c b.duration
-heard_by (Broke fault at c b) others = record { content = broken c; duration = b.duration; fault = Some (fault_view fault 0 at) }
+abbrev pub heard_by : ItemResult → (Content → Moment → Heard) → Heard
+heard_by (Done c b) others = others c b.duration
+heard_by (AppendError fault at c b) others = record { content = content_after_error c; duration = b.duration; fault = Some (fault_view fault 0 at) }
 
 -- The items of a string one after the other, up to the first fault, where the buffer holds the content and the source
 -- has the duration d (Media Source Extensions, 3.5.5, buffer append).
-abbrev pub heard : List Item → Content → Moment → Heard
+abbrev pub heard : List ByteItem → Content → Moment → Heard
 heard [] c d = record { content = c; duration = d; fault = None }
-heard (item ∷ items) c d = heard_by (take_item item c d) (heard items)
+heard (item ∷ items) c d = heard_by (item_result item c d) (heard items)
 
 -- a buffer of ISO BMFF that has received nothing (2.2, addSourceBuffer)
 abbrev pub opening : Content
 opening = record { media = new_media (pos 0) false; latest = None }
 
 -- all items of the string
-abbrev pub all_items : List ℕ → List Item
+abbrev pub all_items : List ℕ → List ByteItem
 all_items bytes = items_of Mp4 None bytes
 
 -- a string that is read from its first byte on: so many items were taken, and this runs
 abbrev pub fed : List ℕ → ℕ → Running → Feed
-fed bytes taken running = record { container = Mp4; before = None; whole = bytes; taken = taken; running = running }
+fed bytes taken running = record { reading = record { container = Mp4; before = None; whole = bytes; taken = taken }; running = running }
 
 -- what is left of the string: all of it, with its items taken; after a fault an empty string
 abbrev pub feed_after : Option FaultView → List ℕ → Content → Feed
 feed_after None bytes c = fed bytes (length (all_items bytes)) Nothing
-feed_after (Some fault) bytes c = restarted Mp4 c.latest
+feed_after (Some fault) bytes c = new_feed Mp4 c.latest
 
 -- what feeds the buffer and what it holds, the duration of the source, and the first fault
 pub record Outcome : Type 0 where

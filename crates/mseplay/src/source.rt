@@ -59,12 +59,11 @@ fn state_after(ended: bool, duration: Moment) -> StateView
 
 // What the buffer is told of an open source of this duration.
 fn around(duration: Moment) -> Around
-    ensures told { surroundings result ≡ record { number = 0; removed = false; ready = Ready.Opened; error = false; duration = duration } }
+    ensures told { surroundings result ≡ record { number = 0; ready = Ready.Opened; error = false; duration = duration } }
     ensures quota { result.quota ≡ 2 ^ 62 }
 {
     Around {
         number: 0,
-        removed: false,
         ready: Ready::Opened,
         error: false,
         duration,
