@@ -224,6 +224,7 @@ fn payloads_by(
 fn payloads_by_pieces(rt: HostRuntime) -> Result<(), Fail> {
     let mut file = hex::decode(rt.alloc(), INIT)?;
     file.extend_from_slice(hex::decode(rt.alloc(), THREE_FRAMES)?.as_slice())?;
+    assert_eq!(rt; file.len(), 751);
     let (_, data) = file.as_slice().split_at(739);
     assert_eq!(rt; data, [1u8, 2, 3, 4, 5, 6, 7, 8, 9, 10, 11, 12].as_slice());
     let by_1 = payloads_by(rt.alloc(), Container::Mp4, file.as_slice(), 1)?;
@@ -248,7 +249,9 @@ fn vectors(rt: HostRuntime) -> Result<(), Fail> {
     let items = take_all(rt.alloc(), &mut stream)?;
     assert_eq!(rt; items.as_slice(), TWO.as_slice());
     let mut stream = ByteStream::new(rt.alloc(), Container::Mp4);
-    stream.offer_vec(hex::decode(rt.alloc(), INIT)?)?;
+    let init = hex::decode(rt.alloc(), INIT)?;
+    assert_eq!(rt; init.len(), 595);
+    stream.offer_vec(init)?;
     stream.accept();
     assert_eq!(rt; shown_of(&stream.next()?), SEGMENTS[0]);
     Ok(())
