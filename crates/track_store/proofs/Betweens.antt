@@ -1,12 +1,12 @@
 -- Removals in a time, whatever the serials.
-use Rattle.std.proofs.Common.{◌≡◌, ◌∙◌, ◌<◌, ◌≤◌, ◌+◌, ◌-◌, ◌⊎◌, ℕ, zero, suc, ℤ, Bool, true, false, ◌&&◌, ◌||◌, nat_lt, int_le, List, [], ◌∷◌, Option, Some, None, length, slice_get, refl, sym, ap, subst, inl, inr, arith}
+use Rattle.std.proofs.Common.{◌≡◌, ◌∙◌, ◌<◌, ◌≤◌, ◌-◌, ◌⊎◌, ℕ, suc, ℤ, Bool, true, false, ◌&&◌, ◌||◌, nat_lt, List, [], ◌∷◌, Option, Some, None, length, slice_get, refl, sym, ap, subst, inl, inr, arith}
 use Rattle.std.specs.Option.{IfSome}
 use Rattle.std.specs.List.{AllByRecursion}
 use Rattle.std.proofs.lemmas.Bool.Decides.{nat_tests}
 use Rattle.std.proofs.lemmas.Option.{slice_get_cases}
 use Rattle.mse_base.specs.declared.ticks.Moment.{Moment}
 use Rattle.track_store.specs.declared.store.Stored.{Stored}
-use Rattle.track_store.specs.Frames.{frames_without, frames_left, has_serial, is_between, is_within, IsAscending}
+use Rattle.track_store.specs.Frames.{frames_without, has_serial, is_between, is_within, IsAscending}
 use Rattle.track_store.specs.Named.{AreNamedBelow, AreNamedWith}
 use Rattle.track_store.proofs.Clearing.{each_at, cleared-cleared, cleared-same}
 

@@ -1,15 +1,16 @@
 //! Calls of a store as values, so that laws can speak of lists of them.
 
 ghost use Rattle.std.specs.Prelude.{◌≡◌, ◌≤◌};
-ghost use Rattle.track_store.specs.Calls.{CanChange, IsAnswer, IsChange};
+ghost use Rattle.track_store.specs.Calls.{CanChange, IsAnswer, IsChange, LeavesRoom, answer_view};
 ghost use Rattle.track_store.specs.Frames.{IsAscending};
 
 use crate::{FrameStore, Stored};
-use mse_base::{Moment, Span, Ticks};
+use mse_base::{Moment, OutOfMemory, Ranges, Span, Ticks};
 
-/// A call that changes a store.
+/// A call that may change a store: its frames or its room.
 #[derive(Drop)]
 pub enum StoreChange {
+    Reserve(usize),
     Add(Stored),
     Cut(usize, Ticks),
     RemoveAt(usize),
@@ -20,6 +21,7 @@ pub enum StoreChange {
 #[derive(Drop)]
 pub enum StoreLook {
     Len,
+    Get(usize),
     PlaceOf(u64),
     GroupStart(usize),
     Overlapped(Ticks),
@@ -29,16 +31,19 @@ pub enum StoreLook {
     HighestStart,
     HighestEnd,
     Used,
+    CopyRanges,
 }
 
 /// What a look-up answers.
-#[derive(Debug, Drop, PartialEq, Eq)]
-pub enum StoreAnswer {
+#[derive(Debug, Drop)]
+pub enum StoreAnswer<'a> {
     Frames(usize),
     Bytes(u64),
+    Frame(Option<&'a Stored>),
     Place(Option<usize>),
     Time(Option<Ticks>),
     Range(Option<Span>),
+    Ranges(Result<Ranges, OutOfMemory>),
 }
 
 /// A call of a store.
@@ -48,28 +53,34 @@ pub enum StoreCall {
     Look(StoreLook),
 }
 
-/// Changes a store by a call.
-pub fn change<S: FrameStore>(store: &mut S, change: StoreChange)
+/// Changes a store by a call. Only `Reserve` takes memory, and where it finds none the frames are
+/// as before.
+pub fn change<S: FrameStore>(store: &mut S, change: StoreChange) -> Result<(), OutOfMemory>
     requires { CanChange (S.spare store.old) change (S.frames store.old) }
     ensures frames { IsChange change (S.frames store.old) (S.frames store.new) }
+    ensures room { LeavesRoom change (S.spare store.old) result (S.spare store.new) }
     ensures gap { S.gap store.new ≡ S.gap store.old }
 {
     match change {
+        StoreChange::Reserve(n) => return store.reserve(n),
         StoreChange::Add(frame) => store.add(frame),
         StoreChange::Cut(i, dur) => store.cut(i, dur),
         StoreChange::RemoveAt(i) => store.remove_at(i),
         StoreChange::RemoveWhereTime(from, to, below) => store.remove_where_time(from, to, below),
     }
+    Ok(())
 }
 
-/// Looks something up in a store by a call.
-pub fn look_up<S: FrameStore>(store: &S, look: &StoreLook) -> StoreAnswer
+/// Looks something up in a store by a call. Only `CopyRanges` takes memory.
+pub fn look_up<'a, S: FrameStore>(store: &'a S, look: &StoreLook) -> StoreAnswer<'a>
     ensures ascending { IsAscending (S.frames store.now) }
-    ensures answer { IsAnswer (S.gap store.now) look.now (S.frames store.now) result }
+    ensures answer { IsAnswer (S.gap store.now) look.now (S.frames store.now)
+        (answer_view result) }
 {
     store.serials_ascend();
     match *look {
         StoreLook::Len => StoreAnswer::Frames(store.len()),
+        StoreLook::Get(i) => StoreAnswer::Frame(store.get(i)),
         StoreLook::PlaceOf(serial) => StoreAnswer::Place(store.place_of(serial)),
         StoreLook::GroupStart(i) => StoreAnswer::Place(store.group_start(i)),
         StoreLook::Overlapped(t) => StoreAnswer::Place(store.overlapped(t)),
@@ -79,5 +90,6 @@ pub fn look_up<S: FrameStore>(store: &S, look: &StoreLook) -> StoreAnswer
         StoreLook::HighestStart => StoreAnswer::Time(store.highest_start()),
         StoreLook::HighestEnd => StoreAnswer::Time(store.highest_end()),
         StoreLook::Used => StoreAnswer::Bytes(store.used()),
+        StoreLook::CopyRanges => StoreAnswer::Ranges(store.copy_ranges()),
     }
 }

@@ -3,13 +3,12 @@
 
 ghost use Rattle.std.specs.Prelude.{◌≡◌, ◌+ℤ◌, ◌≤ℤ◌, ℤ, Bool, true, false, List, [], ◌∷◌, ◌++◌, ◌||◌, Some, None};
 ghost use Rattle.std.specs.List.{AllByRecursion};
-ghost use Rattle.track_store.specs.Calls.{IsRun};
+ghost use Rattle.track_store.specs.Calls.{AnswerView, AreSameAnswers, IsRun};
 ghost use Rattle.mse_base.specs.Moments.{greatest};
 ghost use Rattle.track_store.specs.Frames.{ends, frames_without, from_sync};
 ghost use Rattle.track_store.specs.Kept.{AreEndedBy};
 ghost use Rattle.track_store.specs.Sound.{Sound, IsDecodable};
 ghost use Rattle.track_store.specs.State.{TrackState};
-ghost use Rattle.track_store.specs.declared.calls.StoreAnswer.{StoreAnswer};
 ghost use Rattle.track_store.specs.declared.calls.StoreCall.{StoreCall};
 ghost use Rattle.track_store.specs.declared.store.Stored.{Stored};
 
@@ -35,13 +34,14 @@ pub fn decodable()
 {}
 
 /// Any two stores give the same answers: from the same frames and gap, over the same calls, the
-/// answers to the look-ups are the same, and so are the frames that are left. So any store gives
-/// the answers of the plain store. What `change` and `look_up` ensure is, call by call, what the
-/// law asks of a store, and they know of it only the contract of `FrameStore`.
+/// answers to the look-ups are the same, but that a store may find no memory, and so are the
+/// frames that are left. So any store gives the answers of the plain store. The calls are all of
+/// `FrameStore`; what `change` and `look_up` ensure is, call by call, what the law asks of a
+/// store, and they know of it only the contract of `FrameStore`.
 pub fn same_answers()
     ensures { (gap : ℤ) (fs gs hs : List Stored) (calls : List StoreCall)
-        (xs ys : List StoreAnswer) → IsRun gap fs calls xs gs → IsRun gap fs calls ys hs
-        → (xs ≡ ys) × (gs ≡ hs) }
+        (xs ys : List AnswerView) → IsRun gap fs calls xs gs → IsRun gap fs calls ys hs
+        → AreSameAnswers xs ys × (gs ≡ hs) }
 {}
 
 /// The greatest frame end timestamp bounds those of all frames, and there is one where there is a

@@ -3,6 +3,7 @@
 ghost use Rattle.std.specs.Prelude.{◌≡◌, true, length, IfOk};
 ghost use Rattle.track_store.specs.Frames.{IsTimed};
 
+use crate::calls::{StoreAnswer, StoreChange, StoreLook, change, look_up};
 use crate::{FrameStore, ListStore, Marks, Stored, Track, Tracks};
 use mse_base::{Bytes, CodedFrame, Kind, Moment, Span, Ticks};
 use std::alloc::Global;
@@ -63,6 +64,34 @@ fn keeps_a_frame<S: FrameStore>(rt: &(impl Abort + AllocGlobal)) -> Result<(), F
 #[test]
 fn keeps_a_frame_in_a_list(rt: HostRuntime) -> Result<(), Fail> {
     keeps_a_frame::<ListStore>(&rt)
+}
+
+fn answers_calls<S: FrameStore>(rt: &(impl Abort + AllocGlobal)) -> Result<(), Fail> {
+    let mut store = S::new(rt.alloc(), Ticks::zero());
+    change(&mut store, StoreChange::Reserve(1))?;
+    store.add(first_frame(rt.alloc())?);
+    match look_up(&store, &StoreLook::Get(0)) {
+        StoreAnswer::Frame(Some(stored)) => assert_eq!(rt; stored.serial, 0),
+        _ => return Err("no frame".into()),
+    }
+    match look_up(&store, &StoreLook::CopyRanges) {
+        StoreAnswer::Ranges(Ok(ranges)) => assert_eq!(rt; ranges.len(), 1),
+        _ => return Err("no ranges".into()),
+    }
+    change(
+        &mut store,
+        StoreChange::RemoveWhereTime(Ticks::zero(), Moment::Infinite, 1),
+    )?;
+    match look_up(&store, &StoreLook::Len) {
+        StoreAnswer::Frames(n) => assert_eq!(rt; n, 0),
+        _ => return Err("no count".into()),
+    }
+    Ok(())
+}
+
+#[test]
+fn answers_calls_as_a_list(rt: HostRuntime) -> Result<(), Fail> {
+    answers_calls::<ListStore>(&rt)
 }
 
 #[test]

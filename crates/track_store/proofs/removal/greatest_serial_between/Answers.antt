@@ -1,4 +1,4 @@
-use Rattle.std.proofs.Common.{◌≡◌, ◌-◌, ◌∙◌, None, Some, sym, ap, length, slice_get, option_copied}
+use Rattle.std.proofs.Common.{◌≡◌, ◌-◌, ◌∙◌, None, Some, sym, ap, slice_get, option_copied}
 use Rattle.track_store.proofs.Betweens.{named_below, named_none, named_past, held_with}
 use Rattle.track_store.proofs.removal.greatest_serial_between.Goals as goal
 
