@@ -3,3 +3,5 @@ pub mod Front
 pub mod Stepping
 pub mod Leaving
 pub mod Typing
+pub mod Receiving
+pub mod Refusing

@@ -1,6 +1,6 @@
 -- The calls on a source buffer (Media Source Extensions, 3.1 and 3.2; changeType of its second edition): of each the
--- refusals in order, and then what it does.
-use Rattle.std.specs.Prelude.{ℕ, ◌+◌, ◌^◌, nat_le, ℤ, pos, int_lt, Bool, true, false, not, ◌&&◌, ◌||◌, List, [], ◌∷◌, length, None, if◌then◌else◌}
+-- refusals in order before anything comes of it, and then what it does.
+use Rattle.std.specs.Prelude.{ℕ, ◌+◌, ◌^◌, nat_le, ℤ, pos, int_lt, Bool, true, false, not, ◌&&◌, ◌||◌, List, [], ◌∷◌, length, Option, None, Some, if◌then◌else◌}
 use Rattle.mse_base.specs.declared.frame.Phase.{Phase}
 use Rattle.mse_base.specs.declared.frame.Phase.TheVariants.{Waiting, InInit, InMedia}
 use Rattle.mse_base.specs.declared.ticks.Moment.{Moment}
@@ -9,6 +9,7 @@ use Rattle.mse_types.specs.declared.answer.Container.TheVariants.{Mp4, Adts}
 use Rattle.mse_types.specs.declared.answer.TypeAnswer.{TypeAnswer}
 use Rattle.mse_types.specs.declared.answer.TypeAnswer.TheVariants.{Supported, Empty, Unsupported}
 use Rattle.mse_types.specs.Texts.{type_of}
+use Rattle.mse_calls.specs.declared.answers.Name.{Name}
 use Rattle.mse_calls.specs.declared.answers.Name.TheVariants.{InvalidState, NotSupported, QuotaExceeded, TypeError}
 use Rattle.mse_calls.specs.declared.calls.Mode.{Mode}
 use Rattle.mse_calls.specs.declared.calls.Mode.TheVariants.{Segments, Sequence}
@@ -44,51 +45,77 @@ generates_timestamps Adts = true
 abbrev pub with_media : Media → Content → Content
 with_media m c = record { media = m; latest = c.latest }
 
+-- what a call does, unless it is refused by a name before that
+abbrev pub unless_refused : Option Name → CallResult → Surroundings → Feed → Content → CallResult
+unless_refused (Some name) done a f c = refused_result name false a f c
+unless_refused None done a f c = done
+
 -- ---- settings
 
 -- what is done with the media, where nothing else comes of a call
 abbrev pub settings_result : Bool → Media → Surroundings → Feed → Content → CallResult
 settings_result reopened m a f c = result_with (event_reply reopened a.duration []) f (with_media m c)
 
+-- a media segment has begun; where the source is ended it is opened again before this is looked at
+abbrev pub phase_refusal : Surroundings → Feed → Option Name
+phase_refusal a f = if is_in_media (phase_in f) then (if reopens a.ready then None else Some InvalidState) else None
+
+-- an ended source is opened again, and in a media segment that is all
+abbrev pub settings_result_by_phase : Media → Surroundings → Feed → Content → CallResult
+settings_result_by_phase m a f c =
+    if is_in_media (phase_in f) then refused_result InvalidState (reopens a.ready) a f c
+    else settings_result (reopens a.ready) m a f c
+
 -- mode, on setting
+abbrev pub mode_refusal : Mode → Surroundings → Feed → Content → Option Name
+mode_refusal mode a f c =
+    if is_updating f.running then Some InvalidState
+    else (if c.media.settings.generate && not (is_sequence mode) then Some TypeError
+    else phase_refusal a f)
+
 abbrev pub mode_result : Mode → Surroundings → Feed → Content → CallResult
-mode_result mode a f c =
-    if is_updating f.running then refused_result InvalidState false a f c
-    else (if c.media.settings.generate && not (is_sequence mode) then refused_result TypeError false a f c
-    else (if is_in_media (phase_in f) then refused_result InvalidState (reopens a.ready) a f c
-    else settings_result (reopens a.ready) (with_mode (is_sequence mode) c.media) a f c))
+mode_result mode a f c = unless_refused (mode_refusal mode a f c) (settings_result_by_phase (with_mode (is_sequence mode) c.media) a f c) a f c
 
 -- timestampOffset, on setting
+abbrev pub offset_refusal : Surroundings → Feed → Option Name
+offset_refusal a f = if is_updating f.running then Some InvalidState else phase_refusal a f
+
 abbrev pub offset_result : ℤ → Surroundings → Feed → Content → CallResult
-offset_result t a f c =
-    if is_updating f.running then refused_result InvalidState false a f c
-    else (if is_in_media (phase_in f) then refused_result InvalidState (reopens a.ready) a f c
-    else settings_result (reopens a.ready) (with_offset t c.media) a f c)
+offset_result t a f c = unless_refused (offset_refusal a f) (settings_result_by_phase (with_offset t c.media) a f c) a f c
 
 -- appendWindowStart, on setting: neither negative nor at or after the end of the window
+abbrev pub window_start_refusal : ℤ → Feed → Content → Option Name
+window_start_refusal t f c =
+    if is_updating f.running then Some InvalidState
+    else (if int_lt t (pos 0) || not (is_before t c.media.settings.window_end) then Some TypeError
+    else None)
+
 abbrev pub window_start_result : ℤ → Surroundings → Feed → Content → CallResult
-window_start_result t a f c =
-    if is_updating f.running then refused_result InvalidState false a f c
-    else (if int_lt t (pos 0) || not (is_before t c.media.settings.window_end) then refused_result TypeError false a f c
-    else settings_result false (with_window_start t c.media) a f c)
+window_start_result t a f c = unless_refused (window_start_refusal t f c) (settings_result false (with_window_start t c.media) a f c) a f c
 
 -- appendWindowEnd, on setting: a number, and after the start of the window
+abbrev pub window_end_refusal : Moment → Feed → Content → Option Name
+window_end_refusal t f c =
+    if is_updating f.running then Some InvalidState
+    else (if is_nan t || not (is_before c.media.settings.window_start t) then Some TypeError
+    else None)
+
 abbrev pub window_end_result : Moment → Surroundings → Feed → Content → CallResult
-window_end_result t a f c =
-    if is_updating f.running then refused_result InvalidState false a f c
-    else (if is_nan t || not (is_before c.media.settings.window_start t) then refused_result TypeError false a f c
-    else settings_result false (with_window_end t c.media) a f c)
+window_end_result t a f c = unless_refused (window_end_refusal t f c) (settings_result false (with_window_end t c.media) a f c) a f c
 
 -- ---- removal
 
 -- remove: it begins within the duration, which is known, and ends after it begins
+abbrev pub remove_refusal : ℤ → Moment → Surroundings → Feed → Option Name
+remove_refusal start end a f =
+    if is_updating f.running then Some InvalidState
+    else (if is_nan a.duration then Some TypeError
+    else (if int_lt start (pos 0) || is_after start a.duration then Some TypeError
+    else (if is_nan end || not (is_before start end) then Some TypeError
+    else None)))
+
 abbrev pub remove_result : ℤ → Moment → Surroundings → Feed → Content → CallResult
-remove_result start end a f c =
-    if is_updating f.running then refused_result InvalidState false a f c
-    else (if is_nan a.duration then refused_result TypeError false a f c
-    else (if int_lt start (pos 0) || is_after start a.duration then refused_result TypeError false a f c
-    else (if is_nan end || not (is_before start end) then refused_result TypeError false a f c
-    else result_with (event_reply (reopens a.ready) a.duration (UpdateStart ∷ [])) (feed_running (Removal start end) f) c)))
+remove_result start end a f c = unless_refused (remove_refusal start end a f) (result_with (event_reply (reopens a.ready) a.duration (UpdateStart ∷ [])) (feed_running (Removal start end) f) c) a f c
 
 -- ---- appends
 
@@ -105,11 +132,12 @@ append_result_by_room bytes quota a f c =
 abbrev pub append_result_after_eviction : List ℕ → ℤ → ℕ → Surroundings → Feed → Content → CallResult
 append_result_after_eviction bytes position quota a f c = append_result_by_room bytes quota a f (with_media (media_after_eviction position (length bytes) quota a.duration c.media) c)
 
--- appendBuffer
+-- appendBuffer: for the quota it is refused behind the eviction alone
+abbrev pub append_refusal : Surroundings → Feed → Option Name
+append_refusal a f = if is_updating f.running || a.error then Some InvalidState else None
+
 abbrev pub append_result : List ℕ → ℤ → ℕ → Surroundings → Feed → Content → CallResult
-append_result bytes position quota a f c =
-    if is_updating f.running || a.error then refused_result InvalidState false a f c
-    else append_result_after_eviction bytes position quota a f c
+append_result bytes position quota a f c = unless_refused (append_refusal a f) (append_result_after_eviction bytes position quota a f c) a f c
 
 -- ---- resets of the parser
 
@@ -122,16 +150,27 @@ abort_events false = []
 abbrev pub abort_result_after_flush : FlushResult → Surroundings → Feed → Content → CallResult
 abort_result_after_flush done a f c = result_with (events_first_reply (abort_events (is_appending f.running)) done.effect) (new_feed f.reading.container c.latest) (with_media (with_whole_window (media_after_reset done.media)) c)
 
+abbrev pub abort_refusal : Surroundings → Feed → Option Name
+abort_refusal a f =
+    if not (is_open a.ready) then Some InvalidState
+    else (if is_removing f.running then Some InvalidState
+    else None)
+
 abbrev pub abort_result : Surroundings → Feed → Content → CallResult
-abort_result a f c =
-    if not (is_open a.ready) then refused_result InvalidState false a f c
-    else (if is_removing f.running then refused_result InvalidState false a f c
-    else abort_result_after_flush (flush_result (ready_in f) c.media a.duration) a f c)
+abort_result a f c = unless_refused (abort_refusal a f) (abort_result_after_flush (flush_result (ready_in f) c.media a.duration) a f c) a f c
 
 -- changeType: the parser is reset, the presentation is forgotten, and the next initialization segment may have other
 -- codecs
 abbrev pub change_type_result_after_flush : Container → FlushResult → Surroundings → CallResult
 change_type_result_after_flush container done a = result_with (effect_reply (reopens a.ready) done.effect []) (new_feed container None) (record { media = with_container (generates_timestamps container) (media_after_reset done.media); latest = None })
+
+abbrev pub change_type_refusal_by_answer : TypeAnswer → Feed → Option Name
+change_type_refusal_by_answer Empty f = Some TypeError
+change_type_refusal_by_answer Unsupported f = if is_updating f.running then Some InvalidState else Some NotSupported
+change_type_refusal_by_answer (Supported container) f = if is_updating f.running then Some InvalidState else None
+
+abbrev pub change_type_refusal : List ℕ → Feed → Option Name
+change_type_refusal text f = change_type_refusal_by_answer (type_of text) f
 
 abbrev pub change_type_result_by_answer : TypeAnswer → Surroundings → Feed → Content → CallResult
 change_type_result_by_answer Empty a f c = refused_result TypeError false a f c

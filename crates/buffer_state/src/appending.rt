@@ -3,9 +3,9 @@
 ghost use Rattle.std.specs.Prelude.{◌≡◌, ◌+◌, ◌^◌, nat_le, false, length, Some, None, IfOk, OnErr};
 ghost use Rattle.track_buffers.specs.Media.{EndsWithin};
 ghost use Rattle.track_buffers.specs.Frames.{media_after_eviction, used_in};
-ghost use Rattle.buffer_state.specs.State.{kept, surroundings};
+ghost use Rattle.buffer_state.specs.State.{Feed, kept, surroundings};
 ghost use Rattle.buffer_state.specs.Replies.{Answers, StaysWithin, refusal, reopens};
-ghost use Rattle.buffer_state.specs.Calls.{append_result_after_eviction, append_result};
+ghost use Rattle.buffer_state.specs.Calls.{append_result_after_eviction, append_refusal, append_result};
 
 use crate::around::Around;
 use crate::reply::{Reply, event_reply, one, reopens};
@@ -63,6 +63,7 @@ fn settle<S: FrameStore>(
     ensures within_duration { StaysWithin around.now.duration media.old.media result media.new.media }
     ensures changes { result.duration_changes ≡ 0 }
     ensures duration { result.duration ≡ around.now.duration }
+    ensures no_init { result.received_init ≡ false }
     ensures none_offered { stream.new.offered ≡ None }
 {
     let used = evict(media, bytes.len(), around);
@@ -74,6 +75,18 @@ fn settle<S: FrameStore>(
     *running = Running::Append;
     let reopened = reopens(around.ready);
     event_reply(reopened, &around.duration, one(EventKind::UpdateStart))
+}
+
+/// The refusal of an append before coded frames are evicted.
+pub(crate) fn append_refusal(running: &Running, around: &Around) -> Option<Name>
+    ensures { (f : Feed) → running.now ≡ f.running
+        → result ≡ append_refusal (surroundings around.now) f }
+{
+    if running.is_updating() || around.error {
+        Some(Name::InvalidState)
+    } else {
+        None
+    }
 }
 
 /// Begins an append of bytes.
@@ -93,12 +106,13 @@ pub(crate) fn append<S: FrameStore>(
         (λ reply. StaysWithin around.now.duration media.old.media reply media.new.media) }
     ensures changes { IfOk result (λ reply. reply.duration_changes ≡ 0) }
     ensures duration { IfOk result (λ reply. reply.duration ≡ around.now.duration) }
+    ensures no_init { IfOk result (λ reply. reply.received_init ≡ false) }
     ensures none_offered { stream.new.offered ≡ None }
     ensures err { OnErr result (kept stream.new media.new.media running.new
         ≡ kept stream.old media.old.media running.old) }
 {
-    if running.is_updating() || around.error {
-        return Ok(Reply::refused(Name::InvalidState, false, &around.duration));
+    if let Some(name) = append_refusal(running, around) {
+        return Ok(Reply::refused(name, false, &around.duration));
     }
     if is_too_long(stream.len(), bytes.len()) {
         let _used = evict(media, bytes.len(), around);

@@ -1,7 +1,7 @@
-ghost use Rattle.std.specs.Prelude.{◌≡◌, ◌≢◌, ◌+◌, ◌<◌, ◌≤◌, ◌^◌, ℕ, ℤ, pos, ◌≤ℤ◌, not, find, [], length, Option, None, Some, IfOk, OnErr};
+ghost use Rattle.std.specs.Prelude.{◌≡◌, ◌≢◌, ◌+◌, ◌<◌, ◌≤◌, ◌^◌, ℕ, ℤ, pos, ◌≤ℤ◌, true, false, not, find, [], length, Option, None, Some, IfOk, OnErr};
 ghost use Rattle.std.specs.List.{AllByRecursion};
 ghost use Rattle.mse_base.specs.declared.ticks.Moment.{Moment};
-ghost use Rattle.mse_base.specs.Spans.{reaches};
+ghost use Rattle.mse_base.specs.Spans.{last_of, reaches};
 ghost use Rattle.track_store.specs.Kept.{AreKept};
 ghost use Rattle.track_store.specs.Sound.{Sound};
 ghost use Rattle.track_store.specs.State.{states_of};
@@ -10,9 +10,9 @@ ghost use Rattle.track_buffers.specs.Media.{awaits_first, IsNotAfter};
 ghost use Rattle.track_buffers.specs.Frames.{used_in, highest_start_in, highest_end_in};
 ghost use Rattle.track_buffers.specs.Buffered.{buffered_of};
 ghost use Rattle.buffer_state.specs.State.{Feed, Content, Kept, Stands, surroundings, new_feed, phase_in, ready_in, is_updating, is_appending, is_removing};
-ghost use Rattle.buffer_state.specs.Replies.{Answers, AnswersIfOk, StaysWithin, IsTurn, OfTurn, changes_of};
+ghost use Rattle.buffer_state.specs.Replies.{Answers, AnswersIfOk, StaysWithin, LeavesRanges, IsTurn, OfTurn, changes_of};
 ghost use Rattle.buffer_state.specs.Turns.{turn_result};
-ghost use Rattle.buffer_state.specs.Calls.{generates_timestamps, mode_result, offset_result, window_start_result, window_end_result, remove_result, append_result, abort_result, change_type_result, end_work_result, buffer_view};
+ghost use Rattle.buffer_state.specs.Calls.{generates_timestamps, mode_refusal, mode_result, offset_refusal, offset_result, window_start_refusal, window_start_result, window_end_refusal, window_end_result, remove_refusal, remove_result, append_refusal, append_result, abort_refusal, abort_result, change_type_refusal, change_type_result, end_work_result, buffer_view};
 ghost use Rattle.buffer_state.specs.Left.{IsFewer, IsIdle};
 ghost use Rattle.byte_stream.specs.Readings.{held_at};
 ghost use Rattle.byte_stream.specs.Streams.{StandsForSome, ready_of};
@@ -23,7 +23,7 @@ use crate::running::Running;
 use crate::{appending, removal, resets, settings_calls, turns};
 use byte_stream::{ByteStream, Container};
 use mse_base::{Moment, OutOfMemory, Phase, Ranges, Span, Ticks};
-use mse_calls::{BufferView, Mode, TimeRanges};
+use mse_calls::{BufferView, Mode, Name, TimeRanges};
 use std::alloc::Global;
 use std::marker::Model;
 use track_buffers::TrackBuffers;
@@ -77,6 +77,7 @@ impl<S: FrameStore> Buffer<S> {
         ensures within_duration { StaysWithin around.now.duration self.old.media result self.new.media }
         ensures changes { result.duration_changes ≡ 0 }
         ensures duration { result.duration ≡ around.now.duration }
+        ensures no_init { result.received_init ≡ false }
     {
         settings_calls::set_mode(&self.stream, &mut self.media, &self.running, mode, around)
     }
@@ -92,6 +93,7 @@ impl<S: FrameStore> Buffer<S> {
         ensures within_duration { StaysWithin around.now.duration self.old.media result self.new.media }
         ensures changes { result.duration_changes ≡ 0 }
         ensures duration { result.duration ≡ around.now.duration }
+        ensures no_init { result.received_init ≡ false }
     {
         settings_calls::set_offset(&self.stream, &mut self.media, &self.running, t, around)
     }
@@ -107,6 +109,7 @@ impl<S: FrameStore> Buffer<S> {
         ensures within_duration { StaysWithin around.now.duration self.old.media result self.new.media }
         ensures changes { result.duration_changes ≡ 0 }
         ensures duration { result.duration ≡ around.now.duration }
+        ensures no_init { result.received_init ≡ false }
     {
         settings_calls::set_window_start(&self.stream, &mut self.media, &self.running, t, around)
     }
@@ -122,6 +125,7 @@ impl<S: FrameStore> Buffer<S> {
         ensures within_duration { StaysWithin around.now.duration self.old.media result self.new.media }
         ensures changes { result.duration_changes ≡ 0 }
         ensures duration { result.duration ≡ around.now.duration }
+        ensures no_init { result.received_init ≡ false }
     {
         settings_calls::set_window_end(&self.stream, &mut self.media, &self.running, t, around)
     }
@@ -138,6 +142,7 @@ impl<S: FrameStore> Buffer<S> {
         ensures within_duration { StaysWithin around.now.duration self.old.media result self.new.media }
         ensures changes { result.duration_changes ≡ 0 }
         ensures duration { result.duration ≡ around.now.duration }
+        ensures no_init { result.received_init ≡ false }
     {
         removal::remove(&mut self.running, start, end, around)
     }
@@ -156,6 +161,7 @@ impl<S: FrameStore> Buffer<S> {
             (λ reply. StaysWithin around.now.duration self.old.media reply self.new.media) }
         ensures changes { IfOk result (λ reply. reply.duration_changes ≡ 0) }
         ensures duration { IfOk result (λ reply. reply.duration ≡ around.now.duration) }
+        ensures no_init { IfOk result (λ reply. reply.received_init ≡ false) }
         ensures err { OnErr result (self.new ≡ self.old) }
     {
         appending::append(
@@ -180,6 +186,7 @@ impl<S: FrameStore> Buffer<S> {
         ensures changes { IfOk result
             (λ reply. reply.duration_changes ≤ ready_of self.old.stream) }
         ensures no_fall { IfOk result (λ reply. IsNotAfter around.now.duration reply.duration) }
+        ensures no_init { IfOk result (λ reply. reply.received_init ≡ false) }
         ensures err { OnErr result (self.new ≡ self.old) }
     {
         resets::abort(
@@ -206,6 +213,7 @@ impl<S: FrameStore> Buffer<S> {
         ensures changes { IfOk result
             (λ reply. reply.duration_changes ≤ ready_of self.old.stream) }
         ensures no_fall { IfOk result (λ reply. IsNotAfter around.now.duration reply.duration) }
+        ensures no_init { IfOk result (λ reply. reply.received_init ≡ false) }
         ensures err { OnErr result (self.new ≡ self.old) }
     {
         resets::change_type(
@@ -226,6 +234,7 @@ impl<S: FrameStore> Buffer<S> {
         ensures within_duration { StaysWithin around.now.duration self.old.media result self.new.media }
         ensures changes { result.duration_changes ≡ 0 }
         ensures duration { result.duration ≡ around.now.duration }
+        ensures no_init { result.received_init ≡ false }
     {
         let events = resets::abort_events(self.running.is_updating());
         self.running = Running::Nothing;
@@ -246,11 +255,15 @@ impl<S: FrameStore> Buffer<S> {
             (λ reply. StaysWithin around.now.duration self.old.media reply self.new.media)) }
         ensures no_fall { IfOk result (λ turned. OfTurn turned
             (λ reply. IsNotAfter around.now.duration reply.duration)) }
+        ensures ranges { IfOk result (λ turned. OfTurn turned
+            (λ reply. LeavesRanges self.old.media reply self.new.media)) }
         ensures err { OnErr result (self.new ≡ self.old) }
     {
         match &self.running {
             Running::Nothing => Ok(Turned::Idle),
             Running::Append => {
+                // that the stream stands for some string is used where a segment is received
+                self.stream.stands();
                 let reply = turns::append_turn(
                     &mut self.stream,
                     &mut self.media,
@@ -273,6 +286,74 @@ impl<S: FrameStore> Buffer<S> {
         }
     }
 
+    /// The name by which [`set_mode`](Self::set_mode) would be refused before anything comes of it,
+    /// if it would. In a media segment that is where the source is not ended: an ended source is
+    /// opened again first. It takes no memory.
+    pub fn mode_refusal(&self, mode: Mode, around: &Around) -> Option<Name>
+        ensures { (f : Feed) (c : Content) → Stands self.now f c
+            → result ≡ mode_refusal mode (surroundings around.now) f c }
+    {
+        settings_calls::mode_refusal(&self.stream, &self.media, &self.running, mode, around)
+    }
+
+    /// The name by which [`set_offset`](Self::set_offset) would be refused before anything comes of
+    /// it, if it would; in a media segment as at [`mode_refusal`](Self::mode_refusal).
+    pub fn offset_refusal(&self, around: &Around) -> Option<Name>
+        ensures { (f : Feed) (c : Content) → Stands self.now f c
+            → result ≡ offset_refusal (surroundings around.now) f }
+    {
+        settings_calls::offset_refusal(&self.stream, &self.running, around)
+    }
+
+    /// The name by which [`set_window_start`](Self::set_window_start) would be refused, if it would.
+    pub fn window_start_refusal(&self, t: Ticks) -> Option<Name>
+        ensures { (f : Feed) (c : Content) → Stands self.now f c
+            → result ≡ window_start_refusal t f c }
+    {
+        settings_calls::window_start_refusal(&self.media, &self.running, t)
+    }
+
+    /// The name by which [`set_window_end`](Self::set_window_end) would be refused, if it would.
+    pub fn window_end_refusal(&self, t: Moment) -> Option<Name>
+        ensures { (f : Feed) (c : Content) → Stands self.now f c
+            → result ≡ window_end_refusal t f c }
+    {
+        settings_calls::window_end_refusal(&self.media, &self.running, &t)
+    }
+
+    /// The name by which [`remove`](Self::remove) would be refused, if it would.
+    pub fn remove_refusal(&self, start: Ticks, end: Moment, around: &Around) -> Option<Name>
+        ensures { (f : Feed) (c : Content) → Stands self.now f c
+            → result ≡ remove_refusal start end (surroundings around.now) f }
+    {
+        removal::remove_refusal(&self.running, start, &end, around)
+    }
+
+    /// The name by which [`append`](Self::append) would be refused before coded frames are evicted,
+    /// if it would. It does not look at the quota.
+    pub fn append_refusal(&self, around: &Around) -> Option<Name>
+        ensures { (f : Feed) (c : Content) → Stands self.now f c
+            → result ≡ append_refusal (surroundings around.now) f }
+    {
+        appending::append_refusal(&self.running, around)
+    }
+
+    /// The name by which [`abort`](Self::abort) would be refused, if it would.
+    pub fn abort_refusal(&self, around: &Around) -> Option<Name>
+        ensures { (f : Feed) (c : Content) → Stands self.now f c
+            → result ≡ abort_refusal (surroundings around.now) f }
+    {
+        resets::abort_refusal(&self.running, around)
+    }
+
+    /// The name by which [`change_type`](Self::change_type) would be refused, if it would.
+    pub fn change_type_refusal(&self, text: &str) -> Option<Name>
+        ensures { (f : Feed) (c : Content) → Stands self.now f c
+            → result ≡ change_type_refusal text.now f }
+    {
+        resets::change_type_refusal(&self.running, text)
+    }
+
     /// What is buffered (Media Source Extensions, 3.1, `buffered`), where the source is ended or
     /// not.
     pub fn buffered(&self, ended: bool) -> Result<Ranges, OutOfMemory>
@@ -287,6 +368,14 @@ impl<S: FrameStore> Buffer<S> {
         ensures { result ≡ find (reaches t) (buffered_of ended self.now.media) }
     {
         self.media.span_holding(t, ended)
+    }
+
+    /// The last buffered range where the source is ended; `None` exactly where there is none. It
+    /// takes no memory.
+    pub fn ended_last_span(&self) -> Option<Span>
+        ensures { result ≡ last_of (buffered_of true self.now.media) }
+    {
+        self.media.ended_last_span()
     }
 
     /// How frames are placed: the mode, whether timestamps are generated, the offset and the append
@@ -381,11 +470,12 @@ impl<S: FrameStore> Buffer<S> {
     }
 
     /// Each track buffer is sound: each frame that it holds is a random access point, or the frame
-    /// received just before it is held too. And the bytes of all can be counted, and the buffer
-    /// stands for some string. It does nothing when it runs.
+    /// received just before it is held too. And the bytes of all can be counted, the gap is not
+    /// negative, and the buffer stands for some string. It does nothing when it runs.
     pub fn sound(&self)
         ensures kept { AreKept self.now.media.tracks }
         ensures sound { AllByRecursion Sound self.now.media.tracks }
+        ensures gap { pos 0 ≤ℤ self.now.media.gap }
         ensures stands { StandsForSome self.now.stream }
     {
         self.stream.stands();

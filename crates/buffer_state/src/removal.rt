@@ -1,10 +1,10 @@
 //! `SourceBuffer.remove` (Media Source Extensions, 3.2).
 
-ghost use Rattle.std.specs.Prelude.{◌≡◌, ◌||◌, not, pos, int_lt};
+ghost use Rattle.std.specs.Prelude.{◌≡◌, ◌||◌, not, pos, int_lt, false};
 ghost use Rattle.mse_base.specs.Moments.{is_after, is_before, is_nan};
-ghost use Rattle.buffer_state.specs.State.{kept, surroundings};
+ghost use Rattle.buffer_state.specs.State.{Feed, kept, surroundings};
 ghost use Rattle.buffer_state.specs.Replies.{Answers};
-ghost use Rattle.buffer_state.specs.Calls.{remove_result};
+ghost use Rattle.buffer_state.specs.Calls.{remove_refusal, remove_result};
 ghost use Rattle.track_buffers.specs.Media.{Media};
 ghost use Rattle.byte_stream.specs.Streams.{StreamView};
 
@@ -36,6 +36,25 @@ pub(crate) fn ends_after(start: Ticks, end: &Moment) -> bool
     }
 }
 
+/// The refusal of a removal.
+pub(crate) fn remove_refusal(
+    running: &Running,
+    start: Ticks,
+    end: &Moment,
+    around: &Around,
+) -> Option<Name>
+    ensures { (f : Feed) → running.now ≡ f.running
+        → result ≡ remove_refusal start end.now (surroundings around.now) f }
+{
+    if running.is_updating() {
+        return Some(Name::InvalidState);
+    }
+    if !begins_within(start, &around.duration) || !ends_after(start, end) {
+        return Some(Name::TypeError);
+    }
+    None
+}
+
 /// Begins a removal.
 pub(crate) fn remove(running: &mut Running, start: Ticks, end: Moment, around: &Around) -> Reply
     ensures answered { (stream : StreamView) (media : Media)
@@ -43,12 +62,10 @@ pub(crate) fn remove(running: &mut Running, start: Ticks, end: Moment, around: &
         (remove_result start end (surroundings around.now)) }
     ensures duration { result.duration ≡ around.now.duration }
     ensures changes { result.duration_changes ≡ 0 }
+    ensures no_init { result.received_init ≡ false }
 {
-    if running.is_updating() {
-        return Reply::refused(Name::InvalidState, false, &around.duration);
-    }
-    if !begins_within(start, &around.duration) || !ends_after(start, &end) {
-        return Reply::refused(Name::TypeError, false, &around.duration);
+    if let Some(name) = remove_refusal(running, start, &end, around) {
+        return Reply::refused(name, false, &around.duration);
     }
     *running = Running::Removal { start, end };
     let reopened = reopens(around.ready);

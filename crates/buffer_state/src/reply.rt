@@ -24,6 +24,9 @@ pub struct Reply {
     pub duration: Moment,
     /// Whether the buffer became active.
     pub activated: bool,
+    /// Whether an initialization segment was received, the first one of the buffer or a later one:
+    /// at each of them the element may get its metadata (Media Source Extensions, 3.5.7).
+    pub received_init: bool,
     /// The events at the buffer, in order.
     pub events: Changes,
     /// The fault of an append error.
@@ -51,6 +54,7 @@ impl Reply {
             duration_changes: 0,
             duration: *duration,
             activated: false,
+            received_init: false,
             events: Changes::new(),
             fault: None,
         }
@@ -68,6 +72,7 @@ pub(crate) fn effect_reply(reopened: bool, effect: SourceEffect, events: Changes
         duration_changes: effect.duration_changes,
         duration: effect.duration,
         activated: effect.activated,
+        received_init: effect.received_init,
         events,
         fault: None,
     }
@@ -100,6 +105,7 @@ pub(crate) fn no_effect(duration: &Moment) -> SourceEffect
         duration_changes: 0,
         duration: *duration,
         activated: false,
+        received_init: false,
     }
 }
 

@@ -1,6 +1,6 @@
 //! Reset parser state (Media Source Extensions, 3.5.2), for `abort` and `changeType`.
 
-ghost use Rattle.std.specs.Prelude.{◌≡◌, ◌≤◌, ◌≤ℤ◌, pos, ℕ, List, length, Option, None, IfOk, OnErr};
+ghost use Rattle.std.specs.Prelude.{◌≡◌, ◌≤◌, ◌≤ℤ◌, pos, ℕ, List, length, false, Option, None, IfOk, OnErr};
 ghost use Rattle.std.specs.List.{AllByRecursion};
 ghost use Rattle.mse_base.specs.declared.track.Presentation.{Presentation};
 ghost use Rattle.mse_types.specs.declared.answer.Container.{Container};
@@ -8,9 +8,9 @@ ghost use Rattle.byte_stream.specs.Readings.{ready_at};
 ghost use Rattle.byte_stream.specs.Streams.{ForEachReading, ready_of, seen};
 ghost use Rattle.track_buffers.specs.Media.{EndsWithin, IsNotAfter};
 ghost use Rattle.track_buffers.specs.Frames.{flush_result};
-ghost use Rattle.buffer_state.specs.State.{kept, ready_in, surroundings};
+ghost use Rattle.buffer_state.specs.State.{Feed, kept, ready_in, surroundings};
 ghost use Rattle.buffer_state.specs.Replies.{Answers, StaysWithin, is_open};
-ghost use Rattle.buffer_state.specs.Calls.{abort_result, abort_events, generates_timestamps, change_type_result, change_type_result_after_flush};
+ghost use Rattle.buffer_state.specs.Calls.{abort_refusal, abort_result, abort_events, generates_timestamps, change_type_refusal, change_type_result, change_type_result_after_flush};
 ghost use Rattle.buffer_state.specs.Steps.{frame_in};
 
 use crate::around::Around;
@@ -68,6 +68,7 @@ fn flush<S: FrameStore>(
         → EndsWithin effect.duration media.new.media.tracks) }
     ensures changes { IfOk result (λ effect. effect.duration_changes ≤ ready_of stream.now) }
     ensures no_fall { IfOk result (λ effect. IsNotAfter duration effect.duration) }
+    ensures no_init { IfOk result (λ effect. effect.received_init ≡ false) }
     ensures err { OnErr result (media.new.media ≡ media.old.media) }
 {
     let frames = ready_frames(alloc, stream)?;
@@ -95,6 +96,18 @@ fn is_open(ready: Ready) -> bool
     }
 }
 
+/// The refusal of an abort.
+pub(crate) fn abort_refusal(running: &Running, around: &Around) -> Option<Name>
+    ensures { (f : Feed) → running.now ≡ f.running
+        → result ≡ abort_refusal (surroundings around.now) f }
+{
+    if !is_open(around.ready) || running.is_removing() {
+        Some(Name::InvalidState)
+    } else {
+        None
+    }
+}
+
 /// `SourceBuffer.abort`.
 pub(crate) fn abort<S: FrameStore>(
     alloc: Global,
@@ -111,12 +124,13 @@ pub(crate) fn abort<S: FrameStore>(
         (λ reply. StaysWithin around.now.duration media.old.media reply media.new.media) }
     ensures changes { IfOk result (λ reply. reply.duration_changes ≤ ready_of stream.old) }
     ensures no_fall { IfOk result (λ reply. IsNotAfter around.now.duration reply.duration) }
+    ensures no_init { IfOk result (λ reply. reply.received_init ≡ false) }
     ensures none_offered { stream.new.offered ≡ None }
     ensures err { OnErr result (kept stream.new media.new.media running.new
         ≡ kept stream.old media.old.media running.old) }
 {
-    if !is_open(around.ready) || running.is_removing() {
-        return Ok(Reply::refused(Name::InvalidState, false, &around.duration));
+    if let Some(name) = abort_refusal(running, around) {
+        return Ok(Reply::refused(name, false, &around.duration));
     }
     let effect = flush(alloc, stream, media, around.duration)?;
     let events = abort_events(running.is_appending());
@@ -153,6 +167,7 @@ fn take_type<S: FrameStore>(
         (λ reply. StaysWithin around.now.duration media.old.media reply media.new.media) }
     ensures changes { IfOk result (λ reply. reply.duration_changes ≤ ready_of stream.old) }
     ensures no_fall { IfOk result (λ reply. IsNotAfter around.now.duration reply.duration) }
+    ensures no_init { IfOk result (λ reply. reply.received_init ≡ false) }
     ensures none_offered { stream.new.offered ≡ None }
     ensures err { OnErr result ((stream.new ≡ stream.old) × (media.new.media ≡ media.old.media)) }
 {
@@ -161,6 +176,23 @@ fn take_type<S: FrameStore>(
     media.change_container(generates_timestamps(container));
     stream.restart(container);
     Ok(effect_reply(reopens(around.ready), done, Changes::new()))
+}
+
+/// The refusal of a change of type.
+pub(crate) fn change_type_refusal(running: &Running, text: &str) -> Option<Name>
+    ensures { (f : Feed) → running.now ≡ f.running → result ≡ change_type_refusal text.now f }
+{
+    let answer = read_type(text);
+    if let TypeAnswer::Empty = answer {
+        return Some(Name::TypeError);
+    }
+    if running.is_updating() {
+        return Some(Name::InvalidState);
+    }
+    match answer {
+        TypeAnswer::Supported(_) => None,
+        TypeAnswer::Empty | TypeAnswer::Unsupported => Some(Name::NotSupported),
+    }
 }
 
 /// `SourceBuffer.changeType`.
@@ -181,6 +213,7 @@ pub(crate) fn change_type<S: FrameStore>(
         (λ reply. StaysWithin around.now.duration media.old.media reply media.new.media) }
     ensures changes { IfOk result (λ reply. reply.duration_changes ≤ ready_of stream.old) }
     ensures no_fall { IfOk result (λ reply. IsNotAfter around.now.duration reply.duration) }
+    ensures no_init { IfOk result (λ reply. reply.received_init ≡ false) }
     ensures none_offered { stream.new.offered ≡ None }
     ensures err { OnErr result (kept stream.new media.new.media running.now
         ≡ kept stream.old media.old.media running.now) }

@@ -1,9 +1,11 @@
 //! The attributes of a source buffer, on setting (Media Source Extensions, 3.1).
 
-ghost use Rattle.std.specs.Prelude.{◌≡◌, ◌||◌, ◌&&◌, not, None};
-ghost use Rattle.buffer_state.specs.State.{kept, surroundings};
+ghost use Rattle.std.specs.Prelude.{◌≡◌, ◌≢◌, ◌≤ℤ◌, pos, false, None};
+ghost use Rattle.mse_base.specs.declared.ticks.Moment.{Moment};
+ghost use Rattle.byte_stream.specs.Streams as byte_stream;
+ghost use Rattle.buffer_state.specs.State.{Feed, Content, Stands, kept, surroundings};
 ghost use Rattle.buffer_state.specs.Replies.{Answers, StaysWithin};
-ghost use Rattle.buffer_state.specs.Calls.{is_sequence, mode_result, offset_result, window_start_result, window_end_result};
+ghost use Rattle.buffer_state.specs.Calls.{is_sequence, phase_refusal, mode_refusal, mode_result, offset_refusal, offset_result, window_start_refusal, window_start_result, window_end_refusal, window_end_result};
 
 use crate::around::Around;
 use crate::removal::ends_after;
@@ -25,6 +27,43 @@ fn is_sequence(mode: Mode) -> bool
     }
 }
 
+/// The refusal in a media segment, which comes first where the source is not ended.
+fn phase_refusal(stream: &ByteStream, around: &Around) -> Option<Name>
+    requires { stream.now.offered ≡ None }
+    ensures { (f : Feed) → byte_stream.Stands stream.now f.reading
+        → result ≡ phase_refusal (surroundings around.now) f }
+{
+    if stream.phase() != Phase::InMedia {
+        return None;
+    }
+    if reopens(around.ready) {
+        None
+    } else {
+        Some(Name::InvalidState)
+    }
+}
+
+/// The refusal of a mode before anything comes of the call.
+pub(crate) fn mode_refusal<S: FrameStore>(
+    stream: &ByteStream,
+    media: &TrackBuffers<S>,
+    running: &Running,
+    mode: Mode,
+    around: &Around,
+) -> Option<Name>
+    requires { stream.now.offered ≡ None }
+    ensures { (f : Feed) (c : Content) → Stands (kept stream.now media.now.media running.now) f c
+        → result ≡ mode_refusal mode (surroundings around.now) f c }
+{
+    if running.is_updating() {
+        return Some(Name::InvalidState);
+    }
+    if media.settings().generate && !is_sequence(mode) {
+        return Some(Name::TypeError);
+    }
+    phase_refusal(stream, around)
+}
+
 pub(crate) fn set_mode<S: FrameStore>(
     stream: &ByteStream,
     media: &mut TrackBuffers<S>,
@@ -38,20 +77,33 @@ pub(crate) fn set_mode<S: FrameStore>(
     ensures within_duration { StaysWithin around.now.duration media.old.media result media.new.media }
     ensures changes { result.duration_changes ≡ 0 }
     ensures duration { result.duration ≡ around.now.duration }
+    ensures no_init { result.received_init ≡ false }
 {
-    if running.is_updating() {
-        return Reply::refused(Name::InvalidState, false, &around.duration);
-    }
-    let sequence = is_sequence(mode);
-    if media.settings().generate && !sequence {
-        return Reply::refused(Name::TypeError, false, &around.duration);
+    if let Some(name) = mode_refusal(stream, media, running, mode, around) {
+        return Reply::refused(name, false, &around.duration);
     }
     let reopened = reopens(around.ready);
     if stream.phase() == Phase::InMedia {
         return Reply::refused(Name::InvalidState, reopened, &around.duration);
     }
-    media.set_mode(sequence);
+    media.set_mode(is_sequence(mode));
     event_reply(reopened, &around.duration, Changes::new())
+}
+
+/// The refusal of an offset before anything comes of the call.
+pub(crate) fn offset_refusal(
+    stream: &ByteStream,
+    running: &Running,
+    around: &Around,
+) -> Option<Name>
+    requires { stream.now.offered ≡ None }
+    ensures { (f : Feed) → byte_stream.Stands stream.now f.reading → running.now ≡ f.running
+        → result ≡ offset_refusal (surroundings around.now) f }
+{
+    if running.is_updating() {
+        return Some(Name::InvalidState);
+    }
+    phase_refusal(stream, around)
 }
 
 pub(crate) fn set_offset<S: FrameStore>(
@@ -67,16 +119,36 @@ pub(crate) fn set_offset<S: FrameStore>(
     ensures within_duration { StaysWithin around.now.duration media.old.media result media.new.media }
     ensures changes { result.duration_changes ≡ 0 }
     ensures duration { result.duration ≡ around.now.duration }
+    ensures no_init { result.received_init ≡ false }
 {
-    if running.is_updating() {
-        return Reply::refused(Name::InvalidState, false, &around.duration);
+    if let Some(name) = offset_refusal(stream, running, around) {
+        return Reply::refused(name, false, &around.duration);
     }
-    let opened = reopens(around.ready);
+    let reopened = reopens(around.ready);
     if stream.phase() == Phase::InMedia {
-        return Reply::refused(Name::InvalidState, opened, &around.duration);
+        return Reply::refused(Name::InvalidState, reopened, &around.duration);
     }
     media.set_offset(t);
-    event_reply(opened, &around.duration, Changes::new())
+    event_reply(reopened, &around.duration, Changes::new())
+}
+
+/// The refusal of a window start.
+pub(crate) fn window_start_refusal<S: FrameStore>(
+    media: &TrackBuffers<S>,
+    running: &Running,
+    t: Ticks,
+) -> Option<Name>
+    ensures name { (f : Feed) (c : Content) → media.now.media ≡ c.media → running.now ≡ f.running
+        → result ≡ window_start_refusal t f c }
+    ensures in_range { result ≡ None → pos 0 ≤ℤ t }
+{
+    if running.is_updating() {
+        return Some(Name::InvalidState);
+    }
+    if t < Ticks::zero() || !is_before(t, &media.settings().window_end) {
+        return Some(Name::TypeError);
+    }
+    None
 }
 
 pub(crate) fn set_window_start<S: FrameStore>(
@@ -92,15 +164,32 @@ pub(crate) fn set_window_start<S: FrameStore>(
     ensures within_duration { StaysWithin around.now.duration media.old.media result media.new.media }
     ensures changes { result.duration_changes ≡ 0 }
     ensures duration { result.duration ≡ around.now.duration }
+    ensures no_init { result.received_init ≡ false }
 {
-    if running.is_updating() {
-        return Reply::refused(Name::InvalidState, false, &around.duration);
-    }
-    if t < Ticks::zero() || !is_before(t, &media.settings().window_end) {
-        return Reply::refused(Name::TypeError, false, &around.duration);
+    if let Some(name) = window_start_refusal(media, running, t) {
+        return Reply::refused(name, false, &around.duration);
     }
     media.set_window_start(t);
     event_reply(false, &around.duration, Changes::new())
+}
+
+/// The refusal of a window end.
+pub(crate) fn window_end_refusal<S: FrameStore>(
+    media: &TrackBuffers<S>,
+    running: &Running,
+    t: &Moment,
+) -> Option<Name>
+    ensures name { (f : Feed) (c : Content) → media.now.media ≡ c.media → running.now ≡ f.running
+        → result ≡ window_end_refusal t.now f c }
+    ensures number { result ≡ None → t.now ≢ Moment.Nan }
+{
+    if running.is_updating() {
+        return Some(Name::InvalidState);
+    }
+    if !ends_after(media.settings().window_start, t) {
+        return Some(Name::TypeError);
+    }
+    None
 }
 
 pub(crate) fn set_window_end<S: FrameStore>(
@@ -116,12 +205,10 @@ pub(crate) fn set_window_end<S: FrameStore>(
     ensures within_duration { StaysWithin around.now.duration media.old.media result media.new.media }
     ensures changes { result.duration_changes ≡ 0 }
     ensures duration { result.duration ≡ around.now.duration }
+    ensures no_init { result.received_init ≡ false }
 {
-    if running.is_updating() {
-        return Reply::refused(Name::InvalidState, false, &around.duration);
-    }
-    if !ends_after(media.settings().window_start, &t) {
-        return Reply::refused(Name::TypeError, false, &around.duration);
+    if let Some(name) = window_end_refusal(media, running, &t) {
+        return Reply::refused(name, false, &around.duration);
     }
     media.set_window_end(t);
     event_reply(false, &around.duration, Changes::new())

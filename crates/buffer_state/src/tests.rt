@@ -5,7 +5,8 @@ mod files;
 
 use super::*;
 use acts::{
-    Act, Heard, Scene, State, first_track, new_scene, perform, quiet, range_count, show, told,
+    Act, Heard, Scene, State, first_track, new_scene, perform, quiet, range_count, refusal, show,
+    told,
 };
 use files::{DIFFERENT, PLAIN, SECOND, SECONDS, bytes_of, file};
 use mse_base::Phase;
@@ -31,11 +32,21 @@ fn ends() -> Heard {
     fires(EventKind::Update, EventKind::UpdateEnd)
 }
 
-/// The end of an append that changed the duration so often.
+/// The end of an append that changed the duration so often, with the first initialization segment
+/// or without one.
 fn ends_after(changes: u64, activated: bool) -> Heard {
     Heard {
         changes,
         activated,
+        received_init: activated,
+        ..ends()
+    }
+}
+
+/// The end of an append with an initialization segment behind the first.
+fn ends_after_second() -> Heard {
+    Heard {
+        received_init: true,
         ..ends()
     }
 }
@@ -67,7 +78,17 @@ fn shows(phase: Phase, held: u64, used: u64, frames: u64, end: i128) -> State {
     }
 }
 
-/// Does one after the other, and compares what is heard.
+/// The refusal that is told before the call: one for the quota comes behind an eviction, and one
+/// behind the opening of the source is not the first thing that comes.
+fn first_refusal(heard: &Heard) -> Option<Name> {
+    match heard.refused {
+        Some(Name::QuotaExceeded) => None,
+        Some(name) => { if heard.reopened { None } else { Some(name) } }
+        None => None,
+    }
+}
+
+/// Does one after the other, and compares what is heard, and the refusal that is told before it.
 fn run(
     rt: &impl Abort,
     scene: &mut Scene,
@@ -75,6 +96,8 @@ fn run(
     acts: &[(Act, Heard)],
 ) -> Result<(), Fail> {
     for act in acts {
+        let told = refusal(scene, act.0)?;
+        assert!(rt; told == first_refusal(&act.1), "{told:?}");
         let heard = perform(scene, bytes, act.0)?;
         assert!(rt; heard == act.1, "{heard:?}");
     }
@@ -89,6 +112,7 @@ fn an_append_turn_by_turn(rt: HostRuntime) -> Result<(), Fail> {
     let first = Heard {
         changes: 1,
         activated: true,
+        received_init: true,
         ..quiet()
     };
     let acts = [
@@ -186,7 +210,10 @@ fn a_change_of_type(rt: HostRuntime) -> Result<(), Fail> {
         (Act::Type("video/mp4"), quiet()),
     ];
     run(&rt, &mut scene, bytes.as_slice(), acts.as_slice())?;
-    let acts = [(Act::Append(0, 751), begins()), (Act::Drain, ends())];
+    let acts = [
+        (Act::Append(0, 751), begins()),
+        (Act::Drain, ends_after_second()),
+    ];
     run(&rt, &mut scene, second.as_slice(), acts.as_slice())?;
     let found = show(&scene, false)?;
     assert!(rt;
@@ -255,6 +282,7 @@ fn an_abort_in_a_segment(rt: HostRuntime) -> Result<(), Fail> {
     let first = Heard {
         changes: 1,
         activated: true,
+        received_init: true,
         ..quiet()
     };
     let acts = [
@@ -287,6 +315,7 @@ fn an_abort_out_of_range(rt: HostRuntime) -> Result<(), Fail> {
             Act::Turn,
             Heard {
                 activated: true,
+                received_init: true,
                 ..quiet()
             },
         ),
@@ -330,6 +359,58 @@ fn refusals(rt: HostRuntime) -> Result<(), Fail> {
     let found = show(&scene, true)?;
     assert!(rt;
         found == shows(Phase::InMedia, 150, 4, 1, 4_704_000_000),
+        "{found:?}"
+    );
+    Ok(())
+}
+
+/// A second initialization segment leaves the frames, and is told as received.
+#[test]
+fn a_second_segment(rt: HostRuntime) -> Result<(), Fail> {
+    let bytes = file(rt.alloc(), PLAIN)?;
+    let mut scene = new_scene(rt.alloc(), Container::Mp4, 1 << 62);
+    let second = Heard {
+        received_init: true,
+        ..quiet()
+    };
+    let acts = [
+        (Act::Append(0, 751), begins()),
+        (Act::Drain, ends_after(1, true)),
+        (Act::Append(0, 595), begins()),
+        (Act::Turn, second),
+        (Act::Turn, ends()),
+    ];
+    run(&rt, &mut scene, bytes.as_slice(), acts.as_slice())?;
+    let found = show(&scene, false)?;
+    assert!(rt;
+        found == shows(Phase::Waiting, 0, 12, 3, 14_112_000_000),
+        "{found:?}"
+    );
+    Ok(())
+}
+
+/// A media segment behind a refused initialization segment has its frames, read with the
+/// presentation from before.
+#[test]
+fn a_presentation_from_before(rt: HostRuntime) -> Result<(), Fail> {
+    let bytes = file(rt.alloc(), PLAIN)?;
+    let other = file(rt.alloc(), DIFFERENT)?;
+    let mut scene = new_scene(rt.alloc(), Container::Mp4, 1 << 62);
+    let acts = [
+        (Act::Append(0, 595), begins()),
+        (Act::Drain, ends_after(1, true)),
+    ];
+    run(&rt, &mut scene, bytes.as_slice(), acts.as_slice())?;
+    let acts = [
+        (Act::Append(0, 595), begins()),
+        (Act::Turn, breaks(13, 619)),
+    ];
+    run(&rt, &mut scene, other.as_slice(), acts.as_slice())?;
+    let acts = [(Act::Append(595, 751), begins()), (Act::Drain, ends())];
+    run(&rt, &mut scene, bytes.as_slice(), acts.as_slice())?;
+    let found = show(&scene, false)?;
+    assert!(rt;
+        found == shows(Phase::Waiting, 0, 12, 3, 14_112_000_000),
         "{found:?}"
     );
     Ok(())

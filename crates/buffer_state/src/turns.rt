@@ -1,6 +1,6 @@
 //! One step of the running work of a source buffer (Media Source Extensions, 3.5.5 and 3.5.6).
 
-ghost use Rattle.std.specs.Prelude.{◌≡◌, ◌<◌, ◌≤◌, ℕ, List, length, slice_get, Option, Some, None, IfOk, OnOk, OnErr, IfSome};
+ghost use Rattle.std.specs.Prelude.{◌≡◌, ◌<◌, ◌≤◌, ℕ, List, false, length, slice_get, Option, Some, None, IfOk, OnOk, OnErr, IfSome};
 ghost use Rattle.mse_base.specs.declared.ticks.Moment.{Moment};
 ghost use Rattle.mse_base.specs.declared.track.Presentation.{Presentation};
 ghost use Rattle.mse_types.specs.declared.answer.Container.{Container};
@@ -211,6 +211,7 @@ pub(crate) fn removal_turn<S: FrameStore>(
     ensures within_duration { StaysWithin around.now.duration media.old.media result media.new.media }
     ensures changes { result.duration_changes ≡ 0 }
     ensures duration { result.duration ≡ around.now.duration }
+    ensures no_init { result.received_init ≡ false }
     ensures rests { running.new ≡ Running.Nothing }
 {
     media.remove(start, end, around.duration);

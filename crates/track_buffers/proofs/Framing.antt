@@ -162,14 +162,14 @@ same_is Infinite Nan h = absurd cc
 same_is Infinite (At b) h = absurd cc
 same_is Infinite Infinite h = refl
 
-changed_by : (to : Moment) (b : SourceEffect) (same : Bool) → same_moment to b.duration ≡ same → (cond same b (record { duration_changes = b.duration_changes + 1; duration = to; activated = b.activated })).duration ≡ to
+changed_by : (to : Moment) (b : SourceEffect) (same : Bool) → same_moment to b.duration ≡ same → (cond same b (record { duration_changes = b.duration_changes + 1; duration = to; activated = b.activated; received_init = b.received_init })).duration ≡ to
 changed_by to b true e = sym (same_is to b.duration e)
 changed_by to b false e = refl
 
 pub changed_is : (to : Moment) (b : SourceEffect) → (with_duration to b).duration ≡ to
 changed_is to b = changed_by to b (same_moment to b.duration) refl
 
-few_by : (to : Moment) (b : SourceEffect) (same : Bool) → (cond same b (record { duration_changes = b.duration_changes + 1; duration = to; activated = b.activated })).duration_changes ≤ b.duration_changes + 1
+few_by : (to : Moment) (b : SourceEffect) (same : Bool) → (cond same b (record { duration_changes = b.duration_changes + 1; duration = to; activated = b.activated; received_init = b.received_init })).duration_changes ≤ b.duration_changes + 1
 few_by to b true = omega arith
 few_by to b false = omega arith
 

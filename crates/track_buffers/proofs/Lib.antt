@@ -4,5 +4,14 @@ pub mod Editing
 pub mod Keeping
 pub mod Framing
 pub mod Durations
+pub mod Received
 pub mod Ranging
 pub mod Lookups
+pub mod Extending
+pub mod Normalizing
+pub mod Sharing
+pub mod Ending
+pub mod Bounding
+pub mod Renewing
+pub mod Highest
+pub mod Ended

@@ -51,7 +51,7 @@ pub record FlushResult : Type 0 where
 
 -- what two things in a row bring about
 abbrev pub effect_of_both : SourceEffect → SourceEffect → SourceEffect
-effect_of_both a b = record { duration_changes = a.duration_changes + b.duration_changes; duration = b.duration; activated = a.activated || b.activated }
+effect_of_both a b = record { duration_changes = a.duration_changes + b.duration_changes; duration = b.duration; activated = a.activated || b.activated; received_init = a.received_init || b.received_init }
 
 -- after something else was brought about
 abbrev pub flush_result_after : SourceEffect → FlushResult → FlushResult

@@ -97,7 +97,7 @@ tracks_after news (t ∷ ts) = tracks_with_partners news (t ∷ ts)
 
 abbrev pub init_result_of : Option MediaFault → Presentation → Media → SourceEffect → MediaResult
 init_result_of (Some fault) p m b = AppendError fault m b
-init_result_of None p m b = Done (record { tracks = tracks_after (media_tracks p) m.tracks; settings = m.settings; pending = false; gap = m.gap }) (record { duration_changes = b.duration_changes; duration = b.duration; activated = awaits_first m })
+init_result_of None p m b = Done (record { tracks = tracks_after (media_tracks p) m.tracks; settings = m.settings; pending = false; gap = m.gap }) (record { duration_changes = b.duration_changes; duration = b.duration; activated = awaits_first m; received_init = true })
 
 -- the segment received, where the duration is d
 abbrev pub init_result : Presentation → Media → Moment → MediaResult

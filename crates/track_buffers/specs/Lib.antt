@@ -5,3 +5,4 @@ pub mod Frames
 pub mod Buffered
 pub mod Effects
 pub mod Views
+pub mod Extended

@@ -74,14 +74,19 @@ IsNotAfter d e = (ts : List TrackState) → EndsWithin d ts → EndsWithin e ts
 
 -- nothing, where this is the duration
 abbrev pub no_effect : Moment → SourceEffect
-no_effect d = record { duration_changes = 0; duration = d; activated = false }
+no_effect d = record { duration_changes = 0; duration = d; activated = false; received_init = false }
 
 -- duration change (Media Source Extensions, 2.4.6): to the duration that it has already, nothing
 abbrev pub with_duration : Moment → SourceEffect → SourceEffect
-with_duration d b = if same_moment d b.duration then b else record { duration_changes = b.duration_changes + 1; duration = d; activated = b.activated }
+with_duration d b = if same_moment d b.duration then b else record { duration_changes = b.duration_changes + 1; duration = d; activated = b.activated; received_init = b.received_init }
 
 -- What an item does to the media and at the source: all of it, or that it breaks the byte stream, which is an append
 -- error; what came before the fault stands.
 pub data MediaResult : Type 0 where
   Done : Media → SourceEffect → MediaResult
   AppendError : MediaFault → Media → SourceEffect → MediaResult
+
+-- what comes of it at the source
+abbrev pub effect_of : MediaResult → SourceEffect
+effect_of (Done m b) = b
+effect_of (AppendError fault m b) = b

@@ -31,7 +31,7 @@ fn last_end_at<S: FrameStore>(tracks: &Tracks<S>, i: usize) -> Option<Ticks>
 }
 
 /// The highest end of the ranges of all tracks.
-fn highest_range_end<S: FrameStore>(tracks: &Tracks<S>) -> Option<Ticks>
+pub(crate) fn highest_range_end<S: FrameStore>(tracks: &Tracks<S>) -> Option<Ticks>
     ensures { result ≡ greatest (last_ends (ranges_in S.frames S.gap tracks.now.items)) }
 {
     let mut best = None;
@@ -42,7 +42,7 @@ fn highest_range_end<S: FrameStore>(tracks: &Tracks<S>) -> Option<Ticks>
 }
 
 /// A span that lasts to an end, if it ends before.
-pub(crate) fn span_up_to(span: Span, end: Ticks) -> Span
+pub fn span_up_to(span: Span, end: Ticks) -> Span
     ensures { result ≡ record { start = span.start; end = int_max span.end end } }
 {
     Span {
@@ -52,7 +52,7 @@ pub(crate) fn span_up_to(span: Span, end: Ticks) -> Span
 }
 
 /// The last range lasts to an end, if it ends before.
-fn extend_last(ranges: &mut Ranges, end: Ticks) -> Result<(), OutOfMemory>
+pub fn extend_last(ranges: &mut Ranges, end: Ticks) -> Result<(), OutOfMemory>
     requires { IsNormalized ranges.old.spans }
     ensures { OnOk result (ranges.new.spans ≡ with_last_end end ranges.old.spans) }
 {

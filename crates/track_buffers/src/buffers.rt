@@ -1,7 +1,7 @@
-ghost use Rattle.std.specs.Prelude.{◌≡◌, ◌≢◌, ◌≤◌, ◌<◌, ◌^◌, ◌+◌, ℤ, pos, ◌≤ℤ◌, Bool, true, find, length, None, IfOk, OnOk};
+ghost use Rattle.std.specs.Prelude.{◌≡◌, ◌≢◌, ◌≤◌, ◌<◌, ◌^◌, ◌+◌, ℤ, pos, ◌≤ℤ◌, Bool, true, false, find, length, None, IfOk, OnOk};
 ghost use Rattle.std.specs.List.{AllByRecursion};
 ghost use Rattle.mse_base.specs.declared.ticks.Moment.{Moment};
-ghost use Rattle.mse_base.specs.Spans.{reaches};
+ghost use Rattle.mse_base.specs.Spans.{last_of, reaches};
 ghost use Rattle.track_store.specs.Kept.{AreKept};
 ghost use Rattle.track_store.specs.Sound.{Sound};
 ghost use Rattle.track_store.specs.State.{states_of};
@@ -16,7 +16,7 @@ ghost use Rattle.track_buffers.specs.Views.{track_views_of};
 use crate::buffered::buffered_of;
 use crate::effects::{MediaEffect, MediaFault, SourceEffect, effect_of_both, no_effect};
 use crate::frames::{place_of, process_at, unset_all};
-use crate::holding::span_holding;
+use crate::holding::{ended_last_span, span_holding};
 use crate::incoming::{init_fault, segment_effect, take_tracks};
 use crate::looks::{highest_end, highest_start, track_views};
 use crate::rooms::reserve_all;
@@ -142,6 +142,7 @@ impl<S: FrameStore> TrackBuffers<S> {
                     duration_changes: effect.duration_changes,
                     duration: effect.duration,
                     activated,
+                    received_init: true,
                 })
             }
         }
@@ -158,6 +159,7 @@ impl<S: FrameStore> TrackBuffers<S> {
         ensures within_duration { EndsWithin duration self.old.media.tracks
             → EndsWithin (source_effect result).duration self.new.media.tracks }
         ensures no_fall { IsNotAfter duration (source_effect result).duration }
+        ensures no_init { (source_effect result).received_init ≡ false }
         ensures room { self.old.room ≤ self.new.room + 1 }
         ensures places { self.new.places ≡ self.old.places }
     {
@@ -179,6 +181,7 @@ impl<S: FrameStore> TrackBuffers<S> {
         ensures within_duration { EndsWithin duration self.old.media.tracks
             → EndsWithin result.duration self.new.media.tracks }
         ensures no_fall { IsNotAfter duration result.duration }
+        ensures no_init { result.received_init ≡ false }
         ensures room { self.old.room ≤ self.new.room + length frames.items }
         ensures places { self.new.places ≡ self.old.places }
     {
@@ -353,6 +356,14 @@ impl<S: FrameStore> TrackBuffers<S> {
         ensures { result ≡ find (reaches t) (buffered_of ended self.now.media) }
     {
         span_holding(&self.tracks, t, ended)
+    }
+
+    /// The last buffered range where the source is ended; `None` exactly where there is none. It
+    /// takes no memory.
+    pub fn ended_last_span(&self) -> Option<Span>
+        ensures { result ≡ last_of (buffered_of true self.now.media) }
+    {
+        ended_last_span(&self.tracks)
     }
 
     /// What the track buffers hold.

@@ -1,4 +1,4 @@
-ghost use Rattle.std.specs.Prelude.{◌≡◌, ◌+◌, ◌<◌, ◌^◌};
+ghost use Rattle.std.specs.Prelude.{◌≡◌, ◌+◌, ◌<◌, ◌^◌, false};
 ghost use Rattle.track_buffers.specs.Media.{no_effect, with_duration};
 ghost use Rattle.track_buffers.specs.Frames.{effect_of_both};
 
@@ -28,6 +28,8 @@ pub struct SourceEffect {
     pub duration: Moment,
     /// Whether the source buffer became active.
     pub activated: bool,
+    /// Whether an initialization segment was received, the first one or a later one.
+    pub received_init: bool,
 }
 
 /// What an item of the byte stream did. After a fault the media is as before.
@@ -47,13 +49,15 @@ pub(crate) fn no_effect(duration: &Moment) -> SourceEffect
         duration_changes: 0,
         duration: *duration,
         activated: false,
+        received_init: false,
     }
 }
 
 /// What a change of the duration brings about, where it was `from` and nothing else happened
 /// (Media Source Extensions, 2.4.6).
 pub(crate) fn duration_change(to: &Moment, from: &Moment) -> SourceEffect
-    ensures { result ≡ with_duration to.now (no_effect from.now) }
+    ensures effect { result ≡ with_duration to.now (no_effect from.now) }
+    ensures no_init { result.received_init ≡ false }
 {
     if to == from {
         return no_effect(from);
@@ -62,6 +66,7 @@ pub(crate) fn duration_change(to: &Moment, from: &Moment) -> SourceEffect
         duration_changes: 1,
         duration: *to,
         activated: false,
+        received_init: false,
     }
 }
 
@@ -74,5 +79,6 @@ pub(crate) fn effect_of_both(a: &SourceEffect, b: &SourceEffect) -> SourceEffect
         duration_changes: a.duration_changes + b.duration_changes,
         duration: b.duration,
         activated: a.activated || b.activated,
+        received_init: a.received_init || b.received_init,
     }
 }

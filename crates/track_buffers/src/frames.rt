@@ -1,6 +1,6 @@
 //! Coded frames, and the marks where the parser is reset.
 
-ghost use Rattle.std.specs.Prelude.{◌≡◌, ◌≤◌, ◌<◌, ◌+◌, ℕ, ℤ, pos, ◌≤ℤ◌, ◌==◌, Bool, Some, map, length, slice_get, slice_set, IfSome};
+ghost use Rattle.std.specs.Prelude.{◌≡◌, ◌≤◌, ◌<◌, ◌+◌, ℕ, ℤ, pos, ◌≤ℤ◌, ◌==◌, Bool, false, Some, map, length, slice_get, slice_set, IfSome};
 ghost use Rattle.mse_base.specs.declared.ticks.Moment.{Moment};
 ghost use Rattle.track_store.specs.Kept.{AreKept, HasRoom, gaps_of};
 ghost use Rattle.track_store.specs.State.{state_of, states_of};
@@ -59,6 +59,7 @@ pub(crate) fn process_at<S: FrameStore>(
     ensures within_duration { EndsWithin duration.now (states_of S.frames tracks.old.items)
         → EndsWithin (source_effect result).duration (states_of S.frames tracks.new.items) }
     ensures no_fall { IsNotAfter duration.now (source_effect result).duration }
+    ensures no_init { (source_effect result).received_init ≡ false }
     ensures room { (n : ℕ) → HasRoom S.spare (n + 1) tracks.old.items
         → HasRoom S.spare n tracks.new.items }
     ensures gaps { gaps_of S.gap tracks.new.items ≡ gaps_of S.gap tracks.old.items }

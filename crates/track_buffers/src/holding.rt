@@ -1,14 +1,14 @@
 //! The buffered range that holds a time, found without memory.
 
-ghost use Rattle.std.specs.Prelude.{◌≡◌, ◌≤ℤ◌, pos, find, map, slice_get, IfSome};
+ghost use Rattle.std.specs.Prelude.{◌≡◌, ◌≤ℤ◌, pos, true, find, map, slice_get, IfSome};
 ghost use Rattle.std.specs.List.{AllByRecursion};
 ghost use Rattle.mse_base.specs.Meets.{meet_of_all, overlap_of_two};
-ghost use Rattle.mse_base.specs.Spans.{reaches};
+ghost use Rattle.mse_base.specs.Spans.{last_of, reaches};
 ghost use Rattle.track_store.specs.Frames.{ranges_of};
 ghost use Rattle.track_store.specs.Kept.{gaps_of};
 ghost use Rattle.track_buffers.specs.Buffered.{with_common_end, with_end, with_last_end, ranges_in};
 
-use crate::buffered::{common_end, span_up_to};
+use crate::buffered::{common_end, highest_range_end, span_up_to};
 use mse_base::{Span, Ticks};
 use track_store::{FrameStore, Track, Tracks};
 
@@ -64,7 +64,7 @@ fn span_at<S: FrameStore>(
 }
 
 /// The ticks that two spans share, neither of which is missing.
-fn overlap_of_two(x: Option<Span>, y: Option<Span>) -> Option<Span>
+pub fn overlap_of_two(x: Option<Span>, y: Option<Span>) -> Option<Span>
     ensures { result ≡ overlap_of_two x y }
 {
     match (x, y) {
@@ -88,4 +88,17 @@ pub(crate) fn span_holding<S: FrameStore>(tracks: &Tracks<S>, t: Ticks, ended: b
         held = overlap_of_two(held, span_at(tracks, i, t, &end));
     }
     held
+}
+
+/// The last buffered range of tracks, where the source is ended: the one that holds the highest end
+/// of all, to which the last range of each track lasts.
+pub(crate) fn ended_last_span<S: FrameStore>(tracks: &Tracks<S>) -> Option<Span>
+    requires { AllByRecursion (λ g. pos 0 ≤ℤ g) (gaps_of S.gap tracks.now.items) }
+    ensures { result ≡ last_of
+        (meet_of_all (with_common_end true (ranges_in S.frames S.gap tracks.now.items))) }
+{
+    match highest_range_end(tracks) {
+        Some(end) => span_holding(tracks, end, true),
+        None => None,
+    }
 }

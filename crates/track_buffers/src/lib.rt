@@ -20,10 +20,14 @@ mod kinds;
 pub mod laws;
 mod looks;
 mod partners;
+pub mod range_laws;
 mod rooms;
 #[cfg(test)]
 mod tests;
 
+pub use buffered::{extend_last, span_up_to};
 pub use buffers::TrackBuffers;
 pub use effects::{MediaEffect, MediaFault, SourceEffect};
+pub use holding::overlap_of_two;
 pub use kinds::media_track_count;
+pub use looks::greatest_of_two;

@@ -12,7 +12,7 @@ use std::alloc::Global;
 use track_store::{FrameStore, Track, Tracks};
 
 /// The greater of two times, each of which may be missing.
-pub(crate) fn greatest_of_two(a: Option<Ticks>, b: Option<Ticks>) -> Option<Ticks>
+pub fn greatest_of_two(a: Option<Ticks>, b: Option<Ticks>) -> Option<Ticks>
     ensures { result ≡ greatest_of_two a b }
 {
     a.max(b)

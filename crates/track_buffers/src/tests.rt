@@ -94,7 +94,7 @@ fn receive(
 /// Track buffers in mode "segments" that received an initialization segment.
 fn begun(rt: &(impl Abort + AllocGlobal), tracks: &[Told]) -> Result<Buffers, Fail> {
     let mut buffers = Buffers::new(rt.alloc(), Ticks::zero(), false);
-    let want = MediaEffect::Done(nothing(true));
+    let want = MediaEffect::Done(received(true));
     receive(rt, &mut buffers, tracks, Moment::Infinite, &want)?;
     Ok(buffers)
 }
@@ -116,12 +116,22 @@ fn process_all(alloc: Global, buffers: &mut Buffers, samples: &[Sample]) -> Resu
     Ok(())
 }
 
-/// Nothing new, where the duration is infinite.
-fn nothing(activated: bool) -> SourceEffect {
+/// Nothing, where the duration is infinite.
+fn nothing() -> SourceEffect {
     SourceEffect {
         duration_changes: 0,
         duration: Moment::Infinite,
-        activated,
+        activated: false,
+        received_init: false,
+    }
+}
+
+/// An initialization segment, the first one or a later one, where the duration is infinite.
+fn received(first: bool) -> SourceEffect {
+    SourceEffect {
+        activated: first,
+        received_init: true,
+        ..nothing()
     }
 }
 
@@ -159,7 +169,7 @@ fn expect_ranges(rt: &impl Abort, ranges: &Ranges, want: &[(u32, u32)]) -> Resul
 
 #[test]
 fn goes_on_by_kind(rt: HostRuntime) -> Result<(), Fail> {
-    let went = MediaEffect::Done(nothing(false));
+    let went = MediaEffect::Done(received(false));
     let mut buffers = begun(&rt, &[VIDEO, AUDIO])?;
     process_all(
         rt.alloc(),
@@ -179,8 +189,8 @@ fn goes_on_by_kind(rt: HostRuntime) -> Result<(), Fail> {
 
 #[test]
 fn tells_other_tracks(rt: HostRuntime) -> Result<(), Fail> {
-    let differ = MediaEffect::AppendError(MediaFault::TracksDiffer, nothing(false));
-    let went = MediaEffect::Done(nothing(false));
+    let differ = MediaEffect::AppendError(MediaFault::TracksDiffer, nothing());
+    let went = MediaEffect::Done(received(false));
     let second = (2, Kind::Video, *b"hvc1");
     let others = [second, (3, Kind::Video, *b"avc1")];
     let exchanged = [(1, Kind::Video, *b"hvc1"), (2, Kind::Video, *b"avc1")];
@@ -201,8 +211,8 @@ fn tells_other_tracks(rt: HostRuntime) -> Result<(), Fail> {
 
 #[test]
 fn changes_codecs_where_it_may(rt: HostRuntime) -> Result<(), Fail> {
-    let differ = MediaEffect::AppendError(MediaFault::TracksDiffer, nothing(false));
-    let went = MediaEffect::Done(nothing(false));
+    let differ = MediaEffect::AppendError(MediaFault::TracksDiffer, nothing());
+    let went = MediaEffect::Done(received(false));
     let other = [(9, Kind::Video, *b"hvc1")];
     let mut buffers = begun(&rt, &[VIDEO])?;
     receive(&rt, &mut buffers, &other, Moment::Infinite, &differ)?;
@@ -217,12 +227,12 @@ fn changes_codecs_where_it_may(rt: HostRuntime) -> Result<(), Fail> {
 fn tells_what_is_wrong_first(rt: HostRuntime) -> Result<(), Fail> {
     let text = (3, Kind::Other, *b"wvtt");
     let unknown = [VIDEO, (2, Kind::Audio, *b"flac")];
-    let unknown_codec = MediaEffect::AppendError(MediaFault::UnknownCodec, nothing(false));
+    let unknown_codec = MediaEffect::AppendError(MediaFault::UnknownCodec, nothing());
     // The duration is told before the fault.
     let told = SourceEffect {
         duration_changes: 1,
         duration: Moment::At(time(900_000)?),
-        activated: false,
+        ..nothing()
     };
     let no_tracks = MediaEffect::AppendError(MediaFault::NoTracks, told);
     let mut buffers = Buffers::new(rt.alloc(), Ticks::zero(), false);
@@ -236,7 +246,7 @@ fn tells_what_is_wrong_first(rt: HostRuntime) -> Result<(), Fail> {
     )?;
     assert!(rt; buffers.awaits_first());
     // A track that is neither video nor audio may have any codec.
-    let went = MediaEffect::Done(nothing(true));
+    let went = MediaEffect::Done(received(true));
     receive(&rt, &mut buffers, &[text, VIDEO], Moment::Infinite, &went)?;
     receive(
         &rt,

@@ -38,6 +38,7 @@ pub(super) struct Heard {
     pub(super) reopened: bool,
     pub(super) changes: u64,
     pub(super) activated: bool,
+    pub(super) received_init: bool,
     /// The number of a fault, and its offset.
     pub(super) fault: (u8, u64),
     pub(super) events: (Option<EventKind>, Option<EventKind>),
@@ -50,6 +51,7 @@ pub(super) fn quiet() -> Heard {
         reopened: false,
         changes: 0,
         activated: false,
+        received_init: false,
         fault: (0, 0),
         events: (None, None),
     }
@@ -93,6 +95,7 @@ fn hear(reply: &Reply) -> Heard {
         reopened: reply.reopened,
         changes: reply.duration_changes,
         activated: reply.activated,
+        received_init: reply.received_init,
         fault: shown(&reply.fault),
         events: (reply.events.get(0), reply.events.get(1)),
     }
@@ -108,6 +111,7 @@ fn then(first: &Heard, second: &Heard) -> Result<Heard, Fail> {
         reopened: first.reopened || second.reopened,
         changes: first.changes.saturating_add(second.changes),
         activated: first.activated || second.activated,
+        received_init: first.received_init || second.received_init,
         fault: if second.fault.0 == 0 {
             first.fault
         } else {
@@ -200,6 +204,22 @@ pub(super) fn perform(scene: &mut Scene, bytes: &[u8], act: Act) -> Result<Heard
             scene.around.ready = Ready::Ended;
             Ok(quiet())
         }
+    }
+}
+
+/// The name by which it would be refused before anything comes of it.
+pub(super) fn refusal(scene: &Scene, act: Act) -> Result<Option<Name>, Fail> {
+    let (buffer, around) = (&scene.buffer, &scene.around);
+    match act {
+        Act::Append(_, _) => Ok(buffer.append_refusal(around)),
+        Act::Abort => Ok(buffer.abort_refusal(around)),
+        Act::Type(text) => Ok(buffer.change_type_refusal(text)),
+        Act::Mode(mode) => Ok(buffer.mode_refusal(mode, around)),
+        Act::Offset(_) => Ok(buffer.offset_refusal(around)),
+        Act::WindowStart(t) => Ok(buffer.window_start_refusal(time(t)?)),
+        Act::WindowEnd(t) => Ok(buffer.window_end_refusal(Moment::At(time(t)?))),
+        Act::Remove(t) => Ok(buffer.remove_refusal(time(t)?, Moment::Infinite, around)),
+        Act::Turn | Act::Drain | Act::EndWork | Act::Duration(_) | Act::Ended => Ok(None),
     }
 }
 

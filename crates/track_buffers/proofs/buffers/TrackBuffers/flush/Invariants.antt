@@ -1,4 +1,4 @@
-use Rattle.std.proofs.Common.{◌≡◌, ◌≤◌, ◌+◌, length, drop}
+use Rattle.std.proofs.Common.{◌≡◌, ◌≤◌, ◌+◌, length, drop, false}
 use Rattle.track_buffers.specs.Media.{EndsWithin, IsNotAfter}
 use Rattle.track_buffers.specs.Frames.{flush_result, flush_result_after}
 use Rattle.track_buffers.proofs.buffers.TrackBuffers.flush.Given as goal
@@ -11,6 +11,7 @@ invariant-loop-frame g l = record {
   kept_room : l.initial.self.room ≤ l.self.room + length l.yielded;
   changes : l.effect.duration_changes ≤ length l.yielded;
   within : length l.yielded ≤ length l.fn.frames.items;
+  no_init : l.effect.received_init ≡ false;
   no_fall : IsNotAfter l.fn.duration l.effect.duration;
   within_duration : EndsWithin l.fn.duration l.initial.self.media.tracks → EndsWithin l.effect.duration l.self.media.tracks;
 }
