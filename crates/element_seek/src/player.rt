@@ -338,6 +338,13 @@ impl Player {
         self.position
     }
 
+    /// The default playback start position, in ticks (HTML, media elements).
+    pub fn default_start(&self) -> Ticks
+        ensures { result ≡ self.now.default_start }
+    {
+        self.default_start
+    }
+
     /// Whether the element is paused.
     pub fn paused(&self) -> bool
         ensures { result ≡ self.now.paused }

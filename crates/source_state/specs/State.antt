@@ -1,6 +1,6 @@
 -- A media source as a state.
 use Rattle.std.specs.Prelude.{ℕ, Bool, not, ◌==◌, List, [], filter, Option, None}
-use Rattle.std.specs.List.{list_any}
+use Rattle.std.specs.List.{list_any, list_all}
 use Rattle.mse_base.specs.declared.span.Span.{Span}
 use Rattle.mse_base.specs.declared.ticks.Moment.{Moment}
 use Rattle.mse_base.specs.declared.ticks.Moment.TheVariants.{Nan}
@@ -28,3 +28,7 @@ has k ks = list_any (λ n. n == k) ks
 -- a list of buffers without the one of a number
 abbrev pub without : ℕ → List ℕ → List ℕ
 without k ks = filter (λ n. not (n == k)) ks
+
+-- every buffer of a list is in another
+abbrev pub are_in : List ℕ → List ℕ → Bool
+are_in ks all = list_all (λ n. has n all) ks

@@ -1,5 +1,5 @@
 ghost use Rattle.std.specs.Prelude.{◌≡◌, vec_capacity};
-ghost use Rattle.source_state.specs.State.{has, without};
+ghost use Rattle.source_state.specs.State.{has, without, are_in};
 
 /// Whether the list has the buffer of a number.
 pub(crate) fn has(list: &Vec<u32>, k: u32) -> bool
@@ -14,4 +14,11 @@ pub(crate) fn remove_number(list: &mut Vec<u32>, k: u32)
     ensures capacity { vec_capacity list.new ≡ vec_capacity list.old }
 {
     list.retain(|n| *n != k);
+}
+
+/// Whether every buffer of a list is in another.
+pub(crate) fn are_in(list: &Vec<u32>, all: &Vec<u32>) -> bool
+    ensures { result ≡ are_in list.now.items all.now.items }
+{
+    list.iter().all(|n| has(all, *n))
 }

@@ -1,11 +1,11 @@
 ghost use Rattle.std.specs.Prelude.{◌≡◌, true, false, not, length, slice_get, IfOk, OnErr};
-ghost use Rattle.source_state.specs.State.{new_source, has};
+ghost use Rattle.source_state.specs.State.{new_source, has, are_in};
 ghost use Rattle.mse_base.specs.Moments.{same_moment};
 ghost use Rattle.source_state.specs.Calls.{after_attach, after_set_live, after_clear_live, after_add_buffer, after_remove_buffer, with_active, after_duration_change, after_set_duration, end_refusal, after_end, after_reopen};
 ghost use Rattle.source_state.specs.Seekable.{seekable_span};
 
 use crate::answers::{Added, AllBuffers, Changed, Removed};
-use crate::lists::{has, remove_number};
+use crate::lists::{are_in, has, remove_number};
 use crate::seekable::seekable_span;
 use mse_base::{Moment, OutOfMemory, Span, Ticks};
 use mse_calls::{EndKind, Name, Ready};
@@ -307,5 +307,19 @@ impl Source {
         ensures { result ≡ has k self.now.active }
     {
         has(&self.active, k)
+    }
+
+    /// The numbers of the active buffers, in the order in which they became active.
+    pub fn active_numbers(&self) -> &[u32]
+        ensures { result.now ≡ self.now.active }
+    {
+        self.active.as_slice()
+    }
+
+    /// Whether every buffer in the list of source buffers is active.
+    pub fn all_active(&self) -> bool
+        ensures { result ≡ are_in self.now.listed self.now.active }
+    {
+        are_in(&self.listed, &self.active)
     }
 }

@@ -1,0 +1,4 @@
+pub mod State
+pub mod Queueing
+pub mod Falling
+pub mod Settled

@@ -1,0 +1,272 @@
+use crate::Element;
+use element_seek::Scene;
+use mse_base::{Moment, Span, Ticks};
+use mse_calls::{Changes, EndKind, Event, EventKind, Level, Name, Target};
+use std::test::Fail;
+
+/// Ticks in a second.
+const SECOND: i128 = 141_120_000_000;
+
+fn time(t: i128) -> Result<Ticks, Fail> {
+    Ok(Ticks::new(t).ok_or("no time")?)
+}
+
+fn at(t: i128) -> Result<Moment, Fail> {
+    Ok(Moment::At(time(t)?))
+}
+
+/// The range from a time to a time.
+fn range(start: i128, end: i128) -> Result<Option<Span>, Fail> {
+    Ok(Some(Span {
+        start: time(start)?,
+        end: time(end)?,
+    }))
+}
+
+/// An open source of a duration, with a range round the position.
+fn open(duration: Moment, span: Option<Span>) -> Scene {
+    let seekable = match duration {
+        Moment::At(end) => Some(Span {
+            start: Ticks::zero(),
+            end,
+        }),
+        Moment::Nan | Moment::Infinite => None,
+    };
+    Scene {
+        duration,
+        ended: false,
+        span,
+        seekable,
+    }
+}
+
+/// An element whose metadata is there, at the level of a scene, all of whose events were fired.
+fn loaded(rt: &HostRuntime, scene: &Scene) -> Result<Element, Fail> {
+    let mut element = Element::new(rt.alloc());
+    element.reserve(6)?;
+    element.load(scene);
+    element.settle(scene);
+    for _ in 0..6 {
+        let _ = element.fire();
+    }
+    Ok(element)
+}
+
+/// Whether the events that wait are these at the element; they are fired.
+fn fires(element: &mut Element, wanted: &[EventKind]) -> bool {
+    let mut same = true;
+    for kind in wanted {
+        let event = Event {
+            target: Target::Element,
+            kind: *kind,
+        };
+        same = same && element.fire() == Some(event);
+    }
+    same && element.fire().is_none()
+}
+
+/// Events are fired in the order in which they were queued, at whatever target.
+#[test]
+fn fires_in_order(rt: HostRuntime) -> Result<(), Fail> {
+    let mut element = Element::new(rt.alloc());
+    assert!(rt; element.fire().is_none());
+    element.reserve(8)?;
+    let opened = Event {
+        target: Target::Source,
+        kind: EventKind::SourceOpen,
+    };
+    element.tell(opened);
+    let changed = Event {
+        target: Target::Element,
+        kind: EventKind::DurationChange,
+    };
+    element.tell_again(changed, 2);
+    element.tell_again(changed, 0);
+    let mut kinds = Changes::new();
+    kinds.push(EventKind::Update);
+    kinds.push(EventKind::UpdateEnd);
+    element.tell_kinds(Target::Buffer(3), &kinds);
+    for wanted in [opened, changed, changed] {
+        assert_eq!(rt; element.fire(), Some(wanted));
+    }
+    for kind in [EventKind::Update, EventKind::UpdateEnd] {
+        let target = Target::Buffer(3);
+        assert_eq!(rt; element.fire(), Some(Event { target, kind }));
+    }
+    assert!(rt; element.fire().is_none());
+    Ok(())
+}
+
+/// An element without metadata is told of a change of the duration, and does not seek.
+#[test]
+fn duration_of_an_element_without_metadata(rt: HostRuntime) -> Result<(), Fail> {
+    let scene = open(at(SECOND)?, None);
+    let mut element = Element::new(rt.alloc());
+    element.reserve(3)?;
+    element.seek(time(5 * SECOND)?, &scene);
+    element.fall(scene.duration, &scene);
+    assert!(rt; fires(&mut element, &[EventKind::DurationChange]));
+    assert_eq!(rt;
+        (element.level(), element.position()),
+        (Level::Nothing, Ticks::zero())
+    );
+    assert!(rt; !element.seeking());
+    Ok(())
+}
+
+/// An element whose position is after the new duration seeks to it; one whose position is the new
+/// duration, or before it, does not.
+#[test]
+fn seeks_to_a_lesser_duration(rt: HostRuntime) -> Result<(), Fail> {
+    let long = open(at(10 * SECOND)?, range(0, 6 * SECOND)?);
+    let mut element = loaded(&rt, &long)?;
+    element.reserve(3)?;
+    element.seek(time(5 * SECOND)?, &long);
+    assert!(rt; fires(&mut element, &[EventKind::Seeking]));
+    let same = open(at(5 * SECOND)?, range(0, 5 * SECOND)?);
+    element.reserve(2)?;
+    element.fall(same.duration, &same);
+    assert!(rt; fires(&mut element, &[EventKind::DurationChange]));
+    assert_eq!(rt; element.position(), time(5 * SECOND)?);
+    let short = open(at(2 * SECOND)?, range(0, 2 * SECOND)?);
+    element.reserve(2)?;
+    element.fall(short.duration, &short);
+    assert!(rt;
+        fires(
+            &mut element,
+            &[EventKind::DurationChange, EventKind::Seeking]
+        )
+    );
+    assert_eq!(rt;
+        (element.position(), element.seeking()),
+        (time(2 * SECOND)?, true)
+    );
+    let endless = Scene {
+        duration: Moment::Infinite,
+        ..short
+    };
+    element.reserve(2)?;
+    element.fall(endless.duration, &endless);
+    assert!(rt; fires(&mut element, &[EventKind::DurationChange]));
+    assert_eq!(rt; element.position(), time(2 * SECOND)?);
+    Ok(())
+}
+
+/// An element that was told where to start seeks there once its metadata is there, and stays there.
+#[test]
+fn loads_at_its_start(rt: HostRuntime) -> Result<(), Fail> {
+    let scene = open(at(10 * SECOND)?, range(0, 6 * SECOND)?);
+    let mut element = Element::new(rt.alloc());
+    element.reserve(1)?;
+    element.seek(time(5 * SECOND)?, &scene);
+    assert!(rt; fires(&mut element, &[]));
+    element.reserve(6)?;
+    element.load(&scene);
+    element.settle(&scene);
+    let wanted = [
+        EventKind::LoadedMetadata,
+        EventKind::Seeking,
+        EventKind::LoadedData,
+        EventKind::CanPlay,
+    ];
+    assert!(rt; fires(&mut element, &wanted));
+    assert_eq!(rt;
+        (element.position(), element.level()),
+        (time(5 * SECOND)?, Level::Future)
+    );
+    assert!(rt; element.due(&scene));
+    element.reserve(3)?;
+    assert!(rt; element.turn(&scene));
+    assert!(rt; fires(&mut element, &[EventKind::TimeUpdate, EventKind::Seeked]));
+    assert!(rt; !element.seeking() && !element.due(&scene));
+    element.reserve(3)?;
+    assert!(rt; !element.turn(&scene));
+    assert!(rt; fires(&mut element, &[]));
+    Ok(())
+}
+
+/// A seek while the element plays, to a place whose data comes only later.
+#[test]
+fn seeks_while_it_plays(rt: HostRuntime) -> Result<(), Fail> {
+    let first = open(at(10 * SECOND)?, range(0, 2 * SECOND)?);
+    let mut element = loaded(&rt, &first)?;
+    element.reserve(3)?;
+    assert_eq!(rt; element.play(&first), None);
+    assert!(rt; fires(&mut element, &[EventKind::Play, EventKind::Playing]));
+    let nowhere = open(at(10 * SECOND)?, None);
+    element.reserve(5)?;
+    element.seek(time(5 * SECOND)?, &first);
+    element.settle(&nowhere);
+    let wanted = [
+        EventKind::Seeking,
+        EventKind::TimeUpdate,
+        EventKind::Waiting,
+    ];
+    assert!(rt; fires(&mut element, &wanted));
+    let second = open(at(10 * SECOND)?, range(4 * SECOND, 6 * SECOND)?);
+    element.reserve(4)?;
+    assert!(rt; !element.due(&nowhere));
+    element.settle(&second);
+    assert!(rt; fires(&mut element, &[EventKind::CanPlay, EventKind::Playing]));
+    element.reserve(3)?;
+    assert!(rt; element.turn(&second));
+    assert!(rt; fires(&mut element, &[EventKind::TimeUpdate, EventKind::Seeked]));
+    assert_eq!(rt;
+        (element.level(), element.position()),
+        (Level::Future, time(5 * SECOND)?)
+    );
+    Ok(())
+}
+
+/// The element plays to the end of an ended source.
+#[test]
+fn plays_to_the_end(rt: HostRuntime) -> Result<(), Fail> {
+    let end = 14_112_000_000;
+    let scene = Scene {
+        ended: true,
+        ..open(at(end)?, range(0, end)?)
+    };
+    let mut element = loaded(&rt, &scene)?;
+    element.reserve(3)?;
+    assert_eq!(rt; element.play(&scene), None);
+    assert!(rt; fires(&mut element, &[EventKind::Play, EventKind::Playing]));
+    element.reserve(9)?;
+    assert_eq!(rt; element.advance(time(-1)?, &scene), Some(Name::TypeError));
+    assert_eq!(rt; element.advance(time(SECOND)?, &scene), None);
+    element.settle(&scene);
+    assert!(rt; element.turn(&scene));
+    let wanted = [
+        EventKind::TimeUpdate,
+        EventKind::TimeUpdate,
+        EventKind::Pause,
+        EventKind::Ended,
+    ];
+    assert!(rt; fires(&mut element, &wanted));
+    assert_eq!(rt;
+        (element.level(), element.position()),
+        (Level::Current, time(end)?)
+    );
+    assert!(rt; element.paused());
+    Ok(())
+}
+
+/// An error before there is metadata is one of code 4, after which the element does not play.
+#[test]
+fn fails_without_metadata(rt: HostRuntime) -> Result<(), Fail> {
+    let scene = open(at(SECOND)?, None);
+    let mut element = Element::new(rt.alloc());
+    element.reserve(3)?;
+    element.pause();
+    element.fail(EndKind::Plain);
+    assert!(rt; fires(&mut element, &[]));
+    element.reserve(2)?;
+    element.fail(EndKind::Network);
+    element.fail(EndKind::Decode);
+    assert!(rt; fires(&mut element, &[EventKind::Error]));
+    assert_eq!(rt; element.error(), 4);
+    element.reserve(3)?;
+    assert_eq!(rt; element.play(&scene), Some(Name::NotSupported));
+    assert!(rt; fires(&mut element, &[]));
+    assert!(rt; element.paused());
+    Ok(())
+}
