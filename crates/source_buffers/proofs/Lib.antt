@@ -1,0 +1,9 @@
+pub mod Reading
+pub mod Slotting
+pub mod Staying
+pub mod Standing
+pub mod Looking
+pub mod Highest
+pub mod Viewing
+pub mod Leaving
+pub mod Refusing

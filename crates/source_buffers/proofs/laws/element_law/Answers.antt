@@ -1,0 +1,5 @@
+use Rattle.source_buffers.proofs.Looking.{element_buffered}
+use Rattle.source_buffers.proofs.laws.element_law.Goals as goal
+
+pub returns : goal.returns
+returns c = element_buffered

@@ -1,0 +1,19 @@
+use Rattle.buffer_state.specs.State.{surroundings}
+use Rattle.buffer_state.specs.Calls.{change_type_result}
+use Rattle.source_buffers.specs.Slots.{call_in_slot, removed_type_name}
+use Rattle.source_buffers.proofs.Reading.{read_some, read_none}
+use Rattle.source_buffers.proofs.Slotting.{slot_answers_if_ok, none_answers}
+use Rattle.source_buffers.proofs.Staying.{stays_later_if_ok, changes_if_ok}
+use Rattle.source_buffers.proofs.slots.change_type.Goals as goal
+
+pub returns-in-Some-clause-answered : goal.returns-in-Some-clause-answered
+returns-in-Some-clause-answered g c = (slot_answers_if_ok c.args.slots.now.items c.args.k c.args.around.now.duration c.in-Some.slot.now c.change_type.new.slot c.change_type.result (call_in_slot (removed_type_name c.args.text.now) c.args.around.now.duration (change_type_result c.args.text.now (surroundings c.args.around.now))) (read_some (λ x. x.now) c.get_mut.result c.in-Some.slot c.args.slots.now.items c.args.k c.get_mut.ensures.item.0 c.get_mut.ensures.item.1 c.in-Some.is) c.change_type.ensures.answered)
+
+pub returns-in-None-clause-answered : goal.returns-in-None-clause-answered
+returns-in-None-clause-answered g c = (none_answers c.args.slots.now.items c.args.k c.args.around.now.duration c.refused.result (call_in_slot (removed_type_name c.args.text.now) c.args.around.now.duration (change_type_result c.args.text.now (surroundings c.args.around.now))) (read_none (λ x. x.now) c.get_mut.result c.args.slots.now.items c.args.k c.get_mut.ensures.item.0 c.get_mut.ensures.item.1 c.in-None.is) c.refused.ensures)
+
+pub returns-in-Some-clause-within_duration : goal.returns-in-Some-clause-within_duration
+returns-in-Some-clause-within_duration g c = (stays_later_if_ok c.args.slots.now.items c.args.k c.args.around.now.duration c.in-Some.slot.now c.change_type.new.slot c.change_type.result (read_some (λ x. x.now) c.get_mut.result c.in-Some.slot c.args.slots.now.items c.args.k c.get_mut.ensures.item.0 c.get_mut.ensures.item.1 c.in-Some.is) c.change_type.ensures.no_fall c.change_type.ensures.within_duration)
+
+pub returns-in-Some-clause-changes : goal.returns-in-Some-clause-changes
+returns-in-Some-clause-changes g c = (changes_if_ok c.args.slots.now.items c.args.k c.in-Some.slot.now c.change_type.result (read_some (λ x. x.now) c.get_mut.result c.in-Some.slot c.args.slots.now.items c.args.k c.get_mut.ensures.item.0 c.get_mut.ensures.item.1 c.in-Some.is) c.change_type.ensures.changes)

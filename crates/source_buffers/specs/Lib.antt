@@ -1,0 +1,5 @@
+pub mod All
+pub mod Buffered
+pub mod Slots
+pub mod State
+pub mod Views

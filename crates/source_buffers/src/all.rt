@@ -1,0 +1,208 @@
+//! What is told of all source buffers.
+
+ghost use Rattle.std.specs.Prelude.{◌≡◌, ◌<◌, ◌^◌, length, slice_get, option_copied, option_map, IfSome};
+ghost use Rattle.std.specs.List.{list_any};
+ghost use Rattle.track_buffers.specs.Frames.{highest_start_in, highest_end_in};
+ghost use Rattle.source_buffers.specs.State.{all_kept_media, all_kept_running, kept_media, kept_running};
+ghost use Rattle.source_buffers.specs.All.{AreSound, IsSoundSlot, all_initialized, greatest_of_all, highest_end_of_all, is_initialized_slot, is_updating_at, is_updating_slot, lowest_running, ready_at, slot_ready, slot_times};
+ghost use Rattle.source_buffers.specs.Buffered.{slot_track, track_at};
+ghost use Rattle.mse_base.specs.Moments.{greatest};
+ghost use Rattle.track_store.specs.State.{state_of};
+
+use buffer_state::Buffer;
+use mse_base::Ticks;
+use track_buffers::greatest_of_two;
+use track_store::{FrameStore, Track};
+
+/// The slot of a number; `None` exactly where no buffer was ever made with it.
+pub(crate) fn slot_at<S: FrameStore>(
+    slots: &Vec<Option<Buffer<S>>>,
+    k: usize,
+) -> Option<&Option<Buffer<S>>>
+    ensures { option_copied result ≡ slice_get slots.now.items k }
+{
+    slots.get(k)
+}
+
+/// Whether an append or a removal runs at the buffer in a slot.
+fn is_updating<S: FrameStore>(slot: &Option<Buffer<S>>) -> bool
+    ensures { result ≡ is_updating_slot (kept_running slot.now) }
+{
+    match slot {
+        Some(buffer) => buffer.updating(),
+        None => false,
+    }
+}
+
+pub(crate) fn updating_at<S: FrameStore>(slots: &Vec<Option<Buffer<S>>>, k: usize) -> bool
+    ensures { result ≡ is_updating_at k (all_kept_running slots.now.items) }
+{
+    match slot_at(slots, k) {
+        Some(slot) => is_updating(slot),
+        None => false,
+    }
+}
+
+pub(crate) fn any_updating<S: FrameStore>(slots: &Vec<Option<Buffer<S>>>) -> bool
+    ensures { result ≡ list_any is_updating_slot (all_kept_running slots.now.items) }
+{
+    for slot in slots {
+        if is_updating(slot) {
+            return true;
+        }
+    }
+    false
+}
+
+pub(crate) fn lowest_running<S: FrameStore>(slots: &Vec<Option<Buffer<S>>>) -> Option<u32>
+    requires { length slots.now.items < 2 ^ 32 }
+    ensures { result ≡ lowest_running (all_kept_running slots.now.items) }
+{
+    for k in 0..slots.len() {
+        if updating_at(slots, k) {
+            return Some(k as u32);
+        }
+    }
+    None
+}
+
+/// How many of the next items of the buffer in a slot are coded frames.
+fn slot_ready<S: FrameStore>(slot: &Option<Buffer<S>>) -> usize
+    ensures { result ≡ slot_ready slot.now }
+{
+    match slot {
+        Some(buffer) => buffer.ready_frames(),
+        None => 0,
+    }
+}
+
+pub(crate) fn ready_frames<S: FrameStore>(slots: &Vec<Option<Buffer<S>>>, k: usize) -> usize
+    ensures { result ≡ ready_at k slots.now.items }
+{
+    match slot_at(slots, k) {
+        Some(slot) => slot_ready(slot),
+        None => 0,
+    }
+}
+
+fn is_initialized<S: FrameStore>(slot: &Option<Buffer<S>>) -> bool
+    ensures { result ≡ is_initialized_slot (kept_media slot.now) }
+{
+    match slot {
+        Some(buffer) => buffer.has_init(),
+        None => true,
+    }
+}
+
+pub(crate) fn all_initialized<S: FrameStore>(slots: &Vec<Option<Buffer<S>>>) -> bool
+    ensures { result ≡ all_initialized (all_kept_media slots.now.items) }
+{
+    for slot in slots {
+        if !is_initialized(slot) {
+            return false;
+        }
+    }
+    true
+}
+
+fn slot_start<S: FrameStore>(slot: &Option<Buffer<S>>) -> Option<Ticks>
+    ensures { result ≡ greatest (slot_times highest_start_in (kept_media slot.now)) }
+{
+    match slot {
+        Some(buffer) => buffer.highest_start(),
+        None => None,
+    }
+}
+
+fn start_at<S: FrameStore>(slots: &Vec<Option<Buffer<S>>>, i: usize) -> Option<Ticks>
+    ensures { IfSome (slice_get (all_kept_media slots.now.items) i)
+        (λ m. result ≡ greatest (slot_times highest_start_in m)) }
+{
+    match slot_at(slots, i) {
+        Some(slot) => slot_start(slot),
+        None => None,
+    }
+}
+
+/// The highest presentation timestamp of the frames of all buffers.
+pub(crate) fn highest_start<S: FrameStore>(slots: &Vec<Option<Buffer<S>>>) -> Option<Ticks>
+    ensures { result ≡ greatest_of_all highest_start_in (all_kept_media slots.now.items) }
+{
+    let mut best = None;
+    for i in 0..slots.len() {
+        best = greatest_of_two(best, start_at(slots, i));
+    }
+    best
+}
+
+fn slot_end<S: FrameStore>(slot: &Option<Buffer<S>>) -> Option<Ticks>
+    ensures { result ≡ greatest (slot_times highest_end_in (kept_media slot.now)) }
+{
+    match slot {
+        Some(buffer) => buffer.highest_end(),
+        None => None,
+    }
+}
+
+fn end_at<S: FrameStore>(slots: &Vec<Option<Buffer<S>>>, i: usize) -> Option<Ticks>
+    ensures { IfSome (slice_get (all_kept_media slots.now.items) i)
+        (λ m. result ≡ greatest (slot_times highest_end_in m)) }
+{
+    match slot_at(slots, i) {
+        Some(slot) => slot_end(slot),
+        None => None,
+    }
+}
+
+/// The highest end of the frames of all buffers.
+pub(crate) fn highest_end<S: FrameStore>(slots: &Vec<Option<Buffer<S>>>) -> Option<Ticks>
+    ensures { result ≡ highest_end_of_all (all_kept_media slots.now.items) }
+{
+    let mut best = None;
+    for i in 0..slots.len() {
+        best = greatest_of_two(best, end_at(slots, i));
+    }
+    best
+}
+
+fn sound_slot<S: FrameStore>(slot: &Option<Buffer<S>>)
+    ensures { IsSoundSlot (kept_media slot.now) }
+{
+    match slot {
+        Some(buffer) => buffer.sound(),
+        None => {}
+    }
+}
+
+pub(crate) fn sound<S: FrameStore>(slots: &Vec<Option<Buffer<S>>>)
+    ensures { AreSound (all_kept_media slots.now.items) }
+{
+    for slot in slots {
+        sound_slot(slot);
+    }
+}
+
+fn slot_track<S: FrameStore>(slot: &Option<Buffer<S>>, i: usize) -> Option<&Track<S>>
+    ensures { option_map (state_of S.frames) (option_copied result)
+        ≡ slot_track i (kept_media slot.now) }
+{
+    match slot {
+        Some(buffer) => buffer.tracks().get(i),
+        None => None,
+    }
+}
+
+/// A track of the buffer of a number.
+pub(crate) fn track_at<S: FrameStore>(
+    slots: &Vec<Option<Buffer<S>>>,
+    k: usize,
+    i: usize,
+) -> Option<&Track<S>>
+    ensures { option_map (state_of S.frames) (option_copied result)
+        ≡ track_at k i (all_kept_media slots.now.items) }
+{
+    match slot_at(slots, k) {
+        Some(slot) => slot_track(slot, i),
+        None => None,
+    }
+}

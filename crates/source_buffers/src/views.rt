@@ -1,0 +1,66 @@
+//! What views show of the source buffers.
+
+ghost use Rattle.std.specs.Prelude.{◌≡◌, ◌<◌, ◌^◌, [], ◌∷◌, ◌++◌, length, slice_get, Option, IfSome, IfOk, OnOk};
+ghost use Rattle.source_buffers.specs.State.{BufferState, BufferStates, AllStand, SlotStands};
+ghost use Rattle.source_buffers.specs.Views.{buffer_views, views_from};
+
+use crate::all::slot_at;
+use buffer_state::Buffer;
+use mse_base::OutOfMemory;
+use mse_calls::BufferView;
+use std::alloc::Global;
+use track_store::FrameStore;
+
+/// Puts the view of the buffer in a slot, if there is one, behind the others.
+fn push_slot<S: FrameStore>(
+    views: &mut Vec<BufferView>,
+    slot: &Option<Buffer<S>>,
+    number: u32,
+    ended: bool,
+) -> Result<(), OutOfMemory>
+    ensures { OnOk result ((s : Option BufferState) → SlotStands slot.now s
+        → views.new.items ≡ views.old.items ++ views_from number ended (s ∷ [])) }
+{
+    match slot {
+        Some(buffer) => {
+            let view = buffer.view(number, ended)?;
+            views.push(view)?;
+            Ok(())
+        }
+        None => Ok(()),
+    }
+}
+
+fn push_at<S: FrameStore>(
+    views: &mut Vec<BufferView>,
+    slots: &Vec<Option<Buffer<S>>>,
+    k: usize,
+    ended: bool,
+) -> Result<(), OutOfMemory>
+    requires { k < 2 ^ 32 }
+    ensures { OnOk result ((bs : BufferStates) → AllStand slots.now.items bs
+        → IfSome (slice_get bs k)
+        (λ s. views.new.items ≡ views.old.items ++ views_from k ended (s ∷ []))) }
+{
+    match slot_at(slots, k) {
+        Some(slot) => push_slot(views, slot, k as u32, ended),
+        None => Ok(()),
+    }
+}
+
+/// The views of the buffers that are there, in order of their numbers.
+pub(crate) fn buffer_views<S: FrameStore>(
+    slots: &Vec<Option<Buffer<S>>>,
+    alloc: Global,
+    ended: bool,
+) -> Result<Vec<BufferView>, OutOfMemory>
+    requires { length slots.now.items < 2 ^ 32 }
+    ensures { IfOk result (λ views. (bs : BufferStates) → AllStand slots.now.items bs
+        → views.items ≡ buffer_views ended bs) }
+{
+    let mut views = Vec::new(alloc);
+    for k in 0..slots.len() {
+        push_at(&mut views, slots, k, ended)?;
+    }
+    Ok(views)
+}
