@@ -5,6 +5,7 @@ ghost use Rattle.call_script.specs.Events.{kinds_at, single_targets, event_at, b
 
 use crate::numbers::index;
 use crate::words::split_word;
+use event_text::kind_name;
 use mse_calls::{Event, EventKind, Target};
 
 const SOURCE_KINDS: [EventKind; 2] = [EventKind::SourceOpen, EventKind::SourceEnded];
@@ -35,35 +36,6 @@ const ELEMENT_KINDS: [EventKind; 14] = [
     EventKind::Ended,
     EventKind::Error,
 ];
-
-fn kind_name(kind: EventKind) -> &'static str
-    ensures { result.now ≡ kind_text kind }
-{
-    match kind {
-        EventKind::SourceOpen => "sourceopen",
-        EventKind::SourceEnded => "sourceended",
-        EventKind::AddSourceBuffer => "addsourcebuffer",
-        EventKind::RemoveSourceBuffer => "removesourcebuffer",
-        EventKind::UpdateStart => "updatestart",
-        EventKind::Update => "update",
-        EventKind::UpdateEnd => "updateend",
-        EventKind::Error => "error",
-        EventKind::Abort => "abort",
-        EventKind::DurationChange => "durationchange",
-        EventKind::LoadedMetadata => "loadedmetadata",
-        EventKind::LoadedData => "loadeddata",
-        EventKind::Waiting => "waiting",
-        EventKind::TimeUpdate => "timeupdate",
-        EventKind::CanPlay => "canplay",
-        EventKind::Playing => "playing",
-        EventKind::CanPlayThrough => "canplaythrough",
-        EventKind::Seeking => "seeking",
-        EventKind::Seeked => "seeked",
-        EventKind::Play => "play",
-        EventKind::Pause => "pause",
-        EventKind::Ended => "ended",
-    }
-}
 
 /// The kind of this name among some kinds.
 fn kind_named(kinds: &[EventKind], text: &str) -> Option<EventKind>

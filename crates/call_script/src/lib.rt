@@ -1,7 +1,8 @@
 //! Scripts: TOML texts that say which calls are made on a media source, what its listeners answer to
 //! events, and when events are fired and work is done.
 //!
-//! It stands on `mse_calls` and `mse_base`; TOML is read by `toml`, hexadecimal digits by `hex`.
+//! It stands on `event_text`, `mse_calls` and `mse_base`; TOML is read by `toml`, hexadecimal digits
+//! by `hex`.
 //! Its main contract is that of [`read_script`]: the answer is what the definition `read_of` in
 //! `specs/Script.antt` makes of the bytes. [`read_time`] is `time_of` of `specs/Times.antt`.
 #![tactic(auto)]

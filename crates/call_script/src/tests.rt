@@ -1,3 +1,5 @@
+mod faults;
+
 use super::*;
 use event_text::line_of;
 use mse_base::{Moment, OutOfMemory};
@@ -571,90 +573,60 @@ fn times(rt: HostRuntime) -> Result<(), Fail> {
     Ok(())
 }
 
-/// A key with a list of `count` times the same member.
-fn list_of(alloc: Global, key: &str, member: &str, count: usize) -> Result<String, OutOfMemory> {
-    let mut text = format!(in alloc; "{key} = [")?;
-    for _ in 0..count {
-        text.push_str(member)?;
-        text.push_str(", ")?;
-    }
-    text.push_str("]\n")?;
-    Ok(text)
-}
+/// The script that docs/SCRIPTS.md explains line by line, and what it means.
+const WHOLE: (&str, &str) = (
+    r#"# Appends the front of a file in steps, and the rest from a listener.
+quota = 1000000
+drain = 500
+gap = 141120
+blobs = ["file movie.mp4", "hex 0000000866726565"]
+steps = [
+  "attach",
+  'add video/mp4; codecs="avc1.42E01E"',
+  "windowstart 0 1/2",
+  "append 0 0 0 745",
+  "fire",
+  "work 0",
+  "drain",
+  "seek 3/1",
+  "element",
+  "drain",
+  "endofstream",
+  "state",
+]
 
-fn fault_of(alloc: Global, script: &str) -> Result<String, OutOfMemory> {
-    let mut text = String::new(alloc);
-    match read_script(alloc, script.as_bytes()) {
-        Ok(_script) => text.push_str("none\n")?,
-        Err(ScriptError::OutOfMemory) => return Err(OutOfMemory),
-        Err(ScriptError::Fault(fault)) => push_fault(&mut text, &fault)?,
-    }
-    Ok(text)
-}
+[[rules]]
+listener = 0
+on = "buffer 0 updateend"
+times = 1
+calls = ["append 0 0 745 6", "buffered 0"]
+"#,
+    "\
+quota 1000000 drain 500 gap 141120
+file movie.mp4
+hex 0 0 0 8 102 114 101 101
+call attach: done
+call add video/mp4; codecs=\"avc1.42E01E\": done
+call windowstart 0 70560000000: done
+call append 0 0 0 745: done
+fire
+work 0
+drain
+call seek 423360000000: done
+element
+drain
+call endofstream: done
+call state: done
+rule 0 1 false
+event buffer 0 updateend
+listener 0 append 0 0 745 6: done
+listener 0 buffered 0: done
+",
+);
 
-/// Lists at their limits and past them; a list that is too long comes before a bad member of any.
 #[test]
-fn limits(rt: HostRuntime) -> Result<(), Fail> {
-    let alloc = rt.alloc();
-    let rule = "{listener = 0, on = \"element play\", calls = [\"state\"]}";
-    let lists = [
-        (
-            "blobs",
-            "\"hex \"",
-            1000,
-            "none\n",
-            "fault too many blobs\n",
-        ),
-        (
-            "steps",
-            "\"fire\"",
-            100_000,
-            "none\n",
-            "fault too many steps\n",
-        ),
-        ("rules", rule, 1000, "none\n", "fault too many rules\n"),
-        (
-            "blobs",
-            "\"\"",
-            1000,
-            "fault blob 0\n",
-            "fault too many blobs\n",
-        ),
-        (
-            "steps",
-            "0",
-            100_000,
-            "fault step 0\n",
-            "fault too many steps\n",
-        ),
-        (
-            "rules",
-            "0",
-            1000,
-            "fault rule 0\n",
-            "fault too many rules\n",
-        ),
-    ];
-    for (key, member, most, at, past) in lists {
-        let full = list_of(alloc, key, member, most)?;
-        assert_eq!(rt; fault_of(alloc, full.as_str())?.as_str(), at, "{key}");
-        let over = list_of(alloc, key, member, most + 1)?;
-        assert_eq!(rt; fault_of(alloc, over.as_str())?.as_str(), past, "{key}");
-    }
-    for (count, means) in [(1000, "none\n"), (1001, "fault rule 0\n")] {
-        let calls = list_of(alloc, "calls", "\"state\"", count)?;
-        let rule = format!(in alloc;
-            "[[rules]]\nlistener = 0\non = \"element play\"\n{}",
-            calls.as_str()
-        )?;
-        assert_eq!(rt; fault_of(alloc, rule.as_str())?.as_str(), means, "{count}");
-    }
-    let not_text = [b'#', 0xff];
-    assert!(rt;
-        matches!(
-            read_script(alloc, &not_text),
-            Err(ScriptError::Fault(ScriptFault::NotToml))
-        )
-    );
+fn whole_script(rt: HostRuntime) -> Result<(), Fail> {
+    let text = answer(rt.alloc(), WHOLE.0)?;
+    assert_eq!(rt; text.as_str(), WHOLE.1);
     Ok(())
 }

@@ -16,7 +16,9 @@ fn target_words(alloc: Global, target: Target) -> Result<String, AllocError>
     }
 }
 
-fn kind_word(kind: EventKind) -> &'static str
+/// The type of an event as it is written (Media Source Extensions, event summaries; HTML, media
+/// element events): lower-case letters alone.
+pub fn kind_name(kind: EventKind) -> &'static str
     ensures { result.now ≡ kind_text kind }
 {
     match kind {
@@ -50,6 +52,6 @@ pub fn event_words(alloc: Global, event: &Event) -> Result<String, AllocError>
     ensures { IfOk result (λ s. string_bytes s ≡ event_line event.now) }
 {
     let target = target_words(alloc, event.target)?;
-    let kind = kind_word(event.kind);
+    let kind = kind_name(event.kind);
     format!(in alloc; "event {target} {kind}\n")
 }

@@ -15,6 +15,7 @@ mod times;
 mod words;
 
 pub use block::closing;
+pub use events::kind_name;
 pub use faults::init_fault;
 pub use lines::line_of;
 pub use words::printable;

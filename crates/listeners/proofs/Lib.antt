@@ -1,0 +1,6 @@
+mod EventNumbers
+mod Hearing
+mod Calling
+mod Indexing
+mod Noting
+mod Holding

@@ -1,0 +1,52 @@
+-- Where the rules on an event are, and how often it was heard.
+use Rattle.std.specs.Prelude.{ℕ, suc, ◌+◌, ◌-◌, ◌^◌, ◌==◌, ◌≡◌, ◌⊎◌, ◌&&◌, min, Bool, List, [], ◌∷◌, Option, Some, None, if◌then◌else◌, Vec}
+use Rattle.std.specs.BTreeMap.{BTreeMap, get}
+use Rattle.std.specs.Ordering.{nat_cmp}
+use Rattle.std.specs.declared.alloc.Global.{Global}
+use Rattle.mse_calls.specs.declared.events.Event.{Event}
+use Rattle.mse_calls.specs.declared.rules.Rule.{Rule}
+use Rattle.listeners.specs.declared.index.RuleIndex.{RuleIndex}
+use Rattle.listeners.specs.Events.{event_number}
+use Rattle.listeners.specs.RuleCalls.{has_calls, times_heard}
+
+-- a rule that has calls and is on the event of this number
+abbrev pub is_on : ℕ → Rule → Bool
+is_on number rule = number == event_number rule.on && has_calls rule.calls
+
+-- the places of those rules, of which the first has the place `i`
+abbrev pub places_from : ℕ → ℕ → List Rule → List ℕ
+places_from number i [] = []
+places_from number i (rule ∷ rules) =
+    if is_on number rule then i ∷ places_from number (i + 1) rules else places_from number (i + 1) rules
+
+abbrev pub places_of : List Rule → ℕ → List ℕ
+places_of rules number = places_from number 0 rules
+
+abbrev pub listed : Option (Vec ℕ Global) → List ℕ
+listed None = []
+listed (Some places) = places.items
+
+abbrev pub counted : Option ℕ → ℕ
+counted None = 0
+counted (Some n) = n
+
+-- what an index has at a number
+abbrev pub places_at : RuleIndex → ℕ → List ℕ
+places_at index number = listed (get nat_cmp index.places number)
+
+abbrev pub count_at : RuleIndex → ℕ → ℕ
+count_at index number = counted (get nat_cmp index.heard number)
+
+-- a count that stands at its greatest value
+abbrev pub bounded : ℕ → ℕ
+bounded n = min n (2 ^ 32 - 1)
+
+-- the index of rules after these events were heard; events that no rule is on are not counted
+pub record Indexes (rules : List Rule) (heard : List Event) (index : RuleIndex) : Type 0 where
+  pub places : (number : ℕ) → places_at index number ≡ places_of rules number
+  pub counts : (event : Event) → (places_of rules (event_number event) ≡ []) ⊎ (count_at index (event_number event) ≡ bounded (times_heard event heard))
+
+-- an index that may not be there yet, where nothing was heard
+abbrev pub IsIndexed : List Rule → List Event → Option RuleIndex → Type 0
+IsIndexed rules heard None = heard ≡ []
+IsIndexed rules heard (Some index) = Indexes rules heard index

@@ -1,0 +1,6 @@
+pub mod Notes
+pub mod Events
+pub mod RuleCalls
+pub mod Book
+pub mod Index
+pub mod Coming

@@ -1,0 +1,50 @@
+ghost use Rattle.std.specs.Prelude.{◌≡◌, ◌++◌, ◌∷◌, [], List, OnOk, OnErr, IfOk};
+ghost use Rattle.std.specs.Option.{option_copied};
+ghost use Rattle.mse_calls.specs.declared.rules.Rule.{Rule};
+ghost use Rattle.listeners.specs.declared.listener.Note.{Note};
+ghost use Rattle.listeners.specs.Notes.{told_note, asked_note};
+
+use mse_base::OutOfMemory;
+use mse_calls::{Answer, Call, Event, Rule};
+
+/// Something that a listener was given, or did.
+#[derive(Debug, Drop)]
+pub enum Note {
+    /// It heard an event.
+    Heard(Event),
+    /// It made a call.
+    Made(Call),
+    /// It was told what its call answered.
+    Told(Answer),
+    /// It had no further call to make.
+    Rested,
+}
+
+/// A listener. It hears an event, and is then asked for calls, each of which is made at once, until it
+/// has no further one. It means two lists: the rules that it was given, and notes of all that it was
+/// given and did, in their order. Notes are a meaning: a listener need not keep them.
+pub trait Listener: Drop {
+    ghost rules: { Self → List Rule };
+
+    ghost notes: { Self → List Note };
+
+    /// Gives it its rules, before it has heard or made anything. It takes no memory.
+    fn set_rules(&mut self, list: Vec<Rule>)
+        requires { notes self.old ≡ [] }
+        ensures rules { rules self.new ≡ list.items }
+        ensures notes { notes self.new ≡ notes self.old };
+
+    /// Tells it an event. After want of memory it has not heard it.
+    fn hear(&mut self, event: &Event) -> Result<(), OutOfMemory>
+        ensures rules { rules self.new ≡ rules self.old }
+        ensures ok { OnOk result (notes self.new ≡ notes self.old ++ Note.Heard event.now ∷ []) }
+        ensures err { OnErr result (notes self.new ≡ notes self.old) };
+
+    /// Tells it what its last call answered, if it made one, and asks it for a call. After want of
+    /// memory it was told and asked nothing.
+    fn next(&mut self, last: Option<&Answer>) -> Result<Option<Call>, OutOfMemory>
+        ensures rules { rules self.new ≡ rules self.old }
+        ensures ok { IfOk result (λ call. notes self.new
+            ≡ notes self.old ++ (told_note (option_copied last.entry) ++ asked_note call)) }
+        ensures err { OnErr result (notes self.new ≡ notes self.old) };
+}

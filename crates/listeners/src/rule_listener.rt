@@ -1,0 +1,210 @@
+ghost use Rattle.std.specs.Prelude.{◌≡◌, ◌+◌, ◌-◌, ◌^◌, ◌<◌, ◌++◌, ◌∷◌, [], List, length, nat_lt, OnOk, OnErr, IfOk, if◌then◌else◌};
+ghost use Rattle.std.specs.List.{filter};
+ghost use Rattle.std.specs.Option.{option_copied};
+ghost use Rattle.mse_calls.specs.declared.events.Event.{Event};
+ghost use Rattle.mse_calls.specs.declared.rules.Rule.{Rule};
+ghost use Rattle.listeners.specs.declared.listener.Note.{Note};
+ghost use Rattle.listeners.specs.Notes.{told_note, asked_note, heard_of, made_of};
+ghost use Rattle.listeners.specs.RuleCalls.{answers, rule_calls, next_call};
+ghost use Rattle.listeners.specs.Index.{Indexes, IsIndexed};
+ghost use Rattle.listeners.specs.Coming.{rules_at, due_after};
+
+use crate::Listener;
+use crate::history::{History, Remark, remarked, told_and_remarked};
+use crate::index::{RuleIndex, due_places};
+use crate::numbers::event_number;
+use mse_base::OutOfMemory;
+use mse_calls::{Answer, Call, Event, Rule};
+use std::alloc::Global;
+use std::marker::Model;
+
+/// A listener that makes the calls of its rules. On an event it makes those of each rule on it whose
+/// `times` is not used up, in the order of its rules. A rule that repeats makes its calls again and
+/// again; a rule without calls makes none. It finds its rules by the event, and keeps no notes.
+#[derive(Drop)]
+pub struct RuleListener {
+    alloc: Global,
+    rules: Vec<Rule>,
+    index: Option<RuleIndex>,
+    due: Vec<usize>,
+    at: usize,
+    call: usize,
+    history: History,
+}
+
+impl Model for RuleListener {
+    ghost use Rattle.std.specs.Prelude.{◌≤◌, length, drop};
+    ghost use Rattle.listeners.specs.Book.{Book};
+    ghost use Rattle.listeners.specs.Coming.{notes_of, Holds};
+
+    ghost Value = { Book };
+
+    ghost view = { λ a. record {
+      rules = a.rules.items;
+      notes = notes_of a.rules.items a.history.items;
+    } };
+
+    ghost invariant = { λ a. (a.at ≤ length a.due.items)
+        × Holds a.rules.items (notes_of a.rules.items a.history.items) a.index
+        (drop a.at a.due.items) a.call };
+}
+
+// Takes the index of rules, which is made where there is none.
+fn take_index(
+    alloc: Global,
+    index: &mut Option<RuleIndex>,
+    rules: &[Rule],
+) -> Result<RuleIndex, OutOfMemory>
+    ensures ok { (heard : List Event) → IsIndexed rules.now heard index.old
+        → IfOk result (λ made. Indexes rules.now heard made) }
+    ensures err { (heard : List Event) → IsIndexed rules.now heard index.old
+        → OnErr result (IsIndexed rules.now heard index.new) }
+{
+    match index.take() {
+        Some(made) => Ok(made),
+        None => RuleIndex::of(alloc, rules),
+    }
+}
+
+// Hears an event: the places that are due after it, or none where no rule is on it.
+fn hear_by_index(
+    alloc: Global,
+    index: &mut RuleIndex,
+    rules: &[Rule],
+    left: &[usize],
+    event: &Event,
+) -> Result<Option<Vec<usize>>, OutOfMemory>
+    ensures index { (heard : List Event) → Indexes rules.now heard index.old
+        → OnOk result (Indexes rules.now (heard ++ event.now ∷ []) index.new) }
+    ensures due { (heard : List Event) → Indexes rules.now heard index.old
+        → IfOk result (λ due. rules_at rules.now (due_after left.now due)
+        ≡ rules_at rules.now left.now ++ filter (answers heard event.now) rules.now) }
+    ensures err { (heard : List Event) → Indexes rules.now heard index.old
+        → OnErr result (Indexes rules.now heard index.new) }
+{
+    let number = event_number(event);
+    let places = index.places(number);
+    if places.is_empty() {
+        return Ok(None);
+    }
+    let due = due_places(alloc, rules, left, places, index.count(number))?;
+    index.count_one(number)?;
+    Ok(Some(due))
+}
+
+// The same, with an index that may not be there yet.
+fn hear_event(
+    alloc: Global,
+    index: &mut Option<RuleIndex>,
+    rules: &[Rule],
+    left: &[usize],
+    event: &Event,
+) -> Result<Option<Vec<usize>>, OutOfMemory>
+    ensures index { (heard : List Event) → IsIndexed rules.now heard index.old
+        → OnOk result (IsIndexed rules.now (heard ++ event.now ∷ []) index.new) }
+    ensures due { (heard : List Event) → IsIndexed rules.now heard index.old
+        → IfOk result (λ due. rules_at rules.now (due_after left.now due)
+        ≡ rules_at rules.now left.now ++ filter (answers heard event.now) rules.now) }
+    ensures err { (heard : List Event) → IsIndexed rules.now heard index.old
+        → OnErr result (IsIndexed rules.now heard index.new) }
+{
+    let mut made = take_index(alloc, index, rules)?;
+    let due = hear_by_index(alloc, &mut made, rules, left, event);
+    *index = Some(made);
+    due
+}
+
+// Where the listener stands after a call of a rule: the place in what is due, and the next call.
+fn turn_after(rule: &Rule, at: usize, call: usize) -> (usize, usize)
+    requires call { call < length rule.now.calls }
+    requires at { at < 2 ^ 64 - 1 }
+    ensures { result ≡ (if nat_lt (call + 1) (length rule.now.calls) then (at, call + 1)
+        else (if rule.now.repeat then (at, 0) else (at + 1, 0))) }
+{
+    let count = rule.calls.len();
+    if call + 1 < count {
+        (at, call + 1)
+    } else if rule.repeat {
+        (at, 0)
+    } else {
+        (at + 1, 0)
+    }
+}
+
+impl RuleListener {
+    /// A listener without rules, which has heard nothing. It takes no memory.
+    pub fn new(alloc: Global) -> RuleListener
+        ensures rules { result.rules ≡ [] }
+        ensures notes { result.notes ≡ [] }
+        ensures listener { ⟦<RuleListener as Listener>⟧.notes result ≡ [] }
+    {
+        RuleListener {
+            alloc,
+            rules: Vec::new(alloc),
+            index: None,
+            due: Vec::new(alloc),
+            at: 0,
+            call: 0,
+            history: History::new(),
+        }
+    }
+
+    /// The calls that it made are the first that its rules give for the events that it heard. It does
+    /// nothing.
+    pub fn calls_are_by_rules(&self)
+        ensures { made_of self.now.notes ≡ rule_calls self.now.rules (heard_of self.now.notes)
+            (length (made_of self.now.notes)) }
+    {
+        let _ = &self.alloc;
+    }
+}
+
+impl Listener for RuleListener {
+    ghost rules = { λ s. s.rules };
+
+    ghost notes = { λ s. s.notes };
+
+    fn set_rules(&mut self, list: Vec<Rule>) {
+        self.rules = list;
+        self.index = None;
+        self.due = Vec::new(self.alloc);
+        self.at = 0;
+        self.call = 0;
+        self.history = History::new();
+    }
+
+    fn hear(&mut self, event: &Event) -> Result<(), OutOfMemory> {
+        let left = &self.due[self.at..];
+        let rules = self.rules.as_slice();
+        let Some(due) = hear_event(self.alloc, &mut self.index, rules, left, event)? else {
+            self.history = remarked(&self.history, Remark::Heard(*event));
+            return Ok(());
+        };
+        self.due = due;
+        self.at = 0;
+        self.history = remarked(&self.history, Remark::Heard(*event));
+        Ok(())
+    }
+
+    /// It answers the next call that its rules give for the events that it heard, and `None` exactly
+    /// where they give no further one.
+    fn next(&mut self, last: Option<&Answer>) -> Result<Option<Call>, OutOfMemory>
+        ensures rules { self.new.rules ≡ self.old.rules }
+        ensures ok { IfOk result (λ call. self.new.notes
+            ≡ self.old.notes ++ (told_note (option_copied last.entry) ++ asked_note call)) }
+        ensures err { OnErr result (self.new.notes ≡ self.old.notes) }
+        ensures by_rules { IfOk result (λ call. call ≡ next_call self.old.rules self.old.notes) }
+    {
+        let Some(place) = self.due.get(self.at).copied() else {
+            self.history = told_and_remarked(&self.history, last, Remark::Rested);
+            return Ok(None);
+        };
+        let rule = &self.rules[place];
+        let call = rule.calls.as_slice()[self.call].copy()?;
+        let turn = turn_after(rule, self.at, self.call);
+        self.history = told_and_remarked(&self.history, last, Remark::Made(place, self.call));
+        self.at = turn.0;
+        self.call = turn.1;
+        Ok(Some(call))
+    }
+}
