@@ -3,3 +3,10 @@ pub mod MovieSizes
 pub mod MovieLaws
 pub mod FragmentSizes
 pub mod MadeLaws
+pub mod ReadBoxes
+pub mod ReadFields
+pub mod ReadRuns
+pub mod ReadEdits
+pub mod ReadMovies
+pub mod ReadFragments
+pub mod ReadDescriptions

@@ -9,6 +9,7 @@
 
 mod boxes;
 mod fragment;
+mod laws;
 mod made;
 mod movie;
 mod sample_entry;
@@ -17,6 +18,7 @@ mod track;
 mod track_out;
 mod traf_out;
 
+pub use laws::row_law;
 pub use made::make;
 pub use movie::{write_init, write_init_with};
 pub use segment::write_segment;

@@ -1,15 +1,18 @@
 -- How a run ends, by how its work ended.
-use Rattle.std.proofs.Common.{◌≡◌, ◌∙◌, ℕ, List, [], ◌∷◌, ◌++◌, Bool, true, false, Option, Some, None, Err, ap, append-nil, subst, refl, sym, inl, inr}
-use Rattle.std.specs.Prelude.{◌⊎◌, IfSome, IsSome, is_some}
+use Rattle.std.proofs.Common.{◌≡◌, ◌∙◌, ℕ, List, [], ◌∷◌, ◌++◌, Bool, true, false, Option, Some, None, Err, ap, append-nil, subst, refl, sym, inl, inr, length}
+use Rattle.std.specs.Prelude.{◌⊎◌, IfSome, IsSome, IsSomeAnd, is_some}
 use Rattle.mse_outside.specs.Outside.{Table, Rose}
 use Rattle.mseplay.specs.declared.ending.End.{End}
 use Rattle.mseplay.specs.declared.ending.End.TheVariants.{Memory, Write, Words, NoFile, Read}
 use Rattle.mseplay.specs.declared.ending.Status.{Status}
 use Rattle.mseplay.specs.declared.ending.Status.TheVariants.{Ok as OkStatus, Write as WriteStatus, Memory as MemoryStatus, Media as MediaStatus}
+use Rattle.mseplay.specs.declared.words.Command.{Command}
+use Rattle.mseplay.specs.declared.words.Command.TheVariants.{Ranges, Pieces, Make}
 use Rattle.mseplay.specs.Endings.{status_of}
-use Rattle.mseplay.specs.Outcomes.{Given, IsAsked, Cause, WroteAll, WroteSome, Worked, line_for, EndsEarly, EndsBy, Ends, IsThrough, NameOneFile}
+use Rattle.mseplay.specs.Heading.{heading_of}
+use Rattle.mseplay.specs.Outcomes.{Given, IsNamedFile, IsPlayed, IsAsked, AskForFile, Cause, WroteAll, WroteSome, Worked, line_for, EndsEarly, EndsBy, Ends, IsThrough, NameOneFile}
 use Rattle.mseplay.specs.Playing.{outcome_of, block_of}
-use Rattle.mseplay.specs.Words.{file_of}
+use Rattle.mseplay.specs.Words.{command_of, file_of, LoadsFile}
 use Rattle.mseplay.specs.Wrote.{Wrote, WroteFront}
 use Rattle.mseplay.proofs.Writing.{wrote_more}
 
@@ -85,6 +88,23 @@ one_file : (table : Option Table) (name xs ys : List ℕ) → IsSome table → I
 one_file None name xs ys told a b = absurd cc
 one_file (Some files) name xs ys told a b = cc
 
+-- what a command that loads a file plays is that file, and it prints its block alone
+loaded : (table : Option Table) (name : List ℕ) (o : Option Command) (command : Command) (bytes : List ℕ) → IsSomeAnd o LoadsFile → o ≡ Some command
+    → IsPlayed table name command bytes → IsNamedFile table name bytes × (heading_of command (length bytes) ≡ [])
+loaded table name None command bytes asks e played = absurd cc
+loaded table name (Some found) command bytes asks e played = by_command command (subst (λ (c : Command). LoadsFile c) (cc e) asks) played
+  where
+    by_command : (command : Command) → LoadsFile command → IsPlayed table name command bytes → IsNamedFile table name bytes × (heading_of command (length bytes) ≡ [])
+    by_command Ranges loads played = (played, refl)
+    by_command (Pieces count) loads played = (played, refl)
+    by_command (Make count) loads played = absurd loads
+
+-- its text
+loaded_text : (given : Given) (text : List ℕ) → AskForFile given.words → (asked : IsAsked given text) → IsNamedFile given.table (file_of given.words) asked.bytes × (text ≡ block_of asked.bytes)
+loaded_text given text asks asked =
+    let h = loaded given.table (file_of given.words) (command_of given.words) asked.command asked.bytes asks asked.read asked.played in
+    (h.0, asked.is ∙ ap (λ (xs : List ℕ). xs ++ block_of asked.bytes) h.1)
+
 one_text : (before a b : List ℕ) (new other : Option (List ℕ)) → a ≡ b → Wrote a (Some before) new → Wrote b (Some before) other → new ≡ other
 one_text before a b new other e v w = v ∙ ap (λ (text : List ℕ). Some (before ++ text)) e ∙ sym w
 
@@ -95,9 +115,11 @@ same_end a b before new other s t one p q v w =
     let y = through b (Some before) other t q w in
     let first = x.2 in
     let second = y.2 in
+    let mine = loaded_text a first.text one.first first.asked in
+    let others = loaded_text b second.text one.second second.asked in
     let named = subst (λ (o : Option Table). IfSome o (λ files. files (file_of a.words) ≡ Some second.asked.bytes)) (sym one.table)
-    (subst (λ (name : List ℕ). IfSome b.table (λ files. files name ≡ Some second.asked.bytes)) (sym one.file) second.asked.named) in
-    let bytes : first.asked.bytes ≡ second.asked.bytes = one_file a.table (file_of a.words) first.asked.bytes second.asked.bytes one.told first.asked.named named in
+    (subst (λ (name : List ℕ). IfSome b.table (λ files. files name ≡ Some second.asked.bytes)) (sym one.file) others.0) in
+    let bytes : first.asked.bytes ≡ second.asked.bytes = one_file a.table (file_of a.words) first.asked.bytes second.asked.bytes one.told mine.0 named in
     let breaks : x.0 ≡ y.0 = first.fault ∙ ap (λ (xs : List ℕ). is_some (outcome_of xs).fault) bytes ∙ sym second.fault in
-    let texts : first.text ≡ second.text = first.asked.is ∙ ap block_of bytes ∙ sym second.asked.is in
+    let texts : first.text ≡ second.text = mine.1 ∙ ap block_of bytes ∙ sym others.1 in
     (x.1 ∙ ap status_by breaks ∙ sym y.1, one_text before first.text second.text new other texts first.wrote second.wrote)

@@ -1,4 +1,5 @@
 pub mod Endings
+pub mod Heading
 pub mod Outcomes
 pub mod Playing
 pub mod Steps

@@ -1,16 +1,16 @@
 //! What follows from the definitions: functions that do nothing, with the laws as their contracts.
 
-ghost use Rattle.std.specs.Prelude.{◌≡◌, ◌≤◌, ◌^◌, ℕ, List, ◌++◌, Option, Some, IsSome};
+ghost use Rattle.std.specs.Prelude.{◌≡◌, ◌≤◌, ◌<◌, ◌^◌, ℕ, List, ◌++◌, Option, Some, IsSome};
 ghost use Rattle.std.specs.Fmt.{decimal};
 ghost use Rattle.mseplay.specs.declared.ending.Status.{Status};
 ghost use Rattle.mseplay.specs.Outcomes.{Given, Ends, IsThrough, NameOneFile};
 ghost use Rattle.mseplay.specs.Playing.{outcome_of};
-ghost use Rattle.mseplay.specs.Words.{piece_of};
+ghost use Rattle.mseplay.specs.Words.{number_of};
 
-/// A word names a number of bytes exactly where it is that number in decimal digits.
+/// A word names a number up to the greatest one, which has 32 bits, exactly where it is that number in decimal digits.
 pub fn numbers_in_words()
-    ensures named { (word : List ℕ) (n : ℕ) → piece_of word ≡ Some n → (1 ≤ n) × (n ≤ 2 ^ 31) × (word ≡ decimal n) }
-    ensures each { (n : ℕ) → 1 ≤ n → n ≤ 2 ^ 31 → piece_of (decimal n) ≡ Some n }
+    ensures named { (most n : ℕ) (word : List ℕ) → most < 2 ^ 32 → number_of most word ≡ Some n → (1 ≤ n) × (n ≤ most) × (word ≡ decimal n) }
+    ensures each { (most n : ℕ) → most < 2 ^ 32 → 1 ≤ n → n ≤ most → number_of most (decimal n) ≡ Some n }
 {}
 
 /// Bytes behind the first fault change nothing.

@@ -1,8 +1,8 @@
-//! The program: reads the files that its words name in the current folder, and prints what a media source makes of
-//! them: the duration, what is buffered, each track, and the first fault.
+//! The program: reads the files that its words name in the current folder, or makes one, and prints what a media source
+//! makes of them: the duration, what is buffered, each track, and the first fault.
 //!
-//! It stands on `buffer_state` (a source buffer), `track_index` (its store of frames), `event_text` (the printed lines)
-//! and `mse_outside` (files and standard output). Its main contract is that of [`run`](top::run): where a run goes
+//! It stands on `buffer_state` (a source buffer), `track_index` (its store of frames), `bmff_write` (the file that is
+//! made), `event_text` (the printed lines) and `mse_outside` (files and standard output). Its main contract is that of [`run`](top::run): where a run goes
 //! through to its end, the block of the file was written, and the status tells whether the file breaks its byte stream
 //! format; each other status comes only with its cause and its error line. The block is the same for each size of
 //! pieces in which the file is appended.

@@ -134,6 +134,49 @@ fn prints_blocks_of_fronts(rt: HostRuntime) -> Result<(), Fail> {
     Ok(())
 }
 
+// Worked from the lengths of boxes and payloads, and from 30 frames a second.
+const MADE: [(&str, &str); 4] = [
+    (
+        "1",
+        "made 1 bytes 1756 frames 30\n\
+        duration inf\n\
+        buffer 0 phase waiting held 0 used 585 buffered [0,141120000000)\n\
+        track 0 1 video avc1 frames 30 ranges [0,141120000000)\n",
+    ),
+    (
+        "2",
+        "made 2 bytes 2922 frames 60\n\
+        duration inf\n\
+        buffer 0 phase waiting held 0 used 1175 buffered [0,282240000000)\n\
+        track 0 1 video avc1 frames 60 ranges [0,282240000000)\n",
+    ),
+    (
+        "3",
+        "made 3 bytes 4093 frames 90\n\
+        duration inf\n\
+        buffer 0 phase waiting held 0 used 1770 buffered [0,423360000000)\n\
+        track 0 1 video avc1 frames 90 ranges [0,423360000000)\n",
+    ),
+    (
+        "1000",
+        "made 1000 bytes 1176595 frames 30000\n\
+        duration inf\n\
+        buffer 0 phase waiting held 0 used 600000 buffered [0,141120000000000)\n\
+        track 0 1 video avc1 frames 30000 ranges [0,141120000000000)\n",
+    ),
+];
+
+#[test]
+fn prints_made_files(rt: HostRuntime) -> Result<(), Fail> {
+    let alloc = rt.alloc();
+    for (count, text) in &MADE {
+        let (status, sink) = printed(alloc, &["make", *count], &[])?;
+        assert_eq!(rt; status, Status::Ok, "at {text}");
+        assert_eq!(rt; sink.written(), text.as_bytes());
+    }
+    Ok(())
+}
+
 #[test]
 fn tells_causes(rt: HostRuntime) -> Result<(), Fail> {
     let alloc = rt.alloc();
@@ -167,6 +210,15 @@ fn tells_causes(rt: HostRuntime) -> Result<(), Fail> {
             false,
             wrong,
         ),
+        (["make"].as_slice(), false, wrong),
+        (["make", "0"].as_slice(), false, wrong),
+        (["make", "01"].as_slice(), false, wrong),
+        (["make", "+1"].as_slice(), false, wrong),
+        (["make", "1 "].as_slice(), false, wrong),
+        (["make", "10001"].as_slice(), false, wrong),
+        (["make", "4294967297"].as_slice(), false, wrong),
+        (["make", "plain.mp4"].as_slice(), false, wrong),
+        (["make", "1", "plain.mp4"].as_slice(), false, wrong),
         (
             ["ranges", "nofile"].as_slice(),
             false,
@@ -198,15 +250,17 @@ fn tells_causes(rt: HostRuntime) -> Result<(), Fail> {
 fn yields_to_failed_puts(rt: HostRuntime) -> Result<(), Fail> {
     let alloc = rt.alloc();
     let cases = [
-        ("plain.mp4", (2u64, 0u64), "duration inf\n"),
-        ("plain.mp4", (1, 100), "duration inf\n"),
-        ("nofile", (1, 6), "error:"),
-        ("nofile", (1, 100), "error: no file nofile\n"),
+        ("ranges", "plain.mp4", (2u64, 0u64), "duration inf\n"),
+        ("ranges", "plain.mp4", (1, 100), "duration inf\n"),
+        ("ranges", "nofile", (1, 6), "error:"),
+        ("ranges", "nofile", (1, 100), "error: no file nofile\n"),
+        ("make", "1", (1, 5), "made "),
+        ("make", "1", (2, 0), "made 1 bytes 1756 frames 30\n"),
     ];
-    for (name, cut, written) in cases {
+    for (command, word, cut, written) in cases {
         let mut library = library(alloc, plain_file(alloc)?, false)?;
         let mut sink = MemorySink::new(alloc, vec![in alloc; cut]?);
-        let words = texts(alloc, &["ranges", name])?;
+        let words = texts(alloc, &[command, word])?;
         let status = run::<IndexStore, _, _>(alloc, &words, &mut library, &mut sink);
         assert_eq!(rt; status, Status::Write, "at {written}");
         assert_eq!(rt; sink.written(), written.as_bytes());

@@ -2,8 +2,9 @@
 
 ghost use Rattle.std.specs.Prelude.{◌≡◌, ◌≤◌, ◌⊎◌, ℕ, List, Some, None, IfSome, IsSome, map, string_bytes};
 ghost use Rattle.mse_outside.specs.Outside.{Rose};
+ghost use Rattle.mseplay.specs.declared.words.Command.{Command};
 ghost use Rattle.mseplay.specs.Endings.{status_of, error_line};
-ghost use Rattle.mseplay.specs.Outcomes.{Given, Ends, IsThrough};
+ghost use Rattle.mseplay.specs.Outcomes.{Given, AskForFile, Ends, IsThrough};
 ghost use Rattle.mseplay.specs.Words.{command_of, file_of};
 ghost use Rattle.mseplay.specs.Wrote.{Wrote, WroteFront};
 
@@ -37,8 +38,8 @@ fn say<K: Sink>(alloc: Global, sink: &mut K, name: &str, end: End) -> Status
 
 /// Does what the words ask for with the files of the library, and puts the printed text into the sink, one whole line a
 /// put. `words` are the arguments after the program's name. `ranges FILE` and `pieces N FILE` append the file to a
-/// source buffer, at once or in pieces of N bytes, and print what is buffered then: both print the same. Coded frames
-/// are kept in a store of type `S`.
+/// source buffer, at once or in pieces of N bytes, and print what is buffered then: both print the same. `make N` does so
+/// with a file of N segments that it makes, and says first what it made. Coded frames are kept in a store of type `S`.
 pub fn run<S: FrameStore, L: Library, K: Sink>(
     alloc: Global,
     words: &[String],
@@ -50,10 +51,12 @@ pub fn run<S: FrameStore, L: Library, K: Sink>(
     ensures words { command_of (map string_bytes words.now) ≡ None → (result ≡ Status.Words) ⊎ ((result ≡ Status.Write) ⊎ (result ≡ Status.Memory)) }
     ensures read { result ≡ Status.Read → Rose (L.faults library.old) (L.faults library.new) }
     ensures write { result ≡ Status.Write → Rose (K.faults sink.old) (K.faults sink.new) }
-    ensures complete { (bytes : List ℕ) → IsSome (command_of (map string_bytes words.now))
+    ensures complete { (bytes : List ℕ) → AskForFile (map string_bytes words.now)
         → IfSome (L.table library.old) (λ files. files (file_of (map string_bytes words.now)) ≡ Some bytes
         → ¬ (Rose (L.faults library.old) (L.faults library.new)) → ¬ (Rose (K.faults sink.old) (K.faults sink.new))
         → IsThrough result ⊎ (result ≡ Status.Memory)) }
+    ensures complete_made { (count : ℕ) → command_of (map string_bytes words.now) ≡ Some (Command.Make count)
+        → ¬ (Rose (K.faults sink.old) (K.faults sink.new)) → IsThrough result ⊎ (result ≡ Status.Memory) }
 {
     match work::<S, L, K>(alloc, words, library, sink) {
         Ok(false) => Status::Ok,

@@ -1,10 +1,16 @@
 //! The words of a call.
 
-ghost use Rattle.std.specs.Prelude.{◌≡◌, ◌≤◌, map, string_bytes};
-ghost use Rattle.mseplay.specs.Words.{piece_within, piece_of, command_of, file_of, piece_size};
+ghost use Rattle.std.specs.Prelude.{◌≡◌, ◌≤◌, IfSome, map, string_bytes};
+ghost use Rattle.mseplay.specs.Words.{number_within, number_of, command_of, file_of, piece_size, HasSegments};
 
 /// The most bytes that a piece may have.
 const LONGEST: u32 = 1 << 31;
+
+/// The most segments that are made.
+const MOST_SEGMENTS: u32 = 10000;
+
+/// How many bytes each append of a made file has.
+const MADE_PIECE: usize = 1000;
 
 /// What the words ask for.
 #[derive(Clone, Copy, Debug, PartialEq, Eq)]
@@ -13,11 +19,13 @@ pub enum Command {
     Ranges,
     /// `pieces N FILE`: the same in appends of N bytes each, 1 to 2^31, of which the last may be shorter.
     Pieces(u32),
+    /// `make N`: the same of a file that is made of N segments, 1 to 10000, in appends of 1000 bytes.
+    Make(u32),
 }
 
 impl Command {
-    /// How many bytes each append has of a file of `len` bytes, but the last, which may be shorter: all of them, or N; at
-    /// least one.
+    /// How many bytes each append has of a file of `len` bytes, but the last, which may be shorter: all of them, or N, at
+    /// least one; 1000 of a file that is made.
     pub fn piece_size(self, len: usize) -> usize
         ensures size { result ≡ piece_size self len }
         ensures some { 1 ≤ result }
@@ -25,20 +33,22 @@ impl Command {
         match self {
             Command::Ranges => len.max(1),
             Command::Pieces(count) => (count as usize).max(1),
+            Command::Make(_) => MADE_PIECE,
         }
     }
 }
 
-// The number where a piece may have so many bytes.
-fn within(count: u32) -> Option<u32>
-    ensures { result ≡ piece_within count }
+// The number where it is not too great.
+fn within(most: u32, count: u32) -> Option<u32>
+    ensures { result ≡ number_within most count }
 {
-    if count <= LONGEST { Some(count) } else { None }
+    if count <= most { Some(count) } else { None }
 }
 
-// The number of bytes that a word names: decimal digits without leading zeros.
-fn read_piece(word: &str) -> Option<u32>
-    ensures { result ≡ piece_of word.now }
+// The number from 1 to `most` that a word names: decimal digits without leading zeros.
+fn read_number(most: u32, word: &str) -> Option<u32>
+    ensures value { result ≡ number_of most word.now }
+    ensures bounds { IfSome result (λ count. (1 ≤ count) × (count ≤ most)) }
 {
     let [first, ..] = word.as_bytes() else {
         return None;
@@ -47,26 +57,30 @@ fn read_piece(word: &str) -> Option<u32>
         return None;
     }
     match word.parse::<u32>() {
-        Ok(count) => within(count),
+        Ok(count) => within(most, count),
         Err(_) => None,
     }
 }
 
 /// What the words ask for; `None` exactly where they are no command.
 pub fn read_command(words: &[String]) -> Option<Command>
-    ensures { result ≡ command_of (map string_bytes words.now) }
+    ensures value { result ≡ command_of (map string_bytes words.now) }
+    ensures segments { IfSome result HasSegments }
 {
     match words {
-        [name, _] => {
+        [name, word] => {
             if name.as_str() == "ranges" {
                 Some(Command::Ranges)
+            } else if name.as_str() == "make" {
+                let count = read_number(MOST_SEGMENTS, word.as_str())?;
+                Some(Command::Make(count))
             } else {
                 None
             }
         }
         [name, count, _] => {
             if name.as_str() == "pieces" {
-                let count = read_piece(count.as_str())?;
+                let count = read_number(LONGEST, count.as_str())?;
                 Some(Command::Pieces(count))
             } else {
                 None
@@ -76,7 +90,7 @@ pub fn read_command(words: &[String]) -> Option<Command>
     }
 }
 
-/// The last of two or three words, which names the file; empty where there are fewer or more.
+/// The last of two or three words, which names the file that a command loads; empty where there are fewer or more.
 pub fn file_name(words: &[String]) -> &str
     ensures { result.now ≡ file_of (map string_bytes words.now) }
 {

@@ -1,0 +1,4 @@
+pub mod Tracks
+pub mod Slots
+pub mod Segments
+pub mod Made
