@@ -121,10 +121,10 @@ fn pairs_of_faults(rt: HostRuntime) -> Result<(), Fail> {
         texts.push(faulty(alloc, key, value, count)?)?;
     }
     for (place, (key, _value, _count, means)) in FAULTS.iter().copied().enumerate() {
-        let first = texts[place].as_str();
+        let first = texts.get(place).ok_or("no text")?.as_str();
         assert_eq!(rt; fault_of(alloc, first)?.as_str(), means);
         for (later, (other, _, _, _)) in FAULTS.iter().copied().enumerate().skip(place + 1) {
-            let second = texts[later].as_str();
+            let second = texts.get(later).ok_or("no text")?.as_str();
             let means = if key == other {
                 "fault not toml\n"
             } else {
