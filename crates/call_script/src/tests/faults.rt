@@ -83,6 +83,34 @@ fn limits(rt: HostRuntime) -> Result<(), Fail> {
     Ok(())
 }
 
+/// Faults in the order in which they are looked for: a key, its value (a list of so many times the value
+/// where the number is not 0), and the fault.
+const FAULTS: [(&str, &str, usize, &str); 14] = [
+    ("!", "1", 0, "fault not toml\n"),
+    ("Rules", "1", 0, "fault key Rules\n"),
+    ("aa", "1", 0, "fault key aa\n"),
+    ("quota", "0", 0, "fault key quota\n"),
+    ("drain", "0", 0, "fault key drain\n"),
+    ("gap", "-1", 0, "fault key gap\n"),
+    ("blobs", "1", 0, "fault key blobs\n"),
+    ("steps", "1", 0, "fault key steps\n"),
+    ("rules", "1", 0, "fault key rules\n"),
+    ("blobs", "0", 1001, "fault too many blobs\n"),
+    ("rules", "0", 1001, "fault too many rules\n"),
+    ("blobs", "0", 1, "fault blob 0\n"),
+    ("steps", "0", 1, "fault step 0\n"),
+    ("rules", "0", 1, "fault rule 0\n"),
+];
+
+fn faulty(alloc: Global, key: &str, value: &str, count: usize) -> Result<String, OutOfMemory> {
+    if count == 0 {
+        let text = format!(in alloc; "{key} = {value}\n")?;
+        Ok(text)
+    } else {
+        list_of(alloc, key, value, count)
+    }
+}
+
 /// Too many steps beside the faults that are looked for just before and just after.
 #[test]
 fn too_many_steps(rt: HostRuntime) -> Result<(), Fail> {
