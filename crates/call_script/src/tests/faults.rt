@@ -111,6 +111,42 @@ fn faulty(alloc: Global, key: &str, value: &str, count: usize) -> Result<String,
     }
 }
 
+/// What two lines mean of which the first has this fault: a key that stands twice is no TOML.
+fn meaning_of_two(key: &str, other: &str, means: &'static str) -> &'static str {
+    if key == other {
+        "fault not toml\n"
+    } else {
+        means
+    }
+}
+
+/// Two faults in both orders of the text: the answer is the one that is looked for first.
+#[test]
+fn pairs_of_faults(rt: HostRuntime) -> Result<(), Fail> {
+    let alloc = rt.alloc();
+    for (place, (key, value, count, means)) in FAULTS.iter().copied().enumerate() {
+        let first = faulty(alloc, key, value, count)?;
+        assert_eq!(rt; fault_of(alloc, first.as_str())?.as_str(), means);
+        for (other, value, count, _means) in FAULTS.iter().copied().skip(place + 1) {
+            let second = faulty(alloc, other, value, count)?;
+            let means = meaning_of_two(key, other, means);
+            let text = format!(in alloc; "{}{}", first.as_str(), second.as_str())?;
+            assert_eq!(rt;
+                fault_of(alloc, text.as_str())?.as_str(),
+                means,
+                "{key} {other}"
+            );
+            let turned = format!(in alloc; "{}{}", second.as_str(), first.as_str())?;
+            assert_eq!(rt;
+                fault_of(alloc, turned.as_str())?.as_str(),
+                means,
+                "{other} {key}"
+            );
+        }
+    }
+    Ok(())
+}
+
 /// Too many steps beside the faults that are looked for just before and just after.
 #[test]
 fn too_many_steps(rt: HostRuntime) -> Result<(), Fail> {
