@@ -1,1 +1,2 @@
 pub mod Activating
+pub mod Refusing

@@ -69,6 +69,11 @@ after_add_buffer s =
     else (if not (is_open s.ready) then answering (added.Refused InvalidState) s
     else answering (added.Number s.made) (with_new s))
 
+-- the name by which the call is refused, if it is
+abbrev pub add_name : Added → Option Name
+add_name (added.Number k) = None
+add_name (added.Refused name) = Some name
+
 abbrev pub without_buffer : ℕ → SourceState → SourceState
 without_buffer k s = record s { listed = without k s.listed; active = without k s.active }
 
@@ -77,6 +82,11 @@ abbrev pub after_remove_buffer : ℕ → SourceState → Answered Removed Source
 after_remove_buffer k s =
     if not (has k s.listed) then answering (removed.Refused NotFound) s
     else answering (removed.Gone (has k s.active)) (without_buffer k s)
+
+-- the name by which the call is refused, if it is
+abbrev pub remove_name : Removed → Option Name
+remove_name (removed.Gone active) = None
+remove_name (removed.Refused name) = Some name
 
 -- the buffer joins activeSourceBuffers (3.5.7, initialization segment received)
 abbrev pub with_active : ℕ → SourceState → SourceState
@@ -110,6 +120,12 @@ after_set_duration d all s =
     else (if same_moment d s.duration then answering changed.Same s
     else (if has_frame_after all.highest_start d then answering (changed.Refused InvalidState) s
     else after_duration_change (past_frames all.highest_end d) s))))
+
+-- the name by which the call is refused, if it is
+abbrev pub duration_name : Changed → Option Name
+duration_name changed.Same = None
+duration_name (changed.To d) = None
+duration_name (changed.Refused name) = Some name
 
 -- ---- the end
 

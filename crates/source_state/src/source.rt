@@ -1,7 +1,7 @@
 ghost use Rattle.std.specs.Prelude.{◌≡◌, true, false, not, length, slice_get, IfOk, OnErr};
 ghost use Rattle.source_state.specs.State.{new_source, has, are_in};
 ghost use Rattle.mse_base.specs.Moments.{same_moment};
-ghost use Rattle.source_state.specs.Calls.{after_attach, after_set_live, after_clear_live, after_add_buffer, after_remove_buffer, with_active, after_duration_change, after_set_duration, end_refusal, after_end, after_reopen};
+ghost use Rattle.source_state.specs.Calls.{add_name, remove_name, duration_name, after_attach, after_set_live, after_clear_live, after_add_buffer, after_remove_buffer, with_active, after_duration_change, after_set_duration, end_refusal, after_end, after_reopen};
 ghost use Rattle.source_state.specs.Seekable.{seekable_span};
 
 use crate::answers::{Added, AllBuffers, Changed, Removed};
@@ -60,10 +60,20 @@ impl Source {
         ensures answer { result ≡ (after_attach self.old).answer }
         ensures state { self.new ≡ (after_attach self.old).state }
     {
+        let refusal = self.attach_refusal();
+        if refusal.is_none() {
+            self.ready = Ready::Opened;
+        }
+        refusal
+    }
+
+    /// Why the source cannot be attached, before anything is done.
+    pub fn attach_refusal(&self) -> Option<Name>
+        ensures { result ≡ (after_attach self.now).answer }
+    {
         if !self.ready.is_closed() {
             return Some(Name::InvalidState);
         }
-        self.ready = Ready::Opened;
         None
     }
 
@@ -76,13 +86,23 @@ impl Source {
         ensures answer { result ≡ (after_set_live start end self.old).answer }
         ensures state { self.new ≡ (after_set_live start end self.old).state }
     {
+        let refusal = self.set_live_refusal(start, end);
+        if refusal.is_none() {
+            self.live = Some(Span { start, end });
+        }
+        refusal
+    }
+
+    /// Why the live seekable range cannot be set, before anything is done.
+    pub fn set_live_refusal(&self, start: Ticks, end: Ticks) -> Option<Name>
+        ensures { result ≡ (after_set_live start end self.now).answer }
+    {
         if !self.ready.is_open() {
             return Some(Name::InvalidState);
         }
         if start < Ticks::zero() || end < start {
             return Some(Name::TypeError);
         }
-        self.live = Some(Span { start, end });
         None
     }
 
@@ -94,10 +114,20 @@ impl Source {
         ensures answer { result ≡ (after_clear_live self.old).answer }
         ensures state { self.new ≡ (after_clear_live self.old).state }
     {
+        let refusal = self.clear_live_refusal();
+        if refusal.is_none() {
+            self.live = None;
+        }
+        refusal
+    }
+
+    /// Why the live seekable range cannot be taken away, before anything is done.
+    pub fn clear_live_refusal(&self) -> Option<Name>
+        ensures { result ≡ (after_clear_live self.now).answer }
+    {
         if !self.ready.is_open() {
             return Some(Name::InvalidState);
         }
-        self.live = None;
         None
     }
 
@@ -112,11 +142,8 @@ impl Source {
         ensures state { IfOk result (λ _. self.new ≡ (after_add_buffer self.old).state) }
         ensures err { OnErr result (self.new ≡ self.old) }
     {
-        if self.listed.len() >= MOST || self.made == u32::MAX {
-            return Ok(Added::Refused(Name::QuotaExceeded));
-        }
-        if !self.ready.is_open() {
-            return Ok(Added::Refused(Name::InvalidState));
+        if let Some(name) = self.add_refusal() {
+            return Ok(Added::Refused(name));
         }
         self.listed.reserve(1)?;
         // A buffer becomes active without memory.
@@ -127,6 +154,19 @@ impl Source {
         Ok(Added::Number(number))
     }
 
+    /// Why no buffer can be added, before anything is done.
+    pub fn add_refusal(&self) -> Option<Name>
+        ensures { result ≡ add_name (after_add_buffer self.now).answer }
+    {
+        if self.listed.len() >= MOST || self.made == u32::MAX {
+            return Some(Name::QuotaExceeded);
+        }
+        if !self.ready.is_open() {
+            return Some(Name::InvalidState);
+        }
+        None
+    }
+
     /// Takes a buffer off the list, and off the list of active buffers if it is there (Media Source
     /// Extensions, 2.2, `removeSourceBuffer`).
     ///
@@ -135,13 +175,23 @@ impl Source {
         ensures answer { result ≡ (after_remove_buffer k self.old).answer }
         ensures state { self.new ≡ (after_remove_buffer k self.old).state }
     {
-        if !has(&self.listed, k) {
-            return Removed::Refused(Name::NotFound);
+        if let Some(name) = self.remove_refusal(k) {
+            return Removed::Refused(name);
         }
         let active = has(&self.active, k);
         remove_number(&mut self.listed, k);
         remove_number(&mut self.active, k);
         Removed::Gone { active }
+    }
+
+    /// Why a buffer cannot be taken off the list, before anything is done.
+    pub fn remove_refusal(&self, k: u32) -> Option<Name>
+        ensures { result ≡ remove_name (after_remove_buffer k self.now).answer }
+    {
+        if !has(&self.listed, k) {
+            return Some(Name::NotFound);
+        }
+        None
     }
 
     /// Puts a buffer on the list of active buffers (Media Source Extensions, 3.5.7, initialization
@@ -163,19 +213,11 @@ impl Source {
         ensures answer { result ≡ (after_set_duration d all.now self.old).answer }
         ensures state { self.new ≡ (after_set_duration d all.now self.old).state }
     {
-        if d.is_nan() || Ticks::zero().is_after(d) {
-            return Changed::Refused(Name::TypeError);
-        }
-        if !self.ready.is_open() || all.updating {
-            return Changed::Refused(Name::InvalidState);
+        if let Some(name) = self.duration_refusal(d, all) {
+            return Changed::Refused(name);
         }
         if d == self.duration {
             return Changed::Same;
-        }
-        if let Some(start) = all.highest_start
-            && start.is_after(d)
-        {
-            return Changed::Refused(Name::InvalidState);
         }
         let duration = match all.highest_end {
             Some(end) => d.at_least(end),
@@ -186,6 +228,27 @@ impl Source {
         }
         self.duration = duration;
         Changed::To(duration)
+    }
+
+    /// Why the duration cannot be set, before anything is done.
+    pub fn duration_refusal(&self, d: Moment, all: &AllBuffers) -> Option<Name>
+        ensures { result ≡ duration_name (after_set_duration d all.now self.now).answer }
+    {
+        if d.is_nan() || Ticks::zero().is_after(d) {
+            return Some(Name::TypeError);
+        }
+        if !self.ready.is_open() || all.updating {
+            return Some(Name::InvalidState);
+        }
+        if d == self.duration {
+            return None;
+        }
+        if let Some(start) = all.highest_start
+            && start.is_after(d)
+        {
+            return Some(Name::InvalidState);
+        }
+        None
     }
 
     /// Changes the duration (Media Source Extensions, 2.4.6, duration change): true exactly where it
