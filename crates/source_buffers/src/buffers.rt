@@ -81,6 +81,7 @@ impl<S: FrameStore> SourceBuffers<S> {
             → AllStand self.new.buffers (bs ++ Some (new_buffer gap container) ∷ []) }
         ensures within_duration { (d : Moment) → AllEndWithin d (all_kept_media self.old.buffers)
             → AllEndWithin d (all_kept_media self.new.buffers) }
+        ensures len { length self.new.buffers ≡ length self.old.buffers + 1 }
         ensures spare { self.old.spare ≤ self.new.spare + 1 }
     {
         let buffer = Buffer::new(self.alloc, gap, container);
@@ -99,6 +100,7 @@ impl<S: FrameStore> SourceBuffers<S> {
         ensures changes { result.duration_changes ≡ 0 }
         ensures duration { result.duration ≡ around.now.duration }
         ensures no_init { result.received_init ≡ false }
+        ensures len { length self.new.buffers ≡ length self.old.buffers }
         ensures spare { self.new.spare ≡ self.old.spare }
     {
         slots::remove(&mut self.slots, k, around)
@@ -117,6 +119,7 @@ impl<S: FrameStore> SourceBuffers<S> {
         ensures changes { result.duration_changes ≡ 0 }
         ensures duration { result.duration ≡ around.now.duration }
         ensures no_init { result.received_init ≡ false }
+        ensures len { length self.new.buffers ≡ length self.old.buffers }
         ensures spare { self.new.spare ≡ self.old.spare }
     {
         slots::set_mode(&mut self.slots, k, mode, around)
@@ -136,6 +139,7 @@ impl<S: FrameStore> SourceBuffers<S> {
         ensures changes { result.duration_changes ≡ 0 }
         ensures duration { result.duration ≡ around.now.duration }
         ensures no_init { result.received_init ≡ false }
+        ensures len { length self.new.buffers ≡ length self.old.buffers }
         ensures spare { self.new.spare ≡ self.old.spare }
     {
         slots::set_offset(&mut self.slots, k, t, around)
@@ -155,6 +159,7 @@ impl<S: FrameStore> SourceBuffers<S> {
         ensures changes { result.duration_changes ≡ 0 }
         ensures duration { result.duration ≡ around.now.duration }
         ensures no_init { result.received_init ≡ false }
+        ensures len { length self.new.buffers ≡ length self.old.buffers }
         ensures spare { self.new.spare ≡ self.old.spare }
     {
         slots::set_window_start(&mut self.slots, k, t, around)
@@ -174,6 +179,7 @@ impl<S: FrameStore> SourceBuffers<S> {
         ensures changes { result.duration_changes ≡ 0 }
         ensures duration { result.duration ≡ around.now.duration }
         ensures no_init { result.received_init ≡ false }
+        ensures len { length self.new.buffers ≡ length self.old.buffers }
         ensures spare { self.new.spare ≡ self.old.spare }
     {
         slots::set_window_end(&mut self.slots, k, t, around)
@@ -193,6 +199,7 @@ impl<S: FrameStore> SourceBuffers<S> {
         ensures changes { result.duration_changes ≡ 0 }
         ensures duration { result.duration ≡ around.now.duration }
         ensures no_init { result.received_init ≡ false }
+        ensures len { length self.new.buffers ≡ length self.old.buffers }
         ensures spare { self.new.spare ≡ self.old.spare }
     {
         slots::remove_frames(&mut self.slots, k, start, end, around)
@@ -213,6 +220,7 @@ impl<S: FrameStore> SourceBuffers<S> {
         ensures changes { IfOk result (λ reply. reply.duration_changes ≡ 0) }
         ensures duration { IfOk result (λ reply. reply.duration ≡ around.now.duration) }
         ensures no_init { IfOk result (λ reply. reply.received_init ≡ false) }
+        ensures len { length self.new.buffers ≡ length self.old.buffers }
         ensures spare { self.new.spare ≡ self.old.spare }
         ensures err { OnErr result (self.new ≡ self.old) }
     {
@@ -234,6 +242,7 @@ impl<S: FrameStore> SourceBuffers<S> {
             (λ reply. reply.duration_changes ≤ ready_at k self.old.buffers) }
         ensures no_fall { IfOk result (λ reply. IsNotAfter around.now.duration reply.duration) }
         ensures no_init { IfOk result (λ reply. reply.received_init ≡ false) }
+        ensures len { length self.new.buffers ≡ length self.old.buffers }
         ensures spare { self.new.spare ≡ self.old.spare }
         ensures err { OnErr result (self.new ≡ self.old) }
     {
@@ -256,6 +265,7 @@ impl<S: FrameStore> SourceBuffers<S> {
             (λ reply. reply.duration_changes ≤ ready_at k self.old.buffers) }
         ensures no_fall { IfOk result (λ reply. IsNotAfter around.now.duration reply.duration) }
         ensures no_init { IfOk result (λ reply. reply.received_init ≡ false) }
+        ensures len { length self.new.buffers ≡ length self.old.buffers }
         ensures spare { self.new.spare ≡ self.old.spare }
         ensures err { OnErr result (self.new ≡ self.old) }
     {
@@ -277,6 +287,7 @@ impl<S: FrameStore> SourceBuffers<S> {
             (λ reply. IsNotAfter around.now.duration reply.duration)) }
         ensures ranges { IfOk result (λ turned. OfTurn turned
             (λ reply. AllLeaveRanges k self.old.buffers reply self.new.buffers)) }
+        ensures len { length self.new.buffers ≡ length self.old.buffers }
         ensures spare { self.new.spare ≡ self.old.spare }
         ensures err { OnErr result (self.new ≡ self.old) }
     {
