@@ -1,0 +1,110 @@
+-- Steps of the calls on the element, of its own turns, and reads.
+use Rattle.std.proofs.Common.{◌≡◌, ◌∙◌, ℤ, [], Option, Some, refl, sym, ap, subst}
+use Rattle.mse_base.specs.declared.span.Span.{Span}
+use Rattle.mse_base.specs.declared.ticks.Moment.{Moment}
+use Rattle.mse_base.specs.declared.ticks.Moment.TheVariants.{Nan, At, Infinite}
+use Rattle.mse_calls.specs.Answered.{Answered}
+use Rattle.mse_calls.specs.declared.answers.Answer.{Answer}
+use Rattle.mse_calls.specs.declared.answers.Answer.TheVariants.{Done, Refused}
+use Rattle.mse_calls.specs.declared.answers.Name.{Name}
+use Rattle.mse_calls.specs.declared.answers.Name.TheVariants.{TypeError}
+use Rattle.element_seek.specs.declared.acted.Acted.{Acted}
+use Rattle.element_seek.specs.declared.scene.Scene.{Scene}
+use Rattle.element_seek.specs.State.{PlayerState, Told}
+use Rattle.source_buffers.specs.State.{KeptBuffers}
+use Rattle.media_element.specs.State.{ElementState}
+use Rattle.media_element.specs.Queueing.{after, refusal}
+use Rattle.media_element.specs.Settled.{IsSettled}
+use Rattle.mse_engine.specs.State.{Outer, State, outer_of, element_in}
+use Rattle.mse_engine.specs.Scenes.{CoreView, core_view, scene_at, scene_with, seekable_in}
+use Rattle.mse_engine.specs.Signals.{step}
+use Rattle.mse_engine.specs.Moved.{unmoved}
+use Rattle.mse_engine.specs.Calls.{Acting, seek_acting, advance_acting, refused_or, without_action, after_call_by}
+use Rattle.mse_engine.specs.Standing.{SourceSide, Kept, Stands, IsStep, IsSteady, kept, kept_scene, view_of}
+use Rattle.mse_engine.proofs.Unchanged.{IsKept, same}
+use Rattle.mse_engine.proofs.Stepping.{IsEnd, stepped, still, kept_facts, meant_element, meant_view}
+
+-- ---- what an action is at the machine
+
+module _ (side : SourceSide) (buffers : KeptBuffers) (start : ElementState) (st : State) (k : Stands (kept side buffers start) st) where
+  pub meant_action : (action : PlayerState → Told) (told : ElementState) → told ≡ after action start → outer_of told ≡ outer_of (after action (element_in st.core.source.error st.outer))
+  meant_action action told h =
+      let element = meant_element side start st.core.source st.outer k.source k.outer in
+      ap outer_of h ∙ (λ i. outer_of (after action (element i)))
+
+  pub meant_in_scene : (action : Scene → PlayerState → Told) (told : ElementState) (seekable : Option Span)
+      → told ≡ after (action (scene_with seekable start.player.position (view_of side buffers start))) start → seekable ≡ seekable_in (view_of side buffers start)
+      → outer_of told ≡ outer_of (after (action (scene_at st.outer.element.position (core_view st.core))) (element_in st.core.source.error st.outer))
+  meant_in_scene action told seekable h is =
+      let seen = meant_view side buffers start st.core k.source k.buffers in
+      let element = meant_element side start st.core.source st.outer k.source k.outer in
+      let sought : told ≡ after (action (scene_at start.player.position (view_of side buffers start))) start = h ∙ ap (λ (o : Option Span). after (action (scene_with o start.player.position (view_of side buffers start))) start) is in
+      ap outer_of sought ∙ (λ i. outer_of (after (action (scene_at (element i).player.position (seen i))) (element i)))
+
+  pub meant_refusal : (call : Scene → PlayerState → Answered Acted PlayerState) (n : Option Name) (seekable : Option Span)
+      → n ≡ refusal (call (scene_with seekable start.player.position (view_of side buffers start)) start.player).answer → seekable ≡ seekable_in (view_of side buffers start)
+      → n ≡ refusal (call (scene_at st.outer.element.position (core_view st.core)) (element_in st.core.source.error st.outer).player).answer
+  meant_refusal call n seekable h is =
+      let seen = meant_view side buffers start st.core k.source k.buffers in
+      let element = meant_element side start st.core.source st.outer k.source k.outer in
+      h ∙ (ap (λ (o : Option Span). refusal (call (scene_with o start.player.position (view_of side buffers start)) start.player).answer) is ∙ (λ i. refusal (call (scene_at (element i).player.position (seen i)) (element i).player).answer))
+
+-- ---- the step
+
+module _ (side : SourceSide) (buffers : KeptBuffers) (e start : ElementState) (ready : start ≡ e) where
+  pub begun : (st : State) → Stands (kept side buffers e) st → Stands (kept side buffers start) st
+  begun st k = subst (λ (x : ElementState). Stands (kept side buffers x) st) (sym ready) k
+
+  pub acted : (told new : ElementState) (acts : Outer) (st : State) → IsKept start.player told.player → IsEnd side buffers told new → outer_of told ≡ acts → Stands (kept side buffers e) st
+      → Stands (kept side buffers new) (step st.core [] acts)
+  acted told new acts st keeps ends is k =
+      let began = begun st k in
+      stepped side buffers told told new st.core [] acts (kept_facts side start told keeps ∙ began.source) began.buffers is (same told.player) refl ends
+
+  pub action_step : (action : PlayerState → Told) (told new : ElementState) (st : State) → told ≡ after action start → IsKept start.player (action start.player).state → IsEnd side buffers told new → Stands (kept side buffers e) st
+      → Stands (kept side buffers new) (step st.core [] (outer_of (after action (element_in st.core.source.error st.outer))))
+  action_step action told new st h keeps ends k =
+      acted told new (outer_of (after action (element_in st.core.source.error st.outer))) st (subst (λ (x : ElementState). IsKept start.player x.player) (sym h) keeps) ends (meant_action side buffers start st (begun st k) action told h) k
+
+  pub scene_step : (action : Scene → PlayerState → Told) (told new : ElementState) (seekable : Option Span) (st : State)
+      → told ≡ after (action (scene_with seekable start.player.position (view_of side buffers start))) start → seekable ≡ seekable_in (view_of side buffers start)
+      → IsKept start.player (action (scene_with seekable start.player.position (view_of side buffers start)) start.player).state → IsEnd side buffers told new → Stands (kept side buffers e) st
+      → Stands (kept side buffers new) (step st.core [] (outer_of (after (action (scene_at st.outer.element.position (core_view st.core))) (element_in st.core.source.error st.outer))))
+  scene_step action told new seekable st h is keeps ends k =
+      acted told new (outer_of (after (action (scene_at st.outer.element.position (core_view st.core))) (element_in st.core.source.error st.outer))) st (subst (λ (x : ElementState). IsKept start.player x.player) (sym h) keeps) ends (meant_in_scene side buffers start st (begun st k) action told seekable h is) k
+
+  pub refusal_is : (call : Scene → PlayerState → Answered Acted PlayerState) (n : Option Name) (a : Answer) (seekable : Option Span) (st : State)
+      → a ≡ refused_or n Done → n ≡ refusal (call (scene_with seekable start.player.position (view_of side buffers start)) start.player).answer → seekable ≡ seekable_in (view_of side buffers start)
+      → Stands (kept side buffers e) st
+      → a ≡ refused_or (refusal (call (scene_at st.outer.element.position (core_view st.core)) (element_in st.core.source.error st.outer).player).answer) Done
+  refusal_is call n a seekable st answers h is k = answers ∙ ap (λ (m : Option Name). refused_or m Done) (meant_refusal side buffers start st (begun st k) call n seekable h is)
+
+  pub acting_steady : (new : ElementState) → IsSteady (kept side buffers e) → IsSettled (kept_scene (kept side buffers new)) new → IsSteady (kept side buffers new)
+  acting_steady new k settled = record { made = k.made; within = k.within; settled = settled }
+
+  -- where nothing was done but that room was made
+  pub steady_still : IsSteady (kept side buffers e) → IsSteady (kept side buffers start)
+  steady_still k = subst (λ (x : ElementState). IsSteady (kept side buffers x)) (sym ready) k
+
+-- ---- calls with what is no time
+
+pub seek_refused : (t : Moment) (v : CoreView) (o : Outer) → ((x : ℤ) → t ≡ At x → ⊥) → seek_acting t v o ≡ record { answer = Some TypeError; state = o }
+seek_refused Nan v o h = refl
+seek_refused (At x) v o h = absurd (h x refl)
+seek_refused Infinite v o h = refl
+
+pub advance_refused : (t : Moment) (v : CoreView) (o : Outer) → ((x : ℤ) → t ≡ At x → ⊥) → advance_acting t v o ≡ record { answer = Some TypeError; state = o }
+advance_refused Nan v o h = refl
+advance_refused (At x) v o h = absurd (h x refl)
+advance_refused Infinite v o h = refl
+
+-- ---- calls that leave all as it is
+
+pub read_step : (x : Kept) (st : State) (a b : Answer) → a ≡ b → IsSettled (kept_scene x) x.element → Stands x st → IsStep a x (after_call_by (unmoved st.core) (without_action st.outer) b)
+read_step x st a b is settled k = record { answers = is; stands = still x.side x.buffers x.element st k settled }
+
+pub name_step : (x : Kept) (st : State) (name : Name) → IsSettled (kept_scene x) x.element → Stands x st → IsStep (Refused name) x (after_call_by (unmoved st.core) (record { answer = Some name; state = st.outer }) Done)
+name_step x st name settled k = record { answers = refl; stands = still x.side x.buffers x.element st k settled }
+
+pub acting_name_step : (x : Kept) (st : State) (name : Name) (acts : Acting) → acts ≡ record { answer = Some name; state = st.outer } → IsSettled (kept_scene x) x.element → Stands x st → IsStep (Refused name) x (after_call_by (unmoved st.core) acts Done)
+acting_name_step x st name acts is settled k = subst (λ (a : Acting). IsStep (Refused name) x (after_call_by (unmoved st.core) a Done)) (sym is) (name_step x st name settled k)

@@ -1,0 +1,195 @@
+-- What comes of the duration, on setting and at the end of a stream.
+use Rattle.std.proofs.Common.{◌≡◌, ◌∙◌, ◌||◌, ℤ, pos, Bool, true, false, not, cond, List, [], ◌++◌, Option, Some, None, refl, sym, ap, subst, arith}
+use Rattle.std.specs.Prelude.{unwrap_or}
+use Rattle.std.specs.Int.{int_max}
+use Rattle.std.proofs.lemmas.Int.{ints}
+use Rattle.mse_base.specs.declared.span.Span.{Span}
+use Rattle.mse_base.specs.declared.ticks.Moment.{Moment}
+use Rattle.mse_base.specs.declared.ticks.Moment.TheVariants.{Nan, At, Infinite}
+use Rattle.mse_base.specs.Moments.{is_nan, is_after, same_moment, greater_moment}
+use Rattle.mse_calls.specs.Answered.{Answered}
+use Rattle.mse_calls.specs.Ready.{is_open}
+use Rattle.mse_calls.specs.declared.answers.Answer.TheVariants.{Done, Refused}
+use Rattle.mse_calls.specs.declared.answers.Name.{Name}
+use Rattle.mse_calls.specs.declared.answers.Name.TheVariants.{InvalidState, TypeError}
+use Rattle.mse_calls.specs.declared.answers.Ready.TheVariants.{Ended}
+use Rattle.mse_calls.specs.declared.calls.EndKind.{EndKind}
+use Rattle.mse_calls.specs.declared.calls.EndKind.TheVariants.{Plain, Network, Decode}
+use Rattle.track_buffers.specs.Media.{Media}
+use Rattle.track_buffers.proofs.Durations.{not_after_at, not_after_nan, not_after_infinite}
+use Rattle.source_state.specs.State.{SourceState}
+use Rattle.source_state.specs.Calls.{answering, in_ready, past_frames, has_frame_after, after_duration_change, after_set_duration, after_end}
+use Rattle.source_state.specs.Seekable.{seekable_span}
+use Rattle.source_state.specs.declared.answers.AllBuffers.{AllBuffers}
+use Rattle.source_state.specs.declared.answers.Changed.{Changed}
+use Rattle.source_state.specs.declared.answers.Changed.TheVariants as changed
+use Rattle.source_buffers.specs.State.{KeptBuffers, AllStand, all_kept_media, all_kept_running}
+use Rattle.source_buffers.specs.All.{AllEndWithin, all_buffers, highest_end_of_all}
+use Rattle.source_buffers.proofs.Standing.{same_media, same_running}
+use Rattle.source_buffers.proofs.Staying.{all_later}
+use Rattle.source_buffers.proofs.Highest.{all_bounded, none_stored}
+use Rattle.media_element.specs.State.{ElementState}
+use Rattle.media_element.specs.Settled.{IsSettled}
+use Rattle.media_element.specs.Falling.{after_duration_change as after_element_change}
+use Rattle.mse_engine.specs.State.{CoreSource, Core, State}
+use Rattle.mse_engine.specs.Scenes.{CoreView, scene_at}
+use Rattle.mse_engine.specs.Signals.{Signal, after_signals, step}
+use Rattle.mse_engine.specs.Moved.{Moved, refused_moved, moved_to}
+use Rattle.mse_engine.specs.SourceCalls.{all_in, change_signals, changed_moved, changed_moved_by, set_duration_moved}
+use Rattle.mse_engine.specs.Calls.{without_action, after_call_by}
+use Rattle.mse_engine.specs.Standing.{SourceSide, Kept, Stands, IsStep, IsSteady, kept, kept_scene, view_of}
+use Rattle.mse_engine.proofs.Unchanged.{IsKept, same, in_fall}
+use Rattle.mse_engine.proofs.Stepping.{IsEnd, still}
+use Rattle.mse_engine.proofs.Sourcing.{in_state, source_step}
+
+by_case : (P : Answered Changed SourceState → Type 0) (b : Bool) (x y : Answered Changed SourceState) → P x → P y → P (cond b x y)
+by_case P true x y h k = h
+by_case P false x y h k = k
+
+-- ---- at the source
+
+pub record IsChange (s : SourceState) (a : Answered Changed SourceState) : Type 0 where
+  pub refused : (name : Name) → a.answer ≡ changed.Refused name → a.state ≡ s
+  pub now : (d : Moment) → a.answer ≡ changed.To d → a.state.duration ≡ d
+  pub made : a.state.made ≡ s.made
+
+is_same : (s : SourceState) → IsChange s (answering changed.Same s)
+is_same s = record { refused = λ name e. refl; now = λ d e. absurd cc; made = refl }
+
+is_refused : (name : Name) (s : SourceState) → IsChange s (answering (changed.Refused name) s)
+is_refused name s = record { refused = λ n e. refl; now = λ d e. absurd cc; made = refl }
+
+is_new : (d : Moment) (s : SourceState) → IsChange s (answering (changed.To d) (record s { duration = d }))
+is_new d s = record { refused = λ name e. absurd cc; now = λ x e. cc; made = refl }
+
+duration_change : (d : Moment) (s : SourceState) → IsChange s (after_duration_change d s)
+duration_change d s = by_case (IsChange s) (same_moment d s.duration) _ _ (is_same s) (is_new d s)
+
+pub set_duration_change : (d : Moment) (all : AllBuffers) (s : SourceState) → IsChange s (after_set_duration d all s)
+set_duration_change d all s =
+    let last = duration_change (past_frames all.highest_end d) s in
+    let invalid = is_refused InvalidState s in
+    by_case (IsChange s) (is_nan d || is_after (pos 0) d) _ _ (is_refused TypeError s) (by_case (IsChange s) (not (is_open s.ready)) _ _ invalid (by_case (IsChange s) all.updating _ _ invalid (by_case (IsChange s) (same_moment d s.duration) _ _ (is_same s) (by_case (IsChange s) (has_frame_after all.highest_start d) _ _ invalid last))))
+
+pub end_change : (kind : EndKind) (highest : Option ℤ) (s : SourceState) → IsChange (in_ready Ended s) (after_end kind highest s)
+end_change Plain highest s = duration_change (At (unwrap_or highest (pos 0))) (in_ready Ended s)
+end_change Network highest s = is_same (in_ready Ended s)
+end_change Decode highest s = is_same (in_ready Ended s)
+
+-- an end is not refused
+pub end_done : (kind : EndKind) (highest : Option ℤ) (s : SourceState) (name : Name) → (after_end kind highest s).answer ≡ changed.Refused name → ⊥
+end_done Plain highest s name = by_case (λ a. a.answer ≡ changed.Refused name → ⊥) (same_moment (At (unwrap_or highest (pos 0))) s.duration) _ _ (λ e. absurd cc) (λ e. absurd cc)
+end_done Network highest s name = λ e. absurd cc
+end_done Decode highest s name = λ e. absurd cc
+
+-- ---- frames within the duration
+
+duration_within : (d : Moment) (s : SourceState) (ms : List (Option Media)) → AllEndWithin s.duration ms → AllEndWithin d ms → AllEndWithin (after_duration_change d s).state.duration ms
+duration_within d s ms h k = by_case (λ a. AllEndWithin a.state.duration ms) (same_moment d s.duration) _ _ h k
+
+at_least : (d : Moment) (end : ℤ) (ms : List (Option Media)) → AllEndWithin (At end) ms → AllEndWithin (greater_moment d end) ms
+at_least Nan end ms h = h
+at_least (At d) end ms h = all_later (At end) (At (int_max d end)) ms (not_after_at end (int_max d end) (grind (arith, ints))) h
+at_least Infinite end ms h = all_later (At end) Infinite ms (not_after_infinite (At end)) h
+
+past_within : (highest : Option ℤ) (d : Moment) (ms : List (Option Media)) → highest_end_of_all ms ≡ highest → AllEndWithin (past_frames highest d) ms
+past_within None d ms e = all_later Nan d ms (not_after_nan d) (none_stored ms e)
+past_within (Some end) d ms e = at_least d end ms (all_bounded ms end e)
+
+ended_within : (highest : Option ℤ) (ms : List (Option Media)) → highest_end_of_all ms ≡ highest → AllEndWithin (At (unwrap_or highest (pos 0))) ms
+ended_within None ms e = all_later Nan (At (pos 0)) ms (not_after_nan (At (pos 0))) (none_stored ms e)
+ended_within (Some end) ms e = all_bounded ms end e
+
+pub set_duration_within : (d : Moment) (all : AllBuffers) (s : SourceState) (ms : List (Option Media)) → all.highest_end ≡ highest_end_of_all ms → AllEndWithin s.duration ms → AllEndWithin (after_set_duration d all s).state.duration ms
+set_duration_within d all s ms e h =
+    let P : Answered Changed SourceState → Type 0 = λ a. AllEndWithin a.state.duration ms in
+    let last = duration_within (past_frames all.highest_end d) s ms h (past_within all.highest_end d ms (sym e)) in
+    by_case P (is_nan d || is_after (pos 0) d) _ _ h (by_case P (not (is_open s.ready)) _ _ h (by_case P all.updating _ _ h (by_case P (same_moment d s.duration) _ _ h (by_case P (has_frame_after all.highest_start d) _ _ h last))))
+
+pub end_within : (kind : EndKind) (highest : Option ℤ) (s : SourceState) (ms : List (Option Media)) → highest ≡ highest_end_of_all ms → AllEndWithin s.duration ms → AllEndWithin (after_end kind highest s).state.duration ms
+end_within Plain highest s ms e h = duration_within (At (unwrap_or highest (pos 0))) (in_ready Ended s) ms h (ended_within highest ms (sym e))
+end_within Network highest s ms e h = h
+end_within Decode highest s ms e h = h
+
+-- ---- at the element
+
+-- it seeks only where the duration is a time, and then what can be sought does not depend on what is buffered
+fall_by : (d : Moment) (live : Option Span) (first last : Option ℤ) (ended : Bool) (span : Option Span) (e : ElementState)
+    → after_element_change d (record { duration = d; ended = ended; span = span; seekable = seekable_span d live None None }) e ≡ after_element_change d (record { duration = d; ended = ended; span = span; seekable = seekable_span d live first last }) e
+fall_by Nan live first last ended span e = refl
+fall_by (At d) live first last ended span e = refl
+fall_by Infinite live first last ended span e = refl
+
+pub fall_alike : (d : Moment) (live : Option Span) (first last : Option ℤ) (ended : Bool) (span : Option Span) (e : ElementState) (duration : Moment) → d ≡ duration
+    → after_element_change duration (record { duration = d; ended = ended; span = span; seekable = seekable_span d live None None }) e ≡ after_element_change duration (record { duration = d; ended = ended; span = span; seekable = seekable_span d live first last }) e
+fall_alike d live first last ended span e duration is = subst (λ (x : Moment). after_element_change x (record { duration = d; ended = ended; span = span; seekable = seekable_span d live None None }) e ≡ after_element_change x (record { duration = d; ended = ended; span = span; seekable = seekable_span d live first last }) e) is (fall_by d live first last ended span e)
+
+pub change_keeps : (v : CoreView) (ch : Changed) (e : ElementState) → IsKept e.player (after_signals v (change_signals ch) e).player
+change_keeps v (changed.Refused name) e = same e.player
+change_keeps v changed.Same e = same e.player
+change_keeps v (changed.To d) e = in_fall d (scene_at e.player.position v) e.player
+
+pub change_unheard : (v : CoreView) (ch : Changed) (e : ElementState) → ((d : Moment) → ch ≡ changed.To d → ⊥) → e ≡ after_signals v (change_signals ch) e
+change_unheard v (changed.Refused name) e h = refl
+change_unheard v changed.Same e h = refl
+change_unheard v (changed.To d) e h = absurd (h d refl)
+
+-- ---- the step
+
+pub changed_done : (first : List Signal) (ch : Changed) (s : SourceState) (c : Core) → ((name : Name) → ch ≡ changed.Refused name → ⊥) → changed_moved first ch s c ≡ moved_to s (first ++ change_signals ch) c
+changed_done first (changed.Refused name) s c h = absurd (h name refl)
+changed_done first changed.Same s c h = refl
+changed_done first (changed.To d) s c h = refl
+
+changed_refused : (first : List Signal) (ch : Changed) (name : Name) (s : SourceState) (c : Core) → ch ≡ changed.Refused name → changed_moved first ch s c ≡ refused_moved name c
+changed_refused first (changed.Refused n) name s c e = let is : n ≡ name = cc in ap (λ (x : Name). refused_moved x c) is
+changed_refused first changed.Same name s c e = absurd cc
+changed_refused first (changed.To d) name s c e = absurd cc
+
+-- what the source is told of the buffers is what the machine's source is told
+pub same_all : (ks : KeptBuffers) (c : Core) → AllStand ks c.buffers → all_buffers (all_kept_running ks) (all_kept_media ks) ≡ all_in c
+same_all ks c all = let running = same_running ks c.buffers all in let media = same_media ks c.buffers all in λ i. all_buffers (running i) (media i)
+
+module _ (d : Moment) (all : AllBuffers) (side new_side : SourceSide) (buffers : KeptBuffers) (e start : ElementState) (ch : Changed)
+    (are : all ≡ all_buffers (all_kept_running buffers) (all_kept_media buffers)) (ready : start ≡ e)
+    (answer : ch ≡ (after_set_duration d all side.state).answer) (is : new_side ≡ in_state (after_set_duration d all side.state).state side) where
+  meant : (st : State) → Stands (kept side buffers e) st → changed_moved [] ch (after_set_duration d all side.state).state st.core ≡ set_duration_moved d st.core
+  meant st k =
+      let was : side.state ≡ st.core.source.state = ap (λ (s : CoreSource). s.state) k.source in
+      let told : all ≡ all_in st.core = are ∙ same_all buffers st.core k.buffers in
+      ap (λ (x : Changed). changed_moved [] x (after_set_duration d all side.state).state st.core) answer ∙ (λ i. changed_moved_by [] (after_set_duration d (told i) (was i)) st.core)
+
+  pub duration_step : (told new : ElementState) (st : State) → ((name : Name) → ch ≡ changed.Refused name → ⊥)
+      → told ≡ after_signals (view_of new_side buffers start) (change_signals ch) start → IsEnd new_side buffers told new → Stands (kept side buffers e) st
+      → IsStep Done (kept new_side buffers new) (after_call_by (set_duration_moved d st.core) (without_action st.outer) Done)
+  duration_step told new st done heard end k =
+      let began : Stands (kept side buffers start) st = subst (λ (x : ElementState). Stands (kept side buffers x) st) (sym ready) k in
+      let keeps : IsKept start.player told.player = subst (λ (x : ElementState). IsKept start.player x.player) (sym heard) (change_keeps (view_of new_side buffers start) ch start) in
+      let a = after_set_duration d all side.state in
+      let here : IsStep Done (kept new_side buffers new) (after_call_by (moved_to a.state (change_signals ch) st.core) (without_action st.outer) Done) = record { answers = refl; stands = source_step side new_side buffers start told new a.state (change_signals ch) st is began keeps heard end } in
+      subst (λ (m : Moved). IsStep Done (kept new_side buffers new) (after_call_by m (without_action st.outer) Done)) (sym (changed_done [] ch a.state st.core done) ∙ meant st k) here
+
+  pub duration_unchanged : (name : Name) → ch ≡ changed.Refused name → kept new_side buffers start ≡ kept side buffers e
+  duration_unchanged name h =
+      let state : (after_set_duration d all side.state).state ≡ side.state = (set_duration_change d all side.state).refused name (sym answer ∙ h) in
+      let as_before : new_side ≡ side = is ∙ (λ i. in_state (state i) side) in
+      λ i. kept (as_before i) buffers (ready i)
+
+  pub duration_refused : (name : Name) (st : State) → ch ≡ changed.Refused name → IsSettled (kept_scene (kept side buffers e)) e → Stands (kept side buffers e) st
+      → IsStep (Refused name) (kept new_side buffers start) (after_call_by (set_duration_moved d st.core) (without_action st.outer) Done)
+  duration_refused name st h settled k =
+      let here = subst (λ (x : Kept). Stands x (step st.core [] st.outer)) (sym (duration_unchanged name h)) (still side buffers e st k settled) in
+      let by_name : IsStep (Refused name) (kept new_side buffers start) (after_call_by (refused_moved name st.core) (without_action st.outer) Done) = record { answers = refl; stands = here } in
+      subst (λ (m : Moved). IsStep (Refused name) (kept new_side buffers start) (after_call_by m (without_action st.outer) Done)) (sym (changed_refused [] ch name (after_set_duration d all side.state).state st.core h) ∙ meant st k) by_name
+
+  pub duration_steady : (new : ElementState) → IsSteady (kept side buffers e) → IsSettled (kept_scene (kept new_side buffers new)) new → IsSteady (kept new_side buffers new)
+  duration_steady new k settled =
+      let change = set_duration_change d all side.state in
+      let made : new_side.state.made ≡ side.state.made = ap (λ (x : SourceSide). x.state.made) is ∙ change.made in
+      let duration : new_side.state.duration ≡ (after_set_duration d all side.state).state.duration = ap (λ (x : SourceSide). x.state.duration) is in
+      let highest : all.highest_end ≡ highest_end_of_all (all_kept_media buffers) = ap (λ (x : AllBuffers). x.highest_end) are in
+      record {
+        made = k.made ∙ sym made;
+        within = subst (λ (x : Moment). AllEndWithin x (all_kept_media buffers)) (sym duration) (set_duration_within d all side.state (all_kept_media buffers) highest k.within);
+        settled = settled;
+      }

@@ -1,0 +1,403 @@
+-- Each call, each step of work and each turn of the element leaves the position inside the media.
+use Rattle.std.proofs.Common.{◌≡◌, ℕ, ℤ, pos, ◌≤ℤ◌, int_lt, Bool, true, false, not, cond, ◌&&◌, ◌||◌, List, [], ◌∷◌, ◌++◌, refl, sym, subst, arith}
+use Rattle.std.specs.Prelude.{Option, Some, None, nat_lt, length, option_map, unwrap_or}
+use Rattle.std.specs.List.{AllByRecursion}
+use Rattle.std.proofs.lemmas.Int.{ints}
+use Rattle.mse_base.specs.declared.ticks.Moment.{Moment}
+use Rattle.mse_base.specs.declared.ticks.Moment.TheVariants.{Nan, At, Infinite}
+use Rattle.mse_base.specs.Moments.{is_nan, is_after, same_moment}
+use Rattle.mse_types.specs.declared.answer.Container.{Container}
+use Rattle.mse_types.specs.declared.answer.TypeAnswer.{TypeAnswer}
+use Rattle.mse_types.specs.declared.answer.TypeAnswer.TheVariants.{Supported, Empty, Unsupported}
+use Rattle.mse_types.specs.Texts.{type_of}
+use Rattle.mse_calls.specs.Answered.{Answered}
+use Rattle.mse_calls.specs.Pieces.{bytes_of}
+use Rattle.mse_calls.specs.Ready.{is_closed, is_open}
+use Rattle.mse_calls.specs.declared.answers.Name.{Name}
+use Rattle.mse_calls.specs.declared.answers.Name.TheVariants.{InvalidState, QuotaExceeded, TypeError, NotFound}
+use Rattle.mse_calls.specs.declared.answers.Ready.TheVariants.{Opened, Ended}
+use Rattle.mse_calls.specs.declared.calls.Call.{Call}
+use Rattle.mse_calls.specs.declared.calls.Call.TheVariants as call
+use Rattle.mse_calls.specs.declared.calls.EndKind.{EndKind}
+use Rattle.mse_calls.specs.declared.calls.EndKind.TheVariants.{Plain, Network, Decode}
+use Rattle.mse_calls.specs.declared.events.Event.{Event}
+use Rattle.buffer_state.specs.declared.reply.Reply.{Reply}
+use Rattle.buffer_state.specs.State.{Feed, Content, Surroundings}
+use Rattle.buffer_state.specs.Replies.{CallResult}
+use Rattle.buffer_state.specs.Calls.{mode_result, offset_result, window_start_result, window_end_result, remove_result, append_result, abort_result, change_type_result}
+use Rattle.source_state.specs.State.{SourceState, has, are_in}
+use Rattle.source_state.specs.Calls.{answering, in_ready, with_live, after_set_live, is_full, with_new, without_buffer, after_duration_change, past_frames, has_frame_after, end_refusal}
+use Rattle.source_state.specs.declared.answers.Added.{Added}
+use Rattle.source_state.specs.declared.answers.Added.TheVariants as added
+use Rattle.source_state.specs.declared.answers.Removed.{Removed}
+use Rattle.source_state.specs.declared.answers.Removed.TheVariants as removed
+use Rattle.source_state.specs.declared.answers.Changed.{Changed}
+use Rattle.source_state.specs.declared.answers.Changed.TheVariants as changed
+use Rattle.source_buffers.specs.State.{BufferState, BufferStates, in_slot, media_of, media_of_all, new_buffer}
+use Rattle.source_buffers.specs.Slots.{BuffersResult, removed_type_name, buffers_turn}
+use Rattle.source_buffers.specs.All.{highest_end_of_all}
+use Rattle.element_seek.specs.Inside.{LiesInside}
+use Rattle.mse_engine.specs.State.{CoreSource, Core, Outer, State, player_of, element_in}
+use Rattle.mse_engine.specs.Scenes.{CoreView, core_view}
+use Rattle.mse_engine.specs.Signals.{Signal, Tell, DurationChanged, after_signals, outer_after, step}
+use Rattle.mse_engine.specs.Replies.{surroundings_in, active_after, activates, loads, load_signals, effect_signals, middle_signals, reply_signals}
+use Rattle.mse_engine.specs.Moved.{Moved, refused_moved, unmoved, moved_to, if_finite, if_made}
+use Rattle.mse_engine.specs.SourceCalls.{from_source, attach_moved, set_live_moved, clear_live_moved, added_moved, add_moved_by, add_moved_of, remove_moved_by, remove_moved, changed_moved_by, all_in, set_duration_moved, with_end_error, end_moved_by}
+use Rattle.mse_engine.specs.BufferCalls.{reply_moved, buffer_moved, append_moved_of}
+use Rattle.mse_engine.specs.Calls.{seek_acting, advance_acting, read_slot_moved, call_moved, after_call}
+use Rattle.mse_engine.specs.Work.{work_result, after_work, due_in, after_element_turn}
+use Rattle.mse_engine.specs.Positions.{IsPlaced, HasNoTracks, AreUntracked, IsPlacedState}
+use Rattle.mse_engine.proofs.Telling.{ended_event}
+use Rattle.mse_engine.proofs.Progress.{turned}
+use Rattle.mse_engine.proofs.Spanning.{all_append, highest-above}
+use Rattle.mse_engine.proofs.Timing.{IsRaised, raised_same, raised_to}
+use Rattle.mse_engine.proofs.Replying.{AreTimely, AreTimelyBuffers, mode_timely, offset_timely, window_start_timely, window_end_timely, remove_timely, append_timely, abort_timely, change_type_timely, call-timely, removal-timely, turn-timely}
+use Rattle.mse_engine.proofs.Placing.{AreInside, HasFrames, placed_raised, placed_seek, placed_play, placed_advance, placed_pause, placed_turn, placed_settled, CanHear, CanHearAll, placed_signals, IsAbove, placed_fall}
+
+-- what a call does to the source and its buffers, and what the element hears of it, leaves the position inside
+record IsPlacing (c : Core) (m : Moved) : Type 0 where
+  untracked : AreUntracked m.core.source.state.duration m.core.buffers
+  placed : (o : Outer) → IsPlaced c.source.state o.element → HasFrames (core_view m.core) → IsPlaced m.core.source.state (outer_after (core_view m.core) m.signals o).element
+
+placing_by : (c : Core) (b : Bool) (x y : Moved) → IsPlacing c x → IsPlacing c y → IsPlacing c (cond b x y)
+placing_by c true x y h k = h
+placing_by c false x y h k = k
+
+-- ---- what is told of a reply
+
+load_heard : (v : CoreView) (b : Bool) → (b ≡ true → is_nan v.source.state.duration ≡ false) → CanHearAll v (load_signals b)
+load_heard v true f = (f refl, tt)
+load_heard v false f = tt
+
+middle_heard : (v : CoreView) (first : Bool) (buffer : List Event) (effects : List Signal) → CanHearAll v effects → CanHearAll v (cond first (Tell buffer ∷ effects) (effects ++ Tell buffer ∷ []))
+middle_heard v true buffer effects h = (tt, h)
+middle_heard v false buffer effects h = all_append (CanHear v) effects _ h (tt, tt)
+
+first_true : (a b c : Bool) → ((a && b) && c) ≡ true → a ≡ true
+first_true true b c e = refl
+first_true false b c e = absurd (cc)
+
+reply_heard : (v : CoreView) (k : ℕ) (r : Reply) (s : CoreSource) → (r.received_init ≡ true → is_nan v.source.state.duration ≡ false) → CanHearAll v (reply_signals k r s)
+reply_heard v k r s f =
+    let brings : Bool = loads k r s.blank s.state in
+    let there = load_heard v brings (λ e. f (first_true r.received_init s.blank (are_in s.state.listed (active_after k r s.state)) e)) in
+    (tt, all_append (CanHear v) (middle_signals k r (activates k r s.state) brings) _ (middle_heard v r.events_first _ (effect_signals r.duration_changes (activates k r s.state) brings) (tt, (tt, there))) (tt, tt))
+
+-- ---- a time that may be after the end of what is sought
+
+not_nan_by : (d e : Bool) → (d || e) ≡ false → (d ≡ false) × (e ≡ false)
+not_nan_by true e h = absurd (cc)
+not_nan_by false e h = (refl, h)
+
+live_times : (a e : ℤ) → (int_lt a (pos 0) || int_lt e a) ≡ false → (pos 0 ≤ℤ a) × (a ≤ℤ e)
+live_times a e h =
+    let both = not_nan_by (int_lt a (pos 0)) (int_lt e a) h in
+    (above_by a both.0, order_by a e both.1)
+  where
+    above_by : (a : ℤ) → int_lt a (pos 0) ≡ false → pos 0 ≤ℤ a
+    above_by a h = grind (arith, ints)
+
+    order_by : (a e : ℤ) → int_lt e a ≡ false → a ≤ℤ e
+    order_by a e h = grind (arith, ints)
+
+added_all : (bs : BufferStates) (b : Option BufferState) → AllByRecursion HasNoTracks (media_of_all bs) → HasNoTracks (media_of b) → AllByRecursion HasNoTracks (media_of_all (bs ++ b ∷ []))
+added_all [] b h k = (k, tt)
+added_all (x ∷ bs) b h k = (h.0, added_all bs b h.1 k)
+
+-- a time that is raised
+past_lasting : (o : Option ℤ) (d : Moment) → is_nan d ≡ false → is_after (pos 0) d ≡ false → (is_nan (past_frames o d) ≡ false) × (is_after (pos 0) (past_frames o d) ≡ false)
+past_lasting None d n l = (n, l)
+past_lasting (Some e) d n l = let r = raised_to d e n in (r.named n, r.lasting l)
+
+end_above : (o : Option ℤ) → ((e : ℤ) → o ≡ Some e → pos 0 ≤ℤ e) → is_after (pos 0) (At (unwrap_or o (pos 0))) ≡ false
+end_above None f = refl
+end_above (Some e) f = not_before e (f e refl)
+  where
+    not_before : (e : ℤ) → pos 0 ≤ℤ e → is_after (pos 0) (At e) ≡ false
+    not_before e h = grind (arith, ints)
+
+module _ (law : AreInside) (c : Core) (none : AreUntracked c.source.state.duration c.buffers) where
+  -- where the duration does not fall
+  carried : (m : Moved) → AreUntracked m.core.source.state.duration m.core.buffers → IsRaised c.source.state.duration m.core.source.state.duration
+      → (LiesInside Infinite c.source.state.live → LiesInside Infinite m.core.source.state.live) → CanHearAll (core_view m.core) m.signals → IsPlacing c m
+  carried m untracked raised live heard = record {
+    untracked = untracked;
+    placed = λ o h f.
+        let v : CoreView = core_view m.core in
+        let here = placed_raised c.source.state m.core.source.state o.element h raised live in
+        placed_settled v (after_signals v m.signals (element_in v.source.error o)) (placed_signals law v m.signals (element_in v.source.error o) f heard here);
+  }
+
+  -- where the source and its buffers stay
+  refused : (name : Name) → IsPlacing c (refused_moved name c)
+  refused name = carried (refused_moved name c) none (raised_same c.source.state.duration) (λ x. x) tt
+
+  still : IsPlacing c (unmoved c)
+  still = carried (unmoved c) none (raised_same c.source.state.duration) (λ x. x) tt
+
+  -- where the duration and the live range stay
+  moved : (s : SourceState) (signals : List Signal) → s.duration ≡ c.source.state.duration → (LiesInside Infinite c.source.state.live → LiesInside Infinite s.live)
+      → CanHearAll (core_view (moved_to s signals c).core) signals → IsPlacing c (moved_to s signals c)
+  moved s signals same live heard =
+      carried (moved_to s signals c) (subst (λ (d : Moment). AreUntracked d c.buffers) (sym same) none) (subst (λ (d : Moment). IsRaised c.source.state.duration d) (sym same) (raised_same c.source.state.duration)) live heard
+
+  -- ---- calls on the source
+
+  source_by : (b : Bool) (x y : Answered (Option Name) SourceState) (signals : List Signal) → IsPlacing c (from_source x signals c) → IsPlacing c (from_source y signals c) → IsPlacing c (from_source (cond b x y) signals c)
+  source_by true x y signals h k = h
+  source_by false x y signals h k = k
+
+  attach : IsPlacing c (attach_moved c)
+  attach =
+      source_by (not (is_closed c.source.state.ready)) (answering (Some InvalidState) c.source.state) (answering None (in_ready Opened c.source.state)) _ (refused InvalidState)
+      (moved (in_ready Opened c.source.state) _ refl (λ x. x) (tt, tt))
+
+  clear_live : IsPlacing c (clear_live_moved c)
+  clear_live =
+      source_by (not (is_open c.source.state.ready)) (answering (Some InvalidState) c.source.state) (answering None (with_live None c.source.state)) [] (refused InvalidState)
+      (moved (with_live None c.source.state) [] refl (λ x. tt) tt)
+
+  live_by : (b : Bool) (a e : ℤ) → (int_lt a (pos 0) || int_lt e a) ≡ b
+      → IsPlacing c (from_source (cond b (answering (Some TypeError) c.source.state) (answering None (with_live (Some (record { start = a; end = e })) c.source.state))) [] c)
+  live_by true a e h = refused TypeError
+  live_by false a e h = let both = live_times a e h in moved (with_live (Some (record { start = a; end = e })) c.source.state) [] refl (λ x. (both.0, both.1, refl)) tt
+
+  set_live_at : (a e : ℤ) → IsPlacing c (from_source (after_set_live a e c.source.state) [] c)
+  set_live_at a e = source_by (not (is_open c.source.state.ready)) (answering (Some InvalidState) c.source.state) _ [] (refused InvalidState) (live_by (int_lt a (pos 0) || int_lt e a) a e refl)
+
+  finite : (t : Moment) (call : ℤ → Moved) → ((x : ℤ) → IsPlacing c (call x)) → IsPlacing c (if_finite t call c)
+  finite Nan call f = refused TypeError
+  finite (At t) call f = f t
+  finite Infinite call f = refused TypeError
+
+  set_live : (start end : Moment) → IsPlacing c (set_live_moved start end c)
+  set_live start end = finite start _ (λ a. finite end _ (λ e. set_live_at a e))
+
+  add_by : (b : Bool) (x y : Answered Added SourceState) (container : Container) → IsPlacing c (add_moved_by x container c) → IsPlacing c (add_moved_by y container c) → IsPlacing c (add_moved_by (cond b x y) container c)
+  add_by true x y container h k = h
+  add_by false x y container h k = k
+
+  added_to : (container : Container) → IsPlacing c (added_moved container (added.Number c.source.state.made) (with_new c.source.state) c)
+  added_to container =
+      carried (added_moved container (added.Number c.source.state.made) (with_new c.source.state) c) (λ n. added_all c.buffers (Some (new_buffer c.source.gap container)) (none n) refl)
+      (raised_same c.source.state.duration) (λ x. x) (tt, tt)
+
+  add_of : (t : TypeAnswer) → IsPlacing c (add_moved_of t c)
+  add_of Empty = refused _
+  add_of Unsupported = refused _
+  add_of (Supported container) =
+      add_by (is_full c.source.state) (answering (added.Refused QuotaExceeded) c.source.state) _ container (refused QuotaExceeded)
+      (add_by (not (is_open c.source.state.ready)) (answering (added.Refused InvalidState) c.source.state) (answering (added.Number c.source.state.made) (with_new c.source.state)) container (refused InvalidState) (added_to container))
+
+  made : (k : ℕ) (m : Moved) → IsPlacing c m → IsPlacing c (if_made k m c)
+  made k m h = placing_by c (nat_lt k (length c.buffers)) m _ h (refused _)
+
+  remove_by : (b : Bool) (k : ℕ) (x y : Answered Removed SourceState) → IsPlacing c (remove_moved_by k x c) → IsPlacing c (remove_moved_by k y c) → IsPlacing c (remove_moved_by k (cond b x y) c)
+  remove_by true k x y h j = h
+  remove_by false k x y h j = j
+
+  gone : (k : ℕ) → IsPlacing c (remove_moved_by k (answering (removed.Gone (has k c.source.state.active)) (without_buffer k c.source.state)) c)
+  gone k =
+      carried (remove_moved_by k (answering (removed.Gone (has k c.source.state.active)) (without_buffer k c.source.state)) c) (removal-timely k (surroundings_in k c.source) c.buffers none)
+      (raised_same c.source.state.duration) (λ x. x) (tt, (tt, tt))
+
+  remove : (k : ℕ) → IsPlacing c (remove_moved k c)
+  remove k = made k _ (remove_by (not (has k c.source.state.listed)) k (answering (removed.Refused NotFound) c.source.state) _ (refused NotFound) (gone k))
+
+  -- ---- the duration
+
+  change_by : (b : Bool) (x y : Answered Changed SourceState) → IsPlacing c (changed_moved_by [] x c) → IsPlacing c (changed_moved_by [] y c) → IsPlacing c (changed_moved_by [] (cond b x y) c)
+  change_by true x y h k = h
+  change_by false x y h k = k
+
+  -- the element is above the start, whatever the duration becomes
+  above : (s : SourceState) (o : Outer) → IsPlaced c.source.state o.element → is_nan s.duration ≡ false → is_after (pos 0) s.duration ≡ false → s.live ≡ c.source.state.live → IsAbove s o.element
+  above s o h named lasting live = record {
+    lasting = lasting;
+    live = subst (λ x. LiesInside Infinite x) (sym live) h.live;
+    named = named;
+    start = h.start;
+    above = h.inside.0;
+  }
+
+  changed_to : (d : Moment) → is_nan d ≡ false → is_after (pos 0) d ≡ false → IsPlacing c (changed_moved_by [] (answering (changed.To d) (record c.source.state { duration = d })) c)
+  changed_to d named lasting = record {
+    untracked = λ n. absurd (cc);
+    placed = λ o h f.
+        let v : CoreView = core_view (changed_moved_by [] (answering (changed.To d) (record c.source.state { duration = d })) c).core in
+        placed_settled v (after_signals v (DurationChanged d ∷ []) (element_in v.source.error o))
+        (placed_fall law d v (player_of v.source.error o.element) f refl (above (record c.source.state { duration = d }) o h named lasting refl));
+  }
+
+  same_duration : IsPlacing c (changed_moved_by [] (answering changed.Same c.source.state) c)
+  same_duration = moved c.source.state [] refl (λ x. x) tt
+
+  set_by : (b : Bool) (d : Moment) → (is_nan d || is_after (pos 0) d) ≡ b
+      → IsPlacing c (changed_moved_by [] (cond b (answering (changed.Refused TypeError) c.source.state)
+      (cond (not (is_open c.source.state.ready)) (answering (changed.Refused InvalidState) c.source.state)
+      (cond (all_in c).updating (answering (changed.Refused InvalidState) c.source.state)
+      (cond (same_moment d c.source.state.duration) (answering changed.Same c.source.state)
+      (cond (has_frame_after (all_in c).highest_start d) (answering (changed.Refused InvalidState) c.source.state)
+      (after_duration_change (past_frames (all_in c).highest_end d) c.source.state)))))) c)
+  set_by true d h = refused TypeError
+  set_by false d h =
+      let both = not_nan_by (is_nan d) (is_after (pos 0) d) h in
+      let past : Moment = past_frames (all_in c).highest_end d in
+      let fine = past_lasting (all_in c).highest_end d both.0 both.1 in
+      change_by (not (is_open c.source.state.ready)) (answering (changed.Refused InvalidState) c.source.state) _ (refused InvalidState)
+      (change_by (all_in c).updating (answering (changed.Refused InvalidState) c.source.state) _ (refused InvalidState)
+      (change_by (same_moment d c.source.state.duration) (answering changed.Same c.source.state) _ same_duration
+      (change_by (has_frame_after (all_in c).highest_start d) (answering (changed.Refused InvalidState) c.source.state) _ (refused InvalidState)
+      (change_by (same_moment past c.source.state.duration) (answering changed.Same c.source.state) (answering (changed.To past) (record c.source.state { duration = past })) same_duration (changed_to past fine.0 fine.1)))))
+
+  set_duration : (d : Moment) → IsPlacing c (set_duration_moved d c)
+  set_duration d = set_by (is_nan d || is_after (pos 0) d) d refl
+
+  -- ---- the end
+
+  -- with an error, or to the duration that there is
+  ended_same : (end : EndKind) → IsPlacing c (with_end_error end (changed_moved_by (Tell (ended_event ∷ []) ∷ []) (answering changed.Same (in_ready Ended c.source.state)) c))
+  ended_same end = carried (with_end_error end (changed_moved_by (Tell (ended_event ∷ []) ∷ []) (answering changed.Same (in_ready Ended c.source.state)) c)) none (raised_same c.source.state.duration) (λ x. x) (tt, (tt, tt))
+
+  ended_at : (d : Moment) → is_nan d ≡ false → (HasFrames (core_view (with_end_error Plain (changed_moved_by (Tell (ended_event ∷ []) ∷ []) (answering (changed.To d) (record (in_ready Ended c.source.state) { duration = d })) c)).core) → is_after (pos 0) d ≡ false)
+      → IsPlacing c (with_end_error Plain (changed_moved_by (Tell (ended_event ∷ []) ∷ []) (answering (changed.To d) (record (in_ready Ended c.source.state) { duration = d })) c))
+  ended_at d named lasting = record {
+    untracked = λ n. absurd (cc);
+    placed = λ o h f.
+        let m : Moved = with_end_error Plain (changed_moved_by (Tell (ended_event ∷ []) ∷ []) (answering (changed.To d) (record (in_ready Ended c.source.state) { duration = d })) c) in
+        let v : CoreView = core_view m.core in
+        placed_settled v (after_signals v m.signals (element_in v.source.error o))
+        (placed_fall law d v (player_of v.source.error o.element) f refl (above (record (in_ready Ended c.source.state) { duration = d }) o h named (lasting f) refl));
+  }
+
+  end_by : (b : Bool) (x y : Answered Changed SourceState) → IsPlacing c (with_end_error Plain (changed_moved_by (Tell (ended_event ∷ []) ∷ []) x c)) → IsPlacing c (with_end_error Plain (changed_moved_by (Tell (ended_event ∷ []) ∷ []) y c))
+      → IsPlacing c (with_end_error Plain (changed_moved_by (Tell (ended_event ∷ []) ∷ []) (cond b x y) c))
+  end_by true x y h k = h
+  end_by false x y h k = k
+
+  ended_by : (end : EndKind) → IsPlacing c (end_moved_by None end c)
+  ended_by Plain =
+      let d : Moment = At (unwrap_or (all_in c).highest_end (pos 0)) in
+      end_by (same_moment d c.source.state.duration) (answering changed.Same (in_ready Ended c.source.state)) (answering (changed.To d) (record (in_ready Ended c.source.state) { duration = d })) (ended_same Plain)
+      (ended_at d refl (λ f. end_above (highest_end_of_all (media_of_all c.buffers)) (λ e is. highest-above (media_of_all c.buffers) e f.sound is)))
+  ended_by Network = ended_same Network
+  ended_by Decode = ended_same Decode
+
+  end_of : (o : Option Name) (end : EndKind) → IsPlacing c (end_moved_by o end c)
+  end_of None end = ended_by end
+  end_of (Some name) end = refused name
+
+  -- ---- calls on a buffer
+
+  replied : (k : ℕ) (r : BuffersResult) → AreTimelyBuffers c.source.state.duration r → IsPlacing c (reply_moved k r c)
+  replied k r t = carried (reply_moved k r c) t.untracked t.raised (λ x. x) (reply_heard (core_view (reply_moved k r c).core) k r.reply c.source t.received)
+
+  on_buffer : (k : ℕ) (call : Surroundings → Feed → Content → CallResult) → AreTimely (surroundings_in k c.source) call → IsPlacing c (buffer_moved k call c)
+  on_buffer k call t = replied k _ (call-timely k InvalidState (surroundings_in k c.source) call c.buffers t none)
+
+  append_of : (o : Option (List ℕ)) (k : ℕ) (position : ℤ) → IsPlacing c (append_moved_of o k position c)
+  append_of None k position = refused _
+  append_of (Some bytes) k position = on_buffer k (append_result bytes position c.source.quota) (append_timely bytes position c.source.quota (surroundings_in k c.source))
+
+  read_slot : (o : Option BufferState) → IsPlacing c (read_slot_moved o c)
+  read_slot None = refused InvalidState
+  read_slot (Some b) = still
+
+  -- ---- all calls
+
+  of_call : (blobs : List (List ℕ)) (position : ℤ) (x : Call) → IsPlacing c (call_moved blobs position x c)
+  of_call blobs position call.Attach = attach
+  of_call blobs position (call.AddSourceBuffer text) = add_of (type_of text)
+  of_call blobs position (call.RemoveSourceBuffer k) = remove k
+  of_call blobs position (call.SetDuration d) = set_duration d
+  of_call blobs position (call.EndOfStream end) = end_of (end_refusal (all_in c).updating c.source.state) end
+  of_call blobs position (call.SetLiveSeekableRange start end) = set_live start end
+  of_call blobs position call.ClearLiveSeekableRange = clear_live
+  of_call blobs position (call.SetMode k mode) = on_buffer k (mode_result mode) (mode_timely mode (surroundings_in k c.source))
+  of_call blobs position (call.SetTimestampOffset k t) = made k _ (finite t _ (λ offset. on_buffer k (offset_result offset) (offset_timely offset (surroundings_in k c.source))))
+  of_call blobs position (call.SetAppendWindowStart k t) = made k _ (finite t _ (λ start. on_buffer k (window_start_result start) (window_start_timely start (surroundings_in k c.source))))
+  of_call blobs position (call.SetAppendWindowEnd k t) = on_buffer k (window_end_result t) (window_end_timely t (surroundings_in k c.source))
+  of_call blobs position (call.AppendBuffer k piece) = made k _ (append_of (bytes_of blobs piece) k position)
+  of_call blobs position (call.Abort k) = on_buffer k abort_result (abort_timely (surroundings_in k c.source))
+  of_call blobs position (call.Remove k start end) = made k _ (finite start _ (λ from. on_buffer k (remove_result from end) (remove_timely from end (surroundings_in k c.source))))
+  of_call blobs position (call.ChangeType k text) = replied k _ (call-timely k (removed_type_name text) (surroundings_in k c.source) (change_type_result text) c.buffers (change_type_timely text (surroundings_in k c.source)) none)
+  of_call blobs position (call.Buffered k) = made k _ (read_slot (in_slot k c.buffers))
+  of_call blobs position call.SourceState = still
+  of_call blobs position (call.Seek t) = still
+  of_call blobs position call.Play = still
+  of_call blobs position call.Pause = still
+  of_call blobs position (call.Advance t) = still
+  of_call blobs position call.ElementBuffered = still
+  of_call blobs position call.Seekable = still
+
+-- ---- calls on the element
+
+module _ (law : AreInside) (st : State) (h : IsPlacedState st) (f : HasFrames (core_view st.core)) where
+  settled : (o : Outer) → IsPlaced st.core.source.state o.element → IsPlacedState (step st.core [] o)
+  settled o k = record { placed = placed_settled (core_view st.core) (element_in st.core.source.error o) k; untracked = h.untracked }
+
+  seeks : (t : Moment) → IsPlaced st.core.source.state (seek_acting t (core_view st.core) st.outer).state.element
+  seeks Nan = h.placed
+  seeks (At t) = placed_seek law (core_view st.core) (player_of st.core.source.error st.outer.element) f h.placed t
+  seeks Infinite = h.placed
+
+  advances : (t : Moment) → IsPlaced st.core.source.state (advance_acting t (core_view st.core) st.outer).state.element
+  advances Nan = h.placed
+  advances (At t) = placed_advance law (core_view st.core) (player_of st.core.source.error st.outer.element) f h.placed t
+  advances Infinite = h.placed
+
+-- a call that the element does not act by
+behind : AreInside → (blobs : List (List ℕ)) (x : Call) (st : State) → IsPlacedState st → HasFrames (core_view (call_moved blobs st.outer.element.position x st.core).core)
+    → IsPlacedState (step (call_moved blobs st.outer.element.position x st.core).core (call_moved blobs st.outer.element.position x st.core).signals st.outer)
+behind law blobs x st h f =
+    let all = of_call law st.core h.untracked blobs st.outer.element.position x in
+    record { placed = all.placed st.outer h.placed f; untracked = all.untracked }
+
+-- where the frames are sound and end within the duration behind a call, it leaves the position inside
+pub call-placed : AreInside → (blobs : List (List ℕ)) (x : Call) (st : State) → IsPlacedState st → HasFrames (core_view (after_call blobs x st).state.core) → IsPlacedState (after_call blobs x st).state
+call-placed law blobs (call.Seek t) st h f = settled law st h f _ (seeks law st h f t)
+call-placed law blobs call.Play st h f = settled law st h f _ (placed_play law (core_view st.core) (player_of st.core.source.error st.outer.element) f h.placed)
+call-placed law blobs call.Pause st h f = settled law st h f _ (placed_pause law (core_view st.core) (player_of st.core.source.error st.outer.element) f h.placed)
+call-placed law blobs (call.Advance t) st h f = settled law st h f _ (advances law st h f t)
+call-placed law blobs call.Attach st h f = behind law blobs call.Attach st h f
+call-placed law blobs (call.AddSourceBuffer text) st h f = behind law blobs (call.AddSourceBuffer text) st h f
+call-placed law blobs (call.RemoveSourceBuffer k) st h f = behind law blobs (call.RemoveSourceBuffer k) st h f
+call-placed law blobs (call.SetDuration d) st h f = behind law blobs (call.SetDuration d) st h f
+call-placed law blobs (call.EndOfStream end) st h f = behind law blobs (call.EndOfStream end) st h f
+call-placed law blobs (call.SetLiveSeekableRange start end) st h f = behind law blobs (call.SetLiveSeekableRange start end) st h f
+call-placed law blobs call.ClearLiveSeekableRange st h f = behind law blobs call.ClearLiveSeekableRange st h f
+call-placed law blobs (call.SetMode k mode) st h f = behind law blobs (call.SetMode k mode) st h f
+call-placed law blobs (call.SetTimestampOffset k t) st h f = behind law blobs (call.SetTimestampOffset k t) st h f
+call-placed law blobs (call.SetAppendWindowStart k t) st h f = behind law blobs (call.SetAppendWindowStart k t) st h f
+call-placed law blobs (call.SetAppendWindowEnd k t) st h f = behind law blobs (call.SetAppendWindowEnd k t) st h f
+call-placed law blobs (call.AppendBuffer k piece) st h f = behind law blobs (call.AppendBuffer k piece) st h f
+call-placed law blobs (call.Abort k) st h f = behind law blobs (call.Abort k) st h f
+call-placed law blobs (call.Remove k start end) st h f = behind law blobs (call.Remove k start end) st h f
+call-placed law blobs (call.ChangeType k text) st h f = behind law blobs (call.ChangeType k text) st h f
+call-placed law blobs (call.Buffered k) st h f = behind law blobs (call.Buffered k) st h f
+call-placed law blobs call.SourceState st h f = behind law blobs call.SourceState st h f
+call-placed law blobs call.ElementBuffered st h f = behind law blobs call.ElementBuffered st h f
+call-placed law blobs call.Seekable st h f = behind law blobs call.Seekable st h f
+
+work_by : AreInside → (o : Option BuffersResult) (k : ℕ) (st new : State) → ((r : BuffersResult) → o ≡ Some r → AreTimelyBuffers st.core.source.state.duration r) → IsPlacedState st → HasFrames (core_view new.core)
+    → work_result (option_map (λ result. reply_moved k result st.core) o) st ≡ Some new → IsPlacedState new
+work_by law None k st new t h f e = absurd (cc)
+work_by law (Some r) k st new t h f e =
+    let m : Moved = reply_moved k r st.core in
+    let same : step m.core m.signals st.outer ≡ new = cc in
+    let all = replied law st.core h.untracked k r (t r refl) in
+    let frames : HasFrames (core_view m.core) = subst (λ (s : State). HasFrames (core_view s.core)) (sym same) f in
+    subst (λ (s : State). IsPlacedState s) same (record { placed = all.placed st.outer h.placed frames; untracked = all.untracked })
+
+pub work-placed : AreInside → (k : ℕ) (st new : State) → after_work k st ≡ Some new → IsPlacedState st → HasFrames (core_view new.core) → IsPlacedState new
+work-placed law k st new e h f =
+    work_by law (buffers_turn k (surroundings_in k st.core.source) st.core.buffers) k st new (λ r is. turn-timely k (surroundings_in k st.core.source) st.core.buffers r h.untracked is) h f e
+
+turn_by : AreInside → (b : Bool) (st new : State) → cond b (Some (turned st)) None ≡ Some new → IsPlacedState st → HasFrames (core_view st.core) → IsPlacedState new
+turn_by law true st new e h f =
+    let same : turned st ≡ new = cc in
+    subst (λ (s : State). IsPlacedState s) same (settled law st h f _ (placed_turn law (core_view st.core) (player_of st.core.source.error st.outer.element) f h.placed))
+turn_by law false st new e h f = absurd (cc)
+
+pub turn-placed : AreInside → (st new : State) → after_element_turn st ≡ Some new → IsPlacedState st → HasFrames (core_view st.core) → IsPlacedState new
+turn-placed law st new e h f = turn_by law (due_in st) st new e h f

@@ -1,0 +1,15 @@
+pub mod State
+pub mod Scenes
+pub mod Signals
+pub mod Replies
+pub mod Moved
+pub mod SourceCalls
+pub mod BufferCalls
+pub mod Calls
+pub mod Refusals
+pub mod Work
+pub mod Run
+pub mod Views
+pub mod Positions
+pub mod Standing
+pub mod Progress

@@ -1,0 +1,123 @@
+-- What comes of a source buffer's reply at the source and at the element, in order.
+use Rattle.std.specs.Prelude.{ℕ, ◌==◌, Bool, false, not, ◌&&◌, List, [], ◌∷◌, ◌++◌, replicate, Option, Some, None, unwrap_or, if◌then◌else◌}
+use Rattle.mse_calls.specs.Ready.{is_ended}
+use Rattle.mse_calls.specs.declared.answers.Ready.{Ready}
+use Rattle.mse_calls.specs.declared.answers.Ready.TheVariants.{Opened, Ended}
+use Rattle.mse_calls.specs.declared.events.Event.{Event}
+use Rattle.mse_calls.specs.declared.events.EventKind.TheVariants as kind
+use Rattle.mse_calls.specs.declared.events.Target.TheVariants as target
+use Rattle.mse_calls.specs.declared.views.FaultView.{FaultView}
+use Rattle.buffer_state.specs.declared.reply.Reply.{Reply}
+use Rattle.buffer_state.specs.State.{Surroundings}
+use Rattle.source_state.specs.State.{SourceState, has, are_in}
+use Rattle.media_element.specs.Queueing.{event_at, events_at}
+use Rattle.mse_engine.specs.State.{CoreSource}
+use Rattle.mse_engine.specs.Signals.{Signal, Tell, Loaded}
+
+-- what the buffer of a number is told of the source and the element
+abbrev pub surroundings_in : ℕ → CoreSource → Surroundings
+surroundings_in k s = record { number = k; ready = s.state.ready; error = not (s.error == 0); duration = s.state.duration }
+
+-- ---- at the source
+
+-- a buffer becomes active once, while it is in the list of source buffers
+abbrev pub activates : ℕ → Reply → SourceState → Bool
+activates k r s = r.activated && (has k s.listed && not (has k s.active))
+
+abbrev pub active_after : ℕ → Reply → SourceState → List ℕ
+active_after k r s = if activates k r s then s.active ++ k ∷ [] else s.active
+
+-- The metadata is there where an initialization segment was received while the element has none, and every buffer in
+-- the list has had its first one, which is that it is active.
+abbrev pub loads : ℕ → Reply → Bool → SourceState → Bool
+loads k r blank s = (r.received_init && blank) && are_in s.listed (active_after k r s)
+
+-- the source is opened again by a call, and ends by a fault
+abbrev pub ready_behind : Option FaultView → Ready → Ready
+ready_behind None ready = ready
+ready_behind (Some fault) ready = Ended
+
+abbrev pub ready_again : Bool → Ready → Ready
+ready_again reopened ready = if reopened && is_ended ready then Opened else ready
+
+abbrev pub ready_after : Reply → Ready → Ready
+ready_after r ready = ready_behind r.fault (ready_again r.reopened ready)
+
+abbrev pub state_after : ℕ → Reply → SourceState → SourceState
+state_after k r s = record {
+  ready = ready_after r s.ready;
+  duration = r.duration;
+  live = s.live;
+  made = s.made;
+  listed = s.listed;
+  active = active_after k r s;
+}
+
+abbrev pub blank_after : ℕ → Reply → CoreSource → Bool
+blank_after k r s = if loads k r s.blank s.state then false else s.blank
+
+-- the element's error code behind an error of a code: the first error stays, and before there is metadata the error is
+-- that the source is not supported, of code 4 (HTML, MediaError)
+abbrev pub first_error : ℕ → Bool → ℕ → ℕ
+first_error code blank error = if error == 0 then (if blank then 4 else code) else error
+
+-- behind a fault, which is an error in decoding
+abbrev pub error_after : Option FaultView → Bool → ℕ → ℕ
+error_after None blank error = error
+error_after (Some fault) blank error = first_error 3 blank error
+
+-- the first fault stays
+abbrev pub fault_after : Option FaultView → Option FaultView → Option FaultView
+fault_after None first = first
+fault_after (Some fault) first = Some (unwrap_or first fault)
+
+abbrev pub source_after : ℕ → Reply → CoreSource → CoreSource
+source_after k r s = record {
+  state = state_after k r s.state;
+  error = error_after r.fault (blank_after k r s) s.error;
+  blank = blank_after k r s;
+  fault = fault_after r.fault s.fault;
+  quota = s.quota;
+  gap = s.gap;
+}
+
+-- ---- in the queue and at the element, in order
+
+abbrev pub open_events : Reply → List Event
+open_events r = if r.reopened then (event_at target.Source kind.SourceOpen ∷ []) else []
+
+-- each change of the duration; an item and a reset only raise it, or set the first one, so that no seek follows
+abbrev pub duration_events : ℕ → List Event
+duration_events changes = replicate changes (event_at target.Element kind.DurationChange)
+
+abbrev pub active_events : Bool → List Event
+active_events activates = if activates then (event_at target.ActiveSourceBuffers kind.AddSourceBuffer ∷ []) else []
+
+abbrev pub load_signals : Bool → List Signal
+load_signals loads = if loads then (Loaded ∷ []) else []
+
+-- what an item or a reset of the parser brings about: how often the duration changed, whether the buffer became active,
+-- and whether the metadata is there
+abbrev pub effect_signals : ℕ → Bool → Bool → List Signal
+effect_signals changes activates loads = Tell (duration_events changes) ∷ Tell (active_events activates) ∷ load_signals loads
+
+-- the events at the buffer
+abbrev pub buffer_signal : ℕ → Reply → Signal
+buffer_signal k r = Tell (events_at (target.Buffer k) r.events)
+
+-- those of an abort come before what its reset brings about, all others behind it
+abbrev pub middle_signals : ℕ → Reply → Bool → Bool → List Signal
+middle_signals k r activates loads =
+    if r.events_first then buffer_signal k r ∷ effect_signals r.duration_changes activates loads
+    else effect_signals r.duration_changes activates loads ++ buffer_signal k r ∷ []
+
+abbrev pub error_events : ℕ → List Event
+error_events error = if error == 0 then (event_at target.Element kind.Error ∷ []) else []
+
+-- the end of stream algorithm with a decode error (2.4.7): the element fires error where it has none yet
+abbrev pub fault_events : Option FaultView → ℕ → List Event
+fault_events None error = []
+fault_events (Some fault) error = event_at target.Source kind.SourceEnded ∷ error_events error
+
+abbrev pub reply_signals : ℕ → Reply → CoreSource → List Signal
+reply_signals k r s = Tell (open_events r) ∷ (middle_signals k r (activates k r s.state) (loads k r s.blank s.state) ++ Tell (fault_events r.fault s.error) ∷ [])

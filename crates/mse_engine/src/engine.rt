@@ -1,0 +1,200 @@
+ghost use Rattle.std.specs.Prelude.{◌≡◌, ◌≤ℤ◌, pos, true, false, option_copied, option_map, IfOk, OnErr};
+ghost use Rattle.std.specs.List.{AllByRecursion};
+ghost use Rattle.mse_base.specs.Moments.{is_nan};
+ghost use Rattle.mse_calls.specs.Level.{has_metadata};
+ghost use Rattle.track_store.specs.State.{state_of};
+ghost use Rattle.element_seek.specs.Inside.{IsInside};
+ghost use Rattle.source_buffers.specs.All.{AllEndWithin, AreSound};
+ghost use Rattle.source_buffers.specs.Buffered.{track_at};
+ghost use Rattle.source_buffers.specs.State.{all_kept_media};
+ghost use Rattle.mse_engine.specs.State.{State, opening_state};
+ghost use Rattle.mse_engine.specs.Calls.{after_call};
+ghost use Rattle.mse_engine.specs.Refusals.{call_refusal};
+ghost use Rattle.mse_engine.specs.Work.{after_element_turn, after_work, due_in, fire_result, running_in};
+ghost use Rattle.mse_engine.specs.Views.{span_in, view_in};
+ghost use Rattle.mse_engine.specs.Standing.{Answers, IsFewerWork, IsFired, IsWork, Stands};
+
+use crate::calls::make_call;
+use crate::fault::EngineFault;
+use crate::refusals::call_refusal;
+use crate::side::SourceSide;
+use crate::steps::{turn_by_itself, work_on};
+use crate::{element_calls, scenes};
+use element_seek::laws::position_inside;
+use media_element::Element;
+use mse_base::{Span, Ticks};
+use mse_calls::{Answer, Blobs, BufferViews, Call, Event, FaultView, Name, View};
+use source_buffers::SourceBuffers;
+use std::alloc::Global;
+use std::marker::Model;
+use track_store::{FrameStore, Track};
+
+/// Whether a step found something to do.
+#[derive(Clone, Copy, Debug, PartialEq, Eq)]
+pub enum Worked {
+    /// It did.
+    Did,
+    /// There was nothing to do.
+    Idle,
+}
+
+/// A media source, its source buffers, the element and the queue of events.
+#[derive(Drop)]
+pub struct Engine<S: FrameStore> {
+    side: SourceSide,
+    buffers: SourceBuffers<S>,
+    element: Element,
+}
+
+impl<S: FrameStore> Model for Engine<S> {
+    ghost use Rattle.mse_engine.specs.Standing.{IsWhole, Kept, kept};
+
+    ghost Value = { Kept };
+
+    ghost view = { λ e. kept e.side e.buffers.buffers e.element.state };
+
+    ghost invariant = { λ e. IsWhole (kept e.side e.buffers.buffers e.element.state) };
+}
+
+impl<S: FrameStore> Engine<S> {
+    /// A closed source without buffers, whose buffers hold at most `quota` bytes of coded frames and
+    /// have ranges that join across gaps of at most `gap` ticks. It takes no memory.
+    pub fn new(alloc: Global, quota: u64, gap: Ticks) -> Engine<S>
+        requires { pos 0 ≤ℤ gap }
+        ensures { Stands result (opening_state quota gap) }
+    {
+        Engine {
+            side: SourceSide::new(alloc, quota, gap),
+            buffers: SourceBuffers::new(alloc),
+            element: Element::new(alloc),
+        }
+    }
+
+    /// One call: it is made at once, and its events are queued.
+    pub fn call(&mut self, call: &Call, blobs: &Blobs) -> Result<Answer, EngineFault>
+        ensures answered { Answers self.old result self.new (after_call blobs.now call.now) }
+        ensures err { OnErr result (self.new ≡ self.old) }
+    {
+        position_inside();
+        let answer = make_call(
+            &mut self.side,
+            &mut self.buffers,
+            &mut self.element,
+            call,
+            blobs,
+        )?;
+        self.buffers.sound();
+        Ok(answer)
+    }
+
+    /// The name by which the call would be refused before any effect; `None` where it would not. It
+    /// takes no memory. It is never for the quota of an append, before which coded frames may be
+    /// evicted, and for a media segment that has begun only where the source is not ended, since an
+    /// ended one is opened again before.
+    pub fn refusal(&self, call: &Call, blobs: &Blobs) -> Option<Name>
+        ensures { (st : State) → Stands self.now st → result ≡ call_refusal blobs.now call.now st }
+    {
+        call_refusal(&self.side, &self.buffers, &self.element, call, blobs)
+    }
+
+    /// Fires the first event of the queue; `None` exactly where it is empty.
+    pub fn fire(&mut self) -> Option<Event>
+        ensures fired { (st : State) → Stands self.old st → IsFired result self.old self.new (fire_result st) }
+        ensures buffers { self.new.buffers ≡ self.old.buffers }
+    {
+        self.element.fire()
+    }
+
+    /// One step of the running work of a buffer.
+    pub fn work(&mut self, k: u32) -> Result<Worked, EngineFault>
+        ensures worked { (st : State) → Stands self.old st
+            → IfOk result (λ worked. IsWork worked self.old self.new (after_work k st)) }
+        ensures fewer { IfOk result (λ worked. IsFewerWork worked self.old self.new) }
+        ensures err { OnErr result (self.new ≡ self.old) }
+    {
+        position_inside();
+        let worked = work_on(&mut self.side, &mut self.buffers, &mut self.element, k)?;
+        self.buffers.sound();
+        Ok(worked)
+    }
+
+    /// What the element does by itself.
+    pub fn element_turn(&mut self) -> Result<Worked, EngineFault>
+        ensures worked { (st : State) → Stands self.old st
+            → IfOk result (λ worked. IsWork worked self.old self.new (after_element_turn st)) }
+        ensures buffers { self.new.buffers ≡ self.old.buffers }
+        ensures err { OnErr result (self.new ≡ self.old) }
+    {
+        position_inside();
+        let worked = turn_by_itself(&self.side, &self.buffers, &mut self.element)?;
+        self.buffers.sound();
+        Ok(worked)
+    }
+
+    /// Whether the element has something to do by itself.
+    pub fn due(&self) -> bool
+        ensures { (st : State) → Stands self.now st → result ≡ due_in st }
+    {
+        let scene = scenes::scene(&self.side, &self.buffers, &self.element, None);
+        self.element.due(&scene)
+    }
+
+    /// The lowest buffer at which an append or a removal runs; `None` exactly where there is none.
+    pub fn running(&self) -> Option<u32>
+        ensures { (st : State) → Stands self.now st → result ≡ running_in st }
+    {
+        self.buffers.running()
+    }
+
+    /// The element's buffered range that has its position or ends at it; `None` exactly where there
+    /// is none.
+    pub fn element_span(&self) -> Option<Span>
+        ensures { (st : State) → Stands self.now st → result ≡ span_in st }
+    {
+        scenes::span_at(&self.side, &self.buffers, self.element.position())
+    }
+
+    /// The first violation of a byte stream format, if there was one.
+    pub fn fault(&self) -> Option<FaultView>
+        ensures { (st : State) → Stands self.now st → result ≡ st.core.source.fault }
+    {
+        self.side.fault
+    }
+
+    /// What is shown of the whole engine.
+    pub fn view(&self) -> Result<View, EngineFault>
+        ensures { (st : State) → Stands self.now st → IfOk result (λ view. view ≡ view_in st) }
+    {
+        let buffers = self.buffers.views(self.side.source.ready().is_ended())?;
+        Ok(View {
+            state: element_calls::state_view(&self.side, &self.element),
+            buffers: BufferViews::from_vec(buffers),
+            fault: self.side.fault,
+        })
+    }
+
+    /// The track of an id of a buffer; `None` exactly where the buffer is not in the list or has no
+    /// such track.
+    pub fn track(&self, k: u32, i: usize) -> Option<&Track<S>>
+        ensures { option_map (state_of S.frames) (option_copied result)
+            ≡ track_at k i (all_kept_media self.now.buffers) }
+    {
+        self.buffers.track(k, i)
+    }
+
+    /// Each track buffer is sound: each frame that it holds is a random access point, or the frame
+    /// received just before it is held too. And each frame ends within the duration. The position is
+    /// neither negative nor after the duration, and where the element has metadata there is a
+    /// duration. It does nothing when it runs.
+    pub fn sound(&self)
+        ensures sound { AreSound (all_kept_media self.now.buffers) }
+        ensures within_duration { AllEndWithin self.now.side.state.duration
+            (all_kept_media self.now.buffers) }
+        ensures position { IsInside self.now.side.state.duration
+            self.now.element.player.position }
+        ensures duration { has_metadata self.now.element.player.level ≡ true
+            → is_nan self.now.side.state.duration ≡ false }
+    {
+        self.buffers.sound();
+    }
+}

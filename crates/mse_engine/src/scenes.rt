@@ -1,0 +1,154 @@
+//! What the element sees of the source and its buffers.
+
+ghost use Rattle.std.specs.Prelude.{◌≡◌, pos, int_lt, Bool, true, false, IfOk};
+ghost use Rattle.mse_calls.specs.Level.{has_metadata};
+ghost use Rattle.media_element.specs.State.{ElementState};
+ghost use Rattle.mse_engine.specs.Scenes.{buffered_in, seekable_in, scene_with, span_at};
+ghost use Rattle.mse_engine.specs.Standing.{HasBounds, bounds_at, view_of};
+ghost use Rattle.source_buffers.specs.State.{all_kept_media};
+ghost use Rattle.source_buffers.specs.Buffered.{element_ranges};
+
+use crate::side::SourceSide;
+use element_seek::Scene;
+use media_element::Element;
+use mse_base::{Moment, OutOfMemory, Ranges, Span, Ticks};
+use source_buffers::SourceBuffers;
+use track_store::FrameStore;
+
+/// Where the first buffered range of the element starts, and where the last one ends.
+#[derive(Clone, Copy, Debug)]
+pub(crate) struct Bounds {
+    pub(crate) first: Option<Ticks>,
+    pub(crate) last: Option<Ticks>,
+}
+
+/// The bounds of what is buffered at the element where it gets its metadata: where the source is not
+/// ended, and where it is.
+#[derive(Clone, Copy, Debug)]
+pub(crate) struct LoadBounds {
+    pub(crate) open: Bounds,
+    pub(crate) ended: Bounds,
+}
+
+impl Bounds {
+    /// Those of no range.
+    pub(crate) const NONE: Bounds = Bounds {
+        first: None,
+        last: None,
+    };
+}
+
+impl LoadBounds {
+    /// Those of no range.
+    pub(crate) const NONE: LoadBounds = LoadBounds {
+        open: Bounds::NONE,
+        ended: Bounds::NONE,
+    };
+
+    /// Those where the source is ended or not.
+    pub(crate) fn at(self, ended: bool) -> Bounds
+        ensures { result ≡ bounds_at self ended }
+    {
+        if ended { self.ended } else { self.open }
+    }
+}
+
+/// The bounds of some ranges.
+pub(crate) fn bounds_of(ranges: &Ranges) -> Bounds
+    ensures { HasBounds result ranges.now.spans }
+{
+    Bounds {
+        first: ranges.get(0).map(|span| span.start),
+        last: ranges.last().map(|span| span.end),
+    }
+}
+
+/// The buffered range of the element that has a position or ends at it.
+pub(crate) fn span_at<S: FrameStore>(
+    side: &SourceSide,
+    buffers: &SourceBuffers<S>,
+    position: Ticks,
+) -> Option<Span>
+    ensures { (e : ElementState) → result ≡ span_at position (view_of side.now buffers.now.buffers e) }
+{
+    let ended = side.source.ready().is_ended();
+    buffers.element_span(side.source.active_numbers(), position, ended)
+}
+
+/// The element's buffered ranges, where the source is ended or not.
+fn buffered_by<S: FrameStore>(
+    side: &SourceSide,
+    buffers: &SourceBuffers<S>,
+    ended: bool,
+) -> Result<Ranges, OutOfMemory>
+    ensures { IfOk result (λ ranges. ranges.spans
+        ≡ element_ranges ended side.now.state.active (all_kept_media buffers.now.buffers)) }
+{
+    buffers.element_ranges(side.source.active_numbers(), ended)
+}
+
+/// The element's buffered ranges.
+pub(crate) fn buffered<S: FrameStore>(
+    side: &SourceSide,
+    buffers: &SourceBuffers<S>,
+) -> Result<Ranges, OutOfMemory>
+    ensures { (e : ElementState) → IfOk result (λ ranges. ranges.spans
+        ≡ buffered_in (view_of side.now buffers.now.buffers e)) }
+{
+    buffered_by(side, buffers, side.source.ready().is_ended())
+}
+
+/// What can be sought. It builds the ranges only where the duration is infinite, since else they do
+/// not matter.
+pub(crate) fn seekable<S: FrameStore>(
+    side: &SourceSide,
+    buffers: &SourceBuffers<S>,
+) -> Result<Option<Span>, OutOfMemory>
+    ensures { (e : ElementState) → IfOk result (λ span. span
+        ≡ seekable_in (view_of side.now buffers.now.buffers e)) }
+{
+    if side.source.duration() != Moment::Infinite {
+        return Ok(side.source.seekable(None, None));
+    }
+    let bounds = bounds_of(&buffered(side, buffers)?);
+    Ok(side.source.seekable(bounds.first, bounds.last))
+}
+
+/// The scene of the element, with what can be sought.
+pub(crate) fn scene<S: FrameStore>(
+    side: &SourceSide,
+    buffers: &SourceBuffers<S>,
+    element: &Element,
+    seekable: Option<Span>,
+) -> Scene
+    ensures { result ≡ scene_with seekable element.now.state.player.position
+        (view_of side.now buffers.now.buffers element.now.state) }
+{
+    Scene {
+        duration: side.source.duration(),
+        ended: side.source.ready().is_ended(),
+        span: span_at(side, buffers, element.position()),
+        seekable,
+    }
+}
+
+/// The bounds of what is buffered at the element, where it has no metadata: it may get it in the
+/// next step, and then it seeks where its default playback start position is above 0.
+pub(crate) fn bounds_at_load<S: FrameStore>(
+    side: &SourceSide,
+    buffers: &SourceBuffers<S>,
+    element: &Element,
+) -> Result<LoadBounds, OutOfMemory>
+    ensures { has_metadata element.now.state.player.level ≡ false
+        → int_lt (pos 0) element.now.state.player.default_start ≡ true
+        → IfOk result (λ bounds. (ended : Bool) → HasBounds (bounds_at bounds ended)
+        (element_ranges ended side.now.state.active (all_kept_media buffers.now.buffers))) }
+{
+    if element.level().has_metadata() || element.default_start() <= Ticks::zero() {
+        return Ok(LoadBounds::NONE);
+    }
+    Ok(LoadBounds {
+        open: bounds_of(&buffered_by(side, buffers, false)?),
+        ended: bounds_of(&buffered_by(side, buffers, true)?),
+    })
+}

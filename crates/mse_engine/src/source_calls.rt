@@ -1,0 +1,293 @@
+//! The calls on the media source (Media Source Extensions, 2.2).
+
+ghost use Rattle.std.specs.Prelude.{◌≡◌, ◌≤◌, ◌+◌, [], OnErr};
+ghost use Rattle.mse_base.specs.declared.ticks.Moment.{Moment};
+ghost use Rattle.mse_calls.specs.declared.answers.Answer.TheVariants.{Done};
+ghost use Rattle.mse_calls.specs.declared.calls.Call.TheVariants as call;
+ghost use Rattle.mse_types.specs.declared.answer.TypeAnswer.TheVariants.{Supported};
+ghost use Rattle.source_state.specs.declared.answers.Changed.TheVariants.{To};
+ghost use Rattle.media_element.specs.Queueing.{queued};
+ghost use Rattle.mse_engine.specs.Signals.{DurationChanged, after_signal, after_signals};
+ghost use Rattle.mse_engine.specs.SourceCalls.{add_moved_of, change_signals, inactive_events};
+ghost use Rattle.mse_engine.specs.Calls.{after_call, after_call_by, refused_or, without_action};
+ghost use Rattle.mse_engine.specs.Standing.{Answers, IsSteady, kept, view_of};
+
+use crate::finish::{PLACES, event, settle};
+use crate::scenes;
+use crate::side::{SourceSide, around};
+use media_element::Element;
+use mse_base::{Moment, OutOfMemory};
+use mse_calls::{Answer, EndKind, EventKind, Name, Target};
+use mse_types::{Container, TypeAnswer, read_type};
+use source_buffers::SourceBuffers;
+use source_state::{Added, Changed, Removed};
+use track_store::FrameStore;
+
+/// The answer of a call that may be refused and tells nothing else.
+pub(crate) fn answer_by(refused: Option<Name>) -> Answer
+    ensures { result ≡ refused_or refused Done }
+{
+    match refused {
+        Some(name) => Answer::Refused(name),
+        None => Answer::Done,
+    }
+}
+
+/// Attaches the source to the element.
+pub(crate) fn attach<S: FrameStore>(
+    side: &mut SourceSide,
+    buffers: &SourceBuffers<S>,
+    element: &mut Element,
+) -> Result<Answer, OutOfMemory>
+    requires steady { IsSteady (kept side.old buffers.now.buffers element.old.state) }
+    ensures answered { Answers (kept side.old buffers.now.buffers element.old.state) result
+        (kept side.new buffers.now.buffers element.new.state)
+        (after_call [] call.Attach) }
+    ensures steady { IsSteady (kept side.new buffers.now.buffers element.new.state) }
+    ensures err { OnErr result (kept side.new buffers.now.buffers element.new.state
+        ≡ kept side.old buffers.now.buffers element.old.state) }
+{
+    element.reserve(PLACES)?;
+    if let Some(name) = side.source.attach() {
+        return Ok(Answer::Refused(name));
+    }
+    element.tell(event(Target::Source, EventKind::SourceOpen));
+    settle(side, buffers, element);
+    Ok(Answer::Done)
+}
+
+/// Adds a source buffer of a container.
+fn add<S: FrameStore>(
+    side: &mut SourceSide,
+    buffers: &mut SourceBuffers<S>,
+    element: &mut Element,
+    container: Container,
+) -> Result<Answer, OutOfMemory>
+    requires steady { IsSteady (kept side.old buffers.old.buffers element.old.state) }
+    ensures answered { Answers (kept side.old buffers.old.buffers element.old.state) result
+        (kept side.new buffers.new.buffers element.new.state)
+        (λ st. after_call_by (add_moved_of (Supported container) st.core)
+        (without_action st.outer) Done) }
+    ensures steady { IsSteady (kept side.new buffers.new.buffers element.new.state) }
+    ensures err { OnErr result (kept side.new buffers.new.buffers element.new.state
+        ≡ kept side.old buffers.old.buffers element.old.state) }
+{
+    element.reserve(PLACES)?;
+    buffers.reserve(1)?;
+    match side.source.add_buffer()? {
+        Added::Refused(name) => Ok(Answer::Refused(name)),
+        Added::Number(_) => {
+            buffers.add_reserved(side.gap, container);
+            element.tell(event(Target::SourceBuffers, EventKind::AddSourceBuffer));
+            settle(side, buffers, element);
+            Ok(Answer::Done)
+        }
+    }
+}
+
+/// Adds a source buffer of a type.
+pub(crate) fn add_source_buffer<S: FrameStore>(
+    side: &mut SourceSide,
+    buffers: &mut SourceBuffers<S>,
+    element: &mut Element,
+    text: &str,
+) -> Result<Answer, OutOfMemory>
+    requires steady { IsSteady (kept side.old buffers.old.buffers element.old.state) }
+    ensures answered { Answers (kept side.old buffers.old.buffers element.old.state) result
+        (kept side.new buffers.new.buffers element.new.state)
+        (after_call [] (call.AddSourceBuffer text.now)) }
+    ensures steady { IsSteady (kept side.new buffers.new.buffers element.new.state) }
+    ensures err { OnErr result (kept side.new buffers.new.buffers element.new.state
+        ≡ kept side.old buffers.old.buffers element.old.state) }
+{
+    match read_type(text) {
+        TypeAnswer::Empty => Ok(Answer::Refused(Name::TypeError)),
+        TypeAnswer::Unsupported => Ok(Answer::Refused(Name::NotSupported)),
+        TypeAnswer::Supported(container) => add(side, buffers, element, container),
+    }
+}
+
+/// Tells of a buffer that leaves the active ones, where it was there.
+fn tell_inactive(element: &mut Element, active: bool)
+    requires { 1 ≤ element.old.spare }
+    ensures state { element.new.state ≡ queued (inactive_events active) element.old.state }
+    ensures spare { element.old.spare ≤ element.new.spare + 1 }
+{
+    if active {
+        element.tell(event(Target::ActiveSourceBuffers, EventKind::RemoveSourceBuffer));
+    }
+}
+
+/// Removes a source buffer.
+pub(crate) fn remove_source_buffer<S: FrameStore>(
+    side: &mut SourceSide,
+    buffers: &mut SourceBuffers<S>,
+    element: &mut Element,
+    k: u32,
+) -> Result<Answer, OutOfMemory>
+    requires steady { IsSteady (kept side.old buffers.old.buffers element.old.state) }
+    ensures answered { Answers (kept side.old buffers.old.buffers element.old.state) result
+        (kept side.new buffers.new.buffers element.new.state)
+        (after_call [] (call.RemoveSourceBuffer k)) }
+    ensures steady { IsSteady (kept side.new buffers.new.buffers element.new.state) }
+    ensures err { OnErr result (kept side.new buffers.new.buffers element.new.state
+        ≡ kept side.old buffers.old.buffers element.old.state) }
+{
+    if !buffers.is_made(k) {
+        return Ok(Answer::Refused(Name::NoSuchBuffer));
+    }
+    element.reserve(PLACES)?;
+    let around = around(side, element, k);
+    match side.source.remove_buffer(k) {
+        Removed::Refused(name) => Ok(Answer::Refused(name)),
+        Removed::Gone { active } => {
+            let reply = buffers.remove(k, &around);
+            element.tell_kinds(Target::Buffer(k), &reply.events);
+            tell_inactive(element, active);
+            element.tell(event(Target::SourceBuffers, EventKind::RemoveSourceBuffer));
+            settle(side, buffers, element);
+            Ok(Answer::Done)
+        }
+    }
+}
+
+/// The element hears that the duration was changed to this one, which it is now. It seeks only where
+/// that is a time, and then what can be sought does not depend on what is buffered.
+fn hear_duration<S: FrameStore>(
+    side: &SourceSide,
+    buffers: &SourceBuffers<S>,
+    element: &mut Element,
+    duration: Moment,
+)
+    requires room { 2 ≤ element.old.spare }
+    requires now { side.now.state.duration ≡ duration }
+    ensures state { element.new.state
+        ≡ after_signal (view_of side.now buffers.now.buffers element.old.state)
+        (DurationChanged duration) element.old.state }
+    ensures spare { element.old.spare ≤ element.new.spare + 2 }
+{
+    let seekable = side.source.seekable(None, None);
+    let scene = scenes::scene(side, buffers, element, seekable);
+    element.fall(duration, &scene);
+}
+
+/// The element hears what came of the duration.
+fn hear_change<S: FrameStore>(
+    side: &SourceSide,
+    buffers: &SourceBuffers<S>,
+    element: &mut Element,
+    changed: Changed,
+)
+    requires room { 2 ≤ element.old.spare }
+    requires now { (d : Moment) → changed ≡ To d → side.now.state.duration ≡ d }
+    ensures state { element.new.state
+        ≡ after_signals (view_of side.now buffers.now.buffers element.old.state)
+        (change_signals changed) element.old.state }
+    ensures spare { element.old.spare ≤ element.new.spare + 2 }
+{
+    if let Changed::To(duration) = changed {
+        hear_duration(side, buffers, element, duration);
+    }
+}
+
+/// Sets the duration.
+pub(crate) fn set_duration<S: FrameStore>(
+    side: &mut SourceSide,
+    buffers: &SourceBuffers<S>,
+    element: &mut Element,
+    duration: Moment,
+) -> Result<Answer, OutOfMemory>
+    requires steady { IsSteady (kept side.old buffers.now.buffers element.old.state) }
+    ensures answered { Answers (kept side.old buffers.now.buffers element.old.state) result
+        (kept side.new buffers.now.buffers element.new.state)
+        (after_call [] (call.SetDuration duration)) }
+    ensures steady { IsSteady (kept side.new buffers.now.buffers element.new.state) }
+    ensures err { OnErr result (kept side.new buffers.now.buffers element.new.state
+        ≡ kept side.old buffers.now.buffers element.old.state) }
+{
+    element.reserve(PLACES)?;
+    let all = buffers.all_buffers();
+    let changed = side.source.set_duration(duration, &all);
+    if let Changed::Refused(name) = changed {
+        return Ok(Answer::Refused(name));
+    }
+    hear_change(side, buffers, element, changed);
+    settle(side, buffers, element);
+    Ok(Answer::Done)
+}
+
+/// Ends the stream.
+pub(crate) fn end_of_stream<S: FrameStore>(
+    side: &mut SourceSide,
+    buffers: &SourceBuffers<S>,
+    element: &mut Element,
+    kind: EndKind,
+) -> Result<Answer, OutOfMemory>
+    requires steady { IsSteady (kept side.old buffers.now.buffers element.old.state) }
+    ensures answered { Answers (kept side.old buffers.now.buffers element.old.state) result
+        (kept side.new buffers.now.buffers element.new.state)
+        (after_call [] (call.EndOfStream kind)) }
+    ensures steady { IsSteady (kept side.new buffers.now.buffers element.new.state) }
+    ensures err { OnErr result (kept side.new buffers.now.buffers element.new.state
+        ≡ kept side.old buffers.now.buffers element.old.state) }
+{
+    element.reserve(PLACES)?;
+    let all = buffers.all_buffers();
+    if let Some(name) = side.source.end_refusal(all.updating) {
+        return Ok(Answer::Refused(name));
+    }
+    let changed = side.source.end(kind, all.highest_end);
+    element.tell(event(Target::Source, EventKind::SourceEnded));
+    hear_change(side, buffers, element, changed);
+    element.fail(kind);
+    settle(side, buffers, element);
+    Ok(Answer::Done)
+}
+
+/// Sets the live seekable range.
+pub(crate) fn set_live<S: FrameStore>(
+    side: &mut SourceSide,
+    buffers: &SourceBuffers<S>,
+    element: &mut Element,
+    start: Moment,
+    end: Moment,
+) -> Result<Answer, OutOfMemory>
+    requires steady { IsSteady (kept side.old buffers.now.buffers element.old.state) }
+    ensures answered { Answers (kept side.old buffers.now.buffers element.old.state) result
+        (kept side.new buffers.now.buffers element.new.state)
+        (after_call [] (call.SetLiveSeekableRange start end)) }
+    ensures steady { IsSteady (kept side.new buffers.now.buffers element.new.state) }
+    ensures err { OnErr result (kept side.new buffers.now.buffers element.new.state
+        ≡ kept side.old buffers.now.buffers element.old.state) }
+{
+    let Moment::At(start) = start else {
+        return Ok(Answer::Refused(Name::TypeError));
+    };
+    let Moment::At(end) = end else {
+        return Ok(Answer::Refused(Name::TypeError));
+    };
+    element.reserve(PLACES)?;
+    let refused = side.source.set_live(start, end);
+    settle(side, buffers, element);
+    Ok(answer_by(refused))
+}
+
+/// Clears the live seekable range.
+pub(crate) fn clear_live<S: FrameStore>(
+    side: &mut SourceSide,
+    buffers: &SourceBuffers<S>,
+    element: &mut Element,
+) -> Result<Answer, OutOfMemory>
+    requires steady { IsSteady (kept side.old buffers.now.buffers element.old.state) }
+    ensures answered { Answers (kept side.old buffers.now.buffers element.old.state) result
+        (kept side.new buffers.now.buffers element.new.state)
+        (after_call [] call.ClearLiveSeekableRange) }
+    ensures steady { IsSteady (kept side.new buffers.now.buffers element.new.state) }
+    ensures err { OnErr result (kept side.new buffers.now.buffers element.new.state
+        ≡ kept side.old buffers.now.buffers element.old.state) }
+{
+    element.reserve(PLACES)?;
+    let refused = side.source.clear_live();
+    settle(side, buffers, element);
+    Ok(answer_by(refused))
+}

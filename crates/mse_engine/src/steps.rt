@@ -1,0 +1,87 @@
+//! Steps that nobody calls for: of the running work of a buffer, and of the element by itself.
+
+ghost use Rattle.std.specs.Prelude.{◌≡◌, ◌&&◌, ◌||◌, if◌then◌else◌, IfOk, OnErr};
+ghost use Rattle.source_state.specs.State.{has};
+ghost use Rattle.mse_engine.specs.State.{State};
+ghost use Rattle.mse_engine.specs.Work.{after_element_turn, after_work};
+ghost use Rattle.mse_engine.specs.Standing.{IsFewerWork, IsSteady, IsWork, Stands, kept, no_bounds};
+
+use crate::engine::Worked;
+use crate::finish::{PLACES, conclude, settle};
+use crate::scenes::{self, LoadBounds};
+use crate::side::{SourceSide, around};
+use buffer_state::{Reply, Turned};
+use media_element::Element;
+use mse_base::OutOfMemory;
+use source_buffers::SourceBuffers;
+use track_store::FrameStore;
+
+/// The bounds behind a reply that brings metadata, of those before it: a buffer that becomes active
+/// has nothing yet, so that then there are none.
+fn bounds_behind(side: &SourceSide, k: u32, reply: &Reply, bounds: LoadBounds) -> LoadBounds
+    ensures { result ≡ (if reply.now.activated
+        && (has k side.now.state.listed || has k side.now.state.active)
+        then no_bounds else bounds) }
+{
+    if reply.activated && (side.source.listed(k) || side.source.active(k)) {
+        LoadBounds::NONE
+    } else {
+        bounds
+    }
+}
+
+/// One step of the running work of a buffer.
+pub(crate) fn work_on<S: FrameStore>(
+    side: &mut SourceSide,
+    buffers: &mut SourceBuffers<S>,
+    element: &mut Element,
+    k: u32,
+) -> Result<Worked, OutOfMemory>
+    requires steady { IsSteady (kept side.old buffers.old.buffers element.old.state) }
+    ensures worked { (st : State) → Stands (kept side.old buffers.old.buffers element.old.state) st
+        → IfOk result (λ worked. IsWork worked
+        (kept side.old buffers.old.buffers element.old.state)
+        (kept side.new buffers.new.buffers element.new.state) (after_work k st)) }
+    ensures fewer { IfOk result (λ worked. IsFewerWork worked
+        (kept side.old buffers.old.buffers element.old.state)
+        (kept side.new buffers.new.buffers element.new.state)) }
+    ensures steady { IsSteady (kept side.new buffers.new.buffers element.new.state) }
+    ensures err { OnErr result (kept side.new buffers.new.buffers element.new.state
+        ≡ kept side.old buffers.old.buffers element.old.state) }
+{
+    element.reserve(PLACES + 1)?;
+    let around = around(side, element, k);
+    let bounds = scenes::bounds_at_load(side, buffers, element)?;
+    match buffers.turn(k, &around)? {
+        Turned::Did(reply) => {
+            let bounds = bounds_behind(side, k, &reply, bounds);
+            conclude(side, buffers, element, k, &reply, bounds);
+            Ok(Worked::Did)
+        }
+        Turned::Idle => Ok(Worked::Idle),
+    }
+}
+
+/// What the element does by itself.
+pub(crate) fn turn_by_itself<S: FrameStore>(
+    side: &SourceSide,
+    buffers: &SourceBuffers<S>,
+    element: &mut Element,
+) -> Result<Worked, OutOfMemory>
+    requires steady { IsSteady (kept side.now buffers.now.buffers element.old.state) }
+    ensures worked { (st : State) → Stands (kept side.now buffers.now.buffers element.old.state) st
+        → IfOk result (λ worked. IsWork worked
+        (kept side.now buffers.now.buffers element.old.state)
+        (kept side.now buffers.now.buffers element.new.state) (after_element_turn st)) }
+    ensures steady { IsSteady (kept side.now buffers.now.buffers element.new.state) }
+    ensures err { OnErr result (kept side.now buffers.now.buffers element.new.state
+        ≡ kept side.now buffers.now.buffers element.old.state) }
+{
+    element.reserve(PLACES)?;
+    let scene = scenes::scene(side, buffers, element, None);
+    if !element.turn(&scene) {
+        return Ok(Worked::Idle);
+    }
+    settle(side, buffers, element);
+    Ok(Worked::Did)
+}
