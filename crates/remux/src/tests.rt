@@ -1,0 +1,190 @@
+use super::*;
+use bmff_init::InitFault;
+use md5::{Digest, Md5};
+use mse_base::Bytes;
+use std::alloc::Global;
+use std::test::*;
+
+/// A box of a type, with these parts behind its header.
+fn boxed(alloc: Global, kind: &[u8; 4], parts: &[&[u8]]) -> Result<Vec<u8>, Fail> {
+    let mut payload = Vec::new(alloc);
+    for part in parts {
+        payload.extend_from_slice(part)?;
+    }
+    let len = u32::try_from(payload.len()).ok().ok_or("a short payload")?;
+    let size = len.checked_add(8).ok_or("a short payload")?;
+    let mut bytes = Vec::from_slice(alloc, &size.to_be_bytes())?;
+    bytes.extend_from_slice(kind)?;
+    bytes.extend_from_slice(payload.as_slice())?;
+    Ok(bytes)
+}
+
+/// A sample table box of three samples of four bytes in one chunk at 32, of which the first is a sync sample.
+fn sample_table(alloc: Global) -> Result<Vec<u8>, Fail> {
+    let dpi = [0, 0x48, 0, 0, 0, 0x48, 0, 0];
+    let avc1 = boxed(
+        alloc,
+        b"avc1",
+        &[
+            &[0, 0, 0, 0, 0, 0, 0, 1],
+            &[0; 20],
+            &dpi,
+            &[0, 0, 0, 0, 0, 1],
+            &[0; 32],
+            &[0, 0x18, 0xFF, 0xFF],
+        ],
+    )?;
+    let count = [0, 0, 0, 0, 0, 0, 0, 1];
+    let stsd = boxed(alloc, b"stsd", &[&count, avc1.as_slice()])?;
+    let stts = boxed(alloc, b"stts", &[&count, &[0, 0, 0, 3, 0, 0, 0x0B, 0xB8]])?;
+    let stss = boxed(alloc, b"stss", &[&count, &[0, 0, 0, 1]])?;
+    let chunks = [0, 0, 0, 1, 0, 0, 0, 3, 0, 0, 0, 1];
+    let stsc = boxed(alloc, b"stsc", &[&count, &chunks])?;
+    let stsz = boxed(alloc, b"stsz", &[&[0, 0, 0, 0, 0, 0, 0, 4, 0, 0, 0, 3]])?;
+    let stco = boxed(alloc, b"stco", &[&count, &[0, 0, 0, 32]])?;
+    boxed(
+        alloc,
+        b"stbl",
+        &[
+            stsd.as_slice(),
+            stts.as_slice(),
+            stss.as_slice(),
+            stsc.as_slice(),
+            stsz.as_slice(),
+            stco.as_slice(),
+        ],
+    )
+}
+
+/// A classic file of one video track, whose movie box is at 44.
+fn classic(alloc: Global) -> Result<Vec<u8>, Fail> {
+    let tkhd = boxed(alloc, b"tkhd", &[&[0; 12], &[0, 0, 0, 1]])?;
+    let mdhd = boxed(alloc, b"mdhd", &[&[0; 12], &[0, 1, 0x5F, 0x90]])?;
+    let hdlr = boxed(alloc, b"hdlr", &[&[0; 8], b"vide"])?;
+    let stbl = sample_table(alloc)?;
+    let minf = boxed(alloc, b"minf", &[stbl.as_slice()])?;
+    let media = [mdhd.as_slice(), hdlr.as_slice(), minf.as_slice()];
+    let mdia = boxed(alloc, b"mdia", &media)?;
+    let trak = boxed(alloc, b"trak", &[tkhd.as_slice(), mdia.as_slice()])?;
+    let mvhd = boxed(alloc, b"mvhd", &[&[0; 14], &[3, 0xE8, 0, 0, 0, 0]])?;
+    let moov = boxed(alloc, b"moov", &[mvhd.as_slice(), trak.as_slice()])?;
+    let mut file = boxed(alloc, b"ftyp", &[b"iso6", &[0; 4], b"iso6mp41"])?;
+    let mdat = boxed(alloc, b"mdat", &[&[0; 12]])?;
+    file.extend_from_slice(mdat.as_slice())?;
+    file.extend_from_slice(moov.as_slice())?;
+    Ok(file)
+}
+
+/// Writes bytes over those at a place of the first box of a type.
+fn overwrite(bytes: &mut Vec<u8>, kind: &[u8; 4], at: usize, new: &[u8]) -> Result<(), Fail> {
+    let start = bytes
+        .windows(4)
+        .position(|w| w == kind.as_slice())
+        .ok_or("the box is there")?;
+    let from = start
+        .checked_add(at)
+        .ok_or("a small place")?
+        .checked_sub(4)
+        .ok_or("behind a size")?;
+    let rest = bytes.as_mut_slice().get_mut(from..).ok_or("inside")?;
+    for (old, byte) in rest.iter_mut().zip(new.iter()) {
+        *old = *byte;
+    }
+    Ok(())
+}
+
+fn whole(alloc: Global, pieces: &[Bytes]) -> Result<Vec<u8>, Fail> {
+    let mut bytes = Vec::new(alloc);
+    for piece in pieces {
+        bytes.extend_from_slice(piece.as_slice())?;
+    }
+    Ok(bytes)
+}
+
+/// The bytes are known by their digest, since another program wrote them.
+#[test]
+fn fragments_of_a_video_track(rt: HostRuntime) -> Result<(), Fail> {
+    let alloc = rt.alloc();
+    let file = classic(alloc)?;
+    let pieces = remux(alloc, file.as_slice()).ok().ok_or("pieces")?;
+    assert_eq!(rt; pieces.len(), 2);
+    let bytes = whole(alloc, pieces.as_slice())?;
+    assert_eq!(rt; bytes.len(), 751);
+    let digest = u128::from_be_bytes(Md5::digest(bytes.as_slice()));
+    assert_eq!(rt; digest, 0x71064bb2_ef61b365_34c3a50c_c680d4e3);
+    let again = remux(alloc, bytes.as_slice());
+    let fault = RemuxFault::Fragmented;
+    assert_eq!(rt; again.err(), Some(RemuxError::Fault { fault, offset: 24 }));
+    Ok(())
+}
+
+/// Bytes to write over a box: its type, a place from its first byte on, and the bytes; and the fault.
+type Change = ([u8; 4], usize, &'static [u8], RemuxFault);
+
+const FAULTS: [Change; 21] = [
+    (*b"stco", 16, &[0xFF; 4], RemuxFault::Place),
+    (*b"stco", 16, b"\0\0\x01\xFF", RemuxFault::Place),
+    (*b"stts", 16, &[0, 0, 0, 2], RemuxFault::Tables),
+    (*b"stss", 16, &[0; 4], RemuxFault::Tables),
+    (*b"stss", 16, &[0, 0, 0, 4], RemuxFault::Tables),
+    (*b"stsc", 16, &[0, 0, 0, 2], RemuxFault::Tables),
+    (*b"stsc", 20, &[0; 4], RemuxFault::Tables),
+    (*b"stsc", 20, &[0, 0, 0, 4], RemuxFault::Tables),
+    (*b"stsz", 16, &[0, 0, 0, 2], RemuxFault::Tables),
+    (*b"stsz", 12, &[0x20, 0, 0, 0], RemuxFault::TooMany),
+    (*b"stsz", 12, &[0; 4], RemuxFault::Moov(InitFault::Size)),
+    (*b"stts", 15, &[2], RemuxFault::Moov(InitFault::Size)),
+    (*b"stss", 15, &[2], RemuxFault::Moov(InitFault::Size)),
+    (*b"stsc", 15, &[2], RemuxFault::Moov(InitFault::Size)),
+    (*b"stco", 15, &[2], RemuxFault::Moov(InitFault::Size)),
+    (
+        *b"stts",
+        4,
+        b"free",
+        RemuxFault::Moov(InitFault::Missing(*b"stts")),
+    ),
+    (
+        *b"stsz",
+        4,
+        b"free",
+        RemuxFault::Moov(InitFault::Missing(*b"stsz")),
+    ),
+    (
+        *b"stco",
+        4,
+        b"free",
+        RemuxFault::Moov(InitFault::Missing(*b"stco")),
+    ),
+    (
+        *b"mvhd",
+        4,
+        b"free",
+        RemuxFault::Moov(InitFault::Missing(*b"mvhd")),
+    ),
+    (*b"vide", 4, b"text", RemuxFault::NoTracks),
+    (*b"tkhd", 20, &[0; 4], RemuxFault::Range),
+];
+
+#[test]
+fn faults(rt: HostRuntime) -> Result<(), Fail> {
+    let alloc = rt.alloc();
+    for (kind, at, new, fault) in FAULTS {
+        let mut file = classic(alloc)?;
+        overwrite(&mut file, &kind, at, new)?;
+        let given = remux(alloc, file.as_slice()).err();
+        assert_eq!(rt;
+            given,
+            Some(RemuxError::Fault { fault, offset: 44 }),
+            "{kind:?} {at}"
+        );
+    }
+    let none = remux(alloc, &[]).err();
+    let fault = RemuxFault::NoMoov;
+    assert_eq!(rt; none, Some(RemuxError::Fault { fault, offset: 0 }));
+    let mut file = classic(alloc)?;
+    overwrite(&mut file, b"mdat", 0, &[0xFF])?;
+    let fault = RemuxFault::Box;
+    let cut = remux(alloc, file.as_slice()).err();
+    assert_eq!(rt; cut, Some(RemuxError::Fault { fault, offset: 24 }));
+    Ok(())
+}

@@ -1,0 +1,10 @@
+pub mod Chains
+pub mod RunTracks
+pub mod Segments
+pub mod Joined
+pub mod Bytes
+pub mod Scales
+pub mod Tables
+pub mod Samples
+pub mod Tracks
+pub mod Law

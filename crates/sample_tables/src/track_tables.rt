@@ -1,0 +1,126 @@
+ghost use Rattle.std.specs.Prelude.{◌≡◌, ◌≤◌, ◌^◌, [], length, IfOk, IfSome};
+ghost use Rattle.std.specs.Option.{option_copied};
+ghost use Rattle.std.specs.Result.{result_map_both};
+ghost use lib.Chars.{codes};
+ghost use Rattle.bmff_boxes.specs.Children.{Box, child_of};
+ghost use Rattle.bmff_boxes.specs.Reading.{Gives};
+ghost use Rattle.bmff_init.specs.Tracks.{codec_of, media_of};
+ghost use Rattle.sample_tables.specs.Facts.{IsDescription};
+ghost use Rattle.sample_tables.specs.Movies.{sample_table_in, description_in, description_payload, description_codec, track_tables};
+
+use crate::box_place::first_place;
+use crate::reading::read_tables;
+use crate::tables::SampleTables;
+use bmff_boxes::{Child, Header, Row, children, entry_count, header, open};
+use bmff_init::{InitError, InitFault};
+use mse_base::Bytes;
+use std::alloc::Global;
+
+/// The boxes of the media box (ISO/IEC 14496-12, 8.4.1) of a track.
+fn media_of<'a>(track: &Row<'a>) -> Result<Row<'a>, InitFault>
+    ensures { result ≡ media_of track.now }
+{
+    let mdia = track.first(*b"mdia").ok_or(InitFault::Missing(*b"mdia"))?;
+    open(mdia).ok_or(InitFault::Size)
+}
+
+/// The payload of the sample table box (8.5.1) in a media box.
+fn sample_table_in<'a>(media: &Row<'a>) -> Result<&'a [u8], InitFault>
+    ensures { result_map_both (λ s. s.now) (λ fault. fault) result ≡ sample_table_in media.now }
+{
+    let minf = media.first(*b"minf").ok_or(InitFault::Missing(*b"minf"))?;
+    let information = open(minf).ok_or(InitFault::Size)?;
+    information
+        .first(*b"stbl")
+        .ok_or(InitFault::Missing(*b"stbl"))
+}
+
+/// The sample description box (8.5.2) in a sample table box, with its header.
+fn description_in<'a>(stbl: &'a [u8]) -> Result<&'a [u8], InitFault>
+    ensures { result_map_both (λ s. s.now) (λ fault. fault) result ≡ description_in stbl.now }
+{
+    match first_place(stbl, *b"stsd") {
+        Ok(Some(place)) => Ok(&stbl[place.start..place.end]),
+        Ok(None) => Err(InitFault::Missing(*b"stsd")),
+        Err(_) => Err(InitFault::Missing(*b"stsd")),
+    }
+}
+
+/// The type of the first sample entry of a sample description box (8.5.2).
+#[tactic(auto, unfolding(bmff_init::specs::Tracks::codec_of, bmff_boxes::specs::Fields::field))]
+fn codec_of(stsd: &[u8]) -> Result<[u8; 4], InitFault>
+    ensures { result ≡ codec_of stsd.now }
+{
+    let missing = InitFault::Missing(*b"stsd");
+    let count = entry_count(stsd).ok_or(InitFault::Size)?;
+    if count == 0 {
+        return Err(missing);
+    }
+    match header(stsd.get(8..).unwrap_or(&[])) {
+        Header::Whole { kind, .. } => Ok(kind),
+        Header::Short => Err(missing),
+        Header::Bad(_) => Err(missing),
+    }
+}
+
+/// The payload of a whole sample description box.
+fn description_payload<'a>(stsd: &'a [u8]) -> Option<&'a [u8]>
+    ensures value { option_copied result ≡ description_payload (child_of stsd.now) }
+    ensures whole { IfSome result
+        (λ payload. child_of stsd.now ≡ (Box (codes "stsd") payload.now, [])) }
+{
+    let mut walk = children(stsd);
+    match walk.next() {
+        Child::Found { kind, payload } => {
+            if walk.rest.is_empty() && kind == *b"stsd" {
+                Some(payload)
+            } else {
+                None
+            }
+        }
+        Child::End => None,
+        Child::Uneven => None,
+    }
+}
+
+/// The type of the first sample entry of a whole sample description box.
+fn description_codec(stsd: &[u8]) -> Result<[u8; 4], InitFault>
+    ensures value { result ≡ description_codec stsd.now }
+    ensures described { IfOk result (λ codec. IsDescription codec stsd.now) }
+{
+    let payload = description_payload(stsd).ok_or(InitFault::Size)?;
+    codec_of(payload)
+}
+
+/// What is read of the sample table box of a track.
+#[derive(Drop)]
+pub struct TrackTables {
+    /// The sample description box with its header.
+    pub stsd: Bytes,
+    /// The type of its first sample entry.
+    pub codec: [u8; 4],
+    /// The tables.
+    pub tables: SampleTables,
+}
+
+/// Reads the sample table box of a track box.
+#[tactic(auto, unfolding(crate::specs::Movies::track_tables))]
+pub(crate) fn read_track_tables(alloc: Global, trak: &[u8]) -> Result<TrackTables, InitError>
+    ensures value { Gives (λ read. read) result (track_tables trak.now) }
+    ensures few { IfOk result (λ read. length read.tables.chunk_offsets ≤ 2 ^ 32) }
+    ensures described { IfOk result (λ read. IsDescription read.codec read.stsd) }
+{
+    let track = open(trak).ok_or(InitFault::Size)?;
+    let media = media_of(&track)?;
+    let stbl = sample_table_in(&media)?;
+    let boxes = open(stbl).ok_or(InitFault::Size)?;
+    let tables = read_tables(alloc, &boxes)?;
+    let whole = description_in(stbl)?;
+    let codec = description_codec(whole)?;
+    let copy = Vec::from_slice(alloc, whole)?;
+    Ok(TrackTables {
+        stsd: Bytes::from_vec(alloc, copy),
+        codec,
+        tables,
+    })
+}
