@@ -1,0 +1,245 @@
+-- A play that does not meet the quota: its core is that of its lines.
+use Rattle.std.proofs.Common.{◌≡◌, ℕ, zero, suc, ◌+◌, ◌≤◌, ◌==◌, ℤ, pos, Bool, true, false, not, ◌||◌, List, [], ◌∷◌, ◌++◌, length, refl, ap, sym, subst, ◌∙◌, arith}
+use Rattle.std.specs.Prelude.{Option, Some, None, IfSome, slice_get, slice_set, option_map, if◌then◌else◌, nat_le, nat_lt, ◌^◌}
+use Rattle.std.proofs.lemmas.Bool.Decides.{nat_tests}
+use Rattle.std.proofs.lemmas.Option.{slice_get_past}
+use Rattle.std.specs.Option.{option_flatten}
+use Rattle.mse_calls.specs.declared.events.EventKind.TheVariants.{UpdateStart}
+use Rattle.mse_base.specs.declared.ticks.Moment.{Moment}
+use Rattle.mse_calls.specs.Answered.{Answered}
+use Rattle.mse_calls.specs.Pieces.{bytes_of}
+use Rattle.mse_calls.specs.declared.answers.Name.TheVariants.{InvalidState, QuotaExceeded, NoSuchBuffer}
+use Rattle.mse_calls.specs.declared.calls.Call.{Call}
+use Rattle.mse_calls.specs.declared.calls.Call.TheVariants as call
+use Rattle.mse_calls.specs.declared.events.Event.{Event}
+use Rattle.mse_calls.specs.declared.journal.Entry.{Entry}
+use Rattle.mse_calls.specs.declared.journal.Entry.TheVariants.{Step, Script, Listener, Fired, Work, Element}
+use Rattle.track_store.specs.Kept.{bytes_in}
+use Rattle.track_buffers.specs.Media.{Media}
+use Rattle.track_buffers.specs.Frames.{media_after_eviction, used_in}
+use Rattle.buffer_state.specs.State.{Feed, Surroundings, is_updating, feed_with}
+use Rattle.buffer_state.specs.Replies.{reopens, event_reply, refused_result, result_with}
+use Rattle.buffer_state.specs.Calls.{is_full, unless_refused, append_result, append_result_by_room, append_result_after_eviction, with_media}
+use Rattle.source_buffers.specs.State.{BufferState, in_slot}
+use Rattle.source_buffers.specs.Slots.{result_by_slot, call_in_slot}
+use Rattle.call_script.specs.declared.script.StepLine.{StepLine}
+use Rattle.call_script.specs.declared.script.StepLine.TheVariants as step
+use Rattle.mse_engine.specs.State.{CoreSource, Core, State, outer_of, element_in}
+use Rattle.mse_engine.specs.Signals.{step as step_of}
+use Rattle.media_element.specs.Queueing as queueing
+use Rattle.mse_engine.specs.Replies.{surroundings_in}
+use Rattle.mse_engine.specs.Moved.{Moved, refused_moved, if_made}
+use Rattle.mse_engine.specs.BufferCalls.{reply_moved, append_moved_of}
+use Rattle.mse_engine.specs.Calls.{call_moved}
+use Rattle.mse_engine.specs.Work.{work_moved, work_result, after_element_turn, without_first, fire_result, due_in, scene_in}
+use Rattle.mse_engine.specs.Run.{step_meaning, fire_meaning, after_entries}
+use Rattle.cut_law.specs.Plays.{after_entry, fire_entries, entries_if, line_entries, after_line, play_entries, play_of}
+use Rattle.cut_law.specs.Room.{HasRoomFor, HasRoom, EntryHasRoom, LineHasRoom, IsUnmet}
+use Rattle.cut_law.proofs.Halves.{half_with, half_after_append}
+use Rattle.cut_law.proofs.Halves.{half_after_append_by as free_by}
+use Rattle.cut_law.proofs.Drains.{set_place, place_of, on_slot, append_core, core_by, work_core, drain_core}
+use Rattle.cut_law.proofs.Ending.{after-append, turned-core, meaning-core, drain-core}
+
+-- ---- calls
+
+abbrev pub append_some : Option (List ℕ) → ℕ → Core → Core
+append_some None k c = c
+append_some (Some bytes) k c = append_core bytes k c
+
+-- what a call makes of the core where no buffer is full: the position is not looked at
+abbrev pub free_call : List (List ℕ) → Call → Core → Core
+free_call blobs (call.AppendBuffer k piece) c = append_some (bytes_of blobs piece) k c
+free_call blobs other c = (call_moved blobs (pos 0) other c).core
+
+not-full : (a b : Bool) → (a || b) ≡ false → a ≡ false
+not-full true b e = absurd (cc)
+not-full false b e = refl
+
+below : (a b : ℕ) → nat_le a b ≡ false → nat_lt b a ≡ true
+below a b e = grind (arith, nat_tests)
+
+pick : {X : Type 0} (t : Bool) (x y : X) → t ≡ true → (if t then x else y) ≡ x
+pick true x y e = refl
+pick false x y e = absurd (cc)
+
+evicts-none : (bytes : List ℕ) (position : ℤ) (quota : ℕ) (d : Moment) (f : Feed) (m : Media) → is_full bytes quota f m ≡ false → media_after_eviction position (length bytes) quota d m ≡ m
+evicts-none bytes position quota d f m e =
+    let less : nat_lt (bytes_in m.tracks) quota ≡ true = below quota (bytes_in m.tracks) (not-full (nat_le quota (used_in m)) (nat_le (2 ^ 62) (length f.reading.whole + length bytes)) e) in
+    ap (λ ts. record m { tracks = ts }) (pick (nat_lt (bytes_in m.tracks) quota) m.tracks _ less)
+
+append-free : (t : Bool) (bytes : List ℕ) (position : ℤ) (k : ℕ) (b : BufferState) (s : CoreSource) → is_full bytes s.quota b.feed b.content.media ≡ false
+    → half_with k (unless_refused (if t then Some InvalidState else None) (append_result_after_eviction bytes position s.quota (surroundings_in k s) b.feed b.content) (surroundings_in k s) b.feed b.content) s
+    ≡ free_by t bytes k (record { buffer = b; source = s })
+append-free true bytes position k b s e = refl
+append-free false bytes position k b s e =
+    let a : Surroundings = surroundings_in k s in
+    ap (λ m. half_with k (append_result_by_room bytes s.quota a b.feed (with_media m b.content)) s) (evicts-none bytes position s.quota s.state.duration b.feed b.content.media e)
+    ∙ ap (λ t. half_with k (if t then refused_result QuotaExceeded (reopens a.ready) a b.feed b.content else result_with (event_reply (reopens a.ready) a.duration (UpdateStart ∷ [])) (feed_with bytes b.feed) b.content) s) e
+
+pub set-same : {X : Type 0} (xs : List X) (k : ℕ) (x : X) → slice_get xs k ≡ Some x → slice_set xs k x ≡ xs
+set-same [] k x e = refl
+set-same (y ∷ ys) zero x e = let same : y ≡ x = cc in ap (λ z. z ∷ ys) (sym same)
+set-same (y ∷ ys) (suc k) x e = ap (λ zs. y ∷ zs) (set-same ys k x e)
+
+found-free : (x : Option (Option BufferState)) (bytes : List ℕ) (position : ℤ) (k : ℕ) (c : Core) → slice_get c.buffers k ≡ x → HasRoomFor (Some bytes) c.source.quota (option_flatten x)
+    → (reply_moved k (result_by_slot x (call_in_slot InvalidState c.source.state.duration (append_result bytes position c.source.quota (surroundings_in k c.source))) c.source.state.duration k c.buffers) c).core
+    ≡ on_slot x k (half_after_append bytes) c
+found-free None bytes position k c e room = refl
+found-free (Some None) bytes position k c e room = ap (λ bs. record { source = c.source; buffers = bs }) (set-same c.buffers k None e)
+found-free (Some (Some b)) bytes position k c e room =
+    ap (λ h. set_place k c.buffers (place_of h)) (append-free (is_updating b.feed.running || not (c.source.error == 0)) bytes position k b c.source room)
+
+-- a call on a buffer that was made, or on one that was not
+made-core : (t : Bool) (k : ℕ) (m : Moved) (c d : Core) → nat_lt k (length c.buffers) ≡ t → m.core ≡ d → (t ≡ false → c ≡ d) → (if_made k m c).core ≡ d
+made-core true k m c d e h f = ap (λ t. (if t then m else refused_moved NoSuchBuffer c).core) e ∙ h
+made-core false k m c d e h f = ap (λ t. (if t then m else refused_moved NoSuchBuffer c).core) e ∙ f refl
+
+past : (k n : ℕ) → nat_lt k n ≡ false → n ≤ k
+past k n e = grind (arith, nat_tests)
+
+append-moved : (x : Option (List ℕ)) (position : ℤ) (k : ℕ) (c : Core) → HasRoomFor x c.source.quota (in_slot k c.buffers)
+    → (if_made k (append_moved_of x k position c) c).core ≡ append_some x k c
+append-moved None position k c room = made-core (nat_lt k (length c.buffers)) k (append_moved_of None k position c) c c refl refl (λ e. refl)
+append-moved (Some bytes) position k c room =
+    made-core (nat_lt k (length c.buffers)) k (append_moved_of (Some bytes) k position c) c (append_core bytes k c) refl
+    (found-free (slice_get c.buffers k) bytes position k c refl room)
+    (λ e. sym (ap (λ x. on_slot x k (half_after_append bytes) c) (slice_get_past c.buffers k (past k (length c.buffers) e))))
+
+pub call-free : (blobs : List (List ℕ)) (position : ℤ) (made : Call) (c : Core) → HasRoom blobs c made → (call_moved blobs position made c).core ≡ free_call blobs made c
+call-free blobs position call.Attach c room = refl
+call-free blobs position (call.AddSourceBuffer text) c room = refl
+call-free blobs position (call.RemoveSourceBuffer k) c room = refl
+call-free blobs position (call.SetDuration d) c room = refl
+call-free blobs position (call.EndOfStream end) c room = refl
+call-free blobs position (call.SetLiveSeekableRange start end) c room = refl
+call-free blobs position call.ClearLiveSeekableRange c room = refl
+call-free blobs position (call.SetMode k mode) c room = refl
+call-free blobs position (call.SetTimestampOffset k t) c room = refl
+call-free blobs position (call.SetAppendWindowStart k t) c room = refl
+call-free blobs position (call.SetAppendWindowEnd k t) c room = refl
+call-free blobs position (call.AppendBuffer k piece) c room = append-moved (bytes_of blobs piece) position k c room
+call-free blobs position (call.Abort k) c room = refl
+call-free blobs position (call.Remove k start end) c room = refl
+call-free blobs position (call.ChangeType k text) c room = refl
+call-free blobs position (call.Buffered k) c room = refl
+call-free blobs position call.SourceState c room = refl
+call-free blobs position (call.Seek t) c room = refl
+call-free blobs position call.Play c room = refl
+call-free blobs position call.Pause c room = refl
+call-free blobs position (call.Advance t) c room = refl
+call-free blobs position call.ElementBuffered c room = refl
+call-free blobs position call.Seekable c room = refl
+
+-- ---- lines
+
+-- what a line makes of the core
+abbrev pub core_line : List (List ℕ) → StepLine → Core → Core
+core_line blobs (step.Call made) c = free_call blobs made c
+core_line blobs step.Fire c = c
+core_line blobs (step.Work k) c = work_core k c
+core_line blobs step.Element c = c
+core_line blobs step.Drain c = drain_core c
+
+fire-core : (fired : Option (Answered Event State)) (blobs : List (List ℕ)) (st : State) → fire_result st ≡ fired → IfSome fired (λ a. a.state.core ≡ st.core)
+    → (after_entries blobs st (fire_entries fired)).core ≡ st.core
+fire-core None blobs st e h = refl
+fire-core (Some a) blobs st e h = ap (λ fired. (fire_meaning fired a.answer st).state.core) e ∙ h
+
+-- an event that is fired leaves the core
+pub fired-core : (st : State) → IfSome (fire_result st) (λ a. a.state.core ≡ st.core)
+fired-core st = fired-by (slice_get st.outer.queue 0) st
+  where
+    fired-by : (x : Option Event) (st : State) → IfSome {T = Answered Event State} (option_map (λ event. record { answer = event; state = without_first st }) x) (λ a. a.state.core ≡ st.core)
+    fired-by None st = tt
+    fired-by (Some event) st = refl
+
+work-core : (o : Option Moved) (blobs : List (List ℕ)) (st : State) (k : ℕ) → work_moved k st.core ≡ o
+    → (after_entries blobs st (entries_if (work_result o st) (Work k))).core ≡ core_by o st.core
+work-core None blobs st k e = refl
+work-core (Some m) blobs st k e = ap (λ o. (step_meaning (work_result o st) st).state.core) e
+
+turn-core : (o : Option State) (blobs : List (List ℕ)) (st : State) → after_element_turn st ≡ o → (step_meaning o st).state.core ≡ st.core
+    → (after_entries blobs st (entries_if o Element)).core ≡ st.core
+turn-core None blobs st e h = refl
+turn-core (Some new) blobs st e h = ap (λ o. (step_meaning o st).state.core) e ∙ h
+
+pub line-core : (blobs : List (List ℕ)) (st : State) (line : StepLine) → LineHasRoom blobs st.core line → (after_line blobs st line).core ≡ core_line blobs line st.core
+line-core blobs st (step.Call made) room = call-free blobs st.outer.element.position made st.core room
+line-core blobs st step.Fire room = fire-core (fire_result st) blobs st refl (fired-core st)
+line-core blobs st (step.Work k) room = work-core (work_moved k st.core) blobs st k refl
+line-core blobs st step.Element room = turn-core (after_element_turn st) blobs st refl (turned-core st)
+line-core blobs st step.Drain room = drain-core blobs st
+
+fired-entry : (o : Option (Answered Event State)) (event : Event) (st : State) → IfSome o (λ a. a.state.core ≡ st.core) → (fire_meaning o event st).state.core ≡ st.core
+fired-entry None event st h = refl
+fired-entry (Some a) event st h = h
+
+-- what an entry makes of the core
+abbrev pub core_entry : List (List ℕ) → Entry → Core → Core
+core_entry blobs (Step n) c = c
+core_entry blobs (Script made answer) c = free_call blobs made c
+core_entry blobs (Listener w made answer) c = free_call blobs made c
+core_entry blobs (Fired event) c = c
+core_entry blobs (Work k) c = work_core k c
+core_entry blobs Element c = c
+
+-- ---- scripts
+
+abbrev pub core_play : List (List ℕ) → Core → List StepLine → Core
+core_play blobs c [] = c
+core_play blobs c (line ∷ lines) = core_play blobs (core_line blobs line c) lines
+
+pub play-append : (blobs : List (List ℕ)) (c : Core) (xs ys : List StepLine) → core_play blobs c (xs ++ ys) ≡ core_play blobs (core_play blobs c xs) ys
+play-append blobs c [] ys = refl
+play-append blobs c (x ∷ xs) ys = play-append blobs (core_line blobs x c) xs ys
+
+-- the state behind the lines, one after another
+abbrev pub after_lines : List (List ℕ) → State → List StepLine → State
+after_lines blobs st [] = st
+after_lines blobs st (line ∷ lines) = after_lines blobs (after_line blobs st line) lines
+
+pub play-lines : (blobs : List (List ℕ)) (n : ℕ) (st : State) (lines : List StepLine) → after_entries blobs st (play_entries blobs n st lines) ≡ after_lines blobs st lines
+play-lines blobs n st [] = refl
+play-lines blobs n st (line ∷ lines) =
+    after-append blobs st (line_entries blobs st line) (play_entries blobs (suc n) (after_line blobs st line) lines)
+    ∙ play-lines blobs (suc n) (after_line blobs st line) lines
+
+lines-core : (blobs : List (List ℕ)) (st : State) (lines : List StepLine) → IsUnmet blobs st lines → (after_lines blobs st lines).core ≡ core_play blobs st.core lines
+lines-core blobs st [] u = refl
+lines-core blobs st (line ∷ lines) u =
+    lines-core blobs (after_line blobs st line) lines u.1 ∙ ap (λ c. core_play blobs c lines) (line-core blobs st line u.0)
+
+-- the core that a play comes to
+pub play-core : (blobs : List (List ℕ)) (st : State) (lines : List StepLine) → IsUnmet blobs st lines → (play_of blobs st lines).core ≡ core_play blobs st.core lines
+play-core blobs st lines u = ap (λ (s : State). s.core) (play-lines blobs 0 st lines) ∙ lines-core blobs st lines u
+
+-- the first lines of some that do not meet the quota do not meet it
+pub unmet-front : (blobs : List (List ℕ)) (st : State) (front more : List StepLine) → IsUnmet blobs st (front ++ more) → IsUnmet blobs st front
+unmet-front blobs st [] more u = tt
+unmet-front blobs st (line ∷ front) more u = (u.0, unmet-front blobs (after_line blobs st line) front more u.1)
+
+-- ---- the core behind a step follows from the core before it
+
+entry-core : (blobs : List (List ℕ)) (st : State) (entry : Entry) → EntryHasRoom blobs st.core entry → (after_entry blobs st entry).core ≡ core_entry blobs entry st.core
+entry-core blobs st (Step n) room = refl
+entry-core blobs st (Script made answer) room = call-free blobs st.outer.element.position made st.core room
+entry-core blobs st (Listener w made answer) room = call-free blobs st.outer.element.position made st.core room
+entry-core blobs st (Fired event) room = fired-entry (fire_result st) event st (fired-core st)
+entry-core blobs st (Work k) room = meaning-core (work_moved k st.core) st
+entry-core blobs st Element room = turned-core st
+
+pub same-entry : (blobs : List (List ℕ)) (a b : State) (entry : Entry) → a.core ≡ b.core → EntryHasRoom blobs a.core entry → (after_entry blobs a entry).core ≡ (after_entry blobs b entry).core
+same-entry blobs a b entry e room =
+    entry-core blobs a entry room ∙ ap (λ c. core_entry blobs entry c) e ∙ sym (entry-core blobs b entry (subst (λ c. EntryHasRoom blobs c entry) e room))
+
+pub same-line : (blobs : List (List ℕ)) (a b : State) (line : StepLine) → a.core ≡ b.core → LineHasRoom blobs a.core line → (after_line blobs a line).core ≡ (after_line blobs b line).core
+same-line blobs a b line e room =
+    line-core blobs a line room ∙ ap (λ c. core_line blobs line c) e ∙ sym (line-core blobs b line (subst (λ c. LineHasRoom blobs c line) e room))
+
+-- a turn of the element leaves the core
+pub turn-leaves : (st : State) → IfSome (after_element_turn st) (λ new. new.core ≡ st.core)
+turn-leaves st = by-due (due_in st) (step_of st.core [] (outer_of (queueing.after_own_turn (scene_in st) (element_in st.core.source.error st.outer)))) st refl
+  where
+    by-due : (t : Bool) (new st : State) → new.core ≡ st.core → IfSome (if t then Some new else None) (λ new. new.core ≡ st.core)
+    by-due true new st e = e
+    by-due false new st e = tt

@@ -1,0 +1,32 @@
+-- A file that is appended piece by piece, up to the first fault.
+use Rattle.std.specs.Prelude.{ℕ, List, [], ◌∷◌, Option, Some, None}
+use Rattle.mse_calls.specs.declared.calls.Call.TheVariants.{AppendBuffer}
+use Rattle.mse_calls.specs.declared.calls.Piece.{Piece}
+use Rattle.mse_calls.specs.declared.views.FaultView.{FaultView}
+use Rattle.call_script.specs.declared.script.StepLine.TheVariants.{Call, Drain}
+use Rattle.mse_engine.specs.State.{State}
+use Rattle.cut_law.specs.Plays.{after_line}
+use Rattle.cut_law.specs.Room.{HasRoom}
+
+-- a piece is appended to the buffer of a number, and drained
+abbrev pub after_piece : List (List ℕ) → ℕ → State → Piece → State
+after_piece blobs k st piece = after_line blobs (after_line blobs st (Call (AppendBuffer k piece))) Drain
+
+-- behind a fault nothing is done
+abbrev pub unless_fault : {A : Type 0} → Option FaultView → A → A → A
+unless_fault None stopped next = next
+unless_fault (Some fault) stopped next = stopped
+
+-- one piece after another
+abbrev pub after_pieces : List (List ℕ) → ℕ → State → List Piece → State
+after_pieces blobs k st [] = st
+after_pieces blobs k st (piece ∷ pieces) = unless_fault st.core.source.fault st (after_pieces blobs k (after_piece blobs k st piece) pieces)
+
+abbrev pub UnlessFault : Option FaultView → Type 0 → Type 0
+UnlessFault None P = P
+UnlessFault (Some fault) P = Unit {0}
+
+-- just before each piece that is appended the buffer is not full
+abbrev pub HaveRoom : List (List ℕ) → ℕ → State → List Piece → Type 0
+HaveRoom blobs k st [] = Unit {0}
+HaveRoom blobs k st (piece ∷ pieces) = UnlessFault st.core.source.fault (HasRoom blobs st.core (AppendBuffer k piece) × HaveRoom blobs k (after_piece blobs k st piece) pieces)

@@ -1,0 +1,5 @@
+pub mod Cuts
+pub mod Files
+pub mod Outcomes
+pub mod Plays
+pub mod Room
