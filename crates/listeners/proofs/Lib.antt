@@ -4,3 +4,5 @@ mod Calling
 mod Indexing
 mod Noting
 mod Holding
+mod Serving
+mod Dispatching

@@ -4,3 +4,4 @@ pub mod RuleCalls
 pub mod Book
 pub mod Index
 pub mod Coming
+pub mod Dispatch

@@ -1,8 +1,11 @@
 -- What a listener was given, and what it did.
-use Rattle.std.specs.Prelude.{List, [], ◌∷◌, Option, Some, None}
+use Rattle.std.specs.Prelude.{ℕ, ◌==◌, Bool, false, List, [], ◌∷◌, ◌++◌, Option, Some, None, if◌then◌else◌}
+use Rattle.std.specs.List.{count_by, flat_map}
 use Rattle.mse_calls.specs.declared.answers.Answer.{Answer}
 use Rattle.mse_calls.specs.declared.calls.Call.{Call}
 use Rattle.mse_calls.specs.declared.events.Event.{Event}
+use Rattle.mse_calls.specs.declared.journal.Entry.{Entry}
+use Rattle.mse_calls.specs.declared.journal.Entry.TheVariants.{Listener}
 use Rattle.listeners.specs.declared.listener.Note.{Note}
 use Rattle.listeners.specs.declared.listener.Note.TheVariants.{Heard, Made, Told, Rested}
 
@@ -31,3 +34,23 @@ made_of (Heard event ∷ notes) = made_of notes
 made_of (Made call ∷ notes) = call ∷ made_of notes
 made_of (Told answer ∷ notes) = made_of notes
 made_of (Rested ∷ notes) = made_of notes
+
+-- the notes of the calls of listener `w` among these entries: each call, and what it was told
+abbrev pub entry_notes : ℕ → Entry → List Note
+entry_notes w (Listener v call answer) = if v == w then Made call ∷ Told answer ∷ [] else []
+entry_notes w other = []
+
+abbrev pub call_notes : ℕ → List Entry → List Note
+call_notes w entries = flat_map (entry_notes w) entries
+
+-- the number of its calls
+abbrev pub is_call_of : ℕ → Entry → Bool
+is_call_of w (Listener v call answer) = v == w
+is_call_of w other = false
+
+abbrev pub call_count : ℕ → List Entry → ℕ
+call_count w entries = count_by (is_call_of w) entries
+
+-- the notes of a listener that an event was told, that made its calls, and that then had no further one
+abbrev pub event_notes : Event → ℕ → List Entry → List Note
+event_notes event w entries = Heard event ∷ (call_notes w entries ++ Rested ∷ [])

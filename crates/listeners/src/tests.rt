@@ -4,6 +4,8 @@ use mse_calls::{Answer, Call, Event, EventKind, Rule, Target};
 use std::alloc::Global;
 use std::test::Fail;
 
+mod dispatches;
+
 const OPEN: Event = Event {
     target: Target::Source,
     kind: EventKind::SourceOpen,

@@ -13,3 +13,4 @@ pub mod Views
 pub mod Positions
 pub mod Standing
 pub mod Progress
+pub mod Goes

@@ -1,0 +1,229 @@
+-- The turn of one listener, call by call.
+use Rattle.std.proofs.Common.{◌≡◌, ◌≢◌, ℕ, ◌+◌, ◌<◌, ◌≤◌, List, [], ◌∷◌, ◌++◌, length, refl, sym, ◌∙◌, ap, append_assoc, arith, inl, inr, length-append, eq-eqb, subst, cond}
+use Rattle.std.specs.Prelude.{Option, Some, None, Result, Ok, Err, IfOk, OnErr}
+use Rattle.std.proofs.lemmas.List.{append-nil}
+use Rattle.std.proofs.lemmas.List.Sums.{sum_by-cons}
+use Rattle.std.proofs.lemmas.Grind.{flat_map-append}
+use Rattle.mse_base.specs.declared.memory.OutOfMemory.{OutOfMemory as NoMemory}
+use Rattle.mse_calls.specs.declared.answers.Answer.{Answer}
+use Rattle.mse_calls.specs.declared.calls.Call.{Call}
+use Rattle.mse_calls.specs.declared.events.Event.{Event}
+use Rattle.mse_calls.specs.declared.journal.Entry.{Entry}
+use Rattle.mse_calls.specs.declared.journal.Entry.TheVariants.{Step, Script, Listener, Fired, Work, Element}
+use Rattle.mse_engine.specs.State.{State}
+use Rattle.mse_engine.specs.Standing.{Kept, Stands, IsStep}
+use Rattle.mse_engine.specs.Calls.{after_call}
+use Rattle.mse_engine.proofs.Goes.{goes_none, goes_then, goes_listener}
+use Rattle.listeners.specs.declared.listener.Note.{Note}
+use Rattle.listeners.specs.declared.listener.Note.TheVariants.{Heard, Made, Told}
+use Rattle.listeners.specs.declared.event_dispatch.DispatchFault.TheVariants.{OutOfMemory, CallBudget, TaskBudget}
+use Rattle.listeners.specs.Notes.{told_note, asked_note, entry_notes, is_call_of, call_notes, call_count}
+use Rattle.listeners.specs.Dispatch.{CallsInTurn, MakesCalls, IsCallTurn, IsTurn}
+
+-- ---- entries that are calls in turn
+
+-- induction over calls in turn
+pub CallsInTurn-induction : (P : ℕ → List Entry → Type 0) (high : ℕ) → ((low : ℕ) → P low [])
+    → ((low v : ℕ) (call : Call) (answer : Answer) (xs : List Entry) → low ≤ v → v < high → CallsInTurn v high xs → P v xs → P low (Listener v call answer ∷ xs))
+    → (low : ℕ) (xs : List Entry) → CallsInTurn low high xs → P low xs
+CallsInTurn-induction P high none more low [] h = none low
+CallsInTurn-induction P high none more low (Listener v call answer ∷ xs) h =
+    more low v call answer xs h.0 h.1 h.2 (CallsInTurn-induction P high none more v xs h.2)
+CallsInTurn-induction P high none more low (Step n ∷ xs) h = absurd h
+CallsInTurn-induction P high none more low (Script call answer ∷ xs) h = absurd h
+CallsInTurn-induction P high none more low (Fired event ∷ xs) h = absurd h
+CallsInTurn-induction P high none more low (Work k ∷ xs) h = absurd h
+CallsInTurn-induction P high none more low (Element ∷ xs) h = absurd h
+
+one_more : (w v : ℕ) (call : Call) (answer : Answer) (xs : List Entry) → v ≡ w → call_count w xs ≡ length xs
+    → call_count w (Listener v call answer ∷ xs) ≡ length (Listener v call answer ∷ xs)
+one_more w v call answer xs same h =
+    sum_by-cons (λ e. cond (is_call_of w e) 1 0) (Listener v call answer) xs ∙ rw (eq-eqb v w same) (omega (arith, h))
+
+-- the calls of listener `w` alone are as many as the entries
+count_own : (w : ℕ) (xs : List Entry) → CallsInTurn w (w + 1) xs → call_count w xs ≡ length xs
+count_own w xs h = CallsInTurn-induction (λ low ys. w ≤ low → call_count w ys ≡ length ys) (w + 1)
+    (λ low le. refl)
+    (λ low v call answer ys le lt rest p from. one_more w v call answer ys (omega (arith, le, lt, from)) (p (omega (arith, le, from))))
+    w xs h (omega arith)
+
+-- one more call of listener `w`
+calls_one_more : (w : ℕ) (xs : List Entry) (call : Call) (answer : Answer) → CallsInTurn w (w + 1) xs → CallsInTurn w (w + 1) (xs ++ Listener w call answer ∷ [])
+calls_one_more w xs call answer h = CallsInTurn-induction (λ low ys. low ≤ w → CallsInTurn low (w + 1) (ys ++ Listener w call answer ∷ [])) (w + 1)
+    (λ low le. (le, omega arith, tt))
+    (λ low v c a ys le lt rest p upto. (le, lt, p (omega (arith, lt))))
+    w xs h (omega arith)
+
+-- ---- what the entries do
+
+pub makes_none : (blobs : List (List ℕ)) (j : List Entry) (e : Kept) (l : ℕ) → MakesCalls blobs j j e e l l []
+makes_none blobs j e l = record { journal = sym (append-nil j); engine = goes_none blobs e; left = omega arith }
+
+pub makes_then : (blobs : List (List ℕ)) (j0 j1 j2 : List Entry) (e0 e1 e2 : Kept) (l0 l1 l2 : ℕ) (xs ys : List Entry)
+    → MakesCalls blobs j0 j1 e0 e1 l0 l1 xs → MakesCalls blobs j1 j2 e1 e2 l1 l2 ys → MakesCalls blobs j0 j2 e0 e2 l0 l2 (xs ++ ys)
+makes_then blobs j0 j1 j2 e0 e1 e2 l0 l1 l2 xs ys p q = record {
+  journal = q.journal ∙ ap (λ (x : List Entry). x ++ ys) p.journal ∙ append_assoc j0 xs ys;
+  engine = goes_then blobs e0 e1 e2 xs ys p.engine q.engine;
+  left = omega (arith, length-append xs ys, p.left, q.left);
+}
+
+-- a call of listener `w` that the engine answered
+pub makes_one : (blobs : List (List ℕ)) (w : ℕ) (call : Call) (answer : Answer) (j0 j1 : List Entry) (e0 e1 : Kept) (l0 l1 : ℕ)
+    → j1 ≡ j0 ++ Listener w call answer ∷ [] → ((st : State) → Stands e0 st → IsStep answer e1 (after_call blobs call st)) → l0 ≡ l1 + 1
+    → MakesCalls blobs j0 j1 e0 e1 l0 l1 (Listener w call answer ∷ [])
+makes_one blobs w call answer j0 j1 e0 e1 l0 l1 j a l = record { journal = j; engine = goes_listener blobs e0 e1 w call answer a; left = l }
+
+-- ---- one call
+
+-- it was not made
+pub call_turn_unmade : (blobs : List (List ℕ)) (w : ℕ) (call : Call) (j0 j1 : List Entry) (e0 e1 : Kept) (l : ℕ) (n : List Note) (memory : NoMemory)
+    → j1 ≡ j0 → e1 ≡ e0 → IsCallTurn blobs w call j0 j1 e0 e1 l l n n (Err memory)
+call_turn_unmade blobs w call j0 j1 e0 e1 l n memory j e =
+    (refl, inl (rw (j, e) (makes_none blobs j0 e0 l)))
+
+-- it was made, and what the listener said then
+pub call_turn_made : (blobs : List (List ℕ)) (w : ℕ) (call : Call) (answer : Answer) (j0 j1 : List Entry) (e0 e1 : Kept) (l0 l1 : ℕ) (n0 n1 : List Note) (asked : Result (Option Call) NoMemory)
+    → MakesCalls blobs j0 j1 e0 e1 l0 l1 (Listener w call answer ∷ []) → IfOk asked (λ next. n1 ≡ n0 ++ (told_note (Some answer) ++ asked_note next)) → OnErr asked (n1 ≡ n0)
+    → IsCallTurn blobs w call j0 j1 e0 e1 l0 l1 n0 n1 asked
+call_turn_made blobs w call answer j0 j1 e0 e1 l0 l1 n0 n1 (Ok next) m ok err = (answer, m, ok)
+call_turn_made blobs w call answer j0 j1 e0 e1 l0 l1 n0 n1 (Err memory) m ok err = (err, inr (answer, m))
+
+-- ---- the notes of the turn
+
+-- the event, and the calls that were made
+abbrev begun : Event → ℕ → List Entry → List Note
+begun event w entries = Heard event ∷ call_notes w entries
+
+call_notes_one : (w : ℕ) (call : Call) (answer : Answer) → call_notes w (Listener w call answer ∷ []) ≡ Made call ∷ Told answer ∷ []
+call_notes_one w call answer = rw (eq-eqb w w refl) refl
+
+begun_more : (event : Event) (w : ℕ) (xs : List Entry) (call : Call) (answer : Answer)
+    → begun event w (xs ++ Listener w call answer ∷ []) ≡ begun event w xs ++ Made call ∷ Told answer ∷ []
+begun_more event w xs call answer =
+    ap (λ (n : List Note). Heard event ∷ n) (flat_map-append (entry_notes w) xs (Listener w call answer ∷ []) ∙ ap (λ (n : List Note). call_notes w xs ++ n) (call_notes_one w call answer))
+
+seam : (n b a : List Note) (m t : Note) → (n ++ (b ++ m ∷ [])) ++ t ∷ a ≡ n ++ ((b ++ m ∷ t ∷ []) ++ a)
+seam n b a m t = simp append_assoc
+
+-- The listener heard the event, made so many calls, and then answered what stands for `asked`.
+pub record IsServing (blobs : List (List ℕ)) (event : Event) (w : ℕ) (j0 j1 : List Entry) (e0 e1 : Kept) (l0 l1 : ℕ) (n0 n1 : List Note) (asked : Option Call) (made : ℕ) : Type 0 where
+  pub entries : List Entry
+  pub calls : MakesCalls blobs j0 j1 e0 e1 l0 l1 entries
+  pub own : CallsInTurn w (w + 1) entries
+  pub count : length entries ≡ made
+  pub few : made ≤ 1000
+  pub notes : n1 ≡ n0 ++ (begun event w entries ++ asked_note asked)
+
+pub serving_start : (blobs : List (List ℕ)) (event : Event) (w : ℕ) (j : List Entry) (e : Kept) (l : ℕ) (n0 n1 n2 : List Note) (asked : Option Call)
+    → n1 ≡ n0 ++ Heard event ∷ [] → n2 ≡ n1 ++ ([] ++ asked_note asked) → IsServing blobs event w j j e e l l n0 n2 asked 0
+serving_start blobs event w j e l n0 n1 n2 asked p q = record {
+  entries = [];
+  calls = makes_none blobs j e l;
+  own = tt;
+  count = refl;
+  few = omega arith;
+  notes = q ∙ ap (λ (n : List Note). n ++ asked_note asked) p ∙ append_assoc n0 (Heard event ∷ []) (asked_note asked);
+}
+
+pub serving_more : (blobs : List (List ℕ)) (event : Event) (w : ℕ) (j0 j1 j2 : List Entry) (e0 e1 e2 : Kept) (l0 l1 l2 : ℕ) (n0 n1 n2 : List Note) (call : Call) (asked : Option Call) (made : ℕ)
+    → IsServing blobs event w j0 j1 e0 e1 l0 l1 n0 n1 (Some call) made → made ≢ 1000
+    → IsCallTurn blobs w call j1 j2 e1 e2 l1 l2 n1 n2 (Ok asked) → IsServing blobs event w j0 j2 e0 e2 l0 l2 n0 n2 asked (made + 1)
+serving_more blobs event w j0 j1 j2 e0 e1 e2 l0 l1 l2 n0 n1 n2 call asked made s ne c =
+    let one : List Entry = Listener w call c.0 ∷ [] in
+    record {
+      entries = s.entries ++ one;
+      calls = makes_then blobs j0 j1 j2 e0 e1 e2 l0 l1 l2 s.entries one s.calls c.1;
+      own = calls_one_more w s.entries call c.0 s.own;
+      count = omega (arith, length-append s.entries one, s.count);
+      few = omega (arith, s.few);
+      notes = c.2 ∙ ap (λ (x : List Note). x ++ Told c.0 ∷ asked_note asked) s.notes
+          ∙ seam n0 (begun event w s.entries) (asked_note asked) (Made call) (Told c.0)
+          ∙ ap (λ (x : List Note). n0 ++ (x ++ asked_note asked)) (sym (begun_more event w s.entries call c.0));
+    }
+
+-- ---- how a turn ends
+
+-- the event was not heard
+pub turn_unheard : (blobs : List (List ℕ)) (event : Event) (w : ℕ) (j : List Entry) (e : Kept) (l : ℕ) (n0 n1 : List Note)
+    → n1 ≡ n0 → IsTurn blobs event w j j e e l l n0 n1 (Err OutOfMemory)
+turn_unheard blobs event w j e l n0 n1 p = record {
+  entries = [];
+  calls = makes_none blobs j e l;
+  own = tt;
+  few = omega arith;
+  notes = inl (record { no_call = refl; notes = p });
+}
+
+-- it was not asked
+pub turn_unasked : (blobs : List (List ℕ)) (event : Event) (w : ℕ) (j : List Entry) (e : Kept) (l : ℕ) (n0 n1 n2 : List Note)
+    → n1 ≡ n0 ++ Heard event ∷ [] → n2 ≡ n1 → IsTurn blobs event w j j e e l l n0 n2 (Err OutOfMemory)
+turn_unasked blobs event w j e l n0 n1 n2 p q = record {
+  entries = [];
+  calls = makes_none blobs j e l;
+  own = tt;
+  few = omega arith;
+  notes = inr (inl (q ∙ p));
+}
+
+-- the call was not made
+call_unmade : (blobs : List (List ℕ)) (event : Event) (w : ℕ) (j0 j1 j2 : List Entry) (e0 e1 e2 : Kept) (l0 l1 l2 : ℕ) (n0 n1 n2 : List Note) (call : Call) (made : ℕ)
+    → IsServing blobs event w j0 j1 e0 e1 l0 l1 n0 n1 (Some call) made → n2 ≡ n1 → MakesCalls blobs j1 j2 e1 e2 l1 l2 [] → IsTurn blobs event w j0 j2 e0 e2 l0 l2 n0 n2 (Err OutOfMemory)
+call_unmade blobs event w j0 j1 j2 e0 e1 e2 l0 l1 l2 n0 n1 n2 call made s same stays = record {
+  entries = s.entries;
+  calls = subst (λ (x : List Entry). MakesCalls blobs j0 j2 e0 e2 l0 l2 x) (append-nil s.entries) (makes_then blobs j0 j1 j2 e0 e1 e2 l0 l1 l2 s.entries [] s.calls stays);
+  own = s.own;
+  few = omega (arith, s.count, s.few);
+  notes = inr (inr (inr (call, same ∙ s.notes)));
+}
+
+-- the answer was not told
+answer_untold : (blobs : List (List ℕ)) (event : Event) (w : ℕ) (j0 j1 j2 : List Entry) (e0 e1 e2 : Kept) (l0 l1 l2 : ℕ) (n0 n1 n2 : List Note) (call : Call) (made : ℕ)
+    → IsServing blobs event w j0 j1 e0 e1 l0 l1 n0 n1 (Some call) made → made ≢ 1000 → n2 ≡ n1 → (answer : Answer) → MakesCalls blobs j1 j2 e1 e2 l1 l2 (Listener w call answer ∷ [])
+    → IsTurn blobs event w j0 j2 e0 e2 l0 l2 n0 n2 (Err OutOfMemory)
+answer_untold blobs event w j0 j1 j2 e0 e1 e2 l0 l1 l2 n0 n1 n2 call made s ne same answer m =
+    let one : List Entry = Listener w call answer ∷ [] in
+    record {
+      entries = s.entries ++ one;
+      calls = makes_then blobs j0 j1 j2 e0 e1 e2 l0 l1 l2 s.entries one s.calls m;
+      own = calls_one_more w s.entries call answer s.own;
+      few = omega (arith, length-append s.entries one, s.count, s.few, ne);
+      notes = inr (inr (inl (
+        answer,
+        ap (λ (x : List Note). x ++ Told answer ∷ []) (same ∙ s.notes)
+            ∙ seam n0 (begun event w s.entries) [] (Made call) (Told answer)
+            ∙ ap (λ (x : List Note). n0 ++ x) (append-nil (begun event w s.entries ++ Made call ∷ Told answer ∷ []) ∙ sym (begun_more event w s.entries call answer)),
+      )));
+    }
+
+pub turn_unmade : (blobs : List (List ℕ)) (event : Event) (w : ℕ) (j0 j1 j2 : List Entry) (e0 e1 e2 : Kept) (l0 l1 l2 : ℕ) (n0 n1 n2 : List Note) (call : Call) (made : ℕ) (memory : NoMemory)
+    → IsServing blobs event w j0 j1 e0 e1 l0 l1 n0 n1 (Some call) made → made ≢ 1000
+    → IsCallTurn blobs w call j1 j2 e1 e2 l1 l2 n1 n2 (Err memory) → IsTurn blobs event w j0 j2 e0 e2 l0 l2 n0 n2 (Err OutOfMemory)
+turn_unmade blobs event w j0 j1 j2 e0 e1 e2 l0 l1 l2 n0 n1 n2 call made memory s ne c =
+    elim c.1 [
+      | inl stays ↦ call_unmade blobs event w j0 j1 j2 e0 e1 e2 l0 l1 l2 n0 n1 n2 call made s c.0 stays
+      | inr m ↦ answer_untold blobs event w j0 j1 j2 e0 e1 e2 l0 l1 l2 n0 n1 n2 call made s ne c.0 m.0 m.1
+    ]
+
+pub turn_done : (blobs : List (List ℕ)) (event : Event) (w : ℕ) (j0 j1 : List Entry) (e0 e1 : Kept) (l0 l1 : ℕ) (n0 n1 : List Note) (made : ℕ)
+    → IsServing blobs event w j0 j1 e0 e1 l0 l1 n0 n1 None made → IsTurn blobs event w j0 j1 e0 e1 l0 l1 n0 n1 (Ok tt)
+turn_done blobs event w j0 j1 e0 e1 l0 l1 n0 n1 made s = record { entries = s.entries; calls = s.calls; own = s.own; few = omega (arith, s.count, s.few); notes = s.notes }
+
+pub turn_call_budget : (blobs : List (List ℕ)) (event : Event) (w : ℕ) (j0 j1 : List Entry) (e0 e1 : Kept) (l0 l1 : ℕ) (n0 n1 : List Note) (call : Call) (made : ℕ)
+    → IsServing blobs event w j0 j1 e0 e1 l0 l1 n0 n1 (Some call) made → made ≡ 1000 → IsTurn blobs event w j0 j1 e0 e1 l0 l1 n0 n1 (Err (CallBudget w))
+turn_call_budget blobs event w j0 j1 e0 e1 l0 l1 n0 n1 call made s full = record {
+  entries = s.entries;
+  calls = s.calls;
+  own = s.own;
+  few = omega (arith, s.count, s.few);
+  notes = (refl, count_own w s.entries s.own ∙ s.count ∙ full, (call, s.notes));
+}
+
+pub turn_task_budget : (blobs : List (List ℕ)) (event : Event) (w : ℕ) (j0 j1 : List Entry) (e0 e1 : Kept) (l0 l1 : ℕ) (n0 n1 : List Note) (call : Call) (made : ℕ)
+    → IsServing blobs event w j0 j1 e0 e1 l0 l1 n0 n1 (Some call) made → made ≢ 1000 → l1 ≡ 0 → IsTurn blobs event w j0 j1 e0 e1 l0 l1 n0 n1 (Err TaskBudget)
+turn_task_budget blobs event w j0 j1 e0 e1 l0 l1 n0 n1 call made s ne none = record {
+  entries = s.entries;
+  calls = s.calls;
+  own = s.own;
+  few = omega (arith, s.count, s.few);
+  notes = (none, omega (arith, count_own w s.entries s.own, s.count, s.few), (call, s.notes));
+}

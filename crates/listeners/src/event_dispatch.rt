@@ -1,0 +1,144 @@
+ghost use Rattle.std.specs.Prelude.{◌≡◌, ◌≤◌, ◌<◌, ◌^◌, ◌++◌, ◌∷◌, [], List, OnOk, OnErr, IfOk, map, vec_len};
+ghost use Rattle.std.specs.Option.{option_copied};
+ghost use Rattle.listeners.specs.declared.listener.Note.{Note};
+ghost use Rattle.listeners.specs.Notes.{told_note, asked_note};
+ghost use Rattle.listeners.specs.Dispatch.{IsCallTurn, IsDispatch, IsTurn};
+
+use crate::Listener;
+use mse_base::OutOfMemory;
+use mse_calls::{Answer, Blobs, Call, Entry, Event, Journal};
+use mse_engine::Engine;
+use thiserror::Error;
+use track_store::FrameStore;
+
+/// How many calls a listener may make for one event.
+const MOST_CALLS: u32 = 1000;
+
+/// Why the dispatch of an event ended before all listeners were served.
+#[derive(Clone, Copy, Debug, PartialEq, Eq, Error)]
+pub enum DispatchFault {
+    /// There was no memory.
+    #[error("out of memory")]
+    OutOfMemory,
+    /// The listener of this number made 1,000 calls for the event, and answered one more.
+    #[error("listener {0} answered more than 1000 calls for one event")]
+    CallBudget(u32),
+    /// A listener answered a call, and no call was left to the listeners.
+    #[error("more listener calls than are left")]
+    TaskBudget,
+}
+
+fn hear_one(listener: &mut Box<dyn Listener>, event: &Event) -> Result<(), OutOfMemory>
+    ensures rules { rules listener.new ≡ rules listener.old }
+    ensures ok { OnOk result (notes listener.new
+        ≡ notes listener.old ++ Note.Heard event.now ∷ []) }
+    ensures err { OnErr result (notes listener.new ≡ notes listener.old) }
+{
+    listener.hear(event)
+}
+
+fn ask_one(
+    listener: &mut Box<dyn Listener>,
+    last: Option<&Answer>,
+) -> Result<Option<Call>, OutOfMemory>
+    ensures rules { rules listener.new ≡ rules listener.old }
+    ensures ok { IfOk result (λ call. notes listener.new
+        ≡ notes listener.old ++ (told_note (option_copied last.entry) ++ asked_note call)) }
+    ensures err { OnErr result (notes listener.new ≡ notes listener.old) }
+{
+    listener.next(last)
+}
+
+// Makes a call of a listener, puts it into the journal, tells the answer, and asks for the next.
+fn make_one<S: FrameStore>(
+    engine: &mut Engine<S>,
+    blobs: &Blobs,
+    listener: &mut Box<dyn Listener>,
+    number: u32,
+    call: Call,
+    left: &mut u64,
+    journal: &mut Journal,
+) -> Result<Option<Call>, OutOfMemory>
+    requires { 1 ≤ left.old }
+    ensures rules { rules listener.new ≡ rules listener.old }
+    ensures turn { IsCallTurn blobs.now number call journal.old.entries journal.new.entries
+        engine.old engine.new left.old left.new (notes listener.old) (notes listener.new) result }
+{
+    let Ok(()) = journal.reserve(1) else {
+        return Err(OutOfMemory);
+    };
+    let Ok(answer) = engine.call(&call, blobs) else {
+        return Err(OutOfMemory);
+    };
+    let asked = ask_one(listener, Some(&answer));
+    journal.push_reserved(Entry::Listener(number, call, answer));
+    *left -= 1;
+    asked
+}
+
+// One listener hears the event, and makes its calls.
+fn serve<S: FrameStore>(
+    engine: &mut Engine<S>,
+    blobs: &Blobs,
+    listener: &mut Box<dyn Listener>,
+    number: u32,
+    event: &Event,
+    left: &mut u64,
+    journal: &mut Journal,
+) -> Result<(), DispatchFault>
+    ensures rules { rules listener.new ≡ rules listener.old }
+    ensures turn { IsTurn blobs.now event.now number journal.old.entries journal.new.entries
+        engine.old engine.new left.old left.new (notes listener.old) (notes listener.new) result }
+{
+    let Ok(()) = hear_one(listener, event) else {
+        return Err(DispatchFault::OutOfMemory);
+    };
+    let Ok(mut asked) = ask_one(listener, None) else {
+        return Err(DispatchFault::OutOfMemory);
+    };
+    let mut made = 0u32;
+    while let Some(call) = asked {
+        if made == MOST_CALLS {
+            return Err(DispatchFault::CallBudget(number));
+        }
+        if *left == 0 {
+            return Err(DispatchFault::TaskBudget);
+        }
+        let Ok(next) = make_one(engine, blobs, listener, number, call, left, journal) else {
+            return Err(DispatchFault::OutOfMemory);
+        };
+        asked = next;
+        made += 1;
+    }
+    Ok(())
+}
+
+/// Tells an event to each listener in turn. A listener that heard it is asked for calls until it has
+/// no further one, first with no answer and then each time with that of the call just made; each call
+/// is made on the engine at once, and stands in the journal. Only then does the next listener hear
+/// the event. The listeners may make `left` calls more together.
+pub fn dispatch<S: FrameStore>(
+    engine: &mut Engine<S>,
+    blobs: &Blobs,
+    listeners: &mut Vec<Box<dyn Listener>>,
+    event: &Event,
+    left: &mut u64,
+    journal: &mut Journal,
+) -> Result<(), DispatchFault>
+    requires { vec_len listeners.old < 2 ^ 32 }
+    ensures count { vec_len listeners.new ≡ vec_len listeners.old }
+    ensures rules { map (λ b. rules b) listeners.new.items
+        ≡ map (λ b. rules b) listeners.old.items }
+    ensures dispatch { IsDispatch blobs.now event.now journal.old.entries journal.new.entries
+        engine.old engine.new left.old left.new (map (λ b. notes b) listeners.old.items)
+        (map (λ b. notes b) listeners.new.items) result }
+{
+    for number in 0..listeners.len() {
+        let listener = &mut listeners[number];
+        match serve(engine, blobs, listener, number as u32, event, left, journal) {
+            Ok(()) => {}
+            Err(fault) => return Err(fault),
+        }
+    }
+    Ok(())
+}

@@ -1,0 +1,185 @@
+-- The parts of a drain.
+use Rattle.std.proofs.Common.{◌≡◌, ℕ, List, [], ◌∷◌, ◌++◌, length, refl, sym, ◌∙◌, ap, append_assoc, arith, inl, inr}
+use Rattle.std.specs.Prelude.{Option, Some, None, Bool, true, false, option_map, slice_get}
+use Rattle.std.proofs.lemmas.List.{append-nil}
+use Rattle.mse_calls.specs.declared.events.Event.{Event}
+use Rattle.mse_calls.specs.declared.journal.Entry.{Entry}
+use Rattle.mse_calls.specs.declared.journal.Entry.TheVariants.{Fired, Work, Element}
+use Rattle.listeners.specs.declared.listener.Note.{Note}
+use Rattle.mse_engine.specs.State.{State}
+use Rattle.mse_engine.specs.declared.engine.Worked.TheVariants.{Did}
+use Rattle.mse_engine.specs.Standing.{IsWork, Kept, Stands}
+use Rattle.mse_engine.specs.Run.{after_entries, fire_meaning}
+use Rattle.mse_engine.specs.Work.{after_element_turn, after_work, due_in, running_in, without_first}
+use Rattle.mse_engine.specs.Goes.{Goes}
+use Rattle.mse_engine.proofs.Goes.{goes_none, goes_then}
+use Rattle.call_script.specs.declared.script.StepLine.TheVariants.{Fire, Drain}
+use Rattle.script_run.specs.declared.stop.Stop.{Stop}
+use Rattle.script_run.specs.Doings.{InDrainOrder, IsAtRest, IsQuiet, NoEvent}
+use Rattle.script_run.specs.Left.{IsCalm, IsTurnTaken}
+use Rattle.script_run.specs.Lines.{Begins, Does}
+use Rattle.script_run.specs.Ran.{Doing, Drains, Ran, RanUpTo, Stepped, SteppedIf}
+use Rattle.script_run.specs.Stage.{IsStanding, RunView, Stage, stage}
+use Rattle.script_run.specs.Turns.{InTurns}
+use Rattle.script_run.proofs.Writing.{wrote_none}
+use Rattle.script_run.proofs.Turning.{calls_in-append}
+use Rattle.script_run.proofs.Telling.{heard_silence}
+use Rattle.script_run.proofs.Firing.{fire_in_order}
+use Rattle.script_run.proofs.Following.{order_then}
+use Rattle.script_run.proofs.Playing.{Joins, ran_as, stop_as, ran_then, ran_stop, ran_none}
+use Rattle.script_run.proofs.Resting.{due_turns, running_works, same_running, turn_taken}
+
+-- what an engine goes to stands too
+pub standing_on : (blobs : List (List ℕ)) (a b : Kept) (es : List Entry) → IsStanding a → Goes blobs a b es → IsStanding b
+standing_on blobs a b es s goes = record { state = after_entries blobs s.state es; stands = goes.stands s.state s.stands }
+
+pub standing_ran : (blobs : List (List ℕ)) (does : Doing) (a b : Stage) → IsStanding a.run.engine → Ran blobs does a b → IsStanding b.run.engine
+standing_ran blobs does a b s p = standing_on blobs a.run.engine b.run.engine p.played.entries s p.played.grew.goes
+
+pub standing_drains : (a b : RunView) → IsStanding a.engine → ((blobs : List (List ℕ)) → Drains blobs a b) → IsStanding b.engine
+standing_drains a b s p = let d = p [] in standing_on [] a.engine b.engine d.entries s d.stepped.goes
+
+-- ---- an event
+
+pub fire_ran_order : (blobs : List (List ℕ)) (a b : Stage) → Ran blobs (λ st part. Does blobs st Fire part) a b → Ran blobs (InDrainOrder blobs) a b
+fire_ran_order blobs a b p = ran_as blobs (λ st part. Does blobs st Fire part) (InDrainOrder blobs) a b p (λ st es h goes turns d. fire_in_order blobs (length a.notes) st es turns d)
+
+begins_order : (blobs : List (List ℕ)) (count : ℕ) (st : State) (es : List Entry) → InTurns count None es → Begins blobs st Fire es → InDrainOrder blobs st es
+begins_order blobs count st es turns (inl e) = rw e tt
+begins_order blobs count st es turns (inr d) = fire_in_order blobs count st es turns d
+
+pub fire_stop_order : (blobs : List (List ℕ)) (stop : Stop) (a b : Stage) → RanUpTo blobs (λ st part. Begins blobs st Fire part) stop a b → RanUpTo blobs (InDrainOrder blobs) stop a b
+fire_stop_order blobs stop a b p = stop_as blobs (λ st part. Begins blobs st Fire part) (InDrainOrder blobs) stop a b p (λ st es h goes turns d. begins_order blobs (length a.notes) st es turns d)
+
+-- ---- one part after another
+
+pub order_joins : (blobs : List (List ℕ)) → Joins blobs (InDrainOrder blobs) (InDrainOrder blobs) (InDrainOrder blobs)
+order_joins blobs = λ st xs ys p q. order_then blobs st xs ys p q
+
+pub order_then_ran : (blobs : List (List ℕ)) (a b c : Stage) → Ran blobs (InDrainOrder blobs) a b → Ran blobs (InDrainOrder blobs) b c → Ran blobs (InDrainOrder blobs) a c
+order_then_ran blobs a b c p q = ran_then blobs (InDrainOrder blobs) (InDrainOrder blobs) (InDrainOrder blobs) a b c (order_joins blobs) p q
+
+pub order_then_stop : (blobs : List (List ℕ)) (stop : Stop) (a b c : Stage) → Ran blobs (InDrainOrder blobs) a b → RanUpTo blobs (InDrainOrder blobs) stop b c → RanUpTo blobs (InDrainOrder blobs) stop a c
+order_then_stop blobs stop a b c p q = ran_stop blobs (InDrainOrder blobs) (InDrainOrder blobs) (InDrainOrder blobs) stop a b c (order_joins blobs) p q
+
+pub order_none : (blobs : List (List ℕ)) (a : Stage) → Ran blobs (InDrainOrder blobs) a a
+order_none blobs a = ran_none blobs (InDrainOrder blobs) a (λ st h. tt)
+
+-- the whole, where nothing is left
+pub drain_of : (blobs : List (List ℕ)) (a b : Stage) → Ran blobs (InDrainOrder blobs) a b → ((st : State) → Stands b.run.engine st → IsAtRest st)
+    → Ran blobs (λ st part. Does blobs st Drain part) a b
+drain_of blobs a b p rest = ran_as blobs (InDrainOrder blobs) (λ st part. Does blobs st Drain part) a b p
+    (λ st es h goes turns d. record { order = d; end = rest (after_entries blobs st es) (goes.stands st h) })
+
+-- ---- a step of work, and a turn
+
+pub work_ran : (blobs : List (List ℕ)) (does : Doing) (k : ℕ) (a b : RunView) (t : Option (List ℕ)) (n : List (List Note)) → ((st : State) → Stands a.engine st → does st (Work k ∷ []))
+    → Stepped blobs (Work k ∷ []) a b → Ran blobs does (stage a t n) (stage b t n)
+work_ran blobs does k a b t n holds p = record {
+  played = record {
+    entries = Work k ∷ [];
+    grew = record { grew = p.grew; goes = p.goes; holds = holds };
+    turns = tt;
+    wrote = wrote_none t;
+    heard = heard_silence (Work k ∷ []) n (λ w. refl);
+  };
+  left = omega (arith, p.left);
+}
+
+pub turn_ran : (blobs : List (List ℕ)) (does : Doing) (a b : RunView) (t : Option (List ℕ)) (n : List (List Note)) → ((st : State) → Stands a.engine st → does st (Element ∷ []))
+    → Stepped blobs (Element ∷ []) a b → Ran blobs does (stage a t n) (stage b t n)
+turn_ran blobs does a b t n holds p = record {
+  played = record {
+    entries = Element ∷ [];
+    grew = record { grew = p.grew; goes = p.goes; holds = holds };
+    turns = tt;
+    wrote = wrote_none t;
+    heard = heard_silence (Element ∷ []) n (λ w. refl);
+  };
+  left = omega (arith, p.left);
+}
+
+-- the buffer that runs works
+pub did_work : (blobs : List (List ℕ)) (k : ℕ) (worked : Bool) (a b : RunView) → IsStanding a.engine → ((st : State) → Stands a.engine st → running_in st ≡ Some k)
+    → SteppedIf blobs (Work k) (after_work k) a b worked → worked ≡ true
+did_work blobs k true a b s runs p = refl
+did_work blobs k false a b s runs p = absurd (running_works s.state k (runs s.state s.stands) (p.1 s.state s.stands))
+
+pub working_ran : (blobs : List (List ℕ)) (k : ℕ) (worked : Bool) (a b : RunView) (t : Option (List ℕ)) (n : List (List Note)) → IsStanding a.engine
+    → ((st : State) → Stands a.engine st → NoEvent st) → ((st : State) → Stands a.engine st → running_in st ≡ Some k)
+    → SteppedIf blobs (Work k) (after_work k) a b worked → Ran blobs (InDrainOrder blobs) (stage a t n) (stage b t n)
+working_ran blobs k true a b t n s empty runs p = work_ran blobs (InDrainOrder blobs) k a b t n (λ st h. ((empty st h, runs st h), tt)) p
+working_ran blobs k false a b t n s empty runs p = absurd (running_works s.state k (runs s.state s.stands) (p.1 s.state s.stands))
+
+-- the element takes the turn that is due
+pub did_turn : (blobs : List (List ℕ)) (turned : Bool) (a b : RunView) → IsStanding a.engine → ((st : State) → Stands a.engine st → due_in st ≡ true)
+    → SteppedIf blobs Element after_element_turn a b turned → turned ≡ true
+did_turn blobs true a b s due p = refl
+did_turn blobs false a b s due p = absurd (due_turns s.state (due s.state s.stands) (p.1 s.state s.stands))
+
+pub turning_ran : (blobs : List (List ℕ)) (turned : Bool) (a b : RunView) (t : Option (List ℕ)) (n : List (List Note)) → IsStanding a.engine
+    → ((st : State) → Stands a.engine st → IsQuiet st) → ((st : State) → Stands a.engine st → due_in st ≡ true)
+    → SteppedIf blobs Element after_element_turn a b turned → Ran blobs (InDrainOrder blobs) (stage a t n) (stage b t n)
+turning_ran blobs true a b t n s quiet due p = turn_ran blobs (InDrainOrder blobs) a b t n (λ st h. ((quiet st h, due st h), tt)) p
+turning_ran blobs false a b t n s quiet due p = absurd (due_turns s.state (due s.state s.stands) (p.1 s.state s.stands))
+
+-- ---- what nobody hears
+
+pub drains_none : (blobs : List (List ℕ)) (a : RunView) → Drains blobs a a
+drains_none blobs a = record {
+  entries = [];
+  stepped = record { grew = sym (append-nil a.entries); goes = goes_none blobs a.engine; left = refl };
+  order = λ st h. tt;
+  silent = refl;
+}
+
+pub drains_then : (blobs : List (List ℕ)) (a b c : RunView) → Drains blobs a b → Drains blobs b c → Drains blobs a c
+drains_then blobs a b c p q = record {
+  entries = p.entries ++ q.entries;
+  stepped = record {
+    grew = q.stepped.grew ∙ ap (λ (x : List Entry). x ++ q.entries) p.stepped.grew ∙ append_assoc a.entries p.entries q.entries;
+    goes = goes_then blobs a.engine b.engine c.engine p.entries q.entries p.stepped.goes q.stepped.goes;
+    left = q.stepped.left ∙ p.stepped.left;
+  };
+  order = λ st h. order_then blobs st p.entries q.entries (p.order st h) (q.order (after_entries blobs st p.entries) (p.stepped.goes.stands st h));
+  silent = rw (calls_in-append p.entries q.entries) (omega (arith, p.silent, q.silent));
+}
+
+first_event : (st : State) (first : Option Event) (event : Event) → (fire_meaning (option_map (λ e. record { answer = e; state = without_first st }) first) event st).holds → first ≡ Some event
+first_event st None event h = absurd h
+first_event st (Some x) event h = ap (λ (y : Event). Some y) (sym h)
+
+pub drains_event : (blobs : List (List ℕ)) (a b : RunView) (event : Event) → Stepped blobs (Fired event ∷ []) a b → Drains blobs a b
+drains_event blobs a b event p = record {
+  entries = Fired event ∷ [];
+  stepped = p;
+  order = λ st h. (first_event st (slice_get st.outer.queue 0) event (p.goes.replays st h).0, tt);
+  silent = refl;
+}
+
+pub drains_work : (blobs : List (List ℕ)) (k : ℕ) (worked : Bool) (a b : RunView) → IsStanding a.engine
+    → ((st : State) → Stands a.engine st → NoEvent st) → ((st : State) → Stands a.engine st → running_in st ≡ Some k)
+    → SteppedIf blobs (Work k) (after_work k) a b worked → Drains blobs a b
+drains_work blobs k true a b s empty runs p = record { entries = Work k ∷ []; stepped = p; order = λ st h. ((empty st h, runs st h), tt); silent = refl }
+drains_work blobs k false a b s empty runs p = absurd (running_works s.state k (runs s.state s.stands) (p.1 s.state s.stands))
+
+pub drains_turn : (blobs : List (List ℕ)) (turned : Bool) (a b : RunView) → IsStanding a.engine
+    → ((st : State) → Stands a.engine st → IsQuiet st) → ((st : State) → Stands a.engine st → due_in st ≡ true)
+    → SteppedIf blobs Element after_element_turn a b turned → Drains blobs a b
+drains_turn blobs true a b s quiet due p = record { entries = Element ∷ []; stepped = p; order = λ st h. ((quiet st h, due st h), tt); silent = refl }
+drains_turn blobs false a b s quiet due p = absurd (due_turns s.state (due s.state s.stands) (p.1 s.state s.stands))
+
+pub calm_then : (a b c : Kept) → IsCalm a b → IsCalm b c → IsCalm a c
+calm_then a b c p q = record { buffers = q.buffers ∙ p.buffers; turns = q.turns ∙ p.turns }
+
+-- a turn that was taken
+pub turn_did : (a b : Kept) (st : State) → Stands a st → IsWork Did a b (after_element_turn st) → b.buffers ≡ a.buffers → IsTurnTaken a b
+turn_did a b st s w same = by_result (after_element_turn st) refl w
+  where
+    by_result : (r : Option State) → after_element_turn st ≡ r → IsWork Did a b r → IsTurnTaken a b
+    by_result None e w = absurd w
+    by_result (Some new) e w = turn_taken a b st new s e w same
+
+-- no buffer works where the buffers stayed
+pub still_idle : (a b : Kept) → IsStanding a → ((st : State) → Stands a st → IsQuiet st) → b.buffers ≡ a.buffers → (st : State) → Stands b st → running_in st ≡ None
+still_idle a b s quiet same st h = same_running a b s.state st s.stands h same ∙ (quiet s.state s.stands).running

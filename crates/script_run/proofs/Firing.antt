@@ -1,0 +1,288 @@
+-- An event that is fired and told to the listeners.
+use Rattle.std.proofs.Common.{◌≡◌, ◌<◌, ◌≤◌, ◌+◌, ℕ, cond, suc, List, [], ◌∷◌, ◌++◌, length, refl, sym, ◌∙◌, ap, append_assoc, arith, inl, inr, drop}
+use Rattle.std.specs.Prelude.{Option, Some, None, Result, Ok, Err, option_map, slice_get}
+use Rattle.std.proofs.lemmas.Bool.{eq-eqb}
+use Rattle.std.proofs.lemmas.List.Sums.{sum_by-cons}
+use Rattle.std.proofs.lemmas.Bool.Decides.{eqb_tells}
+use Rattle.mse_calls.specs.declared.answers.Answer.{Answer}
+use Rattle.mse_calls.specs.declared.calls.Call.{Call}
+use Rattle.std.proofs.lemmas.List.{append-nil}
+use Rattle.std.proofs.Math.Seq.{drop-append_seam}
+use Rattle.mse_calls.specs.declared.events.Event.{Event}
+use Rattle.mse_calls.specs.declared.journal.Entry.{Entry}
+use Rattle.mse_calls.specs.declared.journal.Entry.TheVariants.{Step, Script, Listener, Fired, Work, Element}
+use Rattle.listeners.specs.declared.listener.Note.{Note}
+use Rattle.listeners.specs.declared.event_dispatch.DispatchFault.{DispatchFault}
+use Rattle.listeners.specs.declared.event_dispatch.DispatchFault.TheVariants as fault
+use Rattle.listeners.specs.Notes.{call_count, event_notes, is_call_of}
+use Rattle.listeners.specs.Dispatch.{CallsInTurn, IsDispatch, notes_at}
+use Rattle.mse_engine.specs.State.{State}
+use Rattle.mse_engine.specs.Run.{entry_meaning}
+use Rattle.mse_engine.specs.Standing.{Kept, Stands}
+use Rattle.mse_engine.specs.Work.{fire_result, without_first}
+use Rattle.mse_engine.specs.Goes.{Goes}
+use Rattle.mse_engine.proofs.Goes.{goes_then}
+use Rattle.call_script.specs.declared.script.StepLine.TheVariants.{Fire}
+use Rattle.script_run.specs.declared.stop.Halt.{Halt}
+use Rattle.script_run.specs.declared.stop.Stop.TheVariants.{Halted}
+use Rattle.script_run.specs.Doings.{InDrainOrder, NoEvent}
+use Rattle.script_run.specs.Lines.{Begins, Does, fired_of, own_of}
+use Rattle.script_run.specs.Ran.{CutDispatch, Doing, Grew, HeardButLast, Ran, RanUpTo, Stepped, StoppedBy, stop_of}
+use Rattle.script_run.specs.Stage.{RunView, stage}
+use Rattle.script_run.specs.Story.{story, until_fired}
+use Rattle.script_run.specs.Text.{lines_of}
+use Rattle.script_run.specs.Turns.{InTurns, calls_in}
+use Rattle.script_run.specs.Wrote.{Wrote, WroteFront}
+use Rattle.script_run.proofs.Stepping.{fired_one}
+use Rattle.script_run.proofs.Telling.{heard_none}
+use Rattle.script_run.proofs.Writing.{front_whole}
+
+-- entries that are calls of listeners
+calls_own : (low high : ℕ) (es : List Entry) → CallsInTurn low high es → own_of es ≡ []
+calls_own low high [] h = refl
+calls_own low high (Listener v c a ∷ es) h = calls_own v high es h.2
+calls_own low high (Step n ∷ es) h = absurd h
+calls_own low high (Script c a ∷ es) h = absurd h
+calls_own low high (Fired e ∷ es) h = absurd h
+calls_own low high (Work k ∷ es) h = absurd h
+calls_own low high (Element ∷ es) h = absurd h
+
+calls_until : (low high : ℕ) (es : List Entry) → CallsInTurn low high es → until_fired es ≡ es
+calls_until low high [] h = refl
+calls_until low high (Listener v c a ∷ es) h = ap (λ (x : List Entry). Listener v c a ∷ x) (calls_until v high es h.2)
+calls_until low high (Step n ∷ es) h = absurd h
+calls_until low high (Script c a ∷ es) h = absurd h
+calls_until low high (Fired e ∷ es) h = absurd h
+calls_until low high (Work k ∷ es) h = absurd h
+calls_until low high (Element ∷ es) h = absurd h
+
+calls_story : (low high : ℕ) (es : List Entry) (w : ℕ) → CallsInTurn low high es → story w es ≡ []
+calls_story low high [] w h = refl
+calls_story low high (Listener v c a ∷ es) w h = calls_story v high es w h.2
+calls_story low high (Step n ∷ es) w h = absurd h
+calls_story low high (Script c a ∷ es) w h = absurd h
+calls_story low high (Fired e ∷ es) w h = absurd h
+calls_story low high (Work k ∷ es) w h = absurd h
+calls_story low high (Element ∷ es) w h = absurd h
+
+calls_number : (low high : ℕ) (es : List Entry) → CallsInTurn low high es → calls_in es ≡ length es
+calls_number low high [] h = refl
+calls_number low high (Listener v c a ∷ es) h = ap suc (calls_number v high es h.2)
+calls_number low high (Step n ∷ es) h = absurd h
+calls_number low high (Script c a ∷ es) h = absurd h
+calls_number low high (Fired e ∷ es) h = absurd h
+calls_number low high (Work k ∷ es) h = absurd h
+calls_number low high (Element ∷ es) h = absurd h
+
+call_number : ℕ → Entry → ℕ
+call_number w x = cond (is_call_of w x) 1 0
+
+count_more : (w : ℕ) (x : Entry) (es : List Entry) → call_count w (x ∷ es) ≡ call_number w x + call_count w es
+unfolding call_number
+count_more w x es = sum_by-cons (λ y. cond (is_call_of w y) 1 0) x es
+
+count_tail : (w : ℕ) (x : Entry) (es : List Entry) → call_count w es ≤ call_count w (x ∷ es)
+count_tail w x es = omega (arith, count_more w x es)
+
+call_here : (v low : ℕ) (c : Call) (a : Answer) → v ≡ low → call_number low (Listener v c a) ≡ 1
+unfolding call_number
+call_here v low c a e = rw (eq-eqb v low e) refl
+
+count_here : (v low : ℕ) (c : Call) (a : Answer) (es : List Entry) → v ≡ low → call_count low (Listener v c a ∷ es) ≡ 1 + call_count low es
+count_here v low c a es e = omega (arith, count_more low (Listener v c a) es, call_here v low c a e)
+
+-- their turns, of which each has at most 1000
+turns_of_calls : (count made low : ℕ) (es : List Entry) → CallsInTurn low count es → made + call_count low es ≤ 1000 → ((w : ℕ) → call_count w es ≤ 1000)
+    → InTurns count (Some (record { listener = low; made = made })) es
+turns_of_calls count made low [] h few each = tt
+turns_of_calls count made low (Listener v c a ∷ es) h few each =
+    let tail : (w : ℕ) → call_count w es ≤ 1000 = λ w. omega (arith, count_tail w (Listener v c a) es, each w) in
+    elim (eqb_tells low v) [
+      | inl t ↦
+          let here : call_count low (Listener v c a ∷ es) ≡ 1 + call_count low es = count_here v low c a es (sym t.1) in
+          let room : suc made + call_count v es ≤ 1000 = rw (← t.1) (omega (arith, few, here)) in
+          let less : made < 1000 = omega (arith, few, here) in
+          (h.1, inr (t.1, less), rw t.0 (turns_of_calls count (suc made) v es h.2 room tail))
+      | inr t ↦
+          let room : 1 + call_count v es ≤ 1000 = omega (arith, each v, count_here v v c a es refl) in
+          let behind : low < v = omega (arith, h.0, t.1) in
+          (h.1, inl behind, rw t.0 (turns_of_calls count 1 v es h.2 room tail))
+    ]
+turns_of_calls count made low (Step n ∷ es) h few each = absurd h
+turns_of_calls count made low (Script c a ∷ es) h few each = absurd h
+turns_of_calls count made low (Fired e ∷ es) h few each = absurd h
+turns_of_calls count made low (Work k ∷ es) h few each = absurd h
+turns_of_calls count made low (Element ∷ es) h few each = absurd h
+
+-- what comes of an event and of the calls behind it
+fired_grew : (event : Event) (j0 j1 j2 es : List Entry) → j1 ≡ j0 ++ Fired event ∷ [] → j2 ≡ j1 ++ es → j2 ≡ j0 ++ Fired event ∷ es
+fired_grew event j0 j1 j2 es p q = q ∙ ap (λ (x : List Entry). x ++ es) p ∙ append_assoc j0 (Fired event ∷ []) es
+
+fired_does : (blobs : List (List ℕ)) (event : Event) (high : ℕ) (st : State) (a b : Kept) (es : List Entry) → Stands a st → Goes blobs a b (Fired event ∷ [])
+    → CallsInTurn 0 high es → own_of (Fired event ∷ es) ≡ fired_of (fire_result st)
+fired_does blobs event high st a b es s goes calls =
+    ap (λ (x : List Entry). Fired event ∷ x) (calls_own 0 high es calls) ∙ fired_one (fire_result st) event st (goes.replays st s).0
+
+fired_entries : (blobs : List (List ℕ)) (does : Doing) (event : Event) (a b c : RunView) (n0 n1 : List (List Note)) (result : Result (Unit {0}) DispatchFault)
+    → ((st : State) (part : List Entry) → own_of part ≡ fired_of (fire_result st) → does st part)
+    → Stepped blobs (Fired event ∷ []) a b → (d : IsDispatch blobs event b.entries c.entries b.engine c.engine b.left c.left n0 n1 result)
+    → Grew blobs does a c (Fired event ∷ d.entries)
+fired_entries blobs does event a b c n0 n1 result is step d = record {
+  grew = fired_grew event a.entries b.entries c.entries d.entries step.grew d.calls.journal;
+  goes = goes_then blobs a.engine b.engine c.engine (Fired event ∷ []) d.entries step.goes d.calls.engine;
+  holds = λ st h. is st (Fired event ∷ d.entries) (fired_does blobs event (length n0) st a.engine b.engine d.entries h step.goes d.in_turn);
+}
+
+fired_left : (blobs : List (List ℕ)) (event : Event) (a b c : RunView) (n0 n1 : List (List Note)) (result : Result (Unit {0}) DispatchFault)
+    → Stepped blobs (Fired event ∷ []) a b → (d : IsDispatch blobs event b.entries c.entries b.engine c.engine b.left c.left n0 n1 result)
+    → a.left ≡ c.left + calls_in (Fired event ∷ d.entries)
+fired_left blobs event a b c n0 n1 result step d =
+    let number : calls_in d.entries ≡ length d.entries = calls_number 0 (length n0) d.entries d.in_turn in
+    omega (arith, number, step.left, d.calls.left)
+
+fired_turns : (blobs : List (List ℕ)) (event : Event) (b c : RunView) (n0 n1 : List (List Note)) (result : Result (Unit {0}) DispatchFault)
+    → (d : IsDispatch blobs event b.entries c.entries b.engine c.engine b.left c.left n0 n1 result) → InTurns (length n0) None (Fired event ∷ d.entries)
+fired_turns blobs event b c n0 n1 result d = turns_of_calls (length n0) 0 0 d.entries d.in_turn (omega (arith, d.few 0)) d.few
+
+fired_lines : (event : Event) (j0 j1 j2 es : List Entry) → j1 ≡ j0 ++ Fired event ∷ [] → j2 ≡ j1 ++ es → drop (length j0) j2 ≡ Fired event ∷ es
+fired_lines event j0 j1 j2 es p q = rw (fired_grew event j0 j1 j2 es p q) (drop-append_seam j0 (Fired event ∷ es))
+
+-- each listener was served
+pub fired_ran : (blobs : List (List ℕ)) (event : Event) (a b c : RunView) (t0 t1 : Option (List ℕ)) (n0 n1 : List (List Note))
+    → Stepped blobs (Fired event ∷ []) a b → IsDispatch blobs event b.entries c.entries b.engine c.engine b.left c.left n0 n1 (Ok tt) → length n1 ≡ length n0
+    → Wrote (lines_of (drop (length a.entries) c.entries)) t0 t1 → Ran blobs (λ st part. Does blobs st Fire part) (stage a t0 n0) (stage c t1 n1)
+fired_ran blobs event a b c t0 t1 n0 n1 step d same wrote =
+    let until : until_fired d.entries ≡ d.entries = calls_until 0 (length n0) d.entries d.in_turn in
+    let lines : drop (length a.entries) c.entries ≡ Fired event ∷ d.entries = fired_lines event a.entries b.entries c.entries d.entries step.grew d.calls.journal in
+    record {
+      played = record {
+        entries = Fired event ∷ d.entries;
+        grew = fired_entries blobs (λ st part. Does blobs st Fire part) event a b c n0 n1 (Ok tt) (λ st part h. h) step d;
+        turns = fired_turns blobs event b c n0 n1 (Ok tt) d;
+        wrote = rw lines at wrote;
+        heard = record {
+          count = same;
+          notes = λ w lt. d.outcome w lt ∙ ap (λ (x : List Note). notes_at n0 w ++ x)
+              (rw (until, calls_story 0 (length n0) d.entries w d.in_turn) (sym (append-nil (event_notes event w d.entries))));
+        };
+      };
+      left = fired_left blobs event a b c n0 n1 (Ok tt) step d;
+    }
+
+cut_of : (blobs : List (List ℕ)) (event : Event) (b c : RunView) (n0 n1 : List (List Note)) (fault : DispatchFault)
+    → (d : IsDispatch blobs event b.entries c.entries b.engine c.engine b.left c.left n0 n1 (Err fault)) → CutDispatch fault c.left (Fired event ∷ d.entries) n0 n1
+cut_of blobs event b c n0 n1 fault d = record {
+  before = [];
+  event = event;
+  calls = d.entries;
+  middle = n0;
+  entries_are = refl;
+  heard = heard_none n0;
+  end = d.outcome;
+}
+
+heard_by : (blobs : List (List ℕ)) (event : Event) (b c : RunView) (n0 n1 : List (List Note)) (result : Result (Unit {0}) DispatchFault)
+    → (d : IsDispatch blobs event b.entries c.entries b.engine c.engine b.left c.left n0 n1 result) → length n1 ≡ length n0 → HeardButLast c.left (Fired event ∷ d.entries) n0 n1
+heard_by blobs event b c n0 n1 (Ok u) d same =
+    let until : until_fired d.entries ≡ d.entries = calls_until 0 (length n0) d.entries d.in_turn in
+    inl (record {
+      count = same;
+      notes = λ w lt. d.outcome w lt ∙ ap (λ (x : List Note). notes_at n0 w ++ x)
+          (rw (until, calls_story 0 (length n0) d.entries w d.in_turn) (sym (append-nil (event_notes event w d.entries))));
+    })
+heard_by blobs event b c n0 n1 (Err fault) d same = inr (fault, cut_of blobs event b c n0 n1 fault d)
+
+-- the lines were not all written
+pub fired_half : (blobs : List (List ℕ)) (event : Event) (halt : Halt) (a b c : RunView) (t0 t1 : Option (List ℕ)) (n0 n1 : List (List Note)) (result : Result (Unit {0}) DispatchFault)
+    → Stepped blobs (Fired event ∷ []) a b → IsDispatch blobs event b.entries c.entries b.engine c.engine b.left c.left n0 n1 result → length n1 ≡ length n0
+    → WroteFront (lines_of (drop (length a.entries) c.entries)) t0 t1 → RanUpTo blobs (λ st part. Begins blobs st Fire part) (Halted halt) (stage a t0 n0) (stage c t1 n1)
+fired_half blobs event halt a b c t0 t1 n0 n1 result step d same wrote =
+    let lines : drop (length a.entries) c.entries ≡ Fired event ∷ d.entries = fired_lines event a.entries b.entries c.entries d.entries step.grew d.calls.journal in
+    record {
+      played = record {
+        entries = Fired event ∷ d.entries;
+        grew = fired_entries blobs (λ st part. Begins blobs st Fire part) event a b c n0 n1 result (λ st part h. inr h) step d;
+        turns = fired_turns blobs event b c n0 n1 result d;
+        stopped = (rw lines at wrote, heard_by blobs event b c n0 n1 result d same);
+      };
+      left = fired_left blobs event a b c n0 n1 result step d;
+    }
+
+stopped_by : (blobs : List (List ℕ)) (event : Event) (b c : RunView) (t0 t1 : Option (List ℕ)) (n0 n1 : List (List Note)) (a : RunView) (dispatch_fault : DispatchFault)
+    → (d : IsDispatch blobs event b.entries c.entries b.engine c.engine b.left c.left n0 n1 (Err dispatch_fault)) → Wrote (lines_of (Fired event ∷ d.entries)) t0 t1
+    → StoppedBy (stop_of dispatch_fault) (Fired event ∷ d.entries) (stage a t0 n0) (stage c t1 n1)
+stopped_by blobs event b c t0 t1 n0 n1 a fault.OutOfMemory d wrote = (front_whole _ t0 t1 wrote, inr (fault.OutOfMemory, cut_of blobs event b c n0 n1 fault.OutOfMemory d))
+stopped_by blobs event b c t0 t1 n0 n1 a (fault.CallBudget k) d wrote = (wrote, cut_of blobs event b c n0 n1 (fault.CallBudget k) d)
+stopped_by blobs event b c t0 t1 n0 n1 a fault.TaskBudget d wrote = (wrote, cut_of blobs event b c n0 n1 fault.TaskBudget d)
+
+-- the dispatch ended with a fault
+pub fired_stopped : (blobs : List (List ℕ)) (event : Event) (dispatch_fault : DispatchFault) (a b c : RunView) (t0 t1 : Option (List ℕ)) (n0 n1 : List (List Note))
+    → Stepped blobs (Fired event ∷ []) a b → IsDispatch blobs event b.entries c.entries b.engine c.engine b.left c.left n0 n1 (Err dispatch_fault)
+    → Wrote (lines_of (drop (length a.entries) c.entries)) t0 t1
+    → RanUpTo blobs (λ st part. Begins blobs st Fire part) (stop_of dispatch_fault) (stage a t0 n0) (stage c t1 n1)
+fired_stopped blobs event dispatch_fault a b c t0 t1 n0 n1 step d wrote =
+    let lines : drop (length a.entries) c.entries ≡ Fired event ∷ d.entries = fired_lines event a.entries b.entries c.entries d.entries step.grew d.calls.journal in
+    record {
+      played = record {
+        entries = Fired event ∷ d.entries;
+        grew = fired_entries blobs (λ st part. Begins blobs st Fire part) event a b c n0 n1 (Err dispatch_fault) (λ st part h. inr h) step d;
+        turns = fired_turns blobs event b c n0 n1 (Err dispatch_fault) d;
+        stopped = stopped_by blobs event b c t0 t1 n0 n1 a dispatch_fault d (rw lines at wrote);
+      };
+      left = fired_left blobs event a b c n0 n1 (Err dispatch_fault) step d;
+    }
+
+-- where no listener called, the engine is as it was when the event was fired
+pub fired_alone : (blobs : List (List ℕ)) (event : Event) (b c : RunView) (n0 n1 : List (List Note)) (result : Result (Unit {0}) DispatchFault)
+    → IsDispatch blobs event b.entries c.entries b.engine c.engine b.left c.left n0 n1 result → c.left ≡ b.left → c.engine ≡ b.engine
+fired_alone blobs event b c n0 n1 result d same = d.calls.engine.idle (none d.entries (omega (arith, same, d.calls.left)))
+  where
+    none : (es : List Entry) → length es ≡ 0 → es ≡ []
+    none [] e = refl
+    none (x ∷ es) e = absurd (omega (arith, e))
+
+-- nothing but calls of listeners is in the order of a drain
+silent_order : (blobs : List (List ℕ)) (st : State) (es : List Entry) → own_of es ≡ [] → InDrainOrder blobs st es
+silent_order blobs st [] own = tt
+silent_order blobs st (Listener v c a ∷ es) own = (tt, silent_order blobs (entry_meaning blobs st (Listener v c a)).state es own)
+silent_order blobs st (Step n ∷ es) own = absurd (cc)
+silent_order blobs st (Script c a ∷ es) own = absurd (cc)
+silent_order blobs st (Fired e ∷ es) own = absurd (cc)
+silent_order blobs st (Work k ∷ es) own = absurd (cc)
+silent_order blobs st (Element ∷ es) own = absurd (cc)
+
+abbrev fired_by : State → Option Event → List Entry
+fired_by st first = fired_of (option_map (λ event. record { answer = event; state = without_first st }) first)
+
+first_fired : (st : State) (first : Option Event) (event : Event) (es : List Entry) → Fired event ∷ es ≡ fired_by st first → first ≡ Some event
+first_fired st None event es e = absurd (cc)
+first_fired st (Some x) event es e = let same : event ≡ x = cc in ap (λ (y : Event). Some y) (sym same)
+
+rest_fired : (st : State) (first : Option Event) (event : Event) (es : List Entry) → Fired event ∷ es ≡ fired_by st first → es ≡ []
+rest_fired st None event es e = absurd (cc)
+rest_fired st (Some x) event es e = cc
+
+-- nothing else is fired
+not_fired : (st : State) (first : Option Event) (entry : Entry) (es : List Entry) → ((event : Event) → entry ≡ Fired event → ⊥) → entry ∷ es ≡ fired_by st first → ⊥
+not_fired st None entry es other e = cc
+not_fired st (Some x) entry es other e = other x (cc)
+
+-- it is what a drain does first
+pub fire_in_order : (blobs : List (List ℕ)) (count : ℕ) (st : State) (part : List Entry) → InTurns count None part → own_of part ≡ fired_of (fire_result st) → InDrainOrder blobs st part
+fire_in_order blobs count st [] turns own = tt
+fire_in_order blobs count st (Fired event ∷ es) turns own = (
+  first_fired st (slice_get st.outer.queue 0) event (own_of es) own,
+  silent_order blobs (entry_meaning blobs st (Fired event)).state es (rest_fired st (slice_get st.outer.queue 0) event (own_of es) own),
+)
+fire_in_order blobs count st (Listener v c a ∷ es) turns own = absurd turns
+fire_in_order blobs count st (Step n ∷ es) turns own = absurd (not_fired st (slice_get st.outer.queue 0) (Step n) (own_of es) (λ event e. cc) own)
+fire_in_order blobs count st (Script c a ∷ es) turns own = absurd (not_fired st (slice_get st.outer.queue 0) (Script c a) (own_of es) (λ event e. cc) own)
+fire_in_order blobs count st (Work k ∷ es) turns own = absurd (not_fired st (slice_get st.outer.queue 0) (Work k) (own_of es) (λ event e. cc) own)
+fire_in_order blobs count st (Element ∷ es) turns own = absurd (not_fired st (slice_get st.outer.queue 0) Element (own_of es) (λ event e. cc) own)
+
+-- nothing is fired where no event waits
+nothing_by : (st : State) (q : List Event) → q ≡ [] → [] ≡ fired_by st (slice_get q 0)
+nothing_by st q e = rw e refl
+
+pub nothing_fired : (st : State) → NoEvent st → own_of [] ≡ fired_of (fire_result st)
+nothing_fired st e = nothing_by st st.outer.queue e

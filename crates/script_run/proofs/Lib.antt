@@ -1,0 +1,11 @@
+pub mod Writing
+pub mod Turning
+pub mod Telling
+pub mod Playing
+pub mod Following
+pub mod Stepping
+pub mod Firing
+pub mod Resting
+pub mod Draining
+pub mod Lining
+pub mod Giving

@@ -1,0 +1,152 @@
+-- Parts of a run, one after another.
+use Rattle.std.proofs.Common.{◌≡◌, ◌+◌, ℕ, List, [], ◌++◌, length, sym, ◌∙◌, ap, append_assoc, arith, inl, inr}
+use Rattle.std.specs.Prelude.{Option, None}
+use Rattle.std.proofs.lemmas.List.{append-nil}
+use Rattle.std.proofs.lemmas.List.Concat.{flat_map-append}
+use Rattle.mse_calls.specs.declared.journal.Entry.{Entry}
+use Rattle.event_text.specs.Lines.{line_text}
+use Rattle.listeners.specs.declared.listener.Note.{Note}
+use Rattle.mse_engine.specs.State.{State}
+use Rattle.mse_engine.specs.Standing.{Stands}
+use Rattle.mse_engine.specs.Run.{after_entries}
+use Rattle.mse_engine.specs.Goes.{Goes}
+use Rattle.mse_engine.proofs.Goes.{goes_none, goes_then}
+use Rattle.script_run.specs.declared.stop.Halt.{Halt}
+use Rattle.script_run.specs.declared.stop.Stop.{Stop}
+use Rattle.script_run.specs.declared.stop.Stop.TheVariants.{Halted, CallBudget, TaskBudget}
+use Rattle.script_run.specs.Ran.{Doing, Grew, Played, PlayedUpTo, Ran, RanUpTo, StoppedBy, HeardButLast}
+use Rattle.script_run.specs.Stage.{RunView, Stage}
+use Rattle.script_run.specs.Story.{HeardAll}
+use Rattle.script_run.specs.Text.{lines_of}
+use Rattle.script_run.specs.Turns.{InTurns, calls_in}
+use Rattle.script_run.specs.Wrote.{Wrote, WroteFront}
+use Rattle.script_run.proofs.Writing.{wrote_none, wrote_more, front_more, front_none}
+use Rattle.script_run.proofs.Turning.{turns_then, calls_in-append}
+use Rattle.script_run.proofs.Telling.{heard_none, heard_then, cut_then}
+
+-- one doing after another is a third
+abbrev pub Joins : List (List ℕ) → Doing → Doing → Doing → Type 0
+Joins blobs one two both = (st : State) (xs ys : List Entry) → one st xs → two (after_entries blobs st xs) ys → both st (xs ++ ys)
+
+grew_then : (blobs : List (List ℕ)) (one two both : Doing) (a b c : RunView) (xs ys : List Entry) → Joins blobs one two both
+    → Grew blobs one a b xs → Grew blobs two b c ys → Grew blobs both a c (xs ++ ys)
+grew_then blobs one two both a b c xs ys joins p q = record {
+  grew = q.grew ∙ ap (λ (x : List Entry). x ++ ys) p.grew ∙ append_assoc a.entries xs ys;
+  goes = goes_then blobs a.engine b.engine c.engine xs ys p.goes q.goes;
+  holds = λ st h. joins st xs ys (p.holds st h) (q.holds (after_entries blobs st xs) (p.goes.stands st h));
+}
+
+lines_then : (xs ys : List Entry) (t0 t1 t2 : Option (List ℕ)) → Wrote (lines_of xs) t0 t1 → Wrote (lines_of ys) t1 t2 → Wrote (lines_of (xs ++ ys)) t0 t2
+lines_then xs ys t0 t1 t2 p q = rw (flat_map-append line_text xs ys) (wrote_more (lines_of xs) (lines_of ys) t0 t1 t2 p q)
+
+lines_then_front : (xs ys : List Entry) (t0 t1 t2 : Option (List ℕ)) → Wrote (lines_of xs) t0 t1 → WroteFront (lines_of ys) t1 t2 → WroteFront (lines_of (xs ++ ys)) t0 t2
+lines_then_front xs ys t0 t1 t2 p q = rw (flat_map-append line_text xs ys) (front_more (lines_of xs) (lines_of ys) t0 t1 t2 p q)
+
+pub played_then : (blobs : List (List ℕ)) (one two both : Doing) (a b c : Stage) → Joins blobs one two both → Played blobs one a b → Played blobs two b c → Played blobs both a c
+played_then blobs one two both a b c joins p q = record {
+  entries = p.entries ++ q.entries;
+  grew = grew_then blobs one two both a.run b.run c.run p.entries q.entries joins p.grew q.grew;
+  turns = turns_then (length a.notes) None p.entries q.entries p.turns (rw p.heard.count at q.turns);
+  wrote = lines_then p.entries q.entries a.written b.written c.written p.wrote q.wrote;
+  heard = heard_then (length b.notes) p.entries q.entries a.notes b.notes c.notes p.heard q.heard q.turns;
+}
+
+but_last_then : (left count : ℕ) (xs ys : List Entry) (n0 n1 n2 : List (List Note)) → HeardAll xs n0 n1 → InTurns count None ys
+    → HeardButLast left ys n1 n2 → HeardButLast left (xs ++ ys) n0 n2
+but_last_then left count xs ys n0 n1 n2 p turns (inl q) = inl (heard_then count xs ys n0 n1 n2 p q turns)
+but_last_then left count xs ys n0 n1 n2 p turns (inr q) = inr (q.0, cut_then q.0 left count xs ys n0 n1 n2 p q.1 turns)
+
+stopped_then : (stop : Stop) (count : ℕ) (xs ys : List Entry) (a b c : Stage) → Wrote (lines_of xs) a.written b.written → HeardAll xs a.notes b.notes
+    → InTurns count None ys → StoppedBy stop ys b c → StoppedBy stop (xs ++ ys) a c
+stopped_then (Halted halt) count xs ys a b c w h turns s = (lines_then_front xs ys a.written b.written c.written w s.0, but_last_then c.run.left count xs ys a.notes b.notes c.notes h turns s.1)
+stopped_then (CallBudget k) count xs ys a b c w h turns s = (lines_then xs ys a.written b.written c.written w s.0, cut_then _ c.run.left count xs ys a.notes b.notes c.notes h s.1 turns)
+stopped_then TaskBudget count xs ys a b c w h turns s = (lines_then xs ys a.written b.written c.written w s.0, cut_then _ c.run.left count xs ys a.notes b.notes c.notes h s.1 turns)
+
+pub played_stop : (blobs : List (List ℕ)) (one two both : Doing) (stop : Stop) (a b c : Stage) → Joins blobs one two both → Played blobs one a b
+    → PlayedUpTo blobs two stop b c → PlayedUpTo blobs both stop a c
+played_stop blobs one two both stop a b c joins p q = record {
+  entries = p.entries ++ q.entries;
+  grew = grew_then blobs one two both a.run b.run c.run p.entries q.entries joins p.grew q.grew;
+  turns = turns_then (length a.notes) None p.entries q.entries p.turns (rw p.heard.count at q.turns);
+  stopped = stopped_then stop (length b.notes) p.entries q.entries a b c p.wrote p.heard q.turns q.stopped;
+}
+
+left_then : (xs ys : List Entry) (l0 l1 l2 : ℕ) → l0 ≡ l1 + calls_in xs → l1 ≡ l2 + calls_in ys → l0 ≡ l2 + calls_in (xs ++ ys)
+left_then xs ys l0 l1 l2 p q = rw (calls_in-append xs ys) (omega (arith, p, q))
+
+pub ran_then : (blobs : List (List ℕ)) (one two both : Doing) (a b c : Stage) → Joins blobs one two both → Ran blobs one a b → Ran blobs two b c → Ran blobs both a c
+unfolding played_then
+ran_then blobs one two both a b c joins p q = record {
+  played = played_then blobs one two both a b c joins p.played q.played;
+  left = left_then p.played.entries q.played.entries a.run.left b.run.left c.run.left p.left q.left;
+}
+
+pub ran_stop : (blobs : List (List ℕ)) (one two both : Doing) (stop : Stop) (a b c : Stage) → Joins blobs one two both → Ran blobs one a b
+    → RanUpTo blobs two stop b c → RanUpTo blobs both stop a c
+unfolding played_stop
+ran_stop blobs one two both stop a b c joins p q = record {
+  played = played_stop blobs one two both stop a b c joins p.played q.played;
+  left = left_then p.played.entries q.played.entries a.run.left b.run.left c.run.left p.left q.left;
+}
+
+grew_none : (blobs : List (List ℕ)) (does : Doing) (a : RunView) → ((st : State) → Stands a.engine st → does st []) → Grew blobs does a a []
+grew_none blobs does a holds = record { grew = sym (append-nil a.entries); goes = goes_none blobs a.engine; holds = holds }
+
+-- nothing was done
+pub ran_none : (blobs : List (List ℕ)) (does : Doing) (a : Stage) → ((st : State) → Stands a.run.engine st → does st []) → Ran blobs does a a
+ran_none blobs does a holds = record {
+  played = record {
+    entries = [];
+    grew = grew_none blobs does a.run holds;
+    turns = tt;
+    wrote = wrote_none a.written;
+    heard = heard_none a.notes;
+  };
+  left = omega arith;
+}
+
+-- it stopped before anything was done
+pub halt_none : (blobs : List (List ℕ)) (begins : Doing) (halt : Halt) (a : Stage) → ((st : State) → Stands a.run.engine st → begins st []) → RanUpTo blobs begins (Halted halt) a a
+halt_none blobs begins halt a holds = record {
+  played = record {
+    entries = [];
+    grew = grew_none blobs begins a.run holds;
+    turns = tt;
+    stopped = (front_none a.written [], inl (heard_none a.notes));
+  };
+  left = omega arith;
+}
+
+-- what is done is also something else
+pub ran_as : (blobs : List (List ℕ)) (one two : Doing) (a b : Stage) → Ran blobs one a b
+    → ((st : State) (es : List Entry) → Stands a.run.engine st → Goes blobs a.run.engine b.run.engine es → InTurns (length a.notes) None es → one st es → two st es) → Ran blobs two a b
+ran_as blobs one two a b p weaker = record {
+  played = record {
+    entries = p.played.entries;
+    grew = record {
+      grew = p.played.grew.grew;
+      goes = p.played.grew.goes;
+      holds = λ st h. weaker st p.played.entries h p.played.grew.goes p.played.turns (p.played.grew.holds st h);
+    };
+    turns = p.played.turns;
+    wrote = p.played.wrote;
+    heard = p.played.heard;
+  };
+  left = p.left;
+}
+
+pub stop_as : (blobs : List (List ℕ)) (one two : Doing) (stop : Stop) (a b : Stage) → RanUpTo blobs one stop a b
+    → ((st : State) (es : List Entry) → Stands a.run.engine st → Goes blobs a.run.engine b.run.engine es → InTurns (length a.notes) None es → one st es → two st es) → RanUpTo blobs two stop a b
+stop_as blobs one two stop a b p weaker = record {
+  played = record {
+    entries = p.played.entries;
+    grew = record {
+      grew = p.played.grew.grew;
+      goes = p.played.grew.goes;
+      holds = λ st h. weaker st p.played.entries h p.played.grew.goes p.played.turns (p.played.grew.holds st h);
+    };
+    turns = p.played.turns;
+    stopped = p.played.stopped;
+  };
+  left = p.left;
+}

@@ -1,0 +1,12 @@
+use Rattle.std.proofs.Common.{List, ℕ}
+use Rattle.script_run.specs.Left.{works_left}
+use Rattle.script_run.specs.Ran.{Drains}
+use Rattle.script_run.proofs.run.ScriptRun.work_quietly.Given as goal
+
+abbrev pub invariant-working : goal.invariant-working
+invariant-working g l = record {
+  drains : (blobs : List (List ℕ)) → Drains blobs l.fn.self l.self;
+}
+
+abbrev pub decreases-working : goal.decreases-working
+decreases-working g l = works_left l.self.engine

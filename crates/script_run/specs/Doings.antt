@@ -1,0 +1,42 @@
+-- What a drain does (docs/SCRIPTS.md, step lines).
+use Rattle.std.specs.Prelude.{◌≡◌, ℕ, true, false, List, [], ◌∷◌, slice_get, Some, None, ⊤}
+use Rattle.mse_calls.specs.declared.journal.Entry.{Entry}
+use Rattle.mse_calls.specs.declared.journal.Entry.TheVariants.{Step, Script, Listener, Fired, Work, Element}
+use Rattle.mse_engine.specs.State.{State}
+use Rattle.mse_engine.specs.Work.{due_in, running_in}
+use Rattle.mse_engine.specs.Run.{after_entries, entry_meaning}
+
+-- no event waits, and no buffer works
+pub record IsQuiet (st : State) : Type 0 where
+  pub queue : st.outer.queue ≡ []
+  pub running : running_in st ≡ None
+
+-- The entry is what a drain does next: an event is fired while there is one, else the lowest buffer that has work works
+-- one item, else the element takes a turn that is due. The calls of listeners are not its own.
+abbrev pub IsNext : State → Entry → Type 0
+IsNext st (Fired event) = slice_get st.outer.queue 0 ≡ Some event
+IsNext st (Work k) = (st.outer.queue ≡ []) × (running_in st ≡ Some k)
+IsNext st Element = IsQuiet st × (due_in st ≡ true)
+IsNext st (Listener w call answer) = ⊤
+IsNext st (Script call answer) = ⊥
+IsNext st (Step n) = ⊥
+
+-- no event waits
+abbrev pub NoEvent : State → Type 0
+NoEvent st = st.outer.queue ≡ []
+
+-- there is nothing left to do
+pub record IsAtRest (st : State) : Type 0 where
+  pub quiet : IsQuiet st
+  pub due : due_in st ≡ false
+
+-- the entries come in the order in which a drain does things
+abbrev pub InDrainOrder : List (List ℕ) → State → List Entry → Type 0
+InDrainOrder blobs st [] = ⊤
+InDrainOrder blobs st (entry ∷ entries) =
+    IsNext st entry × InDrainOrder blobs (entry_meaning blobs st entry).state entries
+
+-- until nothing is left
+pub record IsDrain (blobs : List (List ℕ)) (st : State) (entries : List Entry) : Type 0 where
+  pub order : InDrainOrder blobs st entries
+  pub end : IsAtRest (after_entries blobs st entries)

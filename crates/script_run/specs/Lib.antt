@@ -1,0 +1,11 @@
+pub mod Wrote
+pub mod Text
+pub mod Doings
+pub mod Turns
+pub mod Lines
+pub mod Follows
+pub mod Story
+pub mod Stage
+pub mod Ran
+pub mod Left
+pub mod Rules

@@ -1,0 +1,33 @@
+-- What a journal tells of each listener: for each event that was fired, in order, the listener heard it, made its calls,
+-- was told their answers, and rested.
+use Rattle.std.specs.Prelude.{◌≡◌, ◌<◌, ℕ, List, [], ◌∷◌, ◌++◌, length}
+use Rattle.mse_calls.specs.declared.journal.Entry.{Entry}
+use Rattle.mse_calls.specs.declared.journal.Entry.TheVariants.{Step, Script, Listener, Fired, Work, Element}
+use Rattle.listeners.specs.declared.listener.Note.{Note}
+use Rattle.listeners.specs.Notes.{event_notes}
+use Rattle.listeners.specs.Dispatch.{notes_at}
+
+-- the entries before the next event
+abbrev pub until_fired : List Entry → List Entry
+until_fired [] = []
+until_fired (Fired event ∷ entries) = []
+until_fired (Step n ∷ entries) = Step n ∷ until_fired entries
+until_fired (Script call answer ∷ entries) = Script call answer ∷ until_fired entries
+until_fired (Listener v call answer ∷ entries) = Listener v call answer ∷ until_fired entries
+until_fired (Work k ∷ entries) = Work k ∷ until_fired entries
+until_fired (Element ∷ entries) = Element ∷ until_fired entries
+
+-- the notes of listener `w`: one part for each event, of the calls between it and the next
+abbrev pub story : ℕ → List Entry → List Note
+story w [] = []
+story w (Fired event ∷ entries) = event_notes event w (until_fired entries) ++ story w entries
+story w (Step n ∷ entries) = story w entries
+story w (Script call answer ∷ entries) = story w entries
+story w (Listener v call answer ∷ entries) = story w entries
+story w (Work k ∷ entries) = story w entries
+story w (Element ∷ entries) = story w entries
+
+-- the notes of each listener grew by what the journal tells of it
+pub record HeardAll (entries : List Entry) (old new : List (List Note)) : Type 0 where
+  pub count : length new ≡ length old
+  pub notes : (w : ℕ) → w < length old → notes_at new w ≡ notes_at old w ++ story w entries

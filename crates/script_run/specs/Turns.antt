@@ -1,0 +1,48 @@
+-- When listeners call (docs/SCRIPTS.md, rules).
+use Rattle.std.specs.Prelude.{◌≡◌, ◌⊎◌, ◌<◌, ℕ, suc, ◌==◌, List, [], ◌∷◌, Option, Some, None, if◌then◌else◌, ⊤}
+use Rattle.mse_calls.specs.declared.journal.Entry.{Entry}
+use Rattle.mse_calls.specs.declared.journal.Entry.TheVariants.{Step, Script, Listener, Fired, Work, Element}
+
+-- the listener whose turn it is to call after an event, and how many calls it has made
+pub record Turn : Type 0 where
+  pub listener : ℕ
+  pub made : ℕ
+
+-- listener 0 hears an event first
+abbrev pub first_turn : Turn
+first_turn = record { listener = 0; made = 0 }
+
+-- a listener makes at most so many calls for one event
+abbrev pub most_calls : ℕ
+most_calls = 1000
+
+-- it may call: it is its turn and it has a call left, or it comes behind the one whose turn it was
+abbrev pub MayCall : Turn → ℕ → Type 0
+MayCall turn w = (turn.listener < w) ⊎ ((turn.listener ≡ w) × (turn.made < most_calls))
+
+abbrev pub turn_after : Turn → ℕ → Turn
+turn_after turn w =
+    if turn.listener == w then record { listener = w; made = suc turn.made } else record { listener = w; made = 1 }
+
+-- Listeners call only behind an event, in order of their numbers, at most 1000 times each; there are `count` of them.
+-- Without a turn no event was fired since the last thing that was done.
+abbrev pub InTurns : ℕ → Option Turn → List Entry → Type 0
+InTurns count turn [] = ⊤
+InTurns count turn (Fired event ∷ entries) = InTurns count (Some first_turn) entries
+InTurns count None (Listener w call answer ∷ entries) = ⊥
+InTurns count (Some turn) (Listener w call answer ∷ entries) =
+    (w < count) × MayCall turn w × InTurns count (Some (turn_after turn w)) entries
+InTurns count turn (Script call answer ∷ entries) = InTurns count None entries
+InTurns count turn (Step n ∷ entries) = InTurns count None entries
+InTurns count turn (Work k ∷ entries) = InTurns count None entries
+InTurns count turn (Element ∷ entries) = InTurns count None entries
+
+-- how many calls listeners made
+abbrev pub calls_in : List Entry → ℕ
+calls_in [] = 0
+calls_in (Listener w call answer ∷ entries) = suc (calls_in entries)
+calls_in (Fired event ∷ entries) = calls_in entries
+calls_in (Script call answer ∷ entries) = calls_in entries
+calls_in (Step n ∷ entries) = calls_in entries
+calls_in (Work k ∷ entries) = calls_in entries
+calls_in (Element ∷ entries) = calls_in entries

@@ -1,0 +1,241 @@
+//! A drain.
+
+ghost use Rattle.std.specs.Prelude.{◌≡◌, ◌≤◌, ◌<◌, ◌^◌, Ok, true, false, IsErrOf, OnOk, map, vec_len};
+ghost use Rattle.call_script.specs.declared.script.StepLine.{StepLine};
+ghost use Rattle.mse_engine.specs.State.{State};
+ghost use Rattle.mse_engine.specs.Standing.{Stands};
+ghost use Rattle.mse_outside.specs.Outside.{Rose};
+ghost use Rattle.script_run.specs.Doings.{InDrainOrder, IsAtRest, IsQuiet, NoEvent};
+ghost use Rattle.script_run.specs.Left.{IsCalm, IsTaken};
+ghost use Rattle.script_run.specs.Lines.{Begins, Does};
+ghost use Rattle.script_run.specs.Ran.{RanBy};
+ghost use Rattle.script_run.specs.Stage.{IsStanding, stage};
+
+use crate::put::put_entries;
+use crate::run::ScriptRun;
+use crate::stop::{Halt, Stop};
+use listeners::{Listener, dispatch};
+use mse_calls::Blobs;
+use mse_outside::Sink;
+use track_store::FrameStore;
+
+impl<S: FrameStore> ScriptRun<S> {
+    /// Fires the first event of the queue: each listener hears it, and answers it; false where there is none.
+    pub(crate) fn fire<K: Sink>(
+        &mut self,
+        blobs: &Blobs,
+        sink: &mut K,
+        listeners: &mut Vec<Box<dyn Listener>>,
+    ) -> Result<bool, Stop>
+        requires listeners { vec_len listeners.old < 2 ^ 32 }
+        requires standing { IsStanding self.old.engine }
+        ensures count { vec_len listeners.new ≡ vec_len listeners.old }
+        ensures rules { map (λ b. rules b) listeners.new.items
+            ≡ map (λ b. rules b) listeners.old.items }
+        ensures ran { RanBy blobs.now (λ st part. Does blobs.now st StepLine.Fire part)
+            (λ st part. Begins blobs.now st StepLine.Fire part)
+            (stage self.old (K.written sink.old) (map (λ b. notes b) listeners.old.items))
+            (stage self.new (K.written sink.new) (map (λ b. notes b) listeners.new.items)) result }
+        ensures fewer { result ≡ Ok true → self.new.left ≡ self.old.left
+            → IsTaken self.old.engine self.new.engine }
+        ensures none { result ≡ Ok false → self.new ≡ self.old }
+        ensures empty { result ≡ Ok false → (st : State) → Stands self.old.engine st → NoEvent st }
+        ensures later { K.faults sink.old ≤ K.faults sink.new }
+        ensures cause { IsErrOf result (Stop.Halted Halt.Write)
+            → Rose (K.faults sink.old) (K.faults sink.new) }
+    {
+        let from = self.journal.len();
+        let Ok(taken) = self.take_event() else {
+            return Err(Stop::Halted(Halt::Memory));
+        };
+        let Some(event) = taken else {
+            return Ok(false);
+        };
+        let dispatched = dispatch(
+            &mut self.engine,
+            blobs,
+            listeners,
+            &event,
+            &mut self.left,
+            &mut self.journal,
+        );
+        match put_entries(self.alloc, sink, &self.journal, from) {
+            Ok(()) => {}
+            Err(halt) => return Err(Stop::Halted(halt)),
+        }
+        match dispatched {
+            Ok(()) => {}
+            Err(fault) => return Err(Stop::of(fault)),
+        }
+        Ok(true)
+    }
+
+    /// Fires events until none waits, which answers true, or until a listener has made a call, which answers false.
+    fn fire_all<K: Sink>(
+        &mut self,
+        blobs: &Blobs,
+        sink: &mut K,
+        listeners: &mut Vec<Box<dyn Listener>>,
+    ) -> Result<bool, Stop>
+        requires listeners { vec_len listeners.old < 2 ^ 32 }
+        requires standing { IsStanding self.old.engine }
+        ensures count { vec_len listeners.new ≡ vec_len listeners.old }
+        ensures rules { map (λ b. rules b) listeners.new.items
+            ≡ map (λ b. rules b) listeners.old.items }
+        ensures ran { RanBy blobs.now (InDrainOrder blobs.now) (InDrainOrder blobs.now)
+            (stage self.old (K.written sink.old) (map (λ b. notes b) listeners.old.items))
+            (stage self.new (K.written sink.new) (map (λ b. notes b) listeners.new.items)) result }
+        ensures calm { result ≡ Ok true → IsCalm self.old.engine self.new.engine }
+        ensures end { result ≡ Ok true → (st : State) → Stands self.new.engine st → NoEvent st }
+        ensures called { result ≡ Ok false → self.new.left < self.old.left }
+        ensures later { K.faults sink.old ≤ K.faults sink.new }
+        ensures cause { IsErrOf result (Stop.Halted Halt.Write)
+            → Rose (K.faults sink.old) (K.faults sink.new) }
+    {
+        let before = self.left;
+        'firing: loop {
+            match self.fire(blobs, sink, listeners) {
+                Err(stop) => return Err(stop),
+                Ok(false) => return Ok(true),
+                Ok(true) => {}
+            }
+            if self.left < before {
+                return Ok(false);
+            }
+        }
+    }
+
+    /// Fires, and works on buffers, until no event waits and no buffer works, or until a listener has made a call.
+    fn work_all<K: Sink>(
+        &mut self,
+        blobs: &Blobs,
+        sink: &mut K,
+        listeners: &mut Vec<Box<dyn Listener>>,
+    ) -> Result<bool, Stop>
+        requires listeners { vec_len listeners.old < 2 ^ 32 }
+        requires standing { IsStanding self.old.engine }
+        ensures count { vec_len listeners.new ≡ vec_len listeners.old }
+        ensures rules { map (λ b. rules b) listeners.new.items
+            ≡ map (λ b. rules b) listeners.old.items }
+        ensures ran { RanBy blobs.now (InDrainOrder blobs.now) (InDrainOrder blobs.now)
+            (stage self.old (K.written sink.old) (map (λ b. notes b) listeners.old.items))
+            (stage self.new (K.written sink.new) (map (λ b. notes b) listeners.new.items)) result }
+        ensures end { result ≡ Ok true → (st : State) → Stands self.new.engine st → IsQuiet st }
+        ensures called { result ≡ Ok false → self.new.left < self.old.left }
+        ensures later { K.faults sink.old ≤ K.faults sink.new }
+        ensures cause { IsErrOf result (Stop.Halted Halt.Write)
+            → Rose (K.faults sink.old) (K.faults sink.new) }
+    {
+        'working: loop {
+            match self.fire_all(blobs, sink, listeners) {
+                Err(stop) => return Err(stop),
+                Ok(false) => return Ok(false),
+                Ok(true) => {}
+            }
+            let Some(k) = self.engine.running() else {
+                return Ok(true);
+            };
+            let Ok(_worked) = self.work(k) else {
+                return Err(Stop::Halted(Halt::Memory));
+            };
+        }
+    }
+
+    /// Takes turns of the element that are due, and fires, until nothing is left, or until a listener has made a call.
+    fn turn_all<K: Sink>(
+        &mut self,
+        blobs: &Blobs,
+        sink: &mut K,
+        listeners: &mut Vec<Box<dyn Listener>>,
+    ) -> Result<bool, Stop>
+        requires quiet { (st : State) → Stands self.old.engine st → IsQuiet st }
+        requires listeners { vec_len listeners.old < 2 ^ 32 }
+        requires standing { IsStanding self.old.engine }
+        ensures count { vec_len listeners.new ≡ vec_len listeners.old }
+        ensures rules { map (λ b. rules b) listeners.new.items
+            ≡ map (λ b. rules b) listeners.old.items }
+        ensures ran { RanBy blobs.now (InDrainOrder blobs.now) (InDrainOrder blobs.now)
+            (stage self.old (K.written sink.old) (map (λ b. notes b) listeners.old.items))
+            (stage self.new (K.written sink.new) (map (λ b. notes b) listeners.new.items)) result }
+        ensures end { result ≡ Ok true → (st : State) → Stands self.new.engine st → IsAtRest st }
+        ensures called { result ≡ Ok false → self.new.left < self.old.left }
+        ensures later { K.faults sink.old ≤ K.faults sink.new }
+        ensures cause { IsErrOf result (Stop.Halted Halt.Write)
+            → Rose (K.faults sink.old) (K.faults sink.new) }
+    {
+        'turning: loop {
+            if !self.engine.due() {
+                return Ok(true);
+            }
+            let Ok(_turned) = self.turn() else {
+                return Err(Stop::Halted(Halt::Memory));
+            };
+            match self.fire_all(blobs, sink, listeners) {
+                Err(stop) => return Err(stop),
+                Ok(false) => return Ok(false),
+                Ok(true) => {}
+            }
+        }
+    }
+
+    /// Does all that is left, or stops short where a listener has made a call, which answers false.
+    fn settle<K: Sink>(
+        &mut self,
+        blobs: &Blobs,
+        sink: &mut K,
+        listeners: &mut Vec<Box<dyn Listener>>,
+    ) -> Result<bool, Stop>
+        requires listeners { vec_len listeners.old < 2 ^ 32 }
+        requires standing { IsStanding self.old.engine }
+        ensures count { vec_len listeners.new ≡ vec_len listeners.old }
+        ensures rules { map (λ b. rules b) listeners.new.items
+            ≡ map (λ b. rules b) listeners.old.items }
+        ensures ran { RanBy blobs.now (InDrainOrder blobs.now) (InDrainOrder blobs.now)
+            (stage self.old (K.written sink.old) (map (λ b. notes b) listeners.old.items))
+            (stage self.new (K.written sink.new) (map (λ b. notes b) listeners.new.items)) result }
+        ensures end { result ≡ Ok true → (st : State) → Stands self.new.engine st → IsAtRest st }
+        ensures called { result ≡ Ok false → self.new.left < self.old.left }
+        ensures later { K.faults sink.old ≤ K.faults sink.new }
+        ensures cause { IsErrOf result (Stop.Halted Halt.Write)
+            → Rose (K.faults sink.old) (K.faults sink.new) }
+    {
+        match self.work_all(blobs, sink, listeners) {
+            Err(stop) => return Err(stop),
+            Ok(false) => return Ok(false),
+            Ok(true) => {}
+        }
+        match self.turn_all(blobs, sink, listeners) {
+            Err(stop) => Err(stop),
+            Ok(ended) => Ok(ended),
+        }
+    }
+
+    /// Fires, works and takes turns until there is nothing left to do.
+    pub(crate) fn drain<K: Sink>(
+        &mut self,
+        blobs: &Blobs,
+        sink: &mut K,
+        listeners: &mut Vec<Box<dyn Listener>>,
+    ) -> Result<(), Stop>
+        requires listeners { vec_len listeners.old < 2 ^ 32 }
+        requires standing { IsStanding self.old.engine }
+        ensures count { vec_len listeners.new ≡ vec_len listeners.old }
+        ensures rules { map (λ b. rules b) listeners.new.items
+            ≡ map (λ b. rules b) listeners.old.items }
+        ensures ran { RanBy blobs.now (λ st part. Does blobs.now st StepLine.Drain part)
+            (λ st part. Begins blobs.now st StepLine.Drain part)
+            (stage self.old (K.written sink.old) (map (λ b. notes b) listeners.old.items))
+            (stage self.new (K.written sink.new) (map (λ b. notes b) listeners.new.items)) result }
+        ensures later { K.faults sink.old ≤ K.faults sink.new }
+        ensures cause { IsErrOf result (Stop.Halted Halt.Write)
+            → Rose (K.faults sink.old) (K.faults sink.new) }
+    {
+        'draining: loop {
+            match self.settle(blobs, sink, listeners) {
+                Err(stop) => return Err(stop),
+                Ok(true) => return Ok(()),
+                Ok(false) => {}
+            }
+        }
+    }
+}

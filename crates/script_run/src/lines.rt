@@ -1,0 +1,141 @@
+//! The lines of a script.
+
+ghost use Rattle.std.specs.Prelude.{◌≡◌, ◌≤◌, ◌<◌, ◌^◌, OnOk, OnErr, IsErrOf, length, map, vec_len};
+ghost use Rattle.call_script.specs.declared.script.StepLine.{StepLine};
+ghost use Rattle.mse_outside.specs.Outside.{Rose};
+ghost use Rattle.script_run.specs.Follows.{LineBegins, LineIs, LinesBegin, LinesAre};
+ghost use Rattle.script_run.specs.Lines.{Begins, Does, limits};
+ghost use Rattle.script_run.specs.Ran.{CallHalted, Called, PlayedBy, RanBy};
+ghost use Rattle.script_run.specs.Stage.{IsStanding, stage};
+
+use crate::put::put_entries;
+use crate::run::ScriptRun;
+use crate::stop::{Halt, Stop};
+use call_script::StepLine;
+use listeners::Listener;
+use mse_calls::{Blobs, Call};
+use mse_outside::Sink;
+use track_store::FrameStore;
+
+impl<S: FrameStore> ScriptRun<S> {
+    /// Makes a call of the script, and puts its line.
+    fn call_aloud<K: Sink>(&mut self, blobs: &Blobs, sink: &mut K, call: &Call) -> Result<(), Halt>
+        ensures ok { OnOk result (Called blobs.now call.now self.old self.new
+            (K.written sink.old) (K.written sink.new)) }
+        ensures err { OnErr result (CallHalted blobs.now call.now self.old self.new
+            (K.written sink.old) (K.written sink.new)) }
+        ensures later { K.faults sink.old ≤ K.faults sink.new }
+        ensures cause { IsErrOf result Halt.Write → Rose (K.faults sink.old) (K.faults sink.new) }
+    {
+        let from = self.journal.len();
+        let Ok(()) = self.call(blobs, call) else {
+            return Err(Halt::Memory);
+        };
+        put_entries(self.alloc, sink, &self.journal, from)
+    }
+
+    /// Does a line.
+    fn do_line<K: Sink>(
+        &mut self,
+        blobs: &Blobs,
+        sink: &mut K,
+        listeners: &mut Vec<Box<dyn Listener>>,
+        line: &StepLine,
+    ) -> Result<(), Stop>
+        requires listeners { vec_len listeners.old < 2 ^ 32 }
+        requires standing { IsStanding self.old.engine }
+        ensures count { vec_len listeners.new ≡ vec_len listeners.old }
+        ensures rules { map (λ b. rules b) listeners.new.items
+            ≡ map (λ b. rules b) listeners.old.items }
+        ensures ran { RanBy blobs.now (λ st part. Does blobs.now st line.now part)
+            (λ st part. Begins blobs.now st line.now part)
+            (stage self.old (K.written sink.old) (map (λ b. notes b) listeners.old.items))
+            (stage self.new (K.written sink.new) (map (λ b. notes b) listeners.new.items)) result }
+        ensures later { K.faults sink.old ≤ K.faults sink.new }
+        ensures cause { IsErrOf result (Stop.Halted Halt.Write)
+            → Rose (K.faults sink.old) (K.faults sink.new) }
+    {
+        match line {
+            StepLine::Call(call) => match self.call_aloud(blobs, sink, call) {
+                Ok(()) => Ok(()),
+                Err(halt) => Err(Stop::Halted(halt)),
+            },
+            StepLine::Fire => match self.fire(blobs, sink, listeners) {
+                Ok(_) => Ok(()),
+                Err(stop) => Err(stop),
+            },
+            StepLine::Work(k) => match self.work(*k) {
+                Ok(_) => Ok(()),
+                Err(_) => Err(Stop::Halted(Halt::Memory)),
+            },
+            StepLine::Element => match self.turn() {
+                Ok(_) => Ok(()),
+                Err(_) => Err(Stop::Halted(Halt::Memory)),
+            },
+            StepLine::Drain => self.drain(blobs, sink, listeners),
+        }
+    }
+
+    /// Does the line of a number, in which listeners may make `limit` calls.
+    fn play_line<K: Sink>(
+        &mut self,
+        blobs: &Blobs,
+        sink: &mut K,
+        listeners: &mut Vec<Box<dyn Listener>>,
+        limit: u64,
+        n: u32,
+        line: &StepLine,
+    ) -> Result<(), Stop>
+        requires listeners { vec_len listeners.old < 2 ^ 32 }
+        requires standing { IsStanding self.old.engine }
+        ensures count { vec_len listeners.new ≡ vec_len listeners.old }
+        ensures rules { map (λ b. rules b) listeners.new.items
+            ≡ map (λ b. rules b) listeners.old.items }
+        ensures played { PlayedBy blobs.now (LineIs blobs.now (limits limit
+            (vec_len listeners.old)) n line.now)
+            (LineBegins blobs.now (limits limit (vec_len listeners.old)) n line.now)
+            (stage self.old (K.written sink.old) (map (λ b. notes b) listeners.old.items))
+            (stage self.new (K.written sink.new) (map (λ b. notes b) listeners.new.items)) result }
+        ensures later { K.faults sink.old ≤ K.faults sink.new }
+        ensures cause { IsErrOf result (Stop.Halted Halt.Write)
+            → Rose (K.faults sink.old) (K.faults sink.new) }
+    {
+        match self.open_line(n, limit) {
+            Ok(()) => self.do_line(blobs, sink, listeners, line),
+            Err(_) => Err(Stop::Halted(Halt::Memory)),
+        }
+    }
+
+    /// Does the lines of a script one after the other; listeners may make `limit` calls in each.
+    pub fn play<K: Sink>(
+        &mut self,
+        blobs: &Blobs,
+        sink: &mut K,
+        listeners: &mut Vec<Box<dyn Listener>>,
+        limit: u64,
+        lines: &[StepLine],
+    ) -> Result<(), Stop>
+        requires lines { length lines.now < 2 ^ 32 }
+        requires listeners { vec_len listeners.old < 2 ^ 32 }
+        requires standing { IsStanding self.old.engine }
+        ensures count { vec_len listeners.new ≡ vec_len listeners.old }
+        ensures rules { map (λ b. rules b) listeners.new.items
+            ≡ map (λ b. rules b) listeners.old.items }
+        ensures played { PlayedBy blobs.now (LinesAre blobs.now (limits limit
+            (vec_len listeners.old)) lines.now)
+            (LinesBegin blobs.now (limits limit (vec_len listeners.old)) lines.now)
+            (stage self.old (K.written sink.old) (map (λ b. notes b) listeners.old.items))
+            (stage self.new (K.written sink.new) (map (λ b. notes b) listeners.new.items)) result }
+        ensures later { K.faults sink.old ≤ K.faults sink.new }
+        ensures cause { IsErrOf result (Stop.Halted Halt.Write)
+            → Rose (K.faults sink.old) (K.faults sink.new) }
+    {
+        for n in 0..lines.len() {
+            match self.play_line(blobs, sink, listeners, limit, n as u32, &lines[n]) {
+                Ok(()) => {}
+                Err(stop) => return Err(stop),
+            }
+        }
+        Ok(())
+    }
+}

@@ -1,0 +1,81 @@
+//! Listeners, and their rules.
+
+ghost use Rattle.std.specs.Prelude.{◌≡◌, ◌≤◌, ◌<◌, ◌+◌, ◌^◌, ◌==◌, not, ℕ, [], IfOk, OnOk, map, vec_len};
+ghost use Rattle.std.specs.List.{filter};
+ghost use Rattle.listeners.specs.Dispatch.{notes_at};
+ghost use Rattle.script_run.specs.Rules.{is_for, rules_at, rules_for};
+
+use listeners::Listener;
+use mse_base::OutOfMemory;
+use mse_calls::Rule;
+use std::alloc::Global;
+
+/// Puts a listener last that has heard nothing, behind others that have heard nothing.
+pub fn add_listener(
+    listeners: &mut Vec<Box<dyn Listener>>,
+    listener: Box<dyn Listener>,
+) -> Result<(), OutOfMemory>
+    requires new { notes listener ≡ [] }
+    requires old { (w : ℕ) → notes_at (map (λ b. notes b) listeners.old.items) w ≡ [] }
+    ensures fresh { (w : ℕ) → notes_at (map (λ b. notes b) listeners.new.items) w ≡ [] }
+    ensures count { vec_len listeners.new ≤ vec_len listeners.old + 1 }
+{
+    listeners.push(listener)?;
+    Ok(())
+}
+
+/// The rules of the listener of a number, and the others, each in their order.
+fn rules_by_number(
+    alloc: Global,
+    rules: Vec<Rule>,
+    number: u32,
+) -> Result<(Vec<Rule>, Vec<Rule>), OutOfMemory>
+    ensures own { IfOk result (λ made. made.0.items ≡ rules_for number rules.items) }
+    ensures others { IfOk result (λ made. made.1.items
+        ≡ filter (λ rule. not (is_for number rule)) rules.items) }
+{
+    let mut own = Vec::new(alloc);
+    let mut others = Vec::new(alloc);
+    for rule in rules {
+        if rule.listener == number {
+            own.push(rule)?;
+        } else {
+            others.push(rule)?;
+        }
+    }
+    Ok((own, others))
+}
+
+fn give_to(listener: &mut Box<dyn Listener>, list: Vec<Rule>)
+    requires { notes listener.old ≡ [] }
+    ensures rules { rules listener.new ≡ list.items }
+    ensures notes { notes listener.new ≡ notes listener.old }
+{
+    listener.set_rules(list);
+}
+
+/// Gives each listener the rules of its number, in their order.
+pub fn give_rules(
+    alloc: Global,
+    listeners: &mut Vec<Box<dyn Listener>>,
+    list: Vec<Rule>,
+) -> Result<(), OutOfMemory>
+    requires listeners { vec_len listeners.old < 2 ^ 32 }
+    requires fresh { (w : ℕ) → notes_at (map (λ b. notes b) listeners.old.items) w ≡ [] }
+    ensures count { vec_len listeners.new ≡ vec_len listeners.old }
+    ensures notes { map (λ b. notes b) listeners.new.items
+        ≡ map (λ b. notes b) listeners.old.items }
+    ensures given { OnOk result ((w : ℕ) → w < vec_len listeners.new
+        → rules_at (map (λ b. rules b) listeners.new.items) w ≡ rules_for w list.items) }
+{
+    let mut left = list;
+    for number in 0..listeners.len() {
+        let Ok((own, others)) = rules_by_number(alloc, left, number as u32) else {
+            return Err(OutOfMemory);
+        };
+        left = others;
+        let listener = &mut listeners[number];
+        give_to(listener, own);
+    }
+    Ok(())
+}

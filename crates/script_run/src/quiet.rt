@@ -1,0 +1,73 @@
+//! A drain that nobody hears of and that writes nothing.
+
+ghost use Rattle.std.specs.Prelude.{◌≡◌, ℕ, List, Ok, None, IfOk, OnOk, OnErr};
+ghost use Rattle.mse_engine.specs.State.{State};
+ghost use Rattle.mse_engine.specs.Standing.{Stands};
+ghost use Rattle.script_run.specs.Doings.{IsAtRest, IsQuiet, NoEvent};
+ghost use Rattle.script_run.specs.Left.{IsCalm};
+ghost use Rattle.script_run.specs.Ran.{Drains};
+ghost use Rattle.script_run.specs.Stage.{IsStanding};
+
+use crate::run::ScriptRun;
+use mse_base::OutOfMemory;
+use track_store::FrameStore;
+
+impl<S: FrameStore> ScriptRun<S> {
+    /// Fires all events of the queue.
+    fn fire_quietly(&mut self) -> Result<(), OutOfMemory>
+        requires { IsStanding self.old.engine }
+        ensures drains { (blobs : List (List ℕ)) → Drains blobs self.old self.new }
+        ensures calm { IsCalm self.old.engine self.new.engine }
+        ensures end { OnOk result ((st : State) → Stands self.new.engine st → NoEvent st) }
+    {
+        'firing: loop {
+            let Ok(taken) = self.take_event() else {
+                return Err(OutOfMemory);
+            };
+            let Some(_event) = taken else {
+                return Ok(());
+            };
+        }
+    }
+
+    /// Fires, and works on buffers, until no event waits and no buffer works.
+    fn work_quietly(&mut self) -> Result<(), OutOfMemory>
+        requires { IsStanding self.old.engine }
+        ensures drains { (blobs : List (List ℕ)) → Drains blobs self.old self.new }
+        ensures end { OnOk result ((st : State) → Stands self.new.engine st → IsQuiet st) }
+    {
+        'working: loop {
+            let Ok(()) = self.fire_quietly() else {
+                return Err(OutOfMemory);
+            };
+            let Some(k) = self.engine.running() else {
+                return Ok(());
+            };
+            let Ok(_worked) = self.work(k) else {
+                return Err(OutOfMemory);
+            };
+        }
+    }
+
+    /// Fires, works and takes turns until there is nothing left to do. No listener hears of it, and nothing is written.
+    pub fn drain_quietly(&mut self) -> Result<(), OutOfMemory>
+        requires { IsStanding self.old.engine }
+        ensures drains { (blobs : List (List ℕ)) → Drains blobs self.old self.new }
+        ensures end { OnOk result ((st : State) → Stands self.new.engine st → IsAtRest st) }
+    {
+        let Ok(()) = self.work_quietly() else {
+            return Err(OutOfMemory);
+        };
+        'turning: loop {
+            if !self.engine.due() {
+                return Ok(());
+            }
+            let Ok(_turned) = self.turn() else {
+                return Err(OutOfMemory);
+            };
+            let Ok(()) = self.fire_quietly() else {
+                return Err(OutOfMemory);
+            };
+        }
+    }
+}

@@ -1,0 +1,161 @@
+//! How far a run has come, and its single steps.
+
+ghost use Rattle.std.specs.Prelude.{◌≡◌, ◌<◌, ◌≤ℤ◌, ◌++◌, ◌∷◌, [], ℕ, List, pos, Ok, true, IfOk, OnOk, OnErr, IsSome};
+ghost use Rattle.mse_calls.specs.declared.answers.Answer.{Answer};
+ghost use Rattle.mse_calls.specs.declared.journal.Entry.{Entry};
+ghost use Rattle.mse_engine.specs.State.{opening_state};
+ghost use Rattle.mse_engine.specs.Standing.{Stands};
+ghost use Rattle.mse_engine.specs.Work.{after_element_turn, after_work};
+ghost use Rattle.script_run.specs.Left.{IsTaken, IsTurnTaken, works_left};
+ghost use Rattle.script_run.specs.Ran.{Stepped, SteppedIf, TookEvent};
+ghost use Rattle.script_run.specs.Stage.{IsStanding};
+
+use mse_base::{OutOfMemory, Ticks};
+use mse_calls::{Blobs, Call, Entry, Event, Journal};
+use mse_engine::{Engine, Worked};
+use std::alloc::Global;
+use std::marker::Model;
+use track_store::FrameStore;
+
+/// A run of a script: its engine, its journal, and how many calls the listeners may still make in the line that runs.
+#[derive(Drop)]
+pub struct ScriptRun<S: FrameStore> {
+    pub(crate) alloc: Global,
+    pub(crate) engine: Engine<S>,
+    pub(crate) journal: Journal,
+    pub(crate) left: u64,
+}
+
+impl<S: FrameStore> Model for ScriptRun<S> {
+    ghost use Rattle.script_run.specs.Stage.{RunView};
+
+    ghost Value = { RunView };
+
+    ghost view = { λ r. record { engine = r.engine; entries = r.journal.entries; left = r.left } };
+}
+
+impl<S: FrameStore> ScriptRun<S> {
+    /// A run that begins: a closed source, whose buffers hold at most `quota` bytes each and have ranges that join across
+    /// gaps of at most `gap` ticks. It takes no memory.
+    pub fn new(alloc: Global, quota: u64, gap: Ticks, journal: Journal) -> ScriptRun<S>
+        requires { pos 0 ≤ℤ gap }
+        ensures engine { Stands result.engine (opening_state quota gap) }
+        ensures entries { result.entries ≡ journal.entries }
+    {
+        ScriptRun {
+            alloc,
+            engine: Engine::new(alloc, quota, gap),
+            journal,
+            left: 0,
+        }
+    }
+
+    /// The engine.
+    pub fn engine(&self) -> &Engine<S>
+        ensures { result.now ≡ self.now.engine }
+    {
+        &self.engine
+    }
+
+    /// The engine and the journal.
+    pub fn into_parts(self) -> (Engine<S>, Journal)
+        ensures engine { result.0 ≡ self.engine }
+        ensures entries { result.1.entries ≡ self.entries }
+    {
+        (self.engine, self.journal)
+    }
+
+    /// Makes a call of the script.
+    pub fn call(&mut self, blobs: &Blobs, call: &Call) -> Result<(), OutOfMemory>
+        ensures ok { OnOk result ((answer : Answer)
+            × Stepped blobs.now (Entry.Script call.now answer ∷ []) self.old self.new) }
+        ensures err { OnErr result (self.new ≡ self.old) }
+    {
+        let Ok(()) = self.journal.reserve(1) else {
+            return Err(OutOfMemory);
+        };
+        let Ok(copy) = call.copy() else {
+            return Err(OutOfMemory);
+        };
+        let Ok(answer) = self.engine.call(call, blobs) else {
+            return Err(OutOfMemory);
+        };
+        self.journal.push_reserved(Entry::Script(copy, answer));
+        Ok(())
+    }
+
+    /// One item of the work that runs on a buffer; false where none runs.
+    pub fn work(&mut self, k: u32) -> Result<bool, OutOfMemory>
+        requires { IsStanding self.old.engine }
+        ensures ok { (blobs : List (List ℕ)) → IfOk result (λ worked.
+            SteppedIf blobs (Entry.Work k) (after_work k) self.old self.new worked) }
+        ensures fewer { result ≡ Ok true → works_left self.new.engine < works_left self.old.engine }
+        ensures err { OnErr result (self.new ≡ self.old) }
+    {
+        let Ok(()) = self.journal.reserve(1) else {
+            return Err(OutOfMemory);
+        };
+        match self.engine.work(k) {
+            Ok(Worked::Did) => {
+                self.journal.push_reserved(Entry::Work(k));
+                Ok(true)
+            }
+            Ok(Worked::Idle) => Ok(false),
+            Err(_) => Err(OutOfMemory),
+        }
+    }
+
+    /// One turn of the element; false where none is due.
+    pub fn turn(&mut self) -> Result<bool, OutOfMemory>
+        requires { IsStanding self.old.engine }
+        ensures ok { (blobs : List (List ℕ)) → IfOk result (λ turned.
+            SteppedIf blobs Entry.Element after_element_turn self.old self.new turned) }
+        ensures fewer { result ≡ Ok true → IsTurnTaken self.old.engine self.new.engine }
+        ensures err { OnErr result (self.new ≡ self.old) }
+    {
+        let Ok(()) = self.journal.reserve(1) else {
+            return Err(OutOfMemory);
+        };
+        match self.engine.element_turn() {
+            Ok(Worked::Did) => {
+                self.journal.push_reserved(Entry::Element);
+                Ok(true)
+            }
+            Ok(Worked::Idle) => Ok(false),
+            Err(_) => Err(OutOfMemory),
+        }
+    }
+
+    /// Takes the first event off the queue; `None` where it is empty.
+    pub fn take_event(&mut self) -> Result<Option<Event>, OutOfMemory>
+        requires { IsStanding self.old.engine }
+        ensures ok { (blobs : List (List ℕ))
+            → IfOk result (λ taken. TookEvent blobs self.old self.new taken) }
+        ensures fewer { IfOk result (λ taken. IsSome taken
+            → IsTaken self.old.engine self.new.engine) }
+        ensures err { OnErr result (self.new ≡ self.old) }
+    {
+        let Ok(()) = self.journal.reserve(1) else {
+            return Err(OutOfMemory);
+        };
+        let Some(event) = self.engine.fire() else {
+            return Ok(None);
+        };
+        self.journal.push_reserved(Entry::Fired(event));
+        Ok(Some(event))
+    }
+
+    /// A line of this number begins, in which listeners may make so many calls.
+    pub(crate) fn open_line(&mut self, n: u32, limit: u64) -> Result<(), OutOfMemory>
+        ensures ok { OnOk result (self.new
+            ≡ record self.old { entries = self.old.entries ++ Entry.Step n ∷ []; left = limit }) }
+        ensures err { OnErr result (self.new ≡ self.old) }
+    {
+        let Ok(()) = self.journal.reserve(1) else {
+            return Err(OutOfMemory);
+        };
+        self.journal.push_reserved(Entry::Step(n));
+        self.left = limit;
+        Ok(())
+    }
+}

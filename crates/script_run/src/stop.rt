@@ -1,0 +1,39 @@
+//! Why a run stops.
+
+ghost use Rattle.std.specs.Prelude.{◌≡◌};
+ghost use Rattle.script_run.specs.Ran.{stop_of};
+
+use listeners::DispatchFault;
+
+/// What may be wanting at any place.
+#[derive(Clone, Copy, Debug, PartialEq, Eq)]
+pub enum Halt {
+    /// There was no memory.
+    Memory,
+    /// The sink failed to take bytes.
+    Write,
+}
+
+/// Why a run stops before the end of its script.
+#[derive(Clone, Copy, Debug, PartialEq, Eq)]
+pub enum Stop {
+    /// Memory or the sink was wanting.
+    Halted(Halt),
+    /// The listener of this number answered an event with more than 1000 calls.
+    CallBudget(u32),
+    /// Listeners answered more calls than they may make in one line.
+    TaskBudget,
+}
+
+impl Stop {
+    /// The stop that a fault of a dispatch is.
+    pub(crate) fn of(fault: DispatchFault) -> Stop
+        ensures { result ≡ stop_of fault }
+    {
+        match fault {
+            DispatchFault::OutOfMemory => Stop::Halted(Halt::Memory),
+            DispatchFault::CallBudget(number) => Stop::CallBudget(number),
+            DispatchFault::TaskBudget => Stop::TaskBudget,
+        }
+    }
+}
