@@ -2,8 +2,8 @@
 use Rattle.std.proofs.Common.{◌≡◌, ℕ, zero, suc, ◌+◌, ◌<◌, Bool, true, false, List, [], ◌∷◌, ◌++◌, refl, ap, sym, ◌∙◌, arith}
 use Rattle.std.specs.Prelude.{Option, Some, None, slice_get, option_map, if◌then◌else◌}
 use Rattle.mse_calls.specs.declared.events.Event.{Event}
-use Rattle.mse_calls.specs.declared.journal.Entry.{Entry}
-use Rattle.mse_calls.specs.declared.journal.Entry.TheVariants.{Work, Element}
+use Rattle.mse_calls.specs.declared.entry.Entry.{Entry}
+use Rattle.mse_calls.specs.declared.entry.Entry.TheVariants.{Work, Element}
 use Rattle.buffer_state.specs.declared.running.Running.{Running}
 use Rattle.buffer_state.specs.declared.running.Running.TheVariants.{Nothing, Append, Removal}
 use Rattle.buffer_state.specs.State.{is_updating}

@@ -12,8 +12,8 @@ use Rattle.mse_calls.specs.declared.answers.Name.TheVariants.{InvalidState, Quot
 use Rattle.mse_calls.specs.declared.calls.Call.{Call}
 use Rattle.mse_calls.specs.declared.calls.Call.TheVariants as call
 use Rattle.mse_calls.specs.declared.events.Event.{Event}
-use Rattle.mse_calls.specs.declared.journal.Entry.{Entry}
-use Rattle.mse_calls.specs.declared.journal.Entry.TheVariants.{Step, Script, Listener, Fired, Work, Element}
+use Rattle.mse_calls.specs.declared.entry.Entry.{Entry}
+use Rattle.mse_calls.specs.declared.entry.Entry.TheVariants.{Step, Script, Listener, Fired, Work, Element}
 use Rattle.track_store.specs.Kept.{bytes_in}
 use Rattle.track_buffers.specs.Media.{Media}
 use Rattle.track_buffers.specs.Frames.{media_after_eviction, used_in}

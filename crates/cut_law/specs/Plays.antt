@@ -2,8 +2,8 @@
 use Rattle.std.specs.Prelude.{ℕ, zero, suc, Bool, true, false, List, [], ◌∷◌, ◌++◌, map, Option, Some, None}
 use Rattle.mse_calls.specs.Answered.{Answered}
 use Rattle.mse_calls.specs.declared.events.Event.{Event}
-use Rattle.mse_calls.specs.declared.journal.Entry.{Entry}
-use Rattle.mse_calls.specs.declared.journal.Entry.TheVariants.{Step, Script, Fired, Work, Element}
+use Rattle.mse_calls.specs.declared.entry.Entry.{Entry}
+use Rattle.mse_calls.specs.declared.entry.Entry.TheVariants.{Step, Script, Fired, Work, Element}
 use Rattle.call_script.specs.declared.script.StepLine.{StepLine}
 use Rattle.call_script.specs.declared.script.StepLine.TheVariants as step
 use Rattle.mse_engine.specs.State.{State}

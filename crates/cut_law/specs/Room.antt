@@ -3,8 +3,8 @@
 use Rattle.std.specs.Prelude.{◌≡◌, ℕ, false, List, [], ◌∷◌, Option, Some, None}
 use Rattle.mse_calls.specs.declared.calls.Call.{Call}
 use Rattle.mse_calls.specs.declared.calls.Call.TheVariants.{AppendBuffer}
-use Rattle.mse_calls.specs.declared.journal.Entry.{Entry}
-use Rattle.mse_calls.specs.declared.journal.Entry.TheVariants as entry
+use Rattle.mse_calls.specs.declared.entry.Entry.{Entry}
+use Rattle.mse_calls.specs.declared.entry.Entry.TheVariants as entry
 use Rattle.mse_calls.specs.Pieces.{bytes_of}
 use Rattle.call_script.specs.declared.script.StepLine.{StepLine}
 use Rattle.call_script.specs.declared.script.StepLine.TheVariants as step

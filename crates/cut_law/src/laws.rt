@@ -5,7 +5,7 @@ ghost use Rattle.std.specs.Prelude.{◌≡◌, ◌≢◌, ℕ, ◌+◌, ◌≤�
 ghost use Rattle.mse_base.specs.declared.ticks.Moment.{Moment};
 ghost use Rattle.mse_calls.specs.declared.calls.Call.{Call};
 ghost use Rattle.mse_calls.specs.declared.calls.Piece.{Piece};
-ghost use Rattle.mse_calls.specs.declared.journal.Entry.{Entry};
+ghost use Rattle.mse_calls.specs.declared.entry.Entry.{Entry};
 ghost use Rattle.call_script.specs.declared.script.StepLine.{StepLine};
 ghost use Rattle.mse_engine.specs.State.{State};
 ghost use Rattle.mse_engine.specs.Calls.{after_call};

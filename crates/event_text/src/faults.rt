@@ -107,6 +107,14 @@ fn inner_words(alloc: Global, fault: &FaultView) -> Result<String, AllocError>
     }
 }
 
+/// The line of a violation of a byte stream format, with its line feed.
+pub fn fault_line(alloc: Global, fault: &FaultView) -> Result<Text, OutOfMemory>
+    ensures { IfOk result (λ text. text ≡ fault_line fault.now) }
+{
+    let line = fault_words(alloc, fault)?;
+    Ok(Text::from_string(alloc, line))
+}
+
 /// The line of a fault.
 pub fn fault_words(alloc: Global, fault: &FaultView) -> Result<String, AllocError>
     ensures { IfOk result (λ s. string_bytes s ≡ fault_line fault.now) }

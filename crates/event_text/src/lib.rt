@@ -16,8 +16,8 @@ mod words;
 
 pub use block::closing;
 pub use events::kind_name;
-pub use faults::init_fault;
-pub use lines::line_of;
+pub use faults::{fault_line, init_fault};
+pub use lines::{event_line, line_of, listener_line, script_line};
 pub use words::printable;
 
 #[cfg(test)]

@@ -8,11 +8,12 @@ use Rattle.mse_base.specs.declared.memory.OutOfMemory.{OutOfMemory as NoMemory}
 use Rattle.mse_calls.specs.declared.answers.Answer.{Answer}
 use Rattle.mse_calls.specs.declared.calls.Call.{Call}
 use Rattle.mse_calls.specs.declared.events.Event.{Event}
-use Rattle.mse_calls.specs.declared.journal.Entry.{Entry}
-use Rattle.mse_calls.specs.declared.journal.Entry.TheVariants.{Step, Script, Listener, Fired, Work, Element}
+use Rattle.mse_calls.specs.declared.entry.Entry.{Entry}
+use Rattle.mse_calls.specs.declared.entry.Entry.TheVariants.{Step, Script, Listener, Fired, Work, Element}
 use Rattle.mse_engine.specs.State.{State}
 use Rattle.mse_engine.specs.Standing.{Kept, Stands, IsStep}
 use Rattle.mse_engine.specs.Calls.{after_call}
+use Rattle.mse_engine.specs.Sound.{IsSoundEngine}
 use Rattle.mse_engine.proofs.Goes.{goes_none, goes_then, goes_listener}
 use Rattle.listeners.specs.declared.listener.Note.{Note}
 use Rattle.listeners.specs.declared.listener.Note.TheVariants.{Heard, Made, Told}
@@ -67,11 +68,11 @@ makes_then blobs j0 j1 j2 e0 e1 e2 l0 l1 l2 xs ys p q = record {
   left = omega (arith, length-append xs ys, p.left, q.left);
 }
 
--- a call of listener `w` that the engine answered
+-- a call of listener `w` that the engine answered, behind which it is sound
 pub makes_one : (blobs : List (List ℕ)) (w : ℕ) (call : Call) (answer : Answer) (j0 j1 : List Entry) (e0 e1 : Kept) (l0 l1 : ℕ)
-    → j1 ≡ j0 ++ Listener w call answer ∷ [] → ((st : State) → Stands e0 st → IsStep answer e1 (after_call blobs call st)) → l0 ≡ l1 + 1
+    → j1 ≡ j0 ++ Listener w call answer ∷ [] → ((st : State) → Stands e0 st → IsStep answer e1 (after_call blobs call st)) → IsSoundEngine e1 → l0 ≡ l1 + 1
     → MakesCalls blobs j0 j1 e0 e1 l0 l1 (Listener w call answer ∷ [])
-makes_one blobs w call answer j0 j1 e0 e1 l0 l1 j a l = record { journal = j; engine = goes_listener blobs e0 e1 w call answer a; left = l }
+makes_one blobs w call answer j0 j1 e0 e1 l0 l1 j a sound l = record { journal = j; engine = goes_listener blobs e0 e1 w call answer a sound; left = l }
 
 -- ---- one call
 

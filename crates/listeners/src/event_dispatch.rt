@@ -6,8 +6,9 @@ ghost use Rattle.listeners.specs.Dispatch.{IsCallTurn, IsDispatch, IsTurn};
 
 use crate::Listener;
 use mse_base::OutOfMemory;
-use mse_calls::{Answer, Blobs, Call, Entry, Event, Journal};
+use mse_calls::{Answer, Blobs, Call, Entry, Event};
 use mse_engine::Engine;
+use run_journal::Journal;
 use thiserror::Error;
 use track_store::FrameStore;
 

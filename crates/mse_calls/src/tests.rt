@@ -1,4 +1,4 @@
-use crate::{Answer, Blobs, Call, Entry, Event, EventKind, Journal, Piece, Target, TimeRanges};
+use crate::{Answer, Blobs, Call, Piece, TimeRanges};
 use mse_base::{Bytes, Ranges, Span, Text, Ticks};
 use std::test::Fail;
 
@@ -34,9 +34,9 @@ fn copies_an_answer(rt: HostRuntime) -> Result<(), Fail> {
     Ok(())
 }
 
-/// Blobs and entries come last, and are found at their places.
+/// Blobs come last, and are found at their places.
 #[test]
-fn keeps_blobs_and_entries(rt: HostRuntime) -> Result<(), Fail> {
+fn keeps_blobs(rt: HostRuntime) -> Result<(), Fail> {
     let mut blobs = Blobs::new(rt.alloc());
     blobs.push(Bytes::copy_of(rt.alloc(), &[1, 2])?)?;
     blobs.push(Bytes::copy_of(rt.alloc(), &[3])?)?;
@@ -57,17 +57,5 @@ fn keeps_blobs_and_entries(rt: HostRuntime) -> Result<(), Fail> {
             "{part:?} of {blob}"
         );
     }
-    let event = Event {
-        target: Target::Buffer(1),
-        kind: EventKind::Update,
-    };
-    let mut journal = Journal::new(rt.alloc());
-    journal.reserve(1)?;
-    journal.push_reserved(Entry::Fired(event));
-    let Some(Entry::Fired(fired)) = journal.get(0) else {
-        return Err(Fail::new("another entry"));
-    };
-    assert_eq!(rt; *fired, event);
-    assert_eq!(rt; journal.len(), 1);
     Ok(())
 }

@@ -2,13 +2,15 @@
 use Rattle.std.proofs.Common.{◌≡◌, ℕ, List, [], ◌∷◌, ◌++◌, refl, ◌∙◌}
 use Rattle.mse_calls.specs.declared.answers.Answer.{Answer}
 use Rattle.mse_calls.specs.declared.calls.Call.{Call}
-use Rattle.mse_calls.specs.declared.journal.Entry.{Entry}
-use Rattle.mse_calls.specs.declared.journal.Entry.TheVariants.{Script, Listener}
+use Rattle.mse_calls.specs.declared.entry.Entry.{Entry}
+use Rattle.mse_calls.specs.declared.entry.Entry.TheVariants.{Script, Listener}
 use Rattle.mse_engine.specs.State.{State}
 use Rattle.mse_engine.specs.Calls.{after_call}
 use Rattle.mse_engine.specs.Run.{entry_meaning, after_entries, Replays}
 use Rattle.mse_engine.specs.Standing.{Kept, Stands, IsStep}
+use Rattle.mse_engine.specs.Sound.{IsSoundEngine, AreSoundBehind}
 use Rattle.mse_engine.specs.Goes.{Goes}
+use Rattle.mse_engine.proofs.SoundStates.{stands_sound}
 
 pub after_entries-append : (blobs : List (List ℕ)) (st : State) (xs ys : List Entry)
     → after_entries blobs st (xs ++ ys) ≡ after_entries blobs (after_entries blobs st xs) ys
@@ -20,6 +22,11 @@ pub Replays-append : (blobs : List (List ℕ)) (st : State) (xs ys : List Entry)
 Replays-append blobs st [] ys p q = q
 Replays-append blobs st (x ∷ xs) ys p q = (p.0, Replays-append blobs (entry_meaning blobs st x).state xs ys p.1 q)
 
+AreSoundBehind-append : (blobs : List (List ℕ)) (st : State) (xs ys : List Entry)
+    → AreSoundBehind blobs st xs → AreSoundBehind blobs (after_entries blobs st xs) ys → AreSoundBehind blobs st (xs ++ ys)
+AreSoundBehind-append blobs st [] ys p q = q
+AreSoundBehind-append blobs st (x ∷ xs) ys p q = (p.0, AreSoundBehind-append blobs (entry_meaning blobs st x).state xs ys p.1 q)
+
 empty_front : (xs ys : List Entry) → xs ++ ys ≡ [] → xs ≡ []
 empty_front [] ys e = refl
 empty_front (x ∷ xs) ys e = absurd (cc)
@@ -30,26 +37,32 @@ empty_back (x ∷ xs) ys e = absurd (cc)
 
 -- without an entry
 pub goes_none : (blobs : List (List ℕ)) (k : Kept) → Goes blobs k k []
-goes_none blobs k = record { replays = λ st h. tt; stands = λ st h. h; idle = λ e. refl }
+goes_none blobs k = record { replays = λ st h. tt; stands = λ st h. h; sound = λ st h. tt; idle = λ e. refl }
 
 -- entries, and then others
 pub goes_then : (blobs : List (List ℕ)) (a b c : Kept) (xs ys : List Entry) → Goes blobs a b xs → Goes blobs b c ys → Goes blobs a c (xs ++ ys)
 goes_then blobs a b c xs ys p q = record {
   replays = λ st h. Replays-append blobs st xs ys (p.replays st h) (q.replays (after_entries blobs st xs) (p.stands st h));
   stands = λ st h. rw (after_entries-append blobs st xs ys) (q.stands (after_entries blobs st xs) (p.stands st h));
+  sound = λ st h. AreSoundBehind-append blobs st xs ys (p.sound st h) (q.sound (after_entries blobs st xs) (p.stands st h));
   idle = λ e. q.idle (empty_back xs ys e) ∙ p.idle (empty_front xs ys e);
 }
 
--- one entry, which tells what its step does
+-- one entry, which tells what its step does, and behind which the engine is sound
 pub goes_one : (blobs : List (List ℕ)) (a b : Kept) (entry : Entry) → ((st : State) → Stands a st → (entry_meaning blobs st entry).holds)
-    → ((st : State) → Stands a st → Stands b (entry_meaning blobs st entry).state) → Goes blobs a b (entry ∷ [])
-goes_one blobs a b entry holds stands = record { replays = λ st h. (holds st h, tt); stands = stands; idle = λ e. absurd (cc) }
+    → ((st : State) → Stands a st → Stands b (entry_meaning blobs st entry).state) → IsSoundEngine b → Goes blobs a b (entry ∷ [])
+goes_one blobs a b entry holds stands sound = record {
+  replays = λ st h. (holds st h, tt);
+  stands = stands;
+  sound = λ st h. (stands_sound b (entry_meaning blobs st entry).state (stands st h) sound, tt);
+  idle = λ e. absurd (cc);
+}
 
 -- a call of the script, and one of a listener
 pub goes_script : (blobs : List (List ℕ)) (a b : Kept) (call : Call) (answer : Answer) → ((st : State) → Stands a st → IsStep answer b (after_call blobs call st))
-    → Goes blobs a b (Script call answer ∷ [])
-goes_script blobs a b call answer h = goes_one blobs a b (Script call answer) (λ st s. (h st s).answers) (λ st s. (h st s).stands)
+    → IsSoundEngine b → Goes blobs a b (Script call answer ∷ [])
+goes_script blobs a b call answer h sound = goes_one blobs a b (Script call answer) (λ st s. (h st s).answers) (λ st s. (h st s).stands) sound
 
 pub goes_listener : (blobs : List (List ℕ)) (a b : Kept) (w : ℕ) (call : Call) (answer : Answer) → ((st : State) → Stands a st → IsStep answer b (after_call blobs call st))
-    → Goes blobs a b (Listener w call answer ∷ [])
-goes_listener blobs a b w call answer h = goes_one blobs a b (Listener w call answer) (λ st s. (h st s).answers) (λ st s. (h st s).stands)
+    → IsSoundEngine b → Goes blobs a b (Listener w call answer ∷ [])
+goes_listener blobs a b w call answer h sound = goes_one blobs a b (Listener w call answer) (λ st s. (h st s).answers) (λ st s. (h st s).stands) sound

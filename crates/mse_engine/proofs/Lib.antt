@@ -16,6 +16,7 @@ pub mod BufferStepping
 pub mod Working
 pub mod Refusing
 pub mod RefusedCalls
+pub mod SoundStates
 pub mod Goes
 pub mod UntoldCalls
 pub mod Progress

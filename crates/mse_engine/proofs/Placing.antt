@@ -13,7 +13,6 @@ use Rattle.mse_calls.specs.declared.answers.Level.{Level}
 use Rattle.mse_calls.specs.declared.answers.Level.TheVariants.{Nothing, Metadata, Current, Future, Enough}
 use Rattle.source_state.specs.State.{SourceState}
 use Rattle.source_state.specs.Seekable.{seekable_span}
-use Rattle.source_buffers.specs.All.{AllEndWithin, AreSound}
 use Rattle.element_seek.specs.declared.scene.Scene.{Scene}
 use Rattle.element_seek.specs.State.{PlayerState, has_ended, is_playing}
 use Rattle.element_seek.specs.Inside.{IsInside, LiesInside, HasSpansInside, StaysInside}
@@ -27,6 +26,7 @@ use Rattle.mse_engine.specs.State.{Element, element_of}
 use Rattle.mse_engine.specs.Scenes.{CoreView, scene_at}
 use Rattle.mse_engine.specs.Signals.{Signal, Tell, DurationChanged, Loaded, after_signal, after_signals, after_settling}
 use Rattle.mse_engine.specs.Positions.{IsPlaced}
+use Rattle.mse_engine.specs.Sound.{AreSoundWithin}
 use Rattle.mse_engine.proofs.Unchanged.{in_seek, in_play, in_pause, in_advance, in_turn, in_fall}
 use Rattle.mse_engine.proofs.Loading.{load_level, settled_metadata}
 use Rattle.mse_engine.proofs.Spanning.{spans-inside}
@@ -40,9 +40,8 @@ pub record AreInside : Type 0 where
   pub advance : (t : ℤ) (scene : Scene) (p : PlayerState) → HasSpansInside scene → StaysInside scene p (after_advance t scene p).state
 
 -- the frames of all buffers
-pub record HasFrames (v : CoreView) : Type 0 where
-  pub sound : AreSound v.media
-  pub within : AllEndWithin v.source.state.duration v.media
+abbrev pub HasFrames : CoreView → Type 0
+HasFrames v = AreSoundWithin v.source.state.duration v.media
 
 -- ---- a duration that does not fall
 

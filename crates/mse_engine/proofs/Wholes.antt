@@ -1,26 +1,23 @@
 -- Each step of the engine stands for a state in which the position lies inside the media.
-use Rattle.std.proofs.Common.{◌≡◌, ℕ, ℤ, List, [], refl, sym, ap, subst, arith}
+use Rattle.std.proofs.Common.{◌≡◌, ℕ, ℤ, List, [], refl, sym, subst, arith}
 use Rattle.std.specs.Prelude.{Option, Some, None, option_map}
 use Rattle.std.proofs.lemmas.Int.{ints}
-use Rattle.mse_base.specs.declared.ticks.Moment.{Moment}
 use Rattle.mse_calls.specs.declared.answers.Answer.{Answer}
 use Rattle.mse_calls.specs.declared.calls.Call.{Call}
 use Rattle.mse_calls.specs.declared.events.Event.{Event}
-use Rattle.track_buffers.specs.Media.{Media}
-use Rattle.source_buffers.specs.All.{AllEndWithin, AreSound}
-use Rattle.source_buffers.specs.State.{KeptBuffers, all_kept_media, media_of_all}
-use Rattle.source_buffers.proofs.Standing.{same_media}
+use Rattle.source_buffers.specs.All.{AreSound}
+use Rattle.source_buffers.specs.State.{KeptBuffers, all_kept_media}
 use Rattle.media_element.specs.State.{ElementState, new_element}
 use Rattle.media_element.specs.Queueing.{after_fire}
 use Rattle.mse_engine.specs.declared.engine.Worked.{Worked}
 use Rattle.mse_engine.specs.declared.engine.Worked.TheVariants.{Did, Idle}
-use Rattle.mse_engine.specs.State.{CoreSource, State, opening_state}
-use Rattle.mse_engine.specs.Scenes.{core_view}
+use Rattle.mse_engine.specs.State.{State, opening_state}
 use Rattle.mse_engine.specs.Calls.{after_call}
 use Rattle.mse_engine.specs.Work.{after_work, after_element_turn, fire_result, without_first}
 use Rattle.mse_engine.specs.Positions.{IsPlacedState}
 use Rattle.mse_engine.specs.Standing.{SourceSide, Kept, Stands, IsStep, IsSteady, IsWork, IsFired, IsWhole, kept, new_side}
-use Rattle.mse_engine.proofs.Placing.{AreInside, HasFrames}
+use Rattle.mse_engine.proofs.SoundStates.{sound_steady, stands_sound}
+use Rattle.mse_engine.proofs.Placing.{AreInside}
 use Rattle.mse_engine.proofs.Placed.{call-placed, work-placed, turn-placed}
 
 pub opens_placed : (quota : ℕ) (gap : ℤ) → IsPlacedState (opening_state quota gap)
@@ -29,16 +26,6 @@ opens_placed quota gap = record {
   untracked = λ n. tt;
 }
 
--- what is kept has the frames that the state has
-frames_by : (k : Kept) (st : State) → Stands k st → IsSteady k → AreSound (all_kept_media k.buffers) → HasFrames (core_view st.core)
-frames_by k st h steady sound =
-    let media : all_kept_media k.buffers ≡ media_of_all st.core.buffers = same_media k.buffers st.core.buffers h.buffers in
-    let duration : k.side.state.duration ≡ st.core.source.state.duration = ap (λ (s : CoreSource). s.state.duration) h.source in
-    record {
-      sound = subst (λ (ms : List (Option Media)). AreSound ms) media sound;
-      within = subst (λ (ms : List (Option Media)). AllEndWithin st.core.source.state.duration ms) media (subst (λ (d : Moment). AllEndWithin d (all_kept_media k.buffers)) duration steady.within);
-    }
-
 pub whole_call : AreInside → (blobs : List (List ℕ)) (x : Call) (old new : Kept) (answer : Answer) → (h : IsWhole old) → IsSteady new → AreSound (all_kept_media new.buffers)
     → IsStep answer new (after_call blobs x h.inside.state) → IsWhole new
 whole_call law blobs x old new answer h steady sound made = record {
@@ -46,7 +33,7 @@ whole_call law blobs x old new answer h steady sound made = record {
   inside = record {
     state = (after_call blobs x h.inside.state).state;
     stands = made.stands;
-    placed = call-placed law blobs x h.inside.state h.inside.placed (frames_by new (after_call blobs x h.inside.state).state made.stands steady sound);
+    placed = call-placed law blobs x h.inside.state h.inside.placed (stands_sound new (after_call blobs x h.inside.state).state made.stands (sound_steady new steady sound));
   };
 }
 
@@ -62,11 +49,11 @@ worked_by Idle (Some st) old new h steady f work = absurd work
 
 pub whole_work : AreInside → (k : ℕ) (w : Worked) (old new : Kept) → (h : IsWhole old) → IsSteady new → AreSound (all_kept_media new.buffers) → IsWork w old new (after_work k h.inside.state) → IsWhole new
 whole_work law k w old new h steady sound work =
-    worked_by w (after_work k h.inside.state) old new h steady (λ st is stands. work-placed law k h.inside.state st is h.inside.placed (frames_by new st stands steady sound)) work
+    worked_by w (after_work k h.inside.state) old new h steady (λ st is stands. work-placed law k h.inside.state st is h.inside.placed (stands_sound new st stands (sound_steady new steady sound))) work
 
 pub whole_turn : AreInside → (w : Worked) (old new : Kept) → (h : IsWhole old) → IsSteady new → AreSound (all_kept_media old.buffers) → IsWork w old new (after_element_turn h.inside.state) → IsWhole new
 whole_turn law w old new h steady sound work =
-    worked_by w (after_element_turn h.inside.state) old new h steady (λ st is stands. turn-placed law h.inside.state st is h.inside.placed (frames_by old h.inside.state h.inside.stands h.steady sound)) work
+    worked_by w (after_element_turn h.inside.state) old new h steady (λ st is stands. turn-placed law h.inside.state st is h.inside.placed (stands_sound old h.inside.state h.inside.stands (sound_steady old h.steady sound))) work
 
 -- firing leaves the core and the element
 fired_placed : (st : State) → IsPlacedState st → IsPlacedState (without_first st)

@@ -13,4 +13,5 @@ pub mod Views
 pub mod Positions
 pub mod Standing
 pub mod Progress
+pub mod Sound
 pub mod Goes

@@ -1,10 +1,9 @@
-ghost use Rattle.std.specs.Prelude.{◌≡◌, ◌≤ℤ◌, pos, true, false, option_copied, option_map, IfOk, OnErr};
+ghost use Rattle.std.specs.Prelude.{◌≡◌, ◌≤ℤ◌, pos, true, false, option_copied, option_map, IfOk, OnOk, OnErr};
 ghost use Rattle.std.specs.List.{AllByRecursion};
 ghost use Rattle.mse_base.specs.Moments.{is_nan};
 ghost use Rattle.mse_calls.specs.Level.{has_metadata};
 ghost use Rattle.track_store.specs.State.{state_of};
 ghost use Rattle.element_seek.specs.Inside.{IsInside};
-ghost use Rattle.source_buffers.specs.All.{AllEndWithin, AreSound};
 ghost use Rattle.source_buffers.specs.Buffered.{track_at};
 ghost use Rattle.source_buffers.specs.State.{all_kept_media};
 ghost use Rattle.mse_engine.specs.State.{State, opening_state};
@@ -12,6 +11,7 @@ ghost use Rattle.mse_engine.specs.Calls.{after_call};
 ghost use Rattle.mse_engine.specs.Refusals.{call_refusal};
 ghost use Rattle.mse_engine.specs.Work.{after_element_turn, after_work, due_in, fire_result, running_in};
 ghost use Rattle.mse_engine.specs.Views.{span_in, view_in};
+ghost use Rattle.mse_engine.specs.Sound.{IsSoundEngine};
 ghost use Rattle.mse_engine.specs.Standing.{Answers, IsFewerWork, IsFired, IsWork, Stands};
 
 use crate::calls::make_call;
@@ -70,9 +70,11 @@ impl<S: FrameStore> Engine<S> {
         }
     }
 
-    /// One call: it is made at once, and its events are queued.
+    /// One call: it is made at once, and its events are queued. Behind it, as behind each step, the
+    /// tracks are sound and their frames end within the duration.
     pub fn call(&mut self, call: &Call, blobs: &Blobs) -> Result<Answer, EngineFault>
         ensures answered { Answers self.old result self.new (after_call blobs.now call.now) }
+        ensures sound { OnOk result (IsSoundEngine self.new) }
         ensures err { OnErr result (self.new ≡ self.old) }
     {
         position_inside();
@@ -101,7 +103,9 @@ impl<S: FrameStore> Engine<S> {
     pub fn fire(&mut self) -> Option<Event>
         ensures fired { (st : State) → Stands self.old st → IsFired result self.old self.new (fire_result st) }
         ensures buffers { self.new.buffers ≡ self.old.buffers }
+        ensures sound { IsSoundEngine self.new }
     {
+        self.buffers.sound();
         self.element.fire()
     }
 
@@ -110,6 +114,7 @@ impl<S: FrameStore> Engine<S> {
         ensures worked { (st : State) → Stands self.old st
             → IfOk result (λ worked. IsWork worked self.old self.new (after_work k st)) }
         ensures fewer { IfOk result (λ worked. IsFewerWork worked self.old self.new) }
+        ensures sound { OnOk result (IsSoundEngine self.new) }
         ensures err { OnErr result (self.new ≡ self.old) }
     {
         position_inside();
@@ -123,6 +128,7 @@ impl<S: FrameStore> Engine<S> {
         ensures worked { (st : State) → Stands self.old st
             → IfOk result (λ worked. IsWork worked self.old self.new (after_element_turn st)) }
         ensures buffers { self.new.buffers ≡ self.old.buffers }
+        ensures sound { OnOk result (IsSoundEngine self.new) }
         ensures err { OnErr result (self.new ≡ self.old) }
     {
         position_inside();
@@ -187,9 +193,7 @@ impl<S: FrameStore> Engine<S> {
     /// neither negative nor after the duration, and where the element has metadata there is a
     /// duration. It does nothing when it runs.
     pub fn sound(&self)
-        ensures sound { AreSound (all_kept_media self.now.buffers) }
-        ensures within_duration { AllEndWithin self.now.side.state.duration
-            (all_kept_media self.now.buffers) }
+        ensures sound { IsSoundEngine self.now }
         ensures position { IsInside self.now.side.state.duration
             self.now.element.player.position }
         ensures duration { has_metadata self.now.element.player.level ≡ true

@@ -3,8 +3,8 @@ use Rattle.std.proofs.Common.{◌≡◌, ℕ, List, [], ◌∷◌, ◌++◌, len
 use Rattle.std.specs.Prelude.{Option, Some, None, Bool, true, false, option_map, slice_get}
 use Rattle.std.proofs.lemmas.List.{append-nil}
 use Rattle.mse_calls.specs.declared.events.Event.{Event}
-use Rattle.mse_calls.specs.declared.journal.Entry.{Entry}
-use Rattle.mse_calls.specs.declared.journal.Entry.TheVariants.{Fired, Work, Element}
+use Rattle.mse_calls.specs.declared.entry.Entry.{Entry}
+use Rattle.mse_calls.specs.declared.entry.Entry.TheVariants.{Fired, Work, Element}
 use Rattle.listeners.specs.declared.listener.Note.{Note}
 use Rattle.mse_engine.specs.State.{State}
 use Rattle.mse_engine.specs.declared.engine.Worked.TheVariants.{Did}
@@ -16,7 +16,7 @@ use Rattle.mse_engine.proofs.Goes.{goes_none, goes_then}
 use Rattle.call_script.specs.declared.script.StepLine.TheVariants.{Fire, Drain}
 use Rattle.script_run.specs.declared.stop.Stop.{Stop}
 use Rattle.script_run.specs.Doings.{InDrainOrder, IsAtRest, IsQuiet, NoEvent}
-use Rattle.script_run.specs.Left.{IsCalm, IsTurnTaken}
+use Rattle.script_run.specs.Progress.{IsCalm, IsTurnTaken}
 use Rattle.script_run.specs.Lines.{Begins, Does}
 use Rattle.script_run.specs.Ran.{Doing, Drains, Ran, RanUpTo, Stepped, SteppedIf}
 use Rattle.script_run.specs.Stage.{IsStanding, RunView, Stage, stage}

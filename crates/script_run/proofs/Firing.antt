@@ -9,8 +9,8 @@ use Rattle.mse_calls.specs.declared.calls.Call.{Call}
 use Rattle.std.proofs.lemmas.List.{append-nil}
 use Rattle.std.proofs.Math.Seq.{drop-append_seam}
 use Rattle.mse_calls.specs.declared.events.Event.{Event}
-use Rattle.mse_calls.specs.declared.journal.Entry.{Entry}
-use Rattle.mse_calls.specs.declared.journal.Entry.TheVariants.{Step, Script, Listener, Fired, Work, Element}
+use Rattle.mse_calls.specs.declared.entry.Entry.{Entry}
+use Rattle.mse_calls.specs.declared.entry.Entry.TheVariants.{Step, Script, Listener, Fired, Work, Element}
 use Rattle.listeners.specs.declared.listener.Note.{Note}
 use Rattle.listeners.specs.declared.event_dispatch.DispatchFault.{DispatchFault}
 use Rattle.listeners.specs.declared.event_dispatch.DispatchFault.TheVariants as fault
@@ -24,18 +24,20 @@ use Rattle.mse_engine.specs.Goes.{Goes}
 use Rattle.mse_engine.proofs.Goes.{goes_then}
 use Rattle.call_script.specs.declared.script.StepLine.TheVariants.{Fire}
 use Rattle.script_run.specs.declared.stop.Halt.{Halt}
+use Rattle.script_run.specs.declared.stop.Halt.TheVariants as halt
 use Rattle.script_run.specs.declared.stop.Stop.TheVariants.{Halted}
 use Rattle.script_run.specs.Doings.{InDrainOrder, NoEvent}
 use Rattle.script_run.specs.Lines.{Begins, Does, fired_of, own_of}
-use Rattle.script_run.specs.Ran.{CutDispatch, Doing, Grew, HeardButLast, Ran, RanUpTo, Stepped, StoppedBy, stop_of}
+use Rattle.script_run.specs.Ran.{CutDispatch, Doing, Grew, HeardTo, IsOverLimit, Ran, RanUpTo, Stepped, StoppedBy, stop_of}
 use Rattle.script_run.specs.Stage.{RunView, stage}
-use Rattle.script_run.specs.Story.{story, until_fired}
+use Rattle.script_run.specs.Story.{HeardAll, story, until_fired}
 use Rattle.script_run.specs.Text.{lines_of}
-use Rattle.script_run.specs.Turns.{InTurns, calls_in}
+use Rattle.script_run.specs.Turns.{InTurns, IsSpent, calls_in}
 use Rattle.script_run.specs.Wrote.{Wrote, WroteFront}
 use Rattle.script_run.proofs.Stepping.{fired_one}
 use Rattle.script_run.proofs.Telling.{heard_none}
-use Rattle.script_run.proofs.Writing.{front_whole}
+use Rattle.script_run.proofs.Writing.{front_none}
+use Rattle.script_run.proofs.Cutting.{cut_as_memory, cut_of, heard_to_all}
 
 -- entries that are calls of listeners
 calls_own : (low high : ℕ) (es : List Entry) → CallsInTurn low high es → own_of es ≡ []
@@ -147,12 +149,22 @@ fired_turns blobs event b c n0 n1 result d = turns_of_calls (length n0) 0 0 d.en
 fired_lines : (event : Event) (j0 j1 j2 es : List Entry) → j1 ≡ j0 ++ Fired event ∷ [] → j2 ≡ j1 ++ es → drop (length j0) j2 ≡ Fired event ∷ es
 fired_lines event j0 j1 j2 es p q = rw (fired_grew event j0 j1 j2 es p q) (drop-append_seam j0 (Fired event ∷ es))
 
--- each listener was served
+-- each listener was served, and heard
+heard_at : (blobs : List (List ℕ)) (event : Event) (b c : RunView) (n0 n1 : List (List Note))
+    → (d : IsDispatch blobs event b.entries c.entries b.engine c.engine b.left c.left n0 n1 (Ok tt)) → length n1 ≡ length n0
+    → HeardAll (Fired event ∷ d.entries) n0 n1
+heard_at blobs event b c n0 n1 d same =
+    let until : until_fired d.entries ≡ d.entries = calls_until 0 (length n0) d.entries d.in_turn in
+    record {
+      count = same;
+      notes = λ w lt. d.outcome w lt ∙ ap (λ (x : List Note). notes_at n0 w ++ x)
+          (rw (until, calls_story 0 (length n0) d.entries w d.in_turn) (sym (append-nil (event_notes event w d.entries))));
+    }
+
 pub fired_ran : (blobs : List (List ℕ)) (event : Event) (a b c : RunView) (t0 t1 : Option (List ℕ)) (n0 n1 : List (List Note))
     → Stepped blobs (Fired event ∷ []) a b → IsDispatch blobs event b.entries c.entries b.engine c.engine b.left c.left n0 n1 (Ok tt) → length n1 ≡ length n0
     → Wrote (lines_of (drop (length a.entries) c.entries)) t0 t1 → Ran blobs (λ st part. Does blobs st Fire part) (stage a t0 n0) (stage c t1 n1)
 fired_ran blobs event a b c t0 t1 n0 n1 step d same wrote =
-    let until : until_fired d.entries ≡ d.entries = calls_until 0 (length n0) d.entries d.in_turn in
     let lines : drop (length a.entries) c.entries ≡ Fired event ∷ d.entries = fired_lines event a.entries b.entries c.entries d.entries step.grew d.calls.journal in
     record {
       played = record {
@@ -160,76 +172,96 @@ fired_ran blobs event a b c t0 t1 n0 n1 step d same wrote =
         grew = fired_entries blobs (λ st part. Does blobs st Fire part) event a b c n0 n1 (Ok tt) (λ st part h. h) step d;
         turns = fired_turns blobs event b c n0 n1 (Ok tt) d;
         wrote = rw lines at wrote;
-        heard = record {
-          count = same;
-          notes = λ w lt. d.outcome w lt ∙ ap (λ (x : List Note). notes_at n0 w ++ x)
-              (rw (until, calls_story 0 (length n0) d.entries w d.in_turn) (sym (append-nil (event_notes event w d.entries))));
-        };
+        heard = heard_at blobs event b c n0 n1 d same;
       };
       left = fired_left blobs event a b c n0 n1 (Ok tt) step d;
     }
 
-cut_of : (blobs : List (List ℕ)) (event : Event) (b c : RunView) (n0 n1 : List (List Note)) (fault : DispatchFault)
-    → (d : IsDispatch blobs event b.entries c.entries b.engine c.engine b.left c.left n0 n1 (Err fault)) → CutDispatch fault c.left (Fired event ∷ d.entries) n0 n1
-cut_of blobs event b c n0 n1 fault d = record {
-  before = [];
-  event = event;
-  calls = d.entries;
-  middle = n0;
-  entries_are = refl;
-  heard = heard_none n0;
-  end = d.outcome;
-}
+-- a dispatch that ended with a fault
+cut_at : (blobs : List (List ℕ)) (event : Event) (b c : RunView) (n0 n1 : List (List Note)) (f : DispatchFault)
+    → (d : IsDispatch blobs event b.entries c.entries b.engine c.engine b.left c.left n0 n1 (Err f)) → length n1 ≡ length n0
+    → CutDispatch f (Fired event ∷ d.entries) n0 n1
+cut_at blobs event b c n0 n1 f d same = cut_of f event d.entries c.left n0 n1 d.in_turn same (heard_none n0) d.outcome
 
-heard_by : (blobs : List (List ℕ)) (event : Event) (b c : RunView) (n0 n1 : List (List Note)) (result : Result (Unit {0}) DispatchFault)
-    → (d : IsDispatch blobs event b.entries c.entries b.engine c.engine b.left c.left n0 n1 result) → length n1 ≡ length n0 → HeardButLast c.left (Fired event ∷ d.entries) n0 n1
-heard_by blobs event b c n0 n1 (Ok u) d same =
-    let until : until_fired d.entries ≡ d.entries = calls_until 0 (length n0) d.entries d.in_turn in
-    inl (record {
-      count = same;
-      notes = λ w lt. d.outcome w lt ∙ ap (λ (x : List Note). notes_at n0 w ++ x)
-          (rw (until, calls_story 0 (length n0) d.entries w d.in_turn) (sym (append-nil (event_notes event w d.entries))));
-    })
-heard_by blobs event b c n0 n1 (Err fault) d same = inr (fault, cut_of blobs event b c n0 n1 fault d)
+-- the calls that were left were made
+fired_spent : (blobs : List (List ℕ)) (event : Event) (a b c : RunView) (n0 n1 : List (List Note)) → Stepped blobs (Fired event ∷ []) a b
+    → (d : IsDispatch blobs event b.entries c.entries b.engine c.engine b.left c.left n0 n1 (Err fault.TaskBudget)) → IsSpent a.left (Fired event ∷ d.entries)
+fired_spent blobs event a b c n0 n1 step d =
+    let left : a.left ≡ c.left + calls_in (Fired event ∷ d.entries) = fired_left blobs event a b c n0 n1 (Err fault.TaskBudget) step d in
+    omega (arith, left, d.outcome.ending.0)
+
+-- it was cut by a limit
+fired_over : (blobs : List (List ℕ)) (event : Event) (f : DispatchFault) (a b c : RunView) (n0 n1 : List (List Note)) → ¬ (f ≡ fault.OutOfMemory)
+    → Stepped blobs (Fired event ∷ []) a b → (d : IsDispatch blobs event b.entries c.entries b.engine c.engine b.left c.left n0 n1 (Err f)) → length n1 ≡ length n0
+    → IsOverLimit (IsSpent a.left) (stop_of f) (Fired event ∷ d.entries) n0 n1
+fired_over blobs event fault.OutOfMemory a b c n0 n1 not step d same = absurd (not refl)
+fired_over blobs event (fault.CallBudget k) a b c n0 n1 not step d same = cut_at blobs event b c n0 n1 (fault.CallBudget k) d same
+fired_over blobs event fault.TaskBudget a b c n0 n1 not step d same =
+    (fired_spent blobs event a b c n0 n1 step d, cut_at blobs event b c n0 n1 fault.TaskBudget d same)
+
+heard_to : (blobs : List (List ℕ)) (event : Event) (h : Halt) (a b c : RunView) (n0 n1 : List (List Note)) (result : Result (Unit {0}) DispatchFault)
+    → ¬ (result ≡ Err fault.OutOfMemory) → Stepped blobs (Fired event ∷ []) a b
+    → (d : IsDispatch blobs event b.entries c.entries b.engine c.engine b.left c.left n0 n1 result) → length n1 ≡ length n0
+    → HeardTo (IsSpent a.left) h (Fired event ∷ d.entries) n0 n1
+heard_to blobs event h a b c n0 n1 (Ok u) not step d same = heard_to_all (IsSpent a.left) h (Fired event ∷ d.entries) n0 n1 (heard_at blobs event b c n0 n1 d same)
+heard_to blobs event halt.Memory a b c n0 n1 (Err f) not step d same =
+    inr (cut_as_memory f (Fired event ∷ d.entries) n0 n1 (cut_at blobs event b c n0 n1 f d same))
+heard_to blobs event halt.Write a b c n0 n1 (Err f) not step d same =
+    inr (stop_of f, fired_over blobs event f a b c n0 n1 (λ e. not (ap Err e)) step d same)
 
 -- the lines were not all written
-pub fired_half : (blobs : List (List ℕ)) (event : Event) (halt : Halt) (a b c : RunView) (t0 t1 : Option (List ℕ)) (n0 n1 : List (List Note)) (result : Result (Unit {0}) DispatchFault)
-    → Stepped blobs (Fired event ∷ []) a b → IsDispatch blobs event b.entries c.entries b.engine c.engine b.left c.left n0 n1 result → length n1 ≡ length n0
-    → WroteFront (lines_of (drop (length a.entries) c.entries)) t0 t1 → RanUpTo blobs (λ st part. Begins blobs st Fire part) (Halted halt) (stage a t0 n0) (stage c t1 n1)
-fired_half blobs event halt a b c t0 t1 n0 n1 result step d same wrote =
+pub fired_half : (blobs : List (List ℕ)) (event : Event) (h : Halt) (a b c : RunView) (t0 t1 : Option (List ℕ)) (n0 n1 : List (List Note)) (result : Result (Unit {0}) DispatchFault)
+    → ¬ (result ≡ Err fault.OutOfMemory) → Stepped blobs (Fired event ∷ []) a b
+    → IsDispatch blobs event b.entries c.entries b.engine c.engine b.left c.left n0 n1 result → length n1 ≡ length n0
+    → WroteFront (lines_of (drop (length a.entries) c.entries)) t0 t1 → RanUpTo blobs (λ st part. Begins blobs st Fire part) (Halted h) (stage a t0 n0) (stage c t1 n1)
+fired_half blobs event h a b c t0 t1 n0 n1 result not step d same wrote =
     let lines : drop (length a.entries) c.entries ≡ Fired event ∷ d.entries = fired_lines event a.entries b.entries c.entries d.entries step.grew d.calls.journal in
     record {
       played = record {
         entries = Fired event ∷ d.entries;
-        grew = fired_entries blobs (λ st part. Begins blobs st Fire part) event a b c n0 n1 result (λ st part h. inr h) step d;
+        grew = fired_entries blobs (λ st part. Begins blobs st Fire part) event a b c n0 n1 result (λ st part p. inr p) step d;
         turns = fired_turns blobs event b c n0 n1 result d;
-        stopped = (rw lines at wrote, heard_by blobs event b c n0 n1 result d same);
+        stopped = (rw lines at wrote, heard_to blobs event h a b c n0 n1 result not step d same);
       };
       left = fired_left blobs event a b c n0 n1 result step d;
     }
 
-stopped_by : (blobs : List (List ℕ)) (event : Event) (b c : RunView) (t0 t1 : Option (List ℕ)) (n0 n1 : List (List Note)) (a : RunView) (dispatch_fault : DispatchFault)
-    → (d : IsDispatch blobs event b.entries c.entries b.engine c.engine b.left c.left n0 n1 (Err dispatch_fault)) → Wrote (lines_of (Fired event ∷ d.entries)) t0 t1
-    → StoppedBy (stop_of dispatch_fault) (Fired event ∷ d.entries) (stage a t0 n0) (stage c t1 n1)
-stopped_by blobs event b c t0 t1 n0 n1 a fault.OutOfMemory d wrote = (front_whole _ t0 t1 wrote, inr (fault.OutOfMemory, cut_of blobs event b c n0 n1 fault.OutOfMemory d))
-stopped_by blobs event b c t0 t1 n0 n1 a (fault.CallBudget k) d wrote = (wrote, cut_of blobs event b c n0 n1 (fault.CallBudget k) d)
-stopped_by blobs event b c t0 t1 n0 n1 a fault.TaskBudget d wrote = (wrote, cut_of blobs event b c n0 n1 fault.TaskBudget d)
+-- memory was wanting in the dispatch, and none of its lines was written
+pub fired_short : (blobs : List (List ℕ)) (event : Event) (a b c : RunView) (t : Option (List ℕ)) (n0 n1 : List (List Note))
+    → Stepped blobs (Fired event ∷ []) a b → IsDispatch blobs event b.entries c.entries b.engine c.engine b.left c.left n0 n1 (Err fault.OutOfMemory)
+    → length n1 ≡ length n0 → RanUpTo blobs (λ st part. Begins blobs st Fire part) (Halted halt.Memory) (stage a t n0) (stage c t n1)
+fired_short blobs event a b c t n0 n1 step d same = record {
+  played = record {
+    entries = Fired event ∷ d.entries;
+    grew = fired_entries blobs (λ st part. Begins blobs st Fire part) event a b c n0 n1 (Err fault.OutOfMemory) (λ st part p. inr p) step d;
+    turns = fired_turns blobs event b c n0 n1 (Err fault.OutOfMemory) d;
+    stopped = (front_none t (lines_of (Fired event ∷ d.entries)), inr (cut_at blobs event b c n0 n1 fault.OutOfMemory d same));
+  };
+  left = fired_left blobs event a b c n0 n1 (Err fault.OutOfMemory) step d;
+}
 
--- the dispatch ended with a fault
-pub fired_stopped : (blobs : List (List ℕ)) (event : Event) (dispatch_fault : DispatchFault) (a b c : RunView) (t0 t1 : Option (List ℕ)) (n0 n1 : List (List Note))
-    → Stepped blobs (Fired event ∷ []) a b → IsDispatch blobs event b.entries c.entries b.engine c.engine b.left c.left n0 n1 (Err dispatch_fault)
+stopped_by : (spent : List Entry → Type 0) (f : DispatchFault) (es : List Entry) (a c : RunView) (t0 t1 : Option (List ℕ)) (n0 n1 : List (List Note))
+    → Wrote (lines_of es) t0 t1 → IsOverLimit spent (stop_of f) es n0 n1 → StoppedBy spent (stop_of f) es (stage a t0 n0) (stage c t1 n1)
+stopped_by spent fault.OutOfMemory es a c t0 t1 n0 n1 wrote over = absurd over
+stopped_by spent (fault.CallBudget k) es a c t0 t1 n0 n1 wrote over = (wrote, over)
+stopped_by spent fault.TaskBudget es a c t0 t1 n0 n1 wrote over = (wrote, over)
+
+-- a limit ended the dispatch
+pub fired_stopped : (blobs : List (List ℕ)) (event : Event) (f : DispatchFault) (a b c : RunView) (t0 t1 : Option (List ℕ)) (n0 n1 : List (List Note))
+    → ¬ (f ≡ fault.OutOfMemory) → Stepped blobs (Fired event ∷ []) a b
+    → IsDispatch blobs event b.entries c.entries b.engine c.engine b.left c.left n0 n1 (Err f) → length n1 ≡ length n0
     → Wrote (lines_of (drop (length a.entries) c.entries)) t0 t1
-    → RanUpTo blobs (λ st part. Begins blobs st Fire part) (stop_of dispatch_fault) (stage a t0 n0) (stage c t1 n1)
-fired_stopped blobs event dispatch_fault a b c t0 t1 n0 n1 step d wrote =
+    → RanUpTo blobs (λ st part. Begins blobs st Fire part) (stop_of f) (stage a t0 n0) (stage c t1 n1)
+fired_stopped blobs event f a b c t0 t1 n0 n1 not step d same wrote =
     let lines : drop (length a.entries) c.entries ≡ Fired event ∷ d.entries = fired_lines event a.entries b.entries c.entries d.entries step.grew d.calls.journal in
     record {
       played = record {
         entries = Fired event ∷ d.entries;
-        grew = fired_entries blobs (λ st part. Begins blobs st Fire part) event a b c n0 n1 (Err dispatch_fault) (λ st part h. inr h) step d;
-        turns = fired_turns blobs event b c n0 n1 (Err dispatch_fault) d;
-        stopped = stopped_by blobs event b c t0 t1 n0 n1 a dispatch_fault d (rw lines at wrote);
+        grew = fired_entries blobs (λ st part. Begins blobs st Fire part) event a b c n0 n1 (Err f) (λ st part p. inr p) step d;
+        turns = fired_turns blobs event b c n0 n1 (Err f) d;
+        stopped = stopped_by (IsSpent a.left) f (Fired event ∷ d.entries) a c t0 t1 n0 n1 (rw lines at wrote) (fired_over blobs event f a b c n0 n1 not step d same);
       };
-      left = fired_left blobs event a b c n0 n1 (Err dispatch_fault) step d;
+      left = fired_left blobs event a b c n0 n1 (Err f) step d;
     }
 
 -- where no listener called, the engine is as it was when the event was fired

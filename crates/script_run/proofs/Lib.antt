@@ -1,6 +1,7 @@
 pub mod Writing
 pub mod Turning
 pub mod Telling
+pub mod Cutting
 pub mod Playing
 pub mod Following
 pub mod Stepping

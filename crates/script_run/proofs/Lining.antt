@@ -5,32 +5,34 @@ use Rattle.std.proofs.lemmas.List.{append-nil}
 use Rattle.std.proofs.Math.Seq.{drop-append_seam}
 use Rattle.mse_calls.specs.declared.answers.Answer.{Answer}
 use Rattle.mse_calls.specs.declared.calls.Call.{Call}
-use Rattle.mse_calls.specs.declared.journal.Entry.{Entry}
-use Rattle.mse_calls.specs.declared.journal.Entry.TheVariants as entry
+use Rattle.mse_calls.specs.declared.entry.Entry.{Entry}
+use Rattle.mse_calls.specs.declared.entry.Entry.TheVariants as entry
 use Rattle.event_text.specs.Lines.{line_text}
 use Rattle.listeners.specs.declared.listener.Note.{Note}
-use Rattle.listeners.specs.declared.event_dispatch.DispatchFault.{DispatchFault}
 use Rattle.call_script.specs.declared.script.StepLine.{StepLine}
 use Rattle.call_script.specs.declared.script.StepLine.TheVariants as step
 use Rattle.mse_engine.specs.State.{State}
 use Rattle.mse_engine.specs.Standing.{Kept, Stands}
 use Rattle.mse_engine.specs.Work.{after_element_turn, after_work}
+use Rattle.mse_engine.specs.Sound.{IsSoundEngine}
 use Rattle.mse_engine.specs.Goes.{Goes}
 use Rattle.mse_engine.proofs.Goes.{goes_one, goes_then}
 use Rattle.script_run.specs.declared.stop.Halt.{Halt}
 use Rattle.script_run.specs.declared.stop.Stop.{Stop}
-use Rattle.script_run.specs.declared.stop.Stop.TheVariants.{Halted, CallBudget, TaskBudget}
+use Rattle.script_run.specs.declared.stop.Stop.TheVariants.{Halted}
 use Rattle.script_run.specs.Follows.{LineBegins, LineIs}
 use Rattle.script_run.specs.Lines.{Begins, Does, Limits}
-use Rattle.script_run.specs.Ran.{CallHalted, Called, CutDispatch, Doing, HeardButLast, Played, PlayedUpTo, PlayedBy, Ran, RanBy, RanUpTo, Stepped, SteppedIf, StoppedBy}
+use Rattle.script_run.specs.Ran.{CallHalted, Called, Doing, Played, PlayedUpTo, PlayedBy, Ran, RanBy, RanUpTo, Stepped, SteppedIf}
 use Rattle.script_run.specs.Stage.{IsStanding, RunView, Stage, stage}
 use Rattle.script_run.specs.Text.{lines_of}
 use Rattle.script_run.specs.Story.{HeardAll}
-use Rattle.script_run.specs.Turns.{InTurns, calls_in}
+use Rattle.script_run.specs.Turns.{InTurns, IsSpent, SpentInLine, calls_in, steps_in}
 use Rattle.script_run.specs.Wrote.{Wrote, WroteFront}
 use Rattle.script_run.proofs.Stepping.{done_one}
 use Rattle.script_run.proofs.Telling.{heard_silence}
-use Rattle.script_run.proofs.Playing.{halt_none, ran_none}
+use Rattle.script_run.proofs.Writing.{wrote_none}
+use Rattle.script_run.proofs.Cutting.{heard_to_all, no_step_in_line, spent_line}
+use Rattle.script_run.proofs.Playing.{halt_none, played_none, ran_none, stopped_then}
 use Rattle.script_run.proofs.Draining.{standing_on, turn_ran, work_ran}
 
 -- ---- a call
@@ -60,7 +62,10 @@ call_halted blobs call halt a b t0 t1 n (inr p) = record {
     entries = entry.Script call p.answer ∷ [];
     grew = record { grew = p.stepped.grew; goes = p.stepped.goes; holds = λ st h. inr (call_does blobs call p.answer a.engine b.engine st h p.stepped.goes) };
     turns = tt;
-    stopped = (rw (append-nil (line_text (entry.Script call p.answer))) p.wrote, inl (heard_silence (entry.Script call p.answer ∷ []) n (λ w. refl)));
+    stopped = (
+      rw (append-nil (line_text (entry.Script call p.answer))) p.wrote,
+      heard_to_all (IsSpent a.left) halt (entry.Script call p.answer ∷ []) n n (heard_silence (entry.Script call p.answer ∷ []) n (λ w. refl)),
+    );
   };
   left = omega (arith, p.stepped.left);
 }
@@ -83,11 +88,11 @@ turn_line_ran blobs false a b t n p = rw p.0 (ran_none blobs (λ st part. Does b
 abbrev pub opened : ℕ → ℕ → RunView → RunView
 opened n limit a = record { engine = a.engine; entries = a.entries ++ entry.Step n ∷ []; left = limit }
 
-step_goes : (blobs : List (List ℕ)) (k : Kept) (n : ℕ) → Goes blobs k k (entry.Step n ∷ [])
-step_goes blobs k n = goes_one blobs k k (entry.Step n) (λ st h. tt) (λ st h. h)
+step_goes : (blobs : List (List ℕ)) (k : Kept) (n : ℕ) → IsSoundEngine k → Goes blobs k k (entry.Step n ∷ [])
+step_goes blobs k n sound = goes_one blobs k k (entry.Step n) (λ st h. tt) (λ st h. h) sound
 
-step_then : (blobs : List (List ℕ)) (n : ℕ) (a b : Kept) (es : List Entry) → Goes blobs a b es → Goes blobs a b (entry.Step n ∷ es)
-step_then blobs n a b es p = goes_then blobs a a b (entry.Step n ∷ []) es (step_goes blobs a n) p
+step_then : (blobs : List (List ℕ)) (n : ℕ) (a b : Kept) (es : List Entry) → IsSoundEngine a → Goes blobs a b es → Goes blobs a b (entry.Step n ∷ es)
+step_then blobs n a b es sound p = goes_then blobs a a b (entry.Step n ∷ []) es (step_goes blobs a n sound) p
 
 within_limit : (limit left calls : ℕ) → limit ≡ left + calls → calls ≤ limit
 within_limit limit left calls e = omega (arith, e)
@@ -95,37 +100,17 @@ within_limit limit left calls e = omega (arith, e)
 heard_step : (n : ℕ) (es : List Entry) (n0 n1 : List (List Note)) → HeardAll es n0 n1 → HeardAll (entry.Step n ∷ es) n0 n1
 heard_step n es n0 n1 p = record { count = p.count; notes = p.notes }
 
-cut_step : (fault : DispatchFault) (left n : ℕ) (es : List Entry) (n0 n1 : List (List Note)) → CutDispatch fault left es n0 n1 → CutDispatch fault left (entry.Step n ∷ es) n0 n1
-cut_step fault left n es n0 n1 p = record {
-  before = entry.Step n ∷ p.before;
-  event = p.event;
-  calls = p.calls;
-  middle = p.middle;
-  entries_are = ap (λ (x : List Entry). entry.Step n ∷ x) p.entries_are;
-  heard = heard_step n p.before n0 p.middle p.heard;
-  end = p.end;
-}
-
-but_last_step : (left n : ℕ) (es : List Entry) (n0 n1 : List (List Note)) → HeardButLast left es n0 n1 → HeardButLast left (entry.Step n ∷ es) n0 n1
-but_last_step left n es n0 n1 (inl p) = inl (heard_step n es n0 n1 p)
-but_last_step left n es n0 n1 (inr p) = inr (p.0, cut_step p.0 left n es n0 n1 p.1)
-
-stopped_step : (stop : Stop) (n : ℕ) (es : List Entry) (a a2 b : Stage) → a2.written ≡ a.written → a2.notes ≡ a.notes → StoppedBy stop es a2 b → StoppedBy stop (entry.Step n ∷ es) a b
-stopped_step (Halted halt) n es a a2 b w m s = (rw w at s.0, but_last_step b.run.left n es a.notes b.notes (rw m at s.1))
-stopped_step (CallBudget k) n es a a2 b w m s = (rw w at s.0, cut_step _ b.run.left n es a.notes b.notes (rw m at s.1))
-stopped_step TaskBudget n es a a2 b w m s = (rw w at s.0, cut_step _ b.run.left n es a.notes b.notes (rw m at s.1))
-
 pub line_played : (blobs : List (List ℕ)) (limits : Limits) (n : ℕ) (line : StepLine) (a b : RunView) (t0 t1 : Option (List ℕ)) (n0 n1 : List (List Note))
-    → limits.count ≡ length n0 → Ran blobs (λ st part. Does blobs st line part) (stage (opened n limits.limit a) t0 n0) (stage b t1 n1)
+    → IsSoundEngine a.engine → limits.count ≡ length n0 → Ran blobs (λ st part. Does blobs st line part) (stage (opened n limits.limit a) t0 n0) (stage b t1 n1)
     → Played blobs (LineIs blobs limits n line) (stage a t0 n0) (stage b t1 n1)
-line_played blobs limits n line a b t0 t1 n0 n1 count p =
+line_played blobs limits n line a b t0 t1 n0 n1 sound count p =
     let few : calls_in p.played.entries ≤ limits.limit = within_limit limits.limit b.left (calls_in p.played.entries) p.left in
     let turns : InTurns limits.count None p.played.entries = rw count p.played.turns in
     record {
       entries = entry.Step n ∷ p.played.entries;
       grew = record {
         grew = p.played.grew.grew ∙ append_assoc a.entries (entry.Step n ∷ []) p.played.entries;
-        goes = step_then blobs n a.engine b.engine p.played.entries p.played.grew.goes;
+        goes = step_then blobs n a.engine b.engine p.played.entries sound p.played.grew.goes;
         holds = λ st h. (p.played.entries, refl, record { does = p.played.grew.holds st h; within = record { few = few; turns = turns } });
       };
       turns = p.played.turns;
@@ -134,26 +119,31 @@ line_played blobs limits n line a b t0 t1 n0 n1 count p =
     }
 
 pub line_stopped : (blobs : List (List ℕ)) (limits : Limits) (n : ℕ) (line : StepLine) (stop : Stop) (a b : RunView) (t0 t1 : Option (List ℕ)) (n0 n1 : List (List Note))
-    → limits.count ≡ length n0 → RanUpTo blobs (λ st part. Begins blobs st line part) stop (stage (opened n limits.limit a) t0 n0) (stage b t1 n1)
-    → PlayedUpTo blobs (LineBegins blobs limits n line) stop (stage a t0 n0) (stage b t1 n1)
-line_stopped blobs limits n line stop a b t0 t1 n0 n1 count p =
-    let few : calls_in p.played.entries ≤ limits.limit = within_limit limits.limit b.left (calls_in p.played.entries) p.left in
-    let turns : InTurns limits.count None p.played.entries = rw count p.played.turns in
+    → IsStanding a.engine → IsSoundEngine a.engine → limits.count ≡ length n0
+    → RanUpTo blobs (λ st part. Begins blobs st line part) stop (stage (opened n limits.limit a) t0 n0) (stage b t1 n1)
+    → PlayedUpTo blobs (SpentInLine limits.limit) (LineBegins blobs limits n line) stop (stage a t0 n0) (stage b t1 n1)
+line_stopped blobs limits n line stop a b t0 t1 n0 n1 standing sound count p =
+    let es : List Entry = p.played.entries in
+    let few : calls_in es ≤ limits.limit = within_limit limits.limit b.left (calls_in es) p.left in
+    let turns : InTurns limits.count None es = rw count p.played.turns in
+    let one : steps_in es ≡ 0 = no_step_in_line blobs standing.state line es (p.played.grew.holds standing.state standing.stands) in
     record {
-      entries = entry.Step n ∷ p.played.entries;
+      entries = entry.Step n ∷ es;
       grew = record {
-        grew = p.played.grew.grew ∙ append_assoc a.entries (entry.Step n ∷ []) p.played.entries;
-        goes = step_then blobs n a.engine b.engine p.played.entries p.played.grew.goes;
-        holds = λ st h. inr (p.played.entries, refl, record { begins = p.played.grew.holds st h; within = record { few = few; turns = turns } });
+        grew = p.played.grew.grew ∙ append_assoc a.entries (entry.Step n ∷ []) es;
+        goes = step_then blobs n a.engine b.engine es sound p.played.grew.goes;
+        holds = λ st h. inr (es, refl, record { begins = p.played.grew.holds st h; within = record { few = few; turns = turns } });
       };
       turns = p.played.turns;
-      stopped = stopped_step stop n p.played.entries (stage a t0 n0) (stage (opened n limits.limit a) t0 n0) (stage b t1 n1) refl refl p.played.stopped;
+      stopped = stopped_then (IsSpent limits.limit) (SpentInLine limits.limit) stop (length n0) (entry.Step n ∷ []) es
+          (stage a t0 n0) (stage (opened n limits.limit a) t0 n0) (stage b t1 n1) (spent_line limits.limit n es one)
+          (wrote_none t0) (heard_silence (entry.Step n ∷ []) n0 (λ w. refl)) p.played.turns p.played.stopped;
     }
 
 -- a line that did not begin
 pub line_unopened : (blobs : List (List ℕ)) (limits : Limits) (n : ℕ) (line : StepLine) (halt : Halt) (a : RunView) (t : Option (List ℕ)) (notes : List (List Note))
-    → PlayedUpTo blobs (LineBegins blobs limits n line) (Halted halt) (stage a t notes) (stage a t notes)
-line_unopened blobs limits n line halt a t notes = (halt_none blobs (LineBegins blobs limits n line) halt (stage a t notes) (λ st h. inl refl)).played
+    → PlayedUpTo blobs (SpentInLine limits.limit) (LineBegins blobs limits n line) (Halted halt) (stage a t notes) (stage a t notes)
+line_unopened blobs limits n line halt a t notes = played_none blobs (SpentInLine limits.limit) (LineBegins blobs limits n line) halt (stage a t notes) (λ st h. inl refl)
 
 -- ---- a call as it is made
 
@@ -171,10 +161,11 @@ called_half_of blobs call from a b t0 t1 e p wrote = inr (record { answer = p.0;
 -- ---- a line with its number, by how it ended
 
 pub line_by : (blobs : List (List ℕ)) (limits : Limits) (n : ℕ) (line : StepLine) (a b : RunView) (t0 t1 : Option (List ℕ)) (n0 n1 : List (List Note)) (result : Result (Unit {0}) Stop)
-    → limits.count ≡ length n0 → RanBy blobs (λ st part. Does blobs st line part) (λ st part. Begins blobs st line part) (stage (opened n limits.limit a) t0 n0) (stage b t1 n1) result
-    → PlayedBy blobs (LineIs blobs limits n line) (LineBegins blobs limits n line) (stage a t0 n0) (stage b t1 n1) result
-line_by blobs limits n line a b t0 t1 n0 n1 (Ok u) count p = line_played blobs limits n line a b t0 t1 n0 n1 count p
-line_by blobs limits n line a b t0 t1 n0 n1 (Err stop) count p = line_stopped blobs limits n line stop a b t0 t1 n0 n1 count p
+    → IsStanding a.engine → IsSoundEngine a.engine → limits.count ≡ length n0
+    → RanBy blobs (λ st part. Does blobs st line part) (λ st part. Begins blobs st line part) (stage (opened n limits.limit a) t0 n0) (stage b t1 n1) result
+    → PlayedBy blobs (SpentInLine limits.limit) (LineIs blobs limits n line) (LineBegins blobs limits n line) (stage a t0 n0) (stage b t1 n1) result
+line_by blobs limits n line a b t0 t1 n0 n1 (Ok u) standing sound count p = line_played blobs limits n line a b t0 t1 n0 n1 sound count p
+line_by blobs limits n line a b t0 t1 n0 n1 (Err stop) standing sound count p = line_stopped blobs limits n line stop a b t0 t1 n0 n1 standing sound count p
 
 pub standing_played : (blobs : List (List ℕ)) (does : Doing) (a b : Stage) → IsStanding a.run.engine → Played blobs does a b → IsStanding b.run.engine
 standing_played blobs does a b s p = standing_on blobs a.run.engine b.run.engine p.entries s p.grew.goes

@@ -3,7 +3,7 @@ use Rattle.std.proofs.Common.{◌≡◌, ◌+◌, ℕ, List, [], ◌++◌, lengt
 use Rattle.std.specs.Prelude.{Option, None}
 use Rattle.std.proofs.lemmas.List.{append-nil}
 use Rattle.std.proofs.lemmas.List.Concat.{flat_map-append}
-use Rattle.mse_calls.specs.declared.journal.Entry.{Entry}
+use Rattle.mse_calls.specs.declared.entry.Entry.{Entry}
 use Rattle.event_text.specs.Lines.{line_text}
 use Rattle.listeners.specs.declared.listener.Note.{Note}
 use Rattle.mse_engine.specs.State.{State}
@@ -12,17 +12,19 @@ use Rattle.mse_engine.specs.Run.{after_entries}
 use Rattle.mse_engine.specs.Goes.{Goes}
 use Rattle.mse_engine.proofs.Goes.{goes_none, goes_then}
 use Rattle.script_run.specs.declared.stop.Halt.{Halt}
+use Rattle.script_run.specs.declared.stop.Halt.TheVariants as halt
 use Rattle.script_run.specs.declared.stop.Stop.{Stop}
 use Rattle.script_run.specs.declared.stop.Stop.TheVariants.{Halted, CallBudget, TaskBudget}
-use Rattle.script_run.specs.Ran.{Doing, Grew, Played, PlayedUpTo, Ran, RanUpTo, StoppedBy, HeardButLast}
+use Rattle.script_run.specs.Ran.{Doing, Grew, Played, PlayedUpTo, Ran, RanUpTo, StoppedBy, HeardTo}
 use Rattle.script_run.specs.Stage.{RunView, Stage}
 use Rattle.script_run.specs.Story.{HeardAll}
 use Rattle.script_run.specs.Text.{lines_of}
-use Rattle.script_run.specs.Turns.{InTurns, calls_in}
+use Rattle.script_run.specs.Turns.{InTurns, IsSpent, calls_in}
 use Rattle.script_run.specs.Wrote.{Wrote, WroteFront}
 use Rattle.script_run.proofs.Writing.{wrote_none, wrote_more, front_more, front_none}
 use Rattle.script_run.proofs.Turning.{turns_then, calls_in-append}
 use Rattle.script_run.proofs.Telling.{heard_none, heard_then, cut_then}
+use Rattle.script_run.proofs.Cutting.{heard_to_all, over_then}
 
 -- one doing after another is a third
 abbrev pub Joins : List (List ℕ) → Doing → Doing → Doing → Type 0
@@ -51,28 +53,45 @@ played_then blobs one two both a b c joins p q = record {
   heard = heard_then (length b.notes) p.entries q.entries a.notes b.notes c.notes p.heard q.heard q.turns;
 }
 
-but_last_then : (left count : ℕ) (xs ys : List Entry) (n0 n1 n2 : List (List Note)) → HeardAll xs n0 n1 → InTurns count None ys
-    → HeardButLast left ys n1 n2 → HeardButLast left (xs ++ ys) n0 n2
-but_last_then left count xs ys n0 n1 n2 p turns (inl q) = inl (heard_then count xs ys n0 n1 n2 p q turns)
-but_last_then left count xs ys n0 n1 n2 p turns (inr q) = inr (q.0, cut_then q.0 left count xs ys n0 n1 n2 p q.1 turns)
+heard_to_then : (spent whole : List Entry → Type 0) (h : Halt) (count : ℕ) (xs ys : List Entry) (n0 n1 n2 : List (List Note)) → (spent ys → whole (xs ++ ys))
+    → HeardAll xs n0 n1 → InTurns count None ys → HeardTo spent h ys n1 n2 → HeardTo whole h (xs ++ ys) n0 n2
+heard_to_then spent whole halt.Memory count xs ys n0 n1 n2 more p turns (inl q) = inl (heard_then count xs ys n0 n1 n2 p q turns)
+heard_to_then spent whole halt.Memory count xs ys n0 n1 n2 more p turns (inr q) = inr (cut_then _ count xs ys n0 n1 n2 p q turns)
+heard_to_then spent whole halt.Write count xs ys n0 n1 n2 more p turns (inl q) = inl (heard_then count xs ys n0 n1 n2 p q turns)
+heard_to_then spent whole halt.Write count xs ys n0 n1 n2 more p turns (inr q) = inr (q.0, over_then spent whole q.0 count xs ys n0 n1 n2 more p turns q.1)
 
-stopped_then : (stop : Stop) (count : ℕ) (xs ys : List Entry) (a b c : Stage) → Wrote (lines_of xs) a.written b.written → HeardAll xs a.notes b.notes
-    → InTurns count None ys → StoppedBy stop ys b c → StoppedBy stop (xs ++ ys) a c
-stopped_then (Halted halt) count xs ys a b c w h turns s = (lines_then_front xs ys a.written b.written c.written w s.0, but_last_then c.run.left count xs ys a.notes b.notes c.notes h turns s.1)
-stopped_then (CallBudget k) count xs ys a b c w h turns s = (lines_then xs ys a.written b.written c.written w s.0, cut_then _ c.run.left count xs ys a.notes b.notes c.notes h s.1 turns)
-stopped_then TaskBudget count xs ys a b c w h turns s = (lines_then xs ys a.written b.written c.written w s.0, cut_then _ c.run.left count xs ys a.notes b.notes c.notes h s.1 turns)
+-- a doing stopped behind another; what is spent in the second is spent in both, by `more`
+pub stopped_then : (spent whole : List Entry → Type 0) (stop : Stop) (count : ℕ) (xs ys : List Entry) (a b c : Stage) → (spent ys → whole (xs ++ ys))
+    → Wrote (lines_of xs) a.written b.written → HeardAll xs a.notes b.notes → InTurns count None ys → StoppedBy spent stop ys b c
+    → StoppedBy whole stop (xs ++ ys) a c
+stopped_then spent whole (Halted h) count xs ys a b c more w p turns s = (
+  lines_then_front xs ys a.written b.written c.written w s.0,
+  heard_to_then spent whole h count xs ys a.notes b.notes c.notes more p turns s.1,
+)
+stopped_then spent whole (CallBudget k) count xs ys a b c more w p turns s = (
+  lines_then xs ys a.written b.written c.written w s.0,
+  over_then spent whole (CallBudget k) count xs ys a.notes b.notes c.notes more p turns s.1,
+)
+stopped_then spent whole TaskBudget count xs ys a b c more w p turns s = (
+  lines_then xs ys a.written b.written c.written w s.0,
+  over_then spent whole TaskBudget count xs ys a.notes b.notes c.notes more p turns s.1,
+)
 
-pub played_stop : (blobs : List (List ℕ)) (one two both : Doing) (stop : Stop) (a b c : Stage) → Joins blobs one two both → Played blobs one a b
-    → PlayedUpTo blobs two stop b c → PlayedUpTo blobs both stop a c
-played_stop blobs one two both stop a b c joins p q = record {
+pub played_stop : (blobs : List (List ℕ)) (one two both : Doing) (spent whole : List Entry → Type 0) (stop : Stop) (a b c : Stage) → Joins blobs one two both
+    → (p : Played blobs one a b) → ((ys : List Entry) → spent ys → whole (p.entries ++ ys)) → PlayedUpTo blobs spent two stop b c → PlayedUpTo blobs whole both stop a c
+played_stop blobs one two both spent whole stop a b c joins p more q = record {
   entries = p.entries ++ q.entries;
   grew = grew_then blobs one two both a.run b.run c.run p.entries q.entries joins p.grew q.grew;
   turns = turns_then (length a.notes) None p.entries q.entries p.turns (rw p.heard.count at q.turns);
-  stopped = stopped_then stop (length b.notes) p.entries q.entries a b c p.wrote p.heard q.turns q.stopped;
+  stopped = stopped_then spent whole stop (length b.notes) p.entries q.entries a b c (more q.entries) p.wrote p.heard q.turns q.stopped;
 }
 
 left_then : (xs ys : List Entry) (l0 l1 l2 : ℕ) → l0 ≡ l1 + calls_in xs → l1 ≡ l2 + calls_in ys → l0 ≡ l2 + calls_in (xs ++ ys)
 left_then xs ys l0 l1 l2 p q = rw (calls_in-append xs ys) (omega (arith, p, q))
+
+-- the calls that were left behind one part were made in the next
+spent_then : (xs ys : List Entry) (l0 l1 : ℕ) → l0 ≡ l1 + calls_in xs → IsSpent l1 ys → IsSpent l0 (xs ++ ys)
+spent_then xs ys l0 l1 p e = rw (calls_in-append xs ys) (omega (arith, p, e))
 
 pub ran_then : (blobs : List (List ℕ)) (one two both : Doing) (a b c : Stage) → Joins blobs one two both → Ran blobs one a b → Ran blobs two b c → Ran blobs both a c
 unfolding played_then
@@ -85,7 +104,8 @@ pub ran_stop : (blobs : List (List ℕ)) (one two both : Doing) (stop : Stop) (a
     → RanUpTo blobs two stop b c → RanUpTo blobs both stop a c
 unfolding played_stop
 ran_stop blobs one two both stop a b c joins p q = record {
-  played = played_stop blobs one two both stop a b c joins p.played q.played;
+  played = played_stop blobs one two both (IsSpent b.run.left) (IsSpent a.run.left) stop a b c joins p.played
+      (λ ys e. spent_then p.played.entries ys a.run.left b.run.left p.left e) q.played;
   left = left_then p.played.entries q.played.entries a.run.left b.run.left c.run.left p.left q.left;
 }
 
@@ -106,14 +126,19 @@ ran_none blobs does a holds = record {
 }
 
 -- it stopped before anything was done
-pub halt_none : (blobs : List (List ℕ)) (begins : Doing) (halt : Halt) (a : Stage) → ((st : State) → Stands a.run.engine st → begins st []) → RanUpTo blobs begins (Halted halt) a a
-halt_none blobs begins halt a holds = record {
-  played = record {
-    entries = [];
-    grew = grew_none blobs begins a.run holds;
-    turns = tt;
-    stopped = (front_none a.written [], inl (heard_none a.notes));
-  };
+pub played_none : (blobs : List (List ℕ)) (spent : List Entry → Type 0) (begins : Doing) (h : Halt) (a : Stage) → ((st : State) → Stands a.run.engine st → begins st [])
+    → PlayedUpTo blobs spent begins (Halted h) a a
+played_none blobs spent begins h a holds = record {
+  entries = [];
+  grew = grew_none blobs begins a.run holds;
+  turns = tt;
+  stopped = (front_none a.written [], heard_to_all spent h [] a.notes a.notes (heard_none a.notes));
+}
+
+pub halt_none : (blobs : List (List ℕ)) (begins : Doing) (h : Halt) (a : Stage) → ((st : State) → Stands a.run.engine st → begins st []) → RanUpTo blobs begins (Halted h) a a
+unfolding played_none
+halt_none blobs begins h a holds = record {
+  played = played_none blobs (IsSpent a.run.left) begins h a holds;
   left = omega arith;
 }
 

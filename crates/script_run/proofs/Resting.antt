@@ -21,7 +21,7 @@ use Rattle.mse_engine.specs.BufferCalls.{reply_moved}
 use Rattle.mse_engine.specs.Replies.{surroundings_in}
 use Rattle.mse_engine.specs.Work.{after_element_turn, after_work, due_in, fire_result, player_in, running_in, scene_in, without_first, work_result}
 use Rattle.mse_engine.specs.Standing.{IsFired, Kept, Stands}
-use Rattle.script_run.specs.Left.{IsTaken, IsTurnTaken, events_left, one_unless, turns_left, two_if}
+use Rattle.script_run.specs.Progress.{IsTaken, IsTurnTaken, events_left, one_unless, turns_left, two_if}
 
 -- ---- an event
 

@@ -3,13 +3,14 @@ use Rattle.std.proofs.Common.{◌≡◌, ℕ, List, [], ◌∷◌, refl, ap}
 use Rattle.std.specs.Prelude.{Option, Some, None, option_map, slice_get}
 use Rattle.mse_calls.specs.Answered.{Answered}
 use Rattle.mse_calls.specs.declared.events.Event.{Event}
-use Rattle.mse_calls.specs.declared.journal.Entry.{Entry}
-use Rattle.mse_calls.specs.declared.journal.Entry.TheVariants.{Fired, Work, Element}
+use Rattle.mse_calls.specs.declared.entry.Entry.{Entry}
+use Rattle.mse_calls.specs.declared.entry.Entry.TheVariants.{Fired, Work, Element}
 use Rattle.mse_engine.specs.declared.engine.Worked.TheVariants.{Did, Idle}
 use Rattle.mse_engine.specs.State.{State}
 use Rattle.mse_engine.specs.Run.{fire_meaning, step_meaning}
 use Rattle.mse_engine.specs.Standing.{IsFired, IsWork, Kept, Stands}
 use Rattle.mse_engine.specs.Work.{after_element_turn, after_work, fire_result, without_first}
+use Rattle.mse_engine.specs.Sound.{IsSoundEngine}
 use Rattle.mse_engine.specs.Goes.{Goes}
 use Rattle.mse_engine.proofs.Goes.{goes_one}
 use Rattle.script_run.specs.Lines.{done_of, fired_of}
@@ -23,8 +24,9 @@ fired_stands None st event a b h = absurd h
 fired_stands (Some meant) st event a b h = h.1
 
 -- an event was fired
-pub fired_goes : (blobs : List (List ℕ)) (a b : Kept) (event : Event) → ((st : State) → Stands a st → IsFired (Some event) a b (fire_result st)) → Goes blobs a b (Fired event ∷ [])
-fired_goes blobs a b event h = goes_one blobs a b (Fired event) (λ st s. fired_holds (fire_result st) st event a b (h st s)) (λ st s. fired_stands (fire_result st) st event a b (h st s))
+pub fired_goes : (blobs : List (List ℕ)) (a b : Kept) (event : Event) → ((st : State) → Stands a st → IsFired (Some event) a b (fire_result st)) → IsSoundEngine b
+    → Goes blobs a b (Fired event ∷ [])
+fired_goes blobs a b event h sound = goes_one blobs a b (Fired event) (λ st s. fired_holds (fire_result st) st event a b (h st s)) (λ st s. fired_stands (fire_result st) st event a b (h st s)) sound
 
 pub not_fired : (r : Option (Answered Event State)) (a b : Kept) → IsFired None a b r → b ≡ a
 not_fired None a b h = h
@@ -38,11 +40,11 @@ worked_stands : (r : Option State) (st : State) (a b : Kept) → IsWork Did a b 
 worked_stands None st a b h = absurd h
 worked_stands (Some new) st a b h = h
 
-pub worked_goes : (blobs : List (List ℕ)) (a b : Kept) (k : ℕ) → ((st : State) → Stands a st → IsWork Did a b (after_work k st)) → Goes blobs a b (Work k ∷ [])
-worked_goes blobs a b k h = goes_one blobs a b (Work k) (λ st s. worked_holds (after_work k st) st a b (h st s)) (λ st s. worked_stands (after_work k st) st a b (h st s))
+pub worked_goes : (blobs : List (List ℕ)) (a b : Kept) (k : ℕ) → ((st : State) → Stands a st → IsWork Did a b (after_work k st)) → IsSoundEngine b → Goes blobs a b (Work k ∷ [])
+worked_goes blobs a b k h sound = goes_one blobs a b (Work k) (λ st s. worked_holds (after_work k st) st a b (h st s)) (λ st s. worked_stands (after_work k st) st a b (h st s)) sound
 
-pub turned_goes : (blobs : List (List ℕ)) (a b : Kept) → ((st : State) → Stands a st → IsWork Did a b (after_element_turn st)) → Goes blobs a b (Element ∷ [])
-turned_goes blobs a b h = goes_one blobs a b Element (λ st s. worked_holds (after_element_turn st) st a b (h st s)) (λ st s. worked_stands (after_element_turn st) st a b (h st s))
+pub turned_goes : (blobs : List (List ℕ)) (a b : Kept) → ((st : State) → Stands a st → IsWork Did a b (after_element_turn st)) → IsSoundEngine b → Goes blobs a b (Element ∷ [])
+turned_goes blobs a b h sound = goes_one blobs a b Element (λ st s. worked_holds (after_element_turn st) st a b (h st s)) (λ st s. worked_stands (after_element_turn st) st a b (h st s)) sound
 
 pub idle_same : (r : Option State) (a b : Kept) → IsWork Idle a b r → b ≡ a
 idle_same None a b h = h

@@ -2,8 +2,8 @@
 use Rattle.std.proofs.Common.{◌≡◌, ℕ, List, [], ◌∷◌, ◌++◌, refl, sym, ◌∙◌, ap, append_assoc, arith}
 use Rattle.std.specs.Prelude.{None}
 use Rattle.std.proofs.lemmas.List.{append-nil}
-use Rattle.mse_calls.specs.declared.journal.Entry.{Entry}
-use Rattle.mse_calls.specs.declared.journal.Entry.TheVariants.{Step, Script, Listener, Fired, Work, Element}
+use Rattle.mse_calls.specs.declared.entry.Entry.{Entry}
+use Rattle.mse_calls.specs.declared.entry.Entry.TheVariants.{Step, Script, Listener, Fired, Work, Element}
 use Rattle.listeners.specs.declared.listener.Note.{Note}
 use Rattle.listeners.specs.declared.listener.Note.TheVariants.{Heard, Rested}
 use Rattle.listeners.specs.declared.event_dispatch.DispatchFault.{DispatchFault}
@@ -65,14 +65,16 @@ heard_then count xs ys n0 n1 n2 p q turns = record {
 }
 
 -- a dispatch that was cut, behind others
-pub cut_then : (fault : DispatchFault) (left count : ℕ) (xs ys : List Entry) (n0 n1 n2 : List (List Note)) → HeardAll xs n0 n1
-    → CutDispatch fault left ys n1 n2 → InTurns count None ys → CutDispatch fault left (xs ++ ys) n0 n2
-cut_then fault left count xs ys n0 n1 n2 p q turns = record {
+pub cut_then : (fault : DispatchFault) (count : ℕ) (xs ys : List Entry) (n0 n1 n2 : List (List Note)) → HeardAll xs n0 n1
+    → CutDispatch fault ys n1 n2 → InTurns count None ys → CutDispatch fault (xs ++ ys) n0 n2
+cut_then fault count xs ys n0 n1 n2 p q turns = record {
   before = xs ++ q.before;
   event = q.event;
   calls = q.calls;
   middle = q.middle;
   entries_are = ap (λ (x : List Entry). xs ++ x) q.entries_are ∙ sym (append_assoc xs q.before (Fired q.event ∷ q.calls));
   heard = heard_then count xs q.before n0 n1 q.middle p q.heard (turns_front count None q.before (Fired q.event ∷ q.calls) (rw q.entries_are at turns));
+  in_turn = q.in_turn;
+  count = q.count;
   end = q.end;
 }

@@ -2,7 +2,7 @@
 use Rattle.std.proofs.Common.{◌≡◌, ◌∙◌, ◌+◌, ℕ, zero, suc, List, [], ◌∷◌, ◌++◌, drop, append_assoc, ap, subst, sym, refl, add-one}
 use Rattle.std.specs.Prelude.{Option, Some, None, slice_get}
 use Rattle.std.proofs.lemmas.List.{append-nil}
-use Rattle.mse_calls.specs.declared.journal.Entry.{Entry}
+use Rattle.mse_calls.specs.declared.entry.Entry.{Entry}
 use Rattle.event_text.specs.Lines.{line_text}
 use Rattle.script_run.specs.Text.{lines_of}
 use Rattle.script_run.specs.Wrote.{Wrote, WroteFront}

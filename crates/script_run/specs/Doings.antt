@@ -1,7 +1,7 @@
 -- What a drain does (docs/SCRIPTS.md, step lines).
 use Rattle.std.specs.Prelude.{◌≡◌, ℕ, true, false, List, [], ◌∷◌, slice_get, Some, None, ⊤}
-use Rattle.mse_calls.specs.declared.journal.Entry.{Entry}
-use Rattle.mse_calls.specs.declared.journal.Entry.TheVariants.{Step, Script, Listener, Fired, Work, Element}
+use Rattle.mse_calls.specs.declared.entry.Entry.{Entry}
+use Rattle.mse_calls.specs.declared.entry.Entry.TheVariants.{Step, Script, Listener, Fired, Work, Element}
 use Rattle.mse_engine.specs.State.{State}
 use Rattle.mse_engine.specs.Work.{due_in, running_in}
 use Rattle.mse_engine.specs.Run.{after_entries, entry_meaning}
@@ -11,8 +11,9 @@ pub record IsQuiet (st : State) : Type 0 where
   pub queue : st.outer.queue ≡ []
   pub running : running_in st ≡ None
 
--- The entry is what a drain does next: an event is fired while there is one, else the lowest buffer that has work works
--- one item, else the element takes a turn that is due. The calls of listeners are not its own.
+-- The entry is what a drain does next: an event is fired while there is one, else the lowest buffer
+-- that has work works one item, else the element takes a turn that is due. The calls of listeners
+-- are not its own.
 abbrev pub IsNext : State → Entry → Type 0
 IsNext st (Fired event) = slice_get st.outer.queue 0 ≡ Some event
 IsNext st (Work k) = (st.outer.queue ≡ []) × (running_in st ≡ Some k)

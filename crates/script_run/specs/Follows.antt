@@ -1,19 +1,21 @@
 -- A journal that follows a script, line by line.
 use Rattle.std.specs.Prelude.{◌≡◌, ◌⊎◌, ℕ, suc, List, [], ◌∷◌, ◌++◌}
-use Rattle.mse_calls.specs.declared.journal.Entry.{Entry}
-use Rattle.mse_calls.specs.declared.journal.Entry.TheVariants.{Step}
+use Rattle.mse_calls.specs.declared.entry.Entry.{Entry}
+use Rattle.mse_calls.specs.declared.entry.Entry.TheVariants.{Step}
 use Rattle.call_script.specs.declared.script.StepLine.{StepLine}
 use Rattle.mse_engine.specs.State.{State}
 use Rattle.mse_engine.specs.Run.{after_entries}
 use Rattle.script_run.specs.Lines.{Does, Begins, Limits, IsWithin}
 
 -- the entries of one line
-pub record LineDone (blobs : List (List ℕ)) (limits : Limits) (st : State) (line : StepLine) (part : List Entry) : Type 0 where
+pub record LineDone (blobs : List (List ℕ)) (limits : Limits) (st : State) (line : StepLine)
+    (part : List Entry) : Type 0 where
   pub does : Does blobs st line part
   pub within : IsWithin limits part
 
 -- those of a line that was cut off
-pub record LineBegun (blobs : List (List ℕ)) (limits : Limits) (st : State) (line : StepLine) (part : List Entry) : Type 0 where
+pub record LineBegun (blobs : List (List ℕ)) (limits : Limits) (st : State) (line : StepLine)
+    (part : List Entry) : Type 0 where
   pub begins : Begins blobs st line part
   pub within : IsWithin limits part
 
@@ -22,7 +24,8 @@ abbrev pub IsWhole : List (List ℕ) → Limits → ℕ → State → List StepL
 IsWhole blobs limits n st [] entries = entries ≡ []
 IsWhole blobs limits n st (line ∷ lines) entries =
     (part : List Entry) × (rest : List Entry) × (entries ≡ Step n ∷ (part ++ rest))
-    × LineDone blobs limits st line part × IsWhole blobs limits (suc n) (after_entries blobs st part) lines rest
+    × LineDone blobs limits st line part
+    × IsWhole blobs limits (suc n) (after_entries blobs st part) lines rest
 
 -- the same of a front of the lines, and of a part of the next
 abbrev pub IsBegun : List (List ℕ) → Limits → ℕ → State → List StepLine → List Entry → Type 0
@@ -31,7 +34,8 @@ IsBegun blobs limits n st (line ∷ lines) entries =
     (entries ≡ [])
     ⊎ ((part : List Entry) × (entries ≡ Step n ∷ part) × LineBegun blobs limits st line part)
     ⊎ ((part : List Entry) × (rest : List Entry) × (entries ≡ Step n ∷ (part ++ rest))
-    × LineDone blobs limits st line part × IsBegun blobs limits (suc n) (after_entries blobs st part) lines rest)
+    × LineDone blobs limits st line part
+    × IsBegun blobs limits (suc n) (after_entries blobs st part) lines rest)
 
 -- ---- as what is done from a state on
 
@@ -41,7 +45,8 @@ LineIs blobs limits n line st entries =
 
 abbrev pub LineBegins : List (List ℕ) → Limits → ℕ → StepLine → State → List Entry → Type 0
 LineBegins blobs limits n line st entries =
-    (entries ≡ []) ⊎ ((part : List Entry) × (entries ≡ Step n ∷ part) × LineBegun blobs limits st line part)
+    (entries ≡ [])
+    ⊎ ((part : List Entry) × (entries ≡ Step n ∷ part) × LineBegun blobs limits st line part)
 
 abbrev pub LinesAre : List (List ℕ) → Limits → List StepLine → State → List Entry → Type 0
 LinesAre blobs limits lines st entries = IsWhole blobs limits 0 st lines entries

@@ -7,5 +7,5 @@ pub mod Follows
 pub mod Story
 pub mod Stage
 pub mod Ran
-pub mod Left
+pub mod Progress
 pub mod Rules

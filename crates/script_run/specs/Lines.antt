@@ -2,8 +2,8 @@
 use Rattle.std.specs.Prelude.{◌≡◌, ◌⊎◌, ◌≤◌, ℕ, List, [], ◌∷◌, Option, Some, None}
 use Rattle.mse_calls.specs.Answered.{Answered}
 use Rattle.mse_calls.specs.declared.events.Event.{Event}
-use Rattle.mse_calls.specs.declared.journal.Entry.{Entry}
-use Rattle.mse_calls.specs.declared.journal.Entry.TheVariants as entry
+use Rattle.mse_calls.specs.declared.entry.Entry.{Entry}
+use Rattle.mse_calls.specs.declared.entry.Entry.TheVariants as entry
 use Rattle.call_script.specs.declared.script.StepLine.{StepLine}
 use Rattle.call_script.specs.declared.script.StepLine.TheVariants.{Call, Fire, Work, Element, Drain}
 use Rattle.mse_engine.specs.State.{State}
@@ -33,13 +33,15 @@ done_of entry (Some st) = entry ∷ []
 
 -- the line is done by these entries
 abbrev pub Does : List (List ℕ) → State → StepLine → List Entry → Type 0
-Does blobs st (Call call) part = own_of part ≡ entry.Script call (after_call blobs call st).answer ∷ []
+Does blobs st (Call call) part =
+    own_of part ≡ entry.Script call (after_call blobs call st).answer ∷ []
 Does blobs st Fire part = own_of part ≡ fired_of (fire_result st)
 Does blobs st (Work k) part = own_of part ≡ done_of (entry.Work k) (after_work k st)
 Does blobs st Element part = own_of part ≡ done_of entry.Element (after_element_turn st)
 Does blobs st Drain part = IsDrain blobs st part
 
--- a line that was cut off: it has not begun, or only the calls of listeners are cut, or it is the front of a drain
+-- a line that was cut off: it has not begun, or only the calls of listeners are cut, or it is the
+-- front of a drain
 abbrev pub Begins : List (List ℕ) → State → StepLine → List Entry → Type 0
 Begins blobs st (Call call) part = (part ≡ []) ⊎ Does blobs st (Call call) part
 Begins blobs st Fire part = (part ≡ []) ⊎ Does blobs st Fire part

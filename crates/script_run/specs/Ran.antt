@@ -3,16 +3,17 @@ use Rattle.std.specs.Prelude.{◌≡◌, ◌⊎◌, ℕ, ◌+◌, Bool, true, fa
 use Rattle.mse_calls.specs.declared.answers.Answer.{Answer}
 use Rattle.mse_calls.specs.declared.calls.Call.{Call}
 use Rattle.mse_calls.specs.declared.events.Event.{Event}
-use Rattle.mse_calls.specs.declared.journal.Entry.{Entry}
-use Rattle.mse_calls.specs.declared.journal.Entry.TheVariants.{Script, Fired}
+use Rattle.mse_calls.specs.declared.entry.Entry.{Entry}
+use Rattle.mse_calls.specs.declared.entry.Entry.TheVariants.{Script, Fired}
 use Rattle.listeners.specs.declared.listener.Note.{Note}
 use Rattle.listeners.specs.declared.event_dispatch.DispatchFault.{DispatchFault}
 use Rattle.listeners.specs.declared.event_dispatch.DispatchFault.TheVariants as fault
-use Rattle.listeners.specs.Dispatch.{EndsAt}
+use Rattle.listeners.specs.Dispatch.{CallsInTurn, EndsAt}
 use Rattle.event_text.specs.Lines.{line_text}
 use Rattle.mse_engine.specs.State.{State}
 use Rattle.mse_engine.specs.Standing.{Stands}
 use Rattle.mse_engine.specs.Goes.{Goes}
+use Rattle.script_run.specs.declared.stop.Halt.{Halt}
 use Rattle.script_run.specs.declared.stop.Halt.TheVariants as halt
 use Rattle.script_run.specs.declared.stop.Stop.{Stop}
 use Rattle.script_run.specs.declared.stop.Stop.TheVariants.{Halted, CallBudget, TaskBudget}
@@ -20,7 +21,7 @@ use Rattle.script_run.specs.Doings.{InDrainOrder, NoEvent}
 use Rattle.script_run.specs.Stage.{RunView, Stage}
 use Rattle.script_run.specs.Story.{HeardAll}
 use Rattle.script_run.specs.Text.{lines_of}
-use Rattle.script_run.specs.Turns.{InTurns, calls_in}
+use Rattle.script_run.specs.Turns.{InTurns, IsSpent, calls_in}
 use Rattle.script_run.specs.Wrote.{Wrote, WroteFront}
 
 -- What a step is, by the state at which it begins and the entries that it brings.
@@ -41,9 +42,11 @@ pub record Drains (blobs : List (List ℕ)) (old new : RunView) : Type 0 where
   pub silent : calls_in entries ≡ 0
 
 -- one entry came where there was something to do; else nothing changed
-abbrev pub SteppedIf : List (List ℕ) → Entry → (State → Option State) → RunView → RunView → Bool → Type 0
+abbrev pub SteppedIf : List (List ℕ) → Entry → (State → Option State)
+    → RunView → RunView → Bool → Type 0
 SteppedIf blobs entry step old new true = Stepped blobs (entry ∷ []) old new
-SteppedIf blobs entry step old new false = (new ≡ old) × ((st : State) → Stands old.engine st → step st ≡ None)
+SteppedIf blobs entry step old new false =
+    (new ≡ old) × ((st : State) → Stands old.engine st → step st ≡ None)
 
 -- the first event was fired; or there was none, and nothing changed
 abbrev pub TookEvent : List (List ℕ) → RunView → RunView → Option Event → Type 0
@@ -51,12 +54,14 @@ TookEvent blobs old new (Some event) = Stepped blobs (Fired event ∷ []) old ne
 TookEvent blobs old new None = (new ≡ old) × ((st : State) → Stands old.engine st → NoEvent st)
 
 -- the journal grew by entries of a doing, which the engine went by
-pub record Grew (blobs : List (List ℕ)) (does : Doing) (old new : RunView) (entries : List Entry) : Type 0 where
+pub record Grew (blobs : List (List ℕ)) (does : Doing) (old new : RunView)
+    (entries : List Entry) : Type 0 where
   pub grew : new.entries ≡ old.entries ++ entries
   pub goes : Goes blobs old.engine new.engine entries
   pub holds : (st : State) → Stands old.engine st → does st entries
 
--- a doing went through: all its lines were written, and each listener heard each event and answered it in its turn
+-- a doing went through: all its lines were written, and each listener heard each event and answered
+-- it in its turn
 pub record Played (blobs : List (List ℕ)) (does : Doing) (old new : Stage) : Type 0 where
   pub entries : List Entry
   pub grew : Grew blobs does old.run new.run entries
@@ -69,66 +74,90 @@ pub record Ran (blobs : List (List ℕ)) (does : Doing) (old new : Stage) : Type
   pub played : Played blobs does old new
   pub left : old.run.left ≡ new.run.left + calls_in played.entries
 
--- the dispatch of the last event ended with a fault
-pub record CutDispatch (fault : DispatchFault) (left : ℕ) (entries : List Entry) (old new : List (List Note)) : Type 0 where
+-- The dispatch of the last event ended with a fault; the entries behind it are its calls. Whether
+-- no call was left to the listeners, these entries alone do not tell.
+pub record CutDispatch (fault : DispatchFault) (entries : List Entry)
+    (old new : List (List Note)) : Type 0 where
   pub before : List Entry
   pub event : Event
   pub calls : List Entry
   pub middle : List (List Note)
   pub entries_are : entries ≡ before ++ Fired event ∷ calls
   pub heard : HeardAll before old middle
-  pub end : EndsAt event calls left middle new fault
+  pub in_turn : CallsInTurn 0 (length middle) calls
+  pub count : length new ≡ length middle
+  pub end : EndsAt event calls 0 middle new fault
 
--- each listener heard each event, but that the dispatch of the last one may have ended with a fault
-abbrev pub HeardButLast : ℕ → List Entry → List (List Note) → List (List Note) → Type 0
-HeardButLast left entries old new =
-    HeardAll entries old new ⊎ ((fault : DispatchFault) × CutDispatch fault left entries old new)
+-- A listener answered a call beyond a limit, for which a run stops so. `spent` says of entries that
+-- listeners may make no further call.
+abbrev pub IsOverLimit : (List Entry → Type 0) → Stop → List Entry
+    → List (List Note) → List (List Note) → Type 0
+IsOverLimit spent (CallBudget k) entries old new = CutDispatch (fault.CallBudget k) entries old new
+IsOverLimit spent TaskBudget entries old new =
+    spent entries × CutDispatch fault.TaskBudget entries old new
+IsOverLimit spent (Halted halt) entries old new = ⊥
+
+-- What was heard where memory or the sink was wanting: each listener heard each event, but that
+-- memory may have been wanting in the dispatch of the last one, or, where the sink was wanting, that
+-- this dispatch may have ended at a limit.
+abbrev pub HeardTo : (List Entry → Type 0) → Halt → List Entry
+    → List (List Note) → List (List Note) → Type 0
+HeardTo spent halt.Memory entries old new =
+    HeardAll entries old new ⊎ CutDispatch fault.OutOfMemory entries old new
+HeardTo spent halt.Write entries old new =
+    HeardAll entries old new ⊎ ((stop : Stop) × IsOverLimit spent stop entries old new)
 
 -- what was written and heard where a doing stopped so
-abbrev pub StoppedBy : Stop → List Entry → Stage → Stage → Type 0
-StoppedBy (Halted halt) entries old new =
-    WroteFront (lines_of entries) old.written new.written × HeardButLast new.run.left entries old.notes new.notes
-StoppedBy (CallBudget k) entries old new =
+abbrev pub StoppedBy : (List Entry → Type 0) → Stop → List Entry → Stage → Stage → Type 0
+StoppedBy spent (Halted halt) entries old new =
+    WroteFront (lines_of entries) old.written new.written
+    × HeardTo spent halt entries old.notes new.notes
+StoppedBy spent stop entries old new =
     Wrote (lines_of entries) old.written new.written
-    × CutDispatch (fault.CallBudget k) new.run.left entries old.notes new.notes
-StoppedBy TaskBudget entries old new =
-    Wrote (lines_of entries) old.written new.written
-    × CutDispatch fault.TaskBudget new.run.left entries old.notes new.notes
+    × IsOverLimit spent stop entries old.notes new.notes
 
 -- a doing stopped: the entries are those of a front of it
-pub record PlayedUpTo (blobs : List (List ℕ)) (begins : Doing) (stop : Stop) (old new : Stage) : Type 0 where
+pub record PlayedUpTo (blobs : List (List ℕ)) (spent : List Entry → Type 0) (begins : Doing)
+    (stop : Stop) (old new : Stage) : Type 0 where
   pub entries : List Entry
   pub grew : Grew blobs begins old.run new.run entries
   pub turns : InTurns (length old.notes) None entries
-  pub stopped : StoppedBy stop entries old new
+  pub stopped : StoppedBy spent stop entries old new
 
-pub record RanUpTo (blobs : List (List ℕ)) (begins : Doing) (stop : Stop) (old new : Stage) : Type 0 where
-  pub played : PlayedUpTo blobs begins stop old new
+-- in a line, in which so many calls were left
+pub record RanUpTo (blobs : List (List ℕ)) (begins : Doing) (stop : Stop)
+    (old new : Stage) : Type 0 where
+  pub played : PlayedUpTo blobs (IsSpent old.run.left) begins stop old new
   pub left : old.run.left ≡ new.run.left + calls_in played.entries
 
 -- a doing or a front of it, by how it ended
-abbrev pub PlayedBy : {A : Type 0} → List (List ℕ) → Doing → Doing → Stage → Stage → Result A Stop → Type 0
-PlayedBy blobs does begins old new (Ok x) = Played blobs does old new
-PlayedBy blobs does begins old new (Err stop) = PlayedUpTo blobs begins stop old new
+abbrev pub PlayedBy : {A : Type 0} → List (List ℕ) → (List Entry → Type 0) → Doing → Doing
+    → Stage → Stage → Result A Stop → Type 0
+PlayedBy blobs spent does begins old new (Ok x) = Played blobs does old new
+PlayedBy blobs spent does begins old new (Err stop) = PlayedUpTo blobs spent begins stop old new
 
-abbrev pub RanBy : {A : Type 0} → List (List ℕ) → Doing → Doing → Stage → Stage → Result A Stop → Type 0
+abbrev pub RanBy : {A : Type 0} → List (List ℕ) → Doing → Doing
+    → Stage → Stage → Result A Stop → Type 0
 RanBy blobs does begins old new (Ok x) = Ran blobs does old new
 RanBy blobs does begins old new (Err stop) = RanUpTo blobs begins stop old new
 
 -- a call of the script was made, and its line was written
-pub record Called (blobs : List (List ℕ)) (call : Call) (old new : RunView) (before written : Option (List ℕ)) : Type 0 where
+pub record Called (blobs : List (List ℕ)) (call : Call) (old new : RunView)
+    (before written : Option (List ℕ)) : Type 0 where
   pub answer : Answer
   pub stepped : Stepped blobs (Script call answer ∷ []) old new
   pub wrote : Wrote (line_text (Script call answer)) before written
 
 -- a front of its line was written
-pub record CalledHalf (blobs : List (List ℕ)) (call : Call) (old new : RunView) (before written : Option (List ℕ)) : Type 0 where
+pub record CalledHalf (blobs : List (List ℕ)) (call : Call) (old new : RunView)
+    (before written : Option (List ℕ)) : Type 0 where
   pub answer : Answer
   pub stepped : Stepped blobs (Script call answer ∷ []) old new
   pub wrote : WroteFront (line_text (Script call answer)) before written
 
 -- it was not made, or a front of its line was written
-abbrev pub CallHalted : List (List ℕ) → Call → RunView → RunView → Option (List ℕ) → Option (List ℕ) → Type 0
+abbrev pub CallHalted : List (List ℕ) → Call → RunView → RunView
+    → Option (List ℕ) → Option (List ℕ) → Type 0
 CallHalted blobs call old new before written =
     ((new ≡ old) × (written ≡ before)) ⊎ CalledHalf blobs call old new before written
 

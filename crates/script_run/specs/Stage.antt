@@ -1,6 +1,6 @@
 -- How far a run has come.
 use Rattle.std.specs.Prelude.{ℕ, List, Option}
-use Rattle.mse_calls.specs.declared.journal.Entry.{Entry}
+use Rattle.mse_calls.specs.declared.entry.Entry.{Entry}
 use Rattle.listeners.specs.declared.listener.Note.{Note}
 use Rattle.mse_engine.specs.State.{State}
 use Rattle.mse_engine.specs.Standing.{Kept, Stands}

@@ -1,8 +1,8 @@
--- What a journal tells of each listener: for each event that was fired, in order, the listener heard it, made its calls,
--- was told their answers, and rested.
+-- What a journal tells of each listener: for each event that was fired, in order, the listener
+-- heard it, made its calls, was told their answers, and rested.
 use Rattle.std.specs.Prelude.{◌≡◌, ◌<◌, ℕ, List, [], ◌∷◌, ◌++◌, length}
-use Rattle.mse_calls.specs.declared.journal.Entry.{Entry}
-use Rattle.mse_calls.specs.declared.journal.Entry.TheVariants.{Step, Script, Listener, Fired, Work, Element}
+use Rattle.mse_calls.specs.declared.entry.Entry.{Entry}
+use Rattle.mse_calls.specs.declared.entry.Entry.TheVariants.{Step, Script, Listener, Fired, Work, Element}
 use Rattle.listeners.specs.declared.listener.Note.{Note}
 use Rattle.listeners.specs.Notes.{event_notes}
 use Rattle.listeners.specs.Dispatch.{notes_at}

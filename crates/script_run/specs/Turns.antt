@@ -1,7 +1,7 @@
 -- When listeners call (docs/SCRIPTS.md, rules).
-use Rattle.std.specs.Prelude.{◌≡◌, ◌⊎◌, ◌<◌, ℕ, suc, ◌==◌, List, [], ◌∷◌, Option, Some, None, if◌then◌else◌, ⊤}
-use Rattle.mse_calls.specs.declared.journal.Entry.{Entry}
-use Rattle.mse_calls.specs.declared.journal.Entry.TheVariants.{Step, Script, Listener, Fired, Work, Element}
+use Rattle.std.specs.Prelude.{◌≡◌, ◌⊎◌, ◌<◌, ℕ, suc, ◌==◌, List, [], ◌∷◌, ◌++◌, Option, Some, None, if◌then◌else◌, ⊤}
+use Rattle.mse_calls.specs.declared.entry.Entry.{Entry}
+use Rattle.mse_calls.specs.declared.entry.Entry.TheVariants.{Step, Script, Listener, Fired, Work, Element}
 
 -- the listener whose turn it is to call after an event, and how many calls it has made
 pub record Turn : Type 0 where
@@ -22,10 +22,11 @@ MayCall turn w = (turn.listener < w) ⊎ ((turn.listener ≡ w) × (turn.made < 
 
 abbrev pub turn_after : Turn → ℕ → Turn
 turn_after turn w =
-    if turn.listener == w then record { listener = w; made = suc turn.made } else record { listener = w; made = 1 }
+    if turn.listener == w then record { listener = w; made = suc turn.made }
+    else record { listener = w; made = 1 }
 
--- Listeners call only behind an event, in order of their numbers, at most 1000 times each; there are `count` of them.
--- Without a turn no event was fired since the last thing that was done.
+-- Listeners call only behind an event, in order of their numbers, at most 1000 times each; there
+-- are `count` of them. Without a turn no event was fired since the last thing that was done.
 abbrev pub InTurns : ℕ → Option Turn → List Entry → Type 0
 InTurns count turn [] = ⊤
 InTurns count turn (Fired event ∷ entries) = InTurns count (Some first_turn) entries
@@ -46,3 +47,26 @@ calls_in (Script call answer ∷ entries) = calls_in entries
 calls_in (Step n ∷ entries) = calls_in entries
 calls_in (Work k ∷ entries) = calls_in entries
 calls_in (Element ∷ entries) = calls_in entries
+
+-- how many lines began
+abbrev pub steps_in : List Entry → ℕ
+steps_in [] = 0
+steps_in (Step n ∷ entries) = suc (steps_in entries)
+steps_in (Listener w call answer ∷ entries) = steps_in entries
+steps_in (Fired event ∷ entries) = steps_in entries
+steps_in (Script call answer ∷ entries) = steps_in entries
+steps_in (Work k ∷ entries) = steps_in entries
+steps_in (Element ∷ entries) = steps_in entries
+
+-- listeners made so many calls
+abbrev pub IsSpent : ℕ → List Entry → Type 0
+IsSpent limit entries = calls_in entries ≡ limit
+
+-- listeners made so many calls in the line that was begun last
+pub record SpentInLine (limit : ℕ) (entries : List Entry) : Type 0 where
+  pub front : List Entry
+  pub number : ℕ
+  pub part : List Entry
+  pub entries_are : entries ≡ front ++ Step number ∷ part
+  pub one_line : steps_in part ≡ 0
+  pub calls : IsSpent limit part

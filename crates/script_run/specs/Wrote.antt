@@ -1,5 +1,9 @@
 -- What a sink was given.
-use Rattle.std.specs.Prelude.{◌≡◌, ℕ, List, ◌++◌, Option, Some, IfSome}
+use Rattle.std.specs.Prelude.{◌≡◌, ℕ, List, ◌++◌, Option, Some, IfSome, Result, Ok, Err}
+use Rattle.mse_outside.specs.declared.sink.Put.{Put}
+use Rattle.mse_outside.specs.declared.sink.Put.TheVariants.{Done, Failed, OutOfMemory}
+use Rattle.script_run.specs.declared.stop.Halt.{Halt}
+use Rattle.script_run.specs.declared.stop.Halt.TheVariants.{Memory, Write}
 
 -- where the written bytes are told, these came
 abbrev pub Wrote : List ℕ → Option (List ℕ) → Option (List ℕ) → Type 0
@@ -9,3 +13,9 @@ Wrote bytes old new = IfSome old (λ before. new ≡ Some (before ++ bytes))
 abbrev pub WroteFront : List ℕ → Option (List ℕ) → Option (List ℕ) → Type 0
 WroteFront bytes old new =
     (front : List ℕ) × (rest : List ℕ) × (bytes ≡ front ++ rest) × Wrote front old new
+
+-- what a run makes of the answer to a put
+abbrev pub halt_of : Put → Result (Unit {0}) Halt
+halt_of Done = Ok tt
+halt_of Failed = Err Write
+halt_of OutOfMemory = Err Memory

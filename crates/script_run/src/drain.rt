@@ -6,21 +6,22 @@ ghost use Rattle.mse_engine.specs.State.{State};
 ghost use Rattle.mse_engine.specs.Standing.{Stands};
 ghost use Rattle.mse_outside.specs.Outside.{Rose};
 ghost use Rattle.script_run.specs.Doings.{InDrainOrder, IsAtRest, IsQuiet, NoEvent};
-ghost use Rattle.script_run.specs.Left.{IsCalm, IsTaken};
+ghost use Rattle.script_run.specs.Progress.{IsCalm, IsTaken};
 ghost use Rattle.script_run.specs.Lines.{Begins, Does};
 ghost use Rattle.script_run.specs.Ran.{RanBy};
 ghost use Rattle.script_run.specs.Stage.{IsStanding, stage};
 
 use crate::put::put_entries;
 use crate::run::ScriptRun;
-use crate::stop::{Halt, Stop};
+use crate::stop::{Halt, Stop, wanted_memory};
 use listeners::{Listener, dispatch};
 use mse_calls::Blobs;
 use mse_outside::Sink;
 use track_store::FrameStore;
 
 impl<S: FrameStore> ScriptRun<S> {
-    /// Fires the first event of the queue: each listener hears it, and answers it; false where there is none.
+    /// Fires the first event of the queue: each listener hears it, and answers it; false where
+    /// there is none.
     pub(crate) fn fire<K: Sink>(
         &mut self,
         blobs: &Blobs,
@@ -59,6 +60,9 @@ impl<S: FrameStore> ScriptRun<S> {
             &mut self.left,
             &mut self.journal,
         );
+        if wanted_memory(dispatched) {
+            return Err(Stop::Halted(Halt::Memory));
+        }
         match put_entries(self.alloc, sink, &self.journal, from) {
             Ok(()) => {}
             Err(halt) => return Err(Stop::Halted(halt)),
@@ -70,7 +74,8 @@ impl<S: FrameStore> ScriptRun<S> {
         Ok(true)
     }
 
-    /// Fires events until none waits, which answers true, or until a listener has made a call, which answers false.
+    /// Fires events until none waits, which answers true, or until a listener has made a call,
+    /// which answers false.
     fn fire_all<K: Sink>(
         &mut self,
         blobs: &Blobs,
@@ -105,7 +110,8 @@ impl<S: FrameStore> ScriptRun<S> {
         }
     }
 
-    /// Fires, and works on buffers, until no event waits and no buffer works, or until a listener has made a call.
+    /// Fires, and works on buffers, until no event waits and no buffer works, or until a listener
+    /// has made a call.
     fn work_all<K: Sink>(
         &mut self,
         blobs: &Blobs,
@@ -141,7 +147,8 @@ impl<S: FrameStore> ScriptRun<S> {
         }
     }
 
-    /// Takes turns of the element that are due, and fires, until nothing is left, or until a listener has made a call.
+    /// Takes turns of the element that are due, and fires, until nothing is left, or until a
+    /// listener has made a call.
     fn turn_all<K: Sink>(
         &mut self,
         blobs: &Blobs,

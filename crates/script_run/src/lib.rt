@@ -1,10 +1,11 @@
-//! The run of a script over an engine: calls are made, events are fired and told to the listeners, work is done, and the
-//! line of each entry of the journal is put when the entry has come.
+//! The run of a script over an engine: calls are made, events are fired and told to the listeners,
+//! work is done, and the line of each entry of the journal is put when the entry has come.
 //!
-//! It stands on `mse_engine` (the engine), `listeners` (who hears the events), `call_script` (the lines of a script),
-//! `event_text` (the printed lines) and `mse_outside` (the sink). Its main contract is that of [`ScriptRun::play`]: the
-//! journal grew by entries that the engine goes by and that follow the script line by line, their lines were written,
-//! and each listener heard, made and was told what they say (`specs/Follows.antt`, `specs/Ran.antt`).
+//! It stands on `mse_engine` (the engine), `listeners` (who hears the events), `call_script` (the
+//! lines of a script), `event_text` (the printed lines) and `mse_outside` (the sink). Its main
+//! contract is that of [`ScriptRun::play`]: the journal grew by entries that the engine goes by and
+//! that follow the script line by line, their lines were written, and each listener heard, made and
+//! was told what they say (`specs/Follows.antt`, `specs/Ran.antt`).
 #![tactic(auto)]
 
 mod drain;

@@ -7,6 +7,7 @@ ghost use Rattle.script_run.specs.Follows.{LineBegins, LineIs, LinesBegin, Lines
 ghost use Rattle.script_run.specs.Lines.{Begins, Does, limits};
 ghost use Rattle.script_run.specs.Ran.{CallHalted, Called, PlayedBy, RanBy};
 ghost use Rattle.script_run.specs.Stage.{IsStanding, stage};
+ghost use Rattle.script_run.specs.Turns.{SpentInLine};
 
 use crate::put::put_entries;
 use crate::run::ScriptRun;
@@ -91,7 +92,7 @@ impl<S: FrameStore> ScriptRun<S> {
         ensures count { vec_len listeners.new ≡ vec_len listeners.old }
         ensures rules { map (λ b. rules b) listeners.new.items
             ≡ map (λ b. rules b) listeners.old.items }
-        ensures played { PlayedBy blobs.now (LineIs blobs.now (limits limit
+        ensures played { PlayedBy blobs.now (SpentInLine limit) (LineIs blobs.now (limits limit
             (vec_len listeners.old)) n line.now)
             (LineBegins blobs.now (limits limit (vec_len listeners.old)) n line.now)
             (stage self.old (K.written sink.old) (map (λ b. notes b) listeners.old.items))
@@ -121,7 +122,7 @@ impl<S: FrameStore> ScriptRun<S> {
         ensures count { vec_len listeners.new ≡ vec_len listeners.old }
         ensures rules { map (λ b. rules b) listeners.new.items
             ≡ map (λ b. rules b) listeners.old.items }
-        ensures played { PlayedBy blobs.now (LinesAre blobs.now (limits limit
+        ensures played { PlayedBy blobs.now (SpentInLine limit) (LinesAre blobs.now (limits limit
             (vec_len listeners.old)) lines.now)
             (LinesBegin blobs.now (limits limit (vec_len listeners.old)) lines.now)
             (stage self.old (K.written sink.old) (map (λ b. notes b) listeners.old.items))

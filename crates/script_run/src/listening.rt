@@ -1,6 +1,6 @@
 //! Listeners, and their rules.
 
-ghost use Rattle.std.specs.Prelude.{◌≡◌, ◌≤◌, ◌<◌, ◌+◌, ◌^◌, ◌==◌, not, ℕ, [], IfOk, OnOk, map, vec_len};
+ghost use Rattle.std.specs.Prelude.{◌≡◌, ◌≤◌, ◌<◌, ◌+◌, ◌^◌, ◌==◌, ◌++◌, ◌∷◌, not, ℕ, [], IfOk, OnOk, OnErr, map, vec_len};
 ghost use Rattle.std.specs.List.{filter};
 ghost use Rattle.listeners.specs.Dispatch.{notes_at};
 ghost use Rattle.script_run.specs.Rules.{is_for, rules_at, rules_for};
@@ -17,6 +17,8 @@ pub fn add_listener(
 ) -> Result<(), OutOfMemory>
     requires new { notes listener ≡ [] }
     requires old { (w : ℕ) → notes_at (map (λ b. notes b) listeners.old.items) w ≡ [] }
+    ensures ok { OnOk result (listeners.new.items ≡ listeners.old.items ++ listener ∷ []) }
+    ensures err { OnErr result (listeners.new.items ≡ listeners.old.items) }
     ensures fresh { (w : ℕ) → notes_at (map (λ b. notes b) listeners.new.items) w ≡ [] }
     ensures count { vec_len listeners.new ≤ vec_len listeners.old + 1 }
 {

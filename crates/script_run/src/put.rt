@@ -1,16 +1,30 @@
 //! Lines for the sink.
 
-ghost use Rattle.std.specs.Prelude.{◌≡◌, ◌≤◌, length, drop, OnOk, OnErr, IsErrOf};
+ghost use Rattle.std.specs.Prelude.{◌≡◌, ◌≤◌, [], length, drop, unwrap_or, IfOk, OnOk, OnErr, IsErrOf};
 ghost use Rattle.mse_outside.specs.Outside.{Rose};
 ghost use Rattle.event_text.specs.Lines.{line_text};
+ghost use Rattle.run_journal.specs.EntryRef.{entry_of};
 ghost use Rattle.script_run.specs.Text.{lines_of};
-ghost use Rattle.script_run.specs.Wrote.{Wrote, WroteFront};
+ghost use Rattle.script_run.specs.Wrote.{Wrote, WroteFront, halt_of};
 
 use crate::stop::Halt;
-use event_text::line_of;
-use mse_calls::{Entry, Journal};
+use event_text::{event_line, listener_line, script_line};
+use mse_base::{OutOfMemory, Text};
+use mse_calls::{Answer, Call};
 use mse_outside::{Put, Sink};
+use run_journal::{EntryRef, Journal};
 use std::alloc::Global;
+
+/// What a run makes of the answer to a put.
+fn halt_of(answer: Put) -> Result<(), Halt>
+    ensures { result ≡ halt_of answer }
+{
+    match answer {
+        Put::Done => Ok(()),
+        Put::Failed => Err(Halt::Write),
+        Put::OutOfMemory => Err(Halt::Memory),
+    }
+}
 
 /// Puts bytes.
 pub fn put_bytes<K: Sink>(sink: &mut K, bytes: &[u8]) -> Result<(), Halt>
@@ -19,11 +33,7 @@ pub fn put_bytes<K: Sink>(sink: &mut K, bytes: &[u8]) -> Result<(), Halt>
     ensures later { K.faults sink.old ≤ K.faults sink.new }
     ensures cause { IsErrOf result Halt.Write → Rose (K.faults sink.old) (K.faults sink.new) }
 {
-    match sink.put(bytes) {
-        Put::Done => Ok(()),
-        Put::Failed => Err(Halt::Write),
-        Put::OutOfMemory => Err(Halt::Memory),
-    }
+    halt_of(sink.put(bytes))
 }
 
 /// Puts a text line by line: each put is one whole line with its line feed.
@@ -42,17 +52,34 @@ pub fn put_lines<K: Sink>(sink: &mut K, text: &str) -> Result<(), Halt>
     Ok(())
 }
 
+/// The line of an entry; `None` for an entry that prints nothing.
+fn entry_line(alloc: Global, entry: &EntryRef<'_>) -> Result<Option<Text>, OutOfMemory>
+    ensures { IfOk result (λ line. unwrap_or line [] ≡ line_text (entry_of entry.now)) }
+{
+    let line = match *entry {
+        EntryRef::Script(call, answer) => script_line(alloc, call, answer)?,
+        EntryRef::Append(k, piece) => {
+            script_line(alloc, &Call::AppendBuffer(k, piece), &Answer::Done)?
+        }
+        EntryRef::Listener(number, call, answer) => listener_line(alloc, number, call, answer)?,
+        EntryRef::Fired(event) => event_line(alloc, &event)?,
+        EntryRef::Step(_) | EntryRef::Work(_) | EntryRef::Element => return Ok(None),
+    };
+    Ok(Some(line))
+}
+
 /// Puts the line of an entry.
-fn put_entry<K: Sink>(alloc: Global, sink: &mut K, entry: &Entry) -> Result<(), Halt>
-    ensures ok { OnOk result (Wrote (line_text entry.now) (K.written sink.old)
+fn put_entry<K: Sink>(alloc: Global, sink: &mut K, entry: &EntryRef<'_>) -> Result<(), Halt>
+    ensures ok { OnOk result (Wrote (line_text (entry_of entry.now)) (K.written sink.old)
         (K.written sink.new)) }
-    ensures err { OnErr result (WroteFront (line_text entry.now) (K.written sink.old)
+    ensures err { OnErr result (WroteFront (line_text (entry_of entry.now)) (K.written sink.old)
         (K.written sink.new)) }
     ensures later { K.faults sink.old ≤ K.faults sink.new }
     ensures cause { IsErrOf result Halt.Write → Rose (K.faults sink.old) (K.faults sink.new) }
 {
-    match line_of(alloc, entry) {
-        Ok(line) => put_bytes(sink, line.as_str().as_bytes()),
+    match entry_line(alloc, entry) {
+        Ok(Some(line)) => put_bytes(sink, line.as_str().as_bytes()),
+        Ok(None) => Ok(()),
         Err(_) => Err(Halt::Memory),
     }
 }
@@ -76,7 +103,7 @@ pub(crate) fn put_entries<K: Sink>(
         let Some(entry) = journal.get(i) else {
             unreachable!()
         };
-        match put_entry(alloc, sink, entry) {
+        match put_entry(alloc, sink, &entry) {
             Ok(()) => {}
             Err(halt) => return Err(halt),
         }

@@ -4,7 +4,7 @@ ghost use Rattle.std.specs.Prelude.{◌≡◌, ℕ, List, Ok, None, IfOk, OnOk, 
 ghost use Rattle.mse_engine.specs.State.{State};
 ghost use Rattle.mse_engine.specs.Standing.{Stands};
 ghost use Rattle.script_run.specs.Doings.{IsAtRest, IsQuiet, NoEvent};
-ghost use Rattle.script_run.specs.Left.{IsCalm};
+ghost use Rattle.script_run.specs.Progress.{IsCalm};
 ghost use Rattle.script_run.specs.Ran.{Drains};
 ghost use Rattle.script_run.specs.Stage.{IsStanding};
 
@@ -49,7 +49,8 @@ impl<S: FrameStore> ScriptRun<S> {
         }
     }
 
-    /// Fires, works and takes turns until there is nothing left to do. No listener hears of it, and nothing is written.
+    /// Fires, works and takes turns until there is nothing left to do. No listener hears of it, and
+    /// nothing is written.
     pub fn drain_quietly(&mut self) -> Result<(), OutOfMemory>
         requires { IsStanding self.old.engine }
         ensures drains { (blobs : List (List ℕ)) → Drains blobs self.old self.new }

@@ -2,22 +2,25 @@
 
 ghost use Rattle.std.specs.Prelude.{◌≡◌, ◌<◌, ◌≤ℤ◌, ◌++◌, ◌∷◌, [], ℕ, List, pos, Ok, true, IfOk, OnOk, OnErr, IsSome};
 ghost use Rattle.mse_calls.specs.declared.answers.Answer.{Answer};
-ghost use Rattle.mse_calls.specs.declared.journal.Entry.{Entry};
+ghost use Rattle.mse_calls.specs.declared.entry.Entry.{Entry};
 ghost use Rattle.mse_engine.specs.State.{opening_state};
+ghost use Rattle.mse_engine.specs.Sound.{IsSoundEngine};
 ghost use Rattle.mse_engine.specs.Standing.{Stands};
 ghost use Rattle.mse_engine.specs.Work.{after_element_turn, after_work};
-ghost use Rattle.script_run.specs.Left.{IsTaken, IsTurnTaken, works_left};
+ghost use Rattle.script_run.specs.Progress.{IsTaken, IsTurnTaken, works_left};
 ghost use Rattle.script_run.specs.Ran.{Stepped, SteppedIf, TookEvent};
 ghost use Rattle.script_run.specs.Stage.{IsStanding};
 
 use mse_base::{OutOfMemory, Ticks};
-use mse_calls::{Blobs, Call, Entry, Event, Journal};
+use mse_calls::{Blobs, Call, Entry, Event};
 use mse_engine::{Engine, Worked};
+use run_journal::Journal;
 use std::alloc::Global;
 use std::marker::Model;
 use track_store::FrameStore;
 
-/// A run of a script: its engine, its journal, and how many calls the listeners may still make in the line that runs.
+/// A run of a script: its engine, its journal, and how many calls the listeners may still make in
+/// the line that runs.
 #[derive(Drop)]
 pub struct ScriptRun<S: FrameStore> {
     pub(crate) alloc: Global,
@@ -35,8 +38,8 @@ impl<S: FrameStore> Model for ScriptRun<S> {
 }
 
 impl<S: FrameStore> ScriptRun<S> {
-    /// A run that begins: a closed source, whose buffers hold at most `quota` bytes each and have ranges that join across
-    /// gaps of at most `gap` ticks. It takes no memory.
+    /// A run that begins: a closed source, whose buffers hold at most `quota` bytes each and have
+    /// ranges that join across gaps of at most `gap` ticks. It takes no memory.
     pub fn new(alloc: Global, quota: u64, gap: Ticks, journal: Journal) -> ScriptRun<S>
         requires { pos 0 ≤ℤ gap }
         ensures engine { Stands result.engine (opening_state quota gap) }
@@ -149,8 +152,10 @@ impl<S: FrameStore> ScriptRun<S> {
     pub(crate) fn open_line(&mut self, n: u32, limit: u64) -> Result<(), OutOfMemory>
         ensures ok { OnOk result (self.new
             ≡ record self.old { entries = self.old.entries ++ Entry.Step n ∷ []; left = limit }) }
+        ensures sound { IsSoundEngine self.old.engine }
         ensures err { OnErr result (self.new ≡ self.old) }
     {
+        self.engine.sound();
         let Ok(()) = self.journal.reserve(1) else {
             return Err(OutOfMemory);
         };

@@ -1,6 +1,6 @@
 //! Why a run stops.
 
-ghost use Rattle.std.specs.Prelude.{◌≡◌};
+ghost use Rattle.std.specs.Prelude.{◌≡◌, ◌↔◌, Err, true};
 ghost use Rattle.script_run.specs.Ran.{stop_of};
 
 use listeners::DispatchFault;
@@ -35,5 +35,15 @@ impl Stop {
             DispatchFault::CallBudget(number) => Stop::CallBudget(number),
             DispatchFault::TaskBudget => Stop::TaskBudget,
         }
+    }
+}
+
+/// Whether memory was wanting in a dispatch.
+pub(crate) fn wanted_memory(dispatched: Result<(), DispatchFault>) -> bool
+    ensures { (result ≡ true) ↔ (dispatched ≡ Err DispatchFault.OutOfMemory) }
+{
+    match dispatched {
+        Err(DispatchFault::OutOfMemory) => true,
+        Ok(()) | Err(DispatchFault::CallBudget(_)) | Err(DispatchFault::TaskBudget) => false,
     }
 }

@@ -7,10 +7,11 @@ ghost use Rattle.listeners.specs.Notes.{told_note};
 
 use super::{OPEN, boxed};
 use crate::*;
-use event_text::line_of;
+use event_text::{event_line, listener_line, script_line};
 use mse_base::{Bytes, OutOfMemory, OwnedList, Text, Ticks};
-use mse_calls::{Answer, Blobs, Call, Entry, Event, EventKind, Journal, Piece, Rule, Target};
+use mse_calls::{Answer, Blobs, Call, Entry, Event, EventKind, Piece, Rule, Target};
 use mse_engine::Engine;
+use run_journal::{EntryRef, Journal};
 use std::alloc::Global;
 use std::process::Abort;
 use std::test::Fail;
@@ -120,6 +121,19 @@ fn fire_all(rt: &impl Abort, scene: &mut Scene, count: u32) -> Result<(), Fail> 
     }
     assert!(rt; scene.engine.fire().is_none());
     Ok(())
+}
+
+/// The printed line of an entry; the empty text for an entry that prints nothing.
+fn line_of(alloc: Global, entry: EntryRef<'_>) -> Result<Text, OutOfMemory> {
+    match entry {
+        EntryRef::Script(call, answer) => script_line(alloc, call, answer),
+        EntryRef::Append(k, piece) => {
+            script_line(alloc, &Call::AppendBuffer(k, piece), &Answer::Done)
+        }
+        EntryRef::Listener(number, call, answer) => listener_line(alloc, number, call, answer),
+        EntryRef::Fired(event) => event_line(alloc, &event),
+        EntryRef::Step(_) | EntryRef::Work(_) | EntryRef::Element => Text::copy_of(alloc, ""),
+    }
 }
 
 /// The printed lines of what was done.

@@ -1,6 +1,6 @@
 use Rattle.std.proofs.Common.{arith, ◌∙◌, ap, ◌++◌, ◌∷◌, [], List}
-use Rattle.mse_calls.specs.declared.journal.Entry.{Entry}
-use Rattle.mse_calls.specs.declared.journal.Entry.TheVariants.{Listener}
+use Rattle.mse_calls.specs.declared.entry.Entry.{Entry}
+use Rattle.mse_calls.specs.declared.entry.Entry.TheVariants.{Listener}
 use Rattle.listeners.proofs.Serving.{makes_one, call_turn_unmade, call_turn_made}
 use Rattle.listeners.proofs.event_dispatch.make_one.Goals as goal
 
@@ -12,5 +12,5 @@ pub returns-clause-turn : goal.returns-clause-turn
 returns-clause-turn g c =
     let one : List Entry = Listener c.args.number c.args.call c.in-Ok-call.answer ∷ [] in
     call_turn_made _ _ _ c.in-Ok-call.answer _ _ _ _ _ _ _ _ c.ask_one-asked.result
-    (makes_one _ _ _ c.in-Ok-call.answer _ _ _ _ _ _ (c.push_reserved.ensures.entries ∙ ap (λ (x : List Entry). x ++ one) c.reserve.ensures.entries) c.in-Ok-call.ensures.answered (omega arith))
+    (makes_one _ _ _ c.in-Ok-call.answer _ _ _ _ _ _ (c.push_reserved.ensures.entries ∙ ap (λ (x : List Entry). x ++ one) c.reserve.ensures.entries) c.in-Ok-call.ensures.answered c.in-Ok-call.ensures.sound (omega arith))
     c.ask_one-asked.ensures.ok c.ask_one-asked.ensures.err

@@ -1,12 +1,13 @@
 use Rattle.std.proofs.Common.{arith}
+use Rattle.run_journal.specs.EntryRef.{entry_of}
 use Rattle.script_run.proofs.Writing.{entry_put, entry_failed}
 use Rattle.script_run.proofs.put.put_entries.Goals as goal
 
 pub returns-in-Err-clause-err : goal.returns-in-Err-clause-err
-returns-in-Err-clause-err g c = entry_failed c.args.journal.now.entries c.loop-i.i c.in-Some.entry.now _ _ _ _ c.in-Some.ensures c.loop-i.invariant.wrote c.in-Err.ensures.err
+returns-in-Err-clause-err g c = entry_failed c.args.journal.now.entries c.loop-i.i (entry_of c.in-Some.entry) _ _ _ _ c.in-Some.ensures c.loop-i.invariant.wrote c.in-Err.ensures.err
 
 pub loop-i-preserved : goal.loop-i-preserved
 loop-i-preserved g c = record {
   later = omega (arith, c.loop-i.invariant.later, c.put_entry.ensures.later);
-  wrote = entry_put c.args.journal.now.entries c.loop-i.i c.in-Some.entry.now _ _ _ _ c.in-Some.ensures c.loop-i.invariant.wrote c.in-Ok.ensures.ok;
+  wrote = entry_put c.args.journal.now.entries c.loop-i.i (entry_of c.in-Some.entry) _ _ _ _ c.in-Some.ensures c.loop-i.invariant.wrote c.in-Ok.ensures.ok;
 }

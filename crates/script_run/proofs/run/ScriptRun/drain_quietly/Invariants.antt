@@ -2,7 +2,7 @@ use Rattle.std.proofs.Common.{List, ℕ}
 use Rattle.mse_engine.specs.State.{State}
 use Rattle.mse_engine.specs.Standing.{Stands}
 use Rattle.script_run.specs.Doings.{IsQuiet}
-use Rattle.script_run.specs.Left.{turns_left}
+use Rattle.script_run.specs.Progress.{turns_left}
 use Rattle.script_run.specs.Ran.{Drains}
 use Rattle.script_run.proofs.run.ScriptRun.drain_quietly.Given as goal
 

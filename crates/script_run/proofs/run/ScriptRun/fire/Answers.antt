@@ -1,7 +1,9 @@
-use Rattle.std.proofs.Common.{◌∙◌, [], refl, sym, arith, inl}
+use Rattle.std.proofs.Common.{◌≡◌, ◌∙◌, [], Err, ap, refl, sym, arith, inl}
 use Rattle.std.proofs.lemmas.List.{length-map}
 use Rattle.std.proofs.lemmas.Grind.{common_steps}
-use Rattle.script_run.proofs.Firing.{fired_alone, fired_half, fired_ran, fired_stopped, nothing_fired}
+use Rattle.listeners.specs.declared.event_dispatch.DispatchFault.{DispatchFault}
+use Rattle.listeners.specs.declared.event_dispatch.DispatchFault.TheVariants.{OutOfMemory}
+use Rattle.script_run.proofs.Firing.{fired_alone, fired_half, fired_ran, fired_short, fired_stopped, nothing_fired}
 use Rattle.script_run.proofs.Playing.{halt_none, ran_none}
 use Rattle.script_run.proofs.run.ScriptRun.fire.Goals as goal
 
@@ -32,19 +34,31 @@ put_entries-requires g c =
     let from = c.len-from.ensures in
     grind (arith, common_steps)
 
+pub returns-then-wanted_memory-clause-ran : goal.returns-then-wanted_memory-clause-ran
+returns-then-wanted_memory-clause-ran g c =
+    let took = rw c.in-Some.is at c.in-Ok.ensures.ok in
+    let step = rw (← c.self.view_is, ← c.self-2.view_is) at (took c.args.blobs.now) in
+    let wanted : c.dispatch-dispatched.result ≡ Err OutOfMemory = c.wanted_memory.ensures.0 c.if-wanted_memory.true in
+    let short = rw wanted at c.dispatch-dispatched.ensures.dispatch in
+    rw (← c.self.view_is) (fired_short c.args.blobs.now c.in-Some.event _ _ _ _ _ _ step short (simp length-map (grind (arith, common_steps, c.dispatch-dispatched.ensures.count))))
+
 pub returns-in-Err-clause-ran : goal.returns-in-Err-clause-ran
 returns-in-Err-clause-ran g c =
     let took = rw c.in-Some.is at c.in-Ok.ensures.ok in
     let step = rw (← c.self.view_is, ← c.self-2.view_is) at (took c.args.blobs.now) in
     let wrote = rw c.len-from.ensures at c.in-Err.ensures.err in
-    rw (← c.self.view_is) (fired_half c.args.blobs.now c.in-Some.event c.in-Err.halt _ _ _ _ _ _ _ _ step c.dispatch-dispatched.ensures.dispatch (simp length-map (grind (arith, common_steps, c.dispatch-dispatched.ensures.count))) wrote)
+    let not : ¬ (c.dispatch-dispatched.result ≡ Err OutOfMemory) = λ e. absurd (cc (c.wanted_memory.ensures.1 e, c.if-wanted_memory.false)) in
+    rw (← c.self.view_is) (fired_half c.args.blobs.now c.in-Some.event c.in-Err.halt _ _ _ _ _ _ _ c.dispatch-dispatched.result not step c.dispatch-dispatched.ensures.dispatch (simp length-map (grind (arith, common_steps, c.dispatch-dispatched.ensures.count))) wrote)
 
 pub returns-in-Err-dispatched-clause-ran : goal.returns-in-Err-dispatched-clause-ran
 returns-in-Err-dispatched-clause-ran g c =
     let took = rw c.in-Some.is at c.in-Ok.ensures.ok in
     let step = rw (← c.self.view_is, ← c.self-2.view_is) at (took c.args.blobs.now) in
     let wrote = rw c.len-from.ensures at c.in-Ok-put_entries.ensures.ok in
-    rw (c.of.ensures, ← c.self.view_is) (fired_stopped c.args.blobs.now c.in-Some.event c.in-Err-dispatched.fault _ _ _ _ _ _ _ step c.in-Err-dispatched.ensures.dispatch wrote)
+    let not : ¬ (c.in-Err-dispatched.fault ≡ OutOfMemory) =
+    λ e. absurd (cc (c.wanted_memory.ensures.1 (c.in-Err-dispatched.is ∙ ap (λ (f : DispatchFault). Err f) e), c.if-wanted_memory.false)) in
+    rw (c.of.ensures, ← c.self.view_is) (fired_stopped c.args.blobs.now c.in-Some.event c.in-Err-dispatched.fault _ _ _ _ _ _ _ not step c.in-Err-dispatched.ensures.dispatch
+    (simp length-map (grind (arith, common_steps, c.dispatch-dispatched.ensures.count))) wrote)
 
 pub returns-clause-ran : goal.returns-clause-ran
 returns-clause-ran g c =

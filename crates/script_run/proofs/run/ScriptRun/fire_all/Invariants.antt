@@ -1,6 +1,6 @@
 use Rattle.std.proofs.Common.{◌≡◌, ◌≤◌, map, vec_len}
 use Rattle.script_run.specs.Doings.{InDrainOrder}
-use Rattle.script_run.specs.Left.{IsCalm, events_left}
+use Rattle.script_run.specs.Progress.{IsCalm, events_left}
 use Rattle.script_run.specs.Ran.{Ran}
 use Rattle.script_run.specs.Stage.{stage}
 use Rattle.script_run.proofs.run.ScriptRun.fire_all.Given as goal

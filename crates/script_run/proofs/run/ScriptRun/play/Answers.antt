@@ -1,5 +1,6 @@
 use Rattle.std.proofs.Common.{◌∙◌, refl, sym, arith, vec_len}
 use Rattle.script_run.specs.Lines.{limits}
+use Rattle.script_run.proofs.Cutting.{spent_behind}
 use Rattle.script_run.proofs.Following.{lines_join, lines_stop_join}
 use Rattle.script_run.proofs.Lining.{standing_played}
 use Rattle.script_run.proofs.Playing.{played_stop, played_then, ran_none}
@@ -14,9 +15,9 @@ play_line-requires-clause-standing g c = standing_played _ _ _ _ c.requires.stan
 pub returns-in-Err-clause-played : goal.returns-in-Err-clause-played
 returns-in-Err-clause-played g c =
     let played = rw c.loop-n.invariant.count at c.in-Err.ensures.played in
-    played_stop _ _ _ _ c.in-Err.stop _ _ _
+    played_stop _ _ _ _ _ _ c.in-Err.stop _ _ _
     (λ st xs ys p q. lines_stop_join c.args.blobs.now (limits c.args.limit (vec_len c.args.listeners.now)) c.args.lines.now c.loop-n.n c.index-lines-n.result c.loop-n-test.true (sym c.index-lines-n.is) st xs ys p q)
-    c.loop-n.invariant.played played
+    c.loop-n.invariant.played (λ ys e. spent_behind c.args.limit _ ys e) played
 
 pub loop-n-preserved : goal.loop-n-preserved
 loop-n-preserved g c =

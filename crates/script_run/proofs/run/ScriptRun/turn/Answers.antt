@@ -22,6 +22,6 @@ returns-in-Ok-Did-clause-ok g c = λ blobs.
     let worked = rw c.in-Ok-Did.field-0-is at c.in-Ok-Did.ensures.worked in
     rw (← c.self.view_is) (record {
       grew = rw c.reserve.ensures.entries at c.push_reserved.ensures.entries;
-      goes = turned_goes blobs c.self.inside.engine c.element_turn.new.self worked;
+      goes = turned_goes blobs c.self.inside.engine c.element_turn.new.self worked c.in-Ok-Did.ensures.sound;
       left = refl;
     })

@@ -2,7 +2,7 @@ use Rattle.std.proofs.Common.{◌≡◌, ◌≤◌, map, vec_len}
 use Rattle.mse_engine.specs.State.{State}
 use Rattle.mse_engine.specs.Standing.{Stands}
 use Rattle.script_run.specs.Doings.{InDrainOrder, IsQuiet}
-use Rattle.script_run.specs.Left.{turns_left}
+use Rattle.script_run.specs.Progress.{turns_left}
 use Rattle.script_run.specs.Ran.{Ran}
 use Rattle.script_run.specs.Stage.{stage}
 use Rattle.script_run.proofs.run.ScriptRun.turn_all.Given as goal

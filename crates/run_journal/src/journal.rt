@@ -1,0 +1,93 @@
+ghost use Rattle.std.specs.Prelude.{◌≡◌, ◌≤◌, ◌+◌, ◌++◌, ◌∷◌, [], OnOk, length, slice_get, option_map};
+ghost use Rattle.run_journal.specs.EntryRef.{entry_of};
+
+use crate::EntryRef;
+use crate::mark::{AnsweredCall, Mark, entry_ref, keep};
+use mse_base::OutOfMemory;
+use mse_calls::{Entry, Piece};
+use std::alloc::Global;
+use std::marker::Model;
+
+/// What happened in a run, in order, and room for more. It keeps a small mark for each entry, and
+/// calls with their answers in a list of their own.
+#[derive(Debug, Drop)]
+pub struct Journal {
+    marks: Vec<Mark>,
+    calls: Vec<AnsweredCall>,
+    pieces: Vec<Piece>,
+    spare: usize,
+}
+
+impl Model for Journal {
+    ghost use Rattle.std.specs.Prelude.{◌+◌, ◌≤◌, All, vec_len, vec_capacity};
+    ghost use Rattle.run_journal.specs.Book.{Book};
+    ghost use Rattle.run_journal.specs.Marks.{entries_at, IsPlaced};
+
+    ghost Value = { Book };
+
+    ghost view = { λ j. record {
+      entries = entries_at j.calls.items j.pieces.items j.marks.items;
+      spare = j.spare;
+    } };
+
+    ghost invariant = { λ j. record {
+      placed : All (IsPlaced j.calls.items j.pieces.items) j.marks.items;
+      marks_room : vec_len j.marks + j.spare ≤ vec_capacity j.marks;
+      calls_room : vec_len j.calls + j.spare ≤ vec_capacity j.calls;
+      pieces_room : vec_len j.pieces + j.spare ≤ vec_capacity j.pieces;
+    } };
+}
+
+impl Journal {
+    /// A journal with no entry.
+    pub fn new(alloc: Global) -> Journal
+        ensures { result.entries ≡ [] }
+    {
+        Journal {
+            marks: Vec::new(alloc),
+            calls: Vec::new(alloc),
+            pieces: Vec::new(alloc),
+            spare: 0,
+        }
+    }
+
+    /// How many entries there are.
+    pub fn len(&self) -> usize
+        ensures { result ≡ length self.now.entries }
+    {
+        self.marks.len()
+    }
+
+    /// The entry at a place; `None` exactly past the end.
+    pub fn get(&self, i: usize) -> Option<EntryRef<'_>>
+        ensures { option_map entry_of result ≡ slice_get self.now.entries i }
+    {
+        let mark = self.marks.get(i)?;
+        Some(entry_ref(*mark, &self.calls, &self.pieces))
+    }
+
+    /// Makes room for at least `n` more entries. The room from before stays, also where it finds
+    /// no memory.
+    pub fn reserve(&mut self, n: usize) -> Result<(), OutOfMemory>
+        ensures spare { OnOk result (n ≤ self.new.spare) }
+        ensures kept { self.old.spare ≤ self.new.spare }
+        ensures entries { self.new.entries ≡ self.old.entries }
+    {
+        self.marks.try_reserve(n)?;
+        self.calls.try_reserve(n)?;
+        self.pieces.try_reserve(n)?;
+        self.spare = self.spare.max(n);
+        Ok(())
+    }
+
+    /// Puts an entry last, in reserved room.
+    pub fn push_reserved(&mut self, entry: Entry)
+        requires { 1 ≤ self.old.spare }
+        ensures entries { self.new.entries ≡ self.old.entries ++ entry ∷ [] }
+        ensures spare { self.new.spare + 1 ≡ self.old.spare }
+    {
+        let mark = keep(&mut self.calls, &mut self.pieces, entry);
+        self.marks.push_reserved(mark);
+        self.spare -= 1;
+    }
+}

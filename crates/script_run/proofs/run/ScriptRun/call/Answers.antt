@@ -1,0 +1,13 @@
+use Rattle.std.proofs.Common.{refl}
+use Rattle.mse_engine.proofs.Goes.{goes_script}
+use Rattle.script_run.proofs.run.ScriptRun.call.Goals as goal
+
+pub returns-clause-ok : goal.returns-clause-ok
+returns-clause-ok g c = (
+  c.in-Ok-call.answer,
+  rw (← c.self.view_is) (record {
+    grew = rw (c.in-Ok-copy.ensures, c.reserve.ensures.entries) at c.push_reserved.ensures.entries;
+    goes = goes_script c.args.blobs.now c.self.inside.engine c.call.new.self c.args.call.now c.in-Ok-call.answer c.in-Ok-call.ensures.answered c.in-Ok-call.ensures.sound;
+    left = refl;
+  }),
+)
