@@ -1,0 +1,77 @@
+-- A file that is appended in parts, or with bytes behind its first fault, comes to what the file comes to.
+use Rattle.std.proofs.Common.{◌≡◌, ℕ, zero, suc, ◌+◌, ◌≤◌, ◌<◌, ◌^◌, ◌==◌, Bool, true, false, List, [], ◌∷◌, ◌++◌, length, drop, take, refl, ap, sym, subst, ◌∙◌, arith, length-append}
+use Rattle.std.specs.Prelude.{Option, Some, None, IsSome, is_some, slice_get}
+use Rattle.mse_calls.specs.Pieces.{bytes_of}
+use Rattle.mse_calls.specs.declared.calls.Call.TheVariants.{AppendBuffer}
+use Rattle.mse_calls.specs.declared.calls.Piece.{Piece}
+use Rattle.mse_calls.specs.declared.views.FaultView.{FaultView}
+use Rattle.mse_engine.specs.State.{Core, State}
+use Rattle.mse_engine.specs.Work.{running_in}
+use Rattle.cut_law.specs.Cuts.{AreParts}
+use Rattle.cut_law.specs.Files.{after_piece, after_pieces, unless_fault, HaveRoom, UnlessFault}
+use Rattle.cut_law.specs.Room.{HasRoom}
+use Rattle.cut_law.proofs.Cutting.{piece-bytes}
+use Rattle.cut_law.proofs.Filing.{filing}
+use Rattle.cut_law.proofs.Drains.{drain_core}
+use Rattle.cut_law.proofs.Journals.{append_some}
+use Rattle.file_law.specs.Rooms.{HoldsLittle, IsFresh, whole_of}
+use Rattle.file_law.proofs.Rooms.{file-rooms, piece-core, piece-room}
+
+-- one piece, where there was no fault
+pub one-piece : (blobs : List (List ℕ)) (k : ℕ) (st : State) (piece : Piece) → st.core.source.fault ≡ None → after_pieces blobs k st (piece ∷ []) ≡ after_piece blobs k st piece
+one-piece blobs k st piece none = ap (λ o. unless_fault o st (after_piece blobs k st piece)) none
+
+-- the core behind a whole file
+pub whole-core : (bytes : List ℕ) (k : ℕ) (st : State) → length bytes < 2 ^ 62 → IsFresh k st → (after_piece (bytes ∷ []) k st (whole_of 0)).core ≡ drain_core (append_some (Some bytes) k st.core)
+whole-core bytes k st short fresh = piece-core (bytes ∷ []) k st (whole_of 0) (piece-room (bytes ∷ []) k st.core (whole_of 0) 0 bytes refl (omega (arith, short)) fresh.little)
+
+pub in-parts : (bytes : List ℕ) (k : ℕ) (st : State) (first : Piece) (others : List Piece) → length bytes < 2 ^ 62 → AreParts 0 bytes 0 (length bytes) (first ∷ others) → IsFresh k st
+    → (after_pieces (bytes ∷ []) k st (first ∷ others)).core ≡ (after_pieces (bytes ∷ []) k st (whole_of 0 ∷ [])).core
+in-parts bytes k st first others short p fresh =
+    let blobs : List (List ℕ) = bytes ∷ [] in
+    let inside : 0 + length bytes ≤ length bytes = omega arith in
+    filing blobs k st (whole_of 0) bytes 0 (length bytes) first others refl refl inside p fresh.running fresh.fault fresh.error
+    (piece-room blobs k st.core (whole_of 0) 0 bytes refl (omega (arith, short)) fresh.little)
+    (file-rooms blobs k st 0 bytes 0 (length bytes) (first ∷ others) refl p inside short fresh.running fresh.little)
+    ∙ ap (λ (s : State). s.core) (sym (one-piece blobs k st (whole_of 0) fresh.fault))
+
+-- ---- bytes behind the first fault
+
+take-front : (xs ys : List ℕ) → take (length xs) (xs ++ ys) ≡ xs
+take-front [] ys = refl
+take-front (x ∷ xs) ys = ap (λ zs. x ∷ zs) (take-front xs ys)
+
+abbrev front_of : List ℕ → Piece
+front_of bytes = record { blob = 0; part = Some (0, length bytes) }
+
+abbrev rest_of : List ℕ → List ℕ → Piece
+rest_of bytes more = record { blob = 0; part = Some (0 + length bytes, length more) }
+
+front-bytes : (bytes more : List ℕ) → bytes_of ((bytes ++ more) ∷ []) (front_of bytes) ≡ Some bytes
+front-bytes bytes more =
+    let long = length-append bytes more in
+    let fits : 0 + length bytes ≤ length (bytes ++ more) = omega (arith, long) in
+    piece-bytes ((bytes ++ more) ∷ []) (front_of bytes) 0 0 (length bytes) (bytes ++ more) refl refl refl fits ∙ ap (λ xs. Some xs) (take-front bytes more)
+
+stopped : (o : Option FaultView) (a b : State) → IsSome o → unless_fault o a b ≡ a
+stopped None a b h = absurd (cc)
+stopped (Some fault) a b h = refl
+
+pub behind : (bytes more : List ℕ) (k : ℕ) (st : State) → length (bytes ++ more) < 2 ^ 62 → IsFresh k st → IsSome (after_pieces (bytes ∷ []) k st (whole_of 0 ∷ [])).core.source.fault
+    → (after_pieces ((bytes ++ more) ∷ []) k st (whole_of 0 ∷ [])).core ≡ (after_pieces (bytes ∷ []) k st (whole_of 0 ∷ [])).core
+behind bytes more k st short fresh fault =
+    let blobs : List (List ℕ) = (bytes ++ more) ∷ [] in
+    let long : length (bytes ++ more) ≡ length bytes + length more = length-append bytes more in
+    let less : length bytes < 2 ^ 62 = omega (arith, long, short) in
+    let none : length more ≡ length more + 0 = omega arith in
+    let parts : AreParts 0 (bytes ++ more) 0 (length (bytes ++ more)) (front_of bytes ∷ rest_of bytes more ∷ []) =
+    (length bytes, length more, refl, refl, long, (length more, 0, refl, refl, none, refl)) in
+    let front : HasRoom blobs st.core (AppendBuffer k (front_of bytes)) = piece-room blobs k st.core (front_of bytes) 0 bytes (front-bytes bytes more) (omega (arith, less)) fresh.little in
+    let alone : (after_piece blobs k st (front_of bytes)).core ≡ (after_pieces (bytes ∷ []) k st (whole_of 0 ∷ [])).core =
+    piece-core blobs k st (front_of bytes) front ∙ ap (λ x. drain_core (append_some x k st.core)) (front-bytes bytes more)
+    ∙ sym (whole-core bytes k st less fresh) ∙ ap (λ (s : State). s.core) (sym (one-piece (bytes ∷ []) k st (whole_of 0) fresh.fault)) in
+    let broken : IsSome (after_piece blobs k st (front_of bytes)).core.source.fault = subst (λ (c : Core). IsSome c.source.fault) (sym alone) fault in
+    sym (in-parts (bytes ++ more) k st (front_of bytes) (rest_of bytes more ∷ []) short parts fresh)
+    ∙ ap (λ o. (unless_fault o st (after_pieces blobs k (after_piece blobs k st (front_of bytes)) (rest_of bytes more ∷ []))).core) fresh.fault
+    ∙ ap (λ (s : State). s.core) (stopped (after_piece blobs k st (front_of bytes)).core.source.fault (after_piece blobs k st (front_of bytes)) (after_piece blobs k (after_piece blobs k st (front_of bytes)) (rest_of bytes more)) broken)
+    ∙ alone

@@ -1,0 +1,35 @@
+//! What follows from the definitions: functions that do nothing, with the laws as their contracts.
+
+ghost use Rattle.std.specs.Prelude.{◌≡◌, ℕ, List};
+ghost use Rattle.mse_calls.specs.declared.entry.Entry.{Entry};
+ghost use Rattle.call_script.specs.declared.script.StepLine.{StepLine};
+ghost use Rattle.mse_engine.specs.State.{State};
+ghost use Rattle.mse_engine.specs.Run.{after_entries};
+ghost use Rattle.script_run.specs.Doings.{IsDrain};
+ghost use Rattle.script_run.specs.Lines.{Limits};
+ghost use Rattle.script_run.specs.Turns.{calls_in};
+ghost use Rattle.cut_law.specs.Plays.{drain_entries, play_entries};
+ghost use Rattle.play_law.specs.Silent.{CutsAlike, IsSilentJournal};
+
+/// A script has one whole journal that replays and in which no listener calls: that of its play. So
+/// has a drain.
+pub fn one_play()
+    ensures some { (blobs : List (List ℕ)) (limits : Limits) (st : State)
+        (lines : List StepLine)
+        → IsSilentJournal blobs limits st lines (play_entries blobs 0 st lines) }
+    ensures one { (blobs : List (List ℕ)) (limits : Limits) (st : State)
+        (lines : List StepLine) (entries : List Entry)
+        → IsSilentJournal blobs limits st lines entries
+        → entries ≡ play_entries blobs 0 st lines }
+    ensures drain { (blobs : List (List ℕ)) (st : State) (part : List Entry)
+        → IsDrain blobs st part → calls_in part ≡ 0 → part ≡ drain_entries blobs st }
+{}
+
+/// Where the journal of a run has no listener's call, cutting an append of its script that was
+/// awaited leaves the core of its last state, where no buffer is full just before an append of
+/// either script.
+pub fn cut_journal()
+    ensures { (blobs : List (List ℕ)) (limits : Limits) (st : State) (lines : List StepLine)
+        (entries : List Entry) → IsSilentJournal blobs limits st lines entries
+        → CutsAlike blobs st lines (after_entries blobs st entries).core }
+{}
