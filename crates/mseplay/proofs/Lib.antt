@@ -1,7 +1,12 @@
-pub mod Appending
-pub mod Hearing
 pub mod Numbers
-pub mod Runs
-pub mod Strings
+pub mod Loading
+pub mod Pieces
+pub mod Appending
+pub mod Filing
 pub mod Working
-pub mod Writing
+pub mod Playing
+pub mod Showing
+pub mod Saying
+pub mod Scripting
+pub mod Blocks
+pub mod Completing

@@ -2,7 +2,7 @@
 use Rattle.std.specs.Prelude.{ℕ, ◌*◌, List, [], ◌∷◌, ◌++◌, codes}
 use Rattle.std.specs.Fmt.{decimal}
 use Rattle.mseplay.specs.declared.words.Command.{Command}
-use Rattle.mseplay.specs.declared.words.Command.TheVariants.{Ranges, Pieces, Make}
+use Rattle.mseplay.specs.declared.words.Command.TheVariants.{Ranges, Pieces, Make, Play}
 
 -- the line of a file that was made, with the numbers of its segments, its bytes and its frames, of which each segment
 -- has 30
@@ -15,3 +15,4 @@ abbrev pub heading_of : Command → ℕ → List ℕ
 heading_of Ranges len = []
 heading_of (Pieces count) len = []
 heading_of (Make count) len = made_line count len
+heading_of Play len = []

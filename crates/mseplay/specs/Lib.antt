@@ -1,7 +1,11 @@
+pub mod Words
 pub mod Endings
 pub mod Heading
+pub mod Asked
+pub mod Loads
+pub mod Shown
 pub mod Outcomes
-pub mod Playing
-pub mod Steps
-pub mod Words
-pub mod Wrote
+pub mod Works
+pub mod Says
+pub mod Files
+pub mod Complete

@@ -3,7 +3,7 @@ use Rattle.std.specs.Prelude.{ℕ, ◌≤◌, ◌^◌, ◌&&◌, nat_le, List, [
 use Rattle.std.specs.Str.{all_ascii_digits}
 use Rattle.std.specs.Str.Parse.{digits_value}
 use Rattle.mseplay.specs.declared.words.Command.{Command}
-use Rattle.mseplay.specs.declared.words.Command.TheVariants.{Ranges, Pieces, Make}
+use Rattle.mseplay.specs.declared.words.Command.TheVariants.{Ranges, Pieces, Make, Play}
 
 -- the number where it is not too great
 abbrev pub number_within : ℕ → ℕ → Option ℕ
@@ -31,7 +31,9 @@ abbrev pub command_of_two : List ℕ → List ℕ → Option Command
 command_of_two name word =
     if bytes_eq name (codes "ranges")
     then Some Ranges
-    else (if bytes_eq name (codes "make") then option_map (λ n. Make n) (number_of most_segments word) else None)
+    else (if bytes_eq name (codes "play")
+    then Some Play
+    else (if bytes_eq name (codes "make") then option_map (λ n. Make n) (number_of most_segments word) else None))
 
 -- what the words ask for; nothing where they are no command
 abbrev pub command_of : List (List ℕ) → Option Command
@@ -41,17 +43,12 @@ command_of (name ∷ word ∷ []) = command_of_two name word
 command_of (name ∷ count ∷ file ∷ []) = if bytes_eq name (codes "pieces") then option_map (λ n. Pieces n) (number_of longest_piece count) else None
 command_of (name ∷ count ∷ file ∷ more ∷ words) = None
 
--- the command loads a file
-abbrev pub LoadsFile : Command → Type 0
-LoadsFile Ranges = ⊤
-LoadsFile (Pieces count) = ⊤
-LoadsFile (Make count) = ⊥
-
--- what is made has 1 to 10000 segments
-abbrev pub HasSegments : Command → Type 0
-HasSegments Ranges = ⊤
-HasSegments (Pieces count) = ⊤
-HasSegments (Make count) = (1 ≤ count) × (count ≤ most_segments)
+-- the number of a command is one that it may have
+abbrev pub IsInRange : Command → Type 0
+IsInRange Ranges = ⊤
+IsInRange (Pieces count) = 1 ≤ count
+IsInRange (Make count) = (1 ≤ count) × (count ≤ most_segments)
+IsInRange Play = ⊤
 
 -- the last of two or three words, which names the file that a command loads
 abbrev pub file_of : List (List ℕ) → List ℕ
@@ -60,12 +57,3 @@ file_of (name ∷ []) = []
 file_of (name ∷ file ∷ []) = file
 file_of (name ∷ count ∷ file ∷ []) = file
 file_of (name ∷ count ∷ file ∷ more ∷ words) = []
-
-abbrev pub at_least_one : ℕ → ℕ
-at_least_one n = if nat_le 1 n then n else 1
-
--- how many bytes each append has of a file of so many bytes, but the last, which may be shorter
-abbrev pub piece_size : Command → ℕ → ℕ
-piece_size Ranges len = at_least_one len
-piece_size (Pieces count) len = at_least_one count
-piece_size (Make count) len = 1000

@@ -1,30 +1,34 @@
-//! The program: reads the files that its words name in the current folder, or makes one, and prints what a media source
-//! makes of them: the duration, what is buffered, each track, and the first fault.
+//! The program: plays the scripts and files that its words name in the current folder, or makes a
+//! file, and prints what happens: calls, answers and events, and what a media source has buffered
+//! in the end.
 //!
-//! It stands on `buffer_state` (a source buffer), `track_index` (its store of frames), `bmff_write` (the file that is
-//! made), `event_text` (the printed lines) and `mse_outside` (files and standard output). Its main contract is that of [`run`](top::run): where a run goes
-//! through to its end, the block of the file was written, and the status tells whether the file breaks its byte stream
-//! format; each other status comes only with its cause and its error line. The block is the same for each size of
-//! pieces in which the file is appended.
+//! It stands on `script_run` (the run of a script over the engine), `track_index` (the store of
+//! frames), `bmff_write` (the file that is made), `event_text` (the printed lines) and
+//! `mse_outside` (files and standard output). Its main contract is that of [`run`](top::run).
 #![tactic(auto)]
 
+mod commands;
 mod ending;
+mod file;
 mod laws;
-mod pieces;
-mod play;
-mod put;
-mod source;
+mod load;
 #[cfg(test)]
 mod tests;
 mod text;
 mod top;
 mod words;
-mod work;
+
+ghost use Rattle.std.specs.Prelude.{◌≡◌, [], IfOk};
 
 use crate::ending::Status;
 use crate::top::run;
+use listeners::{Listener, RuleListener};
 use mse_base::OutOfMemory;
+use mse_engine::Engine;
 use mse_outside::{FolderLibrary, StdoutSink};
+use run_journal::Journal;
+use script_run::add_listener;
+use std::alloc::Global;
 use std::env;
 use std::io::ErrorKind;
 use std::process::ExitCode;
@@ -48,15 +52,55 @@ fn arguments(rt: &HostRuntime) -> Result<Vec<String>, OutOfMemory> {
     Ok(words)
 }
 
+// A listener by rules that has heard nothing.
+fn listener(alloc: Global) -> Result<Box<RuleListener>, OutOfMemory>
+    ensures { IfOk result (λ b. ⟦<RuleListener as Listener>⟧.notes b.value ≡ []) }
+{
+    Ok(Box::new(alloc, RuleListener::new(alloc))?)
+}
+
+// Runs the words with sixteen listeners.
+fn start(rt: HostRuntime, words: &[String]) -> Result<Status, OutOfMemory> {
+    let alloc = rt.alloc();
+    let mut listeners: Vec<Box<dyn Listener>> = Vec::new(alloc);
+    add_listener(&mut listeners, listener(alloc)?)?;
+    add_listener(&mut listeners, listener(alloc)?)?;
+    add_listener(&mut listeners, listener(alloc)?)?;
+    add_listener(&mut listeners, listener(alloc)?)?;
+    add_listener(&mut listeners, listener(alloc)?)?;
+    add_listener(&mut listeners, listener(alloc)?)?;
+    add_listener(&mut listeners, listener(alloc)?)?;
+    add_listener(&mut listeners, listener(alloc)?)?;
+    add_listener(&mut listeners, listener(alloc)?)?;
+    add_listener(&mut listeners, listener(alloc)?)?;
+    add_listener(&mut listeners, listener(alloc)?)?;
+    add_listener(&mut listeners, listener(alloc)?)?;
+    add_listener(&mut listeners, listener(alloc)?)?;
+    add_listener(&mut listeners, listener(alloc)?)?;
+    add_listener(&mut listeners, listener(alloc)?)?;
+    add_listener(&mut listeners, listener(alloc)?)?;
+    let mut engine: Option<Engine<IndexStore>> = None;
+    let mut journal = Journal::new(alloc);
+    Ok(run(
+        alloc,
+        words,
+        &mut FolderLibrary::new(rt),
+        &mut StdoutSink::new(rt),
+        &mut listeners,
+        &mut engine,
+        &mut journal,
+    ))
+}
+
+fn begin(rt: HostRuntime) -> Result<Status, OutOfMemory> {
+    let words = arguments(&rt)?;
+    start(rt, &words)
+}
+
 fn main(rt: HostRuntime) -> ExitCode {
-    let status = match arguments(&rt) {
-        Ok(words) => run::<IndexStore, _, _>(
-            rt.alloc(),
-            &words,
-            &mut FolderLibrary::new(rt),
-            &mut StdoutSink::new(rt),
-        ),
+    let status = match begin(rt) {
+        Ok(status) => status,
         Err(_) => Status::Memory,
     };
-    ExitCode::from(status as u8)
+    ExitCode::from(status.number())
 }

@@ -2,12 +2,15 @@
 
 mod files;
 
-ghost use Rattle.std.specs.Prelude.{◌≡◌, IfOk, vec_len};
+ghost use Rattle.std.specs.Prelude.{◌≡◌, [], IfOk, vec_len};
 
 use crate::ending::Status;
 use crate::top::run;
 use files::{CASES, INIT_BACK, INIT_FRONT, PLAIN_SEGMENT};
-use mse_outside::{MemoryLibrary, MemorySink};
+use listeners::Listener;
+use mse_engine::Engine;
+use mse_outside::{Library, MemoryLibrary, MemorySink, Sink};
+use run_journal::Journal;
 use std::alloc::{AllocError, Global};
 use std::test::Fail;
 use track_index::IndexStore;
@@ -56,12 +59,33 @@ fn library(alloc: Global, bytes: Vec<u8>, fails: bool) -> Result<MemoryLibrary, 
     Ok(MemoryLibrary::new(alloc, names, contents, failing))
 }
 
+// The status of a run without listeners.
+fn status_of<L: Library, K: Sink>(
+    alloc: Global,
+    words: &[String],
+    library: &mut L,
+    sink: &mut K,
+) -> Status {
+    let mut listeners: Vec<Box<dyn Listener>> = Vec::new(alloc);
+    let mut engine: Option<Engine<IndexStore>> = None;
+    let mut journal = Journal::new(alloc);
+    run(
+        alloc,
+        words,
+        library,
+        sink,
+        &mut listeners,
+        &mut engine,
+        &mut journal,
+    )
+}
+
 // What is printed for the words over the one file, and the status.
 fn printed(alloc: Global, words: &[&str], file: &[u8]) -> Result<(Status, MemorySink), Fail> {
     let mut library = library(alloc, file.to_vec(alloc)?, false)?;
     let mut sink = MemorySink::new(alloc, Vec::new(alloc));
     let words = texts(alloc, words)?;
-    let status = run::<IndexStore, _, _>(alloc, &words, &mut library, &mut sink);
+    let status = status_of(alloc, &words, &mut library, &mut sink);
     Ok((status, sink))
 }
 
@@ -185,7 +209,18 @@ fn tells_causes(rt: HostRuntime) -> Result<(), Fail> {
     let cases = [
         (nothing, true, wrong),
         (["ranges"].as_slice(), false, wrong),
-        (["play", "plain.mp4"].as_slice(), false, wrong),
+        (["play"].as_slice(), false, wrong),
+        (["play", "plain.mp4", "plain.mp4"].as_slice(), false, wrong),
+        (
+            ["play", "plain.mp4"].as_slice(),
+            false,
+            (Status::Script, "error: script not toml\n"),
+        ),
+        (
+            ["play", "nofile"].as_slice(),
+            false,
+            (Status::NoFile, "error: no file nofile\n"),
+        ),
         (
             ["ranges", "plain.mp4", "plain.mp4"].as_slice(),
             false,
@@ -239,7 +274,7 @@ fn tells_causes(rt: HostRuntime) -> Result<(), Fail> {
         let mut library = library(alloc, plain_file(alloc)?, fails)?;
         let mut sink = MemorySink::new(alloc, Vec::new(alloc));
         let words = texts(alloc, words)?;
-        let status = run::<IndexStore, _, _>(alloc, &words, &mut library, &mut sink);
+        let status = status_of(alloc, &words, &mut library, &mut sink);
         assert_eq!(rt; status, wanted, "at {line}");
         assert_eq!(rt; sink.written(), line.as_bytes());
     }
@@ -261,7 +296,7 @@ fn yields_to_failed_puts(rt: HostRuntime) -> Result<(), Fail> {
         let mut library = library(alloc, plain_file(alloc)?, false)?;
         let mut sink = MemorySink::new(alloc, vec![in alloc; cut]?);
         let words = texts(alloc, &[command, word])?;
-        let status = run::<IndexStore, _, _>(alloc, &words, &mut library, &mut sink);
+        let status = status_of(alloc, &words, &mut library, &mut sink);
         assert_eq!(rt; status, Status::Write, "at {written}");
         assert_eq!(rt; sink.written(), written.as_bytes());
     }

@@ -1,12 +1,14 @@
-//! What is printed beside a block: the line of a made file before it, and the line that says why a run ends early.
+//! What is printed beside a block: the line of a made file before it, and the line that says why a
+//! run ends early.
 
-ghost use Rattle.std.specs.Prelude.{◌≡◌, ◌++◌, ◌∷◌, ◌*◌, [], IfOk, string_bytes};
+ghost use Rattle.std.specs.Prelude.{◌≡◌, ◌++◌, ◌∷◌, [], IfOk, string_bytes};
 ghost use Rattle.event_text.specs.Words.{printable_text};
-ghost use Rattle.mseplay.specs.Endings.{error_line};
+ghost use Rattle.mseplay.specs.Endings.{error_line, script_line};
 ghost use Rattle.mseplay.specs.Heading.{made_line, heading_of};
 
 use crate::ending::End;
 use crate::words::Command;
+use call_script::ScriptFault;
 use event_text::printable;
 use mse_base::OutOfMemory;
 use std::alloc::Global;
@@ -20,33 +22,20 @@ fn made_line(alloc: Global, count: u32, len: usize) -> Result<String, OutOfMemor
     Ok(line)
 }
 
-// What stands before the block of a file of `len` bytes: nothing where it was loaded.
-fn heading(alloc: Global, command: Command, len: usize) -> Result<String, OutOfMemory>
+/// What stands before the block of a file of `len` bytes: nothing where it was loaded.
+pub fn heading(alloc: Global, command: Command, len: usize) -> Result<String, OutOfMemory>
     ensures { IfOk result (λ text. string_bytes text ≡ heading_of command len) }
 {
     match command {
-        Command::Ranges | Command::Pieces(_) => Ok(String::new(alloc)),
+        Command::Ranges | Command::Pieces(_) | Command::Play => Ok(String::new(alloc)),
         Command::Make(count) => made_line(alloc, count, len),
     }
 }
 
-/// What is printed of a file of `len` bytes: its block, and before that of a made file its line.
-pub fn text_for(
-    alloc: Global,
-    command: Command,
-    len: usize,
-    block: &str,
-) -> Result<String, OutOfMemory>
-    ensures { IfOk result (λ text. string_bytes text ≡ heading_of command len ++ block.now) }
-{
-    let mut text = heading(alloc, command, len)?;
-    text.push_str(block)?;
-    Ok(text)
-}
-
 // The words, the name as it is printed, and a line feed.
 fn line_naming(alloc: Global, words: &str, name: &str) -> Result<String, OutOfMemory>
-    ensures { IfOk result (λ line. string_bytes line ≡ words.now ++ (printable_text name.now ++ 10 ∷ [])) }
+    ensures { IfOk result (λ line.
+        string_bytes line ≡ words.now ++ (printable_text name.now ++ 10 ∷ [])) }
 {
     let shown = printable(alloc, name)?;
     let shown = shown.as_str();
@@ -54,18 +43,40 @@ fn line_naming(alloc: Global, words: &str, name: &str) -> Result<String, OutOfMe
     Ok(line)
 }
 
-/// The line that says why a run ends early, with the name of the file where it shows one; empty after want of memory
-/// and a failed put.
-pub fn error_line_for(alloc: Global, name: &str, end: End) -> Result<String, OutOfMemory>
-    ensures { IfOk result (λ line. string_bytes line ≡ error_line name.now end) }
+// The line of a script's fault.
+fn script_line(alloc: Global, fault: &ScriptFault) -> Result<String, OutOfMemory>
+    ensures { IfOk result (λ line. string_bytes line ≡ script_line fault.now) }
+{
+    match fault {
+        ScriptFault::NotToml => Ok(String::from_str(alloc, "error: script not toml\n")?),
+        ScriptFault::Key(name) => line_naming(alloc, "error: script key ", name.as_str()),
+        ScriptFault::TooMany(key) => {
+            let name = key.name();
+            Ok(format!(in alloc; "error: script too many {name}\n")?)
+        }
+        ScriptFault::Blob(n) => Ok(format!(in alloc; "error: script blob {n}\n")?),
+        ScriptFault::Step(n) => Ok(format!(in alloc; "error: script step {n}\n")?),
+        ScriptFault::Rule(n) => Ok(format!(in alloc; "error: script rule {n}\n")?),
+    }
+}
+
+/// The line that says why a run ends early; empty after want of memory and a failed put.
+pub fn error_line_for(alloc: Global, end: &End) -> Result<String, OutOfMemory>
+    ensures { IfOk result (λ line. string_bytes line ≡ error_line end.now) }
 {
     match end {
         End::Memory | End::Write => Ok(String::new(alloc)),
-        End::Words => {
-            let line = String::from_str(alloc, "error: words\n")?;
-            Ok(line)
+        End::Words => Ok(String::from_str(alloc, "error: words\n")?),
+        End::NoFile(name) => line_naming(alloc, "error: no file ", name.as_str()),
+        End::Read(name) => line_naming(alloc, "error: read ", name.as_str()),
+        End::Script(fault) => script_line(alloc, fault),
+        End::CallBudget(number) => {
+            Ok(format!(in alloc;
+                "error: listener {number} answered more than 1000 calls for one event\n"
+            )?)
         }
-        End::NoFile => line_naming(alloc, "error: no file ", name),
-        End::Read => line_naming(alloc, "error: read ", name),
+        End::TaskBudget(limit) => {
+            Ok(format!(in alloc; "error: more than {limit} listener calls in one drain\n")?)
+        }
     }
 }

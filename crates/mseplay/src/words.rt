@@ -1,7 +1,7 @@
 //! The words of a call.
 
 ghost use Rattle.std.specs.Prelude.{◌≡◌, ◌≤◌, IfSome, map, string_bytes};
-ghost use Rattle.mseplay.specs.Words.{number_within, number_of, command_of, file_of, piece_size, HasSegments};
+ghost use Rattle.mseplay.specs.Words.{number_within, number_of, command_of, file_of, IsInRange};
 
 /// The most bytes that a piece may have.
 const LONGEST: u32 = 1 << 31;
@@ -9,33 +9,19 @@ const LONGEST: u32 = 1 << 31;
 /// The most segments that are made.
 const MOST_SEGMENTS: u32 = 10000;
 
-/// How many bytes each append of a made file has.
-const MADE_PIECE: usize = 1000;
-
 /// What the words ask for.
 #[derive(Clone, Copy, Debug, PartialEq, Eq)]
 pub enum Command {
     /// `ranges FILE`: what is buffered when the whole file was appended.
     Ranges,
-    /// `pieces N FILE`: the same in appends of N bytes each, 1 to 2^31, of which the last may be shorter.
+    /// `pieces N FILE`: the same in appends of N bytes each, 1 to 2^31, of which the last may be
+    /// shorter.
     Pieces(u32),
-    /// `make N`: the same of a file that is made of N segments, 1 to 10000, in appends of 1000 bytes.
+    /// `make N`: the same of a file that is made of N segments, 1 to 10000, in appends of 1000
+    /// bytes.
     Make(u32),
-}
-
-impl Command {
-    /// How many bytes each append has of a file of `len` bytes, but the last, which may be shorter: all of them, or N, at
-    /// least one; 1000 of a file that is made.
-    pub fn piece_size(self, len: usize) -> usize
-        ensures size { result ≡ piece_size self len }
-        ensures some { 1 ≤ result }
-    {
-        match self {
-            Command::Ranges => len.max(1),
-            Command::Pieces(count) => (count as usize).max(1),
-            Command::Make(_) => MADE_PIECE,
-        }
-    }
+    /// `play SCRIPT`: the calls of a script.
+    Play,
 }
 
 // The number where it is not too great.
@@ -65,12 +51,14 @@ fn read_number(most: u32, word: &str) -> Option<u32>
 /// What the words ask for; `None` exactly where they are no command.
 pub fn read_command(words: &[String]) -> Option<Command>
     ensures value { result ≡ command_of (map string_bytes words.now) }
-    ensures segments { IfSome result HasSegments }
+    ensures range { IfSome result IsInRange }
 {
     match words {
         [name, word] => {
             if name.as_str() == "ranges" {
                 Some(Command::Ranges)
+            } else if name.as_str() == "play" {
+                Some(Command::Play)
             } else if name.as_str() == "make" {
                 let count = read_number(MOST_SEGMENTS, word.as_str())?;
                 Some(Command::Make(count))
@@ -90,7 +78,8 @@ pub fn read_command(words: &[String]) -> Option<Command>
     }
 }
 
-/// The last of two or three words, which names the file that a command loads; empty where there are fewer or more.
+/// The last of two or three words, which names the file that a command loads; empty where there are
+/// fewer or more.
 pub fn file_name(words: &[String]) -> &str
     ensures { result.now ≡ file_of (map string_bytes words.now) }
 {

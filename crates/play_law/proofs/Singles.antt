@@ -304,3 +304,7 @@ pub append-drained : (blobs : List (List ℕ)) (k : ℕ) (st : State) (piece : P
 append-drained blobs k st piece answer part d q =
     let now : State = after_line blobs st (step.Call (AppendBuffer k piece)) in
     ap (λ es. after_entries blobs now es) (quiet-drain blobs now part d q)
+
+-- a drain without a listener's call
+pub some-drain : (blobs : List (List ℕ)) (st : State) → IsDrain blobs st (drain_entries blobs st) × (calls_in (drain_entries blobs st) ≡ 0)
+some-drain blobs st = let d = line-done blobs st step.Drain in (d.does, d.quiet)

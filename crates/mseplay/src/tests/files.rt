@@ -26,8 +26,8 @@ pub const PLAIN_SEGMENT: &str = "\
     0000000000000bb800000004010100000000000000000bb8000000040101000000000000000000146d646174000000000000\
     000000000000";
 
-/// A file, whether it breaks the byte stream format, and its block. `I` with a timescale is the initialization segment,
-/// `F` the file type box in front of it.
+/// A file, whether it breaks the byte stream format, and its block. `I` with a timescale is the
+/// initialization segment, `F` the file type box in front of it.
 pub const CASES: [(&str, bool, &str); 30] = [
     // an empty file
     (

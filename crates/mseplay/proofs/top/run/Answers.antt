@@ -1,23 +1,48 @@
-use Rattle.std.proofs.Common.{◌≡◌, List, ℕ, Option, Bool, Err, Result, subst}
-use Rattle.std.specs.Prelude.{◌⊎◌, map, string_bytes}
-use Rattle.mse_outside.specs.Outside.{Table}
-use Rattle.mseplay.specs.declared.ending.End.{End}
-use Rattle.mseplay.specs.declared.ending.Status.TheVariants.{Write as WriteStatus, Memory as MemoryStatus}
-use Rattle.mseplay.specs.Endings.{status_of, error_line}
-use Rattle.mseplay.specs.Outcomes.{Given, Worked}
-use Rattle.mseplay.specs.Wrote.{Wrote, WroteFront}
-use Rattle.mseplay.proofs.Runs.{ends_said}
+use Rattle.std.proofs.Common.{map, string_bytes}
+use Rattle.std.specs.Prelude.{vec_len}
+use Rattle.mseplay.specs.declared.ending.Status.TheVariants as status
+use Rattle.mseplay.proofs.Completing.{complete_by, cuts_by}
+use Rattle.mseplay.proofs.Saying.{broken_at, put_failed, said_by, whole_by}
 use Rattle.mseplay.proofs.top.run.Goals as goal
+
+pub returns-in-Ok-true-clause-ends : goal.returns-in-Ok-true-clause-ends
+returns-in-Ok-true-clause-ends g c = broken_at (g.L.Library.table c.args.library.now) (map string_bytes c.args.words.now) (vec_len c.args.listeners.now) _ (rw c.in-Ok-true.field-0-test at c.in-Ok-true.ensures.works)
+
+pub returns-in-Ok-true-clause-complete : goal.returns-in-Ok-true-clause-complete
+returns-in-Ok-true-clause-complete g c =
+    complete_by (g.L.Library.table c.args.library.now) (map string_bytes c.args.words.now) (vec_len c.args.listeners.now) _ _ _ status.Media (broken_at (g.L.Library.table c.args.library.now) (map string_bytes c.args.words.now) (vec_len c.args.listeners.now) _ (rw c.in-Ok-true.field-0-test at c.in-Ok-true.ensures.works))
+    (λ e. absurd (cc (e)))
+
+pub returns-in-Ok-true-clause-cuts : goal.returns-in-Ok-true-clause-cuts
+returns-in-Ok-true-clause-cuts g c = cuts_by (g.L.Library.table c.args.library.now) (map string_bytes c.args.words.now) (vec_len c.args.listeners.now) _ status.Media (broken_at (g.L.Library.table c.args.library.now) (map string_bytes c.args.words.now) (vec_len c.args.listeners.now) _ (rw c.in-Ok-true.field-0-test at c.in-Ok-true.ensures.works))
+
+pub returns-in-Ok-false-clause-ends : goal.returns-in-Ok-false-clause-ends
+returns-in-Ok-false-clause-ends g c = whole_by (g.L.Library.table c.args.library.now) (map string_bytes c.args.words.now) (vec_len c.args.listeners.now) _ (rw c.in-Ok-false.field-0-test at c.in-Ok-false.ensures.works)
+
+pub returns-in-Ok-false-clause-complete : goal.returns-in-Ok-false-clause-complete
+returns-in-Ok-false-clause-complete g c =
+    complete_by (g.L.Library.table c.args.library.now) (map string_bytes c.args.words.now) (vec_len c.args.listeners.now) _ _ _ status.Ok (whole_by (g.L.Library.table c.args.library.now) (map string_bytes c.args.words.now) (vec_len c.args.listeners.now) _ (rw c.in-Ok-false.field-0-test at c.in-Ok-false.ensures.works))
+    (λ e. absurd (cc (e)))
+
+pub returns-in-Ok-false-clause-cuts : goal.returns-in-Ok-false-clause-cuts
+returns-in-Ok-false-clause-cuts g c = cuts_by (g.L.Library.table c.args.library.now) (map string_bytes c.args.words.now) (vec_len c.args.listeners.now) _ status.Ok (whole_by (g.L.Library.table c.args.library.now) (map string_bytes c.args.words.now) (vec_len c.args.listeners.now) _ (rw c.in-Ok-false.field-0-test at c.in-Ok-false.ensures.works))
 
 pub returns-in-Err-clause-ends : goal.returns-in-Err-clause-ends
 returns-in-Err-clause-ends g c =
-    let table : Option Table = g.L.Library.table c.args.library.now in
-    let words : List (List ℕ) = map string_bytes c.args.words.now in
-    let given : Given = record { table = table; words = words; faults_before = g.L.Library.faults c.args.library.now; faults_after = g.L.Library.faults c.work.new.library } in
-    let old = g.K.Sink.written c.args.sink.now in
-    let mid = g.K.Sink.written c.work.new.sink in
-    let new = g.K.Sink.written c.say.new.sink in
-    let worked : Worked given old mid (Err c.in-Err.end) = subst (λ (r : Result Bool End). Worked given old mid r) c.in-Err.is c.work.ensures.worked in
-    let said = subst (λ (name : List ℕ). ((c.say.result ≡ status_of c.in-Err.end) × Wrote (error_line name c.in-Err.end) mid new)
-    ⊎ (((c.say.result ≡ WriteStatus) ⊎ (c.say.result ≡ MemoryStatus)) × WroteFront (error_line name c.in-Err.end) mid new)) c.file_name.ensures c.say.ensures.said in
-    ends_said given c.in-Err.end old mid new c.say.result worked said
+    said_by (g.L.Library.table c.args.library.now) (map string_bytes c.args.words.now) (vec_len c.args.listeners.now) _ c.in-Err.end
+    (g.K.Sink.written c.say.new.sink) c.say.result c.in-Err.ensures.works c.say.ensures.says
+
+pub returns-in-Err-clause-complete : goal.returns-in-Err-clause-complete
+returns-in-Err-clause-complete g c =
+    let ends =
+    said_by (g.L.Library.table c.args.library.now) (map string_bytes c.args.words.now) (vec_len c.args.listeners.now) _ c.in-Err.end
+    (g.K.Sink.written c.say.new.sink) c.say.result c.in-Err.ensures.works c.say.ensures.says in
+    complete_by (g.L.Library.table c.args.library.now) (map string_bytes c.args.words.now) (vec_len c.args.listeners.now) _ _ _ c.say.result ends
+    (put_failed c.in-Err.end c.say.result _ _ _ c.say.ensures.write c.in-Err.ensures.write c.in-Err.ensures.later c.say.ensures.later)
+
+pub returns-in-Err-clause-cuts : goal.returns-in-Err-clause-cuts
+returns-in-Err-clause-cuts g c =
+    let ends =
+    said_by (g.L.Library.table c.args.library.now) (map string_bytes c.args.words.now) (vec_len c.args.listeners.now) _ c.in-Err.end
+    (g.K.Sink.written c.say.new.sink) c.say.result c.in-Err.ensures.works c.say.ensures.says in
+    cuts_by (g.L.Library.table c.args.library.now) (map string_bytes c.args.words.now) (vec_len c.args.listeners.now) _ c.say.result ends
