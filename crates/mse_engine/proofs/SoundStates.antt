@@ -19,4 +19,4 @@ stands_sound k st h sound =
     let media : all_kept_media k.buffers ≡ media_of_all st.core.buffers = same_media k.buffers st.core.buffers h.buffers in
     let duration : k.side.state.duration ≡ st.core.source.state.duration = ap (λ (s : CoreSource). s.state.duration) h.source in
     subst (λ (ms : List (Option Media)). AreSoundWithin st.core.source.state.duration ms) media
-        (subst (λ (d : Moment). AreSoundWithin d (all_kept_media k.buffers)) duration sound)
+    (subst (λ (d : Moment). AreSoundWithin d (all_kept_media k.buffers)) duration sound)

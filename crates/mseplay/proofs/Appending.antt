@@ -231,14 +231,16 @@ opened_on bytes pieces a b p = record {
     goes = p.stepped.goes;
     holds = λ st h.
         let blobs : List (List ℕ) = bytes ∷ [] in
-        let more = rest_appends blobs (after_entries blobs st (open_entries p.attached p.added)) pieces in
-        (p.rest ++ more.0, record {
-          attached = p.attached;
-          added = p.added;
-          rest = more.0;
-          entries_are = sym (append_assoc p.entries p.rest more.0) ∙ ap (λ (es : List Entry). es ++ more.0) (sym p.opens);
-          appends = more.1;
-        });
+        let more = rest_appends blobs (after_entries blobs st (open_entries p.attached p.added)) pieces in (
+          p.rest ++ more.0,
+          record {
+            attached = p.attached;
+            added = p.added;
+            rest = more.0;
+            entries_are = sym (append_assoc p.entries p.rest more.0) ∙ ap (λ (es : List Entry). es ++ more.0) (sym p.opens);
+            appends = more.1;
+          },
+        );
   };
 }
 

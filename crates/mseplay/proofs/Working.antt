@@ -152,8 +152,12 @@ file_not_loaded None a b name command end entries engine written count notes rul
 file_not_loaded (Some files) a b name command end entries engine written count notes rules f u none nothing p =
     let after : Left = left [] None a b written written notes notes rules rules in
     let request : Request = file_request files name command in
-    rw (none, nothing) (request, file_request_is files name command f, not_loaded_by count request (file_task files name command) after end (did_nothing a b written notes rules)
-    (told_file files request (file_task files name command) after (files_by name command) (file_by files name command) end (file_fails files name command end) (λ n q. q) p))
+    rw (none, nothing) (
+      request,
+      file_request_is files name command f,
+      not_loaded_by count request (file_task files name command) after end (did_nothing a b written notes rules)
+          (told_file files request (file_task files name command) after (files_by name command) (file_by files name command) end (file_fails files name command end) (λ n q. q) p),
+    )
 
 -- ---- a file that was run
 
@@ -257,10 +261,12 @@ file_works None f0 f1 name bytes command a b w0 w1 count notes rules result f m 
     let request : Request = record { files = λ x. None; names = []; task = Ok (ByFile command bytes) } in
     (request, untold_task command bytes f m, file_worked count request command bytes a b w0 w1 f0 f1 notes rules result stands fresh p)
 file_works (Some files) f0 f1 name bytes command a b w0 w1 count notes rules result f m is stands fresh p =
-    let request : Request = file_request files name command in
-    (request, file_request_is files name command f,
-    works_on count request (ByFile command bytes) (left b.entries (Some b.engine) f0 f1 w0 w1 notes notes rules rules) result (file_goes files name command bytes is)
-    (file_worked count request command bytes a b w0 w1 f0 f1 notes rules result stands fresh p))
+    let request : Request = file_request files name command in (
+      request,
+      file_request_is files name command f,
+      works_on count request (ByFile command bytes) (left b.entries (Some b.engine) f0 f1 w0 w1 notes notes rules rules) result (file_goes files name command bytes is)
+          (file_worked count request command bytes a b w0 w1 f0 f1 notes rules result stands fresh p),
+    )
 
 -- ---- a script that was not loaded
 
@@ -288,8 +294,12 @@ script_not_loaded None a b name end entries engine written count notes rules non
     rw (none, nothing) (untold_script count name (left [] None a b written written notes notes rules rules) end (did_nothing a b written notes rules) p)
 script_not_loaded (Some files) a b name end entries engine written count notes rules none nothing p =
     let after : Left = left [] None a b written written notes notes rules rules in
-    rw (none, nothing) (script_request files name, refl, not_loaded_by count (script_request files name) (script_task files name) after end (did_nothing a b written notes rules)
-    (told_script files name after end p))
+    rw (none, nothing) (
+      script_request files name,
+      refl,
+      not_loaded_by count (script_request files name) (script_task files name) after end (did_nothing a b written notes rules)
+          (told_script files name after end p),
+    )
 
 pub blobs_not_loaded : (table : Option Table) (a b c : ℕ) (name : List ℕ) (script : CallScript) (end : End) (entries : List Entry) (engine : Option Kept) (written : Option (List ℕ))
     (count : ℕ) (notes : List (List Note)) (rules : List (List Rule)) → entries ≡ [] → engine ≡ None → a ≤ b → IfSome table (λ files. script_loaded files name ≡ Ok script)
@@ -302,10 +312,14 @@ blobs_not_loaded None a b c name script end entries engine written count notes r
     before (omega arith) (λ x n e q. q) (λ x e q. q) p))
 blobs_not_loaded (Some files) a b c name script end entries engine written count notes rules none nothing before is p =
     let after : Left = left [] None a c written written notes notes rules rules in
-    rw (none, nothing) (script_request files name, refl, not_loaded_by count (script_request files name) (script_task files name) after end (did_nothing a c written notes rules)
-    (told_file files (script_request files name) (script_task files name) after (files_in script.blobs) (blobs_bytes files script.blobs) end (blobs_fail files name script end is) reaches
-    (end_as (Some files) a b c c (files_in script.blobs) (files_in script.blobs) (λ files. blobs_bytes files script.blobs) (λ x. blobs_bytes files script.blobs) end
-    before (omega arith) (λ x n e q. q) (λ x e q. same_table x e q) p)))
+    rw (none, nothing) (
+      script_request files name,
+      refl,
+      not_loaded_by count (script_request files name) (script_task files name) after end (did_nothing a c written notes rules)
+          (told_file files (script_request files name) (script_task files name) after (files_in script.blobs) (blobs_bytes files script.blobs) end (blobs_fail files name script end is) reaches
+          (end_as (Some files) a b c c (files_in script.blobs) (files_in script.blobs) (λ files. blobs_bytes files script.blobs) (λ x. blobs_bytes files script.blobs) end
+          before (omega arith) (λ x n e q. q) (λ x e q. same_table x e q) p)),
+    )
   where
     same_table : (x : Table) → Some files ≡ Some x → blobs_bytes x script.blobs ≡ Err end → blobs_bytes files script.blobs ≡ Err end
     same_table x e q = let same : files ≡ x = cc in rw same q
@@ -460,6 +474,9 @@ script_works None f0 f1 name script blobs a b count r0 r1 result read len is are
     let request : Request = record { files = λ x. None; names = []; task = Ok (ByScript script blobs) } in
     (request, (read, len), script_worked count request script blobs a b f0 f1 r0 r1 stands fresh result p)
 script_works (Some files) f0 f1 name script blobs a b count r0 r1 result read len is are stands fresh p =
-    let request : Request = script_request files name in
-    (request, refl, works_on count request (ByScript script blobs) (left b.run.entries (Some b.run.engine) f0 f1 a.written b.written a.notes b.notes r0 r1) result
-    (script_goes files name script blobs is are) (script_worked count request script blobs a b f0 f1 r0 r1 stands fresh result p))
+    let request : Request = script_request files name in (
+      request,
+      refl,
+      works_on count request (ByScript script blobs) (left b.run.entries (Some b.run.engine) f0 f1 a.written b.written a.notes b.notes r0 r1) result
+          (script_goes files name script blobs is are) (script_worked count request script blobs a b f0 f1 r0 r1 stands fresh result p),
+    )
