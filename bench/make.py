@@ -97,4 +97,5 @@ def main():
         write(sys.argv[4], store(sys.argv[2], int(sys.argv[3])))
 
 
-main()
+if __name__ == "__main__":
+    main()

@@ -5,7 +5,8 @@
 
 PROGRAM is crates/mseplay/out/mseplay, as `rt run` leaves it. Each line of runs.txt has a status, the name of the file
 that has what is printed, and the words. A block of a document whose first line begins with `$ mseplay` has what these words
-print in this folder; a line `...` in it stands for any lines. Each file of this folder is named in README.md.
+print in this folder; a line `...` in it stands for any lines, and `> NAME` behind the words makes a file for the blocks
+below. Each file of this folder is named in README.md.
 
 --store writes the texts anew, and with them the tests of the gate.
 """
@@ -14,6 +15,7 @@ import os
 import re
 import subprocess
 import sys
+import tempfile
 
 HERE = os.path.dirname(os.path.abspath(__file__))
 TOP = os.path.dirname(HERE)
@@ -65,10 +67,22 @@ def is_told(text, told):
     return re.fullmatch(pattern, text) is not None
 
 
-def try_documents(program):
+# what is printed for these words, of which `> NAME` puts it into the file NAME of the folder `made`
+def told_text(program, words, made):
+    words, _, name = " ".join(words).partition(" > ")
+    files = {file: os.path.join(made, file) for file in os.listdir(made)}
+    text = printed(program, [files.get(word, word) for word in words.split()])[1]
+    if not name:
+        return text.decode()
+    with open(os.path.join(made, name), "wb") as out:
+        out.write(text)
+    return ""
+
+
+def try_documents(program, made):
     for document in [*glob.glob(f"{TOP}/*.md"), *glob.glob(f"{TOP}/docs/*.md"), "README.md"]:
         for words, told in told_runs(document):
-            if not is_told(printed(program, words)[1].decode(), told):
+            if not is_told(told_text(program, words, made), told):
                 yield f"{os.path.relpath(document, TOP)}: {' '.join(words)} prints something else"
 
 
@@ -141,7 +155,8 @@ def main():
         sys.exit(__doc__)
     program, stores = os.path.realpath(sys.argv[1]), "--store" in sys.argv
     os.chdir(HERE)
-    faults = [*try_runs(program, stores), *try_documents(program), *try_names(), *try_tests(stores)]
+    with tempfile.TemporaryDirectory() as made:
+        faults = [*try_runs(program, stores), *try_documents(program, made), *try_names(), *try_tests(stores)]
     print("\n".join([*faults, f"{len(list(runs()))} runs, {len(faults)} faults"]))
     sys.exit(1 if faults else 0)
 

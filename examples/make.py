@@ -68,23 +68,23 @@ class Track:
         return box(b"trak", tkhd, edts, box(b"mdia", mdhd, hdlr, box(b"minf", head, dinf, stbl)))
 
 
-def moov(*tracks, fragmented=True):
-    mvhd = full(b"mvhd", 0, 0, words(0, 0, 1000, 0, 0x10000, 0x01000000, 0, 0), MATRIX, bytes(24), words(2))
+def moov(*tracks, fragmented=True, following=2):
+    mvhd = full(b"mvhd", 0, 0, words(0, 0, 1000, 0, 0x10000, 0x01000000, 0, 0), MATRIX, bytes(24), words(following))
     trexes = [full(b"trex", 0, 0, words(track.number, 1, 0, 0, 0)) for track in tracks]
     mvex = box(b"mvex", *trexes) if fragmented else b""
     return box(b"moov", mvhd, *(track.box() for track in tracks), mvex)
 
 
 class Run:
-    """The samples of a track fragment: pairs of flags and composition offset, each of one duration and four bytes."""
+    """The samples of a track fragment: pairs of flags and composition offset, each of one duration and one size."""
 
-    def __init__(self, number, start, duration, samples, flags=0x20000, tfdt=True):
+    def __init__(self, number, start, duration, samples, flags=0x20000, tfdt=True, size=4):
         self.number, self.start, self.duration, self.samples = number, start, duration, samples
-        self.flags, self.tfdt = flags, tfdt
+        self.flags, self.tfdt, self.size = flags, tfdt, size
 
     def box(self, place):
         base = struct.pack(">Q", 0) if self.flags & 1 else b""
-        rows = b"".join(words(self.duration, 4, flags, later) for flags, later in self.samples)
+        rows = b"".join(words(self.duration, self.size, flags, later) for flags, later in self.samples)
         tfdt = full(b"tfdt", 1, 0, struct.pack(">Q", self.start)) if self.tfdt else b""
         return box(b"traf", full(b"tfhd", 0, self.flags, words(self.number), base), tfdt,
                    full(b"trun", 1, 0xF01, words(len(self.samples)), struct.pack(">i", place), rows))
@@ -98,8 +98,8 @@ def segment(number, *runs):
     for run in runs:
         # without the flag a later track fragment counts from the end of the data before it
         places.append(place if run.flags & 0x20000 or not places else 0)
-        place += 4 * len(run.samples)
-    return with_places(places) + box(b"mdat", bytes(4 * sum(len(run.samples) for run in runs)))
+        place += run.size * len(run.samples)
+    return with_places(places) + box(b"mdat", bytes(sum(run.size * len(run.samples) for run in runs)))
 
 
 def pictures(count):
@@ -170,4 +170,5 @@ def main():
             out.write(content)
 
 
-main()
+if __name__ == "__main__":
+    main()

@@ -54,7 +54,14 @@ has_rate (Some p) rate = has_scale p.tracks rate
 
 -- the frame at the front of the bytes, header and all
 abbrev pub coded_frame : FrameHeader → List ℕ → CodedFrame
-coded_frame h rest = record { track_id = 1; pts = pos 0; dts = pos 0; dur = h.duration; sync = true; payload = take h.len rest }
+coded_frame h rest = record {
+  track_id = 1;
+  pts = pos 0;
+  dts = pos 0;
+  dur = h.duration;
+  sync = true;
+  payload = take h.len rest;
+}
 
 -- ---- the string, frame by frame
 
@@ -68,23 +75,29 @@ in_media latest held = record { phase = InMedia; latest = latest; held = held }
 
 -- The frame at an offset, once all its bytes are there, and then the end of its media segment. Its bytes are held up
 -- to there. `next` goes on with the presentation from the offset behind it.
-abbrev pub frame_parse : (Option Presentation → ℕ → AdtsParse) → List ℕ → Option Presentation → ℕ → FrameHeader → AdtsParse
+abbrev pub frame_parse : (Option Presentation → ℕ → AdtsParse) → List ℕ → Option Presentation → ℕ
+    → FrameHeader → AdtsParse
 frame_parse next b latest at h =
     let now = in_media latest (drop at b) in
     if nat_le (at + h.len) (length b)
-    then ItemThen now (FrameItem (coded_frame h (drop at b)) at) (ItemThen now SegmentEnd (next latest (at + h.len)))
+    then ItemThen now (FrameItem (coded_frame h (drop at b)) at)
+    (ItemThen now SegmentEnd (next latest (at + h.len)))
     else NoItem now
 
 -- What stands at an offset. A header that is not whole is held. Of a tag nothing is held, and it is passed over once
 -- all its bytes are there. A fault is the last item, and nothing is held behind it. A frame of a sampling frequency that
 -- the latest presentation does not have gives a presentation first.
-abbrev pub found_parse : (Option Presentation → ℕ → AdtsParse) → List ℕ → Option Presentation → ℕ → Found → AdtsParse
+abbrev pub found_parse : (Option Presentation → ℕ → AdtsParse) → List ℕ → Option Presentation → ℕ
+    → Found → AdtsParse
 found_parse next b latest at found.Nothing = NoItem (waiting latest (drop at b))
-found_parse next b latest at (found.Tag n) = if nat_le (at + n) (length b) then next latest (at + n) else NoItem (waiting latest [])
-found_parse next b latest at (found.Fault f) = ItemThen (waiting latest (drop at b)) (FaultItem f at) (NoItem (waiting latest []))
+found_parse next b latest at (found.Tag n) =
+    if nat_le (at + n) (length b) then next latest (at + n) else NoItem (waiting latest [])
+found_parse next b latest at (found.Fault f) =
+    ItemThen (waiting latest (drop at b)) (FaultItem f at) (NoItem (waiting latest []))
 found_parse next b latest at (found.Frame h) =
     if has_rate latest h.rate then frame_parse next b latest at h
-    else ItemThen (waiting latest (drop at b)) (InitItem (presentation_of h.rate) at) (frame_parse next b (Some (presentation_of h.rate)) at h)
+    else ItemThen (waiting latest (drop at b)) (InitItem (presentation_of h.rate) at)
+    (frame_parse next b (Some (presentation_of h.rate)) at h)
 
 -- at most n tags and frames from an offset on
 abbrev pub parse_at : ℕ → List ℕ → Option Presentation → ℕ → AdtsParse

@@ -16,11 +16,19 @@ abbrev pub id3_tag : List ℕ
 id3_tag = 73 ∷ 68 ∷ 51 ∷ 4 ∷ 0 ∷ 0 ∷ 0 ∷ 0 ∷ 0 ∷ 2 ∷ 0 ∷ 0 ∷ []
 
 abbrev pub whole_frame : List ℕ → CodedFrame
-whole_frame payload = record { track_id = 1; pts = pos 0; dts = pos 0; dur = pos 3276800000; sync = true; payload = payload }
+whole_frame payload = record {
+  track_id = 1;
+  pts = pos 0;
+  dts = pos 0;
+  dur = pos 3276800000;
+  sync = true;
+  payload = payload;
+}
 
 -- a frame of 44100 samples in a second at an offset, with the presentation that it gives, and without
 abbrev pub first_frame : ℕ → List AdtsItem
-first_frame at = InitItem (presentation_of 44100) at ∷ FrameItem (whole_frame frame_44100) at ∷ SegmentEnd ∷ []
+first_frame at =
+    InitItem (presentation_of 44100) at ∷ FrameItem (whole_frame frame_44100) at ∷ SegmentEnd ∷ []
 
 abbrev pub later_frame : ℕ → List AdtsItem
 later_frame at = FrameItem (whole_frame frame_44100) at ∷ SegmentEnd ∷ []

@@ -32,14 +32,23 @@ fed_all kept (c ∷ cs) = fed_all (fed kept c) cs
 
 -- the bytes that are offered are the last `len` of the input
 abbrev pub adts_view : Option Presentation → ParsePosition → List ℕ → ℕ → Option ℕ → AdtsView
-adts_view last position bytes fed None = record { state = state_of last position bytes; fed = fed; offered = None }
-adts_view last position bytes fed (Some len) = record { state = state_of last position (take (length bytes - len) bytes); fed = fed; offered = Some (drop (length bytes - len) bytes) }
+adts_view last position bytes fed None = record {
+  state = state_of last position bytes;
+  fed = fed;
+  offered = None;
+}
+adts_view last position bytes fed (Some len) = record {
+  state = state_of last position (take (length bytes - len) bytes);
+  fed = fed;
+  offered = Some (drop (length bytes - len) bytes);
+}
 
 abbrev pub offered_len : Option ℕ → ℕ
 offered_len None = 0
 offered_len (Some len) = len
 
-pub record IsStream (position : ParsePosition) (bytes : List ℕ) (fed : ℕ) (offered : Option ℕ) : Type 0 where
+pub record IsStream (position : ParsePosition) (bytes : List ℕ) (fed : ℕ)
+    (offered : Option ℕ) : Type 0 where
   pub inside : offered_len offered ≤ length bytes
   pub total : position.offset + length bytes ≤ fed + offered_len offered
   pub bounded : fed + offered_len offered < 2 ^ 62

@@ -22,7 +22,13 @@ seen (next.Fault f offset) = Some (FaultItem f offset)
 seen next.Dry = None
 
 abbrev pub state_of : Option Presentation → ParsePosition → List ℕ → State
-state_of last position rest = record { last = last; point = position.point; offset = position.offset; rest = rest; failed = position.failed }
+state_of last position rest = record {
+  last = last;
+  point = position.point;
+  offset = position.offset;
+  rest = rest;
+  failed = position.failed;
+}
 
 -- one move on the way to the next item, where there is one, or the state just before that item
 abbrev pub IsMoveTo : State → State → Bool → Type 0
@@ -32,9 +38,13 @@ IsMoveTo s t false = t ≡ settle adts s
 -- the next item, with what the walk comes to behind it
 abbrev pub IsNextItem : State → NextItem → Type 0
 IsNextItem s front.Dry = item_of (adts.move s) ≡ None
-IsNextItem s (front.Init h) = adts.move s ≡ Give (InitItem (presentation_of h.rate) s.offset) (initialized s h)
-IsNextItem s (front.Frame h) = (adts.move s ≡ Give (FrameItem (coded_frame h s.rest) s.offset) (into s (AtEnd h))) × (h.len ≤ length s.rest)
-IsNextItem s (front.End h) = (adts.move s ≡ Give SegmentEnd (behind s h.len)) × (h.len ≤ length s.rest) × (s.failed ≡ false)
+IsNextItem s (front.Init h) =
+    adts.move s ≡ Give (InitItem (presentation_of h.rate) s.offset) (initialized s h)
+IsNextItem s (front.Frame h) =
+    (adts.move s ≡ Give (FrameItem (coded_frame h s.rest) s.offset) (into s (AtEnd h)))
+    × (h.len ≤ length s.rest)
+IsNextItem s (front.End h) =
+    (adts.move s ≡ Give SegmentEnd (behind s h.len)) × (h.len ≤ length s.rest) × (s.failed ≡ false)
 IsNextItem s (front.Fault f) = adts.move s ≡ Give (FaultItem f s.offset) (faulted s)
 
 -- what is kept behind the item of a move

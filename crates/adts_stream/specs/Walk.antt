@@ -27,15 +27,33 @@ pub record State : Type 0 where
 -- ---- the moves
 
 abbrev pub into : State → ParsePoint → State
-into s point = record { last = s.last; point = point; offset = s.offset; rest = s.rest; failed = false }
+into s point = record {
+  last = s.last;
+  point = point;
+  offset = s.offset;
+  rest = s.rest;
+  failed = false;
+}
 
 -- behind an initialization segment: its frame comes next
 abbrev pub initialized : State → FrameHeader → State
-initialized s h = record { last = Some (presentation_of h.rate); point = AtFrame h; offset = s.offset; rest = s.rest; failed = false }
+initialized s h = record {
+  last = Some (presentation_of h.rate);
+  point = AtFrame h;
+  offset = s.offset;
+  rest = s.rest;
+  failed = false;
+}
 
 -- behind the first n bytes
 abbrev pub behind : State → ℕ → State
-behind s n = record { last = s.last; point = AtHeader; offset = s.offset + n; rest = drop n s.rest; failed = false }
+behind s n = record {
+  last = s.last;
+  point = AtHeader;
+  offset = s.offset + n;
+  rest = drop n s.rest;
+  failed = false;
+}
 
 -- behind a fault: no byte is looked at any more
 abbrev pub faulted : State → State
@@ -43,7 +61,9 @@ faulted s = record { last = s.last; point = AtHeader; offset = s.offset; rest = 
 
 -- a frame of another rate begins with an initialization segment
 abbrev pub frame_move : State → FrameHeader → Move State AdtsItem
-frame_move s h = if has_rate s.last h.rate then Pass (into s (AtFrame h)) else Give (InitItem (presentation_of h.rate) s.offset) (initialized s h)
+frame_move s h =
+    if has_rate s.last h.rate then Pass (into s (AtFrame h))
+    else Give (InitItem (presentation_of h.rate) s.offset) (initialized s h)
 
 abbrev pub found_move : State → Found → Move State AdtsItem
 found_move s found.Nothing = Stop
@@ -54,7 +74,15 @@ found_move s (found.Frame h) = frame_move s h
 -- a byte of a tag is let go as soon as it is there
 abbrev pub tag_move : State → ℕ → List ℕ → Move State AdtsItem
 tag_move s left [] = Stop
-tag_move s left (x ∷ rest) = Pass (record { last = s.last; point = InTag left; offset = s.offset + 1; rest = rest; failed = false })
+tag_move s left (x ∷ rest) =
+    Pass
+    (record {
+      last = s.last;
+      point = InTag left;
+      offset = s.offset + 1;
+      rest = rest;
+      failed = false;
+    })
 
 -- what waits for the whole frame
 abbrev pub once : State → FrameHeader → Move State AdtsItem → Move State AdtsItem
@@ -66,7 +94,8 @@ abbrev pub point_move : State → ParsePoint → Move State AdtsItem
 point_move s AtHeader = found_move s (found_at s.rest)
 point_move s (InTag zero) = Pass (into s AtHeader)
 point_move s (InTag (suc left)) = tag_move s left s.rest
-point_move s (AtFrame h) = once s h (Give (FrameItem (coded_frame h s.rest) s.offset) (into s (AtEnd h)))
+point_move s (AtFrame h) =
+    once s h (Give (FrameItem (coded_frame h s.rest) s.offset) (into s (AtEnd h)))
 point_move s (AtEnd h) = once s h (Give SegmentEnd (behind s h.len))
 
 abbrev pub move_unless : State → Bool → Move State AdtsItem
@@ -90,7 +119,13 @@ size_unless s false = suc (size_by (length s.rest) s.point)
 -- behind a fault more bytes are let go
 abbrev pub more_unless : State → List ℕ → Bool → State
 more_unless s c true = s
-more_unless s c false = record { last = s.last; point = s.point; offset = s.offset; rest = s.rest ++ c; failed = false }
+more_unless s c false = record {
+  last = s.last;
+  point = s.point;
+  offset = s.offset;
+  rest = s.rest ++ c;
+  failed = false;
+}
 
 -- a fault ends the walk; nothing is taken ahead
 abbrev pub adts : Kind State AdtsItem

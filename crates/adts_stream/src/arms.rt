@@ -93,11 +93,11 @@ fn init_on(
         ≡ record { point = ParsePoint.AtFrame header; offset = position.old.offset; failed = position.old.failed }) }
     ensures err { OnErr result ((last.new ≡ last.old) × (position.new ≡ position.old)) }
 {
-    let given = presentation(alloc, header.rate)?;
-    let kept = Some(presentation(alloc, header.rate)?);
-    *last = kept;
+    let answer = presentation(alloc, header.rate)?;
+    let latest = Some(presentation(alloc, header.rate)?);
+    *last = latest;
     position.point = ParsePoint::AtFrame(header);
-    Ok(AdtsNext::Init(given, position.offset))
+    Ok(AdtsNext::Init(answer, position.offset))
 }
 
 /// Takes a coded frame. An `Err` changes nothing.

@@ -248,7 +248,7 @@ impl AdtsStream {
         ready(self.position, self.input.len())
     }
 
-    /// How many bytes are kept.
+    /// How many bytes are held in memory.
     pub fn held_len(&self) -> usize
         requires { self.now.offered ≡ None }
         ensures kept { result ≡ length self.now.state.rest }

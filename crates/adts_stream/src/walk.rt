@@ -114,8 +114,8 @@ pub(crate) fn settle_on(
         ≡ position.old.offset + length (concat input.old) }
 {
     'moves: loop {
-        let moved = move_on(last, position, input);
-        if !moved {
+        let has_moved = move_on(last, position, input);
+        if !has_moved {
             return;
         }
     }

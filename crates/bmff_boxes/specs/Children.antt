@@ -21,7 +21,8 @@ child_view Uneven = NoBox
 
 -- the box of this header at the front of the bytes, where all its bytes are there, and the bytes behind it
 abbrev pub whole_box : List ℕ → Header → ChildView × List ℕ
-whole_box b (head.Whole kind head len) = if nat_lt (length b) len then (NoBox, b) else (Box kind (drop head (take len b)), drop len b)
+whole_box b (head.Whole kind head len) =
+    if nat_lt (length b) len then (NoBox, b) else (Box kind (drop head (take len b)), drop len b)
 whole_box b head.Short = (NoBox, b)
 whole_box b (head.Bad fault) = (NoBox, b)
 

@@ -32,7 +32,8 @@ room_of flags flag n = if bit_and flags flag == 0 then 0 else n
 
 -- a field of n bytes at place i that is there where its flag is set; the inner none says that it is not set
 abbrev pub optional_field : ℕ → ℕ → ℕ → ℕ → List ℕ → Option (Option ℕ)
-optional_field flags flag n i p = if bit_and flags flag == 0 then Some None else option_map Some (field n i p)
+optional_field flags flag n i p =
+    if bit_and flags flag == 0 then Some None else option_map Some (field n i p)
 
 -- what is read of a payload by more than one field, none where one of them is not there
 infixl 10 ◌>>=◌

@@ -69,7 +69,8 @@ trun_first_flags_of p = do
 -- the bytes of one sample: sample_duration (0x100), sample_size (0x200), sample_flags (0x400) and
 -- sample_composition_time_offset (0x800), four each, where their flags are set
 abbrev pub sample_len : ℕ → ℕ
-sample_len flags = room_of flags 0x100 4 + room_of flags 0x200 4 + room_of flags 0x400 4 + room_of flags 0x800 4
+sample_len flags =
+    room_of flags 0x100 4 + room_of flags 0x200 4 + room_of flags 0x400 4 + room_of flags 0x800 4
 
 -- where the samples begin
 abbrev pub samples_place : ℕ → ℕ
@@ -89,8 +90,15 @@ sample_at p flags at = do
   duration ← optional_field flags 0x100 4 at p
   size ← optional_field flags 0x200 4 (at + room_of flags 0x100 4) p
   own ← optional_field flags 0x400 4 (at + room_of flags 0x100 4 + room_of flags 0x200 4) p
-  offset ← optional_field flags 0x800 4 (at + room_of flags 0x100 4 + room_of flags 0x200 4 + room_of flags 0x400 4) p
-  Some (record { duration = duration; size = size; flags = own; offset = option_map (composition_offset p) offset })
+  offset ← optional_field flags 0x800 4
+      (at + room_of flags 0x100 4 + room_of flags 0x200 4 + room_of flags 0x400 4) p
+  Some
+      (record {
+        duration = duration;
+        size = size;
+        flags = own;
+        offset = option_map (composition_offset p) offset;
+      })
 
 unfoldable pub trun_sample_of : List ℕ → ℕ → Option TrunSample
 trun_sample_of p i = do

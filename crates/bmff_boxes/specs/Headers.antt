@@ -7,7 +7,8 @@ use Rattle.bmff_boxes.specs.declared.box_header.Header.TheVariants.{Whole, Short
 
 -- the four bytes from place i on
 abbrev pub four_at : ℕ → List ℕ → List ℕ
-four_at i b = slice_index b i ∷ slice_index b (i + 1) ∷ slice_index b (i + 2) ∷ slice_index b (i + 3) ∷ []
+four_at i b =
+    slice_index b i ∷ slice_index b (i + 1) ∷ slice_index b (i + 2) ∷ slice_index b (i + 3) ∷ []
 
 -- a box has at least the bytes of its header
 abbrev pub sized_of : List ℕ → ℕ → ℕ → Header
@@ -21,7 +22,8 @@ header_of b =
     if nat_lt (length b) 8 then Short
     else (if big_number 4 b == 0 then Bad SizeZero
     else (if big_number 4 b == 1
-    then (if nat_lt (length b) 16 then Short else sized_of (four_at 4 b) 16 (big_number 8 (drop 8 b)))
+    then (if nat_lt (length b) 16 then Short
+    else sized_of (four_at 4 b) 16 (big_number 8 (drop 8 b)))
     else sized_of (four_at 4 b) 8 (big_number 4 b)))
 
 -- a whole header lies in the n bytes and in its box; of a bad one at least eight bytes are there

@@ -69,4 +69,5 @@ short_edit_of at p = do
 
 -- the entries stand one after the other behind their count
 unfoldable pub elst_entry_of : List ℕ → ℕ → Option EditEntry
-elst_entry_of p i = if is_version 1 p then long_edit_of (8 + i * 20) p else short_edit_of (8 + i * 12) p
+elst_entry_of p i =
+    if is_version 1 p then long_edit_of (8 + i * 20) p else short_edit_of (8 + i * 12) p

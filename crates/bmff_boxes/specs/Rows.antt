@@ -13,7 +13,8 @@ pub record BoxView : Type 0 where
 abbrev pub row_by : (List ℕ → Option (List BoxView)) → ChildView × List ℕ → Option (List BoxView)
 row_by go (NoBytes, rest) = Some []
 row_by go (NoBox, rest) = None
-row_by go (Box kind payload, rest) = option_map (λ row. record { kind = kind; payload = payload } ∷ row) (go rest)
+row_by go (Box kind payload, rest) =
+    option_map (λ row. record { kind = kind; payload = payload } ∷ row) (go rest)
 
 -- at most n boxes
 abbrev pub row_in : ℕ → List ℕ → Option (List BoxView)

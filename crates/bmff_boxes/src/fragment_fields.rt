@@ -1,3 +1,5 @@
+//! Fields of the boxes of a movie fragment (ISO/IEC 14496-12), read off their payloads. A reader answers
+//! `None` exactly where the payload is too short for the field.
 ghost use Rattle.std.specs.Prelude.{◌≡◌, ◌+◌, ◌<◌, ◌≤◌, ◌^◌};
 ghost use Rattle.std.specs.Option.{option_map};
 ghost use Rattle.bmff_boxes.specs.Fields.{optional_field, signed};

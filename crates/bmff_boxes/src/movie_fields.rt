@@ -1,3 +1,5 @@
+//! Fields of the boxes of a movie box (ISO/IEC 14496-12), read off their payloads. A reader answers
+//! `None` exactly where the payload is too short for the field.
 ghost use Rattle.std.specs.Prelude.{◌≡◌, ◌+◌, ◌<◌, ◌^◌};
 ghost use Rattle.bmff_boxes.specs.MovieFields.{mvhd_scale_of, mvhd_duration_of, mehd_duration_of, trex_track_of, trex_description_of, trex_duration_of, trex_size_of, trex_flags_of, tkhd_track_of, mdhd_scale_of, hdlr_handler_of, entry_count_of, long_edit_of, short_edit_of, elst_entry_of};
 

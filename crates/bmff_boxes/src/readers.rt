@@ -7,7 +7,7 @@ use crate::box_header::{HeadFault, Header};
 use crate::child::{Child, Children};
 use byteorder::{BigEndian, ByteOrder};
 
-fn sized(kind: [u8; 4], head: u64, len: u64) -> Header
+fn whole_header(kind: [u8; 4], head: u64, len: u64) -> Header
     requires { 8 ≤ head }
     ensures value { result ≡ sized_of kind head len }
     ensures room { (n : ℕ) → head ≤ n → HasRoom n result }
@@ -39,9 +39,9 @@ pub fn header(bytes: &[u8]) -> Header
             return Header::Short;
         }
         let large_size = BigEndian::read_u64(&bytes[8..]);
-        return sized(kind, 16, large_size);
+        return whole_header(kind, 16, large_size);
     }
-    sized(kind, 8, u64::from(size))
+    whole_header(kind, 8, u64::from(size))
 }
 
 /// A walker over the child boxes of a payload, which stands before the first of them.

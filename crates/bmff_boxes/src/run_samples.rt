@@ -74,7 +74,7 @@ fn read_i32(p: &[u8], at: usize) -> i32
 }
 
 /// A field of four bytes that is there where its flag is set.
-fn told_u32(p: &[u8], flags: u32, flag: u32, at: usize) -> Option<u32>
+fn read_optional_u32(p: &[u8], flags: u32, flag: u32, at: usize) -> Option<u32>
     requires { at + room_of flags flag 4 ≤ length p.now }
     ensures { Some result ≡ optional_field flags flag 4 at p.now }
 {
@@ -86,7 +86,7 @@ fn told_u32(p: &[u8], flags: u32, flag: u32, at: usize) -> Option<u32>
 }
 
 /// A signed field of four bytes that is there where its flag is set.
-fn told_i32(p: &[u8], flags: u32, flag: u32, at: usize) -> Option<i32>
+fn read_optional_i32(p: &[u8], flags: u32, flag: u32, at: usize) -> Option<i32>
     requires { at + room_of flags flag 4 ≤ length p.now }
     ensures { Some result ≡ option_map (option_map (signed 4))
         (optional_field flags flag 4 at p.now) }
@@ -99,19 +99,19 @@ fn told_i32(p: &[u8], flags: u32, flag: u32, at: usize) -> Option<i32>
 }
 
 /// The composition offset of a sample, in a run whose version is 0 where `is_unsigned`.
-fn told_offset(p: &[u8], is_unsigned: bool, flags: u32, at: usize) -> Option<i64>
+fn read_optional_offset(p: &[u8], is_unsigned: bool, flags: u32, at: usize) -> Option<i64>
     requires there { at + room_of flags 0x800 4 ≤ length p.now }
     requires version { is_unsigned ≡ is_version 0 p.now }
     ensures { Some result ≡ option_map (option_map (composition_offset p.now))
         (optional_field flags 0x800 4 at p.now) }
 {
     if is_unsigned {
-        match told_u32(p, flags, SAMPLE_COMPOSITION_OFFSET, at) {
+        match read_optional_u32(p, flags, SAMPLE_COMPOSITION_OFFSET, at) {
             Some(offset) => Some(i64::from(offset)),
             None => None,
         }
     } else {
-        match told_i32(p, flags, SAMPLE_COMPOSITION_OFFSET, at) {
+        match read_optional_i32(p, flags, SAMPLE_COMPOSITION_OFFSET, at) {
             Some(offset) => Some(i64::from(offset)),
             None => None,
         }
@@ -132,10 +132,10 @@ fn read_sample(p: &[u8], fields: &RunFields, at: usize) -> TrunSample
     let flags = fields.flags;
     let offset_at = at + fields.offset;
     TrunSample {
-        duration: told_u32(p, flags, SAMPLE_DURATION, at),
-        size: told_u32(p, flags, SAMPLE_SIZE, at + fields.size),
-        flags: told_u32(p, flags, SAMPLE_FLAGS, at + fields.sample_flags),
-        offset: told_offset(p, fields.is_unsigned, flags, offset_at),
+        duration: read_optional_u32(p, flags, SAMPLE_DURATION, at),
+        size: read_optional_u32(p, flags, SAMPLE_SIZE, at + fields.size),
+        flags: read_optional_u32(p, flags, SAMPLE_FLAGS, at + fields.sample_flags),
+        offset: read_optional_offset(p, fields.is_unsigned, flags, offset_at),
     }
 }
 

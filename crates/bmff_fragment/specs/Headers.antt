@@ -18,7 +18,15 @@ track_fragment_header_of tfhd = do
   duration ← tfhd_duration_of tfhd
   size ← tfhd_size_of tfhd
   sample_flags ← tfhd_flags_of tfhd
-  Some (record { track_id = track; base_data_offset = base; base_is_moof = not (bit_and flags 0x20000 == 0); duration = duration; size = size; flags = sample_flags })
+  Some
+      (record {
+        track_id = track;
+        base_data_offset = base;
+        base_is_moof = not (bit_and flags 0x20000 == 0);
+        duration = duration;
+        size = size;
+        flags = sample_flags;
+      })
 
 -- what a sample has that its run does not tell: what the track fragment header tells, else what the track
 -- extends box does (8.8.3)

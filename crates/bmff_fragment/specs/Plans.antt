@@ -32,7 +32,8 @@ is_media Other = false
 -- offsets count and its first decode time. That place is the first byte of the moof box in the first track
 -- fragment and where default-base-is-moof is set; else the data of the track fragment before end there,
 -- at `end` (8.8.7).
-unfoldable pub track_fragment_of : List TrackInfo → ℤ → List BoxView → Result TrackFragment MoofFault
+unfoldable pub track_fragment_of : List TrackInfo → ℤ → List BoxView
+    → Result TrackFragment MoofFault
 track_fragment_of tracks end row = do
   tfhd ← need NoTfhd (first_of (codes "tfhd") row)
   header ← need Size (track_fragment_header_of tfhd)
@@ -40,7 +41,13 @@ track_fragment_of tracks end row = do
   track ← need UnknownTrack (track_of tracks header.track_id)
   tfdt ← need NoTfdt (first_of (codes "tfdt") row)
   time ← need Size (tfdt_time_of tfdt)
-  Ok (record { track = track; defaults = defaults_of header track; base = (if header.base_is_moof then pos 0 else end); decode_time = time })
+  Ok
+      (record {
+        track = track;
+        defaults = defaults_of header track;
+        base = (if header.base_is_moof then pos 0 else end);
+        decode_time = time;
+      })
 
 -- where the data of a run begin (8.8.8): at its data offset from the base, else where those of the run before
 -- it end
@@ -55,7 +62,8 @@ run_of fragment count end trun = do
   header ← need Size (run_header_of trun)
   few ← check TooManySamples (nat_le (count + header.count) (2 ^ 20))
   samples ← need Size (samples_of fragment.defaults header trun)
-  inside ← check Place (header.count == 0 || int_le (pos 0) (run_start fragment.base end header.data_offset))
+  inside ← check Place
+      (header.count == 0 || int_le (pos 0) (run_start fragment.base end header.data_offset))
   Ok (record { start = run_start fragment.base end header.data_offset; samples = samples })
 
 unfoldable pub runs_of : TrackFragment → ℕ → ℤ → List (List ℕ) → Result (List Run) MoofFault
@@ -88,7 +96,9 @@ trafs_of tracks count end (traf ∷ trafs) = do
   fragment ← track_fragment_of tracks end row
   runs ← runs_of fragment count fragment.base (all_of (codes "trun") row)
   slots ← trafs_of tracks (count + length (samples_in runs)) (data_end fragment.base runs) trafs
-  Ok (media_slots fragment.track (slots_behind fragment.track fragment.decode_time [] runs) ++ slots)
+  Ok
+      (media_slots fragment.track (slots_behind fragment.track fragment.decode_time [] runs)
+      ++ slots)
 
 -- moof, movie fragment (8.8.4)
 unfoldable pub plan_of : List TrackInfo → List ℕ → Result (List Slot) MoofFault

@@ -24,7 +24,8 @@ header_flags header i = if i == 0 then header.first_flags else None
 
 -- sample i of a run, the first being 0; none where the payload ends before
 unfoldable pub sample_of : Defaults → RunHeader → List ℕ → ℕ → Option Sample
-sample_of defaults header trun i = option_map (sample_with_defaults defaults (header_flags header i)) (trun_sample_of trun i)
+sample_of defaults header trun i =
+    option_map (sample_with_defaults defaults (header_flags header i)) (trun_sample_of trun i)
 
 -- all of the list; none where one is missing
 abbrev pub each : {A : Type 0} → List (Option A) → Option (List A)
@@ -34,4 +35,5 @@ each (Some x ∷ rest) = option_map (λ xs. x ∷ xs) (each rest)
 
 -- the samples of a run, as many as its header says
 abbrev pub samples_of : Defaults → RunHeader → List ℕ → Option (List Sample)
-samples_of defaults header trun = each (map (sample_of defaults header trun) (range_with_len 0 header.count))
+samples_of defaults header trun =
+    each (map (sample_of defaults header trun) (range_with_len 0 header.count))

@@ -16,14 +16,24 @@ use Rattle.bmff_fragment.specs.Plans.{track_fragment_of, run_of, media_slots}
 
 -- behind a run
 abbrev pub progress_after_run : RunProgress → Run → RunProgress
-progress_after_run at run = record { samples = at.samples + length run.samples; data_end = run_end run; decode_time = at.decode_time + duration_of run.samples }
+progress_after_run at run = record {
+  samples = at.samples + length run.samples;
+  data_end = run_end run;
+  decode_time = at.decode_time + duration_of run.samples;
+}
 
-unfoldable pub run_step : TrackFragment → RunProgress → List Slot → List ℕ → Result (RunProgress × List Slot) MoofFault
+unfoldable pub run_step : TrackFragment → RunProgress → List Slot → List ℕ
+    → Result (RunProgress × List Slot) MoofFault
 run_step fragment at slots trun = do
   run ← run_of fragment at.samples at.data_end trun
-  Ok (progress_after_run at run, slots ++ media_slots fragment.track (slots_of_run fragment.track at.decode_time run))
+  Ok (
+    progress_after_run at run,
+    slots
+        ++ media_slots fragment.track (slots_of_run fragment.track at.decode_time run),
+  )
 
-unfoldable pub runs_steps : TrackFragment → RunProgress → List Slot → List (List ℕ) → Result (RunProgress × List Slot) MoofFault
+unfoldable pub runs_steps : TrackFragment → RunProgress → List Slot → List (List ℕ)
+    → Result (RunProgress × List Slot) MoofFault
 runs_steps fragment at slots [] = Ok (at, slots)
 runs_steps fragment at slots (trun ∷ truns) = do
   next ← run_step fragment at slots trun
@@ -31,24 +41,31 @@ runs_steps fragment at slots (trun ∷ truns) = do
 
 -- before the first run of a track fragment
 abbrev pub first_run : TrackFragment → ℕ → RunProgress
-first_run fragment samples = record { samples = samples; data_end = fragment.base; decode_time = fragment.decode_time }
+first_run fragment samples = record {
+  samples = samples;
+  data_end = fragment.base;
+  decode_time = fragment.decode_time;
+}
 
 abbrev pub progress_after_runs : RunProgress → Progress
 progress_after_runs at = record { samples = at.samples; data_end = at.data_end }
 
 -- the runs of a track fragment
-abbrev pub runs_part : TrackFragment → ℕ → List Slot → List (List ℕ) → Result (Progress × List Slot) MoofFault
+abbrev pub runs_part : TrackFragment → ℕ → List Slot → List (List ℕ)
+    → Result (Progress × List Slot) MoofFault
 runs_part fragment samples slots truns = do
   last ← runs_steps fragment (first_run fragment samples) slots truns
   Ok (progress_after_runs last.0, last.1)
 
-unfoldable pub traf_step : List TrackInfo → Progress → List Slot → List ℕ → Result (Progress × List Slot) MoofFault
+unfoldable pub traf_step : List TrackInfo → Progress → List Slot → List ℕ
+    → Result (Progress × List Slot) MoofFault
 traf_step tracks at slots traf = do
   row ← need Size (row_of traf)
   fragment ← track_fragment_of tracks at.data_end row
   runs_part fragment at.samples slots (all_of (codes "trun") row)
 
-unfoldable pub trafs_steps : List TrackInfo → Progress → List Slot → List (List ℕ) → Result (List Slot) MoofFault
+unfoldable pub trafs_steps : List TrackInfo → Progress → List Slot → List (List ℕ)
+    → Result (List Slot) MoofFault
 trafs_steps tracks at slots [] = Ok slots
 trafs_steps tracks at slots (traf ∷ trafs) = do
   next ← traf_step tracks at slots traf

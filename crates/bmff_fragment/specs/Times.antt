@@ -37,7 +37,9 @@ slot_of track time start s = record {
   track_id = track.id;
   pts = tick_at track (pos time +ℤ s.offset);
   dts = tick_at track (pos time);
-  dur = tick_at track (pos time +ℤ s.offset +ℤ pos s.duration) -ℤ tick_at track (pos time +ℤ s.offset);
+  dur =
+      tick_at track (pos time +ℤ s.offset +ℤ pos s.duration)
+      -ℤ tick_at track (pos time +ℤ s.offset);
   sync = bit_and s.flags 0x10000 == 0;
   start = start;
   end = start + s.size;
@@ -46,7 +48,9 @@ slot_of track time start s = record {
 -- the slot of sample k of a run whose first sample is decoded at `time`: it is decoded when the samples
 -- before it have lasted (8.8.12), and its data lie behind theirs (8.8.8)
 abbrev pub slot_at : TrackInfo → ℕ → Run → ℕ × Sample → Slot
-slot_at track time run (k, s) = slot_of track (time + duration_of (take k run.samples)) (unsigned_abs run.start + data_len (take k run.samples)) s
+slot_at track time run (k, s) =
+    slot_of track (time + duration_of (take k run.samples))
+    (unsigned_abs run.start + data_len (take k run.samples)) s
 
 abbrev pub slots_of_run : TrackInfo → ℕ → Run → List Slot
 slots_of_run track time run = map (slot_at track time run) (enumerate_from 0 run.samples)
@@ -55,4 +59,6 @@ slots_of_run track time run = map (slot_at track time run) (enumerate_from 0 run
 -- at `time`: decode times go on across its runs
 abbrev pub slots_behind : TrackInfo → ℕ → List Sample → List Run → List Slot
 slots_behind track time before [] = []
-slots_behind track time before (run ∷ runs) = slots_of_run track (time + duration_of before) run ++ slots_behind track time (before ++ run.samples) runs
+slots_behind track time before (run ∷ runs) =
+    slots_of_run track (time + duration_of before) run
+    ++ slots_behind track time (before ++ run.samples) runs

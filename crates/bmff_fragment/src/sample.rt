@@ -30,15 +30,15 @@ fn header_flags(header: &RunHeader, i: u32) -> Option<u32>
 }
 
 /// A sample as the run tells it, with the defaults for what it does not tell.
-fn sample_with_defaults(defaults: &Defaults, first_flags: Option<u32>, told: TrunSample) -> Sample
-    ensures { result ≡ sample_with_defaults_of defaults.now first_flags told }
+fn sample_with_defaults(defaults: &Defaults, first_flags: Option<u32>, sample: TrunSample) -> Sample
+    ensures { result ≡ sample_with_defaults_of defaults.now first_flags sample }
 {
-    let flags = told.flags.unwrap_or(defaults.flags);
+    let flags = sample.flags.unwrap_or(defaults.flags);
     Sample {
-        duration: told.duration.unwrap_or(defaults.duration),
-        size: told.size.unwrap_or(defaults.size),
+        duration: sample.duration.unwrap_or(defaults.duration),
+        size: sample.size.unwrap_or(defaults.size),
         flags: first_flags.unwrap_or(flags),
-        offset: told.offset.unwrap_or(0),
+        offset: sample.offset.unwrap_or(0),
     }
 }
 
@@ -59,9 +59,9 @@ pub(crate) fn read_samples(
     };
     let mut samples = Vec::with_capacity(alloc, header.count as usize)?;
     for i in 0..header.count {
-        let told = run_sample(trun, &fields, i);
+        let sample = run_sample(trun, &fields, i);
         let first_flags = header_flags(header, i);
-        samples.push_reserved(sample_with_defaults(defaults, first_flags, told));
+        samples.push_reserved(sample_with_defaults(defaults, first_flags, sample));
     }
     Ok(samples)
 }

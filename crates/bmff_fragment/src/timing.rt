@@ -41,14 +41,14 @@ fn make_slot(track: &TrackInfo, time: u128, start: u64, sample: &Sample) -> Slot
     ensures value { result ≡ slot_of track.now time start sample.now }
     ensures well_formed { IsWellFormed result }
 {
-    let decoded = time as i128;
-    let presented = decoded + i128::from(sample.offset);
-    let pts = tick_at(track, presented);
-    let end = tick_at(track, presented + i128::from(sample.duration));
+    let decode_time = time as i128;
+    let media_time = decode_time + i128::from(sample.offset);
+    let pts = tick_at(track, media_time);
+    let end = tick_at(track, media_time + i128::from(sample.duration));
     Slot {
         track_id: track.id,
         pts,
-        dts: tick_at(track, decoded),
+        dts: tick_at(track, decode_time),
         dur: end.checked_sub(pts).unwrap(),
         sync: sample.flags & NON_SYNC_SAMPLE == 0,
         start,
@@ -76,13 +76,13 @@ fn push_slots(
     ensures memory { IfErr result (λ e. e ≡ OutOfMemory) }
 {
     slots.reserve(samples.len())?;
-    let mut decoded = time;
+    let mut decode_time = time;
     let mut place = start;
     for sample in samples {
         let duration = u128::from(sample.duration);
         let size = u64::from(sample.size);
-        slots.push_reserved(make_slot(track, decoded, place, sample));
-        decoded += duration;
+        slots.push_reserved(make_slot(track, decode_time, place, sample));
+        decode_time += duration;
         place += size;
     }
     Ok(())

@@ -47,7 +47,8 @@ is_empty_edit edit = int_eq edit.media_time (negsuc 0)
 
 -- an edit that presents the media at their own rate, from a time on
 abbrev pub presents_media : EditEntry → Bool
-presents_media edit = int_le (pos 0) edit.media_time && (int_eq edit.rate (pos 1) && int_eq edit.fraction (pos 0))
+presents_media edit =
+    int_le (pos 0) edit.media_time && (int_eq edit.rate (pos 1) && int_eq edit.fraction (pos 0))
 
 -- the media time of the one edit that has to follow the empty edits
 abbrev pub media_time_of : List EditEntry → Result ℤ InitFault
@@ -74,7 +75,9 @@ both_shifts media_time empty_shift = do
 -- no edits, or empty edits and then one that presents the media
 abbrev pub shifts_by : ℕ → List EditEntry → Result Shifts InitFault
 shifts_by scale [] = Ok no_shift
-shifts_by scale (edit ∷ edits) = both_shifts (media_time_of (drop (prefix_len is_empty_edit (edit ∷ edits)) (edit ∷ edits))) (empty_shift_of scale (empty_duration (edit ∷ edits)))
+shifts_by scale (edit ∷ edits) =
+    both_shifts (media_time_of (drop (prefix_len is_empty_edit (edit ∷ edits)) (edit ∷ edits)))
+    (empty_shift_of scale (empty_duration (edit ∷ edits)))
 
 abbrev pub shifts_of : ℕ → Result (List EditEntry) InitFault → Result Shifts InitFault
 shifts_of scale read = read >>= shifts_by scale

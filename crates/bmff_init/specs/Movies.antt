@@ -22,7 +22,8 @@ use Rattle.bmff_init.specs.Tracks.{tracks_of}
 
 -- a duration of all ones cannot be determined (8.2.2.3)
 abbrev pub known_duration : List ℕ → ℕ → ℕ
-known_duration mvhd duration = if duration == (if is_version 1 mvhd then 2 ^ 64 - 1 else 2 ^ 32 - 1) then 0 else duration
+known_duration mvhd duration =
+    if duration == (if is_version 1 mvhd then 2 ^ 64 - 1 else 2 ^ 32 - 1) then 0 else duration
 
 -- mvhd, movie header (8.2.2)
 unfoldable pub times_of : List BoxView → Result MovieTimes InitFault
@@ -40,7 +41,10 @@ pub record MovieExtends : Type 0 where
 
 -- the same of what the code keeps
 abbrev pub extends_view : Extends → MovieExtends
-extends_view extends = record { duration = extends.duration; trexes = all_of (codes "trex") (boxes_in extends.mvex.now) }
+extends_view extends = record {
+  duration = extends.duration;
+  trexes = all_of (codes "trex") (boxes_in extends.mvex.now);
+}
 
 -- mehd, movie extends header (8.8.2), if there is one
 abbrev pub fragments_duration_of : Option (List ℕ) → Result ℕ InitFault
@@ -68,7 +72,13 @@ presentation_in form movie = do
   extends ← extends_of form movie
   _ ← check TooManyTracks (nat_le (length (all_of (codes "trak") movie)) 64)
   tracks ← tracks_of form times.scale extends.trexes [] (all_of (codes "trak") movie)
-  Ok (record { scale = times.scale; duration = moment_of times.scale (if extends.duration == 0 then times.duration else extends.duration); tracks = tracks })
+  Ok
+      (record {
+        scale = times.scale;
+        duration = moment_of times.scale
+            (if extends.duration == 0 then times.duration else extends.duration);
+        tracks = tracks;
+      })
 
 -- the presentation of a whole movie box with its header, or the first fault
 abbrev pub presentation_of : Form → List ℕ → Result Presentation InitFault

@@ -38,7 +38,9 @@ default_of field trex = unwrap_or (option_and_then field trex) 0
 
 -- hdlr, handler reference (8.4.3; 12.1.1, video media; 12.2.1, audio media)
 abbrev pub kind_of : List ℕ → Kind
-kind_of handler = if bytes_eq handler (codes "vide") then Video else (if bytes_eq handler (codes "soun") then Audio else Other)
+kind_of handler =
+    if bytes_eq handler (codes "vide") then Video
+    else (if bytes_eq handler (codes "soun") then Audio else Other)
 
 -- the type of a sample entry
 abbrev pub entry_type : Header → Result (List ℕ) InitFault
@@ -94,7 +96,12 @@ media_scale_of media = do
 
 -- of a track with neither video nor audio nothing is read but its number and kind
 abbrev pub no_content : Content
-no_content = record { codec = 0 ∷ 0 ∷ 0 ∷ 0 ∷ []; scale = 1; media_shift = pos 0; empty_shift = pos 0 }
+no_content = record {
+  codec = 0 ∷ 0 ∷ 0 ∷ 0 ∷ [];
+  scale = 1;
+  media_shift = pos 0;
+  empty_shift = pos 0;
+}
 
 -- the boxes of the track and of its media box, in a movie whose timescale is `movie_scale`
 unfoldable pub media_content : Form → ℕ → List BoxView → List BoxView → Result Content InitFault
@@ -102,7 +109,13 @@ media_content form movie_scale track media = do
   scale ← media_scale_of media
   codec ← codec_in form media
   shifts ← shifts_in movie_scale (first_of (codes "edts") track)
-  Ok (record { codec = codec; scale = scale; media_shift = shifts.media; empty_shift = shifts.empty })
+  Ok
+      (record {
+        codec = codec;
+        scale = scale;
+        media_shift = shifts.media;
+        empty_shift = shifts.empty;
+      })
 
 abbrev pub content_of : Form → ℕ → Kind → List BoxView → List BoxView → Result Content InitFault
 content_of form movie_scale Other track media = Ok no_content
@@ -143,7 +156,8 @@ track_with trexes id kind content = record {
 }
 
 -- the track of a track box that stands behind those of the tracks `before`
-unfoldable pub track_of : Form → ℕ → List (List ℕ) → List TrackInfo → List ℕ → Result TrackInfo InitFault
+unfoldable pub track_of : Form → ℕ → List (List ℕ) → List TrackInfo → List ℕ
+    → Result TrackInfo InitFault
 track_of form movie_scale trexes before trak = do
   track ← need Size (row_of trak)
   id ← number_of before track
@@ -152,7 +166,8 @@ track_of form movie_scale trexes before trak = do
   content ← content_of form movie_scale kind track media
   Ok (track_with trexes id kind content)
 
-unfoldable pub tracks_of : Form → ℕ → List (List ℕ) → List TrackInfo → List (List ℕ) → Result (List TrackInfo) InitFault
+unfoldable pub tracks_of : Form → ℕ → List (List ℕ) → List TrackInfo → List (List ℕ)
+    → Result (List TrackInfo) InitFault
 tracks_of form movie_scale trexes before [] = Ok before
 tracks_of form movie_scale trexes before (trak ∷ traks) = do
   track ← track_of form movie_scale trexes before trak

@@ -169,7 +169,10 @@ fn read_list(scale: u32, elst: &[u8]) -> Result<Shifts, InitFault>
     read_edits(scale, elst, count)
 }
 
-/// Where a track begins by its edit box (8.6.5), if it has one, in a movie of this timescale.
+/// Where a track begins by its edit box (8.6.5), if it has one, in a movie of this timescale. There is no shift
+/// without an edit box, without an edit list in it, and by a list of no entries. `Size` comes where the boxes or
+/// the entries do not fit, and `EditList` where there are more than 1000 entries or they are no empty edits and
+/// then one that presents the media at their own rate, at most 2^109 ticks late.
 pub fn read_shifts(scale: u32, edts: Option<&[u8]>) -> Result<Shifts, InitFault>
     requires { 1 ≤ scale }
     ensures { result ≡ shifts_in scale (option_copied edts.entry) }

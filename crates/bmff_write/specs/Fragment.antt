@@ -27,18 +27,22 @@ sample_flags false = 0x01010000
 
 -- a sample in trun: duration, size, flags, composition time offset
 abbrev pub sample_bytes : SampleOut → List ℕ
-sample_bytes s = fields_bytes (U32 s.duration ∷ U32 (length s.payload) ∷ U32 (sample_flags s.sync) ∷ I32 s.offset ∷ [])
+sample_bytes s =
+    fields_bytes
+    (U32 s.duration ∷ U32 (length s.payload) ∷ U32 (sample_flags s.sync) ∷ I32 s.offset ∷ [])
 
 -- trun, track fragment run (8.8.8), version 1, with a data offset and all fields of each sample: sample_count,
 -- data_offset, the samples
 unfoldable pub trun_bytes : ℕ → List SampleOut → List ℕ
 trun_bytes at samples =
     box_bytes (codes "trun")
-    (fields_bytes (Full 1 0x000f01 ∷ U32 (length samples) ∷ U32 at ∷ []) ++ flat_map sample_bytes samples)
+    (fields_bytes (Full 1 0x000f01 ∷ U32 (length samples) ∷ U32 at ∷ [])
+    ++ flat_map sample_bytes samples)
 
 -- traf, track fragment (8.8.6), with the place of its first byte of payload from the moof's first byte on
 unfoldable pub traf_bytes : ℕ → TrafOut → List ℕ
-traf_bytes at t = box_bytes (codes "traf") (tfhd_bytes t.id ++ (tfdt_bytes t.decode ++ trun_bytes at t.samples))
+traf_bytes at t =
+    box_bytes (codes "traf") (tfhd_bytes t.id ++ (tfdt_bytes t.decode ++ trun_bytes at t.samples))
 
 -- the track fragments, whose payloads stand one after the other
 unfoldable pub trafs_bytes : ℕ → List TrafOut → List ℕ

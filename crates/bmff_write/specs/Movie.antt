@@ -12,7 +12,9 @@ use Rattle.bmff_write.specs.Boxes.{fields_bytes, box_bytes, box_of, full_box}
 
 -- ftyp, file type (4.3): major_brand, minor_version, compatible_brands
 unfoldable pub ftyp_bytes : List ℕ
-ftyp_bytes = box_of (codes "ftyp") (Code (codes "iso6") ∷ Zeros 4 ∷ Code (codes "iso6") ∷ Code (codes "mp41") ∷ [])
+ftyp_bytes =
+    box_of (codes "ftyp")
+    (Code (codes "iso6") ∷ Zeros 4 ∷ Code (codes "iso6") ∷ Code (codes "mp41") ∷ [])
 
 -- the unity matrix (6.2.2)
 abbrev pub unity_matrix : List Field
@@ -43,7 +45,8 @@ volume_of Other = 0
 unfoldable pub tkhd_bytes : TrackOut → List ℕ
 tkhd_bytes t =
     full_box (codes "tkhd") 0 7
-    (Zeros 8 ∷ U32 t.id ∷ Zeros 20 ∷ U16 (volume_of t.kind) ∷ Zeros 2 ∷ (unity_matrix ++ Zeros 8 ∷ []))
+    (Zeros 8 ∷ U32 t.id ∷ Zeros 20 ∷ U16 (volume_of t.kind) ∷ Zeros 2
+    ∷ (unity_matrix ++ Zeros 8 ∷ []))
 
 -- an entry of elst: segment_duration, media_time, media_rate 1
 abbrev pub edit_bytes : ℕ × ℤ → List ℕ
@@ -52,7 +55,8 @@ edit_bytes edit = fields_bytes (U32 edit.0 ∷ I32 edit.1 ∷ U16 1 ∷ U16 0 �
 -- elst, edit list (8.6.6): entry_count, and the entries
 unfoldable pub elst_bytes : List (ℕ × ℤ) → List ℕ
 elst_bytes edits =
-    box_bytes (codes "elst") (fields_bytes (Full 0 0 ∷ U32 (length edits) ∷ []) ++ flat_map edit_bytes edits)
+    box_bytes (codes "elst")
+    (fields_bytes (Full 0 0 ∷ U32 (length edits) ∷ []) ++ flat_map edit_bytes edits)
 
 -- edts, edit (8.6.5), where there are edits
 unfoldable pub edts_bytes : List (ℕ × ℤ) → List ℕ
@@ -62,7 +66,8 @@ edts_bytes (edit ∷ edits) = box_bytes (codes "edts") (elst_bytes (edit ∷ edi
 -- mdhd, media header (8.4.2): creation_time and modification_time, timescale, duration, language `und`,
 -- pre_defined bytes
 unfoldable pub mdhd_bytes : ℕ → List ℕ
-mdhd_bytes scale = full_box (codes "mdhd") 0 0 (Zeros 8 ∷ U32 scale ∷ Zeros 4 ∷ U16 0x55c4 ∷ Zeros 2 ∷ [])
+mdhd_bytes scale =
+    full_box (codes "mdhd") 0 0 (Zeros 8 ∷ U32 scale ∷ Zeros 4 ∷ U16 0x55c4 ∷ Zeros 2 ∷ [])
 
 abbrev pub handler_of : Kind → List ℕ
 handler_of Video = codes "vide"
@@ -72,7 +77,8 @@ handler_of Other = codes "vide"
 -- hdlr, handler reference (8.4.3): pre_defined bytes, handler_type, reserved bytes, an empty name with the byte
 -- that ends it
 unfoldable pub hdlr_bytes : Kind → List ℕ
-hdlr_bytes kind = full_box (codes "hdlr") 0 0 (Zeros 4 ∷ Code (handler_of kind) ∷ Zeros 12 ∷ Zeros 1 ∷ [])
+hdlr_bytes kind =
+    full_box (codes "hdlr") 0 0 (Zeros 4 ∷ Code (handler_of kind) ∷ Zeros 12 ∷ Zeros 1 ∷ [])
 
 -- vmhd, video media header (12.1.2): graphicsmode and opcolor
 unfoldable pub vmhd_bytes : List ℕ
@@ -105,7 +111,8 @@ dinf_bytes = box_bytes (codes "dinf") dref_bytes
 unfoldable pub visual_entry_bytes : List ℕ → List ℕ
 visual_entry_bytes codec =
     box_of codec
-    (Zeros 6 ∷ U16 1 ∷ Zeros 16 ∷ Zeros 4 ∷ U32 0x00480000 ∷ U32 0x00480000 ∷ Zeros 4 ∷ U16 1 ∷ Zeros 32
+    (Zeros 6 ∷ U16 1 ∷ Zeros 16 ∷ Zeros 4 ∷ U32 0x00480000 ∷ U32 0x00480000 ∷ Zeros 4 ∷ U16 1
+    ∷ Zeros 32
     ∷ U16 0x0018 ∷ U16 0xffff ∷ [])
 
 -- a sampling rate as a fixed-point number with 16 bits before the point; 0 where it does not fit them
@@ -146,15 +153,18 @@ stbl_bytes stsd =
 
 -- minf, media information (8.4.4)
 unfoldable pub minf_bytes : Kind → List ℕ → List ℕ
-minf_bytes kind stsd = box_bytes (codes "minf") (media_header_bytes kind ++ (dinf_bytes ++ stbl_bytes stsd))
+minf_bytes kind stsd =
+    box_bytes (codes "minf") (media_header_bytes kind ++ (dinf_bytes ++ stbl_bytes stsd))
 
 -- mdia, media (8.4.1)
 unfoldable pub mdia_bytes : TrackOut → List ℕ → List ℕ
-mdia_bytes t stsd = box_bytes (codes "mdia") (mdhd_bytes t.scale ++ (hdlr_bytes t.kind ++ minf_bytes t.kind stsd))
+mdia_bytes t stsd =
+    box_bytes (codes "mdia") (mdhd_bytes t.scale ++ (hdlr_bytes t.kind ++ minf_bytes t.kind stsd))
 
 -- trak, track (8.3.1)
 unfoldable pub trak_bytes : TrackOut → List ℕ → List ℕ
-trak_bytes t stsd = box_bytes (codes "trak") (tkhd_bytes t ++ (edts_bytes t.edits ++ mdia_bytes t stsd))
+trak_bytes t stsd =
+    box_bytes (codes "trak") (tkhd_bytes t ++ (edts_bytes t.edits ++ mdia_bytes t stsd))
 
 -- the tracks, each with its sample description box
 unfoldable pub traks_bytes : List TrackOut → List (List ℕ) → List ℕ

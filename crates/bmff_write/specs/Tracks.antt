@@ -62,7 +62,8 @@ abbrev pub AreSampleDescriptions : List TrackOut → List (List ℕ) → Type 0
 AreSampleDescriptions [] [] = Unit {0}
 AreSampleDescriptions [] (stsd ∷ stsds) = ⊥
 AreSampleDescriptions (t ∷ ts) [] = ⊥
-AreSampleDescriptions (t ∷ ts) (stsd ∷ stsds) = IsSampleDescription t.codec stsd × AreSampleDescriptions ts stsds
+AreSampleDescriptions (t ∷ ts) (stsd ∷ stsds) =
+    IsSampleDescription t.codec stsd × AreSampleDescriptions ts stsds
 
 -- how many bytes the samples of a track fragment have
 abbrev pub payload_len : List SampleOut → ℕ

@@ -54,11 +54,13 @@ unless_refused None done a f c = done
 
 -- what is done with the media, where nothing else comes of a call
 abbrev pub settings_result : Bool → Media → Surroundings → Feed → Content → CallResult
-settings_result reopened m a f c = result_with (event_reply reopened a.duration []) f (with_media m c)
+settings_result reopened m a f c =
+    result_with (event_reply reopened a.duration []) f (with_media m c)
 
 -- a media segment has begun; where the source is ended it is opened again before this is looked at
 abbrev pub phase_refusal : Surroundings → Feed → Option Name
-phase_refusal a f = if is_in_media (phase_in f) then (if reopens a.ready then None else Some InvalidState) else None
+phase_refusal a f =
+    if is_in_media (phase_in f) then (if reopens a.ready then None else Some InvalidState) else None
 
 -- an ended source is opened again, and in a media segment that is all
 abbrev pub settings_result_by_phase : Media → Surroundings → Feed → Content → CallResult
@@ -74,14 +76,18 @@ mode_refusal mode a f c =
     else phase_refusal a f)
 
 abbrev pub mode_result : Mode → Surroundings → Feed → Content → CallResult
-mode_result mode a f c = unless_refused (mode_refusal mode a f c) (settings_result_by_phase (with_mode (is_sequence mode) c.media) a f c) a f c
+mode_result mode a f c =
+    unless_refused (mode_refusal mode a f c)
+    (settings_result_by_phase (with_mode (is_sequence mode) c.media) a f c) a f c
 
 -- timestampOffset, on setting
 abbrev pub offset_refusal : Surroundings → Feed → Option Name
 offset_refusal a f = if is_updating f.running then Some InvalidState else phase_refusal a f
 
 abbrev pub offset_result : ℤ → Surroundings → Feed → Content → CallResult
-offset_result t a f c = unless_refused (offset_refusal a f) (settings_result_by_phase (with_offset t c.media) a f c) a f c
+offset_result t a f c =
+    unless_refused (offset_refusal a f) (settings_result_by_phase (with_offset t c.media) a f c) a f
+    c
 
 -- appendWindowStart, on setting: neither negative nor at or after the end of the window
 abbrev pub window_start_refusal : ℤ → Feed → Content → Option Name
@@ -91,7 +97,9 @@ window_start_refusal t f c =
     else None)
 
 abbrev pub window_start_result : ℤ → Surroundings → Feed → Content → CallResult
-window_start_result t a f c = unless_refused (window_start_refusal t f c) (settings_result false (with_window_start t c.media) a f c) a f c
+window_start_result t a f c =
+    unless_refused (window_start_refusal t f c)
+    (settings_result false (with_window_start t c.media) a f c) a f c
 
 -- appendWindowEnd, on setting: a number, and after the start of the window
 abbrev pub window_end_refusal : Moment → Feed → Content → Option Name
@@ -101,7 +109,9 @@ window_end_refusal t f c =
     else None)
 
 abbrev pub window_end_result : Moment → Surroundings → Feed → Content → CallResult
-window_end_result t a f c = unless_refused (window_end_refusal t f c) (settings_result false (with_window_end t c.media) a f c) a f c
+window_end_result t a f c =
+    unless_refused (window_end_refusal t f c)
+    (settings_result false (with_window_end t c.media) a f c) a f c
 
 -- ---- removal
 
@@ -115,29 +125,40 @@ remove_refusal start end a f =
     else None)))
 
 abbrev pub remove_result : ℤ → Moment → Surroundings → Feed → Content → CallResult
-remove_result start end a f c = unless_refused (remove_refusal start end a f) (result_with (event_reply (reopens a.ready) a.duration (UpdateStart ∷ [])) (feed_running (Removal start end) f) c) a f c
+remove_result start end a f c =
+    unless_refused (remove_refusal start end a f)
+    (result_with (event_reply (reopens a.ready) a.duration (UpdateStart ∷ []))
+    (feed_running (Removal start end) f) c)
+    a f c
 
 -- ---- appends
 
 -- the buffer full flag: the stored frames fill the quota, or the string would not be shorter than 2 ^ 62 bytes
 abbrev pub is_full : List ℕ → ℕ → Feed → Media → Bool
-is_full bytes quota f m = nat_le quota (used_in m) || nat_le (2 ^ 62) (length f.reading.whole + length bytes)
+is_full bytes quota f m =
+    nat_le quota (used_in m) || nat_le (2 ^ 62) (length f.reading.whole + length bytes)
 
 abbrev pub append_result_by_room : List ℕ → ℕ → Surroundings → Feed → Content → CallResult
 append_result_by_room bytes quota a f c =
     if is_full bytes quota f c.media then refused_result QuotaExceeded (reopens a.ready) a f c
-    else result_with (event_reply (reopens a.ready) a.duration (UpdateStart ∷ [])) (feed_with bytes f) c
+    else result_with (event_reply (reopens a.ready) a.duration (UpdateStart ∷ []))
+    (feed_with bytes f) c
 
 -- the prepare append algorithm (3.5.4): coded frame eviction comes before the quota is looked at
-abbrev pub append_result_after_eviction : List ℕ → ℤ → ℕ → Surroundings → Feed → Content → CallResult
-append_result_after_eviction bytes position quota a f c = append_result_by_room bytes quota a f (with_media (media_after_eviction position (length bytes) quota a.duration c.media) c)
+abbrev pub append_result_after_eviction : List ℕ → ℤ → ℕ → Surroundings → Feed → Content
+    → CallResult
+append_result_after_eviction bytes position quota a f c =
+    append_result_by_room bytes quota a f
+    (with_media (media_after_eviction position (length bytes) quota a.duration c.media) c)
 
 -- appendBuffer: for the quota it is refused behind the eviction alone
 abbrev pub append_refusal : Surroundings → Feed → Option Name
 append_refusal a f = if is_updating f.running || a.error then Some InvalidState else None
 
 abbrev pub append_result : List ℕ → ℤ → ℕ → Surroundings → Feed → Content → CallResult
-append_result bytes position quota a f c = unless_refused (append_refusal a f) (append_result_after_eviction bytes position quota a f c) a f c
+append_result bytes position quota a f c =
+    unless_refused (append_refusal a f) (append_result_after_eviction bytes position quota a f c) a
+    f c
 
 -- ---- resets of the parser
 
@@ -148,7 +169,10 @@ abort_events false = []
 
 -- abort: the frames that are ready are processed in the append window as it was, and the window is reset last
 abbrev pub abort_result_after_flush : FlushResult → Surroundings → Feed → Content → CallResult
-abort_result_after_flush done a f c = result_with (events_first_reply (abort_events (is_appending f.running)) done.effect) (new_feed f.reading.container c.latest) (with_media (with_whole_window (media_after_reset done.media)) c)
+abort_result_after_flush done a f c =
+    result_with (events_first_reply (abort_events (is_appending f.running)) done.effect)
+    (new_feed f.reading.container c.latest)
+    (with_media (with_whole_window (media_after_reset done.media)) c)
 
 abbrev pub abort_refusal : Surroundings → Feed → Option Name
 abort_refusal a f =
@@ -157,25 +181,38 @@ abort_refusal a f =
     else None)
 
 abbrev pub abort_result : Surroundings → Feed → Content → CallResult
-abort_result a f c = unless_refused (abort_refusal a f) (abort_result_after_flush (flush_result (ready_in f) c.media a.duration) a f c) a f c
+abort_result a f c =
+    unless_refused (abort_refusal a f)
+    (abort_result_after_flush (flush_result (ready_in f) c.media a.duration) a f c) a f c
 
 -- changeType: the parser is reset, the presentation is forgotten, and the next initialization segment may have other
 -- codecs
 abbrev pub change_type_result_after_flush : Container → FlushResult → Surroundings → CallResult
-change_type_result_after_flush container done a = result_with (effect_reply (reopens a.ready) done.effect []) (new_feed container None) (record { media = with_container (generates_timestamps container) (media_after_reset done.media); latest = None })
+change_type_result_after_flush container done a =
+    result_with (effect_reply (reopens a.ready) done.effect []) (new_feed container None)
+    (record {
+      media = with_container (generates_timestamps container) (media_after_reset done.media);
+      latest = None;
+    })
 
 abbrev pub change_type_refusal_by_answer : TypeAnswer → Feed → Option Name
 change_type_refusal_by_answer Empty f = Some TypeError
-change_type_refusal_by_answer Unsupported f = if is_updating f.running then Some InvalidState else Some NotSupported
-change_type_refusal_by_answer (Supported container) f = if is_updating f.running then Some InvalidState else None
+change_type_refusal_by_answer Unsupported f =
+    if is_updating f.running then Some InvalidState else Some NotSupported
+change_type_refusal_by_answer (Supported container) f =
+    if is_updating f.running then Some InvalidState else None
 
 abbrev pub change_type_refusal : List ℕ → Feed → Option Name
 change_type_refusal text f = change_type_refusal_by_answer (type_of text) f
 
 abbrev pub change_type_result_by_answer : TypeAnswer → Surroundings → Feed → Content → CallResult
 change_type_result_by_answer Empty a f c = refused_result TypeError false a f c
-change_type_result_by_answer Unsupported a f c = if is_updating f.running then refused_result InvalidState false a f c else refused_result NotSupported false a f c
-change_type_result_by_answer (Supported container) a f c = if is_updating f.running then refused_result InvalidState false a f c else change_type_result_after_flush container (flush_result (ready_in f) c.media a.duration) a
+change_type_result_by_answer Unsupported a f c =
+    if is_updating f.running then refused_result InvalidState false a f c
+    else refused_result NotSupported false a f c
+change_type_result_by_answer (Supported container) a f c =
+    if is_updating f.running then refused_result InvalidState false a f c
+    else change_type_result_after_flush container (flush_result (ready_in f) c.media a.duration) a
 
 abbrev pub change_type_result : List ℕ → Surroundings → Feed → Content → CallResult
 change_type_result text a f c = change_type_result_by_answer (type_of text) a f c
@@ -183,7 +220,9 @@ change_type_result text a f c = change_type_result_by_answer (type_of text) a f 
 -- ---- the end of running work (2.2, removeSourceBuffer, step 2)
 
 abbrev pub end_work_result : Surroundings → Feed → Content → CallResult
-end_work_result a f c = result_with (event_reply false a.duration (abort_events (is_updating f.running))) (idle_feed f) c
+end_work_result a f c =
+    result_with (event_reply false a.duration (abort_events (is_updating f.running))) (idle_feed f)
+    c
 
 -- ---- what a view shows
 

@@ -130,4 +130,10 @@ fault_missing (Media f) = no_box
 
 -- a fault of the buffer of a number, at a place of its string
 abbrev pub fault_view : Fault → ℕ → ℕ → FaultView
-fault_view f buffer offset = record { number = fault_number f; inner = fault_inner f; missing = fault_missing f; buffer = buffer; offset = offset }
+fault_view f buffer offset = record {
+  number = fault_number f;
+  inner = fault_inner f;
+  missing = fault_missing f;
+  buffer = buffer;
+  offset = offset;
+}

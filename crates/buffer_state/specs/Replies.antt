@@ -36,11 +36,31 @@ reopens Ended = true
 
 -- a refusal by a name; nothing comes of the call but that the source was opened again before it
 abbrev pub refusal : Name → Bool → Moment → Reply
-refusal name reopened duration = record { refused = Some name; reopened = reopened; events_first = false; duration_changes = 0; duration = duration; activated = false; received_init = false; fault = None; events = [] }
+refusal name reopened duration = record {
+  refused = Some name;
+  reopened = reopened;
+  events_first = false;
+  duration_changes = 0;
+  duration = duration;
+  activated = false;
+  received_init = false;
+  fault = None;
+  events = [];
+}
 
 -- what comes of a call or a turn at the source, and behind it the events at the buffer
 abbrev pub effect_reply : Bool → SourceEffect → List EventKind → Reply
-effect_reply reopened e events = record { refused = None; reopened = reopened; events_first = false; duration_changes = e.duration_changes; duration = e.duration; activated = e.activated; received_init = e.received_init; fault = None; events = events }
+effect_reply reopened e events = record {
+  refused = None;
+  reopened = reopened;
+  events_first = false;
+  duration_changes = e.duration_changes;
+  duration = e.duration;
+  activated = e.activated;
+  received_init = e.received_init;
+  fault = None;
+  events = events;
+}
 
 -- events at the buffer alone
 abbrev pub event_reply : Bool → Moment → List EventKind → Reply
@@ -55,7 +75,11 @@ abbrev pub error_reply : FaultView → SourceEffect → Reply
 error_reply fault e = record (effect_reply false e (Error ∷ UpdateEnd ∷ [])) { fault = Some fault }
 
 abbrev pub refused_result : Name → Bool → Surroundings → Feed → Content → CallResult
-refused_result name reopened a f c = record { reply = refusal name reopened a.duration; feed = f; content = c }
+refused_result name reopened a f c = record {
+  reply = refusal name reopened a.duration;
+  feed = f;
+  content = c;
+}
 
 abbrev pub result_with : Reply → Feed → Content → CallResult
 result_with reply f c = record { reply = reply; feed = f; content = c }
@@ -69,23 +93,33 @@ pub record IsResult (reply : Reply) (k : Kept) (result : CallResult) : Type 0 wh
 
 -- a call answers a reply and leaves what is kept, for every feed and content that was stood for
 abbrev pub Answers : Kept → Reply → Kept → (Feed → Content → CallResult) → Type 0
-Answers old reply new call = (f : Feed) (c : Content) → Stands old f c → IsResult reply new (call f c)
+Answers old reply new call =
+    (f : Feed) (c : Content) → Stands old f c → IsResult reply new (call f c)
 
 -- the same of a call that answers one where there is memory
-abbrev pub AnswersIfOk : {E : Type 0} → Kept → Result Reply E → Kept → (Feed → Content → CallResult) → Type 0
-AnswersIfOk old result new call = (f : Feed) (c : Content) → Stands old f c → IfOk result (λ reply. IsResult reply new (call f c))
+abbrev pub AnswersIfOk : {E : Type 0} → Kept → Result Reply E → Kept → (Feed → Content → CallResult)
+    → Type 0
+AnswersIfOk old result new call =
+    (f : Feed) (c : Content) → Stands old f c → IfOk result (λ reply. IsResult reply new (call f c))
 
 -- the names are those by which a call is refused before anything comes of it
-abbrev pub TellsRefusals : (Surroundings → Feed → Content → Option Name) → (Surroundings → Feed → Content → CallResult) → Type 0
-TellsRefusals refusal call = (a : Surroundings) (f : Feed) (c : Content) (name : Name) → (refusal a f c ≡ Some name → call a f c ≡ refused_result name false a f c) × (call a f c ≡ refused_result name false a f c → refusal a f c ≡ Some name)
+abbrev pub TellsRefusals : (Surroundings → Feed → Content → Option Name)
+    → (Surroundings → Feed → Content → CallResult) → Type 0
+TellsRefusals refusal call =
+    (a : Surroundings) (f : Feed) (c : Content) (name : Name)
+    → (refusal a f c ≡ Some name → call a f c ≡ refused_result name false a f c)
+    × (call a f c ≡ refused_result name false a f c → refusal a f c ≡ Some name)
 
 -- where each stored frame ended within the duration, each does so within the duration that is replied
 abbrev pub StaysWithin : Moment → Media → Reply → Media → Type 0
-StaysWithin duration old reply new = EndsWithin duration old.tracks → EndsWithin reply.duration new.tracks
+StaysWithin duration old reply new =
+    EndsWithin duration old.tracks → EndsWithin reply.duration new.tracks
 
 -- where an initialization segment was received, the buffered ranges are as before; there are none where it was the first
 abbrev pub LeavesRanges : Media → Reply → Media → Type 0
-LeavesRanges old reply new = reply.received_init ≡ true → (ended : Bool) → buffered_of ended new ≡ (if reply.activated then [] else buffered_of ended old)
+LeavesRanges old reply new =
+    reply.received_init ≡ true → (ended : Bool)
+    → buffered_of ended new ≡ (if reply.activated then [] else buffered_of ended old)
 
 -- something ran, or nothing did
 abbrev pub IsTurn : Turned → Kept → Option CallResult → Type 0

@@ -33,7 +33,12 @@ pub record Surroundings : Type 0 where
   pub duration : Moment
 
 abbrev pub surroundings : Around → Surroundings
-surroundings a = record { number = a.number; ready = a.ready; error = a.error; duration = a.duration }
+surroundings a = record {
+  number = a.number;
+  ready = a.ready;
+  error = a.error;
+  duration = a.duration;
+}
 
 -- ---- what the code keeps
 

@@ -21,7 +21,9 @@ use Rattle.buffer_state.specs.Turns.{ItemResult, Done, AppendError, item_result,
 -- the media is ready for the item: an initialization segment is not refused, and there is room for what it stores
 abbrev pub IsReadyFor : Option ByteItem → MediaView → Type 0
 IsReadyFor None m = Unit {0}
-IsReadyFor (Some (InitItem p at)) m = (init_fault p m.media ≡ None) × (awaits_first m.media ≡ true → length (media_tracks p) ≤ m.places)
+IsReadyFor (Some (InitItem p at)) m =
+    (init_fault p m.media ≡ None)
+    × (awaits_first m.media ≡ true → length (media_tracks p) ≤ m.places)
 IsReadyFor (Some (FrameItem f at)) m = 1 ≤ m.room
 IsReadyFor (Some SegmentEnd) m = Unit {0}
 IsReadyFor (Some (FaultItem f at)) m = Unit {0}
@@ -57,7 +59,10 @@ content_at m latest c (effects.AppendError fault e) = record { media = m; latest
 abbrev pub IsRefused : ItemEffect → Option ByteItem → Media → Moment → Type 0
 IsRefused step.NoItem o m d = ⊥
 IsRefused (step.Done e) o m d = ⊥
-IsRefused (step.AppendError fault at e) o m d = (latest : Option Presentation) → item_stepped o (record { media = m; latest = latest }) d ≡ Took (AppendError fault at (record { media = m; latest = latest }) e)
+IsRefused (step.AppendError fault at e) o m d =
+    (latest : Option Presentation)
+    → item_stepped o (record { media = m; latest = latest }) d
+    ≡ Took (AppendError fault at (record { media = m; latest = latest }) e)
 
 -- the item is refused, or the media is ready for it
 abbrev pub IsPrepared : Option ItemEffect → Option ByteItem → MediaView → Moment → Type 0

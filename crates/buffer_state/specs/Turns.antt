@@ -28,7 +28,8 @@ pub data ItemResult : Type 0 where
 -- presentation. One that is refused was not taken, so that it leaves the presentation from before.
 abbrev pub media_item_result : media.MediaResult → ℕ → Option Presentation → Content → ItemResult
 media_item_result (media.Done m e) at latest c = Done (record { media = m; latest = latest }) e
-media_item_result (media.AppendError fault m e) at latest c = AppendError (Media fault) at (record { media = m; latest = c.latest }) e
+media_item_result (media.AppendError fault m e) at latest c =
+    AppendError (Media fault) at (record { media = m; latest = c.latest }) e
 
 -- What an item does to the content, where the duration is d (Media Source Extensions, 3.5.1, segment parser loop, steps
 -- 5.2 and 6.2). It sees neither the string, nor the count, nor what runs.
@@ -43,12 +44,16 @@ abbrev pub content_after_error : Content → Content
 content_after_error c = record { media = media_after_reset c.media; latest = c.latest }
 
 -- the append error (3.5.3): the parser is reset, and the append has ended
-abbrev pub append_error_result : Fault → ℕ → SourceEffect → Surroundings → Feed → Content → CallResult
-append_error_result fault at e a f c = result_with (error_reply (fault_view fault a.number at) e) (new_feed f.reading.container c.latest) (content_after_error c)
+abbrev pub append_error_result : Fault → ℕ → SourceEffect → Surroundings → Feed → Content
+    → CallResult
+append_error_result fault at e a f c =
+    result_with (error_reply (fault_view fault a.number at) e)
+    (new_feed f.reading.container c.latest) (content_after_error c)
 
 -- the end of work (3.5.5, buffer append, and 3.5.6, range removal, last steps)
 abbrev pub last_turn_result : Surroundings → Feed → Content → CallResult
-last_turn_result a f c = result_with (event_reply false a.duration (Update ∷ UpdateEnd ∷ [])) (idle_feed f) c
+last_turn_result a f c =
+    result_with (event_reply false a.duration (Update ∷ UpdateEnd ∷ [])) (idle_feed f) c
 
 abbrev pub item_turn_result : ItemResult → Surroundings → Feed → CallResult
 item_turn_result (Done c e) a f = result_with (effect_reply false e []) (feed_after_item f) c
@@ -61,7 +66,9 @@ append_turn_result (Some item) a f c = item_turn_result (item_result item c a.du
 
 -- a removal, in one step (Media Source Extensions, 3.5.6, range removal, steps 6 to 9)
 abbrev pub removal_turn_result : ℤ → Moment → Surroundings → Feed → Content → CallResult
-removal_turn_result start end a f c = last_turn_result a f (record { media = media_after_removal start end a.duration c.media; latest = c.latest })
+removal_turn_result start end a f c =
+    last_turn_result a f
+    (record { media = media_after_removal start end a.duration c.media; latest = c.latest })
 
 abbrev pub turn_result_by_work : Running → Surroundings → Feed → Content → Option CallResult
 turn_result_by_work Nothing a f c = None

@@ -76,7 +76,12 @@ latest_at r = latest_after_all r.before (take r.taken (items_in r))
 
 -- the empty string, with what presentation a reset left
 abbrev pub reading_from : Container → Option Presentation → Reading
-reading_from container before = record { container = container; before = before; whole = []; taken = 0 }
+reading_from container before = record {
+  container = container;
+  before = before;
+  whole = [];
+  taken = 0;
+}
 
 -- the empty string, with no presentation from before
 abbrev pub new_reading : Container → Reading
@@ -88,7 +93,12 @@ with_bytes bytes r = record { container = r.container; before = r.before; whole 
 
 -- the next item was asked for, and this was given
 abbrev pub after_answer : Option ByteItem → Reading → Reading
-after_answer item r = record { container = r.container; before = r.before; whole = r.whole; taken = count_after r.taken item }
+after_answer item r = record {
+  container = r.container;
+  before = r.before;
+  whole = r.whole;
+  taken = count_after r.taken item;
+}
 
 -- the parser state was reset: the presentation stays
 abbrev pub after_reset : Reading → Reading

@@ -102,8 +102,16 @@ seen next.Dry = None
 
 -- what is seen of the parser of either container
 abbrev pub stream_view : Parser → StreamView
-stream_view (parser.Segments s) = record { parser = OfSegments s.kept; fed = s.fed; offered = s.offered }
-stream_view (parser.Frames s) = record { parser = OfFrames s.state; fed = s.fed; offered = s.offered }
+stream_view (parser.Segments s) = record {
+  parser = OfSegments s.kept;
+  fed = s.fed;
+  offered = s.offered;
+}
+stream_view (parser.Frames s) = record {
+  parser = OfFrames s.state;
+  fed = s.fed;
+  offered = s.offered;
+}
 
 abbrev pub offered_len : Option (List ℕ) → ℕ
 offered_len None = 0

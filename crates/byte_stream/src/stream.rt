@@ -140,6 +140,7 @@ impl ByteStream {
     pub fn stands(&self)
         ensures { StandsForSome self.now }
     {
+        // The proof reads off this what always holds of the fields.
         let _parser = &self.parser;
     }
 

@@ -26,11 +26,15 @@ abbrev pub single_targets : List Target
 single_targets = Source ∷ SourceBuffers ∷ ActiveSourceBuffers ∷ Element ∷ []
 
 abbrev pub event_at : Target → List ℕ → Option Event
-event_at target text = option_map (λ kind. record { target = target; kind = kind }) (named kind_text (kinds_at target) text)
+event_at target text =
+    option_map (λ kind. record { target = target; kind = kind })
+    (named kind_text (kinds_at target) text)
 
 -- a buffer's number, and an event that is fired at a buffer
 abbrev pub buffer_event : List ℕ → Option Event
-buffer_event text = option_and_then (λ k. option_and_then (event_at (Buffer k)) (after_word text)) (index_of (first_word text))
+buffer_event text =
+    option_and_then (λ k. option_and_then (event_at (Buffer k)) (after_word text))
+    (index_of (first_word text))
 
 abbrev pub event_with : List ℕ → List ℕ → Option Event
 event_with word text =

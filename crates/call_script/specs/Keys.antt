@@ -19,7 +19,8 @@ key_name Rules = codes "rules"
 
 abbrev pub is_script_key : List ℕ → Bool
 is_script_key text =
-    list_any (λ key. bytes_eq text (key_name key)) (Quota ∷ Drain ∷ Gap ∷ Blobs ∷ Steps ∷ Rules ∷ [])
+    list_any (λ key. bytes_eq text (key_name key))
+    (Quota ∷ Drain ∷ Gap ∷ Blobs ∷ Steps ∷ Rules ∷ [])
 
 abbrev pub rule_key_name : RuleKey → List ℕ
 rule_key_name Listener = codes "listener"
@@ -30,7 +31,8 @@ rule_key_name Calls = codes "calls"
 
 abbrev pub is_rule_key : List ℕ → Bool
 is_rule_key text =
-    list_any (λ key. bytes_eq text (rule_key_name key)) (Listener ∷ On ∷ Times ∷ Repeat ∷ Calls ∷ [])
+    list_any (λ key. bytes_eq text (rule_key_name key))
+    (Listener ∷ On ∷ Times ∷ Repeat ∷ Calls ∷ [])
 
 abbrev pub keys_of : Members → List (List ℕ)
 keys_of no_members = []

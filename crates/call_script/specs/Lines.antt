@@ -23,7 +23,8 @@ both (Some x) None = None
 both (Some x) (Some y) = Some (x, y)
 
 -- two arguments: the first word, and what stands behind it
-abbrev pub pair : {A B : Type 0} → (List ℕ → Option A) → (List ℕ → Option B) → List ℕ → Option (A × B)
+abbrev pub pair : {A B : Type 0} → (List ℕ → Option A) → (List ℕ → Option B) → List ℕ
+    → Option (A × B)
 pair first second text = both (first (first_word text)) (option_and_then second (after_word text))
 
 -- The kinds of arguments. A number is `index_of`, a time is `time_of`.
@@ -39,7 +40,8 @@ piece_with blob (Some text) =
 
 -- a blob, and where more follows the first byte and the length of the part
 unfoldable pub piece_of : List ℕ → Option Piece
-piece_of text = option_and_then (λ blob. piece_with blob (after_word text)) (index_of (first_word text))
+piece_of text =
+    option_and_then (λ blob. piece_with blob (after_word text)) (index_of (first_word text))
 
 -- the type is all that stands behind the space; no space is the empty type
 abbrev pub type_of : Option (List ℕ) → Option (List ℕ)
@@ -57,7 +59,8 @@ one first make rest = option_map make (option_and_then first rest)
 
 abbrev pub two : {A B : Type 0} → (List ℕ → Option A) → (List ℕ → Option B) → (A → B → Call)
     → Option (List ℕ) → Option Call
-two first second make rest = option_map (λ p. make p.0 p.1) (option_and_then (pair first second) rest)
+two first second make rest =
+    option_map (λ p. make p.0 p.1) (option_and_then (pair first second) rest)
 
 abbrev pub typed : (List ℕ → Call) → Option (List ℕ) → Option Call
 typed make rest = option_map make (type_of rest)
@@ -104,7 +107,8 @@ abbrev pub is_printable : ℕ → Bool
 is_printable byte = nat_le 32 byte && nat_le byte 126
 
 abbrev pub call_in : List ℕ → Option Call
-call_in line = option_and_then (λ word. call_with word (after_word line)) (call_word_of (first_word line))
+call_in line =
+    option_and_then (λ word. call_with word (after_word line)) (call_word_of (first_word line))
 
 -- the call of a call line
 unfoldable pub call_of_line : List ℕ → Option Call

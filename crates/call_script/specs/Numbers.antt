@@ -5,7 +5,8 @@ use Rattle.std.specs.Str.Parse.{digits_value}
 
 -- digits of which the first is not 0, or just 0
 abbrev pub is_number : List ℕ → Bool
-is_number text = bytes_eq text (codes "0") || (nat_lt 48 (slice_index text 0) && all_ascii_digits text)
+is_number text =
+    bytes_eq text (codes "0") || (nat_lt 48 (slice_index text 0) && all_ascii_digits text)
 
 abbrev pub number_of : List ℕ → Option ℕ
 number_of text = if is_number text then Some (digits_value 10 text) else None

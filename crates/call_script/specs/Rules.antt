@@ -45,7 +45,8 @@ unfoldable pub calls_of : Option Data → Option (List Call)
 calls_of None = None
 calls_of (Some value) = option_and_then some_calls (as_array value)
 
-abbrev pub rule_from : Option ℕ → Option Event → Option ℕ → Option Bool → Option (List Call) → Option Rule
+abbrev pub rule_from : Option ℕ → Option Event → Option ℕ → Option Bool → Option (List Call)
+    → Option Rule
 rule_from (Some listener) (Some on) (Some times) (Some repeat) (Some calls) =
     Some (record { listener = listener; on = on; times = times; repeat = repeat; calls = calls })
 rule_from (Some listener) (Some on) (Some times) (Some repeat) None = None

@@ -21,7 +21,8 @@ use Rattle.call_script.specs.Rules.{rule_of}
 
 -- one thing after the other, up to the first fault
 infixl 10 ◌>>=◌
-abbrev pub ◌>>=◌ : {A B : Type 0} → Result A ScriptFault → (A → Result B ScriptFault) → Result B ScriptFault
+abbrev pub ◌>>=◌ : {A B : Type 0} → Result A ScriptFault → (A → Result B ScriptFault)
+    → Result B ScriptFault
 Ok x >>= f = f x
 Err fault >>= f = Err fault
 
@@ -68,10 +69,12 @@ numbered fault (Ok x) = Ok x
 numbered fault (Err n) = Err (fault n)
 
 unfoldable pub blobs_of : Items → Result (List BlobText) ScriptFault
-blobs_of items = numbered (λ n. Blob n) (members_of (λ value. option_and_then blob_of (as_str value)) items)
+blobs_of items =
+    numbered (λ n. Blob n) (members_of (λ value. option_and_then blob_of (as_str value)) items)
 
 unfoldable pub steps_of : Items → Result (List StepLine) ScriptFault
-steps_of items = numbered (λ n. Step n) (members_of (λ value. option_and_then step_of_line (as_str value)) items)
+steps_of items =
+    numbered (λ n. Step n) (members_of (λ value. option_and_then step_of_line (as_str value)) items)
 
 unfoldable pub rules_of : Items → Result (List of_rules.Rule) ScriptFault
 rules_of items = numbered (λ n. Rule n) (members_of rule_of items)
@@ -92,7 +95,15 @@ script_of members = do
   blob_texts ← blobs_of blobs
   step_lines ← steps_of steps
   listener_rules ← rules_of rules
-  Ok (record { quota = quota; drain = drain; gap = gap; blobs = blob_texts; steps = step_lines; rules = listener_rules })
+  Ok
+      (record {
+        quota = quota;
+        drain = drain;
+        gap = gap;
+        blobs = blob_texts;
+        steps = step_lines;
+        rules = listener_rules;
+      })
 
 abbrev pub document_of : Option Members → Result Script ScriptFault
 document_of None = Err NotToml

@@ -28,11 +28,14 @@ pub fn has_rule_keys(table: &Table) -> bool
     table.keys().all(|key| is_rule_key(key.as_str()))
 }
 
-/// The numbers that may stand at a key, and the one that is meant where the key is not there.
+/// The numbers that may stand at a key, in the unit of that key.
 #[derive(Clone, Copy)]
 pub struct Setting {
+    /// The number that is meant where the key is not there.
     pub default: u64,
+    /// The least number that may stand there.
     pub least: u64,
+    /// The greatest number that may stand there.
     pub most: u64,
 }
 

@@ -18,7 +18,8 @@ extent_of (Some part) bytes = part
 abbrev pub AreParts : ℕ → List ℕ → ℕ → ℕ → List Piece → Type 0
 AreParts blob bytes start total [] = total ≡ 0
 AreParts blob bytes start total (piece ∷ pieces) =
-    (len : ℕ) × (others : ℕ) × (piece.blob ≡ blob) × (extent_of piece.part bytes ≡ (start, len)) × (total ≡ len + others)
+    (len : ℕ) × (others : ℕ) × (piece.blob ≡ blob) × (extent_of piece.part bytes ≡ (start, len))
+    × (total ≡ len + others)
     × AreParts blob bytes (start + len) others pieces
 
 -- an append and the drain behind it
@@ -50,7 +51,8 @@ pub record Cut (blobs : List (List ℕ)) (s t : List StepLine) : Type 0 where
   pub cut : t ≡ front ++ (part_lines buffer (first ∷ others) ++ back)
 
 -- the lines up to the part at which one stops: the first part, and others behind it
-abbrev pub stopped_lines : {blobs : List (List ℕ)} {s t : List StepLine} → Cut blobs s t → List Piece → List StepLine
+abbrev pub stopped_lines : {blobs : List (List ℕ)} {s t : List StepLine} → Cut blobs s t
+    → List Piece → List StepLine
 stopped_lines c others = c.front ++ part_lines c.buffer (c.first ∷ others)
 
 -- no append and no removal runs behind these lines
@@ -58,6 +60,8 @@ abbrev pub IsAwaited : List (List ℕ) → State → List StepLine → Type 0
 IsAwaited blobs st front = running_in (play_of blobs st front) ≡ None
 
 -- one cut of an awaited append after another, from a script to another, through scripts that do not meet the quota
-abbrev pub AreCuts : List (List ℕ) → State → List StepLine → List (List StepLine) → List StepLine → Type 0
+abbrev pub AreCuts : List (List ℕ) → State → List StepLine → List (List StepLine) → List StepLine
+    → Type 0
 AreCuts blobs st s [] u = s ≡ u
-AreCuts blobs st s (t ∷ ts) u = (c : Cut blobs s t) × IsAwaited blobs st c.front × IsUnmet blobs st t × AreCuts blobs st t ts u
+AreCuts blobs st s (t ∷ ts) u =
+    (c : Cut blobs s t) × IsAwaited blobs st c.front × IsUnmet blobs st t × AreCuts blobs st t ts u

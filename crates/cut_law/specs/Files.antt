@@ -10,7 +10,8 @@ use Rattle.cut_law.specs.Room.{HasRoom}
 
 -- a piece is appended to the buffer of a number, and drained
 abbrev pub after_piece : List (List ℕ) → ℕ → State → Piece → State
-after_piece blobs k st piece = after_line blobs (after_line blobs st (Call (AppendBuffer k piece))) Drain
+after_piece blobs k st piece =
+    after_line blobs (after_line blobs st (Call (AppendBuffer k piece))) Drain
 
 -- behind a fault nothing is done
 abbrev pub unless_fault : {A : Type 0} → Option FaultView → A → A → A
@@ -20,7 +21,9 @@ unless_fault (Some fault) stopped next = stopped
 -- one piece after another
 abbrev pub after_pieces : List (List ℕ) → ℕ → State → List Piece → State
 after_pieces blobs k st [] = st
-after_pieces blobs k st (piece ∷ pieces) = unless_fault st.core.source.fault st (after_pieces blobs k (after_piece blobs k st piece) pieces)
+after_pieces blobs k st (piece ∷ pieces) =
+    unless_fault st.core.source.fault st
+    (after_pieces blobs k (after_piece blobs k st piece) pieces)
 
 abbrev pub UnlessFault : Option FaultView → Type 0 → Type 0
 UnlessFault None P = P
@@ -29,4 +32,7 @@ UnlessFault (Some fault) P = Unit {0}
 -- just before each piece that is appended the buffer is not full
 abbrev pub HaveRoom : List (List ℕ) → ℕ → State → List Piece → Type 0
 HaveRoom blobs k st [] = Unit {0}
-HaveRoom blobs k st (piece ∷ pieces) = UnlessFault st.core.source.fault (HasRoom blobs st.core (AppendBuffer k piece) × HaveRoom blobs k (after_piece blobs k st piece) pieces)
+HaveRoom blobs k st (piece ∷ pieces) =
+    UnlessFault st.core.source.fault
+    (HasRoom blobs st.core (AppendBuffer k piece)
+    × HaveRoom blobs k (after_piece blobs k st piece) pieces)

@@ -43,7 +43,9 @@ buffer_outcome k c b = record {
 -- of each buffer in the list of source buffers
 abbrev pub outcome_of : State → Outcome
 outcome_of st = record {
-  buffers = filter_map (λ k. option_map (buffer_outcome k st.core) (in_slot k st.core.buffers)) st.core.source.state.listed;
+  buffers =
+      filter_map (λ k. option_map (buffer_outcome k st.core) (in_slot k st.core.buffers))
+      st.core.source.state.listed;
   duration = st.core.source.state.duration;
   fault = st.core.source.fault;
   buffered = buffered_in (core_view st.core);

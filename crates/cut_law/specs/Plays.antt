@@ -42,7 +42,9 @@ entries_then go blobs st = entries_behind (next_entry st) (λ entry. go (after_e
 -- with at most n steps of work and turns: the events that wait, and then such a step and the same again
 abbrev pub drain_in : ℕ → List (List ℕ) → State → List Entry
 drain_in zero blobs st = []
-drain_in (suc n) blobs st = fired_entries st.outer.queue ++ entries_then (drain_in n blobs) blobs (after_entries blobs st (fired_entries st.outer.queue))
+drain_in (suc n) blobs st =
+    fired_entries st.outer.queue
+    ++ entries_then (drain_in n blobs) blobs (after_entries blobs st (fired_entries st.outer.queue))
 
 unfoldable pub drain_entries : List (List ℕ) → State → List Entry
 drain_entries blobs st = drain_in (suc (steps_left st)) blobs st
@@ -72,7 +74,9 @@ after_line blobs st line = after_entries blobs st (line_entries blobs st line)
 -- the journal of some lines, of which the first has the number n
 abbrev pub play_entries : List (List ℕ) → ℕ → State → List StepLine → List Entry
 play_entries blobs n st [] = []
-play_entries blobs n st (line ∷ lines) = Step n ∷ (line_entries blobs st line ++ play_entries blobs (suc n) (after_line blobs st line) lines)
+play_entries blobs n st (line ∷ lines) =
+    Step n
+    ∷ (line_entries blobs st line ++ play_entries blobs (suc n) (after_line blobs st line) lines)
 
 -- the state that the play comes to
 abbrev pub play_of : List (List ℕ) → State → List StepLine → State

@@ -20,7 +20,8 @@ HasRoomFor (Some bytes) quota None = Unit {0}
 HasRoomFor (Some bytes) quota (Some b) = is_full bytes quota b.feed b.content.media ≡ false
 
 abbrev pub HasRoom : List (List ℕ) → Core → Call → Type 0
-HasRoom blobs c (AppendBuffer k piece) = HasRoomFor (bytes_of blobs piece) c.source.quota (in_slot k c.buffers)
+HasRoom blobs c (AppendBuffer k piece) =
+    HasRoomFor (bytes_of blobs piece) c.source.quota (in_slot k c.buffers)
 HasRoom blobs c other = Unit {0}
 
 -- an entry that is a call, and a line that is one
@@ -36,4 +37,5 @@ LineHasRoom blobs c other = Unit {0}
 -- just before each append of these lines its buffer is not full
 abbrev pub IsUnmet : List (List ℕ) → State → List StepLine → Type 0
 IsUnmet blobs st [] = Unit {0}
-IsUnmet blobs st (line ∷ lines) = LineHasRoom blobs st.core line × IsUnmet blobs (after_line blobs st line) lines
+IsUnmet blobs st (line ∷ lines) =
+    LineHasRoom blobs st.core line × IsUnmet blobs (after_line blobs st line) lines

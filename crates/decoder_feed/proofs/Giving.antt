@@ -50,23 +50,23 @@ serial_at fs n i f place at =
 
 -- ---- one call
 
-abbrev IsLinked : Option ℕ → Stored → Type 0
+abbrev pub IsLinked : Option ℕ → Stored → Type 0
 IsLinked None f = f.frame.sync ≡ true
 IsLinked (Some before) f = f.frame.sync ≡ false
 
 -- nothing is given, and nothing changes
-record IsStill (s : FeederState) (fs : List Stored) (a : FeedNext) : Type 0 where
-  none : frame_given fs a ≡ None
-  same : state_after a s ≡ s
+pub record IsStill (s : FeederState) (fs : List Stored) (a : FeedNext) : Type 0 where
+  pub none : frame_given fs a ≡ None
+  pub same : state_after a s ≡ s
 
 -- the next frame is given
-record IsGiven (s : FeederState) (fs : List Stored) (a : FeedNext) (f : Stored) : Type 0 where
-  given : frame_given fs a ≡ Some f
-  next : s.next ≡ Some f.serial
-  after : state_after a s ≡ record { next = Some (f.serial + 1); given = Some f.serial }
-  linked : IsLinked s.given f
+pub record IsGiven (s : FeederState) (fs : List Stored) (a : FeedNext) (f : Stored) : Type 0 where
+  pub given : frame_given fs a ≡ Some f
+  pub next : s.next ≡ Some f.serial
+  pub after : state_after a s ≡ record { next = Some (f.serial + 1); given = Some f.serial }
+  pub linked : IsLinked s.given f
 
-abbrev Outcome : FeederState → List Stored → FeedNext → Type 0
+abbrev pub Outcome : FeederState → List Stored → FeedNext → Type 0
 Outcome s fs a = IsStill s fs a ⊎ ((f : Stored) × IsGiven s fs a f)
 
 sync_case : (fs : List Stored) (n i : ℕ) (given : Option ℕ) (f : Stored) (b : Bool) → slice_get fs i ≡ Some f → n ≡ f.serial → f.frame.sync ≡ b → Outcome (record { next = Some n; given = given }) fs (answer_with given i b)
@@ -91,7 +91,7 @@ outcome_of : (t : TrackState) (next given : Option ℕ) → Outcome (record { ne
 outcome_of t None given = inl (record { none = refl; same = refl })
 outcome_of t (Some n) given = wait_case t.frames (record { next = Some n; given = given }) (nat_le t.marks.received n) _ (place_case t.frames n given (position (has_serial n) t.frames) refl)
 
-outcome : (s : FeederState) (t : TrackState) → Outcome s t.frames (next_answer s t)
+pub outcome : (s : FeederState) (t : TrackState) → Outcome s t.frames (next_answer s t)
 outcome s t = outcome_of t s.next s.given
 
 -- what is kept stays

@@ -51,7 +51,8 @@ ArePlaces places fs (Some frames) = map (slice_get fs) places ≡ map Some frame
 abbrev pub IsInOrder : Option ℕ → List Stored → Type 0
 IsInOrder before [] = ⊤
 IsInOrder None (f ∷ fs) = (f.frame.sync ≡ true) × IsInOrder (Some f.serial) fs
-IsInOrder (Some before) (f ∷ fs) = (f.frame.sync ≡ false) × (before + 1 ≡ f.serial) × IsInOrder (Some f.serial) fs
+IsInOrder (Some before) (f ∷ fs) =
+    (f.frame.sync ≡ false) × (before + 1 ≡ f.serial) × IsInOrder (Some f.serial) fs
 
 -- the frame is the last of a list
 abbrev pub IsLastOf : Stored → List Stored → Type 0

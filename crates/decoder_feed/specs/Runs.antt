@@ -21,7 +21,9 @@ with_first (Some f) fs = f ∷ fs
 -- the frames that a feeder gives which is asked for the next one at each of some states of a track
 abbrev pub frames_given : FeederState → List TrackState → List Stored
 frames_given s [] = []
-frames_given s (t ∷ ts) = with_first (frame_given t.frames (next_answer s t)) (frames_given (state_after (next_answer s t) s) ts)
+frames_given s (t ∷ ts) =
+    with_first (frame_given t.frames (next_answer s t))
+    (frames_given (state_after (next_answer s t) s) ts)
 
 -- the frame that comes next is the one after the last given
 abbrev pub IsAfterGiven : Option ℕ → Option ℕ → Type 0

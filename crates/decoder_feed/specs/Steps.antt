@@ -47,7 +47,8 @@ answer_at given fs (Some place) = answer_of given place (slice_get fs place)
 abbrev pub answer_to : TrackState → Option ℕ → Option ℕ → FeedNext
 answer_to t given None = Idle
 answer_to t given (Some serial) =
-    if nat_le t.marks.received serial then Wait else answer_at given t.frames (position (has_serial serial) t.frames)
+    if nat_le t.marks.received serial then Wait
+    else answer_at given t.frames (position (has_serial serial) t.frames)
 
 -- what a feeder that is asked for the next frame answers
 abbrev pub next_answer : FeederState → TrackState → FeedNext
@@ -55,7 +56,10 @@ next_answer s t = answer_to t s.given s.next
 
 -- what a feeder keeps after an answer: only a frame that was given changes it
 abbrev pub state_after : FeedNext → FeederState → FeederState
-state_after (Frame place) s = record { next = option_map (λ serial. serial + 1) s.next; given = s.next }
+state_after (Frame place) s = record {
+  next = option_map (λ serial. serial + 1) s.next;
+  given = s.next;
+}
 state_after Idle s = s
 state_after Wait s = s
 state_after Lost s = s

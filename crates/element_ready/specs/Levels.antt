@@ -11,7 +11,8 @@ use Rattle.mse_calls.specs.declared.answers.Level.TheVariants.{Metadata, Current
 
 -- the range goes on for 3 seconds or more from the position, or ends at the duration
 abbrev pub lasts : Span → ℤ → Moment → Bool
-lasts range position duration = int_le (pos (3 * SECOND)) (range.end -ℤ position) || same_moment (At range.end) duration
+lasts range position duration =
+    int_le (pos (3 * SECOND)) (range.end -ℤ position) || same_moment (At range.end) duration
 
 -- the level, by the buffered range that has the position or ends at it, if there is one
 abbrev pub level_at : Option Span → ℤ → Moment → Level

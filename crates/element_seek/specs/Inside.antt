@@ -13,7 +13,8 @@ IsInside duration t = (pos 0 ≤ℤ t) × (is_after t duration ≡ false)
 -- the span, if there is one, does not end before it starts, and lies inside
 abbrev pub LiesInside : Moment → Option Span → Type 0
 LiesInside duration None = Unit {0}
-LiesInside duration (Some span) = (pos 0 ≤ℤ span.start) × (span.start ≤ℤ span.end) × (is_after span.end duration ≡ false)
+LiesInside duration (Some span) =
+    (pos 0 ≤ℤ span.start) × (span.start ≤ℤ span.end) × (is_after span.end duration ≡ false)
 
 -- the buffered range at the position and what can be sought lie inside
 pub record HasSpansInside (scene : Scene) : Type 0 where
@@ -22,4 +23,5 @@ pub record HasSpansInside (scene : Scene) : Type 0 where
 
 -- a step keeps a position inside that lay there
 abbrev pub StaysInside : Scene → PlayerState → PlayerState → Type 0
-StaysInside scene old new = IsInside scene.duration old.position → IsInside scene.duration new.position
+StaysInside scene old new =
+    IsInside scene.duration old.position → IsInside scene.duration new.position

@@ -27,7 +27,8 @@ nearest_in span t = int_max span.start (int_min t span.end)
 -- a seek of an element that has metadata, with what can be sought: where nothing can, it is over at once
 abbrev pub after_seek_in : Option Span → ℤ → PlayerState → Told
 after_seek_in None t p = telling [] (record p { seeking = false })
-after_seek_in (Some range) t p = telling (Seeking ∷ []) (record p { seeking = true; position = nearest_in range t })
+after_seek_in (Some range) t p =
+    telling (Seeking ∷ []) (record p { seeking = true; position = nearest_in range t })
 
 -- a seek: before there is metadata it sets the default playback start position
 abbrev pub after_seek : ℤ → Scene → PlayerState → Told
@@ -38,9 +39,11 @@ after_seek t scene p =
 -- the element seeks to the default playback start position, which is 0 then, where it is above 0
 abbrev pub after_start : Scene → PlayerState → Told
 after_start scene p =
-    if int_lt (pos 0) p.default_start then after_seek p.default_start scene (record p { default_start = pos 0 })
+    if int_lt (pos 0) p.default_start
+    then after_seek p.default_start scene (record p { default_start = pos 0 })
     else telling [] p
 
 -- the metadata of all source buffers is there (Media Source Extensions, 3.5.7, initialization segment received)
 abbrev pub after_load : Scene → PlayerState → Told
-after_load scene p = then_after (telling (LoadedMetadata ∷ []) (record p { level = Metadata })) (after_start scene)
+after_load scene p =
+    then_after (telling (LoadedMetadata ∷ []) (record p { level = Metadata })) (after_start scene)

@@ -10,16 +10,25 @@ use Rattle.element_seek.specs.State.{PlayerState, Told, telling, has_ended, is_p
 
 -- the level of the position; HAVE_NOTHING stays until the metadata is there
 abbrev pub level_in : Scene → PlayerState → Level
-level_in scene p = if has_metadata p.level then level_at scene.span p.position scene.duration else p.level
+level_in scene p =
+    if has_metadata p.level then level_at scene.span p.position scene.duration else p.level
 
 abbrev pub facts_in : Scene → PlayerState → Facts
-facts_in scene p = record { playing = is_playing scene p; paused = p.paused; first_loaded = p.loaded_before }
+facts_in scene p = record {
+  playing = is_playing scene p;
+  paused = p.paused;
+  first_loaded = p.loaded_before;
+}
 
 -- a new level, with its events; where playback has not ended, its end was not told
 abbrev pub at_level : Level → Scene → PlayerState → Told
 at_level new scene p =
     telling (change_events p.level new (facts_in scene p))
-    (record p { level = new; loaded_before = p.loaded_before || is_first_data p.level new; finished = p.finished && has_ended scene p })
+    (record p {
+      level = new;
+      loaded_before = p.loaded_before || is_first_data p.level new;
+      finished = p.finished && has_ended scene p;
+    })
 
 abbrev pub after_settle : Scene → PlayerState → Told
 after_settle scene p = at_level (level_in scene p) scene p

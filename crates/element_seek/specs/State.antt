@@ -23,7 +23,16 @@ pub record PlayerState : Type 0 where
   pub error : ℕ
 
 abbrev pub new_player : PlayerState
-new_player = record { level = Nothing; loaded_before = false; position = pos 0; default_start = pos 0; paused = true; seeking = false; finished = false; error = 0 }
+new_player = record {
+  level = Nothing;
+  loaded_before = false;
+  position = pos 0;
+  default_start = pos 0;
+  paused = true;
+  seeking = false;
+  finished = false;
+  error = 0;
+}
 
 -- the events at the element, in order, and the state that is left
 abbrev pub Told : Type 0
@@ -38,7 +47,8 @@ then_after first next = telling (first.answer ++ (next first.state).answer) (nex
 
 -- ended playback (HTML, media elements): the metadata is there, the source is ended, and the position is the duration
 abbrev pub has_ended : Scene → PlayerState → Bool
-has_ended scene p = has_metadata p.level && (scene.ended && same_moment (At p.position) scene.duration)
+has_ended scene p =
+    has_metadata p.level && (scene.ended && same_moment (At p.position) scene.duration)
 
 -- the element plays: it is not paused, it has no error, and playback has not ended
 abbrev pub is_playing : Scene → PlayerState → Bool

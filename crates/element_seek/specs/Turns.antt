@@ -28,10 +28,16 @@ abbrev pub end_events : Bool → List EventKind
 end_events paused = TimeUpdate ∷ (if paused then (Ended ∷ []) else (Pause ∷ Ended ∷ []))
 
 abbrev pub seek_turn : PlayerState → Turn
-seek_turn p = record { answer = Some (TimeUpdate ∷ Seeked ∷ []); state = record p { seeking = false } }
+seek_turn p = record {
+  answer = Some (TimeUpdate ∷ Seeked ∷ []);
+  state = record p { seeking = false };
+}
 
 abbrev pub end_turn : PlayerState → Turn
-end_turn p = record { answer = Some (end_events p.paused); state = record p { finished = true; paused = true } }
+end_turn p = record {
+  answer = Some (end_events p.paused);
+  state = record p { finished = true; paused = true };
+}
 
 abbrev pub no_turn : PlayerState → Turn
 no_turn p = record { answer = None; state = p }

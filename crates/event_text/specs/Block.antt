@@ -28,7 +28,8 @@ track_kind_text Other = codes "other"
 
 abbrev pub track_line : ℕ → TrackView → List ℕ
 track_line buffer t =
-    line (codes "track" ∷ decimal buffer ∷ decimal t.id ∷ track_kind_text t.kind ∷ map sign_of t.codec
+    line
+    (codes "track" ∷ decimal buffer ∷ decimal t.id ∷ track_kind_text t.kind ∷ map sign_of t.codec
     ∷ codes "frames" ∷ decimal t.frames ∷ codes "ranges" ∷ ranges_text t.ranges ∷ [])
 
 abbrev pub buffer_line : BufferView → List ℕ

@@ -28,7 +28,8 @@ frames_of (Some t) = t.frames
 -- ascending times with one more, each held once
 abbrev pub with_time : List ℤ → ℤ → List ℤ
 with_time [] t = t ∷ []
-with_time (u ∷ us) t = if int_lt t u then (t ∷ u ∷ us) else (if int_lt u t then (u ∷ with_time us t) else (u ∷ us))
+with_time (u ∷ us) t =
+    if int_lt t u then (t ∷ u ∷ us) else (if int_lt u t then (u ∷ with_time us t) else (u ∷ us))
 
 -- the distinct presentation timestamps of the random access points, ascending
 abbrev pub sync_times : List Stored → List ℤ
@@ -47,7 +48,8 @@ first_of (t ∷ ts) = Some t
 -- from each random access point to the next, and from the last to the duration
 abbrev pub removal_ranges : Moment → List ℤ → List RemovalRange
 removal_ranges duration [] = []
-removal_ranges duration (t ∷ ts) = record { start = t; end = time_or (first_of ts) duration } ∷ removal_ranges duration ts
+removal_ranges duration (t ∷ ts) =
+    record { start = t; end = time_or (first_of ts) duration } ∷ removal_ranges duration ts
 
 -- the range ends at or before the position
 abbrev pub ends_up_to : ℤ → RemovalRange → Bool
@@ -64,7 +66,8 @@ holds r t = int_le r.start t && is_before t r.end
 -- step 3: the removal ranges in the order in which they go. First those that end at or before the current
 -- playback position, from the earliest on, and then those that start after it, from the latest back.
 abbrev pub ranges_in_order : ℤ → List RemovalRange → List RemovalRange
-ranges_in_order position rs = filter (ends_up_to position) rs ++ reverse (filter (starts_after position) rs)
+ranges_in_order position rs =
+    filter (ends_up_to position) rs ++ reverse (filter (starts_after position) rs)
 
 -- the new bytes have room beside those that are stored
 abbrev pub fits : ℕ → ℕ → ℕ → Bool
@@ -74,14 +77,17 @@ abbrev pub has_room : ℕ → ℕ → List TrackState → Bool
 has_room new quota ts = fits (bytes_in ts) new quota
 
 -- step 4: one range after another is removed, until the new bytes have room
-abbrev pub tracks_while_full : ℕ → ℕ → Moment → List RemovalRange → List TrackState → List TrackState
+abbrev pub tracks_while_full : ℕ → ℕ → Moment → List RemovalRange → List TrackState
+    → List TrackState
 tracks_while_full new quota duration [] ts = ts
 tracks_while_full new quota duration (r ∷ rs) ts =
-    if has_room new quota ts then ts else tracks_while_full new quota duration rs (tracks_after_removal r.start r.end duration ts)
+    if has_room new quota ts then ts
+    else tracks_while_full new quota duration rs (tracks_after_removal r.start r.end duration ts)
 
 -- coded frame eviction. Where the stored bytes are below the quota, the buffer is not full and nothing
 -- happens (step 2).
 abbrev pub tracks_after_eviction : ℤ → ℕ → ℕ → Moment → List TrackState → List TrackState
 tracks_after_eviction position new quota duration ts =
     if nat_lt (bytes_in ts) quota then ts
-    else tracks_while_full new quota duration (ranges_in_order position (removal_ranges duration (sync_times (frames_of (lead_of ts))))) ts
+    else tracks_while_full new quota duration
+    (ranges_in_order position (removal_ranges duration (sync_times (frames_of (lead_of ts))))) ts

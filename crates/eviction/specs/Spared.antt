@@ -16,7 +16,9 @@ HasRange r (q ∷ qs) = (q ≡ r) ⊎ HasRange r qs
 pub record IsLeftOf (r : RemovalRange) (before left : List Stored) : Type 0 where
   pub named : Stored → Bool
   pub without : left ≡ frames_without named before
-  pub ahead : (f : Stored) → named f ≡ true → holds r f.frame.pts ≡ true → AllByRecursion (λ g. g.frame.sync ≡ true → holds r g.frame.pts ≡ true → f.frame.pts <ℤ g.frame.pts) before
+  pub ahead : (f : Stored) → named f ≡ true → holds r f.frame.pts ≡ true
+      → AllByRecursion
+      (λ g. g.frame.sync ≡ true → holds r g.frame.pts ≡ true → f.frame.pts <ℤ g.frame.pts) before
 
 -- the same, and no named frame begins in the range
 pub record IsSparedIn (r : RemovalRange) (before left : List Stored) : Type 0 where

@@ -32,11 +32,13 @@ ranges_back end (t ∷ ts) = record { start = t; end = end } ∷ ranges_back (At
 
 -- the ranges that are left to be removed before the position, from the one that starts at a time on
 abbrev pub left_before : ℤ → ℕ → Moment → Option ℤ → List TrackState → List RemovalRange
-left_before position k duration start ts = filter (ends_up_to position) (removal_ranges duration (times_from start (times_at k ts)))
+left_before position k duration start ts =
+    filter (ends_up_to position) (removal_ranges duration (times_from start (times_at k ts)))
 
 -- the ranges that are left to be removed after the position, from the one that ends where the next starts back
 abbrev pub left_after : ℤ → ℕ → Moment → Option ℤ → List TrackState → List RemovalRange
-left_after position k duration next ts = ranges_back (time_or next duration) (reverse (times_between position next (times_at k ts)))
+left_after position k duration next ts =
+    ranges_back (time_or next duration) (reverse (times_between position next (times_at k ts)))
 
 -- the time is one of the list
 abbrev pub Has : ℤ → List ℤ → Type 0

@@ -85,6 +85,7 @@ fn highest_in_range<S: FrameStore>(tracks: &Tracks<S>, lead: usize) -> Option<Ti
 {
     let highest = highest_start(tracks, lead);
     if let Some(t) = highest {
+        // A Ticks is in range, which the proof reads off this.
         let _in_range = t.get();
     }
     highest

@@ -6,10 +6,12 @@ ghost use Rattle.eviction.specs.Evicting.{fits, has_room};
 
 use track_store::{FrameStore, Tracks};
 
-/// How many bytes are about to be appended, and how many a source buffer may hold.
+/// What an append needs of a source buffer.
 #[derive(Clone, Copy)]
 pub struct Need {
+    /// How many bytes are about to be appended.
     pub new_bytes: u64,
+    /// How many bytes a source buffer may hold.
     pub quota: u64,
 }
 

@@ -24,12 +24,17 @@ pub record Placement : Type 0 where
   pub settings : Settings
 
 abbrev pub new_placement : Placed → List TrackState → Settings → Placement
-new_placement answer tracks settings = record { answer = answer; tracks = tracks; settings = settings }
+new_placement answer tracks settings = record {
+  answer = answer;
+  tracks = tracks;
+  settings = settings;
+}
 
 -- steps 1.6.2 to 1.6.5 and 1.3.3, on each track buffer: after a discontinuity its marks are unset; where the
 -- frame begins at a group start timestamp, a random access point is needed
 abbrev pub marks_after_reset : Timing → Marks → Marks
-marks_after_reset w m = if w.discontinuity then unset_marks m else (if w.starts_group then marks_needing_sync m else m)
+marks_after_reset w m =
+    if w.discontinuity then unset_marks m else (if w.starts_group then marks_needing_sync m else m)
 
 abbrev pub track_after_reset : Timing → TrackState → TrackState
 track_after_reset w t = record t { marks = marks_after_reset w t.marks }
@@ -45,13 +50,17 @@ is_over_limit received bytes more = (received == 2 ^ 62) || nat_le (2 ^ 62) (byt
 -- steps 1.20 and 1.21: after a stored frame the group end timestamp is not below its end, and where timestamps
 -- are generated the offset is its end
 abbrev pub settings_after_frame : Placed → Timing → Settings
-settings_after_frame placed_as.Stored w = record w.settings { group_end = int_max w.settings.group_end w.end; offset = if w.settings.generate then w.end else w.settings.offset }
+settings_after_frame placed_as.Stored w = record w.settings {
+  group_end = int_max w.settings.group_end w.end;
+  offset = if w.settings.generate then w.end else w.settings.offset;
+}
 settings_after_frame (placed_as.Dropped why) w = w.settings
 settings_after_frame placed_as.TimeRange w = w.settings
 settings_after_frame placed_as.Counts w = w.settings
 
 -- steps 1.8 to 1.21, for a frame of the track at place i
-abbrev pub placement_in_track : Option TrackState → Timing → CodedFrame → ℕ → List TrackState → Placement
+abbrev pub placement_in_track : Option TrackState → Timing → CodedFrame → ℕ → List TrackState
+    → Placement
 placement_in_track None w f i ts = new_placement placed_as.Counts ts w.settings
 placement_in_track (Some t) w f i ts =
     let answer = answer_by_reason (drop_reason w f.sync t.marks.need_sync) in
@@ -59,15 +68,18 @@ placement_in_track (Some t) w f i ts =
 
 -- the same, after what steps 1.3 and 1.6 do to all track buffers
 abbrev pub placement_at_times : Timing → CodedFrame → ℕ → List TrackState → Placement
-placement_at_times w f i ts = let reset = map (track_after_reset w) ts in placement_in_track (slice_get reset i) w f i reset
+placement_at_times w f i ts =
+    let reset = map (track_after_reset w) ts in placement_in_track (slice_get reset i) w f i reset
 
 -- by the frame's times: where there are none, nothing happens
-abbrev pub placement_by_times : Option Timing → Settings → CodedFrame → ℕ → List TrackState → Placement
+abbrev pub placement_by_times : Option Timing → Settings → CodedFrame → ℕ → List TrackState
+    → Placement
 placement_by_times None s f i ts = new_placement placed_as.TimeRange ts s
 placement_by_times (Some w) s f i ts = placement_at_times w f i ts
 
 -- where a count would pass its limit, nothing happens
-abbrev pub placement_in : Option TrackState → List TrackState → Settings → ℕ → CodedFrame → Placement
+abbrev pub placement_in : Option TrackState → List TrackState → Settings → ℕ → CodedFrame
+    → Placement
 placement_in None ts s i f = new_placement placed_as.Counts ts s
 placement_in (Some t) ts s i f =
     if is_over_limit t.marks.received (bytes_in ts) (length f.payload)
@@ -79,7 +91,8 @@ abbrev pub placement : List TrackState → Settings → ℕ → CodedFrame → P
 placement ts s i f = placement_in (slice_get ts i) ts s i f
 
 -- a frame of so many bytes can be put into the track
-pub record IsReady {S : Type 0} (frames : S → List Stored) (spare : S → ℕ) (bytes : ℕ) (t : Track S) : Type 0 where
+pub record IsReady {S : Type 0} (frames : S → List Stored) (spare : S → ℕ) (bytes : ℕ)
+    (t : Track S) : Type 0 where
   pub sound : Sound (state_of frames t)
   pub room : 1 ≤ spare t.store
   pub count : t.marks.received < 2 ^ 62
@@ -88,7 +101,10 @@ pub record IsReady {S : Type 0} (frames : S → List Stored) (spare : S → ℕ)
 -- no store lost room but the one at the place, which lost room for one frame at most
 abbrev pub IsRoomTakenAt : {S : Type 0} → (S → ℕ) → ℕ → List (Track S) → List (Track S) → Type 0
 IsRoomTakenAt spare i old new =
-    (k : ℕ) → IfSome (slice_get old k) (λ t. IfSome (slice_get new k) (λ u. (spare t.store ≤ spare u.store + 1) × (k ≢ i → spare t.store ≤ spare u.store)))
+    (k : ℕ)
+    → IfSome (slice_get old k)
+    (λ t. IfSome (slice_get new k)
+    (λ u. (spare t.store ≤ spare u.store + 1) × (k ≢ i → spare t.store ≤ spare u.store)))
 
 -- a time that all frames end by, after a frame: the greater of it and the group end timestamp, if it was stored
 abbrev pub limit_after : Placed → ℤ → ℤ → ℤ

@@ -24,7 +24,9 @@ drop_reason w sync need =
 
 -- a dropped frame counts, and a random access point is needed from then on
 abbrev pub track_after_drop : TrackState → TrackState
-track_after_drop t = record t { marks = record t.marks { need_sync = true; received = t.marks.received + 1 } }
+track_after_drop t = record t {
+  marks = record t.marks { need_sync = true; received = t.marks.received + 1 };
+}
 
 -- steps 1.10.2 and 1.17 to 1.19: the marks after a frame that was stored. Its serial is the count of frames
 -- received before it; where the group has no first frame, it is that.

@@ -37,7 +37,15 @@ timing_in_pass s f = do
   p ← tick (raw_time s f.pts +ℤ t.offset)
   d ← tick (raw_time s f.dts +ℤ t.offset)
   e ← tick (p +ℤ f.dur)
-  Some (record { pts = p; dts = d; end = e; settings = t; starts_group = has_group_start s; discontinuity = false })
+  Some
+      (record {
+        pts = p;
+        dts = d;
+        end = e;
+        settings = t;
+        starts_group = has_group_start s;
+        discontinuity = false;
+      })
 
 -- step 1.6: the decode timestamp is less than the last decode timestamp, or their difference is more than
 -- twice the last frame duration
@@ -52,7 +60,8 @@ is_discontinuous m d = is_leap m.last_decode m.last_duration d
 -- step 1.6.1: in mode "sequence" the group start timestamp becomes the group end timestamp, and in mode
 -- "segments" the group end timestamp becomes the presentation timestamp
 abbrev pub settings_after_discontinuity : Settings → ℤ → Settings
-settings_after_discontinuity s p = if s.sequence then record s { group_start = Some s.group_end } else record s { group_end = p }
+settings_after_discontinuity s p =
+    if s.sequence then record s { group_start = Some s.group_end } else record s { group_end = p }
 
 -- steps 1.1 to 1.7: after a discontinuity they start over with all marks unset, so that there is no second
 abbrev pub timing_of : Settings → Marks → CodedFrame → Option Timing

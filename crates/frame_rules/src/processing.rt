@@ -97,11 +97,11 @@ fn timing_at<S: FrameStore>(
 }
 
 /// The settings after a frame: steps 1.20 and 1.21.
-fn settings_after_frame(timing: &Timing, placed: &Placed) -> Settings
-    ensures { result ≡ settings_after_frame placed.now timing.now }
+fn settings_after_frame(timing: &Timing, answer: &Placed) -> Settings
+    ensures { result ≡ settings_after_frame answer.now timing.now }
 {
     let mut settings = timing.settings;
-    if let Placed::Stored = placed {
+    if let Placed::Stored = answer {
         settings.group_end = settings.group_end.max(timing.end);
         if settings.generate {
             settings.offset = timing.end;
@@ -159,13 +159,13 @@ fn place_at_times<S: FrameStore>(
     ensures places { tracks.new.spare ≡ tracks.old.spare }
 {
     reset_where_due(tracks, timing);
-    let placed = put_at(tracks, index, timing, frame);
-    *settings = settings_after_frame(timing, &placed);
-    placed
+    let answer = put_at(tracks, index, timing, frame);
+    *settings = settings_after_frame(timing, &answer);
+    answer
 }
 
-/// Places a frame where no count passes its limit.
-fn place_counted<S: FrameStore>(
+/// Places a frame whose counts stay below their limits.
+fn place_below_limits<S: FrameStore>(
     tracks: &mut Tracks<S>,
     settings: &mut Settings,
     index: usize,
@@ -229,5 +229,5 @@ pub fn place<S: FrameStore>(
     if is_full(tracks, index, frame.payload.len()) {
         return Placed::Counts;
     }
-    place_counted(tracks, settings, index, frame)
+    place_below_limits(tracks, settings, index, frame)
 }

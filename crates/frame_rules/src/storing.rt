@@ -72,8 +72,8 @@ pub fn put<S: FrameStore>(track: &mut Track<S>, timing: &Timing, frame: CodedFra
     }
     let dur = frame.dur;
     make_room(track, timing.pts, timing.end);
-    let stored = stored_frame(timing, track.marks.received, frame);
-    track.store.add(stored);
+    let frame = stored_frame(timing, track.marks.received, frame);
+    track.store.add(frame);
     mark(&mut track.marks, timing, dur);
     Placed::Stored
 }

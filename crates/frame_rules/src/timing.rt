@@ -39,15 +39,15 @@ fn has_group_start(settings: &Settings) -> bool
 fn settings_at_group_start(settings: &Settings, pts: Ticks) -> Option<Settings>
     ensures { result ≡ settings_at_group_start settings.now pts }
 {
-    let mut moved = *settings;
+    let mut new_settings = *settings;
     if settings.sequence {
         if let Some(start) = settings.group_start {
-            moved.offset = start.checked_sub(pts)?;
-            moved.group_end = start;
-            moved.group_start = None;
+            new_settings.offset = start.checked_sub(pts)?;
+            new_settings.group_end = start;
+            new_settings.group_start = None;
         }
     }
-    Some(moved)
+    Some(new_settings)
 }
 
 /// Steps 1.1 to 1.4, and 1.7.

@@ -100,12 +100,13 @@ impl Chunks {
         Ok(())
     }
 
-    /// Removes the first `n` bytes: whole pieces go, and one is cut.
+    /// Removes the first `n` bytes: whole pieces go, and one is cut. The memory of what went is given
+    /// back, but for at most as many bytes as are left of the first piece, or 65536.
     pub fn drop_front(&mut self, n: usize)
         requires { n ≤ length (concat self.old) }
         ensures { self.new ≡ pieces_without_first n self.old }
     {
-        drop_front_of(&mut self.entries, n);
+        drop_front_of(self.alloc, &mut self.entries, n);
         self.dropped = self.dropped.wrapping_add(n as u64);
         self.len -= n;
     }
@@ -226,7 +227,7 @@ fn push_owned(
     Ok(())
 }
 
-fn drop_front_of(entries: &mut VecDeque<PieceWithEnd>, n: usize)
+fn drop_front_of(alloc: Global, entries: &mut VecDeque<PieceWithEnd>, n: usize)
     requires { n ≤ length (bytes_of entries.old.items) }
     ensures pieces { pieces_of entries.new.items
         ≡ pieces_without_first n (pieces_of entries.old.items) }
@@ -236,7 +237,7 @@ fn drop_front_of(entries: &mut VecDeque<PieceWithEnd>, n: usize)
     'entries: while let Some(mut first) = entries.pop_front() {
         let len = first.piece.len();
         if left < len {
-            first.piece.drop_front(left);
+            first.piece.drop_front(alloc, left);
             entries.push_front_reserved(first);
             return;
         }

@@ -4,6 +4,9 @@ use mse_base::OutOfMemory;
 use std::alloc::Global;
 use std::marker::Model;
 
+/// The least number of bytes cut off whose memory is given back.
+const LEAST_CUT: usize = 65536;
+
 /// Bytes whose front may be cut off.
 #[derive(Debug, Drop)]
 pub struct PieceBytes {
@@ -51,12 +54,28 @@ impl PieceBytes {
         rest
     }
 
-    /// Removes the first `n` bytes, and moves none.
-    pub fn drop_front(&mut self, n: usize)
+    /// Removes the first `n` bytes. The others are moved only where that gives back memory.
+    pub fn drop_front(&mut self, alloc: Global, n: usize)
         requires { n ≤ length self.old }
         ensures { self.new ≡ drop n self.old }
     {
         self.cut += n;
+        self.shrink(alloc);
+    }
+
+    /// Gives back the memory of what is cut off, where that is half of the bytes or more and at
+    /// least `LEAST_CUT`: so each byte that is moved was paid for by one that was cut off. Where no
+    /// smaller memory is found, all stays where it is.
+    fn shrink(&mut self, alloc: Global)
+        ensures { self.new ≡ self.old }
+    {
+        if self.cut < LEAST_CUT || self.cut < self.bytes.len() - self.cut {
+            return;
+        }
+        if let Ok(rest) = Vec::from_slice(alloc, self.as_slice()) {
+            self.bytes = rest;
+            self.cut = 0;
+        }
     }
 
     /// Keeps the first `n` bytes.

@@ -26,7 +26,8 @@ abbrev pub after_fall : Moment → Scene → PlayerState → Told
 after_fall duration scene p = after_seek_to (sought_end duration p) scene p
 
 abbrev pub after_change : Moment → Scene → PlayerState → Told
-after_change duration scene p = then_after (telling (DurationChange ∷ []) p) (after_fall duration scene)
+after_change duration scene p =
+    then_after (telling (DurationChange ∷ []) p) (after_fall duration scene)
 
 abbrev pub after_duration_change : Moment → Scene → ElementState → ElementState
 after_duration_change duration scene e = after (after_change duration scene) e

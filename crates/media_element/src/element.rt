@@ -107,8 +107,8 @@ impl Element {
         push_again(&mut self.queue, event, n);
     }
 
-    /// Queues what the element told.
-    fn hear(&mut self, kinds: &Changes)
+    /// Queues events at the element, in order.
+    fn tell_at_element(&mut self, kinds: &Changes)
         requires { length kinds.now ≤ self.old.spare }
         ensures state { self.new.state ≡ queued (element_events kinds.now) self.old.state }
         ensures spare { self.new.spare + length kinds.now ≡ self.old.spare }
@@ -180,7 +180,7 @@ impl Element {
     {
         position_inside();
         let kinds = self.player.load(scene);
-        self.hear(&kinds);
+        self.tell_at_element(&kinds);
     }
 
     /// The element's part of the end of a stream (Media Source Extensions, 2.4.7, end of stream
@@ -191,7 +191,7 @@ impl Element {
         ensures spare { self.old.spare ≤ self.new.spare + 1 }
     {
         let kinds = self.player.fail(kind);
-        self.hear(&kinds);
+        self.tell_at_element(&kinds);
     }
 
     /// The end of each step: the level becomes that of the position, with its events (HTML, media
@@ -202,7 +202,7 @@ impl Element {
         ensures spare { self.old.spare ≤ self.new.spare + 4 }
     {
         let kinds = self.player.settle(scene);
-        self.hear(&kinds);
+        self.tell_at_element(&kinds);
     }
 
     /// Seeks (HTML, media elements, "seeking") to a time in ticks. It takes at most one place.
@@ -215,20 +215,20 @@ impl Element {
     {
         position_inside();
         let kinds = self.player.seek(t, scene);
-        self.hear(&kinds);
+        self.tell_at_element(&kinds);
     }
 
     /// Queues what a call told, and gives the name by which it was refused, if it was.
-    fn answer(&mut self, acted: &Acted) -> Option<Name>
-        requires { length (told_kinds acted.now) ≤ self.old.spare }
-        ensures name { result ≡ refusal acted.now }
+    fn answer(&mut self, answer: &Acted) -> Option<Name>
+        requires { length (told_kinds answer.now) ≤ self.old.spare }
+        ensures name { result ≡ refusal answer.now }
         ensures state { self.new.state
-            ≡ queued (element_events (told_kinds acted.now)) self.old.state }
-        ensures spare { self.new.spare + length (told_kinds acted.now) ≡ self.old.spare }
+            ≡ queued (element_events (told_kinds answer.now)) self.old.state }
+        ensures spare { self.new.spare + length (told_kinds answer.now) ≡ self.old.spare }
     {
-        match acted {
+        match answer {
             Acted::Done(kinds) => {
-                self.hear(kinds);
+                self.tell_at_element(kinds);
                 None
             }
             Acted::Refused(name) => Some(*name),
@@ -247,8 +247,8 @@ impl Element {
             → StaysInside scene.now self.old.state.player self.new.state.player }
     {
         position_inside();
-        let acted = self.player.play(scene);
-        self.answer(&acted)
+        let answer = self.player.play(scene);
+        self.answer(&answer)
     }
 
     /// Pauses (HTML, `HTMLMediaElement.pause`). It takes at most two places.
@@ -258,7 +258,7 @@ impl Element {
         ensures spare { self.old.spare ≤ self.new.spare + 2 }
     {
         let kinds = self.player.pause();
-        self.hear(&kinds);
+        self.tell_at_element(&kinds);
     }
 
     /// Lets a length of time pass, in ticks: an element that plays on moves, up to the end of the
@@ -274,8 +274,8 @@ impl Element {
             → StaysInside scene.now self.old.state.player self.new.state.player }
     {
         position_inside();
-        let acted = self.player.advance(t, scene);
-        self.answer(&acted)
+        let answer = self.player.advance(t, scene);
+        self.answer(&answer)
     }
 
     /// What the element does by itself: it completes a seek once the data of its position is there,
@@ -289,7 +289,7 @@ impl Element {
     {
         match self.player.turn(scene) {
             Some(kinds) => {
-                self.hear(&kinds);
+                self.tell_at_element(&kinds);
                 true
             }
             None => false,

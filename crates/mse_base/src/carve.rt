@@ -21,6 +21,7 @@ fn left_of(s: &Span, low: Ticks, gap: Ticks) -> Option<Span>
     requires { pos 0 ≤ℤ gap }
     ensures { option_to_list result ≡ span_between s.now.start (int_min s.now.end (low -ℤ gap)) }
 {
+    // Both times are in range, which the proof of the result needs.
     let _first = s.start.get();
     let _low = low.get();
     match low.checked_sub(gap) {
@@ -34,6 +35,7 @@ fn right_of(s: &Span, high: Ticks, gap: Ticks) -> Option<Span>
     requires { pos 0 ≤ℤ gap }
     ensures { option_to_list result ≡ span_between (int_max s.now.start (high +ℤ gap)) s.now.end }
 {
+    // Both times are in range, which the proof of the result needs.
     let _last = s.end.get();
     let _high = high.get();
     match high.checked_add(gap) {

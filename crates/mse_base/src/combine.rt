@@ -7,11 +7,11 @@ use crate::{OutOfMemory, Span, Ticks};
 use std::alloc::Global;
 
 /// Adds the ticks that two spans share, if there are any.
-fn push_overlap(met: &mut Vec<Span>, x: Span, y: Span) -> Result<(), OutOfMemory>
-    ensures { OnOk result (met.new.items ≡ met.old.items ++ overlap x y) }
+fn push_overlap(spans: &mut Vec<Span>, x: Span, y: Span) -> Result<(), OutOfMemory>
+    ensures { OnOk result (spans.new.items ≡ spans.old.items ++ overlap x y) }
 {
     if let Some(span) = x.overlap(y) {
-        met.push(span)?;
+        spans.push(span)?;
     }
     Ok(())
 }
@@ -26,21 +26,21 @@ pub(crate) fn meet_of(
     requires right { IsNormalized right.now }
     ensures { IfOk result (λ v. Met left.now right.now v.items) }
 {
-    let mut met = Vec::new(alloc);
+    let mut spans = Vec::new(alloc);
     let mut xs = left;
     let mut ys = right;
     'heads: while let [x, after_x @ ..] = xs {
         let [y, after_y @ ..] = ys else {
             break;
         };
-        push_overlap(&mut met, *x, *y)?;
+        push_overlap(&mut spans, *x, *y)?;
         if x.end <= y.end {
             xs = after_x;
         } else {
             ys = after_y;
         }
     }
-    Ok(met)
+    Ok(spans)
 }
 
 /// What is left of two lists.
@@ -87,11 +87,11 @@ pub(crate) fn union_of(
 ) -> Result<Vec<Span>, OutOfMemory>
     ensures { IfOk result (λ v. Joined (left.now ++ right.now) v.items) }
 {
-    let mut joined = Vec::new(alloc);
+    let mut spans = Vec::new(alloc);
     let mut heads = Heads { left, right };
     'heads: while let Some(span) = heads.next() {
-        joined.reserve(1)?;
-        join_in(&mut joined, Ticks::zero(), span);
+        spans.reserve(1)?;
+        join_in(&mut spans, Ticks::zero(), span);
     }
-    Ok(joined)
+    Ok(spans)
 }

@@ -172,8 +172,8 @@ impl Ranges {
         ensures ranges { IfOk result (λ r. IsRanges (int_max gap (pos 0)) r.spans) }
         ensures unchanged { gap ≤ℤ pos 0 → IfOk result (λ r. r.spans ≡ self.now.spans) }
     {
-        let filled = gap.max(Ticks::zero());
-        let spans = bridged_of(self.alloc, self.spans.as_slice(), filled)?;
+        let longest_gap = gap.max(Ticks::zero());
+        let spans = bridged_of(self.alloc, self.spans.as_slice(), longest_gap)?;
         Ok(Ranges {
             alloc: self.alloc,
             spans,

@@ -95,8 +95,8 @@ pub fn convert(m: i128, scale: u32) -> Option<Ticks>
     if SECOND % scale == 0 {
         return Ticks::new(product(m, SECOND / scale));
     }
-    let scaled = product(m, SECOND);
-    Ticks::new(scaled.div_euclid(i128::from(scale)))
+    let numerator = product(m, SECOND);
+    Ticks::new(numerator.div_euclid(i128::from(scale)))
 }
 
 /// A point of time, as a duration or the end of a window has it: not a number, a time, or later

@@ -26,7 +26,7 @@ pub struct BufferView {
     pub number: u32,
     /// Where its segment parser loop is.
     pub phase: Phase,
-    /// How many bytes of its input are kept.
+    /// How many bytes of its input are held in memory.
     pub held: u64,
     /// How many bytes its coded frames have.
     pub used: u64,

@@ -22,7 +22,11 @@ reply_moved k result c = record {
 
 -- a call on the buffer of a number
 abbrev pub buffer_moved : ℕ → (Surroundings → Feed → Content → CallResult) → Core → Moved
-buffer_moved k call c = reply_moved k (result_on_buffer k InvalidState c.source.state.duration (call (surroundings_in k c.source)) c.buffers) c
+buffer_moved k call c =
+    reply_moved k
+    (result_on_buffer k InvalidState c.source.state.duration (call (surroundings_in k c.source))
+    c.buffers)
+    c
 
 abbrev pub mode_moved : ℕ → Mode → Core → Moved
 mode_moved k mode c = buffer_moved k (mode_result mode) c
@@ -31,24 +35,32 @@ abbrev pub offset_moved : ℕ → Moment → Core → Moved
 offset_moved k t c = if_made k (if_finite t (λ offset. buffer_moved k (offset_result offset) c) c) c
 
 abbrev pub window_start_moved : ℕ → Moment → Core → Moved
-window_start_moved k t c = if_made k (if_finite t (λ start. buffer_moved k (window_start_result start) c) c) c
+window_start_moved k t c =
+    if_made k (if_finite t (λ start. buffer_moved k (window_start_result start) c) c) c
 
 abbrev pub window_end_moved : ℕ → Moment → Core → Moved
 window_end_moved k t c = buffer_moved k (window_end_result t) c
 
 abbrev pub remove_frames_moved : ℕ → Moment → Moment → Core → Moved
-remove_frames_moved k start end c = if_made k (if_finite start (λ from. buffer_moved k (remove_result from end) c) c) c
+remove_frames_moved k start end c =
+    if_made k (if_finite start (λ from. buffer_moved k (remove_result from end) c) c) c
 
 -- an append at a playback position, of bytes that there must be
 abbrev pub append_moved_of : Option (List ℕ) → ℕ → ℤ → Core → Moved
 append_moved_of None k position c = refused_moved NoSuchBytes c
-append_moved_of (Some bytes) k position c = buffer_moved k (append_result bytes position c.source.quota) c
+append_moved_of (Some bytes) k position c =
+    buffer_moved k (append_result bytes position c.source.quota) c
 
 abbrev pub append_moved : List (List ℕ) → Piece → ℕ → ℤ → Core → Moved
-append_moved blobs piece k position c = if_made k (append_moved_of (bytes_of blobs piece) k position c) c
+append_moved blobs piece k position c =
+    if_made k (append_moved_of (bytes_of blobs piece) k position c) c
 
 abbrev pub abort_moved : ℕ → Core → Moved
 abort_moved k c = buffer_moved k abort_result c
 
 abbrev pub change_type_moved : ℕ → List ℕ → Core → Moved
-change_type_moved k text c = reply_moved k (result_on_buffer k (removed_type_name text) c.source.state.duration (change_type_result text (surroundings_in k c.source)) c.buffers) c
+change_type_moved k text c =
+    reply_moved k
+    (result_on_buffer k (removed_type_name text) c.source.state.duration
+    (change_type_result text (surroundings_in k c.source)) c.buffers)
+    c

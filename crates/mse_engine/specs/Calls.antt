@@ -36,24 +36,33 @@ without_action o = record { answer = None; state = o }
 
 -- what may be refused
 abbrev pub acting_by : (PlayerState → Answered Acted PlayerState) → ElementState → Acting
-acting_by call e = record { answer = queueing.refusal (call e.player).answer; state = outer_of (queueing.after_call call e) }
+acting_by call e = record {
+  answer = queueing.refusal (call e.player).answer;
+  state = outer_of (queueing.after_call call e);
+}
 
 -- currentTime, on setting: to a number (HTML, "seeking")
 abbrev pub seek_acting : Moment → CoreView → Outer → Acting
 seek_acting Nan v o = record { answer = Some TypeError; state = o }
-seek_acting (At t) v o = without_action (outer_of (queueing.after (after_seek t (scene_at o.element.position v)) (element_in v.source.error o)))
+seek_acting (At t) v o =
+    without_action
+    (outer_of
+    (queueing.after (after_seek t (scene_at o.element.position v)) (element_in v.source.error o)))
 seek_acting Infinite v o = record { answer = Some TypeError; state = o }
 
 abbrev pub play_acting : CoreView → Outer → Acting
-play_acting v o = acting_by (after_play (scene_at o.element.position v)) (element_in v.source.error o)
+play_acting v o =
+    acting_by (after_play (scene_at o.element.position v)) (element_in v.source.error o)
 
 abbrev pub pause_acting : CoreView → Outer → Acting
-pause_acting v o = without_action (outer_of (queueing.after after_pause (element_in v.source.error o)))
+pause_acting v o =
+    without_action (outer_of (queueing.after after_pause (element_in v.source.error o)))
 
 -- so much time passes
 abbrev pub advance_acting : Moment → CoreView → Outer → Acting
 advance_acting Nan v o = record { answer = Some TypeError; state = o }
-advance_acting (At t) v o = acting_by (after_advance t (scene_at o.element.position v)) (element_in v.source.error o)
+advance_acting (At t) v o =
+    acting_by (after_advance t (scene_at o.element.position v)) (element_in v.source.error o)
 advance_acting Infinite v o = record { answer = Some TypeError; state = o }
 
 abbrev pub call_acting : Call → CoreView → Outer → Acting
@@ -108,7 +117,10 @@ state_view st = record {
 
 -- what a call answers that is not refused
 abbrev pub read_answer : State → Call → Answer
-read_answer st (call.Buffered k) = answer.Ranges (unwrap_or (buffered_at (is_ended st.core.source.state.ready) k (media_of_all st.core.buffers)) [])
+read_answer st (call.Buffered k) =
+    answer.Ranges
+    (unwrap_or (buffered_at (is_ended st.core.source.state.ready) k (media_of_all st.core.buffers))
+    [])
 read_answer st call.SourceState = answer.State (state_view st)
 read_answer st call.ElementBuffered = answer.Ranges (buffered_in (core_view st.core))
 read_answer st call.Seekable = answer.Range (seekable_in (core_view st.core))
@@ -119,7 +131,12 @@ refused_or None a = a
 refused_or (Some name) a = answer.Refused name
 
 abbrev pub after_call_by : Moved → Acting → Answer → Answered Answer State
-after_call_by m acts a = record { answer = refused_or m.refused (refused_or acts.answer a); state = step m.core m.signals acts.state }
+after_call_by m acts a = record {
+  answer = refused_or m.refused (refused_or acts.answer a);
+  state = step m.core m.signals acts.state;
+}
 
 abbrev pub after_call : List (List ℕ) → Call → State → Answered Answer State
-after_call blobs call st = after_call_by (call_moved blobs st.outer.element.position call st.core) (call_acting call (core_view st.core) st.outer) (read_answer st call)
+after_call blobs call st =
+    after_call_by (call_moved blobs st.outer.element.position call st.core)
+    (call_acting call (core_view st.core) st.outer) (read_answer st call)

@@ -28,7 +28,11 @@ with_state s source = record source { state = s }
 
 -- a call that leaves the source in this state
 abbrev pub moved_to : SourceState → List Signal → Core → Moved
-moved_to s signals c = record { refused = None; core = record { source = with_state s c.source; buffers = c.buffers }; signals = signals }
+moved_to s signals c = record {
+  refused = None;
+  core = record { source = with_state s c.source; buffers = c.buffers };
+  signals = signals;
+}
 
 -- what comes of a call with a time that must be finite (Web IDL, double)
 abbrev pub if_finite : Moment → (ℤ → Moved) → Core → Moved

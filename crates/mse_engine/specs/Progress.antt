@@ -37,8 +37,10 @@ turns_left false false = 1
 -- how many steps can come by themselves at most, beside the events that are fired: behind each step of work there may
 -- be as many turns as of an element that has done none
 abbrev pub steps_left : State → ℕ
-steps_left st = 4 * work_left st.core.buffers + turns_left st.outer.element.seeking st.outer.element.finished
+steps_left st =
+    4 * work_left st.core.buffers + turns_left st.outer.element.seeking st.outer.element.finished
 
 -- an event that is fired leaves as many, and is no longer in the queue
 abbrev pub IsOneEventLess : State → State → Type 0
-IsOneEventLess old new = (steps_left new ≡ steps_left old) × (length new.outer.queue + 1 ≡ length old.outer.queue)
+IsOneEventLess old new =
+    (steps_left new ≡ steps_left old) × (length new.outer.queue + 1 ≡ length old.outer.queue)

@@ -40,15 +40,26 @@ refusal_if_there (Some bytes) refusal = refusal
 
 -- mode, on setting: where the source is ended it is opened again before a media segment is looked at
 abbrev pub mode_call_refusal : ℕ → Mode → Core → Option Name
-mode_call_refusal k mode c = refusal_on_buffer k InvalidState (mode_refusal mode (surroundings_in k c.source)) c.buffers
+mode_call_refusal k mode c =
+    refusal_on_buffer k InvalidState (mode_refusal mode (surroundings_in k c.source)) c.buffers
 
 -- timestampOffset, on setting: the same
 abbrev pub offset_call_refusal : ℕ → Moment → Core → Option Name
-offset_call_refusal k t c = refusal_if_made k (refusal_if_finite t (refusal_on_buffer k InvalidState (λ f content. offset_refusal (surroundings_in k c.source) f) c.buffers)) c
+offset_call_refusal k t c =
+    refusal_if_made k
+    (refusal_if_finite t
+    (refusal_on_buffer k InvalidState (λ f content. offset_refusal (surroundings_in k c.source) f)
+    c.buffers))
+    c
 
 -- appendBuffer: coded frames are evicted before the quota is looked at
 abbrev pub append_call_refusal : Option (List ℕ) → ℕ → Core → Option Name
-append_call_refusal bytes k c = refusal_if_made k (refusal_if_there bytes (refusal_on_buffer k InvalidState (λ f content. append_refusal (surroundings_in k c.source) f) c.buffers)) c
+append_call_refusal bytes k c =
+    refusal_if_made k
+    (refusal_if_there bytes
+    (refusal_on_buffer k InvalidState (λ f content. append_refusal (surroundings_in k c.source) f)
+    c.buffers))
+    c
 
 -- ---- all calls
 
@@ -64,7 +75,8 @@ refused_name (answer.Refused name) = Some name
 abbrev pub call_refusal : List (List ℕ) → Call → State → Option Name
 call_refusal blobs (call.SetMode k mode) st = mode_call_refusal k mode st.core
 call_refusal blobs (call.SetTimestampOffset k t) st = offset_call_refusal k t st.core
-call_refusal blobs (call.AppendBuffer k piece) st = append_call_refusal (bytes_of blobs piece) k st.core
+call_refusal blobs (call.AppendBuffer k piece) st =
+    append_call_refusal (bytes_of blobs piece) k st.core
 call_refusal blobs other st = refused_name (after_call blobs other st).answer
 
 -- ---- the laws
@@ -76,9 +88,13 @@ pub record IsRefused (name : Name) (st : State) (meant : Answered Answer State) 
 
 -- a call whose refusal is a name is refused by it
 abbrev pub TellsRefusal : List (List ℕ) → Call → State → Type 0
-TellsRefusal blobs c st = (name : Name) → call_refusal blobs c st ≡ Some name → IsRefused name st (after_call blobs c st)
+TellsRefusal blobs c st =
+    (name : Name) → call_refusal blobs c st ≡ Some name → IsRefused name st (after_call blobs c st)
 
 -- A call that is refused though its refusal is no name was an append, for the quota, or had an effect before: the source
 -- and its buffers are not as they were.
 abbrev pub TellsAllButQuota : List (List ℕ) → Call → State → Type 0
-TellsAllButQuota blobs c st = (name : Name) → call_refusal blobs c st ≡ None → (after_call blobs c st).answer ≡ answer.Refused name → (after_call blobs c st).state.core ≡ st.core → name ≡ QuotaExceeded
+TellsAllButQuota blobs c st =
+    (name : Name) → call_refusal blobs c st ≡ None
+    → (after_call blobs c st).answer ≡ answer.Refused name
+    → (after_call blobs c st).state.core ≡ st.core → name ≡ QuotaExceeded

@@ -16,7 +16,12 @@ use Rattle.mse_engine.specs.Signals.{Signal, Tell, Loaded}
 
 -- what the buffer of a number is told of the source and the element
 abbrev pub surroundings_in : ℕ → CoreSource → Surroundings
-surroundings_in k s = record { number = k; ready = s.state.ready; error = not (s.error == 0); duration = s.state.duration }
+surroundings_in k s = record {
+  number = k;
+  ready = s.state.ready;
+  error = not (s.error == 0);
+  duration = s.state.duration;
+}
 
 -- ---- at the source
 
@@ -91,7 +96,8 @@ abbrev pub duration_events : ℕ → List Event
 duration_events changes = replicate changes (event_at target.Element kind.DurationChange)
 
 abbrev pub active_events : Bool → List Event
-active_events activates = if activates then (event_at target.ActiveSourceBuffers kind.AddSourceBuffer ∷ []) else []
+active_events activates =
+    if activates then (event_at target.ActiveSourceBuffers kind.AddSourceBuffer ∷ []) else []
 
 abbrev pub load_signals : Bool → List Signal
 load_signals loads = if loads then (Loaded ∷ []) else []
@@ -99,7 +105,8 @@ load_signals loads = if loads then (Loaded ∷ []) else []
 -- what an item or a reset of the parser brings about: how often the duration changed, whether the buffer became active,
 -- and whether the metadata is there
 abbrev pub effect_signals : ℕ → Bool → Bool → List Signal
-effect_signals changes activates loads = Tell (duration_events changes) ∷ Tell (active_events activates) ∷ load_signals loads
+effect_signals changes activates loads =
+    Tell (duration_events changes) ∷ Tell (active_events activates) ∷ load_signals loads
 
 -- the events at the buffer
 abbrev pub buffer_signal : ℕ → Reply → Signal
@@ -120,4 +127,7 @@ fault_events None error = []
 fault_events (Some fault) error = event_at target.Source kind.SourceEnded ∷ error_events error
 
 abbrev pub reply_signals : ℕ → Reply → CoreSource → List Signal
-reply_signals k r s = Tell (open_events r) ∷ (middle_signals k r (activates k r s.state) (loads k r s.blank s.state) ++ Tell (fault_events r.fault s.error) ∷ [])
+reply_signals k r s =
+    Tell (open_events r)
+    ∷ (middle_signals k r (activates k r s.state) (loads k r s.blank s.state)
+    ++ Tell (fault_events r.fault s.error) ∷ [])

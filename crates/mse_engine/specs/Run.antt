@@ -37,13 +37,16 @@ entry_meaning blobs st Element = step_meaning (after_element_turn st) st
 -- the state behind a journal
 abbrev pub after_entries : List (List ℕ) → State → List Entry → State
 after_entries blobs st [] = st
-after_entries blobs st (entry ∷ entries) = after_entries blobs (entry_meaning blobs st entry).state entries
+after_entries blobs st (entry ∷ entries) =
+    after_entries blobs (entry_meaning blobs st entry).state entries
 
 -- each entry tells what happens there: each answer and each event is that of its step, at each work something runs, and
 -- at each turn of the element one is due
 abbrev pub Replays : List (List ℕ) → State → List Entry → Type 0
 Replays blobs st [] = Unit {0}
-Replays blobs st (entry ∷ entries) = (entry_meaning blobs st entry).holds × Replays blobs (entry_meaning blobs st entry).state entries
+Replays blobs st (entry ∷ entries) =
+    (entry_meaning blobs st entry).holds
+    × Replays blobs (entry_meaning blobs st entry).state entries
 
 -- the event of an entry, if one was fired
 abbrev pub event_in : Entry → Option Event

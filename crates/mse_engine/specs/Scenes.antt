@@ -27,7 +27,8 @@ abbrev pub first_start : List Span → Option ℤ
 first_start rs = option_map (λ range. range.start) (slice_get rs 0)
 
 abbrev pub seekable_of : CoreView → List Span → Option Span
-seekable_of v rs = seekable_span v.source.state.duration v.source.state.live (first_start rs) (last_end rs)
+seekable_of v rs =
+    seekable_span v.source.state.duration v.source.state.live (first_start rs) (last_end rs)
 
 -- what can be sought (HTMLMediaElement extensions, seekable)
 abbrev pub seekable_in : CoreView → Option Span

@@ -33,7 +33,8 @@ abbrev pub after_settling : CoreView → ElementState → ElementState
 after_settling v e = after (after_settle (scene_at e.player.position v)) e
 
 abbrev pub outer_after : CoreView → List Signal → Outer → Outer
-outer_after v signals o = outer_of (after_settling v (after_signals v signals (element_in v.source.error o)))
+outer_after v signals o =
+    outer_of (after_settling v (after_signals v signals (element_in v.source.error o)))
 
 -- a step leaves the source and its buffers so, and the element hears this of it
 abbrev pub step : Core → List Signal → Outer → State

@@ -26,4 +26,5 @@ IsSoundState st = AreSoundWithin st.core.source.state.duration (media_of_all st.
 abbrev pub AreSoundBehind : List (List ℕ) → State → List Entry → Type 0
 AreSoundBehind blobs st [] = Unit {0}
 AreSoundBehind blobs st (entry ∷ entries) =
-    IsSoundState (entry_meaning blobs st entry).state × AreSoundBehind blobs (entry_meaning blobs st entry).state entries
+    IsSoundState (entry_meaning blobs st entry).state
+    × AreSoundBehind blobs (entry_meaning blobs st entry).state entries

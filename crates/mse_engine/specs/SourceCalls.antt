@@ -40,10 +40,14 @@ abbrev pub from_source : Answered (Option Name) SourceState → List Signal → 
 from_source a signals c = answered_by a.answer a.state signals c
 
 abbrev pub attach_moved : Core → Moved
-attach_moved c = from_source (after_attach c.source.state) (Tell (event_at target.Source kind.SourceOpen ∷ []) ∷ []) c
+attach_moved c =
+    from_source (after_attach c.source.state)
+    (Tell (event_at target.Source kind.SourceOpen ∷ []) ∷ []) c
 
 abbrev pub set_live_moved : Moment → Moment → Core → Moved
-set_live_moved start end c = if_finite start (λ a. if_finite end (λ b. from_source (after_set_live a b c.source.state) [] c) c) c
+set_live_moved start end c =
+    if_finite start
+    (λ a. if_finite end (λ b. from_source (after_set_live a b c.source.state) [] c) c) c
 
 abbrev pub clear_live_moved : Core → Moved
 clear_live_moved c = from_source (after_clear_live c.source.state) [] c
@@ -54,7 +58,11 @@ abbrev pub added_moved : Container → Added → SourceState → Core → Moved
 added_moved container (added.Refused name) s c = refused_moved name c
 added_moved container (added.Number k) s c = record {
   refused = None;
-  core = record { source = with_state s c.source; buffers = c.buffers ++ Some (new_buffer c.source.gap container) ∷ [] };
+  core =
+      record {
+        source = with_state s c.source;
+        buffers = c.buffers ++ Some (new_buffer c.source.gap container) ∷ [];
+      };
   signals = Tell (event_at target.SourceBuffers kind.AddSourceBuffer ∷ []) ∷ [];
 }
 
@@ -72,10 +80,12 @@ add_moved text c = add_moved_of (type_of text) c
 
 -- it leaves the active list, where it was in it, and then the list of source buffers
 abbrev pub inactive_events : Bool → List Event
-inactive_events active = if active then (event_at target.ActiveSourceBuffers kind.RemoveSourceBuffer ∷ []) else []
+inactive_events active =
+    if active then (event_at target.ActiveSourceBuffers kind.RemoveSourceBuffer ∷ []) else []
 
 abbrev pub removal_events : Bool → List Event
-removal_events active = inactive_events active ++ event_at target.SourceBuffers kind.RemoveSourceBuffer ∷ []
+removal_events active =
+    inactive_events active ++ event_at target.SourceBuffers kind.RemoveSourceBuffer ∷ []
 
 abbrev pub removed_moved : ℕ → BuffersResult → Removed → SourceState → Core → Moved
 removed_moved k result (removed.Refused name) s c = refused_moved name c
@@ -86,7 +96,8 @@ removed_moved k result (removed.Gone active) s c = record {
 }
 
 abbrev pub remove_moved_by : ℕ → Answered Removed SourceState → Core → Moved
-remove_moved_by k a c = removed_moved k (removal_result k (surroundings_in k c.source) c.buffers) a.answer a.state c
+remove_moved_by k a c =
+    removed_moved k (removal_result k (surroundings_in k c.source) c.buffers) a.answer a.state c
 
 -- removeSourceBuffer: work that runs at the buffer ends
 abbrev pub remove_moved : ℕ → Core → Moved
@@ -130,13 +141,21 @@ end_error_events Decode error = error_events error
 abbrev pub with_end_error : EndKind → Moved → Moved
 with_end_error end m = record {
   refused = m.refused;
-  core = record { source = record m.core.source { error = end_error end m.core.source.blank m.core.source.error }; buffers = m.core.buffers };
+  core =
+      record {
+        source = record m.core.source
+            { error = end_error end m.core.source.blank m.core.source.error };
+        buffers = m.core.buffers;
+      };
   signals = m.signals ++ Tell (end_error_events end m.core.source.error) ∷ [];
 }
 
 abbrev pub end_moved_by : Option Name → EndKind → Core → Moved
 end_moved_by (Some name) end c = refused_moved name c
-end_moved_by None end c = with_end_error end (changed_moved_by (Tell (event_at target.Source kind.SourceEnded ∷ []) ∷ []) (after_end end (all_in c).highest_end c.source.state) c)
+end_moved_by None end c =
+    with_end_error end
+    (changed_moved_by (Tell (event_at target.Source kind.SourceEnded ∷ []) ∷ [])
+    (after_end end (all_in c).highest_end c.source.state) c)
 
 -- endOfStream, and the end of stream algorithm (2.4.7)
 abbrev pub end_moved : EndKind → Core → Moved

@@ -1,4 +1,5 @@
--- What the engine keeps, and the states that it stands for.
+-- What the engine keeps, and the states that it stands for. Read first `Kept` and `Stands`, then `IsStep` and
+-- `Answers`, which say what a call gives, then `IsSteady` and `IsWhole`, which say what every step keeps.
 use Rattle.std.specs.Prelude.{◌≡◌, ℕ, ◌<◌, ℤ, pos, int_lt, Bool, true, not, List, if◌then◌else◌, length, Option, Some, None, Result, IfOk}
 use Rattle.buffer_state.specs.declared.reply.Reply.{Reply}
 use Rattle.mse_calls.specs.Answered.{Answered}
@@ -55,7 +56,10 @@ view_of side buffers e = record { source = core_source side e; media = all_kept_
 
 -- the source and the first fault behind a reply of the buffer of a number
 abbrev pub side_after : ℕ → Reply → SourceSide → SourceSide
-side_after k r side = record side { state = state_after k r side.state; fault = fault_after r.fault side.fault }
+side_after k r side = record side {
+  state = state_after k r side.state;
+  fault = fault_after r.fault side.fault;
+}
 
 abbrev pub new_side : ℕ → ℤ → SourceSide
 new_side quota gap = record { state = new_source; fault = None; quota = quota; gap = gap }
@@ -74,8 +78,10 @@ pub record IsStep (answer : Answer) (k : Kept) (meant : Answered Answer State) :
   pub stands : Stands k meant.state
 
 -- for every state that was stood for
-abbrev pub Answers : {E : Type 0} → Kept → Result Answer E → Kept → (State → Answered Answer State) → Type 0
-Answers old result new call = (st : State) → Stands old st → IfOk result (λ answer. IsStep answer new (call st))
+abbrev pub Answers : {E : Type 0} → Kept → Result Answer E → Kept → (State → Answered Answer State)
+    → Type 0
+Answers old result new call =
+    (st : State) → Stands old st → IfOk result (λ answer. IsStep answer new (call st))
 
 -- the scene of the element, but for what can be sought
 abbrev pub kept_scene : Kept → Scene
@@ -103,7 +109,10 @@ pub record IsWhole (k : Kept) : Type 0 where
 
 -- what the element sees behind a reply of the buffer of a number
 abbrev pub reply_view : ℕ → Reply → SourceSide → KeptBuffers → ElementState → CoreView
-reply_view k r side buffers e = record { source = source_after k r (core_source side e); media = all_kept_media buffers }
+reply_view k r side buffers e = record {
+  source = source_after k r (core_source side e);
+  media = all_kept_media buffers;
+}
 
 -- the bounds where the source is ended or not
 abbrev pub bounds_at : LoadBounds → Bool → Bounds
@@ -111,7 +120,10 @@ bounds_at b ended = if ended then b.ended else b.open
 
 -- those of no range
 abbrev pub no_bounds : LoadBounds
-no_bounds = record { «open» = record { first = None; last = None }; ended = record { first = None; last = None } }
+no_bounds = record {
+  «open» = record { first = None; last = None };
+  ended = record { first = None; last = None };
+}
 
 -- the bounds are those of the ranges
 pub record HasBounds (bounds : Bounds) (rs : List Span) : Type 0 where
@@ -120,7 +132,9 @@ pub record HasBounds (bounds : Bounds) (rs : List Span) : Type 0 where
 
 -- where the element has a default playback start position, the bounds are those of what it has buffered
 abbrev pub IsReadyToLoad : LoadBounds → CoreView → ElementState → Type 0
-IsReadyToLoad bounds v e = int_lt (pos 0) e.player.default_start ≡ true → HasBounds (bounds_at bounds (is_ended v.source.state.ready)) (buffered_in v)
+IsReadyToLoad bounds v e =
+    int_lt (pos 0) e.player.default_start ≡ true
+    → HasBounds (bounds_at bounds (is_ended v.source.state.ready)) (buffered_in v)
 
 -- ---- steps that nobody calls for
 

@@ -47,10 +47,27 @@ pub record State : Type 0 where
 -- ---- the element with its error code
 
 abbrev pub element_of : PlayerState → Element
-element_of p = record { level = p.level; loaded_before = p.loaded_before; position = p.position; default_start = p.default_start; paused = p.paused; seeking = p.seeking; finished = p.finished }
+element_of p = record {
+  level = p.level;
+  loaded_before = p.loaded_before;
+  position = p.position;
+  default_start = p.default_start;
+  paused = p.paused;
+  seeking = p.seeking;
+  finished = p.finished;
+}
 
 abbrev pub player_of : ℕ → Element → PlayerState
-player_of error e = record { level = e.level; loaded_before = e.loaded_before; position = e.position; default_start = e.default_start; paused = e.paused; seeking = e.seeking; finished = e.finished; error = error }
+player_of error e = record {
+  level = e.level;
+  loaded_before = e.loaded_before;
+  position = e.position;
+  default_start = e.default_start;
+  paused = e.paused;
+  seeking = e.seeking;
+  finished = e.finished;
+  error = error;
+}
 
 abbrev pub outer_of : ElementState → Outer
 outer_of e = record { element = element_of e.player; queue = e.queue }
@@ -61,8 +78,18 @@ element_in error o = record { player = player_of error o.element; queue = o.queu
 -- ---- the opening state
 
 abbrev pub new_core_source : ℕ → ℤ → CoreSource
-new_core_source quota gap = record { state = new_source; error = 0; blank = true; fault = None; quota = quota; gap = gap }
+new_core_source quota gap = record {
+  state = new_source;
+  error = 0;
+  blank = true;
+  fault = None;
+  quota = quota;
+  gap = gap;
+}
 
 -- with the quota of a source buffer, in bytes, and the gap, in ticks
 abbrev pub opening_state : ℕ → ℤ → State
-opening_state quota gap = record { core = record { source = new_core_source quota gap; buffers = [] }; outer = record { element = element_of new_player; queue = [] } }
+opening_state quota gap = record {
+  core = record { source = new_core_source quota gap; buffers = [] };
+  outer = record { element = element_of new_player; queue = [] };
+}

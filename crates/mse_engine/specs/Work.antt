@@ -20,7 +20,9 @@ use Rattle.mse_engine.specs.BufferCalls.{reply_moved}
 
 -- none where nothing runs at the buffer, or it was never made
 abbrev pub work_moved : ℕ → Core → Option Moved
-work_moved k c = option_map (λ result. reply_moved k result c) (buffers_turn k (surroundings_in k c.source) c.buffers)
+work_moved k c =
+    option_map (λ result. reply_moved k result c)
+    (buffers_turn k (surroundings_in k c.source) c.buffers)
 
 abbrev pub work_result : Option Moved → State → Option State
 work_result None st = None
@@ -48,7 +50,10 @@ due_in st = is_due (scene_in st) (player_in st)
 -- none where nothing is due
 abbrev pub after_element_turn : State → Option State
 after_element_turn st =
-    if due_in st then Some (step st.core [] (outer_of (queueing.after_own_turn (scene_in st) (element_in st.core.source.error st.outer))))
+    if due_in st
+    then Some
+    (step st.core []
+    (outer_of (queueing.after_own_turn (scene_in st) (element_in st.core.source.error st.outer))))
     else None
 
 -- ---- firing
@@ -59,4 +64,6 @@ without_first st = record st { outer = record st.outer { queue = drop 1 st.outer
 
 -- none where the queue is empty
 abbrev pub fire_result : State → Option (Answered Event State)
-fire_result st = option_map (λ event. record { answer = event; state = without_first st }) (slice_get st.outer.queue 0)
+fire_result st =
+    option_map (λ event. record { answer = event; state = without_first st })
+    (slice_get st.outer.queue 0)

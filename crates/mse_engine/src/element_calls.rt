@@ -60,9 +60,9 @@ pub(crate) fn play<S: FrameStore>(
     element.reserve(PLACES)?;
     let seekable = scenes::seekable(side, buffers)?;
     let scene = scenes::scene(side, buffers, element, seekable);
-    let refused = element.play(&scene);
+    let refusal = element.play(&scene);
     settle(side, buffers, element);
-    Ok(answer_by(refused))
+    Ok(answer_by(refusal))
 }
 
 /// Pauses.
@@ -105,9 +105,9 @@ pub(crate) fn advance<S: FrameStore>(
     };
     element.reserve(PLACES)?;
     let scene = scenes::scene(side, buffers, element, None);
-    let refused = element.advance(t, &scene);
+    let refusal = element.advance(t, &scene);
     settle(side, buffers, element);
-    Ok(answer_by(refused))
+    Ok(answer_by(refusal))
 }
 
 /// The state of the source and of the element.

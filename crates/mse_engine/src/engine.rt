@@ -118,9 +118,9 @@ impl<S: FrameStore> Engine<S> {
         ensures err { OnErr result (self.new ≡ self.old) }
     {
         position_inside();
-        let worked = work_on(&mut self.side, &mut self.buffers, &mut self.element, k)?;
+        let answer = work_on(&mut self.side, &mut self.buffers, &mut self.element, k)?;
         self.buffers.sound();
-        Ok(worked)
+        Ok(answer)
     }
 
     /// What the element does by itself.
@@ -132,9 +132,9 @@ impl<S: FrameStore> Engine<S> {
         ensures err { OnErr result (self.new ≡ self.old) }
     {
         position_inside();
-        let worked = turn_by_itself(&self.side, &self.buffers, &mut self.element)?;
+        let answer = turn_by_itself(&self.side, &self.buffers, &mut self.element)?;
         self.buffers.sound();
-        Ok(worked)
+        Ok(answer)
     }
 
     /// Whether the element has something to do by itself.

@@ -115,8 +115,8 @@ fn tell_effects<S: FrameStore>(
         (effect_signals changes effects.activates effects.loads) element.old.state }
     ensures spare { element.old.spare ≤ element.new.spare + (changes + 3) }
 {
-    let changed = event(Target::Element, EventKind::DurationChange);
-    element.tell_again(changed, changes);
+    let change = event(Target::Element, EventKind::DurationChange);
+    element.tell_again(change, changes);
     tell_active(element, effects.activates);
     load(side, buffers, element, effects.loads, bounds);
 }

@@ -151,9 +151,9 @@ pub(crate) fn remove_source_buffer<S: FrameStore>(
     }
 }
 
-/// The element hears that the duration was changed to this one, which it is now. It seeks only where
+/// Tells the element that the duration was changed to this one, which it is now. It seeks only where
 /// that is a time, and then what can be sought does not depend on what is buffered.
-fn hear_duration<S: FrameStore>(
+fn tell_duration<S: FrameStore>(
     side: &SourceSide,
     buffers: &SourceBuffers<S>,
     element: &mut Element,
@@ -171,22 +171,22 @@ fn hear_duration<S: FrameStore>(
     element.fall(duration, &scene);
 }
 
-/// The element hears what came of the duration.
-fn hear_change<S: FrameStore>(
+/// Tells the element what came of the duration.
+fn tell_change<S: FrameStore>(
     side: &SourceSide,
     buffers: &SourceBuffers<S>,
     element: &mut Element,
-    changed: Changed,
+    change: Changed,
 )
     requires room { 2 ≤ element.old.spare }
-    requires now { (d : Moment) → changed ≡ To d → side.now.state.duration ≡ d }
+    requires now { (d : Moment) → change ≡ To d → side.now.state.duration ≡ d }
     ensures state { element.new.state
         ≡ after_signals (view_of side.now buffers.now.buffers element.old.state)
-        (change_signals changed) element.old.state }
+        (change_signals change) element.old.state }
     ensures spare { element.old.spare ≤ element.new.spare + 2 }
 {
-    if let Changed::To(duration) = changed {
-        hear_duration(side, buffers, element, duration);
+    if let Changed::To(duration) = change {
+        tell_duration(side, buffers, element, duration);
     }
 }
 
@@ -207,11 +207,11 @@ pub(crate) fn set_duration<S: FrameStore>(
 {
     element.reserve(PLACES)?;
     let all = buffers.all_buffers();
-    let changed = side.source.set_duration(duration, &all);
-    if let Changed::Refused(name) = changed {
+    let change = side.source.set_duration(duration, &all);
+    if let Changed::Refused(name) = change {
         return Ok(Answer::Refused(name));
     }
-    hear_change(side, buffers, element, changed);
+    tell_change(side, buffers, element, change);
     settle(side, buffers, element);
     Ok(Answer::Done)
 }
@@ -236,9 +236,9 @@ pub(crate) fn end_of_stream<S: FrameStore>(
     if let Some(name) = side.source.end_refusal(all.updating) {
         return Ok(Answer::Refused(name));
     }
-    let changed = side.source.end(kind, all.highest_end);
+    let change = side.source.end(kind, all.highest_end);
     element.tell(event(Target::Source, EventKind::SourceEnded));
-    hear_change(side, buffers, element, changed);
+    tell_change(side, buffers, element, change);
     element.fail(kind);
     settle(side, buffers, element);
     Ok(Answer::Done)
@@ -267,9 +267,9 @@ pub(crate) fn set_live<S: FrameStore>(
         return Ok(Answer::Refused(Name::TypeError));
     };
     element.reserve(PLACES)?;
-    let refused = side.source.set_live(start, end);
+    let refusal = side.source.set_live(start, end);
     settle(side, buffers, element);
-    Ok(answer_by(refused))
+    Ok(answer_by(refusal))
 }
 
 /// Clears the live seekable range.
@@ -287,7 +287,7 @@ pub(crate) fn clear_live<S: FrameStore>(
         ≡ kept side.old buffers.now.buffers element.old.state) }
 {
     element.reserve(PLACES)?;
-    let refused = side.source.clear_live();
+    let refusal = side.source.clear_live();
     settle(side, buffers, element);
-    Ok(answer_by(refused))
+    Ok(answer_by(refusal))
 }

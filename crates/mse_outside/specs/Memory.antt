@@ -31,7 +31,8 @@ pub record SinkState : Type 0 where
 abbrev pub file_at : List (List ℕ) → List (List ℕ) → List ℕ → Option (List ℕ)
 file_at [] contents name = None
 file_at (first ∷ names) [] name = None
-file_at (first ∷ names) (bytes ∷ contents) name = if bytes_eq first name then Some bytes else file_at names contents name
+file_at (first ∷ names) (bytes ∷ contents) name =
+    if bytes_eq first name then Some bytes else file_at names contents name
 
 -- the table that these files are
 abbrev pub table_of : Files → Table

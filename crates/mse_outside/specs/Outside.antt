@@ -20,7 +20,8 @@ Appends old new = (more : List ℕ) × (new ≡ old ++ more)
 
 -- a front part of the bytes was appended
 abbrev pub AppendsFront : List ℕ → List ℕ → List ℕ → Type 0
-AppendsFront bytes old new = (front : List ℕ) × (rest : List ℕ) × (bytes ≡ front ++ rest) × (new ≡ old ++ front)
+AppendsFront bytes old new =
+    (front : List ℕ) × (rest : List ℕ) × (bytes ≡ front ++ rest) × (new ≡ old ++ front)
 
 -- what the answer to a load says of the file in a told table, and of the buffer
 abbrev pub LoadTells : Option (List ℕ) → List ℕ → List ℕ → Loaded → Type 0

@@ -1,8 +1,8 @@
 -- What the loop over a file's reader appends, where the bytes that the reader has left are known.
 use Rattle.std.specs.Prelude.{◌≡◌, ◌≤◌, ℕ, List, ◌++◌, length, Option, Result, Ok, Err, IfSome}
 use Rattle.mse_outside.specs.Outside.{AppendsFront}
-use Rattle.mse_outside.specs.declared.folder.Stop.{Stop}
-use Rattle.mse_outside.specs.declared.folder.Stop.TheVariants.{TooLong, Reader, OutOfMemory as StopOutOfMemory, Endless}
+use Rattle.mse_outside.specs.declared.folder.ReadStop.{ReadStop}
+use Rattle.mse_outside.specs.declared.folder.ReadStop.TheVariants.{TooLong, Reader, OutOfMemory as StopOutOfMemory, Endless}
 use Rattle.mse_outside.specs.declared.library.Loaded.{Loaded}
 use Rattle.mse_outside.specs.declared.library.Loaded.TheVariants.{Done as LoadDone, Failed as LoadFailed, OutOfMemory as LoadOutOfMemory}
 
@@ -15,7 +15,7 @@ abbrev pub IsFrontAppended : Option (List ℕ) → List ℕ → List ℕ → Typ
 IsFrontAppended left old new = IfSome left (λ bytes. AppendsFront bytes old new)
 
 -- a load is done where the file was read to its end; each other stop but want of memory is a failure
-abbrev pub loaded_of : Result (Unit {0}) Stop → Loaded
+abbrev pub loaded_of : Result (Unit {0}) ReadStop → Loaded
 loaded_of (Ok u) = LoadDone
 loaded_of (Err TooLong) = LoadFailed
 loaded_of (Err (Reader kind)) = LoadFailed

@@ -39,8 +39,8 @@ impl<R: Files + Drop> FolderLibrary<R> {
     }
 }
 
-// What it means that a file was not opened.
-fn refused(error: &io::Error) -> Loaded
+/// What a load answers whose file was not opened.
+fn answer_for_error(error: &io::Error) -> Loaded
     ensures missing { (result ≡ Loaded.NoFile) ↔ (error_kind error.now ≡ ErrorKind.NotFound) }
     ensures memory { (result ≡ Loaded.OutOfMemory) ↔ (error_kind error.now ≡ ErrorKind.OutOfMemory) }
     ensures never { result ≢ Loaded.Done }
@@ -54,7 +54,7 @@ fn refused(error: &io::Error) -> Loaded
 
 /// Why a file was not read to its end.
 #[derive(Clone, Copy, Debug, PartialEq, Eq)]
-pub(crate) enum Stop {
+pub(crate) enum ReadStop {
     /// It has more bytes than it may.
     TooLong,
     /// The reader failed, and neither was interrupted nor wanted memory.
@@ -66,50 +66,54 @@ pub(crate) enum Stop {
 }
 
 /// Appends what is left of a file, if that is at most so many bytes.
-pub(crate) fn append_all<F: Read>(file: &mut F, into: &mut Vec<u8>, most: usize) -> Result<(), Stop>
+pub(crate) fn append_all<F: Read>(
+    file: &mut F,
+    into: &mut Vec<u8>,
+    most: usize,
+) -> Result<(), ReadStop>
     ensures whole { OnOk result (IsWhole most (F.remaining file.old) into.old.items into.new.items) }
-    ensures too_long { result ≡ Err Stop.TooLong → IfSome (F.remaining file.old) (λ bytes. most < length bytes) }
+    ensures too_long { result ≡ Err ReadStop.TooLong → IfSome (F.remaining file.old) (λ bytes. most < length bytes) }
     ensures front { IsFrontAppended (F.remaining file.old) into.old.items into.new.items }
     ensures appends { Appends into.old.items into.new.items }
     ensures longest { vec_len into.new ≤ vec_len into.old + most }
 {
     let mut piece = [0u8; 4096];
-    let mut taken = 0usize;
+    let mut len = 0usize;
     for _ in 0..u64::MAX {
         match file.read(&mut piece) {
             Ok(0) => return Ok(()),
             Ok(count) => {
-                if count > most - taken {
-                    return Err(Stop::TooLong);
+                if count > most - len {
+                    return Err(ReadStop::TooLong);
                 }
-                taken += count;
+                len += count;
                 if into.extend_from_slice(&piece[..count]).is_err() {
-                    return Err(Stop::OutOfMemory);
+                    return Err(ReadStop::OutOfMemory);
                 }
             }
             Err(error) => match error.kind() {
                 ErrorKind::Interrupted => {}
-                ErrorKind::OutOfMemory => return Err(Stop::OutOfMemory),
-                kind => return Err(Stop::Reader(kind)),
+                ErrorKind::OutOfMemory => return Err(ReadStop::OutOfMemory),
+                kind => return Err(ReadStop::Reader(kind)),
             },
         }
     }
-    Err(Stop::Endless)
+    Err(ReadStop::Endless)
 }
 
 /// What a load answers whose file was opened.
-fn loaded(read: &Result<(), Stop>) -> Loaded
+fn answer_for_read(read: &Result<(), ReadStop>) -> Loaded
     ensures { result ≡ loaded_of read.now }
 {
     match read {
         Ok(()) => Loaded::Done,
-        Err(Stop::OutOfMemory) => Loaded::OutOfMemory,
-        Err(Stop::TooLong | Stop::Reader(_) | Stop::Endless) => Loaded::Failed,
+        Err(ReadStop::OutOfMemory) => Loaded::OutOfMemory,
+        Err(ReadStop::TooLong | ReadStop::Reader(_) | ReadStop::Endless) => Loaded::Failed,
     }
 }
 
-// The failures after an answer.
-fn counted(faults: u64, answer: Loaded) -> u64
+/// The failures after an answer.
+fn count_after(faults: u64, answer: Loaded) -> u64
     ensures { result ≡ faults_after faults answer }
 {
     match answer {
@@ -131,10 +135,10 @@ impl<R: Files + Drop> Library for FolderLibrary<R> {
     {
         let before = into.len();
         let answer = match fs::open(&self.rt, name) {
-            Ok(mut file) => loaded(&append_all(&mut file, into, LONGEST)),
-            Err(error) => refused(&error),
+            Ok(mut file) => answer_for_read(&append_all(&mut file, into, LONGEST)),
+            Err(error) => answer_for_error(&error),
         };
-        self.faults = counted(self.faults, answer);
+        self.faults = count_after(self.faults, answer);
         if answer != Loaded::Done {
             into.truncate(before);
         }

@@ -2,7 +2,7 @@
 ghost use Rattle.std.specs.Prelude.{◌≡◌, ◌≢◌, ◌≤◌, ℕ, Option, IfSome};
 ghost use Rattle.mse_outside.specs.Outside.{Rose, Appends, Table, LoadTells};
 
-/// What a load answers.
+/// What a load answers. With `Failed` the count of failures (`faults`) has risen, or stands at 2^64 - 1.
 #[derive(Clone, Copy, Debug, PartialEq, Eq)]
 pub enum Loaded {
     /// The bytes of the file were appended.

@@ -8,7 +8,7 @@ use crate::{Library, Loaded};
 use std::alloc::Global;
 use std::marker::Model;
 
-// The contents at the place of the first name that is equal.
+/// The contents at the place of the first name that is equal.
 fn find_file<'a>(names: &[String], contents: &'a [Vec<u8>], name: &str) -> Option<&'a Vec<u8>>
     requires { length names.now ≡ length contents.now }
     ensures { option_map (λ bytes. bytes.now.items) result ≡ file_at (map string_bytes names.now) (map (λ bytes. bytes.items) contents.now) name.now }

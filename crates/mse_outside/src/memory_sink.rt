@@ -8,7 +8,7 @@ use crate::{Put, Sink};
 use std::alloc::Global;
 use std::marker::Model;
 
-// How many bytes the put of this number appends, where it fails.
+/// How many bytes the put of this number appends, where it fails.
 fn find_cut(failing: &[(u64, u64)], call: u64) -> Option<u64>
     ensures { result ≡ cut_at failing.now call }
 {
@@ -75,8 +75,8 @@ impl Sink for MemorySink {
                 Err(_) => Put::OutOfMemory,
             },
             Some(count) => {
-                let taken = front(bytes, count);
-                match self.written.extend_from_slice(taken) {
+                let part = front(bytes, count);
+                match self.written.extend_from_slice(part) {
                     Ok(()) => {
                         self.faults = self.faults.saturating_add(1);
                         Put::Failed
@@ -135,7 +135,7 @@ impl Sink for SureSink {
     }
 }
 
-// The first bytes, or all where there are not so many.
+/// The first bytes, or all where there are not so many.
 fn front(bytes: &[u8], count: u64) -> &[u8]
     ensures { result.now ≡ take count bytes.now }
 {

@@ -2,7 +2,7 @@
 ghost use Rattle.std.specs.Prelude.{◌≡◌, ◌≤◌, ℕ, List, Option};
 ghost use Rattle.mse_outside.specs.Outside.{Rose, PutsOn};
 
-/// What a put answers.
+/// What a put answers. With `Failed` the count of failures (`faults`) has risen, or stands at 2^64 - 1.
 #[derive(Clone, Copy, Debug, PartialEq, Eq)]
 pub enum Put {
     /// All bytes were appended.

@@ -30,7 +30,7 @@ impl<R: Print + Drop> StdoutSink<R> {
     }
 }
 
-// Whether all of the bytes were taken.
+/// Whether all of the bytes were taken.
 fn write_whole<R: Print>(rt: &R, bytes: &[u8]) -> bool {
     let mut rest = bytes;
     for _ in 0..u64::MAX {

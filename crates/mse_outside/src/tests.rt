@@ -1,7 +1,7 @@
 // What no clause says: that calls succeed where there is memory, and what the real folder and standard output do.
 ghost use Rattle.std.specs.Prelude.{◌≡◌, ◌<◌, IfOk, vec_len, length};
 
-use crate::folder::{Stop, append_all};
+use crate::folder::{ReadStop, append_all};
 use crate::*;
 use std::alloc::{AllocError, Global};
 use std::cell::RefCell;
@@ -110,16 +110,16 @@ impl io::Read for Pieces<'_> {
 fn reads_up_to_the_most(rt: HostRuntime) -> Result<(), Fail> {
     let cases = [
         (5, None, Ok(()), b"abcde".as_slice()),
-        (4, None, Err(Stop::TooLong), b"abcd"),
-        (3, None, Err(Stop::TooLong), b"ab"),
+        (4, None, Err(ReadStop::TooLong), b"abcd"),
+        (3, None, Err(ReadStop::TooLong), b"ab"),
         (
             9,
             Some(3),
-            Err(Stop::Reader(io::ErrorKind::BrokenPipe)),
+            Err(ReadStop::Reader(io::ErrorKind::BrokenPipe)),
             b"ab",
         ),
         (9, Some(9), Ok(()), b"abcde"),
-        (0, None, Err(Stop::TooLong), b""),
+        (0, None, Err(ReadStop::TooLong), b""),
     ];
     for (most, failing, want, appended) in cases {
         let mut into = Vec::new(rt.alloc());
@@ -140,7 +140,7 @@ fn reads_up_to_the_most(rt: HostRuntime) -> Result<(), Fail> {
     assert_eq!(rt; append_all(&mut b"abc".as_slice(), &mut into, 3), Ok(()));
     assert_eq!(rt;
         append_all(&mut b"abcd".as_slice(), &mut into, 3),
-        Err(Stop::TooLong)
+        Err(ReadStop::TooLong)
     );
     assert_eq!(rt; into.as_slice(), b"abc".as_slice());
     Ok(())
@@ -153,7 +153,7 @@ fn puts_on_standard_output(rt: HostRuntime) {
     assert_eq!(rt; sink.put(b""), Put::Done);
 }
 
-// Takes at most two bytes at a time, and none where it has ten.
+/// Takes at most two bytes at a time, and none where it has ten.
 #[derive(Drop)]
 struct Slow<'a> {
     taken: &'a RefCell<Vec<u8>>,

@@ -21,7 +21,8 @@ pub record IsCodecs (parameter : List ℕ) : Type 0 where
   pub after : ℕ
   pub value : List ℕ
   pub codecs : List ℕ
-  pub written : parameter ≡ replicate before 32 ++ (codes ";" ++ (replicate after 32 ++ (codes "codecs=" ++ value)))
+  pub written : parameter
+      ≡ replicate before 32 ++ (codes ";" ++ (replicate after 32 ++ (codes "codecs=" ++ value)))
   pub holds : IsQuoted value codecs ⊎ IsBare value codecs
   pub known : AllPass names_codec (slice_split is_comma codecs)
 

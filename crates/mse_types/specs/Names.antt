@@ -15,12 +15,16 @@ container_of essence =
 
 -- the first elements of the codecs parameter that are known (RFC 6381, section 3.3)
 abbrev pub codec_names : List (List ℕ)
-codec_names = codes "avc1" ∷ codes "avc3" ∷ codes "hvc1" ∷ codes "hev1" ∷ codes "av01" ∷ codes "vp09" ∷ codes "mp4a"
+codec_names =
+    codes "avc1" ∷ codes "avc3" ∷ codes "hvc1" ∷ codes "hev1" ∷ codes "av01" ∷ codes "vp09"
+    ∷ codes "mp4a"
     ∷ codes "Opus" ∷ codes "opus" ∷ codes "fLaC" ∷ codes "flac" ∷ codes "ac-3" ∷ codes "ec-3" ∷ []
 
 -- the sample entries that are known (ISO/IEC 14496-12, 8.5.2)
 abbrev pub sample_entries : List (List ℕ)
-sample_entries = codes "avc1" ∷ codes "avc3" ∷ codes "hvc1" ∷ codes "hev1" ∷ codes "av01" ∷ codes "vp09" ∷ codes "mp4a"
+sample_entries =
+    codes "avc1" ∷ codes "avc3" ∷ codes "hvc1" ∷ codes "hev1" ∷ codes "av01" ∷ codes "vp09"
+    ∷ codes "mp4a"
     ∷ codes "Opus" ∷ codes "fLaC" ∷ codes "ac-3" ∷ codes "ec-3" ∷ []
 
 -- whether a name is one of these

@@ -30,7 +30,9 @@ without_trailing_spaces bs = take (length bs - suffix_len is_space bs) bs
 
 -- a part of the list of codecs names a codec: up to its first full stop, without the spaces round it
 abbrev pub names_codec : List ℕ → Bool
-names_codec part = is_among codec_names (before_first is_full_stop (without_trailing_spaces (without_leading_spaces part)))
+names_codec part =
+    is_among codec_names
+    (before_first is_full_stop (without_trailing_spaces (without_leading_spaces part)))
 
 -- each part between the commas does
 abbrev pub names_codecs : List ℕ → Bool
@@ -38,11 +40,13 @@ names_codecs codecs = list_all names_codec (slice_split is_comma codecs)
 
 -- what stands after a text, where the bytes begin with it
 abbrev pub after_text : List ℕ → List ℕ → Option (List ℕ)
-after_text text bs = if bytes_eq (take (length text) bs) text then Some (drop (length text) bs) else None
+after_text text bs =
+    if bytes_eq (take (length text) bs) text then Some (drop (length text) bs) else None
 
 -- what stands before the first double quote, where that is the last byte
 abbrev pub quoted_list : List ℕ → Option (List ℕ)
-quoted_list bs = if position_or_len is_quote bs + 1 == length bs then Some (before_first is_quote bs) else None
+quoted_list bs =
+    if position_or_len is_quote bs + 1 == length bs then Some (before_first is_quote bs) else None
 
 -- a value without quotes
 abbrev pub ends_bare : ℕ → Bool
@@ -58,7 +62,11 @@ list_in (b ∷ bs) = if b == 34 then quoted_list bs else bare_list (b ∷ bs)
 
 -- the list of codecs in what follows the media type
 abbrev pub codecs_in : List ℕ → Option (List ℕ)
-codecs_in rest = option_and_then (λ parameter. option_and_then list_in (after_text (codes "codecs=") (without_leading_spaces parameter))) (after_text (codes ";") (without_leading_spaces rest))
+codecs_in rest =
+    option_and_then
+    (λ parameter. option_and_then list_in
+    (after_text (codes "codecs=") (without_leading_spaces parameter)))
+    (after_text (codes ";") (without_leading_spaces rest))
 
 -- nothing follows the media type, or a list of known codecs does
 abbrev pub ends_well : List ℕ → Bool
@@ -72,4 +80,6 @@ answer_of (Some container) well = if well then Supported container else Unsuppor
 -- each media type has nine letters
 abbrev pub type_of : List ℕ → TypeAnswer
 type_of [] = Empty
-type_of (b ∷ bs) = answer_of (container_of (str_to_ascii_lowercase (take 9 (b ∷ bs)))) (ends_well (drop 9 (b ∷ bs)))
+type_of (b ∷ bs) =
+    answer_of (container_of (str_to_ascii_lowercase (take 9 (b ∷ bs))))
+    (ends_well (drop 9 (b ∷ bs)))

@@ -59,12 +59,12 @@ fn codec_list(value: &[u8]) -> Option<&[u8]>
     ensures { option_copied result ≡ list_in value.now }
 {
     match value {
-        [b'"', rest @ ..] => quoted(rest),
-        _ => bare(value),
+        [b'"', rest @ ..] => quoted_value(rest),
+        _ => bare_value(value),
     }
 }
 
-fn quoted(rest: &[u8]) -> Option<&[u8]>
+fn quoted_value(rest: &[u8]) -> Option<&[u8]>
     ensures { option_copied result ≡ quoted_list rest.now }
 {
     let end = len_before(rest, b'"');
@@ -75,7 +75,7 @@ fn quoted(rest: &[u8]) -> Option<&[u8]>
     }
 }
 
-fn bare(value: &[u8]) -> Option<&[u8]>
+fn bare_value(value: &[u8]) -> Option<&[u8]>
     ensures { option_copied result ≡ bare_list value.now }
 {
     if value.iter().any(|b| *b == b' ' || *b == b'"' || *b == b',') {
@@ -94,8 +94,8 @@ fn are_codecs(list: &[u8]) -> bool
 fn is_codec(part: &[u8]) -> bool
     ensures { result ≡ names_codec part.now }
 {
-    let trimmed = trim_end(trim_start(part));
-    is_codec_name(&trimmed[..len_before(trimmed, b'.')])
+    let codec = trim_end(trim_start(part));
+    is_codec_name(&codec[..len_before(codec, b'.')])
 }
 
 /// How many bytes stand before the first that is `byte`: all, if none is.

@@ -1,5 +1,5 @@
 -- What `ranges` and `pieces` print of one file.
-use Rattle.std.proofs.Common.{◌≡◌, ℕ, zero, suc, ◌+◌, ◌≤◌, ◌<◌, ◌^◌, ◌-◌, pos, Bool, true, false, List, [], ◌∷◌, ◌++◌, length, refl, ap, sym, subst, ◌∙◌, arith, ⊎_elim, inl, inr}
+use Rattle.std.proofs.Common.{◌≡◌, ℕ, zero, suc, ◌+◌, ◌≤◌, ◌<◌, ◌^◌, ◌-◌, ℤ, pos, Bool, true, false, List, [], ◌∷◌, ◌++◌, length, refl, ap, sym, subst, ◌∙◌, arith, ⊎_elim, inl, inr}
 use Rattle.std.specs.Prelude.{◌⊎◌, min, Option, Some, None, IfSome, IsSome, IsSomeAnd, is_some, Result, Ok, ok_or, bytes_eq, codes, option_map, if◌then◌else◌}
 use Rattle.std.proofs.lemmas.Bool.{cases_lt}
 use Rattle.mse_outside.specs.Outside.{Table}
@@ -26,14 +26,14 @@ use Rattle.file_law.proofs.Wholes.{behind, in-parts, one-piece, whole-core}
 use Rattle.mseplay.specs.declared.ending.Status.{Status}
 use Rattle.mseplay.specs.declared.ending.Status.TheVariants as status
 use Rattle.mseplay.specs.declared.words.Command.{Command}
-use Rattle.mseplay.specs.declared.words.Command.TheVariants.{Ranges, Pieces, Make, Play}
+use Rattle.mseplay.specs.declared.words.Command.TheVariants.{Ranges, Pieces, Make, Play, Remux, Feed}
 use Rattle.mseplay.specs.declared.ending.End.{End}
 use Rattle.mseplay.specs.declared.ending.End.TheVariants.{NoFile}
 use Rattle.mseplay.specs.Asked.{Request, Task, ByFile, asked, opening_of, request_of, ◌>>=◌}
 use Rattle.mseplay.specs.Files.{AppendsFile, IsJournalOf, IsThrough, NameOneFile}
 use Rattle.mseplay.specs.Outcomes.{Ends, EndsBehind, EndsRun, Left}
 use Rattle.mseplay.specs.Shown.{IsAppends, IsWholeFile, StopsAtFault, append_entry, last_state, open_entries, pieces_by, pieces_of, text_of}
-use Rattle.mseplay.specs.Words.{IsInRange, command_of, file_of, longest_piece, most_segments, number_of}
+use Rattle.mseplay.specs.Words.{IsInRange, command_of, file_of, finite_time, longest_piece, most_segments, number_of}
 use Rattle.mseplay.proofs.Numbers.{bounds_by}
 use Rattle.mseplay.proofs.Pieces.{HasNext, IsLeft, all_left, next_left, none_left}
 
@@ -108,6 +108,8 @@ pieces-parts (Pieces size) bytes a r =
     subst (λ n. AreParts 0 bytes 0 n (pieces_of size (length bytes))) all (parts-left (pieces_of size (length bytes)) bytes size 0 r (omega arith) (all_left size (length bytes)))
 pieces-parts (Make count) bytes a r = absurd a
 pieces-parts Play bytes a r = absurd a
+pieces-parts Remux bytes a r = absurd a
+pieces-parts (Feed at) bytes a r = absurd a
 
 -- ---- the empty file, which may have no piece
 
@@ -155,6 +157,8 @@ block-is Ranges bytes entries a = refl
 block-is (Pieces count) bytes entries a = refl
 block-is (Make count) bytes entries a = absurd a
 block-is Play bytes entries a = absurd a
+block-is Remux bytes entries a = absurd a
+block-is (Feed at) bytes entries a = absurd a
 
 same-text : (a b : Command) (bytes others : List ℕ) (xs ys : List Entry) → AppendsFile a → AppendsFile b → (last_state (ByFile a bytes) xs).core ≡ (last_state (ByFile b others) ys).core
     → text_of (ByFile a bytes) xs ≡ text_of (ByFile b others) ys
@@ -177,34 +181,41 @@ fault-text a b bytes more entries others long short p fault q =
 
 -- ---- runs
 
-two-range : (t u v : Bool) (o : Option ℕ) → IfSome o (λ n. (1 ≤ n) × (n ≤ most_segments))
-    → IfSome (if t then Some Ranges else (if u then Some Play else (if v then option_map (λ n. Make n) o else None))) IsInRange
-two-range true u v o h = tt
-two-range false true v o h = tt
-two-range false false true None h = tt
-two-range false false true (Some n) h = h
-two-range false false false o h = tt
+two-range : (t u v w : Bool) (o : Option ℕ) → IfSome o (λ n. (1 ≤ n) × (n ≤ most_segments))
+    → IfSome (if t then Some Ranges else (if u then Some Play else (if v then Some Remux else (if w then option_map (λ n. Make n) o else None)))) IsInRange
+two-range true u v w o h = tt
+two-range false true v w o h = tt
+two-range false false true w o h = tt
+two-range false false false true None h = tt
+two-range false false false true (Some n) h = h
+two-range false false false false o h = tt
 
-three-range : (t : Bool) (o : Option ℕ) → IfSome o (λ n. (1 ≤ n) × (n ≤ longest_piece)) → IfSome (if t then option_map (λ n. Pieces n) o else None) IsInRange
-three-range true None h = tt
-three-range true (Some n) h = h.0
-three-range false o h = tt
+three-range : (t u : Bool) (o : Option ℕ) (at : Option ℤ) → IfSome o (λ n. (1 ≤ n) × (n ≤ longest_piece))
+    → IfSome (if t then option_map (λ n. Pieces n) o else (if u then option_map (λ x. Feed x) at else None)) IsInRange
+three-range true u None at h = tt
+three-range true u (Some n) at h = h.0
+three-range false true o None h = tt
+three-range false true o (Some x) h = tt
+three-range false false o at h = tt
 
 command-range : (words : List (List ℕ)) → IfSome (command_of words) IsInRange
 command-range [] = tt
 command-range (name ∷ []) = tt
 command-range (name ∷ word ∷ []) =
-    two-range (bytes_eq name (codes "ranges")) (bytes_eq name (codes "play")) (bytes_eq name (codes "make")) (number_of most_segments word)
+    two-range (bytes_eq name (codes "ranges")) (bytes_eq name (codes "play")) (bytes_eq name (codes "remux")) (bytes_eq name (codes "make")) (number_of most_segments word)
     (bounds_by most_segments word (number_of most_segments word) (omega arith) refl)
-command-range (name ∷ count ∷ file ∷ []) =
-    three-range (bytes_eq name (codes "pieces")) (number_of longest_piece count) (bounds_by longest_piece count (number_of longest_piece count) (omega arith) refl)
-command-range (name ∷ count ∷ file ∷ more ∷ words) = tt
+command-range (name ∷ word ∷ file ∷ []) =
+    three-range (bytes_eq name (codes "pieces")) (bytes_eq name (codes "feed")) (number_of longest_piece word) (finite_time word)
+    (bounds_by longest_piece word (number_of longest_piece word) (omega arith) refl)
+command-range (name ∷ word ∷ file ∷ more ∷ words) = tt
 
 task-is : (command : Command) (files : Table) (name bytes : List ℕ) → AppendsFile command → files name ≡ Some bytes → (request_of files name (Some command)).task ≡ Ok (ByFile command bytes)
 task-is Ranges files name bytes a e = ap (λ o. ok_or o (NoFile name) >>= (λ b. Ok (ByFile Ranges b))) e
 task-is (Pieces count) files name bytes a e = ap (λ o. ok_or o (NoFile name) >>= (λ b. Ok (ByFile (Pieces count) b))) e
 task-is (Make count) files name bytes a e = absurd a
 task-is Play files name bytes a e = absurd a
+task-is Remux files name bytes a e = absurd a
+task-is (Feed at) files name bytes a e = absurd a
 
 -- the words ask for the file
 record Names (files : Table) (words : List (List ℕ)) (bytes : List ℕ) : Type 0 where

@@ -10,3 +10,5 @@ pub mod Saying
 pub mod Scripting
 pub mod Blocks
 pub mod Completing
+pub mod Putting
+pub mod Tracking

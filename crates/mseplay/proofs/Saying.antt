@@ -18,7 +18,7 @@ use Rattle.mseplay.specs.declared.ending.End.{End}
 use Rattle.mseplay.specs.declared.ending.End.TheVariants.{Memory, Write, Words, NoFile, Read, Script, CallBudget, TaskBudget}
 use Rattle.mseplay.specs.declared.ending.Status.{Status}
 use Rattle.mseplay.specs.declared.ending.Status.TheVariants as status
-use Rattle.mseplay.specs.Asked.{OfWords, Request, Task, ByScript, ByFile}
+use Rattle.mseplay.specs.Asked.{OfWords, Request, Task, ByScript, ByFile, ByRemux}
 use Rattle.mseplay.specs.Endings.{error_line, status_of}
 use Rattle.mseplay.specs.Outcomes.{Ends, EndsBehind, EndsBy, EndsByRead, EndsRun, EndsShort, EndsWith, FailedRead, HasCause, HaveTheirRules, IsBroken, IsHeardTo, Left, RanFront, RanNothing, Said, SaidFront, SaidSome, WroteText}
 use Rattle.mseplay.specs.Says.{SaidHalf, SaidWhole, Says, SaysLine}
@@ -40,10 +40,12 @@ failed_again request left new p = record { name = p.name; rose = p.rose; reached
 rules_again : (task : Task) (left : Left) (new : Option (List ℕ)) → HaveTheirRules task left → HaveTheirRules task (with_written left new)
 rules_again (ByScript script blobs) left new p = p
 rules_again (ByFile command bytes) left new p = p
+rules_again (ByRemux bytes) left new p = p
 
 heard_again : (task : Task) (h : Halt) (left : Left) (new : Option (List ℕ)) → IsHeardTo task h left → IsHeardTo task h (with_written left new)
 heard_again (ByScript script blobs) h left new p = p
 heard_again (ByFile command bytes) h left new p = p
+heard_again (ByRemux bytes) h left new p = p
 
 front_again : (count : ℕ) (task : Task) (left : Left) (new : Option (List ℕ)) → RanFront count task left → RanFront count task (with_written left new)
 front_again count task left new p = record {
@@ -62,6 +64,7 @@ cause_again (ByScript script blobs) left (NoFile name) new p = absurd p
 cause_again (ByScript script blobs) left (Read name) new p = absurd p
 cause_again (ByScript script blobs) left (Script fault) new p = absurd p
 cause_again (ByFile command bytes) left end new p = absurd p
+cause_again (ByRemux bytes) left end new p = absurd p
 
 -- what was heard where a limit was passed, and then memory or the sink was wanting
 over_heard : (spent : List Entry → Type 0) (over : Stop) (h : Halt) (es : List Entry) (n0 n1 : List (List Note)) → IsOverLimit spent over es n0 n1 → HeardTo spent h es n0 n1
@@ -78,6 +81,7 @@ cause_heard (ByScript script blobs) h left (NoFile name) p = absurd p
 cause_heard (ByScript script blobs) h left (Read name) p = absurd p
 cause_heard (ByScript script blobs) h left (Script fault) p = absurd p
 cause_heard (ByFile command bytes) h left end p = absurd p
+cause_heard (ByRemux bytes) h left end p = absurd p
 
 -- ---- without an error line
 
@@ -92,10 +96,12 @@ some_true (Some f) e = refl
 not_broken : (task : Task) (entries : List Entry) → false ≡ broken_in task entries → ¬ IsBroken task entries
 not_broken (ByScript script blobs) entries e = λ x. x
 not_broken (ByFile command bytes) entries e = none_false (last_state (ByFile command bytes) entries).core.source.fault e
+not_broken (ByRemux bytes) entries e = λ x. cc (e, x)
 
 broken_by : (task : Task) (entries : List Entry) → true ≡ broken_in task entries → IsBroken task entries
 broken_by (ByScript script blobs) entries e = absurd (cc)
 broken_by (ByFile command bytes) entries e = some_true (last_state (ByFile command bytes) entries).core.source.fault e
+broken_by (ByRemux bytes) entries e = sym e
 
 pub ends_whole : (count : ℕ) (request : Request) (task : Result Task End) (left : Left) → WorksBy count request task left (Ok false) → EndsBehind count request task left status.Ok
 ends_whole count request (Ok task) left p = (p.ran, not_broken task left.entries p.broken_is)

@@ -4,11 +4,9 @@ use Rattle.std.specs.Prelude.{Bool, false, is_some, Option, Some, None, Result, 
 use Rattle.mse_outside.specs.Outside.{Table}
 use Rattle.mse_calls.specs.declared.rules.Rule.{Rule}
 use Rattle.mse_calls.specs.declared.entry.Entry.{Entry}
-use Rattle.event_text.specs.Block.{closing_text}
 use Rattle.listeners.specs.declared.listener.Note.{Note}
 use Rattle.mse_engine.specs.State.{State}
 use Rattle.mse_engine.specs.Standing.{Kept, Stands}
-use Rattle.mse_engine.specs.Views.{view_in}
 use Rattle.script_run.specs.declared.stop.Halt.{Halt}
 use Rattle.script_run.specs.declared.stop.Halt.TheVariants as halt
 use Rattle.script_run.specs.Stage.{RunView}
@@ -18,34 +16,24 @@ use Rattle.mseplay.specs.declared.ending.End.TheVariants.{Memory, Words}
 use Rattle.mseplay.specs.declared.words.Command.{Command}
 use Rattle.mseplay.specs.Asked.{OfCommand, OfWords, request_of}
 use Rattle.mseplay.specs.Endings.{end_of_halt}
-use Rattle.mseplay.specs.Heading.{heading_of}
 use Rattle.mseplay.specs.Outcomes.{Left, left}
-use Rattle.mseplay.specs.Shown.{pieces_by}
+use Rattle.mseplay.specs.Shown.{file_closing, pieces_by}
 use Rattle.mseplay.specs.Words.{command_of, file_of}
 use Rattle.mseplay.specs.Works.{Appended, AppendedFront, ShowsFile, Works}
-use Rattle.mseplay.proofs.Appending.{front_none as appended_none}
 use Rattle.mseplay.proofs.Working.{did_nothing}
 
 pub shows_front : (command : Command) (bytes : List ℕ) (a b : RunView) (w : Option (List ℕ)) → AppendedFront bytes (pieces_by command (length bytes)) a b → ShowsFile command bytes a b w w (Err Memory)
 shows_front command bytes a b w p = inl (p, refl)
 
-pub shows_none : (command : Command) (bytes : List ℕ) (a : RunView) (w : Option (List ℕ)) → ShowsFile command bytes a a w w (Err Memory)
-shows_none command bytes a w = inl (appended_none bytes (pieces_by command (length bytes)) a, refl)
-
-pub shows_all : (command : Command) (bytes before : List ℕ) (a b : RunView) (w0 w1 : Option (List ℕ)) (broken : Bool) → Appended bytes (pieces_by command (length bytes)) a b
-    → before ≡ heading_of command (length bytes) → ((st : State) → Stands b.engine st → Wrote (before ++ closing_text (view_in st) false) w0 w1)
+pub shows_all : (command : Command) (bytes : List ℕ) (a b : RunView) (w0 w1 : Option (List ℕ)) (broken : Bool) → Appended bytes (pieces_by command (length bytes)) a b
+    → ((st : State) → Stands b.engine st → Wrote (file_closing command (length bytes) st) w0 w1)
     → ((st : State) → Stands b.engine st → broken ≡ is_some st.core.source.fault) → ShowsFile command bytes a b w0 w1 (Ok broken)
-shows_all command bytes before a b w0 w1 broken p is wrote broken_is = record {
-  appended = p;
-  shown = record { wrote = λ st h. subst (λ (x : List ℕ). Wrote (x ++ closing_text (view_in st) false) w0 w1) is (wrote st h) };
-  broken_is = broken_is;
-}
+shows_all command bytes a b w0 w1 broken p wrote broken_is = record { appended = p; shown = record { wrote = wrote }; broken_is = broken_is }
 
-pub shows_half : (command : Command) (bytes before : List ℕ) (a b : RunView) (w0 w1 : Option (List ℕ)) (h : Halt) → Appended bytes (pieces_by command (length bytes)) a b
-    → before ≡ heading_of command (length bytes) → ((st : State) → Stands b.engine st → WroteFront (before ++ closing_text (view_in st) false) w0 w1)
-    → ShowsFile command bytes a b w0 w1 (Err (end_of_halt h))
-shows_half command bytes before a b w0 w1 halt.Memory p is wrote = inr (p, λ st h. subst (λ (x : List ℕ). WroteFront (x ++ closing_text (view_in st) false) w0 w1) is (wrote st h))
-shows_half command bytes before a b w0 w1 halt.Write p is wrote = inr (p, λ st h. subst (λ (x : List ℕ). WroteFront (x ++ closing_text (view_in st) false) w0 w1) is (wrote st h))
+pub shows_half : (command : Command) (bytes : List ℕ) (a b : RunView) (w0 w1 : Option (List ℕ)) (h : Halt) → Appended bytes (pieces_by command (length bytes)) a b
+    → ((st : State) → Stands b.engine st → WroteFront (file_closing command (length bytes) st) w0 w1) → ShowsFile command bytes a b w0 w1 (Err (end_of_halt h))
+shows_half command bytes a b w0 w1 halt.Memory p wrote = inr (p, wrote)
+shows_half command bytes a b w0 w1 halt.Write p wrote = inr (p, wrote)
 
 -- ---- what was asked for
 

@@ -1,6 +1,6 @@
 -- What was done of what was asked for.
 use Rattle.std.proofs.Common.{◌≡◌, ◌^◌, ◌<◌, ◌≤◌, ℕ, suc, List, [], ◌∷◌, ◌++◌, length, refl, ap, sym, ◌∙◌, subst, arith, inl, inr, pos}
-use Rattle.std.specs.Prelude.{Bool, true, false, Option, Some, None, IfSome, Result, Ok, Err, ◌⊎◌}
+use Rattle.std.specs.Prelude.{Bool, true, false, Option, Some, None, IfSome, Result, Ok, Err, is_err, ◌⊎◌}
 use Rattle.std.proofs.lemmas.List.{append-nil}
 use Rattle.mse_outside.specs.Outside.{Rose, Table}
 use Rattle.bmff_write.specs.Made.{made_bytes}
@@ -17,6 +17,7 @@ use Rattle.mse_engine.specs.Views.{view_in}
 use Rattle.mse_engine.proofs.Goes.{goes_none}
 use Rattle.event_text.specs.Block.{closing_text}
 use Rattle.listeners.specs.declared.listener.Note.{Note}
+use Rattle.remux.specs.Remuxed.{remuxed}
 use Rattle.script_run.specs.declared.stop.Halt.{Halt}
 use Rattle.script_run.specs.declared.stop.Halt.TheVariants as halt
 use Rattle.script_run.specs.declared.stop.Stop.{Stop}
@@ -26,19 +27,20 @@ use Rattle.script_run.specs.Lines.{Limits, limits}
 use Rattle.script_run.specs.Stage.{RunView, Stage}
 use Rattle.script_run.specs.Text.{lines_of}
 use Rattle.script_run.specs.Turns.{SpentInLine}
-use Rattle.script_run.specs.Wrote.{WroteFront}
+use Rattle.script_run.specs.Wrote.{Wrote, WroteFront}
 use Rattle.script_run.proofs.Cutting.{heard_to_all}
 use Rattle.script_run.proofs.Telling.{heard_none}
 use Rattle.script_run.proofs.Writing.{front_more, front_none, wrote_more}
 use Rattle.mseplay.specs.declared.ending.End.{End}
 use Rattle.mseplay.specs.declared.ending.End.TheVariants.{Memory, Write, Words, NoFile, Read, Script, CallBudget, TaskBudget}
 use Rattle.mseplay.specs.declared.words.Command.{Command}
-use Rattle.mseplay.specs.declared.words.Command.TheVariants.{Ranges, Pieces, Make, Play}
-use Rattle.mseplay.specs.Asked.{IsFileCommand, IsLackOf, IsReadOf, IsTaskOf, OfCommand, Request, Task, ByScript, ByFile, blobs_bytes, file_by, file_request, file_task, files_by, files_in, files_of_script, opening_of, request_of, script_loaded, script_request, script_task}
+use Rattle.mseplay.specs.declared.words.Command.TheVariants.{Ranges, Pieces, Make, Play, Remux, Feed}
+use Rattle.mseplay.specs.Asked.{IsFileCommand, IsLackOf, IsReadOf, IsTaskOf, OfCommand, Request, Task, ByScript, ByFile, ByRemux, blobs_bytes, file_by, file_request, file_task, files_by, files_in, files_of_script, loaded, opening_of, remux_request, remux_task, request_of, script_loaded, script_request, script_task}
 use Rattle.mseplay.specs.Loads.{IsMade, IsReached, IsUnmade, LoadEnd, ScriptEnd}
+use Rattle.mseplay.specs.Endings.{end_of_halt}
 use Rattle.mseplay.specs.Outcomes.{HaveRules, IsRun, Left, RanFront, RanWhole, left}
-use Rattle.mseplay.specs.Heading.{heading_of}
-use Rattle.mseplay.specs.Shown.{IsAllOf, IsWholeFile, last_state, pieces_by, text_of}
+use Rattle.mseplay.specs.Remuxing.{remux_text}
+use Rattle.mseplay.specs.Shown.{IsAllOf, IsWholeFile, file_closing, last_state, pieces_by, text_of}
 use Rattle.mseplay.specs.Works.{Appended, AppendedFront, DidAll, DidNothing, DidSome, DidUpTo, FileShown, FileShownFront, PlaysScript, ScriptHalf, ScriptPlayed, ScriptShort, ScriptStopped, ScriptUnplayed, ShownFront, ShowsFile, Works, WorksBy, WorksOn}
 use Rattle.mseplay.proofs.Loading.{end_as, reached_behind, reached_first, reached_more, script_there}
 
@@ -129,6 +131,8 @@ file_request_is : (files : Table) (name : List ℕ) (command : Command) → IsFi
 file_request_is files name Ranges f = refl
 file_request_is files name (Pieces count) f = refl
 file_request_is files name (Make count) f = refl
+file_request_is files name (Feed at) f = refl
+file_request_is files name Remux f = absurd f
 file_request_is files name Play f = absurd f
 
 -- a file that was not made, for want of memory
@@ -140,6 +144,8 @@ untold_by : {A : Type 0} (count : ℕ) (name : List ℕ) (command : Command) (af
 untold_by count name Ranges after names told end f u n p = untold_file count name Ranges after names told end (λ other. tt) n p
 untold_by count name (Pieces size) after names told end f u n p = untold_file count name (Pieces size) after names told end (λ other. tt) n p
 untold_by count name (Make made) after names told end f u n p = unmade_file count name made after end n u
+untold_by count name (Feed at) after names told end f u n p = untold_file count name (Feed at) after names told end (λ other. tt) n p
+untold_by count name Remux after names told end f u n p = absurd f
 untold_by count name Play after names told end f u n p = absurd f
 
 pub file_not_loaded : (table : Option Table) (a b : ℕ) (name : List ℕ) (command : Command) (end : End) (entries : List Entry) (engine : Option Kept) (written : Option (List ℕ))
@@ -190,7 +196,7 @@ file_begun count h command bytes a b w0 w1 f0 f1 notes rules stands fresh p same
 -- all was appended, and a front of the text was written
 file_half : (count : ℕ) (h : Halt) (command : Command) (bytes : List ℕ) (a b : RunView) (w0 w1 : Option (List ℕ)) (f0 f1 : ℕ) (notes : List (List Note)) (rules : List (List Rule))
     → Stands a.engine (opening_of (ByFile command bytes)) → a.entries ≡ [] → Appended bytes (pieces_by command (length bytes)) a b
-    → ShownFront (heading_of command (length bytes)) false b w0 w1
+    → ShownFront (file_closing command (length bytes)) b w0 w1
     → DidSome count h (ByFile command bytes) (left b.entries (Some b.engine) f0 f1 w0 w1 notes notes rules rules)
 file_half count h command bytes a b w0 w1 f0 f1 notes rules stands fresh p shown =
     let es : List Entry = p.entries in
@@ -251,6 +257,8 @@ untold_task : (command : Command) (bytes : List ℕ) → IsFileCommand command �
 untold_task Ranges bytes f m = refl
 untold_task (Pieces count) bytes f m = refl
 untold_task (Make count) bytes f m = (refl, m)
+untold_task (Feed at) bytes f m = refl
+untold_task Remux bytes f m = absurd f
 untold_task Play bytes f m = absurd f
 
 pub file_works : (table : Option Table) (f0 f1 : ℕ) (name bytes : List ℕ) (command : Command) (a b : RunView) (w0 w1 : Option (List ℕ)) (count : ℕ) (notes : List (List Note)) (rules : List (List Rule))
@@ -267,6 +275,74 @@ file_works (Some files) f0 f1 name bytes command a b w0 w1 count notes rules res
       works_on count request (ByFile command bytes) (left b.entries (Some b.engine) f0 f1 w0 w1 notes notes rules rules) result (file_goes files name command bytes is)
           (file_worked count request command bytes a b w0 w1 f0 f1 notes rules result stands fresh p),
     )
+
+-- ---- a classic file
+
+remux_fails : (files : Table) (name : List ℕ) (end : End) → loaded files name ≡ Err end → remux_task files name ≡ Err end
+remux_fails files name end e = rw e refl
+
+remux_goes : (files : Table) (name bytes : List ℕ) → loaded files name ≡ Ok bytes → remux_task files name ≡ Ok (ByRemux bytes)
+remux_goes files name bytes e = rw e refl
+
+pub remux_not_loaded : (table : Option Table) (a b : ℕ) (name : List ℕ) (end : End) (written : Option (List ℕ)) (count : ℕ) (notes : List (List Note)) (rules : List (List Rule))
+    → LoadEnd table a b (name ∷ []) (λ files. loaded files name) end
+    → OfCommand table name (Some Remux) (λ request. Works count request (left [] None a b written written notes notes rules rules) (Err end))
+remux_not_loaded None a b name end written count notes rules p =
+    untold_file count name Remux (left [] None a b written written notes notes rules rules) (name ∷ []) (λ files. loaded files name) end (λ other. tt) (did_nothing a b written notes rules) p
+remux_not_loaded (Some files) a b name end written count notes rules p =
+    let after : Left = left [] None a b written written notes notes rules rules in
+    let request : Request = remux_request files name in (
+      request,
+      refl,
+      not_loaded_by count request (remux_task files name) after end (did_nothing a b written notes rules)
+          (told_file files request (remux_task files name) after (name ∷ []) (loaded files name) end (remux_fails files name end) (λ n q. q) p),
+    )
+
+-- nothing is in the journal, and there is no engine
+remux_ran : (bytes : List ℕ) (a b : ℕ) (w0 w1 : Option (List ℕ)) (notes : List (List Note)) (rules : List (List Rule)) → IsRun (ByRemux bytes) (left [] None a b w0 w1 notes notes rules rules)
+remux_ran bytes a b w0 w1 notes rules = record { replays = tt; sound = tt; engine = refl }
+
+remux_whole : (count : ℕ) (request : Request) (bytes : List ℕ) (a b : ℕ) (w0 w1 : Option (List ℕ)) (notes : List (List Note)) (rules : List (List Rule)) (broken : Bool)
+    → Wrote (remux_text bytes) w0 w1 → broken ≡ is_err (remuxed bytes) → WorksOn count request (ByRemux bytes) (left [] None a b w0 w1 notes notes rules rules) (Ok broken)
+remux_whole count request bytes a b w0 w1 notes rules broken wrote is = record {
+  ran = record { run = remux_ran bytes a b w0 w1 notes rules; all = refl; wrote = wrote; heard = (refl, refl) };
+  broken_is = is;
+}
+
+remux_some : (count : ℕ) (h : Halt) (bytes : List ℕ) (a b : ℕ) (w0 w1 : Option (List ℕ)) (notes : List (List Note)) (rules : List (List Rule)) → WroteFront (remux_text bytes) w0 w1
+    → DidSome count h (ByRemux bytes) (left [] None a b w0 w1 notes notes rules rules)
+remux_some count h bytes a b w0 w1 notes rules wrote = record {
+  ran = record { run = remux_ran bytes a b w0 w1 notes rules; front = refl; rules = refl };
+  heard = refl;
+  wrote = inr (refl, wrote);
+}
+
+remux_half : (count : ℕ) (request : Request) (h : Halt) (bytes : List ℕ) (a b : ℕ) (w0 w1 : Option (List ℕ)) (notes : List (List Note)) (rules : List (List Rule)) → WroteFront (remux_text bytes) w0 w1
+    → WorksOn count request (ByRemux bytes) (left [] None a b w0 w1 notes notes rules rules) (Err (end_of_halt h))
+remux_half count request halt.Memory bytes a b w0 w1 notes rules wrote = inr (remux_some count halt.Memory bytes a b w0 w1 notes rules wrote)
+remux_half count request halt.Write bytes a b w0 w1 notes rules wrote = remux_some count halt.Write bytes a b w0 w1 notes rules wrote
+
+-- what is asked for where the file is there
+remux_asked : (table : Option Table) (name bytes : List ℕ) (count : ℕ) (after : Left) (result : Result Bool End) → IfSome table (λ files. loaded files name ≡ Ok bytes)
+    → ((request : Request) → WorksOn count request (ByRemux bytes) after result) → OfCommand table name (Some Remux) (λ request. Works count request after result)
+remux_asked None name bytes count after result is p =
+    let request : Request = record { files = λ x. None; names = []; task = Ok (ByRemux bytes) } in
+    (request, tt, p request)
+remux_asked (Some files) name bytes count after result is p =
+    let request : Request = remux_request files name in
+    (request, refl, works_on count request (ByRemux bytes) after result (remux_goes files name bytes is) (p request))
+
+pub remux_works : (table : Option Table) (a b : ℕ) (name bytes : List ℕ) (w0 w1 : Option (List ℕ)) (count : ℕ) (notes : List (List Note)) (rules : List (List Rule)) (broken : Bool)
+    → IfSome table (λ files. loaded files name ≡ Ok bytes) → Wrote (remux_text bytes) w0 w1 → broken ≡ is_err (remuxed bytes)
+    → OfCommand table name (Some Remux) (λ request. Works count request (left [] None a b w0 w1 notes notes rules rules) (Ok broken))
+remux_works table a b name bytes w0 w1 count notes rules broken is wrote broken_is =
+    remux_asked table name bytes count (left [] None a b w0 w1 notes notes rules rules) (Ok broken) is (λ request. remux_whole count request bytes a b w0 w1 notes rules broken wrote broken_is)
+
+pub remux_stops : (table : Option Table) (a b : ℕ) (name bytes : List ℕ) (w0 w1 : Option (List ℕ)) (count : ℕ) (notes : List (List Note)) (rules : List (List Rule)) (h : Halt)
+    → IfSome table (λ files. loaded files name ≡ Ok bytes) → WroteFront (remux_text bytes) w0 w1
+    → OfCommand table name (Some Remux) (λ request. Works count request (left [] None a b w0 w1 notes notes rules rules) (Err (end_of_halt h)))
+remux_stops table a b name bytes w0 w1 count notes rules h is wrote =
+    remux_asked table name bytes count (left [] None a b w0 w1 notes notes rules rules) (Err (end_of_halt h)) is (λ request. remux_half count request h bytes a b w0 w1 notes rules wrote)
 
 -- ---- a script that was not loaded
 

@@ -11,7 +11,7 @@ use Rattle.mse_engine.specs.State.{State, opening_state}
 use Rattle.mseplay.specs.declared.ending.End.{End}
 use Rattle.mseplay.specs.declared.ending.End.TheVariants.{Words, NoFile, Script}
 use Rattle.mseplay.specs.declared.words.Command.{Command}
-use Rattle.mseplay.specs.declared.words.Command.TheVariants.{Ranges, Pieces, Make, Play}
+use Rattle.mseplay.specs.declared.words.Command.TheVariants.{Ranges, Pieces, Make, Play, Remux, Feed}
 use Rattle.mseplay.specs.Words.{command_of, file_of}
 
 -- what comes of one thing goes on with the next, up to the first end
@@ -41,10 +41,12 @@ abbrev pub script_read : Result CallScript ScriptFault → Result CallScript End
 script_read (Ok script) = Ok script
 script_read (Err fault) = Err (Script fault)
 
--- What is run: a script with the bytes of its blobs, or a file that is appended.
+-- What is run: a script with the bytes of its blobs, a file that is appended, or a classic file that is turned into
+-- fragments.
 pub data Task : Type 0 where
   ByScript : CallScript → List (List ℕ) → Task
   ByFile : Command → List ℕ → Task
+  ByRemux : List ℕ → Task
 
 abbrev pub script_loaded : Table → List ℕ → Result CallScript End
 script_loaded files name = do
@@ -59,22 +61,27 @@ script_task files name = do
 
 -- the bytes that a command appends: those of a file, or those that it makes
 abbrev pub file_by : Table → List ℕ → Command → Result (List ℕ) End
-file_by files name Ranges = loaded files name
-file_by files name (Pieces count) = loaded files name
 file_by files name (Make count) = Ok (made_bytes count)
-file_by files name Play = loaded files name
+file_by files name other = loaded files name
 
 -- the command appends a file
 abbrev pub IsFileCommand : Command → Type 0
 IsFileCommand Ranges = ⊤
 IsFileCommand (Pieces count) = ⊤
 IsFileCommand (Make count) = ⊤
+IsFileCommand (Feed at) = ⊤
 IsFileCommand Play = ⊥
+IsFileCommand Remux = ⊥
 
 abbrev pub file_task : Table → List ℕ → Command → Result Task End
 file_task files name command = do
   bytes ← file_by files name command
   Ok (ByFile command bytes)
+
+abbrev pub remux_task : Table → List ℕ → Result Task End
+remux_task files name = do
+  bytes ← loaded files name
+  Ok (ByRemux bytes)
 
 -- ---- with the files that are loaded for it
 
@@ -93,10 +100,8 @@ files_of_script (Err end) = []
 
 -- the names of the files that a command loads
 abbrev pub files_by : List ℕ → Command → List (List ℕ)
-files_by name Ranges = name ∷ []
-files_by name (Pieces count) = name ∷ []
 files_by name (Make count) = []
-files_by name Play = name ∷ []
+files_by name other = name ∷ []
 
 -- What the words ask of the files of a library: the names of those that are loaded, in the order of loading, and what is
 -- run, or why nothing is.
@@ -108,6 +113,9 @@ pub record Request : Type 0 where
 abbrev pub file_request : Table → List ℕ → Command → Request
 file_request files name command = record { files = files; names = files_by name command; task = file_task files name command }
 
+abbrev pub remux_request : Table → List ℕ → Request
+remux_request files name = record { files = files; names = name ∷ []; task = remux_task files name }
+
 abbrev pub script_request : Table → List ℕ → Request
 script_request files name = record {
   files = files;
@@ -117,10 +125,9 @@ script_request files name = record {
 
 abbrev pub request_of : Table → List ℕ → Option Command → Request
 request_of files name None = record { files = files; names = []; task = Err Words }
-request_of files name (Some Ranges) = file_request files name Ranges
-request_of files name (Some (Pieces count)) = file_request files name (Pieces count)
-request_of files name (Some (Make count)) = file_request files name (Make count)
 request_of files name (Some Play) = script_request files name
+request_of files name (Some Remux) = remux_request files name
+request_of files name (Some other) = file_request files name other
 
 -- What is run, or why nothing is: the words are no command, the first file in order of loading that is not there, or the
 -- fault of the script. All files are loaded before anything is run.
@@ -138,7 +145,9 @@ abbrev pub IsTaskOf : Command → Task → Type 0
 IsTaskOf Ranges (ByFile command bytes) = command ≡ Ranges
 IsTaskOf (Pieces count) (ByFile command bytes) = command ≡ Pieces count
 IsTaskOf (Make count) (ByFile command bytes) = (command ≡ Make count) × (bytes ≡ made_bytes count)
+IsTaskOf (Feed at) (ByFile command bytes) = command ≡ Feed at
 IsTaskOf Play (ByScript script blobs) = IsReadOf (Ok script) × (length blobs ≡ length script.blobs)
+IsTaskOf Remux (ByRemux bytes) = ⊤
 IsTaskOf command task = ⊥
 
 -- why there may be none: a file is not there, or a script has a fault; what is made is always there
@@ -176,8 +185,10 @@ OfWords table words P = OfCommand table (file_of words) (command_of words) P
 abbrev pub blobs_of : Task → List (List ℕ)
 blobs_of (ByScript script blobs) = blobs
 blobs_of (ByFile command bytes) = bytes ∷ []
+blobs_of (ByRemux bytes) = []
 
 -- a file meets no quota
 abbrev pub opening_of : Task → State
 opening_of (ByScript script blobs) = opening_state script.quota (pos script.gap)
 opening_of (ByFile command bytes) = opening_state (2 ^ 62) (pos 0)
+opening_of (ByRemux bytes) = opening_state (2 ^ 62) (pos 0)

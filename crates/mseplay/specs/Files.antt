@@ -5,7 +5,7 @@ use Rattle.mse_calls.specs.declared.entry.Entry.{Entry}
 use Rattle.mseplay.specs.declared.ending.Status.{Status}
 use Rattle.mseplay.specs.declared.ending.Status.TheVariants as status
 use Rattle.mseplay.specs.declared.words.Command.{Command}
-use Rattle.mseplay.specs.declared.words.Command.TheVariants.{Ranges, Pieces, Make, Play}
+use Rattle.mseplay.specs.declared.words.Command.TheVariants.{Ranges, Pieces}
 use Rattle.mseplay.specs.Asked.{ByFile, opening_of}
 use Rattle.mseplay.specs.Shown.{IsWholeFile, pieces_by}
 use Rattle.mseplay.specs.Words.{IsInRange, command_of, file_of}
@@ -14,8 +14,7 @@ use Rattle.mseplay.specs.Words.{IsInRange, command_of, file_of}
 abbrev pub AppendsFile : Command → Type 0
 AppendsFile Ranges = ⊤
 AppendsFile (Pieces count) = ⊤
-AppendsFile (Make count) = ⊥
-AppendsFile Play = ⊥
+AppendsFile other = ⊥
 
 -- the whole journal of a command that appends a file of these bytes
 pub record IsJournalOf (command : Command) (bytes : List ℕ) (entries : List Entry) : Type 0 where

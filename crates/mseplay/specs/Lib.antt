@@ -2,6 +2,8 @@ pub mod Words
 pub mod Endings
 pub mod Heading
 pub mod Asked
+pub mod Feeds
+pub mod Remuxing
 pub mod Loads
 pub mod Shown
 pub mod Outcomes

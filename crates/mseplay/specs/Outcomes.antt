@@ -1,5 +1,5 @@
 -- How a run ends, by its words, the library and the sink.
-use Rattle.std.specs.Prelude.{◌≡◌, ◌⊎◌, ◌<◌, ℕ, List, [], ◌∷◌, ◌++◌, length, Option, Some, None, MatchOption, IsSome, Result, Ok, Err, ⊤}
+use Rattle.std.specs.Prelude.{◌≡◌, ◌⊎◌, ◌<◌, ℕ, List, [], ◌∷◌, ◌++◌, length, Option, Some, None, MatchOption, IsSome, IsErr, Result, Ok, Err, ⊤}
 use Rattle.std.specs.List.{filter}
 use Rattle.mse_outside.specs.Outside.{Rose}
 use Rattle.mse_calls.specs.declared.entry.Entry.{Entry}
@@ -8,6 +8,7 @@ use Rattle.mse_engine.specs.Run.{Replays}
 use Rattle.mse_engine.specs.Sound.{AreSoundBehind}
 use Rattle.mse_engine.specs.Standing.{Kept, Stands}
 use Rattle.listeners.specs.declared.listener.Note.{Note}
+use Rattle.remux.specs.Remuxed.{remuxed}
 use Rattle.script_run.specs.declared.stop.Halt.{Halt}
 use Rattle.script_run.specs.declared.stop.Halt.TheVariants as halt
 use Rattle.script_run.specs.declared.stop.Stop.TheVariants as stop
@@ -20,7 +21,7 @@ use Rattle.mseplay.specs.declared.ending.End.{End}
 use Rattle.mseplay.specs.declared.ending.End.TheVariants.{Memory, Write, Words, NoFile, Read, Script, CallBudget, TaskBudget}
 use Rattle.mseplay.specs.declared.ending.Status.{Status}
 use Rattle.mseplay.specs.declared.ending.Status.TheVariants as status
-use Rattle.mseplay.specs.Asked.{Request, Task, ByScript, ByFile, blobs_of, opening_of}
+use Rattle.mseplay.specs.Asked.{Request, Task, ByScript, ByFile, ByRemux, blobs_of, opening_of}
 use Rattle.mseplay.specs.Endings.{error_line, status_of}
 use Rattle.mseplay.specs.Loads.{IsReached}
 use Rattle.mseplay.specs.Shown.{IsAllOf, IsFrontOf, last_state, shown_lines, text_of}
@@ -56,12 +57,21 @@ left entries engine faults_before faults written_before written notes_before not
 
 -- ---- the journal and the engine
 
+-- the engine stands for the state behind the last entry; where it was not made, there is none
+abbrev pub EngineStands : Task → List Entry → Option Kept → Type 0
+EngineStands task entries engine = MatchOption engine (entries ≡ []) (λ kept. Stands kept (last_state task entries))
+
+-- a classic file needs no engine
+abbrev pub HasEngine : Task → List Entry → Option Kept → Type 0
+HasEngine (ByRemux bytes) entries engine = engine ≡ None
+HasEngine task entries engine = EngineStands task entries engine
+
 -- Each entry of the journal tells what the machine does there; in the state behind each, the tracks are sound and their
 -- frames end within the duration; and the engine stands for the state behind the last one.
 pub record IsRun (task : Task) (left : Left) : Type 0 where
   pub replays : Replays (blobs_of task) (opening_of task) left.entries
   pub sound : AreSoundBehind (blobs_of task) (opening_of task) left.entries
-  pub engine : MatchOption left.engine (left.entries ≡ []) (λ kept. Stands kept (last_state task left.entries))
+  pub engine : HasEngine task left.entries left.engine
 
 -- ---- the listeners
 
@@ -72,19 +82,19 @@ HaveRules rules given = (w : ℕ) → w < length given → rules_at given w ≡ 
 -- of a script, each has its rules, heard each event, and answered it; else nobody was told anything
 abbrev pub IsHeard : Task → Left → Type 0
 IsHeard (ByScript script blobs) left = HaveRules script.rules left.rules × HeardAll left.entries left.notes_before left.notes
-IsHeard (ByFile command bytes) left = (left.rules ≡ left.rules_before) × (left.notes ≡ left.notes_before)
+IsHeard other left = (left.rules ≡ left.rules_before) × (left.notes ≡ left.notes_before)
 
 -- of a script, each has its rules where anything was done
 abbrev pub HaveTheirRules : Task → Left → Type 0
 HaveTheirRules (ByScript script blobs) left = (left.entries ≡ []) ⊎ HaveRules script.rules left.rules
-HaveTheirRules (ByFile command bytes) left = left.rules ≡ left.rules_before
+HaveTheirRules other left = left.rules ≡ left.rules_before
 
 -- What was heard where memory or the sink was wanting: each listener heard each event, but that the dispatch of the last
 -- event may have ended for want of memory, or, where the sink was wanting, at a limit of calls.
 abbrev pub IsHeardTo : Task → Halt → Left → Type 0
 IsHeardTo (ByScript script blobs) halt left =
     HeardTo (SpentInLine script.drain) halt left.entries left.notes_before left.notes
-IsHeardTo (ByFile command bytes) halt left = left.notes ≡ left.notes_before
+IsHeardTo other halt left = left.notes ≡ left.notes_before
 
 -- ---- what was run
 
@@ -108,10 +118,11 @@ pub record RanNothing (left : Left) : Type 0 where
   pub notes : left.notes ≡ left.notes_before
   pub rules : left.rules ≡ left.rules_before
 
--- a file breaks the byte stream format
+-- a file breaks the byte stream format, or is no classic file that can be turned into fragments
 abbrev pub IsBroken : Task → List Entry → Type 0
 IsBroken (ByScript script blobs) entries = ⊥
 IsBroken (ByFile command bytes) entries = IsSome (last_state (ByFile command bytes) entries).core.source.fault
+IsBroken (ByRemux bytes) entries = IsErr (remuxed bytes)
 
 -- ---- why a run ended early
 

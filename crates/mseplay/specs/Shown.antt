@@ -17,9 +17,11 @@ use Rattle.script_run.specs.Follows.{IsBegun, IsWhole}
 use Rattle.script_run.specs.Text.{lines_of}
 use Rattle.script_run.specs.Turns.{calls_in}
 use Rattle.mseplay.specs.declared.words.Command.{Command}
-use Rattle.mseplay.specs.declared.words.Command.TheVariants.{Ranges, Pieces, Make, Play}
-use Rattle.mseplay.specs.Asked.{Task, ByScript, ByFile, blobs_of, opening_of}
+use Rattle.mseplay.specs.declared.words.Command.TheVariants.{Pieces, Make, Feed}
+use Rattle.mseplay.specs.Asked.{Task, ByScript, ByFile, ByRemux, blobs_of, opening_of}
+use Rattle.mseplay.specs.Feeds.{feed_closing}
 use Rattle.mseplay.specs.Heading.{heading_of}
+use Rattle.mseplay.specs.Remuxing.{remux_text}
 
 -- ---- a file
 
@@ -37,10 +39,9 @@ pieces_of size len = map (piece_at size len) (range_with_len 0 ((len + size - 1)
 
 -- what a command appends of a file of so many bytes
 abbrev pub pieces_by : Command → ℕ → List Piece
-pieces_by Ranges len = whole_piece ∷ []
 pieces_by (Pieces count) len = pieces_of count len
 pieces_by (Make count) len = pieces_of 1000 len
-pieces_by Play len = whole_piece ∷ []
+pieces_by other len = whole_piece ∷ []
 
 -- a drain in which no listener calls
 pub record IsQuietDrain (blobs : List (List ℕ)) (st : State) (part : List Entry) : Type 0 where
@@ -84,6 +85,7 @@ IsAllOf count (ByScript script blobs) entries =
     IsWhole blobs (record { limit = script.drain; count = count }) 0 (opening_of (ByScript script blobs)) script.steps entries
 IsAllOf count (ByFile command bytes) entries =
     IsWholeFile (bytes ∷ []) (opening_of (ByFile command bytes)) (pieces_by command (length bytes)) entries
+IsAllOf count (ByRemux bytes) entries = entries ≡ []
 
 -- a script is done up to some place; of a file, a front of all is done
 abbrev pub IsFrontOf : ℕ → Task → List Entry → Type 0
@@ -91,6 +93,7 @@ IsFrontOf count (ByScript script blobs) entries =
     IsBegun blobs (record { limit = script.drain; count = count }) 0 (opening_of (ByScript script blobs)) script.steps entries
 IsFrontOf count (ByFile command bytes) entries =
     (rest : List Entry) × IsAllOf count (ByFile command bytes) (entries ++ rest)
+IsFrontOf count (ByRemux bytes) entries = entries ≡ []
 
 -- ---- what is printed
 
@@ -100,12 +103,18 @@ last_state task entries = after_entries (blobs_of task) (opening_of task) entrie
 -- the lines that are printed as their entries come: those of a script
 abbrev pub shown_lines : Task → List Entry → List ℕ
 shown_lines (ByScript script blobs) entries = lines_of entries
-shown_lines (ByFile command bytes) entries = []
+shown_lines other entries = []
+
+-- what closes a file of so many bytes: what a decoder is given of it, or its block
+abbrev pub file_closing : Command → ℕ → State → List ℕ
+file_closing (Feed at) len st = feed_closing at st
+file_closing other len st = heading_of other len ++ closing_text (view_in st) false
 
 -- the lines that close it
 abbrev pub closing_lines : Task → State → List ℕ
 closing_lines (ByScript script blobs) st = closing_text (view_in st) true
-closing_lines (ByFile command bytes) st = heading_of command (length bytes) ++ closing_text (view_in st) false
+closing_lines (ByFile command bytes) st = file_closing command (length bytes) st
+closing_lines (ByRemux bytes) st = remux_text bytes
 
 abbrev pub text_of : Task → List Entry → List ℕ
 text_of task entries = shown_lines task entries ++ closing_lines task (last_state task entries)

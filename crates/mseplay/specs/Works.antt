@@ -1,5 +1,5 @@
 -- What is done before the line that says why a run ends early.
-use Rattle.std.specs.Prelude.{◌≡◌, ◌⊎◌, ℕ, List, [], ◌∷◌, ◌++◌, length, Bool, true, false, Option, Some, Result, Ok, Err, is_some}
+use Rattle.std.specs.Prelude.{◌≡◌, ◌⊎◌, ℕ, List, [], ◌∷◌, ◌++◌, length, Bool, true, false, Option, Some, Result, Ok, Err, is_err, is_some}
 use Rattle.mse_calls.specs.declared.answers.Answer.{Answer}
 use Rattle.mse_calls.specs.declared.calls.Piece.{Piece}
 use Rattle.mse_calls.specs.declared.entry.Entry.{Entry}
@@ -9,6 +9,7 @@ use Rattle.event_text.specs.Block.{closing_text}
 use Rattle.mse_engine.specs.State.{State}
 use Rattle.mse_engine.specs.Standing.{Stands}
 use Rattle.mse_engine.specs.Views.{view_in}
+use Rattle.remux.specs.Remuxed.{remuxed}
 use Rattle.script_run.specs.declared.stop.Halt.{Halt}
 use Rattle.script_run.specs.declared.stop.Halt.TheVariants as halt
 use Rattle.script_run.specs.declared.stop.Stop.{Stop}
@@ -22,10 +23,9 @@ use Rattle.script_run.specs.Turns.{SpentInLine, calls_in}
 use Rattle.script_run.specs.Wrote.{Wrote, WroteFront}
 use Rattle.mseplay.specs.declared.ending.End.{End}
 use Rattle.mseplay.specs.declared.ending.End.TheVariants.{Memory, Write, Words, NoFile, Read, Script, CallBudget, TaskBudget}
-use Rattle.mseplay.specs.Asked.{Request, Task, ByScript, ByFile}
+use Rattle.mseplay.specs.Asked.{Request, Task, ByScript, ByFile, ByRemux}
 use Rattle.mseplay.specs.Outcomes.{FailedRead, HasCause, HaveRules, IsHeardTo, Left, RanFront, RanNothing, RanWhole, WroteText}
-use Rattle.mseplay.specs.Shown.{IsWholeFile, last_state, open_entries, pieces_by, shown_lines, text_of}
-use Rattle.mseplay.specs.Heading.{heading_of}
+use Rattle.mseplay.specs.Shown.{IsWholeFile, file_closing, last_state, open_entries, pieces_by, shown_lines, text_of}
 use Rattle.mseplay.specs.declared.words.Command.{Command}
 
 -- the source was opened, and has a source buffer of ISO BMFF
@@ -57,16 +57,20 @@ pub record AppendedFront (bytes : List ℕ) (pieces : List Piece) (old new : Run
 -- ---- a file that is shown
 
 -- what is written of it, for the state that the engine stands for
-abbrev pub ShownFront : List ℕ → Bool → RunView → Option (List ℕ) → Option (List ℕ) → Type 0
-ShownFront before whole new written_before written =
-    (st : State) → Stands new.engine st → WroteFront (before ++ closing_text (view_in st) whole) written_before written
+abbrev pub ShownFront : (State → List ℕ) → RunView → Option (List ℕ) → Option (List ℕ) → Type 0
+ShownFront text new written_before written =
+    (st : State) → Stands new.engine st → WroteFront (text st) written_before written
 
-pub record ShownAll (before : List ℕ) (whole : Bool) (new : RunView) (written_before written : Option (List ℕ)) : Type 0 where
-  pub wrote : (st : State) → Stands new.engine st → Wrote (before ++ closing_text (view_in st) whole) written_before written
+pub record ShownAll (text : State → List ℕ) (new : RunView) (written_before written : Option (List ℕ)) : Type 0 where
+  pub wrote : (st : State) → Stands new.engine st → Wrote (text st) written_before written
+
+-- what closes a script
+abbrev pub script_closing : State → List ℕ
+script_closing st = closing_text (view_in st) true
 
 pub record FileShown (command : Command) (bytes : List ℕ) (old new : RunView) (written_before written : Option (List ℕ)) (broken : Bool) : Type 0 where
   pub appended : Appended bytes (pieces_by command (length bytes)) old new
-  pub shown : ShownAll (heading_of command (length bytes)) false new written_before written
+  pub shown : ShownAll (file_closing command (length bytes)) new written_before written
   pub broken_is : (st : State) → Stands new.engine st → broken ≡ is_some st.core.source.fault
 
 -- a front was appended and nothing was written; or all was appended, and a front of it was written
@@ -74,7 +78,7 @@ abbrev pub FileShownFront : Command → List ℕ → RunView → RunView → Opt
 FileShownFront command bytes old new written_before written =
     (AppendedFront bytes (pieces_by command (length bytes)) old new × (written ≡ written_before))
     ⊎ (Appended bytes (pieces_by command (length bytes)) old new
-    × ShownFront (heading_of command (length bytes)) false new written_before written)
+    × ShownFront (file_closing command (length bytes)) new written_before written)
 
 abbrev pub ShowsFile : Command → List ℕ → RunView → RunView → Option (List ℕ) → Option (List ℕ) → Result Bool End → Type 0
 ShowsFile command bytes old new written_before written (Ok broken) = FileShown command bytes old new written_before written broken
@@ -87,7 +91,7 @@ ShowsFile command bytes old new written_before written (Err other) = ⊥
 pub record ScriptPlayed (limits : Limits) (blobs : List (List ℕ)) (lines : List StepLine) (rules : List Rule) (given : List (List Rule)) (old new : Stage) : Type 0 where
   pub middle : Option (List ℕ)
   pub played : Played blobs (LinesAre blobs limits lines) old (record new { written = middle })
-  pub shown : ShownAll [] true new.run middle new.written
+  pub shown : ShownAll script_closing new.run middle new.written
   pub rules_are : HaveRules rules given
 
 -- it stopped in a line, or behind the last one
@@ -98,7 +102,7 @@ pub record ScriptStopped (limits : Limits) (blobs : List (List ℕ)) (lines : Li
 pub record ScriptHalf (limits : Limits) (blobs : List (List ℕ)) (lines : List StepLine) (rules : List Rule) (given : List (List Rule)) (old new : Stage) : Type 0 where
   pub middle : Option (List ℕ)
   pub played : Played blobs (LinesAre blobs limits lines) old (record new { written = middle })
-  pub shown : ShownFront [] true new.run middle new.written
+  pub shown : ShownFront script_closing new.run middle new.written
   pub rules_are : HaveRules rules given
 
 -- no line was begun
@@ -123,10 +127,11 @@ PlaysScript limits blobs lines rules given old new (Err other) = ⊥
 
 -- ---- a run
 
--- whether a file breaks the byte stream format; no script does
+-- whether a file breaks the byte stream format, or cannot be turned into fragments; no script does
 abbrev pub broken_in : Task → List Entry → Bool
 broken_in (ByScript script blobs) entries = false
 broken_in (ByFile command bytes) entries = is_some (last_state (ByFile command bytes) entries).core.source.fault
+broken_in (ByRemux bytes) entries = is_err (remuxed bytes)
 
 -- nothing was run and nothing was written
 pub record DidNothing (left : Left) : Type 0 where

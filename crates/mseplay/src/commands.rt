@@ -1,6 +1,6 @@
 //! What each command does, up to its end, without its error line.
 
-ghost use Rattle.std.specs.Prelude.{◌≡◌, ◌≤◌, ◌<◌, ◌++◌, ◌^◌, ℕ, List, [], pos, None, Some, Ok, IfSome, IfOk, IfErr, OnOk, OnErr, IsErrOf, length, map, string_bytes, vec_len};
+ghost use Rattle.std.specs.Prelude.{◌≡◌, ◌≤◌, ◌<◌, ◌++◌, ◌^◌, ℕ, List, [], pos, false, None, Some, Ok, IfSome, IfOk, IfErr, OnOk, OnErr, IsErrOf, length, map, string_bytes, vec_len};
 ghost use Rattle.event_text.specs.Block.{closing_text};
 ghost use Rattle.listeners.specs.declared.listener.Note.{Note};
 ghost use Rattle.listeners.specs.Dispatch.{notes_at};
@@ -13,15 +13,18 @@ ghost use Rattle.script_run.specs.Lines.{limits};
 ghost use Rattle.script_run.specs.Stage.{IsStanding, stage};
 ghost use Rattle.script_run.specs.Wrote.{Wrote, WroteFront};
 ghost use Rattle.mseplay.specs.Asked.{IsFileCommand, OfCommand, OfWords, file_by, files_by};
+ghost use Rattle.mseplay.specs.Heading.{heading_of};
 ghost use Rattle.mseplay.specs.Loads.{IsMade, IsUnmade, LoadEnd};
 ghost use Rattle.mseplay.specs.Outcomes.{left};
-ghost use Rattle.mseplay.specs.Shown.{pieces_by};
+ghost use Rattle.mseplay.specs.Shown.{file_closing, pieces_by};
 ghost use Rattle.mseplay.specs.Words.{IsInRange, command_of};
 ghost use Rattle.mseplay.specs.Works.{Appended, AppendedFront, PlaysScript, ShowsFile, Works};
 
 use crate::ending::End;
+use crate::feeds::close_feed;
 use crate::file::{append_pieces, append_whole};
 use crate::load::{load, load_blobs, load_script};
+use crate::remuxing::run_remux;
 use crate::text::heading;
 use crate::words::{Command, file_name, read_command};
 use bmff_write::make;
@@ -78,18 +81,20 @@ fn close<S: FrameStore, K: Sink>(
 fn append_file<S: FrameStore>(
     alloc: Global,
     run: &mut ScriptRun<S>,
-    command: Command,
+    command: &Command,
     file: Vec<u8>,
 ) -> Result<(), OutOfMemory>
-    requires range { IsInRange command }
+    requires range { IsInRange command.now }
     requires standing { IsStanding run.old.engine }
     ensures ok { OnOk result
-        (Appended file.items (pieces_by command (length file.items)) run.old run.new) }
+        (Appended file.items (pieces_by command.now (length file.items)) run.old run.new) }
     ensures err { OnErr result
-        (AppendedFront file.items (pieces_by command (length file.items)) run.old run.new) }
+        (AppendedFront file.items (pieces_by command.now (length file.items)) run.old run.new) }
 {
-    match command {
-        Command::Ranges | Command::Play => append_whole(alloc, run, file),
+    match *command {
+        Command::Ranges | Command::Feed(_) | Command::Play | Command::Remux => {
+            append_whole(alloc, run, file)
+        }
         Command::Pieces(count) => append_pieces(alloc, run, file, count as usize),
         Command::Make(_) => append_pieces(alloc, run, file, MADE_PIECE),
     }
@@ -99,26 +104,77 @@ fn append_file<S: FrameStore>(
 fn file_for<L: Library>(
     alloc: Global,
     library: &mut L,
-    command: Command,
+    command: &Command,
     name: &str,
 ) -> Result<Vec<u8>, End>
-    requires { IsInRange command }
+    requires { IsInRange command.now }
     ensures table { L.table library.new ≡ L.table library.old }
     ensures ok { IfSome (L.table library.old) (λ files.
-        IfOk result (λ bytes. file_by files name.now command ≡ Ok bytes.items)) }
+        IfOk result (λ bytes. file_by files name.now command.now ≡ Ok bytes.items)) }
     ensures end { IfErr result (LoadEnd (L.table library.old)
         (L.faults library.old) (L.faults library.new)
-        (files_by name.now command) (λ files. file_by files name.now command)) }
-    ensures made { IfOk result (λ bytes. IsMade command bytes.items) }
-    ensures unmade { IfErr result (IsUnmade command) }
+        (files_by name.now command.now) (λ files. file_by files name.now command.now)) }
+    ensures made { IfOk result (λ bytes. IsMade command.now bytes.items) }
+    ensures unmade { IfErr result (IsUnmade command.now) }
     ensures later { L.faults library.old ≤ L.faults library.new }
 {
-    match command {
-        Command::Ranges | Command::Pieces(_) | Command::Play => load(alloc, library, name),
+    match *command {
+        Command::Ranges | Command::Pieces(_) | Command::Feed(_) | Command::Play | Command::Remux =>
+            load(alloc, library, name),
         Command::Make(count) => match make(alloc, count) {
             Ok(bytes) => Ok(bytes.into_vec()),
             Err(_) => Err(End::Memory),
         },
+    }
+}
+
+// The block that closes a run with a file of `len` bytes.
+fn close_block<S: FrameStore, K: Sink>(
+    alloc: Global,
+    engine: &Engine<S>,
+    sink: &mut K,
+    command: &Command,
+    len: usize,
+) -> Result<(), Halt>
+    ensures ok { (st : State) → Stands engine.now st
+        → OnOk result (Wrote (heading_of command.now len ++ closing_text (view_in st) false)
+        (K.written sink.old) (K.written sink.new)) }
+    ensures err { (st : State) → Stands engine.now st
+        → OnErr result (WroteFront (heading_of command.now len ++ closing_text (view_in st) false)
+        (K.written sink.old) (K.written sink.new)) }
+    ensures later { K.faults sink.old ≤ K.faults sink.new }
+    ensures cause { IsErrOf result Halt.Write → Rose (K.faults sink.old) (K.faults sink.new) }
+{
+    match heading(alloc, command, len) {
+        Ok(before) => close(alloc, engine, sink, before, false),
+        Err(_) => Err(Halt::Memory),
+    }
+}
+
+// What closes a run with a file of `len` bytes.
+fn close_file<S: FrameStore, K: Sink>(
+    alloc: Global,
+    engine: &Engine<S>,
+    sink: &mut K,
+    command: &Command,
+    len: usize,
+) -> Result<(), Halt>
+    ensures ok { (st : State) → Stands engine.now st
+        → OnOk result (Wrote (file_closing command.now len st)
+        (K.written sink.old) (K.written sink.new)) }
+    ensures err { (st : State) → Stands engine.now st
+        → OnErr result (WroteFront (file_closing command.now len st)
+        (K.written sink.old) (K.written sink.new)) }
+    ensures later { K.faults sink.old ≤ K.faults sink.new }
+    ensures cause { IsErrOf result Halt.Write → Rose (K.faults sink.old) (K.faults sink.new) }
+{
+    match *command {
+        Command::Feed(at) => close_feed(alloc, engine, sink, at),
+        Command::Ranges => close_block(alloc, engine, sink, command, len),
+        Command::Pieces(_) => close_block(alloc, engine, sink, command, len),
+        Command::Make(_) => close_block(alloc, engine, sink, command, len),
+        Command::Play => close_block(alloc, engine, sink, command, len),
+        Command::Remux => close_block(alloc, engine, sink, command, len),
     }
 }
 
@@ -128,23 +184,21 @@ fn show_file<S: FrameStore, K: Sink>(
     alloc: Global,
     run: &mut ScriptRun<S>,
     sink: &mut K,
-    command: Command,
+    command: &Command,
     file: Vec<u8>,
 ) -> Result<bool, End>
-    requires range { IsInRange command }
+    requires range { IsInRange command.now }
     requires standing { IsStanding run.old.engine }
-    ensures shows { ShowsFile command file.items run.old run.new
+    ensures shows { ShowsFile command.now file.items run.old run.new
         (K.written sink.old) (K.written sink.new) result }
     ensures later { K.faults sink.old ≤ K.faults sink.new }
     ensures write { IsErrOf result End.Write → Rose (K.faults sink.old) (K.faults sink.new) }
 {
-    let Ok(before) = heading(alloc, command, file.len()) else {
-        return Err(End::Memory);
-    };
+    let len = file.len();
     let Ok(()) = append_file(alloc, run, command, file) else {
         return Err(End::Memory);
     };
-    match close(alloc, run.engine(), sink, before, false) {
+    match close_file(alloc, run.engine(), sink, command, len) {
         Ok(()) => Ok(run.engine().fault().is_some()),
         Err(halt) => Err(End::of_halt(halt)),
     }
@@ -196,7 +250,7 @@ fn hand_out<S: FrameStore>(run: ScriptRun<S>, engine: &mut Option<Engine<S>>, jo
     *journal = entries;
 }
 
-// A file by `ranges`, `pieces` or `make`.
+// A file by `ranges`, `pieces`, `make` or `feed`.
 fn run_file<S: FrameStore, L: Library, K: Sink>(
     alloc: Global,
     command: Command,
@@ -223,13 +277,13 @@ fn run_file<S: FrameStore, L: Library, K: Sink>(
     ensures read { (name : List ℕ) → IsErrOf result (End.Read name)
         → Rose (L.faults library.old) (L.faults library.new) }
 {
-    let file = match file_for(alloc, library, command, name) {
+    let file = match file_for(alloc, library, &command, name) {
         Ok(file) => file,
         Err(end) => return Err(end),
     };
     let entries = mem::replace(journal, Journal::new(alloc));
     let mut run = ScriptRun::new(alloc, QUOTA, Ticks::zero(), entries);
-    let result = show_file(alloc, &mut run, sink, command, file);
+    let result = show_file(alloc, &mut run, sink, &command, file);
     hand_out(run, engine, journal);
     result
 }
@@ -321,7 +375,8 @@ fn run_command<S: FrameStore, L: Library, K: Sink>(
 {
     match command {
         Command::Play => run_script(alloc, name, library, sink, listeners, engine, journal),
-        Command::Ranges | Command::Pieces(_) | Command::Make(_) => {
+        Command::Remux => run_remux(alloc, name, library, sink),
+        Command::Ranges | Command::Pieces(_) | Command::Make(_) | Command::Feed(_) => {
             run_file(alloc, command, name, library, sink, engine, journal)
         }
     }

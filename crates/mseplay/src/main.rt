@@ -1,17 +1,20 @@
 //! The program: plays the scripts and files that its words name in the current folder, or makes a
 //! file, and prints what happens: calls, answers and events, and what a media source has buffered
-//! in the end.
+//! in the end. It writes classic files as fragments, and prints the frames that a decoder is given.
 //!
 //! It stands on `script_run` (the run of a script over the engine), `track_index` (the store of
-//! frames), `bmff_write` (the file that is made), `event_text` (the printed lines) and
-//! `mse_outside` (files and standard output). Its main contract is that of [`run`](top::run).
+//! frames), `bmff_write` (the file that is made), `remux` (classic files), `feed_lines` (frames for
+//! a decoder), `event_text` (the printed lines) and `mse_outside` (files and standard output). Its main contract is that of [`run`](top::run).
 #![tactic(auto)]
 
 mod commands;
 mod ending;
+mod feeds;
 mod file;
 mod laws;
 mod load;
+mod remux_fault;
+mod remuxing;
 #[cfg(test)]
 mod tests;
 mod text;

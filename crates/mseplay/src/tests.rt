@@ -1,5 +1,6 @@
 //! Runs over a library and a sink in memory.
 
+mod commands;
 mod files;
 
 ghost use Rattle.std.specs.Prelude.{◌≡◌, [], IfOk, vec_len};

@@ -23,11 +23,12 @@ fn made_line(alloc: Global, count: u32, len: usize) -> Result<String, OutOfMemor
 }
 
 /// What stands before the block of a file of `len` bytes: nothing where it was loaded.
-pub fn heading(alloc: Global, command: Command, len: usize) -> Result<String, OutOfMemory>
-    ensures { IfOk result (λ text. string_bytes text ≡ heading_of command len) }
+pub fn heading(alloc: Global, command: &Command, len: usize) -> Result<String, OutOfMemory>
+    ensures { IfOk result (λ text. string_bytes text ≡ heading_of command.now len) }
 {
-    match command {
-        Command::Ranges | Command::Pieces(_) | Command::Play => Ok(String::new(alloc)),
+    match *command {
+        Command::Ranges | Command::Pieces(_) | Command::Feed(_) | Command::Play | Command::Remux =>
+            Ok(String::new(alloc)),
         Command::Make(count) => made_line(alloc, count, len),
     }
 }

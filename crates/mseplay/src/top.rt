@@ -56,7 +56,10 @@ fn say<K: Sink>(alloc: Global, sink: &mut K, end: &End) -> Status
 /// put as they come, and then what is buffered. `ranges FILE` and `pieces N FILE` append the file
 /// to a source buffer, at once or in pieces of N bytes, and print what is buffered then: both print
 /// the same. `make N` does so with a file of N segments that it makes, and says first what it made.
-/// All that happened stands in the journal, and the engine is as it was left. Coded frames are kept
+/// `feed T FILE` appends the file, and prints the frames that a decoder is given to show the time T
+/// and all that comes after it. `remux FILE` writes a classic file as a fragmented one, of which the
+/// initialization segment and each media segment is a put of its own; it makes no engine. All that
+/// happened stands in the journal, and the engine is as it was left. Coded frames are kept
 /// in a store of type `S`.
 pub fn run<S: FrameStore, L: Library, K: Sink>(
     alloc: Global,

@@ -1,7 +1,10 @@
 //! The words of a call.
 
 ghost use Rattle.std.specs.Prelude.{◌≡◌, ◌≤◌, IfSome, map, string_bytes};
-ghost use Rattle.mseplay.specs.Words.{number_within, number_of, command_of, file_of, IsInRange};
+ghost use Rattle.mseplay.specs.Words.{number_within, number_of, finite_time, command_of_two, command_of_three, command_of, file_of, IsInRange};
+
+use call_script::read_time;
+use mse_base::{Moment, Ticks};
 
 /// The most bytes that a piece may have.
 const LONGEST: u32 = 1 << 31;
@@ -22,6 +25,11 @@ pub enum Command {
     Make(u32),
     /// `play SCRIPT`: the calls of a script.
     Play,
+    /// `remux FILE`: a classic file as fragments.
+    Remux,
+    /// `feed T FILE`: the frames that a decoder is given to show the time T and all that comes
+    /// after it, when the whole file was appended.
+    Feed(Ticks),
 }
 
 // The number where it is not too great.
@@ -48,32 +56,59 @@ fn read_number(most: u32, word: &str) -> Option<u32>
     }
 }
 
+// The time that a word writes, where it is one of a number of ticks.
+fn finite_time(word: &str) -> Option<Ticks>
+    ensures { result ≡ finite_time word.now }
+{
+    match read_time(word)? {
+        Moment::At(t) => Some(t),
+        Moment::Nan | Moment::Infinite => None,
+    }
+}
+
+// What two words ask for.
+fn command_of_two(name: &str, word: &str) -> Option<Command>
+    ensures value { result ≡ command_of_two name.now word.now }
+    ensures range { IfSome result IsInRange }
+{
+    if name == "ranges" {
+        Some(Command::Ranges)
+    } else if name == "play" {
+        Some(Command::Play)
+    } else if name == "remux" {
+        Some(Command::Remux)
+    } else if name == "make" {
+        let count = read_number(MOST_SEGMENTS, word)?;
+        Some(Command::Make(count))
+    } else {
+        None
+    }
+}
+
+// What three words ask for, of which the last names a file.
+fn command_of_three(name: &str, word: &str) -> Option<Command>
+    ensures value { result ≡ command_of_three name.now word.now }
+    ensures range { IfSome result IsInRange }
+{
+    if name == "pieces" {
+        let count = read_number(LONGEST, word)?;
+        Some(Command::Pieces(count))
+    } else if name == "feed" {
+        let at = finite_time(word)?;
+        Some(Command::Feed(at))
+    } else {
+        None
+    }
+}
+
 /// What the words ask for; `None` exactly where they are no command.
 pub fn read_command(words: &[String]) -> Option<Command>
     ensures value { result ≡ command_of (map string_bytes words.now) }
     ensures range { IfSome result IsInRange }
 {
     match words {
-        [name, word] => {
-            if name.as_str() == "ranges" {
-                Some(Command::Ranges)
-            } else if name.as_str() == "play" {
-                Some(Command::Play)
-            } else if name.as_str() == "make" {
-                let count = read_number(MOST_SEGMENTS, word.as_str())?;
-                Some(Command::Make(count))
-            } else {
-                None
-            }
-        }
-        [name, count, _] => {
-            if name.as_str() == "pieces" {
-                let count = read_number(LONGEST, count.as_str())?;
-                Some(Command::Pieces(count))
-            } else {
-                None
-            }
-        }
+        [name, word] => command_of_two(name.as_str(), word.as_str()),
+        [name, word, _] => command_of_three(name.as_str(), word.as_str()),
         _ => None,
     }
 }

@@ -39,7 +39,8 @@ is_before_group (Some first) f = nat_lt f.serial first
 -- step 1.14: the frame begins from the one time on and before the other, and is older than the group
 abbrev pub is_removed_from : Option ℤ → ℤ → Option ℕ → Stored → Bool
 is_removed_from None e first f = false
-is_removed_from (Some from) e first f = int_le from f.frame.pts && int_lt f.frame.pts e && is_before_group first f
+is_removed_from (Some from) e first f =
+    int_le from f.frame.pts && int_lt f.frame.pts e && is_before_group first f
 
 abbrev pub is_removed : Marks → ℤ → ℤ → Stored → Bool
 is_removed m p e f = is_removed_from (removed_from m.highest_end p) e m.group_first f
@@ -47,14 +48,22 @@ is_removed m p e f = is_removed_from (removed_from m.highest_end p) e m.group_fi
 -- step 1.15: the frames that are left where some are removed, and the overlapped frame, which its serial
 -- names, has this rule
 abbrev pub frames_left_by_rule : OverlapRule → ℕ → (Stored → Bool) → List Stored → List Stored
-frames_left_by_rule Remove serial removed fs = frames_without (λ f. has_serial serial f || removed f) fs
-frames_left_by_rule (Shorten dur) serial removed fs = frames_without removed (frames_with_dur serial dur fs)
+frames_left_by_rule Remove serial removed fs =
+    frames_without (λ f. has_serial serial f || removed f) fs
+frames_left_by_rule (Shorten dur) serial removed fs =
+    frames_without removed (frames_with_dur serial dur fs)
 frames_left_by_rule Keep serial removed fs = frames_without removed fs
 
-abbrev pub frames_left_by_overlap : Kind → ℤ → Option Stored → (Stored → Bool) → List Stored → List Stored
+abbrev pub frames_left_by_overlap : Kind → ℤ → Option Stored → (Stored → Bool) → List Stored
+    → List Stored
 frames_left_by_overlap kind p None removed fs = frames_without removed fs
-frames_left_by_overlap kind p (Some g) removed fs = frames_left_by_rule (rule_for kind p g) g.serial removed fs
+frames_left_by_overlap kind p (Some g) removed fs =
+    frames_left_by_rule (rule_for kind p g) g.serial removed fs
 
 -- the track buffer with room for a frame from p to e
 abbrev pub track_with_room : ℤ → ℤ → TrackState → TrackState
-track_with_room p e t = record t { frames = frames_left_by_overlap t.kind p (overlapped_after t.marks.last_decode p t.frames) (is_removed t.marks p e) t.frames }
+track_with_room p e t = record t {
+  frames =
+      frames_left_by_overlap t.kind p (overlapped_after t.marks.last_decode p t.frames)
+      (is_removed t.marks p e) t.frames;
+}

@@ -1,4 +1,4 @@
--- Making room in two steps, as the code does: first the overlapped frame, then the other frames.
+-- Making room in two steps, as the code does: first the overlapped frame, then the other frames. A device of the proof.
 use Rattle.std.specs.Prelude.{ℕ, ℤ, pos, ◌≤ℤ◌, List, Option, Some, None}
 use Rattle.mse_base.specs.declared.track.Kind.{Kind}
 use Rattle.track_store.specs.declared.store.Stored.{Stored}
@@ -26,7 +26,9 @@ frames_after_overlap kind p (Some g) fs = frames_after_rule (rule_for kind p g) 
 
 -- the track after step 1.13
 abbrev pub track_after_overlap : ℤ → TrackState → TrackState
-track_after_overlap p t = record t { frames = frames_after_overlap t.kind p (overlapped_after t.marks.last_decode p t.frames) t.frames }
+track_after_overlap p t = record t {
+  frames = frames_after_overlap t.kind p (overlapped_after t.marks.last_decode p t.frames) t.frames;
+}
 
 -- the track after steps 1.14 and 1.15
 abbrev pub track_without_older : ℤ → ℤ → TrackState → TrackState

@@ -35,12 +35,14 @@ latest_after last SegmentEnd = last
 latest_after last (FaultItem f offset) = last
 
 -- when the next item was asked for, and was this one or none
-abbrev pub latest_after_any : {F : Type 0} → Option Presentation → Option (Item F) → Option Presentation
+abbrev pub latest_after_any : {F : Type 0} → Option Presentation → Option (Item F)
+    → Option Presentation
 latest_after_any last None = last
 latest_after_any last (Some item) = latest_after last item
 
 -- when all of these were given
-abbrev pub latest_after_all : {F : Type 0} → Option Presentation → List (Item F) → Option Presentation
+abbrev pub latest_after_all : {F : Type 0} → Option Presentation → List (Item F)
+    → Option Presentation
 latest_after_all last [] = last
 latest_after_all last (item ∷ items) = latest_after_all (latest_after last item) items
 

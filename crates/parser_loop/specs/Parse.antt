@@ -73,7 +73,8 @@ Drops bytes from (Pass t) = IsSuffix (bytes t) from
 Drops bytes from (Give item t) = IsSuffix (bytes t) from
 
 -- a move changes the latest presentation as its item says
-abbrev pub Remembers : {S F : Type 0} → (S → Option Presentation) → Option Presentation → Move S (Item F) → Type 0
+abbrev pub Remembers : {S F : Type 0} → (S → Option Presentation) → Option Presentation
+    → Move S (Item F) → Type 0
 Remembers latest last Stop = Unit {0}
 Remembers latest last (Pass t) = latest t ≡ last
 Remembers latest last (Give item t) = latest t ≡ latest_after last item

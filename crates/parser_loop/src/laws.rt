@@ -10,8 +10,8 @@ pub fn prefix_law<S, I>()
         Extends k (items_from k s) (items_from k (k.more s c)) }
 {}
 
-/// With more bytes the state before an item that is there is the one before, with more bytes, on its way to the next
-/// item.
+/// With more bytes the state before an item that is there is the one before, with more bytes, after the moves that
+/// lead up to the next item.
 pub fn state_law<S, I>()
     ensures { (k : Kind S I) → IsWalk k → (n : ℕ) (s : S) (c : List ℕ) →
         n ≤ length (items_from k s) →
@@ -24,7 +24,8 @@ pub fn items_law<S, I>()
         items_from k (state_at k n s) ≡ drop n (items_from k s) }
 {}
 
-/// Items that are taken ahead are the next ones, and to take them before more bytes come or after is the same.
+/// Items that are taken ahead are the next ones (the code parses frames before they are asked for), and to take them
+/// before more bytes come or after is the same.
 pub fn run_law<S, I>()
     ensures items { (k : Kind S I) → IsWalk k → (s : S) →
         items_from k s ≡ (run k s).items ++ items_from k (run k s).state }

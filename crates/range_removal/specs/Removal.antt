@@ -15,7 +15,8 @@ remove_end end duration fs = time_or (least (sync_times_from end fs)) duration
 -- `gone` says of the frame before the list whether it goes
 abbrev pub is_last_removed_after : Bool → (Stored → Bool) → List Stored → Bool
 is_last_removed_after gone named [] = gone
-is_last_removed_after gone named (f ∷ fs) = is_last_removed_after (named f || (gone && not f.frame.sync)) named fs
+is_last_removed_after gone named (f ∷ fs) =
+    is_last_removed_after (named f || (gone && not f.frame.sync)) named fs
 
 abbrev pub is_last_removed : (Stored → Bool) → List Stored → Bool
 is_last_removed named fs = is_last_removed_after false named fs
@@ -23,11 +24,15 @@ is_last_removed named fs = is_last_removed_after false named fs
 -- steps 3.3 and 3.4: the named frames are removed with their decoding dependencies. Where the frame that was
 -- stored last is among them, the marks are unset and a random access point is needed.
 abbrev pub track_without : (Stored → Bool) → TrackState → TrackState
-track_without named t = record t { frames = frames_without named t.frames; marks = if is_last_removed named t.frames then unset_marks t.marks else t.marks }
+track_without named t = record t {
+  frames = frames_without named t.frames;
+  marks = if is_last_removed named t.frames then unset_marks t.marks else t.marks;
+}
 
 -- step 3, of one track: the frames go that begin at or after the start and before the remove end timestamp
 abbrev pub track_after_removal : ℤ → Moment → Moment → TrackState → TrackState
-track_after_removal start end duration t = track_without (is_between start (remove_end end duration t.frames)) t
+track_after_removal start end duration t =
+    track_without (is_between start (remove_end end duration t.frames)) t
 
 -- step 3, of all tracks of a source buffer
 abbrev pub tracks_after_removal : ℤ → Moment → Moment → List TrackState → List TrackState

@@ -24,7 +24,13 @@ abbrev pub edits_of : ℤ → List (ℕ × ℤ)
 edits_of shift = if int_eq shift (pos 0) then [] else (0, shift) ∷ []
 
 abbrev pub track_out : MediaTrack → TrackOut
-track_out t = record { id = t.info.id; kind = t.info.kind; scale = t.info.scale; codec = t.codec; edits = edits_of t.info.media_shift }
+track_out t = record {
+  id = t.info.id;
+  kind = t.info.kind;
+  scale = t.info.scale;
+  codec = t.codec;
+  edits = edits_of t.info.media_shift;
+}
 
 -- the initialization segment: the tracks with their sample description boxes
 unfoldable pub init_of : List MediaTrack → List ℕ
@@ -40,12 +46,17 @@ sample_out file s = record {
 }
 
 abbrev pub traf_out : List ℕ → RunView → TrafOut
-traf_out file run = record { id = run.id; decode = run.decode; samples = map (sample_out file) run.samples }
+traf_out file run = record {
+  id = run.id;
+  decode = run.decode;
+  samples = map (sample_out file) run.samples;
+}
 
 -- a media segment for each run, with sequence numbers from `number` on
 abbrev pub segments_from : List ℕ → ℕ → List RunView → List (List ℕ)
 segments_from file number [] = []
-segments_from file number (run ∷ runs) = segment_bytes number (traf_out file run ∷ []) ∷ segments_from file (number + 1) runs
+segments_from file number (run ∷ runs) =
+    segment_bytes number (traf_out file run ∷ []) ∷ segments_from file (number + 1) runs
 
 -- the pieces of the fragmented file
 unfoldable pub pieces_of : List ℕ → List MediaTrack → List (List ℕ)
@@ -67,6 +78,7 @@ abbrev pub Fails : RemuxError → Result (List (List ℕ)) PlacedFault → Type 
 Fails OutOfMemory read = Unit {0}
 Fails (Fault fault offset) read = read ≡ Err (record { fault = fault; offset = offset })
 
-abbrev pub Gives : {X : Type 0} → (X → List (List ℕ)) → Result X RemuxError → Result (List (List ℕ)) PlacedFault → Type 0
+abbrev pub Gives : {X : Type 0} → (X → List (List ℕ)) → Result X RemuxError
+    → Result (List (List ℕ)) PlacedFault → Type 0
 Gives view (Ok pieces) read = read ≡ Ok (view pieces)
 Gives view (Err error) read = Fails error read

@@ -56,7 +56,12 @@ pub record RunView : Type 0 where
 
 -- the same of what the code keeps
 abbrev pub run_value : Run → RunView
-run_value run = record { id = run.id; decode = run.decode; time = run.time; samples = run.samples.now }
+run_value run = record {
+  id = run.id;
+  decode = run.decode;
+  time = run.time;
+  samples = run.samples.now;
+}
 
 -- the same of a run in code
 abbrev pub IsShortIn : ℕ → Run → Type 0
@@ -71,7 +76,8 @@ abbrev pub run_view : MediaTrack → List Sample → RunView
 run_view track samples = record {
   id = track.info.id;
   decode = first_decode samples + track.lag;
-  time = converted (pos (first_decode samples + track.lag) -ℤ track.info.media_shift) track.info.scale;
+  time =
+      converted (pos (first_decode samples + track.lag) -ℤ track.info.media_shift) track.info.scale;
   samples = samples;
 }
 
@@ -81,7 +87,8 @@ track_runs track = map (run_view track) (runs_of track.info.kind track.samples)
 -- a run put before the first that is not earlier
 abbrev pub run_put : RunView → List RunView → List RunView
 run_put run [] = run ∷ []
-run_put run (next ∷ runs) = if int_lt next.time run.time then next ∷ run_put run runs else run ∷ next ∷ runs
+run_put run (next ∷ runs) =
+    if int_lt next.time run.time then next ∷ run_put run runs else run ∷ next ∷ runs
 
 -- runs in order of time; those of one time stay in their order
 abbrev pub in_order : List RunView → List RunView

@@ -29,7 +29,11 @@ track_info track = record {
 
 -- the initialization segment: its times are thousandths of a second, and it tells no duration
 abbrev pub presentation_of_tracks : List MediaTrack → Presentation
-presentation_of_tracks tracks = record { scale = 1000; duration = Infinite; tracks = map track_info tracks }
+presentation_of_tracks tracks = record {
+  scale = 1000;
+  duration = Infinite;
+  tracks = map track_info tracks;
+}
 
 -- a media time of a track, which is shifted by its edit list, in ticks
 abbrev pub tick_of : MediaTrack → ℤ → ℤ
@@ -45,7 +49,9 @@ frame_of file track s = record {
   track_id = track.info.id;
   pts = tick_of track (decode_time track s +ℤ s.offset);
   dts = tick_of track (decode_time track s);
-  dur = tick_of track (decode_time track s +ℤ s.offset +ℤ pos s.duration) -ℤ tick_of track (decode_time track s +ℤ s.offset);
+  dur =
+      tick_of track (decode_time track s +ℤ s.offset +ℤ pos s.duration)
+      -ℤ tick_of track (decode_time track s +ℤ s.offset);
   sync = s.sync;
   payload = slice_range file s.place (s.place + s.size);
 }
@@ -53,7 +59,8 @@ frame_of file track s = record {
 -- samples of a track, the first of which has its bytes at an offset of the string
 abbrev pub frames_of : List ℕ → MediaTrack → ℕ → List Sample → List SegmentItem
 frames_of file track at [] = []
-frames_of file track at (s ∷ samples) = FrameItem (frame_of file track s) at ∷ frames_of file track (at + s.size) samples
+frames_of file track at (s ∷ samples) =
+    FrameItem (frame_of file track s) at ∷ frames_of file track (at + s.size) samples
 
 abbrev pub has_number : ℕ → MediaTrack → Bool
 has_number id track = track.info.id == id
@@ -76,4 +83,6 @@ items_of_runs file tracks at (run ∷ runs) =
 
 -- the fragments of a file with these tracks, whose moov begins at byte 24
 abbrev pub items_of_file : List ℕ → List MediaTrack → List SegmentItem
-items_of_file file tracks = InitItem (presentation_of_tracks tracks) 24 ∷ items_of_runs file tracks (length (init_of tracks)) (runs_in_order tracks)
+items_of_file file tracks =
+    InitItem (presentation_of_tracks tracks) 24
+    ∷ items_of_runs file tracks (length (init_of tracks)) (runs_in_order tracks)

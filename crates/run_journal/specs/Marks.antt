@@ -23,15 +23,15 @@ entry_at calls pieces (Fired event) = entry.Fired event
 entry_at calls pieces (Work k) = entry.Work k
 entry_at calls pieces Element = entry.Element
 
--- there is something at the place of a mark
-abbrev pub IsPlaced : List AnsweredCall → List Piece → Mark → Type 0
-IsPlaced calls pieces (Step n) = ⊤
-IsPlaced calls pieces (Script i) = i < length calls
-IsPlaced calls pieces (Append k i) = i < length pieces
-IsPlaced calls pieces (Listener number i) = i < length calls
-IsPlaced calls pieces (Fired event) = ⊤
-IsPlaced calls pieces (Work k) = ⊤
-IsPlaced calls pieces Element = ⊤
+-- a mark points inside the list that its entry is in
+abbrev pub PointsInside : List AnsweredCall → List Piece → Mark → Type 0
+PointsInside calls pieces (Step n) = ⊤
+PointsInside calls pieces (Script i) = i < length calls
+PointsInside calls pieces (Append k i) = i < length pieces
+PointsInside calls pieces (Listener number i) = i < length calls
+PointsInside calls pieces (Fired event) = ⊤
+PointsInside calls pieces (Work k) = ⊤
+PointsInside calls pieces Element = ⊤
 
 -- the entries of marks
 abbrev pub entries_at : List AnsweredCall → List Piece → List Mark → List Entry

@@ -8,8 +8,8 @@ use mse_calls::{Entry, Piece};
 use std::alloc::Global;
 use std::marker::Model;
 
-/// What happened in a run, in order, and room for more. It keeps a small mark for each entry, and
-/// calls with their answers in a list of their own.
+/// What happened in a run, in order, and room for more. It keeps a small mark for each entry, calls
+/// with their answers in a list of their own, and in another one the pieces of a script's appends.
 #[derive(Debug, Drop)]
 pub struct Journal {
     marks: Vec<Mark>,
@@ -21,7 +21,7 @@ pub struct Journal {
 impl Model for Journal {
     ghost use Rattle.std.specs.Prelude.{◌+◌, ◌≤◌, All, vec_len, vec_capacity};
     ghost use Rattle.run_journal.specs.Book.{Book};
-    ghost use Rattle.run_journal.specs.Marks.{entries_at, IsPlaced};
+    ghost use Rattle.run_journal.specs.Marks.{entries_at, PointsInside};
 
     ghost Value = { Book };
 
@@ -31,7 +31,7 @@ impl Model for Journal {
     } };
 
     ghost invariant = { λ j. record {
-      placed : All (IsPlaced j.calls.items j.pieces.items) j.marks.items;
+      placed : All (PointsInside j.calls.items j.pieces.items) j.marks.items;
       marks_room : vec_len j.marks + j.spare ≤ vec_capacity j.marks;
       calls_room : vec_len j.calls + j.spare ≤ vec_capacity j.calls;
       pieces_room : vec_len j.pieces + j.spare ≤ vec_capacity j.pieces;
@@ -39,7 +39,7 @@ impl Model for Journal {
 }
 
 impl Journal {
-    /// A journal with no entry.
+    /// A journal with no entry. It takes no memory.
     pub fn new(alloc: Global) -> Journal
         ensures { result.entries ≡ [] }
     {
@@ -80,7 +80,7 @@ impl Journal {
         Ok(())
     }
 
-    /// Puts an entry last, in reserved room.
+    /// Puts an entry last, in reserved room, which falls by one. It takes no memory.
     pub fn push_reserved(&mut self, entry: Entry)
         requires { 1 ≤ self.old.spare }
         ensures entries { self.new.entries ≡ self.old.entries ++ entry ∷ [] }

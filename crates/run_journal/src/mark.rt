@@ -3,7 +3,7 @@
 ghost use Rattle.std.specs.Prelude.{◌≡◌, ◌+◌, ◌<◌, ◌≤◌, vec_len};
 ghost use Rattle.std.specs.Vec.{vec_capacity};
 ghost use Rattle.run_journal.specs.EntryRef.{entry_of};
-ghost use Rattle.run_journal.specs.Marks.{entry_at, IsPlaced, Extends};
+ghost use Rattle.run_journal.specs.Marks.{entry_at, PointsInside, Extends};
 
 use crate::EntryRef;
 use mse_calls::{Answer, Call, Entry, Event, Piece};
@@ -40,7 +40,7 @@ pub(crate) fn keep(calls: &mut Vec<AnsweredCall>, pieces: &mut Vec<Piece>, entry
     requires calls { vec_len calls.old < vec_capacity calls.old }
     requires pieces { vec_len pieces.old < vec_capacity pieces.old }
     ensures entry { entry_at calls.new.items pieces.new.items result ≡ entry }
-    ensures placed { IsPlaced calls.new.items pieces.new.items result }
+    ensures placed { PointsInside calls.new.items pieces.new.items result }
     ensures calls { Extends calls.old.items calls.new.items }
     ensures pieces { Extends pieces.old.items pieces.new.items }
     ensures calls_len { vec_len calls.new ≤ vec_len calls.old + 1 }
@@ -73,7 +73,7 @@ pub(crate) fn keep(calls: &mut Vec<AnsweredCall>, pieces: &mut Vec<Piece>, entry
 
 /// The entry of a mark.
 pub(crate) fn entry_ref<'a>(mark: Mark, calls: &'a [AnsweredCall], pieces: &[Piece]) -> EntryRef<'a>
-    requires { IsPlaced calls.now pieces.now mark }
+    requires { PointsInside calls.now pieces.now mark }
     ensures { entry_of result ≡ entry_at calls.now pieces.now mark }
 {
     match mark {

@@ -7,10 +7,13 @@ use Rattle.sample_tables.specs.declared.box_place.BoxPlace.{BoxPlace}
 
 -- the boxes from a step on, where `go` gives those behind it; `start` is the place of the step, and `total` how
 -- many bytes there are in all
-abbrev pub places_by : (List ℕ → Result (List BoxPlace) ℕ) → ℕ → ℕ → ChildView × List ℕ → Result (List BoxPlace) ℕ
+abbrev pub places_by : (List ℕ → Result (List BoxPlace) ℕ) → ℕ → ℕ → ChildView × List ℕ
+    → Result (List BoxPlace) ℕ
 places_by go total start (NoBytes, rest) = Ok []
 places_by go total start (NoBox, rest) = Err start
-places_by go total start (Box kind payload, rest) = go rest >>= λ places. Ok (record { kind = kind; start = start; end = total - length rest } ∷ places)
+places_by go total start (Box kind payload, rest) =
+    go rest >>=
+    λ places. Ok (record { kind = kind; start = start; end = total - length rest } ∷ places)
 
 -- at most n boxes of the last bytes `b` of `total`
 abbrev pub places_in : ℕ → ℕ → List ℕ → Result (List BoxPlace) ℕ

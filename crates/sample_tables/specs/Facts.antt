@@ -57,7 +57,8 @@ pub record AreMediaBoxes (boxes : List (TrackInfo × List ℕ)) : Type 0 where
   pub distinct : HasDistinctIds (map (λ b. b.0) boxes)
 
 -- the tracks of such boxes
-pub record AreTracksOf (len : ℕ) (boxes : List (TrackInfo × List ℕ)) (tracks : List MediaTrack) : Type 0 where
+pub record AreTracksOf (len : ℕ) (boxes : List (TrackInfo × List ℕ))
+    (tracks : List MediaTrack) : Type 0 where
   pub infos : map (λ t. t.info) tracks ≡ map (λ b. b.0) boxes
   pub each : AllByRecursion (IsFileTrack len) tracks
   pub samples : sum_by (λ t. length t.samples) tracks ≤ 2 ^ 22

@@ -45,13 +45,15 @@ whole_at b (Ok None) = None
 whole_at b (Err at) = None
 
 abbrev pub description_in : List ℕ → Result (List ℕ) InitFault
-description_in stbl = need (Missing (codes "stsd")) (whole_at stbl (first_place (codes "stsd") stbl))
+description_in stbl =
+    need (Missing (codes "stsd")) (whole_at stbl (first_place (codes "stsd") stbl))
 
 -- the payload of a whole sample description box
 abbrev pub description_payload : ChildView × List ℕ → Option (List ℕ)
 description_payload (NoBytes, rest) = None
 description_payload (NoBox, rest) = None
-description_payload (Box kind payload, []) = if bytes_eq kind (codes "stsd") then Some payload else None
+description_payload (Box kind payload, []) =
+    if bytes_eq kind (codes "stsd") then Some payload else None
 description_payload (Box kind payload, x ∷ rest) = None
 
 -- the type of its first sample entry
@@ -92,7 +94,14 @@ media_track_with len before info read = do
   _ ← check Range (is_in_range info read.stsd read.tables)
   _ ← check TooMany (are_few before read.tables)
   columns ← columns_inside len read.tables
-  Ok (record { info = info; lag = lag_of info; stsd = read.stsd; codec = read.codec; samples = samples_of columns })
+  Ok
+      (record {
+        info = info;
+        lag = lag_of info;
+        stsd = read.stsd;
+        codec = read.codec;
+        samples = samples_of columns;
+      })
 
 unfoldable pub media_track_of : ℕ → Totals → TrackInfo → List ℕ → Result MediaTrack MovieFault
 media_track_of len before info trak = do
@@ -113,13 +122,15 @@ abbrev pub media_boxes : List TrackInfo → List (List ℕ) → List (TrackInfo 
 media_boxes infos traks = filter (λ b. is_media b.0) (zip infos traks)
 
 -- the track of such a box behind the tracks `before`, in a file of this length
-abbrev pub tracks_and : ℕ → List MediaTrack → TrackInfo × List ℕ → Result (List MediaTrack) MovieFault
+abbrev pub tracks_and : ℕ → List MediaTrack → TrackInfo × List ℕ
+    → Result (List MediaTrack) MovieFault
 tracks_and len before b = do
   track ← media_track_of len (totals_of before) b.0 b.1
   Ok (before ++ track ∷ [])
 
 -- the tracks of all of them
-abbrev pub media_tracks_of : ℕ → List MediaTrack → List (TrackInfo × List ℕ) → Result (List MediaTrack) MovieFault
+abbrev pub media_tracks_of : ℕ → List MediaTrack → List (TrackInfo × List ℕ)
+    → Result (List MediaTrack) MovieFault
 media_tracks_of len before [] = Ok before
 media_tracks_of len before (b ∷ bs) = do
   tracks ← tracks_and len before b
@@ -127,7 +138,8 @@ media_tracks_of len before (b ∷ bs) = do
 
 -- a movie that goes on in fragments: the movie box is a row of boxes and has mvex, movie extends (8.8.1)
 abbrev pub is_fragmented : List ℕ → Bool
-is_fragmented moov = is_some (option_and_then (first_of (codes "mvex")) (option_and_then row_of (payload_of moov)))
+is_fragmented moov =
+    is_some (option_and_then (first_of (codes "mvex")) (option_and_then row_of (payload_of moov)))
 
 -- the track boxes of a movie box
 abbrev pub track_boxes : List ℕ → List (List ℕ)

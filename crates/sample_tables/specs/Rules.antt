@@ -34,7 +34,9 @@ is_sync_table n (Some numbers) = are_numbers 0 n numbers
 -- first chunks ascend strictly, above `before` and up to the number of chunks, and each chunk has a sample
 abbrev pub are_chunk_runs : ℕ → ℕ → List ChunkRun → Bool
 are_chunk_runs before chunks [] = true
-are_chunk_runs before chunks (r ∷ rs) = nat_lt before r.first && (nat_le r.first chunks && (nat_le 1 r.samples && are_chunk_runs r.first chunks rs))
+are_chunk_runs before chunks (r ∷ rs) =
+    nat_lt before r.first
+    && (nat_le r.first chunks && (nat_le 1 r.samples && are_chunk_runs r.first chunks rs))
 
 -- the first run begins with the first chunk
 abbrev pub begins_at_first : ℕ → List ChunkRun → Bool
@@ -42,7 +44,9 @@ begins_at_first chunks [] = chunks == 0
 begins_at_first chunks (r ∷ rs) = r.first == 1
 
 abbrev pub is_chunk_table : ℕ → ℕ → List ChunkRun → Bool
-is_chunk_table n chunks runs = begins_at_first chunks runs && (are_chunk_runs 0 chunks runs && (sum (chunk_counts chunks runs) == n))
+is_chunk_table n chunks runs =
+    begins_at_first chunks runs
+    && (are_chunk_runs 0 chunks runs && (sum (chunk_counts chunks runs) == n))
 
 -- all tables are of as many samples as the table of sizes
 unfoldable pub are_consistent : SampleTables → Bool
@@ -67,7 +71,8 @@ is_short_offset offset = int_le (negsuc (2 ^ 31 - 1)) offset && int_le offset (p
 unfoldable pub is_in_range : TrackInfo → List ℕ → SampleTables → Bool
 is_in_range track stsd t =
     nat_le 1 track.id && (nat_le track.id (2 ^ 32 - 2)
-    && (int_le track.media_shift (pos (2 ^ 31 - 1)) && (nat_le (lag_of track) (2 ^ 62) && (nat_le (length stsd) (2 ^ 16)
+    && (int_le track.media_shift (pos (2 ^ 31 - 1))
+    && (nat_le (lag_of track) (2 ^ 62) && (nat_le (length stsd) (2 ^ 16)
     && list_all is_short_offset (offsets_of t.offsets (sample_count t.sizes))))))
 
 -- how many samples some tracks have, and how many bytes these

@@ -49,7 +49,8 @@ chunk_behind chunks (r ∷ rs) = r.first
 -- how many samples each chunk has
 abbrev pub chunk_counts : ℕ → List ChunkRun → List ℕ
 chunk_counts chunks [] = []
-chunk_counts chunks (r ∷ rs) = replicate (chunk_behind chunks rs - r.first) r.samples ++ chunk_counts chunks rs
+chunk_counts chunks (r ∷ rs) =
+    replicate (chunk_behind chunks rs - r.first) r.samples ++ chunk_counts chunks rs
 
 -- where the samples of a chunk begin that begins at a place: one stands behind the other
 abbrev pub places_from : ℕ → List ℕ → List ℕ
@@ -60,7 +61,8 @@ places_from at (size ∷ sizes) = at ∷ places_from (at + size) sizes
 abbrev pub places_of : List ℕ → List ℕ → List ℕ → List ℕ
 places_of [] counts sizes = []
 places_of (at ∷ offsets) [] sizes = []
-places_of (at ∷ offsets) (count ∷ counts) sizes = places_from at (take count sizes) ++ places_of offsets counts (drop count sizes)
+places_of (at ∷ offsets) (count ∷ counts) sizes =
+    places_from at (take count sizes) ++ places_of offsets counts (drop count sizes)
 
 -- what the tables tell of the samples, a list for each field
 unfoldable pub columns_of : SampleTables → SampleColumns
@@ -69,7 +71,9 @@ columns_of t = record {
   offsets = offsets_of t.offsets (sample_count t.sizes);
   sync = sync_of t.sync (sample_count t.sizes);
   sizes = sizes_of t.sizes;
-  places = places_of t.chunk_offsets (chunk_counts (length t.chunk_offsets) t.chunk_runs) (sizes_of t.sizes);
+  places =
+      places_of t.chunk_offsets (chunk_counts (length t.chunk_offsets) t.chunk_runs)
+      (sizes_of t.sizes);
 }
 
 -- each field is there for each sample, of which there are at most 2 ^ 22

@@ -30,7 +30,8 @@ entry_total len p = do
 
 -- the entries, where `entry` reads the one at a place
 abbrev pub entries_of : {E : Type 0} → ℕ → (ℕ → E) → List ℕ → Result (List E) InitFault
-entries_of len entry p = entry_total len p >>= λ count. Ok (map (λ i. entry (8 + i * len)) (range_with_len 0 count))
+entries_of len entry p =
+    entry_total len p >>= λ count. Ok (map (λ i. entry (8 + i * len)) (range_with_len 0 count))
 
 -- stts, decoding time to sample (8.6.1.2): sample_count and sample_delta
 abbrev pub duration_run_at : List ℕ → ℕ → DurationRun
@@ -42,7 +43,10 @@ duration_runs_of stts = entries_of 8 (duration_run_at stts) stts
 -- ctts, composition time to sample (8.6.1.3): sample_count and sample_offset, which is unsigned in version 0 and
 -- signed in every other
 abbrev pub offset_run_at : List ℕ → ℕ → OffsetRun
-offset_run_at p at = record { count = number_at 4 at p; offset = composition_offset p (number_at 4 (at + 4) p) }
+offset_run_at p at = record {
+  count = number_at 4 at p;
+  offset = composition_offset p (number_at 4 (at + 4) p);
+}
 
 abbrev pub offset_runs_of : List ℕ → Result (List OffsetRun) InitFault
 offset_runs_of ctts = entries_of 8 (offset_run_at ctts) ctts
@@ -103,4 +107,12 @@ tables_of stbl = do
   sync ← sync_if_there (first_of (codes "stss") stbl)
   sizes ← sample_sizes_of stsz
   chunk_runs ← chunk_runs_of stsc
-  Ok (record { durations = durations; offsets = offsets; sync = sync; sizes = sizes; chunk_runs = chunk_runs; chunk_offsets = chunk_offsets })
+  Ok
+      (record {
+        durations = durations;
+        offsets = offsets;
+        sync = sync;
+        sizes = sizes;
+        chunk_runs = chunk_runs;
+        chunk_offsets = chunk_offsets;
+      })

@@ -16,10 +16,15 @@ use std::alloc::{AllocError, Global};
 /// What the tables of a track tell of its samples, a list for each field.
 #[derive(Drop)]
 pub struct SampleColumns {
+    /// How long each lasts, in the media's timescale (8.6.1.2).
     pub durations: OwnedList<u32>,
+    /// How much later than it is decoded each is presented, in the media's timescale (8.6.1.3).
     pub offsets: OwnedList<i32>,
+    /// Whether each is a sync sample (8.6.2).
     pub sync: OwnedList<bool>,
+    /// How many bytes each has (8.7.3).
     pub sizes: OwnedList<u32>,
+    /// Where the bytes of each begin, from the start of the file (8.7.4 and 8.7.5).
     pub places: OwnedList<u64>,
 }
 

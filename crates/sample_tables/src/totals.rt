@@ -2,10 +2,12 @@ ghost use Rattle.std.specs.Prelude.{◌≡◌, ◌≤◌, ◌^◌, sum_by};
 
 use crate::sample::Sample;
 
-/// How many samples some tracks have, and how many bytes these.
+/// The totals of some tracks.
 #[derive(Clone, Copy)]
 pub struct Totals {
+    /// How many samples they have.
     pub samples: u128,
+    /// How many bytes these samples have.
     pub bytes: u128,
 }
 

@@ -108,6 +108,11 @@ impl<S: FrameStore> ScriptRun<S> {
     }
 
     /// Does the lines of a script one after the other; listeners may make `limit` calls in each.
+    /// Each printed line is one put, made when its entry has come.
+    ///
+    /// It stops where memory is wanting or a put fails (`Halted`), where a listener answers an event
+    /// with more than 1000 calls (`CallBudget`), and where listeners answer more than `limit` calls in
+    /// one line (`TaskBudget`). What was done by then stands in the journal and in the engine.
     pub fn play<K: Sink>(
         &mut self,
         blobs: &Blobs,

@@ -56,7 +56,7 @@ fn give_to(listener: &mut Box<dyn Listener>, list: Vec<Rule>)
     listener.set_rules(list);
 }
 
-/// Gives each listener the rules of its number, in their order.
+/// Gives each listener the rules of its number, in their order. Rules of other numbers go.
 pub fn give_rules(
     alloc: Global,
     listeners: &mut Vec<Box<dyn Listener>>,

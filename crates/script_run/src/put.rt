@@ -26,7 +26,8 @@ fn halt_of(answer: Put) -> Result<(), Halt>
     }
 }
 
-/// Puts bytes.
+/// Puts bytes. After an `Err` a front part of them was written: `Write` where the sink counted a
+/// failure, and `Memory` where it found none.
 pub fn put_bytes<K: Sink>(sink: &mut K, bytes: &[u8]) -> Result<(), Halt>
     ensures ok { OnOk result (Wrote bytes.now (K.written sink.old) (K.written sink.new)) }
     ensures err { OnErr result (WroteFront bytes.now (K.written sink.old) (K.written sink.new)) }
@@ -36,7 +37,8 @@ pub fn put_bytes<K: Sink>(sink: &mut K, bytes: &[u8]) -> Result<(), Halt>
     halt_of(sink.put(bytes))
 }
 
-/// Puts a text line by line: each put is one whole line with its line feed.
+/// Puts a text line by line: each put is one whole line with its line feed. An `Err` is as of
+/// [`put_bytes`].
 pub fn put_lines<K: Sink>(sink: &mut K, text: &str) -> Result<(), Halt>
     ensures ok { OnOk result (Wrote text.now (K.written sink.old) (K.written sink.new)) }
     ensures err { OnErr result (WroteFront text.now (K.written sink.old) (K.written sink.new)) }

@@ -68,7 +68,8 @@ impl<S: FrameStore> ScriptRun<S> {
         (self.engine, self.journal)
     }
 
-    /// Makes a call of the script.
+    /// Makes a call of the script, and puts it with its answer into the journal. An `Err` changes
+    /// nothing.
     pub fn call(&mut self, blobs: &Blobs, call: &Call) -> Result<(), OutOfMemory>
         ensures ok { OnOk result ((answer : Answer)
             × Stepped blobs.now (Entry.Script call.now answer ∷ []) self.old self.new) }
@@ -87,7 +88,8 @@ impl<S: FrameStore> ScriptRun<S> {
         Ok(())
     }
 
-    /// One item of the work that runs on a buffer; false where none runs.
+    /// One item of the work that runs on the buffer of a number; false where none runs there, and
+    /// then nothing changed. An `Err` changes nothing.
     pub fn work(&mut self, k: u32) -> Result<bool, OutOfMemory>
         requires { IsStanding self.old.engine }
         ensures ok { (blobs : List (List ℕ)) → IfOk result (λ worked.
@@ -108,7 +110,8 @@ impl<S: FrameStore> ScriptRun<S> {
         }
     }
 
-    /// One turn of the element; false where none is due.
+    /// One turn of the element; false where none is due, and then nothing changed. An `Err` changes
+    /// nothing.
     pub fn turn(&mut self) -> Result<bool, OutOfMemory>
         requires { IsStanding self.old.engine }
         ensures ok { (blobs : List (List ℕ)) → IfOk result (λ turned.
@@ -129,7 +132,8 @@ impl<S: FrameStore> ScriptRun<S> {
         }
     }
 
-    /// Takes the first event off the queue; `None` where it is empty.
+    /// Takes the first event off the queue; `None` where it is empty, and then nothing changed. An
+    /// `Err` changes nothing.
     pub fn take_event(&mut self) -> Result<Option<Event>, OutOfMemory>
         requires { IsStanding self.old.engine }
         ensures ok { (blobs : List (List ℕ))

@@ -1,4 +1,4 @@
--- What the values of the code are to the walk.
+-- What the values of the code are to the walk: a device of the proof.
 use Rattle.std.specs.Prelude.{◌≡◌, ℕ, zero, suc, ◌<◌, ◌≤◌, ◌^◌, ◌+◌, ◌-◌, All, List, [], ◌∷◌, ◌++◌, take, drop, length, slice_get, slice_index_or, Option, Some, None, Ok, Err, Bool, true, false, Vec}
 use Rattle.std.specs.Global.{Global}
 use Rattle.mse_base.specs.declared.track.Presentation.{Presentation}
@@ -36,8 +36,15 @@ seen next.SegmentEnd = Some SegmentEnd
 seen (next.Fault f offset) = Some (FaultItem f offset)
 seen next.Dry = None
 
-abbrev pub state_of : Option Presentation → ParserPosition → List Slot → List DataRange → List ℕ → State
-state_of last position slots known rest = record { last = last; mode = mode_of slots known position.mode; offset = position.offset; rest = rest; failed = position.failed }
+abbrev pub state_of : Option Presentation → ParserPosition → List Slot → List DataRange → List ℕ
+    → State
+state_of last position slots known rest = record {
+  last = last;
+  mode = mode_of slots known position.mode;
+  offset = position.offset;
+  rest = rest;
+  failed = position.failed;
+}
 
 abbrev pub frame_at : List ℕ → ℕ → Option Slot → List SegmentItem
 frame_at rest offset None = []
@@ -46,10 +53,12 @@ frame_at rest offset (Some slot) = frame_of rest offset slot ∷ []
 -- the frames of n slots from i on
 abbrev pub frames : List ℕ → ℕ → List Slot → ℕ → ℕ → List SegmentItem
 frames rest offset slots i zero = []
-frames rest offset slots i (suc n) = frame_at rest offset (slice_get slots i) ++ frames rest offset slots (i + 1) n
+frames rest offset slots i (suc n) =
+    frame_at rest offset (slice_get slots i) ++ frames rest offset slots (i + 1) n
 
 -- what is kept: the frames that are ready, and the state behind them
-abbrev pub kept_of : Option Presentation → Progress → List Slot → List DataRange → List ℕ → Run State SegmentItem
+abbrev pub kept_of : Option Presentation → Progress → List Slot → List DataRange → List ℕ
+    → Run State SegmentItem
 kept_of last r slots known bytes = record {
   items = frames (drop r.from bytes) r.position.offset slots r.first r.ready;
   state = state_of last r.position slots known (drop r.from bytes);
@@ -62,7 +71,8 @@ run_on kept = joined kept.items (run segments kept.state)
 -- the walk stays there until there are `want` bytes
 pub record Rests (s : State) (want : ℕ) : Type 0 where
   pub still : run segments s ≡ stay_at s
-  pub waits : (c : List ℕ) → length s.rest + length c < want → run segments (segments.more s c) ≡ stay_at (segments.more s c)
+  pub waits : (c : List ℕ) → length s.rest + length c < want
+      → run segments (segments.more s c) ≡ stay_at (segments.more s c)
 
 -- the presentation that was read last, if there is one
 abbrev pub IsLast : Option Presentation → Type 0
@@ -74,13 +84,16 @@ abbrev pub IsOrdered : Slot → Type 0
 IsOrdered slot = slot.start ≤ slot.end
 
 -- what is counted of an open movie fragment is in its tables
-pub record IsCounted (f : Fragment) (slots : List Slot) (known : List DataRange) (first ready : ℕ) : Type 0 where
+pub record IsCounted (f : Fragment) (slots : List Slot) (known : List DataRange)
+    (first ready : ℕ) : Type 0 where
   pub taken : first + ready ≡ f.taken
   pub slots_there : f.taken ≤ length slots
   pub ordered : All IsOrdered slots
   pub known_there : f.known ≤ length known
   pub ascending : IsAscending (take f.known known)
-  pub ended : (d : DataRange) → 0 < f.known → ((slice_index_or (take f.known known) (f.known - 1) d).start ≤ f.end) × ((slice_index_or (take f.known known) (f.known - 1) d).end ≤ f.end)
+  pub ended : (d : DataRange) → 0 < f.known
+      → ((slice_index_or (take f.known known) (f.known - 1) d).start ≤ f.end)
+      × ((slice_index_or (take f.known known) (f.known - 1) d).end ≤ f.end)
   pub behind : f.end ≤ walked f.place
   pub near : f.end ≤ 2 ^ 27
 
@@ -99,7 +112,8 @@ IsEndingBy n slots i zero = Unit {0}
 IsEndingBy n slots i (suc m) = IsSlotEndingBy n (slice_get slots i) × IsEndingBy n slots (i + 1) m
 
 -- a place that agrees with the tables and the input
-pub record IsConsistent (r : Progress) (slots : List Slot) (known : List DataRange) (bytes : List ℕ) : Type 0 where
+pub record IsConsistent (r : Progress) (slots : List Slot) (known : List DataRange)
+    (bytes : List ℕ) : Type 0 where
   pub inside : r.from ≤ length bytes
   pub counts : IsCountedIn r.position.mode slots known r.first r.ready
   pub ends : IsEndingBy (length bytes - r.from) slots r.first r.ready
@@ -111,23 +125,33 @@ Since (code.Between phase) now slots known new_slots new_known = Unit {0}
 Since (code.Skipping to left) now slots known new_slots new_known = Unit {0}
 Since (code.Within f) (code.Between phase) slots known new_slots new_known = ⊥
 Since (code.Within f) (code.Skipping to left) slots known new_slots new_known = ⊥
-Since (code.Within f) (code.Within g) slots known new_slots new_known = (new_slots ≡ slots) × (take f.known new_known ≡ take f.known known) × (f.known ≤ g.known)
+Since (code.Within f) (code.Within g) slots known new_slots new_known =
+    (new_slots ≡ slots) × (take f.known new_known ≡ take f.known known) × (f.known ≤ g.known)
 
 abbrev pub Keeps : Mode → List Slot → List DataRange → List Slot → List DataRange → Type 0
 Keeps mode slots known new_slots new_known = Since mode mode slots known new_slots new_known
 
 -- from one place to a later one
-pub record GoesOn (last : Option Presentation) (r s : Progress) (slots : List Slot) (known : List DataRange) (new_slots : List Slot) (new_known : List DataRange) (bytes : List ℕ) : Type 0 where
-  pub same : run_on (kept_of last s new_slots new_known bytes) ≡ run_on (kept_of last r slots known bytes)
+pub record GoesOn (last : Option Presentation) (r s : Progress) (slots : List Slot)
+    (known : List DataRange) (new_slots : List Slot) (new_known : List DataRange)
+    (bytes : List ℕ) : Type 0 where
+  pub same : run_on (kept_of last s new_slots new_known bytes)
+      ≡ run_on (kept_of last r slots known bytes)
   pub consistent : IsConsistent s new_slots new_known bytes
   pub since : Since r.position.mode s.position.mode slots known new_slots new_known
   pub going : s.position.failed ≡ r.position.failed
-  pub total : s.position.offset + (length bytes - s.from) ≡ r.position.offset + (length bytes - r.from)
-  pub size : segments.size (state_of last s.position new_slots new_known (drop s.from bytes)) < segments.size (state_of last r.position slots known (drop r.from bytes))
+  pub total : s.position.offset + (length bytes - s.from)
+      ≡ r.position.offset + (length bytes - r.from)
+  pub size : segments.size (state_of last s.position new_slots new_known (drop s.from bytes))
+      < segments.size (state_of last r.position slots known (drop r.from bytes))
 
-abbrev pub IsMoveResult : Option Presentation → Progress → List Slot → List DataRange → List Slot → List DataRange → List ℕ → MoveResult → Type 0
-IsMoveResult last r slots known new_slots new_known bytes (move_result.Rest want) = Rests (state_of last r.position slots known (drop r.from bytes)) want × ((new_slots ≡ slots) × (new_known ≡ known))
-IsMoveResult last r slots known new_slots new_known bytes (move_result.Go s) = GoesOn last r s slots known new_slots new_known bytes
+abbrev pub IsMoveResult : Option Presentation → Progress → List Slot → List DataRange → List Slot
+    → List DataRange → List ℕ → MoveResult → Type 0
+IsMoveResult last r slots known new_slots new_known bytes (move_result.Rest want) =
+    Rests (state_of last r.position slots known (drop r.from bytes)) want
+    × ((new_slots ≡ slots) × (new_known ≡ known))
+IsMoveResult last r slots known new_slots new_known bytes (move_result.Go s) =
+    GoesOn last r s slots known new_slots new_known bytes
 
 abbrev pub IsActive : Mode → Type 0
 IsActive (code.Between phase) = Unit {0}
@@ -147,20 +171,29 @@ fragment_in (code.Within f) = f
 
 -- the same place, in another mode
 abbrev pub in_mode : Progress → Mode → Progress
-in_mode r mode = record { position = record { mode = mode; offset = r.position.offset; failed = false }; from = r.from; first = r.first; ready = r.ready; want = 0 }
+in_mode r mode = record {
+  position = record { mode = mode; offset = r.position.offset; failed = false };
+  from = r.from;
+  first = r.first;
+  ready = r.ready;
+  want = 0;
+}
 
 -- a place that rests, with nothing of the input before it
-pub record IsAtRest (last : Option Presentation) (r : Progress) (slots : List Slot) (known : List DataRange) (bytes : List ℕ) : Type 0 where
+pub record IsAtRest (last : Option Presentation) (r : Progress) (slots : List Slot)
+    (known : List DataRange) (bytes : List ℕ) : Type 0 where
   pub front : r.from ≡ 0
   pub consistent : IsConsistent r slots known bytes
   pub rests : Rests (state_of last r.position slots known bytes) r.want
 
 -- what is found when `more` bytes come, of which `bytes` is the whole input then
-pub record IsFoundWith (last : Option Presentation) (kept : Run State SegmentItem) (r : Progress) (slots : List Slot) (known : List DataRange) (bytes more : List ℕ) : Type 0 where
+pub record IsFoundWith (last : Option Presentation) (kept : Run State SegmentItem) (r : Progress)
+    (slots : List Slot) (known : List DataRange) (bytes more : List ℕ) : Type 0 where
   pub same : kept_of last r slots known bytes ≡ fed segments kept more
   pub consistent : IsConsistent r slots known bytes
   pub rests : Rests (state_of last r.position slots known (drop r.from bytes)) r.want
-  pub total : r.position.offset + (length bytes - r.from) ≤ kept.state.offset + length kept.state.rest + length more
+  pub total : r.position.offset + (length bytes - r.from)
+      ≤ kept.state.offset + length kept.state.rest + length more
 
 -- the move that gives an item which is no frame
 abbrev pub move_of_pending : State → PendingItem → Move State SegmentItem
@@ -188,7 +221,9 @@ abbrev pub IsEmptied : Progress → List ℕ → Type 0
 IsEmptied r bytes = r.position.failed ≡ true → (bytes ≡ []) × (r.ready ≡ 0)
 
 -- nothing of a place, its tables and its input has changed
-pub record IsUnchanged (last new_last : Option Presentation) (r new_r : Progress) (slots new_slots : List Slot) (known new_known : List DataRange) (input new_input : List (List ℕ)) : Type 0 where
+pub record IsUnchanged (last new_last : Option Presentation) (r new_r : Progress)
+    (slots new_slots : List Slot) (known new_known : List DataRange)
+    (input new_input : List (List ℕ)) : Type 0 where
   pub same_last : new_last ≡ last
   pub same_place : new_r ≡ r
   pub same_slots : new_slots ≡ slots
@@ -201,4 +236,10 @@ last_bytes n ps = pieces_without_first (length (concat ps) - n) ps
 
 -- the place before a string
 abbrev pub progress_at_start : Progress
-progress_at_start = record { position = record { mode = code.Between Waiting; offset = 0; failed = false }; from = 0; first = 0; ready = 0; want = 0 }
+progress_at_start = record {
+  position = record { mode = code.Between Waiting; offset = 0; failed = false };
+  from = 0;
+  first = 0;
+  ready = 0;
+  want = 0;
+}

@@ -33,12 +33,24 @@ Stands kept last b n = walk.Stands segments kept (start last b) n
 abbrev pub pushed_last : ℕ → List (List ℕ) → List ℕ
 pushed_last n input = drop (length (concat (pieces_without_last n input))) (concat input)
 
-abbrev pub streamed : Option Presentation → Progress → List Slot → List DataRange → List (List ℕ) → ℕ → Option Offered → Streamed
-streamed last r slots known input fed None = record { kept = kept_of last r slots known (concat input); pieces = input; fed = fed; offered = None }
-streamed last r slots known input fed (Some o) = record { kept = kept_of last r slots known (concat (pieces_without_last o.len input)); pieces = pieces_without_last o.len input; fed = fed; offered = Some (pushed_last o.len input) }
+abbrev pub streamed : Option Presentation → Progress → List Slot → List DataRange → List (List ℕ)
+    → ℕ → Option Offered → Streamed
+streamed last r slots known input fed None = record {
+  kept = kept_of last r slots known (concat input);
+  pieces = input;
+  fed = fed;
+  offered = None;
+}
+streamed last r slots known input fed (Some o) = record {
+  kept = kept_of last r slots known (concat (pieces_without_last o.len input));
+  pieces = pieces_without_last o.len input;
+  fed = fed;
+  offered = Some (pushed_last o.len input);
+}
 
 -- a place at rest in a string of `fed` bytes
-pub record IsStreamAtRest (last : Option Presentation) (r : Progress) (slots : List Slot) (known : List DataRange) (input : List (List ℕ)) (fed : ℕ) : Type 0 where
+pub record IsStreamAtRest (last : Option Presentation) (r : Progress) (slots : List Slot)
+    (known : List DataRange) (input : List (List ℕ)) (fed : ℕ) : Type 0 where
   pub rest : IsAtRest last r slots known (concat input)
   pub emptied : IsEmptied r (concat input)
   pub readable : IsLast last
@@ -47,14 +59,18 @@ pub record IsStreamAtRest (last : Option Presentation) (r : Progress) (slots : L
   pub few : fed < 2 ^ 62
 
 -- bytes are offered: they were pushed, and what is behind them was found
-pub record IsStreamWithOffer (last : Option Presentation) (r : Progress) (slots : List Slot) (known : List DataRange) (input : List (List ℕ)) (fed : ℕ) (o : Offered) : Type 0 where
+pub record IsStreamWithOffer (last : Option Presentation) (r : Progress) (slots : List Slot)
+    (known : List DataRange) (input : List (List ℕ)) (fed : ℕ) (o : Offered) : Type 0 where
   pub before : IsStreamAtRest last r slots known (pieces_without_last o.len input) fed
   pub is_pushed : input ≡ pieces_with (pushed_last o.len input) (pieces_without_last o.len input)
   pub len : o.len ≡ length (pushed_last o.len input)
-  pub found : IsFoundWith last (kept_of last r slots known (concat (pieces_without_last o.len input))) o.progress slots known (concat input) (pushed_last o.len input)
+  pub found : IsFoundWith last
+      (kept_of last r slots known (concat (pieces_without_last o.len input))) o.progress slots known
+      (concat input) (pushed_last o.len input)
   pub found_emptied : IsEmptied o.progress (drop o.progress.from (concat input))
   pub room : fed + o.len < 2 ^ 62
 
-abbrev pub IsStream : Option Presentation → Progress → List Slot → List DataRange → List (List ℕ) → ℕ → Option Offered → Type 0
+abbrev pub IsStream : Option Presentation → Progress → List Slot → List DataRange → List (List ℕ)
+    → ℕ → Option Offered → Type 0
 IsStream last r slots known input fed None = IsStreamAtRest last r slots known input fed
 IsStream last r slots known input fed (Some o) = IsStreamWithOffer last r slots known input fed o

@@ -98,27 +98,28 @@ fn leave_on(
     Ok(ProgressWithTables { progress, tables })
 }
 
-/// Puts in place what was opened. It takes no memory.
+/// Puts the next state in place. It takes no memory.
 fn enter(
-    opened: ProgressWithTables,
+    next_state: ProgressWithTables,
     progress: &mut Progress,
     tables: &mut Tables,
     input: &mut Chunks,
 )
-    requires { opened.progress.from ≤ length (concat input.old) }
-    ensures rest { (last : Option Presentation) → IsConsistent opened.progress
-        opened.tables.slots.items opened.tables.known.items (concat input.old) → Rests (state_of
-        last opened.progress.position opened.tables.slots.items opened.tables.known.items (drop
-        opened.progress.from (concat input.old))) opened.progress.want → IsAtRest last progress.new
+    requires { next_state.progress.from ≤ length (concat input.old) }
+    ensures rest { (last : Option Presentation) → IsConsistent next_state.progress
+        next_state.tables.slots.items next_state.tables.known.items (concat input.old) →
+        Rests (state_of last next_state.progress.position next_state.tables.slots.items
+        next_state.tables.known.items (drop next_state.progress.from (concat input.old)))
+        next_state.progress.want → IsAtRest last progress.new
         tables.new.slots.items tables.new.known.items (concat input.new) }
     ensures kept { (last : Option Presentation) → kept_of last progress.new tables.new.slots.items
-        tables.new.known.items (concat input.new) ≡ kept_of last opened.progress
-        opened.tables.slots.items opened.tables.known.items (concat input.old) }
-    ensures position { progress.new.position ≡ opened.progress.position }
-    ensures pieces { input.new ≡ pieces_without_first opened.progress.from input.old }
+        tables.new.known.items (concat input.new) ≡ kept_of last next_state.progress
+        next_state.tables.slots.items next_state.tables.known.items (concat input.old) }
+    ensures position { progress.new.position ≡ next_state.progress.position }
+    ensures pieces { input.new ≡ pieces_without_first next_state.progress.from input.old }
 {
-    *progress = accept_on(opened.progress, input);
-    *tables = opened.tables;
+    *progress = accept_on(next_state.progress, input);
+    *tables = next_state.tables;
 }
 
 /// Behind an initialization segment. An `Err` changes nothing.
@@ -157,10 +158,10 @@ fn init_on(
         input.old input.new) }
 {
     let offset = progress.position.offset;
-    let kept = Some(presentation.copy()?);
-    let opened = leave_on(alloc, &kept, offset, len, input)?;
-    enter(opened, progress, tables, input);
-    *last = kept;
+    let latest = Some(presentation.copy()?);
+    let next_state = leave_on(alloc, &latest, offset, len, input)?;
+    enter(next_state, progress, tables, input);
+    *last = latest;
     Ok(Next::Init(presentation, offset))
 }
 
@@ -196,8 +197,8 @@ fn end_on(
         tables.old.slots.items tables.new.slots.items tables.old.known.items tables.new.known.items
         input.old input.new) }
 {
-    let opened = leave_on(alloc, last, progress.position.offset, end, input)?;
-    enter(opened, progress, tables, input);
+    let next_state = leave_on(alloc, last, progress.position.offset, end, input)?;
+    enter(next_state, progress, tables, input);
     Ok(Next::SegmentEnd)
 }
 

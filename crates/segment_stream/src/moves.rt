@@ -43,9 +43,8 @@ fn pass_over(at: Progress, to: Phase, left: u64, input: &Chunks) -> MoveResult
         return MoveResult::Go(Progress {
             position,
             from: input.len(),
-            first: at.first,
-            ready: at.ready,
             want: 0,
+            ..at
         });
     }
     let position = ParserPosition {
@@ -56,9 +55,8 @@ fn pass_over(at: Progress, to: Phase, left: u64, input: &Chunks) -> MoveResult
     MoveResult::Go(Progress {
         position,
         from: at.from + left as usize,
-        first: at.first,
-        ready: at.ready,
         want: 0,
+        ..at
     })
 }
 
@@ -86,23 +84,25 @@ fn plan(
     }
 }
 
+/// A movie fragment whose first box behind the moof stands at a place: none of its slots was taken.
+fn new_fragment(place: u64) -> Fragment
+    ensures { result ≡ record { taken = 0; known = 0; end = 0; place = Place.AtBox place } }
+{
+    Fragment {
+        taken: 0,
+        known: 0,
+        end: 0,
+        place: Place::AtBox(place),
+    }
+}
+
 fn fragment(mode: Mode) -> Fragment
     ensures { result ≡ fragment_in mode }
 {
     match mode {
         Mode::Within(fragment) => fragment,
-        Mode::Between(_) => Fragment {
-            taken: 0,
-            known: 0,
-            end: 0,
-            place: Place::AtBox(0),
-        },
-        Mode::Skipping { .. } => Fragment {
-            taken: 0,
-            known: 0,
-            end: 0,
-            place: Place::AtBox(0),
-        },
+        Mode::Between(_) => new_fragment(0),
+        Mode::Skipping { .. } => new_fragment(0),
     }
 }
 
@@ -139,11 +139,37 @@ fn in_mode(at: Progress, mode: Mode) -> Progress
     };
     Progress {
         position,
-        from: at.from,
-        first: at.first,
-        ready: at.ready,
         want: 0,
+        ..at
     }
+}
+
+/// Behind a moof of `len` bytes: its movie fragment is open, and no frame is ready.
+fn behind_moof(at: Progress, len: u64) -> Progress
+    ensures { result ≡ record (in_mode at (Mode.Within (record {
+      taken = 0;
+      known = 0;
+      end = 0;
+      place = Place.AtBox len;
+    }))) { first = 0; ready = 0 } }
+{
+    let next = in_mode(at, Mode::Within(new_fragment(len)));
+    Progress {
+        first: 0,
+        ready: 0,
+        ..next
+    }
+}
+
+/// The same place, where the next box of the open movie fragment stands at `place`.
+fn before_box(at: Progress, fragment: Fragment, place: u64) -> Progress
+    ensures { result ≡ in_mode at (Mode.Within (record fragment { place = Place.AtBox place })) }
+{
+    let fragment = Fragment {
+        place: Place::AtBox(place),
+        ..fragment
+    };
+    in_mode(at, Mode::Within(fragment))
 }
 
 /// One move of the parser by its next step.
@@ -174,63 +200,29 @@ fn act_on(
             };
             tables.slots = slots;
             tables.known.clear();
-            let opened = Fragment {
-                taken: 0,
-                known: 0,
-                end: 0,
-                place: Place::AtBox(len),
-            };
-            let position = ParserPosition {
-                mode: Mode::Within(opened),
-                offset: at.position.offset,
-                failed: false,
-            };
-            Ok(MoveResult::Go(Progress {
-                position,
-                from: at.from,
-                first: 0,
-                ready: 0,
-                want: 0,
-            }))
+            Ok(MoveResult::Go(behind_moof(at, len)))
         }
         Step::EnterData { start, end } => {
             tables.known.truncate(open.known);
             tables.known.push(DataRange { start, end })?;
-            let entered = Fragment {
-                taken: open.taken,
+            let fragment = Fragment {
                 known: open.known + 1,
                 end,
                 place: Place::InData(end),
+                ..open
             };
-            Ok(MoveResult::Go(in_mode(at, Mode::Within(entered))))
+            Ok(MoveResult::Go(in_mode(at, Mode::Within(fragment))))
         }
-        Step::NextBox(place) => {
-            let passed = Fragment {
-                taken: open.taken,
-                known: open.known,
-                end: open.end,
-                place: Place::AtBox(place),
-            };
-            Ok(MoveResult::Go(in_mode(at, Mode::Within(passed))))
-        }
+        Step::NextBox(place) => Ok(MoveResult::Go(before_box(at, open, place))),
         Step::GiveFrame(_) => {
-            let given = Fragment {
+            let fragment = Fragment {
                 taken: open.taken + 1,
-                known: open.known,
-                end: open.end,
-                place: open.place,
+                ..open
             };
-            let position = ParserPosition {
-                mode: Mode::Within(given),
-                offset: at.position.offset,
-                failed: false,
-            };
+            let next = in_mode(at, Mode::Within(fragment));
             Ok(MoveResult::Go(Progress {
-                position,
-                from: at.from,
-                first: at.first,
                 ready: at.ready + 1,
-                want: 0,
+                ..next
             }))
         }
         Step::ReadInit(_) => Ok(MoveResult::Rest(NEVER)),
@@ -294,17 +286,9 @@ pub(crate) fn run_on(
 {
     let mut at = start;
     'moves: loop {
-        let moved = move_on(alloc, last, at, tables, input)?;
-        match moved {
-            MoveResult::Rest(want) => {
-                return Ok(Progress {
-                    position: at.position,
-                    from: at.from,
-                    first: at.first,
-                    ready: at.ready,
-                    want,
-                });
-            }
+        let move_result = move_on(alloc, last, at, tables, input)?;
+        match move_result {
+            MoveResult::Rest(want) => return Ok(Progress { want, ..at }),
             MoveResult::Go(next) => at = next,
         }
     }

@@ -60,7 +60,7 @@ pub(crate) fn offer_on(
     ensures rest { IsAtRest last.now progress tables.new.slots.items tables.new.known.items (concat
         input.old) }
 {
-    let added = bytes.len();
+    let len = bytes.len();
     input.push_vec(bytes)?;
     if progress.position.failed {
         return Ok(past_all(progress, input.len()));
@@ -71,7 +71,7 @@ pub(crate) fn offer_on(
     match run_on(alloc, last, progress, tables, input) {
         Ok(found) => Ok(found),
         Err(e) => {
-            input.drop_back(added);
+            input.drop_back(len);
             Err(e)
         }
     }

@@ -297,7 +297,7 @@ impl Stream {
         self.progress.ready
     }
 
-    /// How many bytes are kept.
+    /// How many bytes are held in memory.
     pub fn held_len(&self) -> usize
         requires { self.now.offered ≡ None }
         ensures kept { result ≡ length self.now.kept.state.rest }

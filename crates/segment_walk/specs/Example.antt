@@ -12,7 +12,19 @@ abbrev pub one_track : Presentation
 one_track = record {
   scale = 1000;
   duration = Infinite;
-  tracks = (record { id = 1; kind = Video; codec = codes "avc1"; scale = 1000; media_shift = pos 0; empty_shift = pos 0; default_duration = 1000; default_size = 0; default_flags = 0 }) ∷ [];
+  tracks =
+      (record {
+        id = 1;
+        kind = Video;
+        codec = codes "avc1";
+        scale = 1000;
+        media_shift = pos 0;
+        empty_shift = pos 0;
+        default_duration = 1000;
+        default_size = 0;
+        default_flags = 0;
+      })
+      ∷ [];
 }
 
 abbrev pub four : ℕ → List ℕ
@@ -30,4 +42,15 @@ segment =
     ++ four 10 ++ codes "mdat" ++ (7 ∷ 9 ∷ [])
 
 abbrev pub segment_items : List SegmentItem
-segment_items = FrameItem (record { track_id = 1; pts = pos 0; dts = pos 0; dur = pos 141120000000; sync = true; payload = 7 ∷ 9 ∷ [] }) 88 ∷ SegmentEnd ∷ []
+segment_items =
+    FrameItem
+    (record {
+      track_id = 1;
+      pts = pos 0;
+      dts = pos 0;
+      dur = pos 141120000000;
+      sync = true;
+      payload = 7 ∷ 9 ∷ [];
+    })
+    88
+    ∷ SegmentEnd ∷ []

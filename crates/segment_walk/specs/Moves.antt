@@ -80,13 +80,16 @@ take_box phase kind n len = step.Skip phase len
 
 abbrev pub judge_between : Phase → TopLevelBox → ℕ → ℕ → Option StreamFault → Step
 judge_between phase kind n len (Some f) = step.Fail f 0
-judge_between phase kind n len None = if nat_lt (greatest_size kind) len then step.Fail fault.TooLarge 0 else take_box phase kind n len
+judge_between phase kind n len None =
+    if nat_lt (greatest_size kind) len then step.Fail fault.TooLarge 0
+    else take_box phase kind n len
 
 -- a box by its header, of which and behind which n bytes are there
 abbrev pub box_between : Bool → Phase → ℕ → Header → Step
 box_between ready phase n head.Short = step.Wait 0
 box_between ready phase n (head.Bad f) = step.Fail (size_fault f) 0
-box_between ready phase n (head.Whole kind start len) = judge_between phase (box_type kind) n len (place_fault ready phase (box_type kind))
+box_between ready phase n (head.Whole kind start len) =
+    judge_between phase (box_type kind) n len (place_fault ready phase (box_type kind))
 
 -- A box at a place of a movie fragment. No other segment may begin. The payload of an mdat is known once its header
 -- is there; all others are passed over.
@@ -95,8 +98,12 @@ judge_within n at FileType start len = step.Fail fault.InSegment at
 judge_within n at SegmentType start len = step.Fail fault.InSegment at
 judge_within n at Movie start len = step.Fail fault.InSegment at
 judge_within n at MovieFragment start len = step.Fail fault.InSegment at
-judge_within n at MediaData start len = if nat_lt (2 ^ 27) (at + len) then step.Fail fault.TooLarge at else step.EnterData (at + start) (at + len)
-judge_within n at Other start len = if nat_lt (2 ^ 27) (at + len) then step.Fail fault.TooLarge at else once n (at + len) (step.NextBox (at + len))
+judge_within n at MediaData start len =
+    if nat_lt (2 ^ 27) (at + len) then step.Fail fault.TooLarge at
+    else step.EnterData (at + start) (at + len)
+judge_within n at Other start len =
+    if nat_lt (2 ^ 27) (at + len) then step.Fail fault.TooLarge at
+    else once n (at + len) (step.NextBox (at + len))
 
 abbrev pub box_within : ℕ → ℕ → Header → Step
 box_within n at head.Short = step.Wait 0
@@ -123,7 +130,8 @@ abbrev pub slot_step : List ℕ → List DataRange → ℕ → Place → Option 
 slot_step rest known end place None = place_step rest true place
 slot_step rest known end place (Some slot) =
     if lies_in known slot then once (length rest) slot.end (step.GiveFrame slot)
-    else (if nat_lt slot.start end then step.Fail fault.OutsideMdat slot.start else place_step rest false place)
+    else (if nat_lt slot.start end then step.Fail fault.OutsideMdat slot.start
+    else place_step rest false place)
 
 unfoldable pub step_of : Bool → List ℕ → Mode → Step
 step_of ready rest (Between phase) = box_between ready phase (length rest) (header_of rest)
@@ -134,14 +142,28 @@ step_of ready rest (Within o) = slot_step rest o.known o.end o.place (slice_get 
 
 -- a fault at a place behind `offset`: no byte is looked at any more
 abbrev pub fail : State → StreamFault → ℕ → Move State SegmentItem
-fail s f at = Give (FaultItem f (s.offset + at)) (record { last = s.last; mode = s.mode; offset = s.offset; rest = []; failed = true })
+fail s f at =
+    Give (FaultItem f (s.offset + at))
+    (record { last = s.last; mode = s.mode; offset = s.offset; rest = []; failed = true })
 
 -- behind the first n bytes, where no segment was begun
 abbrev pub behind : State → Option Presentation → ℕ → State
-behind s last n = record { last = last; mode = Between Waiting; offset = s.offset + n; rest = drop n s.rest; failed = false }
+behind s last n = record {
+  last = last;
+  mode = Between Waiting;
+  offset = s.offset + n;
+  rest = drop n s.rest;
+  failed = false;
+}
 
 abbrev pub into : State → Mode → State
-into s mode = record { last = s.last; mode = mode; offset = s.offset; rest = s.rest; failed = false }
+into s mode = record {
+  last = s.last;
+  mode = mode;
+  offset = s.offset;
+  rest = s.rest;
+  failed = false;
+}
 
 abbrev pub initialized : State → ℕ → Result Presentation InitFault → Move State SegmentItem
 initialized s len (Ok p) = Give (InitItem p s.offset) (behind s (Some p) len)
@@ -149,7 +171,8 @@ initialized s len (Err f) = fail s (fault.Init f) 0
 
 -- a movie fragment whose moof has `len` bytes
 abbrev pub opening : List Slot → ℕ → Mode
-opening slots len = Within (record { slots = slots; taken = 0; known = []; end = 0; place = AtBox len })
+opening slots len =
+    Within (record { slots = slots; taken = 0; known = []; end = 0; place = AtBox len })
 
 abbrev pub opened : State → ℕ → Result (List Slot) MoofFault → Move State SegmentItem
 opened s len (Ok slots) = Pass (into s (opening slots len))
@@ -166,17 +189,36 @@ open_of (Skipping to left) = record { slots = []; taken = 0; known = []; end = 0
 open_of (Within o) = o
 
 abbrev pub in_data : Open → ℕ → ℕ → Mode
-in_data o start end = Within (record { slots = o.slots; taken = o.taken; known = o.known ++ (record { start = start; end = end }) ∷ []; end = end; place = InData end })
+in_data o start end =
+    Within
+    (record {
+      slots = o.slots;
+      taken = o.taken;
+      known = o.known ++ (record { start = start; end = end }) ∷ [];
+      end = end;
+      place = InData end;
+    })
 
 abbrev pub at_box : Open → ℕ → Mode
-at_box o at = Within (record { slots = o.slots; taken = o.taken; known = o.known; end = o.end; place = AtBox at })
+at_box o at =
+    Within
+    (record { slots = o.slots; taken = o.taken; known = o.known; end = o.end; place = AtBox at })
 
 abbrev pub one_taken : Open → Mode
-one_taken o = Within (record { slots = o.slots; taken = o.taken + 1; known = o.known; end = o.end; place = o.place })
+one_taken o =
+    Within
+    (record { slots = o.slots; taken = o.taken + 1; known = o.known; end = o.end; place = o.place })
 
 -- the coded frame of a slot, with the bytes that lie there
 abbrev pub coded_frame : List ℕ → Slot → CodedFrame
-coded_frame rest slot = record { track_id = slot.track_id; pts = slot.pts; dts = slot.dts; dur = slot.dur; sync = slot.sync; payload = slice_range rest slot.start slot.end }
+coded_frame rest slot = record {
+  track_id = slot.track_id;
+  pts = slot.pts;
+  dts = slot.dts;
+  dur = slot.dur;
+  sync = slot.sync;
+  payload = slice_range rest slot.start slot.end;
+}
 
 abbrev pub frame_of : List ℕ → ℕ → Slot → SegmentItem
 frame_of rest offset slot = FrameItem (coded_frame rest slot) (offset + slot.start)
@@ -188,14 +230,18 @@ act s (step.ReadInit len) = initialized s len (init_of (take len s.rest))
 act s (step.ReadMoof len) = planned s len s.last
 act s (step.EnterData start end) = Pass (into s (in_data (open_of s.mode) start end))
 act s (step.NextBox at) = Pass (into s (at_box (open_of s.mode) at))
-act s (step.GiveFrame slot) = Give (frame_of s.rest s.offset slot) (into s (one_taken (open_of s.mode)))
+act s (step.GiveFrame slot) =
+    Give (frame_of s.rest s.offset slot) (into s (one_taken (open_of s.mode)))
 act s (step.EndSegment end) = Give SegmentEnd (behind s s.last end)
 act s (step.Fail f at) = fail s f at
 
 -- a byte of a box that is passed over: it is let go as soon as it is there
 abbrev pub pass_byte : State → Phase → ℕ → List ℕ → Move State SegmentItem
 pass_byte s to left [] = Stop
-pass_byte s to left (x ∷ rest) = Pass (record { last = s.last; mode = Skipping to left; offset = s.offset + 1; rest = rest; failed = false })
+pass_byte s to left (x ∷ rest) =
+    Pass
+    (record
+    { last = s.last; mode = Skipping to left; offset = s.offset + 1; rest = rest; failed = false })
 
 abbrev pub mode_move : State → Mode → Move State SegmentItem
 mode_move s (Between phase) = act s (step_of (is_some s.last) s.rest (Between phase))
@@ -223,7 +269,8 @@ abbrev pub size_by : ℕ → Mode → ℕ
 size_by n (Between phase) = 1048580 * n + 1
 size_by n (Skipping to zero) = 1048580 * n + 2
 size_by n (Skipping to (suc left)) = 1048580 * n
-size_by n (Within o) = 1048580 * (n - walked o.place) + (length o.slots - o.taken) + place_size o.place
+size_by n (Within o) =
+    1048580 * (n - walked o.place) + (length o.slots - o.taken) + place_size o.place
 
 abbrev pub size_unless : State → Bool → ℕ
 size_unless s true = 0
@@ -232,7 +279,13 @@ size_unless s false = suc (size_by (length s.rest) s.mode)
 -- behind a fault more bytes are let go
 abbrev pub more_unless : State → List ℕ → Bool → State
 more_unless s c true = s
-more_unless s c false = record { last = s.last; mode = s.mode; offset = s.offset; rest = s.rest ++ c; failed = false }
+more_unless s c false = record {
+  last = s.last;
+  mode = s.mode;
+  offset = s.offset;
+  rest = s.rest ++ c;
+  failed = false;
+}
 
 -- a fault ends the walk; coded frames may be taken ahead
 abbrev pub segments : Kind State SegmentItem

@@ -22,7 +22,13 @@ SeesAscending (codes.Within f) known = IsAscending (take f.known known)
 
 -- what the code keeps of a movie fragment, with the tables in which its slots and data ranges lie
 abbrev pub open_at : List Slot → List DataRange → Fragment → Open
-open_at slots known f = record { slots = slots; taken = f.taken; known = take f.known known; end = f.end; place = f.place }
+open_at slots known f = record {
+  slots = slots;
+  taken = f.taken;
+  known = take f.known known;
+  end = f.end;
+  place = f.place;
+}
 
 abbrev pub mode_of : List Slot → List DataRange → code.Mode → walk.Mode
 mode_of slots known (codes.Between phase) = Between phase

@@ -57,7 +57,8 @@ parse_once_there b end now parse = if nat_le end (length b) then parse else NoIt
 
 -- no item follows a fault
 abbrev pub parse_of_fault : ParserView → StreamFault → ℕ → SegmentParse
-parse_of_fault now f at = ItemThen now (FaultItem f at) (NoItem (view_without_bytes now.phase now.latest))
+parse_of_fault now f at =
+    ItemThen now (FaultItem f at) (NoItem (view_without_bytes now.phase now.latest))
 
 -- a top-level box: what it is, its offset, and where its payload begins and ends
 pub record TopBox : Type 0 where
@@ -68,7 +69,8 @@ pub record TopBox : Type 0 where
 
 -- ---- where no movie fragment is open
 
-abbrev pub parse_of_moov : Onwards → ParserView → TopBox → Result Presentation InitFault → SegmentParse
+abbrev pub parse_of_moov : Onwards → ParserView → TopBox → Result Presentation InitFault
+    → SegmentParse
 parse_of_moov onwards now box (Ok p) =
     ItemThen now (InitItem p box.at) (onwards (Some p) (NoFragment Waiting) box.end)
 parse_of_moov onwards now box (Err f) = parse_of_fault now (fault.Init f) box.at
@@ -76,24 +78,31 @@ parse_of_moov onwards now box (Err f) = parse_of_fault now (fault.Init f) box.at
 abbrev pub fragment_behind : TopBox → List Slot → OpenFragment
 fragment_behind moof slots = record { moof = moof.at; slots = slots; payloads = []; end = moof.at }
 
-abbrev pub parse_of_moof : Onwards → ParserView → TopBox → Result (List Slot) MoofFault → SegmentParse
-parse_of_moof onwards now box (Ok slots) = onwards now.latest (InFragment (fragment_behind box slots)) box.end
+abbrev pub parse_of_moof : Onwards → ParserView → TopBox → Result (List Slot) MoofFault
+    → SegmentParse
+parse_of_moof onwards now box (Ok slots) =
+    onwards now.latest (InFragment (fragment_behind box slots)) box.end
 parse_of_moof onwards now box (Err f) = parse_of_fault now (fault.Moof f) box.at
 
 -- of a box that is passed over no byte is held
 abbrev pub parse_of_use : Onwards → List ℕ → ParserView → TopBox → BoxUse → SegmentParse
 parse_of_use onwards b now box (PassOver phase) =
-    parse_once_there b box.end (view_without_bytes phase now.latest) (onwards now.latest (NoFragment phase) box.end)
+    parse_once_there b box.end (view_without_bytes phase now.latest)
+    (onwards now.latest (NoFragment phase) box.end)
 parse_of_use onwards b now box ReadMovie =
-    parse_once_there b box.end now (parse_of_moov onwards now box (init_of (slice_range b box.at box.end)))
+    parse_once_there b box.end now
+    (parse_of_moov onwards now box (init_of (slice_range b box.at box.end)))
 parse_of_use onwards b now box (ReadFragment p) =
-    parse_once_there b box.end now (parse_of_moof onwards now box (plan_of p.tracks (slice_range b box.at box.end)))
+    parse_once_there b box.end now
+    (parse_of_moof onwards now box (plan_of p.tracks (slice_range b box.at box.end)))
 
 -- a fault comes as soon as the header is there
-abbrev pub parse_outside : Onwards → List ℕ → ParserView → TopBox → Result BoxUse StreamFault → SegmentParse
+abbrev pub parse_outside : Onwards → List ℕ → ParserView → TopBox → Result BoxUse StreamFault
+    → SegmentParse
 parse_outside onwards b now box (Err f) = parse_of_fault now f box.at
 parse_outside onwards b now box (Ok usage) =
-    if nat_lt (box.at + greatest_size box.kind) box.end then parse_of_fault now fault.TooLarge box.at
+    if nat_lt (box.at + greatest_size box.kind) box.end
+    then parse_of_fault now fault.TooLarge box.at
     else parse_of_use onwards b now box usage
 
 -- ---- in a movie fragment
@@ -101,7 +110,8 @@ parse_outside onwards b now box (Ok usage) =
 -- the data of the slot lie inside one of the payloads
 abbrev pub is_inside : ℕ → List DataRange → Slot → Bool
 is_inside moof [] s = false
-is_inside moof (k ∷ ks) s = (nat_le k.start (moof + s.start) && nat_le (moof + s.end) k.end) || is_inside moof ks s
+is_inside moof (k ∷ ks) s =
+    (nat_le k.start (moof + s.start) && nat_le (moof + s.end) k.end) || is_inside moof ks s
 
 -- the coded frame of a slot is the part of the string at its place
 abbrev pub frame_at : List ℕ → ℕ → Slot → SegmentItem
@@ -116,19 +126,25 @@ frame_at b moof s = FrameItem (record {
 
 -- The frames of the first slots, as far as their data lie inside the payloads. A slot whose data lie in none of them,
 -- and begin before the end of the last, will never have its data in one. `next` is what comes with the slots left.
-abbrev pub parse_of_slots : List ℕ → ParserView → OpenFragment → (List Slot → SegmentParse) → List Slot → SegmentParse
+abbrev pub parse_of_slots : List ℕ → ParserView → OpenFragment → (List Slot → SegmentParse)
+    → List Slot → SegmentParse
 parse_of_slots b now f next [] = next []
 parse_of_slots b now f next (s ∷ slots) =
     if is_inside f.moof f.payloads s then
-    parse_once_there b (f.moof + s.end) now (ItemThen now (frame_at b f.moof s) (parse_of_slots b now f next slots))
-    else (if nat_lt (f.moof + s.start) f.end then parse_of_fault now fault.OutsideMdat (f.moof + s.start)
+    parse_once_there b (f.moof + s.end) now
+    (ItemThen now (frame_at b f.moof s) (parse_of_slots b now f next slots))
+    else (if nat_lt (f.moof + s.start) f.end
+    then parse_of_fault now fault.OutsideMdat (f.moof + s.start)
     else next (s ∷ slots))
 
 -- at the end of an mdat: the media segment ends there if no slot is left
 abbrev pub parse_of_data_end : Onwards → ParserView → OpenFragment → List Slot → SegmentParse
-parse_of_data_end onwards now f [] = ItemThen now SegmentEnd (onwards now.latest (NoFragment Waiting) f.end)
+parse_of_data_end onwards now f [] =
+    ItemThen now SegmentEnd (onwards now.latest (NoFragment Waiting) f.end)
 parse_of_data_end onwards now f (s ∷ slots) =
-    onwards now.latest (InFragment (record { moof = f.moof; slots = s ∷ slots; payloads = f.payloads; end = f.end })) f.end
+    onwards now.latest
+    (InFragment (record { moof = f.moof; slots = s ∷ slots; payloads = f.payloads; end = f.end }))
+    f.end
 
 -- the fragment once the header of an mdat is there, whose payload is known from then on
 abbrev pub fragment_with : OpenFragment → TopBox → OpenFragment
@@ -142,7 +158,8 @@ fragment_with f mdat = record {
 -- behind the header of an mdat that ends the payloads of the fragment
 abbrev pub parse_of_mdat : Onwards → List ℕ → ParserView → OpenFragment → SegmentParse
 parse_of_mdat onwards b now f =
-    parse_of_slots b now f (λ slots. parse_once_there b f.end now (parse_of_data_end onwards now f slots)) f.slots
+    parse_of_slots b now f
+    (λ slots. parse_once_there b f.end now (parse_of_data_end onwards now f slots)) f.slots
 
 -- a movie fragment with its data is held in memory whole
 abbrev pub parse_unless_large : ParserView → OpenFragment → TopBox → SegmentParse → SegmentParse
@@ -150,7 +167,8 @@ parse_unless_large now f box parse =
     if nat_lt (f.moof + 2 ^ 27) box.end then parse_of_fault now fault.TooLarge box.at else parse
 
 -- no other segment may begin in a movie fragment
-abbrev pub parse_inside : Onwards → List ℕ → ParserView → OpenFragment → TopBox → TopLevelBox → SegmentParse
+abbrev pub parse_inside : Onwards → List ℕ → ParserView → OpenFragment → TopBox → TopLevelBox
+    → SegmentParse
 parse_inside onwards b now f box FileType = parse_of_fault now fault.InSegment box.at
 parse_inside onwards b now f box SegmentType = parse_of_fault now fault.InSegment box.at
 parse_inside onwards b now f box Movie = parse_of_fault now fault.InSegment box.at
@@ -158,17 +176,24 @@ parse_inside onwards b now f box MovieFragment = parse_of_fault now fault.InSegm
 parse_inside onwards b now f box MediaData =
     parse_unless_large now f box (parse_of_mdat onwards b now (fragment_with f box))
 parse_inside onwards b now f box Other =
-    parse_unless_large now f box (parse_once_there b box.end now (onwards now.latest (InFragment f) box.end))
+    parse_unless_large now f box
+    (parse_once_there b box.end now (onwards now.latest (InFragment f) box.end))
 
 -- ---- the string
 
 abbrev pub parse_of_box : Onwards → List ℕ → ParserView → Context → TopBox → SegmentParse
-parse_of_box onwards b now (NoFragment phase) box = parse_outside onwards b now box (box_use phase box.kind now.latest)
+parse_of_box onwards b now (NoFragment phase) box =
+    parse_outside onwards b now box (box_use phase box.kind now.latest)
 parse_of_box onwards b now (InFragment f) box = parse_inside onwards b now f box box.kind
 
 -- the box of a header at an offset
 abbrev pub box_behind : ℕ → List ℕ → ℕ → ℕ → TopBox
-box_behind at kind head len = record { kind = box_type kind; at = at; start = at + head; end = at + len }
+box_behind at kind head len = record {
+  kind = box_type kind;
+  at = at;
+  start = at + head;
+  end = at + len;
+}
 
 abbrev pub parse_of_header : Onwards → List ℕ → ParserView → Context → ℕ → Header → SegmentParse
 parse_of_header onwards b now before at head.Short = NoItem now
@@ -180,7 +205,8 @@ parse_of_header onwards b now before at (head.Whole kind start len) =
 abbrev pub parse_of_boxes : ℕ → List ℕ → Onwards
 parse_of_boxes zero b last before at = NoItem (view_at b last before at)
 parse_of_boxes (suc n) b last before at =
-    parse_of_header (parse_of_boxes n b) b (view_at b last before at) before at (header_of (drop at b))
+    parse_of_header (parse_of_boxes n b) b (view_at b last before at) before at
+    (header_of (drop at b))
 
 -- What the whole string gives, where the presentation `last` was left by what came before. It has no more boxes than
 -- bytes.
@@ -212,7 +238,8 @@ ready_before last b n = length (leading_frames (drop n (Items last b)))
 abbrev pub box_by : List ℕ → ℕ → Header → List ℕ
 box_by b at head.Short = []
 box_by b at (head.Bad f) = []
-box_by b at (head.Whole kind start len) = if nat_le (at + len) (length b) then slice_range b at (at + len) else []
+box_by b at (head.Whole kind start len) =
+    if nat_le (at + len) (length b) then slice_range b at (at + len) else []
 
 abbrev pub box_at : List ℕ → ℕ → List ℕ
 box_at b at = box_by b at (header_of (drop at b))

@@ -58,17 +58,22 @@ pub enum Place {
 /// definition of a string of segments from the first byte of the string.
 #[derive(Clone, Copy, Debug, PartialEq, Eq)]
 pub struct DataRange {
+    /// The place of its first byte.
     pub start: u64,
+    /// The place behind its last byte.
     pub end: u64,
 }
 
-/// An open movie fragment, but for its tables: how many of its slots were taken, how many of its mdats are
-/// known, where the last of these ends, and the place of the parser.
+/// An open movie fragment, but for its tables.
 #[derive(Clone, Copy, Debug, PartialEq, Eq)]
 pub struct Fragment {
+    /// How many of its slots were taken.
     pub taken: usize,
+    /// How many of its mdats are known.
     pub known: usize,
+    /// Where the last of these ends, in bytes from the first byte of the moof.
     pub end: u64,
+    /// The place of the parser.
     pub place: Place,
 }
 

@@ -67,7 +67,8 @@ SlotEndsWithin d (Some m) = EndsWithin d m.tracks
 
 -- the same of one slot: where it held within the duration, it does within the duration that is replied
 abbrev pub SlotStaysWithin : Moment → Option Kept → Reply → Option Kept → Type 0
-SlotStaysWithin duration old reply new = SlotEndsWithin duration (kept_media old) → SlotEndsWithin reply.duration (kept_media new)
+SlotStaysWithin duration old reply new =
+    SlotEndsWithin duration (kept_media old) → SlotEndsWithin reply.duration (kept_media new)
 
 -- each stored frame of each buffer ends at or before the duration; without a duration there is none
 abbrev pub AllEndWithin : Moment → List (Option Media) → Type 0
@@ -75,7 +76,8 @@ AllEndWithin d ms = AllByRecursion (SlotEndsWithin d) ms
 
 -- where each stored frame of each buffer ended within the duration, each does so within the duration that is replied
 abbrev pub AllStayWithin : Moment → KeptBuffers → Reply → KeptBuffers → Type 0
-AllStayWithin duration old reply new = AllEndWithin duration (all_kept_media old) → AllEndWithin reply.duration (all_kept_media new)
+AllStayWithin duration old reply new =
+    AllEndWithin duration (all_kept_media old) → AllEndWithin reply.duration (all_kept_media new)
 
 -- ---- what always holds
 

@@ -36,8 +36,10 @@ abbrev pub element_span : ℤ → Bool → List ℕ → List (Option Media) → 
 element_span t ended active ms = find (reaches t) (element_ranges ended active ms)
 
 -- the statement about sets of ticks that stands above it
-pub record IsElementBuffered (ended : Bool) (active : List ℕ) (ms : List (Option Media)) : Type 0 where
-  pub same : (t : ℤ) → active ≢ [] → covers (element_ranges ended active ms) t ≡ all_cover (shared_ranges ended active ms) t
+pub record IsElementBuffered (ended : Bool) (active : List ℕ)
+    (ms : List (Option Media)) : Type 0 where
+  pub same : (t : ℤ) → active ≢ []
+      → covers (element_ranges ended active ms) t ≡ all_cover (shared_ranges ended active ms) t
   pub none : active ≡ [] → element_ranges ended active ms ≡ []
   pub normalized : IsNormalized (element_ranges ended active ms)
 
@@ -53,8 +55,15 @@ track_at k i ms = slot_track i (in_slot k ms)
 -- where an initialization segment was received, the ranges of the buffer are as before; there are none where it was the
 -- first
 abbrev pub SlotLeavesRanges : Option Kept → Reply → Option Kept → Type 0
-SlotLeavesRanges old reply new = reply.received_init ≡ true → (ended : Bool) → slot_ranges ended (kept_media new) ≡ (if reply.activated then [] else slot_ranges ended (kept_media old))
+SlotLeavesRanges old reply new =
+    reply.received_init ≡ true → (ended : Bool)
+    → slot_ranges ended (kept_media new)
+    ≡ (if reply.activated then [] else slot_ranges ended (kept_media old))
 
 -- the same of each buffer, where it was received at the buffer of a number
 abbrev pub AllLeaveRanges : ℕ → KeptBuffers → Reply → KeptBuffers → Type 0
-AllLeaveRanges k old reply new = reply.received_init ≡ true → (ended : Bool) (j : ℕ) → slot_ranges ended (in_slot j (all_kept_media new)) ≡ (if reply.activated && (j == k) then [] else slot_ranges ended (in_slot j (all_kept_media old)))
+AllLeaveRanges k old reply new =
+    reply.received_init ≡ true → (ended : Bool) (j : ℕ)
+    → slot_ranges ended (in_slot j (all_kept_media new))
+    ≡ (if reply.activated && (j == k) then []
+    else slot_ranges ended (in_slot j (all_kept_media old)))

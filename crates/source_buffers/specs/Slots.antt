@@ -22,13 +22,17 @@ pub record SlotResult : Type 0 where
   pub slot : Option BufferState
 
 abbrev pub slot_with : CallResult → SlotResult
-slot_with r = record { reply = r.reply; slot = Some (record { feed = r.feed; content = r.content }) }
+slot_with r = record {
+  reply = r.reply;
+  slot = Some (record { feed = r.feed; content = r.content });
+}
 
 abbrev pub empty_slot : Reply → SlotResult
 empty_slot reply = record { reply = reply; slot = None }
 
 -- a call on a buffer; where the buffer was removed the call is refused by a name
-abbrev pub call_in_slot : Name → Moment → (Feed → Content → CallResult) → Option BufferState → SlotResult
+abbrev pub call_in_slot : Name → Moment → (Feed → Content → CallResult) → Option BufferState
+    → SlotResult
 call_in_slot name d call None = empty_slot (refusal name false d)
 call_in_slot name d call (Some b) = slot_with (call b.feed b.content)
 
@@ -58,7 +62,8 @@ turn_in_slot a (Some b) = slot_turn_of (turn_result a b.feed b.content)
 
 -- ---- refusals of a call before anything comes of it, of what is in one slot
 
-abbrev pub refusal_in_slot : Name → (Feed → Content → Option Name) → Option BufferState → Option Name
+abbrev pub refusal_in_slot : Name → (Feed → Content → Option Name) → Option BufferState
+    → Option Name
 refusal_in_slot name refusal None = Some name
 refusal_in_slot name refusal (Some b) = refusal b.feed b.content
 
@@ -79,22 +84,26 @@ buffers_with k bs r = record { reply = r.reply; buffers = slice_set bs k r.slot 
 abbrev pub refused_buffers : Name → Moment → BufferStates → BuffersResult
 refused_buffers name d bs = record { reply = refusal name false d; buffers = bs }
 
-abbrev pub result_by_slot : Option (Option BufferState) → (Option BufferState → SlotResult) → Moment → ℕ → BufferStates → BuffersResult
+abbrev pub result_by_slot : Option (Option BufferState) → (Option BufferState → SlotResult) → Moment
+    → ℕ → BufferStates → BuffersResult
 result_by_slot None call d k bs = refused_buffers NoSuchBuffer d bs
 result_by_slot (Some s) call d k bs = buffers_with k bs (call s)
 
 -- a call on the slot of a number; where no buffer was ever made with it the call is refused
-abbrev pub result_on_slot : ℕ → Moment → (Option BufferState → SlotResult) → BufferStates → BuffersResult
+abbrev pub result_on_slot : ℕ → Moment → (Option BufferState → SlotResult) → BufferStates
+    → BuffersResult
 result_on_slot k d call bs = result_by_slot (slice_get bs k) call d k bs
 
 -- a call on the buffer of a number; where it was removed the call is refused too
-abbrev pub result_on_buffer : ℕ → Name → Moment → (Feed → Content → CallResult) → BufferStates → BuffersResult
+abbrev pub result_on_buffer : ℕ → Name → Moment → (Feed → Content → CallResult) → BufferStates
+    → BuffersResult
 result_on_buffer k name d call bs = result_on_slot k d (call_in_slot name d call) bs
 
 abbrev pub removal_result : ℕ → Surroundings → BufferStates → BuffersResult
 removal_result k a bs = result_on_slot k a.duration (removal_in_slot a) bs
 
-abbrev pub refusal_by_slot : Option (Option BufferState) → (Option BufferState → Option Name) → Option Name
+abbrev pub refusal_by_slot : Option (Option BufferState) → (Option BufferState → Option Name)
+    → Option Name
 refusal_by_slot None refusal = Some NoSuchBuffer
 refusal_by_slot (Some s) refusal = refusal s
 
@@ -103,14 +112,16 @@ abbrev pub refusal_on_slot : ℕ → (Option BufferState → Option Name) → Bu
 refusal_on_slot k refusal bs = refusal_by_slot (slice_get bs k) refusal
 
 -- the same of a call on the buffer of a number
-abbrev pub refusal_on_buffer : ℕ → Name → (Feed → Content → Option Name) → BufferStates → Option Name
+abbrev pub refusal_on_buffer : ℕ → Name → (Feed → Content → Option Name) → BufferStates
+    → Option Name
 refusal_on_buffer k name refusal bs = refusal_on_slot k (refusal_in_slot name refusal) bs
 
 abbrev pub buffers_turn_of : ℕ → BufferStates → Option SlotResult → Option BuffersResult
 buffers_turn_of k bs None = None
 buffers_turn_of k bs (Some r) = Some (buffers_with k bs r)
 
-abbrev pub turn_by_slot : Option (Option BufferState) → ℕ → Surroundings → BufferStates → Option BuffersResult
+abbrev pub turn_by_slot : Option (Option BufferState) → ℕ → Surroundings → BufferStates
+    → Option BuffersResult
 turn_by_slot None k a bs = None
 turn_by_slot (Some s) k a bs = buffers_turn_of k bs (turn_in_slot a s)
 
@@ -125,23 +136,34 @@ pub record IsSlotResult (reply : Reply) (kept : Option Kept) (result : SlotResul
   pub replies : reply ≡ result.reply
   pub stands : SlotStands kept result.slot
 
-pub record IsBuffersResult (reply : Reply) (kept : KeptBuffers) (result : BuffersResult) : Type 0 where
+pub record IsBuffersResult (reply : Reply) (kept : KeptBuffers)
+    (result : BuffersResult) : Type 0 where
   pub replies : reply ≡ result.reply
   pub stand : AllStand kept result.buffers
 
 -- for whatever the slot stood for
-abbrev pub SlotAnswers : Option Kept → Reply → Option Kept → (Option BufferState → SlotResult) → Type 0
-SlotAnswers old reply new call = (s : Option BufferState) → SlotStands old s → IsSlotResult reply new (call s)
+abbrev pub SlotAnswers : Option Kept → Reply → Option Kept → (Option BufferState → SlotResult)
+    → Type 0
+SlotAnswers old reply new call =
+    (s : Option BufferState) → SlotStands old s → IsSlotResult reply new (call s)
 
-abbrev pub SlotAnswersIfOk : {E : Type 0} → Option Kept → Result Reply E → Option Kept → (Option BufferState → SlotResult) → Type 0
-SlotAnswersIfOk old result new call = (s : Option BufferState) → SlotStands old s → IfOk result (λ reply. IsSlotResult reply new (call s))
+abbrev pub SlotAnswersIfOk : {E : Type 0} → Option Kept → Result Reply E → Option Kept
+    → (Option BufferState → SlotResult) → Type 0
+SlotAnswersIfOk old result new call =
+    (s : Option BufferState) → SlotStands old s
+    → IfOk result (λ reply. IsSlotResult reply new (call s))
 
 -- for whatever buffers all slots stood for
-abbrev pub BuffersAnswer : KeptBuffers → Reply → KeptBuffers → (BufferStates → BuffersResult) → Type 0
-BuffersAnswer old reply new call = (bs : BufferStates) → AllStand old bs → IsBuffersResult reply new (call bs)
+abbrev pub BuffersAnswer : KeptBuffers → Reply → KeptBuffers → (BufferStates → BuffersResult)
+    → Type 0
+BuffersAnswer old reply new call =
+    (bs : BufferStates) → AllStand old bs → IsBuffersResult reply new (call bs)
 
-abbrev pub BuffersAnswerIfOk : {E : Type 0} → KeptBuffers → Result Reply E → KeptBuffers → (BufferStates → BuffersResult) → Type 0
-BuffersAnswerIfOk old result new call = (bs : BufferStates) → AllStand old bs → IfOk result (λ reply. IsBuffersResult reply new (call bs))
+abbrev pub BuffersAnswerIfOk : {E : Type 0} → KeptBuffers → Result Reply E → KeptBuffers
+    → (BufferStates → BuffersResult) → Type 0
+BuffersAnswerIfOk old result new call =
+    (bs : BufferStates) → AllStand old bs
+    → IfOk result (λ reply. IsBuffersResult reply new (call bs))
 
 -- something ran, or nothing did
 abbrev pub IsSlotTurn : Turned → Option Kept → Option SlotResult → Type 0
@@ -157,8 +179,14 @@ IsBuffersTurn Idle kept None = Unit {0}
 IsBuffersTurn Idle kept (Some result) = ⊥
 
 -- for whatever buffers all slots stood for
-abbrev pub BuffersTurnIfOk : {E : Type 0} → KeptBuffers → Result Turned E → KeptBuffers → (BufferStates → Option BuffersResult) → Type 0
-BuffersTurnIfOk old result new turn = (bs : BufferStates) → AllStand old bs → IfOk result (λ turned. IsBuffersTurn turned new (turn bs))
+abbrev pub BuffersTurnIfOk : {E : Type 0} → KeptBuffers → Result Turned E → KeptBuffers
+    → (BufferStates → Option BuffersResult) → Type 0
+BuffersTurnIfOk old result new turn =
+    (bs : BufferStates) → AllStand old bs
+    → IfOk result (λ turned. IsBuffersTurn turned new (turn bs))
 
-abbrev pub SlotTurnIfOk : {E : Type 0} → Option Kept → Result Turned E → Option Kept → (Option BufferState → Option SlotResult) → Type 0
-SlotTurnIfOk old result new turn = (s : Option BufferState) → SlotStands old s → IfOk result (λ turned. IsSlotTurn turned new (turn s))
+abbrev pub SlotTurnIfOk : {E : Type 0} → Option Kept → Result Turned E → Option Kept
+    → (Option BufferState → Option SlotResult) → Type 0
+SlotTurnIfOk old result new turn =
+    (s : Option BufferState) → SlotStands old s
+    → IfOk result (λ turned. IsSlotTurn turned new (turn s))

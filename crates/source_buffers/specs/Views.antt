@@ -8,7 +8,8 @@ use Rattle.source_buffers.specs.State.{BufferStates}
 abbrev pub views_from : ℕ → Bool → BufferStates → List BufferView
 views_from k ended [] = []
 views_from k ended (None ∷ bs) = views_from (suc k) ended bs
-views_from k ended (Some b ∷ bs) = buffer_view k ended b.feed b.content ∷ views_from (suc k) ended bs
+views_from k ended (Some b ∷ bs) =
+    buffer_view k ended b.feed b.content ∷ views_from (suc k) ended bs
 
 -- the buffers that are there, in order of their numbers
 abbrev pub buffer_views : Bool → BufferStates → List BufferView

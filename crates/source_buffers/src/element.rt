@@ -136,6 +136,7 @@ fn ranges_with_end(ranges: Ranges, end: &Option<Ticks>) -> Result<Ranges, OutOfM
     ensures { IfOk result (λ r. r.spans ≡ with_end end.now ranges.spans) }
 {
     let mut ranges = ranges;
+    // The proof reads off this that the spans of ranges are normalized.
     let _count = ranges.len();
     if let Some(end) = end {
         extend_last(&mut ranges, *end)?;
@@ -178,12 +179,12 @@ pub(crate) fn element_ranges<S: FrameStore>(
     }
     sound(slots);
     let end = common_end(slots, active, ended);
-    let mut met = ranges_at(slots, alloc, active, 0, ended, &end)?;
+    let mut common = ranges_at(slots, alloc, active, 0, ended, &end)?;
     for i in 1..active.len() {
         let ranges = ranges_at(slots, alloc, active, i, ended, &end)?;
-        met = met.meet(&ranges)?;
+        common = common.meet(&ranges)?;
     }
-    Ok(met)
+    Ok(common)
 }
 
 /// The range of a buffer that holds a time, where the source is ended and the last range lasts to
@@ -289,9 +290,9 @@ pub(crate) fn element_span<S: FrameStore>(
     }
     sound(slots);
     let end = common_end(slots, active, ended);
-    let mut held = span_at(slots, active, 0, t, ended, &end);
+    let mut span = span_at(slots, active, 0, t, ended, &end);
     for i in 1..active.len() {
-        held = overlap_of_two(held, span_at(slots, active, i, t, ended, &end));
+        span = overlap_of_two(span, span_at(slots, active, i, t, ended, &end));
     }
-    held
+    span
 }

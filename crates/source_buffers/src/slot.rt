@@ -17,7 +17,7 @@ use mse_types::{TypeAnswer, read_type};
 use track_store::FrameStore;
 
 /// The refusal of a call on a buffer that was removed.
-fn removed(around: &Around) -> Reply
+fn refusal_where_removed(around: &Around) -> Reply
     ensures { result ≡ refusal Name.InvalidState false around.now.duration }
 {
     Reply::refused(Name::InvalidState, false, &around.duration)
@@ -39,7 +39,7 @@ pub(crate) fn set_mode<S: FrameStore>(
 {
     match slot {
         Some(buffer) => buffer.set_mode(mode, around),
-        None => removed(around),
+        None => refusal_where_removed(around),
     }
 }
 
@@ -59,7 +59,7 @@ pub(crate) fn set_offset<S: FrameStore>(
 {
     match slot {
         Some(buffer) => buffer.set_offset(t, around),
-        None => removed(around),
+        None => refusal_where_removed(around),
     }
 }
 
@@ -79,7 +79,7 @@ pub(crate) fn set_window_start<S: FrameStore>(
 {
     match slot {
         Some(buffer) => buffer.set_window_start(t, around),
-        None => removed(around),
+        None => refusal_where_removed(around),
     }
 }
 
@@ -99,7 +99,7 @@ pub(crate) fn set_window_end<S: FrameStore>(
 {
     match slot {
         Some(buffer) => buffer.set_window_end(t, around),
-        None => removed(around),
+        None => refusal_where_removed(around),
     }
 }
 
@@ -120,7 +120,7 @@ pub(crate) fn remove_frames<S: FrameStore>(
 {
     match slot {
         Some(buffer) => buffer.remove(start, end, around),
-        None => removed(around),
+        None => refusal_where_removed(around),
     }
 }
 
@@ -142,7 +142,7 @@ pub(crate) fn append<S: FrameStore>(
 {
     match slot {
         Some(buffer) => buffer.append(bytes, around),
-        None => Ok(removed(around)),
+        None => Ok(refusal_where_removed(around)),
     }
 }
 
@@ -163,7 +163,7 @@ pub(crate) fn abort<S: FrameStore>(
 {
     match slot {
         Some(buffer) => buffer.abort(around),
-        None => Ok(removed(around)),
+        None => Ok(refusal_where_removed(around)),
     }
 }
 

@@ -136,7 +136,8 @@ end_refusal updating s = if not (is_open s.ready) || updating then Some InvalidS
 -- the source's part of the end of stream algorithm (2.4.7): without an error the duration becomes the highest end of
 -- all frames, 0 where there is none
 abbrev pub after_end : EndKind → Option ℤ → SourceState → Answered Changed SourceState
-after_end Plain highest_end s = after_duration_change (At (unwrap_or highest_end (pos 0))) (in_ready Ended s)
+after_end Plain highest_end s =
+    after_duration_change (At (unwrap_or highest_end (pos 0))) (in_ready Ended s)
 after_end Network highest_end s = answering changed.Same (in_ready Ended s)
 after_end Decode highest_end s = answering changed.Same (in_ready Ended s)
 

@@ -16,7 +16,10 @@ lesser_with (Some u) t = int_min u t
 
 -- the least span that has the live seekable range and all that is buffered
 abbrev pub live_union : Span → Option ℤ → Option ℤ → Span
-live_union live first last = record { start = lesser_with first live.start; end = greater_with last live.end }
+live_union live first last = record {
+  start = lesser_with first live.start;
+  end = greater_with last live.end;
+}
 
 -- with the duration, the live seekable range, where the first buffered range of the element starts and where the last
 -- one ends

@@ -19,7 +19,14 @@ pub record SourceState : Type 0 where
   pub active : List ℕ
 
 abbrev pub new_source : SourceState
-new_source = record { ready = Closed; duration = Nan; live = None; made = 0; listed = []; active = [] }
+new_source = record {
+  ready = Closed;
+  duration = Nan;
+  live = None;
+  made = 0;
+  listed = [];
+  active = [];
+}
 
 -- a list of buffers has the one of a number
 abbrev pub has : ℕ → List ℕ → Bool

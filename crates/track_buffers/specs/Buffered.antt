@@ -32,7 +32,8 @@ with_end (Some e) rs = with_last_end e rs
 
 -- the ticks by which the last range grows: from its start on and before the end, where there is a range
 abbrev pub last_up_to : ℤ → List Span → List Span
-last_up_to e rs = option_to_list (option_map (λ s. record { start = s.start; end = e }) (last_of rs))
+last_up_to e rs =
+    option_to_list (option_map (λ s. record { start = s.start; end = e }) (last_of rs))
 
 -- step 4.2: where the source is ended, the last range of each track lasts to the highest end of all
 abbrev pub with_common_end : Bool → List (List Span) → List (List Span)
@@ -51,10 +52,12 @@ abbrev pub all_cover : List (List Span) → ℤ → Bool
 all_cover rs t = list_all (λ r. covers r t) rs
 
 pub record IsBuffered (ended : Bool) (m : Media) (spans : List Span) : Type 0 where
-  pub same : (t : ℤ) → m.tracks ≢ [] → covers spans t ≡ all_cover (with_common_end ended (track_ranges m)) t
+  pub same : (t : ℤ) → m.tracks ≢ []
+      → covers spans t ≡ all_cover (with_common_end ended (track_ranges m)) t
   pub none : m.tracks ≡ [] → spans ≡ []
   pub normalized : IsNormalized spans
 
 -- the ranges of tracks with their stores
-abbrev pub ranges_in : {S : Type 0} → (S → List Stored) → (S → ℤ) → List (Track S) → List (List Span)
+abbrev pub ranges_in : {S : Type 0} → (S → List Stored) → (S → ℤ) → List (Track S)
+    → List (List Span)
 ranges_in frames gap ts = map (λ t. ranges_of (gap t.store) (frames t.store)) ts

@@ -26,7 +26,8 @@ if_reaches t s = if reaches t s then Some s else None
 -- held the time, and from there on only the last can
 abbrev pub held_up_to : ℤ → ℤ → Option Span → Option Span → Option Span
 held_up_to t e None held = None
-held_up_to t e (Some last) held = if int_lt t last.start then held else if_reaches t (span_up_to e last)
+held_up_to t e (Some last) held =
+    if int_lt t last.start then held else if_reaches t (span_up_to e last)
 
 -- the same where there is an end, and else the range that held the time
 abbrev pub held_with_end : ℤ → Option ℤ → Option Span → Option Span → Option Span

@@ -26,8 +26,11 @@ place_of id ts = position (has_number id) ts
 -- after coded frame processing: a frame that was stored raises the duration to the group end timestamp (Media Source
 -- Extensions, 3.5.8, step 5)
 abbrev pub placement_result : Placed → List TrackState → Settings → Media → Moment → MediaResult
-placement_result placed_as.Stored ts s m d = Done (record m { tracks = ts; settings = s }) (with_duration (greater_moment d s.group_end) (no_effect d))
-placement_result (placed_as.Dropped why) ts s m d = Done (record m { tracks = ts; settings = s }) (no_effect d)
+placement_result placed_as.Stored ts s m d =
+    Done (record m { tracks = ts; settings = s })
+    (with_duration (greater_moment d s.group_end) (no_effect d))
+placement_result (placed_as.Dropped why) ts s m d =
+    Done (record m { tracks = ts; settings = s }) (no_effect d)
 placement_result placed_as.TimeRange ts s m d = AppendError TimeRange m (no_effect d)
 placement_result placed_as.Counts ts s m d = AppendError Counts m (no_effect d)
 
@@ -51,13 +54,19 @@ pub record FlushResult : Type 0 where
 
 -- what two things in a row bring about
 abbrev pub effect_of_both : SourceEffect → SourceEffect → SourceEffect
-effect_of_both a b = record { duration_changes = a.duration_changes + b.duration_changes; duration = b.duration; activated = a.activated || b.activated; received_init = a.received_init || b.received_init }
+effect_of_both a b = record {
+  duration_changes = a.duration_changes + b.duration_changes;
+  duration = b.duration;
+  activated = a.activated || b.activated;
+  received_init = a.received_init || b.received_init;
+}
 
 -- after something else was brought about
 abbrev pub flush_result_after : SourceEffect → FlushResult → FlushResult
 flush_result_after b r = record { media = r.media; effect = effect_of_both b r.effect }
 
-abbrev pub flush_result_of : MediaResult → (Media → Moment → FlushResult) → Media → Moment → FlushResult
+abbrev pub flush_result_of : MediaResult → (Media → Moment → FlushResult) → Media → Moment
+    → FlushResult
 flush_result_of (Done n b) rest m d = flush_result_after b (rest n b.duration)
 flush_result_of (AppendError fault n b) rest m d = record { media = m; effect = no_effect d }
 
@@ -76,17 +85,26 @@ abbrev pub reset_settings : Settings → Settings
 reset_settings s = if s.sequence then record s { group_start = Some s.group_end } else s
 
 abbrev pub media_after_reset : Media → Media
-media_after_reset m = record { tracks = map unset_track m.tracks; settings = reset_settings m.settings; pending = m.pending; gap = m.gap }
+media_after_reset m = record {
+  tracks = map unset_track m.tracks;
+  settings = reset_settings m.settings;
+  pending = m.pending;
+  gap = m.gap;
+}
 
 -- ---- removal, eviction, numbers
 
 -- coded frame removal (Media Source Extensions, 3.5.9)
 abbrev pub media_after_removal : ℤ → Moment → Moment → Media → Media
-media_after_removal start end duration m = record m { tracks = tracks_after_removal start end duration m.tracks }
+media_after_removal start end duration m = record m {
+  tracks = tracks_after_removal start end duration m.tracks;
+}
 
 -- coded frame eviction (Media Source Extensions, 3.5.10)
 abbrev pub media_after_eviction : ℤ → ℕ → ℕ → Moment → Media → Media
-media_after_eviction position new quota duration m = record m { tracks = tracks_after_eviction position new quota duration m.tracks }
+media_after_eviction position new quota duration m = record m {
+  tracks = tracks_after_eviction position new quota duration m.tracks;
+}
 
 -- the bytes of all stored frames
 abbrev pub used_in : Media → ℕ

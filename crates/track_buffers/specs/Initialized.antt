@@ -86,7 +86,13 @@ new_track u = record { id = u.id; kind = u.kind; codec = u.codec; frames = []; m
 -- step 3, else: a track buffer takes number and codec of its partner, and needs a random access point
 abbrev pub track_with_partner : TrackState → Option TrackInfo → TrackState
 track_with_partner t None = t
-track_with_partner t (Some u) = record { id = u.id; kind = t.kind; codec = u.codec; frames = t.frames; marks = marks_needing_sync t.marks }
+track_with_partner t (Some u) = record {
+  id = u.id;
+  kind = t.kind;
+  codec = u.codec;
+  frames = t.frames;
+  marks = marks_needing_sync t.marks;
+}
 
 abbrev pub tracks_with_partners : List TrackInfo → List TrackState → List TrackState
 tracks_with_partners news ts = map (λ t. track_with_partner t (partner_of ts news t)) ts
@@ -97,7 +103,20 @@ tracks_after news (t ∷ ts) = tracks_with_partners news (t ∷ ts)
 
 abbrev pub init_result_of : Option MediaFault → Presentation → Media → SourceEffect → MediaResult
 init_result_of (Some fault) p m b = AppendError fault m b
-init_result_of None p m b = Done (record { tracks = tracks_after (media_tracks p) m.tracks; settings = m.settings; pending = false; gap = m.gap }) (record { duration_changes = b.duration_changes; duration = b.duration; activated = awaits_first m; received_init = true })
+init_result_of None p m b =
+    Done
+    (record {
+      tracks = tracks_after (media_tracks p) m.tracks;
+      settings = m.settings;
+      pending = false;
+      gap = m.gap;
+    })
+    (record {
+      duration_changes = b.duration_changes;
+      duration = b.duration;
+      activated = awaits_first m;
+      received_init = true;
+    })
 
 -- the segment received, where the duration is d
 abbrev pub init_result : Presentation → Media → Moment → MediaResult

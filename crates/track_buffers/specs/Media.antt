@@ -28,8 +28,14 @@ pub record MediaView : Type 0 where
   pub places : ℕ
 
 -- the media of tracks with their stores
-abbrev pub media_of : {S : Type 0} → (S → List Stored) → List (Track S) → Settings → Bool → ℤ → Media
-media_of frames ts settings pending gap = record { tracks = states_of frames ts; settings = settings; pending = pending; gap = gap }
+abbrev pub media_of : {S : Type 0} → (S → List Stored) → List (Track S) → Settings → Bool → ℤ
+    → Media
+media_of frames ts settings pending gap = record {
+  tracks = states_of frames ts;
+  settings = settings;
+  pending = pending;
+  gap = gap;
+}
 
 abbrev pub is_empty_list : {X : Type 0} → List X → Bool
 is_empty_list [] = true
@@ -53,7 +59,8 @@ room_of spare ts = least_room (map (λ t. spare t.store) ts)
 
 -- each track buffer is sound, the window has a start that is not negative and an end, and ranges of each track join
 -- across the same gap
-pub record IsSteady (tracks : List TrackState) (gaps : List ℤ) (settings : Settings) (gap : ℤ) : Type 0 where
+pub record IsSteady (tracks : List TrackState) (gaps : List ℤ) (settings : Settings)
+    (gap : ℤ) : Type 0 where
   pub kept : AreKept tracks
   pub window_start : pos 0 ≤ℤ settings.window_start
   pub window_end : settings.window_end ≢ Nan
@@ -74,11 +81,23 @@ IsNotAfter d e = (ts : List TrackState) → EndsWithin d ts → EndsWithin e ts
 
 -- nothing, where this is the duration
 abbrev pub no_effect : Moment → SourceEffect
-no_effect d = record { duration_changes = 0; duration = d; activated = false; received_init = false }
+no_effect d = record {
+  duration_changes = 0;
+  duration = d;
+  activated = false;
+  received_init = false;
+}
 
 -- duration change (Media Source Extensions, 2.4.6): to the duration that it has already, nothing
 abbrev pub with_duration : Moment → SourceEffect → SourceEffect
-with_duration d b = if same_moment d b.duration then b else record { duration_changes = b.duration_changes + 1; duration = d; activated = b.activated; received_init = b.received_init }
+with_duration d b =
+    if same_moment d b.duration then b
+    else record {
+      duration_changes = b.duration_changes + 1;
+      duration = d;
+      activated = b.activated;
+      received_init = b.received_init;
+    }
 
 -- What an item does to the media and at the source: all of it, or that it breaks the byte stream, which is an append
 -- error; what came before the fault stands.

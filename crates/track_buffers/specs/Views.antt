@@ -6,7 +6,13 @@ use Rattle.track_store.specs.State.{TrackState}
 use Rattle.track_buffers.specs.Media.{Media}
 
 abbrev pub track_view : ℤ → TrackState → TrackView
-track_view gap t = record { id = t.id; kind = t.kind; codec = t.codec; frames = length t.frames; ranges = ranges_of gap t.frames }
+track_view gap t = record {
+  id = t.id;
+  kind = t.kind;
+  codec = t.codec;
+  frames = length t.frames;
+  ranges = ranges_of gap t.frames;
+}
 
 abbrev pub track_views_of : Media → List TrackView
 track_views_of m = map (track_view m.gap) m.tracks

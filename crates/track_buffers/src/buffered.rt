@@ -111,12 +111,12 @@ fn meet_of_all<S: FrameStore>(
     if tracks.len() == 0 {
         return Ok(Ranges::new(alloc));
     }
-    let mut met = ranges_at(tracks, alloc, 0, end)?;
+    let mut common = ranges_at(tracks, alloc, 0, end)?;
     for i in 1..tracks.len() {
         let ranges = ranges_at(tracks, alloc, i, end)?;
-        met = met.meet(&ranges)?;
+        common = common.meet(&ranges)?;
     }
-    Ok(met)
+    Ok(common)
 }
 
 /// The end that the last range of each track lasts to: where the source is ended, the highest of

@@ -383,6 +383,7 @@ impl<S: FrameStore> TrackBuffers<S> {
         ensures window_end { self.now.media.settings.window_end ≢ Moment.Nan }
         ensures gap { pos 0 ≤ℤ self.now.media.gap }
     {
+        // The proof reads off this what always holds of the fields.
         let _tracks = &self.tracks;
     }
 }

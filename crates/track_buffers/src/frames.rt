@@ -67,8 +67,8 @@ pub(crate) fn process_at<S: FrameStore>(
 {
     match place(tracks, settings, i, frame) {
         Placed::Stored => {
-            let raised = duration.at_least(settings.group_end);
-            MediaEffect::Done(duration_change(&raised, duration))
+            let new_duration = duration.at_least(settings.group_end);
+            MediaEffect::Done(duration_change(&new_duration, duration))
         }
         Placed::Dropped(_) => MediaEffect::Done(no_effect(duration)),
         Placed::TimeRange => MediaEffect::AppendError(MediaFault::TimeRange, no_effect(duration)),

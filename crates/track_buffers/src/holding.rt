@@ -83,11 +83,11 @@ pub(crate) fn span_holding<S: FrameStore>(tracks: &Tracks<S>, t: Ticks, ended: b
     if tracks.len() == 0 {
         return None;
     }
-    let mut held = span_at(tracks, 0, t, &end);
+    let mut span = span_at(tracks, 0, t, &end);
     for i in 1..tracks.len() {
-        held = overlap_of_two(held, span_at(tracks, i, t, &end));
+        span = overlap_of_two(span, span_at(tracks, i, t, &end));
     }
-    held
+    span
 }
 
 /// The last buffered range of tracks, where the source is ended: the one that holds the highest end

@@ -34,7 +34,8 @@ pub record CanAdd (spare : ℕ) (f : Stored) (fs : List Stored) : Type 0 where
 abbrev pub CanChange : ℕ → StoreChange → List Stored → Type 0
 CanChange spare (Reserve n) fs = ⊤
 CanChange spare (Add f) fs = CanAdd spare f fs
-CanChange spare (Cut i dur) fs = (i < length fs) × IfSome (slice_get fs i) (λ f. (pos 0 ≤ℤ dur) × (dur ≤ℤ f.frame.dur))
+CanChange spare (Cut i dur) fs =
+    (i < length fs) × IfSome (slice_get fs i) (λ f. (pos 0 ≤ℤ dur) × (dur ≤ℤ f.frame.dur))
 CanChange spare (RemoveAt i) fs = i < length fs
 CanChange spare (RemoveWhereTime from to below) fs = ⊤
 
@@ -42,8 +43,10 @@ CanChange spare (RemoveWhereTime from to below) fs = ⊤
 abbrev pub IsChange : StoreChange → List Stored → List Stored → Type 0
 IsChange (Reserve n) fs gs = gs ≡ fs
 IsChange (Add f) fs gs = gs ≡ fs ++ f ∷ []
-IsChange (Cut i dur) fs gs = (i < length fs) × IfSome (slice_get fs i) (λ f. gs ≡ frames_with_dur f.serial dur fs)
-IsChange (RemoveAt i) fs gs = (i < length fs) × IfSome (slice_get fs i) (λ f. gs ≡ frames_without (has_serial f.serial) fs)
+IsChange (Cut i dur) fs gs =
+    (i < length fs) × IfSome (slice_get fs i) (λ f. gs ≡ frames_with_dur f.serial dur fs)
+IsChange (RemoveAt i) fs gs =
+    (i < length fs) × IfSome (slice_get fs i) (λ f. gs ≡ frames_without (has_serial f.serial) fs)
 IsChange (RemoveWhereTime from to below) fs gs = gs ≡ frames_without (is_within from to below) fs
 
 -- the room before a change and after it, and that all but `Reserve` end well
@@ -90,7 +93,8 @@ IsAnswer gap Len fs a = a ≡ Frames (length fs)
 IsAnswer gap (Get i) fs a = a ≡ Frame (slice_get fs i)
 IsAnswer gap (PlaceOf serial) fs a = a ≡ Place (position (has_serial serial) fs)
 IsAnswer gap (GroupStart i) fs a = a ≡ Place (group_start_of i fs)
-IsAnswer gap (Overlapped t) fs a = (place : Option ℕ) × (a ≡ Place place) × IsPlaceOf (overlapped t fs) fs place
+IsAnswer gap (Overlapped t) fs a =
+    (place : Option ℕ) × (a ≡ Place place) × IsPlaceOf (overlapped t fs) fs place
 IsAnswer gap (SyncAtOrAfter t) fs a = a ≡ Time (least (sync_times_from t fs))
 IsAnswer gap (SpanHolding t) fs a = a ≡ Range (find (reaches t) (ranges_of gap fs))
 IsAnswer gap LastSpan fs a = a ≡ Range (last_of (ranges_of gap fs))
@@ -105,9 +109,11 @@ IsAnswer gap CopyRanges fs a = (a ≡ NoMemory) ⊎ (a ≡ Ranges (ranges_of gap
 -- `gs`; serials ascend in every store
 abbrev pub IsRun : ℤ → List Stored → List StoreCall → List AnswerView → List Stored → Type 0
 IsRun gap fs [] answers gs = (answers ≡ []) × (gs ≡ fs)
-IsRun gap fs (Change c ∷ cs) answers gs = (ms : List Stored) × IsChange c fs ms × IsRun gap ms cs answers gs
+IsRun gap fs (Change c ∷ cs) answers gs =
+    (ms : List Stored) × IsChange c fs ms × IsRun gap ms cs answers gs
 IsRun gap fs (Look l ∷ cs) [] gs = ⊥
-IsRun gap fs (Look l ∷ cs) (a ∷ answers) gs = IsAscending fs × IsAnswer gap l fs a × IsRun gap fs cs answers gs
+IsRun gap fs (Look l ∷ cs) (a ∷ answers) gs =
+    IsAscending fs × IsAnswer gap l fs a × IsRun gap fs cs answers gs
 
 -- the answers of two stores are the same, but that either may find no memory
 abbrev pub IsSameAnswer : AnswerView → AnswerView → Type 0

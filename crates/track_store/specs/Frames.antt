@@ -25,7 +25,8 @@ has_serial serial f = nat_eq f.serial serial
 
 -- the frame's presentation timestamp is at or after `from` and before `to`, and its serial is below a number
 abbrev pub is_within : ℤ → Moment → ℕ → Stored → Bool
-is_within from to below f = int_le from f.frame.pts && is_before f.frame.pts to && nat_lt f.serial below
+is_within from to below f =
+    int_le from f.frame.pts && is_before f.frame.pts to && nat_lt f.serial below
 
 -- the frame's presentation timestamp is at or after `start` and before `to`
 abbrev pub is_between : ℤ → Moment → Stored → Bool

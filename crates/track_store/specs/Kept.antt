@@ -24,7 +24,8 @@ AreStillSound (t ∷ ts) (u ∷ us) = (Sound t → Sound u) × AreStillSound ts 
 
 -- each stored frame ends at or before a time
 abbrev pub AreEndedBy : ℤ → List TrackState → Type 0
-AreEndedBy limit ts = AllByRecursion (λ t. AllByRecursion (λ f. (f.frame.pts +ℤ f.frame.dur) ≤ℤ limit) t.frames) ts
+AreEndedBy limit ts =
+    AllByRecursion (λ t. AllByRecursion (λ f. (f.frame.pts +ℤ f.frame.dur) ≤ℤ limit) t.frames) ts
 
 -- each store has room for so many more frames
 abbrev pub HasRoom : {S : Type 0} → (S → ℕ) → ℕ → List (Track S) → Type 0

@@ -14,8 +14,13 @@ is_named (Within from to below) f = is_within from to below f
 
 -- of the frames that begin in the time all have a serial below the greatest number of 64 bits
 abbrev pub AreNamedBelow : ℤ → Moment → List Stored → Type 0
-AreNamedBelow from to fs = AllByRecursion (λ f. is_within from to 18446744073709551615 f ≡ is_between from to f) fs
+AreNamedBelow from to fs =
+    AllByRecursion (λ f. is_within from to 18446744073709551615 f ≡ is_between from to f) fs
 
 -- of the frames that begin in the time all but this one, which does too, have a serial below that number
 abbrev pub AreNamedWith : Stored → ℤ → Moment → List Stored → Type 0
-AreNamedWith x from to fs = AllByRecursion (λ f. (has_serial x.serial f || is_within from to 18446744073709551615 f) ≡ is_between from to f) fs
+AreNamedWith x from to fs =
+    AllByRecursion
+    (λ f. (has_serial x.serial f || is_within from to 18446744073709551615 f)
+    ≡ is_between from to f)
+    fs

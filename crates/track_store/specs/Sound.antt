@@ -24,7 +24,8 @@ IsNext (Some before) serial = before + 1 ≡ serial
 -- each frame is a random access point, or its serial is the next after that of the frame before it in the list
 abbrev pub IsChained : Option ℕ → List Stored → Type 0
 IsChained before [] = ⊤
-IsChained before (f ∷ fs) = ((f.frame.sync ≡ true) ⊎ IsNext before f.serial) × IsChained (Some f.serial) fs
+IsChained before (f ∷ fs) =
+    ((f.frame.sync ≡ true) ⊎ IsNext before f.serial) × IsChained (Some f.serial) fs
 
 -- the serial of the last frame, or what was before
 abbrev pub last_serial : Option ℕ → List Stored → Option ℕ
@@ -52,7 +53,9 @@ pub record Sound (t : TrackState) : Type 0 where
   pub timed : AllByRecursion IsTimed t.frames
   -- while no random access point is needed, the frame that was received last is held, and last
   pub last_held : t.marks.need_sync ≡ false → IsNext (last_serial None t.frames) t.marks.received
-  pub together : AreTogether t.marks.last_decode t.marks.last_duration t.marks.highest_end t.marks.group_first t.marks.need_sync
+  pub together : AreTogether t.marks.last_decode t.marks.last_duration t.marks.highest_end
+      t.marks.group_first t.marks.need_sync
   -- the group of frames since the last discontinuity begins with a random access point
   pub group_below : IfSome t.marks.group_first (λ n. n < t.marks.received)
-  pub group_sync : IfSome t.marks.group_first (λ n. AllByRecursion (λ f. f.serial ≡ n → f.frame.sync ≡ true) t.frames)
+  pub group_sync : IfSome t.marks.group_first
+      (λ n. AllByRecursion (λ f. f.serial ≡ n → f.frame.sync ≡ true) t.frames)

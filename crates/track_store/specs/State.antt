@@ -14,19 +14,38 @@ pub record TrackState : Type 0 where
 
 -- a track, by what frames its store has
 abbrev pub state_of : {S : Type 0} → (S → List Stored) → Track S → TrackState
-state_of frames t = record { id = t.id; kind = t.kind; codec = t.codec; frames = frames t.store; marks = t.marks }
+state_of frames t = record {
+  id = t.id;
+  kind = t.kind;
+  codec = t.codec;
+  frames = frames t.store;
+  marks = t.marks;
+}
 
 abbrev pub states_of : {S : Type 0} → (S → List Stored) → List (Track S) → List TrackState
 states_of frames ts = map (state_of frames) ts
 
 -- the marks of a track that has received nothing
 abbrev pub new_marks : Marks
-new_marks = record { last_decode = None; last_duration = None; highest_end = None; group_first = None; need_sync = true; received = 0 }
+new_marks = record {
+  last_decode = None;
+  last_duration = None;
+  highest_end = None;
+  group_first = None;
+  need_sync = true;
+  received = 0;
+}
 
 -- the marks after a discontinuity: all unset, and a random access point is needed; the count goes on
 -- (Media Source Extensions, coded frame processing, steps 1.6.2 to 1.6.5)
 abbrev pub unset_marks : Marks → Marks
-unset_marks m = record m { last_decode = None; last_duration = None; highest_end = None; group_first = None; need_sync = true }
+unset_marks m = record m {
+  last_decode = None;
+  last_duration = None;
+  highest_end = None;
+  group_first = None;
+  need_sync = true;
+}
 
 -- the marks where a random access point is needed
 abbrev pub marks_needing_sync : Marks → Marks

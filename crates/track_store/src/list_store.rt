@@ -18,10 +18,10 @@ fn clear(frames: &mut Vec<Stored>, named: &Named)
     ensures shorter { vec_len frames.new ≤ vec_len frames.old }
 {
     let mut i = 0;
-    let mut gone = false;
+    let mut is_gone = false;
     while i < frames.len() {
-        gone = named.takes(&frames[i], gone);
-        if gone {
+        is_gone = named.takes(&frames[i], is_gone);
+        if is_gone {
             frames.remove(i);
         } else {
             i += 1;

@@ -73,7 +73,9 @@ pub struct Track<S: FrameStore> {
     pub kind: Kind,
     /// The four-character code of its coding.
     pub codec: [u8; 4],
+    /// The frames of its track buffer.
     pub store: S,
+    /// The variables of its track buffer.
     pub marks: Marks,
 }
 

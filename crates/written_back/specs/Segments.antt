@@ -26,7 +26,9 @@ frame_read track time s = record {
   track_id = track.id;
   pts = tick_at track (pos time +ℤ s.offset);
   dts = tick_at track (pos time);
-  dur = tick_at track (pos time +ℤ s.offset +ℤ pos s.duration) -ℤ tick_at track (pos time +ℤ s.offset);
+  dur =
+      tick_at track (pos time +ℤ s.offset +ℤ pos s.duration)
+      -ℤ tick_at track (pos time +ℤ s.offset);
   sync = s.sync;
   payload = s.payload;
 }
@@ -35,7 +37,8 @@ frame_read track time s = record {
 abbrev pub samples_read : TrackInfo → ℕ → ℕ → List SampleOut → List SegmentItem
 samples_read track time at [] = []
 samples_read track time at (s ∷ samples) =
-    FrameItem (frame_read track time s) at ∷ samples_read track (time + s.duration) (at + length s.payload) samples
+    FrameItem (frame_read track time s) at
+    ∷ samples_read track (time + s.duration) (at + length s.payload) samples
 
 -- the samples of the track that a track fragment names
 abbrev pub traf_read : Option TrackInfo → ℕ → TrafOut → List SegmentItem
@@ -45,7 +48,8 @@ traf_read (Some track) at t = samples_read track t.decode at t.samples
 -- those of track fragments, one after the other, where the bytes of the first begin at an offset
 abbrev pub trafs_read : List TrackInfo → ℕ → List TrafOut → List SegmentItem
 trafs_read tracks at [] = []
-trafs_read tracks at (t ∷ trafs) = traf_read (track_of tracks t.id) at t ++ trafs_read tracks (at + payload_len t.samples) trafs
+trafs_read tracks at (t ∷ trafs) =
+    traf_read (track_of tracks t.id) at t ++ trafs_read tracks (at + payload_len t.samples) trafs
 
 -- media segments that begin at an offset: the frames of each, and its end
 abbrev pub segments_read : List TrackInfo → ℕ → List SegmentOut → List SegmentItem
@@ -60,7 +64,8 @@ segments_bytes segments = flat_map (λ g. segment_bytes g.sequence g.trafs) segm
 
 -- a file of an initialization segment of these tracks, whose moov begins at byte 24, and of media segments behind it
 abbrev pub items_read : List TrackOut → ℕ → List SegmentOut → List SegmentItem
-items_read tracks len segments = InitItem (presentation_read tracks) 24 ∷ segments_read (map track_read tracks) len segments
+items_read tracks len segments =
+    InitItem (presentation_read tracks) 24 ∷ segments_read (map track_read tracks) len segments
 
 -- a track fragment of one of the tracks, which can be written
 pub record IsTrafOf (tracks : List TrackInfo) (t : TrafOut) : Type 0 where

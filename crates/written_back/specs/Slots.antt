@@ -18,14 +18,20 @@ abbrev pub SampleRead : Type 0
 SampleRead = FourthOf slot_of
 
 abbrev pub sample_read : SampleOut → SampleRead
-sample_read s = record { duration = s.duration; size = length s.payload; flags = sample_flags s.sync; offset = s.offset }
+sample_read s = record {
+  duration = s.duration;
+  size = length s.payload;
+  flags = sample_flags s.sync;
+  offset = s.offset;
+}
 
 -- the slots of samples of a track, the first of which is decoded at a media time and has its bytes at a place of the
 -- movie fragment
 abbrev pub slots_read : TrackInfo → ℕ → ℕ → List SampleOut → List Slot
 slots_read track time at [] = []
 slots_read track time at (s ∷ samples) =
-    slot_of track time at (sample_read s) ∷ slots_read track (time + s.duration) (at + length s.payload) samples
+    slot_of track time at (sample_read s)
+    ∷ slots_read track (time + s.duration) (at + length s.payload) samples
 
 -- those of a track fragment, by the track that it names
 abbrev pub traf_slots : Option TrackInfo → ℕ → TrafOut → List Slot
@@ -35,8 +41,11 @@ traf_slots (Some track) at t = slots_read track t.decode at t.samples
 -- those of track fragments, whose bytes stand one after the other from a place on
 abbrev pub trafs_slots : List TrackInfo → ℕ → List TrafOut → List Slot
 trafs_slots tracks at [] = []
-trafs_slots tracks at (t ∷ trafs) = traf_slots (track_of tracks t.id) at t ++ trafs_slots tracks (at + payload_len t.samples) trafs
+trafs_slots tracks at (t ∷ trafs) =
+    traf_slots (track_of tracks t.id) at t ++ trafs_slots tracks (at + payload_len t.samples) trafs
 
 -- each number that names a track names one of video or audio, and has 32 bits
 abbrev pub AreMedia : List TrackInfo → Type 0
-AreMedia tracks = (id : ℕ) (track : TrackInfo) → track_of tracks id ≡ Some track → (is_media track.kind ≡ true) × (id < 2 ^ 32)
+AreMedia tracks =
+    (id : ℕ) (track : TrackInfo) → track_of tracks id ≡ Some track
+    → (is_media track.kind ≡ true) × (id < 2 ^ 32)

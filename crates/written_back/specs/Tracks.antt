@@ -34,4 +34,8 @@ track_read t = record {
 
 -- an initialization segment of these tracks: its times are thousandths of a second, and it tells no duration
 abbrev pub presentation_read : List TrackOut → Presentation
-presentation_read tracks = record { scale = 1000; duration = Infinite; tracks = map track_read tracks }
+presentation_read tracks = record {
+  scale = 1000;
+  duration = Infinite;
+  tracks = map track_read tracks;
+}

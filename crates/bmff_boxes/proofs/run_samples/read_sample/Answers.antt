@@ -13,5 +13,5 @@ returns c =
     let size : at + f.size ≡ at + room_of f.flags 0x100 4 = omega (arith, c.requires.size) in
     let flags : at + f.sample_flags ≡ at + room_of f.flags 0x100 4 + room_of f.flags 0x200 4 = omega (arith, c.requires.sample_flags) in
     let offset : at + f.offset ≡ at + room_of f.flags 0x100 4 + room_of f.flags 0x200 4 + room_of f.flags 0x400 4 = omega (arith, c.requires.offset) in
-    sample-told p _ _ _ _ _ _ _ _ c.told_u32.ensures (c.told_u32-2.ensures ∙ ap (λ x. optional_field f.flags 0x200 4 x p) size) (c.told_u32-3.ensures ∙ ap (λ x. optional_field f.flags 0x400 4 x p) flags)
-    (c.told_offset.ensures ∙ ap (λ x. option_map (option_map (composition_offset p)) (optional_field f.flags 0x800 4 x p)) offset)
+    sample-told p _ _ _ _ _ _ _ _ c.read_optional_u32.ensures (c.read_optional_u32-2.ensures ∙ ap (λ x. optional_field f.flags 0x200 4 x p) size) (c.read_optional_u32-3.ensures ∙ ap (λ x. optional_field f.flags 0x400 4 x p) flags)
+    (c.read_optional_offset.ensures ∙ ap (λ x. option_map (option_map (composition_offset p)) (optional_field f.flags 0x800 4 x p)) offset)

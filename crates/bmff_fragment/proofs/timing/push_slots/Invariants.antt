@@ -7,8 +7,8 @@ use Rattle.bmff_fragment.proofs.timing.push_slots.Given as goal
 
 abbrev pub invariant-loop-sample : goal.invariant-loop-sample
 invariant-loop-sample l = record {
-  decoded : l.decoded ≡ l.time + duration_of (take l.sample-index l.samples);
-  soon : l.decoded ≤ l.time + l.sample-index * 2 ^ 32;
+  decoded : l.decode_time ≡ l.time + duration_of (take l.sample-index l.samples);
+  soon : l.decode_time ≤ l.time + l.sample-index * 2 ^ 32;
   place : l.place ≡ l.start + data_len (take l.sample-index l.samples);
   near : l.place ≤ l.start + l.sample-index * 2 ^ 32;
   slots : l.slots.items ≡ l.fn.slots.items ++ map (slot_at l.track l.time (record { start = pos l.start; samples = l.samples })) (enumerate_from 0 (take l.sample-index l.samples));

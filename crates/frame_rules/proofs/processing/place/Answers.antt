@@ -14,13 +14,13 @@ pub returns-then-is_full-clause-placement : goal.returns-then-is_full-clause-pla
 returns-then-is_full-clause-placement g c =
     placed_full g.S.FrameStore.frames c.args.tracks.now.items c.args.settings.now c.args.index c.args.frame c.requires.in_range (rw c.len.ensures at c.if-is_full.ensures)
 
-pub place_counted-requires-clause-ready : goal.place_counted-requires-clause-ready
-place_counted-requires-clause-ready g c =
+pub place_below_limits-requires-clause-ready : goal.place_below_limits-requires-clause-ready
+place_below_limits-requires-clause-ready g c =
     ready_sound g.S.FrameStore.frames g.S.FrameStore.spare c.args.tracks.now.items c.args.index (length c.args.frame.payload) c.requires.sound c.requires.spare (rw c.len.ensures at c.if-is_full.ensures)
 
 pub returns-clause-placement : goal.returns-clause-placement
 returns-clause-placement g c =
-    placed_counted g.S.FrameStore.frames c.args.tracks.now.items c.args.settings.now c.args.index c.args.frame _ c.requires.in_range (rw c.len.ensures at c.if-is_full.ensures) c.place_counted.ensures.placement
+    placed_counted g.S.FrameStore.frames c.args.tracks.now.items c.args.settings.now c.args.index c.args.frame _ c.requires.in_range (rw c.len.ensures at c.if-is_full.ensures) c.place_below_limits.ensures.placement
 
 pub returns-then-is_full-clause-sound : goal.returns-then-is_full-clause-sound
 returns-then-is_full-clause-sound g c = still_same (states_of g.S.FrameStore.frames c.args.tracks.now.items)
@@ -49,10 +49,10 @@ returns-clause-ends g c = λ limit h.
 
 pub returns-clause-room : goal.returns-clause-room
 returns-clause-room g c = λ n all.
-    room_left g.S.FrameStore.spare c.args.index n c.args.tracks.now.items c.place_counted.new.tracks.items (same_length g.S.FrameStore.gap c.args.tracks.now.items c.place_counted.new.tracks.items c.place_counted.ensures.gaps) c.place_counted.ensures.spare all
+    room_left g.S.FrameStore.spare c.args.index n c.args.tracks.now.items c.place_below_limits.new.tracks.items (same_length g.S.FrameStore.gap c.args.tracks.now.items c.place_below_limits.new.tracks.items c.place_below_limits.ensures.gaps) c.place_below_limits.ensures.spare all
 
 pub returns-then-is_full-clause-spare : goal.returns-then-is_full-clause-spare
 returns-then-is_full-clause-spare g c = takes_nothing g.S.FrameStore.spare c.args.index c.args.tracks.now.items
 
 pub returns-clause-len : goal.returns-clause-len
-returns-clause-len g c = same_length g.S.FrameStore.gap c.args.tracks.now.items c.place_counted.new.tracks.items c.place_counted.ensures.gaps
+returns-clause-len g c = same_length g.S.FrameStore.gap c.args.tracks.now.items c.place_below_limits.new.tracks.items c.place_below_limits.ensures.gaps

@@ -12,12 +12,12 @@ use Rattle.mse_engine.proofs.source_calls.clear_live.Goals as goal
 
 pub returns-clause-answered : goal.returns-clause-answered
 returns-clause-answered g c st h =
-    let answer = new_answer c.side.inside.source c.side.inside.fault c.side.inside.quota c.side.inside.gap c.args.side.now c.side.view_is (λ s. (after_clear_live s).answer) c.clear_live-refused.result c.clear_live-refused.ensures.answer in
-    let here = either_step after_clear_live c.args.side.now (side_of c.clear_live-refused.new.self c.side.inside.fault c.side.inside.quota c.side.inside.gap) c.args.buffers.now.buffers c.args.element.now.state c.reserve.new.self.state (clear_live_plain c.args.side.now.state) (new_state c.side.inside.source c.side.inside.fault c.side.inside.quota c.side.inside.gap c.args.side.now c.side.view_is (λ s. (after_clear_live s).state) c.clear_live-refused.new.self c.clear_live-refused.ensures.state) c.reserve.ensures.state c.clear_live-refused.result c.settle.new.element.state st answer (record { source = c.settle.ensures.source; element = c.settle.ensures.element }) h in
-    subst (λ (a : Answer). IsStep a (kept (side_of c.clear_live-refused.new.self c.side.inside.fault c.side.inside.quota c.side.inside.gap) c.args.buffers.now.buffers c.settle.new.element.state) (after_call_by (from_source (after_clear_live st.core.source.state) [] st.core) (without_action st.outer) Done)) (sym c.answer_by.ensures) here
+    let answer = new_answer c.side.inside.source c.side.inside.fault c.side.inside.quota c.side.inside.gap c.args.side.now c.side.view_is (λ s. (after_clear_live s).answer) c.clear_live-refusal.result c.clear_live-refusal.ensures.answer in
+    let here = either_step after_clear_live c.args.side.now (side_of c.clear_live-refusal.new.self c.side.inside.fault c.side.inside.quota c.side.inside.gap) c.args.buffers.now.buffers c.args.element.now.state c.reserve.new.self.state (clear_live_plain c.args.side.now.state) (new_state c.side.inside.source c.side.inside.fault c.side.inside.quota c.side.inside.gap c.args.side.now c.side.view_is (λ s. (after_clear_live s).state) c.clear_live-refusal.new.self c.clear_live-refusal.ensures.state) c.reserve.ensures.state c.clear_live-refusal.result c.settle.new.element.state st answer (record { source = c.settle.ensures.source; element = c.settle.ensures.element }) h in
+    subst (λ (a : Answer). IsStep a (kept (side_of c.clear_live-refusal.new.self c.side.inside.fault c.side.inside.quota c.side.inside.gap) c.args.buffers.now.buffers c.settle.new.element.state) (after_call_by (from_source (after_clear_live st.core.source.state) [] st.core) (without_action st.outer) Done)) (sym c.answer_by.ensures) here
 
 pub returns-clause-steady : goal.returns-clause-steady
-returns-clause-steady g c = plain_steady after_clear_live c.args.side.now (side_of c.clear_live-refused.new.self c.side.inside.fault c.side.inside.quota c.side.inside.gap) c.args.buffers.now.buffers c.args.element.now.state c.reserve.new.self.state (clear_live_plain c.args.side.now.state) (new_state c.side.inside.source c.side.inside.fault c.side.inside.quota c.side.inside.gap c.args.side.now c.side.view_is (λ s. (after_clear_live s).state) c.clear_live-refused.new.self c.clear_live-refused.ensures.state) c.reserve.ensures.state c.settle.new.element.state c.requires.steady c.settle.ensures.settled
+returns-clause-steady g c = plain_steady after_clear_live c.args.side.now (side_of c.clear_live-refusal.new.self c.side.inside.fault c.side.inside.quota c.side.inside.gap) c.args.buffers.now.buffers c.args.element.now.state c.reserve.new.self.state (clear_live_plain c.args.side.now.state) (new_state c.side.inside.source c.side.inside.fault c.side.inside.quota c.side.inside.gap c.args.side.now c.side.view_is (λ s. (after_clear_live s).state) c.clear_live-refusal.new.self c.clear_live-refusal.ensures.state) c.reserve.ensures.state c.settle.new.element.state c.requires.steady c.settle.ensures.settled
 
 pub returns-in_err-reserve-clause-steady : goal.returns-in_err-reserve-clause-steady
 returns-in_err-reserve-clause-steady g c = steady_still c.args.side.now c.args.buffers.now.buffers c.args.element.now.state c.reserve.new.self.state c.reserve.ensures.state c.requires.steady

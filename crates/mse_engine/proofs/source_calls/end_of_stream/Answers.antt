@@ -15,17 +15,17 @@ use Rattle.mse_engine.proofs.Acting.{steady_still}
 use Rattle.mse_engine.proofs.Inside.{side_of, new_state, new_answer}
 use Rattle.mse_engine.proofs.source_calls.end_of_stream.Goals as goal
 
-pub hear_change-requires-clause-now : goal.hear_change-requires-clause-now
-hear_change-requires-clause-now g c d h = ap (λ (s : SourceState). s.duration) c.end-changed.ensures.state ∙ (end_change c.args.kind c.all_buffers-all.result.highest_end c.side.inside.source).now d (sym c.end-changed.ensures.answer ∙ h)
+pub tell_change-requires-clause-now : goal.tell_change-requires-clause-now
+tell_change-requires-clause-now g c d h = ap (λ (s : SourceState). s.duration) c.end-change.ensures.state ∙ (end_change c.args.kind c.all_buffers-all.result.highest_end c.side.inside.source).now d (sym c.end-change.ensures.answer ∙ h)
 
 pub returns-clause-answered : goal.returns-clause-answered
 returns-clause-answered g c st h =
     let first : c.tell.new.self.state ≡ queued (event_at target.Source kind.SourceEnded ∷ []) c.reserve.new.self.state = c.tell.ensures.state ∙ ap (λ (x : Event). queued (x ∷ []) c.reserve.new.self.state) c.event.ensures in
-    let heard = c.hear_change.ensures.state ∙ ap (λ (x : ElementState). after_signals (view_of (side_of c.end-changed.new.self c.side.inside.fault c.side.inside.quota c.side.inside.gap) c.args.buffers.now.buffers x) (change_signals c.end-changed.result) x) first in
-    end_step c.args.kind c.all_buffers-all.result c.args.side.now c.args.buffers.now.buffers c.all_buffers-all.ensures c.end_refusal.result (side_of c.end-changed.new.self c.side.inside.fault c.side.inside.quota c.side.inside.gap) c.args.element.now.state c.reserve.new.self.state c.hear_change.new.element.state c.fail.new.self.state c.settle.new.element.state c.end-changed.result st (new_answer c.side.inside.source c.side.inside.fault c.side.inside.quota c.side.inside.gap c.args.side.now c.side.view_is (λ s. end_refusal c.all_buffers-all.result.updating s) c.end_refusal.result c.end_refusal.ensures) c.in_default.is c.reserve.ensures.state (new_answer c.side.inside.source c.side.inside.fault c.side.inside.quota c.side.inside.gap c.args.side.now c.side.view_is (λ s. (after_end c.args.kind c.all_buffers-all.result.highest_end s).answer) c.end-changed.result c.end-changed.ensures.answer) (new_state c.side.inside.source c.side.inside.fault c.side.inside.quota c.side.inside.gap c.args.side.now c.side.view_is (λ s. (after_end c.args.kind c.all_buffers-all.result.highest_end s).state) c.end-changed.new.self c.end-changed.ensures.state) heard c.fail.ensures.state (record { source = c.settle.ensures.source; element = c.settle.ensures.element }) h
+    let heard = c.tell_change.ensures.state ∙ ap (λ (x : ElementState). after_signals (view_of (side_of c.end-change.new.self c.side.inside.fault c.side.inside.quota c.side.inside.gap) c.args.buffers.now.buffers x) (change_signals c.end-change.result) x) first in
+    end_step c.args.kind c.all_buffers-all.result c.args.side.now c.args.buffers.now.buffers c.all_buffers-all.ensures c.end_refusal.result (side_of c.end-change.new.self c.side.inside.fault c.side.inside.quota c.side.inside.gap) c.args.element.now.state c.reserve.new.self.state c.tell_change.new.element.state c.fail.new.self.state c.settle.new.element.state c.end-change.result st (new_answer c.side.inside.source c.side.inside.fault c.side.inside.quota c.side.inside.gap c.args.side.now c.side.view_is (λ s. end_refusal c.all_buffers-all.result.updating s) c.end_refusal.result c.end_refusal.ensures) c.in_default.is c.reserve.ensures.state (new_answer c.side.inside.source c.side.inside.fault c.side.inside.quota c.side.inside.gap c.args.side.now c.side.view_is (λ s. (after_end c.args.kind c.all_buffers-all.result.highest_end s).answer) c.end-change.result c.end-change.ensures.answer) (new_state c.side.inside.source c.side.inside.fault c.side.inside.quota c.side.inside.gap c.args.side.now c.side.view_is (λ s. (after_end c.args.kind c.all_buffers-all.result.highest_end s).state) c.end-change.new.self c.end-change.ensures.state) heard c.fail.ensures.state (record { source = c.settle.ensures.source; element = c.settle.ensures.element }) h
 
 pub returns-clause-steady : goal.returns-clause-steady
-returns-clause-steady g c = end_steady c.args.kind c.all_buffers-all.result c.args.side.now c.args.buffers.now.buffers c.all_buffers-all.ensures (side_of c.end-changed.new.self c.side.inside.fault c.side.inside.quota c.side.inside.gap) c.args.element.now.state c.settle.new.element.state (new_state c.side.inside.source c.side.inside.fault c.side.inside.quota c.side.inside.gap c.args.side.now c.side.view_is (λ s. (after_end c.args.kind c.all_buffers-all.result.highest_end s).state) c.end-changed.new.self c.end-changed.ensures.state) c.requires.steady c.settle.ensures.settled
+returns-clause-steady g c = end_steady c.args.kind c.all_buffers-all.result c.args.side.now c.args.buffers.now.buffers c.all_buffers-all.ensures (side_of c.end-change.new.self c.side.inside.fault c.side.inside.quota c.side.inside.gap) c.args.element.now.state c.settle.new.element.state (new_state c.side.inside.source c.side.inside.fault c.side.inside.quota c.side.inside.gap c.args.side.now c.side.view_is (λ s. (after_end c.args.kind c.all_buffers-all.result.highest_end s).state) c.end-change.new.self c.end-change.ensures.state) c.requires.steady c.settle.ensures.settled
 
 pub returns-in-Some-clause-answered : goal.returns-in-Some-clause-answered
 returns-in-Some-clause-answered g c st h = end_refused c.args.kind c.all_buffers-all.result c.args.side.now c.args.buffers.now.buffers c.all_buffers-all.ensures c.end_refusal.result c.in-Some.name c.args.element.now.state c.reserve.new.self.state st (new_answer c.side.inside.source c.side.inside.fault c.side.inside.quota c.side.inside.gap c.args.side.now c.side.view_is (λ s. end_refusal c.all_buffers-all.result.updating s) c.end_refusal.result c.end_refusal.ensures) c.in-Some.is c.reserve.ensures.state c.requires.steady.settled h

@@ -18,13 +18,13 @@ use Rattle.mse_engine.proofs.source_calls.set_live.Goals as goal
 
 pub returns-clause-answered : goal.returns-clause-answered
 returns-clause-answered g c st h =
-    let answer = new_answer c.side.inside.source c.side.inside.fault c.side.inside.quota c.side.inside.gap c.args.side.now c.side.view_is (λ s. ((after_set_live c.in-At.start c.in-At-end.end) s).answer) c.set_live-refused.result c.set_live-refused.ensures.answer in
-    let here = either_step (after_set_live c.in-At.start c.in-At-end.end) c.args.side.now (side_of c.set_live-refused.new.self c.side.inside.fault c.side.inside.quota c.side.inside.gap) c.args.buffers.now.buffers c.args.element.now.state c.reserve.new.self.state (set_live_plain c.in-At.start c.in-At-end.end c.args.side.now.state) (new_state c.side.inside.source c.side.inside.fault c.side.inside.quota c.side.inside.gap c.args.side.now c.side.view_is (λ s. ((after_set_live c.in-At.start c.in-At-end.end) s).state) c.set_live-refused.new.self c.set_live-refused.ensures.state) c.reserve.ensures.state c.set_live-refused.result c.settle.new.element.state st answer (record { source = c.settle.ensures.source; element = c.settle.ensures.element }) h in
-    let told = subst (λ (a : Answer). IsStep a (kept (side_of c.set_live-refused.new.self c.side.inside.fault c.side.inside.quota c.side.inside.gap) c.args.buffers.now.buffers c.settle.new.element.state) (after_call_by (from_source ((after_set_live c.in-At.start c.in-At-end.end) st.core.source.state) [] st.core) (without_action st.outer) Done)) (sym c.answer_by.ensures) here in
-    subst (λ (t : Moment). IsStep c.answer_by.result (kept (side_of c.set_live-refused.new.self c.side.inside.fault c.side.inside.quota c.side.inside.gap) c.args.buffers.now.buffers c.settle.new.element.state) (after_call [] (call.SetLiveSeekableRange t c.args.end) st)) (sym c.in-At.is) (subst (λ (t : Moment). IsStep c.answer_by.result (kept (side_of c.set_live-refused.new.self c.side.inside.fault c.side.inside.quota c.side.inside.gap) c.args.buffers.now.buffers c.settle.new.element.state) (after_call [] (call.SetLiveSeekableRange (At c.in-At.start) t) st)) (sym c.in-At-end.is) told)
+    let answer = new_answer c.side.inside.source c.side.inside.fault c.side.inside.quota c.side.inside.gap c.args.side.now c.side.view_is (λ s. ((after_set_live c.in-At.start c.in-At-end.end) s).answer) c.set_live-refusal.result c.set_live-refusal.ensures.answer in
+    let here = either_step (after_set_live c.in-At.start c.in-At-end.end) c.args.side.now (side_of c.set_live-refusal.new.self c.side.inside.fault c.side.inside.quota c.side.inside.gap) c.args.buffers.now.buffers c.args.element.now.state c.reserve.new.self.state (set_live_plain c.in-At.start c.in-At-end.end c.args.side.now.state) (new_state c.side.inside.source c.side.inside.fault c.side.inside.quota c.side.inside.gap c.args.side.now c.side.view_is (λ s. ((after_set_live c.in-At.start c.in-At-end.end) s).state) c.set_live-refusal.new.self c.set_live-refusal.ensures.state) c.reserve.ensures.state c.set_live-refusal.result c.settle.new.element.state st answer (record { source = c.settle.ensures.source; element = c.settle.ensures.element }) h in
+    let told = subst (λ (a : Answer). IsStep a (kept (side_of c.set_live-refusal.new.self c.side.inside.fault c.side.inside.quota c.side.inside.gap) c.args.buffers.now.buffers c.settle.new.element.state) (after_call_by (from_source ((after_set_live c.in-At.start c.in-At-end.end) st.core.source.state) [] st.core) (without_action st.outer) Done)) (sym c.answer_by.ensures) here in
+    subst (λ (t : Moment). IsStep c.answer_by.result (kept (side_of c.set_live-refusal.new.self c.side.inside.fault c.side.inside.quota c.side.inside.gap) c.args.buffers.now.buffers c.settle.new.element.state) (after_call [] (call.SetLiveSeekableRange t c.args.end) st)) (sym c.in-At.is) (subst (λ (t : Moment). IsStep c.answer_by.result (kept (side_of c.set_live-refusal.new.self c.side.inside.fault c.side.inside.quota c.side.inside.gap) c.args.buffers.now.buffers c.settle.new.element.state) (after_call [] (call.SetLiveSeekableRange (At c.in-At.start) t) st)) (sym c.in-At-end.is) told)
 
 pub returns-clause-steady : goal.returns-clause-steady
-returns-clause-steady g c = plain_steady (after_set_live c.in-At.start c.in-At-end.end) c.args.side.now (side_of c.set_live-refused.new.self c.side.inside.fault c.side.inside.quota c.side.inside.gap) c.args.buffers.now.buffers c.args.element.now.state c.reserve.new.self.state (set_live_plain c.in-At.start c.in-At-end.end c.args.side.now.state) (new_state c.side.inside.source c.side.inside.fault c.side.inside.quota c.side.inside.gap c.args.side.now c.side.view_is (λ s. ((after_set_live c.in-At.start c.in-At-end.end) s).state) c.set_live-refused.new.self c.set_live-refused.ensures.state) c.reserve.ensures.state c.settle.new.element.state c.requires.steady c.settle.ensures.settled
+returns-clause-steady g c = plain_steady (after_set_live c.in-At.start c.in-At-end.end) c.args.side.now (side_of c.set_live-refusal.new.self c.side.inside.fault c.side.inside.quota c.side.inside.gap) c.args.buffers.now.buffers c.args.element.now.state c.reserve.new.self.state (set_live_plain c.in-At.start c.in-At-end.end c.args.side.now.state) (new_state c.side.inside.source c.side.inside.fault c.side.inside.quota c.side.inside.gap c.args.side.now c.side.view_is (λ s. ((after_set_live c.in-At.start c.in-At-end.end) s).state) c.set_live-refusal.new.self c.set_live-refusal.ensures.state) c.reserve.ensures.state c.settle.new.element.state c.requires.steady c.settle.ensures.settled
 
 pub returns-in_err-reserve-clause-steady : goal.returns-in_err-reserve-clause-steady
 returns-in_err-reserve-clause-steady g c = steady_still c.args.side.now c.args.buffers.now.buffers c.args.element.now.state c.reserve.new.self.state c.reserve.ensures.state c.requires.steady

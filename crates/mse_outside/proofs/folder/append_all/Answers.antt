@@ -23,7 +23,7 @@ loop-preserved g c = elim c.match-read.branch [
       let bytes = take w.in-Ok.count c.read.new.buf in
       let count = w.in-Ok.ensures.bound.1 in
       let long = i.2 in
-      let taken = w.taken-is in
+      let len = w.len-is in
       let ok : is_ok w.extend_from_slice.result ≡ true = search rules in
       let new = with_bytes _ _ c.loop.into.items bytes w.extend_from_slice.ensures.items ok in
       let is : c.match-read.into.items ≡ w.extend_from_slice.new.self.items = ap (λ (v : Vec ℕ _). v.items) w.into-is in
@@ -31,7 +31,7 @@ loop-preserved g c = elim c.match-read.branch [
   | in-Err+in-Interrupted w ↦
       let i = c.loop.invariant.1 in
       let long = i.2 in
-      let taken = w.taken-is in
+      let len = w.len-is in
       let is : c.match-read.into.items ≡ c.loop.into.items = ap (λ (v : Vec ℕ _). v.items) w.into-is in
       (omega arith, (i.0, is ∙ i.1, omega arith, consumes-kept _ _ _ i.0 i.3 w.in-Err.ensures.bytes))
 ]

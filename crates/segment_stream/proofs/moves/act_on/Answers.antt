@@ -84,7 +84,7 @@ returns-in-Some-clause-ok c =
     let bytes = concat c.args.input.now in
     let rest = drop at.from bytes in
     let a = is_active sl kn at.position.mode c.requires.active in
-    moved-plan c.args.last.now at.position.mode at.position.offset at.from at.first at.ready at.want at.position.failed sl _ kn _ bytes _ c.requires.going c.requires.active c.requires.consistent c.in-ReadMoof.ensures (plan-is c.args.last.now (take c.in-ReadMoof.len rest) c.in_ok-slots-in-ReadMoof.field-0 c.in-Some.slots c.in_ok-slots-in-ReadMoof.ensures.plan c.in-Some.is) c.clear.ensures.items (ordered-is c.in_ok-slots-in-ReadMoof.field-0 c.in-Some.slots c.in_ok-slots-in-ReadMoof.ensures.ordered c.in-Some.is)
+    rw c.behind_moof.ensures (moved-plan c.args.last.now at.position.mode at.position.offset at.from at.first at.ready at.want at.position.failed sl _ kn _ bytes _ c.requires.going c.requires.active c.requires.consistent c.in-ReadMoof.ensures (plan-is c.args.last.now (take c.in-ReadMoof.len rest) c.in_ok-slots-in-ReadMoof.field-0 c.in-Some.slots c.in_ok-slots-in-ReadMoof.ensures.plan c.in-Some.is) c.clear.ensures.items (ordered-is c.in_ok-slots-in-ReadMoof.field-0 c.in-Some.slots c.in_ok-slots-in-ReadMoof.ensures.ordered c.in-Some.is))
 
 pub returns-in_ok-push-in-EnterData-clause-ok : goal.returns-in_ok-push-in-EnterData-clause-ok
 returns-in_ok-push-in-EnterData-clause-ok c =
@@ -105,7 +105,7 @@ returns-in-NextBox-clause-ok c =
     let bytes = concat c.args.input.now in
     let rest = drop at.from bytes in
     let a = is_active sl kn at.position.mode c.requires.active in
-    rw (c.in_mode-in-NextBox.ensures, c.fragment-open.ensures) (moved-next c.args.last.now at.position.mode at.position.offset at.from at.first at.ready at.want at.position.failed sl kn bytes _ c.requires.going c.requires.active c.requires.consistent c.in-NextBox.ensures)
+    rw (c.before_box.ensures, c.fragment-open.ensures) (moved-next c.args.last.now at.position.mode at.position.offset at.from at.first at.ready at.want at.position.failed sl kn bytes _ c.requires.going c.requires.active c.requires.consistent c.in-NextBox.ensures)
 
 pub returns-in-GiveFrame-clause-ok : goal.returns-in-GiveFrame-clause-ok
 returns-in-GiveFrame-clause-ok c =
@@ -115,4 +115,4 @@ returns-in-GiveFrame-clause-ok c =
     let bytes = concat c.args.input.now in
     let rest = drop at.from bytes in
     let a = is_active sl kn at.position.mode c.requires.active in
-    rw c.fragment-open.ensures (moved-frame c.args.last.now at.position.mode at.position.offset at.from at.first at.ready at.want at.position.failed sl kn bytes _ c.requires.going c.requires.active c.requires.consistent c.in-GiveFrame.ensures)
+    rw (c.in_mode-next.ensures, c.fragment-open.ensures) (moved-frame c.args.last.now at.position.mode at.position.offset at.from at.first at.ready at.want at.position.failed sl kn bytes _ c.requires.going c.requires.active c.requires.consistent c.in-GiveFrame.ensures)

@@ -9,12 +9,12 @@ on_err : {T E P : Type 0} (r : Result T E) → P → OnErr r P
 on_err (Ok x) p = tt
 on_err (Err e) p = p
 
-pub returns-in_err-moved-clause-err : goal.returns-in_err-moved-clause-err
-returns-in_err-moved-clause-err c = on_err c.from_residual.result (since-back c.args.start.position.mode c.moves.at.position.mode c.args.tables.now.slots.items c.moves.tables.slots.items c.move_on.new.tables.slots.items c.args.tables.now.known.items c.moves.tables.known.items c.move_on.new.tables.known.items c.moves.invariant.since c.in_err-moved.ensures.err)
+pub returns-in_err-move_result-clause-err : goal.returns-in_err-move_result-clause-err
+returns-in_err-move_result-clause-err c = on_err c.from_residual.result (since-back c.args.start.position.mode c.moves.at.position.mode c.args.tables.now.slots.items c.moves.tables.slots.items c.move_on.new.tables.slots.items c.args.tables.now.known.items c.moves.tables.known.items c.move_on.new.tables.known.items c.moves.invariant.since c.in_err-move_result.ensures.err)
 
 pub moves-preserved : goal.moves-preserved
 moves-preserved c =
-    let g = subst (λ (m : MoveResult). IsMoveResult c.args.last.now c.moves.at c.moves.tables.slots.items c.moves.tables.known.items c.move_on.new.tables.slots.items c.move_on.new.tables.known.items (concat c.args.input.now) m) c.in-Go.is c.in_ok-moved.ensures.ok in
+    let g = subst (λ (m : MoveResult). IsMoveResult c.args.last.now c.moves.at c.moves.tables.slots.items c.moves.tables.known.items c.move_on.new.tables.slots.items c.move_on.new.tables.known.items (concat c.args.input.now) m) c.in-Go.is c.in_ok-move_result.ensures.ok in
     record {
       same = g.same ∙ c.moves.invariant.same;
       consistent = g.consistent;

@@ -19,7 +19,7 @@ loop-i-init g c =
     let long : length rs ≡ length c.args.active.now = length-map qs (with_end c.common_end-end.result) ∙ length-map c.args.active.now (λ (k : ℕ). slot_ranges c.args.ended (in_slot k ms)) in
     let one : 1 ≤ length rs = omega (arith, c.if-active-eq0.false) in
     record {
-      met = first_track rs c.in_ok-met.met.spans one c.in_ok-met.ensures;
+      met = first_track rs c.in_ok-common.common.spans one c.in_ok-common.ensures;
       some = omega arith;
     }
 
@@ -33,7 +33,7 @@ loop-i-preserved g c =
     let front : 1 ≤ length (take c.loop-i.i rs) = rw length-take (omega (arith, c.loop-i.invariant.some)) in
     let all = grown_all c.common_end-end.result qs (active_normalized c.args.ended c.args.active.now ms c.sound.ensures) in
     record {
-      met = met_more rs c.loop-i.i c.loop-i.met.spans c.in_ok-ranges.ranges.spans c.in_ok-met-2.met.spans here front all c.loop-i.invariant.met c.in_ok-ranges.ensures c.in_ok-met-2.ensures.met;
+      met = met_more rs c.loop-i.i c.loop-i.common.spans c.in_ok-ranges.ranges.spans c.in_ok-common-2.common.spans here front all c.loop-i.invariant.met c.in_ok-ranges.ensures c.in_ok-common-2.ensures.met;
       some = omega arith;
     }
 

@@ -7,6 +7,6 @@ use Rattle.source_buffers.proofs.element.element_ranges.Given as goal
 
 abbrev pub invariant-loop-i : goal.invariant-loop-i
 invariant-loop-i g l = record {
-  met : l.met.spans ≡ meet_of_all (take l.i (map (with_end l.end) (active_ranges l.ended l.active (all_kept_media l.slots.items))));
+  met : l.common.spans ≡ meet_of_all (take l.i (map (with_end l.end) (active_ranges l.ended l.active (all_kept_media l.slots.items))));
   some : 1 ≤ l.i;
 }

@@ -23,7 +23,7 @@ loop-i-init g c =
     let long : length rs ≡ length c.args.active.now = length-map qs (with_end c.common_end-end.result) ∙ length-map c.args.active.now (λ (k : ℕ). slot_ranges c.args.ended (in_slot k ms)) in
     let one : 1 ≤ length rs = omega (arith, c.if-active-eq0.false) in
     record {
-      held = held_first c.args.t rs c.span_at-held.result one c.span_at-held.ensures;
+      held = held_first c.args.t rs c.span_at-span.result one c.span_at-span.ensures;
       some = omega arith;
     }
 
@@ -37,7 +37,7 @@ loop-i-preserved g c =
     let front : 1 ≤ length (take c.loop-i.i rs) = rw length-take (omega (arith, c.loop-i.invariant.some)) in
     let all = grown_all c.common_end-end.result qs (active_normalized c.args.ended c.args.active.now ms c.sound.ensures) in
     record {
-      held = held_more c.args.t rs c.loop-i.i c.loop-i.held c.span_at.result c.overlap_of_two-held.result here front all c.loop-i.invariant.held c.span_at.ensures c.overlap_of_two-held.ensures;
+      held = held_more c.args.t rs c.loop-i.i c.loop-i.span c.span_at.result c.overlap_of_two-span.result here front all c.loop-i.invariant.held c.span_at.ensures c.overlap_of_two-span.ensures;
       some = omega arith;
     }
 

@@ -9,6 +9,6 @@ use Rattle.source_buffers.proofs.element.element_span.Given as goal
 
 abbrev pub invariant-loop-i : goal.invariant-loop-i
 invariant-loop-i g l = record {
-  held : l.held ≡ find (reaches l.t) (meet_of_all (take l.i (map (with_end l.end) (active_ranges l.ended l.active (all_kept_media l.slots.items)))));
+  held : l.span ≡ find (reaches l.t) (meet_of_all (take l.i (map (with_end l.end) (active_ranges l.ended l.active (all_kept_media l.slots.items)))));
   some : 1 ≤ l.i;
 }

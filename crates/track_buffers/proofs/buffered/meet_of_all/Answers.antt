@@ -14,7 +14,7 @@ loop-i-init g c =
     let long : length rs ≡ length c.args.tracks.now.items = length-map qs (with_end c.args.end.now) ∙ length-map c.args.tracks.now.items (λ (t : Track g.row.S.Denot). ranges_of (g.S.FrameStore.gap t.store) (g.S.FrameStore.frames t.store)) in
     let one : 1 ≤ length rs = omega (arith, c.len.ensures, c.if-len-eq0.false) in
     record {
-      met = first_track rs c.in_ok-met.met.spans one c.in_ok-met.ensures;
+      met = first_track rs c.in_ok-common.common.spans one c.in_ok-common.ensures;
       some = omega arith;
     }
 
@@ -27,7 +27,7 @@ loop-i-preserved g c =
     let front : 1 ≤ length (take c.loop-i.i rs) = rw length-take (omega (arith, c.loop-i.invariant.some)) in
     let all = grown_all c.args.end.now qs (ranges_all g.S.FrameStore.frames g.S.FrameStore.gap c.args.tracks.now.items c.requires) in
     record {
-      met = met_more rs c.loop-i.i c.loop-i.met.spans c.in_ok-ranges.ranges.spans c.in_ok-met-2.met.spans here front all c.loop-i.invariant.met c.in_ok-ranges.ensures c.in_ok-met-2.ensures.met;
+      met = met_more rs c.loop-i.i c.loop-i.common.spans c.in_ok-ranges.ranges.spans c.in_ok-common-2.common.spans here front all c.loop-i.invariant.met c.in_ok-ranges.ensures c.in_ok-common-2.ensures.met;
       some = omega arith;
     }
 

@@ -5,6 +5,6 @@ use Rattle.track_buffers.proofs.buffered.meet_of_all.Given as goal
 
 abbrev pub invariant-loop-i : goal.invariant-loop-i
 invariant-loop-i g l = record {
-  met : l.met.spans ≡ meet_of_all (take l.i (map (with_end l.end) (ranges_in g.S.FrameStore.frames g.S.FrameStore.gap l.tracks.items)));
+  met : l.common.spans ≡ meet_of_all (take l.i (map (with_end l.end) (ranges_in g.S.FrameStore.frames g.S.FrameStore.gap l.tracks.items)));
   some : 1 ≤ l.i;
 }

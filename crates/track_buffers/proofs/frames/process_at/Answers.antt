@@ -27,17 +27,17 @@ returns-in-Stored-clause-window_end g c =
     window_end_stays placed_as.Stored us ts c.place.new.settings c.args.settings.now c.args.i c.args.frame c.in-Stored.ensures.placement
 
 pub returns-in-Stored-clause-changes : goal.returns-in-Stored-clause-changes
-returns-in-Stored-clause-changes g c = subst (λ (b : SourceEffect). b.duration_changes ≤ 1) (sym c.duration_change.ensures.effect) (changed_few c.at_least-raised.result (no_effect c.args.duration.now))
+returns-in-Stored-clause-changes g c = subst (λ (b : SourceEffect). b.duration_changes ≤ 1) (sym c.duration_change.ensures.effect) (changed_few c.at_least-new_duration.result (no_effect c.args.duration.now))
 
 pub returns-in-Stored-clause-within_duration : goal.returns-in-Stored-clause-within_duration
 returns-in-Stored-clause-within_duration g c =
     let F = g.S.FrameStore.frames in
     let ts = states_of F c.args.tracks.now.items in
     let us = states_of F c.place.new.tracks.items in
-    ends_stored ts us c.place.new.settings.group_end c.args.duration.now c.at_least-raised.result c.duration_change.result c.in-Stored.ensures.ends c.at_least-raised.ensures c.duration_change.ensures.effect
+    ends_stored ts us c.place.new.settings.group_end c.args.duration.now c.at_least-new_duration.result c.duration_change.result c.in-Stored.ensures.ends c.at_least-new_duration.ensures c.duration_change.ensures.effect
 
 pub returns-in-Stored-clause-no_fall : goal.returns-in-Stored-clause-no_fall
-returns-in-Stored-clause-no_fall g c = not_after_stored c.place.new.settings.group_end c.args.duration.now c.at_least-raised.result c.duration_change.result c.at_least-raised.ensures c.duration_change.ensures.effect
+returns-in-Stored-clause-no_fall g c = not_after_stored c.place.new.settings.group_end c.args.duration.now c.at_least-new_duration.result c.duration_change.result c.at_least-new_duration.ensures c.duration_change.ensures.effect
 
 pub returns-in-Dropped-clause-window_end : goal.returns-in-Dropped-clause-window_end
 returns-in-Dropped-clause-window_end g c =

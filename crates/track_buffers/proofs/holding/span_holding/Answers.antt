@@ -20,6 +20,6 @@ loop-i-preserved g c =
     let front : 1 ≤ length (take c.loop-i.i rs) = rw length-take (omega (arith, c.loop-i.invariant.some)) in
     let all = grown_all c.common_end-end.result qs (ranges_all g.S.FrameStore.frames g.S.FrameStore.gap c.args.tracks.now.items c.requires) in
     record {
-      held = held_more c.args.t rs c.loop-i.i c.loop-i.held c.span_at.result c.overlap_of_two-held.result here front all c.loop-i.invariant.held c.span_at.ensures c.overlap_of_two-held.ensures;
+      held = held_more c.args.t rs c.loop-i.i c.loop-i.span c.span_at.result c.overlap_of_two-span.result here front all c.loop-i.invariant.held c.span_at.ensures c.overlap_of_two-span.ensures;
       some = omega arith;
     }

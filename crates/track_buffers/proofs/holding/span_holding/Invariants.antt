@@ -7,6 +7,6 @@ use Rattle.track_buffers.proofs.holding.span_holding.Given as goal
 
 abbrev pub invariant-loop-i : goal.invariant-loop-i
 invariant-loop-i g l = record {
-  held : l.held ≡ find (reaches l.t) (meet_of_all (take l.i (map (with_end l.end) (ranges_in g.S.FrameStore.frames g.S.FrameStore.gap l.tracks.items))));
+  held : l.span ≡ find (reaches l.t) (meet_of_all (take l.i (map (with_end l.end) (ranges_in g.S.FrameStore.frames g.S.FrameStore.gap l.tracks.items))));
   some : 1 ≤ l.i;
 }

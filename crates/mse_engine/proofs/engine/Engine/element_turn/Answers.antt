@@ -9,4 +9,4 @@ invariant_of-self-2 g c =
     let old : Kept = kept c.self.inside.side c.self.inside.buffers.buffers c.self.inside.element.state in
     let new : Kept = kept c.self.inside.side c.self.inside.buffers.buffers c.turn_by_itself.new.element.state in
     let before = c.self.invariant.inside in
-    whole_turn law c.in_ok-worked.worked old new c.self.invariant c.in_ok-worked.ensures.steady c.sound.ensures (c.in_ok-worked.ensures.worked before.state before.stands)
+    whole_turn law c.in_ok-answer.answer old new c.self.invariant c.in_ok-answer.ensures.steady c.sound.ensures (c.in_ok-answer.ensures.worked before.state before.stands)

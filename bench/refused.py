@@ -1,0 +1,92 @@
+#!/usr/bin/env python3
+"""Refuses each allocation of some runs in turn; not part of the gate.
+
+    bench/refused.py [--program FILE]
+
+The program is crates/mseplay/out/mseplay, as `rt run` leaves it in crates/mseplay, where no other file is given. It needs
+Linux and a C compiler, `cc`, for the library `refuse.c`.
+
+Each run of the program is done once with all memory that it asks for, and then for each of its allocations with that one
+refused, and with that one and all behind it refused. Each of these has to end with status 5 and a front part of the whole
+text, or as the first run did.
+"""
+import argparse
+import os
+import shutil
+import subprocess
+import sys
+import tempfile
+import time
+
+import case_files
+
+HERE = os.path.dirname(os.path.abspath(__file__))
+CRATES = os.path.join(HERE, "..", "crates")
+EXAMPLES = os.path.join(HERE, "..", "examples")
+CASES = os.path.join(HERE, "cases")
+WORDS, MEMORY = 1, 5
+RUNS = [
+    ["ranges", "two-tracks.mp4"],
+    ["ranges", "classic.m4a"],
+    ["ranges", "nofile"],
+    ["pieces", "100", "plain.mp4"],
+    ["make", "2"],
+    ["remux", "classic.m4a"],
+    ["feed", "1/1", "audio.mp4"],
+    *(["play", name] for folder in [CASES, EXAMPLES] for name in sorted(os.listdir(folder)) if name.endswith(".toml")),
+]
+
+
+def main():
+    words = argparse.ArgumentParser(description=__doc__, formatter_class=argparse.RawDescriptionHelpFormatter)
+    words.add_argument("--program", default=os.path.join(CRATES, "mseplay", "out", "mseplay"))
+    given = words.parse_args()
+    begin = time.monotonic()
+    with tempfile.TemporaryDirectory() as room:
+        for folder in [EXAMPLES, CASES]:
+            shutil.copytree(folder, room, dirs_exist_ok=True)
+        case_files.write(room)
+        subprocess.run(["cc", "-O2", "-shared", "-fPIC", "-o", f"{room}/refuse.so", f"{HERE}/refuse.c"], check=True)
+        bad = 0
+        for run in RUNS:
+            bad += check_run(room, os.path.abspath(given.program), run)
+    print(f"{time.monotonic() - begin:.0f} s, {bad} ended otherwise")
+    sys.exit(1 if bad else 0)
+
+
+def run(room, words, refused):
+    """The status, the text, and how many allocations were asked for."""
+    count = f"{room}/count"
+    added = {"LD_PRELOAD": f"{room}/refuse.so", "REFUSE": refused, "ALLOCATIONS": count}
+    done = subprocess.run(words, cwd=room, env={**os.environ, **added}, stdin=subprocess.DEVNULL, stdout=subprocess.PIPE)
+    asked = 0
+    if os.path.exists(count):
+        with open(count) as file:
+            asked = int(file.read())
+        os.remove(count)
+    return done.returncode, done.stdout, asked
+
+
+def check_run(room, program, words):
+    """Does a run with each allocation refused in turn: how many of these ended as they must not."""
+    status, whole, asked = run(room, [program, *words], "0")
+    if status == WORDS:
+        print(f"{' '.join(words)}: the program has no such command", flush=True)
+        return 0
+    through, halted, bad = 0, 0, 0
+    for number in range(1, asked + 1):
+        for refused in [f"{number}", f"{number}+"]:
+            ended, text, _ = run(room, [program, *words], refused)
+            if (ended, text) == (status, whole):
+                through += 1
+            elif ended == MEMORY and whole.startswith(text):
+                halted += 1
+            else:
+                bad += 1
+                print(f"  {' '.join(words)}, refused {refused}: status {ended}, {len(text)} bytes")
+    print(f"{' '.join(words)}: status {status}, {asked} allocations; with a refusal {halted} runs at status {MEMORY} with a "
+          f"front part, {through} with the whole text", flush=True)
+    return bad
+
+
+main()

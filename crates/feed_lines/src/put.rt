@@ -1,0 +1,108 @@
+//! The feeds of a track, put as they come.
+
+ghost use Rattle.std.specs.Prelude.{◌≡◌, ◌≤◌, ◌+ℤ◌, ◌++◌, IfOk, IsSome, OnOk, OnErr, IsErrOf};
+ghost use Rattle.std.specs.List.{flat_map};
+ghost use Rattle.mse_base.specs.Time.{IsTick};
+ghost use Rattle.mse_outside.specs.Outside.{Rose};
+ghost use Rattle.script_run.specs.Wrote.{Wrote, WroteFront};
+ghost use Rattle.track_store.specs.Frames.{overlapped};
+ghost use Rattle.track_store.specs.Sound.{Sound};
+ghost use Rattle.track_store.specs.State.{state_of};
+ghost use Rattle.decoder_feed.specs.Steps.{state_after_seek};
+ghost use Rattle.feed_lines.specs.Groups.{end_of, frames_for};
+ghost use Rattle.feed_lines.specs.Lines.{feed_text, given_text};
+
+use crate::lines::{put_end, put_frame, put_none, put_wanted};
+use decoder_feed::{FeedNext, Feeder};
+use mse_base::Ticks;
+use mse_outside::Sink;
+use script_run::Halt;
+use std::alloc::Global;
+use track_store::{FrameStore, Stored, Track};
+
+/// When a frame ends.
+fn end_of(stored: &Stored) -> Ticks
+    requires { IsTick (stored.now.frame.pts +ℤ stored.now.frame.dur) }
+    ensures { result ≡ stored.now.frame.pts +ℤ stored.now.frame.dur }
+{
+    match stored.frame.pts.checked_add(stored.frame.dur) {
+        Some(end) => end,
+        None => unreachable!(),
+    }
+}
+
+/// Puts the lines of the frames that are given to show the frame at a time, to which the feeder was
+/// sought, and why no more are. It answers when they end.
+fn put_given<S: FrameStore, K: Sink>(
+    alloc: Global,
+    sink: &mut K,
+    track: &Track<S>,
+    feeder: &mut Feeder,
+    at: Ticks,
+) -> Result<Ticks, Halt>
+    requires sound { Sound (state_of S.frames track.now) }
+    requires shown { IsSome (overlapped at (S.frames track.now.store)) }
+    requires sought { feeder.old ≡ state_after_seek at (S.frames track.now.store) }
+    ensures end { IfOk result (λ end. end
+        ≡ end_of at (frames_for at (state_of S.frames track.now))) }
+    ensures ok { OnOk result (Wrote (given_text at (state_of S.frames track.now))
+        (K.written sink.old) (K.written sink.new)) }
+    ensures err { OnErr result (WroteFront (given_text at (state_of S.frames track.now))
+        (K.written sink.old) (K.written sink.new)) }
+    ensures later { K.faults sink.old ≤ K.faults sink.new }
+    ensures cause { IsErrOf result Halt.Write → Rose (K.faults sink.old) (K.faults sink.new) }
+{
+    let mut last = None;
+    'giving: loop {
+        match feeder.next(track) {
+            FeedNext::Frame(place) => {
+                let Some(stored) = track.store.get(place) else {
+                    unreachable!()
+                };
+                match put_frame(alloc, sink, stored) {
+                    Ok(()) => {}
+                    Err(halt) => return Err(halt),
+                }
+                last = end_of(stored).greater_of(last);
+            }
+            answer => {
+                return match put_end(alloc, sink, answer) {
+                    Ok(()) => Ok(last.unwrap_or(at)),
+                    Err(halt) => Err(halt),
+                };
+            }
+        }
+    }
+}
+
+/// Puts the lines of a track from a time on, as they come, each with one put.
+pub fn put_feeds<S: FrameStore, K: Sink>(
+    alloc: Global,
+    sink: &mut K,
+    track: &Track<S>,
+    from: Ticks,
+) -> Result<(), Halt>
+    requires { Sound (state_of S.frames track.now) }
+    ensures ok { OnOk result (Wrote (feed_text from (state_of S.frames track.now))
+        (K.written sink.old) (K.written sink.new)) }
+    ensures err { OnErr result (WroteFront (feed_text from (state_of S.frames track.now))
+        (K.written sink.old) (K.written sink.new)) }
+    ensures later { K.faults sink.old ≤ K.faults sink.new }
+    ensures cause { IsErrOf result Halt.Write → Rose (K.faults sink.old) (K.faults sink.new) }
+{
+    let mut feeder = Feeder::new();
+    let mut at = from;
+    'feeding: loop {
+        let Some(wanted) = feeder.seek(track, at) else {
+            return put_none(alloc, sink, track.id, at);
+        };
+        match put_wanted(alloc, sink, track.id, at, wanted) {
+            Ok(()) => {}
+            Err(halt) => return Err(halt),
+        }
+        match put_given(alloc, sink, track, &mut feeder, at) {
+            Ok(end) => at = end,
+            Err(halt) => return Err(halt),
+        }
+    }
+}
