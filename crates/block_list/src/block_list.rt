@@ -4,6 +4,7 @@ ghost use Rattle.std.specs.Prelude.{◌≡◌, ℕ, ◌+◌, ◌-◌, ◌*◌, �
 ghost use Rattle.std.specs.List.{insert, remove};
 ghost use Rattle.block_list.specs.Rows.{Listed, joined, start, row, split_row, held, AreShort, AreEmpty, NoneEmpty, IsListed, IsCounted};
 ghost use Rattle.block_list.specs.Spots.{rank, IsPlace};
+ghost use Rattle.block_list.specs.Starts.{starts_of};
 
 use crate::block::{Block, Change, Fact};
 use mse_base::OutOfMemory;
@@ -372,41 +373,6 @@ impl<T, F: Fact<T>> BlockList<T, F> {
         Ok(())
     }
 
-    /// The place of item `k`.
-    pub fn place(&self, k: usize) -> Spot
-        requires { k < length (joined self.now.rows) }
-        ensures block { result.block < length self.now.rows }
-        ensures index { result.index < length (row self.now.rows result.block) }
-        ensures place { start self.now.rows result.block + result.index ≡ k }
-    {
-        let mut left = k;
-        'walk: for b in 0..self.blocks.len() {
-            let len = len_at(&self.blocks, b);
-            if left < len {
-                return Spot {
-                    block: b,
-                    index: left,
-                };
-            }
-            left -= len;
-        }
-        unreachable!()
-    }
-
-    /// How many items stand before a place.
-    pub fn rank(&self, spot: Spot) -> usize
-        requires block { spot.block < length self.now.rows }
-        requires index { spot.index ≤ length (row self.now.rows spot.block) }
-        ensures { result ≡ rank self.now.rows spot }
-    {
-        let _len = self.len;
-        let mut count = 0;
-        'walk: for b in 0..spot.block {
-            count += len_at(&self.blocks, b);
-        }
-        count + spot.index
-    }
-
     /// The item at a place.
     pub fn item(&self, spot: Spot) -> &T
         requires block { spot.block < length self.now.rows }
@@ -459,6 +425,7 @@ impl<T, F: Fact<T>> BlockList<T, F> {
             ≡ slice_set (joined self.old.rows) (rank self.old.rows spot)
             (C.after change.now
             (slice_index_or (joined self.old.rows) (rank self.old.rows spot) d)) }
+        ensures starts { starts_of self.new.rows ≡ starts_of self.old.rows }
         ensures spare { self.new.spare ≡ self.old.spare }
     {
         let _len = self.len;
@@ -545,6 +512,7 @@ impl<T: Drop, F: Fact<T>> BlockList<T, F> {
         ensures high { result ≤ spot.block + 1 }
         ensures front { joined (take result self.new.rows) ≡ joined (take spot.block self.old.rows)
             ++ take spot.index (row self.old.rows spot.block) }
+        ensures before { take spot.block self.new.rows ≡ take spot.block self.old.rows }
         ensures rest { drop (spot.block + 1) self.new.rows ≡ drop (spot.block + 1) self.old.rows }
         ensures len { length self.new.rows ≡ length self.old.rows }
         ensures spare { self.new.spare ≡ self.old.spare }
@@ -568,6 +536,8 @@ impl<T: Drop, F: Fact<T>> BlockList<T, F> {
         ensures rest { joined (drop result self.new.rows)
             ≡ drop spot.index (row self.old.rows spot.block)
             ++ joined (drop (spot.block + 1) self.old.rows) }
+        ensures behind { drop (spot.block + 1) self.new.rows ≡ drop (spot.block + 1) self.old.rows }
+        ensures next { result ≤ spot.block + 1 }
         ensures len { length self.new.rows ≡ length self.old.rows }
         ensures spare { self.new.spare ≡ self.old.spare }
     {
@@ -587,6 +557,11 @@ impl<T: Drop, F: Fact<T>> BlockList<T, F> {
         ensures items { joined self.new.rows
             ≡ (joined (take b self.old.rows) ++ take from (row self.old.rows b))
             ++ (drop to (row self.old.rows b) ++ joined (drop (b + 1) self.old.rows)) }
+        ensures front { take b self.new.rows ≡ take b self.old.rows }
+        ensures rest { drop ((b + 1 + length self.new.rows) - length self.old.rows) self.new.rows
+            ≡ drop (b + 1) self.old.rows }
+        ensures fewer { length self.new.rows ≤ length self.old.rows }
+        ensures stay { length self.old.rows ≤ length self.new.rows + 1 }
         ensures spare { self.new.spare ≡ self.old.spare }
     {
         let len = len_at(&self.blocks, b);
@@ -609,6 +584,13 @@ impl<T: Drop, F: Fact<T>> BlockList<T, F> {
         ensures items { joined self.new.rows
             ≡ take (start self.old.rows from.block + from.index) (joined self.old.rows)
             ++ drop (start self.old.rows to.block + to.index) (joined self.old.rows) }
+        // Only the blocks from one place to the other change, or go.
+        ensures front { take from.block self.new.rows ≡ take from.block self.old.rows }
+        ensures rest { drop
+            ((to.block + 1 + length self.new.rows) - length self.old.rows) self.new.rows
+            ≡ drop (to.block + 1) self.old.rows }
+        ensures fewer { length self.new.rows ≤ length self.old.rows }
+        ensures stay { from.block + length self.old.rows ≤ to.block + 1 + length self.new.rows }
         ensures spare { self.new.spare ≡ self.old.spare }
     {
         if from.block == to.block {
@@ -624,6 +606,9 @@ impl<T: Drop, F: Fact<T>> BlockList<T, F> {
     pub fn push(&mut self, x: T)
         requires { 1 ≤ self.old.spare }
         ensures items { joined self.new.rows ≡ joined self.old.rows ++ x ∷ [] }
+        // Only the last block changes, or comes.
+        ensures front { take (length self.new.rows - 1) self.new.rows
+            ≡ take (length self.new.rows - 1) self.old.rows }
         ensures one_block_apart { (length self.old.rows ≤ length self.new.rows)
             × (length self.new.rows ≤ length self.old.rows + 1) }
         ensures spare { self.new.spare + 1 ≡ self.old.spare }

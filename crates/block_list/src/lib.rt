@@ -4,7 +4,9 @@
 mod block;
 mod block_list;
 mod finding;
+mod ranked;
 
 pub use block::{Block, Change, Fact};
 pub use block_list::{BlockList, Spot};
 pub use finding::{Test, search};
+pub use ranked::RankedList;

@@ -15,3 +15,6 @@ pub mod Neighbours
 pub mod Filling
 pub mod Meeting
 pub mod Holding
+mod InRows
+mod SpreadOut
+mod Ending

@@ -91,10 +91,9 @@ not_here t rs i x p l at s h =
 pub past_all : (t : ℤ) (rs : List Span) (i : ℕ) → length rs ≤ i → AllByRecursion (λ r. r.end <ℤ t) (take i rs) → None ≡ find (reaches t) rs
 past_all t rs i l h = sym (find_past t rs i h ∙ ap (find (reaches t)) (drop_all i rs l))
 
-last_get : (s : Span) (rs : List Span) → slice_get (s ∷ rs) (length rs) ≡ last_from s rs
-last_get s [] = refl
-last_get s (r ∷ rs) = last_get r rs
-
-pub last_is : (rs : List Span) → slice_get rs (length rs - 1) ≡ last_of rs
-last_is [] = refl
-last_is (r ∷ rs) = let k : length (r ∷ rs) - 1 ≡ length rs = omega arith in ap (slice_get (r ∷ rs)) k ∙ last_get r rs
+pub last_some : (rs : List Span) (i : ℕ) (s : Span) → i + 1 ≡ length rs → s ≡ get_or rs i s → Some s ≡ last_of rs
+last_some [] i s e at = absurd (omega arith)
+last_some (r ∷ []) zero s e at = ap Some at
+last_some (r ∷ []) (suc i) s e at = absurd (omega arith)
+last_some (r ∷ q ∷ rs) zero s e at = absurd (omega arith)
+last_some (r ∷ q ∷ rs) (suc i) s e at = last_some (q ∷ rs) i s (omega arith) at

@@ -1,5 +1,5 @@
 -- The ticks that lists of ranges share, as one list.
-use Rattle.std.proofs.Common.{◌≡◌, ◌≢◌, ◌∙◌, ℤ, ◌≤◌, ◌≤ℤ◌, ◌<ℤ◌, int_lt, Bool, true, false, cond, ◌&&◌, ◌||◌, List, [], ◌∷◌, ◌++◌, length, fold, flat_map, refl, sym, ap, arith}
+use Rattle.std.proofs.Common.{◌≡◌, ◌≢◌, ◌∙◌, ℤ, ◌≤◌, ◌≤ℤ◌, ◌<ℤ◌, int_lt, Bool, true, false, cond, ◌&&◌, ◌||◌, List, [], ◌∷◌, ◌++◌, length, fold, flat_map, refl, sym, ap, subst, arith}
 use Rattle.std.specs.Int.{int_min, int_max}
 use Rattle.std.specs.List.{AllByRecursion, list_all}
 use Rattle.std.proofs.lemmas.Int.{ints}
@@ -167,3 +167,7 @@ meet_push (r ∷ rs) x h = fold-append meet r rs (x ∷ [])
 
 pub meet_is : (xs ys met : List Span) → IsNormalized xs → IsNormalized ys → Met xs ys met → met ≡ meet xs ys
 meet_is xs ys met n m h = one_met xs ys met (meet xs ys) h (met_meet xs ys n m)
+
+-- the same of equal lists
+pub met_again : (xs ys left right given met : List Span) → left ≡ xs → right ≡ ys → met ≡ given → Met left right given → Met xs ys met
+met_again xs ys left right given met e f g m = subst (λ (zs : List Span). Met xs ys zs) (sym g) (subst (λ (zs : List Span). Met xs zs given) f (subst (λ (zs : List Span). Met zs right given) e m))

@@ -1,8 +1,8 @@
 -- Joining a span to ranges.
-use Rattle.std.proofs.Common.{◌≡◌, ◌∙◌, ℕ, ℤ, pos, ◌+ℤ◌, ◌+◌, ◌<◌, ◌≤◌, ◌<ℤ◌, ◌≤ℤ◌, Bool, true, false, cond, ◌||◌, ◌&&◌, not, List, [], ◌∷◌, ◌++◌, length, get_or, take, drop, refl, sym, ap, arith, int_le, int_lt}
+use Rattle.std.proofs.Common.{◌≡◌, ◌∙◌, ℕ, suc, ℤ, pos, ◌+ℤ◌, ◌+◌, ◌<◌, ◌≤◌, ◌<ℤ◌, ◌≤ℤ◌, Bool, true, false, cond, ◌||◌, ◌&&◌, not, List, [], ◌∷◌, ◌++◌, length, get_or, set, take, drop, add-one, refl, sym, ap, arith, int_le, int_lt}
 use Rattle.std.specs.List.{AllByRecursion}
 use Rattle.std.proofs.lemmas.Int.{ints}
-use Rattle.std.proofs.lemmas.List.{drop_more, take_at, drop_at, length-take-le}
+use Rattle.std.proofs.lemmas.List.{drop_more, drop_all, take_at, drop_at, length-take-le, set_split}
 use Rattle.mse_base.specs.declared.span.Span.{Span}
 use Rattle.mse_base.specs.Bridging.{ranges_with_lasting, ranges_with, ranges_with_all, bridged_ranges, span_round, is_near, is_near_any, IsRanges, is_empty, is_far_before}
 
@@ -17,6 +17,24 @@ step_joins gap xs ys i s r whole low at before after cut w =
     ap (ranges_with_lasting gap s) m ∙ ap (λ b. cond b (s ∷ r ∷ drop (i + 1) xs) (cond (is_far_before gap r s) (r ∷ ranges_with_lasting gap s (drop (i + 1) xs)) (ranges_with_lasting gap (span_round s r) (drop (i + 1) xs)))) before
     ∙ ap (λ b. cond b (r ∷ ranges_with_lasting gap s (drop (i + 1) xs)) (ranges_with_lasting gap (span_round s r) (drop (i + 1) xs))) after in
     rw (t, d, ← one) w
+
+-- nothing stands behind a place, or what begins more than the gap after the span
+pub none_behind : (gap : ℤ) (s : Span) (xs : List Span) (i : ℕ) → length xs ≤ i + 1 → ranges_with_lasting gap s (drop (i + 1) xs) ≡ s ∷ drop (i + 1) xs
+none_behind gap s xs i l = rw (drop_all (i + 1) xs l) refl
+
+pub far_behind : (gap : ℤ) (s q : Span) (xs : List Span) (i : ℕ) → i < length xs → q ≡ get_or xs i q → is_far_before gap s q ≡ true → ranges_with_lasting gap s (drop i xs) ≡ s ∷ drop i xs
+far_behind gap s q xs i low at far =
+    let m : drop i xs ≡ q ∷ drop (i + 1) xs = drop_more xs i q low ∙ ap (λ y. y ∷ drop (i + 1) xs) (sym at) in
+    rw m (ap (λ b. cond b (s ∷ q ∷ drop (i + 1) xs) (cond (is_far_before gap q s) (q ∷ ranges_with_lasting gap s (drop (i + 1) xs)) (ranges_with_lasting gap (span_round s q) (drop (i + 1) xs)))) far)
+
+-- the loop ends with the range joined in its place
+pub joined_here : (gap : ℤ) (xs : List Span) (i : ℕ) (s r n : Span) (whole : List Span) → i < length xs → r ≡ get_or xs i r → is_far_before gap s r ≡ false → is_far_before gap r s ≡ false → n ≡ span_round s r → ranges_with_lasting gap n (drop (i + 1) xs) ≡ n ∷ drop (i + 1) xs → take i xs ++ ranges_with_lasting gap s (drop i xs) ≡ whole → set xs i n ≡ whole
+joined_here gap xs i s r n whole low at before after is last w =
+    let m : drop i xs ≡ r ∷ drop (i + 1) xs = drop_more xs i r low ∙ ap (λ y. y ∷ drop (i + 1) xs) (sym at) in
+    let one : ranges_with_lasting gap s (drop i xs) ≡ ranges_with_lasting gap (span_round s r) (drop (i + 1) xs) =
+    ap (ranges_with_lasting gap s) m ∙ ap (λ b. cond b (s ∷ r ∷ drop (i + 1) xs) (cond (is_far_before gap r s) (r ∷ ranges_with_lasting gap s (drop (i + 1) xs)) (ranges_with_lasting gap (span_round s r) (drop (i + 1) xs)))) before
+    ∙ ap (λ b. cond b (r ∷ ranges_with_lasting gap s (drop (i + 1) xs)) (ranges_with_lasting gap (span_round s r) (drop (i + 1) xs))) after in
+    set_split xs i n low ∙ ap (λ k. take i xs ++ n ∷ drop k xs) (sym (add-one i)) ∙ ap (λ ys. take i xs ++ ys) (sym last ∙ ap (λ z. ranges_with_lasting gap z (drop (i + 1) xs)) is ∙ sym one) ∙ w
 
 hull_cases : (gap t a b c d : ℤ) (u v : Bool) → int_le a c ≡ u → int_le b d ≡ v → a <ℤ b → c <ℤ d → int_lt (b +ℤ gap) c ≡ false → int_lt (d +ℤ gap) a ≡ false → (int_le (cond u a c) t && int_lt t (cond v d b +ℤ gap)) ≡ ((int_le a t && int_lt t (b +ℤ gap)) || (int_le c t && int_lt t (d +ℤ gap)))
 hull_cases gap t a b c d true true e f k l g h = grind (arith, ints)

@@ -19,30 +19,10 @@ is_lt a b h = grind (arith, ints)
 not_lt : (a b : ℤ) → b ≤ℤ a → int_lt a b ≡ false
 not_lt a b h = grind (arith, ints)
 
-each_at : (P : Span → Type 0) (rs : List Span) (i : ℕ) (d : Span) → i < length rs → AllByRecursion P rs → P (get_or rs i d)
-each_at P [] i d l h = absurd (omega arith)
-each_at P (r ∷ rs) zero d l h = h.0
-each_at P (r ∷ rs) (suc i) d l h = each_at P rs i d (omega arith) h.1
-
-lasts_at : (gap : ℤ) (rs : List Span) (i : ℕ) (d : Span) → i < length rs → IsRanges gap rs → (get_or rs i d).start <ℤ (get_or rs i d).end
-lasts_at gap [] i d l h = absurd (omega arith)
-lasts_at gap (r ∷ rs) zero d l h = h.0
-lasts_at gap (r ∷ rs) (suc i) d l h = lasts_at gap rs i d (omega arith) h.2
-
--- where the range at a place ends more than the gap before the span, so do those before it
-all_skipped : (gap : ℤ) (rs : List Span) (i : ℕ) (d s : Span) → pos 0 ≤ℤ gap → IsRanges gap rs → i < length rs → is_far_before gap (get_or rs i d) s ≡ true → AllByRecursion (λ r. is_far_before gap r s ≡ true) (take (suc i) rs)
-all_skipped gap [] i d s g h l e = absurd (omega arith)
-all_skipped gap (r ∷ rs) zero d s g h l e = (e, tt)
-all_skipped gap (r ∷ rs) (suc i) d s g h l e =
-    let low : i < length rs = omega arith in
-    let own = h.0 in
-    let next = each_at (λ q. (r.end +ℤ gap) <ℤ q.start) rs i d low h.1 in
-    let lasts = lasts_at gap rs i d low h.2 in
-    let far = lt_of ((get_or rs i d).end +ℤ gap) s.start e in
-    (is_lt (r.end +ℤ gap) s.start (omega (arith, ints)), all_skipped gap rs i d s g h.2 low e)
-
-pub skipped_more : (gap : ℤ) (rs : List Span) (i : ℕ) (d s : Span) → pos 0 ≤ℤ gap → IsRanges gap rs → i < length rs → is_far_before gap (get_or rs i d) s ≡ true → AllByRecursion (λ r. is_far_before gap r s ≡ true) (take (i + 1) rs)
-skipped_more gap rs i d s g h l e = rw add-one (all_skipped gap rs i d s g h l e)
+-- ranges that end more than the gap before a span begins
+pub far_all : (gap t : ℤ) (s : Span) (rs : List Span) → t ≡ (s.start -ℤ gap) → AllByRecursion (λ r. r.end <ℤ t) rs → AllByRecursion (λ r. is_far_before gap r s ≡ true) rs
+far_all gap t s [] e h = tt
+far_all gap t s (r ∷ rs) e h = let first = h.0 in (is_lt (r.end +ℤ gap) s.start (omega (arith, ints)), far_all gap t s rs e h.1)
 
 cond_two : {A : Type 0} (a b : Bool) (x y z : A) → a ≡ false → b ≡ true → cond a x (cond b y z) ≡ y
 cond_two a b x y z e f = ap (λ c. cond c x (cond b y z)) e ∙ ap (λ c. cond c y z) f

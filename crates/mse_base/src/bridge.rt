@@ -1,7 +1,8 @@
-ghost use Rattle.std.specs.Prelude.{◌≡◌, ◌<◌, ◌≤◌, ◌++◌, ◌≤ℤ◌, pos, vec_len, vec_capacity, length, take, drop, IfOk};
+ghost use Rattle.std.specs.Prelude.{◌≡◌, ◌+◌, ◌<◌, ◌≤◌, ◌∷◌, ◌++◌, ◌≤ℤ◌, pos, true, length, take, drop, IfOk};
 ghost use Rattle.mse_base.specs.Bridging.{bridged_ranges, ranges_with, ranges_with_lasting, span_round, is_empty, IsRanges};
 
 use crate::lookup::{is_far_before, place_reaching};
+use crate::span_list::SpanList;
 use crate::{OutOfMemory, Span, Ticks};
 use std::alloc::Global;
 
@@ -21,40 +22,55 @@ fn span_round(s: &Span, r: &Span) -> Span
     }
 }
 
+/// Whether the range behind a place, if any, begins more than the gap after a span.
+fn is_last_near(ranges: &SpanList, gap: Ticks, i: usize, s: &Span) -> bool
+    requires { i < length ranges.now.spans }
+    ensures { result ≡ true → ranges_with_lasting gap s.now (drop (i + 1) ranges.now.spans)
+        ≡ s.now ∷ drop (i + 1) ranges.now.spans }
+{
+    let len = ranges.len();
+    if i + 1 == len {
+        return true;
+    }
+    let next = ranges.get(i + 1);
+    is_far_before(gap, s, &next)
+}
+
 /// Joins a span that is not empty to the ranges from a place on.
-fn join_from(ranges: &mut Vec<Span>, gap: Ticks, from: usize, span: Span)
-    requires room { vec_len ranges.old < vec_capacity ranges.old }
-    requires within { from ≤ length ranges.old.items }
-    ensures items { ranges.new.items ≡ take from ranges.old.items ++ ranges_with_lasting gap span (drop from ranges.old.items) }
-    ensures capacity { vec_capacity ranges.new ≡ vec_capacity ranges.old }
+fn join_from(ranges: &mut SpanList, gap: Ticks, from: usize, span: Span)
+    requires room { 1 ≤ ranges.old.spare }
+    requires within { from ≤ length ranges.old.spans }
+    ensures spans { ranges.new.spans ≡ take from ranges.old.spans ++ ranges_with_lasting gap span (drop from ranges.old.spans) }
+    ensures room { ranges.old.spare + length ranges.old.spans ≡ ranges.new.spare + length ranges.new.spans }
 {
     let mut s = span;
     let mut i = from;
     while i < ranges.len() {
-        let r = &ranges[i];
-        if is_far_before(gap, &s, r) {
+        let r = ranges.get(i);
+        if is_far_before(gap, &s, &r) {
             break;
         }
-        if is_far_before(gap, r, &s) {
+        if is_far_before(gap, &r, &s) {
             i += 1;
         } else {
-            s = span_round(&s, r);
+            s = span_round(&s, &r);
+            if is_last_near(ranges, gap, i, &s) {
+                ranges.set(i, s);
+                return;
+            }
             ranges.remove(i);
         }
     }
-    match ranges.insert(i, s) {
-        Ok(()) => {}
-        Err(_) => unreachable!(),
-    }
+    ranges.insert(i, s);
 }
 
 /// Joins a span to ranges.
-pub(crate) fn join_in(ranges: &mut Vec<Span>, gap: Ticks, span: Span)
-    requires room { vec_len ranges.old < vec_capacity ranges.old }
+pub(crate) fn join_in(ranges: &mut SpanList, gap: Ticks, span: Span)
+    requires room { 1 ≤ ranges.old.spare }
     requires gap_from_zero { pos 0 ≤ℤ gap }
-    requires ranges { IsRanges gap ranges.old.items }
-    ensures items { ranges.new.items ≡ ranges_with gap ranges.old.items span }
-    ensures capacity { vec_capacity ranges.new ≡ vec_capacity ranges.old }
+    requires ranges { IsRanges gap ranges.old.spans }
+    ensures spans { ranges.new.spans ≡ ranges_with gap ranges.old.spans span }
+    ensures room { ranges.old.spare + length ranges.old.spans ≡ ranges.new.spare + length ranges.new.spans }
 {
     if is_empty(&span) {
         return;
@@ -64,17 +80,13 @@ pub(crate) fn join_in(ranges: &mut Vec<Span>, gap: Ticks, span: Span)
 }
 
 /// The bridged ranges of spans.
-pub(crate) fn bridged_of(
-    alloc: Global,
-    spans: &[Span],
-    gap: Ticks,
-) -> Result<Vec<Span>, OutOfMemory>
+pub(crate) fn bridged_of(alloc: Global, spans: &[Span], gap: Ticks) -> Result<SpanList, OutOfMemory>
     requires { pos 0 ≤ℤ gap }
-    ensures { IfOk result (λ v. v.items ≡ bridged_ranges gap spans.now) }
+    ensures { IfOk result (λ v. v.spans ≡ bridged_ranges gap spans.now) }
 {
-    let mut ranges = Vec::new(alloc);
+    let mut ranges = SpanList::new(alloc);
     for span in spans {
-        ranges.reserve(1)?;
+        ranges.reserve(alloc, 1)?;
         join_in(&mut ranges, gap, *span);
     }
     Ok(ranges)

@@ -1,8 +1,9 @@
-ghost use Rattle.std.specs.Prelude.{◌≡◌, ◌+◌, ◌<◌, ◌≤◌, ◌++◌, ◌<ℤ◌, ◌≤ℤ◌, ◌+ℤ◌, ◌-ℤ◌, pos, int_lt, vec_len, vec_capacity, length, take, drop, option_to_list};
+ghost use Rattle.std.specs.Prelude.{◌≡◌, ◌+◌, ◌^◌, ◌<◌, ◌≤◌, ◌++◌, ◌<ℤ◌, ◌≤ℤ◌, ◌+ℤ◌, ◌-ℤ◌, pos, int_lt, length, take, drop, option_to_list};
 ghost use Rattle.std.specs.Int.{int_min, int_max};
 ghost use Rattle.mse_base.specs.Bridging.{IsRanges, ranges_without, span_between};
 
 use crate::lookup::place_reaching;
+use crate::span_list::SpanList;
 use crate::{Span, Ticks};
 
 /// The span from a start up to an end, if it has a tick.
@@ -51,17 +52,18 @@ fn begins_before(s: &Span, high: Ticks, gap: Ticks) -> bool
 }
 
 /// Puts a part in the place of a span, if there is one; the place after it.
-fn replace(ranges: &mut Vec<Span>, i: usize, part: Option<Span>) -> usize
-    requires { i < length ranges.old.items }
-    ensures items { ranges.new.items ≡ take i ranges.old.items ++ (option_to_list part ++ drop (i + 1) ranges.old.items) }
+fn replace(ranges: &mut SpanList, i: usize, part: Option<Span>) -> usize
+    requires within { i < length ranges.old.spans }
+    requires small { length ranges.old.spans < 2 ^ 64 }
+    ensures spans { ranges.new.spans ≡ take i ranges.old.spans ++ (option_to_list part ++ drop (i + 1) ranges.old.spans) }
     ensures place { result ≡ i + length (option_to_list part) }
     ensures step { result ≤ i + 1 }
-    ensures capacity { vec_capacity ranges.new ≡ vec_capacity ranges.old }
-    ensures len { vec_len ranges.new + (i + 1) ≡ vec_len ranges.old + result }
+    ensures room { ranges.old.spare + length ranges.old.spans ≡ ranges.new.spare + length ranges.new.spans }
+    ensures len { length ranges.new.spans + (i + 1) ≡ length ranges.old.spans + result }
 {
     match part {
         Some(span) => {
-            ranges[i] = span;
+            ranges.set(i, span);
             i + 1
         }
         None => {
@@ -72,39 +74,37 @@ fn replace(ranges: &mut Vec<Span>, i: usize, part: Option<Span>) -> usize
 }
 
 /// Cuts a hole out of the ranges from a place on, longer by the gap on both sides.
-fn carve_from(ranges: &mut Vec<Span>, gap: Ticks, from: usize, hole: &Span)
-    requires room { vec_len ranges.old < vec_capacity ranges.old }
+fn carve_from(ranges: &mut SpanList, gap: Ticks, from: usize, hole: &Span)
+    requires room { 1 ≤ ranges.old.spare }
     requires gap_from_zero { pos 0 ≤ℤ gap }
     requires hole_not_empty { hole.now.start <ℤ hole.now.end }
-    requires within { from ≤ length ranges.old.items }
-    requires ranges { IsRanges gap (drop from ranges.old.items) }
-    ensures items { ranges.new.items ≡ take from ranges.old.items ++ ranges_without (hole.now.start -ℤ gap) (hole.now.end +ℤ gap) (drop from ranges.old.items) }
-    ensures capacity { vec_capacity ranges.new ≡ vec_capacity ranges.old }
+    requires within { from ≤ length ranges.old.spans }
+    requires ranges { IsRanges gap (drop from ranges.old.spans) }
+    ensures spans { ranges.new.spans ≡ take from ranges.old.spans ++ ranges_without (hole.now.start -ℤ gap) (hole.now.end +ℤ gap) (drop from ranges.old.spans) }
+    ensures room { ranges.old.spare + length ranges.old.spans ≡ ranges.new.spare + length ranges.new.spans }
 {
     let mut i = from;
     while i < ranges.len() {
-        let s = ranges[i];
+        let s = ranges.get(i);
         if !begins_before(&s, hole.end, gap) {
             return;
         }
         i = replace(ranges, i, left_of(&s, hole.start, gap));
         if let Some(right) = right_of(&s, hole.end, gap) {
-            match ranges.insert(i, right) {
-                Ok(()) => return,
-                Err(_) => unreachable!(),
-            }
+            ranges.insert(i, right);
+            return;
         }
     }
 }
 
 /// Cuts a hole out of ranges, longer by the gap on both sides.
-pub(crate) fn carve_out(ranges: &mut Vec<Span>, gap: Ticks, hole: &Span)
-    requires room { vec_len ranges.old < vec_capacity ranges.old }
+pub(crate) fn carve_out(ranges: &mut SpanList, gap: Ticks, hole: &Span)
+    requires room { 1 ≤ ranges.old.spare }
     requires gap_from_zero { pos 0 ≤ℤ gap }
     requires hole_not_empty { hole.now.start <ℤ hole.now.end }
-    requires ranges { IsRanges gap ranges.old.items }
-    ensures items { ranges.new.items ≡ ranges_without (hole.now.start -ℤ gap) (hole.now.end +ℤ gap) ranges.old.items }
-    ensures capacity { vec_capacity ranges.new ≡ vec_capacity ranges.old }
+    requires ranges { IsRanges gap ranges.old.spans }
+    ensures spans { ranges.new.spans ≡ ranges_without (hole.now.start -ℤ gap) (hole.now.end +ℤ gap) ranges.old.spans }
+    ensures room { ranges.old.spare + length ranges.old.spans ≡ ranges.new.spare + length ranges.new.spans }
 {
     let from = place_reaching(ranges, gap, hole);
     carve_from(ranges, gap, from, hole);

@@ -3,6 +3,7 @@ ghost use Rattle.mse_base.specs.Spans.{IsNormalized, Joined, Met};
 ghost use Rattle.mse_base.specs.Bridging.{overlap, IsHeadOfOne};
 
 use crate::bridge::join_in;
+use crate::span_list::SpanList;
 use crate::{OutOfMemory, Span, Ticks};
 use std::alloc::Global;
 
@@ -84,13 +85,13 @@ pub(crate) fn union_of(
     alloc: Global,
     left: &[Span],
     right: &[Span],
-) -> Result<Vec<Span>, OutOfMemory>
-    ensures { IfOk result (λ v. Joined (left.now ++ right.now) v.items) }
+) -> Result<SpanList, OutOfMemory>
+    ensures { IfOk result (λ v. Joined (left.now ++ right.now) v.spans) }
 {
-    let mut spans = Vec::new(alloc);
+    let mut spans = SpanList::new(alloc);
     let mut heads = Heads { left, right };
     'heads: while let Some(span) = heads.next() {
-        spans.reserve(1)?;
+        spans.reserve(alloc, 1)?;
         join_in(&mut spans, Ticks::zero(), span);
     }
     Ok(spans)

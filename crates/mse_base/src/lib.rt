@@ -6,6 +6,7 @@
 //! "normalized TimeRanges object").
 #![tactic(auto)]
 
+mod block_row;
 mod bridge;
 mod bytes;
 mod carve;
@@ -18,6 +19,9 @@ mod memory;
 mod moments;
 mod ranges;
 mod span;
+mod span_block;
+mod span_blocks;
+mod span_list;
 #[cfg(test)]
 mod tests;
 mod text;

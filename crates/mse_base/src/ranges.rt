@@ -9,6 +9,7 @@ use crate::bridge::{bridged_of, join_in};
 use crate::carve::carve_out;
 use crate::combine::{meet_of, union_of};
 use crate::lookup::span_holding;
+use crate::span_list::SpanList;
 use crate::{OutOfMemory, Span, Ticks};
 use std::alloc::Global;
 use std::marker::Model;
@@ -18,18 +19,17 @@ use std::marker::Model;
 #[derive(Debug, Drop)]
 pub struct Ranges {
     alloc: Global,
-    spans: Vec<Span>,
+    spans: SpanList,
 }
 
 impl Model for Ranges {
-    ghost use Rattle.std.specs.Prelude.{◌-◌, vec_len, vec_capacity};
     ghost use Rattle.mse_base.specs.Spans.{RangesView, IsNormalized};
 
     ghost Value = { RangesView };
 
-    ghost view = { λ r. record { spans = r.spans.items; spare = vec_capacity r.spans - vec_len r.spans } };
+    ghost view = { λ r. r.spans };
 
-    ghost invariant = { λ r. IsNormalized r.spans.items };
+    ghost invariant = { λ r. IsNormalized r.spans.spans };
 }
 
 impl Ranges {
@@ -39,7 +39,7 @@ impl Ranges {
     {
         Ranges {
             alloc,
-            spans: Vec::new(alloc),
+            spans: SpanList::new(alloc),
         }
     }
 
@@ -49,7 +49,7 @@ impl Ranges {
         ensures spare { OnOk result (n ≤ self.new.spare) }
         ensures room { self.old.spare + length self.old.spans ≤ self.new.spare + length self.new.spans }
     {
-        self.spans.reserve(n)?;
+        self.spans.reserve(self.alloc, n)?;
         Ok(())
     }
 
@@ -117,35 +117,46 @@ impl Ranges {
     pub fn is_empty(&self) -> bool
         ensures { IsTrue result ↔ (self.now.spans ≡ []) }
     {
-        self.spans.is_empty()
+        self.spans.len() == 0
     }
 
     /// The range at a place; `None` exactly where `i` is past the last.
     pub fn get(&self, i: usize) -> Option<Span>
         ensures { result ≡ slice_get self.now.spans i }
     {
-        self.spans.get(i).copied()
+        if i < self.spans.len() {
+            Some(self.spans.get(i))
+        } else {
+            None
+        }
     }
 
     /// The last range; `None` exactly where there is none.
     pub fn last(&self) -> Option<Span>
         ensures { result ≡ last_of self.now.spans }
     {
-        self.spans.last().copied()
+        let len = self.spans.len();
+        if len == 0 {
+            None
+        } else {
+            Some(self.spans.get(len - 1))
+        }
     }
 
     /// For how many more ranges there is room.
     pub fn spare(&self) -> usize
         ensures { result ≡ self.now.spare }
     {
-        self.spans.capacity() - self.spans.len()
+        self.spans.spare()
     }
 
     /// The ranges of the ticks that one of the two has.
     pub fn union(&self, other: &Ranges) -> Result<Ranges, OutOfMemory>
         ensures { IfOk result (λ r. Joined (self.now.spans ++ other.now.spans) r.spans) }
     {
-        let spans = union_of(self.alloc, self.spans.as_slice(), other.spans.as_slice())?;
+        let left = self.spans.to_vec(self.alloc)?;
+        let right = other.spans.to_vec(self.alloc)?;
+        let spans = union_of(self.alloc, left.as_slice(), right.as_slice())?;
         Ok(Ranges {
             alloc: self.alloc,
             spans,
@@ -157,10 +168,12 @@ impl Ranges {
         ensures met { IfOk result (λ r. Met self.now.spans other.now.spans r.spans) }
         ensures spans { IfOk result (λ r. r.spans ≡ meet self.now.spans other.now.spans) }
     {
-        let spans = meet_of(self.alloc, self.spans.as_slice(), other.spans.as_slice())?;
+        let left = self.spans.to_vec(self.alloc)?;
+        let right = other.spans.to_vec(self.alloc)?;
+        let spans = meet_of(self.alloc, left.as_slice(), right.as_slice())?;
         Ok(Ranges {
             alloc: self.alloc,
-            spans,
+            spans: SpanList::from_vec(spans),
         })
     }
 
@@ -173,7 +186,8 @@ impl Ranges {
         ensures unchanged { gap ≤ℤ pos 0 → IfOk result (λ r. r.spans ≡ self.now.spans) }
     {
         let longest_gap = gap.max(Ticks::zero());
-        let spans = bridged_of(self.alloc, self.spans.as_slice(), longest_gap)?;
+        let given = self.spans.to_vec(self.alloc)?;
+        let spans = bridged_of(self.alloc, given.as_slice(), longest_gap)?;
         Ok(Ranges {
             alloc: self.alloc,
             spans,
@@ -191,10 +205,10 @@ impl Ranges {
     pub fn copy(&self) -> Result<Ranges, OutOfMemory>
         ensures { IfOk result (λ r. r.spans ≡ self.now.spans) }
     {
-        let spans = Vec::from_slice(self.alloc, self.spans.as_slice())?;
+        let spans = self.spans.to_vec(self.alloc)?;
         Ok(Ranges {
             alloc: self.alloc,
-            spans,
+            spans: SpanList::from_vec(spans),
         })
     }
 }

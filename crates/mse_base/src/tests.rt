@@ -133,6 +133,75 @@ fn adds_and_carves(rt: HostRuntime) -> Result<(), Fail> {
     Ok(())
 }
 
+/// Spans of 5 ticks at each tenth tick, in no order: more than one block has room for.
+fn many_spans(alloc: Global) -> Result<Vec<(i128, i128)>, OutOfMemory> {
+    let mut spans = Vec::new(alloc);
+    for i in 0..3000_usize {
+        let start = i * 1009 % 3000 * 10;
+        spans.push((start as i128, (start + 5) as i128))?;
+    }
+    Ok(spans)
+}
+
+#[test]
+fn holds_many(rt: HostRuntime) -> Result<(), Fail> {
+    let spans = many_spans(rt.alloc())?;
+    let ranges = ranges_of(&rt, rt.alloc(), spans.as_slice(), Ticks::zero())?;
+    assert_eq!(rt; ranges.len(), 3000);
+    for i in 0..3000_usize {
+        let start = i * 10;
+        let want = Some(span(&rt, start as i128, (start + 5) as i128));
+        assert_eq!(rt; ranges.get(i), want, "range {i}");
+        let end = at(&rt, (start + 5) as i128);
+        assert_eq!(rt; ranges.holding(end), want, "range {i}");
+        let behind = at(&rt, (start + 6) as i128);
+        assert_eq!(rt; ranges.holding(behind), None, "behind range {i}");
+    }
+    expect_spans(&rt, &ranges.bridge(at(&rt, 5))?, &[(0, 29_995)]);
+    Ok(())
+}
+
+/// Spans that fill the first 1,400 gaps but for each second one.
+fn filling_spans(alloc: Global) -> Result<Vec<(i128, i128)>, OutOfMemory> {
+    let mut spans = many_spans(alloc)?;
+    for i in 0..700_usize {
+        let start = i * 20 + 5;
+        spans.push((start as i128, (start + 5) as i128))?;
+    }
+    Ok(spans)
+}
+
+#[test]
+fn fills_many(rt: HostRuntime) -> Result<(), Fail> {
+    let spans = filling_spans(rt.alloc())?;
+    let ranges = ranges_of(&rt, rt.alloc(), spans.as_slice(), Ticks::zero())?;
+    assert_eq!(rt; ranges.len(), 2300);
+    for i in 0..700_usize {
+        let start = i * 20;
+        let want = Some(span(&rt, start as i128, (start + 15) as i128));
+        assert_eq!(rt; ranges.get(i), want, "range {i}");
+    }
+    let copy = ranges.copy()?;
+    assert_eq!(rt; ranges.union(&copy)?.len(), 2300);
+    assert_eq!(rt; ranges.meet(&copy)?.len(), 2300);
+    Ok(())
+}
+
+#[test]
+fn carves_many(rt: HostRuntime) -> Result<(), Fail> {
+    let zero = Ticks::zero();
+    let spans = many_spans(rt.alloc())?;
+    let mut ranges = ranges_of(&rt, rt.alloc(), spans.as_slice(), zero)?;
+    ranges.reserve(1)?;
+    let room = ranges.spare().checked_add(ranges.len());
+    let hole = span(&rt, 3, 29_991);
+    assert!(rt; hole.start < hole.end);
+    ranges.carve(hole, zero);
+    expect_spans(&rt, &ranges, &[(0, 3), (29_991, 29_995)]);
+    assert_eq!(rt; ranges.spare().checked_add(ranges.len()), room);
+    Ok(())
+}
+
 #[test]
 fn combines(rt: HostRuntime) -> Result<(), Fail> {
     let zero = Ticks::zero();

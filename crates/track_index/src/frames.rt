@@ -8,7 +8,7 @@ ghost use Rattle.block_list.specs.Spots.{rank, IsPlace};
 ghost use Rattle.track_index.specs.Frames.{SyncAt};
 
 use crate::known::either;
-use block_list::{BlockList, Change, Fact, Spot, Test, search};
+use block_list::{Change, Fact, RankedList, Spot, Test};
 use mse_base::Ticks;
 use track_store::Stored;
 
@@ -19,7 +19,7 @@ pub(crate) struct SyncKnown {
 }
 
 /// Frames in blocks.
-pub(crate) type Frames = BlockList<Stored, SyncKnown>;
+pub(crate) type Frames = RankedList<Stored, SyncKnown>;
 
 impl Fact<Stored> for SyncKnown {
     ghost use Rattle.track_index.specs.Frames.{sync_known};
@@ -86,7 +86,7 @@ pub(crate) fn place_below(frames: &Frames, serial: u64) -> Spot
     if frames.blocks() == 0 {
         return Spot { block: 0, index: 0 };
     }
-    let spot = search(frames, &SerialBelow { serial });
+    let spot = frames.search(&SerialBelow { serial });
     frames.at_item(spot)
 }
 

@@ -13,7 +13,7 @@ use crate::key::Key;
 use crate::mark::Mark;
 use crate::order::Order;
 use crate::repair::{mend, mend_run};
-use block_list::{BlockList, Spot};
+use block_list::{RankedList, Spot};
 use mse_base::{Moment, OutOfMemory, Ranges, Span, Ticks};
 use std::alloc::Global;
 use std::marker::Model;
@@ -101,7 +101,7 @@ impl IndexStore {
         ensures gap { result.gap ≡ tolerance }
     {
         IndexStore {
-            items: BlockList::new(alloc, half),
+            items: RankedList::new(alloc, half),
             order: Order::new(alloc, half),
             ranges: Ranges::new(alloc),
             total: 0,

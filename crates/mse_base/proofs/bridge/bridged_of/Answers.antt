@@ -6,5 +6,5 @@ use Rattle.mse_base.proofs.bridge.bridged_of.Goals as goal
 
 pub join_in-requires-clause-ranges : goal.join_in-requires-clause-ranges
 join_in-requires-clause-ranges c =
-    subst (λ (rs : List Span). IsRanges c.args.gap rs) (sym (c.in_ok-reserve.ensures.items ∙ c.loop-span.invariant))
+    subst (λ (rs : List Span). IsRanges c.args.gap rs) (sym (c.reserve.ensures.spans ∙ c.loop-span.invariant))
     (ranges_bridged c.args.gap (take c.loop-span.span-index c.args.spans.now) c.requires)

@@ -1,8 +1,10 @@
 use Rattle.std.proofs.Common.{◌∙◌, ℕ, ◌<◌, ◌+◌, List, [], ◌∷◌, length, set, get_or, ap, sym, arith, vec_capacity}
 use Rattle.std.proofs.lemmas.List.{length-set}
 use Rattle.block_list.specs.Rows.{joined, start, row}
+use Rattle.block_list.specs.Starts.{starts_of}
 use Rattle.block_list.proofs.Joining.{joined_set_set, get_at}
 use Rattle.block_list.proofs.Keeping.{listed_set}
+use Rattle.block_list.proofs.Starting.{starts_set}
 use Rattle.block_list.proofs.block_list.BlockList.change.Goals as goal
 
 some_item : {T : Type 0} (xs : List T) (i : ℕ) → i < length xs → T
@@ -34,3 +36,14 @@ returns-clause-items g c = λ d.
     ap joined (c.change_in.ensures.rows d) ∙ joined_set_set rows b i (g.C.Change.after c.args.change.now (get_or (row rows b) i d)) l k
     ∙ ap (λ y. set (joined rows) (start rows b + i) (g.C.Change.after c.args.change.now y)) (sym (get_at rows b i d l k))
     ∙ ap (λ w. set (joined w.rows) (start w.rows b + i) (g.C.Change.after c.args.change.now (get_or (joined w.rows) (start w.rows b + i) d))) v
+
+pub returns-clause-starts : goal.returns-clause-starts
+returns-clause-starts g c =
+    let v = c.self.view_is in
+    let rows = c.self.inside.blocks.items in
+    let b = c.args.spot.block in
+    let i = c.args.spot.index in
+    let k : i < length (row rows b) = omega (arith, ap (λ w. length (row w.rows b)) v, c.requires.index) in
+    let d = some_item (row rows b) i k in
+    let x = g.C.Change.after c.args.change.now (get_or (row rows b) i d) in
+    ap starts_of (c.change_in.ensures.rows d) ∙ starts_set 0 rows b (set (row rows b) i x) (length-set (row rows b) i x) ∙ ap (λ w. starts_of w.rows) v

@@ -1,8 +1,6 @@
-use Rattle.std.proofs.Common.{◌∙◌, ap, refl, List}
-use Rattle.mse_base.specs.declared.span.Span.{Span}
-use Rattle.mse_base.specs.Spans.{last_of}
-use Rattle.mse_base.proofs.Looking.{last_is}
+use Rattle.std.proofs.Common.{arith}
+use Rattle.mse_base.proofs.Looking.{last_some}
 use Rattle.mse_base.proofs.ranges.Ranges.last.Goals as goal
 
-pub returns : goal.returns
-returns c = c.copied.ensures ∙ c.last.ensures.value ∙ last_is c.deref.result.now ∙ ap (λ (rs : List Span). last_of rs) c.deref.ensures.value ∙ (rw (← c.self.view_is) refl)
+pub returns-else-len-eq0 : goal.returns-else-len-eq0
+returns-else-len-eq0 c = rw (← c.self.view_is) (last_some c.self.inside.spans.spans _ c.get.result (omega (arith, c.len-len.ensures, c.if-len-eq0.false)) c.get.ensures)

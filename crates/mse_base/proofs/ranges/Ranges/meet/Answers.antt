@@ -1,12 +1,17 @@
-use Rattle.std.proofs.Common.{List, subst}
-use Rattle.mse_base.specs.declared.span.Span.{Span}
+use Rattle.std.proofs.Common.{◌∙◌}
 use Rattle.mse_base.specs.Spans.{Met}
-use Rattle.mse_base.proofs.Meeting.{meet_is}
+use Rattle.mse_base.proofs.Meeting.{meet_is, met_again}
 use Rattle.mse_base.proofs.ranges.Ranges.meet.Goals as goal
+
+pub invariant_of-result : goal.invariant_of-result
+invariant_of-result c =
+    let met = met_again c.self.inside.spans.spans c.other.inside.spans.spans c.as_slice.result.now c.as_slice-2.result.now c.in_ok-spans.spans.items c.from_vec.result.spans (c.as_slice.ensures.value ∙ c.in_ok-left.ensures) (c.as_slice-2.ensures.value ∙ c.in_ok-right.ensures) c.from_vec.ensures c.in_ok-spans.ensures in
+    met.normalized
+
+pub returns-clause-met : goal.returns-clause-met
+returns-clause-met c = rw (← c.self.view_is, ← c.other.view_is) (met_again c.self.inside.spans.spans c.other.inside.spans.spans c.as_slice.result.now c.as_slice-2.result.now c.in_ok-spans.spans.items c.from_vec.result.spans (c.as_slice.ensures.value ∙ c.in_ok-left.ensures) (c.as_slice-2.ensures.value ∙ c.in_ok-right.ensures) c.from_vec.ensures c.in_ok-spans.ensures)
 
 pub returns-clause-spans : goal.returns-clause-spans
 returns-clause-spans c =
-    let m : Met c.as_slice.result.now c.as_slice-2.result.now c.in_ok-spans.spans.items = c.in_ok-spans.ensures in
-    let l : Met c.self.inside.spans.items c.as_slice-2.result.now c.in_ok-spans.spans.items = subst (λ (xs : List Span). Met xs c.as_slice-2.result.now c.in_ok-spans.spans.items) c.as_slice.ensures.value m in
-    let met : Met c.self.inside.spans.items c.other.inside.spans.items c.in_ok-spans.spans.items = subst (λ (ys : List Span). Met c.self.inside.spans.items ys c.in_ok-spans.spans.items) c.as_slice-2.ensures.value l in
+    let met = met_again c.self.inside.spans.spans c.other.inside.spans.spans c.as_slice.result.now c.as_slice-2.result.now c.in_ok-spans.spans.items c.from_vec.result.spans (c.as_slice.ensures.value ∙ c.in_ok-left.ensures) (c.as_slice-2.ensures.value ∙ c.in_ok-right.ensures) c.from_vec.ensures c.in_ok-spans.ensures in
     rw (← c.self.view_is, ← c.other.view_is) (meet_is _ _ _ c.self.invariant c.other.invariant met)

@@ -1,0 +1,15 @@
+use Rattle.std.proofs.Common.{◌≡◌, ◌≤◌, ◌-◌, length, take, drop, vec_capacity}
+use Rattle.block_list.specs.Starts.{starts_of, raised}
+use Rattle.block_list.proofs.ranked.lower.Given as goal
+
+abbrev pub invariant-loop-b : goal.invariant-loop-b
+invariant-loop-b g l = record {
+  long : length l.starts.items ≡ length l.list.rows;
+  within : l.b ≤ l.to;
+  front : take l.b l.starts.items ≡ take l.b (starts_of l.list.rows);
+  rest : drop l.b l.starts.items ≡ raised l.excess (drop l.b (starts_of l.list.rows));
+  room : vec_capacity l.starts ≡ vec_capacity l.fn.starts;
+}
+
+abbrev pub decreases-loop-b : goal.decreases-loop-b
+decreases-loop-b g l = l.to - l.b

@@ -1,0 +1,9 @@
+use Rattle.std.proofs.Common.{◌∙◌, set, ap}
+use Rattle.mse_base.proofs.InRows.{row_is}
+use Rattle.mse_base.proofs.block_row.set_in.Goals as goal
+
+pub set-requires : goal.set-requires
+set-requires c = rw (row_is c.args.blocks.now.items c.args.b c.index_mut.result.now c.requires.block c.index_mut.ensures.value) c.requires.within
+
+pub returns-clause-rows : goal.returns-clause-rows
+returns-clause-rows c = ap (set c.args.blocks.now.items c.args.b) (c.set.ensures ∙ ap (λ r. set r c.args.i c.args.x) (row_is c.args.blocks.now.items c.args.b c.index_mut.result.now c.requires.block c.index_mut.ensures.value))

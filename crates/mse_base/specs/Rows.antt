@@ -1,0 +1,57 @@
+-- Spans in rows.
+use Rattle.std.specs.Prelude.{◌≡◌, ℕ, zero, suc, ◌+◌, ◌*◌, ◌^◌, ◌<◌, ◌≤◌, List, [], ◌∷◌, ◌++◌, length, take, drop}
+use Rattle.std.specs.List.{AllByRecursion}
+use Rattle.mse_base.specs.declared.span.Span.{Span}
+
+-- the spans in order
+abbrev pub joined : List (List Span) → List Span
+joined [] = []
+joined (r ∷ rows) = r ++ joined rows
+
+-- how many spans stand before row b
+abbrev pub start : List (List Span) → ℕ → ℕ
+start rows zero = 0
+start [] (suc b) = 0
+start (r ∷ rows) (suc b) = length r + start rows b
+
+-- row b; where there is none, the empty one
+abbrev pub row : List (List Span) → ℕ → List Span
+row [] b = []
+row (r ∷ rows) zero = r
+row (r ∷ rows) (suc b) = row rows b
+
+-- row b cut in two at s
+abbrev pub split_row : List (List Span) → ℕ → ℕ → List (List Span)
+split_row [] b s = []
+split_row (r ∷ rows) zero s = take s r ∷ drop s r ∷ rows
+split_row (r ∷ rows) (suc b) s = r ∷ split_row rows b s
+
+-- row b and the one behind it as one
+abbrev pub merge_rows : List (List Span) → ℕ → List (List Span)
+merge_rows [] b = []
+merge_rows (r ∷ []) b = r ∷ []
+merge_rows (r ∷ s ∷ rows) zero = (r ++ s) ∷ rows
+merge_rows (r ∷ s ∷ rows) (suc b) = r ∷ merge_rows (s ∷ rows) b
+
+abbrev pub AreFilled : List (List Span) → Type 0
+AreFilled rows = AllByRecursion (λ r. 0 < length r) rows
+
+abbrev pub AreEmpty : List (List Span) → Type 0
+AreEmpty rows = AllByRecursion (λ r. r ≡ []) rows
+
+-- no two neighbours have few enough spans to be one row of at most 1,024
+abbrev pub AreDense : List (List Span) → Type 0
+AreDense [] = Unit {0}
+AreDense (r ∷ []) = Unit {0}
+AreDense (r ∷ s ∷ rows) = (1024 < length r + length s) × AreDense (s ∷ rows)
+
+-- what spans in blocks keep: how many there are, and for how many more there is room, and a pool of empty blocks
+-- that is large enough for all of these, however they stand, once no two neighbours can be one block
+pub record IsSpread (rows pool : List (List Span)) (len spare block_cap pool_cap : ℕ) : Type 0 where
+  pub filled : AreFilled rows
+  pub empty : AreEmpty pool
+  pub block_room : length pool + length rows ≤ block_cap
+  pub pool_room : length pool + length rows ≤ pool_cap
+  pub count : len ≡ length (joined rows)
+  pub fits : len + spare < 2 ^ 64
+  pub enough : 0 < len + spare → 2 * (len + spare) + 1025 ≤ 1025 * (length rows + length pool)

@@ -1,0 +1,307 @@
+//! Blocks side by side: places in them, and changes of one or two of them.
+
+ghost use Rattle.std.specs.Prelude.{◌≡◌, ◌+◌, ◌^◌, ◌<◌, ◌≤◌, [], length, OnOk, IfSome, IfNone, slice_index_or, slice_set, vec_capacity};
+ghost use Rattle.std.specs.List.{insert, remove};
+ghost use Rattle.mse_base.specs.Rows.{joined, start, row, split_row, merge_rows, AreFilled, AreEmpty, AreDense};
+
+use crate::span_block::{Block, LONG};
+use crate::{OutOfMemory, Span};
+use std::alloc::Global;
+
+/// A place: a block, and how many of its spans come before.
+#[derive(Clone, Copy)]
+pub(crate) struct Place {
+    pub block: usize,
+    pub index: usize,
+}
+
+pub(crate) fn len_at(blocks: &Vec<Block>, b: usize) -> usize
+    requires { b < length blocks.now.items }
+    ensures value { result ≡ length (row blocks.now.items b) }
+    ensures bound { result ≤ 1024 }
+{
+    let block = &blocks[b];
+    block.len()
+}
+
+/// The span at a place.
+pub(crate) fn span_at(blocks: &Vec<Block>, place: Place) -> Span
+    requires block { place.block < length blocks.now.items }
+    requires index { place.index < length (row blocks.now.items place.block) }
+    ensures { result
+        ≡ slice_index_or (joined blocks.now.items)
+        (start blocks.now.items place.block + place.index) result }
+{
+    let block = &blocks[place.block];
+    block.get(place.index)
+}
+
+/// How many spans come before a block.
+pub(crate) fn start_of(blocks: &Vec<Block>, b: usize) -> usize
+    requires within { b ≤ length blocks.now.items }
+    requires small { length (joined blocks.now.items) < 2 ^ 64 }
+    ensures { result ≡ start blocks.now.items b }
+{
+    let mut count = 0;
+    let mut i = 0;
+    while i < b {
+        count += len_at(blocks, i);
+        i += 1;
+    }
+    count
+}
+
+/// The place of a span.
+pub(crate) fn place_of(blocks: &Vec<Block>, i: usize) -> Place
+    requires { i < length (joined blocks.now.items) }
+    ensures block { result.block < length blocks.now.items }
+    ensures index { result.index < length (row blocks.now.items result.block) }
+    ensures rank { start blocks.now.items result.block + result.index ≡ i }
+{
+    let mut index = i;
+    let mut block = 0;
+    'walk: loop {
+        let len = len_at(blocks, block);
+        if index < len {
+            return Place { block, index };
+        }
+        index -= len;
+        block += 1;
+    }
+}
+
+/// The place at which a span is put: that behind a block's last rather than before the next one's
+/// first.
+pub(crate) fn place_to_put(blocks: &Vec<Block>, i: usize) -> Place
+    requires within { i ≤ length (joined blocks.now.items) }
+    requires some { 0 < length blocks.now.items }
+    ensures block { result.block < length blocks.now.items }
+    ensures index { result.index ≤ length (row blocks.now.items result.block) }
+    ensures rank { start blocks.now.items result.block + result.index ≡ i }
+{
+    let mut index = i;
+    let mut block = 0;
+    'walk: loop {
+        let len = len_at(blocks, block);
+        if index <= len {
+            return Place { block, index };
+        }
+        index -= len;
+        block += 1;
+    }
+}
+
+/// Puts a span into a block that has room.
+fn put_in(blocks: &mut Vec<Block>, b: usize, i: usize, x: Span)
+    requires block { b < length blocks.old.items }
+    requires within { i ≤ length (row blocks.old.items b) }
+    requires room { length (row blocks.old.items b) < 1024 }
+    ensures rows { blocks.new.items
+        ≡ slice_set blocks.old.items b (insert (row blocks.old.items b) i x) }
+    ensures capacity { vec_capacity blocks.new ≡ vec_capacity blocks.old }
+{
+    blocks[b].insert(i, x);
+}
+
+/// Puts another span in place of one.
+pub(crate) fn set_in(blocks: &mut Vec<Block>, b: usize, i: usize, x: Span)
+    requires block { b < length blocks.old.items }
+    requires within { i < length (row blocks.old.items b) }
+    ensures rows { blocks.new.items
+        ≡ slice_set blocks.old.items b (slice_set (row blocks.old.items b) i x) }
+    ensures capacity { vec_capacity blocks.new ≡ vec_capacity blocks.old }
+{
+    blocks[b].set(i, x);
+}
+
+/// Takes a span out of a block.
+pub(crate) fn take_from(blocks: &mut Vec<Block>, b: usize, i: usize)
+    requires block { b < length blocks.old.items }
+    requires within { i < length (row blocks.old.items b) }
+    ensures rows { blocks.new.items
+        ≡ slice_set blocks.old.items b (remove (row blocks.old.items b) i) }
+    ensures capacity { vec_capacity blocks.new ≡ vec_capacity blocks.old }
+{
+    blocks[b].remove(i);
+}
+
+/// Cuts block `b` in two at `s`, by an empty block.
+fn split_at(blocks: &mut Vec<Block>, b: usize, s: usize, right: Block)
+    requires block { b < length blocks.old.items }
+    requires within { s ≤ length (row blocks.old.items b) }
+    requires empty { right ≡ [] }
+    requires room { length blocks.old.items < vec_capacity blocks.old }
+    ensures rows { blocks.new.items ≡ split_row blocks.old.items b s }
+    ensures capacity { vec_capacity blocks.new ≡ vec_capacity blocks.old }
+{
+    let mut right = right;
+    blocks[b].split_into(s, &mut right);
+    match blocks.insert(b + 1, right) {
+        Ok(()) => {}
+        Err(_) => unreachable!(),
+    }
+}
+
+/// Where a full block is cut: the last one behind what stands before the place, so that spans
+/// which come in order leave full blocks behind.
+fn cut_place(last: bool, i: usize) -> usize
+    requires { i ≤ 1024 }
+    ensures low { 512 ≤ result }
+    ensures high { result ≤ 1024 }
+    ensures left { i < result → result ≡ 512 }
+{
+    if last && i > LONG / 2 { i } else { LONG / 2 }
+}
+
+/// Puts a span into a full block, which is cut in two.
+fn put_apart(blocks: &mut Vec<Block>, b: usize, i: usize, x: Span, right: Block)
+    requires block { b < length blocks.old.items }
+    requires within { i ≤ length (row blocks.old.items b) }
+    requires full { length (row blocks.old.items b) ≡ 1024 }
+    requires empty { right ≡ [] }
+    requires room { length blocks.old.items < vec_capacity blocks.old }
+    requires filled { AreFilled blocks.old.items }
+    ensures spans { joined blocks.new.items
+        ≡ insert (joined blocks.old.items) (start blocks.old.items b + i) x }
+    ensures filled { AreFilled blocks.new.items }
+    ensures len { length blocks.new.items ≡ length blocks.old.items + 1 }
+    ensures capacity { vec_capacity blocks.new ≡ vec_capacity blocks.old }
+{
+    let s = cut_place(b + 1 == blocks.len(), i);
+    split_at(blocks, b, s, right);
+    if i < s {
+        put_in(blocks, b, i, x);
+    } else {
+        put_in(blocks, b + 1, i - s, x);
+    }
+}
+
+/// Puts a span at a place, by an empty block; that block, where it was not needed.
+pub(crate) fn put(blocks: &mut Vec<Block>, i: usize, x: Span, fresh: Block) -> Option<Block>
+    requires within { i ≤ length (joined blocks.old.items) }
+    requires empty { fresh ≡ [] }
+    requires room { length blocks.old.items < vec_capacity blocks.old }
+    requires filled { AreFilled blocks.old.items }
+    ensures spans { joined blocks.new.items ≡ insert (joined blocks.old.items) i x }
+    ensures filled { AreFilled blocks.new.items }
+    ensures one { IfSome result
+        (λ q. (q ≡ []) × (length blocks.new.items ≡ length blocks.old.items)) }
+    ensures two { IfNone result (length blocks.new.items ≡ length blocks.old.items + 1) }
+    ensures capacity { vec_capacity blocks.new ≡ vec_capacity blocks.old }
+{
+    if blocks.is_empty() {
+        let mut block = fresh;
+        block.push(x);
+        blocks.push_reserved(block);
+        return None;
+    }
+    let place = place_to_put(blocks, i);
+    if len_at(blocks, place.block) < LONG {
+        put_in(blocks, place.block, place.index, x);
+        return Some(fresh);
+    }
+    put_apart(blocks, place.block, place.index, x, fresh);
+    None
+}
+
+/// Makes one of block `b` and the one behind it; an empty block.
+fn join_at(blocks: &mut Vec<Block>, b: usize) -> Block
+    requires within { b + 1 < length blocks.old.items }
+    requires few { length (row blocks.old.items b) + length (row blocks.old.items (b + 1)) ≤ 1024 }
+    ensures rows { blocks.new.items ≡ merge_rows blocks.old.items b }
+    ensures empty { result ≡ [] }
+    ensures capacity { vec_capacity blocks.new ≡ vec_capacity blocks.old }
+{
+    let mut right = blocks.remove(b + 1);
+    blocks[b].append(&mut right);
+    right
+}
+
+/// Makes one of neighbours that are few enough, until none are.
+pub(crate) fn gather(blocks: &mut Vec<Block>, pool: &mut Vec<Block>)
+    requires room { length pool.old.items + length blocks.old.items ≤ vec_capacity pool.old }
+    requires filled { AreFilled blocks.old.items }
+    requires empty { AreEmpty pool.old.items }
+    ensures spans { joined blocks.new.items ≡ joined blocks.old.items }
+    ensures filled { AreFilled blocks.new.items }
+    ensures empty { AreEmpty pool.new.items }
+    ensures dense { AreDense blocks.new.items }
+    ensures len { length pool.new.items + length blocks.new.items
+        ≡ length pool.old.items + length blocks.old.items }
+    ensures capacity { vec_capacity blocks.new ≡ vec_capacity blocks.old }
+    ensures pool_capacity { vec_capacity pool.new ≡ vec_capacity pool.old }
+{
+    let mut b = blocks.len();
+    'gathering: while b > 1 {
+        b -= 1;
+        let front = b - 1;
+        if len_at(blocks, front) + len_at(blocks, front + 1) <= LONG {
+            let block = join_at(blocks, front);
+            pool.push_reserved(block);
+        }
+    }
+}
+
+/// Moves all blocks to the pool.
+pub(crate) fn drop_all(blocks: &mut Vec<Block>, pool: &mut Vec<Block>)
+    requires room { length pool.old.items + length blocks.old.items ≤ vec_capacity pool.old }
+    requires empty { AreEmpty pool.old.items }
+    ensures rows { blocks.new.items ≡ [] }
+    ensures empty { AreEmpty pool.new.items }
+    ensures len { length pool.new.items ≡ length pool.old.items + length blocks.old.items }
+    ensures capacity { vec_capacity blocks.new ≡ vec_capacity blocks.old }
+    ensures pool_capacity { vec_capacity pool.new ≡ vec_capacity pool.old }
+{
+    'dropping: while !blocks.is_empty() {
+        let mut block = blocks.take_last();
+        block.clear();
+        pool.push_reserved(block);
+    }
+}
+
+/// Adds an empty block to the pool.
+fn add_empty(
+    blocks: &mut Vec<Block>,
+    pool: &mut Vec<Block>,
+    alloc: Global,
+) -> Result<(), OutOfMemory>
+    ensures rows { blocks.new.items ≡ blocks.old.items }
+    ensures empty { AreEmpty pool.old.items → AreEmpty pool.new.items }
+    ensures ok { OnOk result (length pool.new.items ≡ length pool.old.items + 1) }
+    ensures more { length pool.old.items ≤ length pool.new.items }
+    ensures block_room { length pool.old.items + length blocks.old.items ≤ vec_capacity blocks.old
+        → length pool.new.items + length blocks.new.items ≤ vec_capacity blocks.new }
+    ensures pool_room { length pool.old.items + length blocks.old.items ≤ vec_capacity pool.old
+        → length pool.new.items + length blocks.new.items ≤ vec_capacity pool.new }
+{
+    blocks.reserve(pool.len() + 1)?;
+    pool.reserve(blocks.len() + 1)?;
+    let block = Block::new(alloc)?;
+    pool.push_reserved(block);
+    Ok(())
+}
+
+/// Fills the pool, until there are so many blocks with those in use.
+pub(crate) fn fill(
+    blocks: &mut Vec<Block>,
+    pool: &mut Vec<Block>,
+    alloc: Global,
+    needed: usize,
+) -> Result<(), OutOfMemory>
+    requires empty { AreEmpty pool.old.items }
+    requires block_room { length pool.old.items + length blocks.old.items
+        ≤ vec_capacity blocks.old }
+    requires pool_room { length pool.old.items + length blocks.old.items ≤ vec_capacity pool.old }
+    ensures rows { blocks.new.items ≡ blocks.old.items }
+    ensures empty { AreEmpty pool.new.items }
+    ensures ok { OnOk result (needed ≤ length pool.new.items + length blocks.new.items) }
+    ensures more { length pool.old.items ≤ length pool.new.items }
+    ensures block_room { length pool.new.items + length blocks.new.items ≤ vec_capacity blocks.new }
+    ensures pool_room { length pool.new.items + length blocks.new.items ≤ vec_capacity pool.new }
+{
+    let used = blocks.len();
+    'fill: while used < needed && pool.len() < needed - used {
+        add_empty(blocks, pool, alloc)?;
+    }
+    Ok(())
+}

@@ -1,0 +1,307 @@
+//! Many spans: a list in blocks.
+
+ghost use Rattle.std.specs.Prelude.{◌≡◌, ◌+◌, ◌-◌, ◌*◌, ◌^◌, ◌<◌, ◌≤◌, ◌<ℤ◌, ◌≤ℤ◌, ◌-ℤ◌, [], length, take, drop, IfOk, OnOk, slice_index_or, slice_set, vec_capacity};
+ghost use Rattle.std.specs.List.{AllByRecursion, insert, remove};
+ghost use Rattle.mse_base.specs.Spans.{IsNormalized};
+ghost use Rattle.mse_base.specs.Rows.{joined, start, row, AreFilled, AreEmpty};
+
+use crate::block_row::{
+    Place, drop_all, fill, gather, len_at, place_of, put, set_in, span_at, start_of, take_from,
+};
+use crate::lookup::ends_before;
+use crate::span_block::Block;
+use crate::{OutOfMemory, Span, Ticks};
+use std::alloc::Global;
+use std::marker::Model;
+
+/// Half as many spans as a block has room for.
+const HALF: usize = 512;
+
+/// Spans in blocks of at most 1,024, none of which is empty, with a pool of empty blocks. A span
+/// that is put in or taken out moves those of its block alone.
+#[derive(Debug, Drop)]
+pub(crate) struct SpanBlocks {
+    alloc: Global,
+    blocks: Vec<Block>,
+    pool: Vec<Block>,
+    len: usize,
+    spare: usize,
+}
+
+impl Model for SpanBlocks {
+    ghost use Rattle.std.specs.Prelude.{vec_capacity};
+    ghost use Rattle.mse_base.specs.Spans.{RangesView};
+    ghost use Rattle.mse_base.specs.Rows.{joined, IsSpread};
+
+    ghost Value = { RangesView };
+
+    ghost view = { λ s. record { spans = joined s.blocks.items; spare = s.spare } };
+
+    ghost invariant = { λ s. IsSpread s.blocks.items s.pool.items s.len s.spare
+        (vec_capacity s.blocks) (vec_capacity s.pool) };
+}
+
+/// Sees to it that the pool has a block: where it has none, neighbours are joined.
+fn refill(blocks: &mut Vec<Block>, pool: &mut Vec<Block>)
+    requires room { length pool.old.items + length blocks.old.items ≤ vec_capacity pool.old }
+    requires filled { AreFilled blocks.old.items }
+    requires empty { AreEmpty pool.old.items }
+    requires enough { 2 * length (joined blocks.old.items) + 1026
+        ≤ 1025 * (length blocks.old.items + length pool.old.items) }
+    ensures some { 0 < length pool.new.items }
+    ensures spans { joined blocks.new.items ≡ joined blocks.old.items }
+    ensures filled { AreFilled blocks.new.items }
+    ensures empty { AreEmpty pool.new.items }
+    ensures len { length pool.new.items + length blocks.new.items
+        ≡ length pool.old.items + length blocks.old.items }
+    ensures capacity { vec_capacity blocks.new ≡ vec_capacity blocks.old }
+    ensures pool_capacity { vec_capacity pool.new ≡ vec_capacity pool.old }
+{
+    if pool.is_empty() {
+        gather(blocks, pool);
+    }
+}
+
+/// Takes an empty block from the pool.
+fn take_fresh(blocks: &mut Vec<Block>, pool: &mut Vec<Block>) -> Block
+    requires room { length pool.old.items + length blocks.old.items ≤ vec_capacity pool.old }
+    requires filled { AreFilled blocks.old.items }
+    requires empty { AreEmpty pool.old.items }
+    requires enough { 2 * length (joined blocks.old.items) + 1026
+        ≤ 1025 * (length blocks.old.items + length pool.old.items) }
+    ensures fresh { result ≡ [] }
+    ensures spans { joined blocks.new.items ≡ joined blocks.old.items }
+    ensures filled { AreFilled blocks.new.items }
+    ensures empty { AreEmpty pool.new.items }
+    ensures len { length pool.new.items + length blocks.new.items + 1
+        ≡ length pool.old.items + length blocks.old.items }
+    ensures capacity { vec_capacity blocks.new ≡ vec_capacity blocks.old }
+    ensures pool_capacity { vec_capacity pool.new ≡ vec_capacity pool.old }
+{
+    refill(blocks, pool);
+    pool.take_last()
+}
+
+/// Puts in a span, by a block of the pool where none has room.
+fn put_in_place(blocks: &mut Vec<Block>, pool: &mut Vec<Block>, i: usize, x: Span)
+    requires within { i ≤ length (joined blocks.old.items) }
+    requires room { length pool.old.items + length blocks.old.items ≤ vec_capacity pool.old }
+    requires block_room { length pool.old.items + length blocks.old.items
+        ≤ vec_capacity blocks.old }
+    requires filled { AreFilled blocks.old.items }
+    requires empty { AreEmpty pool.old.items }
+    requires enough { 2 * length (joined blocks.old.items) + 1026
+        ≤ 1025 * (length blocks.old.items + length pool.old.items) }
+    ensures spans { joined blocks.new.items ≡ insert (joined blocks.old.items) i x }
+    ensures filled { AreFilled blocks.new.items }
+    ensures empty { AreEmpty pool.new.items }
+    ensures len { length pool.new.items + length blocks.new.items
+        ≡ length pool.old.items + length blocks.old.items }
+    ensures capacity { vec_capacity blocks.new ≡ vec_capacity blocks.old }
+    ensures pool_capacity { vec_capacity pool.new ≡ vec_capacity pool.old }
+{
+    let fresh = take_fresh(blocks, pool);
+    match put(blocks, i, x, fresh) {
+        Some(block) => pool.push_reserved(block),
+        None => {}
+    }
+}
+
+/// The first span of a block.
+fn first_of(blocks: &Vec<Block>, b: usize) -> Span
+    requires block { b < length blocks.now.items }
+    requires filled { AreFilled blocks.now.items }
+    ensures value { result
+        ≡ slice_index_or (joined blocks.now.items) (start blocks.now.items b) result }
+    ensures within { start blocks.now.items b < length (joined blocks.now.items) }
+{
+    span_at(blocks, Place { block: b, index: 0 })
+}
+
+/// Up to which block the first spans end more than the gap before a time.
+fn blocks_ending(blocks: &Vec<Block>, t: Ticks, gap: Ticks) -> usize
+    requires filled { AreFilled blocks.now.items }
+    requires normalized { IsNormalized (joined blocks.now.items) }
+    ensures within { result ≤ length blocks.now.items }
+    ensures before { 0 < result → AllByRecursion (λ r. r.end <ℤ (t -ℤ gap))
+        (take (start blocks.now.items (result - 1) + 1) (joined blocks.now.items)) }
+    ensures after { AllByRecursion (λ r. (t -ℤ gap) ≤ℤ r.end)
+        (drop (start blocks.now.items result) (joined blocks.now.items)) }
+{
+    let mut low = 0;
+    let mut high = blocks.len();
+    while low < high {
+        let middle = low + (high - low) / 2;
+        if ends_before(&first_of(blocks, middle), t, gap) {
+            low = middle + 1;
+        } else {
+            high = middle;
+        }
+    }
+    low
+}
+
+/// How many spans of a block end more than the gap before a time, where the first does.
+fn spans_ending(blocks: &Vec<Block>, b: usize, t: Ticks, gap: Ticks) -> usize
+    requires block { b < length blocks.now.items }
+    requires filled { AreFilled blocks.now.items }
+    requires normalized { IsNormalized (joined blocks.now.items) }
+    requires before { AllByRecursion (λ r. r.end <ℤ (t -ℤ gap))
+        (take (start blocks.now.items b + 1) (joined blocks.now.items)) }
+    requires after { AllByRecursion (λ r. (t -ℤ gap) ≤ℤ r.end)
+        (drop (start blocks.now.items (b + 1)) (joined blocks.now.items)) }
+    ensures within { result ≤ length (row blocks.now.items b) }
+    ensures before { AllByRecursion (λ r. r.end <ℤ (t -ℤ gap))
+        (take (start blocks.now.items b + result) (joined blocks.now.items)) }
+    ensures after { AllByRecursion (λ r. (t -ℤ gap) ≤ℤ r.end)
+        (drop (start blocks.now.items b + result) (joined blocks.now.items)) }
+{
+    let mut low = 1;
+    let mut high = len_at(blocks, b);
+    while low < high {
+        let middle = low + (high - low) / 2;
+        let place = Place {
+            block: b,
+            index: middle,
+        };
+        if ends_before(&span_at(blocks, place), t, gap) {
+            low = middle + 1;
+        } else {
+            high = middle;
+        }
+    }
+    low
+}
+
+impl SpanBlocks {
+    /// No spans, and no room.
+    pub fn new(alloc: Global) -> SpanBlocks
+        ensures spans { result.spans ≡ [] }
+        ensures spare { result.spare ≡ 0 }
+    {
+        SpanBlocks {
+            alloc,
+            blocks: Vec::new(alloc),
+            pool: Vec::new(alloc),
+            len: 0,
+            spare: 0,
+        }
+    }
+
+    pub fn len(&self) -> usize
+        ensures { result ≡ length self.now.spans }
+    {
+        self.len
+    }
+
+    pub fn spare(&self) -> usize
+        ensures { result ≡ self.now.spare }
+    {
+        self.spare
+    }
+
+    /// Makes room for at least `n` more spans.
+    pub fn reserve(&mut self, n: usize) -> Result<(), OutOfMemory>
+        ensures spans { self.new.spans ≡ self.old.spans }
+        ensures spare { OnOk result (n ≤ self.new.spare) }
+        ensures kept { self.old.spare ≤ self.new.spare }
+    {
+        if n <= self.spare {
+            return Ok(());
+        }
+        if n > usize::MAX / 8 || self.len > usize::MAX / 8 {
+            return Err(OutOfMemory);
+        }
+        let needed = (self.len + n) / HALF + 2;
+        fill(&mut self.blocks, &mut self.pool, self.alloc, needed)?;
+        self.spare = n;
+        Ok(())
+    }
+
+    /// Removes all spans, and keeps their room.
+    pub fn clear(&mut self)
+        ensures spans { self.new.spans ≡ [] }
+        ensures room { self.new.spare ≡ self.old.spare + length self.old.spans }
+    {
+        drop_all(&mut self.blocks, &mut self.pool);
+        self.spare += self.len;
+        self.len = 0;
+    }
+
+    /// The span at a place.
+    pub fn get(&self, i: usize) -> Span
+        requires { i < length self.now.spans }
+        ensures { result ≡ slice_index_or self.now.spans i result }
+    {
+        let place = place_of(&self.blocks, i);
+        span_at(&self.blocks, place)
+    }
+
+    /// Puts another span in place of one.
+    pub fn set(&mut self, i: usize, x: Span)
+        requires { i < length self.old.spans }
+        ensures spans { self.new.spans ≡ slice_set self.old.spans i x }
+        ensures spare { self.new.spare ≡ self.old.spare }
+    {
+        let place = place_of(&self.blocks, i);
+        set_in(&mut self.blocks, place.block, place.index, x);
+    }
+
+    /// Puts in a span.
+    pub fn insert(&mut self, i: usize, x: Span)
+        requires within { i ≤ length self.old.spans }
+        requires room { 1 ≤ self.old.spare }
+        ensures spans { self.new.spans ≡ insert self.old.spans i x }
+        ensures spare { self.new.spare + 1 ≡ self.old.spare }
+    {
+        self.len += 1;
+        self.spare -= 1;
+        put_in_place(&mut self.blocks, &mut self.pool, i, x);
+    }
+
+    /// Takes out a span.
+    pub fn remove(&mut self, i: usize)
+        requires { i < length self.old.spans }
+        ensures spans { self.new.spans ≡ remove self.old.spans i }
+        ensures spare { self.new.spare ≡ self.old.spare + 1 }
+    {
+        let place = place_of(&self.blocks, i);
+        self.len -= 1;
+        self.spare += 1;
+        if len_at(&self.blocks, place.block) > 1 {
+            take_from(&mut self.blocks, place.block, place.index);
+            return;
+        }
+        let mut block = self.blocks.remove(place.block);
+        block.clear();
+        self.pool.push_reserved(block);
+    }
+
+    /// How many spans end more than the gap before a time.
+    pub fn count_ending(&self, t: Ticks, gap: Ticks) -> usize
+        requires { IsNormalized self.now.spans }
+        ensures within { result ≤ length self.now.spans }
+        ensures before { AllByRecursion (λ r. r.end <ℤ (t -ℤ gap)) (take result self.now.spans) }
+        ensures after { AllByRecursion (λ r. (t -ℤ gap) ≤ℤ r.end) (drop result self.now.spans) }
+    {
+        let b = blocks_ending(&self.blocks, t, gap);
+        if b == 0 {
+            return 0;
+        }
+        start_of(&self.blocks, b - 1) + spans_ending(&self.blocks, b - 1, t, gap)
+    }
+
+    /// The spans in one vector.
+    pub fn to_vec(&self) -> Result<Vec<Span>, OutOfMemory>
+        ensures { IfOk result (λ v. v.items ≡ self.now.spans) }
+    {
+        let mut all = Vec::with_capacity(self.alloc, self.len)?;
+        let mut b = 0;
+        while b < self.blocks.len() {
+            let block = &self.blocks[b];
+            all.extend_from_slice(block.as_slice())?;
+            b += 1;
+        }
+        Ok(all)
+    }
+}
