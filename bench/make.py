@@ -1,20 +1,24 @@
 #!/usr/bin/env python3
-"""Makes the files that ranges.sh and store.sh measure.
+"""Makes the files that ranges.sh, store.sh and remux.sh measure.
 
     make.py samples COUNT SIZE FILE   COUNT samples of one video track in B-frame order, of SIZE bytes on average
     make.py bytes COUNT SIZE FILE     COUNT samples of SIZE bytes each
+    make.py classic COUNT SIZE FILE   COUNT samples in B-frame order, of SIZE bytes on average, as a classic file
     make.py store CASE COUNT FILE     COUNT samples that come as CASE says: twice, sound-twice, backwards, gaps-filled,
                                       gaps-backwards, random
 
 The initialization segment is that of examples/plain.mp4: one video track, number 1, 90000 units a second. A media
-segment has at most 100 samples of 3000 units; each tenth sample is a random access point.
+segment, or a chunk of a classic file, has at most 100 samples of 3000 units; each tenth sample is a random access point.
 """
 import os
 import random
 import struct
 import sys
 
+from case_files import maker
+
 UNITS = 3000
+PER_CHUNK = 100
 # the order of presentation of a group of ten samples that are stored in order of decoding: I P B B P B B P B B
 SHOWN = [0, 3, 1, 2, 6, 4, 5, 9, 7, 8]
 
@@ -59,6 +63,36 @@ def parts(count, per_segment, size_of, shown=lambda i: i, sync=lambda i: i % 10 
         yield segment(start, sizes, shown, sync)
 
 
+# the movie box behind the samples, whose bytes begin at 8 in the media data box behind the file type box
+def classic(sizes):
+    make, count = maker(), len(sizes)
+    starts = [0]
+    for chunk in range(0, count, PER_CHUNK):
+        starts.append(starts[-1] + sum(sizes[chunk:chunk + PER_CHUNK]))
+    whole, rest = divmod(count, PER_CHUNK)
+    chunks = [(1, PER_CHUNK, 1)] * (whole > 0) + [(whole + 1, rest, 1)] * (rest > 0)
+    runs = [(1, (reordered(i) - i) * UNITS) for i in range(count)]
+
+    class ClassicTrack(make.Track):
+        # with a width and a height, without which ffmpeg copies nothing
+        def entry(self):
+            entry = super().entry()
+            return entry[:32] + struct.pack(">HH", 320, 240) + entry[36:]
+
+        def tables(self):
+            return [
+                make.full(b"stts", 0, 0, make.words(1, count, UNITS)),
+                make.full(b"ctts", 1, 0, make.words(count), b"".join(struct.pack(">Ii", *run) for run in runs)),
+                make.full(b"stss", 0, 0, make.words(len(range(0, count, 10)), *range(1, count + 1, 10))),
+                make.full(b"stsc", 0, 0, make.words(len(chunks), *(number for entry in chunks for number in entry))),
+                make.full(b"stsz", 0, 0, make.words(0, count, *sizes)),
+                make.full(b"stco", 0, 0, make.words(len(starts) - 1, *(len(make.FTYP) + 8 + at for at in starts[:-1]))),
+            ]
+
+    track = ClassicTrack(1, b"vide", 90000, b"hvc1")
+    return make.FTYP + box(b"mdat", b"\x55" * sum(sizes)) + make.moov(track, fragmented=False)
+
+
 def reordered(i):
     return i - i % 10 + SHOWN[i % 10]
 
@@ -93,6 +127,10 @@ def main():
     elif command == "bytes":
         count, size = int(sys.argv[2]), int(sys.argv[3])
         write(sys.argv[4], parts(count, 10, lambda i: size))
+    elif command == "classic":
+        count, size = int(sys.argv[2]), int(sys.argv[3])
+        with open(sys.argv[4], "wb") as out:
+            out.write(classic([size // 2 + i * 37 % size for i in range(count)]))
     else:
         write(sys.argv[4], store(sys.argv[2], int(sys.argv[3])))
 

@@ -5,7 +5,8 @@
 #
 # PROGRAM is crates/mseplay/out/mseplay, as `rt run` leaves it in crates/mseplay. The files are made in a folder of their
 # own, which goes at the end. Each run is the best of three; where there is no ffmpeg, it is left out. Ten times the
-# samples are to take some ten times the time, and `remux` at most three times the memory of its file.
+# samples are to take some ten times the time, and `remux` at most three times the memory of its file where samples
+# have some fifty bytes or more.
 set -eu
 here=$(cd "$(dirname "$0")" && pwd)
 program=$(realpath "${1:-$here/../crates/mseplay/out/mseplay}")
@@ -15,6 +16,7 @@ cd "$work"
 
 python3 "$here/make.py" classic 300000 40 small.mp4
 python3 "$here/make.py" classic 30000 40 tenth.mp4
+python3 "$here/make.py" classic 300000 200 middle.mp4
 python3 "$here/make.py" classic 2500 40000 large.mp4
 
 python3 - "$program" <<'END'
@@ -68,9 +70,10 @@ def show(name, words, size, to=os.devnull):
     return used
 
 
-FFMPEG = ["ffmpeg", "-v", "error", "-y", "-i"]
+FFMPEG = ["ffmpeg", "-v", "quiet", "-y", "-i"]
 TO_FRAGMENTS = ["-c", "copy", "-movflags", "+frag_keyframe", "-f", "mp4", os.devnull]
-FILES = [("300,000 samples of 40 bytes", "small.mp4"), ("30,000 samples of 40 bytes", "tenth.mp4"), ("2,500 samples of 40,000 bytes", "large.mp4")]
+FILES = [("300,000 samples of 40 bytes", "small.mp4"), ("30,000 samples of 40 bytes", "tenth.mp4"),
+         ("300,000 samples of 200 bytes", "middle.mp4"), ("2,500 samples of 40,000 bytes", "large.mp4")]
 took = {}
 for name, file in FILES:
     size = os.path.getsize(file)
