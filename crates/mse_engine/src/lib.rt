@@ -25,5 +25,3 @@ mod steps;
 pub use engine::{Engine, Worked};
 pub use fault::EngineFault;
 
-#[cfg(test)]
-mod tests;

@@ -1,8 +1,8 @@
 //! The refusals that are asked for before a call, beside those that the call then answers.
 
-use crate::Engine;
 use mse_base::{Bytes, Moment, OutOfMemory, Text, Ticks};
 use mse_calls::{Answer, Blobs, Call, Mode, Name, Piece};
+use mse_engine::Engine;
 use std::alloc::Global;
 use std::process::Abort;
 use std::test::Fail;

@@ -4,13 +4,14 @@ mod buffers;
 mod element;
 mod files;
 mod frames;
+mod memory;
 mod refusals;
 
-use crate::Engine;
 use call_script::{BlobText, Script, ScriptError, StepLine, read_script};
 use event_text::{closing, line_of};
 use mse_base::{Bytes, Ticks};
 use mse_calls::{Answer, Blobs, Call, Entry};
+use mse_engine::Engine;
 use std::alloc::Global;
 use std::process::Abort;
 use std::test::Fail;

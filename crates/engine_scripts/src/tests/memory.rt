@@ -1,0 +1,313 @@
+//! A script of all calls, of which each step may find no memory once: then the engine shows what it showed before, and
+//! the step is taken again. What is printed, event by event, is what is printed where there is memory.
+//!
+//! An allocation is refused from outside, by `rt try --test --fail-alloc` or by `bench/refused.py` of the repository.
+
+use super::files::PLAIN;
+use call_script::{BlobText, Script, StepLine, read_script};
+use event_text::{closing, line_of};
+use mse_base::{Bytes, OutOfMemory, Text, Ticks};
+use mse_calls::{Answer, Blobs, Call, Entry};
+use mse_engine::{Engine, EngineFault};
+use std::alloc::Global;
+use std::process::Abort;
+use std::test::Fail;
+use track_store::ListStore;
+
+/// Each call, with effect, and a fault at the end.
+const SCRIPT: &str = "\
+    blobs = [\"file plain.mp4\", \"hex fff15080015ffc000000fff15080015ffc000000\", \"hex 0000000766726565\"]\n\
+    steps = [\"attach\", \"live 0 1/1\", \"clearlive\", \"add video/mp4\", \"add audio/aac\",\n\
+        \"duration 10/1\", \"seekable\", \"windowstart 0 0\", \"windowend 0 9/1\", \"append 0 0 0 745\",\n\
+        \"work 0\", \"fire\", \"append 1 1\", \"work 1\", \"abort 0\", \"drain\", \"mode 0 sequence\",\n\
+        \"offset 0 1/10\", \"append 0 0 595 156\", \"drain\", \"elementbuffered\", \"seek 1/50\",\n\
+        \"element\", \"play\", \"advance 1/100\", \"pause\", \"drain\", \"state\", \"remove 0 0 1/30\",\n\
+        \"drain\", \"buffered 0\", \"changetype 1 audio/mp4\", \"removebuffer 1\", \"endofstream\",\n\
+        \"append 0 2\", \"drain\"]\n";
+
+/// What it prints.
+const PRINTS: &str = "\
+    call attach: done\n\
+    call live 0 141120000000: done\n\
+    call clearlive: done\n\
+    call add video/mp4: done\n\
+    call add audio/aac: done\n\
+    call duration 1411200000000: done\n\
+    call seekable: range [0,1411200000000]\n\
+    call windowstart 0 0: done\n\
+    call windowend 0 1270080000000: done\n\
+    call append 0 0 0 745: done\n\
+    event source sourceopen\n\
+    call append 1 1: done\n\
+    call abort 0: done\n\
+    event sourcebuffers addsourcebuffer\n\
+    event sourcebuffers addsourcebuffer\n\
+    event element durationchange\n\
+    event buffer 0 updatestart\n\
+    event activesourcebuffers addsourcebuffer\n\
+    event buffer 1 updatestart\n\
+    event activesourcebuffers addsourcebuffer\n\
+    event element loadedmetadata\n\
+    event buffer 0 abort\n\
+    event buffer 0 updateend\n\
+    event element loadeddata\n\
+    event element canplay\n\
+    event buffer 1 update\n\
+    event buffer 1 updateend\n\
+    call mode 0 sequence: done\n\
+    call offset 0 14112000000: done\n\
+    call append 0 0 595 156: done\n\
+    event buffer 0 updatestart\n\
+    event buffer 0 update\n\
+    event buffer 0 updateend\n\
+    call elementbuffered: ranges [0,4704000000)\n\
+    call seek 2822400000: done\n\
+    call play: done\n\
+    call advance 1411200000: done\n\
+    call pause: done\n\
+    event element seeking\n\
+    event element timeupdate\n\
+    event element seeked\n\
+    event element play\n\
+    event element playing\n\
+    event element timeupdate\n\
+    event element timeupdate\n\
+    event element pause\n\
+    call state: source open duration 1411200000000 level 3 position 4233600000 paused true seeking false error 0\n\
+    call remove 0 0 4704000000: done\n\
+    event buffer 0 updatestart\n\
+    event buffer 0 update\n\
+    event buffer 0 updateend\n\
+    call buffered 0: ranges [14112000000,28224000000)\n\
+    call changetype 1 audio/mp4: done\n\
+    call removebuffer 1: done\n\
+    call endofstream: done\n\
+    call append 0 2: done\n\
+    event activesourcebuffers removesourcebuffer\n\
+    event sourcebuffers removesourcebuffer\n\
+    event source sourceended\n\
+    event element durationchange\n\
+    event source sourceopen\n\
+    event buffer 0 updatestart\n\
+    event buffer 0 error\n\
+    event buffer 0 updateend\n\
+    event source sourceended\n\
+    event element error\n\
+    state source ended duration 28224000000 level 1 position 4233600000 paused true seeking false error 3\n\
+    duration 28224000000\n\
+    buffer 0 phase waiting held 0 used 12 buffered [14112000000,28224000000)\n\
+    track 0 1 video avc1 frames 3 ranges [14112000000,28224000000)\n\
+    fault 2 BoxSize buffer 0 at 156\n";
+
+/// An engine at work, and what was printed so far.
+#[derive(Drop)]
+struct Player {
+    engine: Engine<ListStore>,
+    blobs: Blobs,
+    text: String,
+}
+
+/// A step of the engine that may find no memory.
+#[derive(Clone, Copy)]
+enum Step<'a> {
+    Call(&'a Call),
+    Work(u32),
+    Turn,
+}
+
+/// Takes a step; a call has an answer.
+fn take(player: &mut Player, step: Step) -> Result<Option<Answer>, EngineFault> {
+    match step {
+        Step::Call(call) => {
+            let answer = player.engine.call(call, &player.blobs)?;
+            Ok(Some(answer))
+        }
+        Step::Work(k) => {
+            player.engine.work(k)?;
+            Ok(None)
+        }
+        Step::Turn => {
+            player.engine.element_turn()?;
+            Ok(None)
+        }
+    }
+}
+
+/// What an engine shows, as it is printed at the end of a run.
+fn shown_once(alloc: Global, player: &Player) -> Result<Text, OutOfMemory> {
+    match player.engine.view() {
+        Ok(view) => closing(alloc, &view, true),
+        Err(_) => Err(OutOfMemory),
+    }
+}
+
+fn shown(alloc: Global, player: &Player) -> Result<Text, OutOfMemory> {
+    match shown_once(alloc, player) {
+        Ok(text) => Ok(text),
+        Err(_) => shown_once(alloc, player),
+    }
+}
+
+/// Takes a step, and takes it again where it found no memory, after which the engine is to show what it showed before.
+fn take_again(
+    rt: &impl Abort,
+    alloc: Global,
+    player: &mut Player,
+    step: Step,
+) -> Result<Option<Answer>, Fail> {
+    let before = shown(alloc, player)?;
+    match take(player, step) {
+        Ok(answer) => return Ok(answer),
+        Err(EngineFault::OutOfMemory) => {}
+    }
+    let after = shown(alloc, player)?;
+    assert_eq!(rt; after.as_str(), before.as_str());
+    let answer = take(player, step)?;
+    Ok(answer)
+}
+
+fn put_once(alloc: Global, player: &mut Player, entry: &Entry) -> Result<(), OutOfMemory> {
+    let line = line_of(alloc, entry)?;
+    player.text.push_str(line.as_str())?;
+    Ok(())
+}
+
+fn put(alloc: Global, player: &mut Player, entry: &Entry) -> Result<(), OutOfMemory> {
+    match put_once(alloc, player, entry) {
+        Ok(()) => Ok(()),
+        Err(_) => put_once(alloc, player, entry),
+    }
+}
+
+fn copy(call: &Call) -> Result<Call, OutOfMemory> {
+    match call.copy() {
+        Ok(copied) => Ok(copied),
+        Err(_) => call.copy(),
+    }
+}
+
+/// Fires the first event, if there is one.
+fn fire(alloc: Global, player: &mut Player) -> Result<bool, OutOfMemory> {
+    match player.engine.fire() {
+        Some(event) => {
+            put(alloc, player, &Entry::Fired(event))?;
+            Ok(true)
+        }
+        None => Ok(false),
+    }
+}
+
+/// Does what comes next in a drain; false where there is nothing left.
+fn do_next(rt: &impl Abort, alloc: Global, player: &mut Player) -> Result<bool, Fail> {
+    if fire(alloc, player)? {
+        return Ok(true);
+    }
+    if let Some(k) = player.engine.running() {
+        take_again(rt, alloc, player, Step::Work(k))?;
+        return Ok(true);
+    }
+    if player.engine.due() {
+        take_again(rt, alloc, player, Step::Turn)?;
+        return Ok(true);
+    }
+    Ok(false)
+}
+
+fn drain(rt: &impl Abort, alloc: Global, player: &mut Player) -> Result<(), Fail> {
+    for _ in 0..1000 {
+        if !do_next(rt, alloc, player)? {
+            return Ok(());
+        }
+    }
+    Err("the drain does not end")?
+}
+
+fn make(rt: &impl Abort, alloc: Global, player: &mut Player, call: &Call) -> Result<(), Fail> {
+    let Some(answer) = take_again(rt, alloc, player, Step::Call(call))? else {
+        return Err("no answer")?;
+    };
+    let entry = Entry::Script(copy(call)?, answer);
+    put(alloc, player, &entry)?;
+    Ok(())
+}
+
+fn do_line(
+    rt: &impl Abort,
+    alloc: Global,
+    player: &mut Player,
+    line: &StepLine,
+) -> Result<(), Fail> {
+    match line {
+        StepLine::Call(call) => make(rt, alloc, player, call)?,
+        StepLine::Fire => {
+            fire(alloc, player)?;
+        }
+        StepLine::Work(k) => {
+            take_again(rt, alloc, player, Step::Work(*k))?;
+        }
+        StepLine::Element => {
+            take_again(rt, alloc, player, Step::Turn)?;
+        }
+        StepLine::Drain => drain(rt, alloc, player)?,
+    }
+    Ok(())
+}
+
+fn script_once(alloc: Global) -> Result<Script, OutOfMemory> {
+    match read_script(alloc, SCRIPT.as_bytes()) {
+        Ok(script) => Ok(script),
+        Err(_) => Err(OutOfMemory),
+    }
+}
+
+fn script(alloc: Global) -> Result<Script, OutOfMemory> {
+    match script_once(alloc) {
+        Ok(script) => Ok(script),
+        Err(_) => script_once(alloc),
+    }
+}
+
+fn plain_once(alloc: Global) -> Result<Bytes, OutOfMemory> {
+    match hex::decode(alloc, PLAIN) {
+        Ok(bytes) => Ok(Bytes::from_vec(alloc, bytes)),
+        Err(_) => Err(OutOfMemory),
+    }
+}
+
+fn blobs_once(alloc: Global, script: &Script) -> Result<Blobs, OutOfMemory> {
+    let mut blobs = Blobs::new(alloc);
+    for blob in script.blobs.as_slice() {
+        let bytes = match blob {
+            BlobText::Hex(bytes) => bytes.copy()?,
+            BlobText::File(_) => plain_once(alloc)?,
+        };
+        blobs.push(bytes)?;
+    }
+    Ok(blobs)
+}
+
+fn blobs(alloc: Global, script: &Script) -> Result<Blobs, OutOfMemory> {
+    match blobs_once(alloc, script) {
+        Ok(blobs) => Ok(blobs),
+        Err(_) => blobs_once(alloc, script),
+    }
+}
+
+#[test]
+fn each_step_again(rt: HostRuntime) -> Result<(), Fail> {
+    let alloc = rt.alloc();
+    let script = script(alloc)?;
+    let mut player = Player {
+        engine: Engine::new(alloc, script.quota, Ticks::zero()),
+        blobs: blobs(alloc, &script)?,
+        text: String::new(alloc),
+    };
+    for line in script.steps.as_slice() {
+        do_line(&rt, alloc, &mut player, line)?;
+    }
+    let end = shown(alloc, &player)?;
+    assert!(rt; PRINTS.starts_with(player.text.as_str()));
+    assert!(rt; PRINTS.ends_with(end.as_str()));
+    assert_eq!(rt; PRINTS.len(), player.text.len() + end.as_str().len());
+    Ok(())
+}
