@@ -1,14 +1,15 @@
 #!/usr/bin/env python3
 """Refuses each allocation of some runs in turn; not part of the gate.
 
-    bench/refused.py [--program FILE]
+    bench/refused.py [--program FILE] [--tests CRATE=FILE]..
 
-The program is crates/mseplay/out/mseplay, as `rt run` leaves it in crates/mseplay, where no other file is given. It needs
-Linux and a C compiler, `cc`, for the library `refuse.c`.
+The program is crates/mseplay/out/mseplay, as `rt run` leaves it in crates/mseplay, and the tests of a crate are
+crates/CRATE/out/CRATE_tests, as `rt test` leaves them, where no other file is given. It needs Linux and a C compiler,
+`cc`, for the library `refuse.c`.
 
 Each run of the program is done once with all memory that it asks for, and then for each of its allocations with that one
 refused, and with that one and all behind it refused. Each of these has to end with status 5 and a front part of the whole
-text, or as the first run did.
+text, or as the first run did. Each of the tests has to pass with any one of its allocations refused.
 """
 import argparse
 import os
@@ -35,12 +36,19 @@ RUNS = [
     ["feed", "1/1", "audio.mp4"],
     *(["play", name] for folder in [CASES, EXAMPLES] for name in sorted(os.listdir(folder)) if name.endswith(".toml")),
 ]
+TESTS = [
+    ("engine_tests", "tests::memory::each_step_again"),
+    ("listeners", "tests::memory::heard_and_asked_again"),
+    ("listeners", "tests::dispatches::memory::cut_anywhere"),
+]
 
 
 def main():
     words = argparse.ArgumentParser(description=__doc__, formatter_class=argparse.RawDescriptionHelpFormatter)
     words.add_argument("--program", default=os.path.join(CRATES, "mseplay", "out", "mseplay"))
+    words.add_argument("--tests", action="append", default=[], metavar="CRATE=FILE")
     given = words.parse_args()
+    tests = dict(word.split("=", 1) for word in given.tests)
     begin = time.monotonic()
     with tempfile.TemporaryDirectory() as room:
         for folder in [EXAMPLES, CASES]:
@@ -50,6 +58,9 @@ def main():
         bad = 0
         for run in RUNS:
             bad += check_run(room, os.path.abspath(given.program), run)
+        for crate, test in TESTS:
+            program = tests.get(crate, os.path.join(CRATES, crate, "out", f"{crate}_tests"))
+            bad += check_test(room, os.path.abspath(program), test)
     print(f"{time.monotonic() - begin:.0f} s, {bad} ended otherwise")
     sys.exit(1 if bad else 0)
 
@@ -87,6 +98,16 @@ def check_run(room, program, words):
     print(f"{' '.join(words)}: status {status}, {asked} allocations; with a refusal {halted} runs at status {MEMORY} with a "
           f"front part, {through} with the whole text", flush=True)
     return bad
+
+
+def check_test(room, program, test):
+    """Does a test with each allocation refused in turn: how often it failed."""
+    status, _, asked = run(room, [program, test], "0")
+    failed = [number for number in range(1, asked + 1) if run(room, [program, test], f"{number}")[0] != 0]
+    if status != 0 or asked == 0:
+        failed.append(0)
+    print(f"{test}: status {status}, {asked} allocations; it failed with the refusal of {failed or 'none'}", flush=True)
+    return len(failed)
 
 
 main()

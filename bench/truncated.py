@@ -2,14 +2,18 @@
 """Cuts files at each byte, and compares what is printed of each front part; not part of the gate.
 
     bench/truncated.py [PROGRAM] [FILE ..]
+    bench/truncated.py --store
 
 PROGRAM is crates/mseplay/out/mseplay, as `rt run` leaves it in crates/mseplay. Of each front part of each file `ranges` and
 `pieces 1` have to print the block that the reader below finds, and end with its status. The reader is written from the
 standards (ISO/IEC 14496-12, ISO/IEC 13818-7, the byte stream formats of Media Source Extensions) and shares no code with
 the program. It knows just what the files below need: samples that come in order and replace none. ADTS frames are appended
 by a script.
+
+--store runs no program and writes the blocks of some of these files as the tables of a test of the gate.
 """
 import os
+import re
 import struct
 import subprocess
 import sys
@@ -21,6 +25,7 @@ from case_files import case_files
 
 HERE = os.path.dirname(os.path.abspath(__file__))
 EXAMPLES = os.path.join(HERE, "..", "examples")
+TABLES = os.path.join(HERE, "..", "crates", "command_tests", "src", "tests", "fronts", "tables.rt")
 SMALL = ["two-tracks.mp4", "tagged.aac", "gap.mp4", "groups.mp4", "late.mp4"]
 FILES = [*SMALL, "plain.mp4", "classic.mp4", "cut.mp4", "classic.m4a", "audio.mp4"]
 SECOND = 141120000000
@@ -30,6 +35,8 @@ RATES = [96000, 88200, 64000, 48000, 44100, 32000, 24000, 22050, 16000, 12000, 1
 
 def main():
     words = sys.argv[1:]
+    if words == ["--store"]:
+        return store()
     program = os.path.abspath(words[0] if words else os.path.join(HERE, "../crates/mseplay/out/mseplay"))
     bad = 0
     for file in words[1:] or FILES:
@@ -87,6 +94,38 @@ def script(room, lengths):
         lines = ", ".join(f'"{step}"' for step in steps)
         written.write(f'blobs = ["file front"]\nsteps = [{lines}]\n')
     return name
+
+# The tables of the gate's test
+
+def rows(file):
+    """Front parts with the same block but for the count of held bytes, which is 0 or counts from some byte on: the shortest,
+    the longest, that byte, and the block before and behind the count."""
+    whole, found = content(file), []
+    for length in range(len(whole) + 1):
+        block, status = wanted(file, whole[:length])
+        assert status == 0
+        head, held, tail = re.fullmatch(r"(.* held )(\d+)( .*)", block, re.S).groups()
+        base = None if held == "0" else length - int(held)
+        first, _, before, *texts = found[-1] if found else (None, None, None, None)
+        if texts == [head, tail] and (base == before or before is None and base == first == length - 1):
+            found[-1] = (first, length, base, head, tail)
+        else:
+            found.append((length, length, base, head, tail))
+    return found
+
+
+def store():
+    with open(TABLES, "w") as out:
+        out.write("//! Files, and the blocks of their front parts, written by bench/truncated.py.\n\nuse super::Row;\n")
+        for file in SMALL:
+            found, name = rows(file), re.sub(r"\W.*", "", file.replace("-", "_")).upper()
+            out.write(f'\n#[rattlefmt::skip]\npub const {name}: &str = "{content(file).hex()}";\n')
+            out.write(f"\n#[rattlefmt::skip]\npub const {name}_BLOCKS: [Row; {len(found)}] = [\n")
+            for first, last, base, head, tail in found:
+                count = "None" if base is None else f"Some({base})"
+                texts = ", ".join('"' + part.replace("\n", "\\n") + '"' for part in [head, tail])
+                out.write(f"    ({first}, {last}, {count}, {texts}),\n")
+            out.write("];\n")
 
 
 # What is buffered

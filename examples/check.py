@@ -19,7 +19,7 @@ import tempfile
 
 HERE = os.path.dirname(os.path.abspath(__file__))
 TOP = os.path.dirname(HERE)
-TESTS = os.path.join(TOP, "crates", "mseplay", "src", "tests", "example_runs")
+TESTS = os.path.join(TOP, "crates", "command_tests", "src", "tests", "example_runs")
 STATUSES = {0: "Ok", 2: "Script", 6: "CallBudget", 7: "TaskBudget", 8: "NoFile", 9: "Media"}
 
 
@@ -98,14 +98,13 @@ def try_names():
             yield f"no line of runs.txt tries {name}"
 
 
+# the tables are written for the compiler, a line for each text: who reads them reads the files of this folder
 def digits(content):
-    text = content.hex()
-    return '"\\\n' + "".join(f"        {text[at:at + 128]}\\\n" for at in range(0, len(text), 128)) + '        "'
+    return f'"{content.hex()}"'
 
 
 def literal(content):
-    lines = content.decode().replace("\\", "\\\\").replace('"', '\\"').splitlines()
-    return '"\\\n' + "".join(f"        {line}\\n\\\n" for line in lines) + '        "'
+    return '"' + content.decode().replace("\\", "\\\\").replace('"', '\\"').replace("\n", "\\n") + '"'
 
 
 def table(about, name, kind, rows):
@@ -113,11 +112,18 @@ def table(about, name, kind, rows):
     return f"/// {about}\n#[rattlefmt::skip]\npub const {name}: [{kind}; {len(rows)}] = [\n{items}];\n"
 
 
+# long files that no script names are tried here alone, since the gate proves its tests and long constants take long
+def is_in_gate(words):
+    named = {name for script in glob.glob("*.toml") for name in re.findall(r'"file ([^"]+)"', open(script).read())}
+    return all(word in named or not os.path.exists(word) or os.path.getsize(word) < 10000 for word in words)
+
+
 # the tables of the gate's tests: the files, the runs without a script, and the scripts with what is printed of them
 def tables():
-    read = {name: open(name, "rb").read() for _, text, words in runs() for name in [text, *words] if os.path.exists(name)}
+    tried = [(status, text, words) for status, text, words in runs() if is_in_gate([text, *words])]
+    read = {name: open(name, "rb").read() for _, text, words in tried for name in [text, *words] if os.path.exists(name)}
     files = [name for name in sorted(read) if not name.endswith((".toml", ".txt"))]
-    scripts = sorted((words[1], text) for _, text, words in runs() if words[0] == "play")
+    scripts = sorted((words[1], text) for _, text, words in tried if words[0] == "play")
     for name, about, of_file in [
         ("FILES", "Small files by name, as digits of base 16.", lambda name: len(read[name]) < 2000),
         ("LARGE_FILES", "The others.", lambda name: len(read[name]) >= 2000),
@@ -126,7 +132,7 @@ def tables():
     yield "RUNS", "use crate::ending::Status;\n\n" + table(
         "The words of a run, its status, and what it prints.", "RUNS", "(&str, Status, &str)",
         [f'"{" ".join(words)}", Status::{STATUSES[status]}, {literal(read[text])}'
-         for status, text, words in runs() if words[0] != "play" and text.endswith(".txt")])
+         for status, text, words in tried if words[0] != "play" and text.endswith(".txt")])
     for name, of_script in [
         ("SCRIPTS_TO_L", lambda name: name < "m"),
         ("SCRIPTS_FROM_M", lambda name: name >= "m"),
@@ -147,7 +153,7 @@ def try_tests(stores):
             with open(path, "w") as out:
                 out.write(text)
         if not os.path.exists(path) or open(path).read() != text:
-            yield f"crates/mseplay/src/tests/example_runs/{name} has something else"
+            yield f"crates/command_tests/src/tests/example_runs/{name} has something else"
 
 
 def main():

@@ -5,6 +5,7 @@ use std::alloc::Global;
 use std::test::Fail;
 
 mod dispatches;
+mod memory;
 
 const OPEN: Event = Event {
     target: Target::Source,

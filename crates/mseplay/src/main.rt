@@ -2,31 +2,15 @@
 //! file, and prints what happens: calls, answers and events, and what a media source has buffered
 //! in the end. It writes classic files as fragments, and prints the frames that a decoder is given.
 //!
-//! It stands on `script_run` (the run of a script over the engine), `track_index` (the store of
-//! frames), `bmff_write` (the file that is made), `remux` (classic files), `feed_lines` (frames for
-//! a decoder), `event_text` (the printed lines) and `mse_outside` (files and standard output). Its main contract is that of [`run`](top::run).
+//! It stands on `mse_commands`, whose [`run`] does all of it, and hands in the folder, standard output, sixteen
+//! listeners by rules, and the store of `track_index`. It ends with the number of the status.
 #![tactic(auto)]
-
-mod commands;
-mod ending;
-mod feeds;
-mod file;
-mod laws;
-mod load;
-mod remux_fault;
-mod remuxing;
-#[cfg(test)]
-mod tests;
-mod text;
-mod top;
-mod words;
 
 ghost use Rattle.std.specs.Prelude.{◌≡◌, [], IfOk};
 
-use crate::ending::Status;
-use crate::top::run;
 use listeners::{Listener, RuleListener};
 use mse_base::OutOfMemory;
+use mse_commands::{Status, run};
 use mse_engine::Engine;
 use mse_outside::{FolderLibrary, StdoutSink};
 use run_journal::Journal;

@@ -1,6 +1,8 @@
 //! Worked dispatches: an engine over a plain store, with its listeners and what was done, printed as
 //! the program prints it.
 
+mod memory;
+
 ghost use Rattle.std.specs.Prelude.{◌≡◌, ◌+◌, ◌≤◌, ◌++◌, ◌∷◌, [], vec_len};
 ghost use Rattle.std.specs.Vec.{vec_capacity};
 ghost use Rattle.listeners.specs.Notes.{told_note};

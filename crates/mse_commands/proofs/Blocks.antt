@@ -1,0 +1,290 @@
+-- What `ranges` and `pieces` print of one file.
+use Rattle.std.proofs.Common.{◌≡◌, ℕ, zero, suc, ◌+◌, ◌≤◌, ◌<◌, ◌^◌, ◌-◌, ℤ, pos, Bool, true, false, List, [], ◌∷◌, ◌++◌, length, refl, ap, sym, subst, ◌∙◌, arith, ⊎_elim, inl, inr}
+use Rattle.std.specs.Prelude.{◌⊎◌, min, Option, Some, None, IfSome, IsSome, IsSomeAnd, is_some, Result, Ok, ok_or, bytes_eq, codes, option_map, if◌then◌else◌}
+use Rattle.std.proofs.lemmas.Bool.{cases_lt}
+use Rattle.mse_outside.specs.Outside.{Table}
+use Rattle.mse_calls.specs.declared.answers.Answer.{Answer}
+use Rattle.mse_calls.specs.declared.answers.Answer.TheVariants as answer
+use Rattle.mse_calls.specs.declared.calls.Piece.{Piece}
+use Rattle.mse_calls.specs.declared.entry.Entry.{Entry}
+use Rattle.mse_calls.specs.declared.views.FaultView.{FaultView}
+use Rattle.event_text.specs.Block.{closing_text}
+use Rattle.bmff_boxes.specs.Headers.{header_of}
+use Rattle.segment_walk.specs.Segments.{segment_parse, Items}
+use Rattle.mse_engine.specs.State.{Core, Outer, State, opening_state}
+use Rattle.mse_engine.specs.Run.{after_entries}
+use Rattle.mse_engine.specs.Views.{view_in}
+use Rattle.mse_engine.proofs.Goes.{after_entries-append}
+use Rattle.script_run.specs.Wrote.{Wrote}
+use Rattle.cut_law.specs.Cuts.{AreParts}
+use Rattle.cut_law.specs.Files.{after_piece, after_pieces, unless_fault}
+use Rattle.play_law.proofs.Singles.{append-drained}
+use Rattle.file_law.specs.Rooms.{IsFresh, whole_of}
+use Rattle.cut_law.proofs.Drains.{drain_core}
+use Rattle.cut_law.proofs.Journals.{append_some}
+use Rattle.file_law.proofs.Wholes.{behind, in-parts, one-piece, whole-core}
+use Rattle.mse_commands.specs.declared.ending.Status.{Status}
+use Rattle.mse_commands.specs.declared.ending.Status.TheVariants as status
+use Rattle.mse_commands.specs.declared.words.Command.{Command}
+use Rattle.mse_commands.specs.declared.words.Command.TheVariants.{Ranges, Pieces, Make, Play, Remux, Feed}
+use Rattle.mse_commands.specs.declared.ending.End.{End}
+use Rattle.mse_commands.specs.declared.ending.End.TheVariants.{NoFile}
+use Rattle.mse_commands.specs.Asked.{Request, Task, ByFile, asked, opening_of, request_of, ◌>>=◌}
+use Rattle.mse_commands.specs.Files.{AppendsFile, IsJournalOf, IsThrough, NameOneFile}
+use Rattle.mse_commands.specs.Outcomes.{Ends, EndsBehind, EndsRun, Left}
+use Rattle.mse_commands.specs.Shown.{IsAppends, IsWholeFile, StopsAtFault, append_entry, last_state, open_entries, pieces_by, pieces_of, text_of}
+use Rattle.mse_commands.specs.Words.{IsInRange, command_of, file_of, finite_time, longest_piece, most_segments, number_of}
+use Rattle.mse_commands.proofs.Numbers.{bounds_by}
+use Rattle.mse_commands.proofs.Pieces.{HasNext, IsLeft, all_left, next_left, none_left}
+
+-- ---- a journal comes to what its pieces come to
+
+stays : (blobs : List (List ℕ)) (st : State) (fault : FaultView) (pieces : List Piece) → st.core.source.fault ≡ Some fault → after_pieces blobs 0 st pieces ≡ st
+stays blobs st fault [] e = refl
+stays blobs st fault (piece ∷ pieces) e = ap (λ o. unless_fault o st (after_pieces blobs 0 (after_piece blobs 0 st piece) pieces)) e
+
+rest-is : (o : Option FaultView) (blobs : List (List ℕ)) (st : State) (pieces : List Piece) (rest : List Entry) → st.core.source.fault ≡ o → StopsAtFault o rest (IsAppends blobs st pieces rest)
+    → (st.core.source.fault ≡ None → IsAppends blobs st pieces rest → after_entries blobs st rest ≡ after_pieces blobs 0 st pieces) → after_entries blobs st rest ≡ after_pieces blobs 0 st pieces
+rest-is None blobs st pieces rest e u f = f e u
+rest-is (Some fault) blobs st pieces rest e u f = ap (λ es. after_entries blobs st es) u ∙ sym (stays blobs st fault pieces e)
+
+appends-are : (pieces : List Piece) (blobs : List (List ℕ)) (st : State) (entries : List Entry) → st.core.source.fault ≡ None → IsAppends blobs st pieces entries → after_entries blobs st entries ≡ after_pieces blobs 0 st pieces
+appends-are [] blobs st entries none a = ap (λ es. after_entries blobs st es) a
+appends-are (piece ∷ pieces) blobs st entries none a =
+    let here : List Entry = append_entry piece a.0 ∷ a.1 in
+    let new : State = after_entries blobs st here in
+    let one : new ≡ after_piece blobs 0 st piece = append-drained blobs 0 st piece a.0 a.1 a.4.drain a.4.calls in
+    ap (λ es. after_entries blobs st es) a.3
+    ∙ after_entries-append blobs st here a.2
+    ∙ rest-is new.core.source.fault blobs new pieces a.2 refl a.5 (λ n b. appends-are pieces blobs new a.2 n b)
+    ∙ ap (λ s. after_pieces blobs 0 s pieces) one
+    ∙ sym (ap (λ o. unless_fault o st (after_pieces blobs 0 (after_piece blobs 0 st piece) pieces)) none)
+
+-- ---- the source that is opened
+
+abbrev opened : List (List ℕ) → State
+opened blobs = after_entries blobs (opening_state (2 ^ 62) (pos 0)) (open_entries answer.Done answer.Done)
+
+opened-same : (blobs others : List (List ℕ)) → opened blobs ≡ opened others
+opened-same blobs others = refl
+
+fresh : (blobs : List (List ℕ)) → IsFresh 0 (opened blobs)
+fresh blobs = record { running = refl; fault = refl; error = refl; little = record { quota = omega arith; slot = record { read = omega arith; used = omega arith } } }
+
+journal-is : (command : Command) (bytes : List ℕ) (entries : List Entry) → IsJournalOf command bytes entries
+    → last_state (ByFile command bytes) entries ≡ after_pieces (bytes ∷ []) 0 (opened (bytes ∷ [])) (pieces_by command (length bytes))
+journal-is command bytes entries j =
+    let blobs : List (List ℕ) = bytes ∷ [] in
+    let st : State = opening_state (2 ^ 62) (pos 0) in
+    ap (λ es. after_entries blobs st es) j.whole.entries_are
+    ∙ after_entries-append blobs st (open_entries j.whole.attached j.whole.added) j.whole.rest
+    ∙ appends-are (pieces_by command (length bytes)) blobs (opened blobs) j.whole.rest refl j.whole.appends
+
+-- ---- pieces are parts
+
+next-parts : (bytes : List ℕ) (size at : ℕ) (piece : Piece) (pieces : List Piece) (n : HasNext size (length bytes) at (piece ∷ pieces)) → at < length bytes
+    → ((at : ℕ) → at ≤ length bytes → IsLeft size (length bytes) at pieces → AreParts 0 bytes at (length bytes - at) pieces) → AreParts 0 bytes at (length bytes - at) (piece ∷ pieces)
+next-parts bytes size at piece pieces n l f =
+    let m : ℕ = min size (length bytes - at) in
+    let head : piece ≡ record { blob = 0; part = Some (at, m) } = cc (n.left_is) in
+    let tail : pieces ≡ n.more = cc (n.left_is) in
+    let behind : IsLeft size (length bytes) (at + m) pieces = subst (λ (ps : List Piece). IsLeft size (length bytes) (at + m) ps) (sym tail) n.behind in
+    let rest : AreParts 0 bytes (at + m) (length bytes - (at + m)) pieces = f (at + m) (omega arith) behind in
+    let sum : length bytes - at ≡ m + (length bytes - (at + m)) = omega arith in
+    subst (λ (p : Piece). AreParts 0 bytes at (length bytes - at) (p ∷ pieces)) (sym head) (m, length bytes - (at + m), refl, refl, sum, rest)
+
+parts-left : (left : List Piece) (bytes : List ℕ) (size at : ℕ) → 1 ≤ size → at ≤ length bytes → IsLeft size (length bytes) at left → AreParts 0 bytes at (length bytes - at) left
+parts-left [] bytes size at some l p =
+    ⊎_elim (λ (h : at < length bytes). let n = next_left size (length bytes) at [] some h p in absurd (cc (n.left_is))) (λ (h : length bytes ≤ at). omega (arith, h)) (cases_lt at (length bytes))
+parts-left (piece ∷ pieces) bytes size at some l p =
+    ⊎_elim (λ (h : at < length bytes). next-parts bytes size at piece pieces (next_left size (length bytes) at (piece ∷ pieces) some h p) h (λ to low q. parts-left pieces bytes size to some low q))
+    (λ (h : length bytes ≤ at). let none = none_left size (length bytes) at (piece ∷ pieces) some h p in absurd (cc (none)))
+    (cases_lt at (length bytes))
+
+pieces-parts : (command : Command) (bytes : List ℕ) → AppendsFile command → IsInRange command → AreParts 0 bytes 0 (length bytes) (pieces_by command (length bytes))
+pieces-parts Ranges bytes a r = let one : length bytes ≡ length bytes + 0 = omega arith in (length bytes, 0, refl, refl, one, refl)
+pieces-parts (Pieces size) bytes a r =
+    let all : length bytes - 0 ≡ length bytes = omega arith in
+    subst (λ n. AreParts 0 bytes 0 n (pieces_of size (length bytes))) all (parts-left (pieces_of size (length bytes)) bytes size 0 r (omega arith) (all_left size (length bytes)))
+pieces-parts (Make count) bytes a r = absurd a
+pieces-parts Play bytes a r = absurd a
+pieces-parts Remux bytes a r = absurd a
+pieces-parts (Feed at) bytes a r = absurd a
+
+-- ---- the empty file, which may have no piece
+
+no-items : Items None [] ≡ []
+unfolding segment_parse header_of
+no-items = refl
+
+empty-drain : drain_core (append_some (Some []) 0 (opened ([] ∷ [])).core) ≡ (opened ([] ∷ [])).core
+unfolding segment_parse header_of
+empty-drain = refl
+
+empty-whole : (after_pieces ([] ∷ []) 0 (opened ([] ∷ [])) (whole_of 0 ∷ [])).core ≡ (opened ([] ∷ [])).core
+empty-whole =
+    ap (λ (s : State). s.core) (one-piece ([] ∷ []) 0 (opened ([] ∷ [])) (whole_of 0) refl)
+    ∙ whole-core [] 0 (opened ([] ∷ [])) (omega arith) (fresh ([] ∷ []))
+    ∙ empty-drain
+
+empty-file : (bytes : List ℕ) → length bytes ≡ 0 → (opened (bytes ∷ [])).core ≡ (after_pieces (bytes ∷ []) 0 (opened (bytes ∷ [])) (whole_of 0 ∷ [])).core
+empty-file [] e = sym empty-whole
+empty-file (byte ∷ bytes) e = absurd (omega arith)
+
+-- ---- the core
+
+file-core-by : (pieces : List Piece) (bytes : List ℕ) → length bytes < 2 ^ 62 → AreParts 0 bytes 0 (length bytes) pieces
+    → (after_pieces (bytes ∷ []) 0 (opened (bytes ∷ [])) pieces).core ≡ (after_pieces (bytes ∷ []) 0 (opened (bytes ∷ [])) (whole_of 0 ∷ [])).core
+file-core-by [] bytes short p = empty-file bytes p
+file-core-by (piece ∷ pieces) bytes short p = in-parts bytes 0 (opened (bytes ∷ [])) piece pieces short p (fresh (bytes ∷ []))
+
+file-core : (command : Command) (bytes : List ℕ) (entries : List Entry) → length bytes < 2 ^ 62 → IsJournalOf command bytes entries
+    → (last_state (ByFile command bytes) entries).core ≡ (after_pieces (bytes ∷ []) 0 (opened (bytes ∷ [])) (whole_of 0 ∷ [])).core
+file-core command bytes entries short j =
+    ap (λ (s : State). s.core) (journal-is command bytes entries j) ∙ file-core-by (pieces_by command (length bytes)) bytes short (pieces-parts command bytes j.appends j.number)
+
+pub one-core : (a b : Command) (bytes : List ℕ) (entries others : List Entry) → length bytes < 2 ^ 62 → IsJournalOf a bytes entries → IsJournalOf b bytes others
+    → (last_state (ByFile a bytes) entries).core ≡ (last_state (ByFile b bytes) others).core
+one-core a b bytes entries others short p q = file-core a bytes entries short p ∙ sym (file-core b bytes others short q)
+
+-- ---- the text
+
+core-text : (c d : Core) (o p : Outer) → c ≡ d → closing_text (view_in (record { core = c; outer = o })) false ≡ closing_text (view_in (record { core = d; outer = p })) false
+core-text c d o p e = ap (λ (x : Core). closing_text (view_in (record { core = x; outer = o })) false) e
+
+block-is : (command : Command) (bytes : List ℕ) (entries : List Entry) → AppendsFile command → text_of (ByFile command bytes) entries ≡ closing_text (view_in (last_state (ByFile command bytes) entries)) false
+block-is Ranges bytes entries a = refl
+block-is (Pieces count) bytes entries a = refl
+block-is (Make count) bytes entries a = absurd a
+block-is Play bytes entries a = absurd a
+block-is Remux bytes entries a = absurd a
+block-is (Feed at) bytes entries a = absurd a
+
+same-text : (a b : Command) (bytes others : List ℕ) (xs ys : List Entry) → AppendsFile a → AppendsFile b → (last_state (ByFile a bytes) xs).core ≡ (last_state (ByFile b others) ys).core
+    → text_of (ByFile a bytes) xs ≡ text_of (ByFile b others) ys
+same-text a b bytes others xs ys p q e =
+    let s : State = last_state (ByFile a bytes) xs in
+    let t : State = last_state (ByFile b others) ys in
+    block-is a bytes xs p ∙ core-text s.core t.core s.outer t.outer e ∙ sym (block-is b others ys q)
+
+pub one-text : (a b : Command) (bytes : List ℕ) (entries others : List Entry) → length bytes < 2 ^ 62 → IsJournalOf a bytes entries → IsJournalOf b bytes others
+    → text_of (ByFile a bytes) entries ≡ text_of (ByFile b bytes) others
+one-text a b bytes entries others short p q = same-text a b bytes bytes entries others p.appends q.appends (one-core a b bytes entries others short p q)
+
+pub fault-text : (a b : Command) (bytes more : List ℕ) (entries others : List Entry) → length (bytes ++ more) < 2 ^ 62 → length bytes < 2 ^ 62 → IsJournalOf a bytes entries
+    → IsSome (last_state (ByFile a bytes) entries).core.source.fault → IsJournalOf b (bytes ++ more) others → text_of (ByFile b (bytes ++ more)) others ≡ text_of (ByFile a bytes) entries
+fault-text a b bytes more entries others long short p fault q =
+    let whole = file-core a bytes entries short p in
+    let broken : IsSome (after_pieces (bytes ∷ []) 0 (opened (bytes ∷ [])) (whole_of 0 ∷ [])).core.source.fault = subst (λ (c : Core). IsSome c.source.fault) whole fault in
+    same-text b a (bytes ++ more) bytes others entries q.appends p.appends
+    (file-core b (bytes ++ more) others long q ∙ behind bytes more 0 (opened (bytes ∷ [])) long (fresh (bytes ∷ [])) broken ∙ sym whole)
+
+-- ---- runs
+
+two-range : (t u v w : Bool) (o : Option ℕ) → IfSome o (λ n. (1 ≤ n) × (n ≤ most_segments))
+    → IfSome (if t then Some Ranges else (if u then Some Play else (if v then Some Remux else (if w then option_map (λ n. Make n) o else None)))) IsInRange
+two-range true u v w o h = tt
+two-range false true v w o h = tt
+two-range false false true w o h = tt
+two-range false false false true None h = tt
+two-range false false false true (Some n) h = h
+two-range false false false false o h = tt
+
+three-range : (t u : Bool) (o : Option ℕ) (at : Option ℤ) → IfSome o (λ n. (1 ≤ n) × (n ≤ longest_piece))
+    → IfSome (if t then option_map (λ n. Pieces n) o else (if u then option_map (λ x. Feed x) at else None)) IsInRange
+three-range true u None at h = tt
+three-range true u (Some n) at h = h.0
+three-range false true o None h = tt
+three-range false true o (Some x) h = tt
+three-range false false o at h = tt
+
+command-range : (words : List (List ℕ)) → IfSome (command_of words) IsInRange
+command-range [] = tt
+command-range (name ∷ []) = tt
+command-range (name ∷ word ∷ []) =
+    two-range (bytes_eq name (codes "ranges")) (bytes_eq name (codes "play")) (bytes_eq name (codes "remux")) (bytes_eq name (codes "make")) (number_of most_segments word)
+    (bounds_by most_segments word (number_of most_segments word) (omega arith) refl)
+command-range (name ∷ word ∷ file ∷ []) =
+    three-range (bytes_eq name (codes "pieces")) (bytes_eq name (codes "feed")) (number_of longest_piece word) (finite_time word)
+    (bounds_by longest_piece word (number_of longest_piece word) (omega arith) refl)
+command-range (name ∷ word ∷ file ∷ more ∷ words) = tt
+
+task-is : (command : Command) (files : Table) (name bytes : List ℕ) → AppendsFile command → files name ≡ Some bytes → (request_of files name (Some command)).task ≡ Ok (ByFile command bytes)
+task-is Ranges files name bytes a e = ap (λ o. ok_or o (NoFile name) >>= (λ b. Ok (ByFile Ranges b))) e
+task-is (Pieces count) files name bytes a e = ap (λ o. ok_or o (NoFile name) >>= (λ b. Ok (ByFile (Pieces count) b))) e
+task-is (Make count) files name bytes a e = absurd a
+task-is Play files name bytes a e = absurd a
+task-is Remux files name bytes a e = absurd a
+task-is (Feed at) files name bytes a e = absurd a
+
+-- the words ask for the file
+record Names (files : Table) (words : List (List ℕ)) (bytes : List ℕ) : Type 0 where
+  command : Command
+  appends : AppendsFile command
+  number : IsInRange command
+  task : (asked files words).task ≡ Ok (ByFile command bytes)
+
+names-by : (o : Option Command) (files : Table) (words : List (List ℕ)) (bytes : List ℕ) → command_of words ≡ o → IfSome o IsInRange → IsSomeAnd o AppendsFile → files (file_of words) ≡ Some bytes → Names files words bytes
+names-by None files words bytes e r a found = absurd a
+names-by (Some command) files words bytes e r a found = record {
+  command = command;
+  appends = a;
+  number = r;
+  task = ap (λ o. (request_of files (file_of words) o).task) e ∙ task-is command files (file_of words) bytes a found;
+}
+
+names : (files : Table) (words : List (List ℕ)) (bytes : List ℕ) → IsSomeAnd (command_of words) AppendsFile → files (file_of words) ≡ Some bytes → Names files words bytes
+names files words bytes a found = names-by (command_of words) files words bytes refl (command-range words) a found
+
+abbrev status_by : Bool → Status
+status_by false = status.Ok
+status_by true = status.Media
+
+not-some : (o : Option FaultView) → ¬ IsSome o → is_some o ≡ false
+not-some None h = refl
+not-some (Some fault) h = absurd (h refl)
+
+-- the whole file was run, and the status says whether it breaks the byte stream format
+record RanFile (command : Command) (bytes : List ℕ) (left : Left) (end : Status) : Type 0 where
+  journal : IsJournalOf command bytes left.entries
+  wrote : Wrote (text_of (ByFile command bytes) left.entries) left.written_before left.written
+  end_is : end ≡ status_by (is_some (last_state (ByFile command bytes) left.entries).core.source.fault)
+
+ran-file : (n : ℕ) (request : Request) (command : Command) (bytes : List ℕ) (left : Left) (end : Status) → AppendsFile command → IsInRange command → IsThrough end → EndsRun n request (ByFile command bytes) left end → RanFile command bytes left end
+ran-file n request command bytes left end a r (inl e) ends =
+    let all = subst (λ (x : Status). EndsRun n request (ByFile command bytes) left x) e ends in
+    record {
+      journal = record { appends = a; number = r; whole = all.0.all };
+      wrote = all.0.wrote;
+      end_is = e ∙ ap status_by (sym (not-some (last_state (ByFile command bytes) left.entries).core.source.fault all.1));
+    }
+ran-file n request command bytes left end a r (inr e) ends =
+    let all = subst (λ (x : Status). EndsRun n request (ByFile command bytes) left x) e ends in
+    record {
+      journal = record { appends = a; number = r; whole = all.0.all };
+      wrote = all.0.wrote;
+      end_is = e ∙ ap status_by (sym all.1);
+    }
+
+file-run : (n : ℕ) (files : Table) (words : List (List ℕ)) (bytes : List ℕ) (left : Left) (end : Status) (named : Names files words bytes) → IsThrough end → Ends n (asked files words) left end → RanFile named.command bytes left end
+file-run n files words bytes left end named through ends =
+    ran-file n (asked files words) named.command bytes left end named.appends named.number through
+    (subst (λ (r : Result Task End). EndsBehind n (asked files words) r left end) named.task ends)
+
+wrote-is : (text before : List ℕ) (old new : Option (List ℕ)) → old ≡ Some before → Wrote text old new → new ≡ Some (before ++ text)
+wrote-is text before old new e w = subst (λ (o : Option (List ℕ)). Wrote text o new) e w
+
+pub one-run : (files : Table) (a b : List (List ℕ)) (bytes : List ℕ) (n m : ℕ) (before : List ℕ) (s t : Left) (x y : Status) → NameOneFile files a b bytes → length bytes < 2 ^ 62
+    → s.written_before ≡ Some before → t.written_before ≡ Some before → IsThrough x → IsThrough y → Ends n (asked files a) s x → Ends m (asked files b) t y → (x ≡ y) × (s.written ≡ t.written)
+one-run files a b bytes n m before s t x y one short i j f g p q =
+    let first : Names files a bytes = names files a bytes one.first one.found in
+    let second : Names files b bytes = names files b bytes one.second (ap files (sym one.same) ∙ one.found) in
+    let here : RanFile first.command bytes s x = file-run n files a bytes s x first f p in
+    let there : RanFile second.command bytes t y = file-run m files b bytes t y second g q in
+    let core = one-core first.command second.command bytes s.entries t.entries short here.journal there.journal in
+    let text = one-text first.command second.command bytes s.entries t.entries short here.journal there.journal in (
+      here.end_is ∙ ap (λ (c : Core). status_by (is_some c.source.fault)) core ∙ sym there.end_is,
+      wrote-is (text_of (ByFile first.command bytes) s.entries) before s.written_before s.written i here.wrote
+          ∙ ap (λ zs. Some (before ++ zs)) text
+          ∙ sym (wrote-is (text_of (ByFile second.command bytes) t.entries) before t.written_before t.written j there.wrote),
+    )

@@ -1,0 +1,56 @@
+-- How a script was played.
+use Rattle.std.proofs.Common.{◌≡◌, ◌<◌, ℕ, List, [], ◌++◌, length, map, refl, sym, subst, arith, inl, inr}
+use Rattle.std.proofs.lemmas.List.{length-map}
+use Rattle.std.specs.Prelude.{true, false, Option, Result, Ok, Err, OnErr}
+use Rattle.mse_calls.specs.declared.rules.Rule.{Rule}
+use Rattle.call_script.specs.declared.script.StepLine.{StepLine}
+use Rattle.event_text.specs.Block.{closing_text}
+use Rattle.listeners.specs.declared.listener.Note.{Note}
+use Rattle.mse_engine.specs.State.{State}
+use Rattle.mse_engine.specs.Standing.{Stands}
+use Rattle.mse_engine.specs.Views.{view_in}
+use Rattle.script_run.specs.declared.stop.Halt.{Halt}
+use Rattle.script_run.specs.declared.stop.Halt.TheVariants as halt
+use Rattle.script_run.specs.declared.stop.Stop.{Stop}
+use Rattle.script_run.specs.declared.stop.Stop.TheVariants.{Halted, CallBudget, TaskBudget}
+use Rattle.script_run.specs.Follows.{LinesAre, LinesBegin}
+use Rattle.script_run.specs.Lines.{Limits}
+use Rattle.script_run.specs.Ran.{Played, PlayedUpTo}
+use Rattle.script_run.specs.Rules.{rules_at, rules_for}
+use Rattle.script_run.specs.Stage.{RunView, Stage, stage}
+use Rattle.script_run.specs.Turns.{SpentInLine}
+use Rattle.script_run.specs.Wrote.{Wrote, WroteFront}
+use Rattle.script_run.proofs.Writing.{front_more}
+use Rattle.mse_commands.specs.Endings.{end_of_halt, end_of_stop}
+use Rattle.mse_commands.specs.Outcomes.{HaveRules}
+use Rattle.mse_commands.specs.Works.{PlaysScript}
+
+pub plays_to_stop : (limits : Limits) (blobs : List (List ℕ)) (lines : List StepLine) (rules : List Rule) (given : List (List Rule)) (a b : Stage) (stop : Stop)
+    → PlayedUpTo blobs (SpentInLine limits.limit) (LinesBegin blobs limits lines) stop a b → HaveRules rules given → PlaysScript limits blobs lines rules given a b (Err (end_of_stop limits.limit stop))
+plays_to_stop limits blobs lines rules given a b (Halted halt.Memory) p h = inr (inl (record { played = p; rules_are = h }))
+plays_to_stop limits blobs lines rules given a b (Halted halt.Write) p h = inr (inl (record { played = p; rules_are = h }))
+plays_to_stop limits blobs lines rules given a b (CallBudget k) p h = record { played = p; rules_are = h }
+plays_to_stop limits blobs lines rules given a b TaskBudget p h = (refl, record { played = p; rules_are = h })
+
+pub plays_whole : (limits : Limits) (blobs : List (List ℕ)) (lines : List StepLine) (rules : List Rule) (given : List (List Rule)) (r0 r1 : RunView) (w0 w1 w2 : Option (List ℕ)) (n0 n1 : List (List Note))
+    → Played blobs (LinesAre blobs limits lines) (stage r0 w0 n0) (stage r1 w1 n1) → ((st : State) → Stands r1.engine st → Wrote (closing_text (view_in st) true) w1 w2) → HaveRules rules given
+    → PlaysScript limits blobs lines rules given (stage r0 w0 n0) (stage r1 w2 n1) (Ok false)
+plays_whole limits blobs lines rules given r0 r1 w0 w1 w2 n0 n1 p wrote h = (refl, record { middle = w1; played = p; shown = record { wrote = wrote }; rules_are = h })
+
+pub plays_half : (limits : Limits) (blobs : List (List ℕ)) (lines : List StepLine) (rules : List Rule) (given : List (List Rule)) (r0 r1 : RunView) (w0 w1 w2 : Option (List ℕ)) (n0 n1 : List (List Note)) (h : Halt)
+    → Played blobs (LinesAre blobs limits lines) (stage r0 w0 n0) (stage r1 w1 n1) → ((st : State) → Stands r1.engine st → WroteFront (closing_text (view_in st) true) w1 w2) → HaveRules rules given
+    → PlaysScript limits blobs lines rules given (stage r0 w0 n0) (stage r1 w2 n1) (Err (end_of_halt h))
+plays_half limits blobs lines rules given r0 r1 w0 w1 w2 n0 n1 halt.Memory p wrote h = inr (inr (record { middle = w1; played = p; shown = wrote; rules_are = h }))
+plays_half limits blobs lines rules given r0 r1 w0 w1 w2 n0 n1 halt.Write p wrote h = inr (inr (record { middle = w1; played = p; shown = wrote; rules_are = h }))
+
+-- a put behind another one was not done
+pub err_behind : (r : Result (Unit {0}) Halt) (before text : List ℕ) (old mid new : Option (List ℕ)) → Wrote before old mid → OnErr r (WroteFront text mid new) → OnErr r (WroteFront (before ++ text) old new)
+err_behind (Ok u) before text old mid new w p = tt
+err_behind (Err e) before text old mid new w p = front_more before text old mid new w p
+
+-- the listeners have the rules that they were given
+pub have_rules : {X : Type 0} (f : X → List Rule) (xs : List X) (n : ℕ) (rules list : List Rule) (now : List (List Rule)) → now ≡ map f xs → list ≡ rules
+    → ((w : ℕ) → w < n → rules_at (map f xs) w ≡ rules_for w list) → length xs ≡ n → HaveRules rules now
+have_rules f xs n rules list now e q given len =
+    subst (λ (x : List (List Rule)). HaveRules rules x) (sym e)
+    (subst (λ (r : List Rule). HaveRules r (map f xs)) q (λ w h. given w (omega (arith, h, len, length-map xs f))))

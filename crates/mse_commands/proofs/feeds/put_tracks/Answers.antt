@@ -1,0 +1,23 @@
+use Rattle.std.proofs.Common.{◌≡◌, ◌<◌, arith, length}
+use Rattle.feed_lines.specs.Lines.{feed_text}
+use Rattle.mse_commands.specs.Feeds.{tracks_in}
+use Rattle.mse_commands.proofs.Putting.{one_failed, one_put}
+use Rattle.mse_commands.proofs.Tracking.{held}
+use Rattle.mse_commands.proofs.feeds.put_tracks.Goals as goal
+
+pub returns-in-Err-clause-err : goal.returns-in-Err-clause-err
+returns-in-Err-clause-err g c = λ st h.
+    let count : c.in-Ok.count ≡ length (tracks_in st) = c.in-Ok.ensures st h in
+    let low : c.loop-i.i < length (tracks_in st) = omega (arith, c.loop-i-test.true, count) in
+    let t = held (tracks_in st) c.loop-i.i low in
+    one_failed (feed_text c.args.at) (tracks_in st) c.loop-i.i t.0 _ _ _ t.1 (c.loop-i.invariant.put st h) (rw t.1 at (c.in-Err.ensures.err st h))
+
+pub loop-i-preserved : goal.loop-i-preserved
+loop-i-preserved g c = record {
+  put = λ st h.
+      let count : c.in-Ok.count ≡ length (tracks_in st) = c.in-Ok.ensures st h in
+      let low : c.loop-i.i < length (tracks_in st) = omega (arith, c.loop-i-test.true, count) in
+      let t = held (tracks_in st) c.loop-i.i low in
+      one_put (feed_text c.args.at) (tracks_in st) c.loop-i.i t.0 _ _ _ t.1 (c.loop-i.invariant.put st h) (rw t.1 at (c.in-Ok-put_track.ensures.ok st h));
+  later = omega (arith, c.loop-i.invariant.later, c.put_track.ensures.later);
+}

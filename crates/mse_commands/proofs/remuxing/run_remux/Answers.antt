@@ -1,0 +1,19 @@
+use Rattle.mse_commands.proofs.Working.{remux_not_loaded, remux_stops, remux_works}
+use Rattle.mse_commands.proofs.remuxing.run_remux.Goals as goal
+
+pub returns-in-Err-clause-works : goal.returns-in-Err-clause-works
+returns-in-Err-clause-works g c = λ count told given.
+    remux_not_loaded (g.L.Library.table c.args.library.now) (g.L.Library.faults c.args.library.now) (g.L.Library.faults c.load.new.library) c.args.name.now c.in-Err.end
+    (g.K.Sink.written c.args.sink.now) count told given c.in-Err.ensures.end
+
+pub returns-in-Ok-put_remuxed-clause-works : goal.returns-in-Ok-put_remuxed-clause-works
+returns-in-Ok-put_remuxed-clause-works g c = λ count told given.
+    remux_works (g.L.Library.table c.args.library.now) (g.L.Library.faults c.args.library.now) (g.L.Library.faults c.load.new.library) c.args.name.now c.in-Ok.file.items
+    (g.K.Sink.written c.args.sink.now) (g.K.Sink.written c.put_remuxed.new.sink) count told given c.in-Ok-put_remuxed.broken c.in-Ok.ensures.ok
+    (rw c.as_slice.ensures.value at c.in-Ok-put_remuxed.ensures.wrote) (rw c.as_slice.ensures.value at c.in-Ok-put_remuxed.ensures.ok)
+
+pub returns-clause-works : goal.returns-clause-works
+returns-clause-works g c = λ count told given.
+    rw c.of_halt.ensures (remux_stops (g.L.Library.table c.args.library.now) (g.L.Library.faults c.args.library.now) (g.L.Library.faults c.load.new.library) c.args.name.now c.in-Ok.file.items
+    (g.K.Sink.written c.args.sink.now) (g.K.Sink.written c.put_remuxed.new.sink) count told given c.in-Err-put_remuxed.halt c.in-Ok.ensures.ok
+    (rw c.as_slice.ensures.value at c.in-Err-put_remuxed.ensures.err))

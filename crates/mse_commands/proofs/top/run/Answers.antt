@@ -1,0 +1,48 @@
+use Rattle.std.proofs.Common.{map, string_bytes}
+use Rattle.std.specs.Prelude.{vec_len}
+use Rattle.mse_commands.specs.declared.ending.Status.TheVariants as status
+use Rattle.mse_commands.proofs.Completing.{complete_by, cuts_by}
+use Rattle.mse_commands.proofs.Saying.{broken_at, put_failed, said_by, whole_by}
+use Rattle.mse_commands.proofs.top.run.Goals as goal
+
+pub returns-in-Ok-true-clause-ends : goal.returns-in-Ok-true-clause-ends
+returns-in-Ok-true-clause-ends g c = broken_at (g.L.Library.table c.args.library.now) (map string_bytes c.args.words.now) (vec_len c.args.listeners.now) _ (rw c.in-Ok-true.field-0-test at c.in-Ok-true.ensures.works)
+
+pub returns-in-Ok-true-clause-complete : goal.returns-in-Ok-true-clause-complete
+returns-in-Ok-true-clause-complete g c =
+    complete_by (g.L.Library.table c.args.library.now) (map string_bytes c.args.words.now) (vec_len c.args.listeners.now) _ _ _ status.Media (broken_at (g.L.Library.table c.args.library.now) (map string_bytes c.args.words.now) (vec_len c.args.listeners.now) _ (rw c.in-Ok-true.field-0-test at c.in-Ok-true.ensures.works))
+    (λ e. absurd (cc (e)))
+
+pub returns-in-Ok-true-clause-cuts : goal.returns-in-Ok-true-clause-cuts
+returns-in-Ok-true-clause-cuts g c = cuts_by (g.L.Library.table c.args.library.now) (map string_bytes c.args.words.now) (vec_len c.args.listeners.now) _ status.Media (broken_at (g.L.Library.table c.args.library.now) (map string_bytes c.args.words.now) (vec_len c.args.listeners.now) _ (rw c.in-Ok-true.field-0-test at c.in-Ok-true.ensures.works))
+
+pub returns-in-Ok-false-clause-ends : goal.returns-in-Ok-false-clause-ends
+returns-in-Ok-false-clause-ends g c = whole_by (g.L.Library.table c.args.library.now) (map string_bytes c.args.words.now) (vec_len c.args.listeners.now) _ (rw c.in-Ok-false.field-0-test at c.in-Ok-false.ensures.works)
+
+pub returns-in-Ok-false-clause-complete : goal.returns-in-Ok-false-clause-complete
+returns-in-Ok-false-clause-complete g c =
+    complete_by (g.L.Library.table c.args.library.now) (map string_bytes c.args.words.now) (vec_len c.args.listeners.now) _ _ _ status.Ok (whole_by (g.L.Library.table c.args.library.now) (map string_bytes c.args.words.now) (vec_len c.args.listeners.now) _ (rw c.in-Ok-false.field-0-test at c.in-Ok-false.ensures.works))
+    (λ e. absurd (cc (e)))
+
+pub returns-in-Ok-false-clause-cuts : goal.returns-in-Ok-false-clause-cuts
+returns-in-Ok-false-clause-cuts g c = cuts_by (g.L.Library.table c.args.library.now) (map string_bytes c.args.words.now) (vec_len c.args.listeners.now) _ status.Ok (whole_by (g.L.Library.table c.args.library.now) (map string_bytes c.args.words.now) (vec_len c.args.listeners.now) _ (rw c.in-Ok-false.field-0-test at c.in-Ok-false.ensures.works))
+
+pub returns-in-Err-clause-ends : goal.returns-in-Err-clause-ends
+returns-in-Err-clause-ends g c =
+    said_by (g.L.Library.table c.args.library.now) (map string_bytes c.args.words.now) (vec_len c.args.listeners.now) _ c.in-Err.end
+    (g.K.Sink.written c.say.new.sink) c.say.result c.in-Err.ensures.works c.say.ensures.says
+
+pub returns-in-Err-clause-complete : goal.returns-in-Err-clause-complete
+returns-in-Err-clause-complete g c =
+    let ends =
+    said_by (g.L.Library.table c.args.library.now) (map string_bytes c.args.words.now) (vec_len c.args.listeners.now) _ c.in-Err.end
+    (g.K.Sink.written c.say.new.sink) c.say.result c.in-Err.ensures.works c.say.ensures.says in
+    complete_by (g.L.Library.table c.args.library.now) (map string_bytes c.args.words.now) (vec_len c.args.listeners.now) _ _ _ c.say.result ends
+    (put_failed c.in-Err.end c.say.result _ _ _ c.say.ensures.write c.in-Err.ensures.write c.in-Err.ensures.later c.say.ensures.later)
+
+pub returns-in-Err-clause-cuts : goal.returns-in-Err-clause-cuts
+returns-in-Err-clause-cuts g c =
+    let ends =
+    said_by (g.L.Library.table c.args.library.now) (map string_bytes c.args.words.now) (vec_len c.args.listeners.now) _ c.in-Err.end
+    (g.K.Sink.written c.say.new.sink) c.say.result c.in-Err.ensures.works c.say.ensures.says in
+    cuts_by (g.L.Library.table c.args.library.now) (map string_bytes c.args.words.now) (vec_len c.args.listeners.now) _ c.say.result ends

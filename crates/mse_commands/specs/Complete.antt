@@ -1,0 +1,47 @@
+-- When a run goes through to its end, and what then is known of scripts whose appends are cut.
+use Rattle.std.specs.Prelude.{◌≡◌, ◌⊎◌, ℕ, List, Ok}
+use Rattle.mse_outside.specs.Outside.{Rose}
+use Rattle.mse_calls.specs.declared.entry.Entry.{Entry}
+use Rattle.call_script.specs.declared.script.Script.{Script as CallScript}
+use Rattle.script_run.specs.Turns.{calls_in}
+use Rattle.play_law.specs.Silent.{CutsAlike}
+use Rattle.mse_commands.specs.declared.ending.End.{End}
+use Rattle.mse_commands.specs.declared.ending.Status.{Status}
+use Rattle.mse_commands.specs.declared.ending.Status.TheVariants as status
+use Rattle.mse_commands.specs.Asked.{Request, Task, ByScript, opening_of}
+use Rattle.mse_commands.specs.Outcomes.{HasCause, IsBroken, Left, RanWhole}
+use Rattle.mse_commands.specs.Shown.{last_state}
+
+-- Nothing stands in the way of a task: neither the library nor the sink, of which these are the counts of failures,
+-- failed, and no listener called too often.
+pub record IsUnhindered (task : Task) (left : Left) (puts_before puts : ℕ) : Type 0 where
+  pub loads_done : ¬ Rose left.faults_before left.faults
+  pub puts_done : ¬ Rose puts_before puts
+  pub calls_within : (end : End) → ¬ HasCause task left end
+
+-- the status is 9 where a file breaks the byte stream format, and else 0
+abbrev pub IsDoneBy : Task → List Entry → Status → Type 0
+IsDoneBy task entries end =
+    ((end ≡ status.Ok) × ¬ IsBroken task entries) ⊎ ((end ≡ status.Media) × IsBroken task entries)
+
+-- all of it was run, and the whole text was written
+pub record RanToEnd (count : ℕ) (task : Task) (left : Left) (end : Status) : Type 0 where
+  pub ran : RanWhole count task left
+  pub done : IsDoneBy task left.entries end
+
+-- Where the words are a command, its files are there and its script reads, and nothing stands in the way, all is run and
+-- the whole text is written, or there was no memory.
+abbrev pub IsComplete : ℕ → Request → Left → ℕ → ℕ → Status → Type 0
+IsComplete count request left puts_before puts end =
+    (task : Task) → request.task ≡ Ok task → IsUnhindered task left puts_before puts
+    → RanToEnd count task left end ⊎ (end ≡ status.Memory)
+
+-- Where a script was played to its end and no listener made a call, cutting appended bytes anywhere, where the append was
+-- awaited and the quota is not met, comes to the core of its last state: to the same tracks, ranges, duration and first
+-- fault.
+abbrev pub CutAnywhere : Request → List Entry → Status → Type 0
+CutAnywhere request entries end =
+    (script : CallScript) (blobs : List (List ℕ)) → request.task ≡ Ok (ByScript script blobs) → end ≡ status.Ok
+    → calls_in entries ≡ 0
+    → CutsAlike blobs (opening_of (ByScript script blobs)) script.steps
+    (last_state (ByScript script blobs) entries).core

@@ -1,0 +1,34 @@
+-- Runs with one file, which `ranges` appends at once and `pieces` in pieces (docs/SCRIPTS.md, commands).
+use Rattle.std.specs.Prelude.{◌≡◌, ◌⊎◌, ℕ, List, [], ◌∷◌, length, Some, IsSomeAnd, ⊤}
+use Rattle.mse_outside.specs.Outside.{Table}
+use Rattle.mse_calls.specs.declared.entry.Entry.{Entry}
+use Rattle.mse_commands.specs.declared.ending.Status.{Status}
+use Rattle.mse_commands.specs.declared.ending.Status.TheVariants as status
+use Rattle.mse_commands.specs.declared.words.Command.{Command}
+use Rattle.mse_commands.specs.declared.words.Command.TheVariants.{Ranges, Pieces}
+use Rattle.mse_commands.specs.Asked.{ByFile, opening_of}
+use Rattle.mse_commands.specs.Shown.{IsWholeFile, pieces_by}
+use Rattle.mse_commands.specs.Words.{IsInRange, command_of, file_of}
+
+-- the command appends a file of the library, and prints the block of it alone
+abbrev pub AppendsFile : Command → Type 0
+AppendsFile Ranges = ⊤
+AppendsFile (Pieces count) = ⊤
+AppendsFile other = ⊥
+
+-- the whole journal of a command that appends a file of these bytes
+pub record IsJournalOf (command : Command) (bytes : List ℕ) (entries : List Entry) : Type 0 where
+  pub appends : AppendsFile command
+  pub number : IsInRange command
+  pub whole : IsWholeFile (bytes ∷ []) (opening_of (ByFile command bytes)) (pieces_by command (length bytes)) entries
+
+-- two calls name one file, of these bytes
+pub record NameOneFile (files : Table) (a b : List (List ℕ)) (bytes : List ℕ) : Type 0 where
+  pub first : IsSomeAnd (command_of a) AppendsFile
+  pub second : IsSomeAnd (command_of b) AppendsFile
+  pub same : file_of a ≡ file_of b
+  pub found : files (file_of a) ≡ Some bytes
+
+-- the run went through to its end
+abbrev pub IsThrough : Status → Type 0
+IsThrough end = (end ≡ status.Ok) ⊎ (end ≡ status.Media)

@@ -1,0 +1,43 @@
+-- Why something of a library was not loaded.
+use Rattle.std.specs.Prelude.{◌≡◌, ℕ, List, [], ◌∷◌, ◌++◌, All, Option, IsSome, IfSome, Result, Err, ⊤}
+use Rattle.bmff_write.specs.Made.{made_bytes}
+use Rattle.mse_outside.specs.Outside.{Table, Rose}
+use Rattle.mse_commands.specs.declared.ending.End.{End}
+use Rattle.mse_commands.specs.declared.ending.End.TheVariants.{Memory, Write, Words, NoFile, Read, Script, CallBudget, TaskBudget}
+use Rattle.mse_commands.specs.declared.words.Command.{Command}
+use Rattle.mse_commands.specs.declared.words.Command.TheVariants.{Make}
+use Rattle.mse_commands.specs.Asked.{IsReadOf, script_loaded}
+
+-- a file of this name is one of those that are loaded, and all that are named before it are there
+pub record IsReached (files : Table) (names : List (List ℕ)) (name : List ℕ) : Type 0 where
+  pub before : List (List ℕ)
+  pub after : List (List ℕ)
+  pub names_are : names ≡ before ++ name ∷ after
+  pub there : All (λ other. IsSome (files other)) before
+
+-- A file that these ask for is not there; or the library counted a failure at one of the files of these names, or there was
+-- no memory.
+abbrev pub LoadEnd : {A : Type 0} → Option Table → ℕ → ℕ → List (List ℕ) → (Table → Result A End) → End → Type 0
+LoadEnd table before now names told Memory = ⊤
+LoadEnd table before now names told (Read name) = Rose before now × IfSome table (λ files. IsReached files names name)
+LoadEnd table before now names told (NoFile name) = IfSome table (λ files. told files ≡ Err (NoFile name))
+LoadEnd table before now names told (Script fault) = ⊥
+LoadEnd table before now names told Write = ⊥
+LoadEnd table before now names told Words = ⊥
+LoadEnd table before now names told (CallBudget k) = ⊥
+LoadEnd table before now names told (TaskBudget limit) = ⊥
+
+-- why a script was not loaded: the same, or it has a fault
+abbrev pub ScriptEnd : Option Table → ℕ → ℕ → List ℕ → End → Type 0
+ScriptEnd table before now name (Script fault) =
+    IsReadOf (Err fault) × IfSome table (λ files. script_loaded files name ≡ Err (Script fault))
+ScriptEnd table before now name other = LoadEnd table before now (name ∷ []) (λ files. script_loaded files name) other
+
+-- What is made is the file of the number, and only memory may be wanting for it.
+abbrev pub IsMade : Command → List ℕ → Type 0
+IsMade (Make count) bytes = bytes ≡ made_bytes count
+IsMade other bytes = ⊤
+
+abbrev pub IsUnmade : Command → End → Type 0
+IsUnmade (Make count) end = end ≡ Memory
+IsUnmade other end = ⊤

@@ -1,0 +1,48 @@
+//! What follows from the definitions: functions that do nothing, with the laws as their contracts.
+
+ghost use Rattle.std.specs.Prelude.{◌≡◌, ◌≤◌, ◌<◌, ◌^◌, ℕ, List, ◌++◌, length, Option, Some, IsSome};
+ghost use Rattle.std.specs.Fmt.{decimal};
+ghost use Rattle.mse_outside.specs.Outside.{Table};
+ghost use Rattle.mse_calls.specs.declared.entry.Entry.{Entry};
+ghost use Rattle.mse_commands.specs.declared.ending.Status.{Status};
+ghost use Rattle.mse_commands.specs.declared.words.Command.{Command};
+ghost use Rattle.mse_commands.specs.Asked.{ByFile, asked};
+ghost use Rattle.mse_commands.specs.Files.{AppendsFile, IsJournalOf, IsThrough, NameOneFile};
+ghost use Rattle.mse_commands.specs.Outcomes.{Ends, Left};
+ghost use Rattle.mse_commands.specs.Shown.{last_state, text_of};
+ghost use Rattle.mse_commands.specs.Words.{number_of};
+
+/// A word names a number up to the greatest one, which has 32 bits, exactly where it is that number
+/// in decimal digits.
+pub fn numbers_in_words()
+    ensures named { (most n : ℕ) (word : List ℕ) → most < 2 ^ 32 → number_of most word ≡ Some n
+        → (1 ≤ n) × (n ≤ most) × (word ≡ decimal n) }
+    ensures each { (most n : ℕ) → most < 2 ^ 32 → 1 ≤ n → n ≤ most
+        → number_of most (decimal n) ≡ Some n }
+{}
+
+/// Whole journals of a file of fewer than 2^62 bytes, by `ranges` or by `pieces` of any size, come
+/// to one core, and the same is printed. Two runs that go through to their end with such a file
+/// have one status and write the same bytes.
+pub fn one_block()
+    ensures core { (a b : Command) (bytes : List ℕ) (entries others : List Entry)
+        → length bytes < 2 ^ 62 → IsJournalOf a bytes entries → IsJournalOf b bytes others
+        → (last_state (ByFile a bytes) entries).core ≡ (last_state (ByFile b bytes) others).core }
+    ensures text { (a b : Command) (bytes : List ℕ) (entries others : List Entry)
+        → length bytes < 2 ^ 62 → IsJournalOf a bytes entries → IsJournalOf b bytes others
+        → text_of (ByFile a bytes) entries ≡ text_of (ByFile b bytes) others }
+    ensures runs { (files : Table) (a b : List (List ℕ)) (bytes : List ℕ) (n m : ℕ)
+        (before : List ℕ) (s t : Left) (x y : Status) → NameOneFile files a b bytes
+        → length bytes < 2 ^ 62 → s.written_before ≡ Some before → t.written_before ≡ Some before
+        → IsThrough x → IsThrough y → Ends n (asked files a) s x → Ends m (asked files b) t y
+        → (x ≡ y) × (s.written ≡ t.written) }
+{}
+
+/// Bytes behind the first fault change nothing of what is printed.
+pub fn behind_a_fault()
+    ensures { (a b : Command) (bytes more : List ℕ) (entries others : List Entry)
+        → length (bytes ++ more) < 2 ^ 62 → IsJournalOf a bytes entries
+        → IsSome (last_state (ByFile a bytes) entries).core.source.fault
+        → IsJournalOf b (bytes ++ more) others
+        → text_of (ByFile b (bytes ++ more)) others ≡ text_of (ByFile a bytes) entries }
+{}

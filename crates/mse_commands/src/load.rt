@@ -1,0 +1,124 @@
+//! Files, scripts and blobs of the library.
+
+ghost use Rattle.std.specs.Prelude.{◌≡◌, ◌≤◌, ◌⊎◌, ◌∷◌, [], ℕ, length, Ok, IfSome, IfOk, IfErr};
+ghost use Rattle.mse_outside.specs.Outside.{Rose};
+ghost use Rattle.mse_commands.specs.Asked.{IsReadOf, blob_bytes, blobs_bytes, files_in, loaded, script_loaded};
+ghost use Rattle.mse_commands.specs.Loads.{LoadEnd, ScriptEnd};
+
+use crate::ending::End;
+use call_script::{BlobText, Script, ScriptError, read_script};
+use mse_base::{Bytes, Text};
+use mse_calls::Blobs;
+use mse_outside::{Library, Loaded};
+use std::alloc::Global;
+
+// The file of this name is not there.
+fn no_file(alloc: Global, name: &str) -> End
+    ensures { (result ≡ End.Memory) ⊎ (result ≡ End.NoFile name.now) }
+{
+    match Text::copy_of(alloc, name) {
+        Ok(name) => End::NoFile(name),
+        Err(_) => End::Memory,
+    }
+}
+
+// The library failed to read the file of this name.
+fn read_failed(alloc: Global, name: &str) -> End
+    ensures { (result ≡ End.Memory) ⊎ (result ≡ End.Read name.now) }
+{
+    match Text::copy_of(alloc, name) {
+        Ok(name) => End::Read(name),
+        Err(_) => End::Memory,
+    }
+}
+
+/// The bytes of a file.
+pub fn load<L: Library>(alloc: Global, library: &mut L, name: &str) -> Result<Vec<u8>, End>
+    ensures table { L.table library.new ≡ L.table library.old }
+    ensures ok { IfSome (L.table library.old) (λ files.
+        IfOk result (λ made. loaded files name.now ≡ Ok made.items)) }
+    ensures end { IfErr result (LoadEnd (L.table library.old)
+        (L.faults library.old) (L.faults library.new)
+        (name.now ∷ []) (λ files. loaded files name.now)) }
+    ensures later { L.faults library.old ≤ L.faults library.new }
+{
+    let mut bytes = Vec::new(alloc);
+    match library.load(name, &mut bytes) {
+        Loaded::Done => Ok(bytes),
+        Loaded::NoFile => Err(no_file(alloc, name)),
+        Loaded::Failed => Err(read_failed(alloc, name)),
+        Loaded::OutOfMemory => Err(End::Memory),
+    }
+}
+
+/// The script of a file.
+pub fn load_script<L: Library>(alloc: Global, library: &mut L, name: &str) -> Result<Script, End>
+    ensures table { L.table library.new ≡ L.table library.old }
+    ensures ok { IfSome (L.table library.old) (λ files.
+        IfOk result (λ made. script_loaded files name.now ≡ Ok made)) }
+    ensures read { IfOk result (λ made. IsReadOf (Ok made)) }
+    ensures end { IfErr result (ScriptEnd (L.table library.old)
+        (L.faults library.old) (L.faults library.new) name.now) }
+    ensures later { L.faults library.old ≤ L.faults library.new }
+{
+    let bytes = match load(alloc, library, name) {
+        Ok(bytes) => bytes,
+        Err(end) => return Err(end),
+    };
+    match read_script(alloc, bytes.as_slice()) {
+        Ok(script) => Ok(script),
+        Err(ScriptError::OutOfMemory) => Err(End::Memory),
+        Err(ScriptError::Fault(fault)) => Err(End::Script(fault)),
+    }
+}
+
+// The bytes of a blob.
+fn load_blob<L: Library>(alloc: Global, library: &mut L, text: &BlobText) -> Result<Bytes, End>
+    ensures table { L.table library.new ≡ L.table library.old }
+    ensures ok { IfSome (L.table library.old) (λ files.
+        IfOk result (λ made. blob_bytes files text.now ≡ Ok made)) }
+    ensures end { IfErr result (LoadEnd (L.table library.old)
+        (L.faults library.old) (L.faults library.new)
+        (files_in (text.now ∷ [])) (λ files. blob_bytes files text.now)) }
+    ensures later { L.faults library.old ≤ L.faults library.new }
+{
+    match text {
+        BlobText::File(name) => match load(alloc, library, name.as_str()) {
+            Ok(bytes) => Ok(Bytes::from_vec(alloc, bytes)),
+            Err(end) => Err(end),
+        },
+        BlobText::Hex(bytes) => match bytes.copy() {
+            Ok(bytes) => Ok(bytes),
+            Err(_) => Err(End::Memory),
+        },
+    }
+}
+
+/// The bytes of the blobs of a script, in their order.
+pub fn load_blobs<L: Library>(
+    alloc: Global,
+    library: &mut L,
+    texts: &[BlobText],
+) -> Result<Blobs, End>
+    ensures table { L.table library.new ≡ L.table library.old }
+    ensures ok { IfSome (L.table library.old) (λ files.
+        IfOk result (λ made. blobs_bytes files texts.now ≡ Ok made)) }
+    ensures count { IfOk result (λ made. length made ≡ length texts.now) }
+    ensures end { IfErr result (LoadEnd (L.table library.old)
+        (L.faults library.old) (L.faults library.new)
+        (files_in texts.now) (λ files. blobs_bytes files texts.now)) }
+    ensures later { L.faults library.old ≤ L.faults library.new }
+{
+    let mut blobs = Blobs::new(alloc);
+    for text in texts {
+        let bytes = match load_blob(alloc, library, text) {
+            Ok(bytes) => bytes,
+            Err(end) => return Err(end),
+        };
+        match blobs.push(bytes) {
+            Ok(()) => {}
+            Err(_) => return Err(End::Memory),
+        }
+    }
+    Ok(blobs)
+}

@@ -1,0 +1,116 @@
+//! A classic file as fragments.
+
+ghost use Rattle.std.specs.Prelude.{◌≡◌, ◌≤◌, ℕ, List, [], None, Some, IfOk, OnOk, OnErr, IsErrOf, is_err};
+ghost use Rattle.std.specs.List.{flat_map};
+ghost use Rattle.listeners.specs.declared.listener.Note.{Note};
+ghost use Rattle.mse_calls.specs.declared.rules.Rule.{Rule};
+ghost use Rattle.mse_outside.specs.Outside.{Rose};
+ghost use Rattle.remux.specs.Remuxed.{remuxed};
+ghost use Rattle.script_run.specs.Wrote.{Wrote, WroteFront};
+ghost use Rattle.mse_commands.specs.Asked.{OfCommand};
+ghost use Rattle.mse_commands.specs.Outcomes.{left};
+ghost use Rattle.mse_commands.specs.Remuxing.{remux_fault_line, remux_text};
+ghost use Rattle.mse_commands.specs.Works.{Works};
+
+use crate::ending::End;
+use crate::load::load;
+use crate::remux_fault::remux_fault_line;
+use crate::words::Command;
+use mse_base::Bytes;
+use mse_outside::{Library, Sink};
+use remux::{RemuxError, RemuxFault, remux};
+use script_run::{Halt, put_bytes};
+use std::alloc::Global;
+
+// Puts the pieces of a fragmented file, each with one put.
+fn put_pieces<K: Sink>(sink: &mut K, pieces: &[Bytes]) -> Result<(), Halt>
+    ensures ok { OnOk result (Wrote (flat_map (λ piece. piece) pieces.now)
+        (K.written sink.old) (K.written sink.new)) }
+    ensures err { OnErr result (WroteFront (flat_map (λ piece. piece) pieces.now)
+        (K.written sink.old) (K.written sink.new)) }
+    ensures later { K.faults sink.old ≤ K.faults sink.new }
+    ensures cause { IsErrOf result Halt.Write → Rose (K.faults sink.old) (K.faults sink.new) }
+{
+    for piece in pieces {
+        match put_bytes(sink, piece.as_slice()) {
+            Ok(()) => {}
+            Err(halt) => return Err(halt),
+        }
+    }
+    Ok(())
+}
+
+// Puts the line of a fault.
+fn put_fault<K: Sink>(
+    alloc: Global,
+    sink: &mut K,
+    fault: RemuxFault,
+    offset: u64,
+) -> Result<(), Halt>
+    ensures ok { OnOk result (Wrote (remux_fault_line fault offset)
+        (K.written sink.old) (K.written sink.new)) }
+    ensures err { OnErr result (WroteFront (remux_fault_line fault offset)
+        (K.written sink.old) (K.written sink.new)) }
+    ensures later { K.faults sink.old ≤ K.faults sink.new }
+    ensures cause { IsErrOf result Halt.Write → Rose (K.faults sink.old) (K.faults sink.new) }
+{
+    match remux_fault_line(alloc, fault, offset) {
+        Ok(line) => put_bytes(sink, line.as_bytes()),
+        Err(_) => Err(Halt::Memory),
+    }
+}
+
+// Puts a file as fragments, or the line of its fault. It answers whether it has one.
+fn put_remuxed<K: Sink>(alloc: Global, sink: &mut K, file: &[u8]) -> Result<bool, Halt>
+    ensures ok { IfOk result (λ broken. broken ≡ is_err (remuxed file.now)) }
+    ensures wrote { OnOk result (Wrote (remux_text file.now)
+        (K.written sink.old) (K.written sink.new)) }
+    ensures err { OnErr result (WroteFront (remux_text file.now)
+        (K.written sink.old) (K.written sink.new)) }
+    ensures later { K.faults sink.old ≤ K.faults sink.new }
+    ensures cause { IsErrOf result Halt.Write → Rose (K.faults sink.old) (K.faults sink.new) }
+{
+    match remux(alloc, file) {
+        Ok(pieces) => match put_pieces(sink, pieces.as_slice()) {
+            Ok(()) => Ok(false),
+            Err(halt) => Err(halt),
+        },
+        Err(RemuxError::Fault { fault, offset }) => match put_fault(alloc, sink, fault, offset) {
+            Ok(()) => Ok(true),
+            Err(halt) => Err(halt),
+        },
+        Err(RemuxError::OutOfMemory) => Err(Halt::Memory),
+    }
+}
+
+/// A file by `remux`: no engine is made, and no listener hears of it. It answers whether the file
+/// has a fault.
+pub fn run_remux<L: Library, K: Sink>(
+    alloc: Global,
+    name: &str,
+    library: &mut L,
+    sink: &mut K,
+) -> Result<bool, End>
+    ensures works { (count : ℕ) (told : List (List Note)) (given : List (List Rule))
+        → OfCommand (L.table library.old) name.now (Some Command.Remux) (λ request.
+        Works count request
+        (left [] None
+        (L.faults library.old) (L.faults library.new) (K.written sink.old) (K.written sink.new)
+        told told given given)
+        result) }
+    ensures words { ¬ IsErrOf result End.Words }
+    ensures read_later { L.faults library.old ≤ L.faults library.new }
+    ensures later { K.faults sink.old ≤ K.faults sink.new }
+    ensures write { IsErrOf result End.Write → Rose (K.faults sink.old) (K.faults sink.new) }
+    ensures read { (name : List ℕ) → IsErrOf result (End.Read name)
+        → Rose (L.faults library.old) (L.faults library.new) }
+{
+    let file = match load(alloc, library, name) {
+        Ok(file) => file,
+        Err(end) => return Err(end),
+    };
+    match put_remuxed(alloc, sink, file.as_slice()) {
+        Ok(broken) => Ok(broken),
+        Err(halt) => Err(End::of_halt(halt)),
+    }
+}

@@ -1,0 +1,103 @@
+//! The top call.
+
+ghost use Rattle.std.specs.Prelude.{◌≡◌, ◌≤◌, ◌<◌, ◌⊎◌, ◌^◌, ℕ, [], None, IfSome, map, string_bytes, vec_len};
+ghost use Rattle.listeners.specs.Dispatch.{notes_at};
+ghost use Rattle.mse_outside.specs.Outside.{Rose};
+ghost use Rattle.mse_commands.specs.Asked.{OfWords, asked};
+ghost use Rattle.mse_commands.specs.Complete.{CutAnywhere, IsComplete};
+ghost use Rattle.mse_commands.specs.Outcomes.{Ends, left};
+ghost use Rattle.mse_commands.specs.Says.{Says, SaysLine};
+ghost use Rattle.mse_commands.specs.Words.{command_of};
+
+use crate::commands::work;
+use crate::ending::{End, Status};
+use crate::text::error_line_for;
+use listeners::Listener;
+use mse_engine::Engine;
+use mse_outside::{Library, Sink};
+use run_journal::Journal;
+use script_run::put_bytes;
+use std::alloc::Global;
+use track_store::FrameStore;
+
+// Puts the line of an end.
+fn say_line<K: Sink>(alloc: Global, sink: &mut K, end: &End) -> Status
+    ensures said { SaysLine end.now (K.written sink.old) (K.written sink.new) result }
+    ensures write { result ≡ Status.Write
+        → (end.now ≡ End.Write) ⊎ Rose (K.faults sink.old) (K.faults sink.new) }
+    ensures later { K.faults sink.old ≤ K.faults sink.new }
+{
+    let Ok(line) = error_line_for(alloc, end) else {
+        return Status::Memory;
+    };
+    match put_bytes(sink, line.as_bytes()) {
+        Ok(()) => end.status(),
+        Err(halt) => End::of_halt(halt).status(),
+    }
+}
+
+// Says why a run ended early. After want of memory and a failed put nothing is put.
+fn say<K: Sink>(alloc: Global, sink: &mut K, end: &End) -> Status
+    ensures says { Says end.now (K.written sink.old) (K.written sink.new) result }
+    ensures write { result ≡ Status.Write
+        → (end.now ≡ End.Write) ⊎ Rose (K.faults sink.old) (K.faults sink.new) }
+    ensures later { K.faults sink.old ≤ K.faults sink.new }
+{
+    match end {
+        End::Memory => Status::Memory,
+        End::Write => Status::Write,
+        _ => say_line(alloc, sink, end),
+    }
+}
+
+/// Does what the words ask for with the files of the library, and puts the printed text into the
+/// sink, one whole line a put. `words` are the arguments after the program's name. `play SCRIPT`
+/// makes the calls of a script, to whose events the listeners answer by its rules; its lines are
+/// put as they come, and then what is buffered. `ranges FILE` and `pieces N FILE` append the file
+/// to a source buffer, at once or in pieces of N bytes, and print what is buffered then: both print
+/// the same. `make N` does so with a file of N segments that it makes, and says first what it made.
+/// `feed T FILE` appends the file, and prints the frames that a decoder is given to show the time T
+/// and all that comes after it. `remux FILE` writes a classic file as a fragmented one, of which the
+/// initialization segment and each media segment is a put of its own; it makes no engine. All that
+/// happened stands in the journal, and the engine is as it was left. Coded frames are kept
+/// in a store of type `S`.
+pub fn run<S: FrameStore, L: Library, K: Sink>(
+    alloc: Global,
+    words: &[String],
+    library: &mut L,
+    sink: &mut K,
+    listeners: &mut Vec<Box<dyn Listener>>,
+    engine: &mut Option<Engine<S>>,
+    journal: &mut Journal,
+) -> Status
+    requires listeners { vec_len listeners.old < 2 ^ 32 }
+    requires fresh { (w : ℕ) → notes_at (map (λ b. notes b) listeners.old.items) w ≡ [] }
+    requires journal { journal.old.entries ≡ [] }
+    requires engine { engine.old ≡ None }
+    ensures ends { OfWords (L.table library.old) (map string_bytes words.now) (λ request.
+        Ends (vec_len listeners.old) request
+        (left journal.new.entries engine.new
+        (L.faults library.old) (L.faults library.new) (K.written sink.old) (K.written sink.new)
+        (map (λ b. notes b) listeners.old.items) (map (λ b. notes b) listeners.new.items)
+        (map (λ b. rules b) listeners.old.items) (map (λ b. rules b) listeners.new.items))
+        result) }
+    ensures complete { IfSome (L.table library.old) (λ files. IsComplete (vec_len listeners.old)
+        (asked files (map string_bytes words.now))
+        (left journal.new.entries engine.new
+        (L.faults library.old) (L.faults library.new) (K.written sink.old) (K.written sink.new)
+        (map (λ b. notes b) listeners.old.items) (map (λ b. notes b) listeners.new.items)
+        (map (λ b. rules b) listeners.old.items) (map (λ b. rules b) listeners.new.items))
+        (K.faults sink.old) (K.faults sink.new) result) }
+    ensures cuts { IfSome (L.table library.old) (λ files.
+        CutAnywhere (asked files (map string_bytes words.now)) journal.new.entries result) }
+    ensures count { vec_len listeners.new ≡ vec_len listeners.old }
+    ensures words { result ≡ Status.Words → command_of (map string_bytes words.now) ≡ None }
+    ensures read { result ≡ Status.Read → Rose (L.faults library.old) (L.faults library.new) }
+    ensures write { result ≡ Status.Write → Rose (K.faults sink.old) (K.faults sink.new) }
+{
+    match work(alloc, words, library, sink, listeners, engine, journal) {
+        Ok(false) => Status::Ok,
+        Ok(true) => Status::Media,
+        Err(end) => say(alloc, sink, &end),
+    }
+}

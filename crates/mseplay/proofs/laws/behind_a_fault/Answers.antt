@@ -1,9 +1,0 @@
-use Rattle.std.proofs.Common.{◌<◌, ◌+◌, ◌^◌, ◌≡◌, List, ℕ, length, ◌++◌, arith, length-append}
-use Rattle.mseplay.proofs.Blocks.{fault-text}
-use Rattle.mseplay.proofs.laws.behind_a_fault.Goals as goal
-
-pub returns : goal.returns
-returns c = λ a b bytes more entries others long p fault q.
-    let sum : length (bytes ++ more) ≡ length bytes + length more = length-append bytes more in
-    let short : length bytes < 2 ^ 62 = omega (arith, sum, long) in
-    fault-text a b bytes more entries others long short p fault q
