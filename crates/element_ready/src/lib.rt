@@ -14,6 +14,3 @@ mod levels;
 pub use events::{events_of_change, is_first_data};
 pub use facts::Facts;
 pub use levels::level;
-
-#[cfg(test)]
-mod tests;

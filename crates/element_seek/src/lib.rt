@@ -17,6 +17,3 @@ mod scene;
 pub use acted::Acted;
 pub use player::Player;
 pub use scene::Scene;
-
-#[cfg(test)]
-mod tests;

@@ -12,6 +12,3 @@ mod element;
 pub mod laws;
 
 pub use element::Element;
-
-#[cfg(test)]
-mod tests;

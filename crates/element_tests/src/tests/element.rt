@@ -1,5 +1,5 @@
-use crate::Element;
 use element_seek::Scene;
+use media_element::Element;
 use mse_base::{Moment, Span, Ticks};
 use mse_calls::{Changes, EndKind, Event, EventKind, Level, Name, Target};
 use std::test::Fail;

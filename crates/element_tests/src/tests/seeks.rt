@@ -1,4 +1,4 @@
-use crate::{Acted, Player, Scene};
+use element_seek::{Acted, Player, Scene};
 use mse_base::{Moment, Span, Ticks};
 use mse_calls::{Changes, EndKind, EventKind, Level, Name};
 use std::test::Fail;

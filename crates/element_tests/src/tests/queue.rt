@@ -1,6 +1,6 @@
-use crate::Queue;
 use mse_calls::{Event, EventKind, Target};
 use std::test::Fail;
+use task_queue::Queue;
 
 /// What is queued first is fired first, also where the queue has gone round in its room.
 #[test]

@@ -1,4 +1,4 @@
-use crate::{Facts, events_of_change, is_first_data, level};
+use element_ready::{Facts, events_of_change, is_first_data, level};
 use mse_base::{Moment, Span, Ticks};
 use mse_calls::{EventKind, Level};
 use std::test::Fail;
