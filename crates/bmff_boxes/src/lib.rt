@@ -35,6 +35,3 @@ pub use readers::{children, header, payload};
 pub use reading::ReadError;
 pub use row::{BoxIn, Row, open};
 pub use run_samples::{RunFields, run_fields, run_sample};
-
-#[cfg(test)]
-mod tests;

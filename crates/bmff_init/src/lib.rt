@@ -14,6 +14,3 @@ mod track;
 
 pub use fault::{InitError, InitFault};
 pub use movie::{read_init, read_movie};
-
-#[cfg(test)]
-mod tests;

@@ -12,6 +12,3 @@ mod piece_offset;
 mod piece_with_end;
 
 pub use chunks::Chunks;
-
-#[cfg(test)]
-mod tests;

@@ -13,6 +13,3 @@ mod text;
 pub use answer::{Container, TypeAnswer};
 pub use names::codec_known;
 pub use text::read_type;
-
-#[cfg(test)]
-mod tests;

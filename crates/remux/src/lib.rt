@@ -11,6 +11,3 @@ mod runs;
 
 pub use error::{RemuxError, RemuxFault};
 pub use pieces::remux;
-
-#[cfg(test)]
-mod tests;

@@ -31,6 +31,3 @@ pub use sample::Sample;
 pub use tables::SampleTables;
 pub use totals::Totals;
 pub use track_tables::TrackTables;
-
-#[cfg(test)]
-mod tests;

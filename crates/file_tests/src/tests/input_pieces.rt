@@ -1,4 +1,4 @@
-use super::*;
+use input_chunks::*;
 use std::test::*;
 
 /// What no clause says: that memory which is there is taken, and the limit of 4096 by numbers.

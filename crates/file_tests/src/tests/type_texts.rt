@@ -1,4 +1,4 @@
-use super::*;
+use mse_types::*;
 use std::test::*;
 
 /// Each text with its answer.

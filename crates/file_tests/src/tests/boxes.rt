@@ -1,4 +1,4 @@
-use super::*;
+use bmff_boxes::*;
 use std::process::Abort;
 use std::test::*;
 

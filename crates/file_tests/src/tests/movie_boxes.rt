@@ -1,6 +1,6 @@
 mod segments;
 
-use super::*;
+use bmff_init::*;
 use mse_base::{Kind, Moment, Presentation, Ticks, TrackInfo};
 use segments::{AV1, ONE_VIDEO_TRACK, OPUS, REORDERED, TWO_TRACKS};
 use std::alloc::Global;

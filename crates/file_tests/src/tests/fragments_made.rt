@@ -1,7 +1,7 @@
-use super::*;
 use bmff_init::InitFault;
 use md5::{Digest, Md5};
 use mse_base::Bytes;
+use remux::*;
 use std::alloc::Global;
 use std::test::*;
 

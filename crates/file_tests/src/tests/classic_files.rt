@@ -1,5 +1,5 @@
-use super::*;
 use bmff_init::InitFault;
+use sample_tables::*;
 use std::alloc::Global;
 use std::test::*;
 
