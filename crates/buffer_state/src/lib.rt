@@ -28,6 +28,3 @@ pub use faults::Fault;
 pub use reply::{Reply, Turned};
 pub use running::Running;
 pub use track_buffers::MediaFault;
-
-#[cfg(test)]
-mod tests;

@@ -20,6 +20,3 @@ mod slots;
 mod views;
 
 pub use buffers::SourceBuffers;
-
-#[cfg(test)]
-mod tests;

@@ -15,6 +15,3 @@ mod source;
 
 pub use answers::{Added, AllBuffers, Changed, Removed};
 pub use source::Source;
-
-#[cfg(test)]
-mod tests;

@@ -1,6 +1,6 @@
-use crate::{Added, AllBuffers, Changed, Removed, Source};
 use mse_base::{Moment, Span, Ticks};
 use mse_calls::{EndKind, Name, Ready};
+use source_state::{Added, AllBuffers, Changed, Removed, Source};
 use std::alloc::Global;
 use std::test::Fail;
 

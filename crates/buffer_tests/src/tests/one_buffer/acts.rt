@@ -1,6 +1,6 @@
 //! Calls and turns as data, and what is heard of them.
 
-use crate::{Around, Buffer, Container, Reply, Turned};
+use buffer_state::{Around, Buffer, Container, Reply, Turned};
 use mse_base::{Moment, OutOfMemory, Phase, Ticks};
 use mse_calls::{EventKind, FaultView, Mode, Name, Ready};
 use std::alloc::Global;

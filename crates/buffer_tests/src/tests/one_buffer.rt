@@ -3,11 +3,11 @@
 mod acts;
 mod files;
 
-use super::*;
 use acts::{
     Act, Heard, Scene, State, first_track, new_scene, perform, quiet, range_count, refusal, show,
     told,
 };
+use buffer_state::*;
 use files::{DIFFERENT, PLAIN, SECOND, SECONDS, bytes_of, file};
 use mse_base::Phase;
 use mse_calls::{EventKind, Mode, Name};

@@ -1,10 +1,10 @@
 //! Worked examples: source buffers of ADTS frames over a plain store, each with another number of
 //! frames.
 
-use crate::SourceBuffers;
 use buffer_state::{Around, Container, Reply, Turned};
 use mse_base::{Moment, OutOfMemory, Ranges, Span, Ticks};
 use mse_calls::{Mode, Name, Ready};
+use source_buffers::SourceBuffers;
 use std::alloc::Global;
 use std::process::Abort;
 use std::test::Fail;
