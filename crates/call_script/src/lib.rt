@@ -28,6 +28,3 @@ pub use laws::{numbers_are_as_printed, printed_calls_read_back};
 pub use reading::read_script;
 pub use script::{BlobText, BlobTexts, Rules, Script, StepLine, StepLines};
 pub use times::read_time;
-
-#[cfg(test)]
-mod tests;

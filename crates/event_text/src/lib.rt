@@ -19,6 +19,3 @@ pub use events::kind_name;
 pub use faults::{fault_line, init_fault};
 pub use lines::{event_line, line_of, listener_line, script_line};
 pub use words::printable;
-
-#[cfg(test)]
-mod tests;

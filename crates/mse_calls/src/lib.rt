@@ -25,6 +25,3 @@ pub use events::{Event, EventKind, Target};
 pub use rules::{Calls, Rule};
 pub use time_ranges::TimeRanges;
 pub use views::{BufferView, BufferViews, FaultView, TrackView, TrackViews, View};
-
-#[cfg(test)]
-mod tests;

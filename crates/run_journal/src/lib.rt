@@ -10,6 +10,3 @@ mod mark;
 
 pub use entry_ref::EntryRef;
 pub use journal::Journal;
-
-#[cfg(test)]
-mod tests;

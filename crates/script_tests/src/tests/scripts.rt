@@ -1,6 +1,6 @@
 mod faults;
 
-use super::*;
+use call_script::*;
 use event_text::line_of;
 use mse_base::{Moment, OutOfMemory};
 use mse_calls::{Answer, Call, Entry, Rule};

@@ -1,5 +1,5 @@
-use crate::{Answer, Blobs, Call, Piece, TimeRanges};
 use mse_base::{Bytes, Ranges, Span, Text, Ticks};
+use mse_calls::{Answer, Blobs, Call, Piece, TimeRanges};
 use std::test::Fail;
 
 /// What a call copies is the call.

@@ -1,5 +1,5 @@
-use crate::{EntryRef, Journal};
 use mse_calls::{Answer, Call, Entry, Event, EventKind, Name, Piece, Target};
+use run_journal::{EntryRef, Journal};
 use std::test::Fail;
 
 /// An entry comes last, and is found at its place.

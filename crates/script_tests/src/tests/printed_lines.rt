@@ -1,4 +1,4 @@
-use crate::{closing, init_fault, line_of, printable};
+use event_text::{closing, init_fault, line_of, printable};
 use mse_base::{Kind, Moment, OutOfMemory, Phase, Ranges, Span, Text, Ticks};
 use mse_calls::{
     Answer, BufferView, BufferViews, Call, EndKind, Entry, Event, EventKind, FaultView, Level,

@@ -1,0 +1,6 @@
+//! Calls, printed lines, scripts of calls, and the journal.
+
+mod calls;
+mod journal;
+mod printed_lines;
+mod scripts;
