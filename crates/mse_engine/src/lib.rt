@@ -24,4 +24,3 @@ mod steps;
 
 pub use engine::{Engine, Worked};
 pub use fault::EngineFault;
-
