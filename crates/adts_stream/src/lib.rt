@@ -18,6 +18,3 @@ mod walk;
 pub use laws::{fault_law, frames_law, held_law, pieces_law, place_law, prefix_law, row_law};
 pub use next::{AdtsFault, AdtsNext};
 pub use stream::AdtsStream;
-
-#[cfg(test)]
-mod tests;

@@ -18,6 +18,3 @@ mod track_fragment;
 pub use fault::{MoofError, MoofFault};
 pub use moof::read_moof;
 pub use slot::{Plan, Slot, Slots};
-
-#[cfg(test)]
-mod tests;

@@ -24,6 +24,3 @@ pub use movie::{write_init, write_init_with};
 pub use segment::write_segment;
 pub use track_out::TrackOut;
 pub use traf_out::{SampleOut, TrafOut};
-
-#[cfg(test)]
-mod tests;

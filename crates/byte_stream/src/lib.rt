@@ -17,6 +17,3 @@ pub use mse_types::Container;
 pub use next::{ByteFault, Next};
 pub use segment_stream::StreamFault;
 pub use stream::ByteStream;
-
-#[cfg(test)]
-mod tests;

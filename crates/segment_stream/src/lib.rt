@@ -20,6 +20,3 @@ pub use laws::pieces_law;
 pub use next::Next;
 pub use segment_walk::StreamFault;
 pub use stream::Stream;
-
-#[cfg(test)]
-mod tests;

@@ -1,8 +1,0 @@
-use Rattle.std.proofs.Common.{◌≡◌, None}
-use Rattle.adts_stream.proofs.tests.take_all.Given as goal
-
-abbrev pub invariant-loop : goal.invariant-loop
-invariant-loop l = record {
-  idle : l.stream.offered ≡ None;
-  fed : l.stream.fed ≡ l.initial.stream.fed;
-}

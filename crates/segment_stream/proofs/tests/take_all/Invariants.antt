@@ -1,8 +1,0 @@
-use Rattle.std.proofs.Common.{◌≡◌, None}
-use Rattle.segment_stream.proofs.tests.take_all.Given as goal
-
-abbrev pub invariant-items : goal.invariant-items
-invariant-items l = record {
-  idle : l.stream.offered ≡ None;
-  fed : l.stream.fed ≡ l.initial.stream.fed;
-}

@@ -1,0 +1,7 @@
+//! A module for each crate that is tested.
+
+mod adts;
+mod containers;
+mod fragments;
+mod segments;
+mod writers;
