@@ -13,7 +13,5 @@ mod latest;
 pub mod laws;
 mod lead;
 mod need;
-#[cfg(test)]
-mod tests;
 
 pub use eviction::evict;

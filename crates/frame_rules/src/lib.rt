@@ -16,8 +16,6 @@
 mod answer;
 mod processing;
 mod storing;
-#[cfg(test)]
-mod tests;
 mod timing;
 
 pub use answer::{Placed, Why};

@@ -22,8 +22,6 @@ mod span;
 mod span_block;
 mod span_blocks;
 mod span_list;
-#[cfg(test)]
-mod tests;
 mod text;
 mod ticks;
 mod track;

@@ -9,7 +9,5 @@
 #![tactic(auto)]
 
 mod room;
-#[cfg(test)]
-mod tests;
 
 pub use room::make_room;

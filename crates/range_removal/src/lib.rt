@@ -13,7 +13,5 @@
 
 pub mod laws;
 mod removal;
-#[cfg(test)]
-mod tests;
 
 pub use removal::remove_frames;

@@ -22,8 +22,6 @@ mod looks;
 mod partners;
 pub mod range_laws;
 mod rooms;
-#[cfg(test)]
-mod tests;
 
 pub use buffered::{extend_last, span_up_to};
 pub use buffers::TrackBuffers;

@@ -16,8 +16,6 @@ pub mod named;
 pub mod places;
 mod removal;
 mod store;
-#[cfg(test)]
-mod tests;
 mod tracks;
 
 pub use list_store::ListStore;

@@ -1,0 +1,10 @@
+//! A module for each crate that is tested.
+
+mod buffers;
+mod evictions;
+mod feeds;
+mod overlaps;
+mod placing;
+mod removals;
+mod stores;
+mod values;

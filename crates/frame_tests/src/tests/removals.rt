@@ -1,0 +1,200 @@
+//! Worked examples of coded frame removal, on a plain store. Times are in milliseconds, and a
+//! frame lasts 100.
+
+ghost use Rattle.std.specs.Prelude.{◌≡◌, ◌≤◌, ◌+ℤ◌, pos, ◌≤ℤ◌, true, length, IfOk, IfSome};
+ghost use Rattle.mse_base.specs.Time.{IsTick};
+
+use mse_base::{Bytes, CodedFrame, Kind, Moment, Ticks, convert};
+use range_removal::remove_frames;
+use std::alloc::Global;
+use std::process::Abort;
+use std::test::Fail;
+use track_store::{FrameStore, ListStore, Marks, Stored, Track, Tracks};
+
+/// Presentation timestamp, and whether it is a random access point.
+type Sample = (u16, bool);
+
+fn time(ms: u16) -> Result<Ticks, Fail> {
+    Ok(convert(i128::from(ms), 1000).ok_or("no time")?)
+}
+
+fn duration_from(pts: Ticks, dur: Ticks) -> Option<Ticks>
+    ensures dur_not_negative { IfSome result (λ d. pos 0 ≤ℤ d) }
+    ensures in_range { IfSome result (λ d. IsTick (pts +ℤ d)) }
+{
+    let end = pts.checked_add(dur)?;
+    let _in_range = end.get();
+    if dur < Ticks::zero() { None } else { Some(dur) }
+}
+
+fn frame_of(alloc: Global, serial: u64, ms: u16, sync: bool) -> Result<Stored, Fail>
+    ensures serial { IfOk result (λ f. f.serial ≡ serial) }
+    ensures sync { IfOk result (λ f. f.frame.sync ≡ sync) }
+    ensures dur_not_negative { IfOk result (λ f. pos 0 ≤ℤ f.frame.dur) }
+    ensures in_range { IfOk result (λ f. IsTick (f.frame.pts +ℤ f.frame.dur)) }
+    ensures small { IfOk result (λ f. length f.frame.payload ≡ 4) }
+{
+    let pts = time(ms)?;
+    let dur = duration_from(pts, time(100)?).ok_or("no duration")?;
+    let payload = Bytes::copy_of(alloc, &[0; 4])?;
+    Ok(Stored {
+        serial,
+        frame: CodedFrame {
+            track_id: 1,
+            pts,
+            dts: pts,
+            dur,
+            sync,
+            payload,
+        },
+    })
+}
+
+/// The frames in order of appending; the first is a random access point.
+fn store_of<S: FrameStore>(alloc: Global, samples: &[Sample]) -> Result<S, Fail>
+    requires { length samples.now ≤ 100 }
+{
+    let mut store = S::new(alloc, Ticks::zero());
+    store.reserve(samples.len())?;
+    for (i, sample) in samples.iter().enumerate() {
+        let frame = frame_of(alloc, i as u64, sample.0, sample.1 || i == 0)?;
+        store.add(frame);
+    }
+    Ok(store)
+}
+
+/// The marks of a track that has stored its last frame.
+fn marked(received: usize) -> Marks {
+    Marks {
+        last_decode: Some(Ticks::zero()),
+        last_duration: Some(Ticks::zero()),
+        highest_end: Some(Ticks::zero()),
+        group_first: Some(0),
+        need_sync: false,
+        received: received as u64,
+    }
+}
+
+fn add_track<S: FrameStore>(
+    tracks: &mut Tracks<S>,
+    alloc: Global,
+    samples: &[Sample],
+) -> Result<(), Fail>
+    requires { length samples.now ≤ 100 }
+{
+    let store = store_of(alloc, samples)?;
+    tracks.reserve(1)?;
+    tracks.add(Track {
+        id: 1,
+        kind: Kind::Video,
+        codec: *b"avc1",
+        store,
+        marks: marked(samples.len()),
+    });
+    Ok(())
+}
+
+/// What a removal leaves of a track: the presentation timestamps, and whether the marks are kept.
+fn assert_left<S: FrameStore>(
+    rt: &impl Abort,
+    tracks: &Tracks<S>,
+    place: usize,
+    left: &[u16],
+    kept: bool,
+) -> Result<(), Fail> {
+    let track = tracks.get(place).ok_or("no track")?;
+    assert_eq!(rt; track.store.len(), left.len());
+    for (i, ms) in left.iter().enumerate() {
+        let stored = track.store.get(i).ok_or("no frame")?;
+        assert_eq!(rt; stored.frame.pts, time(*ms)?);
+    }
+    let unset = track.marks.unset_marks();
+    assert_eq!(rt; track.marks == unset, !kept);
+    assert_eq!(rt; track.marks.need_sync, !kept);
+    Ok(())
+}
+
+/// One frame out of presentation order: I0 P3 B1 B2.
+const REORDERED: [Sample; 4] = [(0, true), (300, false), (100, false), (200, false)];
+
+/// The marks go with the last frame, be it removed directly or as a decoding dependency.
+#[test]
+fn removes_to_the_end(rt: HostRuntime) -> Result<(), Fail> {
+    let cases: [(u16, &[u16]); 3] = [(200, &[0]), (0, &[]), (301, &[0, 300, 100, 200])];
+    for (start, left) in cases {
+        let mut tracks = Tracks::<ListStore>::new(rt.alloc());
+        add_track(&mut tracks, rt.alloc(), &REORDERED)?;
+        remove_frames(
+            &mut tracks,
+            time(start)?,
+            Moment::Infinite,
+            Moment::Infinite,
+        );
+        assert_left(&rt, &tracks, 0, left, start == 301)?;
+    }
+    Ok(())
+}
+
+/// A removal reaches to the next random access point, whose frames stay, and so do the marks.
+#[test]
+fn removes_up_to_the_next_random_access_point(rt: HostRuntime) -> Result<(), Fail> {
+    let samples = [
+        (0, true),
+        (180, false),
+        (100, false),
+        (200, true),
+        (300, false),
+    ];
+    let mut tracks = Tracks::<ListStore>::new(rt.alloc());
+    add_track(&mut tracks, rt.alloc(), &samples)?;
+    let end = Moment::At(time(160)?);
+    remove_frames(&mut tracks, time(150)?, end, Moment::Infinite);
+    assert_left(&rt, &tracks, 0, &[0, 200, 300], true)
+}
+
+/// After the last random access point a removal reaches to the duration.
+#[test]
+fn removes_up_to_the_duration(rt: HostRuntime) -> Result<(), Fail> {
+    let mut tracks = Tracks::<ListStore>::new(rt.alloc());
+    add_track(&mut tracks, rt.alloc(), &REORDERED)?;
+    let (end, duration) = (Moment::At(time(10)?), Moment::At(time(250)?));
+    remove_frames(&mut tracks, time(200)?, end, duration);
+    assert_left(&rt, &tracks, 0, &[0, 300, 100], false)
+}
+
+/// Each track has its own remove end timestamp, and its own last frame.
+#[test]
+fn removes_from_two_tracks(rt: HostRuntime) -> Result<(), Fail> {
+    let mut tracks = Tracks::<ListStore>::new(rt.alloc());
+    add_track(&mut tracks, rt.alloc(), &[(0, true), (100, false)])?;
+    add_track(
+        &mut tracks,
+        rt.alloc(),
+        &[(0, true), (100, true), (200, true)],
+    )?;
+    let end = Moment::At(time(150)?);
+    remove_frames(&mut tracks, time(100)?, end, Moment::Infinite);
+    assert_left(&rt, &tracks, 0, &[0], false)?;
+    assert_left(&rt, &tracks, 1, &[0, 200], true)
+}
+
+/// A frame of the greatest serial that there is goes like any other.
+#[test]
+fn removes_the_greatest_serial(rt: HostRuntime) -> Result<(), Fail> {
+    let mut store = ListStore::new(rt.alloc(), Ticks::zero());
+    store.reserve(1)?;
+    store.add(frame_of(rt.alloc(), u64::MAX, 100, true)?);
+    let mut tracks = Tracks::<ListStore>::new(rt.alloc());
+    tracks.reserve(1)?;
+    tracks.add(Track {
+        id: 1,
+        kind: Kind::Video,
+        codec: *b"avc1",
+        store,
+        marks: marked(1),
+    });
+    remove_frames(&mut tracks, time(50)?, Moment::At(time(60)?), Moment::Nan);
+    assert_left(&rt, &tracks, 0, &[100], true)?;
+    remove_frames(&mut tracks, time(50)?, Moment::Infinite, Moment::Infinite);
+    assert_left(&rt, &tracks, 0, &[], false)
+}

@@ -1,5 +1,0 @@
-use Rattle.mse_base.specs.Bridging.{IsRanges}
-use Rattle.mse_base.proofs.tests.ranges_of.Given as goal
-
-abbrev pub invariant-loop-start : goal.invariant-loop-start
-invariant-loop-start g l = IsRanges l.gap l.ranges.spans
