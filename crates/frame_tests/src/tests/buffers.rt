@@ -348,36 +348,50 @@ fn buffers_what_all_tracks_have(rt: HostRuntime) -> Result<(), Fail> {
 
 /// The range that holds a time: in a gap there is none, and a range holds the time at which it
 /// ends. Where the source is ended, the last range of each track lasts to the highest end.
+// The range of all tracks that has a time, or ends at it.
+fn expect_span(
+    rt: &impl Abort,
+    buffers: &Buffers,
+    at: u32,
+    ended: bool,
+    want: Option<(u32, u32)>,
+) -> Result<(), Fail> {
+    let want = match want {
+        Some((start, end)) => Some(Span {
+            start: time(start)?,
+            end: time(end)?,
+        }),
+        None => None,
+    };
+    assert_eq!(rt; buffers.span_holding(time(at)?, ended), want, "at {at}");
+    Ok(())
+}
+
+// A time, whether the source has ended, and the range that has the time.
+const RANGES_OF_TIMES: [(u32, bool, Option<(u32, u32)>); 8] = [
+    (999, false, None),
+    (1000, false, Some((1000, 3000))),
+    (3000, true, Some((1000, 3000))),
+    (4000, false, None),
+    (7000, false, Some((6000, 7000))),
+    (8000, false, None),
+    (8000, true, Some((6000, 9000))),
+    (9001, true, None),
+];
+
 #[test]
 fn finds_the_range_of_a_time(rt: HostRuntime) -> Result<(), Fail> {
     let mut buffers = begun(&rt, &[VIDEO, AUDIO])?;
-    assert_eq!(rt; buffers.span_holding(Ticks::zero(), true), None);
+    expect_span(&rt, &buffers, 0, true, None)?;
     let samples = [
         (1, 0, 3000, true),
         (1, 6000, 3000, true),
         (2, 1000, 6000, true),
     ];
     process_all(rt.alloc(), &mut buffers, &samples)?;
-    let first = Span {
-        start: time(1000)?,
-        end: time(3000)?,
-    };
-    let second = Span {
-        start: time(6000)?,
-        end: time(7000)?,
-    };
-    let longer = Span {
-        start: time(6000)?,
-        end: time(9000)?,
-    };
-    assert_eq!(rt; buffers.span_holding(time(999)?, false), None);
-    assert_eq!(rt; buffers.span_holding(time(1000)?, false), Some(first));
-    assert_eq!(rt; buffers.span_holding(time(3000)?, true), Some(first));
-    assert_eq!(rt; buffers.span_holding(time(4000)?, false), None);
-    assert_eq!(rt; buffers.span_holding(time(7000)?, false), Some(second));
-    assert_eq!(rt; buffers.span_holding(time(8000)?, false), None);
-    assert_eq!(rt; buffers.span_holding(time(8000)?, true), Some(longer));
-    assert_eq!(rt; buffers.span_holding(time(9001)?, true), None);
+    for (at, ended, want) in &RANGES_OF_TIMES {
+        expect_span(&rt, &buffers, *at, *ended, *want)?;
+    }
     Ok(())
 }
 
