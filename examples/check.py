@@ -129,7 +129,7 @@ def tables():
         ("LARGE_FILES", "The others.", lambda name: len(read[name]) >= 2000),
     ]:
         yield name, table(about, name, "(&str, &str)", [f'"{file}", {digits(read[file])}' for file in files if of_file(file)])
-    yield "RUNS", "use crate::ending::Status;\n\n" + table(
+    yield "RUNS", "use mse_commands::Status;\n\n" + table(
         "The words of a run, its status, and what it prints.", "RUNS", "(&str, Status, &str)",
         [f'"{" ".join(words)}", Status::{STATUSES[status]}, {literal(read[text])}'
          for status, text, words in tried if words[0] != "play" and text.endswith(".txt")])
