@@ -90,7 +90,11 @@ fn init_on(
         (λ x. seen x ≡ Some (InitItem (presentation_of header.rate) position.old.offset)) }
     ensures last { OnOk result (last.new ≡ Some (presentation_of header.rate)) }
     ensures position { OnOk result (position.new
-        ≡ record { point = ParsePoint.AtFrame header; offset = position.old.offset; failed = position.old.failed }) }
+        ≡ record {
+          point = ParsePoint.AtFrame header;
+          offset = position.old.offset;
+          failed = position.old.failed;
+        }) }
     ensures err { OnErr result ((last.new ≡ last.old) × (position.new ≡ position.old)) }
 {
     let answer = presentation(alloc, header.rate)?;
@@ -111,7 +115,11 @@ fn frame_on(
         (λ x. seen x
         ≡ Some (FrameItem (coded_frame header (concat input.now)) position.old.offset)) }
     ensures position { OnOk result (position.new
-        ≡ record { point = ParsePoint.AtEnd header; offset = position.old.offset; failed = position.old.failed }) }
+        ≡ record {
+          point = ParsePoint.AtEnd header;
+          offset = position.old.offset;
+          failed = position.old.failed;
+        }) }
     ensures err { OnErr result (position.new ≡ position.old) }
 {
     let frame = frame(header.duration, header.len, input)?;
@@ -158,7 +166,8 @@ pub(crate) fn next_on(
     ensures item { IfOk result
         (λ x. seen x ≡ item_of (adts.move (state_of last.old position.old (concat input.old)))) }
     ensures kept { OnOk result (state_of last.new position.new (concat input.new)
-        ≡ state_behind (state_of last.old position.old (concat input.old)) (adts.move (state_of last.old position.old (concat input.old)))) }
+        ≡ state_behind (state_of last.old position.old (concat input.old))
+        (adts.move (state_of last.old position.old (concat input.old)))) }
     ensures last { IfOk result (λ x. last.new ≡ latest_after_any last.old (seen x)) }
     ensures total { position.new.offset + length (concat input.new)
         ≤ position.old.offset + length (concat input.old) }

@@ -13,7 +13,7 @@ use crate::next::AdtsNext;
 use crate::position::{ParsePoint, ParsePosition};
 use crate::walk::accept_on;
 use input_chunks::Chunks;
-use mse_base::{OutOfMemory, Presentation};
+use mse_base::{Bytes, OutOfMemory, Presentation};
 use std::alloc::Global;
 use std::marker::Model;
 
@@ -127,16 +127,16 @@ impl AdtsStream {
         Ok(())
     }
 
-    /// As `offer`, of a vector whose memory the input takes over where its bytes are a piece of their own.
-    pub fn offer_vec(&mut self, bytes: Vec<u8>) -> Result<(), OutOfMemory>
+    /// As `offer` of the same bytes, whose memory the input has where they become a piece of their own.
+    pub fn offer_bytes(&mut self, bytes: Bytes) -> Result<(), OutOfMemory>
         requires idle { self.old.offered ≡ None }
-        requires room { self.old.fed + length bytes.items < 2 ^ 62 }
+        requires room { self.old.fed + length bytes < 2 ^ 62 }
         ensures ok { OnOk result (self.new
-            ≡ record { state = self.old.state; fed = self.old.fed; offered = Some bytes.items }) }
+            ≡ record { state = self.old.state; fed = self.old.fed; offered = Some bytes }) }
         ensures err { OnErr result (self.new ≡ self.old) }
     {
         let len = bytes.len();
-        self.input.push_vec(bytes)?;
+        self.input.push_bytes(bytes)?;
         self.offered = Some(len);
         Ok(())
     }

@@ -47,7 +47,8 @@ fn pass_tag(position: &mut ParsePosition, left: u64, input: &mut Chunks) -> bool
     requires unfailed { position.old.failed ≡ false }
     requires bounded { position.old.offset + length (concat input.old) < 2 ^ 62 }
     ensures moved { (last : _) →
-        IsMoveTo (state_of last position.old (concat input.old)) (state_of last position.new (concat input.new)) result }
+        IsMoveTo (state_of last position.old (concat input.old))
+        (state_of last position.new (concat input.new)) result }
     ensures total { position.new.offset + length (concat input.new)
         ≡ position.old.offset + length (concat input.old) }
     ensures unfailed { position.new.failed ≡ false }
@@ -131,7 +132,9 @@ pub(crate) fn accept_on(
     requires inside { len ≤ length (concat input.old) }
     requires bounded { position.old.offset + length (concat input.old) < 2 ^ 62 }
     ensures kept { state_of last.now position.new (concat input.new)
-        ≡ fed (state_of last.now position.old (take (length (concat input.old) - len) (concat input.old))) (drop (length (concat input.old) - len) (concat input.old)) }
+        ≡ fed (state_of last.now position.old
+        (take (length (concat input.old) - len) (concat input.old)))
+        (drop (length (concat input.old) - len) (concat input.old)) }
     ensures total { position.new.offset + length (concat input.new)
         ≤ position.old.offset + length (concat input.old) }
 {

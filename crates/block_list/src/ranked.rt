@@ -34,8 +34,11 @@ impl<T, F: Fact<T>> Model for RankedList<T, F> {
 
     ghost Value = { Listed T };
 
-    ghost view = { λ l. record
-        { rows = l.list.rows; spare = min l.list.spare (vec_capacity l.starts - vec_len l.starts) } };
+    ghost view = { λ l. record {
+      rows = l.list.rows;
+      spare = min l.list.spare
+          (vec_capacity l.starts - vec_len l.starts);
+    } };
 
     ghost invariant = { λ l. IsKeptAs l.starts.items l.settled l.excess
         (starts_of l.list.rows) };

@@ -6,7 +6,9 @@ ghost use Rattle.bmff_write.specs.Boxes.{box_bytes};
 
 /// A box that was written reads back, in front of any row of boxes.
 pub fn row_law()
-    ensures { (kind payload rest : List ℕ) (row : List BoxView) → length kind ≡ 4 → 8 + length payload < 2 ^ 32
+    ensures { (kind payload rest : List ℕ) (row : List BoxView) → length kind ≡ 4 →
+        8 + length payload < 2 ^ 32
         → row_of rest ≡ Some row
-        → row_of (box_bytes kind payload ++ rest) ≡ Some (record { kind = kind; payload = payload } ∷ row) }
+        → row_of (box_bytes kind payload ++ rest)
+        ≡ Some (record { kind = kind; payload = payload } ∷ row) }
 {}

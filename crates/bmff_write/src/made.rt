@@ -13,7 +13,7 @@ fn payload(alloc: Global, len: usize, value: u8) -> Result<Bytes, OutOfMemory>
 {
     let mut bytes = Vec::new(alloc);
     bytes.resize(len, value)?;
-    Ok(Bytes::from_vec(alloc, bytes))
+    Bytes::from_vec(alloc, bytes)
 }
 
 /// Sample `i` of segment `j`.
@@ -96,5 +96,5 @@ pub fn make(alloc: Global, n: u32) -> Result<Bytes, OutOfMemory>
     for j in 0..n {
         put_made_segment(alloc, &mut out, j)?;
     }
-    Ok(Bytes::from_vec(alloc, out))
+    Bytes::from_vec(alloc, out)
 }

@@ -198,7 +198,7 @@ pub fn write_init(alloc: Global, tracks: &[TrackOut]) -> Result<Bytes, OutOfMemo
     ensures { IfOk result (λ bytes. bytes ≡ init_bytes tracks.now) }
 {
     let out = init(alloc, tracks)?;
-    Ok(Bytes::from_vec(alloc, out))
+    Bytes::from_vec(alloc, out)
 }
 
 /// An initialization segment as of [`write_init`], where each track has the sample description box (ISO/IEC
@@ -216,5 +216,5 @@ pub fn write_init_with(
     ensures { IfOk result (λ bytes. bytes ≡ init_bytes_with tracks.now stsd.now) }
 {
     let out = init_with(alloc, tracks, stsd)?;
-    Ok(Bytes::from_vec(alloc, out))
+    Bytes::from_vec(alloc, out)
 }

@@ -106,7 +106,7 @@ fn sample_description(alloc: Global, track: &TrackOut) -> Result<Bytes, OutOfMem
 {
     let mut out = Vec::new(alloc);
     put_stsd(&mut out, track)?;
-    Ok(Bytes::from_vec(alloc, out))
+    Bytes::from_vec(alloc, out)
 }
 
 /// The sample description boxes of some tracks.

@@ -32,5 +32,5 @@ pub fn write_segment(alloc: Global, sequence: u32, trafs: &[TrafOut]) -> Result<
     let len = moof_size(trafs) + 8 + payload_size(trafs);
     let mut out = Vec::with_capacity(alloc, len)?;
     put_segment(&mut out, sequence, trafs)?;
-    Ok(Bytes::from_vec(alloc, out))
+    Bytes::from_vec(alloc, out)
 }

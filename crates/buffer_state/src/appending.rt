@@ -11,7 +11,7 @@ use crate::around::Around;
 use crate::reply::{Reply, event_reply, one, reopens};
 use crate::running::Running;
 use byte_stream::ByteStream;
-use mse_base::OutOfMemory;
+use mse_base::{Bytes, OutOfMemory};
 use mse_calls::{EventKind, Name};
 use track_buffers::TrackBuffers;
 use track_store::FrameStore;
@@ -47,11 +47,11 @@ fn refuse_full(around: &Around) -> Reply
 }
 
 /// Evicts, and then takes the bytes that are offered or declines them.
-fn settle<S: FrameStore>(
+fn accept_or_decline<S: FrameStore>(
     stream: &mut ByteStream,
     media: &mut TrackBuffers<S>,
     running: &mut Running,
-    bytes: &[u8],
+    bytes: &Bytes,
     around: &Around,
 ) -> Reply
     requires offered { stream.old.offered ≡ Some bytes.now }
@@ -60,7 +60,8 @@ fn settle<S: FrameStore>(
         (kept stream.new media.new.media running.new)
         (append_result_after_eviction bytes.now around.now.position around.now.quota
         (surroundings around.now)) }
-    ensures within_duration { StaysWithin around.now.duration media.old.media result media.new.media }
+    ensures within_duration { StaysWithin around.now.duration media.old.media result
+        media.new.media }
     ensures changes { result.duration_changes ≡ 0 }
     ensures duration { result.duration ≡ around.now.duration }
     ensures no_init { result.received_init ≡ false }
@@ -94,7 +95,7 @@ pub(crate) fn append<S: FrameStore>(
     stream: &mut ByteStream,
     media: &mut TrackBuffers<S>,
     running: &mut Running,
-    bytes: &[u8],
+    bytes: &Bytes,
     around: &Around,
 ) -> Result<Reply, OutOfMemory>
     requires { stream.old.offered ≡ None }
@@ -118,6 +119,6 @@ pub(crate) fn append<S: FrameStore>(
         let _used = evict(media, bytes.len(), around);
         return Ok(refuse_full(around));
     }
-    stream.offer(bytes)?;
-    Ok(settle(stream, media, running, bytes, around))
+    stream.offer_bytes(bytes.copy()?)?;
+    Ok(accept_or_decline(stream, media, running, bytes, around))
 }

@@ -22,7 +22,7 @@ use crate::reply::{Reply, Turned, event_reply};
 use crate::running::Running;
 use crate::{appending, removal, resets, settings_calls, turns};
 use byte_stream::{ByteStream, Container};
-use mse_base::{Moment, OutOfMemory, Phase, Ranges, Span, Ticks};
+use mse_base::{Bytes, Moment, OutOfMemory, Phase, Ranges, Span, Ticks};
 use mse_calls::{BufferView, Mode, Name, TimeRanges};
 use std::alloc::Global;
 use std::marker::Model;
@@ -74,7 +74,8 @@ impl<S: FrameStore> Buffer<S> {
     pub fn set_mode(&mut self, mode: Mode, around: &Around) -> Reply
         ensures answered { Answers self.old result self.new
             (mode_result mode (surroundings around.now)) }
-        ensures within_duration { StaysWithin around.now.duration self.old.media result self.new.media }
+        ensures within_duration { StaysWithin around.now.duration self.old.media result
+            self.new.media }
         ensures changes { result.duration_changes ≡ 0 }
         ensures duration { result.duration ≡ around.now.duration }
         ensures no_init { result.received_init ≡ false }
@@ -90,7 +91,8 @@ impl<S: FrameStore> Buffer<S> {
     pub fn set_offset(&mut self, t: Ticks, around: &Around) -> Reply
         ensures answered { Answers self.old result self.new
             (offset_result t (surroundings around.now)) }
-        ensures within_duration { StaysWithin around.now.duration self.old.media result self.new.media }
+        ensures within_duration { StaysWithin around.now.duration self.old.media result
+            self.new.media }
         ensures changes { result.duration_changes ≡ 0 }
         ensures duration { result.duration ≡ around.now.duration }
         ensures no_init { result.received_init ≡ false }
@@ -106,7 +108,8 @@ impl<S: FrameStore> Buffer<S> {
     pub fn set_window_start(&mut self, t: Ticks, around: &Around) -> Reply
         ensures answered { Answers self.old result self.new
             (window_start_result t (surroundings around.now)) }
-        ensures within_duration { StaysWithin around.now.duration self.old.media result self.new.media }
+        ensures within_duration { StaysWithin around.now.duration self.old.media result
+            self.new.media }
         ensures changes { result.duration_changes ≡ 0 }
         ensures duration { result.duration ≡ around.now.duration }
         ensures no_init { result.received_init ≡ false }
@@ -122,7 +125,8 @@ impl<S: FrameStore> Buffer<S> {
     pub fn set_window_end(&mut self, t: Moment, around: &Around) -> Reply
         ensures answered { Answers self.old result self.new
             (window_end_result t (surroundings around.now)) }
-        ensures within_duration { StaysWithin around.now.duration self.old.media result self.new.media }
+        ensures within_duration { StaysWithin around.now.duration self.old.media result
+            self.new.media }
         ensures changes { result.duration_changes ≡ 0 }
         ensures duration { result.duration ≡ around.now.duration }
         ensures no_init { result.received_init ≡ false }
@@ -139,7 +143,8 @@ impl<S: FrameStore> Buffer<S> {
     pub fn remove(&mut self, start: Ticks, end: Moment, around: &Around) -> Reply
         ensures answered { Answers self.old result self.new
             (remove_result start end (surroundings around.now)) }
-        ensures within_duration { StaysWithin around.now.duration self.old.media result self.new.media }
+        ensures within_duration { StaysWithin around.now.duration self.old.media result
+            self.new.media }
         ensures changes { result.duration_changes ≡ 0 }
         ensures duration { result.duration ≡ around.now.duration }
         ensures no_init { result.received_init ≡ false }
@@ -154,9 +159,10 @@ impl<S: FrameStore> Buffer<S> {
     /// (3.5.4), also where the append is then refused: QuotaExceeded where, after eviction, the
     /// stored frames have as many bytes as the quota or more, or where the bytes appended since the
     /// last reset would be `2^62` or more.
-    pub fn append(&mut self, bytes: &[u8], around: &Around) -> Result<Reply, OutOfMemory>
+    pub fn append(&mut self, bytes: &Bytes, around: &Around) -> Result<Reply, OutOfMemory>
         ensures answered { AnswersIfOk self.old result self.new
-            (append_result bytes.now around.now.position around.now.quota (surroundings around.now)) }
+            (append_result bytes.now around.now.position around.now.quota
+            (surroundings around.now)) }
         ensures within_duration { IfOk result
             (λ reply. StaysWithin around.now.duration self.old.media reply self.new.media) }
         ensures changes { IfOk result (λ reply. reply.duration_changes ≡ 0) }
@@ -231,7 +237,8 @@ impl<S: FrameStore> Buffer<S> {
     pub fn end_work(&mut self, around: &Around) -> Reply
         ensures answered { Answers self.old result self.new
             (end_work_result (surroundings around.now)) }
-        ensures within_duration { StaysWithin around.now.duration self.old.media result self.new.media }
+        ensures within_duration { StaysWithin around.now.duration self.old.media result
+            self.new.media }
         ensures changes { result.duration_changes ≡ 0 }
         ensures duration { result.duration ≡ around.now.duration }
         ensures no_init { result.received_init ≡ false }

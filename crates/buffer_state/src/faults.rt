@@ -16,7 +16,8 @@ pub enum Fault {
     Media(MediaFault),
 }
 
-fn init_number(fault: InitFault) -> u8
+/// The number of a fault of a movie box, 1 to 8.
+pub fn init_number(fault: InitFault) -> u8
     ensures { result ≡ init_number fault }
 {
     match fault {
@@ -97,7 +98,8 @@ fn stream_inner(fault: StreamFault) -> u8
 
 const NO_BOX: [u8; 4] = [0, 0, 0, 0];
 
-fn init_missing(fault: InitFault) -> [u8; 4]
+/// The type of the box that is missing; four zero bytes for another fault.
+pub fn init_missing(fault: InitFault) -> [u8; 4]
     ensures { result ≡ init_missing fault }
 {
     match fault {

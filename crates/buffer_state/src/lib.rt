@@ -24,7 +24,7 @@ mod turns;
 pub use around::Around;
 pub use buffer::Buffer;
 pub use byte_stream::{ByteFault, Container};
-pub use faults::Fault;
+pub use faults::{Fault, init_missing, init_number};
 pub use reply::{Reply, Turned};
 pub use running::Running;
 pub use track_buffers::MediaFault;

@@ -16,7 +16,8 @@ use mse_calls::{EventKind, Name};
 
 /// Whether a time is not negative and not later than the duration, which is known.
 fn begins_within(start: Ticks, duration: &Moment) -> bool
-    ensures { result ≡ not (is_nan duration.now || (int_lt start (pos 0) || is_after start duration.now)) }
+    ensures { result ≡ not (is_nan duration.now ||
+        (int_lt start (pos 0) || is_after start duration.now)) }
 {
     match duration {
         Moment::Nan => false,

@@ -161,7 +161,8 @@ fn take_type<S: FrameStore>(
     requires { stream.old.offered ≡ None }
     ensures answered { IfOk result (λ reply. Answers
         (kept stream.old media.old.media Running.Nothing) reply
-        (kept stream.new media.new.media Running.Nothing) (λ f c. change_type_result_after_flush container
+        (kept stream.new media.new.media Running.Nothing)
+        (λ f c. change_type_result_after_flush container
         (flush_result (ready_in f) c.media around.now.duration) (surroundings around.now))) }
     ensures within_duration { IfOk result
         (λ reply. StaysWithin around.now.duration media.old.media reply media.new.media) }

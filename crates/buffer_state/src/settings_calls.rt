@@ -74,7 +74,8 @@ pub(crate) fn set_mode<S: FrameStore>(
     requires { stream.now.offered ≡ None }
     ensures answered { Answers (kept stream.now media.old.media running.now) result
         (kept stream.now media.new.media running.now) (mode_result mode (surroundings around.now)) }
-    ensures within_duration { StaysWithin around.now.duration media.old.media result media.new.media }
+    ensures within_duration { StaysWithin around.now.duration media.old.media result
+        media.new.media }
     ensures changes { result.duration_changes ≡ 0 }
     ensures duration { result.duration ≡ around.now.duration }
     ensures no_init { result.received_init ≡ false }
@@ -116,7 +117,8 @@ pub(crate) fn set_offset<S: FrameStore>(
     requires { stream.now.offered ≡ None }
     ensures answered { Answers (kept stream.now media.old.media running.now) result
         (kept stream.now media.new.media running.now) (offset_result t (surroundings around.now)) }
-    ensures within_duration { StaysWithin around.now.duration media.old.media result media.new.media }
+    ensures within_duration { StaysWithin around.now.duration media.old.media result
+        media.new.media }
     ensures changes { result.duration_changes ≡ 0 }
     ensures duration { result.duration ≡ around.now.duration }
     ensures no_init { result.received_init ≡ false }
@@ -161,7 +163,8 @@ pub(crate) fn set_window_start<S: FrameStore>(
     ensures answered { Answers (kept stream.now media.old.media running.now) result
         (kept stream.now media.new.media running.now) (window_start_result t
         (surroundings around.now)) }
-    ensures within_duration { StaysWithin around.now.duration media.old.media result media.new.media }
+    ensures within_duration { StaysWithin around.now.duration media.old.media result
+        media.new.media }
     ensures changes { result.duration_changes ≡ 0 }
     ensures duration { result.duration ≡ around.now.duration }
     ensures no_init { result.received_init ≡ false }
@@ -202,7 +205,8 @@ pub(crate) fn set_window_end<S: FrameStore>(
     ensures answered { Answers (kept stream.now media.old.media running.now) result
         (kept stream.now media.new.media running.now) (window_end_result t
         (surroundings around.now)) }
-    ensures within_duration { StaysWithin around.now.duration media.old.media result media.new.media }
+    ensures within_duration { StaysWithin around.now.duration media.old.media result
+        media.new.media }
     ensures changes { result.duration_changes ≡ 0 }
     ensures duration { result.duration ≡ around.now.duration }
     ensures no_init { result.received_init ≡ false }

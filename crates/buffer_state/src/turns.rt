@@ -208,7 +208,8 @@ pub(crate) fn removal_turn<S: FrameStore>(
         → Answers (kept stream media.old.media running.old) result
         (kept stream media.new.media running.new) (removal_turn_result start end
         (surroundings around.now)) }
-    ensures within_duration { StaysWithin around.now.duration media.old.media result media.new.media }
+    ensures within_duration { StaysWithin around.now.duration media.old.media result
+        media.new.media }
     ensures changes { result.duration_changes ≡ 0 }
     ensures duration { result.duration ≡ around.now.duration }
     ensures no_init { result.received_init ≡ false }

@@ -17,12 +17,12 @@ use Rattle.bmff_fragment.specs.declared.slot.Slot.{Slot}
 use Rattle.bmff_fragment.specs.Plans.{plan_of}
 use Rattle.parser_loop.specs.Walk.{Move, Stop, Pass, Give, Kind, items_by, items_in, items_from}
 use Rattle.mse_base.specs.declared.frame.Phase.{Phase}
-use Rattle.segment_walk.specs.declared.kinds.Step.{Step}
-use Rattle.segment_walk.specs.declared.kinds.Step.TheVariants as step
+use Rattle.segment_walk.specs.declared.kinds.BoxStep.{BoxStep}
+use Rattle.segment_walk.specs.declared.kinds.BoxStep.TheVariants as step
 use Rattle.segment_walk.specs.Moves as segment
 use Rattle.segment_walk.specs.Tables.{SegmentItem}
 use Rattle.segment_walk.proofs.Boxes.{items-boxes}
-use Rattle.segment_walk.specs.Moves.{Mode, Between, Skipping, Within, open_of, initialized, opened, planned, act, step_of, pass_byte, segments}
+use Rattle.segment_walk.specs.Moves.{ParserMode, Between, Skipping, Within, open_of, initialized, opened, planned, act, step_of, pass_byte, segments}
 use Rattle.segment_walk.specs.Strings as segment_string
 use Rattle.segment_walk.proofs.WalkLaws.{going, Fits, HasSlot, good-step}
 use Rattle.parser_loop.specs.Items.{InitItem, FrameItem, SegmentEnd, FaultItem}
@@ -58,7 +58,7 @@ kept-from k P Q f s h = kept-in k P Q f (suc (k.size s)) s h
 
 -- ---- segments: the slots of an open movie fragment last
 
-abbrev OpenLasts : Mode → Type 0
+abbrev OpenLasts : ParserMode → Type 0
 OpenLasts (Between begun) = Unit {0}
 OpenLasts (Skipping to left) = Unit {0}
 OpenLasts (Within o) = All Lasts o.slots
@@ -69,12 +69,12 @@ SegmentLasts item = IsLasting (of_segments item)
 abbrev SegmentKeeps : Move segment.State SegmentItem → Type 0
 SegmentKeeps m = Keeps (λ (s : segment.State). OpenLasts s.mode) SegmentLasts m
 
-open-lasts : (m : Mode) → OpenLasts m → All Lasts (open_of m).slots
+open-lasts : (m : ParserMode) → OpenLasts m → All Lasts (open_of m).slots
 open-lasts (Between begun) h = All-nil Lasts
 open-lasts (Skipping to left) h = All-nil Lasts
 open-lasts (Within o) h = h
 
-slot-lasts : (m : Mode) (slot : Slot) → OpenLasts m → HasSlot m slot → Lasts slot
+slot-lasts : (m : ParserMode) (slot : Slot) → OpenLasts m → HasSlot m slot → Lasts slot
 slot-lasts (Between begun) slot h g = absurd g
 slot-lasts (Skipping to left) slot h g = absurd g
 slot-lasts (Within o) slot h g = subst Lasts (get_or_from_slice_get o.slots o.taken slot slot g) (All-get_or Lasts o.slots o.taken slot (slice_get_within o.slots o.taken slot g) h)
@@ -91,7 +91,7 @@ keeps-planned : (s : segment.State) (len : ℕ) (with : Option Presentation) →
 keeps-planned s len None h = (tt, h)
 keeps-planned s len (Some p) h = keeps-opened s len (plan_of p.tracks (take len s.rest)) h (λ slots e. plan-lasts p.tracks (take len s.rest) slots e)
 
-keeps-act : (s : segment.State) (n : ℕ) (st : Step) → OpenLasts s.mode → Fits s.mode n st → SegmentKeeps (act s st)
+keeps-act : (s : segment.State) (n : ℕ) (st : BoxStep) → OpenLasts s.mode → Fits s.mode n st → SegmentKeeps (act s st)
 keeps-act s n (step.Wait w) h f = tt
 keeps-act s n (step.Skip to len) h f = tt
 keeps-act s n (step.ReadInit len) h f = keeps-init s len (init_of (take len s.rest)) h
@@ -106,7 +106,7 @@ keeps-byte : (s : segment.State) (to : Phase) (left : ℕ) (rest : List ℕ) →
 keeps-byte s to left [] = tt
 keeps-byte s to left (x ∷ rest) = tt
 
-keeps-segment : (last : Option Presentation) (m : Mode) (offset : ℕ) (rest : List ℕ) (failed : Bool) → let s : segment.State = record { last = last; mode = m; offset = offset; rest = rest; failed = failed } in OpenLasts m → SegmentKeeps (segment.move_unless s failed)
+keeps-segment : (last : Option Presentation) (m : ParserMode) (offset : ℕ) (rest : List ℕ) (failed : Bool) → let s : segment.State = record { last = last; mode = m; offset = offset; rest = rest; failed = failed } in OpenLasts m → SegmentKeeps (segment.move_unless s failed)
 keeps-segment last m offset rest true h = tt
 keeps-segment last (Between begun) offset rest false h = keeps-act (going last (Between begun) offset rest) (length rest) (step_of (is_some last) rest (Between begun)) h (good-step (is_some last) rest [] (Between begun)).0
 keeps-segment last (Skipping to zero) offset rest false h = tt

@@ -14,7 +14,8 @@ pub fn lasting_law()
 
 /// The items of a string are the first items of each longer string, and all of them where one is a fault.
 pub fn prefix_law()
-    ensures { (r : Reading) (bytes : List ℕ) → IsPrefix (items_in r) (items_in (with_bytes bytes r)) }
+    ensures { (r : Reading) (bytes : List ℕ) →
+        IsPrefix (items_in r) (items_in (with_bytes bytes r)) }
 {}
 
 /// Of a reading for which a stream stands no more items were given than there are, and what the stream keeps tells

@@ -6,7 +6,7 @@ ghost use Rattle.byte_stream.specs.Streams.{Stands, StandsAfter, ForEachReading,
 
 use crate::next::{Next, frame_next, segment_next};
 use adts_stream::AdtsStream;
-use mse_base::{OutOfMemory, Phase};
+use mse_base::{Bytes, OutOfMemory, Phase};
 use mse_types::Container;
 use segment_stream::Stream;
 use std::alloc::Global;
@@ -48,20 +48,19 @@ impl Parser {
         }
     }
 
-    /// As `offer`, of a vector: ADTS frames take over its memory, and segments copy its bytes.
-    pub(crate) fn offer_vec(&mut self, bytes: Vec<u8>) -> Result<(), OutOfMemory>
+    pub(crate) fn offer_bytes(&mut self, bytes: Bytes) -> Result<(), OutOfMemory>
         requires idle { (stream_view self.old).offered ≡ None }
-        requires room { (stream_view self.old).fed + length bytes.items < 2 ^ 62 }
+        requires room { (stream_view self.old).fed + length bytes < 2 ^ 62 }
         ensures ok { OnOk result (stream_view self.new ≡ record {
           parser = (stream_view self.old).parser;
           fed = (stream_view self.old).fed;
-          offered = Some bytes.items;
+          offered = Some bytes;
         }) }
         ensures err { OnErr result (stream_view self.new ≡ stream_view self.old) }
     {
         match self {
-            Parser::Segments(stream) => stream.offer(bytes.as_slice()),
-            Parser::Frames(stream) => stream.offer_vec(bytes),
+            Parser::Segments(stream) => stream.offer_bytes(bytes),
+            Parser::Frames(stream) => stream.offer_bytes(bytes),
         }
     }
 

@@ -4,7 +4,7 @@ ghost use Rattle.byte_stream.specs.Readings.{new_reading, reading_from, next_ite
 
 use crate::next::Next;
 use crate::parser::Parser;
-use mse_base::{OutOfMemory, Phase};
+use mse_base::{Bytes, OutOfMemory, Phase};
 use mse_types::Container;
 use std::alloc::Global;
 use std::marker::Model;
@@ -66,16 +66,16 @@ impl ByteStream {
         Ok(())
     }
 
-    /// As `offer`, of a vector. Where the container allows it, its memory becomes the input's, and no byte is copied.
-    pub fn offer_vec(&mut self, bytes: Vec<u8>) -> Result<(), OutOfMemory>
+    /// As `offer` of the same bytes, whose memory the input has where they become a piece of their own.
+    pub fn offer_bytes(&mut self, bytes: Bytes) -> Result<(), OutOfMemory>
         requires idle { self.old.offered ≡ None }
-        requires room { self.old.fed + length bytes.items < 2 ^ 62 }
+        requires room { self.old.fed + length bytes < 2 ^ 62 }
         ensures ok { OnOk result (self.new
-            ≡ record { parser = self.old.parser; fed = self.old.fed; offered = Some bytes.items }) }
+            ≡ record { parser = self.old.parser; fed = self.old.fed; offered = Some bytes }) }
         ensures err { OnErr result (self.new ≡ self.old) }
     {
         let len = bytes.len();
-        self.parser.offer_vec(bytes)?;
+        self.parser.offer_bytes(bytes)?;
         self.offered = len;
         Ok(())
     }

@@ -20,7 +20,7 @@ fn read_hex(alloc: Global, digits: &str) -> Result<Option<BlobText>, OutOfMemory
     ensures { IfOk result (λ blob. blob ≡ hex_of digits.now) }
 {
     match hex::decode(alloc, digits) {
-        Ok(bytes) => Ok(Some(BlobText::Hex(Bytes::from_vec(alloc, bytes)))),
+        Ok(bytes) => Ok(Some(BlobText::Hex(Bytes::from_vec(alloc, bytes)?))),
         Err(hex::FromHexError::OutOfMemory) => Err(OutOfMemory),
         Err(_) => Ok(None),
     }

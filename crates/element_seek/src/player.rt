@@ -31,7 +31,16 @@ impl Model for Player {
 
     ghost Value = { PlayerState };
 
-    ghost view = { λ p. record { level = p.level; loaded_before = p.loaded_before; position = p.position; default_start = p.default_start; paused = p.paused; seeking = p.seeking; finished = p.finished; error = p.error } };
+    ghost view = { λ p. record {
+      level = p.level;
+      loaded_before = p.loaded_before;
+      position = p.position;
+      default_start = p.default_start;
+      paused = p.paused;
+      seeking = p.seeking;
+      finished = p.finished;
+      error = p.error;
+    } };
 }
 
 /// The time of a span that is nearest to a time.

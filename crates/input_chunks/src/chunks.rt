@@ -1,9 +1,8 @@
-ghost use Rattle.std.specs.Prelude.{◌≡◌, ℕ, ◌+◌, ◌-◌, ◌<◌, ◌≤◌, ◌^◌, ◌%◌, List, [], ◌++◌, length, take, drop, slice_get, Some, true, false, IfOk, OnOk, OnErr};
+ghost use Rattle.std.specs.Prelude.{◌≡◌, ℕ, ◌+◌, ◌-◌, ◌<◌, ◌≤◌, ◌^◌, ◌%◌, List, [], ◌++◌, length, take, drop, slice_get, Some, true, false, IfOk, IfSome, OnOk, OnErr};
 ghost use Rattle.std.specs.List.{concat};
 ghost use Rattle.input_chunks.specs.Pieces.{pieces_with_tail, pieces_with, pieces_without_first, pieces_without_last, HasNoEmptyPiece};
 ghost use Rattle.input_chunks.specs.Ends.{pieces_of, bytes_of, bytes_from, HasEnds, HasNewEnds, IsWith, IsApart};
 
-use crate::piece_bytes::PieceBytes;
 use crate::piece_offset::piece_offset_of;
 use crate::piece_with_end::PieceWithEnd;
 use mse_base::{Bytes, OutOfMemory};
@@ -80,13 +79,12 @@ impl Chunks {
         Ok(())
     }
 
-    /// As `push` of the same bytes. Where they become a piece of their own, it takes over the vector's memory, with
-    /// what is spare of it, and no byte is copied. An `Err` changes nothing, and the vector is gone.
-    pub fn push_vec(&mut self, piece: Vec<u8>) -> Result<(), OutOfMemory>
-        requires { length (concat self.old) + length piece.items < 2 ^ 62 }
-        ensures ok { OnOk result (self.new ≡ pieces_with piece.items self.old) }
-        ensures undone { OnOk result (pieces_without_last (length piece.items) self.new
-            ≡ self.old) }
+    /// As `push` of the same bytes. Where they become a piece of their own, it has their memory, and no byte is copied.
+    /// An `Err` changes nothing.
+    pub fn push_bytes(&mut self, piece: Bytes) -> Result<(), OutOfMemory>
+        requires { length (concat self.old) + length piece < 2 ^ 62 }
+        ensures ok { OnOk result (self.new ≡ pieces_with piece self.old) }
+        ensures undone { OnOk result (pieces_without_last (length piece) self.new ≡ self.old) }
         ensures err { OnErr result (self.new ≡ self.old) }
     {
         let len = self.len;
@@ -106,7 +104,7 @@ impl Chunks {
         requires { n ≤ length (concat self.old) }
         ensures { self.new ≡ pieces_without_first n self.old }
     {
-        drop_front_of(self.alloc, &mut self.entries, n);
+        drop_front_of(&mut self.entries, n);
         self.dropped = self.dropped.wrapping_add(n as u64);
         self.len -= n;
     }
@@ -135,18 +133,24 @@ impl Chunks {
         read_of(&self.entries, place.index, place.skip, into);
     }
 
-    /// A copy of the `n` bytes from `from` on.
+    /// The `n` bytes from `from` on. Where they lie in one piece that no push can lengthen, they have its memory, and no
+    /// byte is copied.
     pub fn copy(&self, from: usize, n: usize) -> Result<Bytes, OutOfMemory>
         requires { from + n ≤ length (concat self.now) }
         ensures { IfOk result (λ b. b ≡ take n (drop from (concat self.now))) }
     {
         let _len = self.len;
-        let mut bytes = Vec::with_capacity(self.alloc, n)?;
-        if n > 0 {
-            let first = piece_offset_of(&self.entries, self.dropped, from);
-            copy_of(&self.entries, first.index, first.skip, n, &mut bytes)?;
+        if n == 0 {
+            return no_bytes(self.alloc, &self.entries);
         }
-        Ok(Bytes::from_vec(self.alloc, bytes))
+        let first = piece_offset_of(&self.entries, self.dropped, from);
+        let entry = &self.entries[first.index];
+        if let Some(bytes) = part_of(&entry.piece, first.skip, n)? {
+            return Ok(bytes);
+        }
+        let mut bytes = Vec::with_capacity(self.alloc, n)?;
+        copy_of(&self.entries, first.index, first.skip, n, &mut bytes)?;
+        Bytes::from_vec(self.alloc, bytes)
     }
 
     /// How many pieces there are.
@@ -205,7 +209,7 @@ fn push_piece(
     if extend_last(entries, bytes, end)? {
         return Ok(());
     }
-    let piece = PieceBytes::copy_of(alloc, bytes)?;
+    let piece = Bytes::copy_of(alloc, bytes)?;
     entries.push_back(PieceWithEnd { piece, end })?;
     Ok(())
 }
@@ -213,21 +217,20 @@ fn push_piece(
 /// As `push_piece`, of bytes whose memory a piece of their own takes over.
 fn push_owned(
     entries: &mut VecDeque<PieceWithEnd>,
-    bytes: Vec<u8>,
+    bytes: Bytes,
     end: u64,
 ) -> Result<(), OutOfMemory>
-    ensures ok { OnOk result (IsWith bytes.items end entries.old.items entries.new.items) }
+    ensures ok { OnOk result (IsWith bytes end entries.old.items entries.new.items) }
     ensures err { OnErr result (entries.new.items ≡ entries.old.items) }
 {
     if extend_last(entries, bytes.as_slice(), end)? {
         return Ok(());
     }
-    let piece = PieceBytes::from_vec(bytes);
-    entries.push_back(PieceWithEnd { piece, end })?;
+    entries.push_back(PieceWithEnd { piece: bytes, end })?;
     Ok(())
 }
 
-fn drop_front_of(alloc: Global, entries: &mut VecDeque<PieceWithEnd>, n: usize)
+fn drop_front_of(entries: &mut VecDeque<PieceWithEnd>, n: usize)
     requires { n ≤ length (bytes_of entries.old.items) }
     ensures pieces { pieces_of entries.new.items
         ≡ pieces_without_first n (pieces_of entries.old.items) }
@@ -237,7 +240,7 @@ fn drop_front_of(alloc: Global, entries: &mut VecDeque<PieceWithEnd>, n: usize)
     'entries: while let Some(mut first) = entries.pop_front() {
         let len = first.piece.len();
         if left < len {
-            first.piece.drop_front(alloc, left);
+            first.piece.drop_front(left);
             entries.push_front_reserved(first);
             return;
         }
@@ -268,6 +271,29 @@ fn drop_back_of(entries: &mut VecDeque<PieceWithEnd>, n: usize, end: u64)
         }
         left -= len;
     }
+}
+
+/// No bytes, which have the memory of the first piece where there is one.
+fn no_bytes(alloc: Global, entries: &VecDeque<PieceWithEnd>) -> Result<Bytes, OutOfMemory>
+    ensures { IfOk result (λ b. b ≡ []) }
+{
+    if entries.is_empty() {
+        return Bytes::copy_of(alloc, &[]);
+    }
+    entries[0].piece.part(0, 0)
+}
+
+/// The `n` bytes behind the first `skip` of a piece, which have its memory; `None` where they do not lie inside it, and
+/// where it is so short that a push may lengthen it.
+fn part_of(piece: &Bytes, skip: usize, n: usize) -> Result<Option<Bytes>, OutOfMemory>
+    ensures { IfOk result (λ part. IfSome part (λ b.
+        (b ≡ take n (drop skip piece.now)) × (skip + n ≤ length piece.now))) }
+{
+    let len = piece.len();
+    if (len as u128) <= LONGEST || n > len || skip > len - n {
+        return Ok(None);
+    }
+    Ok(Some(piece.part(skip, skip + n)?))
 }
 
 /// Copies `n` bytes, from byte `skip` of piece `first` on.

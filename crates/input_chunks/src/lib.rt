@@ -7,7 +7,6 @@
 #![tactic(auto)]
 
 mod chunks;
-mod piece_bytes;
 mod piece_offset;
 mod piece_with_end;
 

@@ -1,13 +1,12 @@
 ghost use Rattle.std.specs.Prelude.{◌≡◌, ◌++◌, OnOk, OnErr};
 
-use crate::piece_bytes::PieceBytes;
-use mse_base::OutOfMemory;
+use mse_base::{Bytes, OutOfMemory};
 
 /// A piece, and how many bytes were pushed up to its end since the queue was made, modulo `2^64`:
 /// what is dropped in front changes no such number.
 #[derive(Debug, Drop)]
 pub struct PieceWithEnd {
-    pub piece: PieceBytes,
+    pub piece: Bytes,
     pub end: u64,
 }
 

@@ -30,7 +30,10 @@ impl Model for Element {
 
     ghost Value = { ElementView };
 
-    ghost view = { λ e. record { state = record { player = e.player; queue = e.queue.events }; spare = e.queue.spare } };
+    ghost view = { λ e. record {
+      state = record { player = e.player; queue = e.queue.events };
+      spare = e.queue.spare;
+    } };
 }
 
 /// Puts events at a target last, in reserved room.

@@ -1,12 +1,12 @@
 -- How many spans in rows end before a time.
-use Rattle.std.proofs.Common.{◌≡◌, ◌∙◌, ℕ, ℤ, ◌+◌, ◌-◌, ◌*◌, ◌<◌, ◌≤◌, ◌≤ℤ◌, ◌<ℤ◌, List, [], ◌∷◌, ◌++◌, length, get_or, take, drop, refl, sym, ap, subst, arith}
+use Rattle.std.proofs.Common.{◌≡◌, ℕ, ℤ, ◌+◌, ◌-◌, ◌*◌, ◌<◌, ◌≤◌, ◌≤ℤ◌, ◌<ℤ◌, List, length, get_or, take, drop, ap, subst, arith}
 use Rattle.std.specs.List.{AllByRecursion}
 use Rattle.std.proofs.lemmas.List.{drop_all}
 use Rattle.mse_base.specs.declared.span.Span.{Span}
 use Rattle.mse_base.specs.Spans.{IsNormalized}
-use Rattle.mse_base.specs.Rows.{joined, start, row, AreFilled, AreDense}
+use Rattle.mse_base.specs.Rows.{joined, start, row, AreDense}
 use Rattle.mse_base.proofs.Looking.{below_more, above_from}
-use Rattle.mse_base.proofs.InRows.{row_within, start_all, start_more, filled_row, few_rows}
+use Rattle.mse_base.proofs.InRows.{row_within, start_all, start_more, few_rows}
 
 -- the first span of row m ends before t
 pub below_row : (rows : List (List Span)) (m : ℕ) (x : Span) (t : ℤ) → IsNormalized (joined rows) → start rows m < length (joined rows) → x ≡ get_or (joined rows) (start rows m) x → x.end <ℤ t → AllByRecursion (λ r. r.end <ℤ t) (take (start rows (m + 1 - 1) + 1) (joined rows))

@@ -16,5 +16,6 @@ pub mod Filling
 pub mod Meeting
 pub mod Holding
 mod InRows
+mod Slices
 mod SpreadOut
 mod Ending

@@ -1,10 +1,10 @@
 -- The range that has a time.
-use Rattle.std.proofs.Common.{◌≡◌, ◌∙◌, ℕ, zero, suc, ℤ, ◌+◌, ◌-◌, ◌<◌, ◌≤◌, ◌≤ℤ◌, ◌<ℤ◌, Bool, true, false, cond, ◌&&◌, List, [], ◌∷◌, length, get_or, take, drop, slice_get, refl, sym, ap, subst, arith, add-one, int_le, Some, None, find}
+use Rattle.std.proofs.Common.{◌≡◌, ◌∙◌, ℕ, zero, suc, ℤ, ◌+◌, ◌<◌, ◌≤◌, ◌≤ℤ◌, ◌<ℤ◌, Bool, true, false, cond, ◌&&◌, List, [], ◌∷◌, length, get_or, take, drop, refl, sym, ap, subst, arith, add-one, int_le, Some, None, find}
 use Rattle.std.specs.List.{AllByRecursion}
 use Rattle.std.proofs.lemmas.Int.{ints}
 use Rattle.std.proofs.lemmas.List.{drop_more, drop_all}
 use Rattle.mse_base.specs.declared.span.Span.{Span}
-use Rattle.mse_base.specs.Spans.{IsNormalized, StartsAfter, last_of, last_from, reaches}
+use Rattle.mse_base.specs.Spans.{IsNormalized, StartsAfter, last_of, reaches}
 
 weaker : (m n : ℤ) (rs : List Span) → m <ℤ n → AllByRecursion (λ r. n <ℤ r.end) rs → AllByRecursion (λ r. m <ℤ r.end) rs
 weaker m n [] l h = tt

@@ -1,10 +1,10 @@
 -- What spans in blocks keep.
-use Rattle.std.proofs.Common.{◌≡◌, ◌∙◌, ℕ, zero, suc, ◌+◌, ◌-◌, ◌*◌, ◌^◌, ◌<◌, ◌≤◌, List, [], ◌∷◌, ◌++◌, length, set, refl, sym, ap, subst, arith, insert, remove, length-append}
+use Rattle.std.proofs.Common.{◌≡◌, ◌∙◌, ℕ, ◌+◌, ◌-◌, ◌*◌, ◌^◌, ◌<◌, ◌≤◌, List, [], ◌∷◌, ◌++◌, length, set, refl, sym, ap, subst, arith, insert, remove}
 use Rattle.std.proofs.lemmas.List.{length-set}
 use Rattle.std.proofs.lemmas.List.Edits.{length-insert, length-remove}
 use Rattle.mse_base.specs.declared.span.Span.{Span}
 use Rattle.mse_base.specs.Rows.{joined, start, row, AreFilled, AreEmpty, IsSpread}
-use Rattle.mse_base.proofs.InRows.{joined_set_set, joined_set_remove, joined_one, filled_set, filled_less, filled_row, empty_push, one_more, row_within}
+use Rattle.mse_base.proofs.InRows.{joined_set_set, joined_set_remove, joined_one, filled_set, filled_less, empty_push, one_more, row_within}
 
 pub spread_set : (rows new pool : List (List Span)) (len spare b i bc nc pc : ℕ) (x : Span) → IsSpread rows pool len spare bc pc → b < length rows → i < length (row rows b) → new ≡ set rows b (set (row rows b) i x) → nc ≡ bc → IsSpread new pool len spare nc pc
 spread_set rows new pool len spare b i bc nc pc x k l w f u =

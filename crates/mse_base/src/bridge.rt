@@ -40,8 +40,10 @@ fn is_last_near(ranges: &SpanList, gap: Ticks, i: usize, s: &Span) -> bool
 fn join_from(ranges: &mut SpanList, gap: Ticks, from: usize, span: Span)
     requires room { 1 ≤ ranges.old.spare }
     requires within { from ≤ length ranges.old.spans }
-    ensures spans { ranges.new.spans ≡ take from ranges.old.spans ++ ranges_with_lasting gap span (drop from ranges.old.spans) }
-    ensures room { ranges.old.spare + length ranges.old.spans ≡ ranges.new.spare + length ranges.new.spans }
+    ensures spans { ranges.new.spans ≡ take from ranges.old.spans
+        ++ ranges_with_lasting gap span (drop from ranges.old.spans) }
+    ensures room { ranges.old.spare + length ranges.old.spans
+        ≡ ranges.new.spare + length ranges.new.spans }
 {
     let mut s = span;
     let mut i = from;
@@ -70,7 +72,8 @@ pub(crate) fn join_in(ranges: &mut SpanList, gap: Ticks, span: Span)
     requires gap_from_zero { pos 0 ≤ℤ gap }
     requires ranges { IsRanges gap ranges.old.spans }
     ensures spans { ranges.new.spans ≡ ranges_with gap ranges.old.spans span }
-    ensures room { ranges.old.spare + length ranges.old.spans ≡ ranges.new.spare + length ranges.new.spans }
+    ensures room { ranges.old.spare + length ranges.old.spans
+        ≡ ranges.new.spare + length ranges.new.spans }
 {
     if is_empty(&span) {
         return;

@@ -55,10 +55,12 @@ fn begins_before(s: &Span, high: Ticks, gap: Ticks) -> bool
 fn replace(ranges: &mut SpanList, i: usize, part: Option<Span>) -> usize
     requires within { i < length ranges.old.spans }
     requires small { length ranges.old.spans < 2 ^ 64 }
-    ensures spans { ranges.new.spans ≡ take i ranges.old.spans ++ (option_to_list part ++ drop (i + 1) ranges.old.spans) }
+    ensures spans { ranges.new.spans ≡ take i ranges.old.spans
+        ++ (option_to_list part ++ drop (i + 1) ranges.old.spans) }
     ensures place { result ≡ i + length (option_to_list part) }
     ensures step { result ≤ i + 1 }
-    ensures room { ranges.old.spare + length ranges.old.spans ≡ ranges.new.spare + length ranges.new.spans }
+    ensures room { ranges.old.spare + length ranges.old.spans
+        ≡ ranges.new.spare + length ranges.new.spans }
     ensures len { length ranges.new.spans + (i + 1) ≡ length ranges.old.spans + result }
 {
     match part {
@@ -80,8 +82,11 @@ fn carve_from(ranges: &mut SpanList, gap: Ticks, from: usize, hole: &Span)
     requires hole_not_empty { hole.now.start <ℤ hole.now.end }
     requires within { from ≤ length ranges.old.spans }
     requires ranges { IsRanges gap (drop from ranges.old.spans) }
-    ensures spans { ranges.new.spans ≡ take from ranges.old.spans ++ ranges_without (hole.now.start -ℤ gap) (hole.now.end +ℤ gap) (drop from ranges.old.spans) }
-    ensures room { ranges.old.spare + length ranges.old.spans ≡ ranges.new.spare + length ranges.new.spans }
+    ensures spans { ranges.new.spans ≡ take from ranges.old.spans
+        ++ ranges_without (hole.now.start -ℤ gap) (hole.now.end +ℤ gap)
+        (drop from ranges.old.spans) }
+    ensures room { ranges.old.spare + length ranges.old.spans
+        ≡ ranges.new.spare + length ranges.new.spans }
 {
     let mut i = from;
     while i < ranges.len() {
@@ -103,8 +108,10 @@ pub(crate) fn carve_out(ranges: &mut SpanList, gap: Ticks, hole: &Span)
     requires gap_from_zero { pos 0 ≤ℤ gap }
     requires hole_not_empty { hole.now.start <ℤ hole.now.end }
     requires ranges { IsRanges gap ranges.old.spans }
-    ensures spans { ranges.new.spans ≡ ranges_without (hole.now.start -ℤ gap) (hole.now.end +ℤ gap) ranges.old.spans }
-    ensures room { ranges.old.spare + length ranges.old.spans ≡ ranges.new.spare + length ranges.new.spans }
+    ensures spans { ranges.new.spans
+        ≡ ranges_without (hole.now.start -ℤ gap) (hole.now.end +ℤ gap) ranges.old.spans }
+    ensures room { ranges.old.spare + length ranges.old.spans
+        ≡ ranges.new.spare + length ranges.new.spans }
 {
     let from = place_reaching(ranges, gap, hole);
     carve_from(ranges, gap, from, hole);

@@ -55,7 +55,8 @@ impl<'a> Heads<'a> {
     /// Takes the span that begins first.
     fn next(&mut self) -> Option<Span>
         ensures none { result ≡ None → (self.old.left.now ≡ []) × (self.old.right.now ≡ []) }
-        ensures some { IfSome result (λ s. IsHeadOfOne s self.old.left.now self.old.right.now self.new.left.now self.new.right.now) }
+        ensures some { IfSome result (λ s. IsHeadOfOne s self.old.left.now self.old.right.now
+            self.new.left.now self.new.right.now) }
     {
         match (self.left.first(), self.right.first()) {
             (Some(x), Some(y)) => {

@@ -18,22 +18,27 @@ pub fn floor()
 pub fn one_list()
     ensures joined { (given xs ys : List Span) → Joined given xs → Joined given ys → xs ≡ ys }
     ensures met { (left right xs ys : List Span) → Met left right xs → Met left right ys → xs ≡ ys }
-    ensures cut_out { (from to : ℤ) (given xs ys : List Span) → CutOut from to given xs → CutOut from to given ys → xs ≡ ys }
-    ensures bridged { (gap : ℤ) (given xs ys : List Span) → Bridged gap given xs → Bridged gap given ys → xs ≡ ys }
+    ensures cut_out { (from to : ℤ) (given xs ys : List Span) → CutOut from to given xs →
+        CutOut from to given ys → xs ≡ ys }
+    ensures bridged { (gap : ℤ) (given xs ys : List Span) → Bridged gap given xs →
+        Bridged gap given ys → xs ≡ ys }
 {}
 
 /// Joining spans one after another gives their bridged ranges, which are never more than the
 /// spans. With no gap these are the joined ranges.
 pub fn bridging()
-    ensures made { (gap : ℤ) (given : List Span) → pos 0 ≤ℤ gap → Bridged gap given (bridged_ranges gap given) }
-    ensures not_more { (gap : ℤ) (given : List Span) → length (bridged_ranges gap given) ≤ length given }
+    ensures made { (gap : ℤ) (given : List Span) → pos 0 ≤ℤ gap →
+        Bridged gap given (bridged_ranges gap given) }
+    ensures not_more { (gap : ℤ) (given : List Span) →
+        length (bridged_ranges gap given) ≤ length given }
     ensures no_gap { (given xs : List Span) → Bridged (pos 0) given xs ↔ Joined given xs }
 {}
 
 /// A tick is bridged exactly where it is a tick of the joined ranges, or lies in a gap of at most
 /// `gap` ticks between two neighbours of them.
 pub fn gaps_between_neighbours()
-    ensures { (gap : ℤ) (given joined : List Span) (t : ℤ) → pos 0 ≤ℤ gap → Joined given joined → IsBridged gap given t ↔ ((covers joined t ≡ true) ⊎ IsInGap gap joined t) }
+    ensures { (gap : ℤ) (given joined : List Span) (t : ℤ) → pos 0 ≤ℤ gap → Joined given joined →
+        IsBridged gap given t ↔ ((covers joined t ≡ true) ⊎ IsInGap gap joined t) }
 {}
 
 /// The meet of two lists of ranges is the one normalized list of the ticks that both have. Its
@@ -42,14 +47,16 @@ pub fn gaps_between_neighbours()
 pub fn meets()
     ensures met { (xs ys : List Span) → IsNormalized xs → IsNormalized ys → Met xs ys (meet xs ys) }
     ensures found { (t : ℤ) (xs ys : List Span) → IsNormalized xs → IsNormalized ys
-        → find (reaches t) (meet xs ys) ≡ overlap_of_two (find (reaches t) xs) (find (reaches t) ys) }
+        → find (reaches t) (meet xs ys)
+        ≡ overlap_of_two (find (reaches t) xs) (find (reaches t) ys) }
     ensures overlap { (x y : Span) → option_to_list (overlap_span x y) ≡ overlap x y }
 {}
 
 /// The same of the meet of some lists. A loop over the lists keeps the overlap so far: with one
 /// list more the meet is that of the meet so far and the list, and so is the overlap.
 pub fn meets_of_all()
-    ensures normalized { (rs : List (List Span)) → AllByRecursion IsNormalized rs → IsNormalized (meet_of_all rs) }
+    ensures normalized { (rs : List (List Span)) → AllByRecursion IsNormalized rs →
+        IsNormalized (meet_of_all rs) }
     ensures ticks { (rs : List (List Span)) (t : ℤ) → rs ≢ []
         → covers (meet_of_all rs) t ≡ list_all (λ r. covers r t) rs }
     ensures found { (t : ℤ) (rs : List (List Span)) → AllByRecursion IsNormalized rs

@@ -45,7 +45,8 @@ pub(crate) fn place_reaching(ranges: &SpanList, gap: Ticks, span: &Span) -> usiz
     requires gap_from_zero { pos 0 ≤ℤ gap }
     requires ranges { IsRanges gap ranges.now.spans }
     ensures within { result ≤ length ranges.now.spans }
-    ensures skipped { AllByRecursion (λ r. is_far_before gap r span.now ≡ true) (take result ranges.now.spans) }
+    ensures skipped { AllByRecursion
+        (λ r. is_far_before gap r span.now ≡ true) (take result ranges.now.spans) }
 {
     ranges.count_ending(span.start, gap)
 }

@@ -47,7 +47,8 @@ impl Ranges {
     pub fn reserve(&mut self, n: usize) -> Result<(), OutOfMemory>
         ensures spans { self.new.spans ≡ self.old.spans }
         ensures spare { OnOk result (n ≤ self.new.spare) }
-        ensures room { self.old.spare + length self.old.spans ≤ self.new.spare + length self.new.spans }
+        ensures room { self.old.spare + length self.old.spans ≤ self.new.spare + length
+            self.new.spans }
     {
         self.spans.reserve(self.alloc, n)?;
         Ok(())
@@ -56,7 +57,8 @@ impl Ranges {
     /// Removes all ranges, and keeps their room.
     pub fn clear(&mut self)
         ensures spans { self.new.spans ≡ [] }
-        ensures room { self.old.spare + length self.old.spans ≤ self.new.spare + length self.new.spans }
+        ensures room { self.old.spare + length self.old.spans ≤ self.new.spare + length
+            self.new.spans }
     {
         self.spans.clear();
     }
@@ -71,7 +73,8 @@ impl Ranges {
         ensures bridged { Bridged gap (self.old.spans ++ span ∷ []) self.new.spans }
         ensures spans { self.new.spans ≡ ranges_with gap self.old.spans span }
         ensures ranges { IsRanges gap self.new.spans }
-        ensures room { self.old.spare + length self.old.spans ≡ self.new.spare + length self.new.spans }
+        ensures room { self.old.spare + length self.old.spans
+            ≡ self.new.spare + length self.new.spans }
         ensures len { length self.new.spans ≤ length self.old.spans + 1 }
     {
         self.add_span(span, gap);
@@ -85,7 +88,8 @@ impl Ranges {
         ensures bridged { Bridged gap (self.old.spans ++ span ∷ []) self.new.spans }
         ensures spans { self.new.spans ≡ ranges_with gap self.old.spans span }
         ensures ranges { IsRanges gap self.new.spans }
-        ensures room { self.old.spare + length self.old.spans ≡ self.new.spare + length self.new.spans }
+        ensures room { self.old.spare + length self.old.spans
+            ≡ self.new.spare + length self.new.spans }
         ensures len { length self.new.spans ≤ length self.old.spans + 1 }
     {
         join_in(&mut self.spans, gap, span);
@@ -97,10 +101,13 @@ impl Ranges {
         requires gap_from_zero { pos 0 ≤ℤ gap }
         requires hole_not_empty { hole.start <ℤ hole.end }
         requires ranges { IsRanges gap self.old.spans }
-        ensures cut_out { CutOut (hole.start -ℤ gap) (hole.end +ℤ gap) self.old.spans self.new.spans }
-        ensures spans { self.new.spans ≡ ranges_without (hole.start -ℤ gap) (hole.end +ℤ gap) self.old.spans }
+        ensures cut_out { CutOut (hole.start -ℤ gap)
+            (hole.end +ℤ gap) self.old.spans self.new.spans }
+        ensures spans { self.new.spans
+            ≡ ranges_without (hole.start -ℤ gap) (hole.end +ℤ gap) self.old.spans }
         ensures ranges { IsRanges gap self.new.spans }
-        ensures room { self.old.spare + length self.old.spans ≡ self.new.spare + length self.new.spans }
+        ensures room { self.old.spare + length self.old.spans
+            ≡ self.new.spare + length self.new.spans }
     {
         carve_out(&mut self.spans, gap, &hole);
     }
@@ -181,7 +188,8 @@ impl Ranges {
     /// does.
     pub fn bridge(&self, gap: Ticks) -> Result<Ranges, OutOfMemory>
         ensures bridged { IfOk result (λ r. Bridged (int_max gap (pos 0)) self.now.spans r.spans) }
-        ensures spans { IfOk result (λ r. r.spans ≡ bridged_ranges (int_max gap (pos 0)) self.now.spans) }
+        ensures spans { IfOk result (λ r. r.spans
+            ≡ bridged_ranges (int_max gap (pos 0)) self.now.spans) }
         ensures ranges { IfOk result (λ r. IsRanges (int_max gap (pos 0)) r.spans) }
         ensures unchanged { gap ≤ℤ pos 0 → IfOk result (λ r. r.spans ≡ self.now.spans) }
     {

@@ -1,4 +1,4 @@
-ghost use Rattle.std.specs.Prelude.{◌≡◌, ◌++◌, ◌∷◌, [], OnOk, OnErr, length, slice_get};
+ghost use Rattle.std.specs.Prelude.{◌≡◌, ◌++◌, ◌∷◌, [], OnOk, OnErr, length, slice_get, IfOk};
 ghost use Rattle.std.specs.Option.{option_copied};
 ghost use Rattle.mse_calls.specs.Pieces.{bytes_of, part_of};
 
@@ -64,6 +64,16 @@ impl Blobs {
             None => None,
         }
     }
+
+    /// As `part`, with the memory of the blob: no byte is copied.
+    pub fn shared_part(&self, piece: &Piece) -> Result<Option<Bytes>, OutOfMemory>
+        ensures { IfOk result (λ bytes. bytes ≡ bytes_of self.now piece.now) }
+    {
+        match self.get(piece.blob as usize) {
+            Some(blob) => shared_part_of(blob, piece.part),
+            None => Ok(None),
+        }
+    }
 }
 
 /// The part of some bytes, by its start and its length; `None` exactly where it does not lie
@@ -80,5 +90,21 @@ fn part_of(bytes: &[u8], part: Option<(u64, u64)>) -> Option<&[u8]>
         Some(&bytes[from..from + len as usize])
     } else {
         None
+    }
+}
+
+/// As `part_of`, with the memory of the bytes.
+fn shared_part_of(bytes: &Bytes, part: Option<(u64, u64)>) -> Result<Option<Bytes>, OutOfMemory>
+    ensures { IfOk result (λ found. found ≡ part_of part bytes.now) }
+{
+    let Some((start, len)) = part else {
+        return Ok(Some(bytes.copy()?));
+    };
+    let size = bytes.len() as u64;
+    if len <= size && start <= size - len {
+        let from = start as usize;
+        Ok(Some(bytes.part(from, from + len as usize)?))
+    } else {
+        Ok(None)
     }
 }

@@ -171,12 +171,12 @@ pub(crate) fn append<S: FrameStore>(
     if !buffers.is_made(k) {
         return Ok(Answer::Refused(Name::NoSuchBuffer));
     }
-    let Some(bytes) = blobs.part(piece) else {
+    let Some(bytes) = blobs.shared_part(piece)? else {
         return Ok(Answer::Refused(Name::NoSuchBytes));
     };
     element.reserve(PLACES)?;
     let around = around(side, element, k);
-    let reply = buffers.append(k, bytes, &around)?;
+    let reply = buffers.append(k, &bytes, &around)?;
     Ok(conclude(side, buffers, element, k, &reply, LoadBounds::NONE))
 }
 

@@ -101,7 +101,8 @@ impl<S: FrameStore> Engine<S> {
 
     /// Fires the first event of the queue; `None` exactly where it is empty.
     pub fn fire(&mut self) -> Option<Event>
-        ensures fired { (st : State) → Stands self.old st → IsFired result self.old self.new (fire_result st) }
+        ensures fired { (st : State) → Stands self.old st →
+            IsFired result self.old self.new (fire_result st) }
         ensures buffers { self.new.buffers ≡ self.old.buffers }
         ensures sound { IsSoundEngine self.new }
     {

@@ -42,7 +42,8 @@ pub(crate) fn settle<S: FrameStore>(
     element: &mut Element,
 )
     requires { 4 ≤ element.old.spare }
-    ensures source { core_source side.now element.new.state ≡ core_source side.now element.old.state }
+    ensures source { core_source side.now element.new.state
+        ≡ core_source side.now element.old.state }
     ensures element { element.new.state ≡ after_settling
         (view_of side.now buffers.now.buffers element.old.state) element.old.state }
     ensures settled { IsSettled (kept_scene

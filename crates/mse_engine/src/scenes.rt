@@ -69,7 +69,8 @@ pub(crate) fn span_at<S: FrameStore>(
     buffers: &SourceBuffers<S>,
     position: Ticks,
 ) -> Option<Span>
-    ensures { (e : ElementState) → result ≡ span_at position (view_of side.now buffers.now.buffers e) }
+    ensures { (e : ElementState) →
+        result ≡ span_at position (view_of side.now buffers.now.buffers e) }
 {
     let ended = side.source.ready().is_ended();
     buffers.element_span(side.source.active_numbers(), position, ended)

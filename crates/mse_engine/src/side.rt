@@ -29,7 +29,12 @@ impl Model for SourceSide {
 
     ghost Value = { SourceSide };
 
-    ghost view = { λ s. record { state = s.source; fault = s.fault; quota = s.quota; gap = s.gap } };
+    ghost view = { λ s. record {
+      state = s.source;
+      fault = s.fault;
+      quota = s.quota;
+      gap = s.gap;
+    } };
 
     ghost invariant = { λ s. pos 0 ≤ℤ s.gap };
 }

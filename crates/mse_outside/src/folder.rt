@@ -42,7 +42,8 @@ impl<R: Files + Drop> FolderLibrary<R> {
 /// What a load answers whose file was not opened.
 fn answer_for_error(error: &io::Error) -> Loaded
     ensures missing { (result ≡ Loaded.NoFile) ↔ (error_kind error.now ≡ ErrorKind.NotFound) }
-    ensures memory { (result ≡ Loaded.OutOfMemory) ↔ (error_kind error.now ≡ ErrorKind.OutOfMemory) }
+    ensures memory { (result ≡ Loaded.OutOfMemory)
+        ↔ (error_kind error.now ≡ ErrorKind.OutOfMemory) }
     ensures never { result ≢ Loaded.Done }
 {
     match error.kind() {
@@ -71,8 +72,10 @@ pub(crate) fn append_all<F: Read>(
     into: &mut Vec<u8>,
     most: usize,
 ) -> Result<(), ReadStop>
-    ensures whole { OnOk result (IsWhole most (F.remaining file.old) into.old.items into.new.items) }
-    ensures too_long { result ≡ Err ReadStop.TooLong → IfSome (F.remaining file.old) (λ bytes. most < length bytes) }
+    ensures whole { OnOk result (IsWhole most
+        (F.remaining file.old) into.old.items into.new.items) }
+    ensures too_long { result ≡ Err ReadStop.TooLong →
+        IfSome (F.remaining file.old) (λ bytes. most < length bytes) }
     ensures front { IsFrontAppended (F.remaining file.old) into.old.items into.new.items }
     ensures appends { Appends into.old.items into.new.items }
     ensures longest { vec_len into.new ≤ vec_len into.old + most }

@@ -26,7 +26,8 @@ pub trait Library {
     /// Appends the bytes of the file to `into`. After any answer but `Done`, `into` is as before.
     fn load(&mut self, name: &str, into: &mut Vec<u8>) -> Loaded
         ensures same { table self.new ≡ table self.old }
-        ensures told { IfSome (table self.old) (λ files. LoadTells (files name.now) into.old.items into.new.items result) }
+        ensures told { IfSome (table self.old)
+            (λ files. LoadTells (files name.now) into.old.items into.new.items result) }
         ensures appends { Appends into.old.items into.new.items }
         ensures kept { result ≢ Loaded.Done → into.new.items ≡ into.old.items }
         ensures later { faults self.old ≤ faults self.new }

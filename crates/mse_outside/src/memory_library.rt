@@ -11,7 +11,8 @@ use std::marker::Model;
 /// The contents at the place of the first name that is equal.
 fn find_file<'a>(names: &[String], contents: &'a [Vec<u8>], name: &str) -> Option<&'a Vec<u8>>
     requires { length names.now ≡ length contents.now }
-    ensures { option_map (λ bytes. bytes.now.items) result ≡ file_at (map string_bytes names.now) (map (λ bytes. bytes.items) contents.now) name.now }
+    ensures { option_map (λ bytes. bytes.now.items) result
+        ≡ file_at (map string_bytes names.now) (map (λ bytes. bytes.items) contents.now) name.now }
 {
     for i in 0..names.len() {
         let bytes = &contents[i];
@@ -35,7 +36,15 @@ pub struct MemoryLibrary {
 impl Model for MemoryLibrary {
     ghost Value = { LibraryState };
 
-    ghost view = { λ l. record { files = record { names = map string_bytes l.names.items; contents = map (λ bytes. bytes.items) l.contents.items }; failing = l.failing.items; calls = l.calls; faults = l.faults } };
+    ghost view = { λ l. record {
+      files = record {
+        names = map string_bytes l.names.items;
+        contents = map (λ bytes. bytes.items) l.contents.items;
+      };
+      failing = l.failing.items;
+      calls = l.calls;
+      faults = l.faults;
+    } };
 
     ghost invariant = { λ l. vec_len l.names ≡ vec_len l.contents };
 }
@@ -50,7 +59,10 @@ impl MemoryLibrary {
     ) -> MemoryLibrary
         requires same { vec_len names ≡ vec_len contents }
         requires distinct { AllPairs (λ a b. a ≢ b) (map string_bytes names.items) }
-        ensures files { result.files ≡ record { names = map string_bytes names.items; contents = map (λ bytes. bytes.items) contents.items } }
+        ensures files { result.files ≡ record {
+          names = map string_bytes names.items;
+          contents = map (λ bytes. bytes.items) contents.items;
+        } }
         ensures failing { result.failing ≡ failing.items }
         ensures fresh { (result.calls ≡ 0) × (result.faults ≡ 0) }
     {
@@ -71,9 +83,12 @@ impl Library for MemoryLibrary {
 
     fn load(&mut self, name: &str, into: &mut Vec<u8>) -> Loaded
         ensures state { self.new ≡ after_load self.old result }
-        ensures failed { (result ≡ Loaded.Failed) ↔ Contains self.old.failing (next_count self.old.calls) }
+        ensures failed { (result ≡ Loaded.Failed)
+            ↔ Contains self.old.failing (next_count self.old.calls) }
         ensures no_file { result ≡ Loaded.NoFile → table_of self.old.files name.now ≡ None }
-        ensures done { result ≡ Loaded.Done → IsSomeAnd (table_of self.old.files name.now) (λ bytes. into.new.items ≡ into.old.items ++ bytes) }
+        ensures done { result ≡ Loaded.Done →
+            IsSomeAnd (table_of self.old.files name.now)
+            (λ bytes. into.new.items ≡ into.old.items ++ bytes) }
         ensures memory { result ≡ Loaded.OutOfMemory → IsSome (table_of self.old.files name.now) }
         ensures kept { result ≢ Loaded.Done → into.new.items ≡ into.old.items }
         ensures appends { Appends into.old.items into.new.items }
@@ -103,7 +118,10 @@ pub struct SureLibrary {
 impl Model for SureLibrary {
     ghost Value = { Files };
 
-    ghost view = { λ l. record { names = map string_bytes l.names.items; contents = map (λ bytes. bytes.items) l.contents.items } };
+    ghost view = { λ l. record {
+      names = map string_bytes l.names.items;
+      contents = map (λ bytes. bytes.items) l.contents.items;
+    } };
 
     ghost invariant = { λ l. vec_len l.names ≡ vec_len l.contents };
 }
@@ -113,7 +131,10 @@ impl SureLibrary {
     pub fn new(_alloc: Global, names: Vec<String>, contents: Vec<Vec<u8>>) -> SureLibrary
         requires same { vec_len names ≡ vec_len contents }
         requires distinct { AllPairs (λ a b. a ≢ b) (map string_bytes names.items) }
-        ensures { result ≡ record { names = map string_bytes names.items; contents = map (λ bytes. bytes.items) contents.items } }
+        ensures { result ≡ record {
+          names = map string_bytes names.items;
+          contents = map (λ bytes. bytes.items) contents.items;
+        } }
     {
         SureLibrary { names, contents }
     }
@@ -128,7 +149,9 @@ impl Library for SureLibrary {
         ensures state { self.new ≡ self.old }
         ensures sure { result ≢ Loaded.Failed }
         ensures no_file { result ≡ Loaded.NoFile → table_of self.old name.now ≡ None }
-        ensures done { result ≡ Loaded.Done → IsSomeAnd (table_of self.old name.now) (λ bytes. into.new.items ≡ into.old.items ++ bytes) }
+        ensures done { result ≡ Loaded.Done →
+            IsSomeAnd (table_of self.old name.now)
+            (λ bytes. into.new.items ≡ into.old.items ++ bytes) }
         ensures memory { result ≡ Loaded.OutOfMemory → IsSome (table_of self.old name.now) }
         ensures kept { result ≢ Loaded.Done → into.new.items ≡ into.old.items }
         ensures appends { Appends into.old.items into.new.items }

@@ -32,7 +32,12 @@ pub struct MemorySink {
 impl Model for MemorySink {
     ghost Value = { SinkState };
 
-    ghost view = { λ s. record { written = s.written.items; failing = s.failing.items; calls = s.calls; faults = s.faults } };
+    ghost view = { λ s. record {
+      written = s.written.items;
+      failing = s.failing.items;
+      calls = s.calls;
+      faults = s.faults;
+    } };
 }
 
 impl MemorySink {
@@ -65,8 +70,10 @@ impl Sink for MemorySink {
     fn put(&mut self, bytes: &[u8]) -> Put
         ensures state { self.new ≡ after_put self.old bytes.now result }
         ensures told { PutsOn bytes.now (Some self.old.written) (Some self.new.written) result }
-        ensures done { result ≡ Put.Done → cut_at self.old.failing (next_count self.old.calls) ≡ None }
-        ensures failed { result ≡ Put.Failed → IsSome (cut_at self.old.failing (next_count self.old.calls)) }
+        ensures done { result ≡ Put.Done →
+            cut_at self.old.failing (next_count self.old.calls) ≡ None }
+        ensures failed { result ≡ Put.Failed →
+            IsSome (cut_at self.old.failing (next_count self.old.calls)) }
     {
         self.calls = self.calls.saturating_add(1);
         match find_cut(&self.failing, self.calls) {

@@ -14,7 +14,8 @@ use crate::names::{container, is_codec_name};
 pub fn read_type(text: &str) -> TypeAnswer
     ensures value { result ≡ type_of text.now }
     ensures empty { (result ≡ TypeAnswer.Empty) ↔ (text.now ≡ []) }
-    ensures supported { (container : Container) → (result ≡ TypeAnswer.Supported container) ↔ IsType text.now container }
+    ensures supported { (container : Container) →
+        (result ≡ TypeAnswer.Supported container) ↔ IsType text.now container }
 {
     read_bytes(text.as_bytes())
 }

@@ -20,15 +20,18 @@ pub fn example_law()
     ensures pieces { fed zero_ended (run zero_ended (reading (codes "a "))) (codes " b") ≡
         record { items = codes "ab"; state = reading [] } }
     ensures first { first_item zero_ended (run zero_ended (reading (codes " ab"))) ≡ Some 97 }
-    ensures after { (after_first zero_ended (run zero_ended (reading (codes " ab")))).items ≡ codes "b" }
+    ensures after { (after_first zero_ended (run zero_ended (reading (codes " ab")))).items
+        ≡ codes "b" }
 {}
 
 /// What the definitions give for lists of items, and for a parse of three.
 pub fn item_example_law<F>()
     ensures latest { (last : Option Presentation) (p q : Presentation) (f : F) →
-        latest_after_all last (InitItem p 0 ∷ InitItem q 9 ∷ SegmentEnd ∷ FaultItem f 20 ∷ []) ≡ Some q }
+        latest_after_all last (InitItem p 0 ∷ InitItem q 9 ∷ SegmentEnd ∷ FaultItem f 20 ∷ [])
+        ≡ Some q }
     ensures frames { (x y : CodedFrame) (f : F) →
-        leading_frames {F = F} (FrameItem x 8 ∷ FrameItem y 9 ∷ SegmentEnd ∷ FrameItem x 20 ∷ []) ≡ x ∷ y ∷ [] }
+        leading_frames {F = F} (FrameItem x 8 ∷ FrameItem y 9 ∷ SegmentEnd ∷ FrameItem x 20 ∷ [])
+        ≡ x ∷ y ∷ [] }
     ensures named { (f : F) → with_fault Some (FaultItem f 4) ≡ FaultItem (Some f) 4 }
     ensures parse { (a b c : F) (x y : CodedFrame) →
         items_of (ItemThen a x (ItemThen b y (NoItem c))) ≡ x ∷ y ∷ [] }

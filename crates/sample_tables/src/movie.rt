@@ -87,7 +87,8 @@ fn read_media_track(
     requires readable { IsReadable info.now }
     requires samples { before.now.samples ≤ 2 ^ 22 }
     requires bytes { before.now.bytes ≤ 2 ^ 30 }
-    ensures value { Gives (λ track. track) result (media_track_of len before.now info.now trak.now) }
+    ensures value { Gives (λ track. track) result
+        (media_track_of len before.now info.now trak.now) }
     ensures facts { info.now.kind ≢ Kind.Other → IfOk result (λ track. IsFileTrack len track) }
     ensures few { IfOk result (λ track. AreFew before.now track) }
     ensures named { IfOk result (λ track. track.info ≡ info.now) }

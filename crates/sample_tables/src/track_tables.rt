@@ -117,9 +117,11 @@ pub(crate) fn read_track_tables(alloc: Global, trak: &[u8]) -> Result<TrackTable
     let tables = read_tables(alloc, &boxes)?;
     let whole = description_in(stbl)?;
     let codec = description_codec(whole)?;
-    let copy = Vec::from_slice(alloc, whole)?;
+    let Ok(stsd) = Bytes::copy_of(alloc, whole) else {
+        return Err(InitError::OutOfMemory);
+    };
     Ok(TrackTables {
-        stsd: Bytes::from_vec(alloc, copy),
+        stsd,
         codec,
         tables,
     })

@@ -13,7 +13,7 @@ ghost use Rattle.source_buffers.specs.Views.{buffer_views};
 
 use crate::{all, element, slots, views};
 use buffer_state::{Around, Buffer, Container, Reply, Turned};
-use mse_base::{Moment, OutOfMemory, Ranges, Span, Ticks};
+use mse_base::{Bytes, Moment, OutOfMemory, Ranges, Span, Ticks};
 use mse_calls::{BufferView, Mode, Name};
 use source_state::AllBuffers;
 use std::alloc::Global;
@@ -210,7 +210,7 @@ impl<S: FrameStore> SourceBuffers<S> {
     ///
     /// NoSuchBuffer where no buffer was ever made with the number; InvalidState where it was
     /// removed; and then as [`Buffer::append`].
-    pub fn append(&mut self, k: u32, bytes: &[u8], around: &Around) -> Result<Reply, OutOfMemory>
+    pub fn append(&mut self, k: u32, bytes: &Bytes, around: &Around) -> Result<Reply, OutOfMemory>
         ensures answered { BuffersAnswerIfOk self.old.buffers result self.new.buffers
             (result_on_buffer k Name.InvalidState around.now.duration
             (append_result bytes.now around.now.position around.now.quota

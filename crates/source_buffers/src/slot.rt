@@ -11,7 +11,7 @@ ghost use Rattle.source_buffers.specs.State.{BufferState, SlotStands};
 ghost use Rattle.source_buffers.specs.Slots.{SlotAnswers, SlotAnswersIfOk, SlotTurnIfOk, call_in_slot, refusal_in_slot, removal_in_slot, removal_refusal_in_slot, removed_type_name, turn_in_slot};
 
 use buffer_state::{Around, Buffer, Reply, Turned};
-use mse_base::{Moment, OutOfMemory, Ticks};
+use mse_base::{Bytes, Moment, OutOfMemory, Ticks};
 use mse_calls::{Mode, Name};
 use mse_types::{TypeAnswer, read_type};
 use track_store::FrameStore;
@@ -127,7 +127,7 @@ pub(crate) fn remove_frames<S: FrameStore>(
 /// Begins an append of bytes.
 pub(crate) fn append<S: FrameStore>(
     slot: &mut Option<Buffer<S>>,
-    bytes: &[u8],
+    bytes: &Bytes,
     around: &Around,
 ) -> Result<Reply, OutOfMemory>
     ensures answered { SlotAnswersIfOk slot.old result slot.new

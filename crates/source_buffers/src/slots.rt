@@ -13,7 +13,7 @@ ghost use Rattle.source_buffers.specs.Buffered.{AllLeaveRanges};
 use crate::all::slot_at;
 use crate::slot;
 use buffer_state::{Around, Buffer, Reply, Turned};
-use mse_base::{Moment, OutOfMemory, Ticks};
+use mse_base::{Bytes, Moment, OutOfMemory, Ticks};
 use mse_calls::{Mode, Name};
 use track_store::FrameStore;
 
@@ -157,7 +157,7 @@ pub(crate) fn remove_frames<S: FrameStore>(
 pub(crate) fn append<S: FrameStore>(
     slots: &mut Vec<Option<Buffer<S>>>,
     k: u32,
-    bytes: &[u8],
+    bytes: &Bytes,
     around: &Around,
 ) -> Result<Reply, OutOfMemory>
     ensures answered { BuffersAnswerIfOk slots.old.items result slots.new.items

@@ -33,9 +33,17 @@ impl Model for Source {
 
     ghost Value = { SourceState };
 
-    ghost view = { λ s. record { ready = s.ready; duration = s.duration; live = s.live; made = s.made; listed = s.listed.items; active = s.active.items } };
+    ghost view = { λ s. record {
+      ready = s.ready;
+      duration = s.duration;
+      live = s.live;
+      made = s.made;
+      listed = s.listed.items;
+      active = s.active.items;
+    } };
 
-    ghost invariant = { λ s. HasRoomToActivate s.listed.items s.active.items (vec_capacity s.active) };
+    ghost invariant = { λ s. HasRoomToActivate s.listed.items s.active.items
+        (vec_capacity s.active) };
 }
 
 impl Source {

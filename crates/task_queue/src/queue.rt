@@ -19,7 +19,10 @@ impl Model for Queue {
 
     ghost Value = { Queued };
 
-    ghost view = { λ q. record { events = q.events.items; spare = deque_capacity q.events - deque_len q.events } };
+    ghost view = { λ q. record {
+      events = q.events.items;
+      spare = deque_capacity q.events - deque_len q.events;
+    } };
 }
 
 impl Queue {

@@ -19,7 +19,8 @@ use track_store::{FrameStore, Track, Tracks};
 
 /// Where the last range of the track at a place ends.
 fn last_end_at<S: FrameStore>(tracks: &Tracks<S>, i: usize) -> Option<Ticks>
-    ensures { IfSome (slice_get (ranges_in S.frames S.gap tracks.now.items) i) (λ r. result ≡ last_end r) }
+    ensures { IfSome (slice_get (ranges_in S.frames S.gap tracks.now.items) i)
+        (λ r. result ≡ last_end r) }
 {
     match tracks.get(i) {
         Some(track) => match track.store.last_span() {
@@ -90,7 +91,8 @@ fn ranges_at<S: FrameStore>(
 ) -> Result<Ranges, OutOfMemory>
     requires { AllByRecursion (λ g. pos 0 ≤ℤ g) (gaps_of S.gap tracks.now.items) }
     ensures { IfOk result (λ r. IfSome (slice_get
-        (map (with_end end.now) (ranges_in S.frames S.gap tracks.now.items)) i) (λ x. r.spans ≡ x)) }
+        (map (with_end end.now) (ranges_in S.frames S.gap tracks.now.items)) i)
+        (λ x. r.spans ≡ x)) }
 {
     match tracks.get(i) {
         Some(track) => ranges_with_end(track, end),

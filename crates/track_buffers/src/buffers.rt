@@ -56,7 +56,8 @@ impl<S: FrameStore> Model for TrackBuffers<S> {
       places = b.tracks.spare;
     } };
 
-    ghost invariant = { λ b. IsSteady (states_of S.frames b.tracks.items) (gaps_of S.gap b.tracks.items) b.settings b.gap };
+    ghost invariant = { λ b. IsSteady (states_of S.frames b.tracks.items)
+        (gaps_of S.gap b.tracks.items) b.settings b.gap };
 }
 
 impl<S: FrameStore> TrackBuffers<S> {
@@ -124,7 +125,8 @@ impl<S: FrameStore> TrackBuffers<S> {
         requires places { init_fault presentation.now self.old.media ≡ None
             → awaits_first self.old.media ≡ true
             → length (media_tracks presentation.now) ≤ self.old.places }
-        ensures result { media_result result self.new.media ≡ init_result presentation.now self.old.media duration }
+        ensures result { media_result result self.new.media
+            ≡ init_result presentation.now self.old.media duration }
         ensures changes { (source_effect result).duration_changes ≤ 1 }
         ensures within_duration { EndsWithin duration self.old.media.tracks
             → EndsWithin (source_effect result).duration self.new.media.tracks }
@@ -154,7 +156,8 @@ impl<S: FrameStore> TrackBuffers<S> {
     pub fn process(&mut self, frame: CodedFrame, duration: Moment) -> MediaEffect
         requires room { 1 ≤ self.old.room }
         requires dur { pos 0 ≤ℤ frame.dur }
-        ensures result { media_result result self.new.media ≡ frame_result frame self.old.media duration }
+        ensures result { media_result result self.new.media
+            ≡ frame_result frame self.old.media duration }
         ensures changes { (source_effect result).duration_changes ≤ 1 }
         ensures within_duration { EndsWithin duration self.old.media.tracks
             → EndsWithin (source_effect result).duration self.new.media.tracks }
@@ -224,7 +227,8 @@ impl<S: FrameStore> TrackBuffers<S> {
     /// Makes room for new bytes, where the source buffer is full (Media Source Extensions,
     /// 3.5.10).
     pub fn evict(&mut self, position: Ticks, new_bytes: u64, quota: u64, duration: Moment)
-        ensures media { self.new.media ≡ media_after_eviction position new_bytes quota duration self.old.media }
+        ensures media { self.new.media
+            ≡ media_after_eviction position new_bytes quota duration self.old.media }
         ensures within_duration { (moment : Moment) → EndsWithin moment self.old.media.tracks
             → EndsWithin moment self.new.media.tracks }
         ensures room { self.old.room ≤ self.new.room }

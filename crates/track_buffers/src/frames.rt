@@ -15,7 +15,8 @@ use mse_base::{CodedFrame, Moment};
 use track_store::{FrameStore, Settings, Track, Tracks};
 
 fn has_number_at<S: FrameStore>(tracks: &Tracks<S>, i: usize, id: u32) -> bool
-    ensures { IfSome (slice_get (states_of S.frames tracks.now.items) i) (λ t. result ≡ has_number id t) }
+    ensures { IfSome (slice_get (states_of S.frames tracks.now.items) i)
+        (λ t. result ≡ has_number id t) }
 {
     match tracks.get(i) {
         Some(track) => track.id == id,
@@ -51,7 +52,8 @@ pub(crate) fn process_at<S: FrameStore>(
     requires dur { pos 0 ≤ℤ frame.dur }
     ensures result { (pending : Bool) (gap : ℤ)
         → media_result result (media_of S.frames tracks.new.items settings.new pending gap)
-        ≡ frame_result_at (Some i) frame (media_of S.frames tracks.old.items settings.old pending gap) duration.now }
+        ≡ frame_result_at (Some i) frame
+        (media_of S.frames tracks.old.items settings.old pending gap) duration.now }
     ensures changes { (source_effect result).duration_changes ≤ 1 }
     ensures kept { AreKept (states_of S.frames tracks.new.items) }
     ensures window_start { pos 0 ≤ℤ settings.new.window_start }

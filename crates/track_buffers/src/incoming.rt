@@ -28,7 +28,8 @@ pub(crate) fn segment_effect(presentation: &Presentation, duration: &Moment) -> 
 
 /// Whether the tracks of a segment are those of the buffer.
 fn has_same_tracks<S: FrameStore>(tracks: &Tracks<S>, pending: bool, news: &[TrackInfo]) -> bool
-    ensures { (settings : Settings) (gap : ℤ) → result ≡ has_same_tracks (filter is_media_track news.now)
+    ensures { (settings : Settings) (gap : ℤ) →
+        result ≡ has_same_tracks (filter is_media_track news.now)
         (media_of S.frames tracks.now.items settings pending gap) }
 {
     count_new(news, Kind::Video) == count_held(tracks, Kind::Video)
@@ -117,7 +118,8 @@ pub(crate) fn take_tracks<S: FrameStore>(
         ≡ tracks_after (filter is_media_track news.now) (states_of S.frames tracks.old.items) }
     ensures kept { AreKept (states_of S.frames tracks.old.items)
         → AreKept (states_of S.frames tracks.new.items) }
-    ensures within_duration { (duration : Moment) → EndsWithin duration (states_of S.frames tracks.old.items)
+    ensures within_duration { (duration : Moment) →
+        EndsWithin duration (states_of S.frames tracks.old.items)
         → EndsWithin duration (states_of S.frames tracks.new.items) }
     ensures gaps { AllByRecursion (λ g. g ≡ gap) (gaps_of S.gap tracks.old.items)
         → AllByRecursion (λ g. g ≡ gap) (gaps_of S.gap tracks.new.items) }

@@ -18,7 +18,8 @@ ghost use Rattle.track_buffers.specs.Buffered.{last_up_to, with_last_end, buffer
 
 /// The buffered ranges cover the ticks that the ranges of all tracks cover.
 pub fn buffered_law()
-    ensures { (ended : Bool) (m : Media) → pos 0 ≤ℤ m.gap → IsBuffered ended m (buffered_of ended m) }
+    ensures { (ended : Bool) (m : Media) → pos 0 ≤ℤ m.gap →
+        IsBuffered ended m (buffered_of ended m) }
 {}
 
 /// Where the last range lasts to an end, the ranges are the normalized list of the ticks that they

@@ -30,7 +30,8 @@ fn highest_start_at<S: FrameStore>(tracks: &Tracks<S>, i: usize) -> Option<Ticks
 
 /// The greatest presentation timestamp of all stored frames.
 pub(crate) fn highest_start<S: FrameStore>(tracks: &Tracks<S>) -> Option<Ticks>
-    ensures { result ≡ greatest (flat_map (λ t. starts t.frames) (states_of S.frames tracks.now.items)) }
+    ensures { result ≡ greatest (flat_map
+        (λ t. starts t.frames) (states_of S.frames tracks.now.items)) }
 {
     let mut best = None;
     for i in 0..tracks.len() {
@@ -51,7 +52,8 @@ fn highest_end_at<S: FrameStore>(tracks: &Tracks<S>, i: usize) -> Option<Ticks>
 
 /// The greatest frame end timestamp of all stored frames.
 pub(crate) fn highest_end<S: FrameStore>(tracks: &Tracks<S>) -> Option<Ticks>
-    ensures { result ≡ greatest (flat_map (λ t. ends t.frames) (states_of S.frames tracks.now.items)) }
+    ensures { result ≡ greatest (flat_map
+        (λ t. ends t.frames) (states_of S.frames tracks.now.items)) }
 {
     let mut best = None;
     for i in 0..tracks.len() {
@@ -61,7 +63,8 @@ pub(crate) fn highest_end<S: FrameStore>(tracks: &Tracks<S>) -> Option<Ticks>
 }
 
 fn view_of<S: FrameStore>(track: &Track<S>) -> Result<TrackView, OutOfMemory>
-    ensures { IfOk result (λ v. v ≡ track_view (S.gap track.now.store) (state_of S.frames track.now)) }
+    ensures { IfOk result (λ v. v ≡ track_view (S.gap track.now.store)
+        (state_of S.frames track.now)) }
 {
     let ranges = track.store.copy_ranges()?;
     Ok(TrackView {

@@ -79,7 +79,8 @@ fn partner_at<'a, S: FrameStore>(
 }
 
 fn is_partner<S: FrameStore>(track: &Track<S>, partner: Option<&TrackInfo>, pending: bool) -> bool
-    ensures { result ≡ is_partner pending (state_of S.frames track.now) (option_copied partner.entry) }
+    ensures { result ≡ is_partner pending (state_of S.frames track.now)
+        (option_copied partner.entry) }
 {
     match partner {
         Some(partner) => pending || partner.codec == track.codec,
@@ -88,7 +89,8 @@ fn is_partner<S: FrameStore>(track: &Track<S>, partner: Option<&TrackInfo>, pend
 }
 
 fn fits_at<S: FrameStore>(tracks: &Tracks<S>, i: usize, news: &[TrackInfo], pending: bool) -> bool
-    ensures { IfSome (slice_get (states_of S.frames tracks.now.items) i) (λ t. result ≡ is_partner pending t
+    ensures { IfSome (slice_get (states_of S.frames tracks.now.items) i)
+        (λ t. result ≡ is_partner pending t
         (partner_of (states_of S.frames tracks.now.items) (filter is_media_track news.now) t)) }
 {
     match tracks.get(i) {
@@ -124,7 +126,8 @@ fn renew<S: FrameStore>(track: &mut Track<S>, partner: &TrackInfo)
 
 fn renew_by<S: FrameStore>(tracks: &mut Tracks<S>, i: usize, partner: &TrackInfo)
     ensures states { IfSome (slice_get (states_of S.frames tracks.old.items) i)
-        (λ t. states_of S.frames tracks.new.items ≡ slice_set (states_of S.frames tracks.old.items) i
+        (λ t. states_of S.frames tracks.new.items
+        ≡ slice_set (states_of S.frames tracks.old.items) i
         (track_with_partner t (Some partner.now))) }
     ensures gaps { gaps_of S.gap tracks.new.items ≡ gaps_of S.gap tracks.old.items }
 {
@@ -136,7 +139,8 @@ fn renew_by<S: FrameStore>(tracks: &mut Tracks<S>, i: usize, partner: &TrackInfo
 
 fn renew_at<S: FrameStore>(tracks: &mut Tracks<S>, i: usize, news: &[TrackInfo])
     ensures states { IfSome (slice_get (states_of S.frames tracks.old.items) i)
-        (λ t. states_of S.frames tracks.new.items ≡ slice_set (states_of S.frames tracks.old.items) i
+        (λ t. states_of S.frames tracks.new.items
+        ≡ slice_set (states_of S.frames tracks.old.items) i
         (track_with_partner t (partner_of (states_of S.frames tracks.old.items)
         (filter is_media_track news.now) t))) }
     ensures gaps { gaps_of S.gap tracks.new.items ≡ gaps_of S.gap tracks.old.items }
@@ -150,7 +154,8 @@ fn renew_at<S: FrameStore>(tracks: &mut Tracks<S>, i: usize, news: &[TrackInfo])
 /// Each track buffer takes number and codec of its partner.
 pub(crate) fn renew_all<S: FrameStore>(tracks: &mut Tracks<S>, news: &[TrackInfo])
     ensures states { states_of S.frames tracks.new.items
-        ≡ tracks_with_partners (filter is_media_track news.now) (states_of S.frames tracks.old.items) }
+        ≡ tracks_with_partners (filter is_media_track news.now)
+        (states_of S.frames tracks.old.items) }
     ensures gaps { gaps_of S.gap tracks.new.items ≡ gaps_of S.gap tracks.old.items }
 {
     for i in 0..tracks.len() {

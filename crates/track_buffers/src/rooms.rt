@@ -28,7 +28,8 @@ pub(crate) fn reserve_all<S: FrameStore>(
 ) -> Result<(), OutOfMemory>
     ensures states { states_of S.frames tracks.new.items ≡ states_of S.frames tracks.old.items }
     ensures ok { OnOk result (HasRoom S.spare n tracks.new.items) }
-    ensures room { (k : ℕ) → HasRoom S.spare k tracks.old.items → HasRoom S.spare k tracks.new.items }
+    ensures room { (k : ℕ) → HasRoom S.spare k tracks.old.items →
+        HasRoom S.spare k tracks.new.items }
     ensures gaps { gaps_of S.gap tracks.new.items ≡ gaps_of S.gap tracks.old.items }
     ensures places { tracks.new.spare ≡ tracks.old.spare }
 {

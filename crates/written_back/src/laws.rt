@@ -20,7 +20,8 @@ ghost use Rattle.written_back.specs.Slots.{AreMedia, trafs_slots};
 
 /// A movie box that was written tells the tracks that were handed in.
 pub fn movie_law()
-    ensures { (tracks : List TrackOut) (stsds : List (List ℕ)) → AreTracksOut tracks → AllByRecursion TrackFits tracks
+    ensures { (tracks : List TrackOut) (stsds : List (List ℕ)) → AreTracksOut tracks →
+        AllByRecursion TrackFits tracks
         → AreSampleDescriptions tracks stsds
         → init_of (moov_bytes tracks stsds) ≡ Ok (presentation_read tracks) }
 {}
@@ -28,9 +29,11 @@ pub fn movie_law()
 /// A movie fragment that was written announces the samples that were handed in, in order, with their times, and places
 /// their bytes one after the other behind the header of mdat.
 pub fn fragment_law()
-    ensures { (tracks : List TrackInfo) (sequence : ℕ) (trafs : List TrafOut) → AreMedia tracks → AreTrafsOut trafs
+    ensures { (tracks : List TrackInfo) (sequence : ℕ) (trafs : List TrafOut) → AreMedia tracks →
+        AreTrafsOut trafs
         → AllByRecursion (IsTrafOf tracks) trafs
-        → plan_of tracks (moof_bytes sequence trafs) ≡ Ok (trafs_slots tracks (moof_len trafs + 8) trafs) }
+        → plan_of tracks (moof_bytes sequence trafs)
+        ≡ Ok (trafs_slots tracks (moof_len trafs + 8) trafs) }
 {}
 
 /// What `write_init` wrote, and behind it any number of `write_segment`, whose track fragments name the tracks, reads as
@@ -38,9 +41,12 @@ pub fn fragment_law()
 /// their times and their very bytes, and its end. No fault comes. The same of `write_init_with`.
 pub fn string_law()
     ensures plain { (tracks : List TrackOut) (segments : List SegmentOut) → AreTracksOut tracks
-        → AllByRecursion TrackFits tracks → AllByRecursion (IsSegmentOf (map track_read tracks)) segments
-        → Items None (init_bytes tracks ++ segments_bytes segments) ≡ items_read tracks (length (init_bytes tracks)) segments }
-    ensures with_descriptions { (tracks : List TrackOut) (stsds : List (List ℕ)) (segments : List SegmentOut)
+        → AllByRecursion TrackFits tracks →
+        AllByRecursion (IsSegmentOf (map track_read tracks)) segments
+        → Items None (init_bytes tracks ++ segments_bytes segments)
+        ≡ items_read tracks (length (init_bytes tracks)) segments }
+    ensures with_descriptions { (tracks : List TrackOut) (stsds : List (List ℕ))
+        (segments : List SegmentOut)
         → AreTracksOut tracks → AllByRecursion TrackFits tracks → AreSampleDescriptions tracks stsds
         → AllByRecursion (IsSegmentOf (map track_read tracks)) segments
         → Items None (init_bytes_with tracks stsds ++ segments_bytes segments)
@@ -50,5 +56,6 @@ pub fn string_law()
 /// A file that `make` makes from a number reads as the initialization segment of its track, which has 595 bytes, and then
 /// its segments.
 pub fn make_law()
-    ensures { (n : ℕ) → n ≤ 10000 → Items None (made_bytes n) ≡ items_read (made_track ∷ []) 595 (made_segments_out n) }
+    ensures { (n : ℕ) → n ≤ 10000 →
+        Items None (made_bytes n) ≡ items_read (made_track ∷ []) 595 (made_segments_out n) }
 {}

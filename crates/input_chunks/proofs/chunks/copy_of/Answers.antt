@@ -12,7 +12,7 @@ returns-then-left-rest c =
     let es = c.args.entries.now.items in
     let ps = pieces_of es in
     let e = bytes-from ps c.entries.i c.index-entry.result.now.piece (omega (arith, pieces-length es)) (piece-at es c.entries.i c.index-entry.result.now (omega arith) c.index-entry.ensures) in
-    copy-end _ _ _ _ _ c.index-entry.result.now.piece _ _ _ c.entries.skip c.entries.left c.in_ok-extend_from_slice.ensures.items c.split_at-then-left-rest.ensures.front c.split_at.ensures.back c.as_slice-bytes.ensures.value e (omega (arith, c.split_at.ensures.back_len, ap length c.as_slice-bytes.ensures.value)) c.entries.invariant.same
+    copy-end _ _ _ _ _ c.index-entry.result.now.piece _ _ _ c.entries.skip c.entries.left c.in_ok-extend_from_slice.ensures.items c.split_at-then-left-rest.ensures.front c.split_at.ensures.back c.as_slice-bytes.ensures e (omega (arith, c.split_at.ensures.back_len, ap length c.as_slice-bytes.ensures)) c.entries.invariant.same
 
 pub entries-preserved : goal.entries-preserved
 entries-preserved c =
@@ -20,12 +20,12 @@ entries-preserved c =
     let ps = pieces_of es in
     let p = c.index-entry.result.now.piece in
     let e = bytes-from ps c.entries.i p (omega (arith, pieces-length es)) (piece-at es c.entries.i c.index-entry.result.now (omega arith) c.index-entry.ensures) in
-    let l = ap length c.as_slice-bytes.ensures.value in
+    let l = ap length c.as_slice-bytes.ensures in
     let m = ap length e ∙ length-append p (concat (drop (c.entries.i + 1) ps)) in
     elim c.if-skip-bytes.branch [
       | then-skip-bytes+else-left-rest+in_ok-extend_from_slice-2 w ↦
           rw (w.into-is, w.skip-is, w.left-is) (record {
-            same = copy-through _ _ _ _ p _ _ _ c.entries.skip c.entries.left _ w.in_ok-extend_from_slice-2.ensures.items w.split_at.ensures.back c.as_slice-bytes.ensures.value e (omega arith) (omega (arith, w.split_at.ensures.back_len)) (omega (arith, w.split_at.ensures.back_len)) c.entries.invariant.same;
+            same = copy-through _ _ _ _ p _ _ _ c.entries.skip c.entries.left _ w.in_ok-extend_from_slice-2.ensures.items w.split_at.ensures.back c.as_slice-bytes.ensures e (omega arith) (omega (arith, w.split_at.ensures.back_len)) (omega (arith, w.split_at.ensures.back_len)) c.entries.invariant.same;
             room = omega (arith, w.split_at.ensures.back_len, c.entries.invariant.room);
           })
       | else-skip-bytes w ↦

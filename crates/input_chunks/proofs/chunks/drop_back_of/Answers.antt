@@ -17,7 +17,7 @@ returns-then-left-len-clause-pieces c =
     let e = pieces-popped front c.entries.entries.items last c.in-Some.ensures.items in
     let l = bytes-popped front c.entries.entries.items last c.in-Some.ensures.items in
     let k = c.len-len.result - c.entries.left in
-    pieces-popped front _ x c.push_back_reserved.ensures.items ∙ ap (λ p. pieces_of front ++ p ∷ []) c.truncate.ensures ∙ sym (front-last m k last.piece (pieces_of front) (omega (arith, l, c.entries.invariant.room, c.len-len.ensures.value)) (omega arith) (omega (arith, c.len-len.ensures.value))) ∙ sym (ap (first_pieces m) e) ∙ c.entries.invariant.same
+    pieces-popped front _ x c.push_back_reserved.ensures.items ∙ ap (λ p. pieces_of front ++ p ∷ []) c.truncate.ensures ∙ sym (front-last m k last.piece (pieces_of front) (omega (arith, l, c.entries.invariant.room, c.len-len.ensures)) (omega arith) (omega (arith, c.len-len.ensures))) ∙ sym (ap (first_pieces m) e) ∙ c.entries.invariant.same
 
 pub returns-then-left-len-clause-ended : goal.returns-then-left-len-clause-ended
 returns-then-left-len-clause-ended c = λ at h q.
@@ -26,7 +26,7 @@ returns-then-left-len-clause-ended c = λ at h q.
     let x : PieceWithEnd = record { piece = c.truncate.new.self; end = c.args.end } in
     let l = bytes-popped front c.entries.entries.items last c.in-Some.ensures.items in
     let k = c.len-len.result - c.entries.left in
-    ended-cut c.args.end _ last x front c.entries.entries.items _ c.in-Some.ensures.items refl (omega (arith, l, c.entries.invariant.room, c.len-len.ensures.value, ap length c.truncate.ensures, length-take-le k last.piece (omega (arith, c.len-len.ensures.value)))) c.push_back_reserved.ensures.items at (c.entries.invariant.ended at h) q
+    ended-cut c.args.end _ last x front c.entries.entries.items _ c.in-Some.ensures.items refl (omega (arith, l, c.entries.invariant.room, c.len-len.ensures, ap length c.truncate.ensures, length-take-le k last.piece (omega (arith, c.len-len.ensures)))) c.push_back_reserved.ensures.items at (c.entries.invariant.ended at h) q
 
 pub entries-preserved : goal.entries-preserved
 entries-preserved c =
@@ -36,8 +36,8 @@ entries-preserved c =
     let e = pieces-popped front c.entries.entries.items last c.in-Some.ensures.items in
     let l = bytes-popped front c.entries.entries.items last c.in-Some.ensures.items in
     record {
-      same = sym (front-less m last.piece (pieces_of front) (omega (arith, l, c.entries.invariant.room, c.len-len.ensures.value))) ∙ sym (ap (first_pieces m) e) ∙ c.entries.invariant.same;
-      room = omega (arith, l, c.entries.invariant.room, c.len-len.ensures.value);
+      same = sym (front-less m last.piece (pieces_of front) (omega (arith, l, c.entries.invariant.room, c.len-len.ensures))) ∙ sym (ap (first_pieces m) e) ∙ c.entries.invariant.same;
+      room = omega (arith, l, c.entries.invariant.room, c.len-len.ensures);
       full = none-front (pieces_of front) (last.piece ∷ []) (subst HasNoEmptyPiece e c.entries.invariant.full);
       ended = λ at h. ended-front front last at (subst (HasEnds at) c.in-Some.ensures.items (c.entries.invariant.ended at h));
     }

@@ -13,14 +13,14 @@ entries-preserved c =
     let ps = pieces_of es in
     let p = c.index-entry.result.now.piece in
     let e = bytes-from ps c.entries.i p (omega (arith, pieces-length es)) (piece-at es c.entries.i c.index-entry.result.now (omega arith) c.index-entry.ensures) in
-    let l = ap length c.as_slice-bytes.ensures.value in
+    let l = ap length c.as_slice-bytes.ensures in
     let m = ap length e ∙ length-append p (concat (drop (c.entries.i + 1) ps)) in
     let left = length c.entries.into - c.entries.filled in
     elim c.if-skip-bytes.branch [
       | then-skip-bytes+else-left-rest w ↦
           let f = w.fill-then-skip-bytes.ensures.len in
           rw (w.into-is, w.skip-is, w.filled-is, f) (record {
-            same = copy-through _ _ _ _ p _ _ _ c.entries.skip left _ w.fill-then-skip-bytes.ensures.front w.split_at.ensures.back c.as_slice-bytes.ensures.value e (omega arith) (omega (arith, w.split_at.ensures.back_len)) (omega (arith, w.split_at.ensures.back_len)) c.entries.invariant.same;
+            same = copy-through _ _ _ _ p _ _ _ c.entries.skip left _ w.fill-then-skip-bytes.ensures.front w.split_at.ensures.back c.as_slice-bytes.ensures e (omega arith) (omega (arith, w.split_at.ensures.back_len)) (omega (arith, w.split_at.ensures.back_len)) c.entries.invariant.same;
             room = omega (arith, w.split_at.ensures.back_len, c.entries.invariant.room);
             filled = omega arith;
           })
@@ -39,7 +39,7 @@ returns-then-left-rest c =
     let e = bytes-from (pieces_of es) c.entries.i p (omega (arith, pieces-length es)) (piece-at es c.entries.i c.index-entry.result.now (omega arith) c.index-entry.ensures) in
     let left = length c.entries.into - c.entries.filled in
     let same_len : length c.entries.into ≡ length c.args.into.now = omega arith in
-    read-end c.fill.new.into c.entries.into _ _ _ p _ _ _ c.entries.filled c.entries.skip left c.fill.ensures.front c.fill.ensures.len (omega (arith, c.entries.invariant.filled)) c.split_at-then-left-rest.ensures.front c.split_at.ensures.back c.as_slice-bytes.ensures.value e (omega (arith, c.split_at.ensures.back_len, ap length c.as_slice-bytes.ensures.value)) (c.entries.invariant.same ∙ ap (λ n. take n (drop c.args.skip (concat (drop c.args.first (pieces_of es))))) same_len)
+    read-end c.fill.new.into c.entries.into _ _ _ p _ _ _ c.entries.filled c.entries.skip left c.fill.ensures.front c.fill.ensures.len (omega (arith, c.entries.invariant.filled)) c.split_at-then-left-rest.ensures.front c.split_at.ensures.back c.as_slice-bytes.ensures e (omega (arith, c.split_at.ensures.back_len, ap length c.as_slice-bytes.ensures)) (c.entries.invariant.same ∙ ap (λ n. take n (drop c.args.skip (concat (drop c.args.first (pieces_of es))))) same_len)
 
 pub returns : goal.returns
 returns c =

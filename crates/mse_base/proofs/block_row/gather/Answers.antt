@@ -1,4 +1,4 @@
-use Rattle.std.proofs.Common.{◌≡◌, ◌∙◌, ◌+◌, ◌-◌, ◌<◌, ◌≤◌, length, ap, subst, sym, refl, arith}
+use Rattle.std.proofs.Common.{◌≡◌, ◌∙◌, ◌+◌, ◌-◌, ◌<◌, length, ap, subst, sym, refl, arith}
 use Rattle.mse_base.specs.Rows.{row, AreEmpty}
 use Rattle.mse_base.proofs.InRows.{dense_last, gathered, gathered_none, empty_push, one_more}
 use Rattle.mse_base.proofs.block_row.gather.Goals as goal

@@ -1,5 +1,5 @@
-use Rattle.std.proofs.Common.{◌≡◌, ◌-◌, ◌+◌, ◌≤◌, ◌<◌, length}
-use Rattle.mse_base.specs.Rows.{start, joined}
+use Rattle.std.proofs.Common.{◌≡◌, ◌-◌, ◌+◌, ◌<◌, length}
+use Rattle.mse_base.specs.Rows.{start}
 use Rattle.mse_base.proofs.block_row.place_of.Given as goal
 
 abbrev pub invariant-walk : goal.invariant-walk

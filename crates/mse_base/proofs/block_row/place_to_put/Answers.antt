@@ -1,4 +1,4 @@
-use Rattle.std.proofs.Common.{◌≡◌, ◌+◌, ◌<◌, ◌≤◌, length, arith}
+use Rattle.std.proofs.Common.{◌<◌, length, arith}
 use Rattle.mse_base.specs.Rows.{row}
 use Rattle.mse_base.proofs.InRows.{rows_behind, start_more}
 use Rattle.mse_base.proofs.block_row.place_to_put.Goals as goal

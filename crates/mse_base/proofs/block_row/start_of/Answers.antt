@@ -1,4 +1,4 @@
-use Rattle.std.proofs.Common.{◌≡◌, ◌<◌, length, arith}
+use Rattle.std.proofs.Common.{◌<◌, length, arith}
 use Rattle.mse_base.proofs.InRows.{row_within, start_more}
 use Rattle.mse_base.proofs.block_row.start_of.Goals as goal
 

@@ -1,4 +1,4 @@
-use Rattle.std.proofs.Common.{◌≡◌, ◌+◌, ◌-◌, ◌<◌, ◌≤◌, ◌++◌, ◌-ℤ◌, ◌+ℤ◌, length, take, drop}
+use Rattle.std.proofs.Common.{◌≡◌, ◌+◌, ◌-◌, ◌≤◌, ◌++◌, ◌-ℤ◌, ◌+ℤ◌, length, take, drop}
 use Rattle.mse_base.specs.Bridging.{ranges_without, IsRanges}
 use Rattle.mse_base.proofs.carve.carve_from.Given as goal
 

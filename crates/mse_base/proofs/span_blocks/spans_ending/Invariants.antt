@@ -1,4 +1,4 @@
-use Rattle.std.proofs.Common.{◌+◌, ◌-◌, ◌<◌, ◌≤◌, ◌≤ℤ◌, ◌-ℤ◌, ◌<ℤ◌, length, take, drop}
+use Rattle.std.proofs.Common.{◌+◌, ◌-◌, ◌≤◌, ◌≤ℤ◌, ◌-ℤ◌, ◌<ℤ◌, length, take, drop}
 use Rattle.std.specs.List.{AllByRecursion}
 use Rattle.mse_base.specs.Rows.{joined, start, row}
 use Rattle.mse_base.proofs.span_blocks.spans_ending.Given as goal

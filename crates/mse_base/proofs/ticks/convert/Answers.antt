@@ -1,7 +1,7 @@
-use Rattle.std.proofs.Common.{rules, ◌≡◌, ◌<◌, ◌*ℤ◌, ◌/◌, ◌%◌, pos, ap, sym, ◌∙◌, ℕ, subst, arith}
+use Rattle.std.proofs.Common.{rules, ◌≡◌, ◌*ℤ◌, ◌/◌, ◌%◌, pos, ap, sym, ◌∙◌, arith}
 use Rattle.std.proofs.lemmas.Int.{to_z-of_z}
 use mir.Syntax.{w128}
-use Rattle.mse_base.specs.Time.{tick, converted, floor_div}
+use Rattle.mse_base.specs.Time.{tick}
 use Rattle.mse_base.proofs.Floors.{exact}
 use Rattle.mse_base.proofs.ticks.convert.Goals as goal
 

@@ -1,4 +1,4 @@
-use Rattle.std.proofs.Common.{◌≡◌, true, false, not, length, nat_lt, sym, subst}
+use Rattle.std.proofs.Common.{◌≡◌, ◌∙◌, true, false, not, length, nat_lt, sym, subst}
 use Rattle.mse_calls.specs.declared.answers.Answer.TheVariants as answer
 use Rattle.mse_calls.specs.Level.{has_metadata}
 use Rattle.mse_calls.specs.Pieces.{bytes_of}
@@ -15,7 +15,7 @@ conclude-requires-clause-bounds g c = λ h. never_loads _ c.args.k c.in_ok-reply
 pub returns-clause-answered : goal.returns-clause-answered
 returns-clause-answered g c st h =
     let is : nat_lt c.args.k (length c.args.buffers.now.buffers) ≡ true = cc in
-    append_steps c.args.k c.in-Some.bytes.now c.args.piece.now c.args.blobs.now (surroundings c.around-around.result) c.around-around.result.duration c.around-around.result.position c.around-around.result.quota c.in_ok-reply.reply c.conclude.result c.args.side.now c.args.element.now.state c.reserve.new.self.state c.args.buffers.now.buffers c.append.new.self.buffers (kept c.conclude.new.side c.append.new.self.buffers c.conclude.new.element.state) is (sym c.in-Some.ensures) c.reserve.ensures.state c.around-around.ensures.surroundings c.around-around.ensures.duration c.around-around.ensures.position c.around-around.ensures.quota c.in_ok-reply.ensures.answered c.conclude.ensures.step st h
+    append_steps c.args.k c.in-Some.bytes c.args.piece.now c.args.blobs.now (surroundings c.around-around.result) c.around-around.result.duration c.around-around.result.position c.around-around.result.quota c.in_ok-reply.reply c.conclude.result c.args.side.now c.args.element.now.state c.reserve.new.self.state c.args.buffers.now.buffers c.append.new.self.buffers (kept c.conclude.new.side c.append.new.self.buffers c.conclude.new.element.state) is (sym c.in_ok-bytes.ensures ∙ c.in-Some.is) c.reserve.ensures.state c.around-around.ensures.surroundings c.around-around.ensures.duration c.around-around.ensures.position c.around-around.ensures.quota c.in_ok-reply.ensures.answered c.conclude.ensures.step st h
 
 pub returns-clause-steady : goal.returns-clause-steady
 returns-clause-steady g c = call_steady c.args.k c.in_ok-reply.reply c.around-around.result.duration c.args.side.now c.conclude.new.side c.args.buffers.now.buffers c.append.new.self.buffers c.args.element.now.state c.conclude.new.element.state c.requires.steady c.around-around.ensures.duration c.in_ok-reply.ensures.within_duration c.append.ensures.len c.conclude.ensures.side c.conclude.ensures.settled
@@ -28,7 +28,7 @@ returns-then-not-is_made-clause-answered g c st h =
 pub returns-in_default-clause-answered : goal.returns-in_default-clause-answered
 returns-in_default-clause-answered g c st h =
     let is : nat_lt c.args.k (length c.args.buffers.now.buffers) ≡ true = cc in
-    no_bytes_steps c.args.k c.args.piece.now c.args.blobs.now (kept c.args.side.now c.args.buffers.now.buffers c.args.element.now.state) st is (sym c.in_default.ensures) c.requires.steady.settled h
+    no_bytes_steps c.args.k c.args.piece.now c.args.blobs.now (kept c.args.side.now c.args.buffers.now.buffers c.args.element.now.state) st is (sym c.in_ok-bytes.ensures ∙ c.in_default.is) c.requires.steady.settled h
 
 pub returns-in_err-reserve-clause-steady : goal.returns-in_err-reserve-clause-steady
 returns-in_err-reserve-clause-steady g c = subst (λ (e : ElementState). IsSteady (kept c.args.side.now c.args.buffers.now.buffers e)) (sym c.reserve.ensures.state) c.requires.steady

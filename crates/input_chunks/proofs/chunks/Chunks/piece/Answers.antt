@@ -8,4 +8,4 @@ index-entry-requires c = omega (arith, pieces-length c.self.inside.entries.items
 pub returns : goal.returns
 returns c =
     let l = pieces-length c.self.inside.entries.items in
-    ap Some c.as_slice.ensures.value ∙ piece-get c.self.inside.entries.items c.args.i c.index-entry.result.now (omega (arith, l, ap length c.self.view_is)) c.index-entry.ensures ∙ ap (λ ps. slice_get ps c.args.i) c.self.view_is
+    ap Some c.as_slice.ensures ∙ piece-get c.self.inside.entries.items c.args.i c.index-entry.result.now (omega (arith, l, ap length c.self.view_is)) c.index-entry.ensures ∙ ap (λ ps. slice_get ps c.args.i) c.self.view_is

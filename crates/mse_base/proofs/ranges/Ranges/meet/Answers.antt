@@ -1,5 +1,4 @@
 use Rattle.std.proofs.Common.{◌∙◌}
-use Rattle.mse_base.specs.Spans.{Met}
 use Rattle.mse_base.proofs.Meeting.{meet_is, met_again}
 use Rattle.mse_base.proofs.ranges.Ranges.meet.Goals as goal
 

@@ -1,6 +1,5 @@
-use Rattle.std.proofs.Common.{◌≡◌, ◌∙◌, ◌+◌, ◌-◌, ◌<◌, ◌≤◌, ◌<ℤ◌, ◌≤ℤ◌, ◌-ℤ◌, List, length, take, drop, ap, subst, sym, arith}
+use Rattle.std.proofs.Common.{◌≡◌, ◌+◌, ◌-◌, ◌<ℤ◌, ◌≤ℤ◌, ◌-ℤ◌, length, take, drop, ap, subst, arith}
 use Rattle.std.specs.List.{AllByRecursion}
-use Rattle.mse_base.specs.declared.span.Span.{Span}
 use Rattle.mse_base.specs.Rows.{joined, start}
 use Rattle.mse_base.proofs.InRows.{row_within}
 use Rattle.mse_base.proofs.span_blocks.SpanBlocks.count_ending.Goals as goal

@@ -1,4 +1,4 @@
-use Rattle.std.proofs.Common.{◌∙◌, ◌≡◌, ◌<◌, ◌≤◌, remove, length, ap, arith, vec_capacity}
+use Rattle.std.proofs.Common.{◌∙◌, ◌≡◌, remove, length, ap, arith, vec_capacity}
 use Rattle.mse_base.specs.Rows.{joined, row}
 use Rattle.mse_base.proofs.InRows.{joined_set_remove, joined_one}
 use Rattle.mse_base.proofs.SpreadOut.{spread_take, spread_less}

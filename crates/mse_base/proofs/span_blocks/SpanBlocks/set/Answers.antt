@@ -1,4 +1,4 @@
-use Rattle.std.proofs.Common.{◌∙◌, ◌≡◌, set, length, ap, arith, vec_capacity}
+use Rattle.std.proofs.Common.{◌∙◌, set, ap, vec_capacity}
 use Rattle.mse_base.specs.Rows.{joined}
 use Rattle.mse_base.proofs.InRows.{joined_set_set}
 use Rattle.mse_base.proofs.SpreadOut.{spread_set}

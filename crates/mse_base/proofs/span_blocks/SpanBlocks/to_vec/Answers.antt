@@ -1,5 +1,5 @@
-use Rattle.std.proofs.Common.{◌≡◌, ◌∙◌, ◌+◌, ◌<◌, ◌++◌, length, take, ap, sym, arith}
-use Rattle.mse_base.specs.Rows.{joined, row}
+use Rattle.std.proofs.Common.{◌∙◌, ◌<◌, ◌++◌, length, take, ap, sym, arith}
+use Rattle.mse_base.specs.Rows.{joined}
 use Rattle.mse_base.proofs.InRows.{row_is, joined_take}
 use Rattle.mse_base.proofs.span_blocks.SpanBlocks.to_vec.Goals as goal
 

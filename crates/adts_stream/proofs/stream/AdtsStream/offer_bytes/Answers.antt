@@ -3,19 +3,19 @@ use Rattle.std.specs.List.{concat}
 use Rattle.input_chunks.proofs.Rows.{bytes-pushed}
 use Rattle.adts_stream.specs.Streams.{AdtsView, IsStream}
 use Rattle.adts_stream.proofs.StreamLaws.{idle, offer-holds, offer-view}
-use Rattle.adts_stream.proofs.stream.AdtsStream.offer_vec.Goals as goal
+use Rattle.adts_stream.proofs.stream.AdtsStream.offer_bytes.Goals as goal
 
 pub invariant_of-self-2 : goal.invariant_of-self-2
 invariant_of-self-2 c =
     let s = c.self.inside in
     let h = idle s.last s.position (concat s.input) s.fed s.offered c.args.self.now c.self.view_is c.requires.idle in
-    let e = ap concat c.in_ok-push_vec.ensures.ok ∙ bytes-pushed c.args.bytes.items s.input in
+    let e = ap concat c.in_ok-push_bytes.ensures.ok ∙ bytes-pushed c.args.bytes s.input in
     let i = subst (λ (o : Option ℕ). IsStream s.position (concat s.input) s.fed o) h.1 c.self.invariant in
-    offer-holds s.position (concat s.input) _ c.args.bytes.items s.fed c.len-len.result e (omega arith) i (omega (arith, c.len-len.ensures, c.requires.room, ap (λ (v : AdtsView). v.fed) h.0))
+    offer-holds s.position (concat s.input) _ c.args.bytes s.fed c.len-len.result e (omega arith) i (omega (arith, c.len-len.ensures, c.requires.room, ap (λ (v : AdtsView). v.fed) h.0))
 
 pub returns-clause-ok : goal.returns-clause-ok
 returns-clause-ok c =
     let s = c.self.inside in
     let h = idle s.last s.position (concat s.input) s.fed s.offered c.args.self.now c.self.view_is c.requires.idle in
-    let e = ap concat c.in_ok-push_vec.ensures.ok ∙ bytes-pushed c.args.bytes.items s.input in
-    offer-view s.last s.position (concat s.input) _ c.args.bytes.items s.fed c.len-len.result e (omega arith) ∙ ap (λ (v : AdtsView). record { state = v.state; fed = v.fed; offered = Some c.args.bytes.items }) h.0
+    let e = ap concat c.in_ok-push_bytes.ensures.ok ∙ bytes-pushed c.args.bytes s.input in
+    offer-view s.last s.position (concat s.input) _ c.args.bytes s.fed c.len-len.result e (omega arith) ∙ ap (λ (v : AdtsView). record { state = v.state; fed = v.fed; offered = Some c.args.bytes }) h.0

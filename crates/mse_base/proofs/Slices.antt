@@ -1,0 +1,15 @@
+-- Parts of a part of a list.
+use Rattle.std.proofs.Common.{arith, ◌≡◌, ◌∙◌, ℕ, ◌+◌, ◌-◌, ◌≤◌, List, take, drop, slice_range, ap}
+use Rattle.std.proofs.lemmas.List.{drop-take, drop-drop, take-take}
+
+-- what stays of it behind the first n
+pub part_without_front : {X : Type 0} (n a b : ℕ) (xs : List X) → a + n ≤ b → drop n (slice_range xs a b) ≡ slice_range xs (a + n) b
+part_without_front n a b xs le = ap (λ k. drop n (take k (drop a xs))) (omega (arith, le)) ∙ drop-take n (b - (a + n)) (drop a xs) ∙ ap (take (b - (a + n))) (drop-drop n a xs)
+
+-- the first n of it
+pub part_cut : {X : Type 0} (n a b : ℕ) (xs : List X) → a + n ≤ b → take n (slice_range xs a b) ≡ slice_range xs a (a + n)
+part_cut n a b xs le = take-take n (b - a) (drop a xs) (omega (arith, le)) ∙ ap (λ k. take k (drop a xs)) (omega (arith))
+
+-- a part of it
+pub part_of_part : {X : Type 0} (s e a b : ℕ) (xs : List X) → s ≤ e → a + e ≤ b → slice_range (slice_range xs a b) s e ≡ slice_range xs (a + s) (a + e)
+part_of_part s e a b xs se le = ap (take (e - s)) (part_without_front s a b xs (omega (arith, se, le))) ∙ part_cut (e - s) (a + s) b xs (omega (arith, se, le)) ∙ ap (slice_range xs (a + s)) (omega (arith, se))
