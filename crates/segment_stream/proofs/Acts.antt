@@ -14,20 +14,21 @@ use Rattle.parser_loop.specs.Walk.{Move, Stop, Pass, Give, run, run_by, joined, 
 use Rattle.parser_loop.proofs.Runs.{run-step, run-rested, IsRested}
 use Rattle.mse_base.specs.declared.frame.Phase.{Phase}
 use Rattle.segment_walk.specs.declared.kinds.DataRange.{DataRange}
-use Rattle.segment_walk.specs.declared.kinds.Mode as code
-use Rattle.segment_walk.specs.declared.kinds.Mode.TheVariants as codes
+use Rattle.segment_walk.specs.declared.kinds.ParserMode as code
+use Rattle.segment_walk.specs.declared.kinds.ParserMode.TheVariants as codes
 use Rattle.segment_walk.specs.declared.kinds.Place.TheVariants.{AtBox, InData}
-use Rattle.segment_walk.specs.declared.kinds.Step.{Step}
-use Rattle.segment_walk.specs.declared.kinds.Step.TheVariants as step
+use Rattle.segment_walk.specs.declared.kinds.BoxStep.{BoxStep}
+use Rattle.segment_walk.specs.declared.kinds.BoxStep.TheVariants as step
 use Rattle.segment_walk.specs.declared.kinds.StreamFault.{StreamFault}
 use Rattle.segment_walk.specs.Tables.{SegmentItem}
-use Rattle.segment_walk.specs.Moves.{State, Mode, Between, Skipping, Within, step_of, act, pass_byte, into, initialized, opened, planned, segments, opening, frame_of, size_by}
+use Rattle.segment_walk.specs.Moves.{State, ParserMode, Between, Skipping, Within, step_of, act, pass_byte, into, initialized, opened, planned, segments, opening, frame_of, size_by}
 use Rattle.parser_loop.specs.Items.{is_frame}
 use Rattle.segment_walk.specs.Ranges.{IsAscending, SeesAscending, mode_of, open_at}
 use Rattle.segment_walk.proofs.WalkLaws.{going, good-step, Same, Fits, is_walk}
 use Rattle.segment_stream.specs.declared.progress.Progress.{Progress}
+use Rattle.segment_stream.specs.declared.progress.Tables.{Tables}
 use Rattle.segment_stream.specs.Kept
-use Rattle.segment_stream.specs.Kept.{state_of, fragment_in, in_mode, IsConsistent, IsCounted, IsOrdered, GoesOn, Since, Keeps, Rests, frames, frame_at, IsSlotEndingBy, IsEndingBy, IsPlan}
+use Rattle.segment_stream.specs.Kept.{state_of, fragment_in, in_mode, IsConsistent, IsCounted, IsOrdered, GoesOn, Since, Keeps, Rests, frames, frame_at, IsSlotEndingBy, IsEndingBy, IsPlan, with_tables}
 
 -- ---- where the walk rests
 
@@ -41,27 +42,27 @@ rests-give s t item w e f = record {
 }
 
 -- a state that met a fault
-pub rests-failed : (last : Option Presentation) (mode : Mode) (offset : ℕ) (rest : List ℕ) (failed : Bool) (w : ℕ) → failed ≡ true → Rests (record { last = last; mode = mode; offset = offset; rest = rest; failed = failed }) w
+pub rests-failed : (last : Option Presentation) (mode : ParserMode) (offset : ℕ) (rest : List ℕ) (failed : Bool) (w : ℕ) → failed ≡ true → Rests (record { last = last; mode = mode; offset = offset; rest = rest; failed = failed }) w
 rests-failed last mode offset rest failed w e =
     let s : State = record { last = last; mode = mode; offset = offset; rest = rest; failed = true } in
     rw e (record { still = run-rested segments is_walk s tt; waits = λ c h. run-rested segments is_walk s tt })
 
 -- modes that act by a step
-abbrev pub IsActive : Mode → Type 0
+abbrev pub IsActive : ParserMode → Type 0
 IsActive (Between phase) = Unit {0}
 IsActive (Skipping to left) = ⊥
 IsActive (Within o) = Unit {0}
 
-move-is : (last : Option Presentation) (m : Mode) (offset : ℕ) (rest : List ℕ) → IsActive m → segments.move (going last m offset rest) ≡ act (going last m offset rest) (step_of (is_some last) rest m)
+move-is : (last : Option Presentation) (m : ParserMode) (offset : ℕ) (rest : List ℕ) → IsActive m → segments.move (going last m offset rest) ≡ act (going last m offset rest) (step_of (is_some last) rest m)
 move-is last (Between phase) offset rest a = refl
 move-is last (Skipping to left) offset rest a = absurd a
 move-is last (Within o) offset rest a = refl
 
-pub acts : (last : Option Presentation) (m : Mode) (offset : ℕ) (rest : List ℕ) (st : Step) → IsActive m → st ≡ step_of (is_some last) rest m → segments.move (going last m offset rest) ≡ act (going last m offset rest) st
+pub acts : (last : Option Presentation) (m : ParserMode) (offset : ℕ) (rest : List ℕ) (st : BoxStep) → IsActive m → st ≡ step_of (is_some last) rest m → segments.move (going last m offset rest) ≡ act (going last m offset rest) st
 acts last m offset rest st a e = move-is last m offset rest a ∙ ap (act (going last m offset rest)) (sym e)
 
 -- over the parts of a state that met no fault
-pub rests-wait : (last : Option Presentation) (m : Mode) (offset : ℕ) (rest : List ℕ) (failed : Bool) (w : ℕ) → failed ≡ false → IsActive m → step.Wait w ≡ step_of (is_some last) rest m → Rests (record { last = last; mode = m; offset = offset; rest = rest; failed = failed }) w
+pub rests-wait : (last : Option Presentation) (m : ParserMode) (offset : ℕ) (rest : List ℕ) (failed : Bool) (w : ℕ) → failed ≡ false → IsActive m → step.Wait w ≡ step_of (is_some last) rest m → Rests (record { last = last; mode = m; offset = offset; rest = rest; failed = failed }) w
 rests-wait last m offset rest failed w f a e =
     let s : State = going last m offset rest in
     rw f (record {
@@ -81,27 +82,27 @@ rests-other-at s w Stop e g = absurd g
 rests-other-at s w (Pass t) e g = absurd g
 rests-other-at s w (Give item t) e g = rests-give s t item w e g
 
-rests-other : (last : Option Presentation) (m : Mode) (offset : ℕ) (rest : List ℕ) (failed : Bool) (w : ℕ) (st : Step) → failed ≡ false → IsActive m → st ≡ step_of (is_some last) rest m → GivesOther (act (going last m offset rest) st) → Rests (record { last = last; mode = m; offset = offset; rest = rest; failed = failed }) w
+rests-other : (last : Option Presentation) (m : ParserMode) (offset : ℕ) (rest : List ℕ) (failed : Bool) (w : ℕ) (st : BoxStep) → failed ≡ false → IsActive m → st ≡ step_of (is_some last) rest m → GivesOther (act (going last m offset rest) st) → Rests (record { last = last; mode = m; offset = offset; rest = rest; failed = failed }) w
 rests-other last m offset rest failed w st f a e g = rw f (rests-other-at (going last m offset rest) w (act (going last m offset rest) st) (acts last m offset rest st a e) g)
 
-pub rests-fail : (last : Option Presentation) (m : Mode) (offset : ℕ) (rest : List ℕ) (failed : Bool) (w : ℕ) (e : StreamFault) (at : ℕ) → failed ≡ false → IsActive m → step.Fail e at ≡ step_of (is_some last) rest m → Rests (record { last = last; mode = m; offset = offset; rest = rest; failed = failed }) w
+pub rests-fail : (last : Option Presentation) (m : ParserMode) (offset : ℕ) (rest : List ℕ) (failed : Bool) (w : ℕ) (e : StreamFault) (at : ℕ) → failed ≡ false → IsActive m → step.Fail e at ≡ step_of (is_some last) rest m → Rests (record { last = last; mode = m; offset = offset; rest = rest; failed = failed }) w
 rests-fail last m offset rest failed w e at f a h = rests-other last m offset rest failed w (step.Fail e at) f a h refl
 
-pub rests-end : (last : Option Presentation) (m : Mode) (offset : ℕ) (rest : List ℕ) (failed : Bool) (w end : ℕ) → failed ≡ false → IsActive m → step.EndSegment end ≡ step_of (is_some last) rest m → Rests (record { last = last; mode = m; offset = offset; rest = rest; failed = failed }) w
+pub rests-end : (last : Option Presentation) (m : ParserMode) (offset : ℕ) (rest : List ℕ) (failed : Bool) (w end : ℕ) → failed ≡ false → IsActive m → step.EndSegment end ≡ step_of (is_some last) rest m → Rests (record { last = last; mode = m; offset = offset; rest = rest; failed = failed }) w
 rests-end last m offset rest failed w end f a h = rests-other last m offset rest failed w (step.EndSegment end) f a h refl
 
 other-init : (s : State) (len : ℕ) (r : Result Presentation InitFault) → GivesOther (initialized s len r)
 other-init s len (Ok p) = refl
 other-init s len (Err f) = refl
 
-pub rests-init : (last : Option Presentation) (m : Mode) (offset : ℕ) (rest : List ℕ) (failed : Bool) (w len : ℕ) → failed ≡ false → IsActive m → step.ReadInit len ≡ step_of (is_some last) rest m → Rests (record { last = last; mode = m; offset = offset; rest = rest; failed = failed }) w
+pub rests-init : (last : Option Presentation) (m : ParserMode) (offset : ℕ) (rest : List ℕ) (failed : Bool) (w len : ℕ) → failed ≡ false → IsActive m → step.ReadInit len ≡ step_of (is_some last) rest m → Rests (record { last = last; mode = m; offset = offset; rest = rest; failed = failed }) w
 rests-init last m offset rest failed w len f a h = rests-other last m offset rest failed w (step.ReadInit len) f a h (other-init (going last m offset rest) len (init_of (take len rest)))
 
 other-plan : (s : State) (len : ℕ) (with : Option Presentation) → IsPlan with (take len s.rest) None → GivesOther (planned s len with)
 other-plan s len None h = refl
 other-plan s len (Some p) h = rw h.1 refl
 
-pub rests-plan : (last : Option Presentation) (m : Mode) (offset : ℕ) (rest : List ℕ) (failed : Bool) (w len : ℕ) → failed ≡ false → IsActive m → step.ReadMoof len ≡ step_of (is_some last) rest m → IsPlan last (take len rest) None → Rests (record { last = last; mode = m; offset = offset; rest = rest; failed = failed }) w
+pub rests-plan : (last : Option Presentation) (m : ParserMode) (offset : ℕ) (rest : List ℕ) (failed : Bool) (w len : ℕ) → failed ≡ false → IsActive m → step.ReadMoof len ≡ step_of (is_some last) rest m → IsPlan last (take len rest) None → Rests (record { last = last; mode = m; offset = offset; rest = rest; failed = failed }) w
 rests-plan last m offset rest failed w len f a h p = rests-other last m offset rest failed w (step.ReadMoof len) f a h (other-plan (going last m offset rest) len last p)
 
 -- ---- passes
@@ -116,7 +117,7 @@ passes-at s t e = (
 )
 
 -- from the parts of a state by a step that passes
-pub passes : (last : Option Presentation) (m : Mode) (offset : ℕ) (rest : List ℕ) (failed : Bool) (st : Step) (t : State) → failed ≡ false → IsActive m → st ≡ step_of (is_some last) rest m → act (going last m offset rest) st ≡ Pass t → let s : State = record { last = last; mode = m; offset = offset; rest = rest; failed = failed } in Runs s t × (segments.size t < segments.size s)
+pub passes : (last : Option Presentation) (m : ParserMode) (offset : ℕ) (rest : List ℕ) (failed : Bool) (st : BoxStep) (t : State) → failed ≡ false → IsActive m → st ≡ step_of (is_some last) rest m → act (going last m offset rest) st ≡ Pass t → let s : State = record { last = last; mode = m; offset = offset; rest = rest; failed = failed } in Runs s t × (segments.size t < segments.size s)
 passes last m offset rest failed st t f a e g = rw f (passes-at (going last m offset rest) t (acts last m offset rest st a e ∙ g))
 
 abbrev pub PlanIs : Option Presentation → List ℕ → List Slot → Type 0
@@ -147,29 +148,29 @@ ends-end m slots i (suc n) h e = (h.0, ends-end m slots (i + 1) n h.1 (let z : i
 
 -- ---- the arms of the code
 
-abbrev at_step : Option Presentation → code.Mode → List Slot → List DataRange → List ℕ → Step
-at_step last m slots known rest = step_of (is_some last) rest (mode_of slots known m)
+abbrev at_step : Option Presentation → code.ParserMode → Tables → List ℕ → BoxStep
+at_step last m tables rest = step_of (is_some last) rest (mode_of tables.slots.items tables.known.items m)
 
-pub is_active : (slots : List Slot) (known : List DataRange) (m : code.Mode) → Kept.IsActive m → IsActive (mode_of slots known m)
-is_active slots known (codes.Between phase) a = tt
-is_active slots known (codes.Skipping to left) a = absurd a
-is_active slots known (codes.Within i) a = tt
+pub is_active : (tables : Tables) (m : code.ParserMode) → Kept.IsActive m → IsActive (mode_of tables.slots.items tables.known.items m)
+is_active tables (codes.Between phase) a = tt
+is_active tables (codes.Skipping to left) a = absurd a
+is_active tables (codes.Within i) a = tt
 
-pub fits : (last : Option Presentation) (m : Mode) (rest : List ℕ) (st : Step) → st ≡ step_of (is_some last) rest m → Fits m (length rest) st
+pub fits : (last : Option Presentation) (m : ParserMode) (rest : List ℕ) (st : BoxStep) → st ≡ step_of (is_some last) rest m → Fits m (length rest) st
 fits last m rest st e = subst (Fits m (length rest)) (sym e) (good-step (is_some last) rest [] m).0
 
-pub sees-ascending : (m : code.Mode) (slots : List Slot) (known : List DataRange) (first ready : ℕ) → Kept.IsCountedIn m slots known first ready → SeesAscending m known
-sees-ascending (codes.Between phase) slots known first ready h = tt
-sees-ascending (codes.Skipping to left) slots known first ready h = tt
-sees-ascending (codes.Within f) slots known first ready h = h.ascending
+pub sees-ascending : (m : code.ParserMode) (tables : Tables) (first ready : ℕ) → Kept.IsCountedIn m tables first ready → SeesAscending m tables.known.items
+sees-ascending (codes.Between phase) tables first ready h = tt
+sees-ascending (codes.Skipping to left) tables first ready h = tt
+sees-ascending (codes.Within f) tables first ready h = h.ascending
 
-pub moved-skip : (last : Option Presentation) (m : code.Mode) (offset from first ready want : ℕ) (failed : Bool) (slots : List Slot) (known : List DataRange) (bytes : List ℕ) (to : Phase) (len : ℕ) → let r : Progress = record { position = record { mode = m; offset = offset; failed = failed }; from = from; first = first; ready = ready; want = want } in failed ≡ false → Kept.IsActive m → IsConsistent r slots known bytes → step.Skip to len ≡ at_step last m slots known (drop from bytes) → GoesOn last r (in_mode r (codes.Skipping to len)) slots known slots known bytes
-moved-skip last (codes.Skipping y z) offset from first ready want failed slots known bytes to len f g fine e = absurd g
-moved-skip last (codes.Within i) offset from first ready want failed slots known bytes to len f g fine e = absurd (fits last (Within (open_at slots known i)) (drop from bytes) (step.Skip to len) e).0
-moved-skip last (codes.Between o) offset from first ready want failed slots known bytes to len f g fine e =
+pub moved-skip : (last : Option Presentation) (m : code.ParserMode) (offset from first ready want : ℕ) (failed : Bool) (tables : Tables) (bytes : List ℕ) (to : Phase) (len : ℕ) → let r : Progress = record { position = record { mode = m; offset = offset; failed = failed }; from = from; first = first; ready = ready; want = want } in failed ≡ false → Kept.IsActive m → IsConsistent r tables bytes → step.Skip to len ≡ at_step last m tables (drop from bytes) → GoesOn last (with_tables r tables) (with_tables (in_mode r (codes.Skipping to len)) tables) bytes
+moved-skip last (codes.Skipping y z) offset from first ready want failed tables bytes to len f g fine e = absurd g
+moved-skip last (codes.Within i) offset from first ready want failed tables bytes to len f g fine e = absurd (fits last (Within (open_at tables.slots.items tables.known.items i)) (drop from bytes) (step.Skip to len) e).0
+moved-skip last (codes.Between o) offset from first ready want failed tables bytes to len f g fine e =
     let p = passes last (Between o) offset (drop from bytes) failed (step.Skip to len) _ f tt e refl in
     record {
-      same = ap (joined (frames (drop from bytes) offset slots first ready)) p.0;
+      same = ap (joined (frames (drop from bytes) offset tables.slots.items first ready)) p.0;
       consistent = record { inside = fine.inside; counts = fine.counts; ends = fine.ends; small = fine.small };
       since = tt;
       going = sym f;
@@ -180,17 +181,17 @@ moved-skip last (codes.Between o) offset from first ready want failed slots know
 none-known : (known : List DataRange) → known ≡ [] → IsAscending (take 0 known)
 none-known known e = record { starts = IsNonDecreasingBy-short (λ k. k.start) [] (omega arith); ends = IsNonDecreasingBy-short (λ k. k.end) [] (omega arith) }
 
-pub moved-plan : (last : Option Presentation) (m : code.Mode) (offset from first ready want : ℕ) (failed : Bool) (slots new_slots : List Slot) (known new_known : List DataRange) (bytes : List ℕ) (len : ℕ) → let r : Progress = record { position = record { mode = m; offset = offset; failed = failed }; from = from; first = first; ready = ready; want = want } in failed ≡ false → Kept.IsActive m → IsConsistent r slots known bytes → step.ReadMoof len ≡ at_step last m slots known (drop from bytes) → PlanIs last (take len (drop from bytes)) new_slots → new_known ≡ [] → All IsOrdered new_slots → GoesOn last r (record { position = record { mode = codes.Within (record { taken = 0; known = 0; end = 0; place = AtBox len }); offset = offset; failed = false }; from = from; first = 0; ready = 0; want = 0 }) slots known new_slots new_known bytes
-moved-plan last (codes.Skipping y z) offset from first ready want failed slots new_slots known new_known bytes len f g fine e h k a = absurd g
-moved-plan last (codes.Within i) offset from first ready want failed slots new_slots known new_known bytes len f g fine e h k a = absurd (fits last (Within (open_at slots known i)) (drop from bytes) (step.ReadMoof len) e).0
-moved-plan last (codes.Between o) offset from first ready want failed slots new_slots known new_known bytes len f g fine e h k a =
-    let p = passes last (Between o) offset (drop from bytes) failed (step.ReadMoof len) _ f tt e (plan-passes (going last (Between o) offset (drop from bytes)) len last new_slots h) in
-    let z : frames (drop from bytes) offset slots first ready ≡ [] = ap (frames (drop from bytes) offset slots first) fine.counts in
+pub moved-plan : (last : Option Presentation) (m : code.ParserMode) (offset from first ready want : ℕ) (failed : Bool) (tables new_tables : Tables) (bytes : List ℕ) (len : ℕ) → let r : Progress = record { position = record { mode = m; offset = offset; failed = failed }; from = from; first = first; ready = ready; want = want } in failed ≡ false → Kept.IsActive m → IsConsistent r tables bytes → step.ReadMoof len ≡ at_step last m tables (drop from bytes) → PlanIs last (take len (drop from bytes)) new_tables.slots.items → new_tables.known.items ≡ [] → All IsOrdered new_tables.slots.items → GoesOn last (with_tables r tables) (with_tables (record { position = record { mode = codes.Within (record { taken = 0; known = 0; end = 0; place = AtBox len }); offset = offset; failed = false }; from = from; first = 0; ready = 0; want = 0 }) new_tables) bytes
+moved-plan last (codes.Skipping y z) offset from first ready want failed tables new_tables bytes len f g fine e h k a = absurd g
+moved-plan last (codes.Within i) offset from first ready want failed tables new_tables bytes len f g fine e h k a = absurd (fits last (Within (open_at tables.slots.items tables.known.items i)) (drop from bytes) (step.ReadMoof len) e).0
+moved-plan last (codes.Between o) offset from first ready want failed tables new_tables bytes len f g fine e h k a =
+    let p = passes last (Between o) offset (drop from bytes) failed (step.ReadMoof len) _ f tt e (plan-passes (going last (Between o) offset (drop from bytes)) len last new_tables.slots.items h) in
+    let z : frames (drop from bytes) offset tables.slots.items first ready ≡ [] = ap (frames (drop from bytes) offset tables.slots.items first) fine.counts in
     record {
-      same = ap (joined []) p.0 ∙ ap (λ xs. joined xs (run segments (state_of last (record { mode = codes.Between o; offset = offset; failed = failed }) slots known (drop from bytes)))) (sym z);
+      same = ap (joined []) p.0 ∙ ap (λ xs. joined xs (run segments (state_of last (record { mode = codes.Between o; offset = offset; failed = failed }) tables (drop from bytes)))) (sym z);
       consistent = record {
         inside = fine.inside;
-        counts = record { taken = refl; slots_there = omega arith; ordered = a; known_there = omega arith; ascending = none-known new_known k; ended = λ d q. absurd (omega arith); behind = omega arith; near = omega arith };
+        counts = record { taken = refl; slots_there = omega arith; ordered = a; known_there = omega arith; ascending = none-known new_tables.known.items k; ended = λ d q. absurd (omega arith); behind = omega arith; near = omega arith };
         ends = tt;
         small = fine.small;
       };
@@ -221,20 +222,20 @@ ascends-more ks n last_end start end l a h s e =
       ends = IsNonDecreasingBy-push (λ k. k.end) ks x a.ends (λ d z. let q = h d (omega arith) in subst (λ i. (get_or ks (i - 1) d).end ≤ end) (sym l) (omega arith));
     }
 
-pub moved-data : (last : Option Presentation) (m : code.Mode) (offset from first ready want : ℕ) (failed : Bool) (slots : List Slot) (known new_known : List DataRange) (bytes : List ℕ) (start end : ℕ) → let r : Progress = record { position = record { mode = m; offset = offset; failed = failed }; from = from; first = first; ready = ready; want = want } in let i = fragment_in m in failed ≡ false → Kept.IsActive m → IsConsistent r slots known bytes → step.EnterData start end ≡ at_step last m slots known (drop from bytes) → new_known ≡ take i.known known ++ (record { start = start; end = end }) ∷ [] → GoesOn last r (in_mode r (codes.Within (record { taken = i.taken; known = i.known + 1; end = end; place = InData end }))) slots known slots new_known bytes
-moved-data last (codes.Skipping y z) offset from first ready want failed slots known new_known bytes start end f g fine e k = absurd g
-moved-data last (codes.Between o) offset from first ready want failed slots known new_known bytes start end f g fine e k = absurd (fits last (Between o) (drop from bytes) (step.EnterData start end) e).0
-moved-data last (codes.Within i) offset from first ready want failed slots known new_known bytes start end f g fine e k =
+pub moved-data : (last : Option Presentation) (m : code.ParserMode) (offset from first ready want : ℕ) (failed : Bool) (tables : Tables) (pushed : Vec DataRange Global) (bytes : List ℕ) (start end : ℕ) → let r : Progress = record { position = record { mode = m; offset = offset; failed = failed }; from = from; first = first; ready = ready; want = want } in let i = fragment_in m in failed ≡ false → Kept.IsActive m → IsConsistent r tables bytes → step.EnterData start end ≡ at_step last m tables (drop from bytes) → pushed.items ≡ take i.known tables.known.items ++ (record { start = start; end = end }) ∷ [] → GoesOn last (with_tables r tables) (with_tables (in_mode r (codes.Within (record { taken = i.taken; known = i.known + 1; end = end; place = InData end }))) (record { slots = tables.slots; known = pushed })) bytes
+moved-data last (codes.Skipping y z) offset from first ready want failed tables pushed bytes start end f g fine e k = absurd g
+moved-data last (codes.Between o) offset from first ready want failed tables pushed bytes start end f g fine e k = absurd (fits last (Between o) (drop from bytes) (step.EnterData start end) e).0
+moved-data last (codes.Within i) offset from first ready want failed tables pushed bytes start end f g fine e k =
     let x : DataRange = record { start = start; end = end } in
-    let q = take-known known new_known i.known x fine.counts.known_there k in
-    let w = fits last (Within (open_at slots known i)) (drop from bytes) (step.EnterData start end) e in
-    let p = passes last (Within (open_at slots known i)) offset (drop from bytes) failed (step.EnterData start end) _ f tt e refl in
-    let t : List DataRange → State = λ ks. going last (Within (record { slots = slots; taken = i.taken; known = ks; end = end; place = InData end })) offset (drop from bytes) in
-    let l = length-take-le i.known known fine.counts.known_there in
+    let q = take-known tables.known.items pushed.items i.known x fine.counts.known_there k in
+    let w = fits last (Within (open_at tables.slots.items tables.known.items i)) (drop from bytes) (step.EnterData start end) e in
+    let p = passes last (Within (open_at tables.slots.items tables.known.items i)) offset (drop from bytes) failed (step.EnterData start end) _ f tt e refl in
+    let t : List DataRange → State = λ ks. going last (Within (record { slots = tables.slots.items; taken = i.taken; known = ks; end = end; place = InData end })) offset (drop from bytes) in
+    let l = length-take-le i.known tables.known.items fine.counts.known_there in
     let z : i.known + 1 - 1 ≡ i.known = omega arith in
-    let from_last : (d : DataRange) → get_or (take (i.known + 1) new_known) (i.known + 1 - 1) d ≡ x = λ d. ap (λ ks. get_or ks (i.known + 1 - 1) d) q.0 ∙ ap (λ n. get_or (take i.known known ++ x ∷ []) n d) z ∙ get-last (take i.known known) x d i.known l in
+    let from_last : (d : DataRange) → get_or (take (i.known + 1) pushed.items) (i.known + 1 - 1) d ≡ x = λ d. ap (λ ks. get_or ks (i.known + 1 - 1) d) q.0 ∙ ap (λ n. get_or (take i.known tables.known.items ++ x ∷ []) n d) z ∙ get-last (take i.known tables.known.items) x d i.known l in
     record {
-      same = ap (λ ks. joined (frames (drop from bytes) offset slots first ready) (run segments (t ks))) q.0 ∙ ap (joined (frames (drop from bytes) offset slots first ready)) p.0;
+      same = ap (λ ks. joined (frames (drop from bytes) offset tables.slots.items first ready) (run segments (t ks))) q.0 ∙ ap (joined (frames (drop from bytes) offset tables.slots.items first ready)) p.0;
       consistent = record {
         inside = fine.inside;
         counts = record {
@@ -242,7 +243,7 @@ moved-data last (codes.Within i) offset from first ready want failed slots known
           slots_there = fine.counts.slots_there;
           ordered = fine.counts.ordered;
           known_there = omega (arith, q.1.1);
-          ascending = subst IsAscending (sym q.0) (ascends-more (take i.known known) i.known i.end start end l fine.counts.ascending fine.counts.ended (omega (arith, fine.counts.behind, w.1)) w.2);
+          ascending = subst IsAscending (sym q.0) (ascends-more (take i.known tables.known.items) i.known i.end start end l fine.counts.ascending fine.counts.ended (omega (arith, fine.counts.behind, w.1)) w.2);
           ended = λ d h. (omega (arith, w.2, ap (λ (k : DataRange). k.start) (from_last d)), omega (arith, ap (λ (k : DataRange). k.end) (from_last d)));
           behind = omega arith;
           near = w.3;
@@ -256,14 +257,14 @@ moved-data last (codes.Within i) offset from first ready want failed slots known
       size = p.1;
     }
 
-pub moved-next : (last : Option Presentation) (m : code.Mode) (offset from first ready want : ℕ) (failed : Bool) (slots : List Slot) (known : List DataRange) (bytes : List ℕ) (at : ℕ) → let r : Progress = record { position = record { mode = m; offset = offset; failed = failed }; from = from; first = first; ready = ready; want = want } in let i = fragment_in m in failed ≡ false → Kept.IsActive m → IsConsistent r slots known bytes → step.NextBox at ≡ at_step last m slots known (drop from bytes) → GoesOn last r (in_mode r (codes.Within (record { taken = i.taken; known = i.known; end = i.end; place = AtBox at }))) slots known slots known bytes
-moved-next last (codes.Skipping y z) offset from first ready want failed slots known bytes at f g fine e = absurd g
-moved-next last (codes.Between o) offset from first ready want failed slots known bytes at f g fine e = absurd (fits last (Between o) (drop from bytes) (step.NextBox at) e).0
-moved-next last (codes.Within i) offset from first ready want failed slots known bytes at f g fine e =
-    let w = fits last (Within (open_at slots known i)) (drop from bytes) (step.NextBox at) e in
-    let p = passes last (Within (open_at slots known i)) offset (drop from bytes) failed (step.NextBox at) _ f tt e refl in
+pub moved-next : (last : Option Presentation) (m : code.ParserMode) (offset from first ready want : ℕ) (failed : Bool) (tables : Tables) (bytes : List ℕ) (at : ℕ) → let r : Progress = record { position = record { mode = m; offset = offset; failed = failed }; from = from; first = first; ready = ready; want = want } in let i = fragment_in m in failed ≡ false → Kept.IsActive m → IsConsistent r tables bytes → step.NextBox at ≡ at_step last m tables (drop from bytes) → GoesOn last (with_tables r tables) (with_tables (in_mode r (codes.Within (record { taken = i.taken; known = i.known; end = i.end; place = AtBox at }))) tables) bytes
+moved-next last (codes.Skipping y z) offset from first ready want failed tables bytes at f g fine e = absurd g
+moved-next last (codes.Between o) offset from first ready want failed tables bytes at f g fine e = absurd (fits last (Between o) (drop from bytes) (step.NextBox at) e).0
+moved-next last (codes.Within i) offset from first ready want failed tables bytes at f g fine e =
+    let w = fits last (Within (open_at tables.slots.items tables.known.items i)) (drop from bytes) (step.NextBox at) e in
+    let p = passes last (Within (open_at tables.slots.items tables.known.items i)) offset (drop from bytes) failed (step.NextBox at) _ f tt e refl in
     record {
-      same = ap (joined (frames (drop from bytes) offset slots first ready)) p.0;
+      same = ap (joined (frames (drop from bytes) offset tables.slots.items first ready)) p.0;
       consistent = record {
         inside = fine.inside;
         counts = record { taken = fine.counts.taken; slots_there = fine.counts.slots_there; ordered = fine.counts.ordered; known_there = fine.counts.known_there; ascending = fine.counts.ascending; ended = fine.counts.ended; behind = omega (arith, fine.counts.behind, w.1); near = fine.counts.near };
@@ -276,7 +277,7 @@ moved-next last (codes.Within i) offset from first ready want failed slots known
       size = p.1;
     }
 
-gives : (last : Option Presentation) (m : Mode) (offset : ℕ) (rest : List ℕ) (failed : Bool) (slot : Slot) (t : State) → failed ≡ false → IsActive m → step.GiveFrame slot ≡ step_of (is_some last) rest m → act (going last m offset rest) (step.GiveFrame slot) ≡ Give (frame_of rest offset slot) t → let s : State = record { last = last; mode = m; offset = offset; rest = rest; failed = failed } in (run segments s ≡ joined (frame_of rest offset slot ∷ []) (run segments t)) × (segments.size t < segments.size s)
+gives : (last : Option Presentation) (m : ParserMode) (offset : ℕ) (rest : List ℕ) (failed : Bool) (slot : Slot) (t : State) → failed ≡ false → IsActive m → step.GiveFrame slot ≡ step_of (is_some last) rest m → act (going last m offset rest) (step.GiveFrame slot) ≡ Give (frame_of rest offset slot) t → let s : State = record { last = last; mode = m; offset = offset; rest = rest; failed = failed } in (run segments s ≡ joined (frame_of rest offset slot ∷ []) (run segments t)) × (segments.size t < segments.size s)
 gives last m offset rest failed slot t f a e g = rw f (frames-give-at (going last m offset rest) t slot (acts last m offset rest (step.GiveFrame slot) a e ∙ g))
 
 frames-more : (rest : List ℕ) (offset : ℕ) (slots : List Slot) (i n at : ℕ) (slot : Slot) (s t : State) → i + n ≡ at → slice_get slots at ≡ Some slot → run segments s ≡ joined (frame_of rest offset slot ∷ []) (run segments t) → joined (frames rest offset slots i (n + 1)) (run segments t) ≡ joined (frames rest offset slots i n) (run segments s)
@@ -286,22 +287,22 @@ frames-more rest offset slots i n at slot s t e g h =
     let l : frames rest offset slots i (n + 1) ≡ xs ++ frame_of rest offset slot ∷ [] = ap (frames rest offset slots i) z ∙ frames-end rest offset slots i n ∙ ap (λ o. xs ++ frame_at rest offset o) (ap (slice_get slots) e ∙ g) in
     ap (λ ys. joined ys (run segments t)) l ∙ ap (λ (ys : List SegmentItem). record { items = ys; state = (run segments t).state }) (append_assoc xs (frame_of rest offset slot ∷ []) (run segments t).items) ∙ ap (joined xs) (sym h)
 
-pub moved-frame : (last : Option Presentation) (m : code.Mode) (offset from first ready want : ℕ) (failed : Bool) (slots : List Slot) (known : List DataRange) (bytes : List ℕ) (slot : Slot) → let r : Progress = record { position = record { mode = m; offset = offset; failed = failed }; from = from; first = first; ready = ready; want = want } in let i = fragment_in m in failed ≡ false → Kept.IsActive m → IsConsistent r slots known bytes → step.GiveFrame slot ≡ at_step last m slots known (drop from bytes) → GoesOn last r (record { position = record { mode = codes.Within (record { taken = i.taken + 1; known = i.known; end = i.end; place = i.place }); offset = offset; failed = false }; from = from; first = first; ready = ready + 1; want = 0 }) slots known slots known bytes
-moved-frame last (codes.Skipping y z) offset from first ready want failed slots known bytes slot f g fine e = absurd g
-moved-frame last (codes.Between o) offset from first ready want failed slots known bytes slot f g fine e = absurd (fits last (Between o) (drop from bytes) (step.GiveFrame slot) e).0
-moved-frame last (codes.Within i) offset from first ready want failed slots known bytes slot f g fine e =
-    let q = fits last (Within (open_at slots known i)) (drop from bytes) (step.GiveFrame slot) e in
-    let p = gives last (Within (open_at slots known i)) offset (drop from bytes) failed slot _ f tt e refl in
+pub moved-frame : (last : Option Presentation) (m : code.ParserMode) (offset from first ready want : ℕ) (failed : Bool) (tables : Tables) (bytes : List ℕ) (slot : Slot) → let r : Progress = record { position = record { mode = m; offset = offset; failed = failed }; from = from; first = first; ready = ready; want = want } in let i = fragment_in m in failed ≡ false → Kept.IsActive m → IsConsistent r tables bytes → step.GiveFrame slot ≡ at_step last m tables (drop from bytes) → GoesOn last (with_tables r tables) (with_tables (record { position = record { mode = codes.Within (record { taken = i.taken + 1; known = i.known; end = i.end; place = i.place }); offset = offset; failed = false }; from = from; first = first; ready = ready + 1; want = 0 }) tables) bytes
+moved-frame last (codes.Skipping y z) offset from first ready want failed tables bytes slot f g fine e = absurd g
+moved-frame last (codes.Between o) offset from first ready want failed tables bytes slot f g fine e = absurd (fits last (Between o) (drop from bytes) (step.GiveFrame slot) e).0
+moved-frame last (codes.Within i) offset from first ready want failed tables bytes slot f g fine e =
+    let q = fits last (Within (open_at tables.slots.items tables.known.items i)) (drop from bytes) (step.GiveFrame slot) e in
+    let p = gives last (Within (open_at tables.slots.items tables.known.items i)) offset (drop from bytes) failed slot _ f tt e refl in
     let z : ready + 1 ≡ suc ready = omega arith in
     let l : slot.end ≤ length bytes - from = omega (arith, q.1, length-drop from bytes) in
-    let at : slice_get slots (first + ready) ≡ Some slot = ap (slice_get slots) fine.counts.taken ∙ q.0 in
+    let at : slice_get tables.slots.items (first + ready) ≡ Some slot = ap (slice_get tables.slots.items) fine.counts.taken ∙ q.0 in
     record {
-      same = frames-more (drop from bytes) offset slots first ready i.taken slot _ _ fine.counts.taken q.0 p.0;
+      same = frames-more (drop from bytes) offset tables.slots.items first ready i.taken slot _ _ fine.counts.taken q.0 p.0;
       consistent = record {
         inside = fine.inside;
         counts = record {
           taken = omega (arith, fine.counts.taken);
-          slots_there = omega (arith, slice_get_within slots i.taken slot q.0);
+          slots_there = omega (arith, slice_get_within tables.slots.items i.taken slot q.0);
           ordered = fine.counts.ordered;
           known_there = fine.counts.known_there;
           ascending = fine.counts.ascending;
@@ -309,7 +310,7 @@ moved-frame last (codes.Within i) offset from first ready want failed slots know
           behind = fine.counts.behind;
           near = fine.counts.near;
         };
-        ends = subst (IsEndingBy (length bytes - from) slots first) (sym z) (ends-end (length bytes - from) slots first ready fine.ends (subst (IsSlotEndingBy (length bytes - from)) (sym at) l));
+        ends = subst (IsEndingBy (length bytes - from) tables.slots.items first) (sym z) (ends-end (length bytes - from) tables.slots.items first ready fine.ends (subst (IsSlotEndingBy (length bytes - from)) (sym at) l));
         small = fine.small;
       };
       since = (refl, refl, omega arith);
@@ -348,15 +349,15 @@ skip-stop : (last : Option Presentation) (to : Phase) (offset left : ℕ) (rest 
 skip-stop last to offset zero rest h e = absurd (omega arith)
 skip-stop last to offset (suc left) rest h e = ap (pass_byte (going last (Skipping to (suc left)) offset rest) to left) e
 
-pub skip-rests : (last : Option Presentation) (m : code.Mode) (to : Phase) (offset left : ℕ) (rest : List ℕ) (failed : Bool) (slots : List Slot) (known : List DataRange) → m ≡ codes.Skipping to left → failed ≡ false → 0 < left → length rest ≡ 0 → Rests (state_of last (record { mode = m; offset = offset; failed = failed }) slots known rest) 0
-skip-rests last m to offset left rest failed slots known e f h l =
+pub skip-rests : (last : Option Presentation) (m : code.ParserMode) (to : Phase) (offset left : ℕ) (rest : List ℕ) (failed : Bool) (tables : Tables) → m ≡ codes.Skipping to left → failed ≡ false → 0 < left → length rest ≡ 0 → Rests (state_of last (record { mode = m; offset = offset; failed = failed }) tables rest) 0
+skip-rests last m to offset left rest failed tables e f h l =
     rw (e, f) (record {
       still = run-rested segments is_walk (going last (Skipping to left) offset rest) (rw (skip-stop last to offset left rest h (nil_from_length rest l)) tt);
       waits = λ c q. absurd (omega arith);
     })
 
-pub skip-part : (last : Option Presentation) (m : code.Mode) (to : Phase) (offset from first ready want left there : ℕ) (failed : Bool) (slots : List Slot) (known : List DataRange) (bytes : List ℕ) → let r : Progress = record { position = record { mode = m; offset = offset; failed = failed }; from = from; first = first; ready = ready; want = want } in m ≡ codes.Skipping to left → failed ≡ false → ready ≡ 0 → from ≤ length bytes → there ≡ length bytes - from → 0 < there → there < left → offset + (length bytes - from) < 2 ^ 62 → GoesOn last r (record { position = record { mode = codes.Skipping to (left - there); offset = offset + there; failed = false }; from = length bytes; first = first; ready = ready; want = 0 }) slots known slots known bytes
-skip-part last m to offset from first ready want left there failed slots known bytes e f z inside t h k small =
+pub skip-part : (last : Option Presentation) (m : code.ParserMode) (to : Phase) (offset from first ready want left there : ℕ) (failed : Bool) (tables : Tables) (bytes : List ℕ) → let r : Progress = record { position = record { mode = m; offset = offset; failed = failed }; from = from; first = first; ready = ready; want = want } in m ≡ codes.Skipping to left → failed ≡ false → ready ≡ 0 → from ≤ length bytes → there ≡ length bytes - from → 0 < there → there < left → offset + (length bytes - from) < 2 ^ 62 → GoesOn last (with_tables r tables) (with_tables (record { position = record { mode = codes.Skipping to (left - there); offset = offset + there; failed = false }; from = length bytes; first = first; ready = ready; want = 0 }) tables) bytes
+skip-part last m to offset from first ready want left there failed tables bytes e f z inside t h k small =
     let l = length-drop from bytes in
     let y : from + there ≡ length bytes = omega arith in
     let d : drop (length bytes) bytes ≡ drop there (drop from bytes) = ap (λ n. drop n bytes) (sym y) ∙ sym (drop-drop there from bytes) in
@@ -369,8 +370,8 @@ skip-part last m to offset from first ready want left there failed slots known b
       size = rw d (omega (arith, length-drop there (drop from bytes), skip-most (length (drop there (drop from bytes))) (left - there) to, skip-positive (length (drop from bytes)) left to (omega arith)));
     })
 
-pub skip-all : (last : Option Presentation) (m : code.Mode) (to : Phase) (offset from first ready want left : ℕ) (failed : Bool) (slots : List Slot) (known : List DataRange) (bytes : List ℕ) → let r : Progress = record { position = record { mode = m; offset = offset; failed = failed }; from = from; first = first; ready = ready; want = want } in m ≡ codes.Skipping to left → failed ≡ false → ready ≡ 0 → from ≤ length bytes → left ≤ length bytes - from → offset + (length bytes - from) < 2 ^ 62 → GoesOn last r (record { position = record { mode = codes.Between to; offset = offset + left; failed = false }; from = from + left; first = first; ready = ready; want = 0 }) slots known slots known bytes
-skip-all last m to offset from first ready want left failed slots known bytes e f z inside k small =
+pub skip-all : (last : Option Presentation) (m : code.ParserMode) (to : Phase) (offset from first ready want left : ℕ) (failed : Bool) (tables : Tables) (bytes : List ℕ) → let r : Progress = record { position = record { mode = m; offset = offset; failed = failed }; from = from; first = first; ready = ready; want = want } in m ≡ codes.Skipping to left → failed ≡ false → ready ≡ 0 → from ≤ length bytes → left ≤ length bytes - from → offset + (length bytes - from) < 2 ^ 62 → GoesOn last (with_tables r tables) (with_tables (record { position = record { mode = codes.Between to; offset = offset + left; failed = false }; from = from + left; first = first; ready = ready; want = 0 }) tables) bytes
+skip-all last m to offset from first ready want left failed tables bytes e f z inside k small =
     let l = length-drop from bytes in
     let y : left - left ≡ 0 = omega arith in
     let d : drop (from + left) bytes ≡ drop left (drop from bytes) = sym (drop-drop left from bytes) in
@@ -401,33 +402,33 @@ ordered-is (Some w) v h e = subst (λ (u : Vec Slot Global). All IsOrdered u.ite
 
 -- ---- a run of moves
 
-since-trans : (a b d : code.Mode) (s0 s1 s2 : List Slot) (k0 k1 k2 : List DataRange) → Since a b s0 k0 s1 k1 → Since b d s1 k1 s2 k2 → Since a d s0 k0 s2 k2
-since-trans (codes.Between o) b d s0 s1 s2 k0 k1 k2 h g = tt
-since-trans (codes.Skipping y z) b d s0 s1 s2 k0 k1 k2 h g = tt
-since-trans (codes.Within i) (codes.Between o) d s0 s1 s2 k0 k1 k2 h g = absurd h
-since-trans (codes.Within i) (codes.Skipping y z) d s0 s1 s2 k0 k1 k2 h g = absurd h
-since-trans (codes.Within i) (codes.Within j) (codes.Between o) s0 s1 s2 k0 k1 k2 h g = absurd g
-since-trans (codes.Within i) (codes.Within j) (codes.Skipping y z) s0 s1 s2 k0 k1 k2 h g = absurd g
-since-trans (codes.Within i) (codes.Within j) (codes.Within k) s0 s1 s2 k0 k1 k2 h g =
+since-trans : (a b d : code.ParserMode) (before between after : Tables) → Since a b before between → Since b d between after → Since a d before after
+since-trans (codes.Between o) b d before between after h g = tt
+since-trans (codes.Skipping y z) b d before between after h g = tt
+since-trans (codes.Within i) (codes.Between o) d before between after h g = absurd h
+since-trans (codes.Within i) (codes.Skipping y z) d before between after h g = absurd h
+since-trans (codes.Within i) (codes.Within j) (codes.Between o) before between after h g = absurd g
+since-trans (codes.Within i) (codes.Within j) (codes.Skipping y z) before between after h g = absurd g
+since-trans (codes.Within i) (codes.Within j) (codes.Within k) before between after h g =
     let l : i.known ≤ j.known = h.2 in (
       g.0 ∙ h.0,
-      sym (take-take i.known j.known k2 l) ∙ ap (take i.known) g.1 ∙ take-take i.known j.known k1 l ∙ h.1,
+      sym (take-take i.known j.known after.known.items l) ∙ ap (take i.known) g.1 ∙ take-take i.known j.known between.known.items l ∙ h.1,
       omega (arith, g.2),
     )
 
-pub since-on : (a b d : code.Mode) (s0 s1 s2 : List Slot) (k0 k1 k2 : List DataRange) → Since a b s0 k0 s1 k1 → Since b d s1 k1 s2 k2 → Since a d s0 k0 s2 k2
-since-on a b d s0 s1 s2 k0 k1 k2 h g = since-trans a b d s0 s1 s2 k0 k1 k2 h g
+pub since-on : (a b d : code.ParserMode) (before between after : Tables) → Since a b before between → Since b d between after → Since a d before after
+since-on a b d before between after h g = since-trans a b d before between after h g
 
-pub since-back : (a b : code.Mode) (s0 s1 s2 : List Slot) (k0 k1 k2 : List DataRange) → Since a b s0 k0 s1 k1 → Keeps b s1 k1 s2 k2 → Keeps a s0 k0 s2 k2
-since-back (codes.Between o) b s0 s1 s2 k0 k1 k2 h g = tt
-since-back (codes.Skipping y z) b s0 s1 s2 k0 k1 k2 h g = tt
-since-back (codes.Within i) (codes.Between o) s0 s1 s2 k0 k1 k2 h g = absurd h
-since-back (codes.Within i) (codes.Skipping y z) s0 s1 s2 k0 k1 k2 h g = absurd h
-since-back (codes.Within i) (codes.Within j) s0 s1 s2 k0 k1 k2 h g =
+pub since-back : (a b : code.ParserMode) (before between after : Tables) → Since a b before between → Keeps b between after → Keeps a before after
+since-back (codes.Between o) b before between after h g = tt
+since-back (codes.Skipping y z) b before between after h g = tt
+since-back (codes.Within i) (codes.Between o) before between after h g = absurd h
+since-back (codes.Within i) (codes.Skipping y z) before between after h g = absurd h
+since-back (codes.Within i) (codes.Within j) before between after h g =
     let l : i.known ≤ j.known = h.2 in
-    (g.0 ∙ h.0, sym (take-take i.known j.known k2 l) ∙ ap (take i.known) g.1 ∙ take-take i.known j.known k1 l ∙ h.1, omega arith)
+    (g.0 ∙ h.0, sym (take-take i.known j.known after.known.items l) ∙ ap (take i.known) g.1 ∙ take-take i.known j.known between.known.items l ∙ h.1, omega arith)
 
-pub since-same : (m : code.Mode) (slots new_slots : List Slot) (known new_known : List DataRange) → new_slots ≡ slots → new_known ≡ known → Since m m slots known new_slots new_known
-since-same (codes.Between o) slots new_slots known new_known e f = tt
-since-same (codes.Skipping y z) slots new_slots known new_known e f = tt
-since-same (codes.Within i) slots new_slots known new_known e f = (e, ap (take i.known) f, omega arith)
+pub since-same : (m : code.ParserMode) (tables new_tables : Tables) → new_tables.slots.items ≡ tables.slots.items → new_tables.known.items ≡ tables.known.items → Since m m tables new_tables
+since-same (codes.Between o) tables new_tables e f = tt
+since-same (codes.Skipping y z) tables new_tables e f = tt
+since-same (codes.Within i) tables new_tables e f = (e, ap (take i.known) f, omega arith)

@@ -1,19 +1,21 @@
 -- What comes of bytes that are appended.
 use Rattle.std.proofs.Common.{◌≡◌, ℕ, zero, suc, ◌+◌, ◌-◌, ◌<◌, ◌≤◌, ◌^◌, Bool, true, false, List, [], ◌∷◌, ◌++◌, length, take, drop, get_or, slice_get, Option, Some, None, refl, ap, sym, ◌∙◌, subst, arith}
+use Rattle.std.specs.Prelude.{All}
 use Rattle.std.proofs.lemmas.List.{append-nil, append_assoc, length-append, length-drop, length-take-le, drop_all}
 use Rattle.mse_base.specs.declared.track.Presentation.{Presentation}
 use Rattle.bmff_fragment.specs.declared.slot.Slot.{Slot}
 use Rattle.parser_loop.specs.Walk.{Run, run, stay_at, joined, fed}
 use Rattle.parser_loop.proofs.Runs.{run-rested}
 use Rattle.segment_walk.specs.declared.kinds.DataRange.{DataRange}
-use Rattle.segment_walk.specs.declared.kinds.Mode as code
-use Rattle.segment_walk.specs.declared.kinds.Mode.TheVariants as codes
+use Rattle.segment_walk.specs.declared.kinds.ParserMode as code
+use Rattle.segment_walk.specs.declared.kinds.ParserMode.TheVariants as codes
 use Rattle.segment_walk.specs.Tables.{SegmentItem}
 use Rattle.segment_walk.specs.Moves.{State, segments}
 use Rattle.segment_walk.specs.Ranges.{IsAscending, mode_of}
 use Rattle.segment_walk.proofs.WalkLaws.{slice-longer, is_walk}
 use Rattle.segment_stream.specs.declared.progress.Progress.{Progress}
-use Rattle.segment_stream.specs.Kept.{frames, frame_at, IsEndingBy, IsSlotEndingBy, IsCountedIn, IsCounted, IsConsistent, Rests, Since, Keeps, IsAtRest, IsFoundWith, IsEmptied, kept_of, state_of, run_on}
+use Rattle.segment_stream.specs.declared.progress.Tables.{Tables}
+use Rattle.segment_stream.specs.Kept.{frames, frame_at, IsEndingBy, IsSlotEndingBy, IsCountedIn, IsCounted, IsOrdered, IsConsistent, Rests, Since, Keeps, IsAtRest, IsFoundWith, IsEmptied, kept_of, state_of, run_on, with_tables}
 use Rattle.segment_stream.proofs.Acts.{rests-failed}
 
 frame-longer : (b c : List ℕ) (offset : ℕ) (s : Option Slot) → IsSlotEndingBy (length b) s → frame_at (b ++ c) offset s ≡ frame_at b offset s
@@ -33,34 +35,34 @@ ends-longer n m slots i zero l h = tt
 ends-longer n m slots i (suc k) l h = (ends-by-longer n m (slice_get slots i) l h.0, ends-longer n m slots (i + 1) k l h.1)
 
 -- over the parts of a place with nothing before it
-pub consistent-longer : (m : code.Mode) (offset from first ready want : ℕ) (failed : Bool) (slots : List Slot) (known : List DataRange) (b c : List ℕ) → let r : Progress = record { position = record { mode = m; offset = offset; failed = failed }; from = from; first = first; ready = ready; want = want } in from ≡ 0 → offset + (length b + length c) < 2 ^ 62 → IsConsistent r slots known b → IsConsistent r slots known (b ++ c)
-consistent-longer m offset from first ready want failed slots known b c z room f = record {
+pub consistent-longer : (m : code.ParserMode) (offset from first ready want : ℕ) (failed : Bool) (tables : Tables) (b c : List ℕ) → let r : Progress = record { position = record { mode = m; offset = offset; failed = failed }; from = from; first = first; ready = ready; want = want } in from ≡ 0 → offset + (length b + length c) < 2 ^ 62 → IsConsistent r tables b → IsConsistent r tables (b ++ c)
+consistent-longer m offset from first ready want failed tables b c z room f = record {
   inside = omega arith;
   counts = f.counts;
-  ends = ends-longer (length b - from) (length (b ++ c) - from) slots first ready (omega (arith, length-append b c)) f.ends;
+  ends = ends-longer (length b - from) (length (b ++ c) - from) tables.slots.items first ready (omega (arith, length-append b c)) f.ends;
   small = omega (arith, length-append b c);
 }
 
-ran : (last : Option Presentation) (m : code.Mode) (offset from first ready want : ℕ) (failed : Bool) (slots : List Slot) (known : List DataRange) (b c : List ℕ) → let r : Progress = record { position = record { mode = m; offset = offset; failed = failed }; from = from; first = first; ready = ready; want = want } in from ≡ 0 → failed ≡ false → IsConsistent r slots known b → run_on (kept_of last r slots known (b ++ c)) ≡ fed segments (kept_of last r slots known b) c
-ran last m offset (suc from) first ready want failed slots known b c z g f = absurd (omega arith)
-ran last m offset zero first ready want true slots known b c z g f = cc
-ran last m offset zero first ready want false slots known b c z g f =
-    let e : IsEndingBy (length b) slots first ready = ends-longer (length b - 0) (length b) slots first ready (omega arith) f.ends in
-    ap (λ xs. joined xs (run segments (state_of last (record { mode = m; offset = offset; failed = false }) slots known (b ++ c)))) (frames-longer b c offset slots first ready e)
+ran : (last : Option Presentation) (m : code.ParserMode) (offset from first ready want : ℕ) (failed : Bool) (tables : Tables) (b c : List ℕ) → let r : Progress = record { position = record { mode = m; offset = offset; failed = failed }; from = from; first = first; ready = ready; want = want } in from ≡ 0 → failed ≡ false → IsConsistent r tables b → run_on (kept_of last r tables (b ++ c)) ≡ fed segments (kept_of last r tables b) c
+ran last m offset (suc from) first ready want failed tables b c z g f = absurd (omega arith)
+ran last m offset zero first ready want true tables b c z g f = cc
+ran last m offset zero first ready want false tables b c z g f =
+    let e : IsEndingBy (length b) tables.slots.items first ready = ends-longer (length b - 0) (length b) tables.slots.items first ready (omega arith) f.ends in
+    ap (λ xs. joined xs (run segments (state_of last (record { mode = m; offset = offset; failed = false }) tables (b ++ c)))) (frames-longer b c offset tables.slots.items first ready e)
 
 -- ---- the place that was left sees what it saw
 
-pub keeps-kept : (last : Option Presentation) (m : code.Mode) (offset from first ready want : ℕ) (failed : Bool) (slots new_slots : List Slot) (known new_known : List DataRange) (b : List ℕ) → let r : Progress = record { position = record { mode = m; offset = offset; failed = failed }; from = from; first = first; ready = ready; want = want } in IsCountedIn m slots known first ready → Keeps m slots known new_slots new_known → kept_of last r new_slots new_known b ≡ kept_of last r slots known b
-keeps-kept last (codes.Between o) offset from first ready want failed slots new_slots known new_known b h k = rw h refl
-keeps-kept last (codes.Skipping y l) offset from first ready want failed slots new_slots known new_known b h k = rw h refl
-keeps-kept last (codes.Within i) offset from first ready want failed slots new_slots known new_known b h k = rw (k.0, k.1) refl
+pub keeps-kept : (last : Option Presentation) (m : code.ParserMode) (offset from first ready want : ℕ) (failed : Bool) (tables new_tables : Tables) (b : List ℕ) → let r : Progress = record { position = record { mode = m; offset = offset; failed = failed }; from = from; first = first; ready = ready; want = want } in IsCountedIn m tables first ready → Keeps m tables new_tables → kept_of last r new_tables b ≡ kept_of last r tables b
+keeps-kept last (codes.Between o) offset from first ready want failed tables new_tables b h k = rw h refl
+keeps-kept last (codes.Skipping y l) offset from first ready want failed tables new_tables b h k = rw h refl
+keeps-kept last (codes.Within i) offset from first ready want failed tables new_tables b h k = rw (k.0, k.1) refl
 
-pub since-keeps : (a b : code.Mode) (slots new_slots : List Slot) (known new_known : List DataRange) → Since a b slots known new_slots new_known → Keeps a slots known new_slots new_known
-since-keeps (codes.Between o) b slots new_slots known new_known h = tt
-since-keeps (codes.Skipping y l) b slots new_slots known new_known h = tt
-since-keeps (codes.Within i) (codes.Between o) slots new_slots known new_known h = absurd h
-since-keeps (codes.Within i) (codes.Skipping y l) slots new_slots known new_known h = absurd h
-since-keeps (codes.Within i) (codes.Within j) slots new_slots known new_known h = (h.0, h.1, omega arith)
+pub since-keeps : (a b : code.ParserMode) (tables new_tables : Tables) → Since a b tables new_tables → Keeps a tables new_tables
+since-keeps (codes.Between o) b tables new_tables h = tt
+since-keeps (codes.Skipping y l) b tables new_tables h = tt
+since-keeps (codes.Within i) (codes.Between o) tables new_tables h = absurd h
+since-keeps (codes.Within i) (codes.Skipping y l) tables new_tables h = absurd h
+since-keeps (codes.Within i) (codes.Within j) tables new_tables h = (h.0, h.1, omega arith)
 
 length-front : (n : ℕ) (xs : List DataRange) → length (take n xs) ≡ n → n ≤ length xs
 length-front zero xs e = omega arith
@@ -70,51 +72,50 @@ length-front (suc n) (x ∷ xs) e = let h = length-front n xs (omega arith) in o
 known-enough : (known new_known : List DataRange) (n : ℕ) → n ≤ length known → take n new_known ≡ take n known → n ≤ length new_known
 known-enough known new_known n h e = let l = ap length e ∙ length-take-le n known h in length-front n new_known l
 
-counts-kept : (m : code.Mode) (slots new_slots : List Slot) (known new_known : List DataRange) (first ready : ℕ) → IsCountedIn m slots known first ready → Keeps m slots known new_slots new_known → IsCountedIn m new_slots new_known first ready
-counts-kept (codes.Between o) slots new_slots known new_known first ready h k = h
-counts-kept (codes.Skipping y l) slots new_slots known new_known first ready h k = h
-counts-kept (codes.Within i) slots new_slots known new_known first ready h k =
-    let f : IsCounted i slots known first ready = h in
-    let g : IsCounted i new_slots known first ready = subst (λ ss. IsCounted i ss known first ready) (sym k.0) f in
+counts-kept : (m : code.ParserMode) (tables new_tables : Tables) (first ready : ℕ) → IsCountedIn m tables first ready → Keeps m tables new_tables → IsCountedIn m new_tables first ready
+counts-kept (codes.Between o) tables new_tables first ready h k = h
+counts-kept (codes.Skipping y l) tables new_tables first ready h k = h
+counts-kept (codes.Within i) tables new_tables first ready h k =
+    let f : IsCounted i tables first ready = h in
     record {
-      taken = g.taken;
-      slots_there = g.slots_there;
-      ordered = g.ordered;
-      known_there = known-enough known new_known i.known g.known_there k.1;
-      ascending = subst IsAscending (sym k.1) g.ascending;
-      ended = λ d q. let e = g.ended d q in (omega (arith, e.0, ap (λ ks. (get_or ks (i.known - 1) d).start) k.1), omega (arith, e.1, ap (λ ks. (get_or ks (i.known - 1) d).end) k.1));
-      behind = g.behind;
-      near = g.near;
+      taken = f.taken;
+      slots_there = omega (arith, f.slots_there, ap length k.0);
+      ordered = subst (All IsOrdered) (sym k.0) f.ordered;
+      known_there = known-enough tables.known.items new_tables.known.items i.known f.known_there k.1;
+      ascending = subst IsAscending (sym k.1) f.ascending;
+      ended = λ d q. let e = f.ended d q in (omega (arith, e.0, ap (λ ks. (get_or ks (i.known - 1) d).start) k.1), omega (arith, e.1, ap (λ ks. (get_or ks (i.known - 1) d).end) k.1));
+      behind = f.behind;
+      near = f.near;
     }
 
-slots-kept : (m : code.Mode) (slots new_slots : List Slot) (known new_known : List DataRange) (n first ready : ℕ) → IsCountedIn m slots known first ready → Keeps m slots known new_slots new_known → IsEndingBy n slots first ready → IsEndingBy n new_slots first ready
-slots-kept (codes.Between o) slots new_slots known new_known n first ready h k e = subst (IsEndingBy n new_slots first) (sym h) tt
-slots-kept (codes.Skipping y l) slots new_slots known new_known n first ready h k e = subst (IsEndingBy n new_slots first) (sym h) tt
-slots-kept (codes.Within i) slots new_slots known new_known n first ready h k e = subst (λ ss. IsEndingBy n ss first ready) (sym k.0) e
+slots-kept : (m : code.ParserMode) (tables new_tables : Tables) (n first ready : ℕ) → IsCountedIn m tables first ready → Keeps m tables new_tables → IsEndingBy n tables.slots.items first ready → IsEndingBy n new_tables.slots.items first ready
+slots-kept (codes.Between o) tables new_tables n first ready h k e = subst (IsEndingBy n new_tables.slots.items first) (sym h) tt
+slots-kept (codes.Skipping y l) tables new_tables n first ready h k e = subst (IsEndingBy n new_tables.slots.items first) (sym h) tt
+slots-kept (codes.Within i) tables new_tables n first ready h k e = subst (λ ss. IsEndingBy n ss first ready) (sym k.0) e
 
-mode-kept : (m : code.Mode) (slots new_slots : List Slot) (known new_known : List DataRange) → Keeps m slots known new_slots new_known → mode_of new_slots new_known m ≡ mode_of slots known m
-mode-kept (codes.Between o) slots new_slots known new_known k = refl
-mode-kept (codes.Skipping y l) slots new_slots known new_known k = refl
-mode-kept (codes.Within i) slots new_slots known new_known k = rw (k.0, k.1) refl
+mode-kept : (m : code.ParserMode) (tables new_tables : Tables) → Keeps m tables new_tables → mode_of new_tables.slots.items new_tables.known.items m ≡ mode_of tables.slots.items tables.known.items m
+mode-kept (codes.Between o) tables new_tables k = refl
+mode-kept (codes.Skipping y l) tables new_tables k = refl
+mode-kept (codes.Within i) tables new_tables k = rw (k.0, k.1) refl
 
 -- and rests where it rested
-pub keeps-rest : (last : Option Presentation) (r : Progress) (slots new_slots : List Slot) (known new_known : List DataRange) (b : List ℕ) → Keeps r.position.mode slots known new_slots new_known → IsAtRest last r slots known b → IsAtRest last r new_slots new_known b
-keeps-rest last r slots new_slots known new_known b k h = record {
+pub keeps-rest : (last : Option Presentation) (r : Progress) (tables new_tables : Tables) (b : List ℕ) → Keeps r.position.mode tables new_tables → IsAtRest last r tables b → IsAtRest last r new_tables b
+keeps-rest last r tables new_tables b k h = record {
   front = h.front;
   consistent = record {
     inside = h.consistent.inside;
-    counts = counts-kept r.position.mode slots new_slots known new_known r.first r.ready h.consistent.counts k;
-    ends = slots-kept r.position.mode slots new_slots known new_known (length b - r.from) r.first r.ready h.consistent.counts k h.consistent.ends;
+    counts = counts-kept r.position.mode tables new_tables r.first r.ready h.consistent.counts k;
+    ends = slots-kept r.position.mode tables new_tables (length b - r.from) r.first r.ready h.consistent.counts k h.consistent.ends;
     small = h.consistent.small;
   };
-  rests = subst (λ m. Rests (record { last = last; mode = m; offset = r.position.offset; rest = b; failed = r.position.failed }) r.want) (sym (mode-kept r.position.mode slots new_slots known new_known k)) h.rests;
+  rests = subst (λ m. Rests (record { last = last; mode = m; offset = r.position.offset; rest = b; failed = r.position.failed }) r.want) (sym (mode-kept r.position.mode tables new_tables k)) h.rests;
 }
 
 -- ---- what is found
 
-found-run : (last : Option Presentation) (m : code.Mode) (offset from first ready want : ℕ) (failed : Bool) (slots new_slots : List Slot) (known new_known : List DataRange) (b c : List ℕ) (s : Progress) → let r : Progress = record { position = record { mode = m; offset = offset; failed = failed }; from = from; first = first; ready = ready; want = want } in failed ≡ false → IsAtRest last r slots known b → kept_of last r new_slots new_known b ≡ kept_of last r slots known b → kept_of last s new_slots new_known (b ++ c) ≡ run_on (kept_of last r slots known (b ++ c)) → IsConsistent s new_slots new_known (b ++ c) → Rests (state_of last s.position new_slots new_known (drop s.from (b ++ c))) s.want → s.position.offset + (length (b ++ c) - s.from) ≡ offset + (length (b ++ c) - from) → IsFoundWith last (kept_of last r new_slots new_known b) s new_slots new_known (b ++ c) c
-found-run last m offset from first ready want failed slots new_slots known new_known b c s g h q e f w t = record {
-  same = e ∙ ran last m offset from first ready want failed slots known b c h.front g h.consistent ∙ ap (λ k. fed segments k c) (sym q);
+found-run : (last : Option Presentation) (m : code.ParserMode) (offset from first ready want : ℕ) (failed : Bool) (tables new_tables : Tables) (b c : List ℕ) (s : Progress) → let r : Progress = record { position = record { mode = m; offset = offset; failed = failed }; from = from; first = first; ready = ready; want = want } in failed ≡ false → IsAtRest last r tables b → kept_of last r new_tables b ≡ kept_of last r tables b → kept_of last s new_tables (b ++ c) ≡ run_on (kept_of last r tables (b ++ c)) → IsConsistent s new_tables (b ++ c) → Rests (state_of last s.position new_tables (drop s.from (b ++ c))) s.want → s.position.offset + (length (b ++ c) - s.from) ≡ offset + (length (b ++ c) - from) → IsFoundWith last (kept_of last r new_tables b) (with_tables s new_tables) (b ++ c) c
+found-run last m offset from first ready want failed tables new_tables b c s g h q e f w t = record {
+  same = e ∙ ran last m offset from first ready want failed tables b c h.front g h.consistent ∙ ap (λ k. fed segments k c) (sym q);
   consistent = f;
   rests = w;
   total = omega (arith, t, h.front, length-append b c, length-drop from b);
@@ -123,60 +124,60 @@ found-run last m offset from first ready want failed slots new_slots known new_k
 stays : (k : Run State SegmentItem) → run segments k.state ≡ stay_at k.state → run_on k ≡ k
 stays k e = ap (joined k.items) e ∙ ap (λ (xs : List SegmentItem). record { items = xs; state = k.state }) (append-nil k.items)
 
-still-more : (last : Option Presentation) (m : code.Mode) (offset : ℕ) (failed : Bool) (want : ℕ) (slots : List Slot) (known : List DataRange) (b c : List ℕ) → failed ≡ false → Rests (state_of last (record { mode = m; offset = offset; failed = failed }) slots known b) want → length b + length c < want → let t : State = state_of last (record { mode = m; offset = offset; failed = false }) slots known (b ++ c) in run segments t ≡ stay_at t
-still-more last m offset failed want slots known b c g h l =
-    let w = subst (λ (f : Bool). Rests (state_of last (record { mode = m; offset = offset; failed = f }) slots known b) want) g h in
+still-more : (last : Option Presentation) (m : code.ParserMode) (offset : ℕ) (failed : Bool) (want : ℕ) (tables : Tables) (b c : List ℕ) → failed ≡ false → Rests (state_of last (record { mode = m; offset = offset; failed = failed }) tables b) want → length b + length c < want → let t : State = state_of last (record { mode = m; offset = offset; failed = false }) tables (b ++ c) in run segments t ≡ stay_at t
+still-more last m offset failed want tables b c g h l =
+    let w = subst (λ (f : Bool). Rests (state_of last (record { mode = m; offset = offset; failed = f }) tables b) want) g h in
     w.waits c l
 
-rests-longer : (last : Option Presentation) (m : code.Mode) (offset : ℕ) (failed : Bool) (want : ℕ) (slots : List Slot) (known : List DataRange) (b c : List ℕ) → failed ≡ false → let t : State = state_of last (record { mode = m; offset = offset; failed = failed }) slots known (b ++ c) in run segments t ≡ stay_at t → Rests (state_of last (record { mode = m; offset = offset; failed = failed }) slots known b) want → Rests t want
-rests-longer last m offset failed want slots known b c g x h =
-    let w = subst (λ (f : Bool). Rests (state_of last (record { mode = m; offset = offset; failed = f }) slots known b) want) g h in
-    let t : List ℕ → State = λ rest. state_of last (record { mode = m; offset = offset; failed = false }) slots known rest in
+rests-longer : (last : Option Presentation) (m : code.ParserMode) (offset : ℕ) (failed : Bool) (want : ℕ) (tables : Tables) (b c : List ℕ) → failed ≡ false → let t : State = state_of last (record { mode = m; offset = offset; failed = failed }) tables (b ++ c) in run segments t ≡ stay_at t → Rests (state_of last (record { mode = m; offset = offset; failed = failed }) tables b) want → Rests t want
+rests-longer last m offset failed want tables b c g x h =
+    let w = subst (λ (f : Bool). Rests (state_of last (record { mode = m; offset = offset; failed = f }) tables b) want) g h in
+    let t : List ℕ → State = λ rest. state_of last (record { mode = m; offset = offset; failed = false }) tables rest in
     record {
       still = x;
       waits = λ d l. rw g (ap (λ rest. run segments (t rest)) (append_assoc b c d) ∙ w.waits (c ++ d) (omega (arith, length-append b c, length-append c d)) ∙ ap (λ rest. stay_at (t rest)) (sym (append_assoc b c d)));
     }
 
 -- fewer bytes than are wanted
-pub found-same : (last : Option Presentation) (m : code.Mode) (offset from first ready want : ℕ) (failed : Bool) (slots : List Slot) (known : List DataRange) (b c all : List ℕ) → let r : Progress = record { position = record { mode = m; offset = offset; failed = failed }; from = from; first = first; ready = ready; want = want } in all ≡ b ++ c → failed ≡ false → IsAtRest last r slots known b → length b + length c < want → offset + (length b + length c) < 2 ^ 62 → IsFoundWith last (kept_of last r slots known b) r slots known all c
-found-same last m offset from first ready want failed slots known b c all x' g h l room =
+pub found-same : (last : Option Presentation) (m : code.ParserMode) (offset from first ready want : ℕ) (failed : Bool) (tables : Tables) (b c all : List ℕ) → let r : Progress = record { position = record { mode = m; offset = offset; failed = failed }; from = from; first = first; ready = ready; want = want } in all ≡ b ++ c → failed ≡ false → IsAtRest last r tables b → length b + length c < want → offset + (length b + length c) < 2 ^ 62 → IsFoundWith last (kept_of last r tables b) (with_tables r tables) all c
+found-same last m offset from first ready want failed tables b c all x' g h l room =
     let r : Progress = record { position = record { mode = m; offset = offset; failed = failed }; from = from; first = first; ready = ready; want = want } in
-    let t : List ℕ → State = λ rest. state_of last (record { mode = m; offset = offset; failed = failed }) slots known rest in
-    let u : List ℕ → State = λ rest. state_of last (record { mode = m; offset = offset; failed = false }) slots known rest in
-    let y : run segments (u (b ++ c)) ≡ stay_at (u (b ++ c)) = still-more last m offset failed want slots known b c g h.rests l in
+    let t : List ℕ → State = λ rest. state_of last (record { mode = m; offset = offset; failed = failed }) tables rest in
+    let u : List ℕ → State = λ rest. state_of last (record { mode = m; offset = offset; failed = false }) tables rest in
+    let y : run segments (u (b ++ c)) ≡ stay_at (u (b ++ c)) = still-more last m offset failed want tables b c g h.rests l in
     let x : run segments (t (b ++ c)) ≡ stay_at (t (b ++ c)) = rw g y in
-    let k : Run State SegmentItem = kept_of last r slots known (b ++ c) in
-    subst (λ v. IsFoundWith last (kept_of last r slots known b) r slots known v c) (sym x') (record {
-      same = sym (stays k (rw h.front x)) ∙ ran last m offset from first ready want failed slots known b c h.front g h.consistent;
-      consistent = consistent-longer m offset from first ready want failed slots known b c h.front room h.consistent;
-      rests = rw h.front (rests-longer last m offset failed want slots known b c g x h.rests);
+    let k : Run State SegmentItem = kept_of last r tables (b ++ c) in
+    subst (λ v. IsFoundWith last (kept_of last r tables b) (with_tables r tables) v c) (sym x') (record {
+      same = sym (stays k (rw h.front x)) ∙ ran last m offset from first ready want failed tables b c h.front g h.consistent;
+      consistent = consistent-longer m offset from first ready want failed tables b c h.front room h.consistent;
+      rests = rw h.front (rests-longer last m offset failed want tables b c g x h.rests);
       total = omega (arith, h.front, length-append b c, length-drop from b);
     })
 
-pub found-ok : (s : Progress) (last : Option Presentation) (r : Progress) (slots new_slots : List Slot) (known new_known : List DataRange) (b c bytes : List ℕ) → bytes ≡ b ++ c → r.position.failed ≡ false → IsAtRest last r slots known b → Since r.position.mode s.position.mode slots known new_slots new_known → kept_of last s new_slots new_known bytes ≡ run_on (kept_of last r slots known bytes) → IsConsistent s new_slots new_known bytes → Rests (state_of last s.position new_slots new_known (drop s.from bytes)) s.want → s.position.offset + (length bytes - s.from) ≡ r.position.offset + (length bytes - r.from) → IsFoundWith last (kept_of last r new_slots new_known b) s new_slots new_known bytes c
-found-ok s last r slots new_slots known new_known b c bytes d g h q e f w t =
-    let k = keeps-kept last r.position.mode r.position.offset r.from r.first r.ready r.want r.position.failed slots new_slots known new_known b h.consistent.counts (since-keeps r.position.mode s.position.mode slots new_slots known new_known q) in
-    subst (λ v. IsFoundWith last (kept_of last r new_slots new_known b) s new_slots new_known v c) (sym d) (found-run last r.position.mode r.position.offset r.from r.first r.ready r.want r.position.failed slots new_slots known new_known b c s g h k (subst (λ v. kept_of last s new_slots new_known v ≡ run_on (kept_of last r slots known v)) d e) (subst (λ v. IsConsistent s new_slots new_known v) d f) (subst (λ v. Rests (state_of last s.position new_slots new_known (drop s.from v)) s.want) d w) (subst (λ (v : List ℕ). s.position.offset + (length v - s.from) ≡ r.position.offset + (length v - r.from)) d t))
+pub found-ok : (s : Progress) (last : Option Presentation) (r : Progress) (tables new_tables : Tables) (b c bytes : List ℕ) → bytes ≡ b ++ c → r.position.failed ≡ false → IsAtRest last r tables b → Since r.position.mode s.position.mode tables new_tables → kept_of last s new_tables bytes ≡ run_on (kept_of last r tables bytes) → IsConsistent s new_tables bytes → Rests (state_of last s.position new_tables (drop s.from bytes)) s.want → s.position.offset + (length bytes - s.from) ≡ r.position.offset + (length bytes - r.from) → IsFoundWith last (kept_of last r new_tables b) (with_tables s new_tables) bytes c
+found-ok s last r tables new_tables b c bytes d g h q e f w t =
+    let k = keeps-kept last r.position.mode r.position.offset r.from r.first r.ready r.want r.position.failed tables new_tables b h.consistent.counts (since-keeps r.position.mode s.position.mode tables new_tables q) in
+    subst (λ v. IsFoundWith last (kept_of last r new_tables b) (with_tables s new_tables) v c) (sym d) (found-run last r.position.mode r.position.offset r.from r.first r.ready r.want r.position.failed tables new_tables b c s g h k (subst (λ v. kept_of last s new_tables v ≡ run_on (kept_of last r tables v)) d e) (subst (λ v. IsConsistent s new_tables v) d f) (subst (λ v. Rests (state_of last s.position new_tables (drop s.from v)) s.want) d w) (subst (λ (v : List ℕ). s.position.offset + (length v - s.from) ≡ r.position.offset + (length v - r.from)) d t))
 
 -- behind a fault all bytes are let go
-pub failed-more : (last : Option Presentation) (m : code.Mode) (offset : ℕ) (slots : List Slot) (known : List DataRange) (b : List ℕ) → let s : State = state_of last (record { mode = m; offset = offset; failed = true }) slots known b in run segments s ≡ stay_at s
-failed-more last m offset slots known b = run-rested segments is_walk (state_of last (record { mode = m; offset = offset; failed = true }) slots known b) tt
+pub failed-more : (last : Option Presentation) (m : code.ParserMode) (offset : ℕ) (tables : Tables) (b : List ℕ) → let s : State = state_of last (record { mode = m; offset = offset; failed = true }) tables b in run segments s ≡ stay_at s
+failed-more last m offset tables b = run-rested segments is_walk (state_of last (record { mode = m; offset = offset; failed = true }) tables b) tt
 
-pub found-failed : (last : Option Presentation) (m : code.Mode) (offset from first ready want new_want len : ℕ) (failed : Bool) (slots : List Slot) (known : List DataRange) (b c all : List ℕ) → let r : Progress = record { position = record { mode = m; offset = offset; failed = failed }; from = from; first = first; ready = ready; want = want } in all ≡ b ++ c → failed ≡ true → len ≡ length all → IsAtRest last r slots known b → (b ≡ []) × (ready ≡ 0) → IsFoundWith last (kept_of last r slots known b) (record { position = record { mode = m; offset = offset; failed = failed }; from = len; first = first; ready = ready; want = new_want }) slots known all c
-found-failed last m offset from first ready want new_want len false slots known b c all x' g e h z = cc
-found-failed last m offset from first ready want new_want len true slots known b c all x' g e h z =
+pub found-failed : (last : Option Presentation) (m : code.ParserMode) (offset from first ready want new_want len : ℕ) (failed : Bool) (tables : Tables) (b c all : List ℕ) → let r : Progress = record { position = record { mode = m; offset = offset; failed = failed }; from = from; first = first; ready = ready; want = want } in all ≡ b ++ c → failed ≡ true → len ≡ length all → IsAtRest last r tables b → (b ≡ []) × (ready ≡ 0) → IsFoundWith last (kept_of last r tables b) (with_tables (record { position = record { mode = m; offset = offset; failed = failed }; from = len; first = first; ready = ready; want = new_want }) tables) all c
+found-failed last m offset from first ready want new_want len false tables b c all x' g e h z = cc
+found-failed last m offset from first ready want new_want len true tables b c all x' g e h z =
     let r : Progress = record { position = record { mode = m; offset = offset; failed = true }; from = from; first = first; ready = ready; want = want } in
     let none : drop len all ≡ [] = drop_all len all (omega arith) in
     let empty : drop from b ≡ [] = ap (λ n. drop n b) h.front ∙ z.0 in
-    let k : Run State SegmentItem = kept_of last r slots known b in
-    let still : run segments (segments.more k.state c) ≡ stay_at k.state = failed-more last m offset slots known (drop from b) in
-    let mk : List SegmentItem → List ℕ → Run State SegmentItem = λ items rest. record { items = items; state = state_of last (record { mode = m; offset = offset; failed = true }) slots known rest } in
-    let a : mk (frames (drop len all) offset slots first ready) (drop len all) ≡ mk [] [] = ap (λ v. mk (frames v offset slots first ready) v) none ∙ ap (λ n. mk (frames [] offset slots first n) []) z.1 in
-    let d : mk (frames (drop from b) offset slots first ready ++ []) (drop from b) ≡ mk [] [] = ap (λ n. mk (frames (drop from b) offset slots first n ++ []) (drop from b)) z.1 ∙ ap (mk []) empty in
+    let k : Run State SegmentItem = kept_of last r tables b in
+    let still : run segments (segments.more k.state c) ≡ stay_at k.state = failed-more last m offset tables (drop from b) in
+    let mk : List SegmentItem → List ℕ → Run State SegmentItem = λ items rest. record { items = items; state = state_of last (record { mode = m; offset = offset; failed = true }) tables rest } in
+    let a : mk (frames (drop len all) offset tables.slots.items first ready) (drop len all) ≡ mk [] [] = ap (λ v. mk (frames v offset tables.slots.items first ready) v) none ∙ ap (λ n. mk (frames [] offset tables.slots.items first n) []) z.1 in
+    let d : mk (frames (drop from b) offset tables.slots.items first ready ++ []) (drop from b) ≡ mk [] [] = ap (λ n. mk (frames (drop from b) offset tables.slots.items first n ++ []) (drop from b)) z.1 ∙ ap (mk []) empty in
     record {
       same = a ∙ sym (ap (joined k.items) still ∙ d);
-      consistent = record { inside = omega arith; counts = h.consistent.counts; ends = subst (IsEndingBy (length all - len) slots first) (sym z.1) tt; small = omega (arith, h.consistent.small) };
-      rests = rests-failed last (mode_of slots known m) offset (drop len all) true new_want refl;
+      consistent = record { inside = omega arith; counts = h.consistent.counts; ends = subst (IsEndingBy (length all - len) tables.slots.items first) (sym z.1) tt; small = omega (arith, h.consistent.small) };
+      rests = rests-failed last (mode_of tables.slots.items tables.known.items m) offset (drop len all) true new_want refl;
       total = omega arith;
     }
 
@@ -188,14 +189,14 @@ found-emptied r b g = λ e. absurd (both r.position.failed g e)
 
 -- ---- what was found is put in place
 
-pub accepted-kept : (last : Option Presentation) (r : Progress) (slots : List Slot) (known : List DataRange) (old new : List ℕ) → new ≡ drop r.from old → kept_of last (record { position = r.position; from = 0; first = r.first; ready = r.ready; want = r.want }) slots known new ≡ kept_of last r slots known old
-accepted-kept last r slots known old new e = rw e refl
+pub accepted-kept : (last : Option Presentation) (r : Progress) (tables : Tables) (old new : List ℕ) → new ≡ drop r.from old → kept_of last (record { position = r.position; from = 0; first = r.first; ready = r.ready; want = r.want }) tables new ≡ kept_of last r tables old
+accepted-kept last r tables old new e = rw e refl
 
-pub accepted-rest : (last : Option Presentation) (r : Progress) (slots : List Slot) (known : List DataRange) (old new : List ℕ) → new ≡ drop r.from old → IsConsistent r slots known old → Rests (state_of last r.position slots known (drop r.from old)) r.want → IsAtRest last (record { position = r.position; from = 0; first = r.first; ready = r.ready; want = r.want }) slots known new
-accepted-rest last r slots known old new e f w =
+pub accepted-rest : (last : Option Presentation) (r : Progress) (tables : Tables) (old new : List ℕ) → new ≡ drop r.from old → IsConsistent r tables old → Rests (state_of last r.position tables (drop r.from old)) r.want → IsAtRest last (record { position = r.position; from = 0; first = r.first; ready = r.ready; want = r.want }) tables new
+accepted-rest last r tables old new e f w =
     let l : length new ≡ length old - r.from = ap length e ∙ length-drop r.from old in
     record {
       front = refl;
-      consistent = record { inside = omega arith; counts = f.counts; ends = ends-longer (length old - r.from) (length new - 0) slots r.first r.ready (omega arith) f.ends; small = omega (arith, f.small) };
+      consistent = record { inside = omega arith; counts = f.counts; ends = ends-longer (length old - r.from) (length new - 0) tables.slots.items r.first r.ready (omega arith) f.ends; small = omega (arith, f.small) };
       rests = rw e w;
     }

@@ -8,15 +8,15 @@ use Rattle.bmff_fragment.specs.Plans.{plan_of}
 use Rattle.parser_loop.specs.Walk.{Move, Stop, Pass, Give, Run, first_by, after_by}
 use Rattle.parser_loop.proofs.Runs.{IsRested, is_run}
 use Rattle.mse_base.specs.declared.frame.Phase.{Phase}
-use Rattle.segment_walk.specs.declared.kinds.DataRange.{DataRange}
-use Rattle.segment_walk.specs.declared.kinds.Mode as code
-use Rattle.segment_walk.specs.declared.kinds.Mode.TheVariants as codes
-use Rattle.segment_walk.specs.declared.kinds.Step.{Step}
-use Rattle.segment_walk.specs.declared.kinds.Step.TheVariants as step
+use Rattle.segment_walk.specs.declared.kinds.ParserMode as code
+use Rattle.segment_walk.specs.declared.kinds.ParserMode.TheVariants as codes
+use Rattle.segment_walk.specs.declared.kinds.BoxStep.{BoxStep}
+use Rattle.segment_walk.specs.declared.kinds.BoxStep.TheVariants as step
 use Rattle.segment_walk.specs.Tables.{SegmentItem}
-use Rattle.segment_walk.specs.Moves.{State, Mode, Skipping, act, pass_byte, opened, open_of, segments, frame_of, step_of}
+use Rattle.segment_walk.specs.Moves.{State, ParserMode, Skipping, act, pass_byte, opened, open_of, segments, frame_of, step_of}
 use Rattle.segment_walk.specs.Ranges.{mode_of}
 use Rattle.segment_walk.proofs.WalkLaws.{going, is_walk}
+use Rattle.segment_stream.specs.declared.progress.Tables.{Tables}
 use Rattle.segment_stream.specs.Kept
 use Rattle.segment_stream.specs.Kept.{frames, frame_at, IsEndingBy, IsSlotEndingBy, IsCountedIn, IsCounted, IsOrdered, Rests, skips, state_of, kept_of}
 use Rattle.segment_stream.proofs.Acts
@@ -62,20 +62,20 @@ get-or (s ∷ slots) (suc i) slot e = get-or slots i slot e
 slot-ordered : (slots : List Slot) (i : ℕ) (slot : Slot) → All IsOrdered slots → slice_get slots i ≡ Some slot → slot.start ≤ slot.end
 slot-ordered slots i slot a e = subst IsOrdered (get-or slots i slot e) (a i slot (slice_get_within slots i slot e))
 
-pub frame-ordered : (m : code.Mode) (slots : List Slot) (known : List DataRange) (first ready i : ℕ) (slot : Slot) → IsCountedIn m slots known first ready → i < ready → slice_get slots (first + i) ≡ Some slot → slot.start ≤ slot.end
-frame-ordered (codes.Between o) slots known first ready i slot h l e = absurd (omega arith)
-frame-ordered (codes.Skipping y z) slots known first ready i slot h l e = absurd (omega arith)
-frame-ordered (codes.Within f) slots known first ready i slot h l e = slot-ordered slots (first + i) slot h.ordered e
+pub frame-ordered : (m : code.ParserMode) (tables : Tables) (first ready i : ℕ) (slot : Slot) → IsCountedIn m tables first ready → i < ready → slice_get tables.slots.items (first + i) ≡ Some slot → slot.start ≤ slot.end
+frame-ordered (codes.Between o) tables first ready i slot h l e = absurd (omega arith)
+frame-ordered (codes.Skipping y z) tables first ready i slot h l e = absurd (omega arith)
+frame-ordered (codes.Within f) tables first ready i slot h l e = slot-ordered tables.slots.items (first + i) slot h.ordered e
 
 clash : (slot : Slot) → Some slot ≡ None → ⊥
 clash slot e = cc
 
 -- all slots that are ready are there
-pub frame-there : (m : code.Mode) (slots : List Slot) (known : List DataRange) (first ready i : ℕ) → IsCountedIn m slots known first ready → i < ready → slice_get slots (first + i) ≡ None → ⊥
-frame-there (codes.Between o) slots known first ready i h l e = omega arith
-frame-there (codes.Skipping y z) slots known first ready i h l e = omega arith
-frame-there (codes.Within f) slots known first ready i h l e =
-    let q = some-there slots (first + i) (omega (arith, h.taken, h.slots_there)) in
+pub frame-there : (m : code.ParserMode) (tables : Tables) (first ready i : ℕ) → IsCountedIn m tables first ready → i < ready → slice_get tables.slots.items (first + i) ≡ None → ⊥
+frame-there (codes.Between o) tables first ready i h l e = omega arith
+frame-there (codes.Skipping y z) tables first ready i h l e = omega arith
+frame-there (codes.Within f) tables first ready i h l e =
+    let q = some-there tables.slots.items (first + i) (omega (arith, h.taken, h.slots_there)) in
     clash q.0 (sym q.1 ∙ e)
 
 -- ---- a place that rests
@@ -97,7 +97,7 @@ no-pass-at (Pass t) h p = h
 no-pass-at (Give item t) h p = both (segments.runs item) h p
 
 -- a step that would go on is not taken where the walk rests
-pub no-pass : (last : Option Presentation) (m : Mode) (offset : ℕ) (rest : List ℕ) (failed : Bool) (want : ℕ) (st : Step) → failed ≡ false → Rests (record { last = last; mode = m; offset = offset; rest = rest; failed = failed }) want → Acts.IsActive m → st ≡ step_of (is_some last) rest m → Passes (act (going last m offset rest) st) → ⊥
+pub no-pass : (last : Option Presentation) (m : ParserMode) (offset : ℕ) (rest : List ℕ) (failed : Bool) (want : ℕ) (st : BoxStep) → failed ≡ false → Rests (record { last = last; mode = m; offset = offset; rest = rest; failed = failed }) want → Acts.IsActive m → st ≡ step_of (is_some last) rest m → Passes (act (going last m offset rest) st) → ⊥
 no-pass last m offset rest true want st g r a e p = absurd (both true g refl)
 no-pass last m offset rest false want st g r a e p =
     no-pass-at (act (going last m offset rest) st) (subst (IsRested segments) (acts last m offset rest st a e) (rested (going last m offset rest) want r)) p
@@ -111,39 +111,39 @@ skip-none : (last : Option Presentation) (to : Phase) (left offset : ℕ) (rest 
 skip-none last to zero offset rest h = absurd h
 skip-none last to (suc left) offset rest h = skip-byte (going last (Skipping to (suc left)) offset rest) to left rest h
 
-pub skip-dry : (last : Option Presentation) (m : code.Mode) (offset : ℕ) (rest : List ℕ) (failed : Bool) (want : ℕ) (slots : List Slot) (known : List DataRange) → failed ≡ false → skips m ≡ true → Rests (state_of last (record { mode = m; offset = offset; failed = failed }) slots known rest) want → segments.move (state_of last (record { mode = m; offset = offset; failed = failed }) slots known rest) ≡ Stop
-skip-dry last m offset rest true want slots known g k r = absurd (both true g refl)
-skip-dry last (codes.Between o) offset rest false want slots known g k r = cc
-skip-dry last (codes.Within f) offset rest false want slots known g k r = cc
-skip-dry last (codes.Skipping to left) offset rest false want slots known g k r = skip-none last to left offset rest (rested (going last (Skipping to left) offset rest) want r)
+pub skip-dry : (last : Option Presentation) (m : code.ParserMode) (offset : ℕ) (rest : List ℕ) (failed : Bool) (want : ℕ) (tables : Tables) → failed ≡ false → skips m ≡ true → Rests (state_of last (record { mode = m; offset = offset; failed = failed }) tables rest) want → segments.move (state_of last (record { mode = m; offset = offset; failed = failed }) tables rest) ≡ Stop
+skip-dry last m offset rest true want tables g k r = absurd (both true g refl)
+skip-dry last (codes.Between o) offset rest false want tables g k r = cc
+skip-dry last (codes.Within f) offset rest false want tables g k r = cc
+skip-dry last (codes.Skipping to left) offset rest false want tables g k r = skip-none last to left offset rest (rested (going last (Skipping to left) offset rest) want r)
 
-pub active-by : (m : code.Mode) → skips m ≡ false → Kept.IsActive m
+pub active-by : (m : code.ParserMode) → skips m ≡ false → Kept.IsActive m
 active-by (codes.Between o) e = tt
 active-by (codes.Skipping to left) e = absurd (cc)
 active-by (codes.Within f) e = tt
 
 -- the last mdat that is known ends near
-pub end-near : (m : code.Mode) (slots : List Slot) (known : List DataRange) (first ready : ℕ) → IsCountedIn m slots known first ready → (open_of (mode_of slots known m)).end ≤ 2 ^ 27
-end-near (codes.Between o) slots known first ready h = omega arith
-end-near (codes.Skipping to left) slots known first ready h = omega arith
-end-near (codes.Within f) slots known first ready h = h.near
+pub end-near : (m : code.ParserMode) (tables : Tables) (first ready : ℕ) → IsCountedIn m tables first ready → (open_of (mode_of tables.slots.items tables.known.items m)).end ≤ 2 ^ 27
+end-near (codes.Between o) tables first ready h = omega arith
+end-near (codes.Skipping to left) tables first ready h = omega arith
+end-near (codes.Within f) tables first ready h = h.near
 
 -- a step at the front of the bytes
-pub front-step : (last : Option Presentation) (m : Mode) (from : ℕ) (bytes : List ℕ) (st : Step) → from ≡ 0 → st ≡ step_of (is_some last) (drop from bytes) m → st ≡ step_of (is_some last) bytes m
+pub front-step : (last : Option Presentation) (m : ParserMode) (from : ℕ) (bytes : List ℕ) (st : BoxStep) → from ≡ 0 → st ≡ step_of (is_some last) (drop from bytes) m → st ≡ step_of (is_some last) bytes m
 front-step last m from bytes st z e = e ∙ ap (λ n. step_of (is_some last) (drop n bytes) m) z
 
-pub stuck : (last : Option Presentation) (m : code.Mode) (offset from want : ℕ) (bytes : List ℕ) (failed : Bool) (slots : List Slot) (known : List DataRange) (st : Step) → from ≡ 0 → failed ≡ false → skips m ≡ false → Rests (state_of last (record { mode = m; offset = offset; failed = failed }) slots known bytes) want → st ≡ step_of (is_some last) (drop from bytes) (mode_of slots known m) → Passes (act (going last (mode_of slots known m) offset bytes) st) → ⊥
-stuck last m offset from want bytes failed slots known st z g k r e p =
-    no-pass last (mode_of slots known m) offset bytes failed want st g r (is_active slots known m (active-by m k)) (front-step last (mode_of slots known m) from bytes st z e) p
+pub stuck : (last : Option Presentation) (m : code.ParserMode) (offset from want : ℕ) (bytes : List ℕ) (failed : Bool) (tables : Tables) (st : BoxStep) → from ≡ 0 → failed ≡ false → skips m ≡ false → Rests (state_of last (record { mode = m; offset = offset; failed = failed }) tables bytes) want → st ≡ step_of (is_some last) (drop from bytes) (mode_of tables.slots.items tables.known.items m) → Passes (act (going last (mode_of tables.slots.items tables.known.items m) offset bytes) st) → ⊥
+stuck last m offset from want bytes failed tables st z g k r e p =
+    no-pass last (mode_of tables.slots.items tables.known.items m) offset bytes failed want st g r (is_active tables m (active-by m k)) (front-step last (mode_of tables.slots.items tables.known.items m) from bytes st z e) p
 
 -- a moof that was read would have been passed
-pub plan-stuck : (last : Option Presentation) (p : Presentation) (m : code.Mode) (offset want : ℕ) (bytes : List ℕ) (failed : Bool) (slots : List Slot) (known : List DataRange) (len : ℕ) (found : List Slot) → last ≡ Some p → failed ≡ false → Kept.IsActive m → Rests (state_of last (record { mode = m; offset = offset; failed = failed }) slots known bytes) want → step.ReadMoof len ≡ step_of (is_some last) bytes (mode_of slots known m) → plan_of p.tracks (take len bytes) ≡ Ok found → ⊥
-plan-stuck None p m offset want bytes failed slots known len found w g a r e h = cc
-plan-stuck (Some q) p m offset want bytes failed slots known len found w g a r e h =
+pub plan-stuck : (last : Option Presentation) (p : Presentation) (m : code.ParserMode) (offset want : ℕ) (bytes : List ℕ) (failed : Bool) (tables : Tables) (len : ℕ) (found : List Slot) → last ≡ Some p → failed ≡ false → Kept.IsActive m → Rests (state_of last (record { mode = m; offset = offset; failed = failed }) tables bytes) want → step.ReadMoof len ≡ step_of (is_some last) bytes (mode_of tables.slots.items tables.known.items m) → plan_of p.tracks (take len bytes) ≡ Ok found → ⊥
+plan-stuck None p m offset want bytes failed tables len found w g a r e h = cc
+plan-stuck (Some q) p m offset want bytes failed tables len found w g a r e h =
     let y : q ≡ p = cc in
     let x : plan_of q.tracks (take len bytes) ≡ Ok found = ap (λ (v : Presentation). plan_of v.tracks (take len bytes)) y ∙ h in
-    let s : State = going (Some q) (mode_of slots known m) offset bytes in
-    no-pass (Some q) (mode_of slots known m) offset bytes failed want (step.ReadMoof len) g r (is_active slots known m a) e (subst (λ v. Passes (opened s len v)) (sym x) tt)
+    let s : State = going (Some q) (mode_of tables.slots.items tables.known.items m) offset bytes in
+    no-pass (Some q) (mode_of tables.slots.items tables.known.items m) offset bytes failed want (step.ReadMoof len) g r (is_active tables m a) e (subst (λ v. Passes (opened s len v)) (sym x) tt)
 
 -- ---- an item is taken
 
@@ -155,10 +155,10 @@ frames-there : (rest : List ℕ) (offset : ℕ) (slots : List Slot) (first ready
 frames-there rest offset slots first zero z h = absurd (omega arith)
 frames-there rest offset slots first (suc ready) z h = let q = some-there slots first h in rw q.1 (omega arith)
 
-pub slots-enough : (m : code.Mode) (slots : List Slot) (known : List DataRange) (first ready : ℕ) → IsCountedIn m slots known first ready → 0 < ready → first < length slots
-slots-enough (codes.Between o) slots known first ready h z = absurd (omega arith)
-slots-enough (codes.Skipping y l) slots known first ready h z = absurd (omega arith)
-slots-enough (codes.Within i) slots known first ready h z = omega (arith, h.taken, h.slots_there)
+pub slots-enough : (m : code.ParserMode) (tables : Tables) (first ready : ℕ) → IsCountedIn m tables first ready → 0 < ready → first < length tables.slots.items
+slots-enough (codes.Between o) tables first ready h z = absurd (omega arith)
+slots-enough (codes.Skipping y l) tables first ready h z = absurd (omega arith)
+slots-enough (codes.Within i) tables first ready h z = omega (arith, h.taken, h.slots_there)
 
 pub first-frame : (rest : List ℕ) (offset : ℕ) (slots : List Slot) (first ready : ℕ) (m : Move State SegmentItem) (o : Option SegmentItem) → 0 < ready → first < length slots → o ≡ slice_get (frames rest offset slots first ready) 0 → o ≡ first_by (frames rest offset slots first ready) m
 first-frame rest offset slots first ready m o z h e = first-frame-by (frames rest offset slots first ready) m o (frames-there rest offset slots first ready z h) e

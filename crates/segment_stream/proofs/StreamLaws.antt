@@ -19,14 +19,13 @@ use Rattle.parser_loop.proofs.Walks.{IsSettled, settled-at-state}
 use Rattle.parser_loop.proofs.Runs.{run-step, run-rested, keeps, Keeps, IsRested, stands-first, stands-after, stands-look, stands-ready}
 use Rattle.parser_loop.proofs.Pieces.{stands-start, stands-piece}
 use Rattle.mse_base.specs.declared.frame.Phase.{Phase}
-use Rattle.segment_walk.specs.declared.kinds.DataRange.{DataRange}
-use Rattle.segment_walk.specs.declared.kinds.Mode as code
-use Rattle.segment_walk.specs.declared.kinds.Mode.TheVariants as codes
-use Rattle.segment_walk.specs.declared.kinds.Step.{Step}
-use Rattle.segment_walk.specs.declared.kinds.Step.TheVariants as step
+use Rattle.segment_walk.specs.declared.kinds.ParserMode as code
+use Rattle.segment_walk.specs.declared.kinds.ParserMode.TheVariants as codes
+use Rattle.segment_walk.specs.declared.kinds.BoxStep.{BoxStep}
+use Rattle.segment_walk.specs.declared.kinds.BoxStep.TheVariants as step
 use Rattle.segment_walk.specs.Tables.{SegmentItem}
 use Rattle.parser_loop.specs.Items.{InitItem, FrameItem, SegmentEnd, FaultItem, latest_after_all, latest_after}
-use Rattle.segment_walk.specs.Moves.{State, Mode, Between, Skipping, Within, Open, initialized, opened, planned, pass_byte, act, step_of, segments, move_unless}
+use Rattle.segment_walk.specs.Moves.{State, ParserMode, Between, Skipping, Within, Open, initialized, opened, planned, pass_byte, act, step_of, segments, move_unless}
 use Rattle.segment_walk.specs.Strings.{start, state_before, phase_of}
 use Rattle.segment_walk.specs.Segments.{Items, held_before, phase_before, ready_before}
 use Rattle.segment_walk.proofs.Boxes.{items-boxes, ready-boxes, seen-boxes}
@@ -35,16 +34,17 @@ use Rattle.segment_walk.proofs.WalkLaws.{going, is_walk, good-step, Fits}
 use Rattle.segment_walk.proofs.Latest.{last-move, LastAfter, state-latest}
 use Rattle.segment_stream.specs.declared.progress.Progress.{Progress}
 use Rattle.segment_stream.specs.declared.progress.ParserPosition.{ParserPosition}
+use Rattle.segment_stream.specs.declared.progress.Tables.{Tables}
 use Rattle.segment_stream.specs.declared.next.Next.{Next}
 use Rattle.segment_stream.specs.declared.stream.Offered.{Offered}
-use Rattle.segment_stream.specs.Kept.{frames, IsCountedIn, Rests, IsAtRest, IsEmptied, IsFoundWith, IsLast, IsUnchanged, kept_of, state_of, progress_at_start, last_bytes, seen}
+use Rattle.segment_stream.specs.Kept.{frames, IsCountedIn, Rests, IsAtRest, IsEmptied, IsFoundWith, IsLast, kept_of, state_of, progress_at_start, last_bytes, seen, with_tables}
 use Rattle.segment_stream.specs.Streams.{Stands, Streamed, streamed, pushed_last, IsStreamAtRest, IsStreamWithOffer, IsStream}
 use Rattle.segment_stream.proofs.PendingLaws.{some-there, rested}
 use Rattle.segment_stream.proofs.ArmLaws.{all-kept, dropped}
 
 -- ---- the state behind a run is the state before it, but for the frames
 
-abbrev IsWithin : Mode → Type 0
+abbrev IsWithin : ParserMode → Type 0
 IsWithin (Between phase) = ⊥
 IsWithin (Skipping to left) = ⊥
 IsWithin (Within o) = Unit {0}
@@ -70,7 +70,7 @@ keeping-planned : (last with : Option Presentation) (phase : Phase) (offset : �
 keeping-planned last None phase offset rest len = λ e. not-true e
 keeping-planned last (Some p) phase offset rest len = keeping-opened last phase offset rest len (plan_of p.tracks (take len rest))
 
-keeping-between : (last : Option Presentation) (phase : Phase) (offset : ℕ) (rest : List ℕ) (st : Step) → Fits (Between phase) (length rest) st → let s = going last (Between phase) offset rest in Keeping s (act s st)
+keeping-between : (last : Option Presentation) (phase : Phase) (offset : ℕ) (rest : List ℕ) (st : BoxStep) → Fits (Between phase) (length rest) st → let s = going last (Between phase) offset rest in Keeping s (act s st)
 keeping-between last phase offset rest (step.Wait w) f = tt
 keeping-between last phase offset rest (step.Skip to len) f = λ w. absurd w
 keeping-between last phase offset rest (step.ReadInit len) f = keeping-init last phase offset rest len (init_of (take len rest))
@@ -81,7 +81,7 @@ keeping-between last phase offset rest (step.GiveFrame slot) f = absurd f.0
 keeping-between last phase offset rest (step.EndSegment end) f = absurd f.0
 keeping-between last phase offset rest (step.Fail g at) f = λ e. not-true e
 
-keeping-within : (last : Option Presentation) (o : Open) (offset : ℕ) (rest : List ℕ) (st : Step) → Fits (Within o) (length rest) st → let s = going last (Within o) offset rest in Keeping s (act s st)
+keeping-within : (last : Option Presentation) (o : Open) (offset : ℕ) (rest : List ℕ) (st : BoxStep) → Fits (Within o) (length rest) st → let s = going last (Within o) offset rest in Keeping s (act s st)
 keeping-within last o offset rest (step.Wait w) f = tt
 keeping-within last o offset rest (step.Skip to len) f = absurd f.0
 keeping-within last o offset rest (step.ReadInit len) f = absurd f.0
@@ -96,7 +96,7 @@ keeping-byte : (last : Option Presentation) (to : Phase) (offset left : ℕ) (al
 keeping-byte last to offset left all [] = tt
 keeping-byte last to offset left all (x ∷ rest) = λ w. absurd w
 
-keeping : (last : Option Presentation) (m : Mode) (offset : ℕ) (rest : List ℕ) (failed : Bool) → let s : State = record { last = last; mode = m; offset = offset; rest = rest; failed = failed } in Keeping s (move_unless s failed)
+keeping : (last : Option Presentation) (m : ParserMode) (offset : ℕ) (rest : List ℕ) (failed : Bool) → let s : State = record { last = last; mode = m; offset = offset; rest = rest; failed = failed } in Keeping s (move_unless s failed)
 keeping last m offset rest true = tt
 keeping last (Between phase) offset rest false = keeping-between last phase offset rest (step_of (is_some last) rest (Between phase)) (good-step (is_some last) rest [] (Between phase)).0
 keeping last (Skipping to zero) offset rest false = λ w. absurd w
@@ -114,7 +114,7 @@ held-by rest s (Give item t) f p = λ e. let q = f e in (q.1, q.2 ∙ p.1)
 held-move : (rest : List ℕ) (s : State) → Held rest s → Keeps segments (Held rest) (segments.move s)
 held-move rest s p = held-by rest s (segments.move s) (keeping s.last s.mode s.offset s.rest s.failed) p
 
-phase-within : (m : Mode) → IsWithin m → phase_of m ≡ InMedia
+phase-within : (m : ParserMode) → IsWithin m → phase_of m ≡ InMedia
 phase-within (Between phase) w = absurd w
 phase-within (Skipping to left) w = absurd w
 phase-within (Within o) w = refl
@@ -196,9 +196,9 @@ stands-pieces kept last b n (c ∷ cs) h =
 some-none : (x : List ℕ) → Some x ≡ None → ⊥
 some-none x e = cc
 
-pub idle : (last : Option Presentation) (r : Progress) (slots : List Slot) (known : List DataRange) (input : List (List ℕ)) (fed : ℕ) (o : Option Offered) (v : Streamed) → streamed last r slots known input fed o ≡ v → v.offered ≡ None → IsStream last r slots known input fed o → IsStreamAtRest last r slots known input fed × (streamed last r slots known input fed None ≡ v) × (o ≡ None)
-idle last r slots known input fed None v e q h = (h, e, refl)
-idle last r slots known input fed (Some o) v e q h = absurd (some-none (pushed_last o.len input) (ap (λ (w : Streamed). w.offered) e ∙ q))
+pub idle : (last : Option Presentation) (r : Progress) (tables : Tables) (input : List (List ℕ)) (fed : ℕ) (o : Option Offered) (v : Streamed) → streamed last (with_tables r tables) input fed o ≡ v → v.offered ≡ None → IsStream last (with_tables r tables) input fed o → IsStreamAtRest last (with_tables r tables) input fed × (streamed last (with_tables r tables) input fed None ≡ v) × (o ≡ None)
+idle last r tables input fed None v e q h = (h, e, refl)
+idle last r tables input fed (Some o) v e q h = absurd (some-none (pushed_last o.len input) (ap (λ (w : Streamed). w.offered) e ∙ q))
 
 frames-length : (rest : List ℕ) (offset : ℕ) (slots : List Slot) (first ready : ℕ) → first + ready ≤ length slots → length (frames rest offset slots first ready) ≡ ready
 frames-length rest offset slots first zero h = refl
@@ -207,10 +207,10 @@ frames-length rest offset slots first (suc ready) h =
     rw q.1 (ap suc (frames-length rest offset slots (first + 1) ready (omega arith)))
 
 -- as many frames are kept as are counted
-pub frames-counted : (m : code.Mode) (rest : List ℕ) (offset : ℕ) (slots : List Slot) (known : List DataRange) (first ready : ℕ) → IsCountedIn m slots known first ready → length (frames rest offset slots first ready) ≡ ready
-frames-counted (codes.Between o) rest offset slots known first ready h = rw h refl
-frames-counted (codes.Skipping to left) rest offset slots known first ready h = rw h refl
-frames-counted (codes.Within f) rest offset slots known first ready h = frames-length rest offset slots first ready (omega (arith, h.taken, h.slots_there))
+pub frames-counted : (m : code.ParserMode) (rest : List ℕ) (offset : ℕ) (tables : Tables) (first ready : ℕ) → IsCountedIn m tables first ready → length (frames rest offset tables.slots.items first ready) ≡ ready
+frames-counted (codes.Between o) rest offset tables first ready h = rw h refl
+frames-counted (codes.Skipping to left) rest offset tables first ready h = rw h refl
+frames-counted (codes.Within f) rest offset tables first ready h = frames-length rest offset tables.slots.items first ready (omega (arith, h.taken, h.slots_there))
 
 -- ---- the empty string
 
@@ -229,8 +229,8 @@ empty-step ready = refl
 start-still : (last : Option Presentation) → run segments (start last []) ≡ stay_at (start last [])
 start-still last = run-rested segments is_walk (start last []) (rw (ap (act (start last [])) (empty-step (is_some last))) tt)
 
-pub holds-start : (last : Option Presentation) (slots : List Slot) (known : List DataRange) → IsLast last → IsStreamAtRest last progress_at_start slots known [] 0
-holds-start last slots known h = record {
+pub holds-start : (last : Option Presentation) (tables : Tables) → IsLast last → IsStreamAtRest last (with_tables progress_at_start tables) [] 0
+holds-start last tables h = record {
   rest = record {
     front = refl;
     consistent = record { inside = omega arith; counts = refl; ends = tt; small = omega arith };
@@ -243,8 +243,8 @@ holds-start last slots known h = record {
   few = omega arith;
 }
 
-pub stands-empty : (last : Option Presentation) (slots : List Slot) (known : List DataRange) → Stands (kept_of last progress_at_start slots known []) last [] 0
-stands-empty last slots known = subst (λ k. Stands k last [] 0) (start-still last) (stands-start segments is_walk (start last []))
+pub stands-empty : (last : Option Presentation) (tables : Tables) → Stands (kept_of last progress_at_start tables []) last [] 0
+stands-empty last tables = subst (λ k. Stands k last [] 0) (start-still last) (stands-start segments is_walk (start last []))
 
 -- ---- bytes are offered
 
@@ -261,23 +261,23 @@ pushed-is-last bytes old new len l b e =
     let w : pieces_without_last len new ≡ old = ap (λ n. pieces_without_last n new) l ∙ b in
     ap (λ ps. drop (length (concat ps)) (concat new)) w ∙ ap (drop (length (concat old))) (ap concat e ∙ bytes-pushed bytes old) ∙ drop-front (concat old) bytes
 
-pub offer-view : (last : Option Presentation) (r found : Progress) (slots new_slots : List Slot) (known new_known : List DataRange) (old new : List (List ℕ)) (bytes : List ℕ) (fed len : ℕ) → len ≡ length bytes → pieces_without_last (length bytes) new ≡ old → new ≡ pieces_with bytes old → kept_of last r new_slots new_known (concat old) ≡ kept_of last r slots known (concat old) → streamed last r new_slots new_known new fed (Some (record { len = len; progress = found })) ≡ record { kept = kept_of last r slots known (concat old); pieces = old; fed = fed; offered = Some bytes }
-offer-view last r found slots new_slots known new_known old new bytes fed len l b e k =
+pub offer-view : (last : Option Presentation) (r found : Progress) (tables new_tables : Tables) (old new : List (List ℕ)) (bytes : List ℕ) (fed len : ℕ) → len ≡ length bytes → pieces_without_last (length bytes) new ≡ old → new ≡ pieces_with bytes old → kept_of last r new_tables (concat old) ≡ kept_of last r tables (concat old) → streamed last (with_tables r new_tables) new fed (Some (record { len = len; progress = found })) ≡ record { kept = kept_of last r tables (concat old); pieces = old; fed = fed; offered = Some bytes }
+offer-view last r found tables new_tables old new bytes fed len l b e k =
     let w : pieces_without_last len new ≡ old = ap (λ n. pieces_without_last n new) l ∙ b in
     let p : pushed_last len new ≡ bytes = pushed-is-last bytes old new len l b e in
-    let view : List (List ℕ) → List ℕ → Streamed = λ ps c. record { kept = kept_of last r new_slots new_known (concat ps); pieces = ps; fed = fed; offered = Some c } in
+    let view : List (List ℕ) → List ℕ → Streamed = λ ps c. record { kept = kept_of last r new_tables (concat ps); pieces = ps; fed = fed; offered = Some c } in
     let view' : Run State SegmentItem → Streamed = λ v. record { kept = v; pieces = old; fed = fed; offered = Some bytes } in
     ap (λ ps. view ps (pushed_last len new)) w ∙ ap (view old) p ∙ ap view' k
 
-pub offer-holds : (last : Option Presentation) (r found : Progress) (slots new_slots : List Slot) (known new_known : List DataRange) (old new : List (List ℕ)) (bytes : List ℕ) (fed len : ℕ) → len ≡ length bytes → pieces_without_last (length bytes) new ≡ old → new ≡ pieces_with bytes old → IsStreamAtRest last r slots known old fed → IsAtRest last r new_slots new_known (concat old) → IsFoundWith last (kept_of last r new_slots new_known (concat old)) found new_slots new_known (concat new) bytes → IsEmptied found (drop found.from (concat new)) → fed + len < 2 ^ 62 → IsStreamWithOffer last r new_slots new_known new fed (record { len = len; progress = found })
-offer-holds last r found slots new_slots known new_known old new bytes fed len l b e h rest f q room =
+pub offer-holds : (last : Option Presentation) (r found : Progress) (tables new_tables : Tables) (old new : List (List ℕ)) (bytes : List ℕ) (fed len : ℕ) → len ≡ length bytes → pieces_without_last (length bytes) new ≡ old → new ≡ pieces_with bytes old → IsStreamAtRest last (with_tables r tables) old fed → IsAtRest last r new_tables (concat old) → IsFoundWith last (kept_of last r new_tables (concat old)) (with_tables found new_tables) (concat new) bytes → IsEmptied found (drop found.from (concat new)) → fed + len < 2 ^ 62 → IsStreamWithOffer last (with_tables r new_tables) new fed (record { len = len; progress = found })
+offer-holds last r found tables new_tables old new bytes fed len l b e h rest f q room =
     let w : pieces_without_last len new ≡ old = ap (λ n. pieces_without_last n new) l ∙ b in
     let p : pushed_last len new ≡ bytes = pushed-is-last bytes old new len l b e in
     record {
-      before = subst (λ ps. IsStreamAtRest last r new_slots new_known ps fed) (sym w) (record { rest = rest; emptied = h.emptied; readable = h.readable; full = h.full; total = h.total; few = h.few });
+      before = subst (λ ps. IsStreamAtRest last (with_tables r new_tables) ps fed) (sym w) (record { rest = rest; emptied = h.emptied; readable = h.readable; full = h.full; total = h.total; few = h.few });
       is_pushed = e ∙ ap (λ c. pieces_with c old) (sym p) ∙ ap (pieces_with (pushed_last len new)) (sym w);
       len = l ∙ ap length (sym p);
-      found = subst (λ ps. IsFoundWith last (kept_of last r new_slots new_known (concat ps)) found new_slots new_known (concat new) (pushed_last len new)) (sym w) (subst (λ c. IsFoundWith last (kept_of last r new_slots new_known (concat old)) found new_slots new_known (concat new) c) (sym p) f);
+      found = subst (λ ps. IsFoundWith last (kept_of last r new_tables (concat ps)) (with_tables found new_tables) (concat new) (pushed_last len new)) (sym w) (subst (λ c. IsFoundWith last (kept_of last r new_tables (concat old)) (with_tables found new_tables) (concat new) c) (sym p) f);
       found_emptied = q;
       room = room;
     }
@@ -285,8 +285,8 @@ offer-holds last r found slots new_slots known new_known old new bytes fed len l
 emptied-as : (r s : Progress) (a b : List ℕ) → s.position ≡ r.position → s.ready ≡ r.ready → b ≡ a → IsEmptied r a → IsEmptied s b
 emptied-as r s a b e f g h = λ q. let k = h (ap (λ (x : ParserPosition). x.failed) (sym e) ∙ q) in (g ∙ k.0, f ∙ k.1)
 
-pub accept-holds : (last : Option Presentation) (r s : Progress) (slots : List Slot) (known : List DataRange) (input new : List (List ℕ)) (fed : ℕ) (o : Offered) → IsStreamWithOffer last r slots known input fed o → IsAtRest last s slots known (concat new) → s.position ≡ o.progress.position → s.ready ≡ o.progress.ready → new ≡ pieces_without_first o.progress.from input → IsStreamAtRest last s slots known new (fed + o.len)
-accept-holds last r s slots known input new fed o h rest e f g =
+pub accept-holds : (last : Option Presentation) (r s : Progress) (tables : Tables) (input new : List (List ℕ)) (fed : ℕ) (o : Offered) → IsStreamWithOffer last (with_tables r tables) input fed o → IsAtRest last s tables (concat new) → s.position ≡ o.progress.position → s.ready ≡ o.progress.ready → new ≡ pieces_without_first o.progress.from input → IsStreamAtRest last (with_tables s tables) new (fed + o.len)
+accept-holds last r s tables input new fed o h rest e f g =
     let b : concat new ≡ drop o.progress.from (concat input) = ap concat g ∙ bytes-without o.progress.from input in
     let before = pieces_without_last o.len input in
     let z : drop r.from (concat before) ≡ concat before = ap (λ n. drop n (concat before)) h.before.rest.front in
@@ -299,15 +299,15 @@ accept-holds last r s slots known input new fed o h rest e f g =
       few = h.room;
     }
 
-pub accept-stands : (last : Option Presentation) (r s : Progress) (slots : List Slot) (known : List DataRange) (input new : List (List ℕ)) (fed : ℕ) (o : Offered) (v : Streamed) → streamed last r slots known input fed (Some o) ≡ v → IsStreamWithOffer last r slots known input fed o → kept_of last s slots known (concat new) ≡ kept_of last o.progress slots known (concat input) → IfSome v.offered (λ bytes. (last' : Option Presentation) (b : List ℕ) (n : ℕ) → Stands v.kept last' b n → Stands (kept_of last s slots known (concat new)) last' (b ++ bytes) n)
-accept-stands last r s slots known input new fed o v e h k =
+pub accept-stands : (last : Option Presentation) (r s : Progress) (tables : Tables) (input new : List (List ℕ)) (fed : ℕ) (o : Offered) (v : Streamed) → streamed last (with_tables r tables) input fed (Some o) ≡ v → IsStreamWithOffer last (with_tables r tables) input fed o → kept_of last s tables (concat new) ≡ kept_of last o.progress tables (concat input) → IfSome v.offered (λ bytes. (last' : Option Presentation) (b : List ℕ) (n : ℕ) → Stands v.kept last' b n → Stands (kept_of last s tables (concat new)) last' (b ++ bytes) n)
+accept-stands last r s tables input new fed o v e h k =
     let c = pushed_last o.len input in
-    let kept : Run State SegmentItem = kept_of last r slots known (concat (pieces_without_last o.len input)) in
-    let f : (last' : Option Presentation) (b : List ℕ) (n : ℕ) → Stands kept last' b n → Stands (kept_of last s slots known (concat new)) last' (b ++ c) n = λ last' b n q. subst (λ v. Stands v last' (b ++ c) n) (sym (k ∙ h.found.same)) (stands-more kept last' b c n q) in
-    subst (λ (v : Streamed). IfSome v.offered (λ bytes. (last' : Option Presentation) (b : List ℕ) (n : ℕ) → Stands v.kept last' b n → Stands (kept_of last s slots known (concat new)) last' (b ++ bytes) n)) e f
+    let kept : Run State SegmentItem = kept_of last r tables (concat (pieces_without_last o.len input)) in
+    let f : (last' : Option Presentation) (b : List ℕ) (n : ℕ) → Stands kept last' b n → Stands (kept_of last s tables (concat new)) last' (b ++ c) n = λ last' b n q. subst (λ v. Stands v last' (b ++ c) n) (sym (k ∙ h.found.same)) (stands-more kept last' b c n q) in
+    subst (λ (v : Streamed). IfSome v.offered (λ bytes. (last' : Option Presentation) (b : List ℕ) (n : ℕ) → Stands v.kept last' b n → Stands (kept_of last s tables (concat new)) last' (b ++ bytes) n)) e f
 
-pub accept-pieces : (last : Option Presentation) (r : Progress) (slots : List Slot) (known : List DataRange) (input new : List (List ℕ)) (fed from : ℕ) (o : Offered) (v : Streamed) → streamed last r slots known input fed (Some o) ≡ v → IsStreamWithOffer last r slots known input fed o → from ≡ 0 → new ≡ pieces_without_first o.progress.from input → IfSome v.offered (λ bytes. new ≡ last_bytes (length (drop from (concat new))) (pieces_with bytes v.pieces))
-accept-pieces last r slots known input new fed from o v e h z g =
+pub accept-pieces : (last : Option Presentation) (r : Progress) (tables : Tables) (input new : List (List ℕ)) (fed from : ℕ) (o : Offered) (v : Streamed) → streamed last (with_tables r tables) input fed (Some o) ≡ v → IsStreamWithOffer last (with_tables r tables) input fed o → from ≡ 0 → new ≡ pieces_without_first o.progress.from input → IfSome v.offered (λ bytes. new ≡ last_bytes (length (drop from (concat new))) (pieces_with bytes v.pieces))
+accept-pieces last r tables input new fed from o v e h z g =
     let f : new ≡ last_bytes (length (drop from (concat new))) (pieces_with (pushed_last o.len input) (pieces_without_last o.len input)) = dropped o.progress.from input new h.found.consistent.inside g ∙ ap (λ n. last_bytes (length (drop n (concat new))) input) (sym z) ∙ ap (last_bytes (length (drop from (concat new)))) h.is_pushed in
     subst (λ (v : Streamed). IfSome v.offered (λ bytes. new ≡ last_bytes (length (drop from (concat new))) (pieces_with bytes v.pieces))) e f
 
@@ -327,8 +327,8 @@ dry-kept kept want r q = after-none kept.items kept.state (segments.move kept.st
 pub dry-pieces : (old new : List (List ℕ)) → HasNoEmptyPiece old → concat new ≡ concat old → new ≡ last_bytes (length (concat new)) old → new ≡ old
 dry-pieces old new h e p = p ∙ ap (λ (b : List ℕ). last_bytes (length b) old) e ∙ sym (all-kept old h)
 
-pub next-holds : {E : Type 0} (result : Result Next E) (last new_last : Option Presentation) (r new_r : Progress) (slots new_slots : List Slot) (known new_known : List DataRange) (input new : List (List ℕ)) (fed : ℕ) → IsStreamAtRest last r slots known input fed → OnOk result (IsAtRest new_last new_r new_slots new_known (concat new)) → OnOk result (IsEmptied new_r (concat new)) → IsLast new_last → OnOk result (new_r.position.offset + length (concat new) ≤ r.position.offset + length (concat input)) → OnOk result (new ≡ last_bytes (length (concat new)) input) → OnErr result (IsUnchanged last new_last r new_r slots new_slots known new_known input new) → IsStreamAtRest new_last new_r new_slots new_known new fed
-next-holds (Ok x) last new_last r new_r slots new_slots known new_known input new fed h rest emptied readable total pieces err = record {
+pub next-holds : {E : Type 0} (result : Result Next E) (last new_last : Option Presentation) (r new_r : Progress) (tables new_tables : Tables) (input new : List (List ℕ)) (fed : ℕ) → IsStreamAtRest last (with_tables r tables) input fed → OnOk result (IsAtRest new_last new_r new_tables (concat new)) → OnOk result (IsEmptied new_r (concat new)) → IsLast new_last → OnOk result (new_r.position.offset + length (concat new) ≤ r.position.offset + length (concat input)) → OnOk result (new ≡ last_bytes (length (concat new)) input) → OnErr result (new_last ≡ last) → OnErr result (new_r ≡ r) → OnErr result (new_tables ≡ tables) → OnErr result (new ≡ input) → IsStreamAtRest new_last (with_tables new_r new_tables) new fed
+next-holds (Ok x) last new_last r new_r tables new_tables input new fed h rest emptied readable total pieces e_last e_r e_tables e_input = record {
   rest = rest;
   emptied = emptied;
   readable = readable;
@@ -336,28 +336,28 @@ next-holds (Ok x) last new_last r new_r slots new_slots known new_known input ne
   total = omega (arith, h.total, total);
   few = h.few;
 }
-next-holds (Err e) last new_last r new_r slots new_slots known new_known input new fed h rest emptied readable total pieces u = rw (u.same_last, u.same_place, u.same_slots, u.same_known, u.same_input) h
+next-holds (Err e) last new_last r new_r tables new_tables input new fed h rest emptied readable total pieces e_last e_r e_tables e_input = rw (e_last, e_r, e_tables, e_input) h
 
-pub next-item : {E : Type 0} (result : Result Next E) (last : Option Presentation) (r : Progress) (slots : List Slot) (known : List DataRange) (input : List (List ℕ)) (fed : ℕ) (v : Streamed) → streamed last r slots known input fed None ≡ v → (before : Option Presentation) (b : List ℕ) (n : ℕ) → Stands v.kept before b n → IfOk result (λ x. seen x ≡ first_item segments (kept_of last r slots known (concat input))) → IfOk result (λ x. seen x ≡ slice_get (Items before b) n)
-next-item (Ok x) last r slots known input fed v e before b n st g = g ∙ ap (λ (w : Streamed). first_item segments w.kept) e ∙ stands-item v.kept before b n st
-next-item (Err x) last r slots known input fed v e before b n st g = tt
+pub next-item : {E : Type 0} (result : Result Next E) (last : Option Presentation) (r : Progress) (tables : Tables) (input : List (List ℕ)) (fed : ℕ) (v : Streamed) → streamed last (with_tables r tables) input fed None ≡ v → (before : Option Presentation) (b : List ℕ) (n : ℕ) → Stands v.kept before b n → IfOk result (λ x. seen x ≡ first_item segments (kept_of last r tables (concat input))) → IfOk result (λ x. seen x ≡ slice_get (Items before b) n)
+next-item (Ok x) last r tables input fed v e before b n st g = g ∙ ap (λ (w : Streamed). first_item segments w.kept) e ∙ stands-item v.kept before b n st
+next-item (Err x) last r tables input fed v e before b n st g = tt
 
-pub next-stands : {E : Type 0} (result : Result Next E) (last new_last : Option Presentation) (r new_r : Progress) (slots new_slots : List Slot) (known new_known : List DataRange) (input new : List (List ℕ)) (fed : ℕ) (v : Streamed) → streamed last r slots known input fed None ≡ v → (before : Option Presentation) (b : List ℕ) (n : ℕ) → Stands v.kept before b n → IfOk result (λ x. seen x ≡ first_item segments (kept_of last r slots known (concat input))) → OnOk result (kept_of new_last new_r new_slots new_known (concat new) ≡ after_first segments (kept_of last r slots known (concat input))) → IfOk result (λ x. Stands (kept_of new_last new_r new_slots new_known (concat new)) before b (count_after n (seen x)))
-next-stands (Ok x) last new_last r new_r slots new_slots known new_known input new fed v e before b n st g k =
+pub next-stands : {E : Type 0} (result : Result Next E) (last new_last : Option Presentation) (r new_r : Progress) (tables new_tables : Tables) (input new : List (List ℕ)) (fed : ℕ) (v : Streamed) → streamed last (with_tables r tables) input fed None ≡ v → (before : Option Presentation) (b : List ℕ) (n : ℕ) → Stands v.kept before b n → IfOk result (λ x. seen x ≡ first_item segments (kept_of last r tables (concat input))) → OnOk result (kept_of new_last new_r new_tables (concat new) ≡ after_first segments (kept_of last r tables (concat input))) → IfOk result (λ x. Stands (kept_of new_last new_r new_tables (concat new)) before b (count_after n (seen x)))
+next-stands (Ok x) last new_last r new_r tables new_tables input new fed v e before b n st g k =
     let f : seen x ≡ first_item segments v.kept = g ∙ ap (λ (w : Streamed). first_item segments w.kept) e in
-    let q : kept_of new_last new_r new_slots new_known (concat new) ≡ after_first segments v.kept = k ∙ ap (λ (w : Streamed). after_first segments w.kept) e in
+    let q : kept_of new_last new_r new_tables (concat new) ≡ after_first segments v.kept = k ∙ ap (λ (w : Streamed). after_first segments w.kept) e in
     let a : Stands (after_first segments v.kept) before b (count_after n (first_item segments v.kept)) = stands-after segments is_walk v.kept (start before b) n st in
     subst (λ w. Stands w before b (count_after n (seen x))) (sym q) (subst (λ o. Stands (after_first segments v.kept) before b (count_after n o)) (sym f) a)
-next-stands (Err x) last new_last r new_r slots new_slots known new_known input new fed v e before b n st g k = tt
+next-stands (Err x) last new_last r new_r tables new_tables input new fed v e before b n st g k = tt
 
-pub next-dry : {E : Type 0} (result : Result Next E) (last new_last : Option Presentation) (r new_r : Progress) (slots new_slots : List Slot) (known new_known : List DataRange) (input new : List (List ℕ)) (fed : ℕ) (v : Streamed) → IsStreamAtRest last r slots known input fed → streamed last r slots known input fed None ≡ v → IfOk result (λ x. seen x ≡ first_item segments (kept_of last r slots known (concat input))) → OnOk result (kept_of new_last new_r new_slots new_known (concat new) ≡ after_first segments (kept_of last r slots known (concat input))) → OnOk result (IsAtRest new_last new_r new_slots new_known (concat new)) → OnOk result (new ≡ last_bytes (length (concat new)) input) → IfOk result (λ x. seen x ≡ None → streamed new_last new_r new_slots new_known new fed None ≡ v)
-next-dry (Err x) last new_last r new_r slots new_slots known new_known input new fed v h e g k rest pieces = tt
-next-dry (Ok x) last new_last r new_r slots new_slots known new_known input new fed v h e g k rest pieces = λ z.
-    let old_kept : Run State SegmentItem = kept_of last r slots known (concat input) in
-    let new_kept : Run State SegmentItem = kept_of new_last new_r new_slots new_known (concat new) in
+pub next-dry : {E : Type 0} (result : Result Next E) (last new_last : Option Presentation) (r new_r : Progress) (tables new_tables : Tables) (input new : List (List ℕ)) (fed : ℕ) (v : Streamed) → IsStreamAtRest last (with_tables r tables) input fed → streamed last (with_tables r tables) input fed None ≡ v → IfOk result (λ x. seen x ≡ first_item segments (kept_of last r tables (concat input))) → OnOk result (kept_of new_last new_r new_tables (concat new) ≡ after_first segments (kept_of last r tables (concat input))) → OnOk result (IsAtRest new_last new_r new_tables (concat new)) → OnOk result (new ≡ last_bytes (length (concat new)) input) → IfOk result (λ x. seen x ≡ None → streamed new_last (with_tables new_r new_tables) new fed None ≡ v)
+next-dry (Err x) last new_last r new_r tables new_tables input new fed v h e g k rest pieces = tt
+next-dry (Ok x) last new_last r new_r tables new_tables input new fed v h e g k rest pieces = λ z.
+    let old_kept : Run State SegmentItem = kept_of last r tables (concat input) in
+    let new_kept : Run State SegmentItem = kept_of new_last new_r new_tables (concat new) in
     let y : drop r.from (concat input) ≡ concat input = ap (λ i. drop i (concat input)) h.rest.front in
     let y' : drop new_r.from (concat new) ≡ concat new = ap (λ i. drop i (concat new)) rest.front in
-    let w : Rests old_kept.state r.want = subst (λ bytes. Rests (state_of last r.position slots known bytes) r.want) (sym y) h.rest.rests in
+    let w : Rests old_kept.state r.want = subst (λ bytes. Rests (state_of last r.position tables bytes) r.want) (sym y) h.rest.rests in
     let same : new_kept ≡ old_kept = k ∙ dry-kept old_kept r.want w (sym g ∙ z) in
     let bytes : concat new ≡ concat input = sym y' ∙ ap (λ (q : Run State SegmentItem). q.state.rest) same ∙ y in
     let p : new ≡ input = dry-pieces input new h.full bytes pieces in

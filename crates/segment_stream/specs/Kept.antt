@@ -10,17 +10,19 @@ use Rattle.parser_loop.specs.Walk.{Move, Stop, Give, Run, run, joined, stay_at, 
 use Rattle.mse_base.specs.declared.frame.Phase.TheVariants.{Waiting}
 use Rattle.segment_walk.specs.declared.kinds.DataRange.{DataRange}
 use Rattle.segment_walk.specs.declared.kinds.Fragment.{Fragment}
-use Rattle.segment_walk.specs.declared.kinds.Mode.{Mode}
-use Rattle.segment_walk.specs.declared.kinds.Mode.TheVariants as code
+use Rattle.segment_walk.specs.declared.kinds.ParserMode.{ParserMode}
+use Rattle.segment_walk.specs.declared.kinds.ParserMode.TheVariants as code
 use Rattle.segment_walk.specs.declared.kinds.Place.TheVariants.{AtBox}
 use Rattle.segment_walk.specs.Tables.{SegmentItem}
-use Rattle.parser_loop.specs.Items.{InitItem, FrameItem, SegmentEnd, FaultItem, latest_after}
+use Rattle.parser_loop.specs.Items.{InitItem, FrameItem, SegmentEnd, FaultItem}
 use Rattle.segment_walk.specs.Moves.{State, frame_of, walked, behind, fail, segments}
 use Rattle.segment_walk.specs.Ranges.{IsAscending, mode_of}
 use Rattle.input_chunks.specs.Pieces.{pieces_without_first}
 use Rattle.std.specs.List.{concat}
 use Rattle.segment_stream.specs.declared.progress.ParserPosition.{ParserPosition}
 use Rattle.segment_stream.specs.declared.progress.Progress.{Progress}
+use Rattle.segment_stream.specs.declared.progress.Tables.{Tables}
+use Rattle.segment_stream.specs.declared.progress.ProgressWithTables.{ProgressWithTables}
 use Rattle.segment_stream.specs.declared.progress.MoveResult.{MoveResult}
 use Rattle.segment_stream.specs.declared.progress.MoveResult.TheVariants as move_result
 use Rattle.segment_stream.specs.declared.progress.PendingItem.{PendingItem}
@@ -36,11 +38,10 @@ seen next.SegmentEnd = Some SegmentEnd
 seen (next.Fault f offset) = Some (FaultItem f offset)
 seen next.Dry = None
 
-abbrev pub state_of : Option Presentation → ParserPosition → List Slot → List DataRange → List ℕ
-    → State
-state_of last position slots known rest = record {
+abbrev pub state_of : Option Presentation → ParserPosition → Tables → List ℕ → State
+state_of last position tables rest = record {
   last = last;
-  mode = mode_of slots known position.mode;
+  mode = mode_of tables.slots.items tables.known.items position.mode;
   offset = position.offset;
   rest = rest;
   failed = position.failed;
@@ -57,11 +58,10 @@ frames rest offset slots i (suc n) =
     frame_at rest offset (slice_get slots i) ++ frames rest offset slots (i + 1) n
 
 -- what is kept: the frames that are ready, and the state behind them
-abbrev pub kept_of : Option Presentation → Progress → List Slot → List DataRange → List ℕ
-    → Run State SegmentItem
-kept_of last r slots known bytes = record {
-  items = frames (drop r.from bytes) r.position.offset slots r.first r.ready;
-  state = state_of last r.position slots known (drop r.from bytes);
+abbrev pub kept_of : Option Presentation → Progress → Tables → List ℕ → Run State SegmentItem
+kept_of last r tables bytes = record {
+  items = frames (drop r.from bytes) r.position.offset tables.slots.items r.first r.ready;
+  state = state_of last r.position tables (drop r.from bytes);
 }
 
 -- what is kept once the walk was run on
@@ -84,23 +84,22 @@ abbrev pub IsOrdered : Slot → Type 0
 IsOrdered slot = slot.start ≤ slot.end
 
 -- what is counted of an open movie fragment is in its tables
-pub record IsCounted (f : Fragment) (slots : List Slot) (known : List DataRange)
-    (first ready : ℕ) : Type 0 where
+pub record IsCounted (f : Fragment) (tables : Tables) (first ready : ℕ) : Type 0 where
   pub taken : first + ready ≡ f.taken
-  pub slots_there : f.taken ≤ length slots
-  pub ordered : All IsOrdered slots
-  pub known_there : f.known ≤ length known
-  pub ascending : IsAscending (take f.known known)
+  pub slots_there : f.taken ≤ length tables.slots.items
+  pub ordered : All IsOrdered tables.slots.items
+  pub known_there : f.known ≤ length tables.known.items
+  pub ascending : IsAscending (take f.known tables.known.items)
   pub ended : (d : DataRange) → 0 < f.known
-      → ((slice_index_or (take f.known known) (f.known - 1) d).start ≤ f.end)
-      × ((slice_index_or (take f.known known) (f.known - 1) d).end ≤ f.end)
+      → ((slice_index_or (take f.known tables.known.items) (f.known - 1) d).start ≤ f.end)
+      × ((slice_index_or (take f.known tables.known.items) (f.known - 1) d).end ≤ f.end)
   pub behind : f.end ≤ walked f.place
   pub near : f.end ≤ 2 ^ 27
 
-abbrev pub IsCountedIn : Mode → List Slot → List DataRange → ℕ → ℕ → Type 0
-IsCountedIn (code.Between phase) slots known first ready = ready ≡ 0
-IsCountedIn (code.Skipping to left) slots known first ready = ready ≡ 0
-IsCountedIn (code.Within f) slots known first ready = IsCounted f slots known first ready
+abbrev pub IsCountedIn : ParserMode → Tables → ℕ → ℕ → Type 0
+IsCountedIn (code.Between phase) tables first ready = ready ≡ 0
+IsCountedIn (code.Skipping to left) tables first ready = ready ≡ 0
+IsCountedIn (code.Within f) tables first ready = IsCounted f tables first ready
 
 -- the slots that are ready end within n bytes
 abbrev pub IsSlotEndingBy : ℕ → Option Slot → Type 0
@@ -112,65 +111,75 @@ IsEndingBy n slots i zero = Unit {0}
 IsEndingBy n slots i (suc m) = IsSlotEndingBy n (slice_get slots i) × IsEndingBy n slots (i + 1) m
 
 -- a place that agrees with the tables and the input
-pub record IsConsistent (r : Progress) (slots : List Slot) (known : List DataRange)
-    (bytes : List ℕ) : Type 0 where
+pub record IsConsistent (r : Progress) (tables : Tables) (bytes : List ℕ) : Type 0 where
   pub inside : r.from ≤ length bytes
-  pub counts : IsCountedIn r.position.mode slots known r.first r.ready
-  pub ends : IsEndingBy (length bytes - r.from) slots r.first r.ready
+  pub counts : IsCountedIn r.position.mode tables r.first r.ready
+  pub ends : IsEndingBy (length bytes - r.from) tables.slots.items r.first r.ready
   pub small : r.position.offset + (length bytes - r.from) < 2 ^ 62
 
--- a place that was left behind sees the same tables
-abbrev pub Since : Mode → Mode → List Slot → List DataRange → List Slot → List DataRange → Type 0
-Since (code.Between phase) now slots known new_slots new_known = Unit {0}
-Since (code.Skipping to left) now slots known new_slots new_known = Unit {0}
-Since (code.Within f) (code.Between phase) slots known new_slots new_known = ⊥
-Since (code.Within f) (code.Skipping to left) slots known new_slots new_known = ⊥
-Since (code.Within f) (code.Within g) slots known new_slots new_known =
-    (new_slots ≡ slots) × (take f.known new_known ≡ take f.known known) × (f.known ≤ g.known)
+-- a place that was left behind sees the same of its tables
+abbrev pub Since : ParserMode → ParserMode → Tables → Tables → Type 0
+Since (code.Between phase) now tables new_tables = Unit {0}
+Since (code.Skipping to left) now tables new_tables = Unit {0}
+Since (code.Within f) (code.Between phase) tables new_tables = ⊥
+Since (code.Within f) (code.Skipping to left) tables new_tables = ⊥
+Since (code.Within f) (code.Within g) tables new_tables =
+    (new_tables.slots.items ≡ tables.slots.items)
+    × (take f.known new_tables.known.items ≡ take f.known tables.known.items)
+    × (f.known ≤ g.known)
 
-abbrev pub Keeps : Mode → List Slot → List DataRange → List Slot → List DataRange → Type 0
-Keeps mode slots known new_slots new_known = Since mode mode slots known new_slots new_known
+abbrev pub Keeps : ParserMode → Tables → Tables → Type 0
+Keeps mode tables new_tables = Since mode mode tables new_tables
+
+abbrev pub with_tables : Progress → Tables → ProgressWithTables
+with_tables r tables = record { progress = r; tables = tables }
 
 -- from one place to a later one
-pub record GoesOn (last : Option Presentation) (r s : Progress) (slots : List Slot)
-    (known : List DataRange) (new_slots : List Slot) (new_known : List DataRange)
+pub record GoesOn (last : Option Presentation) (before after : ProgressWithTables)
     (bytes : List ℕ) : Type 0 where
-  pub same : run_on (kept_of last s new_slots new_known bytes)
-      ≡ run_on (kept_of last r slots known bytes)
-  pub consistent : IsConsistent s new_slots new_known bytes
-  pub since : Since r.position.mode s.position.mode slots known new_slots new_known
-  pub going : s.position.failed ≡ r.position.failed
-  pub total : s.position.offset + (length bytes - s.from)
-      ≡ r.position.offset + (length bytes - r.from)
-  pub size : segments.size (state_of last s.position new_slots new_known (drop s.from bytes))
-      < segments.size (state_of last r.position slots known (drop r.from bytes))
+  pub same : run_on (kept_of last after.progress after.tables bytes)
+      ≡ run_on (kept_of last before.progress before.tables bytes)
+  pub consistent : IsConsistent after.progress after.tables bytes
+  pub since : Since before.progress.position.mode after.progress.position.mode before.tables
+      after.tables
+  pub going : after.progress.position.failed ≡ before.progress.position.failed
+  pub total : after.progress.position.offset + (length bytes - after.progress.from)
+      ≡ before.progress.position.offset + (length bytes - before.progress.from)
+  pub size :
+      segments.size
+      (state_of last after.progress.position after.tables (drop after.progress.from bytes))
+      < segments.size
+      (state_of last before.progress.position before.tables (drop before.progress.from bytes))
 
-abbrev pub IsMoveResult : Option Presentation → Progress → List Slot → List DataRange → List Slot
-    → List DataRange → List ℕ → MoveResult → Type 0
-IsMoveResult last r slots known new_slots new_known bytes (move_result.Rest want) =
-    Rests (state_of last r.position slots known (drop r.from bytes)) want
-    × ((new_slots ≡ slots) × (new_known ≡ known))
-IsMoveResult last r slots known new_slots new_known bytes (move_result.Go s) =
-    GoesOn last r s slots known new_slots new_known bytes
+-- of a move from a place, with the tables behind it
+abbrev pub IsMoveResult : Option Presentation → ProgressWithTables → Tables → List ℕ → MoveResult
+    → Type 0
+IsMoveResult last before new_tables bytes (move_result.Rest want) =
+    Rests
+    (state_of last before.progress.position before.tables (drop before.progress.from bytes))
+    want
+    × (new_tables ≡ before.tables)
+IsMoveResult last before new_tables bytes (move_result.Go s) =
+    GoesOn last before (with_tables s new_tables) bytes
 
-abbrev pub IsActive : Mode → Type 0
+abbrev pub IsActive : ParserMode → Type 0
 IsActive (code.Between phase) = Unit {0}
 IsActive (code.Skipping to left) = ⊥
 IsActive (code.Within f) = Unit {0}
 
-abbrev pub skips : Mode → Bool
+abbrev pub skips : ParserMode → Bool
 skips (code.Between phase) = false
 skips (code.Skipping to left) = true
 skips (code.Within f) = false
 
 -- the movie fragment of a mode, or an empty one
-abbrev pub fragment_in : Mode → Fragment
+abbrev pub fragment_in : ParserMode → Fragment
 fragment_in (code.Between phase) = record { taken = 0; known = 0; end = 0; place = AtBox 0 }
 fragment_in (code.Skipping to left) = record { taken = 0; known = 0; end = 0; place = AtBox 0 }
 fragment_in (code.Within f) = f
 
 -- the same place, in another mode
-abbrev pub in_mode : Progress → Mode → Progress
+abbrev pub in_mode : Progress → ParserMode → Progress
 in_mode r mode = record {
   position = record { mode = mode; offset = r.position.offset; failed = false };
   from = r.from;
@@ -180,19 +189,22 @@ in_mode r mode = record {
 }
 
 -- a place that rests, with nothing of the input before it
-pub record IsAtRest (last : Option Presentation) (r : Progress) (slots : List Slot)
-    (known : List DataRange) (bytes : List ℕ) : Type 0 where
+pub record IsAtRest (last : Option Presentation) (r : Progress) (tables : Tables)
+    (bytes : List ℕ) : Type 0 where
   pub front : r.from ≡ 0
-  pub consistent : IsConsistent r slots known bytes
-  pub rests : Rests (state_of last r.position slots known bytes) r.want
+  pub consistent : IsConsistent r tables bytes
+  pub rests : Rests (state_of last r.position tables bytes) r.want
 
 -- what is found when `more` bytes come, of which `bytes` is the whole input then
-pub record IsFoundWith (last : Option Presentation) (kept : Run State SegmentItem) (r : Progress)
-    (slots : List Slot) (known : List DataRange) (bytes more : List ℕ) : Type 0 where
-  pub same : kept_of last r slots known bytes ≡ fed segments kept more
-  pub consistent : IsConsistent r slots known bytes
-  pub rests : Rests (state_of last r.position slots known (drop r.from bytes)) r.want
-  pub total : r.position.offset + (length bytes - r.from)
+pub record IsFoundWith (last : Option Presentation) (kept : Run State SegmentItem)
+    (found : ProgressWithTables) (bytes more : List ℕ) : Type 0 where
+  pub same : kept_of last found.progress found.tables bytes ≡ fed segments kept more
+  pub consistent : IsConsistent found.progress found.tables bytes
+  pub rests :
+      Rests
+      (state_of last found.progress.position found.tables (drop found.progress.from bytes))
+      found.progress.want
+  pub total : found.progress.position.offset + (length bytes - found.progress.from)
       ≤ kept.state.offset + length kept.state.rest + length more
 
 -- the move that gives an item which is no frame
@@ -219,16 +231,6 @@ IsPlan (Some p) b (Some v) = plan_of p.tracks b ≡ Ok v.items
 -- behind a fault no byte is kept, and no frame is ready
 abbrev pub IsEmptied : Progress → List ℕ → Type 0
 IsEmptied r bytes = r.position.failed ≡ true → (bytes ≡ []) × (r.ready ≡ 0)
-
--- nothing of a place, its tables and its input has changed
-pub record IsUnchanged (last new_last : Option Presentation) (r new_r : Progress)
-    (slots new_slots : List Slot) (known new_known : List DataRange)
-    (input new_input : List (List ℕ)) : Type 0 where
-  pub same_last : new_last ≡ last
-  pub same_place : new_r ≡ r
-  pub same_slots : new_slots ≡ slots
-  pub same_known : new_known ≡ known
-  pub same_input : new_input ≡ input
 
 -- the pieces that hold the last `n` bytes
 abbrev pub last_bytes : ℕ → List (List ℕ) → List (List ℕ)

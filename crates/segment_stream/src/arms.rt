@@ -7,7 +7,7 @@ ghost use Rattle.input_chunks.specs.Pieces.{pieces_without_first, HasNoEmptyPiec
 ghost use Rattle.segment_walk.specs.Moves.{segments, Between, behind};
 ghost use Rattle.parser_loop.specs.Items.{FaultItem, InitItem, SegmentEnd};
 ghost use Rattle.mse_base.specs.declared.frame.Phase.TheVariants.{Waiting};
-ghost use Rattle.segment_stream.specs.Kept.{IsConsistent, IsAtRest, IsEmptied, HasPendingBytes, IsLast, IsUnchanged, Rests, kept_of, last_bytes, seen, state_of};
+ghost use Rattle.segment_stream.specs.Kept.{IsConsistent, IsAtRest, IsEmptied, HasPendingBytes, IsLast, Rests, kept_of, last_bytes, seen, state_of};
 ghost use Rattle.parser_loop.specs.Items.{latest_after_any};
 
 use crate::moves::{NEVER, run_on};
@@ -17,21 +17,18 @@ use crate::pending::{look_frame, pending_item};
 use crate::progress::{ParserPosition, PendingItem, Progress, ProgressWithTables, Tables};
 use input_chunks::Chunks;
 use mse_base::{OutOfMemory, Phase, Presentation};
-use segment_walk::{Mode, StreamFault};
+use segment_walk::{ParserMode, StreamFault};
 use std::alloc::Global;
 
 /// Takes the first ready frame. An `Err` changes nothing.
 fn take_frame(progress: &mut Progress, tables: &Tables, input: &Chunks) -> Result<Next, OutOfMemory>
     requires ready { 0 < progress.old.ready }
     requires front { progress.old.from ≡ 0 }
-    requires consistent { IsConsistent progress.old tables.now.slots.items tables.now.known.items
-        (concat input.now) }
+    requires consistent { IsConsistent progress.old tables.now (concat input.now) }
     ensures item { (last : Option Presentation) → IfOk result (λ x. seen x ≡ first_item segments
-        (kept_of last progress.old tables.now.slots.items tables.now.known.items (concat
-        input.now))) }
-    ensures ok { (last : Option Presentation) → OnOk result (kept_of last progress.new
-        tables.now.slots.items tables.now.known.items (concat input.now) ≡ after_first segments
-        (kept_of last progress.old tables.now.slots.items tables.now.known.items (concat
+        (kept_of last progress.old tables.now (concat input.now))) }
+    ensures ok { (last : Option Presentation) → OnOk result (kept_of last progress.new tables.now
+        (concat input.now) ≡ after_first segments (kept_of last progress.old tables.now (concat
         input.now))) }
     ensures last { (last : Option Presentation) → IfOk result (λ x. last ≡ latest_after_any last
         (seen x)) }
@@ -61,19 +58,17 @@ fn leave_on(
     requires inside { len ≤ length (concat input.now) }
     requires readable { IsLast last.now }
     requires small { offset + length (concat input.now) < 2 ^ 62 }
-    ensures same { IfOk result (λ o. kept_of last.now o.progress o.tables.slots.items
-        o.tables.known.items (concat input.now) ≡ run segments (record {
+    ensures same { IfOk result (λ o. kept_of last.now o.progress o.tables (concat input.now) ≡ run
+        segments (record {
           last = last.now;
           mode = Between Waiting;
           offset = offset + len;
           rest = drop len (concat input.now);
           failed = false;
         })) }
-    ensures consistent { IfOk result (λ o. IsConsistent o.progress o.tables.slots.items
-        o.tables.known.items (concat input.now)) }
-    ensures rests { IfOk result (λ o. Rests (state_of last.now o.progress.position
-        o.tables.slots.items o.tables.known.items (drop o.progress.from (concat input.now)))
-        o.progress.want) }
+    ensures consistent { IfOk result (λ o. IsConsistent o.progress o.tables (concat input.now)) }
+    ensures rests { IfOk result (λ o. Rests (state_of last.now o.progress.position o.tables (drop
+        o.progress.from (concat input.now))) o.progress.want) }
     ensures total { IfOk result (λ o. o.progress.position.offset + (length (concat input.now) -
         o.progress.from) ≡ offset + length (concat input.now)) }
     ensures going { IfOk result (λ o. o.progress.position.failed ≡ false) }
@@ -83,7 +78,7 @@ fn leave_on(
         known: Vec::new(alloc),
     };
     let position = ParserPosition {
-        mode: Mode::Between(Phase::Waiting),
+        mode: ParserMode::Between(Phase::Waiting),
         offset: offset + len,
         failed: false,
     };
@@ -106,15 +101,12 @@ fn enter(
     input: &mut Chunks,
 )
     requires { next_state.progress.from ≤ length (concat input.old) }
-    ensures rest { (last : Option Presentation) → IsConsistent next_state.progress
-        next_state.tables.slots.items next_state.tables.known.items (concat input.old) →
-        Rests (state_of last next_state.progress.position next_state.tables.slots.items
-        next_state.tables.known.items (drop next_state.progress.from (concat input.old)))
-        next_state.progress.want → IsAtRest last progress.new
-        tables.new.slots.items tables.new.known.items (concat input.new) }
-    ensures kept { (last : Option Presentation) → kept_of last progress.new tables.new.slots.items
-        tables.new.known.items (concat input.new) ≡ kept_of last next_state.progress
-        next_state.tables.slots.items next_state.tables.known.items (concat input.old) }
+    ensures rest { (last : Option Presentation) → IsConsistent next_state.progress next_state.tables
+        (concat input.old) → Rests (state_of last next_state.progress.position next_state.tables
+        (drop next_state.progress.from (concat input.old))) next_state.progress.want → IsAtRest last
+        progress.new tables.new (concat input.new) }
+    ensures kept { (last : Option Presentation) → kept_of last progress.new tables.new (concat
+        input.new) ≡ kept_of last next_state.progress next_state.tables (concat input.old) }
     ensures position { progress.new.position ≡ next_state.progress.position }
     ensures pieces { input.new ≡ pieces_without_first next_state.progress.from input.old }
 {
@@ -138,8 +130,8 @@ fn init_on(
     ensures item { IfOk result (λ x. seen x ≡ Some (InitItem presentation
         progress.old.position.offset)) }
     ensures last { OnOk result (last.new ≡ Some presentation) }
-    ensures kept { OnOk result (kept_of (Some presentation) progress.new tables.new.slots.items
-        tables.new.known.items (concat input.new) ≡ run segments (record {
+    ensures kept { OnOk result (kept_of (Some presentation) progress.new tables.new (concat
+        input.new) ≡ run segments (record {
           last = Some presentation;
           mode = Between Waiting;
           offset = progress.old.position.offset + len;
@@ -147,15 +139,16 @@ fn init_on(
               input.old);
           failed = false;
         })) }
-    ensures rest { OnOk result (IsAtRest (Some presentation) progress.new tables.new.slots.items
-        tables.new.known.items (concat input.new)) }
+    ensures rest { OnOk result (IsAtRest (Some presentation) progress.new tables.new (concat
+        input.new)) }
     ensures going { OnOk result (progress.new.position.failed ≡ false) }
     ensures total { OnOk result (progress.new.position.offset + length (concat input.new) ≡
         progress.old.position.offset + length (concat input.old)) }
     ensures pieces { OnOk result (input.new ≡ last_bytes (length (concat input.new)) input.old) }
-    ensures err { OnErr result (IsUnchanged last.old last.new progress.old progress.new
-        tables.old.slots.items tables.new.slots.items tables.old.known.items tables.new.known.items
-        input.old input.new) }
+    ensures err_last { OnErr result (last.new ≡ last.old) }
+    ensures err_progress { OnErr result (progress.new ≡ progress.old) }
+    ensures err_tables { OnErr result (tables.new ≡ tables.old) }
+    ensures err_input { OnErr result (input.new ≡ input.old) }
 {
     let offset = progress.position.offset;
     let latest = Some(presentation.copy()?);
@@ -178,8 +171,8 @@ fn end_on(
     requires readable { IsLast last.now }
     requires small { progress.old.position.offset + length (concat input.old) < 2 ^ 62 }
     ensures item { IfOk result (λ x. seen x ≡ Some SegmentEnd) }
-    ensures kept { OnOk result (kept_of last.now progress.new tables.new.slots.items
-        tables.new.known.items (concat input.new) ≡ run segments (record {
+    ensures kept { OnOk result (kept_of last.now progress.new tables.new (concat input.new) ≡ run
+        segments (record {
           last = last.now;
           mode = Between Waiting;
           offset = progress.old.position.offset + end;
@@ -187,15 +180,14 @@ fn end_on(
               input.old);
           failed = false;
         })) }
-    ensures rest { OnOk result (IsAtRest last.now progress.new tables.new.slots.items
-        tables.new.known.items (concat input.new)) }
+    ensures rest { OnOk result (IsAtRest last.now progress.new tables.new (concat input.new)) }
     ensures going { OnOk result (progress.new.position.failed ≡ false) }
     ensures total { OnOk result (progress.new.position.offset + length (concat input.new) ≡
         progress.old.position.offset + length (concat input.old)) }
     ensures pieces { OnOk result (input.new ≡ last_bytes (length (concat input.new)) input.old) }
-    ensures err { OnErr result (IsUnchanged last.now last.now progress.old progress.new
-        tables.old.slots.items tables.new.slots.items tables.old.known.items tables.new.known.items
-        input.old input.new) }
+    ensures err_progress { OnErr result (progress.new ≡ progress.old) }
+    ensures err_tables { OnErr result (tables.new ≡ tables.old) }
+    ensures err_input { OnErr result (input.new ≡ input.old) }
 {
     let next_state = leave_on(alloc, last, progress.position.offset, end, input)?;
     enter(next_state, progress, tables, input);
@@ -236,27 +228,25 @@ pub(crate) fn next_on(
     tables: &mut Tables,
     input: &mut Chunks,
 ) -> Result<Next, OutOfMemory>
-    requires rest { IsAtRest last.old progress.old tables.old.slots.items tables.old.known.items
-        (concat input.old) }
+    requires rest { IsAtRest last.old progress.old tables.old (concat input.old) }
     requires emptied { IsEmptied progress.old (concat input.old) }
     requires readable { IsLast last.old }
     requires full { HasNoEmptyPiece input.old }
     ensures item { IfOk result (λ x. seen x ≡ first_item segments (kept_of last.old progress.old
-        tables.old.slots.items tables.old.known.items (concat input.old))) }
-    ensures kept { OnOk result (kept_of last.new progress.new tables.new.slots.items
-        tables.new.known.items (concat input.new) ≡ after_first segments (kept_of last.old
-        progress.old tables.old.slots.items tables.old.known.items (concat input.old))) }
+        tables.old (concat input.old))) }
+    ensures kept { OnOk result (kept_of last.new progress.new tables.new (concat input.new) ≡
+        after_first segments (kept_of last.old progress.old tables.old (concat input.old))) }
     ensures last { IfOk result (λ x. last.new ≡ latest_after_any last.old (seen x)) }
     ensures readable { IsLast last.new }
-    ensures rest { OnOk result (IsAtRest last.new progress.new tables.new.slots.items
-        tables.new.known.items (concat input.new)) }
+    ensures rest { OnOk result (IsAtRest last.new progress.new tables.new (concat input.new)) }
     ensures emptied { OnOk result (IsEmptied progress.new (concat input.new)) }
     ensures total { OnOk result (progress.new.position.offset + length (concat input.new) ≤
         progress.old.position.offset + length (concat input.old)) }
     ensures pieces { OnOk result (input.new ≡ last_bytes (length (concat input.new)) input.old) }
-    ensures err { OnErr result (IsUnchanged last.old last.new progress.old progress.new
-        tables.old.slots.items tables.new.slots.items tables.old.known.items tables.new.known.items
-        input.old input.new) }
+    ensures err_last { OnErr result (last.new ≡ last.old) }
+    ensures err_progress { OnErr result (progress.new ≡ progress.old) }
+    ensures err_tables { OnErr result (tables.new ≡ tables.old) }
+    ensures err_input { OnErr result (input.new ≡ input.old) }
 {
     if progress.ready > 0 {
         return take_frame(progress, tables, input);

@@ -15,5 +15,6 @@ pub fn pieces_law()
         ℕ) (pieces : List (List ℕ)) → Stands kept last b n → Stands (fed_all segments kept pieces)
         last (b ++ concat pieces) n }
     ensures latest { (kept : Run State SegmentItem) (last : Option Presentation) (b : List ℕ) (n :
-        ℕ) → Stands kept last b n → kept.state.last ≡ latest_after_all last (take n (Items last b)) }
+        ℕ) → Stands kept last b n → kept.state.last
+        ≡ latest_after_all last (take n (Items last b)) }
 {}

@@ -1,17 +1,16 @@
 ghost use Rattle.std.specs.Prelude.{◌≡◌, ℕ, ◌+◌, ◌-◌, ◌≤◌, ◌<◌, ◌^◌, List, All, length, take, drop, is_some, Option, false, IfOk, IfSome, OnErr};
 ghost use Rattle.std.specs.List.{concat};
 ghost use Rattle.mse_base.specs.declared.track.Presentation.{Presentation};
-ghost use Rattle.bmff_fragment.specs.declared.slot.Slot.{Slot};
-ghost use Rattle.segment_walk.specs.declared.kinds.DataRange.{DataRange};
 ghost use Rattle.segment_walk.specs.Moves.{step_of, segments};
 ghost use Rattle.segment_walk.specs.Ranges.{mode_of, SeesAscending};
-ghost use Rattle.segment_stream.specs.Kept.{kept_of, run_on as runs_on, IsConsistent, IsActive, IsLast, IsMoveResult, IsPlan, Keeps, IsOrdered, Rests, Since, fragment_in, state_of, in_mode};
+ghost use Rattle.segment_stream.specs.declared.progress.Tables.{Tables};
+ghost use Rattle.segment_stream.specs.Kept.{kept_of, run_on as runs_on, IsConsistent, IsActive, IsLast, IsMoveResult, IsPlan, Keeps, IsOrdered, Rests, Since, fragment_in, state_of, in_mode, with_tables};
 
 use crate::progress::{MoveResult, ParserPosition, Progress, Tables};
 use bmff_fragment::{MoofError, Slot, read_moof};
 use input_chunks::Chunks;
 use mse_base::{OutOfMemory, Phase, Presentation};
-use segment_walk::{DataRange, Fragment, Mode, Place, Step, step};
+use segment_walk::{BoxStep, DataRange, Fragment, ParserMode, Place, step};
 use std::alloc::Global;
 
 /// More bytes change nothing.
@@ -22,10 +21,10 @@ fn pass_over(at: Progress, to: Phase, left: u64, input: &Chunks) -> MoveResult
     requires inside { at.from ≤ length (concat input.now) }
     requires idle { at.ready ≡ 0 }
     requires small { at.position.offset + (length (concat input.now) - at.from) < 2 ^ 62 }
-    requires skipping { at.position.mode ≡ Mode.Skipping to left }
+    requires skipping { at.position.mode ≡ ParserMode.Skipping to left }
     requires going { at.position.failed ≡ false }
-    ensures { (last : Option Presentation) (slots : List Slot) (known : List DataRange) →
-        IsMoveResult last at slots known slots known (concat input.now) result }
+    ensures { (last : Option Presentation) (tables : Tables) → IsMoveResult last (with_tables at
+        tables) tables (concat input.now) result }
 {
     let there = (input.len() - at.from) as u64;
     if there == 0 && left > 0 {
@@ -33,7 +32,7 @@ fn pass_over(at: Progress, to: Phase, left: u64, input: &Chunks) -> MoveResult
     }
     if there < left {
         let position = ParserPosition {
-            mode: Mode::Skipping {
+            mode: ParserMode::Skipping {
                 to,
                 left: left - there,
             },
@@ -48,7 +47,7 @@ fn pass_over(at: Progress, to: Phase, left: u64, input: &Chunks) -> MoveResult
         });
     }
     let position = ParserPosition {
-        mode: Mode::Between(to),
+        mode: ParserMode::Between(to),
         offset: at.position.offset + left,
         failed: false,
     };
@@ -96,13 +95,13 @@ fn new_fragment(place: u64) -> Fragment
     }
 }
 
-fn fragment(mode: Mode) -> Fragment
+fn fragment(mode: ParserMode) -> Fragment
     ensures { result ≡ fragment_in mode }
 {
     match mode {
-        Mode::Within(fragment) => fragment,
-        Mode::Between(_) => new_fragment(0),
-        Mode::Skipping { .. } => new_fragment(0),
+        ParserMode::Within(fragment) => fragment,
+        ParserMode::Between(_) => new_fragment(0),
+        ParserMode::Skipping { .. } => new_fragment(0),
     }
 }
 
@@ -112,7 +111,7 @@ pub(crate) fn next_step(
     at: Progress,
     tables: &Tables,
     input: &Chunks,
-) -> Step
+) -> BoxStep
     requires inside { at.from ≤ length (concat input.now) }
     requires ascending { SeesAscending at.position.mode tables.now.known.items }
     ensures { result ≡ step_of (is_some last.now) (drop at.from (concat input.now)) (mode_of
@@ -129,7 +128,7 @@ pub(crate) fn next_step(
 }
 
 /// The same place, in another mode.
-fn in_mode(at: Progress, mode: Mode) -> Progress
+fn in_mode(at: Progress, mode: ParserMode) -> Progress
     ensures { result ≡ in_mode at mode }
 {
     let position = ParserPosition {
@@ -146,14 +145,14 @@ fn in_mode(at: Progress, mode: Mode) -> Progress
 
 /// Behind a moof of `len` bytes: its movie fragment is open, and no frame is ready.
 fn behind_moof(at: Progress, len: u64) -> Progress
-    ensures { result ≡ record (in_mode at (Mode.Within (record {
+    ensures { result ≡ record (in_mode at (ParserMode.Within (record {
       taken = 0;
       known = 0;
       end = 0;
       place = Place.AtBox len;
     }))) { first = 0; ready = 0 } }
 {
-    let next = in_mode(at, Mode::Within(new_fragment(len)));
+    let next = in_mode(at, ParserMode::Within(new_fragment(len)));
     Progress {
         first: 0,
         ready: 0,
@@ -163,13 +162,13 @@ fn behind_moof(at: Progress, len: u64) -> Progress
 
 /// The same place, where the next box of the open movie fragment stands at `place`.
 fn before_box(at: Progress, fragment: Fragment, place: u64) -> Progress
-    ensures { result ≡ in_mode at (Mode.Within (record fragment { place = Place.AtBox place })) }
+    ensures { result ≡ in_mode at (ParserMode.Within (record fragment { place = Place.AtBox place })) }
 {
     let fragment = Fragment {
         place: Place::AtBox(place),
         ..fragment
     };
-    in_mode(at, Mode::Within(fragment))
+    in_mode(at, ParserMode::Within(fragment))
 }
 
 /// One move of the parser by its next step.
@@ -180,21 +179,22 @@ fn act_on(
     tables: &mut Tables,
     input: &Chunks,
 ) -> Result<MoveResult, OutOfMemory>
-    requires consistent { IsConsistent at tables.old.slots.items tables.old.known.items (concat
-        input.now) }
+    requires consistent { IsConsistent at tables.old (concat input.now) }
     requires readable { IsLast last.now }
     requires going { at.position.failed ≡ false }
     requires active { IsActive at.position.mode }
-    ensures ok { IfOk result (IsMoveResult last.now at tables.old.slots.items tables.old.known.items
-        tables.new.slots.items tables.new.known.items (concat input.now)) }
-    ensures err { OnErr result (Keeps at.position.mode tables.old.slots.items tables.old.known.items
-        tables.new.slots.items tables.new.known.items) }
+    ensures ok { IfOk result (IsMoveResult last.now (with_tables at tables.old) tables.new (concat
+        input.now)) }
+    ensures err { OnErr result (Keeps at.position.mode tables.old tables.new) }
 {
     let open = fragment(at.position.mode);
     match next_step(last, at, tables, input) {
-        Step::Wait(want) => Ok(MoveResult::Rest(want)),
-        Step::Skip { to, len } => Ok(MoveResult::Go(in_mode(at, Mode::Skipping { to, left: len }))),
-        Step::ReadMoof(len) => {
+        BoxStep::Wait(want) => Ok(MoveResult::Rest(want)),
+        BoxStep::Skip { to, len } => Ok(MoveResult::Go(in_mode(
+            at,
+            ParserMode::Skipping { to, left: len },
+        ))),
+        BoxStep::ReadMoof(len) => {
             let Some(slots) = plan(alloc, last, at.from, len as usize, input)? else {
                 return Ok(MoveResult::Rest(NEVER));
             };
@@ -202,7 +202,7 @@ fn act_on(
             tables.known.clear();
             Ok(MoveResult::Go(behind_moof(at, len)))
         }
-        Step::EnterData { start, end } => {
+        BoxStep::EnterData { start, end } => {
             tables.known.truncate(open.known);
             tables.known.push(DataRange { start, end })?;
             let fragment = Fragment {
@@ -211,23 +211,23 @@ fn act_on(
                 place: Place::InData(end),
                 ..open
             };
-            Ok(MoveResult::Go(in_mode(at, Mode::Within(fragment))))
+            Ok(MoveResult::Go(in_mode(at, ParserMode::Within(fragment))))
         }
-        Step::NextBox(place) => Ok(MoveResult::Go(before_box(at, open, place))),
-        Step::GiveFrame(_) => {
+        BoxStep::NextBox(place) => Ok(MoveResult::Go(before_box(at, open, place))),
+        BoxStep::GiveFrame(_) => {
             let fragment = Fragment {
                 taken: open.taken + 1,
                 ..open
             };
-            let next = in_mode(at, Mode::Within(fragment));
+            let next = in_mode(at, ParserMode::Within(fragment));
             Ok(MoveResult::Go(Progress {
                 ready: at.ready + 1,
                 ..next
             }))
         }
-        Step::ReadInit(_) => Ok(MoveResult::Rest(NEVER)),
-        Step::EndSegment(_) => Ok(MoveResult::Rest(NEVER)),
-        Step::Fail(_, _) => Ok(MoveResult::Rest(NEVER)),
+        BoxStep::ReadInit(_) => Ok(MoveResult::Rest(NEVER)),
+        BoxStep::EndSegment(_) => Ok(MoveResult::Rest(NEVER)),
+        BoxStep::Fail(_, _) => Ok(MoveResult::Rest(NEVER)),
     }
 }
 
@@ -240,21 +240,19 @@ fn move_on(
     tables: &mut Tables,
     input: &Chunks,
 ) -> Result<MoveResult, OutOfMemory>
-    requires consistent { IsConsistent at tables.old.slots.items tables.old.known.items (concat
-        input.now) }
+    requires consistent { IsConsistent at tables.old (concat input.now) }
     requires readable { IsLast last.now }
-    ensures ok { IfOk result (IsMoveResult last.now at tables.old.slots.items tables.old.known.items
-        tables.new.slots.items tables.new.known.items (concat input.now)) }
-    ensures err { OnErr result (Keeps at.position.mode tables.old.slots.items tables.old.known.items
-        tables.new.slots.items tables.new.known.items) }
+    ensures ok { IfOk result (IsMoveResult last.now (with_tables at tables.old) tables.new (concat
+        input.now)) }
+    ensures err { OnErr result (Keeps at.position.mode tables.old tables.new) }
 {
     if at.position.failed {
         return Ok(MoveResult::Rest(NEVER));
     }
     match at.position.mode {
-        Mode::Skipping { to, left } => Ok(pass_over(at, to, left, input)),
-        Mode::Between(_) => act_on(alloc, last, at, tables, input),
-        Mode::Within(_) => act_on(alloc, last, at, tables, input),
+        ParserMode::Skipping { to, left } => Ok(pass_over(at, to, left, input)),
+        ParserMode::Between(_) => act_on(alloc, last, at, tables, input),
+        ParserMode::Within(_) => act_on(alloc, last, at, tables, input),
     }
 }
 
@@ -266,23 +264,19 @@ pub(crate) fn run_on(
     tables: &mut Tables,
     input: &Chunks,
 ) -> Result<Progress, OutOfMemory>
-    requires consistent { IsConsistent start tables.old.slots.items tables.old.known.items (concat
-        input.now) }
+    requires consistent { IsConsistent start tables.old (concat input.now) }
     requires readable { IsLast last.now }
-    ensures same { IfOk result (λ r. kept_of last.now r tables.new.slots.items
-        tables.new.known.items (concat input.now) ≡ runs_on (kept_of last.now start
-        tables.old.slots.items tables.old.known.items (concat input.now))) }
-    ensures consistent { IfOk result (λ r. IsConsistent r tables.new.slots.items
-        tables.new.known.items (concat input.now)) }
-    ensures since { IfOk result (λ r. Since start.position.mode r.position.mode
-        tables.old.slots.items tables.old.known.items tables.new.slots.items tables.new.known.items) }
+    ensures same { IfOk result (λ r. kept_of last.now r tables.new (concat input.now) ≡ runs_on
+        (kept_of last.now start tables.old (concat input.now))) }
+    ensures consistent { IfOk result (λ r. IsConsistent r tables.new (concat input.now)) }
+    ensures since { IfOk result (λ r. Since start.position.mode r.position.mode tables.old
+        tables.new) }
     ensures total { IfOk result (λ r. r.position.offset + (length (concat input.now) - r.from) ≡
         start.position.offset + (length (concat input.now) - start.from)) }
     ensures going { IfOk result (λ r. r.position.failed ≡ start.position.failed) }
-    ensures rests { IfOk result (λ r. Rests (state_of last.now r.position tables.new.slots.items
-        tables.new.known.items (drop r.from (concat input.now))) r.want) }
-    ensures err { OnErr result (Keeps start.position.mode tables.old.slots.items
-        tables.old.known.items tables.new.slots.items tables.new.known.items) }
+    ensures rests { IfOk result (λ r. Rests (state_of last.now r.position tables.new (drop r.from
+        (concat input.now))) r.want) }
+    ensures err { OnErr result (Keeps start.position.mode tables.old tables.new) }
 {
     let mut at = start;
     'moves: loop {

@@ -1,15 +1,14 @@
 ghost use Rattle.std.specs.Prelude.{◌≡◌, ℕ, ◌-◌, drop, ◌+◌, ◌≤◌, ◌<◌, ◌^◌, List, length, Option, IfOk, OnOk, OnErr};
 ghost use Rattle.std.specs.List.{concat};
 ghost use Rattle.mse_base.specs.declared.track.Presentation.{Presentation};
-ghost use Rattle.bmff_fragment.specs.declared.slot.Slot.{Slot};
 ghost use Rattle.input_chunks.specs.Pieces.{pieces_with, pieces_without_last, pieces_without_first};
-ghost use Rattle.segment_walk.specs.declared.kinds.DataRange.{DataRange};
-ghost use Rattle.segment_stream.specs.Kept.{IsConsistent, IsAtRest, IsEmptied, IsFoundWith, IsLast, Keeps, Rests, kept_of, state_of};
+ghost use Rattle.segment_stream.specs.declared.progress.Tables.{Tables};
+ghost use Rattle.segment_stream.specs.Kept.{IsConsistent, IsAtRest, IsEmptied, IsFoundWith, IsLast, Keeps, Rests, kept_of, state_of, with_tables};
 
 use crate::moves::{NEVER, run_on};
 use crate::progress::{Progress, Tables};
 use input_chunks::Chunks;
-use mse_base::{OutOfMemory, Presentation};
+use mse_base::{Bytes, OutOfMemory, Presentation};
 use std::alloc::Global;
 
 /// The place that lets go of all that is in the input.
@@ -39,29 +38,25 @@ pub(crate) fn offer_on(
     progress: Progress,
     tables: &mut Tables,
     input: &mut Chunks,
-    bytes: Vec<u8>,
+    bytes: Bytes,
 ) -> Result<Progress, OutOfMemory>
-    requires rest { IsAtRest last.now progress tables.old.slots.items tables.old.known.items (concat
-        input.old) }
+    requires rest { IsAtRest last.now progress tables.old (concat input.old) }
     requires emptied { IsEmptied progress (concat input.old) }
     requires readable { IsLast last.now }
-    requires room { progress.position.offset + (length (concat input.old) + length bytes.items) < 2
+    requires room { progress.position.offset + (length (concat input.old) + length bytes) < 2
         ^ 62 }
-    ensures found { IfOk result (λ r. IsFoundWith last.now (kept_of last.now progress
-        tables.new.slots.items tables.new.known.items (concat input.old)) r tables.new.slots.items
-        tables.new.known.items (concat input.new) bytes.items) }
+    ensures found { IfOk result (λ r. IsFoundWith last.now (kept_of last.now progress tables.new
+        (concat input.old)) (with_tables r tables.new) (concat input.new) bytes) }
     ensures emptied { IfOk result (λ r. IsEmptied r (drop r.from (concat input.new))) }
-    ensures pieces { OnOk result (input.new ≡ pieces_with bytes.items input.old) }
-    ensures back { OnOk result (pieces_without_last (length bytes.items) input.new ≡ input.old) }
+    ensures pieces { OnOk result (input.new ≡ pieces_with bytes input.old) }
+    ensures back { OnOk result (pieces_without_last (length bytes) input.new ≡ input.old) }
     ensures err { OnErr result (input.new ≡ input.old) }
-    ensures as_before { kept_of last.now progress tables.new.slots.items tables.new.known.items
-        (concat input.old) ≡ kept_of last.now progress tables.old.slots.items tables.old.known.items
-        (concat input.old) }
-    ensures rest { IsAtRest last.now progress tables.new.slots.items tables.new.known.items (concat
-        input.old) }
+    ensures as_before { kept_of last.now progress tables.new (concat input.old) ≡ kept_of last.now
+        progress tables.old (concat input.old) }
+    ensures rest { IsAtRest last.now progress tables.new (concat input.old) }
 {
     let len = bytes.len();
-    input.push_vec(bytes)?;
+    input.push_bytes(bytes)?;
     if progress.position.failed {
         return Ok(past_all(progress, input.len()));
     }
@@ -80,13 +75,18 @@ pub(crate) fn offer_on(
 /// Puts in place what was found. It takes no memory.
 pub(crate) fn accept_on(found: Progress, input: &mut Chunks) -> Progress
     requires { found.from ≤ length (concat input.old) }
-    ensures rest { (last : Option Presentation) (slots : List Slot) (known : List DataRange) →
-        IsConsistent found slots known (concat input.old) → Rests (state_of last found.position
-        slots known (drop found.from (concat input.old))) found.want → IsAtRest last result slots
-        known (concat input.new) }
-    ensures kept { (last : Option Presentation) (slots : List Slot) (known : List DataRange) →
-        kept_of last result slots known (concat input.new) ≡ kept_of last found slots known (concat
-        input.old) }
+    ensures rest { (last : Option Presentation) (tables : Tables) → IsConsistent found tables
+        (concat input.old) → Rests (state_of last found.position tables (drop found.from (concat
+        input.old))) found.want → IsAtRest last result tables (concat input.new) }
+    ensures kept { (last : Option Presentation) (tables : Tables) → kept_of last result tables
+        (concat input.new) ≡ kept_of last found tables (concat input.old) }
+    ensures progress { result ≡ record {
+      position = found.position;
+      from = 0;
+      first = found.first;
+      ready = found.ready;
+      want = found.want;
+    } }
     ensures position { result.position ≡ found.position }
     ensures ready { result.ready ≡ found.ready }
     ensures pieces { input.new ≡ pieces_without_first found.from input.old }

@@ -4,7 +4,7 @@ ghost use Rattle.mse_base.specs.declared.track.Presentation.{Presentation};
 ghost use Rattle.parser_loop.specs.Walk.{item_of};
 ghost use Rattle.segment_walk.specs.Moves.{State, segments, step_of};
 ghost use Rattle.segment_walk.specs.Ranges.{mode_of};
-ghost use Rattle.segment_walk.specs.declared.kinds.Step.TheVariants.{ReadInit, ReadMoof};
+ghost use Rattle.segment_walk.specs.declared.kinds.BoxStep.TheVariants.{ReadInit, ReadMoof};
 ghost use Rattle.segment_stream.specs.Kept.{IsConsistent, IsAtRest, HasPendingBytes, IsLast, IsActive, move_of_pending, kept_of, seen, skips, state_of};
 ghost use Rattle.parser_loop.specs.Items.{latest_after_any};
 
@@ -15,7 +15,7 @@ use bmff_fragment::{MoofError, Slot, read_moof};
 use bmff_init::{InitError, read_init};
 use input_chunks::Chunks;
 use mse_base::{Bytes, CodedFrame, OutOfMemory, Presentation};
-use segment_walk::{Mode, Step, StreamFault};
+use segment_walk::{BoxStep, ParserMode, StreamFault};
 use std::alloc::Global;
 
 /// The bytes from `start` up to `end`.
@@ -42,10 +42,9 @@ pub(crate) fn look_frame(
 ) -> Result<Next, OutOfMemory>
     requires ready { i < progress.now.ready }
     requires front { progress.now.from ≡ 0 }
-    requires consistent { IsConsistent progress.now tables.now.slots.items tables.now.known.items
-        (concat input.now) }
+    requires consistent { IsConsistent progress.now tables.now (concat input.now) }
     ensures item { (last : Option Presentation) → IfOk result (λ x. seen x ≡ slice_get (kept_of last
-        progress.now tables.now.slots.items tables.now.known.items (concat input.now)).items i) }
+        progress.now tables.now (concat input.now)).items i) }
     ensures last { (last : Option Presentation) → IfOk result (λ x. last ≡ latest_after_any last
         (seen x)) }
 {
@@ -74,16 +73,14 @@ fn pending_init(
     input: &Chunks,
     len: u64,
 ) -> Result<PendingItem, OutOfMemory>
-    requires rest { IsAtRest last.now progress.now tables.now.slots.items tables.now.known.items
-        (concat input.now) }
+    requires rest { IsAtRest last.now progress.now tables.now (concat input.now) }
     requires going { progress.now.position.failed ≡ false }
     requires active { IsActive progress.now.position.mode }
     requires step { ReadInit len ≡ step_of (is_some last.now) (concat input.now) (mode_of
         tables.now.slots.items tables.now.known.items progress.now.position.mode) }
     ensures value { IfOk result (λ f. segments.move (state_of last.now progress.now.position
-        tables.now.slots.items tables.now.known.items (concat input.now)) ≡ move_of_pending
-        (state_of last.now progress.now.position tables.now.slots.items tables.now.known.items
-        (concat input.now)) f) }
+        tables.now (concat input.now)) ≡ move_of_pending (state_of last.now progress.now.position
+        tables.now (concat input.now)) f) }
     ensures inside { IfOk result (HasPendingBytes (length (concat input.now))) }
 {
     let moov = input.copy(0, len as usize)?;
@@ -103,17 +100,15 @@ fn pending_moof(
     input: &Chunks,
     len: u64,
 ) -> Result<PendingItem, OutOfMemory>
-    requires rest { IsAtRest last.now progress.now tables.now.slots.items tables.now.known.items
-        (concat input.now) }
+    requires rest { IsAtRest last.now progress.now tables.now (concat input.now) }
     requires readable { IsLast last.now }
     requires going { progress.now.position.failed ≡ false }
     requires active { IsActive progress.now.position.mode }
     requires step { ReadMoof len ≡ step_of (is_some last.now) (concat input.now) (mode_of
         tables.now.slots.items tables.now.known.items progress.now.position.mode) }
     ensures value { IfOk result (λ f. segments.move (state_of last.now progress.now.position
-        tables.now.slots.items tables.now.known.items (concat input.now)) ≡ move_of_pending
-        (state_of last.now progress.now.position tables.now.slots.items tables.now.known.items
-        (concat input.now)) f) }
+        tables.now (concat input.now)) ≡ move_of_pending (state_of last.now progress.now.position
+        tables.now (concat input.now)) f) }
     ensures inside { IfOk result (HasPendingBytes (length (concat input.now))) }
 {
     let Some(with) = last else {
@@ -127,13 +122,13 @@ fn pending_moof(
     }
 }
 
-fn is_skipping(mode: Mode) -> bool
+fn is_skipping(mode: ParserMode) -> bool
     ensures { result ≡ skips mode }
 {
     match mode {
-        Mode::Between(_) => false,
-        Mode::Skipping { .. } => true,
-        Mode::Within(_) => false,
+        ParserMode::Between(_) => false,
+        ParserMode::Skipping { .. } => true,
+        ParserMode::Within(_) => false,
     }
 }
 
@@ -145,13 +140,11 @@ pub(crate) fn pending_item(
     tables: &Tables,
     input: &Chunks,
 ) -> Result<PendingItem, OutOfMemory>
-    requires rest { IsAtRest last.now progress.now tables.now.slots.items tables.now.known.items
-        (concat input.now) }
+    requires rest { IsAtRest last.now progress.now tables.now (concat input.now) }
     requires readable { IsLast last.now }
     ensures value { IfOk result (λ f. segments.move (state_of last.now progress.now.position
-        tables.now.slots.items tables.now.known.items (concat input.now)) ≡ move_of_pending
-        (state_of last.now progress.now.position tables.now.slots.items tables.now.known.items
-        (concat input.now)) f) }
+        tables.now (concat input.now)) ≡ move_of_pending (state_of last.now progress.now.position
+        tables.now (concat input.now)) f) }
     ensures inside { IfOk result (HasPendingBytes (length (concat input.now))) }
 {
     if progress.position.failed {
@@ -161,15 +154,15 @@ pub(crate) fn pending_item(
         return Ok(PendingItem::Dry);
     }
     match next_step(last, *progress, tables, input) {
-        Step::ReadInit(len) => pending_init(alloc, last, progress, tables, input, len),
-        Step::ReadMoof(len) => pending_moof(alloc, last, progress, tables, input, len),
-        Step::EndSegment(end) => Ok(PendingItem::End(end)),
-        Step::Fail(fault, at) => Ok(PendingItem::Fault(fault, at)),
-        Step::Wait(_) => Ok(PendingItem::Dry),
-        Step::Skip { .. } => Ok(PendingItem::Dry),
-        Step::EnterData { .. } => Ok(PendingItem::Dry),
-        Step::NextBox(_) => Ok(PendingItem::Dry),
-        Step::GiveFrame(_) => Ok(PendingItem::Dry),
+        BoxStep::ReadInit(len) => pending_init(alloc, last, progress, tables, input, len),
+        BoxStep::ReadMoof(len) => pending_moof(alloc, last, progress, tables, input, len),
+        BoxStep::EndSegment(end) => Ok(PendingItem::End(end)),
+        BoxStep::Fail(fault, at) => Ok(PendingItem::Fault(fault, at)),
+        BoxStep::Wait(_) => Ok(PendingItem::Dry),
+        BoxStep::Skip { .. } => Ok(PendingItem::Dry),
+        BoxStep::EnterData { .. } => Ok(PendingItem::Dry),
+        BoxStep::NextBox(_) => Ok(PendingItem::Dry),
+        BoxStep::GiveFrame(_) => Ok(PendingItem::Dry),
     }
 }
 

@@ -1,11 +1,11 @@
 use bmff_fragment::Slot;
 use mse_base::Presentation;
-use segment_walk::{DataRange, Mode, StreamFault};
+use segment_walk::{DataRange, ParserMode, StreamFault};
 
 /// A position of the parser: what it is doing, the offset in the string, and whether it met a fault.
 #[derive(Clone, Copy, Debug, PartialEq, Eq)]
 pub(crate) struct ParserPosition {
-    pub(crate) mode: Mode,
+    pub(crate) mode: ParserMode,
     pub(crate) offset: u64,
     pub(crate) failed: bool,
 }

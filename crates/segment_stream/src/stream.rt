@@ -17,8 +17,8 @@ use crate::offers::{accept_on, offer_on};
 use crate::pending::{look_frame, pending_item, shown};
 use crate::progress::{ParserPosition, Progress, Tables};
 use input_chunks::Chunks;
-use mse_base::{OutOfMemory, Phase, Presentation};
-use segment_walk::Mode;
+use mse_base::{Bytes, OutOfMemory, Phase, Presentation};
+use segment_walk::ParserMode;
 use std::alloc::Global;
 use std::marker::Model;
 
@@ -47,14 +47,14 @@ pub struct Stream {
 
 impl Model for Stream {
     ghost use Rattle.segment_stream.specs.Streams.{Streamed, streamed, IsStream};
+    ghost use Rattle.segment_stream.specs.Kept.{with_tables};
 
     ghost Value = { Streamed };
 
-    ghost view = { λ s. streamed s.last s.progress s.tables.slots.items s.tables.known.items s.input
-        s.fed s.offered };
+    ghost view = { λ s. streamed s.last (with_tables s.progress s.tables) s.input s.fed s.offered };
 
-    ghost invariant = { λ s. IsStream s.last s.progress s.tables.slots.items s.tables.known.items
-        s.input s.fed s.offered };
+    ghost invariant = { λ s. IsStream s.last (with_tables s.progress s.tables) s.input s.fed
+        s.offered };
 }
 
 /// The place before a string.
@@ -62,7 +62,7 @@ fn start() -> Progress
     ensures { result ≡ progress_at_start }
 {
     let position = ParserPosition {
-        mode: Mode::Between(Phase::Waiting),
+        mode: ParserMode::Between(Phase::Waiting),
         offset: 0,
         failed: false,
     };
@@ -85,14 +85,14 @@ fn restart(progress: &mut Progress, input: &mut Chunks)
     *progress = start();
 }
 
-fn phase_in(mode: Mode) -> Phase
+fn phase_in(mode: ParserMode) -> Phase
     ensures { (slots : List Slot) (known : List DataRange) → result ≡ phase_of (mode_of slots known
         mode) }
 {
     match mode {
-        Mode::Between(phase) => phase,
-        Mode::Skipping { to, .. } => to,
-        Mode::Within(_) => Phase::InMedia,
+        ParserMode::Between(phase) => phase,
+        ParserMode::Skipping { to, .. } => to,
+        ParserMode::Within(_) => Phase::InMedia,
     }
 }
 
@@ -146,20 +146,19 @@ impl Stream {
         }) }
         ensures err { OnErr result (self.new ≡ self.old) }
     {
-        let mut copy = Vec::new(self.alloc);
-        copy.extend_from_slice(bytes)?;
-        self.offer_vec(copy)
+        let copy = Bytes::copy_of(self.alloc, bytes)?;
+        self.offer_bytes(copy)
     }
 
-    /// As `offer` of the same bytes, whose memory the input takes over where they become a piece of their own.
-    pub fn offer_vec(&mut self, bytes: Vec<u8>) -> Result<(), OutOfMemory>
+    /// As `offer` of the same bytes, whose memory the input has where they become a piece of their own.
+    pub fn offer_bytes(&mut self, bytes: Bytes) -> Result<(), OutOfMemory>
         requires idle { self.old.offered ≡ None }
-        requires room { self.old.fed + length bytes.items < 2 ^ 62 }
+        requires room { self.old.fed + length bytes < 2 ^ 62 }
         ensures ok { OnOk result (self.new ≡ record {
           kept = self.old.kept;
           pieces = self.old.pieces;
           fed = self.old.fed;
-          offered = Some bytes.items;
+          offered = Some bytes;
         }) }
         ensures err { OnErr result (self.new ≡ self.old) }
     {
@@ -184,7 +183,8 @@ impl Stream {
         ensures last { self.new.kept.state.last ≡ self.old.kept.state.last }
         ensures pieces { IfSome self.old.offered (λ bytes. self.new.pieces ≡ last_bytes (length
             self.new.kept.state.rest) (pieces_with bytes self.old.pieces)) }
-        ensures fed { IfSome self.old.offered (λ bytes. self.new.fed ≡ self.old.fed + length bytes) }
+        ensures fed { IfSome self.old.offered
+            (λ bytes. self.new.fed ≡ self.old.fed + length bytes) }
         ensures idle { self.new.offered ≡ None }
     {
         let Some(offered) = self.offered else {
@@ -258,7 +258,8 @@ impl Stream {
         ensures item { (last : Option Presentation) (b : List ℕ) (n : ℕ) → Stands self.old.kept last
             b n → IfOk result (λ next. seen next ≡ slice_get (Items last b) n) }
         ensures stands { (last : Option Presentation) (b : List ℕ) (n : ℕ) → Stands self.old.kept
-            last b n → IfOk result (λ next. Stands self.new.kept last b (count_after n (seen next))) }
+            last b n → IfOk result (λ next. Stands self.new.kept last b
+            (count_after n (seen next))) }
         ensures last { IfOk result (λ next. self.new.kept.state.last ≡ latest_after_any
             self.old.kept.state.last (seen next)) }
         ensures pieces { OnOk result (self.new.pieces ≡ last_bytes (length self.new.kept.state.rest)

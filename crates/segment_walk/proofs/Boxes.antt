@@ -22,8 +22,8 @@ use Rattle.mse_base.specs.declared.frame.Phase.{Phase}
 use Rattle.segment_walk.specs.declared.kinds.Place.{Place}
 use Rattle.segment_walk.specs.declared.kinds.Place.TheVariants.{AtBox, InData}
 use Rattle.segment_walk.specs.declared.kinds.DataRange.{DataRange}
-use Rattle.segment_walk.specs.declared.kinds.Step.{Step}
-use Rattle.segment_walk.specs.declared.kinds.Step.TheVariants as step
+use Rattle.segment_walk.specs.declared.kinds.BoxStep.{BoxStep}
+use Rattle.segment_walk.specs.declared.kinds.BoxStep.TheVariants as step
 use Rattle.segment_walk.specs.Tables.{BoxUse, PassOver, ReadMovie, ReadFragment, box_use, box_type, size_fault, greatest_size}
 use Rattle.parser_loop.specs.Items.{InitItem, FrameItem, SegmentEnd, FaultItem}
 use Rattle.segment_walk.specs.Moves.{Open, Between, Skipping, Within, State, once, place_fault, judge_between, box_between, judge_within, box_within, place_step, lies_in, slot_step, step_of, fail, initialized, opened, act, frame_of, segments}
@@ -44,7 +44,7 @@ see s = record { phase = phase_of s.mode; latest = s.last; held = s.rest }
 abbrev its : State → SegmentParse
 its s = parse_from segments see s
 
-abbrev done : State → Step → SegmentParse
+abbrev done : State → BoxStep → SegmentParse
 done s st = parse_by see s its (act s st)
 
 -- ---- tests
@@ -70,7 +70,7 @@ leb-shift : (m x y : ℕ) → leb (m + x) (m + y) ≡ leb x y
 leb-shift m x y = leb-by x y (leb x y) refl m
 
 -- bytes that are awaited come in the string
-once-same : (b : List ℕ) (m len end : ℕ) (s : State) (st : Step) (items : SegmentParse) → m ≤ length b → end ≡ m + len → (end ≤ length b → items ≡ done s st) → parse_once_there b end (see s) items ≡ done s (once (length (drop m b)) len st)
+once-same : (b : List ℕ) (m len end : ℕ) (s : State) (st : BoxStep) (items : SegmentParse) → m ≤ length b → end ≡ m + len → (end ≤ length b → items ≡ done s st) → parse_once_there b end (see s) items ≡ done s (once (length (drop m b)) len st)
 once-same b m len end s st items l e f =
     elim (cases_lt (length b) end) as (λ _. parse_once_there b end (see s) items ≡ done s (once (length (drop m b)) len st)) [
       | inl h ↦ let k : length (drop m b) < len = omega (arith, length-drop m b) in missing b end (see s) items h ∙ sym (ap (done s) (once-short (length (drop m b)) len st k))
@@ -162,7 +162,7 @@ out-opened b n at start len last phase kind (Ok slots) i h =
 out-opened b n at start len last phase kind (Err f) i h = fail-items (going last (Between phase) at (drop at b)) (fault.Moof f) 0 at (omega arith)
 
 -- what the use of a box gives, and the step
-abbrev Used : List ℕ → ℕ → ℕ → ℕ → ℕ → Option Presentation → Phase → TopLevelBox → BoxUse → Step → Type 0
+abbrev Used : List ℕ → ℕ → ℕ → ℕ → ℕ → Option Presentation → Phase → TopLevelBox → BoxUse → BoxStep → Type 0
 Used b n at start len last phase kind usage st = parse_of_use (parse_of_boxes n b) b (view_at b last (NoFragment phase) at) (box_of kind at start len) usage ≡ done (going last (Between phase) at (drop at b)) st
 
 out-moov : (b : List ℕ) (n at start len : ℕ) (last : Option Presentation) (phase : Phase) (kind : TopLevelBox) → Here b n at len → Used b n at start len last phase kind ReadMovie (once (length (drop at b)) len (step.ReadInit len))
@@ -175,12 +175,12 @@ out-moof b n at start len p phase kind i =
     once-same b at len (at + len) (going (Some p) (Between phase) at (drop at b)) (step.ReadMoof len) _ i.begins refl
     (λ h. ap (λ moof. parse_of_moof (parse_of_boxes n b) (view_at b (Some p) (NoFragment phase) at) (box_of kind at start len) (plan_of p.tracks moof)) (sliced b at len) ∙ out-opened b n at start len (Some p) phase kind (plan_of p.tracks (take len (drop at b))) i h)
 
-if-same : (c d : Bool) (x y : SegmentParse) (s : State) (st t : Step) → c ≡ d → x ≡ done s st → y ≡ done s t → cond c x y ≡ done s (cond d st t)
+if-same : (c d : Bool) (x y : SegmentParse) (s : State) (st t : BoxStep) → c ≡ d → x ≡ done s st → y ≡ done s t → cond c x y ≡ done s (cond d st t)
 if-same c true x y s st t e p q = ap (λ c. cond c x y) e ∙ p
 if-same c false x y s st t e p q = ap (λ c. cond c x y) e ∙ q
 
 -- a box in its place
-out-large : (b : List ℕ) (n at start len : ℕ) (last : Option Presentation) (phase : Phase) (kind : TopLevelBox) (usage : BoxUse) (st : Step) → Used b n at start len last phase kind usage st → parse_outside (parse_of_boxes n b) b (view_at b last (NoFragment phase) at) (box_of kind at start len) (Ok usage) ≡ done (going last (Between phase) at (drop at b)) (cond (ltb (greatest_size kind) len) (step.Fail fault.TooLarge 0) st)
+out-large : (b : List ℕ) (n at start len : ℕ) (last : Option Presentation) (phase : Phase) (kind : TopLevelBox) (usage : BoxUse) (st : BoxStep) → Used b n at start len last phase kind usage st → parse_outside (parse_of_boxes n b) b (view_at b last (NoFragment phase) at) (box_of kind at start len) (Ok usage) ≡ done (going last (Between phase) at (drop at b)) (cond (ltb (greatest_size kind) len) (step.Fail fault.TooLarge 0) st)
 out-large b n at start len last phase kind usage st u =
     if-same (ltb (at + greatest_size kind) (at + len)) (ltb (greatest_size kind) len) _ _ (going last (Between phase) at (drop at b)) (step.Fail fault.TooLarge 0) st (ltb-shift at (greatest_size kind) len)
     (fail-items (going last (Between phase) at (drop at b)) fault.TooLarge 0 at (omega arith)) u
@@ -267,7 +267,7 @@ in-step : (last : Option Presentation) (o : Open) (m : ℕ) (rest : List ℕ) �
 unfolding step_of
 in-step last o m rest = parse-step segments see is_walk (going last (Within o) m rest)
 
-when-same : (c d : Bool) (x y : SegmentParse) (s : State) (st t : Step) → c ≡ d → (d ≡ true → x ≡ done s st) → (d ≡ false → y ≡ done s t) → cond c x y ≡ done s (cond d st t)
+when-same : (c d : Bool) (x y : SegmentParse) (s : State) (st t : BoxStep) → c ≡ d → (d ≡ true → x ≡ done s st) → (d ≡ false → y ≡ done s t) → cond c x y ≡ done s (cond d st t)
 when-same c true x y s st t e p q = ap (λ c. cond c x y) e ∙ p refl
 when-same c false x y s st t e p q = ap (λ c. cond c x y) e ∙ q refl
 
@@ -336,7 +336,7 @@ in-header b n last m slots left taken known end p (head.Whole kind begin len) ou
 slot-awaits : (rest : List ℕ) (known : List DataRange) (end p : ℕ) (slots left : List Slot) (taken : ℕ) → drop taken slots ≡ left → Awaits known end left → slot_step rest known end (AtBox p) (slice_get slots taken) ≡ box_within (length rest) p (header_of (drop p rest))
 slot-awaits rest known end p slots [] taken d a = ap (slot_step rest known end (AtBox p)) (get-none slots taken d)
 slot-awaits rest known end p slots (slot ∷ left) taken d a =
-    let to : Step = box_within (length rest) p (header_of (drop p rest)) in
+    let to : BoxStep = box_within (length rest) p (header_of (drop p rest)) in
     ap (slot_step rest known end (AtBox p)) (get-some slots taken slot left d)
     ∙ ap (λ c. cond c (once (length rest) slot.end (step.GiveFrame slot)) (cond (ltb slot.start end) (step.Fail fault.OutsideMdat slot.start) to)) a.0
     ∙ ap (λ c. cond c (step.Fail fault.OutsideMdat slot.start) to) a.1

@@ -8,10 +8,10 @@ use Rattle.bmff_fragment.specs.declared.slot.Slot.{Slot}
 use Rattle.bmff_fragment.specs.Plans.{plan_of}
 use Rattle.parser_loop.specs.Walk.{Move, items_from, state_at}
 use Rattle.mse_base.specs.declared.frame.Phase.{Phase}
-use Rattle.segment_walk.specs.declared.kinds.Step.{Step}
-use Rattle.segment_walk.specs.declared.kinds.Step.TheVariants as step
+use Rattle.segment_walk.specs.declared.kinds.BoxStep.{BoxStep}
+use Rattle.segment_walk.specs.declared.kinds.BoxStep.TheVariants as step
 use Rattle.segment_walk.specs.Tables.{SegmentItem}
-use Rattle.segment_walk.specs.Moves.{State, Mode, Between, Skipping, Within, initialized, opened, planned, act, step_of, pass_byte, mode_move, move_unless, segments}
+use Rattle.segment_walk.specs.Moves.{State, ParserMode, Between, Skipping, Within, initialized, opened, planned, act, step_of, pass_byte, mode_move, move_unless, segments}
 use Rattle.parser_loop.specs.Items.{latest_after_all}
 use Rattle.segment_walk.proofs.WalkLaws.{is_walk}
 use Rattle.parser_loop.specs.Parse.{Remembers}
@@ -32,7 +32,7 @@ last-planned : (s : State) (len : ℕ) (with : Option Presentation) → LastAfte
 last-planned s len None = refl
 last-planned s len (Some p) = last-opened s len (plan_of p.tracks (take len s.rest))
 
-last-act : (s : State) (st : Step) → LastAfter s (act s st)
+last-act : (s : State) (st : BoxStep) → LastAfter s (act s st)
 last-act s (step.Wait n) = tt
 last-act s (step.Skip to len) = refl
 last-act s (step.ReadInit len) = last-init s len (init_of (take len s.rest))
@@ -47,7 +47,7 @@ last-byte : (s : State) (to : Phase) (left : ℕ) (rest : List ℕ) → LastAfte
 last-byte s to left [] = tt
 last-byte s to left (x ∷ rest) = refl
 
-last-mode : (s : State) (m : Mode) → LastAfter s (mode_move s m)
+last-mode : (s : State) (m : ParserMode) → LastAfter s (mode_move s m)
 last-mode s (Between phase) = last-act s (step_of (is_some s.last) s.rest (Between phase))
 last-mode s (Skipping to zero) = refl
 last-mode s (Skipping to (suc left)) = last-byte s to left s.rest

@@ -19,11 +19,11 @@ use Rattle.mse_base.specs.declared.frame.Phase.{Phase}
 use Rattle.mse_base.specs.declared.frame.Phase.TheVariants.{Waiting, InInit, InMedia}
 use Rattle.segment_walk.specs.declared.kinds.Place.{Place}
 use Rattle.segment_walk.specs.declared.kinds.Place.TheVariants.{AtBox, InData}
-use Rattle.segment_walk.specs.declared.kinds.Step.{Step}
-use Rattle.segment_walk.specs.declared.kinds.Step.TheVariants as step
+use Rattle.segment_walk.specs.declared.kinds.BoxStep.{BoxStep}
+use Rattle.segment_walk.specs.declared.kinds.BoxStep.TheVariants as step
 use Rattle.segment_walk.specs.Tables.{SegmentItem, box_type, greatest_size}
 use Rattle.parser_loop.specs.Items.{InitItem, FrameItem, SegmentEnd, FaultItem, is_fault}
-use Rattle.segment_walk.specs.Moves.{Open, Mode, Between, Skipping, Within, State, once, place_fault, take_box, judge_between, box_between, judge_within, box_within, data_end, place_step, lies_in, slot_step, step_of, initialized, opened, planned, open_of, act, pass_byte, mode_move, move_unless, segments}
+use Rattle.segment_walk.specs.Moves.{Open, ParserMode, Between, Skipping, Within, State, once, place_fault, take_box, judge_between, box_between, judge_within, box_within, data_end, place_step, lies_in, slot_step, step_of, initialized, opened, planned, open_of, act, pass_byte, mode_move, move_unless, segments}
 use Rattle.segment_walk.specs.Strings.{start, walk_items, state_before}
 use Rattle.segment_walk.specs.Segments.{box_by, box_at}
 use Rattle.segment_walk.proofs.WalkLaws.{is_walk, HasSlot, Fits, good-step, going}
@@ -42,7 +42,7 @@ abbrev pub HasSuffix : List ℕ → State → Type 0
 HasSuffix b s = s.rest ≡ cond s.failed [] (drop s.offset b)
 
 -- the slots of the movie fragment that is open end behind their start
-abbrev HasOrder : Mode → Type 0
+abbrev HasOrder : ParserMode → Type 0
 HasOrder (Between phase) = Unit {0}
 HasOrder (Skipping to left) = Unit {0}
 HasOrder (Within o) = All IsOrdered o.slots
@@ -61,7 +61,7 @@ IsPlaced b (FaultItem f at) = Unit {0}
 
 -- ---- a presentation is read from a whole box
 
-abbrev Reads : Header → Step → Type 0
+abbrev Reads : Header → BoxStep → Type 0
 Reads h (step.Wait n) = Unit {0}
 Reads h (step.Skip to len) = Unit {0}
 Reads h (step.ReadInit len) = (b : List ℕ) (at : ℕ) → at + len ≤ length b → box_by b at h ≡ slice_range b at (at + len)
@@ -72,11 +72,11 @@ Reads h (step.GiveFrame slot) = Unit {0}
 Reads h (step.EndSegment end) = Unit {0}
 Reads h (step.Fail f at) = Unit {0}
 
-reads-if : (h : Header) (b : Bool) (x y : Step) → Reads h x → Reads h y → Reads h (cond b x y)
+reads-if : (h : Header) (b : Bool) (x y : BoxStep) → Reads h x → Reads h y → Reads h (cond b x y)
 reads-if h true x y p q = p
 reads-if h false x y p q = q
 
-reads-once : (h : Header) (n len : ℕ) (st : Step) → Reads h st → Reads h (once n len st)
+reads-once : (h : Header) (n len : ℕ) (st : BoxStep) → Reads h st → Reads h (once n len st)
 reads-once h n len st p = reads-if h (ltb n len) (step.Wait len) st tt p
 
 reads-take : (phase : Phase) (type : TopLevelBox) (n : ℕ) (kind : List ℕ) (start len : ℕ) → Reads (head.Whole kind start len) (take_box phase type n len)
@@ -133,7 +133,7 @@ reads-slot : (h : Header) (rest : List ℕ) (o : Open) (slot : Option Slot) → 
 reads-slot h rest o None = reads-place h rest true o.place
 reads-slot h rest o (Some slot) = reads-if h (lies_in o.known slot) _ _ (reads-once h (length rest) slot.end (step.GiveFrame slot) tt) (reads-if h (ltb slot.start o.end) _ _ tt (reads-place h rest false o.place))
 
-reads : (ready : Bool) (rest : List ℕ) (m : Mode) → Reads (header_of rest) (step_of ready rest m)
+reads : (ready : Bool) (rest : List ℕ) (m : ParserMode) → Reads (header_of rest) (step_of ready rest m)
 unfolding step_of
 reads ready rest (Between phase) = reads-between ready phase (length rest) (header_of rest)
 reads ready rest (Skipping to left) = tt
@@ -164,38 +164,38 @@ abbrev Stays : List ℕ → Move State SegmentItem → Type 0
 Stays b m = Keeps (IsFine b) (IsPlaced b) m
 
 -- the same place, in another mode or behind a fault
-abbrev at_place : Option Presentation → Mode → ℕ → List ℕ → Bool → State
+abbrev at_place : Option Presentation → ParserMode → ℕ → List ℕ → Bool → State
 at_place last m offset rest failed = record { last = last; mode = m; offset = offset; rest = rest; failed = failed }
 
-fine : (b : List ℕ) (last : Option Presentation) (m : Mode) (offset : ℕ) (rest : List ℕ) (failed : Bool) → rest ≡ cond failed [] (drop offset b) → offset ≤ length b → HasOrder m → IsFine b (at_place last m offset rest failed)
+fine : (b : List ℕ) (last : Option Presentation) (m : ParserMode) (offset : ℕ) (rest : List ℕ) (failed : Bool) → rest ≡ cond failed [] (drop offset b) → offset ≤ length b → HasOrder m → IsFine b (at_place last m offset rest failed)
 fine b last m offset rest failed e o g = record { suffix = e; inside = o; order = g }
 
-stays-init : (b : List ℕ) (last : Option Presentation) (m : Mode) (offset : ℕ) (rest : List ℕ) (len : ℕ) (r : Result Presentation InitFault) → IsFine b (going last m offset rest) → Reads (header_of rest) (step.ReadInit len) → 8 ≤ len → len ≤ length rest → init_of (take len rest) ≡ r → Stays b (initialized (going last m offset rest) len r)
+stays-init : (b : List ℕ) (last : Option Presentation) (m : ParserMode) (offset : ℕ) (rest : List ℕ) (len : ℕ) (r : Result Presentation InitFault) → IsFine b (going last m offset rest) → Reads (header_of rest) (step.ReadInit len) → 8 ≤ len → len ≤ length rest → init_of (take len rest) ≡ r → Stays b (initialized (going last m offset rest) len r)
 stays-init b last m offset rest len (Ok p) e h n k q =
     let whole : offset + len ≤ length b = behind-there b rest offset len e.suffix e.inside k in
     let box : box_at b offset ≡ take len rest = ap (λ xs. box_by b offset (header_of xs)) (sym e.suffix) ∙ h b offset whole ∙ sliced b offset len ∙ ap (take len) (sym e.suffix) in
     (ap init_of box ∙ q, fine b (Some p) (Between Waiting) (offset + len) (drop len rest) false (ap (drop len) e.suffix ∙ drop-drop len offset b) whole tt)
 stays-init b last m offset rest len (Err f) e h n k q = (tt, fine b last m offset [] true refl e.inside e.order)
 
-stays-opened : (b : List ℕ) (last : Option Presentation) (m : Mode) (offset : ℕ) (rest : List ℕ) (len : ℕ) (r : Result (List Slot) MoofFault) → IsFine b (going last m offset rest) → ((slots : List Slot) → r ≡ Ok slots → All IsOrdered slots) → Stays b (opened (going last m offset rest) len r)
+stays-opened : (b : List ℕ) (last : Option Presentation) (m : ParserMode) (offset : ℕ) (rest : List ℕ) (len : ℕ) (r : Result (List Slot) MoofFault) → IsFine b (going last m offset rest) → ((slots : List Slot) → r ≡ Ok slots → All IsOrdered slots) → Stays b (opened (going last m offset rest) len r)
 stays-opened b last m offset rest len (Ok slots) e h = record { suffix = e.suffix; inside = e.inside; order = h slots refl }
 stays-opened b last m offset rest len (Err f) e h = (tt, fine b last m offset [] true refl e.inside e.order)
 
-stays-planned : (b : List ℕ) (last with : Option Presentation) (m : Mode) (offset : ℕ) (rest : List ℕ) (len : ℕ) → IsFine b (going last m offset rest) → Stays b (planned (going last m offset rest) len with)
+stays-planned : (b : List ℕ) (last with : Option Presentation) (m : ParserMode) (offset : ℕ) (rest : List ℕ) (len : ℕ) → IsFine b (going last m offset rest) → Stays b (planned (going last m offset rest) len with)
 stays-planned b last None m offset rest len e = (tt, fine b last m offset [] true refl e.inside e.order)
 stays-planned b last (Some p) m offset rest len e = stays-opened b last m offset rest len (plan_of p.tracks (take len rest)) e (plan-ordered p.tracks (take len rest))
 
-order-open : (m : Mode) → HasOrder m → All IsOrdered (open_of m).slots
+order-open : (m : ParserMode) → HasOrder m → All IsOrdered (open_of m).slots
 order-open (Between phase) g = All-nil IsOrdered
 order-open (Skipping to left) g = All-nil IsOrdered
 order-open (Within o) g = g
 
-slot-order : (m : Mode) (slot : Slot) → HasOrder m → HasSlot m slot → slot.start ≤ slot.end
+slot-order : (m : ParserMode) (slot : Slot) → HasOrder m → HasSlot m slot → slot.start ≤ slot.end
 slot-order (Between phase) slot g f = absurd f
 slot-order (Skipping to left) slot g f = absurd f
 slot-order (Within o) slot g f = subst IsOrdered (get_or_from_slice_get o.slots o.taken slot slot f) (g o.taken slot (slice_get_within o.slots o.taken slot f))
 
-stays-act : (b : List ℕ) (last : Option Presentation) (m : Mode) (offset : ℕ) (rest : List ℕ) (st : Step) → IsFine b (going last m offset rest) → Reads (header_of rest) st → Fits m (length rest) st → Stays b (act (going last m offset rest) st)
+stays-act : (b : List ℕ) (last : Option Presentation) (m : ParserMode) (offset : ℕ) (rest : List ℕ) (st : BoxStep) → IsFine b (going last m offset rest) → Reads (header_of rest) st → Fits m (length rest) st → Stays b (act (going last m offset rest) st)
 stays-act b last m offset rest (step.Wait n) e h f = tt
 stays-act b last m offset rest (step.Skip to len) e h f = record { suffix = e.suffix; inside = e.inside; order = tt }
 stays-act b last m offset rest (step.ReadInit len) e h f = stays-init b last m offset rest len (init_of (take len rest)) e h f.1 f.2 refl
@@ -206,17 +206,17 @@ stays-act b last m offset rest (step.GiveFrame slot) e h f = ((own-slice b rest 
 stays-act b last m offset rest (step.EndSegment end) e h f = (tt, fine b last (Between Waiting) (offset + end) (drop end rest) false (ap (drop end) e.suffix ∙ drop-drop end offset b) (behind-there b rest offset end e.suffix e.inside f.1) tt)
 stays-act b last m offset rest (step.Fail k at) e h f = (tt, fine b last m offset [] true refl e.inside e.order)
 
-stays-byte : (b : List ℕ) (last : Option Presentation) (m : Mode) (offset : ℕ) (to : Phase) (left : ℕ) (all rest : List ℕ) → rest ≡ drop offset b → offset ≤ length b → Stays b (pass_byte (going last m offset all) to left rest)
+stays-byte : (b : List ℕ) (last : Option Presentation) (m : ParserMode) (offset : ℕ) (to : Phase) (left : ℕ) (all rest : List ℕ) → rest ≡ drop offset b → offset ≤ length b → Stays b (pass_byte (going last m offset all) to left rest)
 stays-byte b last m offset to left all [] e o = tt
 stays-byte b last m offset to left all (x ∷ rest) e o = fine b last (Skipping to left) (offset + 1) rest false (ap (drop 1) e ∙ drop-drop 1 offset b) (behind-there b (x ∷ rest) offset 1 e o (omega arith)) tt
 
-stays-mode : (b : List ℕ) (last : Option Presentation) (m : Mode) (offset : ℕ) (rest : List ℕ) → IsFine b (going last m offset rest) → Stays b (mode_move (going last m offset rest) m)
+stays-mode : (b : List ℕ) (last : Option Presentation) (m : ParserMode) (offset : ℕ) (rest : List ℕ) → IsFine b (going last m offset rest) → Stays b (mode_move (going last m offset rest) m)
 stays-mode b last (Between phase) offset rest e = stays-act b last (Between phase) offset rest (step_of (is_some last) rest (Between phase)) e (reads (is_some last) rest (Between phase)) (good-step (is_some last) rest [] (Between phase)).0
 stays-mode b last (Skipping to zero) offset rest e = record { suffix = e.suffix; inside = e.inside; order = tt }
 stays-mode b last (Skipping to (suc left)) offset rest e = stays-byte b last (Skipping to (suc left)) offset to left rest rest e.suffix e.inside
 stays-mode b last (Within o) offset rest e = stays-act b last (Within o) offset rest (step_of (is_some last) rest (Within o)) e (reads (is_some last) rest (Within o)) (good-step (is_some last) rest [] (Within o)).0
 
-stays-unless : (b : List ℕ) (last : Option Presentation) (m : Mode) (offset : ℕ) (rest : List ℕ) (failed : Bool) → IsFine b (at_place last m offset rest failed) → Stays b (move_unless (at_place last m offset rest failed) failed)
+stays-unless : (b : List ℕ) (last : Option Presentation) (m : ParserMode) (offset : ℕ) (rest : List ℕ) (failed : Bool) → IsFine b (at_place last m offset rest failed) → Stays b (move_unless (at_place last m offset rest failed) failed)
 stays-unless b last m offset rest true e = tt
 stays-unless b last m offset rest false e = stays-mode b last m offset rest e
 
@@ -267,7 +267,7 @@ halts-planned : (s : State) (len : ℕ) (with : Option Presentation) → Halting
 halts-planned s len None = λ e. refl
 halts-planned s len (Some p) = halts-opened s len (plan_of p.tracks (take len s.rest))
 
-halts-act : (s : State) (st : Step) → Halting (act s st)
+halts-act : (s : State) (st : BoxStep) → Halting (act s st)
 halts-act s (step.Wait n) = tt
 halts-act s (step.Skip to len) = tt
 halts-act s (step.ReadInit len) = halts-init s len (init_of (take len s.rest))
@@ -282,7 +282,7 @@ halts-byte : (s : State) (to : Phase) (left : ℕ) (rest : List ℕ) → Halting
 halts-byte s to left [] = tt
 halts-byte s to left (x ∷ rest) = tt
 
-halts-mode : (s : State) (m : Mode) → Halting (mode_move s m)
+halts-mode : (s : State) (m : ParserMode) → Halting (mode_move s m)
 halts-mode s (Between phase) = halts-act s (step_of (is_some s.last) s.rest (Between phase))
 halts-mode s (Skipping to zero) = tt
 halts-mode s (Skipping to (suc left)) = halts-byte s to left s.rest

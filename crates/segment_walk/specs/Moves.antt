@@ -23,8 +23,8 @@ use Rattle.mse_base.specs.declared.frame.Phase.TheVariants.{Waiting, InInit, InM
 use Rattle.segment_walk.specs.declared.kinds.Place.{Place}
 use Rattle.segment_walk.specs.declared.kinds.Place.TheVariants.{AtBox, InData}
 use Rattle.segment_walk.specs.declared.kinds.DataRange.{DataRange}
-use Rattle.segment_walk.specs.declared.kinds.Step.{Step}
-use Rattle.segment_walk.specs.declared.kinds.Step.TheVariants as step
+use Rattle.segment_walk.specs.declared.kinds.BoxStep.{BoxStep}
+use Rattle.segment_walk.specs.declared.kinds.BoxStep.TheVariants as step
 use Rattle.segment_walk.specs.Tables.{SegmentItem, box_type, size_fault, greatest_size}
 
 -- An open movie fragment: the slots of its samples and how many of them were taken, the payloads of the mdats that
@@ -39,16 +39,16 @@ pub record Open : Type 0 where
 
 -- Before a top-level box; in a box that is passed over, with the number of bytes to its end and the append state
 -- behind its header; in a movie fragment.
-pub data Mode : Type 0 where
-  Between : Phase → Mode
-  Skipping : Phase → ℕ → Mode
-  Within : Open → Mode
+pub data ParserMode : Type 0 where
+  Between : Phase → ParserMode
+  Skipping : Phase → ℕ → ParserMode
+  Within : Open → ParserMode
 
 -- The state of the walk: the presentation of the last initialization segment, the bytes of the string from `offset`
 -- on, which in a movie fragment is the first byte of its moof, and whether a fault was met.
 pub record State : Type 0 where
   pub last : Option Presentation
-  pub mode : Mode
+  pub mode : ParserMode
   pub offset : ℕ
   pub rest : List ℕ
   pub failed : Bool
@@ -56,7 +56,7 @@ pub record State : Type 0 where
 -- ---- what comes next, by the bytes that are there
 
 -- once there are `len` bytes
-abbrev pub once : ℕ → ℕ → Step → Step
+abbrev pub once : ℕ → ℕ → BoxStep → BoxStep
 once n len st = if nat_lt n len then step.Wait len else st
 
 -- a box that is out of place where no movie fragment is open; `ready` says that an initialization segment came
@@ -70,7 +70,7 @@ place_fault ready phase kind = None
 
 -- A box in its place. `ftyp` begins an initialization segment and `styp` a media segment; `moov` and `moof` are read
 -- once they are whole; all others are passed over.
-abbrev pub take_box : Phase → TopLevelBox → ℕ → ℕ → Step
+abbrev pub take_box : Phase → TopLevelBox → ℕ → ℕ → BoxStep
 take_box Waiting FileType n len = step.Skip InInit len
 take_box InMedia FileType n len = step.Skip InInit len
 take_box Waiting SegmentType n len = step.Skip InMedia len
@@ -78,14 +78,14 @@ take_box InInit Movie n len = once n len (step.ReadInit len)
 take_box phase MovieFragment n len = once n len (step.ReadMoof len)
 take_box phase kind n len = step.Skip phase len
 
-abbrev pub judge_between : Phase → TopLevelBox → ℕ → ℕ → Option StreamFault → Step
+abbrev pub judge_between : Phase → TopLevelBox → ℕ → ℕ → Option StreamFault → BoxStep
 judge_between phase kind n len (Some f) = step.Fail f 0
 judge_between phase kind n len None =
     if nat_lt (greatest_size kind) len then step.Fail fault.TooLarge 0
     else take_box phase kind n len
 
 -- a box by its header, of which and behind which n bytes are there
-abbrev pub box_between : Bool → Phase → ℕ → Header → Step
+abbrev pub box_between : Bool → Phase → ℕ → Header → BoxStep
 box_between ready phase n head.Short = step.Wait 0
 box_between ready phase n (head.Bad f) = step.Fail (size_fault f) 0
 box_between ready phase n (head.Whole kind start len) =
@@ -93,7 +93,7 @@ box_between ready phase n (head.Whole kind start len) =
 
 -- A box at a place of a movie fragment. No other segment may begin. The payload of an mdat is known once its header
 -- is there; all others are passed over.
-abbrev pub judge_within : ℕ → ℕ → TopLevelBox → ℕ → ℕ → Step
+abbrev pub judge_within : ℕ → ℕ → TopLevelBox → ℕ → ℕ → BoxStep
 judge_within n at FileType start len = step.Fail fault.InSegment at
 judge_within n at SegmentType start len = step.Fail fault.InSegment at
 judge_within n at Movie start len = step.Fail fault.InSegment at
@@ -105,17 +105,17 @@ judge_within n at Other start len =
     if nat_lt (2 ^ 27) (at + len) then step.Fail fault.TooLarge at
     else once n (at + len) (step.NextBox (at + len))
 
-abbrev pub box_within : ℕ → ℕ → Header → Step
+abbrev pub box_within : ℕ → ℕ → Header → BoxStep
 box_within n at head.Short = step.Wait 0
 box_within n at (head.Bad f) = step.Fail (size_fault f) at
 box_within n at (head.Whole kind start len) = judge_within n at (box_type kind) start len
 
 -- at the end of an mdat: the media segment ends there if no slot is left
-abbrev pub data_end : Bool → ℕ → Step
+abbrev pub data_end : Bool → ℕ → BoxStep
 data_end true end = step.EndSegment end
 data_end false end = step.NextBox end
 
-abbrev pub place_step : List ℕ → Bool → Place → Step
+abbrev pub place_step : List ℕ → Bool → Place → BoxStep
 place_step rest done (AtBox at) = box_within (length rest) at (header_of (drop at rest))
 place_step rest done (InData end) = once (length rest) end (data_end done end)
 
@@ -126,14 +126,14 @@ lies_in (k ∷ ks) s = (nat_le k.start s.start && nat_le s.end k.end) || lies_in
 
 -- The next slot comes before the next box: its frame is given once its bytes are there. A slot that lies in no mdat
 -- up to the last, and begins before the end of that one, will never lie in one.
-abbrev pub slot_step : List ℕ → List DataRange → ℕ → Place → Option Slot → Step
+abbrev pub slot_step : List ℕ → List DataRange → ℕ → Place → Option Slot → BoxStep
 slot_step rest known end place None = place_step rest true place
 slot_step rest known end place (Some slot) =
     if lies_in known slot then once (length rest) slot.end (step.GiveFrame slot)
     else (if nat_lt slot.start end then step.Fail fault.OutsideMdat slot.start
     else place_step rest false place)
 
-unfoldable pub step_of : Bool → List ℕ → Mode → Step
+unfoldable pub step_of : Bool → List ℕ → ParserMode → BoxStep
 step_of ready rest (Between phase) = box_between ready phase (length rest) (header_of rest)
 step_of ready rest (Skipping to left) = step.Wait 0
 step_of ready rest (Within o) = slot_step rest o.known o.end o.place (slice_get o.slots o.taken)
@@ -156,7 +156,7 @@ behind s last n = record {
   failed = false;
 }
 
-abbrev pub into : State → Mode → State
+abbrev pub into : State → ParserMode → State
 into s mode = record {
   last = s.last;
   mode = mode;
@@ -170,7 +170,7 @@ initialized s len (Ok p) = Give (InitItem p s.offset) (behind s (Some p) len)
 initialized s len (Err f) = fail s (fault.Init f) 0
 
 -- a movie fragment whose moof has `len` bytes
-abbrev pub opening : List Slot → ℕ → Mode
+abbrev pub opening : List Slot → ℕ → ParserMode
 opening slots len =
     Within (record { slots = slots; taken = 0; known = []; end = 0; place = AtBox len })
 
@@ -183,12 +183,12 @@ planned s len None = fail s fault.NoInit 0
 planned s len (Some p) = opened s len (plan_of p.tracks (take len s.rest))
 
 -- the movie fragment that is open, or an empty one
-abbrev pub open_of : Mode → Open
+abbrev pub open_of : ParserMode → Open
 open_of (Between phase) = record { slots = []; taken = 0; known = []; end = 0; place = AtBox 0 }
 open_of (Skipping to left) = record { slots = []; taken = 0; known = []; end = 0; place = AtBox 0 }
 open_of (Within o) = o
 
-abbrev pub in_data : Open → ℕ → ℕ → Mode
+abbrev pub in_data : Open → ℕ → ℕ → ParserMode
 in_data o start end =
     Within
     (record {
@@ -199,12 +199,12 @@ in_data o start end =
       place = InData end;
     })
 
-abbrev pub at_box : Open → ℕ → Mode
+abbrev pub at_box : Open → ℕ → ParserMode
 at_box o at =
     Within
     (record { slots = o.slots; taken = o.taken; known = o.known; end = o.end; place = AtBox at })
 
-abbrev pub one_taken : Open → Mode
+abbrev pub one_taken : Open → ParserMode
 one_taken o =
     Within
     (record { slots = o.slots; taken = o.taken + 1; known = o.known; end = o.end; place = o.place })
@@ -223,7 +223,7 @@ coded_frame rest slot = record {
 abbrev pub frame_of : List ℕ → ℕ → Slot → SegmentItem
 frame_of rest offset slot = FrameItem (coded_frame rest slot) (offset + slot.start)
 
-abbrev pub act : State → Step → Move State SegmentItem
+abbrev pub act : State → BoxStep → Move State SegmentItem
 act s (step.Wait n) = Stop
 act s (step.Skip to len) = Pass (into s (Skipping to len))
 act s (step.ReadInit len) = initialized s len (init_of (take len s.rest))
@@ -243,7 +243,7 @@ pass_byte s to left (x ∷ rest) =
     (record
     { last = s.last; mode = Skipping to left; offset = s.offset + 1; rest = rest; failed = false })
 
-abbrev pub mode_move : State → Mode → Move State SegmentItem
+abbrev pub mode_move : State → ParserMode → Move State SegmentItem
 mode_move s (Between phase) = act s (step_of (is_some s.last) s.rest (Between phase))
 mode_move s (Skipping to zero) = Pass (into s (Between to))
 mode_move s (Skipping to (suc left)) = pass_byte s to left s.rest
@@ -265,7 +265,7 @@ place_size (InData end) = 2
 
 -- What each move lowers: the bytes that are not walked over, each of which stands for more moves than a movie
 -- fragment has slots, which are at most 2^20.
-abbrev pub size_by : ℕ → Mode → ℕ
+abbrev pub size_by : ℕ → ParserMode → ℕ
 size_by n (Between phase) = 1048580 * n + 1
 size_by n (Skipping to zero) = 1048580 * n + 2
 size_by n (Skipping to (suc left)) = 1048580 * n

@@ -3,8 +3,8 @@ use Rattle.std.specs.Prelude.{List, take}
 use Rattle.std.specs.List.Sorted.{IsNonDecreasingBy}
 use Rattle.segment_walk.specs.declared.kinds.DataRange.{DataRange}
 use Rattle.segment_walk.specs.declared.kinds.Fragment.{Fragment}
-use Rattle.segment_walk.specs.declared.kinds.Mode as code
-use Rattle.segment_walk.specs.declared.kinds.Mode.TheVariants as codes
+use Rattle.segment_walk.specs.declared.kinds.ParserMode as code
+use Rattle.segment_walk.specs.declared.kinds.ParserMode.TheVariants as codes
 use Rattle.segment_walk.specs.Moves.{Open, open_of, Between, Skipping, Within}
 use Rattle.segment_walk.specs.Moves as walk
 use Rattle.bmff_fragment.specs.declared.slot.Slot.{Slot}
@@ -15,7 +15,7 @@ pub record IsAscending (ks : List DataRange) : Type 0 where
   pub ends : IsNonDecreasingBy (λ k. k.end) ks
 
 -- the data ranges that a place of the walk sees come in order
-abbrev pub SeesAscending : code.Mode → List DataRange → Type 0
+abbrev pub SeesAscending : code.ParserMode → List DataRange → Type 0
 SeesAscending (codes.Between phase) known = Unit {0}
 SeesAscending (codes.Skipping to left) known = Unit {0}
 SeesAscending (codes.Within f) known = IsAscending (take f.known known)
@@ -30,7 +30,7 @@ open_at slots known f = record {
   place = f.place;
 }
 
-abbrev pub mode_of : List Slot → List DataRange → code.Mode → walk.Mode
+abbrev pub mode_of : List Slot → List DataRange → code.ParserMode → walk.ParserMode
 mode_of slots known (codes.Between phase) = Between phase
 mode_of slots known (codes.Skipping to left) = Skipping to left
 mode_of slots known (codes.Within f) = Within (open_at slots known f)

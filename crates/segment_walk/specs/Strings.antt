@@ -6,7 +6,7 @@ use Rattle.mse_base.specs.declared.frame.Phase.TheVariants.{Waiting, InMedia}
 use Rattle.mse_base.specs.declared.track.Presentation.{Presentation}
 use Rattle.parser_loop.specs.Walk.{items_from, state_at, leading}
 use Rattle.segment_walk.specs.Tables.{SegmentItem}
-use Rattle.segment_walk.specs.Moves.{Mode, Between, Skipping, Within, State, segments}
+use Rattle.segment_walk.specs.Moves.{ParserMode, Between, Skipping, Within, State, segments}
 
 -- the walk before the first byte of a string
 abbrev pub start : Option Presentation → List ℕ → State
@@ -22,7 +22,7 @@ state_before last b n = state_at segments n (start last b)
 
 -- Where the segment parser loop is (Media Source Extensions, append state). A box that is passed over counts from
 -- its header on.
-abbrev pub phase_of : Mode → Phase
+abbrev pub phase_of : ParserMode → Phase
 phase_of (Between phase) = phase
 phase_of (Skipping to left) = to
 phase_of (Within o) = InMedia

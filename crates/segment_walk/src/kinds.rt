@@ -79,7 +79,7 @@ pub struct Fragment {
 
 /// What the parser is doing.
 #[derive(Clone, Copy, Debug, PartialEq, Eq)]
-pub enum Mode {
+pub enum ParserMode {
     /// It stands before a top-level box, and no movie fragment is open in this append state.
     Between(Phase),
     /// It passes over the bytes of a box that are left; the append state counts from the header on.
@@ -90,7 +90,7 @@ pub enum Mode {
 
 /// What the parser does next.
 #[derive(Clone, Copy, Debug, PartialEq, Eq)]
-pub enum Step {
+pub enum BoxStep {
     /// It waits; below so many bytes there is nothing to do.
     Wait(u64),
     /// It passes over a box of so many bytes.

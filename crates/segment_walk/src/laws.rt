@@ -57,5 +57,6 @@ pub fn place_law()
 
 /// The bytes that are held before an item are the end of the string from an offset on.
 pub fn held_law()
-    ensures { (last : Option Presentation) (b : List ℕ) (n : ℕ) → IsSuffix (held_before last b n) b }
+    ensures { (last : Option Presentation) (b : List ℕ) (n : ℕ) →
+        IsSuffix (held_before last b n) b }
 {}

@@ -13,6 +13,6 @@ mod next_step;
 mod search;
 
 pub use example::example_law;
-pub use kinds::{DataRange, Fragment, Mode, Place, Step, StreamFault, TopLevelBox};
+pub use kinds::{BoxStep, DataRange, Fragment, ParserMode, Place, StreamFault, TopLevelBox};
 pub use laws::{boxes_law, held_law, latest_law, place_law, prefix_law};
 pub use next_step::step;

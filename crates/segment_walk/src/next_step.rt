@@ -6,7 +6,7 @@ ghost use Rattle.segment_walk.specs.Moves.{place_fault as fault_at, judge_betwee
 ghost use Rattle.segment_walk.specs.Ranges.{mode_of, IsAscending, SeesAscending};
 ghost use Rattle.segment_walk.specs.Bounds.{IsHead, is_segment_start};
 
-use crate::kinds::{DataRange, Mode, Place, Step, StreamFault, TopLevelBox};
+use crate::kinds::{BoxStep, DataRange, ParserMode, Place, StreamFault, TopLevelBox};
 use crate::search::lies_in;
 use bmff_boxes::{HeadFault, Header, header};
 use bmff_fragment::Slot;
@@ -79,49 +79,49 @@ fn greatest_size(kind: TopLevelBox) -> u64
 }
 
 /// What a box does where no movie fragment is open and `there` bytes of it and of what follows are there.
-fn take_box(phase: Phase, kind: TopLevelBox, there: u64, len: u64) -> Step
+fn take_box(phase: Phase, kind: TopLevelBox, there: u64, len: u64) -> BoxStep
     ensures { result ≡ taken_by phase kind there len }
 {
     match (phase, kind) {
         (Phase::InInit, TopLevelBox::Movie) => if there < len {
-            Step::Wait(len)
+            BoxStep::Wait(len)
         } else {
-            Step::ReadInit(len)
+            BoxStep::ReadInit(len)
         },
         (_, TopLevelBox::MovieFragment) => if there < len {
-            Step::Wait(len)
+            BoxStep::Wait(len)
         } else {
-            Step::ReadMoof(len)
+            BoxStep::ReadMoof(len)
         },
-        (Phase::Waiting, TopLevelBox::FileType) => Step::Skip {
+        (Phase::Waiting, TopLevelBox::FileType) => BoxStep::Skip {
             to: Phase::InInit,
             len,
         },
-        (Phase::InMedia, TopLevelBox::FileType) => Step::Skip {
+        (Phase::InMedia, TopLevelBox::FileType) => BoxStep::Skip {
             to: Phase::InInit,
             len,
         },
-        (Phase::Waiting, TopLevelBox::SegmentType) => Step::Skip {
+        (Phase::Waiting, TopLevelBox::SegmentType) => BoxStep::Skip {
             to: Phase::InMedia,
             len,
         },
-        _ => Step::Skip { to: phase, len },
+        _ => BoxStep::Skip { to: phase, len },
     }
 }
 
-fn box_between(ready: bool, phase: Phase, there: u64, front: Header) -> Step
+fn box_between(ready: bool, phase: Phase, there: u64, front: Header) -> BoxStep
     ensures { result ≡ between_step ready phase there front }
 {
     match front {
-        Header::Short => Step::Wait(0),
-        Header::Bad(fault) => Step::Fail(size_fault(fault), 0),
+        Header::Short => BoxStep::Wait(0),
+        Header::Bad(fault) => BoxStep::Fail(size_fault(fault), 0),
         Header::Whole { kind, len, .. } => {
             let kind = box_type(kind);
             if let Some(fault) = place_fault(ready, phase, kind) {
-                return Step::Fail(fault, 0);
+                return BoxStep::Fail(fault, 0);
             }
             if len > greatest_size(kind) {
-                return Step::Fail(StreamFault::TooLarge, 0);
+                return BoxStep::Fail(StreamFault::TooLarge, 0);
             }
             take_box(phase, kind, there, len)
         }
@@ -142,32 +142,32 @@ fn begins_segment(kind: TopLevelBox) -> bool
     }
 }
 
-fn box_within(there: u64, at: u64, front: Header) -> Step
+fn box_within(there: u64, at: u64, front: Header) -> BoxStep
     requires { IsHead front }
     ensures { result ≡ within_step there at front }
 {
     match front {
-        Header::Short => Step::Wait(0),
-        Header::Bad(fault) => Step::Fail(size_fault(fault), at),
+        Header::Short => BoxStep::Wait(0),
+        Header::Bad(fault) => BoxStep::Fail(size_fault(fault), at),
         Header::Whole { kind, head, len } => {
             let kind = box_type(kind);
             if begins_segment(kind) {
-                return Step::Fail(StreamFault::InSegment, at);
+                return BoxStep::Fail(StreamFault::InSegment, at);
             }
             if u128::from(at) + u128::from(len) > LONGEST_FRAGMENT {
-                return Step::Fail(StreamFault::TooLarge, at);
+                return BoxStep::Fail(StreamFault::TooLarge, at);
             }
             let end = at + len;
             if kind == TopLevelBox::MediaData {
-                return Step::EnterData {
+                return BoxStep::EnterData {
                     start: at + head,
                     end,
                 };
             }
             if there < end {
-                Step::Wait(end)
+                BoxStep::Wait(end)
             } else {
-                Step::NextBox(end)
+                BoxStep::NextBox(end)
             }
         }
     }
@@ -195,7 +195,7 @@ fn header_at(input: &Chunks, from: usize, at: u64) -> Header
 }
 
 /// The step at a place of a movie fragment; `done` says that no slot is left.
-fn place_step(input: &Chunks, from: usize, done: bool, place: Place) -> Step
+fn place_step(input: &Chunks, from: usize, done: bool, place: Place) -> BoxStep
     requires { from ≤ length (concat input.now) }
     ensures { result ≡ placed_step (drop from (concat input.now)) done place }
 {
@@ -204,11 +204,11 @@ fn place_step(input: &Chunks, from: usize, done: bool, place: Place) -> Step
         Place::AtBox(at) => box_within(there, at, header_at(input, from, at)),
         Place::InData(end) => {
             if there < end {
-                Step::Wait(end)
+                BoxStep::Wait(end)
             } else if done {
-                Step::EndSegment(end)
+                BoxStep::EndSegment(end)
             } else {
-                Step::NextBox(end)
+                BoxStep::NextBox(end)
             }
         }
     }
@@ -222,7 +222,7 @@ fn slot_step(
     end: u64,
     place: Place,
     slot: Option<Slot>,
-) -> Step
+) -> BoxStep
     requires inside { from ≤ length (concat input.now) }
     requires ascending { IsAscending known.now }
     ensures { result ≡ slotted_step (drop from (concat input.now)) known.now end place slot }
@@ -233,12 +233,12 @@ fn slot_step(
     let there = (input.len() - from) as u64;
     if lies_in(known, &slot) {
         if there < slot.end {
-            Step::Wait(slot.end)
+            BoxStep::Wait(slot.end)
         } else {
-            Step::GiveFrame(slot)
+            BoxStep::GiveFrame(slot)
         }
     } else if slot.start < end {
-        Step::Fail(StreamFault::OutsideMdat, slot.start)
+        BoxStep::Fail(StreamFault::OutsideMdat, slot.start)
     } else {
         place_step(input, from, false, place)
     }
@@ -258,23 +258,24 @@ fn first(known: &[DataRange], n: usize) -> &[DataRange]
 #[tactic(auto, unfolding(crate::specs::Moves::step_of))]
 pub fn step(
     ready: bool,
-    mode: Mode,
+    mode: ParserMode,
     slots: &[Slot],
     known: &[DataRange],
     input: &Chunks,
     from: usize,
-) -> Step
+) -> BoxStep
     requires inside { from ≤ length (concat input.now) }
     requires ascending { SeesAscending mode known.now }
-    ensures { result ≡ step_of ready (drop from (concat input.now)) (mode_of slots.now known.now mode) }
+    ensures { result ≡ step_of ready (drop from (concat input.now))
+        (mode_of slots.now known.now mode) }
 {
     match mode {
-        Mode::Between(phase) => {
+        ParserMode::Between(phase) => {
             let there = (input.len() - from) as u64;
             box_between(ready, phase, there, header_at(input, from, 0))
         }
-        Mode::Skipping { .. } => Step::Wait(0),
-        Mode::Within(fragment) => {
+        ParserMode::Skipping { .. } => BoxStep::Wait(0),
+        ParserMode::Within(fragment) => {
             slot_step(
                 input,
                 from,

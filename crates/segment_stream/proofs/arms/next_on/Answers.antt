@@ -23,19 +23,18 @@ returns-in-Dry-clause-pieces c = all-kept c.args.input.now c.requires.full
 pub returns-in-Fault-clause-kept : goal.returns-in-Fault-clause-kept
 returns-in-Fault-clause-kept c =
     let r = c.args.progress.now in
-    let sl = c.args.tables.now.slots.items in
-    let kn = c.args.tables.now.known.items in
+    let tables = c.args.tables.now in
     let b = concat c.args.input.now in
     let last = c.args.last.now in
-    let s : State = state_of last r.position sl kn b in
+    let s : State = state_of last r.position tables b in
     let e = c.in_ok-pending_item.ensures.value ∙ ap (move_of_pending s) c.in-Fault.is in
-    let q = front-item last r.position.mode r.position.offset r.from r.first r.ready r.want r.position.failed sl kn b (pending.Fault c.in-Fault.fault c.in-Fault.at) c.requires.rest.front (omega arith) e in
-    rw c.fail_on.ensures.progress (kept-failed last r.position.mode r.position.offset r.first r.ready 0 sl kn _ (bytes-gone c.args.input.now _ c.fail_on.ensures.input) (omega arith) ∙ sym q.1)
+    let q = front-item last r.position.mode r.position.offset r.from r.first r.ready r.want r.position.failed tables b (pending.Fault c.in-Fault.fault c.in-Fault.at) c.requires.rest.front (omega arith) e in
+    rw c.fail_on.ensures.progress (kept-failed last r.position.mode r.position.offset r.first r.ready 0 tables _ (bytes-gone c.args.input.now _ c.fail_on.ensures.input) (omega arith) ∙ sym q.1)
 
 pub returns-in-Fault-clause-rest : goal.returns-in-Fault-clause-rest
 returns-in-Fault-clause-rest c =
     let r = c.args.progress.now in
-    rw c.fail_on.ensures.progress (rest-failed c.args.last.now r.position.mode r.position.offset r.first r.ready _ c.args.tables.now.slots.items c.args.tables.now.known.items _ (bytes-gone c.args.input.now _ c.fail_on.ensures.input) (omega arith) (omega (arith, c.requires.rest.consistent.small)) c.requires.rest.consistent.counts)
+    rw c.fail_on.ensures.progress (rest-failed c.args.last.now r.position.mode r.position.offset r.first r.ready _ c.args.tables.now _ (bytes-gone c.args.input.now _ c.fail_on.ensures.input) (omega arith) (omega (arith, c.requires.rest.consistent.small)) c.requires.rest.consistent.counts)
 
 pub returns-in-Fault-clause-emptied : goal.returns-in-Fault-clause-emptied
 returns-in-Fault-clause-emptied c = λ e. (bytes-gone c.args.input.now _ c.fail_on.ensures.input, omega (arith, ap (λ (r : Progress). r.ready) c.fail_on.ensures.progress))

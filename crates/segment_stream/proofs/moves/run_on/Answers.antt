@@ -1,7 +1,7 @@
 use Rattle.std.proofs.Common.{◌∙◌, subst, Result, Ok, Err, OnErr}
 use Rattle.std.specs.List.{concat}
 use Rattle.segment_stream.specs.declared.progress.MoveResult.{MoveResult}
-use Rattle.segment_stream.specs.Kept.{IsMoveResult}
+use Rattle.segment_stream.specs.Kept.{IsMoveResult, with_tables}
 use Rattle.segment_stream.proofs.Acts.{since-on, since-back}
 use Rattle.segment_stream.proofs.moves.run_on.Goals as goal
 
@@ -10,15 +10,15 @@ on_err (Ok x) p = tt
 on_err (Err e) p = p
 
 pub returns-in_err-move_result-clause-err : goal.returns-in_err-move_result-clause-err
-returns-in_err-move_result-clause-err c = on_err c.from_residual.result (since-back c.args.start.position.mode c.moves.at.position.mode c.args.tables.now.slots.items c.moves.tables.slots.items c.move_on.new.tables.slots.items c.args.tables.now.known.items c.moves.tables.known.items c.move_on.new.tables.known.items c.moves.invariant.since c.in_err-move_result.ensures.err)
+returns-in_err-move_result-clause-err c = on_err c.from_residual.result (since-back c.args.start.position.mode c.moves.at.position.mode c.args.tables.now c.moves.tables c.move_on.new.tables c.moves.invariant.since c.in_err-move_result.ensures.err)
 
 pub moves-preserved : goal.moves-preserved
 moves-preserved c =
-    let g = subst (λ (m : MoveResult). IsMoveResult c.args.last.now c.moves.at c.moves.tables.slots.items c.moves.tables.known.items c.move_on.new.tables.slots.items c.move_on.new.tables.known.items (concat c.args.input.now) m) c.in-Go.is c.in_ok-move_result.ensures.ok in
+    let g = subst (λ (m : MoveResult). IsMoveResult c.args.last.now (with_tables c.moves.at c.moves.tables) c.move_on.new.tables (concat c.args.input.now) m) c.in-Go.is c.in_ok-move_result.ensures.ok in
     record {
       same = g.same ∙ c.moves.invariant.same;
       consistent = g.consistent;
       total = g.total ∙ c.moves.invariant.total;
       going = g.going ∙ c.moves.invariant.going;
-      since = since-on c.args.start.position.mode c.moves.at.position.mode c.in-Go.next.position.mode c.args.tables.now.slots.items c.moves.tables.slots.items c.move_on.new.tables.slots.items c.args.tables.now.known.items c.moves.tables.known.items c.move_on.new.tables.known.items c.moves.invariant.since g.since;
+      since = since-on c.args.start.position.mode c.moves.at.position.mode c.in-Go.next.position.mode c.args.tables.now c.moves.tables c.move_on.new.tables c.moves.invariant.since g.since;
     }

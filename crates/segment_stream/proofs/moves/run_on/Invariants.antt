@@ -6,12 +6,12 @@ use Rattle.segment_stream.proofs.moves.run_on.Given as goal
 
 abbrev pub invariant-moves : goal.invariant-moves
 invariant-moves l = record {
-  same : runs_on (kept_of l.last l.at l.tables.slots.items l.tables.known.items (concat l.input)) ≡ runs_on (kept_of l.fn.last l.fn.start l.fn.tables.slots.items l.fn.tables.known.items (concat l.input));
-  consistent : IsConsistent l.at l.tables.slots.items l.tables.known.items (concat l.input);
-  since : Since l.fn.start.position.mode l.at.position.mode l.fn.tables.slots.items l.fn.tables.known.items l.tables.slots.items l.tables.known.items;
+  same : runs_on (kept_of l.last l.at l.tables (concat l.input)) ≡ runs_on (kept_of l.fn.last l.fn.start l.fn.tables (concat l.input));
+  consistent : IsConsistent l.at l.tables (concat l.input);
+  since : Since l.fn.start.position.mode l.at.position.mode l.fn.tables l.tables;
   total : l.at.position.offset + (length (concat l.input) - l.at.from) ≡ l.fn.start.position.offset + (length (concat l.input) - l.fn.start.from);
   going : l.at.position.failed ≡ l.fn.start.position.failed;
 }
 
 abbrev pub decreases-moves : goal.decreases-moves
-decreases-moves l = segments.size (state_of l.last l.at.position l.tables.slots.items l.tables.known.items (drop l.at.from (concat l.input)))
+decreases-moves l = segments.size (state_of l.last l.at.position l.tables (drop l.at.from (concat l.input)))

@@ -9,40 +9,39 @@ pub returns-then-len-progress-clause-found : goal.returns-then-len-progress-clau
 returns-then-len-progress-clause-found c =
     let r = c.args.progress in
     let b = concat c.args.input.now in
-    let e = ap concat c.in_ok-push_vec.ensures.ok ∙ bytes-pushed c.args.bytes.items c.args.input.now in
-    let l = ap length e ∙ length-append b c.args.bytes.items in
-    found-same c.args.last.now r.position.mode r.position.offset r.from r.first r.ready r.want r.position.failed c.args.tables.now.slots.items c.args.tables.now.known.items b c.args.bytes.items _ e c.if-progress.false c.requires.rest (omega (arith, l, c.len-2.ensures)) c.requires.room
+    let e = ap concat c.in_ok-push_bytes.ensures.ok ∙ bytes-pushed c.args.bytes c.args.input.now in
+    let l = ap length e ∙ length-append b c.args.bytes in
+    found-same c.args.last.now r.position.mode r.position.offset r.from r.first r.ready r.want r.position.failed c.args.tables.now b c.args.bytes _ e c.if-progress.false c.requires.rest (omega (arith, l, c.len-2.ensures)) c.requires.room
 
 pub run_on-requires-clause-consistent : goal.run_on-requires-clause-consistent
 run_on-requires-clause-consistent c =
     let r = c.args.progress in
     let b = concat c.args.input.now in
-    let e = ap concat c.in_ok-push_vec.ensures.ok ∙ bytes-pushed c.args.bytes.items c.args.input.now in
-    subst (λ v. IsConsistent r c.args.tables.now.slots.items c.args.tables.now.known.items v) (sym e) (consistent-longer r.position.mode r.position.offset r.from r.first r.ready r.want r.position.failed c.args.tables.now.slots.items c.args.tables.now.known.items b c.args.bytes.items c.requires.rest.front c.requires.room c.requires.rest.consistent)
+    let e = ap concat c.in_ok-push_bytes.ensures.ok ∙ bytes-pushed c.args.bytes c.args.input.now in
+    subst (λ v. IsConsistent r c.args.tables.now v) (sym e) (consistent-longer r.position.mode r.position.offset r.from r.first r.ready r.want r.position.failed c.args.tables.now b c.args.bytes c.requires.rest.front c.requires.room c.requires.rest.consistent)
 
 pub drop_back-requires : goal.drop_back-requires
 drop_back-requires c =
     let b = concat c.args.input.now in
-    let e = ap concat c.in_ok-push_vec.ensures.ok ∙ bytes-pushed c.args.bytes.items c.args.input.now in
-    omega (arith, ap length e, length-append b c.args.bytes.items)
+    let e = ap concat c.in_ok-push_bytes.ensures.ok ∙ bytes-pushed c.args.bytes c.args.input.now in
+    omega (arith, ap length e, length-append b c.args.bytes)
 
 pub returns-in-Ok-clause-found : goal.returns-in-Ok-clause-found
 returns-in-Ok-clause-found c =
     let b = concat c.args.input.now in
-    let e = ap concat c.in_ok-push_vec.ensures.ok ∙ bytes-pushed c.args.bytes.items c.args.input.now in
-    found-ok c.in-Ok.found c.args.last.now c.args.progress c.args.tables.now.slots.items _ c.args.tables.now.known.items _ b c.args.bytes.items _ e c.if-progress.false c.requires.rest c.in-Ok.ensures.since c.in-Ok.ensures.same c.in-Ok.ensures.consistent c.in-Ok.ensures.rests c.in-Ok.ensures.total
+    let e = ap concat c.in_ok-push_bytes.ensures.ok ∙ bytes-pushed c.args.bytes c.args.input.now in
+    found-ok c.in-Ok.found c.args.last.now c.args.progress c.args.tables.now _ b c.args.bytes _ e c.if-progress.false c.requires.rest c.in-Ok.ensures.since c.in-Ok.ensures.same c.in-Ok.ensures.consistent c.in-Ok.ensures.rests c.in-Ok.ensures.total
 
 pub returns-then-progress-clause-found : goal.returns-then-progress-clause-found
 returns-then-progress-clause-found c =
     let r = c.args.progress in
     let b = concat c.args.input.now in
-    let e = ap concat c.in_ok-push_vec.ensures.ok ∙ bytes-pushed c.args.bytes.items c.args.input.now in
-    rw c.past_all.ensures (found-failed c.args.last.now r.position.mode r.position.offset r.from r.first r.ready r.want _ _ r.position.failed c.args.tables.now.slots.items c.args.tables.now.known.items b c.args.bytes.items _ e c.if-progress.true c.len.ensures c.requires.rest (c.requires.emptied c.if-progress.true))
+    let e = ap concat c.in_ok-push_bytes.ensures.ok ∙ bytes-pushed c.args.bytes c.args.input.now in
+    rw c.past_all.ensures (found-failed c.args.last.now r.position.mode r.position.offset r.from r.first r.ready r.want _ _ r.position.failed c.args.tables.now b c.args.bytes _ e c.if-progress.true c.len.ensures c.requires.rest (c.requires.emptied c.if-progress.true))
 
 pub returns-in-Ok-clause-rest : goal.returns-in-Ok-clause-rest
 returns-in-Ok-clause-rest c =
     let r = c.args.progress in
-    let sl = c.args.tables.now.slots.items in
-    let kn = c.args.tables.now.known.items in
+    let tables = c.args.tables.now in
     let new = c.run_on.new.tables in
-    keeps-rest c.args.last.now r sl new.slots.items kn new.known.items (concat c.args.input.now) (since-keeps r.position.mode c.in-Ok.found.position.mode sl new.slots.items kn new.known.items c.in-Ok.ensures.since) c.requires.rest
+    keeps-rest c.args.last.now r tables new (concat c.args.input.now) (since-keeps r.position.mode c.in-Ok.found.position.mode tables new c.in-Ok.ensures.since) c.requires.rest

@@ -1,6 +1,6 @@
 use Rattle.std.proofs.Common.{arith}
 use Rattle.std.specs.List.{concat}
-use Rattle.segment_walk.specs.declared.kinds.Step.TheVariants as step
+use Rattle.segment_walk.specs.declared.kinds.BoxStep.TheVariants as step
 use Rattle.segment_walk.specs.Ranges.{mode_of}
 use Rattle.segment_stream.proofs.Acts.{fits}
 use Rattle.segment_stream.proofs.pending.pending_init.Goals as goal

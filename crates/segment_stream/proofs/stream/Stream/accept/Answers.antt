@@ -1,5 +1,6 @@
 use Rattle.std.proofs.Common.{Option, ap, ◌∙◌, sym, subst}
 use Rattle.segment_stream.specs.declared.stream.Offered.{Offered}
+use Rattle.segment_stream.specs.Kept.{with_tables}
 use Rattle.segment_stream.specs.Streams.{streamed, IsStreamWithOffer, IsStream}
 use Rattle.segment_stream.proofs.StreamLaws.{accept-holds, accept-stands, accept-pieces}
 use Rattle.segment_stream.proofs.stream.Stream.accept.Goals as goal
@@ -8,33 +9,30 @@ pub invariant_of-self : goal.invariant_of-self
 invariant_of-self c =
     let s = c.self.inside in
     let o = c.in-Some.offered in
-    let sl = s.tables.slots.items in
-    let kn = s.tables.known.items in
+    let tables = s.tables in
     let new = c.accept_on-self-inside.new.input in
     let q = c.accept_on-self-inside.ensures in
-    let h : IsStreamWithOffer s.last s.progress sl kn s.input s.fed o = subst (λ (x : Option Offered). IsStream s.last s.progress sl kn s.input s.fed x) c.in-Some.is c.self.invariant in
-    accept-holds s.last s.progress c.accept_on-self-inside.result sl kn s.input new s.fed o h (q.rest s.last sl kn h.found.consistent h.found.rests) q.position q.ready q.pieces
+    let h : IsStreamWithOffer s.last (with_tables s.progress tables) s.input s.fed o = subst (λ (x : Option Offered). IsStream s.last (with_tables s.progress tables) s.input s.fed x) c.in-Some.is c.self.invariant in
+    accept-holds s.last s.progress c.accept_on-self-inside.result tables s.input new s.fed o h (q.rest s.last tables h.found.consistent h.found.rests) q.position q.ready q.pieces
 
 pub returns-clause-stands : goal.returns-clause-stands
 returns-clause-stands c =
     let s = c.self.inside in
     let o = c.in-Some.offered in
-    let sl = s.tables.slots.items in
-    let kn = s.tables.known.items in
+    let tables = s.tables in
     let new = c.accept_on-self-inside.new.input in
     let q = c.accept_on-self-inside.ensures in
-    let h : IsStreamWithOffer s.last s.progress sl kn s.input s.fed o = subst (λ (x : Option Offered). IsStream s.last s.progress sl kn s.input s.fed x) c.in-Some.is c.self.invariant in
-    let e = ap (λ (x : Option Offered). streamed s.last s.progress sl kn s.input s.fed x) (sym c.in-Some.is) ∙ c.self.view_is in
-    accept-stands s.last s.progress c.accept_on-self-inside.result sl kn s.input new s.fed o c.args.self.now e h (q.kept s.last sl kn)
+    let h : IsStreamWithOffer s.last (with_tables s.progress tables) s.input s.fed o = subst (λ (x : Option Offered). IsStream s.last (with_tables s.progress tables) s.input s.fed x) c.in-Some.is c.self.invariant in
+    let e = ap (λ (x : Option Offered). streamed s.last (with_tables s.progress tables) s.input s.fed x) (sym c.in-Some.is) ∙ c.self.view_is in
+    accept-stands s.last s.progress c.accept_on-self-inside.result tables s.input new s.fed o c.args.self.now e h (q.kept s.last tables)
 
 pub returns-clause-pieces : goal.returns-clause-pieces
 returns-clause-pieces c =
     let s = c.self.inside in
     let o = c.in-Some.offered in
-    let sl = s.tables.slots.items in
-    let kn = s.tables.known.items in
+    let tables = s.tables in
     let new = c.accept_on-self-inside.new.input in
     let q = c.accept_on-self-inside.ensures in
-    let h : IsStreamWithOffer s.last s.progress sl kn s.input s.fed o = subst (λ (x : Option Offered). IsStream s.last s.progress sl kn s.input s.fed x) c.in-Some.is c.self.invariant in
-    let e = ap (λ (x : Option Offered). streamed s.last s.progress sl kn s.input s.fed x) (sym c.in-Some.is) ∙ c.self.view_is in
-    accept-pieces s.last s.progress sl kn s.input new s.fed c.accept_on-self-inside.result.from o c.args.self.now e h (q.rest s.last sl kn h.found.consistent h.found.rests).front q.pieces
+    let h : IsStreamWithOffer s.last (with_tables s.progress tables) s.input s.fed o = subst (λ (x : Option Offered). IsStream s.last (with_tables s.progress tables) s.input s.fed x) c.in-Some.is c.self.invariant in
+    let e = ap (λ (x : Option Offered). streamed s.last (with_tables s.progress tables) s.input s.fed x) (sym c.in-Some.is) ∙ c.self.view_is in
+    accept-pieces s.last s.progress tables s.input new s.fed c.accept_on-self-inside.result.from o c.args.self.now e h (q.rest s.last tables h.found.consistent h.found.rests).front q.pieces

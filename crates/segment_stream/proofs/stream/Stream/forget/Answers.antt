@@ -1,6 +1,6 @@
 use Rattle.std.proofs.Common.{[], None, Option, sym, subst}
 use Rattle.segment_stream.specs.declared.stream.Offered.{Offered}
-use Rattle.segment_stream.specs.Kept.{kept_of}
+use Rattle.segment_stream.specs.Kept.{kept_of, with_tables}
 use Rattle.segment_stream.specs.Streams.{Stands, streamed, IsStreamAtRest, IsStream}
 use Rattle.std.specs.List.{concat}
 use Rattle.segment_stream.proofs.StreamLaws.{idle, holds-start, stands-empty}
@@ -9,19 +9,17 @@ use Rattle.segment_stream.proofs.stream.Stream.forget.Goals as goal
 pub invariant_of-self : goal.invariant_of-self
 invariant_of-self c =
     let s = c.self.inside in
-    let h = idle s.last s.progress s.tables.slots.items s.tables.known.items s.input s.fed s.offered c.args.self.now c.self.view_is c.requires c.self.invariant in
-    let sl = s.tables.slots.items in
-    let kn = s.tables.known.items in
+    let h = idle s.last s.progress s.tables s.input s.fed s.offered c.args.self.now c.self.view_is c.requires c.self.invariant in
+    let tables = s.tables in
     let new = c.restart.new in
-    let q : IsStreamAtRest None new.progress sl kn new.input 0 = rw (c.restart.ensures.progress, c.restart.ensures.input) (holds-start None sl kn tt) in
-    subst (λ (o : Option Offered). IsStream None new.progress sl kn new.input 0 o) (sym h.2) q
+    let q : IsStreamAtRest None (with_tables new.progress tables) new.input 0 = rw (c.restart.ensures.progress, c.restart.ensures.input) (holds-start None tables tt) in
+    subst (λ (o : Option Offered). IsStream None (with_tables new.progress tables) new.input 0 o) (sym h.2) q
 
 pub returns-clause-stands : goal.returns-clause-stands
 returns-clause-stands c =
     let s = c.self.inside in
-    let h = idle s.last s.progress s.tables.slots.items s.tables.known.items s.input s.fed s.offered c.args.self.now c.self.view_is c.requires c.self.invariant in
-    let sl = s.tables.slots.items in
-    let kn = s.tables.known.items in
+    let h = idle s.last s.progress s.tables s.input s.fed s.offered c.args.self.now c.self.view_is c.requires c.self.invariant in
+    let tables = s.tables in
     let new = c.restart.new in
-    let q : Stands (kept_of None new.progress sl kn (concat new.input)) None [] 0 = rw (c.restart.ensures.progress, c.restart.ensures.input) (stands-empty None sl kn) in
-    subst (λ (o : Option Offered). Stands (streamed None new.progress sl kn new.input 0 o).kept None [] 0) (sym h.2) q
+    let q : Stands (kept_of None new.progress tables (concat new.input)) None [] 0 = rw (c.restart.ensures.progress, c.restart.ensures.input) (stands-empty None tables) in
+    subst (λ (o : Option Offered). Stands (streamed None (with_tables new.progress tables) new.input 0 o).kept None [] 0) (sym h.2) q

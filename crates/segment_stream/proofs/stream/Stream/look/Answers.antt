@@ -20,9 +20,9 @@ none-ready i ready count l e (inr h) = absurd (omega arith)
 pub returns-then-i-self : goal.returns-then-i-self
 returns-then-i-self c = λ last b n st.
     let s = c.self.inside in
-    let h = idle s.last s.progress s.tables.slots.items s.tables.known.items s.input s.fed s.offered c.args.self.now c.self.view_is c.requires.idle c.self.invariant in
+    let h = idle s.last s.progress s.tables s.input s.fed s.offered c.args.self.now c.self.view_is c.requires.idle c.self.invariant in
     let r = s.progress in
-    let l = frames-counted r.position.mode (drop r.from (concat s.input)) r.position.offset s.tables.slots.items s.tables.known.items r.first r.ready h.0.rest.consistent.counts in
+    let l = frames-counted r.position.mode (drop r.from (concat s.input)) r.position.offset s.tables r.first r.ready h.0.rest.consistent.counts in
     let k = ap (λ (v : Streamed). v.kept.items) h.1 in
     let e = ap (λ items. slice_get items c.args.i) k ∙ stands-ahead c.args.self.now.kept last b n c.args.i (omega (arith, l, ap length k)) st in
     if_ok c.look_frame.result _ _ (c.look_frame.ensures.item s.last) (λ x g. g ∙ e)
@@ -30,14 +30,13 @@ returns-then-i-self c = λ last b n st.
 pub returns : goal.returns
 returns c = λ last b n st.
     let s = c.self.inside in
-    let h = idle s.last s.progress s.tables.slots.items s.tables.known.items s.input s.fed s.offered c.args.self.now c.self.view_is c.requires.idle c.self.invariant in
+    let h = idle s.last s.progress s.tables s.input s.fed s.offered c.args.self.now c.self.view_is c.requires.idle c.self.invariant in
     let r = s.progress in
-    let sl = s.tables.slots.items in
-    let kn = s.tables.known.items in
-    let l = frames-counted r.position.mode (drop r.from (concat s.input)) r.position.offset sl kn r.first r.ready h.0.rest.consistent.counts in
+    let tables = s.tables in
+    let l = frames-counted r.position.mode (drop r.from (concat s.input)) r.position.offset tables r.first r.ready h.0.rest.consistent.counts in
     let k = ap (λ (v : Streamed). length v.kept.items) h.1 in
     let z = none-ready c.args.i r.ready (length c.args.self.now.kept.items) (omega arith) (omega arith) c.requires.ready in
-    let t : State = state_of s.last r.position sl kn (concat s.input) in
-    let q = front-item s.last r.position.mode r.position.offset r.from r.first r.ready r.want r.position.failed sl kn (concat s.input) c.in_ok-front.front h.0.rest.front z.1 c.in_ok-front.ensures.value in
+    let t : State = state_of s.last r.position tables (concat s.input) in
+    let q = front-item s.last r.position.mode r.position.offset r.from r.first r.ready r.want r.position.failed tables (concat s.input) c.in_ok-front.front h.0.rest.front z.1 c.in_ok-front.ensures.value in
     let y : n ≡ n + c.args.i = omega arith in
     c.shown.ensures t refl ∙ sym q.0 ∙ ap (λ (v : Streamed). first_item segments v.kept) h.1 ∙ stands-item c.args.self.now.kept last b n st ∙ ap (slice_get (Items last b)) y

@@ -7,13 +7,13 @@ use Rattle.segment_stream.proofs.stream.Stream.ready_frames.Goals as goal
 pub returns-clause-kept : goal.returns-clause-kept
 returns-clause-kept c =
     let s = c.self.inside in
-    let h = idle s.last s.progress s.tables.slots.items s.tables.known.items s.input s.fed s.offered c.args.self.now c.self.view_is c.requires c.self.invariant in
+    let h = idle s.last s.progress s.tables s.input s.fed s.offered c.args.self.now c.self.view_is c.requires c.self.invariant in
     let r = s.progress in
-    sym (frames-counted r.position.mode (drop r.from (concat s.input)) r.position.offset s.tables.slots.items s.tables.known.items r.first r.ready h.0.rest.consistent.counts) ∙ ap (λ (v : Streamed). length v.kept.items) h.1
+    sym (frames-counted r.position.mode (drop r.from (concat s.input)) r.position.offset s.tables r.first r.ready h.0.rest.consistent.counts) ∙ ap (λ (v : Streamed). length v.kept.items) h.1
 
 pub returns-clause-ready : goal.returns-clause-ready
 returns-clause-ready c = λ last b n st.
     let s = c.self.inside in
-    let h = idle s.last s.progress s.tables.slots.items s.tables.known.items s.input s.fed s.offered c.args.self.now c.self.view_is c.requires c.self.invariant in
+    let h = idle s.last s.progress s.tables s.input s.fed s.offered c.args.self.now c.self.view_is c.requires c.self.invariant in
     let r = s.progress in
-    sym (frames-counted r.position.mode (drop r.from (concat s.input)) r.position.offset s.tables.slots.items s.tables.known.items r.first r.ready h.0.rest.consistent.counts) ∙ ap (λ (v : Streamed). length v.kept.items) h.1 ∙ stands-count c.args.self.now.kept last b n st
+    sym (frames-counted r.position.mode (drop r.from (concat s.input)) r.position.offset s.tables r.first r.ready h.0.rest.consistent.counts) ∙ ap (λ (v : Streamed). length v.kept.items) h.1 ∙ stands-count c.args.self.now.kept last b n st
