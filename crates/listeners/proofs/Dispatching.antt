@@ -13,22 +13,23 @@ use Rattle.mse_calls.specs.declared.events.Event.{Event}
 use Rattle.mse_calls.specs.declared.entry.Entry.{Entry}
 use Rattle.mse_calls.specs.declared.entry.Entry.TheVariants.{Listener}
 use Rattle.mse_calls.specs.declared.rules.Rule.{Rule}
-use Rattle.mse_engine.specs.Standing.{Kept}
 use Rattle.listeners.specs.declared.listener.Note.{Note}
 use Rattle.listeners.specs.declared.event_dispatch.DispatchFault.{DispatchFault}
 use Rattle.listeners.specs.Notes.{entry_notes, is_call_of, call_notes, call_count, event_notes}
-use Rattle.listeners.specs.Dispatch.{CallsInTurn, MakesCalls, IsFault, IsTurn, IsDispatch, ServedBelow, UnheardFrom, notes_at}
+use Rattle.listeners.specs.declared.event_dispatch.DispatchFault.TheVariants.{OutOfMemory, CallBudget, TaskBudget}
+use Rattle.listeners.specs.Dispatch.{CallsInTurn, MakesCalls, TurnEnd, IsFault, IsTurn, IsDispatch, ServedBelow, UnheardFrom, notes_at}
+use Rattle.listeners.specs.Views.{RunView, DispatchView, turn_view, dispatch_view}
 use Rattle.listeners.proofs.Serving.{CallsInTurn-induction, makes_none, makes_then}
 
 -- the listeners below `w` were served, and the others heard nothing
-pub record Progress (blobs : List (List ℕ)) (event : Event) (w : ℕ) (j0 j1 : List Entry) (e0 e1 : Kept) (l0 l1 : ℕ) (n0 n1 : List (List Note)) : Type 0 where
+pub record Progress (blobs : List (List ℕ)) (event : Event) (w : ℕ) (old new : DispatchView) : Type 0 where
   pub entries : List Entry
-  pub calls : MakesCalls blobs j0 j1 e0 e1 l0 l1 entries
+  pub calls : MakesCalls blobs old.run new.run entries
   pub in_turn : CallsInTurn 0 w entries
   pub few : (k : ℕ) → call_count k entries ≤ 1000
-  pub same : length n1 ≡ length n0
-  pub served : ServedBelow event entries w n0 n1
-  pub behind : UnheardFrom w entries n0 n1
+  pub same : length new.notes ≡ length old.notes
+  pub served : ServedBelow event entries w old.notes new.notes
+  pub behind : UnheardFrom w entries old.notes new.notes
 
 -- a listener has no calls among those of others
 abbrev pub HasNoCalls : ℕ → List Entry → Type 0
@@ -100,10 +101,10 @@ few_more w xs ys h q few short k =
 
 -- ---- the listeners, by their notes
 
-pub progress_none : (blobs : List (List ℕ)) (event : Event) (j : List Entry) (e : Kept) (l : ℕ) (n : List (List Note)) → Progress blobs event 0 j j e e l l n n
-progress_none blobs event j e l n = record {
+pub progress_none : (blobs : List (List ℕ)) (event : Event) (v : DispatchView) → Progress blobs event 0 v v
+progress_none blobs event v = record {
   entries = [];
-  calls = makes_none blobs j e l;
+  calls = makes_none blobs v.run;
   in_turn = tt;
   few = λ k. omega arith;
   same = refl;
@@ -129,12 +130,13 @@ served_now : (event : Event) (w : ℕ) (xs ys : List Entry) (n0 n1 : List (List 
 served_now event w xs ys n0 n1 m k e h lt same is =
     rw e (rw ((own_calls w xs ys h).0, get_or-set_same n1 w m [] lt, is, same) refl)
 
-pub progress_more : (blobs : List (List ℕ)) (event : Event) (w : ℕ) (j0 j1 j2 : List Entry) (e0 e1 e2 : Kept) (l0 l1 l2 : ℕ) (n0 n1 : List (List Note)) (m : List Note)
-    → Progress blobs event w j0 j1 e0 e1 l0 l1 n0 n1 → w < length n1 → IsTurn blobs event w j1 j2 e1 e2 l1 l2 (notes_at n1 w) m (Ok tt)
-    → Progress blobs event (w + 1) j0 j2 e0 e2 l0 l2 n0 (slice_set n1 w m)
-progress_more blobs event w j0 j1 j2 e0 e1 e2 l0 l1 l2 n0 n1 m p lt t = record {
+pub progress_more : (blobs : List (List ℕ)) (event : Event) (w : ℕ) (r0 r1 r2 : RunView) (n0 n1 : List (List Note)) (m : List Note)
+    → Progress blobs event w (dispatch_view r0 n0) (dispatch_view r1 n1) → w < length n1
+    → IsTurn blobs event (turn_view w r1 (notes_at n1 w)) (turn_view w r2 m) (Ok tt)
+    → Progress blobs event (w + 1) (dispatch_view r0 n0) (dispatch_view r2 (slice_set n1 w m))
+progress_more blobs event w r0 r1 r2 n0 n1 m p lt t = record {
   entries = p.entries ++ t.entries;
-  calls = makes_then blobs j0 j1 j2 e0 e1 e2 l0 l1 l2 p.entries t.entries p.calls t.calls;
+  calls = makes_then blobs r0 r1 r2 p.entries t.entries p.calls t.calls;
   in_turn = in_turn_then 0 w (w + 1) p.entries t.entries (omega arith) (omega arith) p.in_turn t.own;
   few = few_more w p.entries t.entries p.in_turn t.own p.few t.few;
   same = length-set n1 w m ∙ p.same;
@@ -145,33 +147,37 @@ progress_more blobs event w j0 j1 j2 e0 e1 e2 l0 l1 l2 n0 n1 m p lt t = record {
   behind = unheard_behind w p.entries t.entries n0 n1 m p.in_turn t.own p.behind;
 }
 
-pub dispatch_done : (blobs : List (List ℕ)) (event : Event) (w : ℕ) (j0 j1 : List Entry) (e0 e1 : Kept) (l0 l1 : ℕ) (n0 n1 : List (List Note))
-    → Progress blobs event w j0 j1 e0 e1 l0 l1 n0 n1 → w ≡ length n0 → IsDispatch blobs event j0 j1 e0 e1 l0 l1 n0 n1 (Ok tt)
-dispatch_done blobs event w j0 j1 e0 e1 l0 l1 n0 n1 p e = record {
+pub dispatch_done : (blobs : List (List ℕ)) (event : Event) (w : ℕ) (old new : DispatchView)
+    → Progress blobs event w old new → w ≡ length old.notes → IsDispatch blobs event old new (Ok tt)
+dispatch_done blobs event w old new p e = record {
   entries = p.entries;
   calls = p.calls;
-  in_turn = in_turn_below 0 w (length n0) p.entries (omega (arith, e)) p.in_turn;
+  in_turn = in_turn_below 0 w (length old.notes) p.entries (omega (arith, e)) p.in_turn;
   few = p.few;
   outcome = λ k lt. p.served k (omega (arith, lt, e));
 }
 
-same_fault : (fault : DispatchFault) (event : Event) (w left : ℕ) (c1 c2 : List Note) (k1 k2 : ℕ) (b1 b2 m1 m2 : List Note) → c1 ≡ c2 → k1 ≡ k2 → b1 ≡ b2 → m1 ≡ m2
-    → IsFault fault event w left c1 k1 b1 m1 → IsFault fault event w left c2 k2 b2 m2
-same_fault fault event w left c1 c2 k1 k2 b1 b2 m1 m2 p q r s t =
-    subst (λ (x : List Note). IsFault fault event w left c2 k2 b2 x) s
-    (subst (λ (x : List Note). IsFault fault event w left c2 k2 x m1) r
-    (subst (λ (x : ℕ). IsFault fault event w left c2 x b1 m1) q
-    (subst (λ (x : List Note). IsFault fault event w left x k1 b1 m1) p t)))
+-- a fault is told by the listener's own calls, the calls that are left, and its notes
+abbrev fault_end : ℕ → ℕ → List Entry → List Note → List Note → TurnEnd
+fault_end w left entries before now = record { listener = w; entries = entries; left = left; before = before; now = now }
 
-pub dispatch_ends : (blobs : List (List ℕ)) (event : Event) (w : ℕ) (j0 j1 j2 : List Entry) (e0 e1 e2 : Kept) (l0 l1 l2 : ℕ) (n0 n1 : List (List Note)) (m : List Note) (fault : DispatchFault)
-    → Progress blobs event w j0 j1 e0 e1 l0 l1 n0 n1 → w < length n1 → IsTurn blobs event w j1 j2 e1 e2 l1 l2 (notes_at n1 w) m (Err fault)
-    → IsDispatch blobs event j0 j2 e0 e2 l0 l2 n0 (slice_set n1 w m) (Err fault)
-dispatch_ends blobs event w j0 j1 j2 e0 e1 e2 l0 l1 l2 n0 n1 m fault p lt t =
+same_fault : (fault : DispatchFault) (event : Event) (w left : ℕ) (xs ys : List Entry) (b1 b2 m1 m2 : List Note)
+    → call_notes w ys ≡ call_notes w xs → call_count w ys ≡ call_count w xs → b2 ≡ b1 → m2 ≡ m1
+    → IsFault fault event (fault_end w left xs b1 m1) → IsFault fault event (fault_end w left ys b2 m2)
+same_fault OutOfMemory event w left xs ys b1 b2 m1 m2 p q r s t = rw (p, q, r, s) t
+same_fault (CallBudget k) event w left xs ys b1 b2 m1 m2 p q r s t = rw (p, q, r, s) t
+same_fault TaskBudget event w left xs ys b1 b2 m1 m2 p q r s t = rw (p, q, r, s) t
+
+pub dispatch_ends : (blobs : List (List ℕ)) (event : Event) (w : ℕ) (r0 r1 r2 : RunView) (n0 n1 : List (List Note)) (m : List Note) (fault : DispatchFault)
+    → Progress blobs event w (dispatch_view r0 n0) (dispatch_view r1 n1) → w < length n1
+    → IsTurn blobs event (turn_view w r1 (notes_at n1 w)) (turn_view w r2 m) (Err fault)
+    → IsDispatch blobs event (dispatch_view r0 n0) (dispatch_view r2 (slice_set n1 w m)) (Err fault)
+dispatch_ends blobs event w r0 r1 r2 n0 n1 m fault p lt t =
     let own = own_calls w p.entries t.entries p.in_turn in
     let within : w < length n0 = omega (arith, lt, p.same) in
     record {
       entries = p.entries ++ t.entries;
-      calls = makes_then blobs j0 j1 j2 e0 e1 e2 l0 l1 l2 p.entries t.entries p.calls t.calls;
+      calls = makes_then blobs r0 r1 r2 p.entries t.entries p.calls t.calls;
       in_turn = in_turn_below 0 (w + 1) (length n0) (p.entries ++ t.entries) (omega (arith, within)) (in_turn_then 0 w (w + 1) p.entries t.entries (omega arith) (omega arith) p.in_turn t.own);
       few = few_more w p.entries t.entries p.in_turn t.own p.few t.few;
       outcome = record {
@@ -179,9 +185,8 @@ dispatch_ends blobs event w j0 j1 j2 e0 e1 e2 l0 l1 l2 n0 n1 m fault p lt t =
         within = within;
         served = served_before event w p.entries t.entries n0 n1 m t.own p.served;
         behind = unheard_behind w p.entries t.entries n0 n1 m p.in_turn t.own p.behind;
-        ending = same_fault fault event w l2 (call_notes w t.entries) (call_notes w (p.entries ++ t.entries)) (call_count w t.entries) (call_count w (p.entries ++ t.entries))
-            (notes_at n1 w) (notes_at n0 w) m (notes_at (slice_set n1 w m) w)
-            (sym own.0) (sym own.1) (p.behind w (omega arith)).notes (sym (get_or-set_same n1 w m [] lt)) t.notes;
+        ending = same_fault fault event w r2.left t.entries (p.entries ++ t.entries) (notes_at n1 w) (notes_at n0 w) m (notes_at (slice_set n1 w m) w)
+            own.0 own.1 (sym (p.behind w (omega arith)).notes) (get_or-set_same n1 w m [] lt) t.notes;
       };
     }
 
@@ -191,21 +196,21 @@ dispatch_ends blobs event w j0 j1 j2 e0 e1 e2 l0 l1 l2 n0 n1 m fault p lt t =
 notes_of_one : {X : Type 0} (notes : X → List Note) (xs : List X) (w : ℕ) (old : X) → w < length xs → old ≡ get_or xs w old → notes old ≡ notes_at (map notes xs) w
 notes_of_one notes xs w old lt is = sym (get_or-map notes xs w old [] lt ∙ ap notes (sym is))
 
-pub listeners_more : {X : Type 0} (notes : X → List Note) (blobs : List (List ℕ)) (event : Event) (w : ℕ) (j0 j1 j2 : List Entry) (e0 e1 e2 : Kept) (l0 l1 l2 : ℕ) (xs0 xs : List X) (old new : X)
-    → Progress blobs event w j0 j1 e0 e1 l0 l1 (map notes xs0) (map notes xs) → w < length xs → old ≡ get_or xs w old
-    → IsTurn blobs event w j1 j2 e1 e2 l1 l2 (notes old) (notes new) (Ok tt)
-    → Progress blobs event (w + 1) j0 j2 e0 e2 l0 l2 (map notes xs0) (map notes (slice_set xs w new))
-listeners_more notes blobs event w j0 j1 j2 e0 e1 e2 l0 l1 l2 xs0 xs old new p lt is t =
-    let t2 = subst (λ (x : List Note). IsTurn blobs event w j1 j2 e1 e2 l1 l2 x (notes new) (Ok tt)) (notes_of_one notes xs w old lt is) t in
-    rw (map-set notes xs w new) (progress_more blobs event w j0 j1 j2 e0 e1 e2 l0 l1 l2 (map notes xs0) (map notes xs) (notes new) p (omega (arith, lt, length-map xs notes)) t2)
+pub listeners_more : {X : Type 0} (notes : X → List Note) (blobs : List (List ℕ)) (event : Event) (w : ℕ) (r0 r1 r2 : RunView) (xs0 xs : List X) (old new : X)
+    → Progress blobs event w (dispatch_view r0 (map notes xs0)) (dispatch_view r1 (map notes xs)) → w < length xs → old ≡ get_or xs w old
+    → IsTurn blobs event (turn_view w r1 (notes old)) (turn_view w r2 (notes new)) (Ok tt)
+    → Progress blobs event (w + 1) (dispatch_view r0 (map notes xs0)) (dispatch_view r2 (map notes (slice_set xs w new)))
+listeners_more notes blobs event w r0 r1 r2 xs0 xs old new p lt is t =
+    let t2 = subst (λ (x : List Note). IsTurn blobs event (turn_view w r1 x) (turn_view w r2 (notes new)) (Ok tt)) (notes_of_one notes xs w old lt is) t in
+    rw (map-set notes xs w new) (progress_more blobs event w r0 r1 r2 (map notes xs0) (map notes xs) (notes new) p (omega (arith, lt, length-map xs notes)) t2)
 
-pub listeners_end : {X : Type 0} (notes : X → List Note) (blobs : List (List ℕ)) (event : Event) (w : ℕ) (j0 j1 j2 : List Entry) (e0 e1 e2 : Kept) (l0 l1 l2 : ℕ) (xs0 xs : List X) (old new : X) (fault : DispatchFault)
-    → Progress blobs event w j0 j1 e0 e1 l0 l1 (map notes xs0) (map notes xs) → w < length xs → old ≡ get_or xs w old
-    → IsTurn blobs event w j1 j2 e1 e2 l1 l2 (notes old) (notes new) (Err fault)
-    → IsDispatch blobs event j0 j2 e0 e2 l0 l2 (map notes xs0) (map notes (slice_set xs w new)) (Err fault)
-listeners_end notes blobs event w j0 j1 j2 e0 e1 e2 l0 l1 l2 xs0 xs old new fault p lt is t =
-    let t2 = subst (λ (x : List Note). IsTurn blobs event w j1 j2 e1 e2 l1 l2 x (notes new) (Err fault)) (notes_of_one notes xs w old lt is) t in
-    rw (map-set notes xs w new) (dispatch_ends blobs event w j0 j1 j2 e0 e1 e2 l0 l1 l2 (map notes xs0) (map notes xs) (notes new) fault p (omega (arith, lt, length-map xs notes)) t2)
+pub listeners_end : {X : Type 0} (notes : X → List Note) (blobs : List (List ℕ)) (event : Event) (w : ℕ) (r0 r1 r2 : RunView) (xs0 xs : List X) (old new : X) (fault : DispatchFault)
+    → Progress blobs event w (dispatch_view r0 (map notes xs0)) (dispatch_view r1 (map notes xs)) → w < length xs → old ≡ get_or xs w old
+    → IsTurn blobs event (turn_view w r1 (notes old)) (turn_view w r2 (notes new)) (Err fault)
+    → IsDispatch blobs event (dispatch_view r0 (map notes xs0)) (dispatch_view r2 (map notes (slice_set xs w new))) (Err fault)
+listeners_end notes blobs event w r0 r1 r2 xs0 xs old new fault p lt is t =
+    let t2 = subst (λ (x : List Note). IsTurn blobs event (turn_view w r1 x) (turn_view w r2 (notes new)) (Err fault)) (notes_of_one notes xs w old lt is) t in
+    rw (map-set notes xs w new) (dispatch_ends blobs event w r0 r1 r2 (map notes xs0) (map notes xs) (notes new) fault p (omega (arith, lt, length-map xs notes)) t2)
 
 -- a listener keeps its rules
 pub rules_kept : {X : Type 0} (rules : X → List Rule) (w : ℕ) (xs0 xs : List X) (old new : X)

@@ -16,7 +16,7 @@ use Rattle.mse_calls.specs.declared.rules.Rule.{Rule}
 use Rattle.listeners.specs.declared.index.RuleIndex.{RuleIndex}
 use Rattle.listeners.specs.Events.{event_number, is_same}
 use Rattle.listeners.specs.RuleCalls.{has_calls, times_heard, answers}
-use Rattle.listeners.specs.Index.{is_on, places_from, places_of, listed, counted, places_at, count_at, bounded, Indexes}
+use Rattle.listeners.specs.Index.{is_on, places_from, places_of, places_or_none, places_at, count_at, bounded_count, Indexes}
 use Rattle.listeners.specs.Coming.{no_rule, rule_at, rules_at}
 use Rattle.listeners.proofs.Hearing.{times_more, Hears}
 
@@ -68,11 +68,11 @@ pub rules_found : (rules : List Rule) (heard : List Event) (event : Event)
 rules_found rules heard event = rules_from (event_number event) (times_heard event heard) [] rules
 
 -- ---- counts
-bounded_more : (n : ℕ) → bounded (bounded n + 1) ≡ bounded (n + 1)
+bounded_more : (n : ℕ) → bounded_count (bounded_count n + 1) ≡ bounded_count (n + 1)
 bounded_more n = grind arith
 
 -- a number of times below 2 ^ 32 is passed by a count just where it is passed by the bounded one
-pub bounded_below : (count times limit : ℕ) → count ≡ bounded times → limit < 2 ^ 32 → nat_lt count limit ≡ nat_lt times limit
+pub bounded_below : (count times limit : ℕ) → count ≡ bounded_count times → limit < 2 ^ 32 → nat_lt count limit ≡ nat_lt times limit
 bounded_below count times limit is small = by (nat_lt count limit) (nat_lt times limit) refl refl
   where
     by : (b c : Bool) → nat_lt count limit ≡ b → nat_lt times limit ≡ c → b ≡ c
@@ -82,25 +82,25 @@ bounded_below count times limit is small = by (nat_lt count limit) (nat_lt times
     by false true e f = let above = ltb-false count limit e in let below = ltb-true times limit f in absurd (grind (arith, below, above, is, small))
 
 -- an event that rules are on was heard once more
-pub counts_more : (event e : Event) (heard : List Event) (new old : ℕ) → new ≡ (if event_number e == event_number event then bounded (old + 1) else old)
-    → old ≡ bounded (times_heard e heard) → new ≡ bounded (times_heard e (heard ++ event ∷ []))
+pub counts_more : (event e : Event) (heard : List Event) (new old : ℕ) → new ≡ (if event_number e == event_number event then bounded_count (old + 1) else old)
+    → old ≡ bounded_count (times_heard e heard) → new ≡ bounded_count (times_heard e (heard ++ event ∷ []))
 counts_more event e heard new old is was = is ∙ rw (times_more e event heard) (by (is_same e event))
   where
-    by : (b : Bool) → (if b then bounded (old + 1) else old) ≡ bounded (times_heard e heard + (if b then 1 else 0))
+    by : (b : Bool) → (if b then bounded_count (old + 1) else old) ≡ bounded_count (times_heard e heard + (if b then 1 else 0))
     by true = rw was (bounded_more (times_heard e heard))
-    by false = was ∙ ap bounded (sym (add-zero (times_heard e heard)))
+    by false = was ∙ ap bounded_count (sym (add-zero (times_heard e heard)))
 
 -- an event that no rule is on was heard
 pub counts_same : (event e : Event) (rules : List Rule) (heard : List Event) (count : ℕ) → places_of rules (event_number event) ≡ []
-    → (places_of rules (event_number e) ≡ []) ⊎ (count ≡ bounded (times_heard e heard))
-    → (places_of rules (event_number e) ≡ []) ⊎ (count ≡ bounded (times_heard e (heard ++ event ∷ [])))
+    → (places_of rules (event_number e) ≡ []) ⊎ (count ≡ bounded_count (times_heard e heard))
+    → (places_of rules (event_number e) ≡ []) ⊎ (count ≡ bounded_count (times_heard e (heard ++ event ∷ [])))
 counts_same event e rules heard count none (inl h) = inl h
 counts_same event e rules heard count none (inr h) = by (eqb_tells (event_number e) (event_number event))
   where
     by : (is_same e event ≡ true) × (event_number e ≡ event_number event) ⊎ (is_same e event ≡ false) × (event_number e ≢ event_number event)
-        → (places_of rules (event_number e) ≡ []) ⊎ (count ≡ bounded (times_heard e (heard ++ event ∷ [])))
+        → (places_of rules (event_number e) ≡ []) ⊎ (count ≡ bounded_count (times_heard e (heard ++ event ∷ [])))
     by (inl g) = inl (ap (λ (n : ℕ). places_of rules n) g.1 ∙ none)
-    by (inr g) = inr (rw (times_more e event heard, g.0) (h ∙ ap bounded (sym (add-zero (times_heard e heard)))))
+    by (inr g) = inr (rw (times_more e event heard, g.0) (h ∙ ap bounded_count (sym (add-zero (times_heard e heard)))))
 
 -- the rules on an event, and its count, tell which rules answer
 pub hears_none : (rules : List Rule) (heard : List Event) (event : Event) (index : RuleIndex) (left : List ℕ) → places_at index (event_number event) ≡ []
@@ -114,24 +114,24 @@ hears_none rules heard event index left none h =
 
 pub hears_some : (rules : List Rule) (heard : List Event) (event : Event) (new old : RuleIndex) (left due : List ℕ) → places_at old (event_number event) ≢ []
     → new.places ≡ old.places
-    → ((m : ℕ) → count_at new m ≡ (if m == event_number event then bounded (count_at old m + 1) else count_at old m))
-    → ((times : ℕ) → count_at old (event_number event) ≡ bounded times → due ≡ left ++ filter (λ p. nat_lt times (rule_at rules p).times) (places_at old (event_number event)))
+    → ((m : ℕ) → count_at new m ≡ (if m == event_number event then bounded_count (count_at old m + 1) else count_at old m))
+    → ((times : ℕ) → count_at old (event_number event) ≡ bounded_count times → due ≡ left ++ filter (λ p. nat_lt times (rule_at rules p).times) (places_at old (event_number event)))
     → Indexes rules heard old → Hears rules heard event (Some new) (rules_at rules left) (rules_at rules due)
 hears_some rules heard event new old left due some same counted chosen h =
     record {
       indexed = record {
-        places = λ m. ap (λ (ps : BTreeMap ℕ (Vec ℕ Global)). listed (get nat_cmp ps m)) same ∙ h.places m;
+        places = λ m. ap (λ (ps : BTreeMap ℕ (Vec ℕ Global)). places_or_none (get nat_cmp ps m)) same ∙ h.places m;
         counts = λ e. count_by e (h.counts e);
       };
       due = found (h.counts event);
     }
   where
-    count_by : (e : Event) → (places_of rules (event_number e) ≡ []) ⊎ (count_at old (event_number e) ≡ bounded (times_heard e heard))
-        → (places_of rules (event_number e) ≡ []) ⊎ (count_at new (event_number e) ≡ bounded (times_heard e (heard ++ event ∷ [])))
+    count_by : (e : Event) → (places_of rules (event_number e) ≡ []) ⊎ (count_at old (event_number e) ≡ bounded_count (times_heard e heard))
+        → (places_of rules (event_number e) ≡ []) ⊎ (count_at new (event_number e) ≡ bounded_count (times_heard e (heard ++ event ∷ [])))
     count_by e (inl g) = inl g
     count_by e (inr g) = inr (counts_more event e heard (count_at new (event_number e)) (count_at old (event_number e)) (counted (event_number e)) g)
 
-    found : (places_of rules (event_number event) ≡ []) ⊎ (count_at old (event_number event) ≡ bounded (times_heard event heard))
+    found : (places_of rules (event_number event) ≡ []) ⊎ (count_at old (event_number event) ≡ bounded_count (times_heard event heard))
         → rules_at rules due ≡ rules_at rules left ++ filter (answers heard event) rules
     found (inl g) = absurd (some (h.places (event_number event) ∙ g))
     found (inr g) =

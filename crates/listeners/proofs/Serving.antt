@@ -11,7 +11,7 @@ use Rattle.mse_calls.specs.declared.events.Event.{Event}
 use Rattle.mse_calls.specs.declared.entry.Entry.{Entry}
 use Rattle.mse_calls.specs.declared.entry.Entry.TheVariants.{Step, Script, Listener, Fired, Work, Element}
 use Rattle.mse_engine.specs.State.{State}
-use Rattle.mse_engine.specs.Standing.{Kept, Stands, IsStep}
+use Rattle.mse_engine.specs.Standing.{Stands, IsStep}
 use Rattle.mse_engine.specs.Calls.{after_call}
 use Rattle.mse_engine.specs.Sound.{IsSoundEngine}
 use Rattle.mse_engine.proofs.Goes.{goes_none, goes_then, goes_listener}
@@ -20,6 +20,7 @@ use Rattle.listeners.specs.declared.listener.Note.TheVariants.{Heard, Made, Told
 use Rattle.listeners.specs.declared.event_dispatch.DispatchFault.TheVariants.{OutOfMemory, CallBudget, TaskBudget}
 use Rattle.listeners.specs.Notes.{told_note, asked_note, entry_notes, is_call_of, call_notes, call_count}
 use Rattle.listeners.specs.Dispatch.{CallsInTurn, MakesCalls, IsCallTurn, IsTurn}
+use Rattle.listeners.specs.Views.{RunView, TurnView, turn_view}
 
 -- ---- entries that are calls in turn
 
@@ -57,37 +58,42 @@ calls_one_more w xs call answer h = CallsInTurn-induction (λ low ys. low ≤ w 
 
 -- ---- what the entries do
 
-pub makes_none : (blobs : List (List ℕ)) (j : List Entry) (e : Kept) (l : ℕ) → MakesCalls blobs j j e e l l []
-makes_none blobs j e l = record { journal = sym (append-nil j); engine = goes_none blobs e; left = omega arith }
+pub makes_none : (blobs : List (List ℕ)) (r : RunView) → MakesCalls blobs r r []
+makes_none blobs r = record { journal = sym (append-nil r.entries); engine = goes_none blobs r.engine; left = omega arith }
 
-pub makes_then : (blobs : List (List ℕ)) (j0 j1 j2 : List Entry) (e0 e1 e2 : Kept) (l0 l1 l2 : ℕ) (xs ys : List Entry)
-    → MakesCalls blobs j0 j1 e0 e1 l0 l1 xs → MakesCalls blobs j1 j2 e1 e2 l1 l2 ys → MakesCalls blobs j0 j2 e0 e2 l0 l2 (xs ++ ys)
-makes_then blobs j0 j1 j2 e0 e1 e2 l0 l1 l2 xs ys p q = record {
-  journal = q.journal ∙ ap (λ (x : List Entry). x ++ ys) p.journal ∙ append_assoc j0 xs ys;
-  engine = goes_then blobs e0 e1 e2 xs ys p.engine q.engine;
+pub makes_then : (blobs : List (List ℕ)) (r0 r1 r2 : RunView) (xs ys : List Entry)
+    → MakesCalls blobs r0 r1 xs → MakesCalls blobs r1 r2 ys → MakesCalls blobs r0 r2 (xs ++ ys)
+makes_then blobs r0 r1 r2 xs ys p q = record {
+  journal = q.journal ∙ ap (λ (x : List Entry). x ++ ys) p.journal ∙ append_assoc r0.entries xs ys;
+  engine = goes_then blobs r0.engine r1.engine r2.engine xs ys p.engine q.engine;
   left = omega (arith, length-append xs ys, p.left, q.left);
 }
 
 -- a call of listener `w` that the engine answered, behind which it is sound
-pub makes_one : (blobs : List (List ℕ)) (w : ℕ) (call : Call) (answer : Answer) (j0 j1 : List Entry) (e0 e1 : Kept) (l0 l1 : ℕ)
-    → j1 ≡ j0 ++ Listener w call answer ∷ [] → ((st : State) → Stands e0 st → IsStep answer e1 (after_call blobs call st)) → IsSoundEngine e1 → l0 ≡ l1 + 1
-    → MakesCalls blobs j0 j1 e0 e1 l0 l1 (Listener w call answer ∷ [])
-makes_one blobs w call answer j0 j1 e0 e1 l0 l1 j a sound l = record { journal = j; engine = goes_listener blobs e0 e1 w call answer a sound; left = l }
+pub makes_one : (blobs : List (List ℕ)) (w : ℕ) (call : Call) (answer : Answer) (r0 r1 : RunView)
+    → r1.entries ≡ r0.entries ++ Listener w call answer ∷ []
+    → ((st : State) → Stands r0.engine st → IsStep answer r1.engine (after_call blobs call st)) → IsSoundEngine r1.engine
+    → r0.left ≡ r1.left + 1 → MakesCalls blobs r0 r1 (Listener w call answer ∷ [])
+makes_one blobs w call answer r0 r1 j a sound l =
+    record { journal = j; engine = goes_listener blobs r0.engine r1.engine w call answer a sound; left = l }
 
 -- ---- one call
 
 -- it was not made
-pub call_turn_unmade : (blobs : List (List ℕ)) (w : ℕ) (call : Call) (j0 j1 : List Entry) (e0 e1 : Kept) (l : ℕ) (n : List Note) (memory : NoMemory)
-    → j1 ≡ j0 → e1 ≡ e0 → IsCallTurn blobs w call j0 j1 e0 e1 l l n n (Err memory)
-call_turn_unmade blobs w call j0 j1 e0 e1 l n memory j e =
-    (refl, inl (rw (j, e) (makes_none blobs j0 e0 l)))
+pub call_turn_unmade : (blobs : List (List ℕ)) (w : ℕ) (call : Call) (r0 r1 : RunView) (n : List Note) (memory : NoMemory)
+    → r1.entries ≡ r0.entries → r1.engine ≡ r0.engine → r1.left ≡ r0.left
+    → IsCallTurn blobs call (turn_view w r0 n) (turn_view w r1 n) (Err memory)
+call_turn_unmade blobs w call r0 r1 n memory j e l = (
+  refl,
+  inl (record { journal = j ∙ sym (append-nil r0.entries); engine = rw e (goes_none blobs r0.engine); left = omega (arith, l) }),
+)
 
 -- it was made, and what the listener said then
-pub call_turn_made : (blobs : List (List ℕ)) (w : ℕ) (call : Call) (answer : Answer) (j0 j1 : List Entry) (e0 e1 : Kept) (l0 l1 : ℕ) (n0 n1 : List Note) (asked : Result (Option Call) NoMemory)
-    → MakesCalls blobs j0 j1 e0 e1 l0 l1 (Listener w call answer ∷ []) → IfOk asked (λ next. n1 ≡ n0 ++ (told_note (Some answer) ++ asked_note next)) → OnErr asked (n1 ≡ n0)
-    → IsCallTurn blobs w call j0 j1 e0 e1 l0 l1 n0 n1 asked
-call_turn_made blobs w call answer j0 j1 e0 e1 l0 l1 n0 n1 (Ok next) m ok err = (answer, m, ok)
-call_turn_made blobs w call answer j0 j1 e0 e1 l0 l1 n0 n1 (Err memory) m ok err = (err, inr (answer, m))
+pub call_turn_made : (blobs : List (List ℕ)) (w : ℕ) (call : Call) (answer : Answer) (r0 r1 : RunView) (n0 n1 : List Note) (asked : Result (Option Call) NoMemory)
+    → MakesCalls blobs r0 r1 (Listener w call answer ∷ []) → IfOk asked (λ next. n1 ≡ n0 ++ (told_note (Some answer) ++ asked_note next)) → OnErr asked (n1 ≡ n0)
+    → IsCallTurn blobs call (turn_view w r0 n0) (turn_view w r1 n1) asked
+call_turn_made blobs w call answer r0 r1 n0 n1 (Ok next) m ok err = (answer, m, ok)
+call_turn_made blobs w call answer r0 r1 n0 n1 (Err memory) m ok err = (err, inr (answer, m))
 
 -- ---- the notes of the turn
 
@@ -107,33 +113,35 @@ seam : (n b a : List Note) (m t : Note) → (n ++ (b ++ m ∷ [])) ++ t ∷ a �
 seam n b a m t = simp append_assoc
 
 -- The listener heard the event, made so many calls, and then answered what stands for `asked`.
-pub record IsServing (blobs : List (List ℕ)) (event : Event) (w : ℕ) (j0 j1 : List Entry) (e0 e1 : Kept) (l0 l1 : ℕ) (n0 n1 : List Note) (asked : Option Call) (made : ℕ) : Type 0 where
+pub record IsServing (blobs : List (List ℕ)) (event : Event) (old new : TurnView) (asked : Option Call) (made : ℕ) : Type 0 where
   pub entries : List Entry
-  pub calls : MakesCalls blobs j0 j1 e0 e1 l0 l1 entries
-  pub own : CallsInTurn w (w + 1) entries
+  pub calls : MakesCalls blobs old.run new.run entries
+  pub own : CallsInTurn old.number (old.number + 1) entries
   pub count : length entries ≡ made
   pub few : made ≤ 1000
-  pub notes : n1 ≡ n0 ++ (begun event w entries ++ asked_note asked)
+  pub notes : new.notes ≡ old.notes ++ (begun event old.number entries ++ asked_note asked)
 
-pub serving_start : (blobs : List (List ℕ)) (event : Event) (w : ℕ) (j : List Entry) (e : Kept) (l : ℕ) (n0 n1 n2 : List Note) (asked : Option Call)
-    → n1 ≡ n0 ++ Heard event ∷ [] → n2 ≡ n1 ++ ([] ++ asked_note asked) → IsServing blobs event w j j e e l l n0 n2 asked 0
-serving_start blobs event w j e l n0 n1 n2 asked p q = record {
+pub serving_start : (blobs : List (List ℕ)) (event : Event) (w : ℕ) (r : RunView) (n0 n1 n2 : List Note) (asked : Option Call)
+    → n1 ≡ n0 ++ Heard event ∷ [] → n2 ≡ n1 ++ ([] ++ asked_note asked)
+    → IsServing blobs event (turn_view w r n0) (turn_view w r n2) asked 0
+serving_start blobs event w r n0 n1 n2 asked p q = record {
   entries = [];
-  calls = makes_none blobs j e l;
+  calls = makes_none blobs r;
   own = tt;
   count = refl;
   few = omega arith;
   notes = q ∙ ap (λ (n : List Note). n ++ asked_note asked) p ∙ append_assoc n0 (Heard event ∷ []) (asked_note asked);
 }
 
-pub serving_more : (blobs : List (List ℕ)) (event : Event) (w : ℕ) (j0 j1 j2 : List Entry) (e0 e1 e2 : Kept) (l0 l1 l2 : ℕ) (n0 n1 n2 : List Note) (call : Call) (asked : Option Call) (made : ℕ)
-    → IsServing blobs event w j0 j1 e0 e1 l0 l1 n0 n1 (Some call) made → made ≢ 1000
-    → IsCallTurn blobs w call j1 j2 e1 e2 l1 l2 n1 n2 (Ok asked) → IsServing blobs event w j0 j2 e0 e2 l0 l2 n0 n2 asked (made + 1)
-serving_more blobs event w j0 j1 j2 e0 e1 e2 l0 l1 l2 n0 n1 n2 call asked made s ne c =
+pub serving_more : (blobs : List (List ℕ)) (event : Event) (w : ℕ) (r0 r1 r2 : RunView) (n0 n1 n2 : List Note) (call : Call) (asked : Option Call) (made : ℕ)
+    → IsServing blobs event (turn_view w r0 n0) (turn_view w r1 n1) (Some call) made → made ≢ 1000
+    → IsCallTurn blobs call (turn_view w r1 n1) (turn_view w r2 n2) (Ok asked)
+    → IsServing blobs event (turn_view w r0 n0) (turn_view w r2 n2) asked (made + 1)
+serving_more blobs event w r0 r1 r2 n0 n1 n2 call asked made s ne c =
     let one : List Entry = Listener w call c.0 ∷ [] in
     record {
       entries = s.entries ++ one;
-      calls = makes_then blobs j0 j1 j2 e0 e1 e2 l0 l1 l2 s.entries one s.calls c.1;
+      calls = makes_then blobs r0 r1 r2 s.entries one s.calls c.1;
       own = calls_one_more w s.entries call c.0 s.own;
       count = omega (arith, length-append s.entries one, s.count);
       few = omega (arith, s.few);
@@ -145,47 +153,49 @@ serving_more blobs event w j0 j1 j2 e0 e1 e2 l0 l1 l2 n0 n1 n2 call asked made s
 -- ---- how a turn ends
 
 -- the event was not heard
-pub turn_unheard : (blobs : List (List ℕ)) (event : Event) (w : ℕ) (j : List Entry) (e : Kept) (l : ℕ) (n0 n1 : List Note)
-    → n1 ≡ n0 → IsTurn blobs event w j j e e l l n0 n1 (Err OutOfMemory)
-turn_unheard blobs event w j e l n0 n1 p = record {
+pub turn_unheard : (blobs : List (List ℕ)) (event : Event) (w : ℕ) (r : RunView) (n0 n1 : List Note)
+    → n1 ≡ n0 → IsTurn blobs event (turn_view w r n0) (turn_view w r n1) (Err OutOfMemory)
+turn_unheard blobs event w r n0 n1 p = record {
   entries = [];
-  calls = makes_none blobs j e l;
+  calls = makes_none blobs r;
   own = tt;
   few = omega arith;
   notes = inl (record { no_call = refl; notes = p });
 }
 
 -- it was not asked
-pub turn_unasked : (blobs : List (List ℕ)) (event : Event) (w : ℕ) (j : List Entry) (e : Kept) (l : ℕ) (n0 n1 n2 : List Note)
-    → n1 ≡ n0 ++ Heard event ∷ [] → n2 ≡ n1 → IsTurn blobs event w j j e e l l n0 n2 (Err OutOfMemory)
-turn_unasked blobs event w j e l n0 n1 n2 p q = record {
+pub turn_unasked : (blobs : List (List ℕ)) (event : Event) (w : ℕ) (r : RunView) (n0 n1 n2 : List Note)
+    → n1 ≡ n0 ++ Heard event ∷ [] → n2 ≡ n1 → IsTurn blobs event (turn_view w r n0) (turn_view w r n2) (Err OutOfMemory)
+turn_unasked blobs event w r n0 n1 n2 p q = record {
   entries = [];
-  calls = makes_none blobs j e l;
+  calls = makes_none blobs r;
   own = tt;
   few = omega arith;
   notes = inr (inl (q ∙ p));
 }
 
 -- the call was not made
-call_unmade : (blobs : List (List ℕ)) (event : Event) (w : ℕ) (j0 j1 j2 : List Entry) (e0 e1 e2 : Kept) (l0 l1 l2 : ℕ) (n0 n1 n2 : List Note) (call : Call) (made : ℕ)
-    → IsServing blobs event w j0 j1 e0 e1 l0 l1 n0 n1 (Some call) made → n2 ≡ n1 → MakesCalls blobs j1 j2 e1 e2 l1 l2 [] → IsTurn blobs event w j0 j2 e0 e2 l0 l2 n0 n2 (Err OutOfMemory)
-call_unmade blobs event w j0 j1 j2 e0 e1 e2 l0 l1 l2 n0 n1 n2 call made s same stays = record {
+call_unmade : (blobs : List (List ℕ)) (event : Event) (w : ℕ) (r0 r1 r2 : RunView) (n0 n1 n2 : List Note) (call : Call) (made : ℕ)
+    → IsServing blobs event (turn_view w r0 n0) (turn_view w r1 n1) (Some call) made → n2 ≡ n1 → MakesCalls blobs r1 r2 []
+    → IsTurn blobs event (turn_view w r0 n0) (turn_view w r2 n2) (Err OutOfMemory)
+call_unmade blobs event w r0 r1 r2 n0 n1 n2 call made s same stays = record {
   entries = s.entries;
-  calls = subst (λ (x : List Entry). MakesCalls blobs j0 j2 e0 e2 l0 l2 x) (append-nil s.entries) (makes_then blobs j0 j1 j2 e0 e1 e2 l0 l1 l2 s.entries [] s.calls stays);
+  calls = subst (λ (x : List Entry). MakesCalls blobs r0 r2 x) (append-nil s.entries) (makes_then blobs r0 r1 r2 s.entries [] s.calls stays);
   own = s.own;
   few = omega (arith, s.count, s.few);
   notes = inr (inr (inr (call, same ∙ s.notes)));
 }
 
 -- the answer was not told
-answer_untold : (blobs : List (List ℕ)) (event : Event) (w : ℕ) (j0 j1 j2 : List Entry) (e0 e1 e2 : Kept) (l0 l1 l2 : ℕ) (n0 n1 n2 : List Note) (call : Call) (made : ℕ)
-    → IsServing blobs event w j0 j1 e0 e1 l0 l1 n0 n1 (Some call) made → made ≢ 1000 → n2 ≡ n1 → (answer : Answer) → MakesCalls blobs j1 j2 e1 e2 l1 l2 (Listener w call answer ∷ [])
-    → IsTurn blobs event w j0 j2 e0 e2 l0 l2 n0 n2 (Err OutOfMemory)
-answer_untold blobs event w j0 j1 j2 e0 e1 e2 l0 l1 l2 n0 n1 n2 call made s ne same answer m =
+answer_untold : (blobs : List (List ℕ)) (event : Event) (w : ℕ) (r0 r1 r2 : RunView) (n0 n1 n2 : List Note) (call : Call) (made : ℕ)
+    → IsServing blobs event (turn_view w r0 n0) (turn_view w r1 n1) (Some call) made → made ≢ 1000 → n2 ≡ n1
+    → (answer : Answer) → MakesCalls blobs r1 r2 (Listener w call answer ∷ [])
+    → IsTurn blobs event (turn_view w r0 n0) (turn_view w r2 n2) (Err OutOfMemory)
+answer_untold blobs event w r0 r1 r2 n0 n1 n2 call made s ne same answer m =
     let one : List Entry = Listener w call answer ∷ [] in
     record {
       entries = s.entries ++ one;
-      calls = makes_then blobs j0 j1 j2 e0 e1 e2 l0 l1 l2 s.entries one s.calls m;
+      calls = makes_then blobs r0 r1 r2 s.entries one s.calls m;
       own = calls_one_more w s.entries call answer s.own;
       few = omega (arith, length-append s.entries one, s.count, s.few, ne);
       notes = inr (inr (inl (
@@ -196,35 +206,36 @@ answer_untold blobs event w j0 j1 j2 e0 e1 e2 l0 l1 l2 n0 n1 n2 call made s ne s
       )));
     }
 
-pub turn_unmade : (blobs : List (List ℕ)) (event : Event) (w : ℕ) (j0 j1 j2 : List Entry) (e0 e1 e2 : Kept) (l0 l1 l2 : ℕ) (n0 n1 n2 : List Note) (call : Call) (made : ℕ) (memory : NoMemory)
-    → IsServing blobs event w j0 j1 e0 e1 l0 l1 n0 n1 (Some call) made → made ≢ 1000
-    → IsCallTurn blobs w call j1 j2 e1 e2 l1 l2 n1 n2 (Err memory) → IsTurn blobs event w j0 j2 e0 e2 l0 l2 n0 n2 (Err OutOfMemory)
-turn_unmade blobs event w j0 j1 j2 e0 e1 e2 l0 l1 l2 n0 n1 n2 call made memory s ne c =
+pub turn_unmade : (blobs : List (List ℕ)) (event : Event) (w : ℕ) (r0 r1 r2 : RunView) (n0 n1 n2 : List Note) (call : Call) (made : ℕ) (memory : NoMemory)
+    → IsServing blobs event (turn_view w r0 n0) (turn_view w r1 n1) (Some call) made → made ≢ 1000
+    → IsCallTurn blobs call (turn_view w r1 n1) (turn_view w r2 n2) (Err memory)
+    → IsTurn blobs event (turn_view w r0 n0) (turn_view w r2 n2) (Err OutOfMemory)
+turn_unmade blobs event w r0 r1 r2 n0 n1 n2 call made memory s ne c =
     elim c.1 [
-      | inl stays ↦ call_unmade blobs event w j0 j1 j2 e0 e1 e2 l0 l1 l2 n0 n1 n2 call made s c.0 stays
-      | inr m ↦ answer_untold blobs event w j0 j1 j2 e0 e1 e2 l0 l1 l2 n0 n1 n2 call made s ne c.0 m.0 m.1
+      | inl stays ↦ call_unmade blobs event w r0 r1 r2 n0 n1 n2 call made s c.0 stays
+      | inr m ↦ answer_untold blobs event w r0 r1 r2 n0 n1 n2 call made s ne c.0 m.0 m.1
     ]
 
-pub turn_done : (blobs : List (List ℕ)) (event : Event) (w : ℕ) (j0 j1 : List Entry) (e0 e1 : Kept) (l0 l1 : ℕ) (n0 n1 : List Note) (made : ℕ)
-    → IsServing blobs event w j0 j1 e0 e1 l0 l1 n0 n1 None made → IsTurn blobs event w j0 j1 e0 e1 l0 l1 n0 n1 (Ok tt)
-turn_done blobs event w j0 j1 e0 e1 l0 l1 n0 n1 made s = record { entries = s.entries; calls = s.calls; own = s.own; few = omega (arith, s.count, s.few); notes = s.notes }
+pub turn_done : (blobs : List (List ℕ)) (event : Event) (old new : TurnView) (made : ℕ)
+    → IsServing blobs event old new None made → IsTurn blobs event old new (Ok tt)
+turn_done blobs event old new made s = record { entries = s.entries; calls = s.calls; own = s.own; few = omega (arith, s.count, s.few); notes = s.notes }
 
-pub turn_call_budget : (blobs : List (List ℕ)) (event : Event) (w : ℕ) (j0 j1 : List Entry) (e0 e1 : Kept) (l0 l1 : ℕ) (n0 n1 : List Note) (call : Call) (made : ℕ)
-    → IsServing blobs event w j0 j1 e0 e1 l0 l1 n0 n1 (Some call) made → made ≡ 1000 → IsTurn blobs event w j0 j1 e0 e1 l0 l1 n0 n1 (Err (CallBudget w))
-turn_call_budget blobs event w j0 j1 e0 e1 l0 l1 n0 n1 call made s full = record {
+pub turn_call_budget : (blobs : List (List ℕ)) (event : Event) (old new : TurnView) (call : Call) (made : ℕ)
+    → IsServing blobs event old new (Some call) made → made ≡ 1000 → IsTurn blobs event old new (Err (CallBudget old.number))
+turn_call_budget blobs event old new call made s full = record {
   entries = s.entries;
   calls = s.calls;
   own = s.own;
   few = omega (arith, s.count, s.few);
-  notes = (refl, count_own w s.entries s.own ∙ s.count ∙ full, (call, s.notes));
+  notes = (refl, count_own old.number s.entries s.own ∙ s.count ∙ full, (call, s.notes));
 }
 
-pub turn_task_budget : (blobs : List (List ℕ)) (event : Event) (w : ℕ) (j0 j1 : List Entry) (e0 e1 : Kept) (l0 l1 : ℕ) (n0 n1 : List Note) (call : Call) (made : ℕ)
-    → IsServing blobs event w j0 j1 e0 e1 l0 l1 n0 n1 (Some call) made → made ≢ 1000 → l1 ≡ 0 → IsTurn blobs event w j0 j1 e0 e1 l0 l1 n0 n1 (Err TaskBudget)
-turn_task_budget blobs event w j0 j1 e0 e1 l0 l1 n0 n1 call made s ne none = record {
+pub turn_task_budget : (blobs : List (List ℕ)) (event : Event) (old new : TurnView) (call : Call) (made : ℕ)
+    → IsServing blobs event old new (Some call) made → made ≢ 1000 → new.run.left ≡ 0 → IsTurn blobs event old new (Err TaskBudget)
+turn_task_budget blobs event old new call made s ne none = record {
   entries = s.entries;
   calls = s.calls;
   own = s.own;
   few = omega (arith, s.count, s.few);
-  notes = (none, omega (arith, count_own w s.entries s.own, s.count, s.few), (call, s.notes));
+  notes = (none, omega (arith, count_own old.number s.entries s.own, s.count, s.few), (call, s.notes));
 }

@@ -19,7 +19,13 @@ use Rattle.listeners.specs.Index.{IsIndexed}
 
 -- stands past the end of a list of rules, and answers nothing
 abbrev pub no_rule : Rule
-no_rule = record { listener = 0; on = record { target = Source; kind = SourceOpen }; times = 0; repeat = false; calls = [] }
+no_rule = record {
+  listener = 0;
+  on = record { target = Source; kind = SourceOpen };
+  times = 0;
+  repeat = false;
+  calls = [];
+}
 
 abbrev pub rule_at : List Rule → ℕ → Rule
 rule_at rules place = get_or rules place no_rule
@@ -41,7 +47,8 @@ notes_of rules remarks = map (note_of rules) remarks
 abbrev pub once_left : ℕ → List Rule → List Call
 once_left zero rules = once_calls rules
 once_left (suc n) [] = []
-once_left (suc n) (rule ∷ rules) = drop (suc n) rule.calls ++ (if rule.repeat then [] else once_calls rules)
+once_left (suc n) (rule ∷ rules) =
+    drop (suc n) rule.calls ++ (if rule.repeat then [] else once_calls rules)
 
 -- what all these rules give is what was made, and then what the others have left; and so it stays
 -- where more rules come
@@ -65,7 +72,8 @@ abbrev pub rules_at : List Rule → List ℕ → List Rule
 rules_at rules places = map (rule_at rules) places
 
 -- what a listener by rules keeps
-pub record Holds (rules : List Rule) (notes : List Note) (index : Option RuleIndex) (due : List ℕ) (call : ℕ) : Type 0 where
+pub record Holds (rules : List Rule) (notes : List Note) (index : Option RuleIndex)
+    (due : List ℕ) (call : ℕ) : Type 0 where
   pub left : IsLeft (made_of notes) (answering rules (heard_of notes)) call (rules_at rules due)
   pub ready : IsReady call (rules_at rules due)
   pub indexed : IsIndexed rules (heard_of notes) index

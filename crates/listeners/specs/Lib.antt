@@ -1,7 +1,8 @@
 pub mod Notes
 pub mod Events
 pub mod RuleCalls
-pub mod Book
+pub mod ListenerView
 pub mod Index
 pub mod Coming
+pub mod Views
 pub mod Dispatch

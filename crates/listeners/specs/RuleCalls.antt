@@ -52,9 +52,11 @@ calls_from (suc n) [] (call ∷ again) = call ∷ calls_from n again (call ∷ a
 
 -- the first `n` calls that rules give for the events that are heard, or all where there are fewer
 unfoldable pub rule_calls : List Rule → List Event → ℕ → List Call
-rule_calls rules events n = calls_from n (once_calls (answering rules events)) (again_calls (answering rules events))
+rule_calls rules events n =
+    calls_from n (once_calls (answering rules events)) (again_calls (answering rules events))
 
 -- the call that rules give after those that were made; none where they give no more
 unfoldable pub next_call : List Rule → List Note → Option Call
 next_call rules notes =
-    slice_get (rule_calls rules (heard_of notes) (length (made_of notes) + 1)) (length (made_of notes))
+    slice_get (rule_calls rules (heard_of notes) (length (made_of notes) + 1))
+    (length (made_of notes))

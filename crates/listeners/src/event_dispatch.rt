@@ -3,6 +3,7 @@ ghost use Rattle.std.specs.Option.{option_copied};
 ghost use Rattle.listeners.specs.declared.listener.Note.{Note};
 ghost use Rattle.listeners.specs.Notes.{told_note, asked_note};
 ghost use Rattle.listeners.specs.Dispatch.{IsCallTurn, IsDispatch, IsTurn};
+ghost use Rattle.listeners.specs.Views.{run_view, turn_view, dispatch_view};
 
 use crate::Listener;
 use mse_base::OutOfMemory;
@@ -62,8 +63,12 @@ fn make_one<S: FrameStore>(
 ) -> Result<Option<Call>, OutOfMemory>
     requires { 1 ≤ left.old }
     ensures rules { rules listener.new ≡ rules listener.old }
-    ensures turn { IsCallTurn blobs.now number call journal.old.entries journal.new.entries
-        engine.old engine.new left.old left.new (notes listener.old) (notes listener.new) result }
+    ensures turn { IsCallTurn blobs.now call
+        (turn_view number (run_view engine.old journal.old.entries left.old)
+        (notes listener.old))
+        (turn_view number (run_view engine.new journal.new.entries left.new)
+        (notes listener.new))
+        result }
 {
     let Ok(()) = journal.reserve(1) else {
         return Err(OutOfMemory);
@@ -88,8 +93,12 @@ fn serve<S: FrameStore>(
     journal: &mut Journal,
 ) -> Result<(), DispatchFault>
     ensures rules { rules listener.new ≡ rules listener.old }
-    ensures turn { IsTurn blobs.now event.now number journal.old.entries journal.new.entries
-        engine.old engine.new left.old left.new (notes listener.old) (notes listener.new) result }
+    ensures turn { IsTurn blobs.now event.now
+        (turn_view number (run_view engine.old journal.old.entries left.old)
+        (notes listener.old))
+        (turn_view number (run_view engine.new journal.new.entries left.new)
+        (notes listener.new))
+        result }
 {
     let Ok(()) = hear_one(listener, event) else {
         return Err(DispatchFault::OutOfMemory);
@@ -130,9 +139,11 @@ pub fn dispatch<S: FrameStore>(
     ensures count { vec_len listeners.new ≡ vec_len listeners.old }
     ensures rules { map (λ b. rules b) listeners.new.items
         ≡ map (λ b. rules b) listeners.old.items }
-    ensures dispatch { IsDispatch blobs.now event.now journal.old.entries journal.new.entries
-        engine.old engine.new left.old left.new (map (λ b. notes b) listeners.old.items)
-        (map (λ b. notes b) listeners.new.items) result }
+    ensures dispatch { IsDispatch blobs.now event.now
+        (dispatch_view (run_view engine.old journal.old.entries left.old)
+        (map (λ b. notes b) listeners.old.items))
+        (dispatch_view (run_view engine.new journal.new.entries left.new)
+        (map (λ b. notes b) listeners.new.items)) result }
 {
     for number in 0..listeners.len() {
         let listener = &mut listeners[number];

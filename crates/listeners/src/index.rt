@@ -3,7 +3,7 @@ ghost use Rattle.std.specs.List.{filter};
 ghost use Rattle.std.specs.BTreeMap.{get};
 ghost use Rattle.std.specs.Ordering.{nat_cmp};
 ghost use Rattle.mse_calls.specs.declared.rules.Rule.{Rule};
-ghost use Rattle.listeners.specs.Index.{is_on, listed, places_at, count_at, bounded, Indexes};
+ghost use Rattle.listeners.specs.Index.{is_on, places_or_none, places_at, count_at, bounded_count, Indexes};
 ghost use Rattle.listeners.specs.Coming.{rule_at};
 
 use crate::numbers::event_number;
@@ -28,9 +28,9 @@ fn add_place(
     number: u64,
     place: usize,
 ) -> Result<(), OutOfMemory>
-    ensures { OnOk result ((m : ℕ) → listed (get nat_cmp places.new m)
-        ≡ (if m == number then listed (get nat_cmp places.old m) ++ place ∷ []
-        else listed (get nat_cmp places.old m))) }
+    ensures { OnOk result ((m : ℕ) → places_or_none (get nat_cmp places.new m)
+        ≡ (if m == number then places_or_none (get nat_cmp places.old m) ++ place ∷ []
+        else places_or_none (get nat_cmp places.old m))) }
 {
     let mut list = places.remove(&number).unwrap_or(Vec::new(alloc));
     list.push(place)?;
@@ -45,9 +45,9 @@ fn add_rule(
     rule: &Rule,
     place: usize,
 ) -> Result<(), OutOfMemory>
-    ensures { OnOk result ((m : ℕ) → listed (get nat_cmp places.new m)
-        ≡ (if is_on m rule.now then listed (get nat_cmp places.old m) ++ place ∷ []
-        else listed (get nat_cmp places.old m))) }
+    ensures { OnOk result ((m : ℕ) → places_or_none (get nat_cmp places.new m)
+        ≡ (if is_on m rule.now then places_or_none (get nat_cmp places.old m) ++ place ∷ []
+        else places_or_none (get nat_cmp places.old m))) }
 {
     if rule.calls.is_empty() {
         return Ok(());
@@ -94,7 +94,7 @@ impl RuleIndex {
     pub fn count_one(&mut self, number: u64) -> Result<(), OutOfMemory>
         ensures places { self.new.places ≡ self.old.places }
         ensures ok { OnOk result ((m : ℕ) → count_at self.new m
-            ≡ (if m == number then bounded (count_at self.old m + 1) else count_at self.old m)) }
+            ≡ (if m == number then bounded_count (count_at self.old m + 1) else count_at self.old m)) }
         ensures err { OnErr result ((m : ℕ) → count_at self.new m ≡ count_at self.old m) }
     {
         let count = self.count(number).saturating_add(1);
@@ -112,7 +112,7 @@ pub fn due_places(
     places: &[usize],
     count: u32,
 ) -> Result<Vec<usize>, OutOfMemory>
-    ensures { (times : ℕ) → count ≡ bounded times → IfOk result (λ due. due.items
+    ensures { (times : ℕ) → count ≡ bounded_count times → IfOk result (λ due. due.items
         ≡ left.now ++ filter (λ place. nat_lt times (rule_at rules.now place).times) places.now) }
 {
     let mut due = Vec::new(alloc);
@@ -127,13 +127,13 @@ pub fn due_places(
 
 // Whether a number of times is above such a count.
 fn is_above(times: u32, count: u32) -> bool
-    ensures { (heard : ℕ) → count ≡ bounded heard → result ≡ nat_lt heard times }
+    ensures { (heard : ℕ) → count ≡ bounded_count heard → result ≡ nat_lt heard times }
 {
     count < times
 }
 
 fn answers_again(rules: &[Rule], place: usize, count: u32) -> bool
-    ensures { (times : ℕ) → count ≡ bounded times
+    ensures { (times : ℕ) → count ≡ bounded_count times
         → result ≡ nat_lt times (rule_at rules.now place).times }
 {
     match rules.get(place) {

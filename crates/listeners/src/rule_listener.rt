@@ -34,10 +34,10 @@ pub struct RuleListener {
 
 impl Model for RuleListener {
     ghost use Rattle.std.specs.Prelude.{◌≤◌, length, drop};
-    ghost use Rattle.listeners.specs.Book.{Book};
+    ghost use Rattle.listeners.specs.ListenerView.{ListenerView};
     ghost use Rattle.listeners.specs.Coming.{notes_of, Holds};
 
-    ghost Value = { Book };
+    ghost Value = { ListenerView };
 
     ghost view = { λ a. record {
       rules = a.rules.items;

@@ -17,7 +17,8 @@ use Rattle.cut_law.specs.Plays.{drain_entries}
 use Rattle.play_law.proofs.Singles.{some-drain}
 use Rattle.script_run.specs.Doings.{InDrainOrder, IsAtRest}
 use Rattle.script_run.specs.Ran.{Drains, Stepped}
-use Rattle.script_run.specs.Stage.{IsStanding, RunView}
+use Rattle.listeners.specs.Views.{RunView}
+use Rattle.script_run.specs.Stage.{IsStanding}
 use Rattle.script_run.specs.Turns.{calls_in}
 use Rattle.script_run.proofs.Following.{order_then}
 use Rattle.script_run.proofs.Turning.{calls_in-append}

@@ -247,7 +247,7 @@ not-some (Some fault) h = absurd (h refl)
 -- the whole file was run, and the status says whether it breaks the byte stream format
 record RanFile (command : Command) (bytes : List ℕ) (left : Left) (end : Status) : Type 0 where
   journal : IsJournalOf command bytes left.entries
-  wrote : Wrote (text_of (ByFile command bytes) left.entries) left.written_before left.written
+  wrote : Wrote (text_of (ByFile command bytes) left.entries) left.before.written left.now.written
   end_is : end ≡ status_by (is_some (last_state (ByFile command bytes) left.entries).core.source.fault)
 
 ran-file : (n : ℕ) (request : Request) (command : Command) (bytes : List ℕ) (left : Left) (end : Status) → AppendsFile command → IsInRange command → IsThrough end → EndsRun n request (ByFile command bytes) left end → RanFile command bytes left end
@@ -275,7 +275,7 @@ wrote-is : (text before : List ℕ) (old new : Option (List ℕ)) → old ≡ So
 wrote-is text before old new e w = subst (λ (o : Option (List ℕ)). Wrote text o new) e w
 
 pub one-run : (files : Table) (a b : List (List ℕ)) (bytes : List ℕ) (n m : ℕ) (before : List ℕ) (s t : Left) (x y : Status) → NameOneFile files a b bytes → length bytes < 2 ^ 62
-    → s.written_before ≡ Some before → t.written_before ≡ Some before → IsThrough x → IsThrough y → Ends n (asked files a) s x → Ends m (asked files b) t y → (x ≡ y) × (s.written ≡ t.written)
+    → s.before.written ≡ Some before → t.before.written ≡ Some before → IsThrough x → IsThrough y → Ends n (asked files a) s x → Ends m (asked files b) t y → (x ≡ y) × (s.now.written ≡ t.now.written)
 one-run files a b bytes n m before s t x y one short i j f g p q =
     let first : Names files a bytes = names files a bytes one.first one.found in
     let second : Names files b bytes = names files b bytes one.second (ap files (sym one.same) ∙ one.found) in
@@ -284,7 +284,7 @@ one-run files a b bytes n m before s t x y one short i j f g p q =
     let core = one-core first.command second.command bytes s.entries t.entries short here.journal there.journal in
     let text = one-text first.command second.command bytes s.entries t.entries short here.journal there.journal in (
       here.end_is ∙ ap (λ (c : Core). status_by (is_some c.source.fault)) core ∙ sym there.end_is,
-      wrote-is (text_of (ByFile first.command bytes) s.entries) before s.written_before s.written i here.wrote
+      wrote-is (text_of (ByFile first.command bytes) s.entries) before s.before.written s.now.written i here.wrote
           ∙ ap (λ zs. Some (before ++ zs)) text
-          ∙ sym (wrote-is (text_of (ByFile second.command bytes) t.entries) before t.written_before t.written j there.wrote),
+          ∙ sym (wrote-is (text_of (ByFile second.command bytes) t.entries) before t.before.written t.now.written j there.wrote),
     )

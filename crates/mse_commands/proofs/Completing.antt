@@ -13,13 +13,14 @@ use Rattle.mse_commands.specs.declared.ending.End.TheVariants.{CallBudget, TaskB
 use Rattle.mse_commands.specs.declared.ending.Status.{Status}
 use Rattle.mse_commands.specs.declared.ending.Status.TheVariants as status
 use Rattle.mse_commands.specs.Asked.{OfWords, Request, Task, ByScript, asked, opening_of}
+use Rattle.mse_commands.specs.Loads.{failures}
 use Rattle.mse_commands.specs.Outcomes.{Ends, EndsBehind, EndsRun, Left, RanWhole}
 use Rattle.mse_commands.specs.Complete.{CutAnywhere, IsComplete, IsUnhindered, RanToEnd}
 use Rattle.mse_commands.specs.Shown.{last_state}
 
 -- ---- to the end
 
-run_complete : (count : ℕ) (request : Request) (task : Task) (left : Left) (a b : ℕ) (s : Status) → EndsRun count request task left s → (s ≡ status.Write → Rose a b) → IsUnhindered task left a b
+run_complete : (count : ℕ) (request : Request) (task : Task) (left : Left) (a b : ℕ) (s : Status) → EndsRun count request task left s → (s ≡ status.Write → Rose a b) → IsUnhindered task left (failures a b)
     → RanToEnd count task left s ⊎ (s ≡ status.Memory)
 run_complete count request task left a b status.Ok p w u = inl (record { ran = p.0; done = inl (refl, p.1) })
 run_complete count request task left a b status.Media p w u = inl (record { ran = p.0; done = inr (refl, p.1) })
@@ -32,12 +33,12 @@ run_complete count request task left a b status.Words p w u = absurd p
 run_complete count request task left a b status.Script p w u = absurd p
 run_complete count request task left a b status.NoFile p w u = absurd p
 
-pub ends_complete : (count : ℕ) (request : Request) (left : Left) (a b : ℕ) (s : Status) → Ends count request left s → (s ≡ status.Write → Rose a b) → IsComplete count request left a b s
+pub ends_complete : (count : ℕ) (request : Request) (left : Left) (a b : ℕ) (s : Status) → Ends count request left s → (s ≡ status.Write → Rose a b) → IsComplete count request left (failures a b) s
 ends_complete count request left a b s p w = λ task is u.
     run_complete count request task left a b s (subst (λ (t : Result Task End). EndsBehind count request t left s) is p) w u
 
 pub complete_by : (table : Option Table) (words : List (List ℕ)) (count : ℕ) (left : Left) (a b : ℕ) (s : Status) → OfWords table words (λ request. Ends count request left s) → (s ≡ status.Write → Rose a b)
-    → IfSome table (λ files. IsComplete count (asked files words) left a b s)
+    → IfSome table (λ files. IsComplete count (asked files words) left (failures a b) s)
 complete_by None words count left a b s p w = tt
 complete_by (Some files) words count left a b s p w =
     ends_complete count (asked files words) left a b s (subst (λ (request : Request). Ends count request left s) p.1 p.2) w

@@ -8,7 +8,8 @@ use Rattle.mse_engine.specs.State.{State}
 use Rattle.mse_engine.specs.Standing.{Stands}
 use Rattle.script_run.specs.Doings.{IsAtRest}
 use Rattle.script_run.specs.Ran.{Drains, Stepped}
-use Rattle.script_run.specs.Stage.{IsStanding, RunView}
+use Rattle.listeners.specs.Views.{RunView}
+use Rattle.script_run.specs.Stage.{IsStanding}
 use Rattle.mse_commands.specs.Shown.{append_entry, pieces_of}
 use Rattle.mse_commands.specs.Works.{Appended, AppendedFront, IsOpened}
 use Rattle.mse_commands.proofs.Appending.{IsBehindPiece, IsUnderWay, appended, appended_to_fault, behind_stands, front_drained, front_under_way, goes_on, open_stands, piece_done, stands_on, under_way}

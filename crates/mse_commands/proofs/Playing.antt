@@ -3,7 +3,6 @@ use Rattle.std.proofs.Common.{◌≡◌, ◌<◌, ℕ, List, [], ◌++◌, lengt
 use Rattle.std.proofs.lemmas.List.{length-map}
 use Rattle.std.specs.Prelude.{true, false, Option, Result, Ok, Err, OnErr}
 use Rattle.mse_calls.specs.declared.rules.Rule.{Rule}
-use Rattle.call_script.specs.declared.script.StepLine.{StepLine}
 use Rattle.event_text.specs.Block.{closing_text}
 use Rattle.listeners.specs.declared.listener.Note.{Note}
 use Rattle.mse_engine.specs.State.{State}
@@ -13,35 +12,34 @@ use Rattle.script_run.specs.declared.stop.Halt.{Halt}
 use Rattle.script_run.specs.declared.stop.Halt.TheVariants as halt
 use Rattle.script_run.specs.declared.stop.Stop.{Stop}
 use Rattle.script_run.specs.declared.stop.Stop.TheVariants.{Halted, CallBudget, TaskBudget}
-use Rattle.script_run.specs.Follows.{LinesAre, LinesBegin}
-use Rattle.script_run.specs.Lines.{Limits}
+use Rattle.script_run.specs.Follows.{LinesAre}
 use Rattle.script_run.specs.Ran.{Played, PlayedUpTo}
 use Rattle.script_run.specs.Rules.{rules_at, rules_for}
-use Rattle.script_run.specs.Stage.{RunView, Stage, stage}
-use Rattle.script_run.specs.Turns.{SpentInLine}
+use Rattle.listeners.specs.Views.{RunView}
+use Rattle.script_run.specs.Stage.{Stage, stage}
 use Rattle.script_run.specs.Wrote.{Wrote, WroteFront}
 use Rattle.script_run.proofs.Writing.{front_more}
 use Rattle.mse_commands.specs.Endings.{end_of_halt, end_of_stop}
 use Rattle.mse_commands.specs.Outcomes.{HaveRules}
-use Rattle.mse_commands.specs.Works.{PlaysScript}
+use Rattle.mse_commands.specs.Works.{PlaysScript, ScriptInputs, lines_front}
 
-pub plays_to_stop : (limits : Limits) (blobs : List (List ℕ)) (lines : List StepLine) (rules : List Rule) (given : List (List Rule)) (a b : Stage) (stop : Stop)
-    → PlayedUpTo blobs (SpentInLine limits.limit) (LinesBegin blobs limits lines) stop a b → HaveRules rules given → PlaysScript limits blobs lines rules given a b (Err (end_of_stop limits.limit stop))
-plays_to_stop limits blobs lines rules given a b (Halted halt.Memory) p h = inr (inl (record { played = p; rules_are = h }))
-plays_to_stop limits blobs lines rules given a b (Halted halt.Write) p h = inr (inl (record { played = p; rules_are = h }))
-plays_to_stop limits blobs lines rules given a b (CallBudget k) p h = record { played = p; rules_are = h }
-plays_to_stop limits blobs lines rules given a b TaskBudget p h = (refl, record { played = p; rules_are = h })
+pub plays_to_stop : (inputs : ScriptInputs) (given : List (List Rule)) (a b : Stage) (stop : Stop)
+    → PlayedUpTo inputs.blobs (lines_front inputs) stop a b → HaveRules inputs.rules given → PlaysScript inputs given a b (Err (end_of_stop inputs.limits.limit stop))
+plays_to_stop inputs given a b (Halted halt.Memory) p h = inr (inl (record { played = p; rules_are = h }))
+plays_to_stop inputs given a b (Halted halt.Write) p h = inr (inl (record { played = p; rules_are = h }))
+plays_to_stop inputs given a b (CallBudget k) p h = record { played = p; rules_are = h }
+plays_to_stop inputs given a b TaskBudget p h = (refl, record { played = p; rules_are = h })
 
-pub plays_whole : (limits : Limits) (blobs : List (List ℕ)) (lines : List StepLine) (rules : List Rule) (given : List (List Rule)) (r0 r1 : RunView) (w0 w1 w2 : Option (List ℕ)) (n0 n1 : List (List Note))
-    → Played blobs (LinesAre blobs limits lines) (stage r0 w0 n0) (stage r1 w1 n1) → ((st : State) → Stands r1.engine st → Wrote (closing_text (view_in st) true) w1 w2) → HaveRules rules given
-    → PlaysScript limits blobs lines rules given (stage r0 w0 n0) (stage r1 w2 n1) (Ok false)
-plays_whole limits blobs lines rules given r0 r1 w0 w1 w2 n0 n1 p wrote h = (refl, record { middle = w1; played = p; shown = record { wrote = wrote }; rules_are = h })
+pub plays_whole : (inputs : ScriptInputs) (given : List (List Rule)) (r0 r1 : RunView) (w0 w1 w2 : Option (List ℕ)) (n0 n1 : List (List Note))
+    → Played inputs.blobs (LinesAre inputs.blobs inputs.limits inputs.lines) (stage r0 w0 n0) (stage r1 w1 n1) → ((st : State) → Stands r1.engine st → Wrote (closing_text (view_in st) true) w1 w2) → HaveRules inputs.rules given
+    → PlaysScript inputs given (stage r0 w0 n0) (stage r1 w2 n1) (Ok false)
+plays_whole inputs given r0 r1 w0 w1 w2 n0 n1 p wrote h = (refl, record { middle = w1; played = p; shown = record { wrote = wrote }; rules_are = h })
 
-pub plays_half : (limits : Limits) (blobs : List (List ℕ)) (lines : List StepLine) (rules : List Rule) (given : List (List Rule)) (r0 r1 : RunView) (w0 w1 w2 : Option (List ℕ)) (n0 n1 : List (List Note)) (h : Halt)
-    → Played blobs (LinesAre blobs limits lines) (stage r0 w0 n0) (stage r1 w1 n1) → ((st : State) → Stands r1.engine st → WroteFront (closing_text (view_in st) true) w1 w2) → HaveRules rules given
-    → PlaysScript limits blobs lines rules given (stage r0 w0 n0) (stage r1 w2 n1) (Err (end_of_halt h))
-plays_half limits blobs lines rules given r0 r1 w0 w1 w2 n0 n1 halt.Memory p wrote h = inr (inr (record { middle = w1; played = p; shown = wrote; rules_are = h }))
-plays_half limits blobs lines rules given r0 r1 w0 w1 w2 n0 n1 halt.Write p wrote h = inr (inr (record { middle = w1; played = p; shown = wrote; rules_are = h }))
+pub plays_half : (inputs : ScriptInputs) (given : List (List Rule)) (r0 r1 : RunView) (w0 w1 w2 : Option (List ℕ)) (n0 n1 : List (List Note)) (h : Halt)
+    → Played inputs.blobs (LinesAre inputs.blobs inputs.limits inputs.lines) (stage r0 w0 n0) (stage r1 w1 n1) → ((st : State) → Stands r1.engine st → WroteFront (closing_text (view_in st) true) w1 w2) → HaveRules inputs.rules given
+    → PlaysScript inputs given (stage r0 w0 n0) (stage r1 w2 n1) (Err (end_of_halt h))
+plays_half inputs given r0 r1 w0 w1 w2 n0 n1 halt.Memory p wrote h = inr (inr (record { middle = w1; played = p; shown = wrote; rules_are = h }))
+plays_half inputs given r0 r1 w0 w1 w2 n0 n1 halt.Write p wrote h = inr (inr (record { middle = w1; played = p; shown = wrote; rules_are = h }))
 
 -- a put behind another one was not done
 pub err_behind : (r : Result (Unit {0}) Halt) (before text : List ℕ) (old mid new : Option (List ℕ)) → Wrote before old mid → OnErr r (WroteFront text mid new) → OnErr r (WroteFront (before ++ text) old new)

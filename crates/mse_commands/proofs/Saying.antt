@@ -29,7 +29,7 @@ use Rattle.mse_commands.proofs.Loading.{rose_within}
 -- ---- the same when more was written
 
 abbrev pub with_written : Left → Option (List ℕ) → Left
-with_written left new = record left { written = new }
+with_written left new = record left { now = record left.now { written = new } }
 
 nothing_again : (left : Left) (new : Option (List ℕ)) → RanNothing left → RanNothing (with_written left new)
 nothing_again left new p = record { entries = p.entries; engine = p.engine; notes = p.notes; rules = p.rules }
@@ -72,8 +72,8 @@ over_heard spent over halt.Memory es n0 n1 p = inr (over_as_memory spent over es
 over_heard spent over halt.Write es n0 n1 p = inr (over, p)
 
 cause_heard : (task : Task) (h : Halt) (left : Left) (end : End) → HasCause task left end → IsHeardTo task h left
-cause_heard (ByScript script blobs) h left (CallBudget k) p = over_heard (SpentInLine script.drain) (stop.CallBudget k) h left.entries left.notes_before left.notes p
-cause_heard (ByScript script blobs) h left (TaskBudget limit) p = over_heard (SpentInLine script.drain) stop.TaskBudget h left.entries left.notes_before left.notes p.1
+cause_heard (ByScript script blobs) h left (CallBudget k) p = over_heard (SpentInLine script.drain) (stop.CallBudget k) h left.entries left.before.notes left.now.notes p
+cause_heard (ByScript script blobs) h left (TaskBudget limit) p = over_heard (SpentInLine script.drain) stop.TaskBudget h left.entries left.before.notes left.now.notes p.1
 cause_heard (ByScript script blobs) h left Memory p = absurd p
 cause_heard (ByScript script blobs) h left Write p = absurd p
 cause_heard (ByScript script blobs) h left Words p = absurd p
@@ -113,25 +113,25 @@ ends_broken count request (Err end) left p = absurd p
 
 -- ---- with one
 
-read_said : (request : Request) (left : Left) (name : List ℕ) (new : Option (List ℕ)) → DidNothing left → (cause : FailedRead request left) → cause.name ≡ name → Wrote (error_line (Read name)) left.written new
+read_said : (request : Request) (left : Left) (name : List ℕ) (new : Option (List ℕ)) → DidNothing left → (cause : FailedRead request left) → cause.name ≡ name → Wrote (error_line (Read name)) left.now.written new
     → EndsByRead request (with_written left new)
 read_said request left name new n cause is p = record {
   nothing = nothing_again left new n.nothing;
   cause = failed_again request left new cause;
-  wrote = subst (λ (t : Option (List ℕ)). Wrote (error_line (Read cause.name)) t new) n.wrote (subst (λ (x : List ℕ). Wrote (error_line (Read x)) left.written new) (sym is) p);
+  wrote = subst (λ (t : Option (List ℕ)). Wrote (error_line (Read cause.name)) t new) n.wrote (subst (λ (x : List ℕ). Wrote (error_line (Read x)) left.now.written new) (sym is) p);
 }
 
 read_half : (request : Request) (left : Left) (name : List ℕ) (new : Option (List ℕ)) → DidNothing left → (cause : FailedRead request left) → cause.name ≡ name
-    → WroteFront (error_line (Read name)) left.written new → SaidSome request (with_written left new)
+    → WroteFront (error_line (Read name)) left.now.written new → SaidSome request (with_written left new)
 read_half request left name new n cause is p = record {
   nothing = nothing_again left new n.nothing;
-  wrote = inr (failed_again request left new cause, subst (λ (t : Option (List ℕ)). WroteFront (error_line (Read cause.name)) t new) n.wrote (subst (λ (x : List ℕ). WroteFront (error_line (Read x)) left.written new) (sym is) p));
+  wrote = inr (failed_again request left new cause, subst (λ (t : Option (List ℕ)). WroteFront (error_line (Read cause.name)) t new) n.wrote (subst (λ (x : List ℕ). WroteFront (error_line (Read x)) left.now.written new) (sym is) p));
 }
 
-said_none : (request : Request) (left : Left) (new : Option (List ℕ)) → DidNothing left → new ≡ left.written → SaidSome request (with_written left new)
+said_none : (request : Request) (left : Left) (new : Option (List ℕ)) → DidNothing left → new ≡ left.now.written → SaidSome request (with_written left new)
 said_none request left new n same = record { nothing = nothing_again left new n.nothing; wrote = inl (same ∙ n.wrote) }
 
-some_said : (count : ℕ) (h : Halt) (request : Request) (task : Task) (left : Left) (new : Option (List ℕ)) → DidSome count h task left → new ≡ left.written
+some_said : (count : ℕ) (h : Halt) (request : Request) (task : Task) (left : Left) (new : Option (List ℕ)) → DidSome count h task left → new ≡ left.now.written
     → EndsShort count h request task (with_written left new)
 some_said count h request task left new d same = inl (record {
   ran = front_again count task left new d.ran;
@@ -140,19 +140,19 @@ some_said count h request task left new d same = inl (record {
 })
 
 -- the cause of a budget is said behind the lines
-cause_said : (count : ℕ) (task : Task) (left : Left) (end : End) (new : Option (List ℕ)) → DidUpTo count task left end → Wrote (error_line end) left.written new → EndsBy count task (with_written left new) end
+cause_said : (count : ℕ) (task : Task) (left : Left) (end : End) (new : Option (List ℕ)) → DidUpTo count task left end → Wrote (error_line end) left.now.written new → EndsBy count task (with_written left new) end
 cause_said count task left end new d p = record {
   ran = front_again count task left new d.ran;
   cause = cause_again task left end new d.cause;
-  wrote = wrote_more (shown_lines task left.entries) (error_line end) left.written_before left.written new d.wrote p;
+  wrote = wrote_more (shown_lines task left.entries) (error_line end) left.before.written left.now.written new d.wrote p;
 }
 
-cause_half : (count : ℕ) (h : Halt) (request : Request) (task : Task) (left : Left) (end : End) (new : Option (List ℕ)) → DidUpTo count task left end → WroteFront (error_line end) left.written new
+cause_half : (count : ℕ) (h : Halt) (request : Request) (task : Task) (left : Left) (end : End) (new : Option (List ℕ)) → DidUpTo count task left end → WroteFront (error_line end) left.now.written new
     → EndsShort count h request task (with_written left new)
 cause_half count h request task left end new d p = inl (record {
   ran = front_again count task left new d.ran;
   heard = heard_again task h left new (cause_heard task h left end d.cause);
-  wrote = inr (end, cause_again task left end new d.cause, front_more (shown_lines task left.entries) (error_line end) left.written_before left.written new d.wrote p);
+  wrote = inr (end, cause_again task left end new d.cause, front_more (shown_lines task left.entries) (error_line end) left.before.written left.now.written new d.wrote p);
 })
 
 short_by : (count : ℕ) (request : Request) (task : Task) (left : Left) (s : Status) → (s ≡ status.Write) ⊎ (s ≡ status.Memory) → ((h : Halt) → EndsShort count h request task left)
@@ -160,7 +160,7 @@ short_by : (count : ℕ) (request : Request) (task : Task) (left : Left) (s : St
 short_by count request task left s (inl e) p = rw e (p halt.Write)
 short_by count request task left s (inr e) p = rw e (p halt.Memory)
 
-pub ends_run : (count : ℕ) (request : Request) (task : Task) (left : Left) (end : End) (new : Option (List ℕ)) (s : Status) → WorksBy count request (Ok task) left (Err end) → Says end left.written new s
+pub ends_run : (count : ℕ) (request : Request) (task : Task) (left : Left) (end : End) (new : Option (List ℕ)) (s : Status) → WorksBy count request (Ok task) left (Err end) → Says end left.now.written new s
     → EndsRun count request task (with_written left new) s
 ends_run count request task left Memory new s (inl n) p = rw p.0 (inr (said_none request left new n p.1))
 ends_run count request task left Memory new s (inr d) p = rw p.0 (some_said count halt.Memory request task left new d p.1)
@@ -177,16 +177,16 @@ ends_run count request task left (Script fault) new s w p = absurd w
 
 -- ---- where there was nothing to run
 
-line_said : (end found : End) (left : Left) (new : Option (List ℕ)) → DidNothing left → found ≡ end → Wrote (error_line found) left.written new → Said end (with_written left new)
+line_said : (end found : End) (left : Left) (new : Option (List ℕ)) → DidNothing left → found ≡ end → Wrote (error_line found) left.now.written new → Said end (with_written left new)
 line_said end found left new n is p = record {
   nothing = nothing_again left new n.nothing;
-  wrote = subst (λ (t : Option (List ℕ)). Wrote (error_line end) t new) n.wrote (subst (λ (x : End). Wrote (error_line x) left.written new) is p);
+  wrote = subst (λ (t : Option (List ℕ)). Wrote (error_line end) t new) n.wrote (subst (λ (x : End). Wrote (error_line x) left.now.written new) is p);
 }
 
-line_half : (end found : End) (left : Left) (new : Option (List ℕ)) → DidNothing left → found ≡ end → WroteFront (error_line found) left.written new → SaidFront end (with_written left new)
+line_half : (end found : End) (left : Left) (new : Option (List ℕ)) → DidNothing left → found ≡ end → WroteFront (error_line found) left.now.written new → SaidFront end (with_written left new)
 line_half end found left new n is p = record {
   nothing = nothing_again left new n.nothing;
-  wrote = subst (λ (t : Option (List ℕ)). WroteFront (error_line end) t new) n.wrote (subst (λ (x : End). WroteFront (error_line x) left.written new) is p);
+  wrote = subst (λ (t : Option (List ℕ)). WroteFront (error_line end) t new) n.wrote (subst (λ (x : End). WroteFront (error_line x) left.now.written new) is p);
 }
 
 half_by : (request : Request) (end : End) (left : Left) (s : Status) → (s ≡ status.Write) ⊎ (s ≡ status.Memory) → SaidFront end left → EndsWith request end left s
@@ -197,7 +197,7 @@ some_by : (request : Request) (end : End) (left : Left) (s : Status) → (s ≡ 
 some_by request end left s (inl e) p = rw e (inr p)
 some_by request end left s (inr e) p = rw e (inr p)
 
-pub ends_not : (request : Request) (end found : End) (left : Left) (new : Option (List ℕ)) (s : Status) → WorksNot request end left (Err found) → Says found left.written new s
+pub ends_not : (request : Request) (end found : End) (left : Left) (new : Option (List ℕ)) (s : Status) → WorksNot request end left (Err found) → Says found left.now.written new s
     → EndsWith request end (with_written left new) s
 ends_not request end Memory left new s n p = rw p.0 (inr (said_none request left new n p.1))
 ends_not request end Write left new s w p = rw p.0 (inr (said_none request left new w.0 p.1))
@@ -214,7 +214,7 @@ ends_not request end (CallBudget k) left new s w (inr p) = half_by request end (
 ends_not request end (TaskBudget limit) left new s w (inl p) = rw p.status_is (ap status_of w.1, line_said end (TaskBudget limit) left new w.0 w.1 p.wrote)
 ends_not request end (TaskBudget limit) left new s w (inr p) = half_by request end (with_written left new) s p.wanting (line_half end (TaskBudget limit) left new w.0 w.1 p.wrote)
 
-pub ends_said : (count : ℕ) (request : Request) (task : Result Task End) (left : Left) (end : End) (new : Option (List ℕ)) (s : Status) → WorksBy count request task left (Err end) → Says end left.written new s
+pub ends_said : (count : ℕ) (request : Request) (task : Result Task End) (left : Left) (end : End) (new : Option (List ℕ)) (s : Status) → WorksBy count request task left (Err end) → Says end left.now.written new s
     → EndsBehind count request task (with_written left new) s
 ends_said count request (Ok task) left end new s w p = ends_run count request task left end new s w p
 ends_said count request (Err e) left end new s w p = ends_not request e end left new s w p
@@ -230,7 +230,7 @@ pub broken_at : (table : Option Table) (words : List (List ℕ)) (count : ℕ) (
 broken_at table words count left w = (w.0, w.1, ends_broken count w.0 w.0.task left w.2)
 
 pub said_by : (table : Option Table) (words : List (List ℕ)) (count : ℕ) (left : Left) (end : End) (new : Option (List ℕ)) (s : Status)
-    → OfWords table words (λ request. Works count request left (Err end)) → Says end left.written new s → OfWords table words (λ request. Ends count request (with_written left new) s)
+    → OfWords table words (λ request. Works count request left (Err end)) → Says end left.now.written new s → OfWords table words (λ request. Ends count request (with_written left new) s)
 said_by table words count left end new s w p = (w.0, w.1, ends_said count w.0 w.0.task left end new s w.2 p)
 
 -- ---- the end by the status

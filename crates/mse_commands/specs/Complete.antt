@@ -9,14 +9,15 @@ use Rattle.mse_commands.specs.declared.ending.End.{End}
 use Rattle.mse_commands.specs.declared.ending.Status.{Status}
 use Rattle.mse_commands.specs.declared.ending.Status.TheVariants as status
 use Rattle.mse_commands.specs.Asked.{Request, Task, ByScript, opening_of}
+use Rattle.mse_commands.specs.Loads.{Failures}
 use Rattle.mse_commands.specs.Outcomes.{HasCause, IsBroken, Left, RanWhole}
 use Rattle.mse_commands.specs.Shown.{last_state}
 
--- Nothing stands in the way of a task: neither the library nor the sink, of which these are the counts of failures,
--- failed, and no listener called too often.
-pub record IsUnhindered (task : Task) (left : Left) (puts_before puts : ℕ) : Type 0 where
-  pub loads_done : ¬ Rose left.faults_before left.faults
-  pub puts_done : ¬ Rose puts_before puts
+-- Nothing stands in the way of a task: neither the library nor the sink failed, of which `puts` has
+-- the counts, and no listener called too often.
+pub record IsUnhindered (task : Task) (left : Left) (puts : Failures) : Type 0 where
+  pub loads_done : ¬ Rose left.before.faults left.now.faults
+  pub puts_done : ¬ Rose puts.before puts.now
   pub calls_within : (end : End) → ¬ HasCause task left end
 
 -- the status is 9 where a file breaks the byte stream format, and else 0
@@ -31,9 +32,9 @@ pub record RanToEnd (count : ℕ) (task : Task) (left : Left) (end : Status) : T
 
 -- Where the words are a command, its files are there and its script reads, and nothing stands in the way, all is run and
 -- the whole text is written, or there was no memory.
-abbrev pub IsComplete : ℕ → Request → Left → ℕ → ℕ → Status → Type 0
-IsComplete count request left puts_before puts end =
-    (task : Task) → request.task ≡ Ok task → IsUnhindered task left puts_before puts
+abbrev pub IsComplete : ℕ → Request → Left → Failures → Status → Type 0
+IsComplete count request left puts end =
+    (task : Task) → request.task ≡ Ok task → IsUnhindered task left puts
     → RanToEnd count task left end ⊎ (end ≡ status.Memory)
 
 -- Where a script was played to its end and no listener made a call, cutting appended bytes anywhere, where the append was

@@ -15,23 +15,34 @@ pub record IsReached (files : Table) (names : List (List ℕ)) (name : List ℕ)
   pub names_are : names ≡ before ++ name ∷ after
   pub there : All (λ other. IsSome (files other)) before
 
--- A file that these ask for is not there; or the library counted a failure at one of the files of these names, or there was
--- no memory.
-abbrev pub LoadEnd : {A : Type 0} → Option Table → ℕ → ℕ → List (List ℕ) → (Table → Result A End) → End → Type 0
-LoadEnd table before now names told Memory = ⊤
-LoadEnd table before now names told (Read name) = Rose before now × IfSome table (λ files. IsReached files names name)
-LoadEnd table before now names told (NoFile name) = IfSome table (λ files. told files ≡ Err (NoFile name))
-LoadEnd table before now names told (Script fault) = ⊥
-LoadEnd table before now names told Write = ⊥
-LoadEnd table before now names told Words = ⊥
-LoadEnd table before now names told (CallBudget k) = ⊥
-LoadEnd table before now names told (TaskBudget limit) = ⊥
+-- counts of failures, before something was done and behind it
+pub record Failures : Type 0 where
+  pub before : ℕ
+  pub now : ℕ
+
+abbrev pub failures : ℕ → ℕ → Failures
+failures before now = record { before = before; now = now }
+
+-- A file that these ask for is not there; or the library counted a failure at one of the files of
+-- these names, or there was no memory.
+abbrev pub LoadEnd : {A : Type 0} → Option Table → Failures → List (List ℕ)
+    → (Table → Result A End) → End → Type 0
+LoadEnd table faults names told Memory = ⊤
+LoadEnd table faults names told (Read name) =
+    Rose faults.before faults.now × IfSome table (λ files. IsReached files names name)
+LoadEnd table faults names told (NoFile name) = IfSome table (λ files. told files ≡ Err (NoFile name))
+LoadEnd table faults names told (Script fault) = ⊥
+LoadEnd table faults names told Write = ⊥
+LoadEnd table faults names told Words = ⊥
+LoadEnd table faults names told (CallBudget k) = ⊥
+LoadEnd table faults names told (TaskBudget limit) = ⊥
 
 -- why a script was not loaded: the same, or it has a fault
-abbrev pub ScriptEnd : Option Table → ℕ → ℕ → List ℕ → End → Type 0
-ScriptEnd table before now name (Script fault) =
+abbrev pub ScriptEnd : Option Table → Failures → List ℕ → End → Type 0
+ScriptEnd table faults name (Script fault) =
     IsReadOf (Err fault) × IfSome table (λ files. script_loaded files name ≡ Err (Script fault))
-ScriptEnd table before now name other = LoadEnd table before now (name ∷ []) (λ files. script_loaded files name) other
+ScriptEnd table faults name other =
+    LoadEnd table faults (name ∷ []) (λ files. script_loaded files name) other
 
 -- What is made is the file of the number, and only memory may be wanting for it.
 abbrev pub IsMade : Command → List ℕ → Type 0

@@ -26,34 +26,28 @@ use Rattle.mse_commands.specs.Endings.{error_line, status_of}
 use Rattle.mse_commands.specs.Loads.{IsReached}
 use Rattle.mse_commands.specs.Shown.{IsAllOf, IsFrontOf, last_state, shown_lines, text_of}
 
--- what a run leaves: the journal, the engine, the library's count of failures, what was written, and the notes and rules
--- of each listener, the latter each before and after it
+-- what stands around a run: the library's count of failures, what was written, and the notes and
+-- rules of each listener
+pub record Outside : Type 0 where
+  pub faults : ℕ
+  pub written : Option (List ℕ)
+  pub notes : List (List Note)
+  pub rules : List (List Rule)
+
+abbrev pub outside_of : ℕ → Option (List ℕ) → List (List Note) → List (List Rule) → Outside
+outside_of faults written notes rules =
+    record { faults = faults; written = written; notes = notes; rules = rules }
+
+-- what a run leaves: the journal, the engine, and what stands around the run before it and now
 pub record Left : Type 0 where
   pub entries : List Entry
   pub engine : Option Kept
-  pub faults_before : ℕ
-  pub faults : ℕ
-  pub written_before : Option (List ℕ)
-  pub written : Option (List ℕ)
-  pub notes_before : List (List Note)
-  pub notes : List (List Note)
-  pub rules_before : List (List Rule)
-  pub rules : List (List Rule)
+  pub before : Outside
+  pub now : Outside
 
-abbrev pub left : List Entry → Option Kept → ℕ → ℕ → Option (List ℕ) → Option (List ℕ)
-    → List (List Note) → List (List Note) → List (List Rule) → List (List Rule) → Left
-left entries engine faults_before faults written_before written notes_before notes rules_before rules = record {
-  entries = entries;
-  engine = engine;
-  faults_before = faults_before;
-  faults = faults;
-  written_before = written_before;
-  written = written;
-  notes_before = notes_before;
-  notes = notes;
-  rules_before = rules_before;
-  rules = rules;
-}
+abbrev pub left : List Entry → Option Kept → Outside → Outside → Left
+left entries engine before now =
+    record { entries = entries; engine = engine; before = before; now = now }
 
 -- ---- the journal and the engine
 
@@ -81,20 +75,20 @@ HaveRules rules given = (w : ℕ) → w < length given → rules_at given w ≡ 
 
 -- of a script, each has its rules, heard each event, and answered it; else nobody was told anything
 abbrev pub IsHeard : Task → Left → Type 0
-IsHeard (ByScript script blobs) left = HaveRules script.rules left.rules × HeardAll left.entries left.notes_before left.notes
-IsHeard other left = (left.rules ≡ left.rules_before) × (left.notes ≡ left.notes_before)
+IsHeard (ByScript script blobs) left = HaveRules script.rules left.now.rules × HeardAll left.entries left.before.notes left.now.notes
+IsHeard other left = (left.now.rules ≡ left.before.rules) × (left.now.notes ≡ left.before.notes)
 
 -- of a script, each has its rules where anything was done
 abbrev pub HaveTheirRules : Task → Left → Type 0
-HaveTheirRules (ByScript script blobs) left = (left.entries ≡ []) ⊎ HaveRules script.rules left.rules
-HaveTheirRules other left = left.rules ≡ left.rules_before
+HaveTheirRules (ByScript script blobs) left = (left.entries ≡ []) ⊎ HaveRules script.rules left.now.rules
+HaveTheirRules other left = left.now.rules ≡ left.before.rules
 
 -- What was heard where memory or the sink was wanting: each listener heard each event, but that the dispatch of the last
 -- event may have ended for want of memory, or, where the sink was wanting, at a limit of calls.
 abbrev pub IsHeardTo : Task → Halt → Left → Type 0
 IsHeardTo (ByScript script blobs) halt left =
-    HeardTo (SpentInLine script.drain) halt left.entries left.notes_before left.notes
-IsHeardTo other halt left = left.notes ≡ left.notes_before
+    HeardTo (SpentInLine script.drain) halt left.entries left.before.notes left.now.notes
+IsHeardTo other halt left = left.now.notes ≡ left.before.notes
 
 -- ---- what was run
 
@@ -102,7 +96,7 @@ IsHeardTo other halt left = left.notes ≡ left.notes_before
 pub record RanWhole (count : ℕ) (task : Task) (left : Left) : Type 0 where
   pub run : IsRun task left
   pub all : IsAllOf count task left.entries
-  pub wrote : Wrote (text_of task left.entries) left.written_before left.written
+  pub wrote : Wrote (text_of task left.entries) left.before.written left.now.written
   pub heard : IsHeard task left
 
 -- a front of it
@@ -115,8 +109,8 @@ pub record RanFront (count : ℕ) (task : Task) (left : Left) : Type 0 where
 pub record RanNothing (left : Left) : Type 0 where
   pub entries : left.entries ≡ []
   pub engine : left.engine ≡ None
-  pub notes : left.notes ≡ left.notes_before
-  pub rules : left.rules ≡ left.rules_before
+  pub notes : left.now.notes ≡ left.before.notes
+  pub rules : left.now.rules ≡ left.before.rules
 
 -- a file breaks the byte stream format, or is no classic file that can be turned into fragments
 abbrev pub IsBroken : Task → List Entry → Type 0
@@ -130,48 +124,48 @@ IsBroken (ByRemux bytes) entries = IsErr (remuxed bytes)
 -- had made so many in this one.
 abbrev pub HasCause : Task → Left → End → Type 0
 HasCause (ByScript script blobs) left (CallBudget k) =
-    IsOverLimit (SpentInLine script.drain) (stop.CallBudget k) left.entries left.notes_before left.notes
+    IsOverLimit (SpentInLine script.drain) (stop.CallBudget k) left.entries left.before.notes left.now.notes
 HasCause (ByScript script blobs) left (TaskBudget limit) =
     (limit ≡ script.drain)
-    × IsOverLimit (SpentInLine script.drain) stop.TaskBudget left.entries left.notes_before left.notes
+    × IsOverLimit (SpentInLine script.drain) stop.TaskBudget left.entries left.before.notes left.now.notes
 HasCause task left end = ⊥
 
 -- the lines, and the error line whose cause had come
 pub record EndsBy (count : ℕ) (task : Task) (left : Left) (end : End) : Type 0 where
   pub ran : RanFront count task left
   pub cause : HasCause task left end
-  pub wrote : Wrote (shown_lines task left.entries ++ error_line end) left.written_before left.written
+  pub wrote : Wrote (shown_lines task left.entries ++ error_line end) left.before.written left.now.written
 
 -- a front of the lines; or, where all was run, of the whole text
 abbrev pub WroteText : ℕ → Task → Left → Type 0
 WroteText count task left =
-    WroteFront (shown_lines task left.entries) left.written_before left.written
-    ⊎ (IsAllOf count task left.entries × WroteFront (text_of task left.entries) left.written_before left.written)
+    WroteFront (shown_lines task left.entries) left.before.written left.now.written
+    ⊎ (IsAllOf count task left.entries × WroteFront (text_of task left.entries) left.before.written left.now.written)
 
 -- or of the lines and the error line whose cause had come
 abbrev pub WroteSome : ℕ → Task → Left → Type 0
 WroteSome count task left =
     WroteText count task left
     ⊎ ((end : End) × HasCause task left end
-    × WroteFront (shown_lines task left.entries ++ error_line end) left.written_before left.written)
+    × WroteFront (shown_lines task left.entries ++ error_line end) left.before.written left.now.written)
 
 -- the library failed to read a file of this name, which is one of those that are loaded, behind others that are there
 pub record FailedRead (request : Request) (left : Left) : Type 0 where
   pub name : List ℕ
-  pub rose : Rose left.faults_before left.faults
+  pub rose : Rose left.before.faults left.now.faults
   pub reached : IsReached request.files request.names name
 
 -- so says the line, and nothing was run
 pub record EndsByRead (request : Request) (left : Left) : Type 0 where
   pub nothing : RanNothing left
   pub cause : FailedRead request left
-  pub wrote : Wrote (error_line (Read cause.name)) left.written_before left.written
+  pub wrote : Wrote (error_line (Read cause.name)) left.before.written left.now.written
 
 -- nothing was run, and nothing was written, or a front of the line of a read that failed
 pub record SaidSome (request : Request) (left : Left) : Type 0 where
   pub nothing : RanNothing left
-  pub wrote : (left.written ≡ left.written_before)
-      ⊎ ((cause : FailedRead request left) × WroteFront (error_line (Read cause.name)) left.written_before left.written)
+  pub wrote : (left.now.written ≡ left.before.written)
+      ⊎ ((cause : FailedRead request left) × WroteFront (error_line (Read cause.name)) left.before.written left.now.written)
 
 -- a front was run, and memory or the sink was wanting
 pub record RanShort (count : ℕ) (halt : Halt) (task : Task) (left : Left) : Type 0 where
@@ -201,12 +195,12 @@ EndsRun count request task left status.NoFile = ⊥
 -- nothing was run, and a front of this line was written
 pub record SaidFront (end : End) (left : Left) : Type 0 where
   pub nothing : RanNothing left
-  pub wrote : WroteFront (error_line end) left.written_before left.written
+  pub wrote : WroteFront (error_line end) left.before.written left.now.written
 
 -- nothing was run, and this line was written
 pub record Said (end : End) (left : Left) : Type 0 where
   pub nothing : RanNothing left
-  pub wrote : Wrote (error_line end) left.written_before left.written
+  pub wrote : Wrote (error_line end) left.before.written left.now.written
 
 -- how one ends that has nothing to run: it says why, unless the library or the sink fails or memory is wanting
 abbrev pub EndsWith : Request → End → Left → Status → Type 0

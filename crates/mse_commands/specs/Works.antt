@@ -3,6 +3,7 @@ use Rattle.std.specs.Prelude.{◌≡◌, ◌⊎◌, ℕ, List, [], ◌∷◌, �
 use Rattle.mse_calls.specs.declared.answers.Answer.{Answer}
 use Rattle.mse_calls.specs.declared.calls.Piece.{Piece}
 use Rattle.mse_calls.specs.declared.entry.Entry.{Entry}
+use Rattle.call_script.specs.declared.script.Script.{Script as CallScript}
 use Rattle.call_script.specs.declared.script.StepLine.{StepLine}
 use Rattle.mse_calls.specs.declared.rules.Rule.{Rule}
 use Rattle.event_text.specs.Block.{closing_text}
@@ -16,9 +17,10 @@ use Rattle.script_run.specs.declared.stop.Stop.{Stop}
 use Rattle.script_run.specs.declared.stop.Stop.TheVariants as stop
 use Rattle.script_run.specs.declared.stop.Stop.TheVariants.{Halted}
 use Rattle.script_run.specs.Follows.{LinesAre, LinesBegin}
-use Rattle.script_run.specs.Lines.{Limits}
-use Rattle.script_run.specs.Ran.{Grew, Played, PlayedUpTo, Stepped}
-use Rattle.script_run.specs.Stage.{RunView, Stage}
+use Rattle.script_run.specs.Lines.{Limits, limits}
+use Rattle.listeners.specs.Views.{RunView}
+use Rattle.script_run.specs.Ran.{Front, Grew, Played, PlayedUpTo, Stepped, front_of}
+use Rattle.script_run.specs.Stage.{PrintedRun, Stage}
 use Rattle.script_run.specs.Turns.{SpentInLine, calls_in}
 use Rattle.script_run.specs.Wrote.{Wrote, WroteFront}
 use Rattle.mse_commands.specs.declared.ending.End.{End}
@@ -68,42 +70,72 @@ pub record ShownAll (text : State → List ℕ) (new : RunView) (written_before 
 abbrev pub script_closing : State → List ℕ
 script_closing st = closing_text (view_in st) true
 
-pub record FileShown (command : Command) (bytes : List ℕ) (old new : RunView) (written_before written : Option (List ℕ)) (broken : Bool) : Type 0 where
-  pub appended : Appended bytes (pieces_by command (length bytes)) old new
-  pub shown : ShownAll (file_closing command (length bytes)) new written_before written
-  pub broken_is : (st : State) → Stands new.engine st → broken ≡ is_some st.core.source.fault
+pub record FileShown (command : Command) (bytes : List ℕ) (old new : PrintedRun)
+    (broken : Bool) : Type 0 where
+  pub appended : Appended bytes (pieces_by command (length bytes)) old.run new.run
+  pub shown : ShownAll (file_closing command (length bytes)) new.run old.written new.written
+  pub broken_is : (st : State) → Stands new.run.engine st → broken ≡ is_some st.core.source.fault
 
 -- a front was appended and nothing was written; or all was appended, and a front of it was written
-abbrev pub FileShownFront : Command → List ℕ → RunView → RunView → Option (List ℕ) → Option (List ℕ) → Type 0
-FileShownFront command bytes old new written_before written =
-    (AppendedFront bytes (pieces_by command (length bytes)) old new × (written ≡ written_before))
-    ⊎ (Appended bytes (pieces_by command (length bytes)) old new
-    × ShownFront (file_closing command (length bytes)) new written_before written)
+abbrev pub FileShownFront : Command → List ℕ → PrintedRun → PrintedRun → Type 0
+FileShownFront command bytes old new =
+    (AppendedFront bytes (pieces_by command (length bytes)) old.run new.run
+    × (new.written ≡ old.written))
+    ⊎ (Appended bytes (pieces_by command (length bytes)) old.run new.run
+    × ShownFront (file_closing command (length bytes)) new.run old.written new.written)
 
-abbrev pub ShowsFile : Command → List ℕ → RunView → RunView → Option (List ℕ) → Option (List ℕ) → Result Bool End → Type 0
-ShowsFile command bytes old new written_before written (Ok broken) = FileShown command bytes old new written_before written broken
-ShowsFile command bytes old new written_before written (Err Memory) = FileShownFront command bytes old new written_before written
-ShowsFile command bytes old new written_before written (Err Write) = FileShownFront command bytes old new written_before written
-ShowsFile command bytes old new written_before written (Err other) = ⊥
+abbrev pub ShowsFile : Command → List ℕ → PrintedRun → PrintedRun → Result Bool End → Type 0
+ShowsFile command bytes old new (Ok broken) = FileShown command bytes old new broken
+ShowsFile command bytes old new (Err Memory) = FileShownFront command bytes old new
+ShowsFile command bytes old new (Err Write) = FileShownFront command bytes old new
+ShowsFile command bytes old new (Err other) = ⊥
 
 -- ---- a script that is played
 
-pub record ScriptPlayed (limits : Limits) (blobs : List (List ℕ)) (lines : List StepLine) (rules : List Rule) (given : List (List Rule)) (old new : Stage) : Type 0 where
+-- what is played: the lines and rules of a script, over these blobs, within these limits
+pub record ScriptInputs : Type 0 where
+  pub limits : Limits
+  pub blobs : List (List ℕ)
+  pub lines : List StepLine
+  pub rules : List Rule
+
+-- a script and its blobs, for so many listeners
+abbrev pub script_inputs : ℕ → CallScript → List (List ℕ) → ScriptInputs
+script_inputs count script blobs = record {
+  limits = limits script.drain count;
+  blobs = blobs;
+  lines = script.steps;
+  rules = script.rules;
+}
+
+-- all lines, and what closes a script
+pub record ScriptPlayed (inputs : ScriptInputs) (given : List (List Rule))
+    (old new : Stage) : Type 0 where
   pub middle : Option (List ℕ)
-  pub played : Played blobs (LinesAre blobs limits lines) old (record new { written = middle })
+  pub played : Played inputs.blobs (LinesAre inputs.blobs inputs.limits inputs.lines) old
+      (record new { written = middle })
   pub shown : ShownAll script_closing new.run middle new.written
-  pub rules_are : HaveRules rules given
+  pub rules_are : HaveRules inputs.rules given
+
+-- a front of the lines, and when listeners may make no further call
+abbrev pub lines_front : ScriptInputs → Front
+lines_front inputs = front_of (LinesBegin inputs.blobs inputs.limits inputs.lines)
+    (SpentInLine inputs.limits.limit)
 
 -- it stopped in a line, or behind the last one
-pub record ScriptStopped (limits : Limits) (blobs : List (List ℕ)) (lines : List StepLine) (rules : List Rule) (given : List (List Rule)) (old new : Stage) (stop : Stop) : Type 0 where
-  pub played : PlayedUpTo blobs (SpentInLine limits.limit) (LinesBegin blobs limits lines) stop old new
-  pub rules_are : HaveRules rules given
+pub record ScriptStopped (inputs : ScriptInputs) (given : List (List Rule)) (old new : Stage)
+    (stop : Stop) : Type 0 where
+  pub played : PlayedUpTo inputs.blobs (lines_front inputs) stop old new
+  pub rules_are : HaveRules inputs.rules given
 
-pub record ScriptHalf (limits : Limits) (blobs : List (List ℕ)) (lines : List StepLine) (rules : List Rule) (given : List (List Rule)) (old new : Stage) : Type 0 where
+-- all lines, and a front of what closes a script
+pub record ScriptHalf (inputs : ScriptInputs) (given : List (List Rule))
+    (old new : Stage) : Type 0 where
   pub middle : Option (List ℕ)
-  pub played : Played blobs (LinesAre blobs limits lines) old (record new { written = middle })
+  pub played : Played inputs.blobs (LinesAre inputs.blobs inputs.limits inputs.lines) old
+      (record new { written = middle })
   pub shown : ShownFront script_closing new.run middle new.written
-  pub rules_are : HaveRules rules given
+  pub rules_are : HaveRules inputs.rules given
 
 -- no line was begun
 pub record ScriptUnplayed (old new : Stage) : Type 0 where
@@ -111,19 +143,21 @@ pub record ScriptUnplayed (old new : Stage) : Type 0 where
   pub written : new.written ≡ old.written
   pub notes : new.notes ≡ old.notes
 
-abbrev pub ScriptShort : Limits → List (List ℕ) → List StepLine → List Rule → List (List Rule) → Stage → Stage → Halt → Type 0
-ScriptShort limits blobs lines rules given old new halt =
-    ScriptUnplayed old new ⊎ ScriptStopped limits blobs lines rules given old new (Halted halt)
-    ⊎ ScriptHalf limits blobs lines rules given old new
+abbrev pub ScriptShort : ScriptInputs → List (List Rule) → Stage → Stage → Halt → Type 0
+ScriptShort inputs given old new halt =
+    ScriptUnplayed old new ⊎ ScriptStopped inputs given old new (Halted halt)
+    ⊎ ScriptHalf inputs given old new
 
-abbrev pub PlaysScript : Limits → List (List ℕ) → List StepLine → List Rule → List (List Rule) → Stage → Stage → Result Bool End → Type 0
-PlaysScript limits blobs lines rules given old new (Ok broken) = (broken ≡ false) × ScriptPlayed limits blobs lines rules given old new
-PlaysScript limits blobs lines rules given old new (Err Memory) = ScriptShort limits blobs lines rules given old new halt.Memory
-PlaysScript limits blobs lines rules given old new (Err Write) = ScriptShort limits blobs lines rules given old new halt.Write
-PlaysScript limits blobs lines rules given old new (Err (CallBudget k)) = ScriptStopped limits blobs lines rules given old new (stop.CallBudget k)
-PlaysScript limits blobs lines rules given old new (Err (TaskBudget limit)) =
-    (limit ≡ limits.limit) × ScriptStopped limits blobs lines rules given old new stop.TaskBudget
-PlaysScript limits blobs lines rules given old new (Err other) = ⊥
+abbrev pub PlaysScript : ScriptInputs → List (List Rule) → Stage → Stage → Result Bool End → Type 0
+PlaysScript inputs given old new (Ok broken) =
+    (broken ≡ false) × ScriptPlayed inputs given old new
+PlaysScript inputs given old new (Err Memory) = ScriptShort inputs given old new halt.Memory
+PlaysScript inputs given old new (Err Write) = ScriptShort inputs given old new halt.Write
+PlaysScript inputs given old new (Err (CallBudget k)) =
+    ScriptStopped inputs given old new (stop.CallBudget k)
+PlaysScript inputs given old new (Err (TaskBudget limit)) =
+    (limit ≡ inputs.limits.limit) × ScriptStopped inputs given old new stop.TaskBudget
+PlaysScript inputs given old new (Err other) = ⊥
 
 -- ---- a run
 
@@ -136,7 +170,7 @@ broken_in (ByRemux bytes) entries = is_err (remuxed bytes)
 -- nothing was run and nothing was written
 pub record DidNothing (left : Left) : Type 0 where
   pub nothing : RanNothing left
-  pub wrote : left.written ≡ left.written_before
+  pub wrote : left.now.written ≡ left.before.written
 
 -- a front was run, and memory or the sink was wanting
 pub record DidSome (count : ℕ) (halt : Halt) (task : Task) (left : Left) : Type 0 where
@@ -148,7 +182,7 @@ pub record DidSome (count : ℕ) (halt : Halt) (task : Task) (left : Left) : Typ
 pub record DidUpTo (count : ℕ) (task : Task) (left : Left) (end : End) : Type 0 where
   pub ran : RanFront count task left
   pub cause : HasCause task left end
-  pub wrote : Wrote (shown_lines task left.entries) left.written_before left.written
+  pub wrote : Wrote (shown_lines task left.entries) left.before.written left.now.written
 
 pub record DidAll (count : ℕ) (task : Task) (left : Left) (broken : Bool) : Type 0 where
   pub ran : RanWhole count task left

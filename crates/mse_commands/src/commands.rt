@@ -9,16 +9,15 @@ ghost use Rattle.mse_engine.specs.State.{State};
 ghost use Rattle.mse_engine.specs.Standing.{Stands};
 ghost use Rattle.mse_engine.specs.Views.{view_in};
 ghost use Rattle.mse_outside.specs.Outside.{Rose};
-ghost use Rattle.script_run.specs.Lines.{limits};
-ghost use Rattle.script_run.specs.Stage.{IsStanding, stage};
+ghost use Rattle.script_run.specs.Stage.{IsStanding, printed_run, stage};
 ghost use Rattle.script_run.specs.Wrote.{Wrote, WroteFront};
 ghost use Rattle.mse_commands.specs.Asked.{IsFileCommand, OfCommand, OfWords, file_by, files_by};
 ghost use Rattle.mse_commands.specs.Heading.{heading_of};
-ghost use Rattle.mse_commands.specs.Loads.{IsMade, IsUnmade, LoadEnd};
-ghost use Rattle.mse_commands.specs.Outcomes.{left};
+ghost use Rattle.mse_commands.specs.Loads.{IsMade, IsUnmade, LoadEnd, failures};
+ghost use Rattle.mse_commands.specs.Outcomes.{left, outside_of};
 ghost use Rattle.mse_commands.specs.Shown.{file_closing, pieces_by};
 ghost use Rattle.mse_commands.specs.Words.{IsInRange, command_of};
-ghost use Rattle.mse_commands.specs.Works.{Appended, AppendedFront, PlaysScript, ShowsFile, Works};
+ghost use Rattle.mse_commands.specs.Works.{Appended, AppendedFront, PlaysScript, ShowsFile, Works, script_inputs};
 
 use crate::ending::End;
 use crate::feeds::close_feed;
@@ -112,7 +111,7 @@ fn file_for<L: Library>(
     ensures ok { IfSome (L.table library.old) (λ files.
         IfOk result (λ bytes. file_by files name.now command.now ≡ Ok bytes.items)) }
     ensures end { IfErr result (LoadEnd (L.table library.old)
-        (L.faults library.old) (L.faults library.new)
+        (failures (L.faults library.old) (L.faults library.new))
         (files_by name.now command.now) (λ files. file_by files name.now command.now)) }
     ensures made { IfOk result (λ bytes. IsMade command.now bytes.items) }
     ensures unmade { IfErr result (IsUnmade command.now) }
@@ -122,7 +121,10 @@ fn file_for<L: Library>(
         Command::Ranges | Command::Pieces(_) | Command::Feed(_) | Command::Play | Command::Remux =>
             load(alloc, library, name),
         Command::Make(count) => match make(alloc, count) {
-            Ok(bytes) => Ok(bytes.into_vec()),
+            Ok(bytes) => match bytes.into_vec() {
+                Ok(bytes) => Ok(bytes),
+                Err(_) => Err(End::Memory),
+            },
             Err(_) => Err(End::Memory),
         },
     }
@@ -189,8 +191,8 @@ fn show_file<S: FrameStore, K: Sink>(
 ) -> Result<bool, End>
     requires range { IsInRange command.now }
     requires standing { IsStanding run.old.engine }
-    ensures shows { ShowsFile command.now file.items run.old run.new
-        (K.written sink.old) (K.written sink.new) result }
+    ensures shows { ShowsFile command.now file.items
+        (printed_run run.old (K.written sink.old)) (printed_run run.new (K.written sink.new)) result }
     ensures later { K.faults sink.old ≤ K.faults sink.new }
     ensures write { IsErrOf result End.Write → Rose (K.faults sink.old) (K.faults sink.new) }
 {
@@ -217,8 +219,7 @@ fn play_script<S: FrameStore, K: Sink>(
     requires fresh { (w : ℕ) → notes_at (map (λ b. notes b) listeners.old.items) w ≡ [] }
     requires lines { length script.steps < 2 ^ 32 }
     requires standing { IsStanding run.old.engine }
-    ensures plays { PlaysScript (limits script.drain (vec_len listeners.old))
-        blobs.now script.steps script.rules
+    ensures plays { PlaysScript (script_inputs (vec_len listeners.old) script blobs.now)
         (map (λ b. rules b) listeners.new.items)
         (stage run.old (K.written sink.old) (map (λ b. notes b) listeners.old.items))
         (stage run.new (K.written sink.new) (map (λ b. notes b) listeners.new.items)) result }
@@ -267,8 +268,8 @@ fn run_file<S: FrameStore, L: Library, K: Sink>(
     ensures works { (count : ℕ) (told : List (List Note)) (given : List (List Rule))
         → OfCommand (L.table library.old) name.now (Some command) (λ request. Works count request
         (left journal.new.entries engine.new
-        (L.faults library.old) (L.faults library.new) (K.written sink.old) (K.written sink.new)
-        told told given given)
+        (outside_of (L.faults library.old) (K.written sink.old) told given)
+        (outside_of (L.faults library.new) (K.written sink.new) told given))
         result) }
     ensures words { ¬ IsErrOf result End.Words }
     ensures read_later { L.faults library.old ≤ L.faults library.new }
@@ -315,9 +316,10 @@ fn run_script<S: FrameStore, L: Library, K: Sink>(
     ensures works { OfCommand (L.table library.old) name.now (Some Command.Play) (λ request.
         Works (vec_len listeners.old) request
         (left journal.new.entries engine.new
-        (L.faults library.old) (L.faults library.new) (K.written sink.old) (K.written sink.new)
-        (map (λ b. notes b) listeners.old.items) (map (λ b. notes b) listeners.new.items)
-        (map (λ b. rules b) listeners.old.items) (map (λ b. rules b) listeners.new.items))
+        (outside_of (L.faults library.old) (K.written sink.old)
+        (map (λ b. notes b) listeners.old.items) (map (λ b. rules b) listeners.old.items))
+        (outside_of (L.faults library.new) (K.written sink.new)
+        (map (λ b. notes b) listeners.new.items) (map (λ b. rules b) listeners.new.items)))
         result) }
     ensures count { vec_len listeners.new ≡ vec_len listeners.old }
     ensures words { ¬ IsErrOf result End.Words }
@@ -361,9 +363,10 @@ fn run_command<S: FrameStore, L: Library, K: Sink>(
     ensures works { OfCommand (L.table library.old) name.now (Some command) (λ request.
         Works (vec_len listeners.old) request
         (left journal.new.entries engine.new
-        (L.faults library.old) (L.faults library.new) (K.written sink.old) (K.written sink.new)
-        (map (λ b. notes b) listeners.old.items) (map (λ b. notes b) listeners.new.items)
-        (map (λ b. rules b) listeners.old.items) (map (λ b. rules b) listeners.new.items))
+        (outside_of (L.faults library.old) (K.written sink.old)
+        (map (λ b. notes b) listeners.old.items) (map (λ b. rules b) listeners.old.items))
+        (outside_of (L.faults library.new) (K.written sink.new)
+        (map (λ b. notes b) listeners.new.items) (map (λ b. rules b) listeners.new.items)))
         result) }
     ensures count { vec_len listeners.new ≡ vec_len listeners.old }
     ensures words { ¬ IsErrOf result End.Words }
@@ -400,9 +403,10 @@ pub fn work<S: FrameStore, L: Library, K: Sink>(
     ensures works { OfWords (L.table library.old) (map string_bytes words.now) (λ request.
         Works (vec_len listeners.old) request
         (left journal.new.entries engine.new
-        (L.faults library.old) (L.faults library.new) (K.written sink.old) (K.written sink.new)
-        (map (λ b. notes b) listeners.old.items) (map (λ b. notes b) listeners.new.items)
-        (map (λ b. rules b) listeners.old.items) (map (λ b. rules b) listeners.new.items))
+        (outside_of (L.faults library.old) (K.written sink.old)
+        (map (λ b. notes b) listeners.old.items) (map (λ b. rules b) listeners.old.items))
+        (outside_of (L.faults library.new) (K.written sink.new)
+        (map (λ b. notes b) listeners.new.items) (map (λ b. rules b) listeners.new.items)))
         result) }
     ensures count { vec_len listeners.new ≡ vec_len listeners.old }
     ensures words { IsErrOf result End.Words → command_of (map string_bytes words.now) ≡ None }

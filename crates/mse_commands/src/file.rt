@@ -39,7 +39,7 @@ fn blobs_of(alloc: Global, file: Vec<u8>) -> Result<Blobs, OutOfMemory>
     ensures { IfOk result (λ blobs. blobs ≡ file.items ∷ []) }
 {
     let mut blobs = Blobs::new(alloc);
-    blobs.push(Bytes::from_vec(alloc, file))?;
+    blobs.push(Bytes::from_vec(alloc, file)?)?;
     Ok(blobs)
 }
 

@@ -33,9 +33,9 @@ pub fn one_block()
         → text_of (ByFile a bytes) entries ≡ text_of (ByFile b bytes) others }
     ensures runs { (files : Table) (a b : List (List ℕ)) (bytes : List ℕ) (n m : ℕ)
         (before : List ℕ) (s t : Left) (x y : Status) → NameOneFile files a b bytes
-        → length bytes < 2 ^ 62 → s.written_before ≡ Some before → t.written_before ≡ Some before
+        → length bytes < 2 ^ 62 → s.before.written ≡ Some before → t.before.written ≡ Some before
         → IsThrough x → IsThrough y → Ends n (asked files a) s x → Ends m (asked files b) t y
-        → (x ≡ y) × (s.written ≡ t.written) }
+        → (x ≡ y) × (s.now.written ≡ t.now.written) }
 {}
 
 /// Bytes behind the first fault change nothing of what is printed.

@@ -3,7 +3,7 @@
 ghost use Rattle.std.specs.Prelude.{◌≡◌, ◌≤◌, ◌⊎◌, ◌∷◌, [], ℕ, length, Ok, IfSome, IfOk, IfErr};
 ghost use Rattle.mse_outside.specs.Outside.{Rose};
 ghost use Rattle.mse_commands.specs.Asked.{IsReadOf, blob_bytes, blobs_bytes, files_in, loaded, script_loaded};
-ghost use Rattle.mse_commands.specs.Loads.{LoadEnd, ScriptEnd};
+ghost use Rattle.mse_commands.specs.Loads.{LoadEnd, ScriptEnd, failures};
 
 use crate::ending::End;
 use call_script::{BlobText, Script, ScriptError, read_script};
@@ -38,7 +38,7 @@ pub fn load<L: Library>(alloc: Global, library: &mut L, name: &str) -> Result<Ve
     ensures ok { IfSome (L.table library.old) (λ files.
         IfOk result (λ made. loaded files name.now ≡ Ok made.items)) }
     ensures end { IfErr result (LoadEnd (L.table library.old)
-        (L.faults library.old) (L.faults library.new)
+        (failures (L.faults library.old) (L.faults library.new))
         (name.now ∷ []) (λ files. loaded files name.now)) }
     ensures later { L.faults library.old ≤ L.faults library.new }
 {
@@ -58,7 +58,7 @@ pub fn load_script<L: Library>(alloc: Global, library: &mut L, name: &str) -> Re
         IfOk result (λ made. script_loaded files name.now ≡ Ok made)) }
     ensures read { IfOk result (λ made. IsReadOf (Ok made)) }
     ensures end { IfErr result (ScriptEnd (L.table library.old)
-        (L.faults library.old) (L.faults library.new) name.now) }
+        (failures (L.faults library.old) (L.faults library.new)) name.now) }
     ensures later { L.faults library.old ≤ L.faults library.new }
 {
     let bytes = match load(alloc, library, name) {
@@ -78,13 +78,16 @@ fn load_blob<L: Library>(alloc: Global, library: &mut L, text: &BlobText) -> Res
     ensures ok { IfSome (L.table library.old) (λ files.
         IfOk result (λ made. blob_bytes files text.now ≡ Ok made)) }
     ensures end { IfErr result (LoadEnd (L.table library.old)
-        (L.faults library.old) (L.faults library.new)
+        (failures (L.faults library.old) (L.faults library.new))
         (files_in (text.now ∷ [])) (λ files. blob_bytes files text.now)) }
     ensures later { L.faults library.old ≤ L.faults library.new }
 {
     match text {
         BlobText::File(name) => match load(alloc, library, name.as_str()) {
-            Ok(bytes) => Ok(Bytes::from_vec(alloc, bytes)),
+            Ok(bytes) => match Bytes::from_vec(alloc, bytes) {
+                Ok(bytes) => Ok(bytes),
+                Err(_) => Err(End::Memory),
+            },
             Err(end) => Err(end),
         },
         BlobText::Hex(bytes) => match bytes.copy() {
@@ -105,7 +108,7 @@ pub fn load_blobs<L: Library>(
         IfOk result (λ made. blobs_bytes files texts.now ≡ Ok made)) }
     ensures count { IfOk result (λ made. length made ≡ length texts.now) }
     ensures end { IfErr result (LoadEnd (L.table library.old)
-        (L.faults library.old) (L.faults library.new)
+        (failures (L.faults library.old) (L.faults library.new))
         (files_in texts.now) (λ files. blobs_bytes files texts.now)) }
     ensures later { L.faults library.old ≤ L.faults library.new }
 {

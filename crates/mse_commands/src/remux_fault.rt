@@ -1,40 +1,13 @@
 //! The line of the fault of a classic file.
 
 ghost use Rattle.std.specs.Prelude.{◌≡◌, IfOk, string_bytes};
-ghost use Rattle.buffer_state.specs.Faults.{init_missing, init_number};
 ghost use Rattle.mse_commands.specs.Remuxing.{moov_text, remux_fault_line, remux_name, remux_number};
 
-use bmff_init::InitFault;
+use buffer_state::{init_missing, init_number};
 use event_text::init_fault;
 use mse_base::OutOfMemory;
 use remux::RemuxFault;
 use std::alloc::Global;
-
-// What is wrong in a movie box, by number.
-fn init_number(fault: InitFault) -> u8
-    ensures { result ≡ init_number fault }
-{
-    match fault {
-        InitFault::Size => 1,
-        InitFault::Missing(_) => 2,
-        InitFault::HasSamples => 3,
-        InitFault::NoMvex => 4,
-        InitFault::EditList => 5,
-        InitFault::ZeroTimescale => 6,
-        InitFault::DuplicateTrack => 7,
-        InitFault::TooManyTracks => 8,
-    }
-}
-
-// The type of the box that is missing; four zero bytes for another fault.
-fn init_missing(fault: InitFault) -> [u8; 4]
-    ensures { result ≡ init_missing fault }
-{
-    match fault {
-        InitFault::Missing(kind) => kind,
-        _ => [0, 0, 0, 0],
-    }
-}
 
 // What is wrong with a classic file, by number.
 fn remux_number(fault: RemuxFault) -> u8

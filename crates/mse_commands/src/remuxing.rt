@@ -8,7 +8,7 @@ ghost use Rattle.mse_outside.specs.Outside.{Rose};
 ghost use Rattle.remux.specs.Remuxed.{remuxed};
 ghost use Rattle.script_run.specs.Wrote.{Wrote, WroteFront};
 ghost use Rattle.mse_commands.specs.Asked.{OfCommand};
-ghost use Rattle.mse_commands.specs.Outcomes.{left};
+ghost use Rattle.mse_commands.specs.Outcomes.{left, outside_of};
 ghost use Rattle.mse_commands.specs.Remuxing.{remux_fault_line, remux_text};
 ghost use Rattle.mse_commands.specs.Works.{Works};
 
@@ -95,8 +95,8 @@ pub fn run_remux<L: Library, K: Sink>(
         → OfCommand (L.table library.old) name.now (Some Command.Remux) (λ request.
         Works count request
         (left [] None
-        (L.faults library.old) (L.faults library.new) (K.written sink.old) (K.written sink.new)
-        told told given given)
+        (outside_of (L.faults library.old) (K.written sink.old) told given)
+        (outside_of (L.faults library.new) (K.written sink.new) told given))
         result) }
     ensures words { ¬ IsErrOf result End.Words }
     ensures read_later { L.faults library.old ≤ L.faults library.new }

@@ -5,7 +5,8 @@ ghost use Rattle.listeners.specs.Dispatch.{notes_at};
 ghost use Rattle.mse_outside.specs.Outside.{Rose};
 ghost use Rattle.mse_commands.specs.Asked.{OfWords, asked};
 ghost use Rattle.mse_commands.specs.Complete.{CutAnywhere, IsComplete};
-ghost use Rattle.mse_commands.specs.Outcomes.{Ends, left};
+ghost use Rattle.mse_commands.specs.Loads.{failures};
+ghost use Rattle.mse_commands.specs.Outcomes.{Ends, left, outside_of};
 ghost use Rattle.mse_commands.specs.Says.{Says, SaysLine};
 ghost use Rattle.mse_commands.specs.Words.{command_of};
 
@@ -77,17 +78,19 @@ pub fn run<S: FrameStore, L: Library, K: Sink>(
     ensures ends { OfWords (L.table library.old) (map string_bytes words.now) (λ request.
         Ends (vec_len listeners.old) request
         (left journal.new.entries engine.new
-        (L.faults library.old) (L.faults library.new) (K.written sink.old) (K.written sink.new)
-        (map (λ b. notes b) listeners.old.items) (map (λ b. notes b) listeners.new.items)
-        (map (λ b. rules b) listeners.old.items) (map (λ b. rules b) listeners.new.items))
+        (outside_of (L.faults library.old) (K.written sink.old)
+        (map (λ b. notes b) listeners.old.items) (map (λ b. rules b) listeners.old.items))
+        (outside_of (L.faults library.new) (K.written sink.new)
+        (map (λ b. notes b) listeners.new.items) (map (λ b. rules b) listeners.new.items)))
         result) }
     ensures complete { IfSome (L.table library.old) (λ files. IsComplete (vec_len listeners.old)
         (asked files (map string_bytes words.now))
         (left journal.new.entries engine.new
-        (L.faults library.old) (L.faults library.new) (K.written sink.old) (K.written sink.new)
-        (map (λ b. notes b) listeners.old.items) (map (λ b. notes b) listeners.new.items)
-        (map (λ b. rules b) listeners.old.items) (map (λ b. rules b) listeners.new.items))
-        (K.faults sink.old) (K.faults sink.new) result) }
+        (outside_of (L.faults library.old) (K.written sink.old)
+        (map (λ b. notes b) listeners.old.items) (map (λ b. rules b) listeners.old.items))
+        (outside_of (L.faults library.new) (K.written sink.new)
+        (map (λ b. notes b) listeners.new.items) (map (λ b. rules b) listeners.new.items)))
+        (failures (K.faults sink.old) (K.faults sink.new)) result) }
     ensures cuts { IfSome (L.table library.old) (λ files.
         CutAnywhere (asked files (map string_bytes words.now)) journal.new.entries result) }
     ensures count { vec_len listeners.new ≡ vec_len listeners.old }

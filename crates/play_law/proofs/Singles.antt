@@ -16,7 +16,7 @@ use Rattle.mse_engine.specs.Work.{after_work, after_element_turn, fire_result, r
 use Rattle.mse_engine.specs.Run.{entry_meaning, step_meaning, fire_meaning, after_entries, Replays}
 use Rattle.script_run.specs.Doings.{IsDrain, IsNext, IsAtRest, InDrainOrder}
 use Rattle.script_run.specs.Turns.{Turn, first_turn, InTurns, calls_in}
-use Rattle.script_run.specs.Lines.{own_of, fired_of, done_of, Does, Limits, IsWithin}
+use Rattle.script_run.specs.Lines.{own_of, fired_of, done_of, Does, Limits, IsWithin, play_inputs}
 use Rattle.script_run.specs.Follows.{IsWhole}
 use Rattle.cut_law.specs.Plays.{after_entry, fired_entries, next_entry_by, next_entry, entries_behind, entries_then, drain_in, drain_entries, fire_entries, entries_if, line_entries, after_line, play_entries, play_of}
 use Rattle.cut_law.specs.Files.{after_piece}
@@ -252,7 +252,7 @@ quiet-join (Element ∷ xs) ys p q = quiet-join xs ys p q
 
 -- what holds of the journal of some lines, of which the first has the number n
 pub record IsPlayFrom (blobs : List (List ℕ)) (limits : Limits) (n : ℕ) (st : State) (lines : List StepLine) (entries : List Entry) : Type 0 where
-  pub whole : IsWhole blobs limits n st lines entries
+  pub whole : IsWhole (play_inputs blobs limits) n st lines entries
   pub replays : Replays blobs st entries
   pub silent : calls_in entries ≡ 0
 
@@ -269,7 +269,7 @@ some-play blobs limits n st (line ∷ lines) =
       silent = quiet-join part rest d.quiet p.silent;
     }
 
-pub one-play : (blobs : List (List ℕ)) (limits : Limits) (n : ℕ) (st : State) (lines : List StepLine) (entries : List Entry) → IsWhole blobs limits n st lines entries → Replays blobs st entries → calls_in entries ≡ 0
+pub one-play : (blobs : List (List ℕ)) (limits : Limits) (n : ℕ) (st : State) (lines : List StepLine) (entries : List Entry) → IsWhole (play_inputs blobs limits) n st lines entries → Replays blobs st entries → calls_in entries ≡ 0
     → entries ≡ play_entries blobs n st lines
 one-play blobs limits n st [] entries w r q = w
 one-play blobs limits n st (line ∷ lines) entries w r q =
@@ -280,7 +280,7 @@ one-play blobs limits n st (line ∷ lines) entries w r q =
     let none : calls_in (part ++ rest) ≡ 0 = ap calls_in (sym w.2) ∙ q in
     let quiet = quiet-parts part rest none in
     let same : part ≡ line_entries blobs st line = one-line blobs st line part w.3.does both.0 quiet.0 in
-    let later : IsWhole blobs limits (suc n) (after_line blobs st line) lines rest = subst (λ es. IsWhole blobs limits (suc n) (after_entries blobs st es) lines rest) same w.4 in
+    let later : IsWhole (play_inputs blobs limits) (suc n) (after_line blobs st line) lines rest = subst (λ es. IsWhole (play_inputs blobs limits) (suc n) (after_entries blobs st es) lines rest) same w.4 in
     let behind : Replays blobs (after_line blobs st line) rest = subst (λ es. Replays blobs (after_entries blobs st es) rest) same both.1 in
     let tail : rest ≡ play_entries blobs (suc n) (after_line blobs st line) lines = one-play blobs limits (suc n) (after_line blobs st line) lines rest later behind quiet.1 in
     w.2 ∙ ap (λ es. Step n ∷ (es ++ rest)) same ∙ ap (λ es. Step n ∷ (line_entries blobs st line ++ es)) tail

@@ -12,15 +12,18 @@ use Rattle.cut_law.specs.Plays.{play_of}
 use Rattle.cut_law.specs.Room.{IsUnmet}
 
 -- every line is done, each entry tells what the machine does there, and no entry is a listener's call
-pub record IsSilentJournal (blobs : List (List ℕ)) (limits : Limits) (st : State) (lines : List StepLine) (entries : List Entry) : Type 0 where
+pub record IsSilentJournal (blobs : List (List ℕ)) (limits : Limits) (st : State)
+    (lines : List StepLine) (entries : List Entry) : Type 0 where
   pub whole : LinesAre blobs limits lines st entries
   pub replays : Replays blobs st entries
   pub silent : calls_in entries ≡ 0
 
 -- Each script in which an append of this one that was awaited is cut comes to this core, where neither meets the quota;
 -- so does each to which one comes by one such cut after another.
-pub record CutsAlike (blobs : List (List ℕ)) (st : State) (s : List StepLine) (core : Core) : Type 0 where
-  pub once : (t : List StepLine) (c : Cut blobs s t) → IsAwaited blobs st c.front → IsUnmet blobs st s → IsUnmet blobs st t
+pub record CutsAlike (blobs : List (List ℕ)) (st : State) (s : List StepLine)
+    (core : Core) : Type 0 where
+  pub once : (t : List StepLine) (c : Cut blobs s t)
+      → IsAwaited blobs st c.front → IsUnmet blobs st s → IsUnmet blobs st t
       → (play_of blobs st t).core ≡ core
-  pub again : (steps : List (List StepLine)) (t : List StepLine) → IsUnmet blobs st s → AreCuts blobs st s steps t
-      → (play_of blobs st t).core ≡ core
+  pub again : (steps : List (List StepLine)) (t : List StepLine)
+      → IsUnmet blobs st s → AreCuts blobs st s steps t → (play_of blobs st t).core ≡ core

@@ -1,3 +1,3 @@
-pub mod Book
+pub mod JournalView
 pub mod EntryRef
 pub mod Marks

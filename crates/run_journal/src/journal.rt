@@ -20,10 +20,10 @@ pub struct Journal {
 
 impl Model for Journal {
     ghost use Rattle.std.specs.Prelude.{◌+◌, ◌≤◌, All, vec_len, vec_capacity};
-    ghost use Rattle.run_journal.specs.Book.{Book};
+    ghost use Rattle.run_journal.specs.JournalView.{JournalView};
     ghost use Rattle.run_journal.specs.Marks.{entries_at, PointsInside};
 
-    ghost Value = { Book };
+    ghost Value = { JournalView };
 
     ghost view = { λ j. record {
       entries = entries_at j.calls.items j.pieces.items j.marks.items;

@@ -10,7 +10,7 @@ use Rattle.call_script.specs.declared.script.StepLine.TheVariants as step
 use Rattle.listeners.specs.declared.listener.Note.{Note}
 use Rattle.listeners.specs.declared.event_dispatch.DispatchFault.{DispatchFault}
 use Rattle.listeners.specs.declared.event_dispatch.DispatchFault.TheVariants as fault
-use Rattle.listeners.specs.Dispatch.{CallsInTurn, EndsAt, IsFault}
+use Rattle.listeners.specs.Dispatch.{CallsInTurn, EndsAt, IsFault, TurnEnd, dispatch_end, turn_end_of}
 use Rattle.mse_engine.specs.State.{State}
 use Rattle.mse_engine.specs.Run.{entry_meaning}
 use Rattle.mse_engine.specs.Work.{after_element_turn, after_work, fire_result}
@@ -28,14 +28,14 @@ use Rattle.script_run.proofs.Telling.{cut_then}
 -- ---- a dispatch that was cut
 
 -- a fault, but for the number of calls that are left
-fault_alone : (f : DispatchFault) (event : Event) (w left : ℕ) (calls : List Note) (count : ℕ) (n0 n1 : List Note)
-    → IsFault f event w left calls count n0 n1 → IsFault f event w 0 calls count n0 n1
-fault_alone fault.OutOfMemory event w left calls count n0 n1 p = p
-fault_alone (fault.CallBudget k) event w left calls count n0 n1 p = p
-fault_alone fault.TaskBudget event w left calls count n0 n1 p = (refl, p.1, p.2)
+fault_alone : (f : DispatchFault) (event : Event) (calls : List Entry) (left w : ℕ) (n0 n1 : List (List Note))
+    → IsFault f event (turn_end_of w (dispatch_end calls left n0 n1)) → IsFault f event (turn_end_of w (dispatch_end calls 0 n0 n1))
+fault_alone fault.OutOfMemory event calls left w n0 n1 p = p
+fault_alone (fault.CallBudget k) event calls left w n0 n1 p = p
+fault_alone fault.TaskBudget event calls left w n0 n1 p = (refl, p.1, p.2)
 
 pub cut_of : (f : DispatchFault) (event : Event) (calls : List Entry) (left : ℕ) (n0 n1 : List (List Note)) → CallsInTurn 0 (length n0) calls
-    → length n1 ≡ length n0 → HeardAll [] n0 n0 → EndsAt event calls left n0 n1 f → CutDispatch f (entry.Fired event ∷ calls) n0 n1
+    → length n1 ≡ length n0 → HeardAll [] n0 n0 → EndsAt event (dispatch_end calls left n0 n1) f → CutDispatch f (entry.Fired event ∷ calls) n0 n1
 cut_of f event calls left n0 n1 turns count heard p = record {
   before = [];
   event = event;
@@ -50,16 +50,15 @@ cut_of f event calls left n0 n1 turns count heard p = record {
     within = p.within;
     served = p.served;
     behind = p.behind;
-    ending = fault_alone f event p.listener left _ _ _ _ p.ending;
+    ending = fault_alone f event calls left p.listener n0 n1 p.ending;
   };
 }
 
 -- a call that was not made is one that want of memory may leave
-fault_as_memory : (f : DispatchFault) (event : Event) (w : ℕ) (calls : List Note) (count : ℕ) (n0 n1 : List Note)
-    → IsFault f event w 0 calls count n0 n1 → IsFault fault.OutOfMemory event w 0 calls count n0 n1
-fault_as_memory fault.OutOfMemory event w calls count n0 n1 p = p
-fault_as_memory (fault.CallBudget k) event w calls count n0 n1 p = inr (inr (inr p.2))
-fault_as_memory fault.TaskBudget event w calls count n0 n1 p = inr (inr (inr p.2))
+fault_as_memory : (f : DispatchFault) (event : Event) (end : TurnEnd) → IsFault f event end → IsFault fault.OutOfMemory event end
+fault_as_memory fault.OutOfMemory event end p = p
+fault_as_memory (fault.CallBudget k) event end p = inr (inr (inr p.2))
+fault_as_memory fault.TaskBudget event end p = inr (inr (inr p.2))
 
 pub cut_as_memory : (f : DispatchFault) (es : List Entry) (n0 n1 : List (List Note)) → CutDispatch f es n0 n1 → CutDispatch fault.OutOfMemory es n0 n1
 cut_as_memory f es n0 n1 p = record {
@@ -76,7 +75,7 @@ cut_as_memory f es n0 n1 p = record {
     within = p.end.within;
     served = p.end.served;
     behind = p.end.behind;
-    ending = fault_as_memory f p.event p.end.listener _ _ _ _ p.end.ending;
+    ending = fault_as_memory f p.event (turn_end_of p.end.listener (dispatch_end p.calls 0 p.middle n1)) p.end.ending;
   };
 }
 

@@ -10,16 +10,18 @@ use Rattle.mse_engine.specs.State.{State}
 use Rattle.mse_engine.specs.declared.engine.Worked.TheVariants.{Did}
 use Rattle.mse_engine.specs.Standing.{IsWork, Kept, Stands}
 use Rattle.mse_engine.specs.Run.{after_entries, fire_meaning}
-use Rattle.mse_engine.specs.Work.{after_element_turn, after_work, due_in, running_in, without_first}
+use Rattle.mse_engine.specs.Work.{after_element_turn, due_in, running_in, without_first}
 use Rattle.mse_engine.specs.Goes.{Goes}
 use Rattle.mse_engine.proofs.Goes.{goes_none, goes_then}
 use Rattle.call_script.specs.declared.script.StepLine.TheVariants.{Fire, Drain}
 use Rattle.script_run.specs.declared.stop.Stop.{Stop}
-use Rattle.script_run.specs.Doings.{InDrainOrder, IsAtRest, IsQuiet, NoEvent}
+use Rattle.script_run.specs.Doings.{InDrainOrder, IsAtRest, IsQuiet, NoEvent, element_step, work_step}
 use Rattle.script_run.specs.Progress.{IsCalm, IsTurnTaken}
 use Rattle.script_run.specs.Lines.{Begins, Does}
-use Rattle.script_run.specs.Ran.{Doing, Drains, Ran, RanUpTo, Stepped, SteppedIf}
-use Rattle.script_run.specs.Stage.{IsStanding, RunView, Stage, stage}
+use Rattle.listeners.specs.Views.{RunView}
+use Rattle.script_run.specs.Courses.{Doing}
+use Rattle.script_run.specs.Ran.{Drains, Ran, RanUpTo, Stepped, SteppedIf}
+use Rattle.script_run.specs.Stage.{IsStanding, Stage, stage}
 use Rattle.script_run.specs.Turns.{InTurns}
 use Rattle.script_run.proofs.Writing.{wrote_none}
 use Rattle.script_run.proofs.Turning.{calls_in-append}
@@ -101,25 +103,25 @@ turn_ran blobs does a b t n holds p = record {
 
 -- the buffer that runs works
 pub did_work : (blobs : List (List ℕ)) (k : ℕ) (worked : Bool) (a b : RunView) → IsStanding a.engine → ((st : State) → Stands a.engine st → running_in st ≡ Some k)
-    → SteppedIf blobs (Work k) (after_work k) a b worked → worked ≡ true
+    → SteppedIf blobs (work_step k) a b worked → worked ≡ true
 did_work blobs k true a b s runs p = refl
 did_work blobs k false a b s runs p = absurd (running_works s.state k (runs s.state s.stands) (p.1 s.state s.stands))
 
 pub working_ran : (blobs : List (List ℕ)) (k : ℕ) (worked : Bool) (a b : RunView) (t : Option (List ℕ)) (n : List (List Note)) → IsStanding a.engine
     → ((st : State) → Stands a.engine st → NoEvent st) → ((st : State) → Stands a.engine st → running_in st ≡ Some k)
-    → SteppedIf blobs (Work k) (after_work k) a b worked → Ran blobs (InDrainOrder blobs) (stage a t n) (stage b t n)
+    → SteppedIf blobs (work_step k) a b worked → Ran blobs (InDrainOrder blobs) (stage a t n) (stage b t n)
 working_ran blobs k true a b t n s empty runs p = work_ran blobs (InDrainOrder blobs) k a b t n (λ st h. ((empty st h, runs st h), tt)) p
 working_ran blobs k false a b t n s empty runs p = absurd (running_works s.state k (runs s.state s.stands) (p.1 s.state s.stands))
 
 -- the element takes the turn that is due
 pub did_turn : (blobs : List (List ℕ)) (turned : Bool) (a b : RunView) → IsStanding a.engine → ((st : State) → Stands a.engine st → due_in st ≡ true)
-    → SteppedIf blobs Element after_element_turn a b turned → turned ≡ true
+    → SteppedIf blobs element_step a b turned → turned ≡ true
 did_turn blobs true a b s due p = refl
 did_turn blobs false a b s due p = absurd (due_turns s.state (due s.state s.stands) (p.1 s.state s.stands))
 
 pub turning_ran : (blobs : List (List ℕ)) (turned : Bool) (a b : RunView) (t : Option (List ℕ)) (n : List (List Note)) → IsStanding a.engine
     → ((st : State) → Stands a.engine st → IsQuiet st) → ((st : State) → Stands a.engine st → due_in st ≡ true)
-    → SteppedIf blobs Element after_element_turn a b turned → Ran blobs (InDrainOrder blobs) (stage a t n) (stage b t n)
+    → SteppedIf blobs element_step a b turned → Ran blobs (InDrainOrder blobs) (stage a t n) (stage b t n)
 turning_ran blobs true a b t n s quiet due p = turn_ran blobs (InDrainOrder blobs) a b t n (λ st h. ((quiet st h, due st h), tt)) p
 turning_ran blobs false a b t n s quiet due p = absurd (due_turns s.state (due s.state s.stands) (p.1 s.state s.stands))
 
@@ -159,13 +161,13 @@ drains_event blobs a b event p = record {
 
 pub drains_work : (blobs : List (List ℕ)) (k : ℕ) (worked : Bool) (a b : RunView) → IsStanding a.engine
     → ((st : State) → Stands a.engine st → NoEvent st) → ((st : State) → Stands a.engine st → running_in st ≡ Some k)
-    → SteppedIf blobs (Work k) (after_work k) a b worked → Drains blobs a b
+    → SteppedIf blobs (work_step k) a b worked → Drains blobs a b
 drains_work blobs k true a b s empty runs p = record { entries = Work k ∷ []; stepped = p; order = λ st h. ((empty st h, runs st h), tt); silent = refl }
 drains_work blobs k false a b s empty runs p = absurd (running_works s.state k (runs s.state s.stands) (p.1 s.state s.stands))
 
 pub drains_turn : (blobs : List (List ℕ)) (turned : Bool) (a b : RunView) → IsStanding a.engine
     → ((st : State) → Stands a.engine st → IsQuiet st) → ((st : State) → Stands a.engine st → due_in st ≡ true)
-    → SteppedIf blobs Element after_element_turn a b turned → Drains blobs a b
+    → SteppedIf blobs element_step a b turned → Drains blobs a b
 drains_turn blobs true a b s quiet due p = record { entries = Element ∷ []; stepped = p; order = λ st h. ((quiet st h, due st h), tt); silent = refl }
 drains_turn blobs false a b s quiet due p = absurd (due_turns s.state (due s.state s.stands) (p.1 s.state s.stands))
 

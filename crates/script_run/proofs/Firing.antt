@@ -16,6 +16,7 @@ use Rattle.listeners.specs.declared.event_dispatch.DispatchFault.{DispatchFault}
 use Rattle.listeners.specs.declared.event_dispatch.DispatchFault.TheVariants as fault
 use Rattle.listeners.specs.Notes.{call_count, event_notes, is_call_of}
 use Rattle.listeners.specs.Dispatch.{CallsInTurn, IsDispatch, notes_at}
+use Rattle.listeners.specs.Views.{RunView, dispatch_view}
 use Rattle.mse_engine.specs.State.{State}
 use Rattle.mse_engine.specs.Run.{entry_meaning}
 use Rattle.mse_engine.specs.Standing.{Kept, Stands}
@@ -28,8 +29,9 @@ use Rattle.script_run.specs.declared.stop.Halt.TheVariants as halt
 use Rattle.script_run.specs.declared.stop.Stop.TheVariants.{Halted}
 use Rattle.script_run.specs.Doings.{InDrainOrder, NoEvent}
 use Rattle.script_run.specs.Lines.{Begins, Does, fired_of, own_of}
-use Rattle.script_run.specs.Ran.{CutDispatch, Doing, Grew, HeardTo, IsOverLimit, Ran, RanUpTo, Stepped, StoppedBy, stop_of}
-use Rattle.script_run.specs.Stage.{RunView, stage}
+use Rattle.script_run.specs.Courses.{Doing}
+use Rattle.script_run.specs.Ran.{CutDispatch, Grew, HeardTo, IsOverLimit, Ran, RanUpTo, Stepped, StoppedBy, stop_of}
+use Rattle.script_run.specs.Stage.{stage}
 use Rattle.script_run.specs.Story.{HeardAll, story, until_fired}
 use Rattle.script_run.specs.Text.{lines_of}
 use Rattle.script_run.specs.Turns.{InTurns, IsSpent, calls_in}
@@ -127,7 +129,7 @@ fired_does blobs event high st a b es s goes calls =
 
 fired_entries : (blobs : List (List ℕ)) (does : Doing) (event : Event) (a b c : RunView) (n0 n1 : List (List Note)) (result : Result (Unit {0}) DispatchFault)
     → ((st : State) (part : List Entry) → own_of part ≡ fired_of (fire_result st) → does st part)
-    → Stepped blobs (Fired event ∷ []) a b → (d : IsDispatch blobs event b.entries c.entries b.engine c.engine b.left c.left n0 n1 result)
+    → Stepped blobs (Fired event ∷ []) a b → (d : IsDispatch blobs event (dispatch_view b n0) (dispatch_view c n1) result)
     → Grew blobs does a c (Fired event ∷ d.entries)
 fired_entries blobs does event a b c n0 n1 result is step d = record {
   grew = fired_grew event a.entries b.entries c.entries d.entries step.grew d.calls.journal;
@@ -136,14 +138,15 @@ fired_entries blobs does event a b c n0 n1 result is step d = record {
 }
 
 fired_left : (blobs : List (List ℕ)) (event : Event) (a b c : RunView) (n0 n1 : List (List Note)) (result : Result (Unit {0}) DispatchFault)
-    → Stepped blobs (Fired event ∷ []) a b → (d : IsDispatch blobs event b.entries c.entries b.engine c.engine b.left c.left n0 n1 result)
+    → Stepped blobs (Fired event ∷ []) a b → (d : IsDispatch blobs event (dispatch_view b n0) (dispatch_view c n1) result)
     → a.left ≡ c.left + calls_in (Fired event ∷ d.entries)
 fired_left blobs event a b c n0 n1 result step d =
     let number : calls_in d.entries ≡ length d.entries = calls_number 0 (length n0) d.entries d.in_turn in
-    omega (arith, number, step.left, d.calls.left)
+    let made : b.left ≡ c.left + length d.entries = d.calls.left in
+    omega (arith, number, step.left, made)
 
 fired_turns : (blobs : List (List ℕ)) (event : Event) (b c : RunView) (n0 n1 : List (List Note)) (result : Result (Unit {0}) DispatchFault)
-    → (d : IsDispatch blobs event b.entries c.entries b.engine c.engine b.left c.left n0 n1 result) → InTurns (length n0) None (Fired event ∷ d.entries)
+    → (d : IsDispatch blobs event (dispatch_view b n0) (dispatch_view c n1) result) → InTurns (length n0) None (Fired event ∷ d.entries)
 fired_turns blobs event b c n0 n1 result d = turns_of_calls (length n0) 0 0 d.entries d.in_turn (omega (arith, d.few 0)) d.few
 
 fired_lines : (event : Event) (j0 j1 j2 es : List Entry) → j1 ≡ j0 ++ Fired event ∷ [] → j2 ≡ j1 ++ es → drop (length j0) j2 ≡ Fired event ∷ es
@@ -151,7 +154,7 @@ fired_lines event j0 j1 j2 es p q = rw (fired_grew event j0 j1 j2 es p q) (drop-
 
 -- each listener was served, and heard
 heard_at : (blobs : List (List ℕ)) (event : Event) (b c : RunView) (n0 n1 : List (List Note))
-    → (d : IsDispatch blobs event b.entries c.entries b.engine c.engine b.left c.left n0 n1 (Ok tt)) → length n1 ≡ length n0
+    → (d : IsDispatch blobs event (dispatch_view b n0) (dispatch_view c n1) (Ok tt)) → length n1 ≡ length n0
     → HeardAll (Fired event ∷ d.entries) n0 n1
 heard_at blobs event b c n0 n1 d same =
     let until : until_fired d.entries ≡ d.entries = calls_until 0 (length n0) d.entries d.in_turn in
@@ -162,7 +165,7 @@ heard_at blobs event b c n0 n1 d same =
     }
 
 pub fired_ran : (blobs : List (List ℕ)) (event : Event) (a b c : RunView) (t0 t1 : Option (List ℕ)) (n0 n1 : List (List Note))
-    → Stepped blobs (Fired event ∷ []) a b → IsDispatch blobs event b.entries c.entries b.engine c.engine b.left c.left n0 n1 (Ok tt) → length n1 ≡ length n0
+    → Stepped blobs (Fired event ∷ []) a b → IsDispatch blobs event (dispatch_view b n0) (dispatch_view c n1) (Ok tt) → length n1 ≡ length n0
     → Wrote (lines_of (drop (length a.entries) c.entries)) t0 t1 → Ran blobs (λ st part. Does blobs st Fire part) (stage a t0 n0) (stage c t1 n1)
 fired_ran blobs event a b c t0 t1 n0 n1 step d same wrote =
     let lines : drop (length a.entries) c.entries ≡ Fired event ∷ d.entries = fired_lines event a.entries b.entries c.entries d.entries step.grew d.calls.journal in
@@ -179,20 +182,21 @@ fired_ran blobs event a b c t0 t1 n0 n1 step d same wrote =
 
 -- a dispatch that ended with a fault
 cut_at : (blobs : List (List ℕ)) (event : Event) (b c : RunView) (n0 n1 : List (List Note)) (f : DispatchFault)
-    → (d : IsDispatch blobs event b.entries c.entries b.engine c.engine b.left c.left n0 n1 (Err f)) → length n1 ≡ length n0
+    → (d : IsDispatch blobs event (dispatch_view b n0) (dispatch_view c n1) (Err f)) → length n1 ≡ length n0
     → CutDispatch f (Fired event ∷ d.entries) n0 n1
 cut_at blobs event b c n0 n1 f d same = cut_of f event d.entries c.left n0 n1 d.in_turn same (heard_none n0) d.outcome
 
 -- the calls that were left were made
 fired_spent : (blobs : List (List ℕ)) (event : Event) (a b c : RunView) (n0 n1 : List (List Note)) → Stepped blobs (Fired event ∷ []) a b
-    → (d : IsDispatch blobs event b.entries c.entries b.engine c.engine b.left c.left n0 n1 (Err fault.TaskBudget)) → IsSpent a.left (Fired event ∷ d.entries)
+    → (d : IsDispatch blobs event (dispatch_view b n0) (dispatch_view c n1) (Err fault.TaskBudget)) → IsSpent a.left (Fired event ∷ d.entries)
 fired_spent blobs event a b c n0 n1 step d =
     let left : a.left ≡ c.left + calls_in (Fired event ∷ d.entries) = fired_left blobs event a b c n0 n1 (Err fault.TaskBudget) step d in
-    omega (arith, left, d.outcome.ending.0)
+    let none : c.left ≡ 0 = d.outcome.ending.0 in
+    omega (arith, left, none)
 
 -- it was cut by a limit
 fired_over : (blobs : List (List ℕ)) (event : Event) (f : DispatchFault) (a b c : RunView) (n0 n1 : List (List Note)) → ¬ (f ≡ fault.OutOfMemory)
-    → Stepped blobs (Fired event ∷ []) a b → (d : IsDispatch blobs event b.entries c.entries b.engine c.engine b.left c.left n0 n1 (Err f)) → length n1 ≡ length n0
+    → Stepped blobs (Fired event ∷ []) a b → (d : IsDispatch blobs event (dispatch_view b n0) (dispatch_view c n1) (Err f)) → length n1 ≡ length n0
     → IsOverLimit (IsSpent a.left) (stop_of f) (Fired event ∷ d.entries) n0 n1
 fired_over blobs event fault.OutOfMemory a b c n0 n1 not step d same = absurd (not refl)
 fired_over blobs event (fault.CallBudget k) a b c n0 n1 not step d same = cut_at blobs event b c n0 n1 (fault.CallBudget k) d same
@@ -201,7 +205,7 @@ fired_over blobs event fault.TaskBudget a b c n0 n1 not step d same =
 
 heard_to : (blobs : List (List ℕ)) (event : Event) (h : Halt) (a b c : RunView) (n0 n1 : List (List Note)) (result : Result (Unit {0}) DispatchFault)
     → ¬ (result ≡ Err fault.OutOfMemory) → Stepped blobs (Fired event ∷ []) a b
-    → (d : IsDispatch blobs event b.entries c.entries b.engine c.engine b.left c.left n0 n1 result) → length n1 ≡ length n0
+    → (d : IsDispatch blobs event (dispatch_view b n0) (dispatch_view c n1) result) → length n1 ≡ length n0
     → HeardTo (IsSpent a.left) h (Fired event ∷ d.entries) n0 n1
 heard_to blobs event h a b c n0 n1 (Ok u) not step d same = heard_to_all (IsSpent a.left) h (Fired event ∷ d.entries) n0 n1 (heard_at blobs event b c n0 n1 d same)
 heard_to blobs event halt.Memory a b c n0 n1 (Err f) not step d same =
@@ -212,7 +216,7 @@ heard_to blobs event halt.Write a b c n0 n1 (Err f) not step d same =
 -- the lines were not all written
 pub fired_half : (blobs : List (List ℕ)) (event : Event) (h : Halt) (a b c : RunView) (t0 t1 : Option (List ℕ)) (n0 n1 : List (List Note)) (result : Result (Unit {0}) DispatchFault)
     → ¬ (result ≡ Err fault.OutOfMemory) → Stepped blobs (Fired event ∷ []) a b
-    → IsDispatch blobs event b.entries c.entries b.engine c.engine b.left c.left n0 n1 result → length n1 ≡ length n0
+    → IsDispatch blobs event (dispatch_view b n0) (dispatch_view c n1) result → length n1 ≡ length n0
     → WroteFront (lines_of (drop (length a.entries) c.entries)) t0 t1 → RanUpTo blobs (λ st part. Begins blobs st Fire part) (Halted h) (stage a t0 n0) (stage c t1 n1)
 fired_half blobs event h a b c t0 t1 n0 n1 result not step d same wrote =
     let lines : drop (length a.entries) c.entries ≡ Fired event ∷ d.entries = fired_lines event a.entries b.entries c.entries d.entries step.grew d.calls.journal in
@@ -228,7 +232,7 @@ fired_half blobs event h a b c t0 t1 n0 n1 result not step d same wrote =
 
 -- memory was wanting in the dispatch, and none of its lines was written
 pub fired_short : (blobs : List (List ℕ)) (event : Event) (a b c : RunView) (t : Option (List ℕ)) (n0 n1 : List (List Note))
-    → Stepped blobs (Fired event ∷ []) a b → IsDispatch blobs event b.entries c.entries b.engine c.engine b.left c.left n0 n1 (Err fault.OutOfMemory)
+    → Stepped blobs (Fired event ∷ []) a b → IsDispatch blobs event (dispatch_view b n0) (dispatch_view c n1) (Err fault.OutOfMemory)
     → length n1 ≡ length n0 → RanUpTo blobs (λ st part. Begins blobs st Fire part) (Halted halt.Memory) (stage a t n0) (stage c t n1)
 fired_short blobs event a b c t n0 n1 step d same = record {
   played = record {
@@ -249,7 +253,7 @@ stopped_by spent fault.TaskBudget es a c t0 t1 n0 n1 wrote over = (wrote, over)
 -- a limit ended the dispatch
 pub fired_stopped : (blobs : List (List ℕ)) (event : Event) (f : DispatchFault) (a b c : RunView) (t0 t1 : Option (List ℕ)) (n0 n1 : List (List Note))
     → ¬ (f ≡ fault.OutOfMemory) → Stepped blobs (Fired event ∷ []) a b
-    → IsDispatch blobs event b.entries c.entries b.engine c.engine b.left c.left n0 n1 (Err f) → length n1 ≡ length n0
+    → IsDispatch blobs event (dispatch_view b n0) (dispatch_view c n1) (Err f) → length n1 ≡ length n0
     → Wrote (lines_of (drop (length a.entries) c.entries)) t0 t1
     → RanUpTo blobs (λ st part. Begins blobs st Fire part) (stop_of f) (stage a t0 n0) (stage c t1 n1)
 fired_stopped blobs event f a b c t0 t1 n0 n1 not step d same wrote =
@@ -266,8 +270,10 @@ fired_stopped blobs event f a b c t0 t1 n0 n1 not step d same wrote =
 
 -- where no listener called, the engine is as it was when the event was fired
 pub fired_alone : (blobs : List (List ℕ)) (event : Event) (b c : RunView) (n0 n1 : List (List Note)) (result : Result (Unit {0}) DispatchFault)
-    → IsDispatch blobs event b.entries c.entries b.engine c.engine b.left c.left n0 n1 result → c.left ≡ b.left → c.engine ≡ b.engine
-fired_alone blobs event b c n0 n1 result d same = d.calls.engine.idle (none d.entries (omega (arith, same, d.calls.left)))
+    → IsDispatch blobs event (dispatch_view b n0) (dispatch_view c n1) result → c.left ≡ b.left → c.engine ≡ b.engine
+fired_alone blobs event b c n0 n1 result d same =
+    let made : b.left ≡ c.left + length d.entries = d.calls.left in
+    d.calls.engine.idle (none d.entries (omega (arith, same, made)))
   where
     none : (es : List Entry) → length es ≡ 0 → es ≡ []
     none [] e = refl

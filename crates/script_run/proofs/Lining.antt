@@ -21,9 +21,12 @@ use Rattle.script_run.specs.declared.stop.Halt.{Halt}
 use Rattle.script_run.specs.declared.stop.Stop.{Stop}
 use Rattle.script_run.specs.declared.stop.Stop.TheVariants.{Halted}
 use Rattle.script_run.specs.Follows.{LineBegins, LineIs}
-use Rattle.script_run.specs.Lines.{Begins, Does, Limits}
-use Rattle.script_run.specs.Ran.{CallHalted, Called, Doing, Played, PlayedUpTo, PlayedBy, Ran, RanBy, RanUpTo, Stepped, SteppedIf}
-use Rattle.script_run.specs.Stage.{IsStanding, RunView, Stage, stage}
+use Rattle.script_run.specs.Lines.{Begins, Does, Limits, play_inputs}
+use Rattle.listeners.specs.Views.{RunView}
+use Rattle.script_run.specs.Courses.{Doing, line_course, numbered_course}
+use Rattle.script_run.specs.Doings.{element_step, work_step}
+use Rattle.script_run.specs.Ran.{CallHalted, Called, Played, PlayedUpTo, PlayedBy, Ran, RanBy, RanUpTo, Stepped, SteppedIf, front_of}
+use Rattle.script_run.specs.Stage.{IsStanding, Stage, printed_run, stage}
 use Rattle.script_run.specs.Text.{lines_of}
 use Rattle.script_run.specs.Story.{HeardAll}
 use Rattle.script_run.specs.Turns.{InTurns, IsSpent, SpentInLine, calls_in, steps_in}
@@ -41,43 +44,50 @@ call_does : (blobs : List (List ℕ)) (call : Call) (answer : Answer) (a b : Kep
     → Does blobs st (step.Call call) (entry.Script call answer ∷ [])
 call_does blobs call answer a b st h goes = ap (λ (x : Answer). entry.Script call x ∷ []) (goes.replays st h).0
 
-pub called_ran : (blobs : List (List ℕ)) (call : Call) (a b : RunView) (t0 t1 : Option (List ℕ)) (n : List (List Note)) → Called blobs call a b t0 t1
+pub called_ran : (blobs : List (List ℕ)) (call : Call) (a b : RunView) (t0 t1 : Option (List ℕ)) (n : List (List Note)) → Called blobs call (printed_run a t0) (printed_run b t1)
     → Ran blobs (λ st part. Does blobs st (step.Call call) part) (stage a t0 n) (stage b t1 n)
-called_ran blobs call a b t0 t1 n p = record {
-  played = record {
-    entries = entry.Script call p.answer ∷ [];
-    grew = record { grew = p.stepped.grew; goes = p.stepped.goes; holds = λ st h. call_does blobs call p.answer a.engine b.engine st h p.stepped.goes };
-    turns = tt;
-    wrote = rw (append-nil (line_text (entry.Script call p.answer))) p.wrote;
-    heard = heard_silence (entry.Script call p.answer ∷ []) n (λ w. refl);
-  };
-  left = omega (arith, p.stepped.left);
-}
+called_ran blobs call a b t0 t1 n p =
+    let left : b.left ≡ a.left = p.stepped.left in
+    record {
+      played = record {
+        entries = entry.Script call p.answer ∷ [];
+        grew = record { grew = p.stepped.grew; goes = p.stepped.goes; holds = λ st h. call_does blobs call p.answer a.engine b.engine st h p.stepped.goes };
+        turns = tt;
+        wrote = rw (append-nil (line_text (entry.Script call p.answer))) p.wrote;
+        heard = heard_silence (entry.Script call p.answer ∷ []) n (λ w. refl);
+      };
+      left = omega (arith, left);
+    }
 
-pub call_halted : (blobs : List (List ℕ)) (call : Call) (halt : Halt) (a b : RunView) (t0 t1 : Option (List ℕ)) (n : List (List Note)) → CallHalted blobs call a b t0 t1
+pub call_halted : (blobs : List (List ℕ)) (call : Call) (halt : Halt) (a b : RunView) (t0 t1 : Option (List ℕ)) (n : List (List Note)) → CallHalted blobs call (printed_run a t0) (printed_run b t1)
     → RanUpTo blobs (λ st part. Begins blobs st (step.Call call) part) (Halted halt) (stage a t0 n) (stage b t1 n)
-call_halted blobs call halt a b t0 t1 n (inl same) = rw (same.0, same.1) (halt_none blobs (λ st part. Begins blobs st (step.Call call) part) halt (stage a t0 n) (λ st h. inl refl))
-call_halted blobs call halt a b t0 t1 n (inr p) = record {
-  played = record {
-    entries = entry.Script call p.answer ∷ [];
-    grew = record { grew = p.stepped.grew; goes = p.stepped.goes; holds = λ st h. inr (call_does blobs call p.answer a.engine b.engine st h p.stepped.goes) };
-    turns = tt;
-    stopped = (
-      rw (append-nil (line_text (entry.Script call p.answer))) p.wrote,
-      heard_to_all (IsSpent a.left) halt (entry.Script call p.answer ∷ []) n n (heard_silence (entry.Script call p.answer ∷ []) n (λ w. refl)),
-    );
-  };
-  left = omega (arith, p.stepped.left);
-}
+call_halted blobs call halt a b t0 t1 n (inl same) =
+    let run : b ≡ a = same.0 in
+    let text : t1 ≡ t0 = same.1 in
+    rw (run, text) (halt_none blobs (λ st part. Begins blobs st (step.Call call) part) halt (stage a t0 n) (λ st h. inl refl))
+call_halted blobs call halt a b t0 t1 n (inr p) =
+    let left : b.left ≡ a.left = p.stepped.left in
+    record {
+      played = record {
+        entries = entry.Script call p.answer ∷ [];
+        grew = record { grew = p.stepped.grew; goes = p.stepped.goes; holds = λ st h. inr (call_does blobs call p.answer a.engine b.engine st h p.stepped.goes) };
+        turns = tt;
+        stopped = (
+          rw (append-nil (line_text (entry.Script call p.answer))) p.wrote,
+          heard_to_all (IsSpent a.left) halt (entry.Script call p.answer ∷ []) n n (heard_silence (entry.Script call p.answer ∷ []) n (λ w. refl)),
+        );
+      };
+      left = omega (arith, left);
+    }
 
 -- ---- a step of work, and a turn
 
-pub work_line_ran : (blobs : List (List ℕ)) (k : ℕ) (worked : Bool) (a b : RunView) (t : Option (List ℕ)) (n : List (List Note)) → SteppedIf blobs (entry.Work k) (after_work k) a b worked
+pub work_line_ran : (blobs : List (List ℕ)) (k : ℕ) (worked : Bool) (a b : RunView) (t : Option (List ℕ)) (n : List (List Note)) → SteppedIf blobs (work_step k) a b worked
     → Ran blobs (λ st part. Does blobs st (step.Work k) part) (stage a t n) (stage b t n)
 work_line_ran blobs k true a b t n p = work_ran blobs (λ st part. Does blobs st (step.Work k) part) k a b t n (λ st h. done_one (entry.Work k) (after_work k st) st (p.goes.replays st h).0) p
 work_line_ran blobs k false a b t n p = rw p.0 (ran_none blobs (λ st part. Does blobs st (step.Work k) part) (stage a t n) (λ st h. rw (p.1 st h) refl))
 
-pub turn_line_ran : (blobs : List (List ℕ)) (turned : Bool) (a b : RunView) (t : Option (List ℕ)) (n : List (List Note)) → SteppedIf blobs entry.Element after_element_turn a b turned
+pub turn_line_ran : (blobs : List (List ℕ)) (turned : Bool) (a b : RunView) (t : Option (List ℕ)) (n : List (List Note)) → SteppedIf blobs element_step a b turned
     → Ran blobs (λ st part. Does blobs st step.Element part) (stage a t n) (stage b t n)
 turn_line_ran blobs true a b t n p = turn_ran blobs (λ st part. Does blobs st step.Element part) a b t n (λ st h. done_one entry.Element (after_element_turn st) st (p.goes.replays st h).0) p
 turn_line_ran blobs false a b t n p = rw p.0 (ran_none blobs (λ st part. Does blobs st step.Element part) (stage a t n) (λ st h. rw (p.1 st h) refl))
@@ -102,7 +112,7 @@ heard_step n es n0 n1 p = record { count = p.count; notes = p.notes }
 
 pub line_played : (blobs : List (List ℕ)) (limits : Limits) (n : ℕ) (line : StepLine) (a b : RunView) (t0 t1 : Option (List ℕ)) (n0 n1 : List (List Note))
     → IsSoundEngine a.engine → limits.count ≡ length n0 → Ran blobs (λ st part. Does blobs st line part) (stage (opened n limits.limit a) t0 n0) (stage b t1 n1)
-    → Played blobs (LineIs blobs limits n line) (stage a t0 n0) (stage b t1 n1)
+    → Played blobs (LineIs (play_inputs blobs limits) n line) (stage a t0 n0) (stage b t1 n1)
 line_played blobs limits n line a b t0 t1 n0 n1 sound count p =
     let few : calls_in p.played.entries ≤ limits.limit = within_limit limits.limit b.left (calls_in p.played.entries) p.left in
     let turns : InTurns limits.count None p.played.entries = rw count p.played.turns in
@@ -121,7 +131,7 @@ line_played blobs limits n line a b t0 t1 n0 n1 sound count p =
 pub line_stopped : (blobs : List (List ℕ)) (limits : Limits) (n : ℕ) (line : StepLine) (stop : Stop) (a b : RunView) (t0 t1 : Option (List ℕ)) (n0 n1 : List (List Note))
     → IsStanding a.engine → IsSoundEngine a.engine → limits.count ≡ length n0
     → RanUpTo blobs (λ st part. Begins blobs st line part) stop (stage (opened n limits.limit a) t0 n0) (stage b t1 n1)
-    → PlayedUpTo blobs (SpentInLine limits.limit) (LineBegins blobs limits n line) stop (stage a t0 n0) (stage b t1 n1)
+    → PlayedUpTo blobs (front_of (LineBegins (play_inputs blobs limits) n line) (SpentInLine limits.limit)) stop (stage a t0 n0) (stage b t1 n1)
 line_stopped blobs limits n line stop a b t0 t1 n0 n1 standing sound count p =
     let es : List Entry = p.played.entries in
     let few : calls_in es ≤ limits.limit = within_limit limits.limit b.left (calls_in es) p.left in
@@ -142,8 +152,8 @@ line_stopped blobs limits n line stop a b t0 t1 n0 n1 standing sound count p =
 
 -- a line that did not begin
 pub line_unopened : (blobs : List (List ℕ)) (limits : Limits) (n : ℕ) (line : StepLine) (halt : Halt) (a : RunView) (t : Option (List ℕ)) (notes : List (List Note))
-    → PlayedUpTo blobs (SpentInLine limits.limit) (LineBegins blobs limits n line) (Halted halt) (stage a t notes) (stage a t notes)
-line_unopened blobs limits n line halt a t notes = played_none blobs (SpentInLine limits.limit) (LineBegins blobs limits n line) halt (stage a t notes) (λ st h. inl refl)
+    → PlayedUpTo blobs (front_of (LineBegins (play_inputs blobs limits) n line) (SpentInLine limits.limit)) (Halted halt) (stage a t notes) (stage a t notes)
+line_unopened blobs limits n line halt a t notes = played_none blobs (SpentInLine limits.limit) (LineBegins (play_inputs blobs limits) n line) halt (stage a t notes) (λ st h. inl refl)
 
 -- ---- a call as it is made
 
@@ -151,19 +161,19 @@ line_of_call : (from : ℕ) (a b : RunView) (x : Entry) → from ≡ length a.en
 line_of_call from a b x e grew = rw (e, grew, drop-append_seam a.entries (x ∷ [])) (append-nil (line_text x))
 
 pub called_of : (blobs : List (List ℕ)) (call : Call) (from : ℕ) (a b : RunView) (t0 t1 : Option (List ℕ)) → from ≡ length a.entries
-    → ((answer : Answer) × Stepped blobs (entry.Script call answer ∷ []) a b) → Wrote (lines_of (drop from b.entries)) t0 t1 → Called blobs call a b t0 t1
+    → ((answer : Answer) × Stepped blobs (entry.Script call answer ∷ []) a b) → Wrote (lines_of (drop from b.entries)) t0 t1 → Called blobs call (printed_run a t0) (printed_run b t1)
 called_of blobs call from a b t0 t1 e p wrote = record { answer = p.0; stepped = p.1; wrote = rw (line_of_call from a b (entry.Script call p.0) e p.1.grew) at wrote }
 
 pub called_half_of : (blobs : List (List ℕ)) (call : Call) (from : ℕ) (a b : RunView) (t0 t1 : Option (List ℕ)) → from ≡ length a.entries
-    → ((answer : Answer) × Stepped blobs (entry.Script call answer ∷ []) a b) → WroteFront (lines_of (drop from b.entries)) t0 t1 → CallHalted blobs call a b t0 t1
+    → ((answer : Answer) × Stepped blobs (entry.Script call answer ∷ []) a b) → WroteFront (lines_of (drop from b.entries)) t0 t1 → CallHalted blobs call (printed_run a t0) (printed_run b t1)
 called_half_of blobs call from a b t0 t1 e p wrote = inr (record { answer = p.0; stepped = p.1; wrote = rw (line_of_call from a b (entry.Script call p.0) e p.1.grew) at wrote })
 
 -- ---- a line with its number, by how it ended
 
 pub line_by : (blobs : List (List ℕ)) (limits : Limits) (n : ℕ) (line : StepLine) (a b : RunView) (t0 t1 : Option (List ℕ)) (n0 n1 : List (List Note)) (result : Result (Unit {0}) Stop)
     → IsStanding a.engine → IsSoundEngine a.engine → limits.count ≡ length n0
-    → RanBy blobs (λ st part. Does blobs st line part) (λ st part. Begins blobs st line part) (stage (opened n limits.limit a) t0 n0) (stage b t1 n1) result
-    → PlayedBy blobs (SpentInLine limits.limit) (LineIs blobs limits n line) (LineBegins blobs limits n line) (stage a t0 n0) (stage b t1 n1) result
+    → RanBy (line_course blobs line) (stage (opened n limits.limit a) t0 n0) (stage b t1 n1) result
+    → PlayedBy (SpentInLine limits.limit) (numbered_course (play_inputs blobs limits) n line) (stage a t0 n0) (stage b t1 n1) result
 line_by blobs limits n line a b t0 t1 n0 n1 (Ok u) standing sound count p = line_played blobs limits n line a b t0 t1 n0 n1 sound count p
 line_by blobs limits n line a b t0 t1 n0 n1 (Err stop) standing sound count p = line_stopped blobs limits n line stop a b t0 t1 n0 n1 standing sound count p
 
@@ -172,6 +182,6 @@ standing_played blobs does a b s p = standing_on blobs a.run.engine b.run.engine
 
 pub halted_call : (blobs : List (List ℕ)) (call : Call) (from : ℕ) (a b : RunView) (t0 t1 : Option (List ℕ)) (result : Result (Unit {0}) Halt) → from ≡ length a.entries
     → ((answer : Answer) × Stepped blobs (entry.Script call answer ∷ []) a b) → OnErr result (WroteFront (lines_of (drop from b.entries)) t0 t1)
-    → OnErr result (CallHalted blobs call a b t0 t1)
+    → OnErr result (CallHalted blobs call (printed_run a t0) (printed_run b t1))
 halted_call blobs call from a b t0 t1 (Ok u) e p wrote = tt
 halted_call blobs call from a b t0 t1 (Err halt) e p wrote = called_half_of blobs call from a b t0 t1 e p wrote

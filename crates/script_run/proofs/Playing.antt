@@ -15,8 +15,10 @@ use Rattle.script_run.specs.declared.stop.Halt.{Halt}
 use Rattle.script_run.specs.declared.stop.Halt.TheVariants as halt
 use Rattle.script_run.specs.declared.stop.Stop.{Stop}
 use Rattle.script_run.specs.declared.stop.Stop.TheVariants.{Halted, CallBudget, TaskBudget}
-use Rattle.script_run.specs.Ran.{Doing, Grew, Played, PlayedUpTo, Ran, RanUpTo, StoppedBy, HeardTo}
-use Rattle.script_run.specs.Stage.{RunView, Stage}
+use Rattle.listeners.specs.Views.{RunView}
+use Rattle.script_run.specs.Courses.{Doing}
+use Rattle.script_run.specs.Ran.{Grew, Played, PlayedUpTo, Ran, RanUpTo, StoppedBy, HeardTo, front_of}
+use Rattle.script_run.specs.Stage.{Stage}
 use Rattle.script_run.specs.Story.{HeardAll}
 use Rattle.script_run.specs.Text.{lines_of}
 use Rattle.script_run.specs.Turns.{InTurns, IsSpent, calls_in}
@@ -78,7 +80,7 @@ stopped_then spent whole TaskBudget count xs ys a b c more w p turns s = (
 )
 
 pub played_stop : (blobs : List (List ℕ)) (one two both : Doing) (spent whole : List Entry → Type 0) (stop : Stop) (a b c : Stage) → Joins blobs one two both
-    → (p : Played blobs one a b) → ((ys : List Entry) → spent ys → whole (p.entries ++ ys)) → PlayedUpTo blobs spent two stop b c → PlayedUpTo blobs whole both stop a c
+    → (p : Played blobs one a b) → ((ys : List Entry) → spent ys → whole (p.entries ++ ys)) → PlayedUpTo blobs (front_of two spent) stop b c → PlayedUpTo blobs (front_of both whole) stop a c
 played_stop blobs one two both spent whole stop a b c joins p more q = record {
   entries = p.entries ++ q.entries;
   grew = grew_then blobs one two both a.run b.run c.run p.entries q.entries joins p.grew q.grew;
@@ -127,7 +129,7 @@ ran_none blobs does a holds = record {
 
 -- it stopped before anything was done
 pub played_none : (blobs : List (List ℕ)) (spent : List Entry → Type 0) (begins : Doing) (h : Halt) (a : Stage) → ((st : State) → Stands a.run.engine st → begins st [])
-    → PlayedUpTo blobs spent begins (Halted h) a a
+    → PlayedUpTo blobs (front_of begins spent) (Halted h) a a
 played_none blobs spent begins h a holds = record {
   entries = [];
   grew = grew_none blobs begins a.run holds;

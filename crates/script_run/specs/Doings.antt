@@ -1,10 +1,23 @@
 -- What a drain does (docs/SCRIPTS.md, step lines).
-use Rattle.std.specs.Prelude.{◌≡◌, ℕ, true, false, List, [], ◌∷◌, slice_get, Some, None, ⊤}
+use Rattle.std.specs.Prelude.{◌≡◌, ℕ, true, false, List, [], ◌∷◌, slice_get, Option, Some, None, ⊤}
 use Rattle.mse_calls.specs.declared.entry.Entry.{Entry}
 use Rattle.mse_calls.specs.declared.entry.Entry.TheVariants.{Step, Script, Listener, Fired, Work, Element}
 use Rattle.mse_engine.specs.State.{State}
-use Rattle.mse_engine.specs.Work.{due_in, running_in}
+use Rattle.mse_engine.specs.Work.{after_element_turn, after_work, due_in, running_in}
 use Rattle.mse_engine.specs.Run.{after_entries, entry_meaning}
+
+-- a step of the machine: its entry, and what comes of a state where there is something to do
+pub record MachineStep : Type 0 where
+  pub entry : Entry
+  pub after : State → Option State
+
+-- buffer `k` works one item
+abbrev pub work_step : ℕ → MachineStep
+work_step k = record { entry = Work k; after = after_work k }
+
+-- the element takes a turn
+abbrev pub element_step : MachineStep
+element_step = record { entry = Element; after = after_element_turn }
 
 -- no event waits, and no buffer works
 pub record IsQuiet (st : State) : Type 0 where

@@ -6,6 +6,7 @@ pub mod Lines
 pub mod Follows
 pub mod Story
 pub mod Stage
+pub mod Courses
 pub mod Ran
 pub mod Progress
 pub mod Rules

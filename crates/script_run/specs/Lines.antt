@@ -57,6 +57,14 @@ pub record Limits : Type 0 where
 abbrev pub limits : ℕ → ℕ → Limits
 limits limit count = record { limit = limit; count = count }
 
+-- what a script is played with: the bytes of its blobs, and these limits
+pub record PlayInputs : Type 0 where
+  pub blobs : List (List ℕ)
+  pub limits : Limits
+
+abbrev pub play_inputs : List (List ℕ) → Limits → PlayInputs
+play_inputs blobs limits = record { blobs = blobs; limits = limits }
+
 pub record IsWithin (limits : Limits) (part : List Entry) : Type 0 where
   pub few : calls_in part ≤ limits.limit
   pub turns : InTurns limits.count None part

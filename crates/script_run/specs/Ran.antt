@@ -8,7 +8,8 @@ use Rattle.mse_calls.specs.declared.entry.Entry.TheVariants.{Script, Fired}
 use Rattle.listeners.specs.declared.listener.Note.{Note}
 use Rattle.listeners.specs.declared.event_dispatch.DispatchFault.{DispatchFault}
 use Rattle.listeners.specs.declared.event_dispatch.DispatchFault.TheVariants as fault
-use Rattle.listeners.specs.Dispatch.{CallsInTurn, EndsAt}
+use Rattle.listeners.specs.Dispatch.{CallsInTurn, EndsAt, dispatch_end}
+use Rattle.listeners.specs.Views.{RunView}
 use Rattle.event_text.specs.Lines.{line_text}
 use Rattle.mse_engine.specs.State.{State}
 use Rattle.mse_engine.specs.Standing.{Stands}
@@ -17,16 +18,13 @@ use Rattle.script_run.specs.declared.stop.Halt.{Halt}
 use Rattle.script_run.specs.declared.stop.Halt.TheVariants as halt
 use Rattle.script_run.specs.declared.stop.Stop.{Stop}
 use Rattle.script_run.specs.declared.stop.Stop.TheVariants.{Halted, CallBudget, TaskBudget}
-use Rattle.script_run.specs.Doings.{InDrainOrder, NoEvent}
-use Rattle.script_run.specs.Stage.{RunView, Stage}
+use Rattle.script_run.specs.Courses.{Course, Doing}
+use Rattle.script_run.specs.Doings.{InDrainOrder, MachineStep, NoEvent}
+use Rattle.script_run.specs.Stage.{PrintedRun, Stage}
 use Rattle.script_run.specs.Story.{HeardAll}
 use Rattle.script_run.specs.Text.{lines_of}
 use Rattle.script_run.specs.Turns.{InTurns, IsSpent, calls_in}
 use Rattle.script_run.specs.Wrote.{Wrote, WroteFront}
-
--- What a step is, by the state at which it begins and the entries that it brings.
-abbrev pub Doing : Type 1
-Doing = State → List Entry → Type 0
 
 -- entries came, which the engine went by, and no listener called
 pub record Stepped (blobs : List (List ℕ)) (entries : List Entry) (old new : RunView) : Type 0 where
@@ -41,12 +39,11 @@ pub record Drains (blobs : List (List ℕ)) (old new : RunView) : Type 0 where
   pub order : (st : State) → Stands old.engine st → InDrainOrder blobs st entries
   pub silent : calls_in entries ≡ 0
 
--- one entry came where there was something to do; else nothing changed
-abbrev pub SteppedIf : List (List ℕ) → Entry → (State → Option State)
-    → RunView → RunView → Bool → Type 0
-SteppedIf blobs entry step old new true = Stepped blobs (entry ∷ []) old new
-SteppedIf blobs entry step old new false =
-    (new ≡ old) × ((st : State) → Stands old.engine st → step st ≡ None)
+-- the entry of a step came where there was something to do; else nothing changed
+abbrev pub SteppedIf : List (List ℕ) → MachineStep → RunView → RunView → Bool → Type 0
+SteppedIf blobs step old new true = Stepped blobs (step.entry ∷ []) old new
+SteppedIf blobs step old new false =
+    (new ≡ old) × ((st : State) → Stands old.engine st → step.after st ≡ None)
 
 -- the first event was fired; or there was none, and nothing changed
 abbrev pub TookEvent : List (List ℕ) → RunView → RunView → Option Event → Type 0
@@ -86,7 +83,7 @@ pub record CutDispatch (fault : DispatchFault) (entries : List Entry)
   pub heard : HeardAll before old middle
   pub in_turn : CallsInTurn 0 (length middle) calls
   pub count : length new ≡ length middle
-  pub end : EndsAt event calls 0 middle new fault
+  pub end : EndsAt event (dispatch_end calls 0 middle new) fault
 
 -- A listener answered a call beyond a limit, for which a run stops so. `spent` says of entries that
 -- listeners may make no further call.
@@ -116,50 +113,55 @@ StoppedBy spent stop entries old new =
     Wrote (lines_of entries) old.written new.written
     × IsOverLimit spent stop entries old.notes new.notes
 
+-- a front of a doing, and what says of its entries that listeners may make no further call
+pub record Front : Type 1 where
+  pub begins : Doing
+  pub spent : List Entry → Type 0
+
+abbrev pub front_of : Doing → (List Entry → Type 0) → Front
+front_of begins spent = record { begins = begins; spent = spent }
+
 -- a doing stopped: the entries are those of a front of it
-pub record PlayedUpTo (blobs : List (List ℕ)) (spent : List Entry → Type 0) (begins : Doing)
-    (stop : Stop) (old new : Stage) : Type 0 where
+pub record PlayedUpTo (blobs : List (List ℕ)) (front : Front) (stop : Stop)
+    (old new : Stage) : Type 0 where
   pub entries : List Entry
-  pub grew : Grew blobs begins old.run new.run entries
+  pub grew : Grew blobs front.begins old.run new.run entries
   pub turns : InTurns (length old.notes) None entries
-  pub stopped : StoppedBy spent stop entries old new
+  pub stopped : StoppedBy front.spent stop entries old new
 
 -- in a line, in which so many calls were left
 pub record RanUpTo (blobs : List (List ℕ)) (begins : Doing) (stop : Stop)
     (old new : Stage) : Type 0 where
-  pub played : PlayedUpTo blobs (IsSpent old.run.left) begins stop old new
+  pub played : PlayedUpTo blobs (front_of begins (IsSpent old.run.left)) stop old new
   pub left : old.run.left ≡ new.run.left + calls_in played.entries
 
 -- a doing or a front of it, by how it ended
-abbrev pub PlayedBy : {A : Type 0} → List (List ℕ) → (List Entry → Type 0) → Doing → Doing
+abbrev pub PlayedBy : {A : Type 0} → (List Entry → Type 0) → Course
     → Stage → Stage → Result A Stop → Type 0
-PlayedBy blobs spent does begins old new (Ok x) = Played blobs does old new
-PlayedBy blobs spent does begins old new (Err stop) = PlayedUpTo blobs spent begins stop old new
+PlayedBy spent course old new (Ok x) = Played course.blobs course.does old new
+PlayedBy spent course old new (Err stop) =
+    PlayedUpTo course.blobs (front_of course.begins spent) stop old new
 
-abbrev pub RanBy : {A : Type 0} → List (List ℕ) → Doing → Doing
-    → Stage → Stage → Result A Stop → Type 0
-RanBy blobs does begins old new (Ok x) = Ran blobs does old new
-RanBy blobs does begins old new (Err stop) = RanUpTo blobs begins stop old new
+abbrev pub RanBy : {A : Type 0} → Course → Stage → Stage → Result A Stop → Type 0
+RanBy course old new (Ok x) = Ran course.blobs course.does old new
+RanBy course old new (Err stop) = RanUpTo course.blobs course.begins stop old new
 
 -- a call of the script was made, and its line was written
-pub record Called (blobs : List (List ℕ)) (call : Call) (old new : RunView)
-    (before written : Option (List ℕ)) : Type 0 where
+pub record Called (blobs : List (List ℕ)) (call : Call) (old new : PrintedRun) : Type 0 where
   pub answer : Answer
-  pub stepped : Stepped blobs (Script call answer ∷ []) old new
-  pub wrote : Wrote (line_text (Script call answer)) before written
+  pub stepped : Stepped blobs (Script call answer ∷ []) old.run new.run
+  pub wrote : Wrote (line_text (Script call answer)) old.written new.written
 
 -- a front of its line was written
-pub record CalledHalf (blobs : List (List ℕ)) (call : Call) (old new : RunView)
-    (before written : Option (List ℕ)) : Type 0 where
+pub record CalledHalf (blobs : List (List ℕ)) (call : Call) (old new : PrintedRun) : Type 0 where
   pub answer : Answer
-  pub stepped : Stepped blobs (Script call answer ∷ []) old new
-  pub wrote : WroteFront (line_text (Script call answer)) before written
+  pub stepped : Stepped blobs (Script call answer ∷ []) old.run new.run
+  pub wrote : WroteFront (line_text (Script call answer)) old.written new.written
 
 -- it was not made, or a front of its line was written
-abbrev pub CallHalted : List (List ℕ) → Call → RunView → RunView
-    → Option (List ℕ) → Option (List ℕ) → Type 0
-CallHalted blobs call old new before written =
-    ((new ≡ old) × (written ≡ before)) ⊎ CalledHalf blobs call old new before written
+abbrev pub CallHalted : List (List ℕ) → Call → PrintedRun → PrintedRun → Type 0
+CallHalted blobs call old new =
+    ((new.run ≡ old.run) × (new.written ≡ old.written)) ⊎ CalledHalf blobs call old new
 
 -- the stop that a fault of a dispatch is
 abbrev pub stop_of : DispatchFault → Stop

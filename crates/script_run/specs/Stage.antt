@@ -1,17 +1,19 @@
 -- How far a run has come.
 use Rattle.std.specs.Prelude.{ℕ, List, Option}
-use Rattle.mse_calls.specs.declared.entry.Entry.{Entry}
+use Rattle.listeners.specs.Views.{RunView}
 use Rattle.listeners.specs.declared.listener.Note.{Note}
 use Rattle.mse_engine.specs.State.{State}
 use Rattle.mse_engine.specs.Standing.{Kept, Stands}
 
--- what the engine keeps, the journal, and how many calls listeners may still make in this line
-pub record RunView : Type 0 where
-  pub engine : Kept
-  pub entries : List Entry
-  pub left : ℕ
+-- a run, with what was written, where that is told
+pub record PrintedRun : Type 0 where
+  pub run : RunView
+  pub written : Option (List ℕ)
 
--- with what was written, where that is told, and the notes of each listener
+abbrev pub printed_run : RunView → Option (List ℕ) → PrintedRun
+printed_run run written = record { run = run; written = written }
+
+-- and with the notes of each listener
 pub record Stage : Type 0 where
   pub run : RunView
   pub written : Option (List ℕ)

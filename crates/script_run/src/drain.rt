@@ -5,9 +5,9 @@ ghost use Rattle.call_script.specs.declared.script.StepLine.{StepLine};
 ghost use Rattle.mse_engine.specs.State.{State};
 ghost use Rattle.mse_engine.specs.Standing.{Stands};
 ghost use Rattle.mse_outside.specs.Outside.{Rose};
-ghost use Rattle.script_run.specs.Doings.{InDrainOrder, IsAtRest, IsQuiet, NoEvent};
+ghost use Rattle.script_run.specs.Courses.{line_course, order_course};
+ghost use Rattle.script_run.specs.Doings.{IsAtRest, IsQuiet, NoEvent};
 ghost use Rattle.script_run.specs.Progress.{IsCalm, IsTaken};
-ghost use Rattle.script_run.specs.Lines.{Begins, Does};
 ghost use Rattle.script_run.specs.Ran.{RanBy};
 ghost use Rattle.script_run.specs.Stage.{IsStanding, stage};
 
@@ -33,8 +33,7 @@ impl<S: FrameStore> ScriptRun<S> {
         ensures count { vec_len listeners.new ≡ vec_len listeners.old }
         ensures rules { map (λ b. rules b) listeners.new.items
             ≡ map (λ b. rules b) listeners.old.items }
-        ensures ran { RanBy blobs.now (λ st part. Does blobs.now st StepLine.Fire part)
-            (λ st part. Begins blobs.now st StepLine.Fire part)
+        ensures ran { RanBy (line_course blobs.now StepLine.Fire)
             (stage self.old (K.written sink.old) (map (λ b. notes b) listeners.old.items))
             (stage self.new (K.written sink.new) (map (λ b. notes b) listeners.new.items)) result }
         ensures fewer { result ≡ Ok true → self.new.left ≡ self.old.left
@@ -87,7 +86,7 @@ impl<S: FrameStore> ScriptRun<S> {
         ensures count { vec_len listeners.new ≡ vec_len listeners.old }
         ensures rules { map (λ b. rules b) listeners.new.items
             ≡ map (λ b. rules b) listeners.old.items }
-        ensures ran { RanBy blobs.now (InDrainOrder blobs.now) (InDrainOrder blobs.now)
+        ensures ran { RanBy (order_course blobs.now)
             (stage self.old (K.written sink.old) (map (λ b. notes b) listeners.old.items))
             (stage self.new (K.written sink.new) (map (λ b. notes b) listeners.new.items)) result }
         ensures calm { result ≡ Ok true → IsCalm self.old.engine self.new.engine }
@@ -123,7 +122,7 @@ impl<S: FrameStore> ScriptRun<S> {
         ensures count { vec_len listeners.new ≡ vec_len listeners.old }
         ensures rules { map (λ b. rules b) listeners.new.items
             ≡ map (λ b. rules b) listeners.old.items }
-        ensures ran { RanBy blobs.now (InDrainOrder blobs.now) (InDrainOrder blobs.now)
+        ensures ran { RanBy (order_course blobs.now)
             (stage self.old (K.written sink.old) (map (λ b. notes b) listeners.old.items))
             (stage self.new (K.written sink.new) (map (λ b. notes b) listeners.new.items)) result }
         ensures end { result ≡ Ok true → (st : State) → Stands self.new.engine st → IsQuiet st }
@@ -161,7 +160,7 @@ impl<S: FrameStore> ScriptRun<S> {
         ensures count { vec_len listeners.new ≡ vec_len listeners.old }
         ensures rules { map (λ b. rules b) listeners.new.items
             ≡ map (λ b. rules b) listeners.old.items }
-        ensures ran { RanBy blobs.now (InDrainOrder blobs.now) (InDrainOrder blobs.now)
+        ensures ran { RanBy (order_course blobs.now)
             (stage self.old (K.written sink.old) (map (λ b. notes b) listeners.old.items))
             (stage self.new (K.written sink.new) (map (λ b. notes b) listeners.new.items)) result }
         ensures end { result ≡ Ok true → (st : State) → Stands self.new.engine st → IsAtRest st }
@@ -186,7 +185,7 @@ impl<S: FrameStore> ScriptRun<S> {
     }
 
     /// Does all that is left, or stops short where a listener has made a call, which answers false.
-    fn settle<K: Sink>(
+    fn finish_work<K: Sink>(
         &mut self,
         blobs: &Blobs,
         sink: &mut K,
@@ -197,7 +196,7 @@ impl<S: FrameStore> ScriptRun<S> {
         ensures count { vec_len listeners.new ≡ vec_len listeners.old }
         ensures rules { map (λ b. rules b) listeners.new.items
             ≡ map (λ b. rules b) listeners.old.items }
-        ensures ran { RanBy blobs.now (InDrainOrder blobs.now) (InDrainOrder blobs.now)
+        ensures ran { RanBy (order_course blobs.now)
             (stage self.old (K.written sink.old) (map (λ b. notes b) listeners.old.items))
             (stage self.new (K.written sink.new) (map (λ b. notes b) listeners.new.items)) result }
         ensures end { result ≡ Ok true → (st : State) → Stands self.new.engine st → IsAtRest st }
@@ -229,8 +228,7 @@ impl<S: FrameStore> ScriptRun<S> {
         ensures count { vec_len listeners.new ≡ vec_len listeners.old }
         ensures rules { map (λ b. rules b) listeners.new.items
             ≡ map (λ b. rules b) listeners.old.items }
-        ensures ran { RanBy blobs.now (λ st part. Does blobs.now st StepLine.Drain part)
-            (λ st part. Begins blobs.now st StepLine.Drain part)
+        ensures ran { RanBy (line_course blobs.now StepLine.Drain)
             (stage self.old (K.written sink.old) (map (λ b. notes b) listeners.old.items))
             (stage self.new (K.written sink.new) (map (λ b. notes b) listeners.new.items)) result }
         ensures later { K.faults sink.old ≤ K.faults sink.new }
@@ -238,7 +236,7 @@ impl<S: FrameStore> ScriptRun<S> {
             → Rose (K.faults sink.old) (K.faults sink.new) }
     {
         'draining: loop {
-            match self.settle(blobs, sink, listeners) {
+            match self.finish_work(blobs, sink, listeners) {
                 Err(stop) => return Err(stop),
                 Ok(true) => return Ok(()),
                 Ok(false) => {}

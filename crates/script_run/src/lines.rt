@@ -3,10 +3,10 @@
 ghost use Rattle.std.specs.Prelude.{◌≡◌, ◌≤◌, ◌<◌, ◌^◌, OnOk, OnErr, IsErrOf, length, map, vec_len};
 ghost use Rattle.call_script.specs.declared.script.StepLine.{StepLine};
 ghost use Rattle.mse_outside.specs.Outside.{Rose};
-ghost use Rattle.script_run.specs.Follows.{LineBegins, LineIs, LinesBegin, LinesAre};
-ghost use Rattle.script_run.specs.Lines.{Begins, Does, limits};
+ghost use Rattle.script_run.specs.Courses.{line_course, numbered_course, script_course};
+ghost use Rattle.script_run.specs.Lines.{limits, play_inputs};
 ghost use Rattle.script_run.specs.Ran.{CallHalted, Called, PlayedBy, RanBy};
-ghost use Rattle.script_run.specs.Stage.{IsStanding, stage};
+ghost use Rattle.script_run.specs.Stage.{IsStanding, printed_run, stage};
 ghost use Rattle.script_run.specs.Turns.{SpentInLine};
 
 use crate::put::put_entries;
@@ -21,10 +21,12 @@ use track_store::FrameStore;
 impl<S: FrameStore> ScriptRun<S> {
     /// Makes a call of the script, and puts its line.
     fn call_aloud<K: Sink>(&mut self, blobs: &Blobs, sink: &mut K, call: &Call) -> Result<(), Halt>
-        ensures ok { OnOk result (Called blobs.now call.now self.old self.new
-            (K.written sink.old) (K.written sink.new)) }
-        ensures err { OnErr result (CallHalted blobs.now call.now self.old self.new
-            (K.written sink.old) (K.written sink.new)) }
+        ensures ok { OnOk result (Called blobs.now call.now
+            (printed_run self.old (K.written sink.old))
+            (printed_run self.new (K.written sink.new))) }
+        ensures err { OnErr result (CallHalted blobs.now call.now
+            (printed_run self.old (K.written sink.old))
+            (printed_run self.new (K.written sink.new))) }
         ensures later { K.faults sink.old ≤ K.faults sink.new }
         ensures cause { IsErrOf result Halt.Write → Rose (K.faults sink.old) (K.faults sink.new) }
     {
@@ -48,8 +50,7 @@ impl<S: FrameStore> ScriptRun<S> {
         ensures count { vec_len listeners.new ≡ vec_len listeners.old }
         ensures rules { map (λ b. rules b) listeners.new.items
             ≡ map (λ b. rules b) listeners.old.items }
-        ensures ran { RanBy blobs.now (λ st part. Does blobs.now st line.now part)
-            (λ st part. Begins blobs.now st line.now part)
+        ensures ran { RanBy (line_course blobs.now line.now)
             (stage self.old (K.written sink.old) (map (λ b. notes b) listeners.old.items))
             (stage self.new (K.written sink.new) (map (λ b. notes b) listeners.new.items)) result }
         ensures later { K.faults sink.old ≤ K.faults sink.new }
@@ -92,9 +93,8 @@ impl<S: FrameStore> ScriptRun<S> {
         ensures count { vec_len listeners.new ≡ vec_len listeners.old }
         ensures rules { map (λ b. rules b) listeners.new.items
             ≡ map (λ b. rules b) listeners.old.items }
-        ensures played { PlayedBy blobs.now (SpentInLine limit) (LineIs blobs.now (limits limit
-            (vec_len listeners.old)) n line.now)
-            (LineBegins blobs.now (limits limit (vec_len listeners.old)) n line.now)
+        ensures played { PlayedBy (SpentInLine limit) (numbered_course
+            (play_inputs blobs.now (limits limit (vec_len listeners.old))) n line.now)
             (stage self.old (K.written sink.old) (map (λ b. notes b) listeners.old.items))
             (stage self.new (K.written sink.new) (map (λ b. notes b) listeners.new.items)) result }
         ensures later { K.faults sink.old ≤ K.faults sink.new }
@@ -127,9 +127,8 @@ impl<S: FrameStore> ScriptRun<S> {
         ensures count { vec_len listeners.new ≡ vec_len listeners.old }
         ensures rules { map (λ b. rules b) listeners.new.items
             ≡ map (λ b. rules b) listeners.old.items }
-        ensures played { PlayedBy blobs.now (SpentInLine limit) (LinesAre blobs.now (limits limit
-            (vec_len listeners.old)) lines.now)
-            (LinesBegin blobs.now (limits limit (vec_len listeners.old)) lines.now)
+        ensures played { PlayedBy (SpentInLine limit) (script_course blobs.now
+            (limits limit (vec_len listeners.old)) lines.now)
             (stage self.old (K.written sink.old) (map (λ b. notes b) listeners.old.items))
             (stage self.new (K.written sink.new) (map (λ b. notes b) listeners.new.items)) result }
         ensures later { K.faults sink.old ≤ K.faults sink.new }

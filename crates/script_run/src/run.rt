@@ -6,7 +6,7 @@ ghost use Rattle.mse_calls.specs.declared.entry.Entry.{Entry};
 ghost use Rattle.mse_engine.specs.State.{opening_state};
 ghost use Rattle.mse_engine.specs.Sound.{IsSoundEngine};
 ghost use Rattle.mse_engine.specs.Standing.{Stands};
-ghost use Rattle.mse_engine.specs.Work.{after_element_turn, after_work};
+ghost use Rattle.script_run.specs.Doings.{element_step, work_step};
 ghost use Rattle.script_run.specs.Progress.{IsTaken, IsTurnTaken, works_left};
 ghost use Rattle.script_run.specs.Ran.{Stepped, SteppedIf, TookEvent};
 ghost use Rattle.script_run.specs.Stage.{IsStanding};
@@ -30,7 +30,7 @@ pub struct ScriptRun<S: FrameStore> {
 }
 
 impl<S: FrameStore> Model for ScriptRun<S> {
-    ghost use Rattle.script_run.specs.Stage.{RunView};
+    ghost use Rattle.listeners.specs.Views.{RunView};
 
     ghost Value = { RunView };
 
@@ -93,7 +93,7 @@ impl<S: FrameStore> ScriptRun<S> {
     pub fn work(&mut self, k: u32) -> Result<bool, OutOfMemory>
         requires { IsStanding self.old.engine }
         ensures ok { (blobs : List (List ℕ)) → IfOk result (λ worked.
-            SteppedIf blobs (Entry.Work k) (after_work k) self.old self.new worked) }
+            SteppedIf blobs (work_step k) self.old self.new worked) }
         ensures fewer { result ≡ Ok true → works_left self.new.engine < works_left self.old.engine }
         ensures err { OnErr result (self.new ≡ self.old) }
     {
@@ -115,7 +115,7 @@ impl<S: FrameStore> ScriptRun<S> {
     pub fn turn(&mut self) -> Result<bool, OutOfMemory>
         requires { IsStanding self.old.engine }
         ensures ok { (blobs : List (List ℕ)) → IfOk result (λ turned.
-            SteppedIf blobs Entry.Element after_element_turn self.old self.new turned) }
+            SteppedIf blobs element_step self.old self.new turned) }
         ensures fewer { result ≡ Ok true → IsTurnTaken self.old.engine self.new.engine }
         ensures err { OnErr result (self.new ≡ self.old) }
     {

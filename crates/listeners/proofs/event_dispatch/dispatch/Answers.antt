@@ -4,17 +4,17 @@ use Rattle.listeners.proofs.Dispatching.{progress_none, listeners_more, listener
 use Rattle.listeners.proofs.event_dispatch.dispatch.Goals as goal
 
 pub loop-number-init : goal.loop-number-init
-loop-number-init g c = record { len = search rules; rules = refl; progress = progress_none _ _ _ _ _ _ }
+loop-number-init g c = record { len = search rules; rules = refl; progress = progress_none _ _ _ }
 
 pub returns-in-Err-clause-rules : goal.returns-in-Err-clause-rules
 returns-in-Err-clause-rules g c = rules_kept _ _ _ _ _ _ c.loop-number.invariant.rules c.index_mut-listener.ensures.value c.serve.ensures.rules
 
 pub returns-in-Err-clause-dispatch : goal.returns-in-Err-clause-dispatch
-returns-in-Err-clause-dispatch g c = listeners_end _ _ _ _ _ _ _ _ _ _ _ _ _ _ _ _ _ _ c.loop-number.invariant.progress (grind (arith, common_steps)) c.index_mut-listener.ensures.value c.in-Err.ensures.turn
+returns-in-Err-clause-dispatch g c = listeners_end _ _ _ _ _ _ _ _ _ _ _ _ c.loop-number.invariant.progress (grind (arith, common_steps)) c.index_mut-listener.ensures.value c.in-Err.ensures.turn
 
 pub loop-number-preserved : goal.loop-number-preserved
 loop-number-preserved g c = record {
   len = c.loop-number.invariant.len;
   rules = rules_kept _ _ _ _ _ _ c.loop-number.invariant.rules c.index_mut-listener.ensures.value c.serve.ensures.rules;
-  progress = listeners_more _ _ _ _ _ _ _ _ _ _ _ _ _ _ _ _ _ c.loop-number.invariant.progress (grind (arith, common_steps)) c.index_mut-listener.ensures.value c.in-Ok.ensures.turn;
+  progress = listeners_more _ _ _ _ _ _ _ _ _ _ _ c.loop-number.invariant.progress (grind (arith, common_steps)) c.index_mut-listener.ensures.value c.in-Ok.ensures.turn;
 }

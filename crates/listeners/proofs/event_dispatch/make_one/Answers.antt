@@ -1,4 +1,4 @@
-use Rattle.std.proofs.Common.{arith, ◌∙◌, ap, ◌++◌, ◌∷◌, [], List}
+use Rattle.std.proofs.Common.{arith, refl, ◌∙◌, ap, ◌++◌, ◌∷◌, [], List}
 use Rattle.mse_calls.specs.declared.entry.Entry.{Entry}
 use Rattle.mse_calls.specs.declared.entry.Entry.TheVariants.{Listener}
 use Rattle.listeners.proofs.Serving.{makes_one, call_turn_unmade, call_turn_made}
@@ -6,11 +6,11 @@ use Rattle.listeners.proofs.event_dispatch.make_one.Goals as goal
 
 pub returns-in_default-call-clause-turn : goal.returns-in_default-call-clause-turn
 returns-in_default-call-clause-turn g c =
-    call_turn_unmade _ c.args.number c.args.call _ _ _ _ _ _ _ c.reserve.ensures.entries c.in_default-call.ensures.err
+    call_turn_unmade _ c.args.number c.args.call _ _ _ _ c.reserve.ensures.entries c.in_default-call.ensures.err refl
 
 pub returns-clause-turn : goal.returns-clause-turn
 returns-clause-turn g c =
     let one : List Entry = Listener c.args.number c.args.call c.in-Ok-call.answer ∷ [] in
-    call_turn_made _ _ _ c.in-Ok-call.answer _ _ _ _ _ _ _ _ c.ask_one-asked.result
-    (makes_one _ _ _ c.in-Ok-call.answer _ _ _ _ _ _ (c.push_reserved.ensures.entries ∙ ap (λ (x : List Entry). x ++ one) c.reserve.ensures.entries) c.in-Ok-call.ensures.answered c.in-Ok-call.ensures.sound (omega arith))
+    call_turn_made _ _ _ c.in-Ok-call.answer _ _ _ _ c.ask_one-asked.result
+    (makes_one _ _ _ c.in-Ok-call.answer _ _ (c.push_reserved.ensures.entries ∙ ap (λ (x : List Entry). x ++ one) c.reserve.ensures.entries) c.in-Ok-call.ensures.answered c.in-Ok-call.ensures.sound (omega arith))
     c.ask_one-asked.ensures.ok c.ask_one-asked.ensures.err

@@ -1,7 +1,7 @@
 use Rattle.std.proofs.Common.{◌≡◌, ◌∙◌, ap, string_bytes, arith, List, [], ℕ, length}
 use Rattle.std.specs.Prelude.{vec_len}
 use Rattle.std.proofs.lemmas.Grind.{common_steps}
-use Rattle.script_run.specs.Lines.{limits}
+use Rattle.mse_commands.specs.Works.{script_inputs}
 use Rattle.mse_commands.proofs.Playing.{have_rules, plays_half, plays_to_stop, plays_whole}
 use Rattle.mse_commands.proofs.commands.play_script.Goals as goal
 
@@ -10,7 +10,7 @@ returns-in-Err-clause-plays g c =
     let len : length c.give_rules.new.listeners.items ≡ vec_len c.give_rules.new.listeners = grind (arith, common_steps) in
     let rules = have_rules _ c.give_rules.new.listeners.items (vec_len c.give_rules.new.listeners) c.args.script.rules _ _ c.play.ensures.rules c.into_vec.ensures c.in-Ok.ensures.given len in
     let played = rw (c.give_rules.ensures.count, c.give_rules.ensures.notes, c.as_slice.ensures) at c.in-Err.ensures.played in
-    rw c.of_stop.ensures (plays_to_stop (limits c.args.script.drain (vec_len c.args.listeners.now)) c.args.blobs.now c.args.script.steps c.args.script.rules _ _ _ c.in-Err.stop played rules)
+    rw c.of_stop.ensures (plays_to_stop (script_inputs (vec_len c.args.listeners.now) c.args.script c.args.blobs.now) _ _ _ c.in-Err.stop played rules)
 
 pub returns-in-Ok-close-clause-plays : goal.returns-in-Ok-close-clause-plays
 returns-in-Ok-close-clause-plays g c =
@@ -18,7 +18,7 @@ returns-in-Ok-close-clause-plays g c =
     let rules = have_rules _ c.give_rules.new.listeners.items (vec_len c.give_rules.new.listeners) c.args.script.rules _ _ c.play.ensures.rules c.into_vec.ensures c.in-Ok.ensures.given len in
     let played = rw (c.give_rules.ensures.count, c.give_rules.ensures.notes, c.as_slice.ensures) at c.in-Ok-play.ensures.played in
     let none : string_bytes c.new.result ≡ [] = c.new.ensures.bytes in
-    plays_whole (limits c.args.script.drain (vec_len c.args.listeners.now)) c.args.blobs.now c.args.script.steps c.args.script.rules _ c.args.run.now c.play.new.self _ _ _ _ _ played
+    plays_whole (script_inputs (vec_len c.args.listeners.now) c.args.script c.args.blobs.now) _ c.args.run.now c.play.new.self _ _ _ _ _ played
     (λ st h. rw none at (c.in-Ok-close.ensures.ok st (rw c.engine.ensures h))) rules
 
 pub returns-clause-plays : goal.returns-clause-plays
@@ -27,5 +27,5 @@ returns-clause-plays g c =
     let rules = have_rules _ c.give_rules.new.listeners.items (vec_len c.give_rules.new.listeners) c.args.script.rules _ _ c.play.ensures.rules c.into_vec.ensures c.in-Ok.ensures.given len in
     let played = rw (c.give_rules.ensures.count, c.give_rules.ensures.notes, c.as_slice.ensures) at c.in-Ok-play.ensures.played in
     let none : string_bytes c.new.result ≡ [] = c.new.ensures.bytes in
-    rw c.of_halt.ensures (plays_half (limits c.args.script.drain (vec_len c.args.listeners.now)) c.args.blobs.now c.args.script.steps c.args.script.rules _ c.args.run.now c.play.new.self _ _ _ _ _ c.in-Err-close.halt played
+    rw c.of_halt.ensures (plays_half (script_inputs (vec_len c.args.listeners.now) c.args.script c.args.blobs.now) _ c.args.run.now c.play.new.self _ _ _ _ _ c.in-Err-close.halt played
     (λ st h. rw none at (c.in-Err-close.ensures.err st (rw c.engine.ensures h))) rules)

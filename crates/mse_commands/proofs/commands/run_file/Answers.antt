@@ -1,5 +1,5 @@
 use Rattle.std.proofs.Common.{◌≡◌, ◌∙◌, ap, []}
-use Rattle.run_journal.specs.Book.{Book}
+use Rattle.run_journal.specs.JournalView.{JournalView}
 use Rattle.mse_commands.proofs.Working.{file_not_loaded, file_works}
 use Rattle.mse_commands.proofs.commands.run_file.Goals as goal
 
@@ -11,7 +11,7 @@ returns-in-Err-clause-works g c = λ count told given.
 pub returns-clause-works : goal.returns-clause-works
 returns-clause-works g c = λ count told given.
     let stands = rw c.zero.ensures at c.new-run.ensures.engine in
-    let fresh : c.new-run.result.entries ≡ [] = c.new-run.ensures.entries ∙ ap (λ (b : Book). b.entries) c.replace-entries.ensures.value ∙ c.requires.journal in
+    let fresh : c.new-run.result.entries ≡ [] = c.new-run.ensures.entries ∙ ap (λ (b : JournalView). b.entries) c.replace-entries.ensures.value ∙ c.requires.journal in
     rw (c.hand_out.ensures.entries, c.hand_out.ensures.engine)
     (file_works (g.L.Library.table c.args.library.now) (g.L.Library.faults c.args.library.now) (g.L.Library.faults c.file_for.new.library) c.args.name.now c.in-Ok.file.items c.args.command
     c.new-run.result c.show_file-result.new.run (g.K.Sink.written c.args.sink.now) (g.K.Sink.written c.show_file-result.new.sink) count told given c.show_file-result.result

@@ -1,6 +1,6 @@
 use Rattle.std.proofs.Common.{◌≡◌, ◌≤◌, ◌<◌, ◌∙◌, ap, refl, arith, length, List, [], ◌^◌, subst}
 use Rattle.std.specs.Prelude.{vec_len, IfSome, Ok}
-use Rattle.run_journal.specs.Book.{Book}
+use Rattle.run_journal.specs.JournalView.{JournalView}
 use Rattle.mse_commands.proofs.Scripting.{steps_few}
 use Rattle.mse_commands.proofs.Working.{blobs_not_loaded, script_not_loaded, script_works}
 use Rattle.mse_commands.proofs.commands.run_script.Goals as goal
@@ -27,7 +27,7 @@ returns-clause-works g c =
     let are = rw (c.in-Ok.ensures.table, c.as_slice.ensures) at c.in-Ok-load_blobs.ensures.ok in
     let len : length c.in-Ok-load_blobs.blobs ≡ length c.in-Ok.script.blobs = rw c.as_slice.ensures at c.in-Ok-load_blobs.ensures.count in
     let stands = rw c.gap_of.ensures at c.new-run.ensures.engine in
-    let fresh : c.new-run.result.entries ≡ [] = c.new-run.ensures.entries ∙ ap (λ (b : Book). b.entries) c.replace-entries.ensures.value ∙ c.requires.journal in
+    let fresh : c.new-run.result.entries ≡ [] = c.new-run.ensures.entries ∙ ap (λ (b : JournalView). b.entries) c.replace-entries.ensures.value ∙ c.requires.journal in
     rw (c.hand_out.ensures.entries, c.hand_out.ensures.engine)
     (script_works (g.L.Library.table c.args.library.now) (g.L.Library.faults c.args.library.now) (g.L.Library.faults c.load_blobs.new.library) c.args.name.now c.in-Ok.script c.in-Ok-load_blobs.blobs
     _ _ (vec_len c.args.listeners.now) _ _ c.play_script-result.result c.in-Ok.ensures.read len c.in-Ok.ensures.ok are stands fresh c.play_script-result.ensures.plays)

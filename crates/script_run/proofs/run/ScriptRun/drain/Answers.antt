@@ -5,8 +5,8 @@ use Rattle.script_run.proofs.run.ScriptRun.drain.Goals as goal
 pub draining-init : goal.draining-init
 draining-init g c = record { count = refl; rules = refl; ran = order_none _ _; later = omega arith; left = omega arith }
 
-pub settle-requires-clause-standing : goal.settle-requires-clause-standing
-settle-requires-clause-standing g c = standing_ran _ _ _ _ c.requires.standing c.draining.invariant.ran
+pub finish_work-requires-clause-standing : goal.finish_work-requires-clause-standing
+finish_work-requires-clause-standing g c = standing_ran _ _ _ _ c.requires.standing c.draining.invariant.ran
 
 pub returns-in-Err-clause-ran : goal.returns-in-Err-clause-ran
 returns-in-Err-clause-ran g c = order_then_stop _ c.in-Err.stop _ _ _ c.draining.invariant.ran c.in-Err.ensures.ran
@@ -18,9 +18,9 @@ pub draining-preserved : goal.draining-preserved
 draining-preserved g c =
     let both = order_then_ran _ _ _ _ c.draining.invariant.ran c.in-Ok-false.ensures.ran in
     record {
-      count = c.settle.ensures.count ∙ c.draining.invariant.count;
-      rules = c.settle.ensures.rules ∙ c.draining.invariant.rules;
+      count = c.finish_work.ensures.count ∙ c.draining.invariant.count;
+      rules = c.finish_work.ensures.rules ∙ c.draining.invariant.rules;
       ran = both;
-      later = omega (arith, c.draining.invariant.later, c.settle.ensures.later);
+      later = omega (arith, c.draining.invariant.later, c.finish_work.ensures.later);
       left = omega (arith, both.left);
     }

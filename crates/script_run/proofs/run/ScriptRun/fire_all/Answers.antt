@@ -1,5 +1,5 @@
 use Rattle.std.proofs.Common.{◌≡◌, ◌∙◌, refl, ap, arith}
-use Rattle.script_run.specs.Stage.{RunView}
+use Rattle.listeners.specs.Views.{RunView}
 use Rattle.script_run.proofs.Draining.{calm_then, fire_ran_order, fire_stop_order, order_none, order_then_ran, order_then_stop, standing_ran}
 use Rattle.script_run.proofs.run.ScriptRun.fire_all.Goals as goal
 

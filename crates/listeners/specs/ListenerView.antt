@@ -3,6 +3,6 @@ use Rattle.std.specs.Prelude.{List}
 use Rattle.mse_calls.specs.declared.rules.Rule.{Rule}
 use Rattle.listeners.specs.declared.listener.Note.{Note}
 
-pub record Book : Type 0 where
+pub record ListenerView : Type 0 where
   pub rules : List Rule
   pub notes : List Note

@@ -1,6 +1,6 @@
 use Rattle.std.proofs.Common.{refl, arith}
 use Rattle.script_run.proofs.Draining.{order_then_ran, order_then_stop, standing_ran}
-use Rattle.script_run.proofs.run.ScriptRun.settle.Goals as goal
+use Rattle.script_run.proofs.run.ScriptRun.finish_work.Goals as goal
 
 pub turn_all-requires : goal.turn_all-requires
 turn_all-requires g c = record { quiet = ((rw c.in-Ok-true.field-0-test at c.in-Ok-true.ensures.end) refl); listeners = omega (arith, c.requires.listeners, c.work_all.ensures.count); standing = standing_ran _ _ _ _ c.requires.standing c.in-Ok-true.ensures.ran }
