@@ -116,7 +116,7 @@ fn blob_of(alloc: Global, case: &Case, blob: &BlobText) -> Result<Bytes, Fail> {
         BlobText::File(name) => {
             for (file, digits) in case.files {
                 if *file == name.as_str() {
-                    return Ok(Bytes::from_vec(alloc, hex::decode(alloc, *digits)?));
+                    return Ok(Bytes::from_vec(alloc, hex::decode(alloc, *digits)?)?);
                 }
             }
             Err("no file")?

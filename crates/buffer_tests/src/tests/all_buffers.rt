@@ -2,9 +2,10 @@
 //! frames.
 
 use buffer_state::{Around, Container, Reply, Turned};
-use mse_base::{Moment, OutOfMemory, Ranges, Span, Ticks};
+use mse_base::{Bytes, Moment, OutOfMemory, Ranges, Span, Ticks};
 use mse_calls::{Mode, Name, Ready};
 use source_buffers::SourceBuffers;
+use source_state::AllBuffers;
 use std::alloc::Global;
 use std::process::Abort;
 use std::test::Fail;
@@ -57,7 +58,9 @@ fn begin(scene: &mut Scene, alloc: Global, k: u32, count: usize) -> Result<Reply
         bytes.extend_from_slice(&FRAME)?;
     }
     let told = around(scene, k);
-    scene.buffers.append(k, bytes.as_slice(), &told)
+    scene
+        .buffers
+        .append(k, &Bytes::from_vec(alloc, bytes)?, &told)
 }
 
 /// Does all work of a buffer, and tells in how many steps.
@@ -85,141 +88,261 @@ fn over(frames: u8) -> Result<Span, Fail> {
     })
 }
 
-fn expect_one(rt: &impl Abort, ranges: &Ranges, span: Span) {
-    assert_eq!(rt; (ranges.len(), ranges.last()), (1, Some(span)));
+/// The span from 0 on over so many frames, or none for no frame.
+fn over_any(frames: u8) -> Result<Option<Span>, Fail> {
+    if frames == 0 {
+        return Ok(None);
+    }
+    Ok(Some(over(frames)?))
 }
 
-/// Two buffers, of three frames and of five.
-fn two_buffers(alloc: Global) -> Result<Scene, Fail> {
+/// Compares ranges: one from 0 on over so many frames, or none for no frame.
+fn expect_ranges(rt: &impl Abort, ranges: &Ranges, frames: u8) -> Result<(), Fail> {
+    let count = if frames == 0 { 0 } else { 1 };
+    assert_eq!(rt; (ranges.len(), ranges.last()), (count, over_any(frames)?));
+    Ok(())
+}
+
+/// Compares what a buffer has: one range from 0 on over so many frames.
+fn expect_buffered(rt: &impl Abort, scene: &Scene, k: u32, frames: u8) -> Result<(), Fail> {
+    match scene.buffers.buffered(k, false)? {
+        Some(ranges) => expect_ranges(rt, &ranges, frames),
+        None => Err(Fail::new("the buffer is there")),
+    }
+}
+
+/// Begins an append, which is not refused, and compares which buffer runs.
+fn expect_begun(
+    rt: &impl Abort,
+    scene: &mut Scene,
+    alloc: Global,
+    k: u32,
+    count: usize,
+) -> Result<(), Fail> {
+    assert_eq!(rt; begin(scene, alloc, k, count)?.refused, None);
+    assert_eq!(rt; scene.buffers.running(), Some(k));
+    Ok(())
+}
+
+/// Compares what is told of all buffers: whether one is updating, and by how many frames the last one begins and ends.
+fn expect_all(
+    rt: &impl Abort,
+    scene: &Scene,
+    updating: bool,
+    highest: Option<(u8, u8)>,
+) -> Result<(), Fail> {
+    let (highest_start, highest_end) = match highest {
+        Some((start, end)) => (Some(after(start)?), Some(after(end)?)),
+        None => (None, None),
+    };
+    let wanted = AllBuffers {
+        updating,
+        highest_start,
+        highest_end,
+    };
+    assert_eq!(rt; scene.buffers.all_buffers(), wanted);
+    Ok(())
+}
+
+/// Two buffers, with no frame.
+fn two_empty_buffers(alloc: Global) -> Result<Scene, OutOfMemory> {
     let mut scene = new_scene(alloc);
     add(&mut scene)?;
     add(&mut scene)?;
-    begin(&mut scene, alloc, 0, 3)?;
-    drain(&mut scene, 0)?;
-    begin(&mut scene, alloc, 1, 5)?;
-    drain(&mut scene, 1)?;
     Ok(scene)
 }
 
+/// Two buffers, of three frames and of five.
+fn two_buffers(alloc: Global) -> Result<Scene, OutOfMemory> {
+    let mut scene = two_empty_buffers(alloc)?;
+    for (k, count) in [(0, 3), (1, 5)] {
+        begin(&mut scene, alloc, k, count)?;
+        drain(&mut scene, k)?;
+    }
+    Ok(scene)
+}
+
+/// Buffers whose work is done, in how many steps, and then whether all are initialized and whether each is updating.
+const DRAINS: [(u32, usize, bool, (bool, bool)); 4] = [
+    // an initialization segment, each frame with the end of its segment, the end of the append
+    (0, 8, false, (false, true)),
+    (1, 12, true, (false, false)),
+    (1, 0, true, (false, false)),
+    (7, 0, true, (false, false)),
+];
+
 #[test]
 fn work_of_two_buffers(rt: HostRuntime) -> Result<(), Fail> {
-    let mut scene = new_scene(rt.alloc());
-    add(&mut scene)?;
-    add(&mut scene)?;
+    let mut scene = two_empty_buffers(rt.alloc())?;
     assert_eq!(rt; (scene.buffers.len(), scene.buffers.running()), (2, None));
-    assert_eq!(rt; begin(&mut scene, rt.alloc(), 1, 5)?.refused, None);
-    assert_eq!(rt; scene.buffers.running(), Some(1));
-    assert_eq!(rt; begin(&mut scene, rt.alloc(), 0, 3)?.refused, None);
-    assert_eq!(rt; scene.buffers.running(), Some(0));
-    let all = scene.buffers.all_buffers();
-    assert_eq!(rt;
-        (all.updating, all.highest_start, all.highest_end),
-        (true, None, None)
-    );
-    // an initialization segment, each frame with the end of its segment, the end of the append
-    assert_eq!(rt; drain(&mut scene, 0)?, 8);
-    assert!(rt; !scene.buffers.all_initialized());
-    assert_eq!(rt;
-        (scene.buffers.updating_at(0), scene.buffers.updating_at(1)),
-        (false, true)
-    );
-    assert_eq!(rt; drain(&mut scene, 1)?, 12);
-    assert!(rt; scene.buffers.all_initialized());
-    assert_eq!(rt; (drain(&mut scene, 1)?, drain(&mut scene, 7)?), (0, 0));
-    let all = scene.buffers.all_buffers();
-    assert_eq!(rt; (all.updating, all.highest_start), (false, Some(after(4)?)));
-    assert_eq!(rt; all.highest_end, Some(after(5)?));
+    for (k, count) in [(1, 5), (0, 3)] {
+        expect_begun(&rt, &mut scene, rt.alloc(), k, count)?;
+    }
+    expect_all(&rt, &scene, true, None)?;
+    for (k, steps, initialized, updating) in DRAINS {
+        assert_eq!(rt; drain(&mut scene, k)?, steps);
+        let buffers = &scene.buffers;
+        assert_eq!(rt; buffers.all_initialized(), initialized);
+        assert_eq!(rt; (buffers.updating_at(0), buffers.updating_at(1)), updating);
+    }
+    expect_all(&rt, &scene, false, Some((4, 5)))?;
     assert_eq!(rt; scene.duration, Moment::Infinite);
     Ok(())
 }
+
+/// Active buffers, whether the source is ended, and the frames of the element's range.
+const ELEMENT_RANGES: [(&[u32], bool, u8); 5] = [
+    (&[0, 1], false, 3),
+    (&[1, 0], true, 5),
+    (&[1], false, 5),
+    (&[], false, 0),
+    (&[0, 2], true, 0),
+];
+
+/// Active buffers, behind how many frames, whether the source is ended, and the frames of the range there.
+const ELEMENT_SPANS: [(&[u32], u8, bool, u8); 4] = [
+    (&[0, 1], 3, false, 3),
+    (&[0, 1], 4, false, 0),
+    (&[0, 1], 4, true, 5),
+    (&[], 0, true, 0),
+];
 
 #[test]
 fn ranges_of_the_element(rt: HostRuntime) -> Result<(), Fail> {
     let scene = two_buffers(rt.alloc())?;
     let buffers = &scene.buffers;
-    expect_one(&rt, &buffers.element_ranges(&[0, 1], false)?, over(3)?);
-    expect_one(&rt, &buffers.element_ranges(&[1, 0], true)?, over(5)?);
-    expect_one(&rt, &buffers.element_ranges(&[1], false)?, over(5)?);
-    assert!(rt; buffers.element_ranges(&[], false)?.is_empty());
-    assert!(rt; buffers.element_ranges(&[0, 2], true)?.is_empty());
-    assert_eq!(rt;
-        buffers.element_span(&[0, 1], after(3)?, false),
-        Some(over(3)?)
-    );
-    assert_eq!(rt; buffers.element_span(&[0, 1], after(4)?, false), None);
-    assert_eq!(rt;
-        buffers.element_span(&[0, 1], after(4)?, true),
-        Some(over(5)?)
-    );
-    assert_eq!(rt; buffers.element_span(&[], after(0)?, true), None);
-    match buffers.buffered(0, false)? {
-        Some(ranges) => expect_one(&rt, &ranges, over(3)?),
-        None => return Err(Fail::new("the buffer is there")),
+    for (active, ended, frames) in ELEMENT_RANGES {
+        expect_ranges(&rt, &buffers.element_ranges(active, ended)?, frames)?;
     }
+    for (active, at, ended, frames) in ELEMENT_SPANS {
+        assert_eq!(rt;
+            buffers.element_span(active, after(at)?, ended),
+            over_any(frames)?
+        );
+    }
+    expect_buffered(&rt, &scene, 0, 3)?;
     assert!(rt; buffers.buffered(2, false)?.is_none());
     Ok(())
 }
 
-#[test]
-fn a_removed_buffer(rt: HostRuntime) -> Result<(), Fail> {
-    let mut scene = two_buffers(rt.alloc())?;
-    begin(&mut scene, rt.alloc(), 1, 1)?;
+/// A call on a buffer. Times are so many frames behind 0.
+#[derive(Clone, Copy)]
+enum Act {
+    Mode(Mode),
+    Offset(u8),
+    WindowStart(u8),
+    WindowEnd(u8),
+    WindowWithoutEnd,
+    /// Removes the frames from a time on.
+    RemoveFrames(u8),
+    /// Appends a frame.
+    Append,
+    Abort,
+    Type(&'static str),
+    /// Removes the buffer.
+    Remove,
+}
+
+fn append_frame(
+    buffers: &mut SourceBuffers<ListStore>,
+    alloc: Global,
+    k: u32,
+    told: &Around,
+) -> Result<Reply, OutOfMemory> {
+    let frame = Bytes::copy_of(alloc, &FRAME)?;
+    buffers.append(k, &frame, told)
+}
+
+/// Makes the call, and tells what comes of it.
+fn call(
+    buffers: &mut SourceBuffers<ListStore>,
+    alloc: Global,
+    k: u32,
+    act: Act,
+    told: &Around,
+) -> Result<Reply, Fail> {
+    match act {
+        Act::Mode(mode) => Ok(buffers.set_mode(k, mode, told)),
+        Act::Offset(t) => Ok(buffers.set_offset(k, after(t)?, told)),
+        Act::WindowStart(t) => Ok(buffers.set_window_start(k, after(t)?, told)),
+        Act::WindowEnd(t) => Ok(buffers.set_window_end(k, Moment::At(after(t)?), told)),
+        Act::WindowWithoutEnd => Ok(buffers.set_window_end(k, Moment::Infinite, told)),
+        Act::RemoveFrames(t) => Ok(buffers.remove_frames(k, after(t)?, Moment::Infinite, told)),
+        Act::Append => Ok(append_frame(buffers, alloc, k, told)?),
+        Act::Abort => Ok(buffers.abort(k, told)?),
+        Act::Type(text) => Ok(buffers.change_type(k, text, told)?),
+        Act::Remove => Ok(buffers.remove(k, told)),
+    }
+}
+
+/// The name by which it would be refused.
+fn refusal(
+    buffers: &SourceBuffers<ListStore>,
+    k: u32,
+    act: Act,
+    told: &Around,
+) -> Result<Option<Name>, Fail> {
+    match act {
+        Act::Mode(mode) => Ok(buffers.mode_refusal(k, mode, told)),
+        Act::Offset(_) => Ok(buffers.offset_refusal(k, told)),
+        Act::WindowStart(t) => Ok(buffers.window_start_refusal(k, after(t)?)),
+        Act::WindowEnd(t) => Ok(buffers.window_end_refusal(k, Moment::At(after(t)?))),
+        Act::WindowWithoutEnd => Ok(buffers.window_end_refusal(k, Moment::Infinite)),
+        Act::RemoveFrames(t) => {
+            Ok(buffers.remove_frames_refusal(k, after(t)?, Moment::Infinite, told))
+        }
+        Act::Append => Ok(buffers.append_refusal(k, told)),
+        Act::Abort => Ok(buffers.abort_refusal(k, told)),
+        Act::Type(text) => Ok(buffers.change_type_refusal(k, text)),
+        Act::Remove => Ok(buffers.removal_refusal(k)),
+    }
+}
+
+/// A buffer, a call on it, and the name by which it is refused, if it is.
+type Row = (u32, Act, Option<Name>);
+
+/// Makes one call after the other, and compares the refusals.
+fn run(
+    rt: &impl Abort,
+    buffers: &mut SourceBuffers<ListStore>,
+    alloc: Global,
+    told: &Around,
+    rows: &[Row],
+) -> Result<(), Fail> {
+    for (k, act, wanted) in rows {
+        let reply = call(buffers, alloc, *k, *act, told)?;
+        assert_eq!(rt; reply.refused, *wanted);
+    }
+    Ok(())
+}
+
+const CALLS_BEHIND_A_REMOVAL: [Row; 12] = [
+    (1, Act::Remove, Some(Name::NotFound)),
+    (2, Act::Remove, Some(Name::NoSuchBuffer)),
+    (1, Act::Mode(Mode::Sequence), Some(Name::InvalidState)),
+    (1, Act::Offset(0), Some(Name::InvalidState)),
+    (1, Act::WindowStart(0), Some(Name::InvalidState)),
+    (1, Act::WindowWithoutEnd, Some(Name::InvalidState)),
+    (1, Act::RemoveFrames(0), Some(Name::InvalidState)),
+    (1, Act::Append, Some(Name::InvalidState)),
+    (1, Act::Abort, Some(Name::InvalidState)),
+    (1, Act::Type("audio/aac"), Some(Name::InvalidState)),
+    (1, Act::Type(""), Some(Name::TypeError)),
+    (2, Act::Type(""), Some(Name::NoSuchBuffer)),
+];
+
+/// Two buffers of which the one of number 1 was removed while an append ran there.
+fn one_buffer_left(rt: &impl Abort, alloc: Global) -> Result<Scene, Fail> {
+    let mut scene = two_buffers(alloc)?;
+    begin(&mut scene, alloc, 1, 1)?;
     let told = around(&scene, 1);
     let reply = scene.buffers.remove(1, &told);
     assert_eq!(rt; (reply.refused, reply.events.len()), (None, 2));
-    assert_eq!(rt;
-        scene.buffers.remove(1, &told).refused,
-        Some(Name::NotFound)
-    );
-    assert_eq!(rt;
-        scene.buffers.remove(2, &told).refused,
-        Some(Name::NoSuchBuffer)
-    );
-    let buffers = &mut scene.buffers;
-    let wrong_state = Some(Name::InvalidState);
-    assert_eq!(rt;
-        buffers.set_mode(1, Mode::Sequence, &told).refused,
-        wrong_state
-    );
-    assert_eq!(rt;
-        buffers.set_offset(1, Ticks::zero(), &told).refused,
-        wrong_state
-    );
-    assert_eq!(rt;
-        buffers.set_window_start(1, Ticks::zero(), &told).refused,
-        wrong_state
-    );
-    assert_eq!(rt;
-        buffers.set_window_end(1, Moment::Infinite, &told).refused,
-        wrong_state
-    );
-    assert_eq!(rt;
-        buffers
-            .remove_frames(1, Ticks::zero(), Moment::Infinite, &told)
-            .refused,
-        wrong_state
-    );
-    assert_eq!(rt; buffers.append(1, &FRAME, &told)?.refused, wrong_state);
-    assert_eq!(rt; buffers.abort(1, &told)?.refused, wrong_state);
-    assert_eq!(rt;
-        buffers.change_type(1, "audio/aac", &told)?.refused,
-        wrong_state
-    );
-    assert_eq!(rt;
-        buffers.change_type(1, "", &told)?.refused,
-        Some(Name::TypeError)
-    );
-    assert_eq!(rt;
-        buffers.change_type(2, "", &told)?.refused,
-        Some(Name::NoSuchBuffer)
-    );
-    assert_eq!(rt;
-        (buffers.is_made(1), buffers.is_made(2), buffers.len()),
-        (true, false, 2)
-    );
-    assert_eq!(rt; (buffers.running(), buffers.ready_frames(1)), (None, 0));
-    assert_eq!(rt; buffers.all_buffers().highest_end, Some(after(3)?));
-    assert_eq!(rt; buffers.views(false)?.len(), 1);
+    Ok(scene)
+}
+
+/// Compares the tracks: the buffer of number 0 has one, of three frames.
+fn expect_one_track(rt: &impl Abort, buffers: &SourceBuffers<ListStore>) -> Result<(), Fail> {
     assert!(rt; buffers.track(1, 0).is_none() && buffers.track(0, 1).is_none());
     match buffers.track(0, 0) {
         Some(track) => assert_eq!(rt; track.store.len(), 3),
@@ -229,94 +352,112 @@ fn a_removed_buffer(rt: HostRuntime) -> Result<(), Fail> {
 }
 
 #[test]
-fn calls_on_buffers_that_are_there(rt: HostRuntime) -> Result<(), Fail> {
-    let mut scene = two_buffers(rt.alloc())?;
-    let told = around(&scene, 0);
-    let buffers = &mut scene.buffers;
+fn a_removed_buffer(rt: HostRuntime) -> Result<(), Fail> {
+    let alloc = rt.alloc();
+    let mut scene = one_buffer_left(&rt, alloc)?;
+    let told = around(&scene, 1);
+    run(
+        &rt,
+        &mut scene.buffers,
+        alloc,
+        &told,
+        &CALLS_BEHIND_A_REMOVAL,
+    )?;
+    let buffers = &scene.buffers;
     assert_eq!(rt;
-        buffers.set_mode(0, Mode::Segments, &told).refused,
-        Some(Name::TypeError)
+        (buffers.is_made(1), buffers.is_made(2), buffers.len()),
+        (true, false, 2)
     );
-    assert_eq!(rt;
-        buffers
-            .set_window_end(0, Moment::At(after(9)?), &told)
-            .refused,
-        None
-    );
-    assert_eq!(rt;
-        buffers.set_window_start(0, after(9)?, &told).refused,
-        Some(Name::TypeError)
-    );
-    assert_eq!(rt; buffers.abort(0, &told)?.refused, None);
-    assert_eq!(rt; buffers.set_offset(0, after(1)?, &told).refused, None);
-    assert_eq!(rt; buffers.change_type(0, "audio/aac", &told)?.refused, None);
-    assert_eq!(rt;
-        buffers
-            .remove_frames(0, after(1)?, Moment::Infinite, &told)
-            .refused,
-        None
-    );
-    assert_eq!(rt; drain(&mut scene, 0)?, 1);
-    match scene.buffers.buffered(0, false)? {
-        Some(ranges) => expect_one(&rt, &ranges, over(1)?),
-        None => return Err(Fail::new("the buffer is there")),
-    }
-    Ok(())
+    assert_eq!(rt; (buffers.running(), buffers.ready_frames(1)), (None, 0));
+    assert_eq!(rt; buffers.all_buffers().highest_end, Some(after(3)?));
+    assert_eq!(rt; buffers.views(false)?.len(), 1);
+    expect_one_track(&rt, buffers)
 }
+
+const CALLS_ON_A_BUFFER: [Row; 7] = [
+    (0, Act::Mode(Mode::Segments), Some(Name::TypeError)),
+    (0, Act::WindowEnd(9), None),
+    (0, Act::WindowStart(9), Some(Name::TypeError)),
+    (0, Act::Abort, None),
+    (0, Act::Offset(1), None),
+    (0, Act::Type("audio/aac"), None),
+    (0, Act::RemoveFrames(1), None),
+];
+
+#[test]
+fn calls_on_buffers_that_are_there(rt: HostRuntime) -> Result<(), Fail> {
+    let alloc = rt.alloc();
+    let mut scene = two_buffers(alloc)?;
+    let told = around(&scene, 0);
+    run(&rt, &mut scene.buffers, alloc, &told, &CALLS_ON_A_BUFFER)?;
+    assert_eq!(rt; drain(&mut scene, 0)?, 1);
+    expect_buffered(&rt, &scene, 0, 1)
+}
+
+/// Calls that a buffer that is there does not refuse.
+const ALLOWED: [Act; 8] = [
+    Act::Mode(Mode::Sequence),
+    Act::Offset(0),
+    Act::WindowStart(1),
+    Act::WindowWithoutEnd,
+    Act::RemoveFrames(1),
+    Act::Append,
+    Act::Abort,
+    Act::Type("audio/aac"),
+];
+
+/// Other calls where the buffer of number 1 was removed.
+const OTHERS: [Row; 4] = [
+    (1, Act::Type(""), Some(Name::TypeError)),
+    (0, Act::Remove, None),
+    (1, Act::Remove, Some(Name::NotFound)),
+    (2, Act::Remove, Some(Name::NoSuchBuffer)),
+];
 
 #[test]
 fn refusals_before_a_call(rt: HostRuntime) -> Result<(), Fail> {
     let mut scene = two_buffers(rt.alloc())?;
     let told = around(&scene, 1);
     scene.buffers.remove(1, &told);
-    let buffers = &scene.buffers;
     // there, removed, never made
-    let want = [None, Some(Name::InvalidState), Some(Name::NoSuchBuffer)];
-    for k in 0..3 {
-        let name = want[k as usize];
-        assert_eq!(rt; buffers.mode_refusal(k, Mode::Sequence, &told), name);
-        assert_eq!(rt; buffers.offset_refusal(k, &told), name);
-        assert_eq!(rt; buffers.window_start_refusal(k, after(1)?), name);
-        assert_eq!(rt; buffers.window_end_refusal(k, Moment::Infinite), name);
-        assert_eq!(rt;
-            buffers.remove_frames_refusal(k, after(1)?, Moment::Infinite, &told),
-            name
-        );
-        assert_eq!(rt; buffers.append_refusal(k, &told), name);
-        assert_eq!(rt; buffers.abort_refusal(k, &told), name);
-        assert_eq!(rt; buffers.change_type_refusal(k, "audio/aac"), name);
+    for (k, wanted) in [
+        (0, None),
+        (1, Some(Name::InvalidState)),
+        (2, Some(Name::NoSuchBuffer)),
+    ] {
+        for act in ALLOWED {
+            assert_eq!(rt; refusal(&scene.buffers, k, act, &told)?, wanted);
+        }
     }
-    assert_eq!(rt; buffers.change_type_refusal(1, ""), Some(Name::TypeError));
-    assert_eq!(rt; buffers.removal_refusal(0), None);
-    assert_eq!(rt; buffers.removal_refusal(1), Some(Name::NotFound));
-    assert_eq!(rt; buffers.removal_refusal(2), Some(Name::NoSuchBuffer));
+    for (k, act, wanted) in OTHERS {
+        assert_eq!(rt; refusal(&scene.buffers, k, act, &told)?, wanted);
+    }
     Ok(())
 }
 
-#[test]
-fn sixteen_buffers(rt: HostRuntime) -> Result<(), Fail> {
-    let mut scene = new_scene(rt.alloc());
-    let mut active = Vec::new(rt.alloc());
+/// Sixteen buffers, in each of which an append runs, of one frame more than its number.
+fn sixteen_appends(alloc: Global) -> Result<Scene, OutOfMemory> {
+    let mut scene = new_scene(alloc);
     for k in 0..16 {
         add(&mut scene)?;
-        active.push(k)?;
-        begin(&mut scene, rt.alloc(), k, k as usize + 1)?;
+        begin(&mut scene, alloc, k, k as usize + 1)?;
     }
-    for k in 0..16 {
+    Ok(scene)
+}
+
+const ALL: [u32; 16] = [0, 1, 2, 3, 4, 5, 6, 7, 8, 9, 10, 11, 12, 13, 14, 15];
+
+#[test]
+fn sixteen_buffers(rt: HostRuntime) -> Result<(), Fail> {
+    let mut scene = sixteen_appends(rt.alloc())?;
+    for k in ALL {
         assert_eq!(rt; scene.buffers.running(), Some(k));
         assert_eq!(rt; drain(&mut scene, k)?, 2 * (k as usize + 1) + 2);
     }
     assert_eq!(rt; scene.buffers.running(), None);
-    expect_one(
-        &rt,
-        &scene.buffers.element_ranges(active.as_slice(), false)?,
-        over(1)?,
-    );
-    expect_one(
-        &rt,
-        &scene.buffers.element_ranges(active.as_slice(), true)?,
-        over(16)?,
-    );
+    for (ended, frames) in [(false, 1), (true, 16)] {
+        expect_ranges(&rt, &scene.buffers.element_ranges(&ALL, ended)?, frames)?;
+    }
     let views = scene.buffers.views(true)?;
     assert_eq!(rt; views.len(), 16);
     for (k, view) in views.iter().enumerate() {

@@ -2,6 +2,7 @@ use element_seek::Scene;
 use media_element::Element;
 use mse_base::{Moment, Span, Ticks};
 use mse_calls::{Changes, EndKind, Event, EventKind, Level, Name, Target};
+use std::process::Abort;
 use std::test::Fail;
 
 /// Ticks in a second.
@@ -65,6 +66,44 @@ fn fires(element: &mut Element, wanted: &[EventKind]) -> bool {
     same && element.fire().is_none()
 }
 
+/// A call on an element with its answer, its turn, the end of a step, or the events that wait. Times are in ticks.
+#[derive(Clone, Copy)]
+enum Act {
+    Seek(i128),
+    Play(Option<Name>),
+    Advance(i128, Option<Name>),
+    /// Whether something is due.
+    Due(bool),
+    /// Whether something was due.
+    Turn(bool),
+    Settle,
+    /// The events that wait; they are fired.
+    Fires(&'static [EventKind]),
+}
+
+/// Does it, and compares the answer.
+fn expect(rt: &impl Abort, element: &mut Element, scene: &Scene, act: Act) -> Result<(), Fail> {
+    element.reserve(4)?;
+    match act {
+        Act::Seek(t) => element.seek(time(t)?, scene),
+        Act::Play(wanted) => assert_eq!(rt; element.play(scene), wanted),
+        Act::Advance(t, wanted) => assert_eq!(rt; element.advance(time(t)?, scene), wanted),
+        Act::Due(wanted) => assert_eq!(rt; element.due(scene), wanted),
+        Act::Turn(wanted) => assert_eq!(rt; element.turn(scene), wanted),
+        Act::Settle => element.settle(scene),
+        Act::Fires(wanted) => assert!(rt; fires(element, wanted)),
+    }
+    Ok(())
+}
+
+/// Does one after the other.
+fn run(rt: &impl Abort, element: &mut Element, scene: &Scene, acts: &[Act]) -> Result<(), Fail> {
+    for act in acts {
+        expect(rt, element, scene, *act)?;
+    }
+    Ok(())
+}
+
 /// Events are fired in the order in which they were queued, at whatever target.
 #[test]
 fn fires_in_order(rt: HostRuntime) -> Result<(), Fail> {
@@ -114,42 +153,50 @@ fn duration_of_an_element_without_metadata(rt: HostRuntime) -> Result<(), Fail> 
     Ok(())
 }
 
+/// The duration changes to that of a scene; compares the events, and where the element then is.
+fn expect_fall(
+    rt: &impl Abort,
+    element: &mut Element,
+    scene: &Scene,
+    wanted: &[EventKind],
+    reached: i128,
+) -> Result<(), Fail> {
+    element.reserve(2)?;
+    element.fall(scene.duration, scene);
+    assert!(rt; fires(element, wanted));
+    assert_eq!(rt; element.position(), time(reached)?);
+    Ok(())
+}
+
+/// Durations behind one of ten seconds at an element at five, the events of each, and where the element then is.
+const FALLS: [(i128, &[EventKind], i128); 2] = [
+    (5 * SECOND, &[EventKind::DurationChange], 5 * SECOND),
+    (
+        2 * SECOND,
+        &[EventKind::DurationChange, EventKind::Seeking],
+        2 * SECOND,
+    ),
+];
+
 /// An element whose position is after the new duration seeks to it; one whose position is the new
 /// duration, or before it, does not.
 #[test]
 fn seeks_to_a_lesser_duration(rt: HostRuntime) -> Result<(), Fail> {
     let long = open(at(10 * SECOND)?, range(0, 6 * SECOND)?);
     let mut element = loaded(&rt, &long)?;
-    element.reserve(3)?;
-    element.seek(time(5 * SECOND)?, &long);
-    assert!(rt; fires(&mut element, &[EventKind::Seeking]));
-    let same = open(at(5 * SECOND)?, range(0, 5 * SECOND)?);
-    element.reserve(2)?;
-    element.fall(same.duration, &same);
-    assert!(rt; fires(&mut element, &[EventKind::DurationChange]));
-    assert_eq!(rt; element.position(), time(5 * SECOND)?);
-    let short = open(at(2 * SECOND)?, range(0, 2 * SECOND)?);
-    element.reserve(2)?;
-    element.fall(short.duration, &short);
-    assert!(rt;
-        fires(
-            &mut element,
-            &[EventKind::DurationChange, EventKind::Seeking]
-        )
-    );
-    assert_eq!(rt;
-        (element.position(), element.seeking()),
-        (time(2 * SECOND)?, true)
-    );
+    let acts = [Act::Seek(5 * SECOND), Act::Fires(&[EventKind::Seeking])];
+    run(&rt, &mut element, &long, &acts)?;
+    for (end, wanted, reached) in FALLS {
+        let scene = open(at(end)?, range(0, end)?);
+        expect_fall(&rt, &mut element, &scene, wanted, reached)?;
+    }
+    assert!(rt; element.seeking());
     let endless = Scene {
         duration: Moment::Infinite,
-        ..short
+        ..open(at(2 * SECOND)?, range(0, 2 * SECOND)?)
     };
-    element.reserve(2)?;
-    element.fall(endless.duration, &endless);
-    assert!(rt; fires(&mut element, &[EventKind::DurationChange]));
-    assert_eq!(rt; element.position(), time(2 * SECOND)?);
-    Ok(())
+    let wanted = [EventKind::DurationChange];
+    expect_fall(&rt, &mut element, &endless, &wanted, 2 * SECOND)
 }
 
 /// An element that was told where to start seeks there once its metadata is there, and stays there.
@@ -185,38 +232,61 @@ fn loads_at_its_start(rt: HostRuntime) -> Result<(), Fail> {
     Ok(())
 }
 
+/// The element plays where its data is, and seeks to a place without data.
+const BEFORE_THE_DATA: [Act; 3] = [
+    Act::Play(None),
+    Act::Fires(&[EventKind::Play, EventKind::Playing]),
+    Act::Seek(5 * SECOND),
+];
+
+const WITHOUT_DATA: [Act; 3] = [
+    Act::Settle,
+    Act::Fires(&[
+        EventKind::Seeking,
+        EventKind::TimeUpdate,
+        EventKind::Waiting,
+    ]),
+    Act::Due(false),
+];
+
+const WITH_THE_DATA: [Act; 4] = [
+    Act::Settle,
+    Act::Fires(&[EventKind::CanPlay, EventKind::Playing]),
+    Act::Turn(true),
+    Act::Fires(&[EventKind::TimeUpdate, EventKind::Seeked]),
+];
+
 /// A seek while the element plays, to a place whose data comes only later.
 #[test]
 fn seeks_while_it_plays(rt: HostRuntime) -> Result<(), Fail> {
     let first = open(at(10 * SECOND)?, range(0, 2 * SECOND)?);
     let mut element = loaded(&rt, &first)?;
-    element.reserve(3)?;
-    assert_eq!(rt; element.play(&first), None);
-    assert!(rt; fires(&mut element, &[EventKind::Play, EventKind::Playing]));
+    run(&rt, &mut element, &first, &BEFORE_THE_DATA)?;
     let nowhere = open(at(10 * SECOND)?, None);
-    element.reserve(5)?;
-    element.seek(time(5 * SECOND)?, &first);
-    element.settle(&nowhere);
-    let wanted = [
-        EventKind::Seeking,
-        EventKind::TimeUpdate,
-        EventKind::Waiting,
-    ];
-    assert!(rt; fires(&mut element, &wanted));
+    run(&rt, &mut element, &nowhere, &WITHOUT_DATA)?;
     let second = open(at(10 * SECOND)?, range(4 * SECOND, 6 * SECOND)?);
-    element.reserve(4)?;
-    assert!(rt; !element.due(&nowhere));
-    element.settle(&second);
-    assert!(rt; fires(&mut element, &[EventKind::CanPlay, EventKind::Playing]));
-    element.reserve(3)?;
-    assert!(rt; element.turn(&second));
-    assert!(rt; fires(&mut element, &[EventKind::TimeUpdate, EventKind::Seeked]));
+    run(&rt, &mut element, &second, &WITH_THE_DATA)?;
     assert_eq!(rt;
         (element.level(), element.position()),
         (Level::Future, time(5 * SECOND)?)
     );
     Ok(())
 }
+
+const TO_THE_END: [Act; 7] = [
+    Act::Play(None),
+    Act::Fires(&[EventKind::Play, EventKind::Playing]),
+    Act::Advance(-1, Some(Name::TypeError)),
+    Act::Advance(SECOND, None),
+    Act::Settle,
+    Act::Turn(true),
+    Act::Fires(&[
+        EventKind::TimeUpdate,
+        EventKind::TimeUpdate,
+        EventKind::Pause,
+        EventKind::Ended,
+    ]),
+];
 
 /// The element plays to the end of an ended source.
 #[test]
@@ -227,21 +297,7 @@ fn plays_to_the_end(rt: HostRuntime) -> Result<(), Fail> {
         ..open(at(end)?, range(0, end)?)
     };
     let mut element = loaded(&rt, &scene)?;
-    element.reserve(3)?;
-    assert_eq!(rt; element.play(&scene), None);
-    assert!(rt; fires(&mut element, &[EventKind::Play, EventKind::Playing]));
-    element.reserve(9)?;
-    assert_eq!(rt; element.advance(time(-1)?, &scene), Some(Name::TypeError));
-    assert_eq!(rt; element.advance(time(SECOND)?, &scene), None);
-    element.settle(&scene);
-    assert!(rt; element.turn(&scene));
-    let wanted = [
-        EventKind::TimeUpdate,
-        EventKind::TimeUpdate,
-        EventKind::Pause,
-        EventKind::Ended,
-    ];
-    assert!(rt; fires(&mut element, &wanted));
+    run(&rt, &mut element, &scene, &TO_THE_END)?;
     assert_eq!(rt;
         (element.level(), element.position()),
         (Level::Current, time(end)?)

@@ -1,6 +1,7 @@
 use element_seek::{Acted, Player, Scene};
 use mse_base::{Moment, Span, Ticks};
 use mse_calls::{Changes, EndKind, EventKind, Level, Name};
+use std::process::Abort;
 use std::test::Fail;
 
 /// Ticks in a second.
@@ -50,6 +51,40 @@ fn refused(acted: Acted, wanted: Name) -> bool {
     }
 }
 
+/// A call on the element, its turn, or the end of a step. Times are in ticks.
+#[derive(Clone, Copy)]
+enum Act {
+    Seek(i128),
+    Play,
+    Pause,
+    Advance(i128),
+    Turn,
+    Settle,
+}
+
+/// Does it, and tells what comes of it.
+fn perform(player: &mut Player, scene: &Scene, act: Act) -> Result<Acted, Fail> {
+    match act {
+        Act::Seek(t) => Ok(Acted::Done(player.seek(time(t)?, scene))),
+        Act::Play => Ok(player.play(scene)),
+        Act::Pause => Ok(Acted::Done(player.pause())),
+        Act::Advance(t) => Ok(player.advance(time(t)?, scene)),
+        Act::Turn => Ok(Acted::Done(player.turn(scene).ok_or("no turn")?)),
+        Act::Settle => Ok(Acted::Done(player.settle(scene))),
+    }
+}
+
+/// An act, and the events that it tells.
+type Row = (Act, &'static [EventKind]);
+
+/// Does one after the other, and compares the events.
+fn run(rt: &impl Abort, player: &mut Player, scene: &Scene, rows: &[Row]) -> Result<(), Fail> {
+    for (act, wanted) in rows {
+        assert!(rt; told(perform(player, scene, *act)?, wanted));
+    }
+    Ok(())
+}
+
 /// A seek before there is metadata sets where playback starts; where nothing can be sought once the
 /// metadata is there, it starts at 0.
 #[test]
@@ -84,6 +119,26 @@ fn starts_where_it_was_told(rt: HostRuntime) -> Result<(), Fail> {
     Ok(())
 }
 
+/// Times that are sought where all up to ten seconds can be, and where the element then is.
+const SOUGHT: [(i128, i128); 3] = [(-5, 0), (7, 7), (20 * SECOND, 10 * SECOND)];
+
+/// Times that are sought where only a part can be, and where the element then is.
+const SOUGHT_IN_PART: [(i128, i128); 4] = [(-5, 3), (3, 3), (5, 5), (20 * SECOND, 8)];
+
+/// Seeks each time, and compares where the element then is.
+fn reach(
+    rt: &impl Abort,
+    player: &mut Player,
+    scene: &Scene,
+    rows: &[(i128, i128)],
+) -> Result<(), Fail> {
+    for (sought, reached) in rows {
+        assert!(rt; are(&player.seek(time(*sought)?, scene), &[EventKind::Seeking]));
+        assert_eq!(rt; player.position(), time(*reached)?);
+    }
+    Ok(())
+}
+
 /// A seek is brought down to the duration, up to 0 and into what can be sought.
 #[test]
 fn seeks_inside(rt: HostRuntime) -> Result<(), Fail> {
@@ -94,24 +149,34 @@ fn seeks_inside(rt: HostRuntime) -> Result<(), Fail> {
         seekable: to(10 * SECOND)?,
     };
     let mut player = loaded(&scene);
-    for (sought, reached) in [(-5, 0), (7, 7), (20 * SECOND, 10 * SECOND)] {
-        assert!(rt; are(&player.seek(time(sought)?, &scene), &[EventKind::Seeking]));
-        assert_eq!(rt; player.position(), time(reached)?);
-    }
+    reach(&rt, &mut player, &scene, &SOUGHT)?;
     scene.seekable = Some(Span {
         start: time(3)?,
         end: time(8)?,
     });
-    for (sought, reached) in [(-5, 3), (3, 3), (5, 5), (20 * SECOND, 8)] {
-        assert!(rt; are(&player.seek(time(sought)?, &scene), &[EventKind::Seeking]));
-        assert_eq!(rt; player.position(), time(reached)?);
-    }
+    reach(&rt, &mut player, &scene, &SOUGHT_IN_PART)?;
     assert!(rt; player.seeking());
     scene.seekable = None;
     assert!(rt; are(&player.seek(time(5)?, &scene), &[]));
     assert_eq!(rt; (player.position(), player.seeking()), (time(8)?, false));
     Ok(())
 }
+
+const PLAYED_AND_PAUSED: [Row; 4] = [
+    (Act::Pause, &[]),
+    (Act::Play, &[EventKind::Play, EventKind::Playing]),
+    (Act::Play, &[]),
+    (Act::Pause, &[EventKind::TimeUpdate, EventKind::Pause]),
+];
+
+const WITHOUT_DATA: [Row; 2] = [
+    (Act::Settle, &[]),
+    (Act::Play, &[EventKind::Play, EventKind::Waiting]),
+];
+
+const WITH_DATA: [Row; 1] = [(Act::Settle, &[EventKind::CanPlay, EventKind::Playing])];
+
+const WITHOUT_DATA_AGAIN: [Row; 1] = [(Act::Settle, &[EventKind::TimeUpdate, EventKind::Waiting])];
 
 /// Play tells `waiting` or `playing` by the level before the end of the step; a call that changes
 /// nothing tells nothing.
@@ -125,36 +190,31 @@ fn plays_and_pauses(rt: HostRuntime) -> Result<(), Fail> {
     };
     let mut player = loaded(&scene);
     assert_eq!(rt; player.level(), Level::Future);
-    assert!(rt; are(&player.pause(), &[]));
-    assert!(rt; told(player.play(&scene), &[EventKind::Play, EventKind::Playing]));
-    assert!(rt; told(player.play(&scene), &[]));
-    assert!(rt; are(&player.pause(), &[EventKind::TimeUpdate, EventKind::Pause]));
+    run(&rt, &mut player, &scene, &PLAYED_AND_PAUSED)?;
     assert!(rt; player.paused());
     let nowhere = Scene {
         span: None,
         ..scene
     };
-    assert!(rt; are(&player.settle(&nowhere), &[]));
-    assert!(rt;
-        told(
-            player.play(&nowhere),
-            &[EventKind::Play, EventKind::Waiting]
-        )
-    );
-    assert!(rt;
-        are(
-            &player.settle(&scene),
-            &[EventKind::CanPlay, EventKind::Playing]
-        )
-    );
-    assert!(rt;
-        are(
-            &player.settle(&nowhere),
-            &[EventKind::TimeUpdate, EventKind::Waiting]
-        )
-    );
-    Ok(())
+    run(&rt, &mut player, &nowhere, &WITHOUT_DATA)?;
+    run(&rt, &mut player, &scene, &WITH_DATA)?;
+    run(&rt, &mut player, &nowhere, &WITHOUT_DATA_AGAIN)
 }
+
+const NOT_YET_MOVED: [Row; 3] = [
+    (Act::Advance(1), &[]),
+    (Act::Play, &[EventKind::Play, EventKind::Playing]),
+    (Act::Advance(0), &[]),
+];
+
+const MOVED: [Row; 1] = [(Act::Advance(5), &[EventKind::TimeUpdate])];
+
+const MOVED_FAR: [Row; 1] = [(Act::Advance(1 << 110), &[EventKind::TimeUpdate])];
+
+const MOVED_NO_MORE: [Row; 2] = [
+    (Act::Settle, &[EventKind::TimeUpdate, EventKind::Waiting]),
+    (Act::Advance(1), &[]),
+];
 
 /// The position moves on up to the end of the buffered range, while the element plays.
 #[test]
@@ -167,27 +227,45 @@ fn moves_on(rt: HostRuntime) -> Result<(), Fail> {
     };
     let mut player = loaded(&scene);
     assert!(rt; refused(player.advance(time(-1)?, &scene), Name::TypeError));
-    assert!(rt; told(player.advance(time(1)?, &scene), &[]));
-    assert!(rt; told(player.play(&scene), &[EventKind::Play, EventKind::Playing]));
-    assert!(rt; told(player.advance(Ticks::zero(), &scene), &[]));
-    assert!(rt; told(player.advance(time(5)?, &scene), &[EventKind::TimeUpdate]));
+    run(&rt, &mut player, &scene, &NOT_YET_MOVED)?;
+    run(&rt, &mut player, &scene, &MOVED)?;
     assert_eq!(rt; player.position(), time(5)?);
-    assert!(rt;
-        told(
-            player.advance(time(1 << 110)?, &scene),
-            &[EventKind::TimeUpdate]
-        )
-    );
+    run(&rt, &mut player, &scene, &MOVED_FAR)?;
     assert_eq!(rt; player.position(), time(SECOND)?);
-    assert!(rt;
-        are(
-            &player.settle(&scene),
-            &[EventKind::TimeUpdate, EventKind::Waiting]
-        )
-    );
-    assert!(rt; told(player.advance(time(1)?, &scene), &[]));
-    Ok(())
+    run(&rt, &mut player, &scene, &MOVED_NO_MORE)
 }
+
+const TO_THE_END: [Row; 3] = [
+    (Act::Play, &[EventKind::Play, EventKind::Playing]),
+    (Act::Advance(9 * SECOND), &[EventKind::TimeUpdate]),
+    (Act::Settle, &[]),
+];
+
+const AT_THE_END: [Row; 1] = [(
+    Act::Turn,
+    &[EventKind::TimeUpdate, EventKind::Pause, EventKind::Ended],
+)];
+
+const AT_THE_BEGINNING: [Row; 1] = [(
+    Act::Play,
+    &[EventKind::Seeking, EventKind::Play, EventKind::Waiting],
+)];
+
+const AGAIN: [Row; 4] = [
+    (
+        Act::Settle,
+        &[
+            EventKind::CanPlay,
+            EventKind::Playing,
+            EventKind::CanPlayThrough,
+        ],
+    ),
+    (Act::Turn, &[EventKind::TimeUpdate, EventKind::Seeked]),
+    (Act::Pause, &[EventKind::TimeUpdate, EventKind::Pause]),
+    (Act::Seek(4 * SECOND), &[EventKind::Seeking]),
+];
+
+const AT_THE_END_AGAIN: [Row; 1] = [(Act::Turn, &[EventKind::TimeUpdate, EventKind::Ended])];
 
 /// The end of playback is told once, until the position leaves it; play begins at 0 again.
 #[test]
@@ -200,45 +278,20 @@ fn ends_and_begins_again(rt: HostRuntime) -> Result<(), Fail> {
     };
     let mut player = loaded(&scene);
     assert!(rt; player.turn(&scene).is_none());
-    assert!(rt; told(player.play(&scene), &[EventKind::Play, EventKind::Playing]));
-    assert!(rt;
-        told(
-            player.advance(time(9 * SECOND)?, &scene),
-            &[EventKind::TimeUpdate]
-        )
-    );
-    assert!(rt; are(&player.settle(&scene), &[]));
+    run(&rt, &mut player, &scene, &TO_THE_END)?;
     assert_eq!(rt; player.level(), Level::Current);
     assert!(rt; player.due(&scene));
-    let wanted = [EventKind::TimeUpdate, EventKind::Pause, EventKind::Ended];
-    assert!(rt; are(&player.turn(&scene).ok_or("no turn")?, &wanted));
+    run(&rt, &mut player, &scene, &AT_THE_END)?;
     assert!(rt; player.paused() && !player.due(&scene));
-    let wanted = [EventKind::Seeking, EventKind::Play, EventKind::Waiting];
-    assert!(rt; told(player.play(&scene), &wanted));
+    run(&rt, &mut player, &scene, &AT_THE_BEGINNING)?;
     assert_eq!(rt;
         (player.position(), player.seeking()),
         (Ticks::zero(), true)
     );
-    let wanted = [
-        EventKind::CanPlay,
-        EventKind::Playing,
-        EventKind::CanPlayThrough,
-    ];
-    assert!(rt; are(&player.settle(&scene), &wanted));
-    let wanted = [EventKind::TimeUpdate, EventKind::Seeked];
-    assert!(rt; are(&player.turn(&scene).ok_or("no turn")?, &wanted));
-    assert!(rt; are(&player.pause(), &[EventKind::TimeUpdate, EventKind::Pause]));
-    assert!(rt;
-        are(
-            &player.seek(time(4 * SECOND)?, &scene),
-            &[EventKind::Seeking]
-        )
-    );
+    run(&rt, &mut player, &scene, &AGAIN)?;
     let _ = player.settle(&scene);
     assert!(rt; player.turn(&scene).is_some());
-    let wanted = [EventKind::TimeUpdate, EventKind::Ended];
-    assert!(rt; are(&player.turn(&scene).ok_or("no turn")?, &wanted));
-    Ok(())
+    run(&rt, &mut player, &scene, &AT_THE_END_AGAIN)
 }
 
 /// Playback that has ended begins again at 0 also where the element is not paused.

@@ -269,7 +269,7 @@ fn script(alloc: Global) -> Result<Script, OutOfMemory> {
 
 fn plain_once(alloc: Global) -> Result<Bytes, OutOfMemory> {
     match hex::decode(alloc, PLAIN) {
-        Ok(bytes) => Ok(Bytes::from_vec(alloc, bytes)),
+        Ok(bytes) => Bytes::from_vec(alloc, bytes),
         Err(_) => Err(OutOfMemory),
     }
 }

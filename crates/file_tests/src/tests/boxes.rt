@@ -2,45 +2,82 @@ use bmff_boxes::*;
 use std::process::Abort;
 use std::test::*;
 
+/// The first bytes of a box, and what its header tells.
+const HEADERS: [(&[u8], Header); 14] = [
+    (b"\0\0\0\x08moo", Header::Short),
+    (b"\0\0\0\x01free\0\0\0\0\0\0\0", Header::Short),
+    (b"\0\0\0\0free", Header::Bad(HeadFault::SizeZero)),
+    (b"\0\0\0\x07free", Header::Bad(HeadFault::BoxSize)),
+    (
+        b"\0\0\0\x01free\0\0\0\0\0\0\0\0",
+        Header::Bad(HeadFault::BoxSize),
+    ),
+    (
+        b"\0\0\0\x01free\0\0\0\0\0\0\0\x0F",
+        Header::Bad(HeadFault::BoxSize),
+    ),
+    (
+        b"\0\0\0\x08moov",
+        Header::Whole {
+            kind: *b"moov",
+            head: 8,
+            len: 8,
+        },
+    ),
+    (
+        b"\0\0\0\x01free\0\0\x01\0\0\0\0\x01",
+        Header::Whole {
+            kind: *b"free",
+            head: 16,
+            len: 1_099_511_627_777,
+        },
+    ),
+    (
+        b"\0\0\0\x01free\0\0\x01\0\0\0\0\0",
+        Header::Whole {
+            kind: *b"free",
+            head: 16,
+            len: 1_099_511_627_776,
+        },
+    ),
+    (
+        b"\x01\0\0\x01moov",
+        Header::Whole {
+            kind: *b"moov",
+            head: 8,
+            len: 16_777_217,
+        },
+    ),
+    (
+        b"\0\0\0\x0Bskip\x07\x08\x09",
+        Header::Whole {
+            kind: *b"skip",
+            head: 8,
+            len: 11,
+        },
+    ),
+    (
+        b"\0\0\0\x01mdat\0\0\0\0\0\0\0\x12\x05\x06",
+        Header::Whole {
+            kind: *b"mdat",
+            head: 16,
+            len: 18,
+        },
+    ),
+    (
+        b"\0\0\0\x18uuid0123456789abcdef",
+        Header::Whole {
+            kind: *b"uuid",
+            head: 8,
+            len: 24,
+        },
+    ),
+    (b"", Header::Short),
+];
+
 #[test]
 fn headers(rt: HostRuntime) {
-    let whole = |kind: &[u8; 4], head, len| Header::Whole {
-        kind: *kind,
-        head,
-        len,
-    };
-    let table: [(&[u8], Header); 14] = [
-        (b"\0\0\0\x08moo", Header::Short),
-        (b"\0\0\0\x01free\0\0\0\0\0\0\0", Header::Short),
-        (b"\0\0\0\0free", Header::Bad(HeadFault::SizeZero)),
-        (b"\0\0\0\x07free", Header::Bad(HeadFault::BoxSize)),
-        (
-            b"\0\0\0\x01free\0\0\0\0\0\0\0\0",
-            Header::Bad(HeadFault::BoxSize),
-        ),
-        (
-            b"\0\0\0\x01free\0\0\0\0\0\0\0\x0F",
-            Header::Bad(HeadFault::BoxSize),
-        ),
-        (b"\0\0\0\x08moov", whole(b"moov", 8, 8)),
-        (
-            b"\0\0\0\x01free\0\0\x01\0\0\0\0\x01",
-            whole(b"free", 16, 1_099_511_627_777),
-        ),
-        (
-            b"\0\0\0\x01free\0\0\x01\0\0\0\0\0",
-            whole(b"free", 16, 1_099_511_627_776),
-        ),
-        (b"\x01\0\0\x01moov", whole(b"moov", 8, 16_777_217)),
-        (b"\0\0\0\x0Bskip\x07\x08\x09", whole(b"skip", 8, 11)),
-        (
-            b"\0\0\0\x01mdat\0\0\0\0\0\0\0\x12\x05\x06",
-            whole(b"mdat", 16, 18),
-        ),
-        (b"\0\0\0\x18uuid0123456789abcdef", whole(b"uuid", 8, 24)),
-        (b"", Header::Short),
-    ];
-    for (bytes, want) in table {
+    for (bytes, want) in HEADERS {
         assert_eq!(rt; header(bytes), want, "{bytes:?}");
     }
 }

@@ -1,50 +1,166 @@
 use input_chunks::*;
+use mse_base::Bytes;
+use std::alloc::Global;
+use std::process::Abort;
 use std::test::*;
+
+/// What is done with pieces, or asserted of them.
+#[derive(Clone, Copy)]
+enum Step {
+    /// Bytes are copied.
+    Push(&'static [u8]),
+    /// Bytes are shared.
+    PushBytes(&'static [u8]),
+    DropFront(usize),
+    DropBack(usize),
+    /// How many bytes there are.
+    Len(usize),
+    /// How many pieces there are.
+    Pieces(usize),
+    /// The first piece.
+    First(&'static [u8]),
+    /// The first bytes, copied.
+    Copy(&'static [u8]),
+    /// The first byte, read.
+    Read(u8),
+}
+
+fn push(rt: &impl Abort, chunks: &mut Chunks, bytes: &[u8]) -> Result<(), Fail> {
+    assert!(rt; chunks.len() < 10_000 && bytes.len() < 10_000);
+    chunks.push(bytes)?;
+    Ok(())
+}
+
+fn push_bytes(rt: &impl Abort, chunks: &mut Chunks, bytes: Bytes) -> Result<(), Fail> {
+    assert!(rt; chunks.len() < 10_000 && bytes.len() < 10_000);
+    chunks.push_bytes(bytes)?;
+    Ok(())
+}
+
+fn drop_front(rt: &impl Abort, chunks: &mut Chunks, n: usize) {
+    assert!(rt; n <= chunks.len());
+    chunks.drop_front(n);
+}
+
+fn drop_back(rt: &impl Abort, chunks: &mut Chunks, n: usize) {
+    assert!(rt; n <= chunks.len());
+    chunks.drop_back(n);
+}
+
+fn expect_first(rt: &impl Abort, chunks: &Chunks, want: &[u8]) {
+    assert!(rt; chunks.pieces() > 0);
+    assert_eq!(rt; chunks.piece(0), want);
+}
+
+/// A copy of so many bytes from a place on.
+fn copy(rt: &impl Abort, chunks: &Chunks, from: usize, n: usize) -> Result<Bytes, Fail> {
+    assert!(rt; from <= chunks.len() && n <= chunks.len() - from);
+    Ok(chunks.copy(from, n)?)
+}
+
+fn expect_copy(rt: &impl Abort, chunks: &Chunks, want: &[u8]) -> Result<(), Fail> {
+    let bytes = copy(rt, chunks, 0, want.len())?;
+    assert_eq!(rt; bytes.as_slice(), want);
+    Ok(())
+}
+
+fn expect_read(rt: &impl Abort, chunks: &Chunks, want: u8) {
+    assert!(rt; chunks.len() > 0);
+    let mut one = [0u8; 1];
+    chunks.read(0, &mut one);
+    assert_eq!(rt; one, [want]);
+}
+
+fn take(rt: &(impl Abort + AllocGlobal), chunks: &mut Chunks, step: Step) -> Result<(), Fail> {
+    match step {
+        Step::Push(bytes) => push(rt, chunks, bytes)?,
+        Step::PushBytes(bytes) => push_bytes(rt, chunks, Bytes::copy_of(rt.alloc(), bytes)?)?,
+        Step::DropFront(n) => drop_front(rt, chunks, n),
+        Step::DropBack(n) => drop_back(rt, chunks, n),
+        Step::Len(want) => assert_eq!(rt; chunks.len(), want),
+        Step::Pieces(want) => assert_eq!(rt; chunks.pieces(), want),
+        Step::First(want) => expect_first(rt, chunks, want),
+        Step::Copy(want) => expect_copy(rt, chunks, want)?,
+        Step::Read(want) => expect_read(rt, chunks, want),
+    }
+    Ok(())
+}
+
+const SEVENS: [u8; 4092] = [7; 4092];
+
+const COPIED: [Step; 19] = [
+    Step::Push(b"abc"),
+    Step::Push(b""),
+    Step::Push(b"de"),
+    Step::Len(5),
+    Step::Pieces(1),
+    Step::First(b"abcde"),
+    Step::Push(&SEVENS),
+    Step::Pieces(2),
+    Step::Len(4097),
+    Step::DropBack(4092),
+    Step::Pieces(1),
+    Step::Len(5),
+    Step::DropFront(4),
+    Step::Len(1),
+    Step::Copy(b"e"),
+    Step::Read(b'e'),
+    Step::DropBack(1),
+    Step::Len(0),
+    Step::Pieces(0),
+];
 
 /// What no clause says: that memory which is there is taken, and the limit of 4096 by numbers.
 #[test]
 fn pieces_join_and_split(rt: HostRuntime) -> Result<(), Fail> {
     let mut chunks = Chunks::new(rt.alloc());
-    chunks.push(b"abc")?;
-    chunks.push(b"")?;
-    chunks.push(b"de")?;
-    assert_eq!(rt; chunks.len(), 5);
-    assert_eq!(rt; chunks.pieces(), 1);
-    assert_eq!(rt; chunks.piece(0), b"abcde".as_slice());
-    chunks.push(&[7u8; 4092])?;
-    assert_eq!(rt; chunks.pieces(), 2);
-    assert!(rt; chunks.len() == 4097);
-    chunks.drop_back(4092);
-    assert_eq!(rt; chunks.pieces(), 1);
-    assert!(rt; chunks.len() == 5);
-    chunks.drop_front(4);
-    assert!(rt; chunks.len() == 1);
-    let bytes = chunks.copy(0, 1)?;
-    assert_eq!(rt; bytes.as_slice(), b"e".as_slice());
-    let mut one = [0u8; 1];
-    chunks.read(0, &mut one);
-    assert_eq!(rt; one, *b"e");
-    chunks.drop_back(1);
-    assert_eq!(rt; chunks.len(), 0);
-    assert_eq!(rt; chunks.pieces(), 0);
+    for step in COPIED {
+        take(&rt, &mut chunks, step)?;
+    }
     Ok(())
 }
 
-/// A vector that is taken over makes the pieces that its bytes make.
+const SHARED: [Step; 11] = [
+    Step::PushBytes(b"abc"),
+    Step::PushBytes(b""),
+    Step::PushBytes(b"de"),
+    Step::Pieces(1),
+    Step::First(b"abcde"),
+    Step::PushBytes(&SEVENS),
+    Step::Pieces(2),
+    Step::DropFront(4),
+    Step::DropBack(4091),
+    Step::Pieces(2),
+    Step::Copy(b"e\x07"),
+];
+
+/// Bytes whose memory is shared make the pieces that they make when they are copied.
 #[test]
 fn owned_pieces_join_and_split(rt: HostRuntime) -> Result<(), Fail> {
     let mut chunks = Chunks::new(rt.alloc());
-    chunks.push_vec(Vec::from_slice(rt.alloc(), b"abc")?)?;
-    chunks.push_vec(Vec::new(rt.alloc()))?;
-    chunks.push_vec(Vec::from_slice(rt.alloc(), b"de")?)?;
+    for step in SHARED {
+        take(&rt, &mut chunks, step)?;
+    }
+    Ok(())
+}
+
+/// Parts of a long piece stay as they are, whatever becomes of the piece.
+#[test]
+fn parts_of_a_long_piece_stay(rt: HostRuntime) -> Result<(), Fail> {
+    let mut chunks = Chunks::new(rt.alloc());
+    let piece = Bytes::from_vec(rt.alloc(), vec![in rt.alloc(); 7u8; 5000]?)?;
+    push_bytes(&rt, &mut chunks, piece.copy()?)?;
+    let front = copy(&rt, &chunks, 0, 2)?;
+    let back = copy(&rt, &chunks, 4998, 2)?;
+    let none = copy(&rt, &chunks, 5000, 0)?;
+    drop_front(&rt, &mut chunks, 4998);
+    push(&rt, &mut chunks, b"ab")?;
     assert_eq!(rt; chunks.pieces(), 1);
-    assert_eq!(rt; chunks.piece(0), b"abcde".as_slice());
-    chunks.push_vec(Vec::from_slice(rt.alloc(), &[7u8; 4092])?)?;
-    assert_eq!(rt; chunks.pieces(), 2);
-    chunks.drop_front(4);
-    chunks.drop_back(4091);
-    assert_eq!(rt; chunks.pieces(), 2);
-    let bytes = chunks.copy(0, 2)?;
-    assert_eq!(rt; bytes.as_slice(), b"e\x07".as_slice());
+    expect_first(&rt, &chunks, b"\x07\x07ab");
+    drop_back(&rt, &mut chunks, 4);
+    assert_eq!(rt; front.as_slice(), b"\x07\x07".as_slice());
+    assert_eq!(rt; back.as_slice(), b"\x07\x07".as_slice());
+    assert!(rt; none.is_empty());
+    assert_eq!(rt; piece.len(), 5000);
     Ok(())
 }

@@ -4,6 +4,7 @@ use bmff_init::*;
 use mse_base::{Kind, Moment, Presentation, Ticks, TrackInfo};
 use segments::{AV1, ONE_VIDEO_TRACK, OPUS, REORDERED, TWO_TRACKS};
 use std::alloc::Global;
+use std::process::Abort;
 use std::test::*;
 
 /// A box of a type, with these parts behind its header.
@@ -190,35 +191,53 @@ const FAULTS: [(Change, Change, InitFault); 34] = [
     ((*b"elst", 25, &[2]), NONE, InitFault::EditList),
 ];
 
-#[test]
-fn faults(rt: HostRuntime) -> Result<(), Fail> {
-    let alloc = rt.alloc();
+/// A movie box of two tracks, the first with an edit list, and with a duration and defaults.
+fn two_tracks(alloc: Global) -> Result<Vec<u8>, Fail> {
     let elst = boxed(
         alloc,
         b"elst",
         &[&[0, 0, 0, 0, 0, 0, 0, 1], &[0; 8], &[0, 1, 0, 0]],
     )?;
     let edts = boxed(alloc, b"edts", &[elst.as_slice()])?;
-    let first = track(alloc, 1, b"vide", edts.as_slice())?;
+    let mut traks = track(alloc, 1, b"vide", edts.as_slice())?;
     let second = track(alloc, 2, b"soun", &[])?;
-    let mehd = boxed(alloc, b"mehd", &[&[0; 8]])?;
+    traks.extend_from_slice(second.as_slice())?;
+    let mut extends = boxed(alloc, b"mehd", &[&[0; 8]])?;
     let defaults = trex(alloc, 1, 5)?;
-    let traks = [first.as_slice(), second.as_slice()].concat(alloc)?;
-    let extends = [mehd.as_slice(), defaults.as_slice()].concat(alloc)?;
-    let good = movie(alloc, HEADER, traks.as_slice(), extends.as_slice())?;
-    assert!(rt; read_init(alloc, good.as_slice()).is_ok());
-    for ((kind, at, new), (other_kind, other_at, other_new), fault) in FAULTS {
-        let mut bytes = good.clone()?;
-        overwrite(&mut bytes, &kind, at, new)?;
-        overwrite(&mut bytes, &other_kind, other_at, other_new)?;
-        assert_eq!(rt;
-            fault_of(read_init(alloc, bytes.as_slice())),
-            Some(fault),
-            "{kind:?} at {at}"
-        );
+    extends.extend_from_slice(defaults.as_slice())?;
+    movie(alloc, HEADER, traks.as_slice(), extends.as_slice())
+}
+
+fn change(bytes: &mut Vec<u8>, change: &Change) -> Result<(), Fail> {
+    let (kind, at, new) = change;
+    overwrite(bytes, kind, *at, new)
+}
+
+/// Asserts the fault of a movie box that is changed at two places.
+fn expect_fault(
+    rt: &(impl Abort + AllocGlobal),
+    good: &[u8],
+    first: &Change,
+    second: &Change,
+    fault: InitFault,
+) -> Result<(), Fail> {
+    let mut bytes = Vec::from_slice(rt.alloc(), good)?;
+    change(&mut bytes, first)?;
+    change(&mut bytes, second)?;
+    let found = fault_of(read_init(rt.alloc(), bytes.as_slice()));
+    assert_eq!(rt; found, Some(fault), "{first:?}");
+    Ok(())
+}
+
+#[test]
+fn faults(rt: HostRuntime) -> Result<(), Fail> {
+    let good = two_tracks(rt.alloc())?;
+    assert!(rt; read_init(rt.alloc(), good.as_slice()).is_ok());
+    for (first, second, fault) in &FAULTS {
+        expect_fault(&rt, good.as_slice(), first, second, *fault)?;
     }
     assert_eq!(rt;
-        fault_of(read_init(alloc, b"\0\0\0\x08moov")),
+        fault_of(read_init(rt.alloc(), b"\0\0\0\x08moov")),
         Some(InitFault::Missing(*b"mvhd"))
     );
     Ok(())
@@ -402,17 +421,32 @@ const EDIT_LISTS: [(Edits, Result<(i64, i128), InitFault>); 20] = [
     ),
 ];
 
+/// How an edit list begins, and then an entry so often.
+fn edits_of(alloc: Global, front: &[u8], edit: &[u8], count: u32) -> Result<Vec<u8>, Fail> {
+    let mut edits = Vec::from_slice(alloc, front)?;
+    for _ in 0..count {
+        edits.extend_from_slice(edit)?;
+    }
+    Ok(edits)
+}
+
+fn expect_shifts(
+    rt: &(impl Abort + AllocGlobal),
+    list: &Edits,
+    want: Result<(i64, i128), InitFault>,
+) -> Result<(), Fail> {
+    let (header, front, edit, count, last) = *list;
+    let mut edits = edits_of(rt.alloc(), front, edit, count)?;
+    edits.extend_from_slice(last)?;
+    let got = shifts(rt.alloc(), header, edits.as_slice())?;
+    assert_eq!(rt; got, want.map_err(Some), "{front:?} {edit:?} {last:?}");
+    Ok(())
+}
+
 #[test]
 fn edit_lists(rt: HostRuntime) -> Result<(), Fail> {
-    let alloc = rt.alloc();
-    for ((header, front, edit, count, last), want) in EDIT_LISTS {
-        let mut edits = Vec::from_slice(alloc, front)?;
-        for _ in 0..count {
-            edits.extend_from_slice(edit)?;
-        }
-        edits.extend_from_slice(last)?;
-        let got = shifts(alloc, header, edits.as_slice())?;
-        assert_eq!(rt; got, want.map_err(Some), "{front:?} {edit:?} {last:?}");
+    for (list, want) in &EDIT_LISTS {
+        expect_shifts(&rt, list, *want)?;
     }
     Ok(())
 }
@@ -450,6 +484,13 @@ fn segments_of_packagers(rt: HostRuntime) -> Result<(), Fail> {
             assert_eq!(rt; told(track), *wanted);
         }
     }
+    Ok(())
+}
+
+/// A movie box with samples and no movie extends box.
+#[test]
+fn a_classic_movie(rt: HostRuntime) -> Result<(), Fail> {
+    let alloc = rt.alloc();
     let mut classic = Vec::from_slice(alloc, &OPUS)?;
     overwrite(&mut classic, b"mvex", 4, b"free")?;
     overwrite(&mut classic, b"stts", 15, &[1])?;
@@ -465,44 +506,50 @@ fn segments_of_packagers(rt: HostRuntime) -> Result<(), Fail> {
     Ok(())
 }
 
-#[test]
-fn many_tracks(rt: HostRuntime) -> Result<(), Fail> {
-    let alloc = rt.alloc();
+/// A movie box of 64 tracks of text, numbered from 1 on, and of these tracks, with two defaults of track 64.
+fn movie_of_texts(alloc: Global, more: &[u8]) -> Result<Vec<u8>, Fail> {
     let mut traks = Vec::new(alloc);
     for number in 1..=64 {
         let trak = track(alloc, number, b"text", &[])?;
         traks.extend_from_slice(trak.as_slice())?;
     }
-    let first = trex(alloc, 64, 5)?;
+    traks.extend_from_slice(more)?;
+    let mut extends = trex(alloc, 64, 5)?;
     let second = trex(alloc, 64, 9)?;
-    let extends = [first.as_slice(), second.as_slice()].concat(alloc)?;
-    let moov = movie(alloc, HEADER, traks.as_slice(), extends.as_slice())?;
-    let presentation = read_init(alloc, moov.as_slice())
+    extends.extend_from_slice(second.as_slice())?;
+    movie(alloc, HEADER, traks.as_slice(), extends.as_slice())
+}
+
+/// The duration, size and flags of a sample of a track, if nothing else is told.
+fn defaults(track: &TrackInfo) -> (u32, u32, u32) {
+    (
+        track.default_duration,
+        track.default_size,
+        track.default_flags,
+    )
+}
+
+#[test]
+fn many_tracks(rt: HostRuntime) -> Result<(), Fail> {
+    let moov = movie_of_texts(rt.alloc(), &[])?;
+    let presentation = read_init(rt.alloc(), moov.as_slice())
         .ok()
         .ok_or("a presentation")?;
     let [.., before, last] = presentation.tracks.as_slice() else {
         return Err(Fail::new("tracks"));
     };
     assert_eq!(rt; told(before), (63, Kind::Other, [0; 4], 1, 0));
-    assert_eq!(rt;
-        (
-            before.default_duration,
-            before.default_size,
-            before.default_flags
-        ),
-        (0, 0, 0)
-    );
-    assert_eq!(rt;
-        (last.default_duration, last.default_size, last.default_flags),
-        (5, 7, 0x10000)
-    );
-    let more = track(alloc, 1, b"text", &[])?;
-    traks.extend_from_slice(more.as_slice())?;
-    let moov = movie(alloc, HEADER, traks.as_slice(), extends.as_slice())?;
-    assert_eq!(rt;
-        fault_of(read_init(alloc, moov.as_slice())),
-        Some(InitFault::TooManyTracks)
-    );
+    assert_eq!(rt; defaults(before), (0, 0, 0));
+    assert_eq!(rt; defaults(last), (5, 7, 0x10000));
+    Ok(())
+}
+
+#[test]
+fn too_many_tracks(rt: HostRuntime) -> Result<(), Fail> {
+    let more = track(rt.alloc(), 1, b"text", &[])?;
+    let moov = movie_of_texts(rt.alloc(), more.as_slice())?;
+    let found = fault_of(read_init(rt.alloc(), moov.as_slice()));
+    assert_eq!(rt; found, Some(InitFault::TooManyTracks));
     Ok(())
 }
 

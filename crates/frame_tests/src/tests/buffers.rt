@@ -116,6 +116,17 @@ fn process_all(alloc: Global, buffers: &mut Buffers, samples: &[Sample]) -> Resu
     Ok(())
 }
 
+/// Track buffers of both kinds with a frame each.
+fn of_both_kinds(rt: &(impl Abort + AllocGlobal)) -> Result<Buffers, Fail> {
+    let mut buffers = begun(rt, &[VIDEO, AUDIO])?;
+    process_all(
+        rt.alloc(),
+        &mut buffers,
+        &[(1, 0, 3000, true), (2, 0, 1920, true)],
+    )?;
+    Ok(buffers)
+}
+
 /// Nothing, where the duration is infinite.
 fn nothing() -> SourceEffect {
     SourceEffect {
@@ -170,12 +181,7 @@ fn expect_ranges(rt: &impl Abort, ranges: &Ranges, want: &[(u32, u32)]) -> Resul
 #[test]
 fn goes_on_by_kind(rt: HostRuntime) -> Result<(), Fail> {
     let went = MediaEffect::Done(received(false));
-    let mut buffers = begun(&rt, &[VIDEO, AUDIO])?;
-    process_all(
-        rt.alloc(),
-        &mut buffers,
-        &[(1, 0, 3000, true), (2, 0, 1920, true)],
-    )?;
+    let mut buffers = of_both_kinds(&rt)?;
     expect_tracks(&rt, &buffers, &[(1, *b"avc1", 1), (2, *b"mp4a", 1)], false)?;
 
     // The numbers change places, and then both are new.
@@ -285,6 +291,31 @@ fn flush(
     Ok(())
 }
 
+/// Asserts the buffered ranges of all tracks.
+fn expect_buffered(
+    rt: &impl Abort,
+    buffers: &Buffers,
+    ended: bool,
+    want: &[(u32, u32)],
+) -> Result<(), Fail> {
+    let ranges = buffers.buffered(ended)?;
+    expect_ranges(rt, &ranges, want)
+}
+
+/// Asserts that there is one track, and its number, how many frames it has and its ranges.
+fn expect_view(
+    rt: &impl Abort,
+    buffers: &Buffers,
+    id: u32,
+    frames: u64,
+    want: &[(u32, u32)],
+) -> Result<(), Fail> {
+    let views = buffers.track_views()?;
+    let view = views.get(0).ok_or("no view")?;
+    assert!(rt; views.len() == 1 && view.id == id && view.frames == frames);
+    expect_ranges(rt, view.ranges.as_ranges(), want)
+}
+
 #[test]
 fn flushes_frames(rt: HostRuntime) -> Result<(), Fail> {
     let samples = [
@@ -299,11 +330,8 @@ fn flushes_frames(rt: HostRuntime) -> Result<(), Fail> {
     assert_eq!(rt; buffers.highest_start(), Some(time(6000)?));
     assert_eq!(rt; buffers.highest_end(), Some(end));
     expect_tracks(&rt, &buffers, &[(1, *b"avc1", 3)], false)?;
-    expect_ranges(&rt, &buffers.buffered(false)?, &[(0, 9000)])?;
-    let views = buffers.track_views()?;
-    let view = views.get(0).ok_or("no view")?;
-    assert!(rt; views.len() == 1 && view.id == 1 && view.frames == 3);
-    expect_ranges(&rt, view.ranges.as_ranges(), &[(0, 9000)])
+    expect_buffered(&rt, &buffers, false, &[(0, 9000)])?;
+    expect_view(&rt, &buffers, 1, 3, &[(0, 9000)])
 }
 
 /// A frame out of range ends it, and what was stored before stays. A frame of no track is passed
@@ -326,29 +354,23 @@ fn flushes_up_to_a_fault(rt: HostRuntime) -> Result<(), Fail> {
 fn buffers_what_all_tracks_have(rt: HostRuntime) -> Result<(), Fail> {
     let alloc = rt.alloc();
     let mut buffers = begun(&rt, &[VIDEO, AUDIO])?;
-    expect_ranges(&rt, &buffers.buffered(true)?, &[])?;
+    expect_buffered(&rt, &buffers, true, &[])?;
     let samples = [
         (1, 0, 3000, true),
         (1, 6000, 3000, true),
         (2, 1000, 6000, true),
     ];
     process_all(alloc, &mut buffers, &samples)?;
-    expect_ranges(
-        &rt,
-        &buffers.buffered(false)?,
-        &[(1000, 3000), (6000, 7000)],
-    )?;
-    expect_ranges(&rt, &buffers.buffered(true)?, &[(1000, 3000), (6000, 9000)])?;
+    expect_buffered(&rt, &buffers, false, &[(1000, 3000), (6000, 7000)])?;
+    expect_buffered(&rt, &buffers, true, &[(1000, 3000), (6000, 9000)])?;
 
     buffers.remove(time(6000)?, Moment::Infinite, Moment::Infinite);
-    expect_ranges(&rt, &buffers.buffered(false)?, &[(1000, 3000)])?;
+    expect_buffered(&rt, &buffers, false, &[(1000, 3000)])?;
     let none = Buffers::new(alloc, Ticks::zero(), true);
-    expect_ranges(&rt, &none.buffered(true)?, &[])
+    expect_buffered(&rt, &none, true, &[])
 }
 
-/// The range that holds a time: in a gap there is none, and a range holds the time at which it
-/// ends. Where the source is ended, the last range of each track lasts to the highest end.
-// The range of all tracks that has a time, or ends at it.
+/// Asserts the range of all tracks that has a time, or ends at it.
 fn expect_span(
     rt: &impl Abort,
     buffers: &Buffers,
@@ -379,6 +401,8 @@ const RANGES_OF_TIMES: [(u32, bool, Option<(u32, u32)>); 8] = [
     (9001, true, None),
 ];
 
+/// The range that holds a time: in a gap there is none, and a range holds the time at which it
+/// ends. Where the source is ended, the last range of each track lasts to the highest end.
 #[test]
 fn finds_the_range_of_a_time(rt: HostRuntime) -> Result<(), Fail> {
     let mut buffers = begun(&rt, &[VIDEO, AUDIO])?;
@@ -406,47 +430,66 @@ fn evicts_frames(rt: HostRuntime) -> Result<(), Fail> {
     )?;
     buffers.evict(Ticks::zero(), 4, 8, Moment::Infinite);
     assert_eq!(rt; buffers.used(), 4);
-    expect_ranges(&rt, &buffers.buffered(false)?, &[(0, 3000)])
+    expect_buffered(&rt, &buffers, false, &[(0, 3000)])
 }
 
-#[test]
-fn resets_and_sets(rt: HostRuntime) -> Result<(), Fail> {
-    let alloc = rt.alloc();
-    let one = not_negative(time(1)?).ok_or("no time")?;
-    let mut buffers = begun(&rt, &[VIDEO, AUDIO])?;
-    process_all(
-        alloc,
-        &mut buffers,
-        &[(1, 0, 3000, true), (2, 0, 1920, true)],
-    )?;
-    buffers.reset_parser();
-    expect_tracks(&rt, &buffers, &[(1, *b"avc1", 1), (2, *b"mp4a", 1)], true)?;
-    assert_eq!(rt; buffers.settings().group_start, None);
-    buffers.set_offset(one);
-    assert_eq!(rt; buffers.settings().group_start, None);
+fn set_offset(buffers: &mut Buffers, m: u32) -> Result<(), Fail> {
+    buffers.set_offset(time(m)?);
+    Ok(())
+}
 
-    buffers.set_mode(true);
-    assert_eq!(rt; buffers.settings().group_start, Some(time(3000)?));
-    buffers.set_offset(time(7)?);
+fn expect_group_start(rt: &impl Abort, buffers: &Buffers, want: Option<u32>) -> Result<(), Fail> {
+    let want = match want {
+        Some(m) => Some(time(m)?),
+        None => None,
+    };
+    assert_eq!(rt; buffers.settings().group_start, want);
+    Ok(())
+}
+
+fn expect_sequence(rt: &impl Abort, buffers: &Buffers, offset: u32) -> Result<(), Fail> {
     let settings = buffers.settings();
-    assert!(rt; settings.sequence && settings.offset == time(7)?);
-    assert_eq!(rt; settings.group_start, Some(time(7)?));
-    buffers.reset_parser();
-    assert_eq!(rt; buffers.settings().group_start, Some(time(3000)?));
-    buffers.set_mode(false);
-    assert!(rt; !buffers.settings().sequence);
+    let offset = time(offset)?;
+    assert!(rt; settings.sequence && settings.offset == offset);
+    Ok(())
+}
 
+/// Asserts that the window is set, and reset.
+fn sets_the_window(rt: &impl Abort, buffers: &mut Buffers) -> Result<(), Fail> {
+    let one = not_negative(time(1)?).ok_or("no time")?;
+    let end = Moment::At(time(9)?);
     buffers.set_window_start(one);
     assert!(rt; buffers.settings().window_start == one);
-    buffers.set_window_end(Moment::At(time(9)?));
-    assert_eq!(rt; buffers.settings().window_end, Moment::At(time(9)?));
+    buffers.set_window_end(end);
+    assert_eq!(rt; buffers.settings().window_end, end);
     buffers.reset_window();
     let settings = buffers.settings();
     assert!(rt; settings.window_start == Ticks::zero());
     assert_eq!(rt; settings.window_end, Moment::Infinite);
+    Ok(())
+}
+
+#[test]
+fn resets_and_sets(rt: HostRuntime) -> Result<(), Fail> {
+    let mut buffers = of_both_kinds(&rt)?;
+    buffers.reset_parser();
+    expect_tracks(&rt, &buffers, &[(1, *b"avc1", 1), (2, *b"mp4a", 1)], true)?;
+    expect_group_start(&rt, &buffers, None)?;
+    set_offset(&mut buffers, 1)?;
+    expect_group_start(&rt, &buffers, None)?;
+
+    buffers.set_mode(true);
+    expect_group_start(&rt, &buffers, Some(3000))?;
+    set_offset(&mut buffers, 7)?;
+    expect_sequence(&rt, &buffers, 7)?;
+    expect_group_start(&rt, &buffers, Some(7))?;
+    buffers.reset_parser();
+    expect_group_start(&rt, &buffers, Some(3000))?;
+    buffers.set_mode(false);
+    assert!(rt; !buffers.settings().sequence);
+    sets_the_window(&rt, &mut buffers)?;
     buffers.change_container(true);
     let settings = buffers.settings();
     assert!(rt; settings.generate && settings.sequence);
-    assert_eq!(rt; settings.group_start, Some(time(3000)?));
-    Ok(())
+    expect_group_start(&rt, &buffers, Some(3000))
 }

@@ -227,19 +227,60 @@ fn combines(rt: HostRuntime) -> Result<(), Fail> {
     Ok(())
 }
 
+/// Parts of bytes stay as they are, whatever becomes of the bytes.
 #[test]
-fn copies(rt: HostRuntime) -> Result<(), Fail> {
+fn parts_of_bytes_stay(rt: HostRuntime) -> Result<(), Fail> {
+    let mut bytes = Bytes::copy_of(rt.alloc(), b"abcdef")?;
+    let part = bytes.part(1, 4)?;
+    bytes.drop_front(2);
+    bytes.truncate(2);
+    bytes.extend(b"gh")?;
+    assert_eq!(rt; part.as_slice(), b"bcd".as_slice());
+    assert_eq!(rt; part.into_vec()?.len(), 3);
+    bytes.extend(b"i")?;
+    assert_eq!(rt; bytes.as_slice(), b"cdghi".as_slice());
+    Ok(())
+}
+
+#[test]
+fn copies_bytes(rt: HostRuntime) -> Result<(), Fail> {
     let bytes = Bytes::copy_of(rt.alloc(), &[1, 2, 3])?;
     assert_eq!(rt; bytes.copy()?.as_slice(), [1, 2, 3].as_slice());
-    assert_eq!(rt; bytes.into_vec().len(), 3);
+    assert_eq!(rt; bytes.into_vec()?.len(), 3);
+    Ok(())
+}
 
+#[test]
+fn copies_texts(rt: HostRuntime) -> Result<(), Fail> {
     let text = Text::copy_of(rt.alloc(), "moof")?;
     assert_eq!(rt; text.copy()?.as_str(), "moof");
     assert_eq!(rt; text.into_string().len(), 4);
+    Ok(())
+}
 
+#[test]
+fn copies_ranges(rt: HostRuntime) -> Result<(), Fail> {
     let ranges = ranges_of(&rt, rt.alloc(), &[(0, 10), (20, 30)], Ticks::zero())?;
     expect_spans(&rt, &ranges.copy()?, &[(0, 10), (20, 30)]);
+    Ok(())
+}
 
+/// A presentation of one track.
+fn presentation_of(
+    alloc: Global,
+    scale: u32,
+    duration: Moment,
+    track: TrackInfo,
+) -> Result<Presentation, OutOfMemory> {
+    Ok(Presentation {
+        scale,
+        duration,
+        tracks: TrackList::from_vec(alloc, [track].to_vec(alloc)?),
+    })
+}
+
+#[test]
+fn copies_presentations(rt: HostRuntime) -> Result<(), Fail> {
     let track = TrackInfo {
         id: 1,
         kind: Kind::Video,
@@ -251,11 +292,8 @@ fn copies(rt: HostRuntime) -> Result<(), Fail> {
         default_size: 0,
         default_flags: 0,
     };
-    let presentation = Presentation {
-        scale: 1_000,
-        duration: Moment::At(at(&rt, 5)),
-        tracks: TrackList::from_vec(rt.alloc(), [track].to_vec(rt.alloc())?),
-    };
+    let duration = Moment::At(at(&rt, 5));
+    let presentation = presentation_of(rt.alloc(), 1_000, duration, track)?;
     let copy = presentation.copy()?;
     assert!(rt; copy.tracks.find(1).is_some() && copy.tracks.find(2).is_none());
     assert_eq!(rt; copy.scale, 1_000);

@@ -4,8 +4,9 @@ mod files;
 
 use byte_stream::*;
 use files::*;
-use mse_base::{OutOfMemory, Phase};
+use mse_base::{Bytes, OutOfMemory, Phase};
 use std::alloc::Global;
+use std::process::Abort;
 use std::test::*;
 
 /// A frame of ten bytes, with 44100 samples in a second and two channels.
@@ -15,6 +16,11 @@ const FRAME: [u8; 10] = [0xff, 0xf1, 0x50, 0x80, 0x01, 0x5f, 0xfc, 0, 0, 0];
 const FRAMES: [u8; 20] = [
     0xff, 0xf1, 0x50, 0x80, 0x01, 0x5f, 0xfc, 0, 0, 0, 0xff, 0xf1, 0x50, 0x80, 0x01, 0x5f, 0xfc, 0,
     0, 0,
+];
+
+/// The first 17 bytes of the two.
+const FRONT: [u8; 17] = [
+    0xff, 0xf1, 0x50, 0x80, 0x01, 0x5f, 0xfc, 0, 0, 0, 0xff, 0xf1, 0x50, 0x80, 0x01, 0x5f, 0xfc,
 ];
 
 /// What a test looks at: 1 for an initialization segment, 2 for a frame, 3 for the end of a segment, 4 for a
@@ -65,121 +71,250 @@ fn take_all(alloc: Global, stream: &mut ByteStream) -> Result<Vec<Shown>, OutOfM
     Ok(items)
 }
 
-const SEGMENTS: [Shown; 5] = [
-    (1, 24, 90_000, 1),
-    (2, 739, 4_704_000_000, 4),
-    (2, 743, 4_704_000_000, 4),
-    (2, 747, 4_704_000_000, 4),
-    (3, 0, 0, 0),
+/// What is done with a stream, or asserted of it.
+#[derive(Clone, Copy)]
+enum Step {
+    /// Appends bytes.
+    Feed(&'static [u8]),
+    /// Appends so many bytes that are told in hex.
+    Hex(&'static str, usize),
+    /// Appends bytes whose memory is shared.
+    Share(&'static [u8]),
+    /// Appends so many bytes that are told in hex, and whose memory is shared.
+    ShareHex(&'static str, usize),
+    /// Offers bytes, and declines them.
+    Decline(&'static [u8]),
+    Reset,
+    Restart(Container),
+    /// The item in front or a frame behind it, which stay.
+    Look(usize, Shown),
+    /// The item in front, which is a fault and stays.
+    LookFault(ByteFault, u64),
+    /// The item in front, which is taken.
+    Next(Shown),
+    /// The item in front, which is a fault and is taken.
+    NextFault(ByteFault, u64),
+    /// All items that are there, which are taken.
+    All(&'static [Shown]),
+    Phase(Phase),
+    Ready(usize),
+    Held(usize),
+    Len(u64),
+}
+
+fn append(rt: &impl Abort, stream: &mut ByteStream, bytes: &[u8]) -> Result<(), Fail>
+    requires { stream.old.offered ≡ None }
+    ensures { stream.new.offered ≡ None }
+{
+    assert!(rt; stream.len() < 10_000 && bytes.len() < 10_000);
+    feed(stream, bytes)?;
+    Ok(())
+}
+
+fn share(rt: &impl Abort, stream: &mut ByteStream, bytes: Bytes) -> Result<(), Fail>
+    requires { stream.old.offered ≡ None }
+    ensures { stream.new.offered ≡ None }
+{
+    assert!(rt; stream.len() < 10_000 && bytes.len() < 10_000);
+    stream.offer_bytes(bytes)?;
+    stream.accept();
+    Ok(())
+}
+
+fn decline(rt: &impl Abort, stream: &mut ByteStream, bytes: &[u8]) -> Result<(), Fail>
+    requires { stream.old.offered ≡ None }
+    ensures { stream.new.offered ≡ None }
+{
+    assert!(rt; stream.len() < 10_000 && bytes.len() < 10_000);
+    stream.offer(bytes)?;
+    stream.decline();
+    Ok(())
+}
+
+/// So many bytes that are told in hex.
+fn decoded(rt: &(impl Abort + AllocGlobal), text: &str, len: usize) -> Result<Vec<u8>, Fail> {
+    let bytes = hex::decode(rt.alloc(), text)?;
+    assert_eq!(rt; bytes.len(), len);
+    Ok(bytes)
+}
+
+/// The item in front or a frame behind it.
+fn look(rt: &impl Abort, stream: &ByteStream, i: usize) -> Result<Next, Fail>
+    requires { stream.now.offered ≡ None }
+{
+    assert!(rt; i == 0 || i < stream.ready_frames());
+    Ok(stream.look(i)?)
+}
+
+fn expect_fault(rt: &impl Abort, next: &Next, want: ByteFault, at: u64) {
+    match next {
+        Next::Fault { fault, offset } => assert_eq!(rt; (*fault, *offset), (want, at)),
+        _ => assert!(rt; false, "{next:?}"),
+    }
+}
+
+fn expect_all(
+    rt: &(impl Abort + AllocGlobal),
+    stream: &mut ByteStream,
+    want: &[Shown],
+) -> Result<(), Fail>
+    requires { stream.old.offered ≡ None }
+    ensures { stream.new.offered ≡ None }
+{
+    let items = take_all(rt.alloc(), stream)?;
+    assert_eq!(rt; items.as_slice(), want);
+    Ok(())
+}
+
+fn take(rt: &(impl Abort + AllocGlobal), stream: &mut ByteStream, step: Step) -> Result<(), Fail>
+    requires { stream.old.offered ≡ None }
+    ensures { stream.new.offered ≡ None }
+{
+    match step {
+        Step::Feed(bytes) => append(rt, stream, bytes)?,
+        Step::Hex(text, len) => append(rt, stream, decoded(rt, text, len)?.as_slice())?,
+        Step::Share(bytes) => share(rt, stream, Bytes::copy_of(rt.alloc(), bytes)?)?,
+        Step::ShareHex(text, len) => {
+            let bytes = decoded(rt, text, len)?;
+            share(rt, stream, Bytes::from_vec(rt.alloc(), bytes)?)?;
+        }
+        Step::Decline(bytes) => decline(rt, stream, bytes)?,
+        Step::Reset => stream.reset(),
+        Step::Restart(container) => stream.restart(container),
+        Step::Look(i, want) => assert_eq!(rt; shown_of(&look(rt, stream, i)?), want),
+        Step::LookFault(want, at) => expect_fault(rt, &look(rt, stream, 0)?, want, at),
+        Step::Next(want) => assert_eq!(rt; shown_of(&stream.next()?), want),
+        Step::NextFault(want, at) => expect_fault(rt, &stream.next()?, want, at),
+        Step::All(want) => expect_all(rt, stream, want)?,
+        Step::Phase(want) => assert_eq!(rt; stream.phase(), want),
+        Step::Ready(want) => assert_eq!(rt; stream.ready_frames(), want),
+        Step::Held(want) => assert_eq!(rt; stream.held_len(), want),
+        Step::Len(want) => assert_eq!(rt; stream.len(), want),
+    }
+    Ok(())
+}
+
+/// Takes steps from a new stream on.
+fn play(rt: &(impl Abort + AllocGlobal), container: Container, steps: &[Step]) -> Result<(), Fail> {
+    let mut stream = ByteStream::new(rt.alloc(), container);
+    'steps: for step in steps {
+        take(rt, &mut stream, *step)?;
+    }
+    Ok(())
+}
+
+const INIT_SHOWN: Shown = (1, 24, 90_000, 1);
+
+const LAST_SHOWN: Shown = (2, 747, 4_704_000_000, 4);
+
+const SEGMENTS: [Step; 13] = [
+    Step::Hex(INIT, 595),
+    Step::Phase(Phase::InInit),
+    Step::Look(0, INIT_SHOWN),
+    Step::Next(INIT_SHOWN),
+    Step::Hex(THREE_FRAMES, 156),
+    Step::Ready(3),
+    Step::Look(2, LAST_SHOWN),
+    Step::Phase(Phase::InMedia),
+    Step::Held(156),
+    Step::All(&[
+        (2, 739, 4_704_000_000, 4),
+        (2, 743, 4_704_000_000, 4),
+        LAST_SHOWN,
+        (3, 0, 0, 0),
+    ]),
+    Step::Phase(Phase::Waiting),
+    Step::Held(0),
+    Step::Len(751),
 ];
 
 /// A file of one track and three frames of 3000 units at 90000.
 #[test]
 fn a_file_of_segments(rt: HostRuntime) -> Result<(), Fail> {
-    let init = hex::decode(rt.alloc(), INIT)?;
-    let fragment = hex::decode(rt.alloc(), THREE_FRAMES)?;
-    assert_eq!(rt; (init.len(), fragment.len()), (595, 156));
-    let mut stream = ByteStream::new(rt.alloc(), Container::Mp4);
-    feed(&mut stream, init.as_slice())?;
-    assert_eq!(rt; stream.phase(), Phase::InInit);
-    assert_eq!(rt; shown_of(&stream.look(0)?), SEGMENTS[0]);
-    assert_eq!(rt; shown_of(&stream.next()?), SEGMENTS[0]);
-    feed(&mut stream, fragment.as_slice())?;
-    assert_eq!(rt; stream.ready_frames(), 3);
-    assert_eq!(rt; shown_of(&stream.look(2)?), SEGMENTS[3]);
-    assert_eq!(rt; stream.phase(), Phase::InMedia);
-    assert_eq!(rt; stream.held_len(), 156);
-    let rest = take_all(rt.alloc(), &mut stream)?;
-    assert_eq!(rt;
-        rest.as_slice(),
-        [SEGMENTS[1], SEGMENTS[2], SEGMENTS[3], SEGMENTS[4]].as_slice()
-    );
-    assert_eq!(rt; stream.phase(), Phase::Waiting);
-    assert_eq!(rt; (stream.held_len(), stream.len()), (0, 751));
-    Ok(())
+    play(&rt, Container::Mp4, &SEGMENTS)
 }
 
+const ADTS_INIT: Shown = (1, 0, 44_100, 1);
+
+const ADTS_FRAME: Shown = (2, 0, 3_276_800_000, 10);
+
+const ONE_FRAME: [Shown; 3] = [ADTS_INIT, ADTS_FRAME, (3, 0, 0, 0)];
+
 const TWO: [Shown; 5] = [
-    (1, 0, 44_100, 1),
-    (2, 0, 3_276_800_000, 10),
+    ADTS_INIT,
+    ADTS_FRAME,
     (3, 0, 0, 0),
     (2, 10, 3_276_800_000, 10),
     (3, 0, 0, 0),
 ];
 
+const TWO_FRAMES: [Step; 11] = [
+    Step::Feed(&FRONT),
+    Step::Phase(Phase::Waiting),
+    Step::All(&ONE_FRAME),
+    Step::Phase(Phase::InMedia),
+    Step::Held(7),
+    Step::Ready(0),
+    Step::Feed(&[0; 3]),
+    Step::Ready(1),
+    Step::All(&[(2, 10, 3_276_800_000, 10), (3, 0, 0, 0)]),
+    Step::Held(0),
+    Step::Len(20),
+];
+
 /// Two ADTS frames of 1024 samples, the second of which comes in two pieces.
 #[test]
 fn two_frames(rt: HostRuntime) -> Result<(), Fail> {
-    let (first, second) = FRAMES.as_slice().split_at(17);
-    let mut stream = ByteStream::new(rt.alloc(), Container::Adts);
-    feed(&mut stream, first)?;
-    assert_eq!(rt; stream.phase(), Phase::Waiting);
-    let items = take_all(rt.alloc(), &mut stream)?;
-    assert_eq!(rt; items.as_slice(), [TWO[0], TWO[1], TWO[2]].as_slice());
-    assert_eq!(rt; stream.phase(), Phase::InMedia);
-    assert_eq!(rt; (stream.held_len(), stream.ready_frames()), (7, 0));
-    feed(&mut stream, second)?;
-    assert_eq!(rt; stream.ready_frames(), 1);
-    let items = take_all(rt.alloc(), &mut stream)?;
-    assert_eq!(rt; items.as_slice(), [TWO[3], TWO[4]].as_slice());
-    assert_eq!(rt; (stream.held_len(), stream.len()), (0, 20));
-    Ok(())
+    play(&rt, Container::Adts, &TWO_FRAMES)
 }
+
+const BEGUN_ANEW: [Step; 15] = [
+    Step::Feed(b"\0\0\0\0free"),
+    Step::LookFault(ByteFault::Segments(StreamFault::SizeZero), 0),
+    Step::Restart(Container::Adts),
+    Step::Feed(&FRAME),
+    Step::Next(ADTS_INIT),
+    Step::Reset,
+    Step::Len(0),
+    Step::Held(0),
+    Step::Feed(&FRAME),
+    Step::Next(ADTS_FRAME),
+    Step::Restart(Container::Adts),
+    Step::Feed(&FRAME),
+    Step::Next(ADTS_INIT),
+    Step::Restart(Container::Mp4),
+    Step::Phase(Phase::Waiting),
+];
 
 /// The presentation stays with `reset`, and goes with `restart`, which takes another container.
 #[test]
 fn begun_anew(rt: HostRuntime) -> Result<(), Fail> {
-    let mut stream = ByteStream::new(rt.alloc(), Container::Mp4);
-    feed(&mut stream, b"\0\0\0\0free")?;
-    let fault = stream.look(0)?;
-    assert!(rt;
-        matches!(
-            fault,
-            Next::Fault {
-                fault: ByteFault::Segments(StreamFault::SizeZero),
-                offset: 0
-            }
-        )
-    );
-    stream.restart(Container::Adts);
-    feed(&mut stream, &FRAME)?;
-    assert_eq!(rt; shown_of(&stream.next()?), TWO[0]);
-    stream.reset();
-    assert_eq!(rt; (stream.len(), stream.held_len()), (0, 0));
-    feed(&mut stream, &FRAME)?;
-    assert_eq!(rt; shown_of(&stream.next()?), TWO[1]);
-    stream.restart(Container::Adts);
-    feed(&mut stream, &FRAME)?;
-    assert_eq!(rt; shown_of(&stream.next()?), TWO[0]);
-    stream.restart(Container::Mp4);
-    assert_eq!(rt; stream.phase(), Phase::Waiting);
-    Ok(())
+    play(&rt, Container::Mp4, &BEGUN_ANEW)
 }
+
+const OFFERS: [Step; 7] = [
+    Step::Decline(&[0; 7]),
+    Step::Len(0),
+    Step::Held(0),
+    Step::Feed(&FRAME),
+    Step::All(&ONE_FRAME),
+    Step::Feed(&[0; 7]),
+    Step::NextFault(ByteFault::Frames(AdtsFault::Sync), 10),
+];
 
 /// What is offered and declined is gone.
 #[test]
 fn offers(rt: HostRuntime) -> Result<(), Fail> {
-    let mut stream = ByteStream::new(rt.alloc(), Container::Adts);
-    stream.offer(&[0; 7])?;
-    stream.decline();
-    assert_eq!(rt; (stream.len(), stream.held_len()), (0, 0));
-    stream.offer(&FRAME)?;
-    stream.accept();
-    let items = take_all(rt.alloc(), &mut stream)?;
-    assert_eq!(rt; items.as_slice(), [TWO[0], TWO[1], TWO[2]].as_slice());
-    stream.offer(&[0; 7])?;
-    stream.accept();
-    let next = stream.next()?;
-    assert!(rt;
-        matches!(
-            next,
-            Next::Fault {
-                fault: ByteFault::Frames(AdtsFault::Sync),
-                offset: 10
-            }
-        )
-    );
-    Ok(())
+    play(&rt, Container::Adts, &OFFERS)
+}
+
+/// Bytes whose memory is shared give what they give when they are copied.
+#[test]
+fn shared_bytes(rt: HostRuntime) -> Result<(), Fail> {
+    let frames = [Step::Share(&FRAMES), Step::All(&TWO)];
+    play(&rt, Container::Adts, &frames)?;
+    let segments = [Step::ShareHex(INIT, 595), Step::Next(INIT_SHOWN)];
+    play(&rt, Container::Mp4, &segments)
 }
 
 /// Takes all items that are there, and puts the payloads of coded frames one after the other.
@@ -219,6 +354,19 @@ fn payloads_by(
     Ok(payloads)
 }
 
+/// Asserts the payloads of the coded frames of a string that is appended in pieces of so many bytes.
+fn expect_payloads(
+    rt: &(impl Abort + AllocGlobal),
+    container: Container,
+    bytes: &[u8],
+    size: usize,
+    want: &[u8],
+) -> Result<(), Fail> {
+    let payloads = payloads_by(rt.alloc(), container, bytes, size)?;
+    assert_eq!(rt; payloads.as_slice(), want, "by {size}");
+    Ok(())
+}
+
 /// The payloads are the bytes of the string, whatever pieces it comes in.
 #[test]
 fn payloads_by_pieces(rt: HostRuntime) -> Result<(), Fail> {
@@ -227,32 +375,11 @@ fn payloads_by_pieces(rt: HostRuntime) -> Result<(), Fail> {
     assert_eq!(rt; file.len(), 751);
     let (_, data) = file.as_slice().split_at(739);
     assert_eq!(rt; data, [1u8, 2, 3, 4, 5, 6, 7, 8, 9, 10, 11, 12].as_slice());
-    let by_1 = payloads_by(rt.alloc(), Container::Mp4, file.as_slice(), 1)?;
-    assert_eq!(rt; by_1.as_slice(), data);
-    let by_7 = payloads_by(rt.alloc(), Container::Mp4, file.as_slice(), 7)?;
-    assert_eq!(rt; by_7.as_slice(), data);
-    let whole = payloads_by(rt.alloc(), Container::Mp4, file.as_slice(), 751)?;
-    assert_eq!(rt; whole.as_slice(), data);
-    let by_1 = payloads_by(rt.alloc(), Container::Adts, &FRAMES, 1)?;
-    assert_eq!(rt; by_1.as_slice(), FRAMES.as_slice());
-    let by_7 = payloads_by(rt.alloc(), Container::Adts, &FRAMES, 7)?;
-    assert_eq!(rt; by_7.as_slice(), FRAMES.as_slice());
-    Ok(())
-}
-
-/// A vector that is offered gives what its bytes give.
-#[test]
-fn vectors(rt: HostRuntime) -> Result<(), Fail> {
-    let mut stream = ByteStream::new(rt.alloc(), Container::Adts);
-    stream.offer_vec(Vec::from_slice(rt.alloc(), &FRAMES)?)?;
-    stream.accept();
-    let items = take_all(rt.alloc(), &mut stream)?;
-    assert_eq!(rt; items.as_slice(), TWO.as_slice());
-    let mut stream = ByteStream::new(rt.alloc(), Container::Mp4);
-    let init = hex::decode(rt.alloc(), INIT)?;
-    assert_eq!(rt; init.len(), 595);
-    stream.offer_vec(init)?;
-    stream.accept();
-    assert_eq!(rt; shown_of(&stream.next()?), SEGMENTS[0]);
+    for size in [1, 7, 751] {
+        expect_payloads(&rt, Container::Mp4, file.as_slice(), size, data)?;
+    }
+    for size in [1, 7] {
+        expect_payloads(&rt, Container::Adts, &FRAMES, size, &FRAMES)?;
+    }
     Ok(())
 }

@@ -1,7 +1,7 @@
 //! Calls and turns as data, and what is heard of them.
 
 use buffer_state::{Around, Buffer, Container, Reply, Turned};
-use mse_base::{Moment, OutOfMemory, Phase, Ticks};
+use mse_base::{Bytes, Moment, OutOfMemory, Phase, Ticks};
 use mse_calls::{EventKind, FaultView, Mode, Name, Ready};
 use std::alloc::Global;
 use std::test::Fail;
@@ -60,12 +60,14 @@ pub(super) fn quiet() -> Heard {
 /// A buffer, with what it is told.
 #[derive(Drop)]
 pub(super) struct Scene {
+    alloc: Global,
     buffer: Buffer<ListStore>,
     around: Around,
 }
 
 pub(super) fn new_scene(alloc: Global, container: Container, quota: u64) -> Scene {
     Scene {
+        alloc,
         buffer: Buffer::new(alloc, Ticks::zero(), container),
         around: Around {
             number: 0,
@@ -123,7 +125,8 @@ fn then(first: &Heard, second: &Heard) -> Result<Heard, Fail> {
 
 fn append(scene: &mut Scene, bytes: &[u8], from: usize, to: usize) -> Result<Heard, Fail> {
     let part = bytes.get(from..to).ok_or("no such part")?;
-    let reply = scene.buffer.append(part, &scene.around)?;
+    let part = Bytes::copy_of(scene.alloc, part)?;
+    let reply = scene.buffer.append(&part, &scene.around)?;
     Ok(hear(&reply))
 }
 
