@@ -4,7 +4,7 @@
     bench/memory.py [PROGRAM] [QUOTA]
 
 PROGRAM is crates/mseplay/out/mseplay, as `rt run` leaves it in crates/mseplay. QUOTA is in MiB, 128 if left out, which is the
-default of a script. Sixteen buffers take 32 times the quota, and the file that is appended twice the quota.
+default of a script. The file that is appended has twice the quota, and the buffers share its memory.
 
 Each buffer gets frames up to a byte below its quota, and then all but the last byte of a media segment of as many bytes:
 once in appends of a million bytes, and once in one append. A third run appends a box that is passed over, of twice the
