@@ -160,7 +160,7 @@ impl Chunks {
         self.entries.len()
     }
 
-    /// PieceBytes `i`.
+    /// The bytes of piece `i`, counted from the front.
     pub fn piece(&self, i: usize) -> &[u8]
         requires { i < length self.now }
         ensures { Some result.now ≡ slice_get self.now i }

@@ -1,4 +1,4 @@
-ghost use Rattle.std.specs.Prelude.{◌≡◌, ◌↔◌, ◌+◌, ◌<◌, ◌≤◌, ◌^◌, ◌++◌, [], length, take, drop, slice_range, true, false, IfOk, IsTrue, OnOk, OnErr};
+ghost use Rattle.std.specs.Prelude.{◌≡◌, ◌↔◌, ◌≤◌, ◌++◌, [], length, take, drop, slice_range, true, false, IfOk, IsTrue, OnOk, OnErr};
 
 use crate::OutOfMemory;
 use std::alloc::Global;
@@ -121,6 +121,7 @@ impl Bytes {
         self.shrink();
     }
 
+    /// Moves the start behind the first `n` bytes.
     fn pass(&mut self, n: usize)
         requires { n ≤ length self.old }
         ensures { self.new ≡ drop n self.old }
