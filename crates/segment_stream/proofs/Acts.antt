@@ -148,7 +148,7 @@ ends-end m slots i (suc n) h e = (h.0, ends-end m slots (i + 1) n h.1 (let z : i
 
 -- ---- the arms of the code
 
-abbrev at_step : Option Presentation → code.ParserMode → Tables → List ℕ → BoxStep
+abbrev pub at_step : Option Presentation → code.ParserMode → Tables → List ℕ → BoxStep
 at_step last m tables rest = step_of (is_some last) rest (mode_of tables.slots.items tables.known.items m)
 
 pub is_active : (tables : Tables) (m : code.ParserMode) → Kept.IsActive m → IsActive (mode_of tables.slots.items tables.known.items m)
@@ -402,7 +402,7 @@ ordered-is (Some w) v h e = subst (λ (u : Vec Slot Global). All IsOrdered u.ite
 
 -- ---- a run of moves
 
-since-trans : (a b d : code.ParserMode) (before between after : Tables) → Since a b before between → Since b d between after → Since a d before after
+pub since-trans : (a b d : code.ParserMode) (before between after : Tables) → Since a b before between → Since b d between after → Since a d before after
 since-trans (codes.Between o) b d before between after h g = tt
 since-trans (codes.Skipping y z) b d before between after h g = tt
 since-trans (codes.Within i) (codes.Between o) d before between after h g = absurd h

@@ -3,3 +3,4 @@ pub mod Found
 pub mod PendingLaws
 pub mod ArmLaws
 pub mod StreamLaws
+mod ReadyRow

@@ -15,10 +15,10 @@ use Rattle.segment_walk.specs.declared.kinds.ParserMode.TheVariants as code
 use Rattle.segment_walk.specs.declared.kinds.Place.TheVariants.{AtBox}
 use Rattle.segment_walk.specs.Tables.{SegmentItem}
 use Rattle.parser_loop.specs.Items.{InitItem, FrameItem, SegmentEnd, FaultItem}
-use Rattle.segment_walk.specs.Moves.{State, frame_of, walked, behind, fail, segments}
+use Rattle.segment_walk.specs.Moves.{State, frame_of, is_ready, walked, behind, fail, segments}
 use Rattle.segment_walk.specs.Ranges.{IsAscending, mode_of}
 use Rattle.input_chunks.specs.Pieces.{pieces_without_first}
-use Rattle.std.specs.List.{concat}
+use Rattle.std.specs.List.{concat, prefix_len}
 use Rattle.segment_stream.specs.declared.progress.ParserPosition.{ParserPosition}
 use Rattle.segment_stream.specs.declared.progress.Progress.{Progress}
 use Rattle.segment_stream.specs.declared.progress.Tables.{Tables}
@@ -187,6 +187,17 @@ in_mode r mode = record {
   ready = r.ready;
   want = 0;
 }
+
+-- how many slots behind the next one are ready, where n bytes are there
+abbrev pub ready_behind : ℕ → Fragment → Tables → ℕ
+ready_behind n f tables =
+    prefix_len (is_ready n (take f.known tables.known.items))
+    (drop (f.taken + 1) tables.slots.items)
+
+-- the same place in a movie fragment, with the frames of n more slots that are ready
+abbrev pub with_taken : Progress → Fragment → ℕ → Progress
+with_taken r f n =
+    record (in_mode r (code.Within (record f { taken = f.taken + n }))) { ready = r.ready + n }
 
 -- a place that rests, with nothing of the input before it
 pub record IsAtRest (last : Option Presentation) (r : Progress) (tables : Tables)

@@ -4,13 +4,13 @@ ghost use Rattle.mse_base.specs.declared.track.Presentation.{Presentation};
 ghost use Rattle.segment_walk.specs.Moves.{step_of, segments};
 ghost use Rattle.segment_walk.specs.Ranges.{mode_of, SeesAscending};
 ghost use Rattle.segment_stream.specs.declared.progress.Tables.{Tables};
-ghost use Rattle.segment_stream.specs.Kept.{kept_of, run_on as runs_on, IsConsistent, IsActive, IsLast, IsMoveResult, IsPlan, Keeps, IsOrdered, Rests, Since, fragment_in, state_of, in_mode, with_tables};
+ghost use Rattle.segment_stream.specs.Kept.{kept_of, run_on as runs_on, IsConsistent, IsCounted, IsActive, IsLast, IsMoveResult, IsPlan, Keeps, IsOrdered, Rests, Since, fragment_in, ready_behind, state_of, in_mode, with_tables, with_taken};
 
 use crate::progress::{MoveResult, ParserPosition, Progress, Tables};
 use bmff_fragment::{MoofError, Slot, read_moof};
 use input_chunks::Chunks;
 use mse_base::{OutOfMemory, Phase, Presentation};
-use segment_walk::{BoxStep, DataRange, Fragment, ParserMode, Place, step};
+use segment_walk::{BoxStep, DataRange, Fragment, ParserMode, Place, count_ready, step};
 use std::alloc::Global;
 
 /// More bytes change nothing.
@@ -171,6 +171,29 @@ fn before_box(at: Progress, fragment: Fragment, place: u64) -> Progress
     in_mode(at, ParserMode::Within(fragment))
 }
 
+/// Behind the frame of the next slot, and those of the slots behind it that are ready too.
+fn behind_frames(at: Progress, fragment: Fragment, tables: &Tables, input: &Chunks) -> Progress
+    requires inside { at.from ≤ length (concat input.now) }
+    requires counted { IsCounted fragment tables.now at.first at.ready }
+    requires there { fragment.taken < length tables.now.slots.items }
+    ensures { result ≡ with_taken at fragment (1 + ready_behind (length (concat input.now) - at.from)
+        fragment tables.now) }
+{
+    let (_, slots) = tables.slots.as_slice().split_at(fragment.taken + 1);
+    let (known, _) = tables.known.as_slice().split_at(fragment.known);
+    let there = (input.len() - at.from) as u64;
+    let count = 1 + count_ready(slots, known, there);
+    let fragment = Fragment {
+        taken: fragment.taken + count,
+        ..fragment
+    };
+    let next = in_mode(at, ParserMode::Within(fragment));
+    Progress {
+        ready: at.ready + count,
+        ..next
+    }
+}
+
 /// One move of the parser by its next step.
 fn act_on(
     alloc: Global,
@@ -214,17 +237,7 @@ fn act_on(
             Ok(MoveResult::Go(in_mode(at, ParserMode::Within(fragment))))
         }
         BoxStep::NextBox(place) => Ok(MoveResult::Go(before_box(at, open, place))),
-        BoxStep::GiveFrame(_) => {
-            let fragment = Fragment {
-                taken: open.taken + 1,
-                ..open
-            };
-            let next = in_mode(at, ParserMode::Within(fragment));
-            Ok(MoveResult::Go(Progress {
-                ready: at.ready + 1,
-                ..next
-            }))
-        }
+        BoxStep::GiveFrame(_) => Ok(MoveResult::Go(behind_frames(at, open, tables, input))),
         BoxStep::ReadInit(_) => Ok(MoveResult::Rest(NEVER)),
         BoxStep::EndSegment(_) => Ok(MoveResult::Rest(NEVER)),
         BoxStep::Fail(_, _) => Ok(MoveResult::Rest(NEVER)),

@@ -1,11 +1,12 @@
 -- A slot among data ranges that come in order.
-use Rattle.std.proofs.Common.{◌≡◌, ℕ, zero, suc, ◌-◌, ◌<◌, ◌≤◌, leb, Bool, true, false, ◌&&◌, ◌||◌, List, [], ◌∷◌, length, get_or, inl, inr, refl, sym, arith}
+use Rattle.std.proofs.Common.{◌≡◌, ℕ, zero, suc, ◌-◌, ◌<◌, ◌≤◌, leb, Bool, true, false, ◌&&◌, ◌||◌, List, [], ◌∷◌, length, get_or, slice_get, None, inl, inr, refl, sym, ◌∙◌, arith}
+use Rattle.std.specs.List.{prefix_len}
 use Rattle.std.proofs.lemmas.Bool.Decides.{nat_tests}
 use Rattle.std.proofs.lemmas.Bool.{cases_lt}
 use Rattle.bmff_fragment.specs.declared.slot.Slot.{Slot}
 use Rattle.segment_walk.specs.declared.kinds.DataRange.{DataRange}
-use Rattle.segment_walk.specs.Moves.{lies_in}
-use Rattle.segment_walk.specs.Ranges.{IsAscending}
+use Rattle.segment_walk.specs.Moves.{is_ready, lies_in}
+use Rattle.segment_walk.specs.Ranges.{IsAmong, IsAscending}
 
 or-true : (a b : Bool) → b ≡ true → (a || b) ≡ true
 or-true true b e = refl
@@ -60,3 +61,25 @@ last-true ks s n d false e z l a f g =
 
 pub lies-last : (ks : List DataRange) (s : Slot) (n : ℕ) (d : DataRange) → 0 < n → n ≤ length ks → IsAscending ks → Begun s ks 0 n true → Begun s ks n (length ks) false → leb s.end (get_or ks (n - 1) d).end ≡ lies_in ks s
 lies-last ks s n d z l a f g = last-true ks s n d (leb s.end (get_or ks (n - 1) d).end) refl z l a f g
+
+pub lies-in-last : (ks : List DataRange) (s : Slot) (n : ℕ) (d : DataRange) → 0 < n → n ≤ length ks → IsAscending ks → Begun s ks 0 n true → Begun s ks n (length ks) false → s.end ≤ (get_or ks (n - 1) d).end → true ≡ lies_in ks s
+lies-in-last ks s n d z l a f g h =
+    let e : leb s.end (get_or ks (n - 1) d).end ≡ true = grind (arith, nat_tests) in
+    sym e ∙ lies-last ks s n d z l a f g
+
+pub lies-past-last : (ks : List DataRange) (s : Slot) (n : ℕ) (d : DataRange) → 0 < n → n ≤ length ks → IsAscending ks → Begun s ks 0 n true → Begun s ks n (length ks) false → (get_or ks (n - 1) d).end < s.end → false ≡ lies_in ks s
+lies-past-last ks s n d z l a f g h =
+    let e : leb s.end (get_or ks (n - 1) d).end ≡ false = grind (arith, nat_tests) in
+    sym e ∙ lies-last ks s n d z l a f g
+
+pub among-at : (ks : List DataRange) (i : ℕ) (d : DataRange) → i < length ks → IsAmong ks (get_or ks i d)
+among-at ks i d h = λ s a b.
+    let e : leb (get_or ks i d).start s.start ≡ true = grind (arith, nat_tests) in
+    let f : leb s.end (get_or ks i d).end ≡ true = grind (arith, nat_tests) in
+    lies-at ks s i d h e f
+
+-- among no data ranges no slot is ready
+pub none-ready : (n : ℕ) (ks : List DataRange) (slots : List Slot) → slice_get ks 0 ≡ None → 0 ≡ prefix_len (is_ready n ks) slots
+none-ready n [] [] e = refl
+none-ready n [] (s ∷ slots) e = refl
+none-ready n (k ∷ ks) slots e = cc

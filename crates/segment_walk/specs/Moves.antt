@@ -124,6 +124,10 @@ abbrev pub lies_in : List DataRange → Slot → Bool
 lies_in [] s = false
 lies_in (k ∷ ks) s = (nat_le k.start s.start && nat_le s.end k.end) || lies_in ks s
 
+-- and ends within n bytes
+abbrev pub is_ready : ℕ → List DataRange → Slot → Bool
+is_ready n known s = lies_in known s && nat_le s.end n
+
 -- The next slot comes before the next box: its frame is given once its bytes are there. A slot that lies in no mdat
 -- up to the last, and begins before the end of that one, will never lie in one.
 abbrev pub slot_step : List ℕ → List DataRange → ℕ → Place → Option Slot → BoxStep

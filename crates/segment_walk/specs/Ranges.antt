@@ -1,11 +1,11 @@
 -- What the code keeps of a mode of the walk: its tables of slots and of data ranges, which come in order.
-use Rattle.std.specs.Prelude.{List, take}
+use Rattle.std.specs.Prelude.{◌≡◌, ◌≤◌, true, List, take}
 use Rattle.std.specs.List.Sorted.{IsNonDecreasingBy}
 use Rattle.segment_walk.specs.declared.kinds.DataRange.{DataRange}
 use Rattle.segment_walk.specs.declared.kinds.Fragment.{Fragment}
 use Rattle.segment_walk.specs.declared.kinds.ParserMode as code
 use Rattle.segment_walk.specs.declared.kinds.ParserMode.TheVariants as codes
-use Rattle.segment_walk.specs.Moves.{Open, open_of, Between, Skipping, Within}
+use Rattle.segment_walk.specs.Moves.{Open, open_of, lies_in, Between, Skipping, Within}
 use Rattle.segment_walk.specs.Moves as walk
 use Rattle.bmff_fragment.specs.declared.slot.Slot.{Slot}
 
@@ -13,6 +13,11 @@ use Rattle.bmff_fragment.specs.declared.slot.Slot.{Slot}
 pub record IsAscending (ks : List DataRange) : Type 0 where
   pub starts : IsNonDecreasingBy (λ k. k.start) ks
   pub ends : IsNonDecreasingBy (λ k. k.end) ks
+
+-- each slot that lies inside this range lies inside one of them
+abbrev pub IsAmong : List DataRange → DataRange → Type 0
+IsAmong known range =
+    (s : Slot) → range.start ≤ s.start → s.end ≤ range.end → lies_in known s ≡ true
 
 -- the data ranges that a place of the walk sees come in order
 abbrev pub SeesAscending : code.ParserMode → List DataRange → Type 0

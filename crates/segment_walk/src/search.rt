@@ -1,18 +1,70 @@
-ghost use Rattle.std.specs.Prelude.{◌≡◌};
-ghost use Rattle.segment_walk.specs.Moves.{lies_in as lying};
-ghost use Rattle.segment_walk.specs.Ranges.{IsAscending};
+ghost use Rattle.std.specs.Prelude.{◌≡◌, is_some, IfSome};
+ghost use Rattle.std.specs.List.{prefix_len};
+ghost use Rattle.segment_walk.specs.Moves.{lies_in as lying, is_ready};
+ghost use Rattle.segment_walk.specs.Ranges.{IsAmong, IsAscending};
 
 use crate::kinds::DataRange;
 use bmff_fragment::Slot;
 
-/// Whether a slot lies inside one of the data ranges, by binary search.
+/// The data range in which a slot lies, by binary search.
+fn range_of(known: &[DataRange], slot: &Slot) -> Option<DataRange>
+    requires { IsAscending known.now }
+    ensures found { is_some result ≡ lying known.now slot.now }
+    ensures among { IfSome result (IsAmong known.now) }
+{
+    let begun = known.partition_point(|range| range.start <= slot.start);
+    if begun == 0 {
+        return None;
+    }
+    let range = known[begun - 1];
+    if slot.end <= range.end {
+        Some(range)
+    } else {
+        None
+    }
+}
+
+/// As `range_of`; the range `near` is looked at first.
+fn range_near(near: DataRange, known: &[DataRange], slot: &Slot) -> Option<DataRange>
+    requires ascending { IsAscending known.now }
+    requires among { IsAmong known.now near }
+    ensures found { is_some result ≡ lying known.now slot.now }
+    ensures among { IfSome result (IsAmong known.now) }
+{
+    if near.start <= slot.start && slot.end <= near.end {
+        return Some(near);
+    }
+    range_of(known, slot)
+}
+
+/// Whether a slot lies inside one of the data ranges.
 pub(crate) fn lies_in(known: &[DataRange], slot: &Slot) -> bool
     requires { IsAscending known.now }
     ensures { result ≡ lying known.now slot.now }
 {
-    let begun = known.partition_point(|range| range.start <= slot.start);
-    if begun == 0 {
-        return false;
+    range_of(known, slot).is_some()
+}
+
+/// How many of the slots in front lie inside one of the data ranges and end within the first `there` bytes. Mostly
+/// they lie in one range.
+pub fn count_ready(slots: &[Slot], known: &[DataRange], there: u64) -> usize
+    requires { IsAscending known.now }
+    ensures { result ≡ prefix_len (is_ready there known.now) slots.now }
+{
+    let Some(first) = known.first() else {
+        return 0;
+    };
+    let mut near = *first;
+    let mut count = 0;
+    for slot in slots {
+        let Some(range) = range_near(near, known, slot) else {
+            return count;
+        };
+        if there < slot.end {
+            return count;
+        }
+        near = range;
+        count += 1;
     }
-    slot.end <= known[begun - 1].end
+    count
 }

@@ -3,7 +3,8 @@ use Rattle.std.specs.List.{concat}
 use Rattle.segment_walk.specs.declared.kinds.BoxStep.TheVariants as step
 use Rattle.segment_walk.specs.declared.kinds.Fragment.{Fragment}
 use Rattle.segment_walk.specs.Ranges.{mode_of}
-use Rattle.segment_stream.proofs.Acts.{is_active, fits, rests-wait, rests-fail, rests-end, rests-init, rests-plan, moved-skip, moved-plan, moved-data, moved-next, moved-frame, plan-is, plan-none, ordered-is}
+use Rattle.segment_stream.proofs.Acts.{is_active, fits, rests-wait, rests-fail, rests-end, rests-init, rests-plan, moved-skip, moved-plan, moved-data, moved-next, plan-is, plan-none, ordered-is}
+use Rattle.segment_stream.proofs.ReadyRow.{gives-within, moved-frames}
 use Rattle.segment_stream.proofs.moves.act_on.Goals as goal
 
 pub plan-requires-clause-inside : goal.plan-requires-clause-inside
@@ -104,4 +105,18 @@ returns-in-GiveFrame-clause-ok c =
     let bytes = concat c.args.input.now in
     let rest = drop at.from bytes in
     let a = is_active tables at.position.mode c.requires.active in
-    rw (c.in_mode-next.ensures, c.fragment-open.ensures) (moved-frame c.args.last.now at.position.mode at.position.offset at.from at.first at.ready at.want at.position.failed tables bytes _ c.requires.going c.requires.active c.requires.consistent c.in-GiveFrame.ensures)
+    rw (c.behind_frames.ensures, c.fragment-open.ensures) (moved-frames c.args.last.now at.position.mode at.position.offset at.from at.first at.ready at.want at.position.failed tables bytes _ c.requires.going c.requires.active c.requires.consistent c.in-GiveFrame.ensures)
+
+pub behind_frames-requires-clause-counted : goal.behind_frames-requires-clause-counted
+behind_frames-requires-clause-counted c =
+    let at = c.args.at in
+    let rest = drop at.from (concat c.args.input.now) in
+    let g = gives-within c.args.last.now at.position.mode rest at.first at.ready c.args.tables.now _ c.requires.active c.requires.consistent.counts c.in-GiveFrame.ensures in
+    rw c.fragment-open.ensures g.0
+
+pub behind_frames-requires-clause-there : goal.behind_frames-requires-clause-there
+behind_frames-requires-clause-there c =
+    let at = c.args.at in
+    let rest = drop at.from (concat c.args.input.now) in
+    let g = gives-within c.args.last.now at.position.mode rest at.first at.ready c.args.tables.now _ c.requires.active c.requires.consistent.counts c.in-GiveFrame.ensures in
+    rw c.fragment-open.ensures g.1
