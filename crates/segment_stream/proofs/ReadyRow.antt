@@ -98,4 +98,3 @@ moved-frames last m offset from first ready want failed tables bytes slot f g fi
     let x : i.taken + 1 + n ≡ i.taken + (1 + n) = omega arith in
     let y : ready + 1 + n ≡ ready + (1 + n) = omega arith in
     rw (sym x, sym y) (more-frames last (with_tables r tables) i (i.taken + 1) offset from first (ready + 1) tables bytes n (moved-frame last m offset from first ready want failed tables bytes slot f g fine e) (λ k l. ready-at (length bytes - from) (length (drop from bytes)) (take i.known tables.known.items) tables.slots.items (i.taken + 1) k (sym (length-drop from bytes)) l))
-

@@ -176,8 +176,8 @@ fn behind_frames(at: Progress, fragment: Fragment, tables: &Tables, input: &Chun
     requires inside { at.from ≤ length (concat input.now) }
     requires counted { IsCounted fragment tables.now at.first at.ready }
     requires there { fragment.taken < length tables.now.slots.items }
-    ensures { result ≡ with_taken at fragment (1 + ready_behind (length (concat input.now) - at.from)
-        fragment tables.now) }
+    ensures { result ≡ with_taken at fragment
+        (1 + ready_behind (length (concat input.now) - at.from) fragment tables.now) }
 {
     let (_, slots) = tables.slots.as_slice().split_at(fragment.taken + 1);
     let (known, _) = tables.known.as_slice().split_at(fragment.known);
