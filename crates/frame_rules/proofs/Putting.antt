@@ -1,5 +1,5 @@
 -- A track buffer stays sound where a frame is put into it or dropped.
-use Rattle.std.proofs.Common.{◌^◌, length, ◌≡◌, ◌<◌, ◌≤◌, ◌+◌, ◌+ℤ◌, ℕ, ℤ, pos, ◌≤ℤ◌, Bool, true, false, not, cond, ◌&&◌, List, [], ◌∷◌, ◌++◌, refl, sym, subst, inl, inr, ◌⊎◌, arith, Option, Some, None, unwrap_or, int_lt}
+use Rattle.std.proofs.Common.{◌^◌, length, ◌≡◌, ◌∙◌, ap, ◌<◌, ◌≤◌, ◌+◌, ◌+ℤ◌, ℕ, ℤ, pos, ◌≤ℤ◌, Bool, true, false, not, cond, ◌&&◌, List, [], ◌∷◌, ◌++◌, refl, sym, subst, inl, inr, ◌⊎◌, arith, Option, Some, None, unwrap_or, int_lt}
 use Rattle.std.proofs.lemmas.Int.{ints}
 use Rattle.std.proofs.lemmas.List.Sums.{sum_by_push}
 use Rattle.std.specs.Option.{IfSome}
@@ -7,6 +7,7 @@ use Rattle.std.specs.Int.{int_max}
 use Rattle.std.specs.List.{AllByRecursion}
 use Rattle.mse_base.specs.declared.frame.CodedFrame.{CodedFrame}
 use Rattle.track_store.specs.declared.store.Stored.{Stored}
+use Rattle.track_store.specs.declared.tracks.Marks.{Marks}
 use Rattle.track_store.specs.Frames.{bytes_of, IsTimed}
 use Rattle.track_store.specs.State.{TrackState}
 use Rattle.track_store.specs.Sound.{Sound, HasPredecessor, IsNext, last_serial, IsNotNegative, AreTogether}
@@ -20,7 +21,7 @@ use Rattle.frame_rules.specs.declared.answer.Why.TheVariants.{Window, NoSync}
 use Rattle.frame_rules.specs.Timing.{IsTimingOf}
 use Rattle.mse_base.specs.Moments.{is_after}
 use Rattle.track_store.proofs.Limits.{later_all, max_left, max_right}
-use Rattle.frame_rules.specs.Put.{drop_reason, track_after_drop, track_with_frame, stored_frame, track_after_frame, track_by_reason, answer_by_reason}
+use Rattle.frame_rules.specs.Put.{drop_reason, marks_after, track_after_drop, track_with_frame, stored_frame, track_after_frame, track_by_reason, answer_by_reason}
 use Rattle.frame_rules.specs.Place.{limit_after, settings_after_frame}
 
 -- a frame that is not dropped is a random access point where one is needed
@@ -147,3 +148,11 @@ end_by None w f limit t h timing low =
 
 pub end_put : (w : Timing) (f : CodedFrame) (limit : ℤ) (t : TrackState) → Sound t → IsTimingOf f w → AllEnd limit t.frames → AllEnd (limit_after (answer_by_reason (drop_reason w f.sync t.marks.need_sync)) limit (settings_after_frame (answer_by_reason (drop_reason w f.sync t.marks.need_sync)) w).group_end) (track_after_frame w f t).frames
 end_put w f limit t h timing low = end_by (drop_reason w f.sync t.marks.need_sync) w f limit t h timing low
+
+-- the track after a frame that is not dropped, step by step
+pub stored_is : (w : Timing) (f : CodedFrame) (t u : TrackState) (fs : List Stored) (x : Stored) (m : Marks) → drop_reason w f.sync t.marks.need_sync ≡ None → u ≡ track_with_room w.pts w.end t → fs ≡ u.frames ++ x ∷ [] → x ≡ stored_frame w u.marks.received f → m ≡ marks_after w f.dur u.marks → record u { frames = fs; marks = m } ≡ track_after_frame w f t
+stored_is w f t u fs x m kept room frames stored marks =
+    ap (λ (gs : List Stored). record u { frames = gs; marks = m }) (frames ∙ ap (λ (y : Stored). u.frames ++ y ∷ []) stored)
+    ∙ ap (λ (n : Marks). record u { frames = u.frames ++ stored_frame w u.marks.received f ∷ []; marks = n }) marks
+    ∙ ap (λ (v : TrackState). record v { frames = v.frames ++ stored_frame w v.marks.received f ∷ []; marks = marks_after w f.dur v.marks }) room
+    ∙ ap (λ (why : Option Why). track_by_reason why w f t) (sym kept)

@@ -1,3 +1,4 @@
 pub mod Timing
+pub mod Plain
 pub mod Put
 pub mod Place

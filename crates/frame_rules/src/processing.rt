@@ -1,14 +1,15 @@
-ghost use Rattle.std.specs.Prelude.{◌≡◌, ◌+◌, ◌<◌, ◌≤◌, ◌^◌, ℕ, ℤ, pos, ◌≤ℤ◌, ◌||◌, length, map, slice_get, slice_set, IfSome};
+ghost use Rattle.std.specs.Prelude.{◌≡◌, ◌+◌, ◌<◌, ◌≤◌, ◌^◌, ℕ, ℤ, pos, ◌≤ℤ◌, ◌||◌, length, map, slice_get, slice_set, false, Some, IfSome, OnSome};
 ghost use Rattle.track_store.specs.State.{state_of, states_of};
 ghost use Rattle.track_store.specs.Sound.{Sound};
 ghost use Rattle.track_store.specs.Kept.{bytes_in, AreKept, AreStillSound, HasRoom, gaps_of, AreEndedBy};
 ghost use Rattle.frame_rules.specs.Put.{drop_reason, track_after_frame, answer_by_reason};
+ghost use Rattle.frame_rules.specs.Plain.{timing_by};
 ghost use Rattle.frame_rules.specs.Timing.{timing_of, IsTimingOf};
 ghost use Rattle.frame_rules.specs.Place.{marks_after_reset, with_reset_marks, is_over_limit, settings_after_frame, new_placement, placement, placement_at_times, placement_by_times, IsReady, IsRoomTakenAt, limit_after};
 
 use crate::answer::Placed;
 use crate::storing::put;
-use crate::timing::{Timing, timing_of};
+use crate::timing::{Times, Timing, plain_times, timing_of};
 use mse_base::CodedFrame;
 use track_store::{FrameStore, Marks, Settings, Tracks};
 
@@ -96,6 +97,23 @@ fn timing_at<S: FrameStore>(
     }
 }
 
+/// The times of a plain frame of the track at a place.
+fn plain_times_at<S: FrameStore>(
+    tracks: &Tracks<S>,
+    settings: &Settings,
+    index: usize,
+    frame: &CodedFrame,
+) -> Option<Times>
+    ensures timing { IfSome (slice_get tracks.now.items index) (λ t. IfSome result
+        (λ w. Some (timing_by settings.now w) ≡ timing_of settings.now t.marks frame.now)) }
+    ensures generate { OnSome result (settings.now.generate ≡ false) }
+{
+    match tracks.get(index) {
+        Some(track) => plain_times(settings, &track.marks, frame),
+        None => None,
+    }
+}
+
 /// The settings after a frame: steps 1.20 and 1.21.
 fn settings_after_frame(timing: &Timing, answer: &Placed) -> Settings
     ensures { result ≡ settings_after_frame answer.now timing.now }
@@ -110,31 +128,42 @@ fn settings_after_frame(timing: &Timing, answer: &Placed) -> Settings
     settings
 }
 
+/// Steps 1.20 and 1.21 after a plain frame.
+fn raise_group_end(settings: &mut Settings, times: &Times, answer: &Placed)
+    requires { settings.old.generate ≡ false }
+    ensures { settings.new ≡ settings_after_frame answer.now (timing_by settings.old times.now) }
+{
+    if let Placed::Stored = answer {
+        settings.group_end = settings.group_end.max(times.end);
+    }
+}
+
 /// Puts a frame into the track buffer at a place, or drops it.
 fn put_at<S: FrameStore>(
     tracks: &mut Tracks<S>,
+    settings: &Settings,
     index: usize,
-    timing: &Timing,
+    times: &Times,
     frame: CodedFrame,
 ) -> Placed
     requires in_range { index < length tracks.old.items }
     requires ready { IfSome (slice_get tracks.old.items index)
         (λ t. IsReady S.frames S.spare (length frame.payload) t) }
     requires dur_not_negative { pos 0 ≤ℤ frame.dur }
-    requires timed { IsTimingOf frame timing.now }
+    requires timed { IsTimingOf frame (timing_by settings.now times.now) }
     ensures states { IfSome (slice_get tracks.old.items index)
         (λ t. states_of S.frames tracks.new.items
         ≡ slice_set (states_of S.frames tracks.old.items) index
-        (track_after_frame timing.now frame (state_of S.frames t))) }
+        (track_after_frame (timing_by settings.now times.now) frame (state_of S.frames t))) }
     ensures answer { IfSome (slice_get tracks.old.items index) (λ t. result
-        ≡ answer_by_reason (drop_reason timing.now frame.sync
+        ≡ answer_by_reason (drop_reason (timing_by settings.now times.now) frame.sync
         t.marks.need_sync)) }
     ensures spare { IsRoomTakenAt S.spare index tracks.old.items tracks.new.items }
     ensures gaps { gaps_of S.gap tracks.new.items ≡ gaps_of S.gap tracks.old.items }
     ensures places { tracks.new.spare ≡ tracks.old.spare }
 {
     match tracks.get_mut(index) {
-        Some(track) => put(track, timing, frame),
+        Some(track) => put(track, times, settings, frame),
         None => Placed::Counts,
     }
 }
@@ -159,9 +188,67 @@ fn place_at_times<S: FrameStore>(
     ensures places { tracks.new.spare ≡ tracks.old.spare }
 {
     reset_where_due(tracks, timing);
-    let answer = put_at(tracks, index, timing, frame);
+    let times = Times {
+        pts: timing.pts,
+        dts: timing.dts,
+        end: timing.end,
+    };
+    let answer = put_at(tracks, &timing.settings, index, &times, frame);
     *settings = settings_after_frame(timing, &answer);
     answer
+}
+
+/// Places a plain frame: no other track changes, and of the settings the group end alone.
+fn place_plain<S: FrameStore>(
+    tracks: &mut Tracks<S>,
+    settings: &mut Settings,
+    index: usize,
+    times: &Times,
+    frame: CodedFrame,
+) -> Placed
+    requires in_range { index < length tracks.old.items }
+    requires ready { IfSome (slice_get tracks.old.items index)
+        (λ t. IsReady S.frames S.spare (length frame.payload) t) }
+    requires dur_not_negative { pos 0 ≤ℤ frame.dur }
+    requires timed { IsTimingOf frame (timing_by settings.old times.now) }
+    requires generate { settings.old.generate ≡ false }
+    ensures placement { new_placement result (states_of S.frames tracks.new.items) settings.new
+        ≡ placement_at_times (timing_by settings.old times.now) frame index
+        (states_of S.frames tracks.old.items) }
+    ensures spare { IsRoomTakenAt S.spare index tracks.old.items tracks.new.items }
+    ensures gaps { gaps_of S.gap tracks.new.items ≡ gaps_of S.gap tracks.old.items }
+    ensures places { tracks.new.spare ≡ tracks.old.spare }
+{
+    let answer = put_at(tracks, settings, index, times, frame);
+    raise_group_end(settings, times, &answer);
+    answer
+}
+
+/// Places a frame by its timing, whichever it is.
+#[cold]
+#[inline(never)]
+fn place_by_timing<S: FrameStore>(
+    tracks: &mut Tracks<S>,
+    settings: &mut Settings,
+    index: usize,
+    frame: CodedFrame,
+) -> Placed
+    requires in_range { index < length tracks.old.items }
+    requires ready { IfSome (slice_get tracks.old.items index)
+        (λ t. IsReady S.frames S.spare (length frame.payload) t) }
+    requires dur_not_negative { pos 0 ≤ℤ frame.dur }
+    ensures placement { IfSome (slice_get tracks.old.items index)
+        (λ t. new_placement result (states_of S.frames tracks.new.items) settings.new
+        ≡ placement_by_times (timing_of settings.old t.marks frame) settings.old frame index
+        (states_of S.frames tracks.old.items)) }
+    ensures spare { IsRoomTakenAt S.spare index tracks.old.items tracks.new.items }
+    ensures gaps { gaps_of S.gap tracks.new.items ≡ gaps_of S.gap tracks.old.items }
+    ensures places { tracks.new.spare ≡ tracks.old.spare }
+{
+    match timing_at(tracks, settings, index, &frame) {
+        Some(timing) => place_at_times(tracks, settings, index, &timing, frame),
+        None => Placed::TimeRange,
+    }
 }
 
 /// Places a frame whose counts stay below their limits.
@@ -183,9 +270,9 @@ fn place_below_limits<S: FrameStore>(
     ensures gaps { gaps_of S.gap tracks.new.items ≡ gaps_of S.gap tracks.old.items }
     ensures places { tracks.new.spare ≡ tracks.old.spare }
 {
-    match timing_at(tracks, settings, index, &frame) {
-        Some(timing) => place_at_times(tracks, settings, index, &timing, frame),
-        None => Placed::TimeRange,
+    match plain_times_at(tracks, settings, index, &frame) {
+        Some(times) => place_plain(tracks, settings, index, &times, frame),
+        None => place_by_timing(tracks, settings, index, frame),
     }
 }
 

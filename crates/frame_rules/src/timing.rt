@@ -1,8 +1,20 @@
-ghost use Rattle.std.specs.Prelude.{◌≡◌, ◌||◌, ◌&&◌, ◌+ℤ◌, ◌-ℤ◌, ◌*ℤ◌, pos, Some, None, is_some};
+ghost use Rattle.std.specs.Prelude.{◌≡◌, ◌||◌, ◌&&◌, ◌+ℤ◌, ◌-ℤ◌, ◌*ℤ◌, pos, false, Some, None, is_some, IfSome, OnSome};
+ghost use Rattle.frame_rules.specs.Plain.{timing_by};
 ghost use Rattle.frame_rules.specs.Timing.{raw_time, settings_at_group_start, has_group_start, timing_in_pass, is_discontinuous, settings_after_discontinuity, timing_of};
 
 use mse_base::{CodedFrame, Ticks};
 use track_store::{Marks, Settings};
+
+/// The times of a frame in its track buffer.
+#[derive(Clone, Copy)]
+pub struct Times {
+    /// The presentation timestamp.
+    pub pts: Ticks,
+    /// The decode timestamp.
+    pub dts: Ticks,
+    /// The frame end timestamp.
+    pub end: Ticks,
+}
 
 /// The times at which a frame is to be placed, and what finding them changes.
 #[derive(Clone, Copy)]
@@ -120,4 +132,24 @@ pub fn timing_of(settings: &Settings, marks: &Marks, frame: &CodedFrame) -> Opti
     let mut second = timing_in_pass(&settings, frame)?;
     second.discontinuity = true;
     Some(second)
+}
+
+/// The times of a plain frame, which changes no settings before it is placed: in mode "segments",
+/// its timestamps are not generated, and it follows no discontinuity. `None` for other frames, and
+/// where a time is out of range.
+pub fn plain_times(settings: &Settings, marks: &Marks, frame: &CodedFrame) -> Option<Times>
+    ensures timing { IfSome result (λ w. Some (timing_by settings.now w)
+        ≡ timing_of settings.now marks.now frame.now) }
+    ensures generate { OnSome result (settings.now.generate ≡ false) }
+{
+    if settings.sequence || settings.generate {
+        return None;
+    }
+    let pts = frame.pts.checked_add(settings.offset)?;
+    let dts = frame.dts.checked_add(settings.offset)?;
+    let end = pts.checked_add(frame.dur)?;
+    if is_discontinuous(marks, dts) {
+        return None;
+    }
+    Some(Times { pts, dts, end })
 }
