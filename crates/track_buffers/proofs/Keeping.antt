@@ -1,5 +1,5 @@
 -- What steps keep of the tracks.
-use Rattle.std.proofs.Common.{◌≡◌, ℕ, ℤ, zero, suc, ◌+◌, ◌<◌, ◌≤◌, ◌^◌, Bool, true, List, [], ◌∷◌, ◌++◌, length, map, take, drop, filter, get_or, slice_get, Option, Some, None, Result, Ok, Err, refl, sym, ap, ◌∙◌, subst, arith, append_assoc, pos, ◌+ℤ◌, ◌-ℤ◌, ◌≤ℤ◌}
+use Rattle.std.proofs.Common.{◌≡◌, ℕ, ℤ, zero, suc, ◌+◌, ◌-◌, ◌<◌, ◌≤◌, ◌^◌, Bool, true, List, [], ◌∷◌, ◌++◌, length, map, take, drop, filter, get_or, slice_get, Option, Some, None, Result, Ok, Err, refl, sym, ap, ◌∙◌, subst, arith, append_assoc, pos, ◌+ℤ◌, ◌-ℤ◌, ◌≤ℤ◌}
 use Rattle.std.specs.List.{AllByRecursion}
 use Rattle.std.specs.Option.{IfSome}
 use Rattle.std.specs.Result.{OnOk, IfOk}
@@ -163,6 +163,23 @@ room_all spare n (t ∷ ts) h = (omega arith, room_all spare n ts (omega arith))
 pub all_room : {S : Type 0} (spare : S → ℕ) (n : ℕ) (ts : List (Track S)) → n ≤ 2 ^ 64 → HasRoom spare n ts → n ≤ room_of spare ts
 all_room spare n [] most h = most
 all_room spare n (t ∷ ts) most h = let rest = all_room spare n ts most h.1 in let own = h.0 in omega arith
+
+pub room_fewer : {S : Type 0} (spare : S → ℕ) (n m : ℕ) (ts : List (Track S)) → n ≤ m → HasRoom spare m ts → HasRoom spare n ts
+room_fewer spare n m [] less h = tt
+room_fewer spare n m (t ∷ ts) less h = (let own = h.0 in omega arith, room_fewer spare n m ts less h.1)
+
+pub room_none : {S : Type 0} (spare : S → ℕ) (ts : List (Track S)) → HasRoom spare 0 ts
+room_none spare [] = tt
+room_none spare (t ∷ ts) = (omega arith, room_none spare ts)
+
+-- room for some frames where there is room for more
+pub room_within : {S : Type 0} (spare : S → ℕ) (n m : ℕ) (ts : List (Track S)) → n ≤ m → n ≤ 2 ^ 64 → HasRoom spare m ts → n ≤ room_of spare ts
+room_within spare n m ts less most h = all_room spare n ts most (room_fewer spare n m ts less h)
+
+-- what is left of known room after a step that takes room for one frame
+pub room_one_less : {S : Type 0} (spare : S → ℕ) (ts us : List (Track S)) (n : ℕ) → ((k : ℕ) → HasRoom spare (k + 1) ts → HasRoom spare k us) → HasRoom spare n ts → HasRoom spare (n - 1) us
+room_one_less spare ts us zero keep h = room_none spare us
+room_one_less spare ts us (suc n) keep h = room_fewer spare (suc n - 1) n us (omega arith) (keep n (room_fewer spare (n + 1) (suc n) ts (omega arith) h))
 
 -- a step that keeps the room of each store
 pub room_kept_by : {S : Type 0} (spare : S → ℕ) (ts us : List (Track S)) → ((n : ℕ) → HasRoom spare n ts → HasRoom spare n us) → room_of spare ts ≤ room_of spare us

@@ -15,3 +15,4 @@ pub mod Bounding
 pub mod Renewing
 pub mod Highest
 pub mod Ended
+pub mod Steady

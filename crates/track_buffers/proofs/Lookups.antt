@@ -1,5 +1,5 @@
 -- The range that holds a time, where the last one lasts to an end, and in the meet of some lists.
-use Rattle.std.proofs.Common.{◌≡◌, ◌∙◌, ℕ, ℤ, ◌+◌, ◌<◌, ◌≤◌, ◌<ℤ◌, ◌≤ℤ◌, true, false, cond, List, [], ◌∷◌, length, take, slice_get, Option, Some, None, int_le, refl, sym, ap, subst, arith}
+use Rattle.std.proofs.Common.{◌≡◌, ◌∙◌, ℕ, ℤ, ◌+◌, ◌<◌, ◌≤◌, ◌<ℤ◌, ◌≤ℤ◌, Bool, true, false, cond, List, [], ◌∷◌, length, take, slice_get, Option, Some, None, int_le, refl, sym, ap, subst, arith}
 use Rattle.std.specs.List.{AllByRecursion, find}
 use Rattle.std.specs.Option.{IfSome}
 use Rattle.std.specs.Int.{int_max}
@@ -9,7 +9,7 @@ use Rattle.mse_base.specs.Spans.{reaches, IsNormalized, last_from, last_of}
 use Rattle.mse_base.specs.Meets.{meet_of_all, overlap_of_two}
 use Rattle.mse_base.proofs.Meeting.{all_normalized, meet_push}
 use Rattle.mse_base.proofs.Holding.{find-meet}
-use Rattle.track_buffers.specs.Buffered.{with_last_end}
+use Rattle.track_buffers.specs.Buffered.{with_last_end, with_common_end}
 use Rattle.track_buffers.proofs.Loops.{found_at}
 use Rattle.track_buffers.proofs.Ranging.{all_here, all_front, lasting_to, last_after}
 
@@ -86,6 +86,15 @@ held_more t rs i held own next low some all so_far h is =
 pub held_first : (t : ℤ) (rs : List (List Span)) (own : Option Span) → 1 ≤ length rs → IfSome (slice_get rs 0) (λ r. own ≡ find (reaches t) r) → own ≡ find (reaches t) (meet_of_all (take 1 rs))
 held_first t [] own low h = absurd (omega arith)
 held_first t (r ∷ rs) own low h = h
+
+held_one : (t : ℤ) (rs : List (List Span)) (own : Option Span) → length rs ≡ 1 → IfSome (slice_get rs 0) (λ r. own ≡ find (reaches t) r) → own ≡ find (reaches t) (meet_of_all rs)
+held_one t [] own one h = absurd (omega arith)
+held_one t (r ∷ []) own one h = h
+held_one t (r ∷ q ∷ rs) own one h = absurd (omega arith)
+
+-- where there is one list and the source is not ended, its own range is the one of all
+pub held_alone : (t : ℤ) (rs : List (List Span)) (ended : Bool) (own : Option Span) → ended ≡ false → length rs ≡ 1 → IfSome (slice_get rs 0) (λ r. own ≡ find (reaches t) r) → own ≡ find (reaches t) (meet_of_all (with_common_end ended rs))
+held_alone t rs ended own is one h = rw is (held_one t rs own one h)
 
 pub held_none : (t : ℤ) (rs : List (List Span)) → length rs ≡ 0 → None ≡ find (reaches t) (meet_of_all rs)
 held_none t [] e = refl

@@ -19,7 +19,7 @@ use crate::frames::{place_of, process_at, unset_all};
 use crate::holding::{ended_last_span, span_holding};
 use crate::incoming::{init_fault, segment_effect, take_tracks};
 use crate::looks::{highest_end, highest_start, track_views};
-use crate::rooms::reserve_all;
+use crate::rooms::reserve_ahead;
 use eviction::evict;
 use mse_base::{CodedFrame, Moment, OutOfMemory, Presentation, Ranges, Span, Ticks};
 use mse_calls::TrackViews;
@@ -41,10 +41,12 @@ pub struct TrackBuffers<S: FrameStore> {
     settings: Settings,
     pending: bool,
     gap: Ticks,
+    /// For how many more frames each store has room at least.
+    ahead: usize,
 }
 
 impl<S: FrameStore> Model for TrackBuffers<S> {
-    ghost use Rattle.track_store.specs.Kept.{gaps_of};
+    ghost use Rattle.track_store.specs.Kept.{HasRoom, gaps_of};
     ghost use Rattle.track_store.specs.State.{states_of};
     ghost use Rattle.track_buffers.specs.Media.{MediaView, media_of, room_of, IsSteady};
 
@@ -57,7 +59,8 @@ impl<S: FrameStore> Model for TrackBuffers<S> {
     } };
 
     ghost invariant = { λ b. IsSteady (states_of S.frames b.tracks.items)
-        (gaps_of S.gap b.tracks.items) b.settings b.gap };
+        (gaps_of S.gap b.tracks.items) b.settings b.gap
+        × HasRoom S.spare b.ahead b.tracks.items };
 }
 
 impl<S: FrameStore> TrackBuffers<S> {
@@ -81,6 +84,7 @@ impl<S: FrameStore> TrackBuffers<S> {
             },
             pending: false,
             gap,
+            ahead: 0,
         }
     }
 
@@ -91,7 +95,11 @@ impl<S: FrameStore> TrackBuffers<S> {
         ensures room { self.old.room ≤ self.new.room }
         ensures places { self.new.places ≡ self.old.places }
     {
-        reserve_all(&mut self.tracks, n)
+        if n <= self.ahead {
+            return Ok(());
+        }
+        self.ahead = reserve_ahead(&mut self.tracks, n)?;
+        Ok(())
     }
 
     /// Makes room for `n` more tracks.
@@ -139,6 +147,7 @@ impl<S: FrameStore> TrackBuffers<S> {
                 let activated = self.tracks.len() == 0;
                 let news = presentation.tracks.as_slice();
                 take_tracks(&mut self.tracks, self.alloc, self.gap, news);
+                self.ahead = 0;
                 self.pending = false;
                 MediaEffect::Done(SourceEffect {
                     duration_changes: effect.duration_changes,
@@ -167,7 +176,10 @@ impl<S: FrameStore> TrackBuffers<S> {
         ensures places { self.new.places ≡ self.old.places }
     {
         match place_of(&self.tracks, frame.track_id) {
-            Some(i) => process_at(&mut self.tracks, &mut self.settings, i, frame, &duration),
+            Some(i) => {
+                self.ahead = self.ahead.saturating_sub(1);
+                process_at(&mut self.tracks, &mut self.settings, i, frame, &duration)
+            }
             None => MediaEffect::Done(no_effect(&duration)),
         }
     }

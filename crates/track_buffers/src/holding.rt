@@ -74,7 +74,8 @@ pub fn overlap_of_two(x: Option<Span>, y: Option<Span>) -> Option<Span>
 }
 
 /// The buffered range of tracks that holds a time: one look-up in each track.
-pub(crate) fn span_holding<S: FrameStore>(tracks: &Tracks<S>, t: Ticks, ended: bool) -> Option<Span>
+#[inline(never)]
+fn shared_span_holding<S: FrameStore>(tracks: &Tracks<S>, t: Ticks, ended: bool) -> Option<Span>
     requires { AllByRecursion (λ g. pos 0 ≤ℤ g) (gaps_of S.gap tracks.now.items) }
     ensures { result ≡ find (reaches t)
         (meet_of_all (with_common_end ended (ranges_in S.frames S.gap tracks.now.items))) }
@@ -90,6 +91,30 @@ pub(crate) fn span_holding<S: FrameStore>(tracks: &Tracks<S>, t: Ticks, ended: b
     span
 }
 
+/// The range that holds a time of the track at a place.
+fn own_span_at<S: FrameStore>(tracks: &Tracks<S>, i: usize, t: Ticks) -> Option<Span>
+    ensures { IfSome (slice_get (ranges_in S.frames S.gap tracks.now.items) i)
+        (λ r. result ≡ find (reaches t) r) }
+{
+    match tracks.get(i) {
+        Some(track) => track.store.span_holding(t),
+        None => None,
+    }
+}
+
+/// The buffered range of tracks that holds a time. That of one track is its own where the source is
+/// not ended.
+pub(crate) fn span_holding<S: FrameStore>(tracks: &Tracks<S>, t: Ticks, ended: bool) -> Option<Span>
+    requires { AllByRecursion (λ g. pos 0 ≤ℤ g) (gaps_of S.gap tracks.now.items) }
+    ensures { result ≡ find (reaches t)
+        (meet_of_all (with_common_end ended (ranges_in S.frames S.gap tracks.now.items))) }
+{
+    if !ended && tracks.len() == 1 {
+        return own_span_at(tracks, 0, t);
+    }
+    shared_span_holding(tracks, t, ended)
+}
+
 /// The last buffered range of tracks, where the source is ended: the one that holds the highest end
 /// of all, to which the last range of each track lasts.
 pub(crate) fn ended_last_span<S: FrameStore>(tracks: &Tracks<S>) -> Option<Span>
@@ -98,7 +123,7 @@ pub(crate) fn ended_last_span<S: FrameStore>(tracks: &Tracks<S>) -> Option<Span>
         (meet_of_all (with_common_end true (ranges_in S.frames S.gap tracks.now.items))) }
 {
     match highest_range_end(tracks) {
-        Some(end) => span_holding(tracks, end, true),
+        Some(end) => shared_span_holding(tracks, end, true),
         None => None,
     }
 }

@@ -7,7 +7,7 @@ use Rattle.track_buffers.proofs.holding.ended_last_span.Goals as goal
 pub returns-in-Some : goal.returns-in-Some
 returns-in-Some g c =
     let rs = ranges_in {S = g.row.S.Denot} g.S.FrameStore.frames g.S.FrameStore.gap c.args.tracks.now.items in
-    c.span_holding.ensures ∙ last_shared rs c.in-Some.end (ranges_all g.S.FrameStore.frames g.S.FrameStore.gap c.args.tracks.now.items c.requires) (sym c.highest_range_end.ensures ∙ c.in-Some.is)
+    c.shared_span_holding.ensures ∙ last_shared rs c.in-Some.end (ranges_all g.S.FrameStore.frames g.S.FrameStore.gap c.args.tracks.now.items c.requires) (sym c.highest_range_end.ensures ∙ c.in-Some.is)
 
 pub returns-in-None : goal.returns-in-None
 returns-in-None g c =

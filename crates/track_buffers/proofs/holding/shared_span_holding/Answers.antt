@@ -9,7 +9,7 @@ use Rattle.track_store.specs.Frames.{ranges_of}
 use Rattle.track_buffers.specs.Buffered.{with_end, with_common_end, ranges_in}
 use Rattle.track_buffers.proofs.Ranging.{grown_all, ranges_all}
 use Rattle.track_buffers.proofs.Lookups.{held_first, held_more, held_none}
-use Rattle.track_buffers.proofs.holding.span_holding.Goals as goal
+use Rattle.track_buffers.proofs.holding.shared_span_holding.Goals as goal
 
 pub loop-i-preserved : goal.loop-i-preserved
 loop-i-preserved g c =

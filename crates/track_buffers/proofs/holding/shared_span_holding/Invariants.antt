@@ -3,7 +3,7 @@ use Rattle.std.specs.List.{find}
 use Rattle.mse_base.specs.Spans.{reaches}
 use Rattle.mse_base.specs.Meets.{meet_of_all}
 use Rattle.track_buffers.specs.Buffered.{with_end, ranges_in}
-use Rattle.track_buffers.proofs.holding.span_holding.Given as goal
+use Rattle.track_buffers.proofs.holding.shared_span_holding.Given as goal
 
 abbrev pub invariant-loop-i : goal.invariant-loop-i
 invariant-loop-i g l = record {

@@ -9,7 +9,7 @@ use Rattle.track_buffers.proofs.Keeping.{gaps_forward}
 use Rattle.track_buffers.proofs.buffers.TrackBuffers.buffered.Goals as goal
 
 pub buffered_of-requires : goal.buffered_of-requires
-buffered_of-requires g c = gaps_forward c.self.inside.gap (gaps_of g.S.FrameStore.gap c.self.inside.tracks.items) c.self.invariant.gap_not_negative c.self.invariant.gaps_are
+buffered_of-requires g c = gaps_forward c.self.inside.gap (gaps_of g.S.FrameStore.gap c.self.inside.tracks.items) c.self.invariant.0.gap_not_negative c.self.invariant.0.gaps_are
 
 pub returns-clause-spans : goal.returns-clause-spans
 returns-clause-spans g c =
@@ -17,10 +17,10 @@ returns-clause-spans g c =
     let G = g.S.FrameStore.gap in
     let b = c.self.inside in
     let m = media_of F b.tracks.items b.settings b.pending b.gap in
-    rw (← c.self.view_is) (ok_spans c.buffered_of.result (meet_of_all (with_common_end c.args.ended (ranges_in F G b.tracks.items))) (buffered_of c.args.ended m) (ap (λ (rs : List (List Span)). meet_of_all (with_common_end c.args.ended rs)) (ranges_same F G b.gap b.tracks.items c.self.invariant.gaps_are)) c.buffered_of.ensures)
+    rw (← c.self.view_is) (ok_spans c.buffered_of.result (meet_of_all (with_common_end c.args.ended (ranges_in F G b.tracks.items))) (buffered_of c.args.ended m) (ap (λ (rs : List (List Span)). meet_of_all (with_common_end c.args.ended rs)) (ranges_same F G b.gap b.tracks.items c.self.invariant.0.gaps_are)) c.buffered_of.ensures)
 
 pub returns-clause-ticks : goal.returns-clause-ticks
 returns-clause-ticks g c =
     let b = c.self.inside in
     let m = media_of g.S.FrameStore.frames b.tracks.items b.settings b.pending b.gap in
-    rw (← c.self.view_is) (ok_buffered c.buffered_of.result c.args.ended m c.self.invariant.gap_not_negative (rw (← c.self.view_is) at (returns-clause-spans g c)))
+    rw (← c.self.view_is) (ok_buffered c.buffered_of.result c.args.ended m c.self.invariant.0.gap_not_negative (rw (← c.self.view_is) at (returns-clause-spans g c)))

@@ -9,4 +9,4 @@ use Rattle.track_buffers.proofs.buffers.TrackBuffers.ended_last_span.Goals as go
 pub returns : goal.returns
 returns g c =
     let b = c.self.inside in
-    rw (← c.self.view_is) (c.ended_last_span.ensures ∙ ap (λ (rs : List (List Span)). last_of (meet_of_all (with_common_end true rs))) (ranges_same g.S.FrameStore.frames g.S.FrameStore.gap b.gap b.tracks.items c.self.invariant.gaps_are))
+    rw (← c.self.view_is) (c.ended_last_span.ensures ∙ ap (λ (rs : List (List Span)). last_of (meet_of_all (with_common_end true rs))) (ranges_same g.S.FrameStore.frames g.S.FrameStore.gap b.gap b.tracks.items c.self.invariant.0.gaps_are))

@@ -1,5 +1,8 @@
 use Rattle.track_store.specs.State.{states_of}
 use Rattle.track_buffers.proofs.Keeping.{ends_kept, room_kept_by}
+use Rattle.std.proofs.Common.{refl}
+use Rattle.track_store.specs.Kept.{gaps_of}
+use Rattle.track_buffers.proofs.Steady.{steady_by}
 use Rattle.track_buffers.proofs.buffers.TrackBuffers.evict.Goals as goal
 
 pub returns-clause-within_duration : goal.returns-clause-within_duration
@@ -9,3 +12,12 @@ returns-clause-within_duration g c = λ moment.
 
 pub returns-clause-room : goal.returns-clause-room
 returns-clause-room g c = rw (← c.self.view_is) (room_kept_by g.S.FrameStore.spare c.self.inside.tracks.items c.evict.new.tracks.items c.evict.ensures.room)
+
+pub invariant_of-self : goal.invariant_of-self
+invariant_of-self g c =
+    let F = g.S.FrameStore.frames in
+    let G = g.S.FrameStore.gap in
+    let b = c.self.inside in
+    let ts = b.tracks.items in
+    let us = c.evict.new.tracks.items in
+    (steady_by (states_of F ts) (states_of F us) (gaps_of G ts) (gaps_of G us) b.settings _ b.gap c.self.invariant.0 (c.evict.ensures.kept c.self.invariant.0.kept) c.evict.ensures.gaps c.self.invariant.0.window_start refl, c.evict.ensures.room b.ahead c.self.invariant.1)

@@ -1,7 +1,9 @@
-use Rattle.std.proofs.Common.{subst, sym, List}
+use Rattle.std.proofs.Common.{refl, subst, sym, List}
 use Rattle.track_store.specs.State.{TrackState, states_of}
 use Rattle.track_buffers.specs.Media.{EndsWithin}
 use Rattle.track_buffers.proofs.Keeping.{ends_unset, room_kept_by}
+use Rattle.track_store.specs.Kept.{gaps_of}
+use Rattle.track_buffers.proofs.Steady.{steady_by}
 use Rattle.track_buffers.proofs.buffers.TrackBuffers.reset_parser.Goals as goal
 
 pub returns-then-self-clause-within_duration : goal.returns-then-self-clause-within_duration
@@ -19,3 +21,21 @@ returns-then-self-clause-room g c = rw (← c.self.view_is) (room_kept_by g.S.Fr
 
 pub returns-else-self-clause-room : goal.returns-else-self-clause-room
 returns-else-self-clause-room g c = rw (← c.self.view_is) (room_kept_by g.S.FrameStore.spare c.self.inside.tracks.items c.unset_all.new.tracks.items c.unset_all.ensures.room)
+
+pub invariant_of-self : goal.invariant_of-self
+invariant_of-self g c =
+    let F = g.S.FrameStore.frames in
+    let G = g.S.FrameStore.gap in
+    let b = c.self.inside in
+    let ts = b.tracks.items in
+    let us = c.unset_all.new.tracks.items in
+    (steady_by (states_of F ts) (states_of F us) (gaps_of G ts) (gaps_of G us) b.settings _ b.gap c.self.invariant.0 (c.unset_all.ensures.kept c.self.invariant.0.kept) c.unset_all.ensures.gaps c.self.invariant.0.window_start refl, c.unset_all.ensures.room b.ahead c.self.invariant.1)
+
+pub invariant_of-self-else-self : goal.invariant_of-self-else-self
+invariant_of-self-else-self g c =
+    let F = g.S.FrameStore.frames in
+    let G = g.S.FrameStore.gap in
+    let b = c.self.inside in
+    let ts = b.tracks.items in
+    let us = c.unset_all.new.tracks.items in
+    (steady_by (states_of F ts) (states_of F us) (gaps_of G ts) (gaps_of G us) b.settings _ b.gap c.self.invariant.0 (c.unset_all.ensures.kept c.self.invariant.0.kept) c.unset_all.ensures.gaps c.self.invariant.0.window_start refl, c.unset_all.ensures.room b.ahead c.self.invariant.1)

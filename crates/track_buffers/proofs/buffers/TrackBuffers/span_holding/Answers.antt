@@ -12,4 +12,4 @@ use Rattle.track_buffers.proofs.buffers.TrackBuffers.span_holding.Goals as goal
 pub returns : goal.returns
 returns g c =
     let b = c.self.inside in
-    rw (← c.self.view_is) (c.span_holding.ensures ∙ ap (λ (rs : List (List Span)). find (reaches c.args.t) (meet_of_all (with_common_end c.args.ended rs))) (ranges_same g.S.FrameStore.frames g.S.FrameStore.gap b.gap b.tracks.items c.self.invariant.gaps_are))
+    rw (← c.self.view_is) (c.span_holding.ensures ∙ ap (λ (rs : List (List Span)). find (reaches c.args.t) (meet_of_all (with_common_end c.args.ended rs))) (ranges_same g.S.FrameStore.frames g.S.FrameStore.gap b.gap b.tracks.items c.self.invariant.0.gaps_are))

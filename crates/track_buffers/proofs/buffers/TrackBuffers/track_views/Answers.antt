@@ -10,4 +10,4 @@ returns g c =
     let F = g.S.FrameStore.frames in
     let G = g.S.FrameStore.gap in
     let ts = c.self.inside.tracks.items in
-    rw (← c.self.view_is) (ok_same c.track_views.result (map (λ (t : Track g.row.S.Denot). track_view (G t.store) (state_of F t)) ts) (map (track_view c.self.inside.gap) (states_of F ts)) (views_same F G c.self.inside.gap ts c.self.invariant.gaps_are) c.track_views.ensures)
+    rw (← c.self.view_is) (ok_same c.track_views.result (map (λ (t : Track g.row.S.Denot). track_view (G t.store) (state_of F t)) ts) (map (track_view c.self.inside.gap) (states_of F ts)) (views_same F G c.self.inside.gap ts c.self.invariant.0.gaps_are) c.track_views.ensures)

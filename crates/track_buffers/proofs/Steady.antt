@@ -1,0 +1,18 @@
+-- What always holds of a source buffer, after a step.
+use Rattle.std.proofs.Common.{◌≡◌, ◌≢◌, ℤ, pos, ◌≤ℤ◌, List, sym, subst}
+use Rattle.std.specs.List.{AllByRecursion}
+use Rattle.mse_base.specs.declared.ticks.Moment.{Moment}
+use Rattle.mse_base.specs.declared.ticks.Moment.TheVariants.{Nan}
+use Rattle.track_store.specs.declared.tracks.Settings.{Settings}
+use Rattle.track_store.specs.Kept.{AreKept}
+use Rattle.track_store.specs.State.{TrackState}
+use Rattle.track_buffers.specs.Media.{IsSteady}
+
+pub steady_by : (ts us : List TrackState) (gs hs : List ℤ) (s t : Settings) (g : ℤ) → IsSteady ts gs s g → AreKept us → hs ≡ gs → pos 0 ≤ℤ t.window_start → t.window_end ≡ s.window_end → IsSteady us hs t g
+steady_by ts us gs hs s t g h kept same start end = record {
+  kept = kept;
+  window_start = start;
+  window_end = subst (λ (m : Moment). m ≢ Nan) (sym end) h.window_end;
+  gaps_are = subst (λ (zs : List ℤ). AllByRecursion (λ z. z ≡ g) zs) (sym same) h.gaps_are;
+  gap_not_negative = h.gap_not_negative;
+}
