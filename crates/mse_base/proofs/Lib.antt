@@ -15,6 +15,7 @@ pub mod Neighbours
 pub mod Filling
 pub mod Meeting
 pub mod Holding
+mod Late
 mod InRows
 mod Slices
 mod SpreadOut

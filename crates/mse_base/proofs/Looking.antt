@@ -18,7 +18,7 @@ ends_after e (r ∷ rs) a p =
     let far : e <ℤ r.end = omega (arith, ints) in
     (far, weaker e r.end rs far (ends_after r.end rs p.1 p.2))
 
-each_at : (P : Span → Type 0) (rs : List Span) (i : ℕ) (d : Span) → i < length rs → AllByRecursion P rs → P (get_or rs i d)
+pub each_at : (P : Span → Type 0) (rs : List Span) (i : ℕ) (d : Span) → i < length rs → AllByRecursion P rs → P (get_or rs i d)
 each_at P [] i d l h = absurd (omega arith)
 each_at P (r ∷ rs) zero d l h = h.0
 each_at P (r ∷ rs) (suc i) d l h = each_at P rs i d (omega arith) h.1

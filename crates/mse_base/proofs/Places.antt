@@ -5,6 +5,7 @@ use Rattle.std.specs.Option.{option_to_list}
 use Rattle.std.proofs.lemmas.Int.{ints}
 use Rattle.std.specs.Int.{int_min, int_max}
 use Rattle.mse_base.proofs.TickLemmas.{tick_none}
+use Rattle.mse_base.proofs.Looking.{each_at}
 use Rattle.std.proofs.lemmas.List.{drop_more, take_at, drop_at, length-take-le, length-append, append_assoc, set_split, take-append-drop}
 use Rattle.mse_base.specs.Time.{IsTick, tick}
 use Rattle.mse_base.specs.declared.span.Span.{Span}
@@ -23,6 +24,14 @@ not_lt a b h = grind (arith, ints)
 pub far_all : (gap t : ℤ) (s : Span) (rs : List Span) → t ≡ (s.start -ℤ gap) → AllByRecursion (λ r. r.end <ℤ t) rs → AllByRecursion (λ r. is_far_before gap r s ≡ true) rs
 far_all gap t s [] e h = tt
 far_all gap t s (r ∷ rs) e h = let first = h.0 in (is_lt (r.end +ℤ gap) s.start (omega (arith, ints)), far_all gap t s rs e h.1)
+
+-- those before a range that begins no later than a span
+pub far_to_place : (gap : ℤ) (s x : Span) (rs : List Span) (i : ℕ) → IsRanges gap rs → i < length rs → x ≡ get_or rs i x → x.start ≤ℤ s.start → AllByRecursion (λ r. is_far_before gap r s ≡ true) (take i rs)
+far_to_place gap s x [] i h l at b = absurd (omega arith)
+far_to_place gap s x (r ∷ rs) zero h l at b = tt
+far_to_place gap s x (r ∷ rs) (suc i) h l at b =
+    let far : (r.end +ℤ gap) <ℤ x.start = subst (λ (z : Span). (r.end +ℤ gap) <ℤ z.start) (sym at) (each_at (λ q. (r.end +ℤ gap) <ℤ q.start) rs i x (omega arith) h.1) in
+    (is_lt (r.end +ℤ gap) s.start (omega (arith, ints)), far_to_place gap s x rs i h.2 (omega arith) at b)
 
 cond_two : {A : Type 0} (a b : Bool) (x y z : A) → a ≡ false → b ≡ true → cond a x (cond b y z) ≡ y
 cond_two a b x y z e f = ap (λ c. cond c x (cond b y z)) e ∙ ap (λ c. cond c y z) f

@@ -1,6 +1,6 @@
 //! Blocks side by side: places in them, and changes of one or two of them.
 
-ghost use Rattle.std.specs.Prelude.{◌≡◌, ◌+◌, ◌^◌, ◌<◌, ◌≤◌, [], length, OnOk, IfSome, IfNone, slice_index_or, slice_set, vec_capacity};
+ghost use Rattle.std.specs.Prelude.{◌≡◌, ◌+◌, ◌^◌, ◌<◌, ◌≤◌, [], length, true, false, OnOk, IfSome, IfNone, slice_index_or, slice_set, vec_capacity};
 ghost use Rattle.std.specs.List.{insert, remove};
 ghost use Rattle.mse_base.specs.Rows.{joined, start, row, split_row, merge_rows, AreFilled, AreEmpty, AreDense};
 
@@ -174,6 +174,28 @@ fn put_apart(blocks: &mut Vec<Block>, b: usize, i: usize, x: Span, right: Block)
     } else {
         put_in(blocks, b + 1, i - s, x);
     }
+}
+
+/// Puts a span at a place, where its block has room; whether it has.
+pub(crate) fn put_if_room(blocks: &mut Vec<Block>, i: usize, x: &Span) -> bool
+    requires within { i ≤ length (joined blocks.old.items) }
+    requires filled { AreFilled blocks.old.items }
+    ensures spans { result ≡ true
+        → joined blocks.new.items ≡ insert (joined blocks.old.items) i x.now }
+    ensures full { result ≡ false → blocks.new.items ≡ blocks.old.items }
+    ensures filled { AreFilled blocks.new.items }
+    ensures len { length blocks.new.items ≡ length blocks.old.items }
+    ensures capacity { vec_capacity blocks.new ≡ vec_capacity blocks.old }
+{
+    if blocks.is_empty() {
+        return false;
+    }
+    let spot = place_to_put(blocks, i);
+    if len_at(blocks, spot.block) < LONG {
+        put_in(blocks, spot.block, spot.index, *x);
+        return true;
+    }
+    false
 }
 
 /// Puts a span at a place, by an empty block; that block, where it was not needed.

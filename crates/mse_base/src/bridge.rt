@@ -1,4 +1,4 @@
-ghost use Rattle.std.specs.Prelude.{◌≡◌, ◌+◌, ◌<◌, ◌≤◌, ◌∷◌, ◌++◌, ◌≤ℤ◌, pos, true, length, take, drop, IfOk};
+ghost use Rattle.std.specs.Prelude.{◌≡◌, ◌+◌, ◌<◌, ◌≤◌, ◌∷◌, ◌++◌, ◌≤ℤ◌, pos, true, false, length, take, drop, IfOk};
 ghost use Rattle.mse_base.specs.Bridging.{bridged_ranges, ranges_with, ranges_with_lasting, span_round, is_empty, IsRanges};
 
 use crate::lookup::{is_far_before, place_reaching};
@@ -66,6 +66,80 @@ fn join_from(ranges: &mut SpanList, gap: Ticks, from: usize, span: Span)
     ranges.insert(i, s);
 }
 
+/// A span with what another has behind it, which begins no earlier.
+fn extended(r: &Span, s: &Span) -> Span
+    requires { r.now.start ≤ℤ s.now.start }
+    ensures { result ≡ span_round s.now r.now }
+{
+    Span {
+        start: r.start,
+        end: if s.end <= r.end { r.end } else { s.end },
+    }
+}
+
+/// Joins a span that is not empty to the range before the last, where it begins within that or at
+/// most the gap behind; whether it does.
+fn join_before_last(ranges: &mut SpanList, gap: Ticks, span: &Span) -> bool
+    requires gap_from_zero { pos 0 ≤ℤ gap }
+    requires lasting { is_empty span.now ≡ false }
+    requires ranges { IsRanges gap ranges.old.spans }
+    ensures spans { result ≡ true
+        → ranges.new.spans ≡ ranges_with gap ranges.old.spans span.now }
+    ensures kept { result ≡ false → ranges.new.spans ≡ ranges.old.spans }
+    ensures room { ranges.old.spare + length ranges.old.spans
+        ≡ ranges.new.spare + length ranges.new.spans }
+{
+    let len = ranges.len();
+    if len < 2 {
+        return false;
+    }
+    let before = ranges.get(len - 2);
+    if span.start < before.start {
+        return false;
+    }
+    if is_far_before(gap, &before, span) {
+        return false;
+    }
+    let last = ranges.get(len - 1);
+    let longer = extended(&before, span);
+    if is_far_before(gap, &longer, &last) {
+        ranges.set(len - 2, longer);
+        return true;
+    }
+    ranges.set(len - 2, span_round(&longer, &last));
+    ranges.remove(len - 1);
+    true
+}
+
+/// Joins a span that is not empty to one of the last two ranges, or puts it behind all, where it
+/// belongs there, as most do; whether it does.
+fn join_late(ranges: &mut SpanList, gap: Ticks, span: &Span) -> bool
+    requires room { 1 ≤ ranges.old.spare }
+    requires gap_from_zero { pos 0 ≤ℤ gap }
+    requires lasting { is_empty span.now ≡ false }
+    requires ranges { IsRanges gap ranges.old.spans }
+    ensures spans { result ≡ true
+        → ranges.new.spans ≡ ranges_with gap ranges.old.spans span.now }
+    ensures kept { result ≡ false → ranges.new.spans ≡ ranges.old.spans }
+    ensures room { ranges.old.spare + length ranges.old.spans
+        ≡ ranges.new.spare + length ranges.new.spans }
+{
+    let len = ranges.len();
+    if len == 0 {
+        return false;
+    }
+    let last = ranges.get(len - 1);
+    if span.start < last.start {
+        return join_before_last(ranges, gap, span);
+    }
+    if is_far_before(gap, &last, span) {
+        ranges.insert(len, *span);
+        return true;
+    }
+    ranges.set(len - 1, extended(&last, span));
+    true
+}
+
 /// Joins a span to ranges.
 pub(crate) fn join_in(ranges: &mut SpanList, gap: Ticks, span: Span)
     requires room { 1 ≤ ranges.old.spare }
@@ -76,6 +150,9 @@ pub(crate) fn join_in(ranges: &mut SpanList, gap: Ticks, span: Span)
         ≡ ranges.new.spare + length ranges.new.spans }
 {
     if is_empty(&span) {
+        return;
+    }
+    if join_late(ranges, gap, &span) {
         return;
     }
     let from = place_reaching(ranges, gap, &span);

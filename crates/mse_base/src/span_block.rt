@@ -67,6 +67,10 @@ impl Block {
         requires room { length self.old < 1024 }
         ensures { self.new ≡ insert self.old i x }
     {
+        if i == self.items.len() {
+            self.items.push_reserved(x);
+            return;
+        }
         match self.items.insert(i, x) {
             Ok(()) => {}
             Err(_) => unreachable!(),
@@ -84,6 +88,11 @@ impl Block {
         requires { i < length self.old }
         ensures { self.new ≡ remove self.old i }
     {
+        let len = self.items.len();
+        if i + 1 == len {
+            self.items.truncate(i);
+            return;
+        }
         self.items.remove(i);
     }
 

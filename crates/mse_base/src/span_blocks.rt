@@ -6,7 +6,8 @@ ghost use Rattle.mse_base.specs.Spans.{IsNormalized};
 ghost use Rattle.mse_base.specs.Rows.{joined, start, row, AreFilled, AreEmpty};
 
 use crate::block_row::{
-    Place, drop_all, fill, gather, len_at, place_of, put, set_in, span_at, start_of, take_from,
+    Place, drop_all, fill, gather, len_at, place_of, put, put_if_room, set_in, span_at, start_of,
+    take_from,
 };
 use crate::lookup::ends_before;
 use crate::span_block::Block;
@@ -256,6 +257,9 @@ impl SpanBlocks {
     {
         self.len += 1;
         self.spare -= 1;
+        if put_if_room(&mut self.blocks, i, &x) {
+            return;
+        }
         put_in_place(&mut self.blocks, &mut self.pool, i, x);
     }
 
