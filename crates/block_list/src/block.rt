@@ -1,6 +1,6 @@
 //! A block: some items with room for 128.
 
-ghost use Rattle.std.specs.Prelude.{◌≡◌, ◌+◌, ◌<◌, ◌≤◌, List, [], ◌∷◌, ◌++◌, length, take, drop, IfOk, slice_index_or, slice_set};
+ghost use Rattle.std.specs.Prelude.{◌≡◌, ◌+◌, ◌<◌, ◌≤◌, List, [], ◌∷◌, ◌++◌, length, take, drop, IfOk, slice_index_or, slice_set, vec_capacity};
 ghost use Rattle.std.specs.List.{insert, remove};
 
 use mse_base::OutOfMemory;
@@ -117,6 +117,37 @@ impl<T, F: Fact<T>> Block<T, F> {
     }
 }
 
+/// Puts an item among others, where there is room.
+fn put_between<T: Drop>(items: &mut Vec<T>, i: usize, x: T)
+    requires within { i ≤ length items.old.items }
+    requires room { length items.old.items < vec_capacity items.old }
+    ensures items { items.new.items ≡ insert items.old.items i x }
+    ensures capacity { vec_capacity items.new ≡ vec_capacity items.old }
+{
+    match items.insert(i, x) {
+        Ok(()) => {}
+        Err(_) => unreachable!(),
+    }
+}
+
+/// Puts an item in, where there is room. Most are put behind all others or before the last.
+fn put_at<T: Drop>(items: &mut Vec<T>, i: usize, x: T)
+    requires within { i ≤ length items.old.items }
+    requires room { length items.old.items < vec_capacity items.old }
+    ensures items { items.new.items ≡ insert items.old.items i x }
+    ensures capacity { vec_capacity items.new ≡ vec_capacity items.old }
+{
+    let len = items.len();
+    if i + 1 < len {
+        put_between(items, i, x);
+        return;
+    }
+    items.push_reserved(x);
+    if i < len {
+        items.swap(i, len);
+    }
+}
+
 impl<T: Drop, F: Fact<T>> Block<T, F> {
     /// Puts another item in place of one.
     pub fn set(&mut self, i: usize, x: T)
@@ -133,10 +164,7 @@ impl<T: Drop, F: Fact<T>> Block<T, F> {
         ensures { self.new ≡ insert self.old i x }
     {
         self.fact = self.fact.with(&x);
-        match self.items.insert(i, x) {
-            Ok(()) => {}
-            Err(_) => unreachable!(),
-        }
+        put_at(&mut self.items, i, x);
     }
 
     pub fn clear(&mut self)

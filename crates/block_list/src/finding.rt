@@ -82,6 +82,43 @@ fn block_of<T, F: Fact<T>, P: Test<T>>(list: &BlockList<T, F>, test: &P) -> usiz
     low
 }
 
+/// The place behind the last item that passes, where that is the last of all, or the one before
+/// in the same block.
+fn spot_near_end<T, F: Fact<T>, P: Test<T>>(list: &BlockList<T, F>, test: &P) -> Option<Spot>
+    requires cut { IsCut (P.passes test.now) (joined list.now.rows) }
+    requires full { NoneEmpty list.now.rows }
+    ensures block { IfSome result (λ s. s.block < length list.now.rows) }
+    ensures index { IfSome result (λ s. s.index ≤ length (row list.now.rows s.block)) }
+    ensures before { IfSome result (λ s. AllByRecursion (λ x. P.passes test.now x ≡ true)
+        (take (rank list.now.rows s) (joined list.now.rows))) }
+    ensures after { IfSome result (λ s. AllByRecursion (λ x. P.passes test.now x ≡ false)
+        (drop (rank list.now.rows s) (joined list.now.rows))) }
+{
+    let blocks = list.blocks();
+    if blocks == 0 {
+        return None;
+    }
+    let block = blocks - 1;
+    let len = list.block(block).len();
+    let last = Spot {
+        block,
+        index: len - 1,
+    };
+    if test.passes(list.item(last)) {
+        return Some(Spot { block, index: len });
+    }
+    if len > 1 {
+        let before = Spot {
+            block,
+            index: len - 2,
+        };
+        if test.passes(list.item(before)) {
+            return Some(last);
+        }
+    }
+    None
+}
+
 /// The place behind the last item that passes.
 pub fn search<T, F: Fact<T>, P: Test<T>>(list: &BlockList<T, F>, test: &P) -> Spot
     requires { IsCut (P.passes test.now) (joined list.now.rows) }
@@ -93,6 +130,10 @@ pub fn search<T, F: Fact<T>, P: Test<T>>(list: &BlockList<T, F>, test: &P) -> Sp
         (drop (rank list.now.rows result) (joined list.now.rows)) }
 {
     let _spare = list.spare();
+    // Most items are put behind all others, or before few.
+    if let Some(spot) = spot_near_end(list, test) {
+        return spot;
+    }
     let b = block_of(list, test);
     if b == 0 {
         return Spot { block: 0, index: 0 };
