@@ -1,4 +1,5 @@
 ghost use Rattle.std.specs.Prelude.{◌≡◌, ◌≤◌, ◌+◌, ◌++◌, ◌∷◌, [], OnOk, length, slice_get, option_map};
+ghost use Rattle.mse_calls.specs.declared.entry.Entry.TheVariants.{Work};
 ghost use Rattle.run_journal.specs.EntryRef.{entry_of};
 
 use crate::EntryRef;
@@ -7,6 +8,9 @@ use mse_base::OutOfMemory;
 use mse_calls::{Entry, Piece};
 use std::alloc::Global;
 use std::marker::Model;
+
+/// For how many entries a journal makes room at once.
+const MANY: usize = 64;
 
 /// What happened in a run, in order, and room for more. It keeps a small mark for each entry, calls
 /// with their answers in a list of their own, and in another one the pieces of a script's appends.
@@ -73,6 +77,33 @@ impl Journal {
         ensures kept { self.old.spare ≤ self.new.spare }
         ensures entries { self.new.entries ≡ self.old.entries }
     {
+        if n <= self.spare {
+            return Ok(());
+        }
+        self.reserve_more(n)
+    }
+
+    /// Makes room for at least `n` more entries, and for many where there is memory for them, so
+    /// that the next ones find theirs.
+    #[cold]
+    #[inline(never)]
+    fn reserve_more(&mut self, n: usize) -> Result<(), OutOfMemory>
+        ensures spare { OnOk result (n ≤ self.new.spare) }
+        ensures kept { self.old.spare ≤ self.new.spare }
+        ensures entries { self.new.entries ≡ self.old.entries }
+    {
+        match self.make_room(n.max(MANY)) {
+            Ok(()) => Ok(()),
+            Err(_) => self.make_room(n),
+        }
+    }
+
+    /// Makes room for at least `n` more entries.
+    fn make_room(&mut self, n: usize) -> Result<(), OutOfMemory>
+        ensures spare { OnOk result (n ≤ self.new.spare) }
+        ensures kept { self.old.spare ≤ self.new.spare }
+        ensures entries { self.new.entries ≡ self.old.entries }
+    {
         self.marks.try_reserve(n)?;
         self.calls.try_reserve(n)?;
         self.pieces.try_reserve(n)?;
@@ -88,6 +119,17 @@ impl Journal {
     {
         let mark = keep(&mut self.calls, &mut self.pieces, entry);
         self.marks.push_reserved(mark);
+        self.spare -= 1;
+    }
+
+    /// Puts the entry of a step of work on the buffer of a number last, in reserved room, which
+    /// falls by one. It takes no memory.
+    pub fn push_work_reserved(&mut self, k: u32)
+        requires { 1 ≤ self.old.spare }
+        ensures entries { self.new.entries ≡ self.old.entries ++ Work k ∷ [] }
+        ensures spare { self.new.spare + 1 ≡ self.old.spare }
+    {
+        self.marks.push_reserved(Mark::Work(k));
         self.spare -= 1;
     }
 }
