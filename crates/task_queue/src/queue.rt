@@ -55,6 +55,20 @@ impl Queue {
         ensures spare { OnOk result (n ≤ self.new.spare) }
         ensures room { self.old.spare ≤ self.new.spare }
     {
+        if n <= self.events.capacity() - self.events.len() {
+            return Ok(());
+        }
+        self.reserve_more(n)
+    }
+
+    /// Makes room for at least `n` more events where there is less.
+    #[cold]
+    #[inline(never)]
+    fn reserve_more(&mut self, n: usize) -> Result<(), OutOfMemory>
+        ensures events { self.new.events ≡ self.old.events }
+        ensures spare { OnOk result (n ≤ self.new.spare) }
+        ensures room { self.old.spare ≤ self.new.spare }
+    {
         self.events.reserve(n)?;
         Ok(())
     }
