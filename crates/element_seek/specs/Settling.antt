@@ -1,6 +1,8 @@
 -- The end of each step: the level that the position has now, with its events (HTML, media elements, ready states).
-use Rattle.std.specs.Prelude.{◌&&◌, ◌||◌, if◌then◌else◌}
-use Rattle.mse_calls.specs.Level.{has_metadata}
+use Rattle.std.specs.Prelude.{◌==◌, Bool, not, ◌&&◌, ◌||◌, Option, if◌then◌else◌}
+use Rattle.mse_base.specs.declared.span.Span.{Span}
+use Rattle.mse_base.specs.declared.ticks.Moment.{Moment}
+use Rattle.mse_calls.specs.Level.{has_metadata, level_number}
 use Rattle.mse_calls.specs.declared.answers.Level.{Level}
 use Rattle.element_ready.specs.declared.facts.Facts.{Facts}
 use Rattle.element_ready.specs.Levels.{level_at}
@@ -32,3 +34,16 @@ at_level new scene p =
 
 abbrev pub after_settle : Scene → PlayerState → Told
 after_settle scene p = at_level (level_in scene p) scene p
+
+-- the level is that of the position, by the buffered range there, or stays HAVE_NOTHING
+abbrev pub keeps_level : Option Span → Moment → PlayerState → Bool
+keeps_level span duration p =
+    not (has_metadata p.level)
+    || level_number (level_at span p.position duration) == level_number p.level
+
+-- and no end of playback was told, so that the end of a step changes nothing and tells nothing
+abbrev pub stays_by : Option Span → Moment → PlayerState → Bool
+stays_by span duration p = not p.finished && keeps_level span duration p
+
+abbrev pub stays_in : Scene → PlayerState → Bool
+stays_in scene p = stays_by scene.span scene.duration p

@@ -4,7 +4,7 @@ ghost use Rattle.element_seek.specs.State.{new_player, has_ended, is_playing};
 ghost use Rattle.element_seek.specs.Seeking.{in_media, nearest_in, after_seek, after_load};
 ghost use Rattle.element_seek.specs.Playing.{after_play, after_pause, plays_on, after_move, after_advance, after_fail};
 ghost use Rattle.element_seek.specs.Turns.{is_seek_done, is_end_due, is_due, after_turn};
-ghost use Rattle.element_seek.specs.Settling.{after_settle};
+ghost use Rattle.element_seek.specs.Settling.{after_settle, keeps_level, stays_by};
 
 use crate::acted::Acted;
 use crate::scene::Scene;
@@ -331,6 +331,21 @@ impl Player {
         self.loaded_before = self.loaded_before || is_first_data(old, new);
         self.level = new;
         events_of_change(old, new, facts)
+    }
+
+    /// Whether the end of a step leaves the element as it is and tells nothing, by the level of its
+    /// position with this buffered range and this duration, at an element that has not told an end.
+    pub fn stays(&self, span: &Option<Span>, duration: Moment) -> bool
+        ensures { result ≡ stays_by span.now duration self.now }
+    {
+        !self.finished && self.keeps_level(span, duration)
+    }
+
+    /// Whether the level is that of the position, or stays `HAVE_NOTHING`.
+    fn keeps_level(&self, span: &Option<Span>, duration: Moment) -> bool
+        ensures { result ≡ keeps_level span.now duration self.now }
+    {
+        !self.level.has_metadata() || level(*span, self.position, duration) == self.level
     }
 
     /// The level (HTML, `readyState`).

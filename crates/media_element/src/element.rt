@@ -1,9 +1,9 @@
-ghost use Rattle.std.specs.Prelude.{◌≡◌, ◌+◌, ◌≤◌, ◌++◌, ◌∷◌, [], OnOk, length, replicate, slice_get, int_lt, ◌&&◌};
+ghost use Rattle.std.specs.Prelude.{◌≡◌, ◌+◌, ◌≤◌, ◌++◌, ◌∷◌, [], OnOk, length, replicate, slice_get, int_lt, ◌==◌, not, ◌&&◌};
 ghost use Rattle.mse_calls.specs.Level.{has_metadata};
 ghost use Rattle.element_seek.specs.Seeking.{after_seek, after_load};
 ghost use Rattle.element_seek.specs.Playing.{after_play, after_pause, after_advance, after_fail};
 ghost use Rattle.element_seek.specs.Turns.{is_due};
-ghost use Rattle.element_seek.specs.Settling.{after_settle};
+ghost use Rattle.element_seek.specs.Settling.{after_settle, stays_by};
 ghost use Rattle.element_seek.specs.Inside.{IsInside, HasSpansInside, StaysInside};
 ghost use Rattle.media_element.specs.State.{new_element};
 ghost use Rattle.media_element.specs.Queueing.{events_at, element_events, queued, after_fire, after, told_kinds, refusal, after_call, after_own_turn};
@@ -11,7 +11,7 @@ ghost use Rattle.media_element.specs.Falling.{sought_end, after_fall, after_dura
 
 use element_seek::laws::position_inside;
 use element_seek::{Acted, Player, Scene};
-use mse_base::{Moment, OutOfMemory, Ticks};
+use mse_base::{Moment, OutOfMemory, Span, Ticks};
 use mse_calls::{Changes, EndKind, Event, EventKind, Level, Name, Target};
 use std::alloc::Global;
 use std::marker::Model;
@@ -208,6 +208,14 @@ impl Element {
         self.tell_at_element(&kinds);
     }
 
+    /// Whether the end of a step leaves the element as it is and tells nothing, by the buffered range
+    /// that has its position or ends at it, and by the duration, at an element that told no end.
+    pub fn stays(&self, span: &Option<Span>, duration: Moment) -> bool
+        ensures { result ≡ stays_by span.now duration self.now.state.player }
+    {
+        self.player.stays(span, duration)
+    }
+
     /// Seeks (HTML, media elements, "seeking") to a time in ticks. It takes at most one place.
     pub fn seek(&mut self, t: Ticks, scene: &Scene)
         requires { 1 ≤ self.old.spare }
@@ -315,6 +323,13 @@ impl Element {
             ≡ self.new.spare + length self.new.state.queue }
     {
         self.queue.pop()
+    }
+
+    /// Whether an event waits.
+    pub fn has_event(&self) -> bool
+        ensures { result ≡ not (length self.now.state.queue == 0) }
+    {
+        !self.queue.is_empty()
     }
 
     /// The level (HTML, `readyState`).
