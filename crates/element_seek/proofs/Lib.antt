@@ -1,2 +1,2 @@
-mod Settled
+pub mod Settled
 mod Positions

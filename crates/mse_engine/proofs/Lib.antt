@@ -12,6 +12,7 @@ pub mod Errors
 pub mod Loading
 pub mod Telling
 pub mod Finishing
+pub mod Quiet
 pub mod BufferStepping
 pub mod Working
 pub mod Refusing

@@ -1,5 +1,6 @@
 -- What comes of a source buffer's reply at the source and at the element, in order.
-use Rattle.std.specs.Prelude.{ℕ, ◌==◌, Bool, false, not, ◌&&◌, List, [], ◌∷◌, ◌++◌, replicate, Option, Some, None, unwrap_or, if◌then◌else◌}
+use Rattle.std.specs.Prelude.{ℕ, ◌==◌, Bool, false, not, ◌&&◌, List, [], ◌∷◌, ◌++◌, length, replicate, Option, Some, None, is_none, unwrap_or, if◌then◌else◌}
+use Rattle.mse_base.specs.Moments.{same_moment}
 use Rattle.mse_calls.specs.Ready.{is_ended}
 use Rattle.mse_calls.specs.declared.answers.Ready.{Ready}
 use Rattle.mse_calls.specs.declared.answers.Ready.TheVariants.{Opened, Ended}
@@ -85,6 +86,19 @@ source_after k r s = record {
   quota = s.quota;
   gap = s.gap;
 }
+
+-- ---- whether anything comes of it
+
+-- nothing at the source, at the element and in the queue
+abbrev pub is_quiet : Reply → SourceState → Bool
+is_quiet r s =
+    not r.reopened
+    && (not r.activated
+    && (not r.received_init
+    && (r.duration_changes == 0
+    && (length r.events == 0
+    && (is_none r.fault
+    && same_moment r.duration s.duration)))))
 
 -- ---- in the queue and at the element, in order
 

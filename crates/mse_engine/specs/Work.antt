@@ -1,5 +1,5 @@
 -- One step of the running work of a source buffer, and a turn of the element by itself.
-use Rattle.std.specs.Prelude.{ℕ, Bool, [], drop, slice_get, Option, Some, None, option_map, if◌then◌else◌}
+use Rattle.std.specs.Prelude.{ℕ, ◌==◌, Bool, not, [], length, drop, slice_get, Option, Some, None, option_map, if◌then◌else◌}
 use Rattle.mse_calls.specs.Answered.{Answered}
 use Rattle.mse_calls.specs.declared.events.Event.{Event}
 use Rattle.element_seek.specs.State.{PlayerState}
@@ -61,6 +61,10 @@ after_element_turn st =
 -- The first event of the queue is fired. The source, the buffers and the position stay, so that the level stays too.
 abbrev pub without_first : State → State
 without_first st = record st { outer = record st.outer { queue = drop 1 st.outer.queue } }
+
+-- whether there is one
+abbrev pub waits_in : State → Bool
+waits_in st = not (length st.outer.queue == 0)
 
 -- none where the queue is empty
 abbrev pub fire_result : State → Option (Answered Event State)

@@ -10,7 +10,6 @@ ghost use Rattle.mse_engine.specs.Calls.{after_call};
 ghost use Rattle.mse_engine.specs.Standing.{Answers, IsSteady, kept};
 
 use crate::finish::{PLACES, conclude};
-use crate::scenes::LoadBounds;
 use crate::side::{SourceSide, around};
 use media_element::Element;
 use mse_base::{Moment, OutOfMemory};
@@ -37,7 +36,7 @@ pub(crate) fn set_mode<S: FrameStore>(
     element.reserve(PLACES)?;
     let around = around(side, element, k);
     let reply = buffers.set_mode(k, mode, &around);
-    Ok(conclude(side, buffers, element, k, &reply, LoadBounds::NONE))
+    Ok(conclude(side, buffers, element, k, &reply))
 }
 
 /// The refusal of a call on a buffer with a time that is not finite: one that was never made comes
@@ -75,7 +74,7 @@ pub(crate) fn set_offset<S: FrameStore>(
     element.reserve(PLACES)?;
     let around = around(side, element, k);
     let reply = buffers.set_offset(k, t, &around);
-    Ok(conclude(side, buffers, element, k, &reply, LoadBounds::NONE))
+    Ok(conclude(side, buffers, element, k, &reply))
 }
 
 /// Sets the start of the append window of a buffer.
@@ -100,7 +99,7 @@ pub(crate) fn set_window_start<S: FrameStore>(
     element.reserve(PLACES)?;
     let around = around(side, element, k);
     let reply = buffers.set_window_start(k, t, &around);
-    Ok(conclude(side, buffers, element, k, &reply, LoadBounds::NONE))
+    Ok(conclude(side, buffers, element, k, &reply))
 }
 
 /// Sets the end of the append window of a buffer.
@@ -122,7 +121,7 @@ pub(crate) fn set_window_end<S: FrameStore>(
     element.reserve(PLACES)?;
     let around = around(side, element, k);
     let reply = buffers.set_window_end(k, t, &around);
-    Ok(conclude(side, buffers, element, k, &reply, LoadBounds::NONE))
+    Ok(conclude(side, buffers, element, k, &reply))
 }
 
 /// Begins a removal of coded frames of a buffer.
@@ -148,7 +147,7 @@ pub(crate) fn remove<S: FrameStore>(
     element.reserve(PLACES)?;
     let around = around(side, element, k);
     let reply = buffers.remove_frames(k, start, end, &around);
-    Ok(conclude(side, buffers, element, k, &reply, LoadBounds::NONE))
+    Ok(conclude(side, buffers, element, k, &reply))
 }
 
 /// Begins an append of a piece of a blob to a buffer.
@@ -177,7 +176,7 @@ pub(crate) fn append<S: FrameStore>(
     element.reserve(PLACES)?;
     let around = around(side, element, k);
     let reply = buffers.append(k, &bytes, &around)?;
-    Ok(conclude(side, buffers, element, k, &reply, LoadBounds::NONE))
+    Ok(conclude(side, buffers, element, k, &reply))
 }
 
 /// Makes room for all events of a reset of the parser of a buffer.
@@ -214,7 +213,7 @@ pub(crate) fn abort<S: FrameStore>(
     reserve_reset(buffers, element, k)?;
     let around = around(side, element, k);
     let reply = buffers.abort(k, &around)?;
-    Ok(conclude(side, buffers, element, k, &reply, LoadBounds::NONE))
+    Ok(conclude(side, buffers, element, k, &reply))
 }
 
 /// Changes the type of a buffer.
@@ -236,7 +235,7 @@ pub(crate) fn change_type<S: FrameStore>(
     reserve_reset(buffers, element, k)?;
     let around = around(side, element, k);
     let reply = buffers.change_type(k, text, &around)?;
-    Ok(conclude(side, buffers, element, k, &reply, LoadBounds::NONE))
+    Ok(conclude(side, buffers, element, k, &reply))
 }
 
 /// What is buffered at a buffer.

@@ -9,7 +9,7 @@ ghost use Rattle.source_buffers.specs.State.{all_kept_media};
 ghost use Rattle.mse_engine.specs.State.{State, opening_state};
 ghost use Rattle.mse_engine.specs.Calls.{after_call};
 ghost use Rattle.mse_engine.specs.Refusals.{call_refusal};
-ghost use Rattle.mse_engine.specs.Work.{after_element_turn, after_work, due_in, fire_result, running_in};
+ghost use Rattle.mse_engine.specs.Work.{after_element_turn, after_work, due_in, fire_result, running_in, waits_in};
 ghost use Rattle.mse_engine.specs.Views.{span_in, view_in};
 ghost use Rattle.mse_engine.specs.Sound.{IsSoundEngine};
 ghost use Rattle.mse_engine.specs.Standing.{Answers, IsFewerWork, IsFired, IsWork, Stands};
@@ -136,6 +136,13 @@ impl<S: FrameStore> Engine<S> {
         let answer = turn_by_itself(&self.side, &self.buffers, &mut self.element)?;
         self.buffers.sound();
         Ok(answer)
+    }
+
+    /// Whether an event waits to be fired.
+    pub fn has_event(&self) -> bool
+        ensures { (st : State) → Stands self.now st → result ≡ waits_in st }
+    {
+        self.element.has_event()
     }
 
     /// Whether the element has something to do by itself.

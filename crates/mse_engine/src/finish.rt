@@ -5,15 +5,16 @@ ghost use Rattle.mse_calls.specs.Level.{has_metadata};
 ghost use Rattle.mse_calls.specs.declared.answers.Answer.TheVariants.{Done};
 ghost use Rattle.media_element.specs.Queueing.{event_at, queued};
 ghost use Rattle.media_element.specs.Settled.{IsSettled};
+ghost use Rattle.element_seek.specs.Settling.{stays_in};
 ghost use Rattle.source_buffers.specs.State.{all_kept_media};
 ghost use Rattle.source_buffers.specs.Slots.{BuffersResult, IsBuffersResult};
 ghost use Rattle.mse_engine.specs.State.{State, outer_of};
 ghost use Rattle.mse_engine.specs.Scenes.{CoreView};
 ghost use Rattle.mse_engine.specs.Signals.{after_signals, after_settling, outer_after};
-ghost use Rattle.mse_engine.specs.Replies.{loads, source_after, open_events, active_events, load_signals, effect_signals, middle_signals, fault_events, error_after, reply_signals};
+ghost use Rattle.mse_engine.specs.Replies.{loads, source_after, open_events, active_events, load_signals, effect_signals, middle_signals, fault_events, error_after, is_quiet, reply_signals};
 ghost use Rattle.mse_engine.specs.BufferCalls.{reply_moved};
 ghost use Rattle.mse_engine.specs.Calls.{after_call_by, refused_or, without_action};
-ghost use Rattle.mse_engine.specs.Standing.{IsReadyToLoad, IsSteady, IsStep, core_source, kept, kept_scene, reply_view, side_after, view_of};
+ghost use Rattle.mse_engine.specs.Standing.{IsReadyToLoad, IsSteady, IsStep, core_source, kept, kept_scene, no_bounds, reply_view, side_after, view_of};
 
 use crate::scenes::{self, LoadBounds};
 use crate::side::{Effects, SourceSide};
@@ -35,12 +36,46 @@ pub(crate) fn event(target: Target, kind: EventKind) -> Event
     Event { target, kind }
 }
 
+/// Whether the end of a step leaves the element as it is, since it has the level of its position.
+fn is_settled<S: FrameStore>(
+    side: &SourceSide,
+    buffers: &SourceBuffers<S>,
+    element: &Element,
+) -> bool
+    ensures { result ≡ stays_in (kept_scene
+        (kept side.now buffers.now.buffers element.now.state)) element.now.state.player }
+{
+    let duration = side.source.duration();
+    if is_blank(element) {
+        return element.stays(&None, duration);
+    }
+    let span = scenes::span_at(side, buffers, element.position());
+    element.stays(&span, duration)
+}
+
 /// The end of each step: the level that the position has now, with its events.
 pub(crate) fn settle<S: FrameStore>(
     side: &SourceSide,
     buffers: &SourceBuffers<S>,
     element: &mut Element,
 )
+    requires { 4 ≤ element.old.spare }
+    ensures source { core_source side.now element.new.state
+        ≡ core_source side.now element.old.state }
+    ensures element { element.new.state ≡ after_settling
+        (view_of side.now buffers.now.buffers element.old.state) element.old.state }
+    ensures settled { IsSettled (kept_scene
+        (kept side.now buffers.now.buffers element.new.state)) element.new.state }
+{
+    if !is_settled(side, buffers, element) {
+        settle_anew(side, buffers, element);
+    }
+}
+
+/// The same, where the level may change.
+#[cold]
+#[inline(never)]
+fn settle_anew<S: FrameStore>(side: &SourceSide, buffers: &SourceBuffers<S>, element: &mut Element)
     requires { 4 ≤ element.old.spare }
     ensures source { core_source side.now element.new.state
         ≡ core_source side.now element.old.state }
@@ -82,12 +117,12 @@ fn load<S: FrameStore>(
     buffers: &SourceBuffers<S>,
     element: &mut Element,
     loads: bool,
-    bounds: LoadBounds,
+    bounds: &LoadBounds,
 )
     requires room { 2 ≤ element.old.spare }
     ensures state { (v : CoreView)
         → v.source.state ≡ side.now.state → v.media ≡ all_kept_media buffers.now.buffers
-        → (loads ≡ true → IsReadyToLoad bounds v element.old.state)
+        → (loads ≡ true → IsReadyToLoad bounds.now v element.old.state)
         → element.new.state ≡ after_signals v (load_signals loads) element.old.state }
     ensures spare { element.old.spare ≤ element.new.spare + 2 }
 {
@@ -106,12 +141,12 @@ fn tell_effects<S: FrameStore>(
     element: &mut Element,
     changes: u64,
     effects: Effects,
-    bounds: LoadBounds,
+    bounds: &LoadBounds,
 )
     requires room { changes + 3 ≤ element.old.spare }
     ensures state { (v : CoreView)
         → v.source.state ≡ side.now.state → v.media ≡ all_kept_media buffers.now.buffers
-        → (effects.loads ≡ true → IsReadyToLoad bounds v element.old.state)
+        → (effects.loads ≡ true → IsReadyToLoad bounds.now v element.old.state)
         → element.new.state ≡ after_signals v
         (effect_signals changes effects.activates effects.loads) element.old.state }
     ensures spare { element.old.spare ≤ element.new.spare + (changes + 3) }
@@ -130,12 +165,12 @@ fn tell_middle<S: FrameStore>(
     k: u32,
     reply: &Reply,
     effects: Effects,
-    bounds: LoadBounds,
+    bounds: &LoadBounds,
 )
     requires room { reply.now.duration_changes + 7 ≤ element.old.spare }
     ensures state { (v : CoreView)
         → v.source.state ≡ side.now.state → v.media ≡ all_kept_media buffers.now.buffers
-        → (effects.loads ≡ true → IsReadyToLoad bounds v element.old.state)
+        → (effects.loads ≡ true → IsReadyToLoad bounds.now v element.old.state)
         → element.new.state ≡ after_signals v
         (middle_signals k reply.now effects.activates effects.loads) element.old.state }
     ensures spare { element.old.spare ≤ element.new.spare + (reply.now.duration_changes + 7) }
@@ -187,6 +222,20 @@ fn is_blank(element: &Element) -> bool
     !element.level().has_metadata()
 }
 
+/// Whether nothing comes of a reply at the source, at the element and in the queue, as of each plain
+/// coded frame.
+fn is_quiet(side: &SourceSide, reply: &Reply) -> bool
+    ensures { result ≡ is_quiet reply.now side.now.state }
+{
+    !reply.reopened
+        && !reply.activated
+        && !reply.received_init
+        && reply.duration_changes == 0
+        && reply.events.len() == 0
+        && reply.fault.is_none()
+        && reply.duration == side.source.duration()
+}
+
 /// Does what a reply of the buffer of a number brings about at the source, at the element and in
 /// the queue, and ends the step. Where the element gets its metadata, `bounds` are those of what it
 /// has buffered then.
@@ -196,11 +245,44 @@ pub(crate) fn finish<S: FrameStore>(
     element: &mut Element,
     k: u32,
     reply: &Reply,
-    bounds: LoadBounds,
+    bounds: &LoadBounds,
 )
     requires places { reply.now.duration_changes + 14 ≤ element.old.spare }
     requires bounds { loads k reply.now (not (has_metadata element.old.state.player.level))
-        side.old.state ≡ true → IsReadyToLoad bounds
+        side.old.state ≡ true → IsReadyToLoad bounds.now
+        (reply_view k reply.now side.old buffers.now.buffers element.old.state)
+        element.old.state }
+    ensures side { side.new ≡ side_after k reply.now side.old }
+    ensures source { core_source side.new element.new.state
+        ≡ source_after k reply.now (core_source side.old element.old.state) }
+    ensures outer { outer_of element.new.state ≡ outer_after
+        (reply_view k reply.now side.old buffers.now.buffers element.old.state)
+        (reply_signals k reply.now (core_source side.old element.old.state))
+        (outer_of element.old.state) }
+    ensures settled { IsSettled (kept_scene
+        (kept side.new buffers.now.buffers element.new.state)) element.new.state }
+{
+    if is_quiet(side, reply) {
+        settle(side, buffers, element);
+    } else {
+        finish_aloud(side, buffers, element, k, reply, bounds);
+    }
+}
+
+/// The same, where something comes of the reply.
+#[cold]
+#[inline(never)]
+fn finish_aloud<S: FrameStore>(
+    side: &mut SourceSide,
+    buffers: &SourceBuffers<S>,
+    element: &mut Element,
+    k: u32,
+    reply: &Reply,
+    bounds: &LoadBounds,
+)
+    requires places { reply.now.duration_changes + 14 ≤ element.old.spare }
+    requires bounds { loads k reply.now (not (has_metadata element.old.state.player.level))
+        side.old.state ≡ true → IsReadyToLoad bounds.now
         (reply_view k reply.now side.old buffers.now.buffers element.old.state)
         element.old.state }
     ensures side { side.new ≡ side_after k reply.now side.old }
@@ -231,18 +313,18 @@ fn answer_of(reply: &Reply) -> Answer
     }
 }
 
-/// Finishes the step of a call on the buffer of a number that replied so, and answers it.
+/// Finishes the step of a call on the buffer of a number that replied so, which brings the element no
+/// metadata, and answers it.
 pub(crate) fn conclude<S: FrameStore>(
     side: &mut SourceSide,
     buffers: &SourceBuffers<S>,
     element: &mut Element,
     k: u32,
     reply: &Reply,
-    bounds: LoadBounds,
 ) -> Answer
     requires places { reply.now.duration_changes + 14 ≤ element.old.spare }
     requires bounds { loads k reply.now (not (has_metadata element.old.state.player.level))
-        side.old.state ≡ true → IsReadyToLoad bounds
+        side.old.state ≡ true → IsReadyToLoad no_bounds
         (reply_view k reply.now side.old buffers.now.buffers element.old.state)
         element.old.state }
     ensures side { side.new ≡ side_after k reply.now side.old }
@@ -255,6 +337,6 @@ pub(crate) fn conclude<S: FrameStore>(
     ensures settled { IsSettled (kept_scene
         (kept side.new buffers.now.buffers element.new.state)) element.new.state }
 {
-    finish(side, buffers, element, k, reply, bounds);
+    finish(side, buffers, element, k, reply, &LoadBounds::NONE);
     answer_of(reply)
 }

@@ -1,6 +1,6 @@
 //! What the element sees of the source and its buffers.
 
-ghost use Rattle.std.specs.Prelude.{◌≡◌, pos, int_lt, Bool, true, false, IfOk};
+ghost use Rattle.std.specs.Prelude.{◌≡◌, pos, int_lt, Bool, true, false, IfOk, OnOk};
 ghost use Rattle.mse_calls.specs.Level.{has_metadata};
 ghost use Rattle.media_element.specs.State.{ElementState};
 ghost use Rattle.mse_engine.specs.Scenes.{buffered_in, seekable_in, scene_with, span_at};
@@ -133,23 +133,37 @@ pub(crate) fn scene<S: FrameStore>(
     }
 }
 
-/// The bounds of what is buffered at the element, where it has no metadata: it may get it in the
-/// next step, and then it seeks where its default playback start position is above 0.
-pub(crate) fn bounds_at_load<S: FrameStore>(
+/// Finds the bounds of what is buffered at the element, where it has no metadata: it may get it in
+/// the next step, and then it seeks where its default playback start position is above 0.
+pub(crate) fn find_bounds<S: FrameStore>(
     side: &SourceSide,
     buffers: &SourceBuffers<S>,
     element: &Element,
-) -> Result<LoadBounds, OutOfMemory>
+    bounds: &mut LoadBounds,
+) -> Result<(), OutOfMemory>
     ensures { has_metadata element.now.state.player.level ≡ false
         → int_lt (pos 0) element.now.state.player.default_start ≡ true
-        → IfOk result (λ bounds. (ended : Bool) → HasBounds (bounds_at bounds ended)
+        → OnOk result ((ended : Bool) → HasBounds (bounds_at bounds.new ended)
         (element_ranges ended side.now.state.active (all_kept_media buffers.now.buffers))) }
 {
     if element.level().has_metadata() || element.default_start() <= Ticks::zero() {
-        return Ok(LoadBounds::NONE);
+        return Ok(());
     }
-    Ok(LoadBounds {
-        open: bounds_of(&buffered_by(side, buffers, false)?),
-        ended: bounds_of(&buffered_by(side, buffers, true)?),
-    })
+    find_all_bounds(side, buffers, bounds)
+}
+
+/// Finds the bounds of what is buffered at the element.
+#[cold]
+#[inline(never)]
+fn find_all_bounds<S: FrameStore>(
+    side: &SourceSide,
+    buffers: &SourceBuffers<S>,
+    bounds: &mut LoadBounds,
+) -> Result<(), OutOfMemory>
+    ensures { OnOk result ((ended : Bool) → HasBounds (bounds_at bounds.new ended)
+        (element_ranges ended side.now.state.active (all_kept_media buffers.now.buffers))) }
+{
+    bounds.open = bounds_of(&buffered_by(side, buffers, false)?);
+    bounds.ended = bounds_of(&buffered_by(side, buffers, true)?);
+    Ok(())
 }

@@ -7,7 +7,7 @@ ghost use Rattle.mse_engine.specs.Work.{after_element_turn, after_work};
 ghost use Rattle.mse_engine.specs.Standing.{IsFewerWork, IsSteady, IsWork, Stands, kept, no_bounds};
 
 use crate::engine::Worked;
-use crate::finish::{PLACES, conclude, settle};
+use crate::finish::{PLACES, finish, settle};
 use crate::scenes::{self, LoadBounds};
 use crate::side::{SourceSide, around};
 use buffer_state::{Reply, Turned};
@@ -16,17 +16,15 @@ use mse_base::OutOfMemory;
 use source_buffers::SourceBuffers;
 use track_store::FrameStore;
 
-/// The bounds behind a reply that brings metadata, of those before it: a buffer that becomes active
-/// has nothing yet, so that then there are none.
-fn bounds_behind(side: &SourceSide, k: u32, reply: &Reply, bounds: LoadBounds) -> LoadBounds
-    ensures { result ≡ (if reply.now.activated
+/// Makes the bounds those behind a reply that brings metadata, of those before it: a buffer that
+/// becomes active has nothing yet, so that then there are none.
+fn bring_behind(side: &SourceSide, k: u32, reply: &Reply, bounds: &mut LoadBounds)
+    ensures { bounds.new ≡ (if reply.now.activated
         && (has k side.now.state.listed || has k side.now.state.active)
-        then no_bounds else bounds) }
+        then no_bounds else bounds.old) }
 {
     if reply.activated && (side.source.listed(k) || side.source.active(k)) {
-        LoadBounds::NONE
-    } else {
-        bounds
+        *bounds = LoadBounds::NONE;
     }
 }
 
@@ -51,11 +49,12 @@ pub(crate) fn work_on<S: FrameStore>(
 {
     element.reserve(PLACES + 1)?;
     let around = around(side, element, k);
-    let bounds = scenes::bounds_at_load(side, buffers, element)?;
+    let mut bounds = LoadBounds::NONE;
+    scenes::find_bounds(side, buffers, element, &mut bounds)?;
     match buffers.turn(k, &around)? {
         Turned::Did(reply) => {
-            let bounds = bounds_behind(side, k, &reply, bounds);
-            conclude(side, buffers, element, k, &reply, bounds);
+            bring_behind(side, k, &reply, &mut bounds);
+            finish(side, buffers, element, k, &reply, &bounds);
             Ok(Worked::Did)
         }
         Turned::Idle => Ok(Worked::Idle),

@@ -1,11 +1,16 @@
-use Rattle.mse_engine.proofs.Finishing.{settled_element, settled_source, settled_again}
+use Rattle.std.proofs.Common.{◌∙◌, sym}
+use Rattle.element_seek.specs.Settling.{after_settle}
+use Rattle.element_seek.proofs.Settled.{settled-still}
+use Rattle.media_element.proofs.Heard.{silent}
+use Rattle.mse_engine.specs.Scenes.{scene_at}
+use Rattle.mse_engine.specs.Standing.{kept, kept_scene, view_of}
 use Rattle.mse_engine.proofs.finish.settle.Goals as goal
 
-pub returns-clause-source : goal.returns-clause-source
-returns-clause-source g c = settled_source c.scene-scene.result c.args.side.now c.args.element.now.state c.settle.new.self.state c.settle.ensures.state
+pub returns-else-not-is_settled-clause-element : goal.returns-else-not-is_settled-clause-element
+returns-else-not-is_settled-clause-element g c =
+    let e = c.args.element.now.state in
+    let scene = scene_at e.player.position (view_of c.args.side.now c.args.buffers.now.buffers e) in
+    sym (silent (after_settle scene) e (settled-still scene e.player (sym c.is_settled.ensures ∙ c.if-not-is_settled.false)))
 
-pub returns-clause-element : goal.returns-clause-element
-returns-clause-element g c = settled_element c.scene-scene.result c.args.side.now c.args.buffers.now.buffers c.args.element.now.state c.settle.new.self.state c.scene-scene.ensures c.settle.ensures.state
-
-pub returns-clause-settled : goal.returns-clause-settled
-returns-clause-settled g c = settled_again c.settled_once.ensures c.scene-scene.result c.args.side.now c.args.buffers.now.buffers c.args.element.now.state c.settle.new.self.state c.scene-scene.ensures c.settle.ensures.state
+pub returns-else-not-is_settled-clause-settled : goal.returns-else-not-is_settled-clause-settled
+returns-else-not-is_settled-clause-settled g c = settled-still (kept_scene (kept c.args.side.now c.args.buffers.now.buffers c.args.element.now.state)) c.args.element.now.state.player (sym c.is_settled.ensures ∙ c.if-not-is_settled.false)

@@ -1,0 +1,125 @@
+-- A reply of which nothing comes leaves the source as it is, and the element hears nothing of it.
+use Rattle.std.proofs.Common.{◌≡◌, ◌∙◌, ◌==◌, ℕ, zero, suc, Bool, true, false, not, cond, ◌&&◌, ◌||◌, List, [], ◌∷◌, ◌++◌, length, refl, sym, ap, arith}
+use Rattle.std.specs.Prelude.{Option, Some, None, is_none, replicate}
+use Rattle.std.proofs.lemmas.Bool.{and_parts}
+use Rattle.std.proofs.lemmas.Bool.Decides.{Decides-int_eq, nat_tests}
+use Rattle.std.proofs.lemmas.List.{append-nil}
+use Rattle.mse_base.specs.Moments.{same_moment}
+use Rattle.mse_base.specs.declared.ticks.Moment.{Moment}
+use Rattle.mse_base.specs.declared.ticks.Moment.TheVariants.{Nan, At, Infinite}
+use Rattle.mse_calls.specs.Level.{has_metadata, level_number}
+use Rattle.mse_calls.specs.declared.events.EventKind.{EventKind}
+use Rattle.mse_calls.specs.declared.views.FaultView.{FaultView}
+use Rattle.buffer_state.specs.declared.reply.Reply.{Reply}
+use Rattle.element_ready.specs.Levels.{level_at}
+use Rattle.element_seek.specs.declared.scene.Scene.{Scene}
+use Rattle.element_seek.specs.State.{PlayerState}
+use Rattle.element_seek.specs.Settling.{stays_by, stays_in}
+use Rattle.source_state.specs.State.{SourceState}
+use Rattle.source_buffers.specs.State.{KeptBuffers}
+use Rattle.media_element.specs.State.{ElementState}
+use Rattle.mse_engine.specs.State.{CoreSource, outer_of}
+use Rattle.mse_engine.specs.Scenes.{CoreView}
+use Rattle.mse_engine.specs.Signals.{Tell, after_signal, after_signals, after_settling, outer_after}
+use Rattle.mse_engine.specs.Replies.{is_quiet, source_after, reply_signals}
+use Rattle.mse_engine.specs.Standing.{SourceSide, core_source, reply_view, side_after, view_of}
+
+-- ---- the reply
+
+unset : (b : Bool) → not b ≡ true → b ≡ false
+unset true h = absurd cc
+unset false h = refl
+
+no_change : (n : ℕ) → (n == 0) ≡ true → n ≡ 0
+no_change n h = grind (arith, nat_tests)
+
+no_event : (kinds : List EventKind) → (length kinds == 0) ≡ true → kinds ≡ []
+no_event [] h = refl
+no_event (kind ∷ kinds) h = absurd (omega (arith, no_change (suc (length kinds)) h))
+
+no_fault : (fault : Option FaultView) → is_none fault ≡ true → fault ≡ None
+no_fault None h = refl
+no_fault (Some fault) h = absurd cc
+
+same : (a b : Moment) → same_moment a b ≡ true → a ≡ b
+same Nan Nan h = refl
+same Nan (At b) h = absurd cc
+same Nan Infinite h = absurd cc
+same (At a) Nan h = absurd cc
+same (At a) (At b) h = ap At ((Decides-int_eq a b).0 h)
+same (At a) Infinite h = absurd cc
+same Infinite Nan h = absurd cc
+same Infinite (At b) h = absurd cc
+same Infinite Infinite h = refl
+
+-- a reply of which nothing comes where the duration is this
+abbrev quieted : Reply → Moment → Reply
+quieted r d = record r {
+  reopened = false;
+  duration_changes = 0;
+  duration = d;
+  activated = false;
+  received_init = false;
+  events = [];
+  fault = None;
+}
+
+quiet_reply : (r : Reply) (s : SourceState) → is_quiet r s ≡ true → r ≡ quieted r s.duration
+quiet_reply r s h =
+    let lasts = same_moment r.duration s.duration in
+    let calm = is_none r.fault && lasts in
+    let untold = (length r.events == 0) && calm in
+    let kept = (r.duration_changes == 0) && untold in
+    let a = and_parts (not r.reopened) (not r.activated && (not r.received_init && kept)) h in
+    let b = and_parts (not r.activated) (not r.received_init && kept) a.1 in
+    let c = and_parts (not r.received_init) kept b.1 in
+    let d = and_parts (r.duration_changes == 0) untold c.1 in
+    let e = and_parts (length r.events == 0) calm d.1 in
+    let f = and_parts (is_none r.fault) lasts e.1 in
+    λ i. record r {
+      reopened = unset r.reopened a.0 i;
+      duration_changes = no_change r.duration_changes d.0 i;
+      duration = same r.duration s.duration f.1 i;
+      activated = unset r.activated b.0 i;
+      received_init = unset r.received_init c.0 i;
+      events = no_event r.events e.0 i;
+      fault = no_fault r.fault f.0 i;
+    }
+
+-- ---- the level of an element that has no metadata stays, whatever is buffered
+
+blank_by : (metadata finished x y : Bool) → metadata ≡ false → (not finished && (not metadata || x)) ≡ (not finished && (not metadata || y))
+blank_by true finished x y h = absurd cc
+blank_by false finished x y h = refl
+
+pub blank_stays : (scene : Scene) (d : Moment) (p : PlayerState) → not (has_metadata p.level) ≡ true → stays_by None d p ≡ stays_in scene p
+blank_stays scene d p h = blank_by (has_metadata p.level) p.finished (level_number (level_at None p.position d) == level_number p.level) (level_number (level_at scene.span p.position scene.duration) == level_number p.level) (unset (has_metadata p.level) h)
+
+-- ---- the source
+
+pub quiet_side : (k : ℕ) (r : Reply) (side : SourceSide) → is_quiet r side.state ≡ true → side_after k r side ≡ side
+quiet_side k r side h = ap (λ (x : Reply). side_after k x side) (quiet_reply r side.state h)
+
+pub quiet_source : (k : ℕ) (r : Reply) (s : CoreSource) → is_quiet r s.state ≡ true → source_after k r s ≡ s
+quiet_source k r s h = ap (λ (x : Reply). source_after k x s) (quiet_reply r s.state h)
+
+-- ---- the element
+
+nothing_told : (n : ℕ) (v : CoreView) (e : ElementState) → after_signals v (replicate n (Tell [])) e ≡ e
+nothing_told zero v e = refl
+nothing_told (suc n) v e =
+    let here : after_signal v (Tell []) e ≡ e = λ i. record { player = e.player; queue = append-nil e.queue i } in
+    ap (after_signals v (replicate n (Tell []))) here ∙ nothing_told n v e
+
+in_order : (first : Bool) (v : CoreView) (e : ElementState)
+    → after_signals v (Tell [] ∷ (cond first (replicate 3 (Tell [])) (replicate 3 (Tell [])) ++ Tell [] ∷ [])) e ≡ e
+in_order true v e = nothing_told 5 v e
+in_order false v e = nothing_told 5 v e
+
+pub quiet_outer : (k : ℕ) (r : Reply) (side : SourceSide) (ks : KeptBuffers) (e new : ElementState) → is_quiet r side.state ≡ true → new ≡ after_settling (view_of side ks e) e
+    → outer_of new ≡ outer_after (reply_view k r side ks e) (reply_signals k r (core_source side e)) (outer_of e)
+quiet_outer k r side ks e new h settled =
+    let quiet : r ≡ quieted r side.state.duration = quiet_reply r side.state h in
+    let told : outer_after (reply_view k (quieted r side.state.duration) side ks e) (reply_signals k (quieted r side.state.duration) (core_source side e)) (outer_of e) ≡ outer_of (after_settling (view_of side ks e) e)
+    = ap (λ (x : ElementState). outer_of (after_settling (view_of side ks e) x)) (in_order r.events_first (view_of side ks e) e) in
+    ap outer_of settled ∙ (sym told ∙ sym (ap (λ (x : Reply). outer_after (reply_view k x side ks e) (reply_signals k x (core_source side e)) (outer_of e)) quiet))
