@@ -1,6 +1,7 @@
 -- Single steps of a run.
-use Rattle.std.proofs.Common.{◌≡◌, ℕ, List, [], ◌∷◌, refl, ap}
+use Rattle.std.proofs.Common.{◌≡◌, ◌==◌, ℕ, suc, false, not, List, [], ◌∷◌, length, refl, ap, arith}
 use Rattle.std.specs.Prelude.{Option, Some, None, option_map, slice_get}
+use Rattle.std.proofs.lemmas.Bool.Decides.{nat_tests}
 use Rattle.mse_calls.specs.Answered.{Answered}
 use Rattle.mse_calls.specs.declared.events.Event.{Event}
 use Rattle.mse_calls.specs.declared.entry.Entry.{Entry}
@@ -66,3 +67,10 @@ fired_one (Some meant) event st h = ap (λ (x : Event). Fired x ∷ []) h
 pub no_event : (q : List Event) (st : State) (a b : Kept) → IsFired None a b (option_map (λ e. record { answer = e; state = without_first st }) (slice_get q 0)) → q ≡ []
 no_event [] st a b h = refl
 no_event (e ∷ q) st a b h = absurd h
+
+count_zero : (n : ℕ) → not (n == 0) ≡ false → n ≡ 0
+count_zero n h = grind (arith, nat_tests)
+
+pub none_waits : (q : List Event) → not (length q == 0) ≡ false → q ≡ []
+none_waits [] h = refl
+none_waits (e ∷ q) h = absurd (omega (arith, count_zero (suc (length q)) h))

@@ -102,7 +102,7 @@ impl<S: FrameStore> ScriptRun<S> {
         };
         match self.engine.work(k) {
             Ok(Worked::Did) => {
-                self.journal.push_reserved(Entry::Work(k));
+                self.journal.push_work_reserved(k);
                 Ok(true)
             }
             Ok(Worked::Idle) => Ok(false),
@@ -135,6 +135,22 @@ impl<S: FrameStore> ScriptRun<S> {
     /// Takes the first event off the queue; `None` where it is empty, and then nothing changed. An
     /// `Err` changes nothing.
     pub fn take_event(&mut self) -> Result<Option<Event>, OutOfMemory>
+        requires { IsStanding self.old.engine }
+        ensures ok { (blobs : List (List ℕ))
+            → IfOk result (λ taken. TookEvent blobs self.old self.new taken) }
+        ensures fewer { IfOk result (λ taken. IsSome taken
+            → IsTaken self.old.engine self.new.engine) }
+        ensures err { OnErr result (self.new ≡ self.old) }
+    {
+        if !self.engine.has_event() {
+            return Ok(None);
+        }
+        self.fire_first()
+    }
+
+    /// The same, with room for its entry.
+    #[inline(never)]
+    fn fire_first(&mut self) -> Result<Option<Event>, OutOfMemory>
         requires { IsStanding self.old.engine }
         ensures ok { (blobs : List (List ℕ))
             → IfOk result (λ taken. TookEvent blobs self.old self.new taken) }

@@ -14,7 +14,7 @@ pub returns-in-Ok-Did-clause-ok : goal.returns-in-Ok-Did-clause-ok
 returns-in-Ok-Did-clause-ok g c = λ blobs.
     let worked = rw c.in-Ok-Did.field-0-is at c.in-Ok-Did.ensures.worked in
     rw (← c.self.view_is) (record {
-      grew = rw c.reserve.ensures.entries at c.push_reserved.ensures.entries;
+      grew = rw c.reserve.ensures.entries at c.push_work_reserved.ensures.entries;
       goes = worked_goes blobs c.self.inside.engine c.work.new.self c.args.k worked c.in-Ok-Did.ensures.sound;
       left = refl;
     })
