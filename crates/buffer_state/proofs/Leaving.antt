@@ -68,3 +68,9 @@ pub fewer-error : (s0 s2 : StreamView) (m0 m2 : Media) (r2 : Running) (o : Optio
 fewer-error s0 s2 m0 m2 r2 o m d step.NoItem h leaves = absurd h
 fewer-error s0 s2 m0 m2 r2 o m d (step.Done b) h leaves = absurd h
 fewer-error s0 s2 m0 m2 r2 o m d (step.AppendError fault at b) h leaves = rw leaves (omega arith)
+
+-- where an item was given, and the append goes on
+pub fewer-given : (s t : StreamView) (m n : Media) (item : ByteItem) → StandsForSome s → GoesOn s (Some item) t → steps_left (kept t n Append) < steps_left (kept s m Append)
+fewer-given s t m n item some goes =
+    let one : items_left t.parser + 1 ≡ items_left s.parser = one-less s t item some goes in
+    omega arith

@@ -12,6 +12,7 @@ use Rattle.byte_stream.specs.Streams as byte_stream
 use Rattle.mse_base.specs.declared.frame.CodedFrame.{CodedFrame}
 use Rattle.mse_base.specs.declared.ticks.Moment.{Moment}
 use Rattle.track_buffers.specs.declared.effects.MediaFault.{MediaFault}
+use Rattle.track_buffers.specs.declared.effects.SourceEffect.{SourceEffect}
 use Rattle.track_buffers.specs.declared.effects.MediaEffect.{MediaEffect}
 use Rattle.track_buffers.specs.declared.effects.MediaEffect.TheVariants as effects
 use Rattle.track_buffers.specs.Media.{Media, MediaResult}
@@ -19,6 +20,7 @@ use Rattle.track_buffers.specs.Media as media
 use Rattle.track_buffers.specs.Effects.{media_result}
 use Rattle.track_buffers.specs.Initialized.{init_fault, init_result, init_result_of, segment_effect}
 use Rattle.track_buffers.specs.Frames.{frame_result}
+use Rattle.buffer_state.specs.declared.faults.Fault.TheVariants as Fault
 use Rattle.buffer_state.specs.declared.running.Running.{Running}
 use Rattle.buffer_state.specs.declared.reply.Reply.{Reply}
 use Rattle.buffer_state.specs.declared.turns.ItemEffect.{ItemEffect}
@@ -107,6 +109,16 @@ pub frame-step : (st : ItemEffect) (e : MediaEffect) (f : CodedFrame) (at : ℕ)
     → stepped st (record { media = m1; latest = latest }) ≡ Took (item_result (FrameItem f at) (record { media = m0; latest = latest }) d)
 frame-step st (effects.Done e) f at m0 m1 latest d is h = h ∙ ap (λ (r : MediaResult). Took (media_item_result r at latest (record { media = m0; latest = latest }))) is
 frame-step st (effects.AppendError fault e) f at m0 m1 latest d is h = h ∙ ap (λ (r : MediaResult). Took (media_item_result r at latest (record { media = m0; latest = latest }))) is
+
+-- a frame that breaks the byte stream
+pub frame-breaks : (s0 s1 s2 : StreamView) (m0 m1 m2 : Media) (r0 r2 : Running) (f : CodedFrame) (at : ℕ) (fault : MediaFault) (e : SourceEffect) (reply : Reply) (a : Surroundings) → GivesItem s0 (Some (FrameItem f at)) → GoesOn s0 (Some (FrameItem f at)) s1 → latest_of s1 ≡ latest_of s0
+    → media.AppendError fault m1 e ≡ frame_result f m0 a.duration
+    → Answers (kept s1 m1 r0) reply (kept s2 m2 r2) (step_turn (step.AppendError (Fault.Media fault) at e) a)
+    → Answers (kept s0 m0 r0) reply (kept s2 m2 r2) (λ f c. append_turn_result (next_item f) a f c)
+frame-breaks s0 s1 s2 m0 m1 m2 r0 r2 f at fault e reply a gives goes last is done =
+    let st : ItemEffect = step.AppendError (Fault.Media fault) at e in
+    append-turns s0 s1 s2 m0 m1 m2 r0 r2 (Some (FrameItem f at)) st reply a gives goes last
+    (λ latest. frame-step st (effects.AppendError fault e) f at m0 m1 latest a.duration is refl) done
 
 -- a segment that is refused
 abbrev pub DoesStep : ItemEffect → MediaEffect → ℕ → Type 0

@@ -7,7 +7,7 @@ ghost use Rattle.mse_types.specs.declared.answer.Container.{Container};
 ghost use Rattle.parser_loop.specs.Items.{InitItem, latest_after_any};
 ghost use Rattle.byte_stream.specs.Readings.{IsLasting};
 ghost use Rattle.byte_stream.specs.Readings as reading;
-ghost use Rattle.byte_stream.specs.Streams.{ForEachReading, StreamView, seen};
+ghost use Rattle.byte_stream.specs.Streams.{ForEachReading, StreamView, ready_of, seen};
 ghost use Rattle.track_buffers.specs.Effects.{media_result, source_effect};
 ghost use Rattle.track_buffers.specs.Media.{Media, EndsWithin, IsNotAfter};
 ghost use Rattle.buffer_state.specs.State.{Content, kept, next_item, surroundings};
@@ -23,7 +23,7 @@ use crate::running::Running;
 use byte_stream::{ByteFault, ByteStream, Next};
 use mse_base::{CodedFrame, Moment, OutOfMemory, Presentation, Ticks};
 use mse_calls::{Changes, EventKind};
-use track_buffers::{MediaEffect, SourceEffect, TrackBuffers, media_track_count};
+use track_buffers::{MediaEffect, MediaFault, SourceEffect, TrackBuffers, media_track_count};
 use track_store::FrameStore;
 
 /// What the next item did.
@@ -76,14 +76,15 @@ fn prepare_init<S: FrameStore>(
     Ok(None)
 }
 
-/// Prepares the next item, before it is taken: it makes room for what the item stores, or finds the
-/// fault by which it is refused.
+/// Prepares the next item where it is no coded frame, before it is taken: it makes room for what the
+/// item stores, or finds the fault by which it is refused.
 fn prepare<S: FrameStore>(
     stream: &ByteStream,
     media: &mut TrackBuffers<S>,
     duration: Moment,
 ) -> Result<Option<ItemEffect>, OutOfMemory>
-    requires { stream.now.offered ≡ None }
+    requires none_offered { stream.now.offered ≡ None }
+    requires none_ready { ready_of stream.now ≡ 0 }
     ensures media { media.new.media ≡ media.old.media }
     ensures prepared { ForEachReading stream.now (λ r.
         IfOk result (λ o. IsPrepared o (reading.next_item r) media.new duration)) }
@@ -91,10 +92,6 @@ fn prepare<S: FrameStore>(
         (λ step. IsNotAfter duration (duration_after step duration))) }
     ensures changes { IfOk result (λ o. IfSome o (λ step. changes_after step ≤ 1)) }
 {
-    if stream.ready_frames() > 0 {
-        media.reserve_frames(1)?;
-        return Ok(None);
-    }
     match stream.look(0)? {
         Next::Init(presentation, offset) => prepare_init(media, &presentation, offset, duration),
         _ => Ok(None),
@@ -160,8 +157,37 @@ fn answer<S: FrameStore>(
     }
 }
 
-/// One step of an append. It takes its memory first.
-pub(crate) fn append_turn<S: FrameStore>(
+/// What comes of a coded frame that breaks the byte stream.
+fn frame_fault<S: FrameStore>(
+    stream: &mut ByteStream,
+    media: &mut TrackBuffers<S>,
+    running: &mut Running,
+    fault: MediaFault,
+    offset: u64,
+    effect: SourceEffect,
+    around: &Around,
+) -> Reply
+    requires { stream.old.offered ≡ None }
+    ensures answered { Answers (kept stream.old media.old.media running.old) result
+        (kept stream.new media.new.media running.new)
+        (step_turn (ItemEffect.AppendError (Fault.Media fault) offset effect)
+        (surroundings around.now)) }
+    ensures within_duration { (d : Moment) → EndsWithin d media.old.media.tracks
+        → EndsWithin d media.new.media.tracks }
+    ensures duration { result.duration ≡ effect.duration }
+    ensures changes { result.duration_changes ≡ effect.duration_changes }
+    ensures rests { running.new ≡ Running.Nothing }
+    ensures none_offered { stream.new.offered ≡ None }
+{
+    media.reset_parser();
+    stream.reset();
+    *running = Running::Nothing;
+    let fault = fault_view(Fault::Media(fault), around.number, offset);
+    error_reply(fault, effect)
+}
+
+/// One step of an append where a coded frame comes next.
+fn frame_turn<S: FrameStore>(
     stream: &mut ByteStream,
     media: &mut TrackBuffers<S>,
     running: &mut Running,
@@ -169,6 +195,44 @@ pub(crate) fn append_turn<S: FrameStore>(
 ) -> Result<Reply, OutOfMemory>
     requires none_offered { stream.old.offered ≡ None }
     requires appending { running.old ≡ Running.Append }
+    requires ready { 0 < ready_of stream.old }
+    ensures answered { IfOk result (λ reply. Answers
+        (kept stream.old media.old.media running.old) reply
+        (kept stream.new media.new.media running.new) (λ f c. append_turn_result (next_item f)
+        (surroundings around.now) f c)) }
+    ensures within_duration { IfOk result
+        (λ reply. StaysWithin around.now.duration media.old.media reply media.new.media) }
+    ensures no_fall { IfOk result (λ reply. IsNotAfter around.now.duration reply.duration) }
+    ensures changes { IfOk result (λ reply. reply.duration_changes ≤ 1) }
+    ensures fewer { OnOk result
+        (steps_left (kept stream.new media.new.media running.new) < steps_left
+        (kept stream.old media.old.media running.old)) }
+    ensures none_offered { stream.new.offered ≡ None }
+    ensures err { OnErr result (kept stream.new media.new.media running.new
+        ≡ kept stream.old media.old.media running.old) }
+{
+    media.reserve_frames(1)?;
+    // that the stream stands for some string is used where the frame is taken
+    stream.stands();
+    let (frame, offset) = stream.next_frame()?;
+    match media.process(frame, around.duration) {
+        MediaEffect::Done(effect) => Ok(effect_reply(false, effect, Changes::new())),
+        MediaEffect::AppendError(fault, effect) => {
+            Ok(frame_fault(stream, media, running, fault, offset, effect, around))
+        }
+    }
+}
+
+/// One step of an append where no coded frame comes next.
+fn item_turn<S: FrameStore>(
+    stream: &mut ByteStream,
+    media: &mut TrackBuffers<S>,
+    running: &mut Running,
+    around: &Around,
+) -> Result<Reply, OutOfMemory>
+    requires none_offered { stream.old.offered ≡ None }
+    requires appending { running.old ≡ Running.Append }
+    requires none_ready { ready_of stream.old ≡ 0 }
     ensures answered { IfOk result (λ reply. Answers
         (kept stream.old media.old.media running.old) reply
         (kept stream.new media.new.media running.new) (λ f c. append_turn_result (next_item f)
@@ -194,6 +258,36 @@ pub(crate) fn append_turn<S: FrameStore>(
             Ok(answer(stream, media, running, step, around))
         }
     }
+}
+
+/// One step of an append. It takes its memory first.
+pub(crate) fn append_turn<S: FrameStore>(
+    stream: &mut ByteStream,
+    media: &mut TrackBuffers<S>,
+    running: &mut Running,
+    around: &Around,
+) -> Result<Reply, OutOfMemory>
+    requires none_offered { stream.old.offered ≡ None }
+    requires appending { running.old ≡ Running.Append }
+    ensures answered { IfOk result (λ reply. Answers
+        (kept stream.old media.old.media running.old) reply
+        (kept stream.new media.new.media running.new) (λ f c. append_turn_result (next_item f)
+        (surroundings around.now) f c)) }
+    ensures within_duration { IfOk result
+        (λ reply. StaysWithin around.now.duration media.old.media reply media.new.media) }
+    ensures no_fall { IfOk result (λ reply. IsNotAfter around.now.duration reply.duration) }
+    ensures changes { IfOk result (λ reply. reply.duration_changes ≤ 1) }
+    ensures fewer { OnOk result
+        (steps_left (kept stream.new media.new.media running.new) < steps_left
+        (kept stream.old media.old.media running.old)) }
+    ensures none_offered { stream.new.offered ≡ None }
+    ensures err { OnErr result (kept stream.new media.new.media running.new
+        ≡ kept stream.old media.old.media running.old) }
+{
+    if stream.ready_frames() > 0 {
+        return frame_turn(stream, media, running, around);
+    }
+    item_turn(stream, media, running, around)
 }
 
 /// A removal, in one step.

@@ -32,7 +32,7 @@ use Rattle.adts_stream.specs.Frames as frame
 use Rattle.adts_stream.proofs.Places.{IsAt, item-place}
 use Rattle.adts_stream.proofs.Lasting.{coded-lasts}
 use Rattle.byte_stream.specs.declared.next.Next.{Next}
-use Rattle.byte_stream.specs.Readings.{ByteItem, of_segments, of_frames, items_of, items_in as reading_items, IsLasting}
+use Rattle.byte_stream.specs.Readings.{Reading, ByteItem, of_segments, of_frames, items_of, items_in as reading_items, IsLasting}
 use Rattle.byte_stream.specs.Streams.{StreamView, ForEachReading, StandsForSome, seen}
 use Rattle.byte_stream.proofs.Durations.{Lasts, plan-lasts}
 
@@ -145,6 +145,10 @@ items-last Adts before whole = All-map IsLasting of_frames (frame.Items before w
 lasting-one : (items : List ByteItem) (k : ℕ) (o : Option ByteItem) → All IsLasting items → o ≡ slice_get items k → IfSome o IsLasting
 lasting-one items k None h e = tt
 lasting-one items k (Some item) h e = subst IsLasting (get_or_from_slice_get items k item item (sym e)) (All-get_or IsLasting items k item (slice_get_within items k item (sym e)) h)
+
+-- the item that is next
+pub lasting-item : (r : Reading) (o : Option ByteItem) → o ≡ slice_get (reading_items r) r.taken → IfSome o IsLasting
+lasting-item r o e = lasting-one (reading_items r) r.taken o (items-last r.container r.before r.whole) e
 
 pub shows-lasting : {E : Type 0} (result : Result Next E) (s : StreamView) (at : ℕ → ℕ) → StandsForSome s → ForEachReading s (λ r. IfOk result (λ x. seen x ≡ slice_get (reading_items r) (at r.taken))) → IfOk result (λ x. IfSome (seen x) IsLasting)
 shows-lasting (Ok x) s at h f = let r = h.reading in lasting-one (reading_items r) (at r.taken) (seen x) (items-last r.container r.before r.whole) (f r h.stands)

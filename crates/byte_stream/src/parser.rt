@@ -1,14 +1,14 @@
 ghost use Rattle.std.specs.Prelude.{◌≡◌, ◌+◌, ◌<◌, ◌^◌, ◌⊎◌, length, Option, None, Some, IsSome, IfSome, IfOk, OnOk, OnErr};
-ghost use Rattle.parser_loop.specs.Items.{latest_after_any};
+ghost use Rattle.parser_loop.specs.Items.{FrameItem, latest_after_any};
 ghost use Rattle.adts_stream.specs.Walk.{phase_of as phase_of_point};
 ghost use Rattle.byte_stream.specs.Readings.{new_reading, next_item, item_ahead, with_bytes, after_answer, after_reset};
-ghost use Rattle.byte_stream.specs.Streams.{Stands, StandsAfter, ForEachReading, StreamView, stream_view, latest_of, ready_of, phase_of, held_of, seen};
+ghost use Rattle.byte_stream.specs.Streams.{Stands, StandsForSome, StandsAfter, ForEachReading, StreamView, stream_view, latest_of, ready_of, phase_of, held_of, seen};
 
 use crate::next::{Next, frame_next, segment_next};
-use adts_stream::AdtsStream;
-use mse_base::{Bytes, OutOfMemory, Phase};
+use adts_stream::{AdtsNext, AdtsStream};
+use mse_base::{Bytes, CodedFrame, OutOfMemory, Phase};
 use mse_types::Container;
-use segment_stream::Stream;
+use segment_stream::{Next as SegmentNext, Stream};
 use std::alloc::Global;
 
 /// The parser of a container.
@@ -122,6 +122,33 @@ impl Parser {
         match self {
             Parser::Segments(stream) => Ok(segment_next(stream.next()?)),
             Parser::Frames(stream) => Ok(frame_next(stream.next()?)),
+        }
+    }
+
+    /// The coded frame that comes next, with the offset of its first byte.
+    pub(crate) fn next_frame(&mut self) -> Result<(CodedFrame, u64), OutOfMemory>
+        requires idle { (stream_view self.old).offered ≡ None }
+        requires ready { 0 < ready_of (stream_view self.old) }
+        requires stands { StandsForSome (stream_view self.old) }
+        ensures item { ForEachReading (stream_view self.old) (λ r.
+            IfOk result (λ x. Some (FrameItem x.0 x.1) ≡ next_item r)) }
+        ensures stands { ForEachReading (stream_view self.old) (λ r. IfOk result
+            (λ x. Stands (stream_view self.new) (after_answer (Some (FrameItem x.0 x.1)) r))) }
+        ensures latest { OnOk result
+            (latest_of (stream_view self.new) ≡ latest_of (stream_view self.old)) }
+        ensures fed { (stream_view self.new).fed ≡ (stream_view self.old).fed }
+        ensures idle { (stream_view self.new).offered ≡ None }
+        ensures err { OnErr result (stream_view self.new ≡ stream_view self.old) }
+    {
+        match self {
+            Parser::Segments(stream) => match stream.next()? {
+                SegmentNext::Frame(frame, offset) => Ok((frame, offset)),
+                _ => unreachable!(),
+            },
+            Parser::Frames(stream) => match stream.next()? {
+                AdtsNext::Frame(frame, offset) => Ok((frame, offset)),
+                _ => unreachable!(),
+            },
         }
     }
 

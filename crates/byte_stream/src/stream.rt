@@ -1,10 +1,10 @@
-ghost use Rattle.std.specs.Prelude.{◌≡◌, ◌+◌, ◌<◌, ◌^◌, ◌⊎◌, length, Some, None, IsSome, IfSome, IfOk, OnOk, OnErr};
-ghost use Rattle.parser_loop.specs.Items.{latest_after_any};
+ghost use Rattle.std.specs.Prelude.{◌≡◌, ◌+◌, ◌<◌, ◌^◌, ◌⊎◌, pos, ◌≤ℤ◌, length, Some, None, IsSome, IfSome, IfOk, OnOk, OnErr};
+ghost use Rattle.parser_loop.specs.Items.{FrameItem, latest_after_any};
 ghost use Rattle.byte_stream.specs.Readings.{new_reading, reading_from, next_item, item_ahead, ready_at, phase_at, held_at, with_bytes, after_answer, after_reset, IsLasting};
 
 use crate::next::Next;
 use crate::parser::Parser;
-use mse_base::{Bytes, OutOfMemory, Phase};
+use mse_base::{Bytes, CodedFrame, OutOfMemory, Phase};
 use mse_types::Container;
 use std::alloc::Global;
 use std::marker::Model;
@@ -134,6 +134,24 @@ impl ByteStream {
         ensures lasting { IfOk result (λ next. IfSome (seen next) IsLasting) }
     {
         self.parser.next()
+    }
+
+    /// The coded frame that comes next, with the offset of its first byte in the string, where one is ready. An
+    /// `Err` changes nothing.
+    pub fn next_frame(&mut self) -> Result<(CodedFrame, u64), OutOfMemory>
+        requires idle { self.old.offered ≡ None }
+        requires ready { 0 < ready_of self.old }
+        ensures item { ForEachReading self.old (λ r.
+            IfOk result (λ x. Some (FrameItem x.0 x.1) ≡ next_item r)) }
+        ensures stands { ForEachReading self.old (λ r. IfOk result
+            (λ x. Stands self.new (after_answer (Some (FrameItem x.0 x.1)) r))) }
+        ensures latest { OnOk result (latest_of self.new ≡ latest_of self.old) }
+        ensures fed { self.new.fed ≡ self.old.fed }
+        ensures idle { self.new.offered ≡ None }
+        ensures err { OnErr result (self.new ≡ self.old) }
+        ensures lasting { IfOk result (λ x. pos 0 ≤ℤ x.0.dur) }
+    {
+        self.parser.next_frame()
     }
 
     /// Hands out that the stream stands for some string; it does nothing.

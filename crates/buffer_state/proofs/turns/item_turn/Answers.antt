@@ -12,7 +12,7 @@ use Rattle.buffer_state.specs.Steps.{Leaves, IsPrepared, IsRefused}
 use Rattle.buffer_state.specs.Left.{steps_left}
 use Rattle.buffer_state.proofs.Stepping.{append-turns, refusal-turns}
 use Rattle.buffer_state.proofs.Leaving.{fewer}
-use Rattle.buffer_state.proofs.turns.append_turn.Goals as goal
+use Rattle.buffer_state.proofs.turns.item_turn.Goals as goal
 
 -- the segment that comes next is refused; the media is as before it was judged
 pub returns-in-Some-clause-answered : goal.returns-in-Some-clause-answered
