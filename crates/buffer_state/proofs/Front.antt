@@ -13,16 +13,7 @@ use Rattle.byte_stream.specs.Readings.{ByteItem, IsLasting}
 use Rattle.track_buffers.specs.Media.{MediaView}
 use Rattle.buffer_state.specs.Steps.{IsReadyFor, IsNoInit, frame_in}
 
--- where a frame is ready, room for one frame is enough
-pub place-ready : (items : List ByteItem) (n : ℕ) (m : MediaView) → 0 < length (leading_frames (drop n items)) → 1 ≤ m.room → IsReadyFor (slice_get items n) m
-place-ready [] n m h room = tt
-place-ready (InitItem p at ∷ items) zero m h room = absurd (omega arith)
-place-ready (FrameItem f at ∷ items) zero m h room = room
-place-ready (SegmentEnd ∷ items) zero m h room = tt
-place-ready (FaultItem f at ∷ items) zero m h room = tt
-place-ready (item ∷ items) (suc n) m h room = place-ready items n m h room
-
--- where none is, and no initialization segment comes next, nothing is needed
+-- where no frame is ready, and no initialization segment comes next, nothing is needed
 pub place-other : (items : List ByteItem) (n : ℕ) (m : MediaView) → length (leading_frames (drop n items)) ≤ 0 → IsNoInit (slice_get items n) → IsReadyFor (slice_get items n) m
 place-other [] n m h other = tt
 place-other (InitItem p at ∷ items) zero m h other = absurd other
