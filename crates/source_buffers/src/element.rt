@@ -277,7 +277,8 @@ fn span_at<S: FrameStore>(
 }
 
 /// The range of the element that holds a time: one look-up in each track of each active buffer.
-pub(crate) fn element_span<S: FrameStore>(
+#[inline(never)]
+fn shared_span<S: FrameStore>(
     slots: &Vec<Option<Buffer<S>>>,
     active: &[u32],
     t: Ticks,
@@ -295,4 +296,57 @@ pub(crate) fn element_span<S: FrameStore>(
         span = overlap_of_two(span, span_at(slots, active, i, t, ended, &end));
     }
     span
+}
+
+/// The range of the buffer in a slot that holds a time, where the source is not ended.
+fn own_slot_span<S: FrameStore>(slot: &Option<Buffer<S>>, t: Ticks) -> Option<Span>
+    ensures { result ≡ find (reaches t) (slot_ranges false (kept_media slot.now)) }
+{
+    match slot {
+        Some(buffer) => buffer.span_holding(t, false),
+        None => None,
+    }
+}
+
+fn own_span_in<S: FrameStore>(slots: &Vec<Option<Buffer<S>>>, k: usize, t: Ticks) -> Option<Span>
+    ensures { result ≡ find (reaches t)
+        (slot_ranges false (in_slot k (all_kept_media slots.now.items))) }
+{
+    match slot_at(slots, k) {
+        Some(slot) => own_slot_span(slot, t),
+        None => None,
+    }
+}
+
+/// The range of the active buffer at a place that holds a time, where the source is not ended.
+fn own_span_at<S: FrameStore>(
+    slots: &Vec<Option<Buffer<S>>>,
+    active: &[u32],
+    i: usize,
+    t: Ticks,
+) -> Option<Span>
+    ensures { IfSome (slice_get
+        (active_ranges false active.now (all_kept_media slots.now.items)) i)
+        (λ r. result ≡ find (reaches t) r) }
+{
+    match number_at(active, i) {
+        Some(k) => own_span_in(slots, k as usize, t),
+        None => None,
+    }
+}
+
+/// The range of the element that holds a time. That of one active buffer is its own where the
+/// source is not ended.
+pub(crate) fn element_span<S: FrameStore>(
+    slots: &Vec<Option<Buffer<S>>>,
+    active: &[u32],
+    t: Ticks,
+    ended: bool,
+) -> Option<Span>
+    ensures { result ≡ element_span t ended active.now (all_kept_media slots.now.items) }
+{
+    if !ended && active.len() == 1 {
+        return own_span_at(slots, active, 0, t);
+    }
+    shared_span(slots, active, t, ended)
 }

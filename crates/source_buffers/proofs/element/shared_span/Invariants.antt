@@ -5,7 +5,7 @@ use Rattle.mse_base.specs.Meets.{meet_of_all}
 use Rattle.track_buffers.specs.Buffered.{with_end}
 use Rattle.source_buffers.specs.State.{all_kept_media}
 use Rattle.source_buffers.specs.Buffered.{active_ranges}
-use Rattle.source_buffers.proofs.element.element_span.Given as goal
+use Rattle.source_buffers.proofs.element.shared_span.Given as goal
 
 abbrev pub invariant-loop-i : goal.invariant-loop-i
 invariant-loop-i g l = record {

@@ -10,7 +10,7 @@ use Rattle.track_buffers.proofs.Lookups.{held_first, held_more}
 use Rattle.source_buffers.specs.State.{all_kept_media, in_slot}
 use Rattle.source_buffers.specs.Buffered.{active_ranges, slot_ranges}
 use Rattle.source_buffers.proofs.Looking.{active_normalized, none_active}
-use Rattle.source_buffers.proofs.element.element_span.Goals as goal
+use Rattle.source_buffers.proofs.element.shared_span.Goals as goal
 
 pub returns-then-active-eq0 : goal.returns-then-active-eq0
 returns-then-active-eq0 g c = ap (λ (rs : List Span). find (reaches c.args.t) rs) (none_active c.args.ended c.args.active.now (all_kept_media c.args.slots.now.items) (omega (arith, c.if-active-eq0.true)))
