@@ -1,5 +1,5 @@
 -- Look-ups over blocks.
-use Rattle.std.proofs.Common.{◌≡◌, ◌∙◌, ℕ, zero, suc, ℤ, pos, ◌+◌, ◌-◌, ◌<◌, ◌≤◌, ◌+ℤ◌, ◌≤ℤ◌, ◌<ℤ◌, Bool, true, false, not, cond, ◌&&◌, ◌||◌, List, [], ◌∷◌, ◌++◌, length, take, drop, filter, Option, Some, None, refl, sym, ap, subst, inl, inr, ◌⊎◌, arith}
+use Rattle.std.proofs.Common.{◌≡◌, ◌∙◌, ℕ, zero, suc, ℤ, pos, ◌+◌, ◌-◌, ◌<◌, ◌≤◌, ◌+ℤ◌, ◌≤ℤ◌, ◌<ℤ◌, Bool, true, false, not, cond, ◌&&◌, ◌||◌, List, [], ◌∷◌, ◌++◌, length, get_or, take, drop, insert, filter, Option, Some, None, refl, sym, ap, subst, inl, inr, ◌⊎◌, arith}
 use Rattle.std.specs.List.{AllByRecursion, list_any}
 use Rattle.std.proofs.lemmas.Int.{ints}
 use Rattle.std.proofs.lemmas.List.{drop_all, take-append-drop, append_assoc, append-nil, length-append}
@@ -12,12 +12,12 @@ use Rattle.block_list.proofs.Ranging.{take_at, row_count}
 use Rattle.mse_base.specs.Moments.{is_before}
 use Rattle.track_index.specs.declared.entry.Entry.{Entry}
 use Rattle.track_index.specs.declared.key.Key.{Key}
-use Rattle.track_index.specs.Order.{entry_covers, or_else, last_that, first_start, is_sync_from, is_ended}
+use Rattle.track_index.specs.Order.{end_of, entry_covers, or_else, last_that, first_start, is_sync_from, is_ended}
 use Rattle.track_index.specs.Keyed.{before_key}
 use Rattle.track_index.specs.Known.{is_sync, greatest_end, later_end}
 use Rattle.track_index.specs.Tops.{running, tops_of, RunsFrom}
 use Rattle.track_index.proofs.Ordering.{last-append, last_none, each_take, begin_later}
-use Rattle.track_index.proofs.Ending.{length_running, runs_kept, front_kept, greatest-append, none_covers}
+use Rattle.track_index.proofs.Ending.{length_running, runs_kept, front_kept, greatest-append, greatest_with, top_at, none_covers}
 use Rattle.track_index.proofs.Keys.{highs, lows, filter_front}
 
 less_cases : (m n : ℕ) → (m < n) ⊎ (n ≤ m)
@@ -72,6 +72,14 @@ ready ts old new b cap e l m f c front rest =
       front = front_kept ts old new b e front;
       rest = subst (λ (k : ℕ). RunsFrom (b + 1) ts ((b + 1 + length new) - k) new) (sym n) (runs_kept ts ts old new b ((b + 1 + length new) - length old) e l rest);
     }
+
+-- the last end, made later by that of an entry that came
+pub top_with : (ts : List (Option ℤ)) (old new : List (List Entry)) (b k : ℕ) (x : Entry) (end : ℤ) → ts ≡ tops_of old → b + 1 ≡ length old → end ≡ end_of x → joined new ≡ insert (joined old) k x → later_end (get_or ts b None) (Some end) ≡ greatest_end (joined new)
+top_with ts old new b k x end e l z j =
+    let os = joined old in
+    let n : b + 1 - 1 ≡ b = omega arith in
+    let top : get_or ts b None ≡ greatest_end os = ap (λ i. get_or ts i None) (sym n) ∙ top_at ts old (b + 1) None e (omega arith) (omega arith) ∙ ap (λ rows. greatest_end (joined rows)) (rows_all old (b + 1) l) in
+    ap (λ t. later_end t (Some end)) top ∙ ap (λ t. later_end (greatest_end os) (Some t)) z ∙ ap (λ zs. later_end (greatest_end zs) (Some (end_of x))) (sym (take-append-drop k os)) ∙ greatest_with (take k os) (drop k os) x ∙ ap greatest_end (sym j)
 
 pub first_ready : (ts : List (Option ℤ)) (old new : List (List Entry)) (cap : ℕ) → ts ≡ tops_of old → length old ≡ 0 → length new ≤ 1 → length new ≤ cap → Ready ts new 0 cap
 first_ready ts old new cap e l m c =

@@ -55,7 +55,7 @@ greatest_more os i x l at =
     sym (greatest-append (take i os) (x ∷ [])) ∙ ap greatest_end (ap (λ z. take i os ++ z ∷ []) at ∙ sym (take_more os i x l))
 
 -- one item more among some
-greatest_with : (xs ys : List Entry) (x : Entry) → later_end (greatest_end (xs ++ ys)) (Some (end_of x)) ≡ greatest_end (xs ++ x ∷ ys)
+pub greatest_with : (xs ys : List Entry) (x : Entry) → later_end (greatest_end (xs ++ ys)) (Some (end_of x)) ≡ greatest_end (xs ++ x ∷ ys)
 greatest_with xs ys x =
     let a = greatest_end xs in let b = greatest_end ys in let c = Some (end_of x) in
     let here : greatest_end (x ∷ ys) ≡ later_end (Some (end_of x)) (greatest_end ys) = greatest-append (x ∷ []) ys in
@@ -241,6 +241,22 @@ take_running best (r ∷ rows) (suc n) = ap (λ ts. later_end best (greatest_end
 
 pub front_kept : (ts : List (Option ℤ)) (old rows : List (List Entry)) (b : ℕ) → ts ≡ tops_of old → take b rows ≡ take b old → take b ts ≡ take b (tops_of rows)
 front_kept ts old rows b e f = ap (take b) e ∙ take_running None old b ∙ ap (running None) (sym f) ∙ sym (take_running None rows b)
+
+-- the last end, made anew from all that stands before it
+last_from : (best : Option ℤ) (ts : List (Option ℤ)) (rows : List (List Entry)) (b : ℕ) (top : Option ℤ) → suc b ≡ length ts → length rows ≡ length ts → take b ts ≡ take b (running best rows) → top ≡ later_end best (greatest_end (joined rows)) → set ts b top ≡ running best rows
+last_from best [] rows b top l m f e = absurd (omega arith)
+last_from best (t ∷ ts) [] b top l m f e = absurd (omega arith)
+last_from best (t ∷ []) (r ∷ []) zero top l m f e = ap (λ z. z ∷ []) (e ∙ ap (λ q. later_end best (greatest_end q)) (append-nil r))
+last_from best (t ∷ []) (r ∷ s ∷ rows) zero top l m f e = absurd (omega arith)
+last_from best (t ∷ u ∷ ts) (r ∷ rows) zero top l m f e = absurd (omega arith)
+last_from best (t ∷ ts) (r ∷ rows) (suc b) top l m f e =
+    let next = later_end best (greatest_end r) in
+    let rest = last_from next ts rows b top (omega arith) (omega arith) (tail_same _ _ _ _ f) (e ∙ ap (later_end best) (greatest-append r (joined rows)) ∙ sym (later_assoc best (greatest_end r) (greatest_end (joined rows)))) in
+    ap (λ z. z ∷ set ts b top) (head_same _ _ _ _ f) ∙ ap (λ zs. next ∷ zs) rest
+
+-- the last of the ends is that of all entries
+pub last_top : (ts : List (Option ℤ)) (rows : List (List Entry)) (b : ℕ) (top : Option ℤ) → b + 1 ≡ length ts → length rows ≡ length ts → take b ts ≡ take b (tops_of rows) → top ≡ greatest_end (joined rows) → set ts b top ≡ tops_of rows
+last_top ts rows b top l m f e = last_from None ts rows b top (omega arith) m f e
 
 -- ---- what has ended
 

@@ -37,7 +37,7 @@ pub(crate) fn later_end(a: Option<Mark>, b: Option<Mark>) -> Option<Mark>
     }
 }
 
-fn end_mark(entry: &Entry) -> Mark
+pub(crate) fn end_mark(entry: &Entry) -> Mark
     ensures { result ≡ end_of entry.now }
 {
     Mark::beyond(entry.pts, entry.dur)

@@ -13,9 +13,9 @@ ghost use Rattle.track_index.specs.Tops.{tops_of};
 
 use crate::entry::{Entry, covers, is_sync_from};
 use crate::key::Key;
-use crate::known::{Known, greatest_end, later_end};
+use crate::known::{Known, end_mark, greatest_end, later_end};
 use crate::mark::Mark;
-use crate::tops::{refresh, top_before};
+use crate::tops::{refresh, refresh_with, top_before};
 use block_list::{BlockList, Spot, search};
 use mse_base::{Moment, OutOfMemory, Ticks};
 use std::alloc::Global;
@@ -234,8 +234,9 @@ impl Order {
             return;
         }
         let spot = search(&self.list, &key);
+        let end = end_mark(&entry);
         self.list.insert(spot, entry);
-        refresh(&mut self.tops, &self.list, spot.block);
+        refresh_with(&mut self.tops, &self.list, spot.block, end);
     }
 
     /// Takes out the entry of a serial, which begins at `pts`.

@@ -1,9 +1,9 @@
 //! The running ends of an order in blocks: for each block the greatest end of its entries and of
 //! all before them.
 
-ghost use Rattle.std.specs.Prelude.{◌≡◌, ◌+◌, ◌-◌, ◌<◌, ◌≤◌, length, take, vec_len, vec_capacity, drop, slice_index_or, None, true};
+ghost use Rattle.std.specs.Prelude.{◌≡◌, ◌+◌, ◌-◌, ◌<◌, ◌≤◌, length, take, vec_len, vec_capacity, drop, slice_index_or, Some, None, true};
 ghost use Rattle.block_list.specs.Rows.{joined, row};
-ghost use Rattle.track_index.specs.Known.{greatest_end};
+ghost use Rattle.track_index.specs.Known.{greatest_end, later_end};
 ghost use Rattle.track_index.specs.Tops.{tops_of, RunsFrom};
 
 use crate::entry::Entry;
@@ -92,6 +92,37 @@ fn adjust(tops: &mut Vec<Option<Mark>>, b: usize, after: usize)
     if after < before {
         tops.remove(b);
     }
+}
+
+/// Makes the running ends anew after an entry that ends at `end` came into block `b`, which may
+/// have been cut in two. No block follows the last one: only its own end may become later.
+pub(crate) fn refresh_with(
+    tops: &mut Vec<Option<Mark>>,
+    list: &BlockList<Entry, Known>,
+    b: usize,
+    end: Mark,
+)
+    requires within { b ≤ length tops.old.items }
+    requires more { length list.now.rows ≤ length tops.old.items + 1 }
+    requires fewer { length tops.old.items ≤ length list.now.rows + 1 }
+    requires gone { length list.now.rows < length tops.old.items → b < length tops.old.items }
+    requires room { length list.now.rows ≤ vec_capacity tops.old }
+    requires front { take b tops.old.items ≡ take b (tops_of list.now.rows) }
+    requires rest { RunsFrom (b + 1) tops.old.items
+        ((b + 1 + length list.now.rows) - length tops.old.items) list.now.rows }
+    requires last { b + 1 ≡ length tops.old.items
+        → later_end (slice_index_or tops.old.items b None) (Some end)
+        ≡ greatest_end (joined list.now.rows) }
+    ensures items { tops.new.items ≡ tops_of list.now.rows }
+    ensures capacity { vec_capacity tops.new ≡ vec_capacity tops.old }
+{
+    let before = tops.len();
+    let after = list.blocks();
+    if after == before && b + 1 == after {
+        tops[b] = later_end(tops[b], Some(end));
+        return;
+    }
+    refresh(tops, list, b);
 }
 
 /// Makes the running ends anew after a change in block `b`, which may have been cut in two or

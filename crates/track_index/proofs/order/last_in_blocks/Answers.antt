@@ -1,8 +1,7 @@
-use Rattle.std.proofs.Common.{◌≡◌, ◌∙◌, ◌-◌, ◌≤ℤ◌, refl, true, false, take, length, sym, ap, arith}
-use Rattle.std.specs.List.{AllByRecursion}
+use Rattle.std.proofs.Common.{◌≡◌, ◌∙◌, ◌-◌, refl, true, take, sym, ap, arith}
 use Rattle.block_list.specs.Rows.{joined, row}
 use Rattle.track_index.specs.declared.known.Known.{Known}
-use Rattle.track_index.specs.Order.{entry_covers, last_that, is_ended, or_else}
+use Rattle.track_index.specs.Order.{entry_covers, last_that, is_ended}
 use Rattle.track_index.proofs.Ordering.{last_none}
 use Rattle.track_index.proofs.Ending.{none_covers, found_in}
 use Rattle.track_index.proofs.Blocks.{last_back, last_pass, begun_row, begun_less}

@@ -6,7 +6,7 @@ use Rattle.track_index.specs.Order.{put}
 use Rattle.track_index.specs.Keyed.{IsKeyed}
 use Rattle.track_index.proofs.Ending.{length_running}
 use Rattle.track_index.proofs.Keys.{cut_keyed, put_with}
-use Rattle.track_index.proofs.Blocks.{ready, first_ready, joined_none}
+use Rattle.track_index.proofs.Blocks.{ready, first_ready, joined_none, top_with}
 use Rattle.track_index.proofs.order.Order.put.Goals as goal
 
 pub refresh-requires : goal.refresh-requires
@@ -35,8 +35,8 @@ returns-then-blocks-eq0-clause-spare c =
 pub search-spot-requires : goal.search-spot-requires
 search-spot-requires c = cut_keyed _ (joined c.self.inside.list.rows) (subst (λ w. IsKeyed (joined w.rows)) (sym c.self.view_is) c.requires.keyed)
 
-pub refresh-requires-2 : goal.refresh-requires-2
-refresh-requires-2 c =
+pub refresh_with-requires : goal.refresh_with-requires
+refresh_with-requires c =
     let ts = c.self.inside.tops.items in
     let old = c.self.inside.list.rows in
     let new = c.insert.new.self.rows in
@@ -46,7 +46,16 @@ refresh-requires-2 c =
     let few1 = c.insert.ensures.one_block_apart.1 in
     let l : b < length old = c.search-spot.ensures.block (omega (arith, c.blocks-2.ensures, c.if-blocks-eq0.false)) in
     let r = ready ts old new b (vec_capacity c.self.inside.tops) c.self.invariant l few1 (omega (arith, few0)) (omega (arith, few1, n, ap (λ w. w.spare) c.self.view_is, c.requires.spare, c.self.inside.tops.ok.0)) c.insert.ensures.front c.insert.ensures.rest in
-    record { within = r.within; more = r.more; fewer = r.fewer; gone = r.gone; room = r.room; front = r.front; rest = r.rest }
+    record {
+      within = r.within;
+      more = r.more;
+      fewer = r.fewer;
+      gone = r.gone;
+      room = r.room;
+      front = r.front;
+      rest = r.rest;
+      last = λ e. top_with ts old new b (rank old c.search-spot.result) c.args.entry c.end_mark-end.result c.self.invariant (omega (arith, e, n)) c.end_mark-end.ensures c.insert.ensures.items;
+    }
 
 pub returns-clause-items : goal.returns-clause-items
 returns-clause-items c =
@@ -62,6 +71,6 @@ returns-clause-spare c =
     let new = c.insert.new.self.rows in
     let b = c.search-spot.result.block in
     let n = ap length c.self.invariant ∙ length_running None old in
-    let m = ap length c.refresh-2.ensures.items ∙ length_running None new in
+    let m = ap length c.refresh_with.ensures.items ∙ length_running None new in
     let few1 = c.insert.ensures.one_block_apart.1 in
-    omega (arith, ap (λ w. w.spare) c.self.view_is, c.insert.ensures.spare, c.refresh-2.ensures.capacity, n, m, few1, c.refresh-2.new.tops.ok.0, c.self.inside.tops.ok.0)
+    omega (arith, ap (λ w. w.spare) c.self.view_is, c.insert.ensures.spare, c.refresh_with.ensures.capacity, n, m, few1, c.refresh_with.new.tops.ok.0, c.self.inside.tops.ok.0)
