@@ -1,6 +1,6 @@
 -- Entries by presentation timestamp and serial.
 use Rattle.std.proofs.Common.{◌≡◌, ◌∙◌, ℕ, zero, suc, ℤ, pos, ◌+◌, ◌<◌, ◌≤◌, ◌+ℤ◌, ◌≤ℤ◌, ◌<ℤ◌, Bool, true, false, not, cond, ◌&&◌, ◌||◌, List, [], ◌∷◌, length, get_or, set, take, drop, insert, remove, map, filter, refl, sym, ap, subst, inl, inr, ◌⊎◌, arith, int_le, int_lt, nat_lt, nat_eq}
-use Rattle.std.specs.List.{AllByRecursion, list_any}
+use Rattle.std.specs.List.{AllByRecursion, list_all, list_any}
 use Rattle.std.proofs.lemmas.Int.{ints}
 use Rattle.std.proofs.lemmas.List.{drop_more}
 use Rattle.std.proofs.lemmas.Bool.Decides.{nat_tests}
@@ -382,3 +382,26 @@ later_starts os i x keyed l at =
     let m = rest_at os i x l at in
     let k = subst IsKeyed m (keyed_drop os i keyed) in
     subst (λ (zs : List Entry). AllByRecursion (λ o. x.pts ≤ℤ o.pts) zs) (sym m) (omega (arith, ints), each_weaker (λ o. before_key (key_of o) x ≡ true) (λ o. x.pts ≤ℤ o.pts) (drop (i + 1) os) (λ o b. later_start x o b) k.0)
+
+-- ---- all before a key
+
+front_before : (k : Key) (o : Entry) (os : List Entry) (b : Bool) → 0 < length os → before_key k o ≡ b → AllByRecursion (λ p. before_key (key_of p) o ≡ true) os → list_all (before_key k) os ≡ (b && list_all (before_key k) os)
+front_before k o os true l e h = refl
+front_before k o [] false l e h = absurd (omega arith)
+front_before k o (p ∷ os) false l e h = ap (λ b. b && list_all (before_key k) os) (after_key k o p h.0 e)
+
+and_end : (b : Bool) → b ≡ (b && true)
+and_end true = refl
+and_end false = refl
+
+-- all do where the last one does
+pub all_before : (k : Key) (os : List Entry) (m : ℕ) (x : Entry) (b : Bool) → IsKeyed os → m + 1 ≡ length os → x ≡ get_or os m x → b ≡ before_key k x → b ≡ list_all (before_key k) os
+all_before k [] m x b h l e q = absurd (omega arith)
+all_before k (o ∷ []) zero x b h l e q = q ∙ ap (before_key k) e ∙ and_end (before_key k o)
+all_before k (o ∷ p ∷ os) zero x b h l e q = absurd (omega arith)
+all_before k (o ∷ os) (suc m) x b h l e q = all_before k os m x b h.1 (omega arith) e q ∙ front_before k o os (before_key k o) (omega arith) refl h.0
+
+-- then no entry is named that does not
+pub none_behind : (key : Key) (to : Moment) (below : ℕ) (os : List Entry) → list_all (before_key key) os ≡ true → AllByRecursion (λ o. before_key key o ≡ false → entry_named to below o ≡ false) os
+none_behind key to below [] e = tt
+none_behind key to below (o ∷ os) e = let p = and_true (before_key key o) (list_all (before_key key) os) e in (λ f. absurd (true_false _ p.0 f), none_behind key to below os p.1)

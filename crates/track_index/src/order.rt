@@ -1,7 +1,7 @@
 //! The frames of a store in order of presentation, in blocks.
 
 ghost use Rattle.std.specs.Prelude.{◌≡◌, ◌+◌, ◌<◌, ◌≤◌, ◌<ℤ◌, ◌≤ℤ◌, pos, ◌^◌, ◌+ℤ◌, false, true, length, take, drop, map, filter, not, nat_eq, min, vec_len, vec_capacity, OnOk, IfSome, IfNone, [], slice_index_or};
-ghost use Rattle.std.specs.List.{AllByRecursion, list_any};
+ghost use Rattle.std.specs.List.{AllByRecursion, list_all, list_any};
 ghost use Rattle.mse_base.specs.Time.{IsTick};
 ghost use Rattle.mse_base.specs.Moments.{is_before};
 ghost use Rattle.block_list.specs.Rows.{joined, row, start};
@@ -16,7 +16,7 @@ use crate::key::Key;
 use crate::known::{Known, end_mark, greatest_end, later_end};
 use crate::mark::Mark;
 use crate::tops::{refresh, refresh_with, top_before};
-use block_list::{BlockList, Spot, search};
+use block_list::{BlockList, Spot, Test, search};
 use mse_base::{Moment, OutOfMemory, Ticks};
 use std::alloc::Global;
 use std::marker::Model;
@@ -400,6 +400,25 @@ impl Order {
         self.list.next(spot)
     }
 
+    /// Whether all entries stand before a key, as they do where the last one does.
+    fn is_all_before(&self, key: &Key) -> bool
+        requires keyed { IsKeyed (joined self.now.rows) }
+        ensures { result ≡ list_all (before_key key.now) (joined self.now.rows) }
+    {
+        let n = self.list.blocks();
+        if n == 0 {
+            return true;
+        }
+        // No block is empty.
+        let _spare = self.list.spare();
+        let index = self.list.block(n - 1).len() - 1;
+        let entry = self.list.item(Spot {
+            block: n - 1,
+            index,
+        });
+        key.passes(entry)
+    }
+
     /// The first entry not before a key that begins before a moment and has a serial below a
     /// number.
     pub(crate) fn first_named(&self, key: &Key, to: &Moment, below: u64) -> Option<Entry>
@@ -409,6 +428,9 @@ impl Order {
             (AllByRecursion (λ o. before_key key.now o ≡ false → entry_named to.now below o ≡ false)
             (joined self.now.rows)) }
     {
+        if self.is_all_before(key) {
+            return None;
+        }
         let mut spot = self.place_at(key);
         while spot.block < self.blocks() {
             let entry = self.entry(spot);

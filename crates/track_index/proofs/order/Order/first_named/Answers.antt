@@ -4,9 +4,12 @@ use Rattle.block_list.specs.Rows.{joined}
 use Rattle.block_list.specs.Spots.{rank}
 use Rattle.track_index.specs.Keyed.{before_key, entry_named}
 use Rattle.track_index.proofs.Ordering.{each_more}
-use Rattle.track_index.proofs.Keys.{found_init, found_here, none_from, none_at_end, rest_next, unnamed_serial, is_named_entry}
+use Rattle.track_index.proofs.Keys.{found_init, found_here, none_from, none_at_end, none_behind, rest_next, unnamed_serial, is_named_entry}
 use Rattle.track_index.proofs.Blocks.{rank_within}
 use Rattle.track_index.proofs.order.Order.first_named.Goals as goal
+
+pub returns-then-is_all_before-clause-none : goal.returns-then-is_all_before-clause-none
+returns-then-is_all_before-clause-none c = none_behind c.args.key.now c.args.to.now c.args.below (joined c.args.self.now.rows) (sym c.is_all_before.ensures ∙ c.if-is_all_before.true)
 
 pub loop-spot-init : goal.loop-spot-init
 loop-spot-init c =
