@@ -6,7 +6,7 @@ use Rattle.mse_base.specs.declared.frame.Phase.TheVariants.{Waiting}
 use Rattle.std.proofs.lemmas.List.{length-append, length-drop, length-take-le, append-nil, append_assoc, take-append-drop}
 use Rattle.std.proofs.lemmas.Bool.Decides.{nat_tests}
 use Rattle.mse_base.specs.declared.track.Presentation.{Presentation}
-use Rattle.parser_loop.specs.Walk.{Move, Stop, Pass, Give, Run, run, run_by, stay_at, settle, items_by, items_from, state_at, run_after, first_item, after_first, item_of, count_after}
+use Rattle.parser_loop.specs.Walk.{Move, Stop, Pass, Give, Lookahead, run, run_by, stay_at, settle, items_by, items_from, state_at, run_after, first_item, after_first, item_of, count_after}
 use Rattle.parser_loop.specs.Walk as walk
 use Rattle.parser_loop.proofs.Walks.{IsSettled, settled, settle-same, settled-at-state, items-at, items-step}
 use Rattle.parser_loop.proofs.Runs.{IsRested, run-rested, run-settle, stands-first, stands-after}
@@ -47,7 +47,7 @@ run-state last b n = run-rested adts is_walk (state_before last b n) (rested (ad
 
 -- it is the state just before the next item
 pub is-state : (kept : State) (last : Option Presentation) (b : List ℕ) (n : ℕ) → Stands kept last b n → kept ≡ state_before last b n
-is-state kept last b n h = ap (λ (r : Run State AdtsItem). r.state) (h.is ∙ run-state last b n)
+is-state kept last b n h = ap (λ (r : Lookahead State AdtsItem). r.state) (h.is ∙ run-state last b n)
 
 pub stands-given : (kept : State) (last : Option Presentation) (b : List ℕ) (n : ℕ) → Stands kept last b n → n ≤ length (Items last b)
 stands-given kept last b n h = omega (arith, h.taken, ap length (items-frames last b))

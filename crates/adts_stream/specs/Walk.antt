@@ -4,7 +4,7 @@ use Rattle.std.specs.Prelude.{ℕ, zero, suc, ◌+◌, ◌-◌, ◌*◌, nat_lt,
 use Rattle.mse_base.specs.declared.frame.Phase.{Phase}
 use Rattle.mse_base.specs.declared.frame.Phase.TheVariants.{Waiting, InMedia}
 use Rattle.mse_base.specs.declared.track.Presentation.{Presentation}
-use Rattle.parser_loop.specs.Walk.{Move, Stop, Pass, Give, Kind, state_at}
+use Rattle.parser_loop.specs.Walk.{Move, Stop, Pass, Give, StreamKind, state_at}
 use Rattle.parser_loop.specs.Items.{InitItem, FrameItem, SegmentEnd, FaultItem, is_fault}
 use Rattle.parser_loop.specs.Parse.{ParserView}
 use Rattle.adts_stream.specs.declared.header.FrameHeader.{FrameHeader}
@@ -128,7 +128,7 @@ more_unless s c false = record {
 }
 
 -- a fault ends the walk; nothing is taken ahead
-abbrev pub adts : Kind State AdtsItem
+abbrev pub adts : StreamKind State AdtsItem
 adts = record {
   move = λ s. move_unless s s.failed;
   size = λ s. size_unless s s.failed;

@@ -3,7 +3,7 @@ use Rattle.std.proofs.Common.{◌≡◌, ◌∙◌, ℕ, suc, ◌+◌, ◌-◌, 
 use Rattle.std.proofs.lemmas.List.{length-set, length-take-le}
 use Rattle.std.proofs.lemmas.List.Edits.{length-insert, length-remove}
 use Rattle.std.proofs.Math.Nat.{mul-le-mul_left}
-use Rattle.block_list.specs.Rows.{row, AreShort, AreEmpty, NoneEmpty, IsListed}
+use Rattle.block_list.specs.Rows.{row, AreShort, AreEmpty, AreNonEmpty, IsListed}
 use Rattle.block_list.proofs.Joining.{Apart, short_set, short_row, short_less, short_push, held_set, held_less, held_push, held_bound, empty_push, empty_last}
 
 pub one_more : {T : Type 0} (xs : List T) (x : T) → length (xs ++ x ∷ []) ≡ length xs + 1
@@ -102,7 +102,7 @@ listed_fill half rows new pool more e n m bc nc pc qc k f g a b s l =
       spared = rw f (omega arith);
     }
 
-pub full_of : {T : Type 0} (half : ℕ) (rows : List (List T)) → AreShort half rows → NoneEmpty rows
+pub full_of : {T : Type 0} (half : ℕ) (rows : List (List T)) → AreShort half rows → AreNonEmpty rows
 full_of half [] k = tt
 full_of half (r ∷ rows) k = (k.0.0, full_of half rows k.1)
 

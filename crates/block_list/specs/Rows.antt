@@ -3,7 +3,7 @@ use Rattle.std.specs.Prelude.{◌≡◌, ℕ, zero, suc, ◌+◌, ◌-◌, ◌*�
 use Rattle.std.specs.List.{AllByRecursion}
 
 -- a list in rows, and how many additions take no memory
-pub record Listed (T : Type 0) : Type 0 where
+pub record ListView (T : Type 0) : Type 0 where
   pub rows : List (List T)
   pub spare : ℕ
 
@@ -59,9 +59,9 @@ abbrev pub IsCut : {T : Type 0} → (T → Bool) → List T → Type 0
 IsCut p [] = Unit {0}
 IsCut p (x ∷ xs) = (p x ≡ false → AllByRecursion (λ y. p y ≡ false) xs) × IsCut p xs
 
-abbrev pub NoneEmpty : {T : Type 0} → List (List T) → Type 0
-NoneEmpty [] = Unit {0}
-NoneEmpty (r ∷ rows) = (0 < length r) × NoneEmpty rows
+abbrev pub AreNonEmpty : {T : Type 0} → List (List T) → Type 0
+AreNonEmpty [] = Unit {0}
+AreNonEmpty (r ∷ rows) = (0 < length r) × AreNonEmpty rows
 
 -- the number of items, and that it fits after the additions that take no memory
 pub record IsCounted {T : Type 0} (len extra : ℕ) (rows : List (List T)) : Type 0 where

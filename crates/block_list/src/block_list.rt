@@ -2,7 +2,7 @@
 
 ghost use Rattle.std.specs.Prelude.{◌≡◌, ℕ, ◌+◌, ◌-◌, ◌*◌, ◌^◌, ◌<◌, ◌≤◌, List, [], ◌∷◌, ◌++◌, length, take, drop, IfOk, OnOk, IfSome, IfNone, suc, slice_index_or, slice_set, vec_len, vec_capacity, max, false};
 ghost use Rattle.std.specs.List.{insert, remove};
-ghost use Rattle.block_list.specs.Rows.{Listed, joined, start, row, split_row, held, AreShort, AreEmpty, NoneEmpty, IsListed, IsCounted};
+ghost use Rattle.block_list.specs.Rows.{ListView, joined, start, row, split_row, held, AreShort, AreEmpty, AreNonEmpty, IsListed, IsCounted};
 ghost use Rattle.block_list.specs.Spots.{rank, IsPlace};
 ghost use Rattle.block_list.specs.Starts.{starts_of};
 
@@ -25,9 +25,9 @@ pub struct BlockList<T, F: Fact<T>> {
 
 impl<T, F: Fact<T>> Model for BlockList<T, F> {
     ghost use Rattle.std.specs.Prelude.{vec_capacity};
-    ghost use Rattle.block_list.specs.Rows.{Listed, IsListed, IsCounted};
+    ghost use Rattle.block_list.specs.Rows.{ListView, IsListed, IsCounted};
 
-    ghost Value = { Listed T };
+    ghost Value = { ListView T };
 
     ghost view = { λ l. record { rows = l.blocks.items; spare = l.spare } };
 
@@ -155,7 +155,7 @@ fn put_apart<T: Copy + Drop, F: Fact<T>>(
 }
 
 /// How many blocks `n` additions can need.
-fn needed(blocks: usize, n: usize, half: usize) -> usize
+fn blocks_for(blocks: usize, n: usize, half: usize) -> usize
     requires some { 0 < half }
     requires blocks { blocks < 2 ^ 63 }
     requires small { n < 2 ^ 62 }
@@ -192,7 +192,7 @@ fn fill<T, F: Fact<T>>(
     blocks: &mut Vec<Block<T, F>>,
     pool: &mut Vec<Block<T, F>>,
     alloc: Global,
-    needed: usize,
+    block_count: usize,
 ) -> Result<(), OutOfMemory>
     requires empty { AreEmpty pool.old.items }
     requires block_room { length pool.old.items + length blocks.old.items
@@ -200,12 +200,12 @@ fn fill<T, F: Fact<T>>(
     requires pool_room { length pool.old.items + length blocks.old.items ≤ vec_capacity pool.old }
     ensures rows { blocks.new.items ≡ blocks.old.items }
     ensures empty { AreEmpty pool.new.items }
-    ensures ok { OnOk result (needed ≤ length pool.new.items) }
+    ensures ok { OnOk result (block_count ≤ length pool.new.items) }
     ensures more { length pool.old.items ≤ length pool.new.items }
     ensures block_room { length pool.new.items + length blocks.new.items ≤ vec_capacity blocks.new }
     ensures pool_room { length pool.new.items + length blocks.new.items ≤ vec_capacity pool.new }
 {
-    'fill: while pool.len() < needed {
+    'fill: while pool.len() < block_count {
         add_empty(blocks, pool, alloc)?;
     }
     Ok(())
@@ -285,15 +285,15 @@ fn drop_blocks<T: Drop, F: Fact<T>>(
         (vec_capacity pool.new) }
 {
     let mut end = to;
-    let mut gone = 0;
+    let mut removed_count = 0;
     'dropping: while from < end {
         end -= 1;
         let mut block = blocks.remove(end);
-        gone += block.len();
+        removed_count += block.len();
         block.clear();
         pool.push_reserved(block);
     }
-    gone
+    removed_count
 }
 
 impl<T, F: Fact<T>> BlockList<T, F> {
@@ -341,7 +341,7 @@ impl<T, F: Fact<T>> BlockList<T, F> {
     /// How many additions take no memory.
     pub fn spare(&self) -> usize
         ensures value { result ≡ self.now.spare }
-        ensures full { NoneEmpty self.now.rows }
+        ensures full { AreNonEmpty self.now.rows }
     {
         self.spare
     }
@@ -367,8 +367,8 @@ impl<T, F: Fact<T>> BlockList<T, F> {
         if n > usize::MAX / 4 || usize::MAX - self.len < n {
             return Err(OutOfMemory);
         }
-        let needed = needed(self.blocks.len(), n, self.half);
-        fill(&mut self.blocks, &mut self.pool, self.alloc, needed)?;
+        let block_count = blocks_for(self.blocks.len(), n, self.half);
+        fill(&mut self.blocks, &mut self.pool, self.alloc, block_count)?;
         self.spare = n;
         Ok(())
     }
@@ -500,8 +500,8 @@ impl<T: Drop, F: Fact<T>> BlockList<T, F> {
         ensures spare { self.new.spare ≡ self.old.spare }
     {
         let _len = self.len;
-        let gone = drop_blocks(&mut self.blocks, &mut self.pool, from, to);
-        self.len -= gone;
+        let removed_count = drop_blocks(&mut self.blocks, &mut self.pool, from, to);
+        self.len -= removed_count;
     }
 
     /// Takes out what stands behind a place in its block; the number of blocks up to there.

@@ -2,7 +2,7 @@
 
 ghost use Rattle.std.specs.Prelude.{◌≡◌, ◌+◌, ◌-◌, ◌^◌, ◌<◌, ◌≤◌, length, take, drop, true, false, IfSome, IfNone};
 ghost use Rattle.std.specs.List.{AllByRecursion};
-ghost use Rattle.block_list.specs.Rows.{joined, row, IsCut, NoneEmpty};
+ghost use Rattle.block_list.specs.Rows.{joined, row, IsCut, AreNonEmpty};
 ghost use Rattle.block_list.specs.Spots.{rank};
 
 use crate::block::Fact;
@@ -43,7 +43,7 @@ fn place_in<T, P: Test<T>>(items: &[T], test: &P) -> usize
 /// Whether the first item of a block passes.
 fn passes_first<T, F: Fact<T>, P: Test<T>>(list: &BlockList<T, F>, test: &P, b: usize) -> bool
     requires cut { IsCut (P.passes test.now) (joined list.now.rows) }
-    requires full { NoneEmpty list.now.rows }
+    requires full { AreNonEmpty list.now.rows }
     requires block { b < length list.now.rows }
     ensures before { result ≡ true
         → AllByRecursion (λ x. P.passes test.now x ≡ true) (joined (take b list.now.rows)) }
@@ -58,7 +58,7 @@ fn passes_first<T, F: Fact<T>, P: Test<T>>(list: &BlockList<T, F>, test: &P, b: 
 /// How many blocks have a first item that passes.
 fn block_of<T, F: Fact<T>, P: Test<T>>(list: &BlockList<T, F>, test: &P) -> usize
     requires cut { IsCut (P.passes test.now) (joined list.now.rows) }
-    requires full { NoneEmpty list.now.rows }
+    requires full { AreNonEmpty list.now.rows }
     ensures within { result ≤ length list.now.rows }
     ensures before { AllByRecursion (λ x. P.passes test.now x ≡ true)
         (joined (take (result - 1) list.now.rows)) }
@@ -86,7 +86,7 @@ fn block_of<T, F: Fact<T>, P: Test<T>>(list: &BlockList<T, F>, test: &P) -> usiz
 /// in the same block.
 fn spot_near_end<T, F: Fact<T>, P: Test<T>>(list: &BlockList<T, F>, test: &P) -> Option<Spot>
     requires cut { IsCut (P.passes test.now) (joined list.now.rows) }
-    requires full { NoneEmpty list.now.rows }
+    requires full { AreNonEmpty list.now.rows }
     ensures block { IfSome result (λ s. s.block < length list.now.rows) }
     ensures index { IfSome result (λ s. s.index ≤ length (row list.now.rows s.block)) }
     ensures before { IfSome result (λ s. AllByRecursion (λ x. P.passes test.now x ≡ true)

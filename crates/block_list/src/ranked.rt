@@ -29,10 +29,10 @@ pub struct RankedList<T, F: Fact<T>> {
 
 impl<T, F: Fact<T>> Model for RankedList<T, F> {
     ghost use Rattle.std.specs.Prelude.{◌-◌, min, vec_capacity, vec_len};
-    ghost use Rattle.block_list.specs.Rows.{Listed};
+    ghost use Rattle.block_list.specs.Rows.{ListView};
     ghost use Rattle.block_list.specs.Starts.{starts_of, IsKeptAs};
 
-    ghost Value = { Listed T };
+    ghost Value = { ListView T };
 
     ghost view = { λ l. record {
       rows = l.list.rows;

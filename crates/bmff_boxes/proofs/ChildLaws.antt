@@ -4,7 +4,7 @@ use Rattle.std.proofs.lemmas.List.{length-drop, length-take-le}
 use Rattle.std.proofs.lemmas.Bool.Decides.{nat_tests}
 use Rattle.bmff_boxes.specs.declared.box_header.Header.{Header}
 use Rattle.bmff_boxes.specs.declared.box_header.Header.TheVariants as head
-use Rattle.bmff_boxes.specs.Headers.{header_of, HasRoom}
+use Rattle.bmff_boxes.specs.Headers.{header_of, IsHeaderWithin}
 use Rattle.bmff_boxes.specs.Children.{ChildView, Box, NoBytes, NoBox, whole_box, child_of}
 use Rattle.bmff_boxes.proofs.HeaderLaws.{header-room}
 
@@ -20,7 +20,7 @@ falls-by b kind start len false e h k =
     let l : len ≤ length b = grind (arith, nat_tests) in
     omega (arith, length-drop len b, length-drop start (take len b), length-take-le len b l)
 
-falls-at : (b : List ℕ) (h : Header) → HasRoom (length b) h → Falls (length b) (whole_box b h)
+falls-at : (b : List ℕ) (h : Header) → IsHeaderWithin (length b) h → Falls (length b) (whole_box b h)
 falls-at b head.Short r = tt
 falls-at b (head.Bad f) r = tt
 falls-at b (head.Whole kind start len) r = falls-by b kind start len (ltb (length b) len) refl r.0 r.1
@@ -39,5 +39,5 @@ whole-by x b kind start len h e l =
 -- the step over a box whose bytes are all there
 pub child-whole : (b kind : List ℕ) (start len : ℕ) → header_of b ≡ head.Whole kind start len → len ≤ length b → child_of b ≡ (Box kind (drop start (take len b)), drop len b)
 unfolding child_of
-child-whole [] kind start len e l = let r : HasRoom 0 (head.Whole kind start len) = subst (HasRoom 0) e (header-room []) in absurd (omega (arith, r.0, r.2))
+child-whole [] kind start len e l = let r : IsHeaderWithin 0 (head.Whole kind start len) = subst (IsHeaderWithin 0) e (header-room []) in absurd (omega (arith, r.0, r.2))
 child-whole (x ∷ b) kind start len e l = whole-by x b kind start len (header_of (x ∷ b)) e l

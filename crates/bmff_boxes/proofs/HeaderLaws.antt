@@ -5,7 +5,7 @@ use Rattle.std.proofs.lemmas.List.{get_or_append_left, drop-append-le, length-ap
 use Rattle.std.proofs.lemmas.Bool.Decides.{nat_tests}
 use Rattle.byteorder.specs.Endian.{big_number}
 use Rattle.byteorder.specs.Numbers.{big_from-append}
-use Rattle.bmff_boxes.specs.Headers.{header_of, sized_of, four_at, HasRoom}
+use Rattle.bmff_boxes.specs.Headers.{header_of, sized_of, four_at, IsHeaderWithin}
 use Rattle.bmff_boxes.specs.declared.box_header.HeadFault.TheVariants.{SizeZero, BoxSize}
 use Rattle.bmff_boxes.specs.declared.box_header.Header.{Header}
 use Rattle.bmff_boxes.specs.declared.box_header.Header.TheVariants.{Short, Whole, Bad}
@@ -79,11 +79,11 @@ header-there b h =
     let few : ltb (length b) 8 ≡ false = enough (ltb (length b) 8) (eqb (big_number 4 b) 0) (eqb (big_number 4 b) 1) (ltb (length b) 16) (four_at 4 b) (big_number 4 b) (big_number 8 (drop 8 b)) (rw (← is_header_by b) h) in
     grind (arith, nat_tests)
 
-sized-room : (kind : List ℕ) (start len n : ℕ) (t : Bool) → ltb len start ≡ t → 8 ≤ start → start ≤ n → HasRoom n (cond t (Bad BoxSize) (Whole kind start len))
+sized-room : (kind : List ℕ) (start len n : ℕ) (t : Bool) → ltb len start ≡ t → 8 ≤ start → start ≤ n → IsHeaderWithin n (cond t (Bad BoxSize) (Whole kind start len))
 sized-room kind start len n true e h k = omega arith
 sized-room kind start len n false e h k = (h, grind (arith, nat_tests), k)
 
-room-by : (few none long few_long : Bool) (kind : List ℕ) (l n m : ℕ) → (few ≡ false → 8 ≤ l) → (few_long ≡ false → 16 ≤ l) → HasRoom l (header_by few none long few_long kind n m)
+room-by : (few none long few_long : Bool) (kind : List ℕ) (l n m : ℕ) → (few ≡ false → 8 ≤ l) → (few_long ≡ false → 16 ≤ l) → IsHeaderWithin l (header_by few none long few_long kind n m)
 room-by true none long t kind l n m f g = tt
 room-by false true long t kind l n m f g = f refl
 room-by false false true true kind l n m f g = tt
@@ -91,7 +91,7 @@ room-by false false true false kind l n m f g = sized-room kind 16 m l _ refl (o
 room-by false false false t kind l n m f g = sized-room kind 8 n l _ refl (omega arith) (f refl)
 
 -- a whole header lies in the bytes, and in its box
-pub header-room : (b : List ℕ) → HasRoom (length b) (header_of b)
+pub header-room : (b : List ℕ) → IsHeaderWithin (length b) (header_of b)
 header-room b =
     let f : ltb (length b) 8 ≡ false → 8 ≤ length b = λ q. grind (arith, nat_tests) in
     let g : ltb (length b) 16 ≡ false → 16 ≤ length b = λ q. grind (arith, nat_tests) in

@@ -27,7 +27,7 @@ header_of b =
     else sized_of (four_at 4 b) 8 (big_number 4 b)))
 
 -- a whole header lies in the n bytes and in its box; of a bad one at least eight bytes are there
-abbrev pub HasRoom : ℕ → Header → Type 0
-HasRoom n (Whole kind head len) = (8 ≤ head) × (head ≤ len) × (head ≤ n)
-HasRoom n Short = Unit {0}
-HasRoom n (Bad fault) = 8 ≤ n
+abbrev pub IsHeaderWithin : ℕ → Header → Type 0
+IsHeaderWithin n (Whole kind head len) = (8 ≤ head) × (head ≤ len) × (head ≤ n)
+IsHeaderWithin n Short = Unit {0}
+IsHeaderWithin n (Bad fault) = 8 ≤ n

@@ -8,7 +8,7 @@ use Rattle.bmff_boxes.specs.Rows.{BoxView, row_of, first_of, all_of}
 use Rattle.bmff_fragment.specs.declared.fault.MoofFault.{MoofFault}
 use Rattle.bmff_fragment.specs.declared.fault.MoofFault.TheVariants.{Size, NoTraf}
 use Rattle.bmff_fragment.specs.declared.track_fragment.TrackFragment.{TrackFragment}
-use Rattle.bmff_fragment.specs.declared.track_fragment.Progress.{Progress}
+use Rattle.bmff_fragment.specs.declared.track_fragment.MoofProgress.{MoofProgress}
 use Rattle.bmff_fragment.specs.declared.track_fragment.RunProgress.{RunProgress}
 use Rattle.bmff_fragment.specs.declared.sample.Sample.{Sample}
 use Rattle.bmff_fragment.specs.declared.slot.Slot.{Slot}
@@ -138,30 +138,30 @@ pub trafs_more : (tracks : List TrackInfo) (count : ℕ) (end : ℤ) (t : List �
 unfolding trafs_of
 trafs_more tracks count end t ts = refl
 
-pub traf_steps_none : (tracks : List TrackInfo) (at : Progress) (slots : List Slot) → trafs_steps tracks at slots [] ≡ Ok slots
+pub traf_steps_none : (tracks : List TrackInfo) (at : MoofProgress) (slots : List Slot) → trafs_steps tracks at slots [] ≡ Ok slots
 unfolding trafs_steps
 traf_steps_none tracks at slots = refl
 
-pub traf_steps_more : (tracks : List TrackInfo) (at : Progress) (slots : List Slot) (t : List ℕ) (ts : List (List ℕ)) → trafs_steps tracks at slots (t ∷ ts) ≡ (traf_step tracks at slots t >>= λ next. trafs_steps tracks next.0 next.1 ts)
+pub traf_steps_more : (tracks : List TrackInfo) (at : MoofProgress) (slots : List Slot) (t : List ℕ) (ts : List (List ℕ)) → trafs_steps tracks at slots (t ∷ ts) ≡ (traf_step tracks at slots t >>= λ next. trafs_steps tracks next.0 next.1 ts)
 unfolding trafs_steps
 traf_steps_more tracks at slots t ts = refl
 
-traf_step_is : (tracks : List TrackInfo) (at : Progress) (slots : List Slot) (t : List ℕ) → traf_step tracks at slots t ≡ (need Size (row_of t) >>= λ row. track_fragment_of tracks at.data_end row >>= λ f. runs_part f at.samples slots (all_of (codes "trun") row))
+traf_step_is : (tracks : List TrackInfo) (at : MoofProgress) (slots : List Slot) (t : List ℕ) → traf_step tracks at slots t ≡ (need Size (row_of t) >>= λ row. track_fragment_of tracks at.data_end row >>= λ f. runs_part f at.samples slots (all_of (codes "trun") row))
 unfolding traf_step
 traf_step_is tracks at slots t = refl
 
 -- what a track fragment gives
-abbrev traf_give : TrackFragment → ℕ → List Slot → List Run → Progress × List Slot
+abbrev traf_give : TrackFragment → ℕ → List Slot → List Run → MoofProgress × List Slot
 traf_give f count slots runs = (record { samples = count + length (samples_in runs); data_end = data_end f.base runs }, slots ++ own_slots f runs)
 
-part_by : (f : TrackFragment) (count : ℕ) (slots : List Slot) (r : Result (List Run) MoofFault) → let last : Result (RunProgress × List Slot) MoofFault = (r >>= λ runs. Ok (runs_give f (first_run f count) slots [] runs)) in (last >>= λ last. let q : Progress × List Slot = (progress_after_runs last.0, last.1) in Ok q) ≡ (r >>= λ runs. Ok (traf_give f count slots runs))
+part_by : (f : TrackFragment) (count : ℕ) (slots : List Slot) (r : Result (List Run) MoofFault) → let last : Result (RunProgress × List Slot) MoofFault = (r >>= λ runs. Ok (runs_give f (first_run f count) slots [] runs)) in (last >>= λ last. let q : MoofProgress × List Slot = (progress_after_runs last.0, last.1) in Ok q) ≡ (r >>= λ runs. Ok (traf_give f count slots runs))
 part_by f count slots (Ok runs) = refl
 part_by f count slots (Err fault) = refl
 
 part_is : (f : TrackFragment) (count : ℕ) (slots : List Slot) (truns : List (List ℕ)) → runs_part f count slots truns ≡ (runs_of f count f.base truns >>= λ runs. Ok (traf_give f count slots runs))
 part_is f count slots truns =
     let t : f.decode_time ≡ f.decode_time + 0 = omega arith in
-    ap (λ (r : Result (RunProgress × List Slot) MoofFault). r >>= λ last. let q : Progress × List Slot = (progress_after_runs last.0, last.1) in Ok q) (runs-linked f (first_run f count) slots [] truns t) ∙ part_by f count slots (runs_of f count f.base truns)
+    ap (λ (r : Result (RunProgress × List Slot) MoofFault). r >>= λ last. let q : MoofProgress × List Slot = (progress_after_runs last.0, last.1) in Ok q) (runs-linked f (first_run f count) slots [] truns t) ∙ part_by f count slots (runs_of f count f.base truns)
 
 -- slots in front of those that are read
 abbrev pub with_front : List Slot → Result (List Slot) MoofFault → Result (List Slot) MoofFault
@@ -173,7 +173,7 @@ with_more front more (Err fault) = refl
 
 -- what the track fragments behind the first give, where reading goes on with them
 abbrev pub Goes : List TrackInfo → List (List ℕ) → Type 0
-Goes tracks ts = (at : Progress) (slots : List Slot) → trafs_steps tracks at slots ts ≡ with_front slots (trafs_of tracks at.samples at.data_end ts)
+Goes tracks ts = (at : MoofProgress) (slots : List Slot) → trafs_steps tracks at slots ts ≡ with_front slots (trafs_of tracks at.samples at.data_end ts)
 
 by_runs : (tracks : List TrackInfo) (count : ℕ) (slots : List Slot) (ts : List (List ℕ)) → Goes tracks ts → (f : TrackFragment) (r : Result (List Run) MoofFault) → ((r >>= λ runs. Ok (traf_give f count slots runs)) >>= λ next. trafs_steps tracks next.0 next.1 ts) ≡ with_front slots (r >>= λ runs. trafs_of tracks (count + length (samples_in runs)) (data_end f.base runs) ts >>= λ more. Ok (own_slots f runs ++ more))
 by_runs tracks count slots ts go f (Err fault) = refl
@@ -187,7 +187,7 @@ by_fragment tracks count slots ts go row (Ok f) =
     ap (λ r. r >>= λ next. trafs_steps tracks next.0 next.1 ts) (part_is f count slots (all_of (codes "trun") row))
     ∙ by_runs tracks count slots ts go f (runs_of f count f.base (all_of (codes "trun") row))
 
-by_row : (tracks : List TrackInfo) (at : Progress) (slots : List Slot) (ts : List (List ℕ)) → Goes tracks ts → (o : Option (List BoxView)) → ((need Size o >>= λ row. track_fragment_of tracks at.data_end row >>= λ f. runs_part f at.samples slots (all_of (codes "trun") row)) >>= λ next. trafs_steps tracks next.0 next.1 ts) ≡ with_front slots (need Size o >>= λ row. track_fragment_of tracks at.data_end row >>= λ f. runs_of f at.samples f.base (all_of (codes "trun") row) >>= λ runs. trafs_of tracks (at.samples + length (samples_in runs)) (data_end f.base runs) ts >>= λ more. Ok (own_slots f runs ++ more))
+by_row : (tracks : List TrackInfo) (at : MoofProgress) (slots : List Slot) (ts : List (List ℕ)) → Goes tracks ts → (o : Option (List BoxView)) → ((need Size o >>= λ row. track_fragment_of tracks at.data_end row >>= λ f. runs_part f at.samples slots (all_of (codes "trun") row)) >>= λ next. trafs_steps tracks next.0 next.1 ts) ≡ with_front slots (need Size o >>= λ row. track_fragment_of tracks at.data_end row >>= λ f. runs_of f at.samples f.base (all_of (codes "trun") row) >>= λ runs. trafs_of tracks (at.samples + length (samples_in runs)) (data_end f.base runs) ts >>= λ more. Ok (own_slots f runs ++ more))
 by_row tracks at slots ts go None = refl
 by_row tracks at slots ts go (Some row) = by_fragment tracks at.samples slots ts go row (track_fragment_of tracks at.data_end row)
 

@@ -7,7 +7,7 @@ use Rattle.bmff_boxes.specs.Rows.{row_of, all_of}
 use Rattle.bmff_fragment.specs.declared.fault.MoofFault.{MoofFault}
 use Rattle.bmff_fragment.specs.declared.fault.MoofFault.TheVariants.{Size}
 use Rattle.bmff_fragment.specs.declared.track_fragment.TrackFragment.{TrackFragment}
-use Rattle.bmff_fragment.specs.declared.track_fragment.Progress.{Progress}
+use Rattle.bmff_fragment.specs.declared.track_fragment.MoofProgress.{MoofProgress}
 use Rattle.bmff_fragment.specs.declared.track_fragment.RunProgress.{RunProgress}
 use Rattle.bmff_fragment.specs.declared.slot.Slot.{Slot}
 use Rattle.bmff_fragment.specs.Times.{Run, duration_of, run_end, slots_of_run}
@@ -47,24 +47,24 @@ first_run fragment samples = record {
   decode_time = fragment.decode_time;
 }
 
-abbrev pub progress_after_runs : RunProgress → Progress
+abbrev pub progress_after_runs : RunProgress → MoofProgress
 progress_after_runs at = record { samples = at.samples; data_end = at.data_end }
 
 -- the runs of a track fragment
 abbrev pub runs_part : TrackFragment → ℕ → List Slot → List (List ℕ)
-    → Result (Progress × List Slot) MoofFault
+    → Result (MoofProgress × List Slot) MoofFault
 runs_part fragment samples slots truns = do
   last ← runs_steps fragment (first_run fragment samples) slots truns
   Ok (progress_after_runs last.0, last.1)
 
-unfoldable pub traf_step : List TrackInfo → Progress → List Slot → List ℕ
-    → Result (Progress × List Slot) MoofFault
+unfoldable pub traf_step : List TrackInfo → MoofProgress → List Slot → List ℕ
+    → Result (MoofProgress × List Slot) MoofFault
 traf_step tracks at slots traf = do
   row ← need Size (row_of traf)
   fragment ← track_fragment_of tracks at.data_end row
   runs_part fragment at.samples slots (all_of (codes "trun") row)
 
-unfoldable pub trafs_steps : List TrackInfo → Progress → List Slot → List (List ℕ)
+unfoldable pub trafs_steps : List TrackInfo → MoofProgress → List Slot → List (List ℕ)
     → Result (List Slot) MoofFault
 trafs_steps tracks at slots [] = Ok slots
 trafs_steps tracks at slots (traf ∷ trafs) = do

@@ -13,7 +13,7 @@ use crate::header::run_header;
 use crate::sample::{data_len, duration, read_samples};
 use crate::slot::{Plan, Slot, Slots};
 use crate::timing::push_run;
-use crate::track_fragment::{Progress, RunProgress, TrackFragment, read_track_fragment};
+use crate::track_fragment::{MoofProgress, RunProgress, TrackFragment, read_track_fragment};
 use bmff_boxes::{Row, open, payload};
 use mse_base::{Presentation, TrackList};
 use std::alloc::Global;
@@ -93,7 +93,7 @@ fn read_runs(
     samples: u32,
     row: Row<'_>,
     slots: &mut Vec<Slot>,
-) -> Result<Progress, MoofError>
+) -> Result<MoofProgress, MoofError>
     requires readable { IsReadable fragment.now.track }
     requires base { unsigned_abs fragment.now.base ≤ 2 ^ 120 }
     requires few { samples ≤ 2 ^ 20 }
@@ -118,7 +118,7 @@ fn read_runs(
             at = read_run(alloc, fragment, at, found.payload, slots)?;
         }
     }
-    Ok(Progress {
+    Ok(MoofProgress {
         samples: at.samples,
         data_end: at.data_end,
     })
@@ -129,10 +129,10 @@ fn read_runs(
 fn read_traf(
     alloc: Global,
     tracks: &TrackList,
-    from: Progress,
+    from: MoofProgress,
     traf: &[u8],
     slots: &mut Vec<Slot>,
-) -> Result<Progress, MoofError>
+) -> Result<MoofProgress, MoofError>
     requires readable { AllByRecursion IsReadable tracks.now }
     requires few { from.samples ≤ 2 ^ 20 }
     requires end { unsigned_abs from.data_end ≤ 2 ^ 120 }
@@ -165,7 +165,7 @@ fn read_trafs(alloc: Global, tracks: &TrackList, row: Row<'_>) -> Result<Vec<Slo
 {
     let mut row = row;
     let mut slots: Vec<Slot> = Vec::new(alloc);
-    let mut at = Progress {
+    let mut at = MoofProgress {
         samples: 0,
         data_end: 0,
     };

@@ -22,7 +22,7 @@ pub(crate) struct TrackFragment {
 
 /// Where the reading of a movie fragment stands, between two track fragments.
 #[derive(Clone, Copy, Debug)]
-pub(crate) struct Progress {
+pub(crate) struct MoofProgress {
     /// How many samples stand before.
     pub(crate) samples: u32,
     /// Where the data of the track fragment before end.

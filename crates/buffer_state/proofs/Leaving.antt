@@ -25,8 +25,8 @@ use Rattle.buffer_state.specs.declared.running.Running.TheVariants.{Append}
 use Rattle.buffer_state.specs.declared.turns.ItemEffect.{ItemEffect}
 use Rattle.buffer_state.specs.declared.turns.ItemEffect.TheVariants as step
 use Rattle.buffer_state.specs.State.{Content, kept}
-use Rattle.buffer_state.specs.Steps.{Leaves, stepped, item_stepped, IsRefused}
-use Rattle.buffer_state.specs.Left.{items_left, steps_left}
+use Rattle.buffer_state.specs.Steps.{Leaves, step_result, item_stepped, IsItemRefused}
+use Rattle.buffer_state.specs.StepsLeft.{items_left, steps_left}
 use Rattle.buffer_state.proofs.Stepping.{GoesOn}
 
 -- the items that are left are those of the string but for the ones that were given
@@ -55,7 +55,7 @@ one-less s t item some goes =
     let after : items_left t.parser + (some.reading.taken + 1) ≡ length (items_in some.reading) = left t.parser some.reading.container some.reading.before some.reading.whole (some.reading.taken + 1) (goes some.reading some.stands).parser in
     omega arith
 
-pub fewer : (s0 s1 s2 : StreamView) (m0 m2 : Media) (r2 : Running) (oi : Option ByteItem) (st : ItemEffect) (c d : Content) (duration : Moment) → StandsForSome s0 → GoesOn s0 oi s1 → stepped st d ≡ item_stepped oi c duration → Leaves st s1 Append s2 r2 → steps_left (kept s2 m2 r2) < steps_left (kept s0 m0 Append)
+pub fewer : (s0 s1 s2 : StreamView) (m0 m2 : Media) (r2 : Running) (oi : Option ByteItem) (st : ItemEffect) (c d : Content) (duration : Moment) → StandsForSome s0 → GoesOn s0 oi s1 → step_result st d ≡ item_stepped oi c duration → Leaves st s1 Append s2 r2 → steps_left (kept s2 m2 r2) < steps_left (kept s0 m0 Append)
 fewer s0 s1 s2 m0 m2 r2 oi step.NoItem c d duration some goes e leaves = rw leaves (omega arith)
 fewer s0 s1 s2 m0 m2 r2 None (step.Done b) c d duration some goes e leaves = absurd (cc)
 fewer s0 s1 s2 m0 m2 r2 (Some item) (step.Done b) c d duration some goes e leaves =
@@ -64,7 +64,7 @@ fewer s0 s1 s2 m0 m2 r2 (Some item) (step.Done b) c d duration some goes e leave
 fewer s0 s1 s2 m0 m2 r2 oi (step.AppendError fault at b) c d duration some goes e leaves = rw leaves (omega arith)
 
 -- where nothing runs behind it
-pub fewer-error : (s0 s2 : StreamView) (m0 m2 : Media) (r2 : Running) (o : Option ByteItem) (m : Media) (d : Moment) (st : ItemEffect) → IsRefused st o m d → Leaves st s0 Append s2 r2 → steps_left (kept s2 m2 r2) < steps_left (kept s0 m0 Append)
+pub fewer-error : (s0 s2 : StreamView) (m0 m2 : Media) (r2 : Running) (o : Option ByteItem) (m : Media) (d : Moment) (st : ItemEffect) → IsItemRefused st o m d → Leaves st s0 Append s2 r2 → steps_left (kept s2 m2 r2) < steps_left (kept s0 m0 Append)
 fewer-error s0 s2 m0 m2 r2 o m d step.NoItem h leaves = absurd h
 fewer-error s0 s2 m0 m2 r2 o m d (step.Done b) h leaves = absurd h
 fewer-error s0 s2 m0 m2 r2 o m d (step.AppendError fault at b) h leaves = rw leaves (omega arith)

@@ -28,11 +28,11 @@ use Rattle.buffer_state.specs.declared.turns.ItemEffect.TheVariants as step
 use Rattle.buffer_state.specs.State.{Feed, Content, Surroundings, kept, Stands, next_item}
 use Rattle.buffer_state.specs.Replies.{CallResult, Answers, IsResult}
 use Rattle.buffer_state.specs.Turns.{ItemResult, Done, AppendError, media_item_result, item_result, item_turn_result, append_turn_result}
-use Rattle.buffer_state.specs.Steps.{Took, stepped, item_stepped, after_given, step_turn, content_at, IsRefused}
+use Rattle.buffer_state.specs.Steps.{Took, step_result, item_stepped, after_given, step_turn, content_at, IsItemRefused}
 use Rattle.buffer_state.proofs.Standing.{answers, feed_at, content_of}
 
 -- a step that did what the item does answers what a turn with the item does
-pub step-turns : (oi : Option ByteItem) (st : ItemEffect) (c d : Content) (a : Surroundings) (f : Feed) → stepped st d ≡ item_stepped oi c a.duration → step_turn st a (after_given oi f) d ≡ append_turn_result oi a f c
+pub step-turns : (oi : Option ByteItem) (st : ItemEffect) (c d : Content) (a : Surroundings) (f : Feed) → step_result st d ≡ item_stepped oi c a.duration → step_turn st a (after_given oi f) d ≡ append_turn_result oi a f c
 step-turns None step.NoItem c d a f e = let same : d ≡ c = cc in ap (λ (x : Content). append_turn_result None a f x) same
 step-turns None (step.Done b) c d a f e = absurd (cc)
 step-turns None (step.AppendError fault at b) c d a f e = absurd (cc)
@@ -52,7 +52,7 @@ abbrev pub GoesOn : StreamView → Option ByteItem → StreamView → Type 0
 GoesOn s oi t = (r : Reading) → byte_stream.Stands s r → byte_stream.Stands t (after_answer oi r)
 
 pub append-turns : (s0 s1 s2 : StreamView) (m0 m1 m2 : Media) (r0 r2 : Running) (oi : Option ByteItem) (st : ItemEffect) (reply : Reply) (a : Surroundings) → GivesItem s0 oi → GoesOn s0 oi s1 → latest_of s1 ≡ latest_after_any (latest_of s0) oi
-    → ((latest : Option Presentation) → stepped st (record { media = m1; latest = latest_after_any latest oi }) ≡ item_stepped oi (record { media = m0; latest = latest }) a.duration)
+    → ((latest : Option Presentation) → step_result st (record { media = m1; latest = latest_after_any latest oi }) ≡ item_stepped oi (record { media = m0; latest = latest }) a.duration)
     → Answers (kept s1 m1 r0) reply (kept s2 m2 r2) (step_turn st a)
     → Answers (kept s0 m0 r0) reply (kept s2 m2 r2) (λ f c. append_turn_result (next_item f) a f c)
 append-turns s0 s1 s2 m0 m1 m2 r0 r2 oi st reply a gives goes last does done =
@@ -68,26 +68,26 @@ append-turns s0 s1 s2 m0 m1 m2 r0 r2 oi st reply a gives goes last does done =
 -- ---- an item that is refused
 
 -- what comes of it does not depend on whether it was given
-error-given : (st : ItemEffect) (o : Option ByteItem) (m : Media) (d : Moment) (a : Surroundings) (f : Feed) (c : Content) → IsRefused st o m d → step_turn st a f c ≡ step_turn st a (after_given o f) c
+error-given : (st : ItemEffect) (o : Option ByteItem) (m : Media) (d : Moment) (a : Surroundings) (f : Feed) (c : Content) → IsItemRefused st o m d → step_turn st a f c ≡ step_turn st a (after_given o f) c
 error-given step.NoItem o m d a f c h = absurd h
 error-given (step.Done e) o m d a f c h = absurd h
 error-given (step.AppendError fault at e) None m d a f c h = refl
 error-given (step.AppendError fault at e) (Some item) m d a f c h = refl
 
-refused-stepped : (st : ItemEffect) (o : Option ByteItem) (m : Media) (d : Moment) (latest : Option Presentation) → IsRefused st o m d → stepped st (record { media = m; latest = latest }) ≡ item_stepped o (record { media = m; latest = latest }) d
+refused-stepped : (st : ItemEffect) (o : Option ByteItem) (m : Media) (d : Moment) (latest : Option Presentation) → IsItemRefused st o m d → step_result st (record { media = m; latest = latest }) ≡ item_stepped o (record { media = m; latest = latest }) d
 refused-stepped step.NoItem o m d latest h = absurd h
 refused-stepped (step.Done e) o m d latest h = absurd h
 refused-stepped (step.AppendError fault at e) o m d latest h = sym (h latest)
 
 pub refusal-turns : (s0 s2 : StreamView) (m0 m2 : Media) (r0 r2 : Running) (st : ItemEffect) (reply : Reply) (a : Surroundings)
-    → ((r : Reading) → byte_stream.Stands s0 r → IsRefused st (reading.next_item r) m0 a.duration)
+    → ((r : Reading) → byte_stream.Stands s0 r → IsItemRefused st (reading.next_item r) m0 a.duration)
     → Answers (kept s0 m0 r0) reply (kept s2 m2 r2) (step_turn st a)
     → Answers (kept s0 m0 r0) reply (kept s2 m2 r2) (λ f c. append_turn_result (next_item f) a f c)
 refusal-turns s0 s2 m0 m2 r0 r2 st reply a refused done =
     answers (kept s0 m0 r0) reply (kept s2 m2 r2) (λ f c. append_turn_result (next_item f) a f c) (λ r s.
     let f : Feed = feed_at r r0 in
     let c : Content = content_of m0 s0 in
-    let no : IsRefused st (next_item f) m0 a.duration = refused r s in
+    let no : IsItemRefused st (next_item f) m0 a.duration = refused r s in
     let there : Stands (kept s0 m0 r0) f c = record { stream = s; media = refl; latest = refl; running = refl } in
     let is : step_turn st a (after_given (next_item f) f) c ≡ append_turn_result (next_item f) a f c = step-turns (next_item f) st c c a f (refused-stepped st (next_item f) m0 a.duration (latest_of s0) no) in
     subst (λ (x : CallResult). IsResult reply (kept s2 m2 r2) x) (error-given st (next_item f) m0 a.duration a f c no ∙ is) (done f c there))
@@ -96,8 +96,8 @@ refusal-turns s0 s2 m0 m2 r0 r2 st reply a refused done =
 
 -- a segment that is not refused
 pub accepted-step : (st : ItemEffect) (e : MediaEffect) (p : Presentation) (at : ℕ) (m0 m1 : Media) (latest : Option Presentation) (d : Moment) → init_fault p m0 ≡ None → media_result e m1 ≡ init_result p m0 d
-    → stepped st (content_at m1 (Some p) (record { media = m0; latest = latest }) e) ≡ Took (media_item_result (media_result e m1) at (Some p) (record { media = m0; latest = latest }))
-    → stepped st (record { media = m1; latest = Some p }) ≡ Took (item_result (InitItem p at) (record { media = m0; latest = latest }) d)
+    → step_result st (content_at m1 (Some p) (record { media = m0; latest = latest }) e) ≡ Took (media_item_result (media_result e m1) at (Some p) (record { media = m0; latest = latest }))
+    → step_result st (record { media = m1; latest = Some p }) ≡ Took (item_result (InitItem p at) (record { media = m0; latest = latest }) d)
 accepted-step st (effects.Done e) p at m0 m1 latest d none is h = h ∙ ap (λ (r : MediaResult). Took (media_item_result r at (Some p) (record { media = m0; latest = latest }))) is
 accepted-step st (effects.AppendError fault e) p at m0 m1 latest d none is h =
     let no = is ∙ ap (λ (o : Option MediaFault). init_result_of o p m0 (segment_effect p d)) none in
@@ -105,8 +105,8 @@ accepted-step st (effects.AppendError fault e) p at m0 m1 latest d none is h =
 
 -- a frame
 pub frame-step : (st : ItemEffect) (e : MediaEffect) (f : CodedFrame) (at : ℕ) (m0 m1 : Media) (latest : Option Presentation) (d : Moment) → media_result e m1 ≡ frame_result f m0 d
-    → stepped st (content_at m1 latest (record { media = m0; latest = latest }) e) ≡ Took (media_item_result (media_result e m1) at latest (record { media = m0; latest = latest }))
-    → stepped st (record { media = m1; latest = latest }) ≡ Took (item_result (FrameItem f at) (record { media = m0; latest = latest }) d)
+    → step_result st (content_at m1 latest (record { media = m0; latest = latest }) e) ≡ Took (media_item_result (media_result e m1) at latest (record { media = m0; latest = latest }))
+    → step_result st (record { media = m1; latest = latest }) ≡ Took (item_result (FrameItem f at) (record { media = m0; latest = latest }) d)
 frame-step st (effects.Done e) f at m0 m1 latest d is h = h ∙ ap (λ (r : MediaResult). Took (media_item_result r at latest (record { media = m0; latest = latest }))) is
 frame-step st (effects.AppendError fault e) f at m0 m1 latest d is h = h ∙ ap (λ (r : MediaResult). Took (media_item_result r at latest (record { media = m0; latest = latest }))) is
 
@@ -122,9 +122,9 @@ frame-breaks s0 s1 s2 m0 m1 m2 r0 r2 f at fault e reply a gives goes last is don
 
 -- a segment that is refused
 abbrev pub DoesStep : ItemEffect → MediaEffect → ℕ → Type 0
-DoesStep st e at = (m : Media) (latest : Option Presentation) (c : Content) → stepped st (content_at m latest c e) ≡ Took (media_item_result (media_result e m) at latest c)
+DoesStep st e at = (m : Media) (latest : Option Presentation) (c : Content) → step_result st (content_at m latest c e) ≡ Took (media_item_result (media_result e m) at latest c)
 
-refused-by : (st : ItemEffect) (e : MediaEffect) (p : Presentation) (at : ℕ) (fault : MediaFault) (m0 m1 : Media) (d : Moment) → media_result e m1 ≡ media.AppendError fault m0 (segment_effect p d) → init_result p m0 d ≡ media.AppendError fault m0 (segment_effect p d) → DoesStep st e at → IsRefused st (Some (InitItem p at)) m1 d
+refused-by : (st : ItemEffect) (e : MediaEffect) (p : Presentation) (at : ℕ) (fault : MediaFault) (m0 m1 : Media) (d : Moment) → media_result e m1 ≡ media.AppendError fault m0 (segment_effect p d) → init_result p m0 d ≡ media.AppendError fault m0 (segment_effect p d) → DoesStep st e at → IsItemRefused st (Some (InitItem p at)) m1 d
 refused-by st (effects.Done x) p at fault m0 m1 d is there h = absurd cc
 refused-by step.NoItem (effects.AppendError g x) p at fault m0 m1 d is there h = let no = h m1 None (record { media = m1; latest = None }) in absurd cc
 refused-by (step.Done y) (effects.AppendError g x) p at fault m0 m1 d is there h = let no = h m1 None (record { media = m1; latest = None }) in absurd cc
@@ -133,7 +133,7 @@ refused-by (step.AppendError s i y) (effects.AppendError g x) p at fault m0 m1 d
     let c : Content = record { media = m1; latest = latest } in
     ap (λ (r : MediaResult). Took (media_item_result r at (Some p) c)) (ap (λ (m : Media). init_result p m d) same ∙ there ∙ sym is) ∙ sym (h m1 (Some p) c)
 
-pub refused-step : (st : ItemEffect) (e : MediaEffect) (p : Presentation) (at : ℕ) (o : Option MediaFault) (m0 m1 : Media) (d : Moment) → o ≡ init_fault p m0 → is_some o ≡ true → media_result e m1 ≡ init_result p m0 d → DoesStep st e at → IsRefused st (Some (InitItem p at)) m1 d
+pub refused-step : (st : ItemEffect) (e : MediaEffect) (p : Presentation) (at : ℕ) (o : Option MediaFault) (m0 m1 : Media) (d : Moment) → o ≡ init_fault p m0 → is_some o ≡ true → media_result e m1 ≡ init_result p m0 d → DoesStep st e at → IsItemRefused st (Some (InitItem p at)) m1 d
 refused-step st e p at None m0 m1 d has some is h = absurd cc
 refused-step st e p at (Some fault) m0 m1 d has some is h =
     let there : init_result p m0 d ≡ media.AppendError fault m0 (segment_effect p d) = ap (λ (o : Option MediaFault). init_result_of o p m0 (segment_effect p d)) (sym has) in

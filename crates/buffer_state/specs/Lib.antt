@@ -4,4 +4,4 @@ pub mod Replies
 pub mod Turns
 pub mod Calls
 pub mod Steps
-pub mod Left
+pub mod StepsLeft

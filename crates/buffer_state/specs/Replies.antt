@@ -122,11 +122,11 @@ LeavesRanges old reply new =
     → buffered_of ended new ≡ (if reply.activated then [] else buffered_of ended old)
 
 -- something ran, or nothing did
-abbrev pub IsTurn : Turned → Kept → Option CallResult → Type 0
-IsTurn (Did reply) k None = ⊥
-IsTurn (Did reply) k (Some result) = IsResult reply k result
-IsTurn Idle k None = Unit {0}
-IsTurn Idle k (Some result) = ⊥
+abbrev pub IsTurnResult : Turned → Kept → Option CallResult → Type 0
+IsTurnResult (Did reply) k None = ⊥
+IsTurnResult (Did reply) k (Some result) = IsResult reply k result
+IsTurnResult Idle k None = Unit {0}
+IsTurnResult Idle k (Some result) = ⊥
 
 -- what is said of a reply, said of a turn
 abbrev pub OfTurn : Turned → (Reply → Type 0) → Type 0

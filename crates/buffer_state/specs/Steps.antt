@@ -37,16 +37,16 @@ IsNoInit (Some SegmentEnd) = Unit {0}
 IsNoInit (Some (FaultItem f at)) = Unit {0}
 
 -- what the next item did, or that there was none
-pub data Stepped : Type 0 where
-  Ended : Content → Stepped
-  Took : ItemResult → Stepped
+pub data StepResult : Type 0 where
+  Ended : Content → StepResult
+  Took : ItemResult → StepResult
 
-abbrev pub stepped : ItemEffect → Content → Stepped
-stepped step.NoItem c = Ended c
-stepped (step.Done b) c = Took (Done c b)
-stepped (step.AppendError fault at b) c = Took (AppendError fault at c b)
+abbrev pub step_result : ItemEffect → Content → StepResult
+step_result step.NoItem c = Ended c
+step_result (step.Done b) c = Took (Done c b)
+step_result (step.AppendError fault at b) c = Took (AppendError fault at c b)
 
-abbrev pub item_stepped : Option ByteItem → Content → Moment → Stepped
+abbrev pub item_stepped : Option ByteItem → Content → Moment → StepResult
 item_stepped None c d = Ended c
 item_stepped (Some item) c d = Took (item_result item c d)
 
@@ -56,10 +56,10 @@ content_at m latest c (effects.Done e) = record { media = m; latest = latest }
 content_at m latest c (effects.AppendError fault e) = record { media = m; latest = c.latest }
 
 -- the item is refused, and this is what comes of it: it leaves the media and the presentation
-abbrev pub IsRefused : ItemEffect → Option ByteItem → Media → Moment → Type 0
-IsRefused step.NoItem o m d = ⊥
-IsRefused (step.Done e) o m d = ⊥
-IsRefused (step.AppendError fault at e) o m d =
+abbrev pub IsItemRefused : ItemEffect → Option ByteItem → Media → Moment → Type 0
+IsItemRefused step.NoItem o m d = ⊥
+IsItemRefused (step.Done e) o m d = ⊥
+IsItemRefused (step.AppendError fault at e) o m d =
     (latest : Option Presentation)
     → item_stepped o (record { media = m; latest = latest }) d
     ≡ Took (AppendError fault at (record { media = m; latest = latest }) e)
@@ -67,7 +67,7 @@ IsRefused (step.AppendError fault at e) o m d =
 -- the item is refused, or the media is ready for it
 abbrev pub IsPrepared : Option ItemEffect → Option ByteItem → MediaView → Moment → Type 0
 IsPrepared None o m d = IsReadyFor o m
-IsPrepared (Some st) o m d = IsRefused st o m.media d
+IsPrepared (Some st) o m d = IsItemRefused st o m.media d
 
 -- the duration after a step
 abbrev pub duration_after : ItemEffect → Moment → Moment

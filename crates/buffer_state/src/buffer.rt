@@ -3,17 +3,17 @@ ghost use Rattle.std.specs.List.{AllByRecursion};
 ghost use Rattle.mse_base.specs.declared.ticks.Moment.{Moment};
 ghost use Rattle.mse_base.specs.Spans.{last_of, reaches};
 ghost use Rattle.track_store.specs.Kept.{AreKept};
-ghost use Rattle.track_store.specs.Sound.{Sound};
+ghost use Rattle.track_store.specs.Sound.{IsSound};
 ghost use Rattle.track_store.specs.State.{states_of};
 ghost use Rattle.track_buffers.specs.Settings.{new_media};
 ghost use Rattle.track_buffers.specs.Media.{awaits_first, IsNotAfter};
 ghost use Rattle.track_buffers.specs.Frames.{used_in, highest_start_in, highest_end_in};
 ghost use Rattle.track_buffers.specs.Buffered.{buffered_of};
 ghost use Rattle.buffer_state.specs.State.{Feed, Content, Kept, Stands, surroundings, new_feed, phase_in, ready_in, is_updating, is_appending, is_removing};
-ghost use Rattle.buffer_state.specs.Replies.{Answers, AnswersIfOk, StaysWithin, LeavesRanges, IsTurn, OfTurn, changes_of};
+ghost use Rattle.buffer_state.specs.Replies.{Answers, AnswersIfOk, StaysWithin, LeavesRanges, IsTurnResult, OfTurn, changes_of};
 ghost use Rattle.buffer_state.specs.Turns.{turn_result};
 ghost use Rattle.buffer_state.specs.Calls.{generates_timestamps, mode_refusal, mode_result, offset_refusal, offset_result, window_start_refusal, window_start_result, window_end_refusal, window_end_result, remove_refusal, remove_result, append_refusal, append_result, abort_refusal, abort_result, change_type_refusal, change_type_result, end_work_result, buffer_view};
-ghost use Rattle.buffer_state.specs.Left.{IsFewer, IsIdle};
+ghost use Rattle.buffer_state.specs.StepsLeft.{IsFewer, IsIdle};
 ghost use Rattle.byte_stream.specs.Readings.{held_at};
 ghost use Rattle.byte_stream.specs.Streams.{StandsForSome, ready_of};
 
@@ -252,7 +252,7 @@ impl<S: FrameStore> Buffer<S> {
     /// removal. It takes its memory first; an `Err` changes nothing.
     pub fn turn(&mut self, around: &Around) -> Result<Turned, OutOfMemory>
         ensures turned { (f : Feed) (c : Content) → Stands self.old f c
-            → IfOk result (λ turned. IsTurn turned self.new
+            → IfOk result (λ turned. IsTurnResult turned self.new
             (turn_result (surroundings around.now) f c)) }
         ensures idle { IfOk result (λ turned. IsIdle turned self.old self.new) }
         ensures fewer { IfOk result (λ turned. IsFewer turned self.old self.new) }
@@ -481,7 +481,7 @@ impl<S: FrameStore> Buffer<S> {
     /// negative, and the buffer stands for some string. It does nothing when it runs.
     pub fn sound(&self)
         ensures kept { AreKept self.now.media.tracks }
-        ensures sound { AllByRecursion Sound self.now.media.tracks }
+        ensures sound { AllByRecursion IsSound self.now.media.tracks }
         ensures gap { pos 0 ≤ℤ self.now.media.gap }
         ensures stands { StandsForSome self.now.stream }
     {

@@ -10,7 +10,7 @@ ghost use Rattle.byte_stream.specs.Streams.{Stands, StreamView};
 ghost use Rattle.buffer_state.specs.State.{Feed, Content, Surroundings};
 ghost use Rattle.buffer_state.specs.Replies.{TellsRefusals, refused_result};
 ghost use Rattle.buffer_state.specs.Calls.{mode_refusal, mode_result, offset_refusal, offset_result, window_start_refusal, window_start_result, window_end_refusal, window_end_result, remove_refusal, remove_result, append_refusal, append_result, append_result_after_eviction, abort_refusal, abort_result, change_type_refusal, change_type_result};
-ghost use Rattle.buffer_state.specs.Left.{items_left};
+ghost use Rattle.buffer_state.specs.StepsLeft.{items_left};
 
 /// The items that are left to an append are those of the string but for the ones that were taken.
 pub fn left_law()

@@ -13,8 +13,8 @@ ghost use Rattle.track_buffers.specs.Media.{Media, EndsWithin, IsNotAfter};
 ghost use Rattle.buffer_state.specs.State.{Content, kept, next_item, surroundings};
 ghost use Rattle.buffer_state.specs.Replies.{Answers, StaysWithin};
 ghost use Rattle.buffer_state.specs.Turns.{append_turn_result, removal_turn_result, media_item_result};
-ghost use Rattle.buffer_state.specs.Steps.{IsReadyFor, IsPrepared, Leaves, Took, content_at, stepped, item_stepped, duration_after, changes_after, step_turn};
-ghost use Rattle.buffer_state.specs.Left.{steps_left};
+ghost use Rattle.buffer_state.specs.Steps.{IsReadyFor, IsPrepared, Leaves, Took, content_at, step_result, item_stepped, duration_after, changes_after, step_turn};
+ghost use Rattle.buffer_state.specs.StepsLeft.{steps_left};
 
 use crate::around::Around;
 use crate::faults::{Fault, fault_view};
@@ -40,7 +40,7 @@ pub(crate) enum ItemEffect {
 /// The step of a place of the string that did this to the media.
 fn step_at(effect: MediaEffect, offset: u64) -> ItemEffect
     ensures step { (m : Media) (latest : Option Presentation) (c : Content)
-        → stepped result (content_at m latest c effect) ≡ Took
+        → step_result result (content_at m latest c effect) ≡ Took
         (media_item_result (media_result effect m) offset latest c) }
     ensures duration { (d : Moment) → duration_after result d ≡ (source_effect effect).duration }
     ensures changes { changes_after result ≡ (source_effect effect).duration_changes }
@@ -102,7 +102,7 @@ fn prepare<S: FrameStore>(
 fn take_item<S: FrameStore>(media: &mut TrackBuffers<S>, next: Next, duration: Moment) -> ItemEffect
     requires prepared { IsReadyFor (seen next) media.old }
     requires lasting { IfSome (seen next) IsLasting }
-    ensures step { (latest : Option Presentation) → stepped result
+    ensures step { (latest : Option Presentation) → step_result result
         (record { media = media.new.media; latest = latest_after_any latest (seen next) })
         ≡ item_stepped (seen next) (record { media = media.old.media; latest = latest }) duration }
     ensures within_duration { EndsWithin duration media.old.media.tracks

@@ -4,8 +4,8 @@ use Rattle.std.specs.Prelude.{Option, Some, None, slice_get, Result, Ok, Err, If
 use Rattle.std.specs.Option.{option_map}
 use Rattle.mse_base.specs.declared.frame.CodedFrame.{CodedFrame}
 use Rattle.parser_loop.specs.Items.{InitItem, FrameItem, SegmentEnd, FaultItem, leading_frames}
-use Rattle.segment_stream.specs.declared.next.Next.{Next}
-use Rattle.segment_stream.specs.declared.next.Next.TheVariants as segment
+use Rattle.segment_stream.specs.declared.next.SegmentNext.{SegmentNext}
+use Rattle.segment_stream.specs.declared.next.SegmentNext.TheVariants as segment
 use Rattle.segment_stream.specs.Kept as segment_kept
 use Rattle.adts_stream.specs.declared.next.AdtsNext.{AdtsNext}
 use Rattle.adts_stream.specs.declared.next.AdtsNext.TheVariants as frame
@@ -40,7 +40,7 @@ next-frame s o ready some is =
     subst IsFrame (sym (is r some.stands)) (front (items_in r) r.taken more)
 
 -- the answers of each parser that are no frames
-pub no-segment-frame : (x : Next) → ((f : CodedFrame) (at : ℕ) → x ≡ segment.Frame f at → ⊥) → IsFrame (option_map of_segments (segment_kept.seen x)) → ⊥
+pub no-segment-frame : (x : SegmentNext) → ((f : CodedFrame) (at : ℕ) → x ≡ segment.Frame f at → ⊥) → IsFrame (option_map of_segments (segment_kept.seen x)) → ⊥
 no-segment-frame (segment.Init p at) other h = h
 no-segment-frame (segment.Frame f at) other h = other f at refl
 no-segment-frame segment.SegmentEnd other h = h

@@ -15,7 +15,7 @@ use Rattle.bmff_init.specs.Movies.{init_of}
 use Rattle.bmff_fragment.specs.declared.fault.MoofFault.{MoofFault}
 use Rattle.bmff_fragment.specs.declared.slot.Slot.{Slot}
 use Rattle.bmff_fragment.specs.Plans.{plan_of}
-use Rattle.parser_loop.specs.Walk.{Move, Stop, Pass, Give, Kind, items_by, items_in, items_from}
+use Rattle.parser_loop.specs.Walk.{Move, Stop, Pass, Give, StreamKind, items_by, items_in, items_from}
 use Rattle.mse_base.specs.declared.frame.Phase.{Phase}
 use Rattle.segment_walk.specs.declared.kinds.BoxStep.{BoxStep}
 use Rattle.segment_walk.specs.declared.kinds.BoxStep.TheVariants as step
@@ -48,11 +48,11 @@ kept-by P Q go Stop h f = All-nil Q
 kept-by P Q go (Pass t) h f = f t h
 kept-by P Q go (Give item t) h f = All-cons Q item (go t) h.0 (f t h.1)
 
-kept-in : {S I : Type 0} (k : Kind S I) (P : S → Type 0) (Q : I → Type 0) → ((s : S) → P s → Keeps P Q (k.move s)) → (n : ℕ) (s : S) → P s → All Q (items_in k n s)
+kept-in : {S I : Type 0} (k : StreamKind S I) (P : S → Type 0) (Q : I → Type 0) → ((s : S) → P s → Keeps P Q (k.move s)) → (n : ℕ) (s : S) → P s → All Q (items_in k n s)
 kept-in k P Q f zero s h = All-nil Q
 kept-in k P Q f (suc n) s h = kept-by P Q (items_in k n) (k.move s) (f s h) (λ t g. kept-in k P Q f n t g)
 
-kept-from : {S I : Type 0} (k : Kind S I) (P : S → Type 0) (Q : I → Type 0) → ((s : S) → P s → Keeps P Q (k.move s)) → (s : S) → P s → All Q (items_from k s)
+kept-from : {S I : Type 0} (k : StreamKind S I) (P : S → Type 0) (Q : I → Type 0) → ((s : S) → P s → Keeps P Q (k.move s)) → (s : S) → P s → All Q (items_from k s)
 unfolding items_from
 kept-from k P Q f s h = kept-in k P Q f (suc (k.size s)) s h
 

@@ -25,11 +25,11 @@ count-mapped f n (Some item) = refl
 
 -- ---- an item that was shown
 
-in-segments : (s : segment_stream.Streamed) (x : Option SegmentItem) (o : Option ByteItem) (at : ℕ → ℕ) → o ≡ option_map of_segments x → ((before : Option Presentation) (whole : List ℕ) (n : ℕ) → segment_stream.Stands s.kept before whole n → x ≡ slice_get (segment.Items before whole) (at n)) → (container : Container) (before : Option Presentation) (whole : List ℕ) (n : ℕ) → StandsIn (OfSegments s.kept) container before whole n → o ≡ slice_get (items_of container before whole) (at n)
+in-segments : (s : segment_stream.SegmentView) (x : Option SegmentItem) (o : Option ByteItem) (at : ℕ → ℕ) → o ≡ option_map of_segments x → ((before : Option Presentation) (whole : List ℕ) (n : ℕ) → segment_stream.Stands s.kept before whole n → x ≡ slice_get (segment.Items before whole) (at n)) → (container : Container) (before : Option Presentation) (whole : List ℕ) (n : ℕ) → StandsIn (OfSegments s.kept) container before whole n → o ≡ slice_get (items_of container before whole) (at n)
 in-segments s x o at e f Mp4 before whole n h = e ∙ ap (option_map of_segments) (f before whole n h) ∙ sym (slice_get-map of_segments (segment.Items before whole) (at n))
 in-segments s x o at e f Adts before whole n h = absurd h
 
-pub seen-segments : (s : segment_stream.Streamed) (x : Option SegmentItem) (o : Option ByteItem) (at : ℕ → ℕ) → o ≡ option_map of_segments x → ((before : Option Presentation) (whole : List ℕ) (n : ℕ) → segment_stream.Stands s.kept before whole n → x ≡ slice_get (segment.Items before whole) (at n)) → (r : Reading) → Stands (stream_view (parser.Segments s)) r → o ≡ slice_get (items_in r) (at r.taken)
+pub seen-segments : (s : segment_stream.SegmentView) (x : Option SegmentItem) (o : Option ByteItem) (at : ℕ → ℕ) → o ≡ option_map of_segments x → ((before : Option Presentation) (whole : List ℕ) (n : ℕ) → segment_stream.Stands s.kept before whole n → x ≡ slice_get (segment.Items before whole) (at n)) → (r : Reading) → Stands (stream_view (parser.Segments s)) r → o ≡ slice_get (items_in r) (at r.taken)
 seen-segments s x o at e f r h = in-segments s x o at e f r.container r.before r.whole r.taken h.parser
 
 in-frames : (s : frame_stream.AdtsView) (x : Option frame.AdtsItem) (o : Option ByteItem) (at : ℕ → ℕ) → o ≡ option_map of_frames x → ((before : Option Presentation) (whole : List ℕ) (n : ℕ) → frame_stream.Stands s.state before whole n → x ≡ slice_get (frame.Items before whole) (at n)) → (container : Container) (before : Option Presentation) (whole : List ℕ) (n : ℕ) → StandsIn (OfFrames s.state) container before whole n → o ≡ slice_get (items_of container before whole) (at n)
@@ -41,11 +41,11 @@ seen-frames s x o at e f r h = in-frames s x o at e f r.container r.before r.who
 
 -- ---- behind it
 
-after-segments : (s t : segment_stream.Streamed) (x : Option SegmentItem) (o : Option ByteItem) → o ≡ option_map of_segments x → ((before : Option Presentation) (whole : List ℕ) (n : ℕ) → segment_stream.Stands s.kept before whole n → segment_stream.Stands t.kept before whole (count_after n x)) → (container : Container) (before : Option Presentation) (whole : List ℕ) (n : ℕ) → StandsIn (OfSegments s.kept) container before whole n → StandsIn (OfSegments t.kept) container before whole (count_after n o)
+after-segments : (s t : segment_stream.SegmentView) (x : Option SegmentItem) (o : Option ByteItem) → o ≡ option_map of_segments x → ((before : Option Presentation) (whole : List ℕ) (n : ℕ) → segment_stream.Stands s.kept before whole n → segment_stream.Stands t.kept before whole (count_after n x)) → (container : Container) (before : Option Presentation) (whole : List ℕ) (n : ℕ) → StandsIn (OfSegments s.kept) container before whole n → StandsIn (OfSegments t.kept) container before whole (count_after n o)
 after-segments s t x o e f Mp4 before whole n h = subst (λ k. segment_stream.Stands t.kept before whole k) (sym (ap (count_after n) e ∙ count-mapped of_segments n x)) (f before whole n h)
 after-segments s t x o e f Adts before whole n h = absurd h
 
-pub behind-segments : (s t : segment_stream.Streamed) (x : Option SegmentItem) (o : Option ByteItem) → o ≡ option_map of_segments x → t.fed ≡ s.fed → ((before : Option Presentation) (whole : List ℕ) (n : ℕ) → segment_stream.Stands s.kept before whole n → segment_stream.Stands t.kept before whole (count_after n x)) → (r : Reading) → Stands (stream_view (parser.Segments s)) r → Stands (stream_view (parser.Segments t)) (after_answer o r)
+pub behind-segments : (s t : segment_stream.SegmentView) (x : Option SegmentItem) (o : Option ByteItem) → o ≡ option_map of_segments x → t.fed ≡ s.fed → ((before : Option Presentation) (whole : List ℕ) (n : ℕ) → segment_stream.Stands s.kept before whole n → segment_stream.Stands t.kept before whole (count_after n x)) → (r : Reading) → Stands (stream_view (parser.Segments s)) r → Stands (stream_view (parser.Segments t)) (after_answer o r)
 behind-segments s t x o e g f r h = record { parser = after-segments s t x o e f r.container r.before r.whole r.taken h.parser; fed = g ∙ h.fed }
 
 after-frames : (s t : frame_stream.AdtsView) (x : Option frame.AdtsItem) (o : Option ByteItem) → o ≡ option_map of_frames x → ((before : Option Presentation) (whole : List ℕ) (n : ℕ) → frame_stream.Stands s.state before whole n → frame_stream.Stands t.state before whole (count_after n x)) → (container : Container) (before : Option Presentation) (whole : List ℕ) (n : ℕ) → StandsIn (OfFrames s.state) container before whole n → StandsIn (OfFrames t.state) container before whole (count_after n o)
@@ -57,15 +57,15 @@ behind-frames s t x o e g f r h = record { parser = after-frames s t x o e f r.c
 
 -- ---- bytes are appended
 
-more-segments : (s t : segment_stream.Streamed) (bytes : List ℕ) → ((before : Option Presentation) (whole : List ℕ) (n : ℕ) → segment_stream.Stands s.kept before whole n → segment_stream.Stands t.kept before (whole ++ bytes) n) → (container : Container) (before : Option Presentation) (whole : List ℕ) (n : ℕ) → StandsIn (OfSegments s.kept) container before whole n → StandsIn (OfSegments t.kept) container before (whole ++ bytes) n
+more-segments : (s t : segment_stream.SegmentView) (bytes : List ℕ) → ((before : Option Presentation) (whole : List ℕ) (n : ℕ) → segment_stream.Stands s.kept before whole n → segment_stream.Stands t.kept before (whole ++ bytes) n) → (container : Container) (before : Option Presentation) (whole : List ℕ) (n : ℕ) → StandsIn (OfSegments s.kept) container before whole n → StandsIn (OfSegments t.kept) container before (whole ++ bytes) n
 more-segments s t bytes f Mp4 before whole n h = f before whole n h
 more-segments s t bytes f Adts before whole n h = absurd h
 
-offered-segments : (s t : segment_stream.Streamed) (o : Option (List ℕ)) → IfSome o (λ bytes. (before : Option Presentation) (whole : List ℕ) (n : ℕ) → segment_stream.Stands s.kept before whole n → segment_stream.Stands t.kept before (whole ++ bytes) n) → IfSome o (λ bytes. t.fed ≡ s.fed + length bytes) → IfSome o (λ bytes. StandsAfter (stream_view (parser.Segments s)) (with_bytes bytes) (stream_view (parser.Segments t)))
+offered-segments : (s t : segment_stream.SegmentView) (o : Option (List ℕ)) → IfSome o (λ bytes. (before : Option Presentation) (whole : List ℕ) (n : ℕ) → segment_stream.Stands s.kept before whole n → segment_stream.Stands t.kept before (whole ++ bytes) n) → IfSome o (λ bytes. t.fed ≡ s.fed + length bytes) → IfSome o (λ bytes. StandsAfter (stream_view (parser.Segments s)) (with_bytes bytes) (stream_view (parser.Segments t)))
 offered-segments s t None f g = tt
 offered-segments s t (Some bytes) f g = λ r h. record { parser = more-segments s t bytes f r.container r.before r.whole r.taken h.parser; fed = omega (arith, g, h.fed, length-append r.whole bytes) }
 
-pub accept-segments : (s t : segment_stream.Streamed) → IfSome s.offered (λ bytes. (before : Option Presentation) (whole : List ℕ) (n : ℕ) → segment_stream.Stands s.kept before whole n → segment_stream.Stands t.kept before (whole ++ bytes) n) → IfSome s.offered (λ bytes. t.fed ≡ s.fed + length bytes) → IfSome s.offered (λ bytes. StandsAfter (stream_view (parser.Segments s)) (with_bytes bytes) (stream_view (parser.Segments t)))
+pub accept-segments : (s t : segment_stream.SegmentView) → IfSome s.offered (λ bytes. (before : Option Presentation) (whole : List ℕ) (n : ℕ) → segment_stream.Stands s.kept before whole n → segment_stream.Stands t.kept before (whole ++ bytes) n) → IfSome s.offered (λ bytes. t.fed ≡ s.fed + length bytes) → IfSome s.offered (λ bytes. StandsAfter (stream_view (parser.Segments s)) (with_bytes bytes) (stream_view (parser.Segments t)))
 accept-segments s t f g = offered-segments s t s.offered f g
 
 more-frames : (s t : frame_stream.AdtsView) (bytes : List ℕ) → ((before : Option Presentation) (whole : List ℕ) (n : ℕ) → frame_stream.Stands s.state before whole n → frame_stream.Stands t.state before (whole ++ bytes) n) → (container : Container) (before : Option Presentation) (whole : List ℕ) (n : ℕ) → StandsIn (OfFrames s.state) container before whole n → StandsIn (OfFrames t.state) container before (whole ++ bytes) n
@@ -81,11 +81,11 @@ accept-frames s t f g = offered-frames s t s.offered f g
 
 -- ---- a reset
 
-anew-segments : (s t : segment_stream.Streamed) → ((before : Option Presentation) (whole : List ℕ) (n : ℕ) → segment_stream.Stands s.kept before whole n → segment_stream.Stands t.kept (latest_after_all before (take n (segment.Items before whole))) [] 0) → (container : Container) (before : Option Presentation) (whole : List ℕ) (n : ℕ) → StandsIn (OfSegments s.kept) container before whole n → StandsIn (OfSegments t.kept) container (latest_after_all before (take n (items_of container before whole))) [] 0
+anew-segments : (s t : segment_stream.SegmentView) → ((before : Option Presentation) (whole : List ℕ) (n : ℕ) → segment_stream.Stands s.kept before whole n → segment_stream.Stands t.kept (latest_after_all before (take n (segment.Items before whole))) [] 0) → (container : Container) (before : Option Presentation) (whole : List ℕ) (n : ℕ) → StandsIn (OfSegments s.kept) container before whole n → StandsIn (OfSegments t.kept) container (latest_after_all before (take n (items_of container before whole))) [] 0
 anew-segments s t f Mp4 before whole n h = subst (λ last. segment_stream.Stands t.kept last [] 0) (sym (latest-segments before whole n)) (f before whole n h)
 anew-segments s t f Adts before whole n h = absurd h
 
-pub reset-segments : (s t : segment_stream.Streamed) → ((before : Option Presentation) (whole : List ℕ) (n : ℕ) → segment_stream.Stands s.kept before whole n → segment_stream.Stands t.kept (latest_after_all before (take n (segment.Items before whole))) [] 0) → t.fed ≡ 0 → StandsAfter (stream_view (parser.Segments s)) after_reset (stream_view (parser.Segments t))
+pub reset-segments : (s t : segment_stream.SegmentView) → ((before : Option Presentation) (whole : List ℕ) (n : ℕ) → segment_stream.Stands s.kept before whole n → segment_stream.Stands t.kept (latest_after_all before (take n (segment.Items before whole))) [] 0) → t.fed ≡ 0 → StandsAfter (stream_view (parser.Segments s)) after_reset (stream_view (parser.Segments t))
 reset-segments s t f g = λ r h. record { parser = anew-segments s t f r.container r.before r.whole r.taken h.parser; fed = g }
 
 anew-frames : (s t : frame_stream.AdtsView) → ((before : Option Presentation) (whole : List ℕ) (n : ℕ) → frame_stream.Stands s.state before whole n → frame_stream.Stands t.state (latest_after_all before (take n (frame.Items before whole))) [] 0) → (container : Container) (before : Option Presentation) (whole : List ℕ) (n : ℕ) → StandsIn (OfFrames s.state) container before whole n → StandsIn (OfFrames t.state) container (latest_after_all before (take n (items_of container before whole))) [] 0

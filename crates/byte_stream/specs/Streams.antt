@@ -4,7 +4,7 @@ use Rattle.mse_base.specs.declared.frame.Phase.{Phase}
 use Rattle.mse_base.specs.declared.track.Presentation.{Presentation}
 use Rattle.mse_types.specs.declared.answer.Container.{Container}
 use Rattle.mse_types.specs.declared.answer.Container.TheVariants.{Mp4, Adts}
-use Rattle.parser_loop.specs.Walk.{Run}
+use Rattle.parser_loop.specs.Walk.{Lookahead}
 use Rattle.parser_loop.specs.Items.{InitItem, FrameItem, SegmentEnd, FaultItem}
 use Rattle.segment_walk.specs.Tables.{SegmentItem}
 use Rattle.segment_walk.specs.Moves as segment
@@ -21,7 +21,7 @@ use Rattle.byte_stream.specs.Readings.{Reading, ByteItem}
 
 -- what the parser of either container keeps
 pub data ParserState : Type 0 where
-  OfSegments : Run segment.State SegmentItem → ParserState
+  OfSegments : Lookahead segment.State SegmentItem → ParserState
   OfFrames : frame.State → ParserState
 
 -- What the parser keeps, the length of the string since the last reset, and the bytes that are offered, if there are

@@ -7,7 +7,7 @@ ghost use Rattle.byte_stream.specs.Streams.{seen};
 
 use adts_stream::{AdtsFault, AdtsNext};
 use mse_base::{CodedFrame, Presentation};
-use segment_stream::{Next as SegmentNext, StreamFault};
+use segment_stream::{SegmentNext, StreamFault};
 
 /// Why a string cannot be parsed any further: a fault of ISO BMFF segments, or one of ADTS frames.
 #[derive(Clone, Copy, Debug, PartialEq, Eq)]

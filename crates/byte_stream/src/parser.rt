@@ -8,7 +8,7 @@ use crate::next::{Next, frame_next, segment_next};
 use adts_stream::{AdtsNext, AdtsStream};
 use mse_base::{Bytes, CodedFrame, OutOfMemory, Phase};
 use mse_types::Container;
-use segment_stream::{Next as SegmentNext, Stream};
+use segment_stream::{SegmentNext, Stream};
 use std::alloc::Global;
 
 /// The parser of a container.

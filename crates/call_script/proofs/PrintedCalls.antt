@@ -22,8 +22,8 @@ use Rattle.call_script.specs.Times.{time_of}
 use Rattle.call_script.specs.CallWords.{call_word_of}
 use Rattle.call_script.specs.Lines.{pair, mode_of, piece_with, piece_of, type_of, is_printable, call_with, call_of_line}
 use Rattle.call_script.specs.Words.{first_word, after_word}
-use Rattle.call_script.specs.ReadBack.{IsIndex, IsPart, IsShort, IsPlain, IsReadable}
-use Rattle.call_script.proofs.Spaces.{Lacks, Prints, before-mark, behind-mark, before-alone, behind-alone, prints_words, both-is, pair-is, line-alone, line-with}
+use Rattle.call_script.specs.ReadBack.{IsIndex, IsPart, HasFewDigits, IsPlain, IsReadableCall}
+use Rattle.call_script.proofs.Spaces.{Lacks, Prints, before-mark, rest_after-mark, before-alone, rest_after-alone, prints_words, both-is, pair-is, line-alone, line-with}
 use Rattle.call_script.proofs.Decimals.{index-decimal, size-decimal, prints-decimal, lacks-decimal}
 use Rattle.call_script.proofs.PrintedTimes.{time-text, lacks-time, prints-time}
 
@@ -60,7 +60,7 @@ mode-text : (mode : Mode) → mode_of (mode_text mode) ≡ Some mode
 mode-text Segments = refl
 mode-text Sequence = refl
 
-times-text : (a b : Moment) → IsShort a → IsShort b → pair time_of time_of (moment_text a ++ (32 ∷ moment_text b)) ≡ Some (a, b)
+times-text : (a b : Moment) → HasFewDigits a → HasFewDigits b → pair time_of time_of (moment_text a ++ (32 ∷ moment_text b)) ≡ Some (a, b)
 times-text a b h k = pair-is time_of time_of (moment_text a) (moment_text b) a b (lacks-time a h) (time-text a h) (time-text b k)
 
 -- the text of a piece
@@ -73,13 +73,13 @@ unfolding piece_of piece_words
 piece-text blob None h k =
     ap (λ (t : List ℕ). option_and_then (λ b. piece_with b (after_word (decimal blob))) (index_of t)) (before-alone 32 (decimal blob) (lacks-index blob h))
     ∙ ap (option_and_then (λ b. piece_with b (after_word (decimal blob)))) (index-decimal blob h)
-    ∙ ap (piece_with blob) (behind-alone 32 (decimal blob) (lacks-index blob h))
+    ∙ ap (piece_with blob) (rest_after-alone 32 (decimal blob) (lacks-index blob h))
 piece-text blob (Some part) h k =
     let text = decimal blob ++ (32 ∷ (decimal part.0 ++ (32 ∷ decimal part.1))) in
     let sizes = pair-is size_of size_of (decimal part.0) (decimal part.1) part.0 part.1 (lacks-decimal 32 part.0 (lit< tt) (wide part.0 k.0)) (size-decimal part.0 k.0) (size-decimal part.1 k.1) in
     ap (λ (t : List ℕ). option_and_then (λ b. piece_with b (after_word text)) (index_of t)) (before-mark 32 (decimal blob) (decimal part.0 ++ (32 ∷ decimal part.1)) (lacks-index blob h) refl)
     ∙ ap (option_and_then (λ b. piece_with b (after_word text))) (index-decimal blob h)
-    ∙ ap (piece_with blob) (behind-mark 32 (decimal blob) (decimal part.0 ++ (32 ∷ decimal part.1)) (lacks-index blob h) refl)
+    ∙ ap (piece_with blob) (rest_after-mark 32 (decimal blob) (decimal part.0 ++ (32 ∷ decimal part.1)) (lacks-index blob h) refl)
     ∙ ap (option_map (λ p. record { blob = blob; part = Some p })) sizes
 
 prints-piece : (blob : ℕ) (part : Option (ℕ × ℕ)) → IsIndex blob → IsPart part → Prints (piece_words blob part)
@@ -223,16 +223,16 @@ change-text k [] h q =
     ∙ with-is (codes "changetype") (decimal k) word.ChangeType (call.ChangeType k []) word-changetype (prints-index k h)
     (ap (option_map (λ pr. call.ChangeType pr.0 pr.1)) (both-is (index_of (first_word (decimal k))) (type_of (after_word (decimal k))) k []
     (ap index_of (before-alone 32 (decimal k) (lacks-index k h)) ∙ index-decimal k h)
-    (ap type_of (behind-alone 32 (decimal k) (lacks-index k h)))))
+    (ap type_of (rest_after-alone 32 (decimal k) (lacks-index k h)))))
 change-text k (b ∷ bs) h q =
     ap (λ (t : List ℕ). call_of_line (codes "changetype" ++ (32 ∷ (decimal k ++ (32 ∷ t))))) (type-same (b ∷ bs) q)
     ∙ with-is (codes "changetype") (decimal k ++ (32 ∷ (b ∷ bs))) word.ChangeType (call.ChangeType k (b ∷ bs)) word-changetype (prints_words (decimal k) (b ∷ bs) (prints-index k h) (record { all = q }))
     (ap (option_map (λ pr. call.ChangeType pr.0 pr.1)) (both-is (index_of (first_word (decimal k ++ (32 ∷ (b ∷ bs))))) (type_of (after_word (decimal k ++ (32 ∷ (b ∷ bs))))) k (b ∷ bs)
     (ap index_of (before-mark 32 (decimal k) (b ∷ bs) (lacks-index k h) refl) ∙ index-decimal k h)
-    (ap type_of (behind-mark 32 (decimal k) (b ∷ bs) (lacks-index k h) refl))))
+    (ap type_of (rest_after-mark 32 (decimal k) (b ∷ bs) (lacks-index k h) refl))))
 
 -- the line of a call reads back as the call
-pub reads_back : (c : Call) → IsReadable c → call_of_line (call_text c) ≡ Some c
+pub reads_back : (c : Call) → IsReadableCall c → call_of_line (call_text c) ≡ Some c
 reads_back Attach h = alone-is (codes "attach") _ Attach word-attach refl
 reads_back (AddSourceBuffer kind) h = add-text kind h
 reads_back (RemoveSourceBuffer k) h = with-is (codes "removebuffer") (decimal k) _ (RemoveSourceBuffer k) word-removebuffer (prints-index k h) (ap (option_map (λ n. RemoveSourceBuffer n)) (index-decimal k h))

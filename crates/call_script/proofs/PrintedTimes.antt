@@ -11,11 +11,11 @@ use Rattle.mse_base.specs.declared.ticks.Moment.{Moment}
 use Rattle.mse_base.specs.declared.ticks.Moment.TheVariants.{Nan, At, Infinite}
 use Rattle.mse_base.proofs.TickLemmas.{tick_is}
 use Rattle.event_text.specs.Times.{moment_text}
-use Rattle.call_script.specs.Words.{behind}
+use Rattle.call_script.specs.Words.{rest_after}
 use Rattle.call_script.specs.Times.{amount_of, negative, signed_of, ticks_of, finite_of, time_of}
-use Rattle.call_script.specs.ReadBack.{IsShort}
+use Rattle.call_script.specs.ReadBack.{HasFewDigits}
 use Rattle.call_script.proofs.Signs.{amount-empty}
-use Rattle.call_script.proofs.Spaces.{Lacks, Prints, before-alone, behind-alone}
+use Rattle.call_script.proofs.Spaces.{Lacks, Prints, before-alone, rest_after-alone}
 use Rattle.call_script.proofs.Decimals.{digits, amount-decimal, prints-decimal, lacks-decimal}
 
 in_range : (z : ℤ) → unsigned_abs z < 10 ^ 24 → IsTick z
@@ -58,12 +58,12 @@ no_word (negsuc n) letter rest high other h = rw other refl
 finite-decimal : (z : ℤ) → unsigned_abs z < 10 ^ 24 → finite_of (signed_decimal z) ≡ Some z
 finite-decimal z h =
     let lacks = lacks-signed 47 z (lit< tt) refl h in
-    ap (λ (t : List ℕ). option_and_then (λ n. ticks_of n (behind 47 (signed_decimal z))) (signed_of t)) (before-alone 47 (signed_decimal z) lacks)
-    ∙ ap (option_and_then (λ n. ticks_of n (behind 47 (signed_decimal z)))) (signed-decimal z h)
-    ∙ ap (ticks_of z) (behind-alone 47 (signed_decimal z) lacks)
+    ap (λ (t : List ℕ). option_and_then (λ n. ticks_of n (rest_after 47 (signed_decimal z))) (signed_of t)) (before-alone 47 (signed_decimal z) lacks)
+    ∙ ap (option_and_then (λ n. ticks_of n (rest_after 47 (signed_decimal z)))) (signed-decimal z h)
+    ∙ ap (ticks_of z) (rest_after-alone 47 (signed_decimal z) lacks)
     ∙ tick_is z (in_range z h)
 
-pub time-text : (t : Moment) → IsShort t → time_of (moment_text t) ≡ Some t
+pub time-text : (t : Moment) → HasFewDigits t → time_of (moment_text t) ≡ Some t
 unfolding time_of
 time-text Nan h = refl
 time-text Infinite h = refl
@@ -71,12 +71,12 @@ time-text (At z) h =
     rw (no_word z 110 (97 ∷ 110 ∷ []) (lit< tt) refl h, no_word z 105 (110 ∷ 102 ∷ []) (lit< tt) refl h)
     (ap (option_map (λ x. At x)) (finite-decimal z h))
 
-pub lacks-time : (t : Moment) → IsShort t → Lacks 32 (moment_text t)
+pub lacks-time : (t : Moment) → HasFewDigits t → Lacks 32 (moment_text t)
 lacks-time Nan h = record { none = refl }
 lacks-time Infinite h = record { none = refl }
 lacks-time (At z) h = lacks-signed 32 z (lit< tt) refl h
 
-pub prints-time : (t : Moment) → IsShort t → Prints (moment_text t)
+pub prints-time : (t : Moment) → HasFewDigits t → Prints (moment_text t)
 prints-time Nan h = record { all = refl }
 prints-time Infinite h = record { all = refl }
 prints-time (At z) h = prints-signed z h

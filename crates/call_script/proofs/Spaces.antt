@@ -4,7 +4,7 @@ use Rattle.std.specs.Prelude.{◌==◌, ◌&&◌, ◌||◌, Option, Some, None, 
 use Rattle.std.specs.List.{list_any, list_all, position_or_len}
 use Rattle.mse_calls.specs.declared.calls.Call.{Call}
 use Rattle.call_script.specs.declared.call_word.CallWord.{CallWord}
-use Rattle.call_script.specs.Words.{before, behind, first_word, after_word}
+use Rattle.call_script.specs.Words.{before, rest_after, first_word, after_word}
 use Rattle.call_script.specs.CallWords.{call_word_of}
 use Rattle.call_script.specs.Lines.{both, pair, is_printable, call_with, call_of_line}
 
@@ -30,9 +30,9 @@ before-mark mark (b ∷ bs) rest h same =
     let more : 1 + position_or_len (λ c. c == mark) (bs ++ (mark ∷ rest)) ≡ suc (position_or_len (λ c. c == mark) (bs ++ (mark ∷ rest))) = omega arith in
     rw parts.0 (ap (λ (n : ℕ). take n (b ∷ (bs ++ (mark ∷ rest)))) more ∙ ap (λ (w : List ℕ). b ∷ w) (before-mark mark bs rest parts.1 same))
 
-pub behind-mark : (mark : ℕ) (word rest : List ℕ) → Lacks mark word → (mark == mark) ≡ true → behind mark (word ++ (mark ∷ rest)) ≡ Some rest
-behind-mark mark [] rest h same = rw same refl
-behind-mark mark (b ∷ bs) rest h same = let parts = lacks_rest mark b bs h in rw parts.0 (behind-mark mark bs rest parts.1 same)
+pub rest_after-mark : (mark : ℕ) (word rest : List ℕ) → Lacks mark word → (mark == mark) ≡ true → rest_after mark (word ++ (mark ∷ rest)) ≡ Some rest
+rest_after-mark mark [] rest h same = rw same refl
+rest_after-mark mark (b ∷ bs) rest h same = let parts = lacks_rest mark b bs h in rw parts.0 (rest_after-mark mark bs rest parts.1 same)
 
 pub before-alone : (mark : ℕ) (word : List ℕ) → Lacks mark word → before mark word ≡ word
 before-alone mark [] h = refl
@@ -41,9 +41,9 @@ before-alone mark (b ∷ bs) h =
     let more : 1 + position_or_len (λ c. c == mark) bs ≡ suc (position_or_len (λ c. c == mark) bs) = omega arith in
     rw parts.0 (ap (λ (n : ℕ). take n (b ∷ bs)) more ∙ ap (λ (w : List ℕ). b ∷ w) (before-alone mark bs parts.1))
 
-pub behind-alone : (mark : ℕ) (word : List ℕ) → Lacks mark word → behind mark word ≡ None
-behind-alone mark [] h = refl
-behind-alone mark (b ∷ bs) h = let parts = lacks_rest mark b bs h in rw parts.0 (behind-alone mark bs parts.1)
+pub rest_after-alone : (mark : ℕ) (word : List ℕ) → Lacks mark word → rest_after mark word ≡ None
+rest_after-alone mark [] h = refl
+rest_after-alone mark (b ∷ bs) h = let parts = lacks_rest mark b bs h in rw parts.0 (rest_after-alone mark bs parts.1)
 
 -- put together
 all_and : (x y : Bool) → x ≡ true → y ≡ true → (x && y) ≡ true
@@ -72,13 +72,13 @@ pub pair-is : {A B : Type 0} (first : List ℕ → Option A) (second : List ℕ 
 pair-is first second a b x y h e f =
     both-is (first (first_word (a ++ (32 ∷ b)))) (option_and_then second (after_word (a ++ (32 ∷ b)))) x y
     (ap first (before-mark 32 a b h refl) ∙ e)
-    (ap (option_and_then second) (behind-mark 32 a b h refl) ∙ f)
+    (ap (option_and_then second) (rest_after-mark 32 a b h refl) ∙ f)
 
 pub line-alone : (text : List ℕ) (word : CallWord) (call : Call) → Lacks 32 text → Prints text → call_word_of text ≡ Some word → call_with word None ≡ Some call → call_of_line text ≡ Some call
 unfolding call_of_line
 line-alone text word call h p w e =
     rw p.all (ap (λ (t : List ℕ). option_and_then (λ w'. call_with w' (after_word text)) (call_word_of t)) (before-alone 32 text h)
-    ∙ ap (option_and_then (λ w'. call_with w' (after_word text))) w ∙ ap (call_with word) (behind-alone 32 text h) ∙ e)
+    ∙ ap (option_and_then (λ w'. call_with w' (after_word text))) w ∙ ap (call_with word) (rest_after-alone 32 text h) ∙ e)
 
 pub line-with : (text rest : List ℕ) (word : CallWord) (call : Call) → Lacks 32 text → Prints text → Prints rest → call_word_of text ≡ Some word → call_with word (Some rest) ≡ Some call
     → call_of_line (text ++ (32 ∷ rest)) ≡ Some call
@@ -86,4 +86,4 @@ unfolding call_of_line
 line-with text rest word call h p q w e =
     let whole : list_all is_printable (text ++ (32 ∷ rest)) ≡ true = (prints_words text rest p q).all in
     rw whole (ap (λ (t : List ℕ). option_and_then (λ w'. call_with w' (after_word (text ++ (32 ∷ rest)))) (call_word_of t)) (before-mark 32 text rest h refl)
-    ∙ ap (option_and_then (λ w'. call_with w' (after_word (text ++ (32 ∷ rest))))) w ∙ ap (call_with word) (behind-mark 32 text rest h refl) ∙ e)
+    ∙ ap (option_and_then (λ w'. call_with w' (after_word (text ++ (32 ∷ rest))))) w ∙ ap (call_with word) (rest_after-mark 32 text rest h refl) ∙ e)

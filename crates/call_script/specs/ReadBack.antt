@@ -17,37 +17,37 @@ IsPart None = ⊤
 IsPart (Some part) = (part.0 < 2 ^ 63) × (part.1 < 2 ^ 63)
 
 -- a time of at most 24 digits in ticks
-abbrev pub IsShort : Moment → Type 0
-IsShort Nan = ⊤
-IsShort (At t) = unsigned_abs t < 10 ^ 24
-IsShort Infinite = ⊤
+abbrev pub HasFewDigits : Moment → Type 0
+HasFewDigits Nan = ⊤
+HasFewDigits (At t) = unsigned_abs t < 10 ^ 24
+HasFewDigits Infinite = ⊤
 
 -- a type of printable characters
 abbrev pub IsPlain : List ℕ → Type 0
 IsPlain kind = list_all is_printable kind ≡ true
 
 -- the numbers of the call are in their ranges, its times are short, its type is plain
-abbrev pub IsReadable : Call → Type 0
-IsReadable Attach = ⊤
-IsReadable (AddSourceBuffer kind) = IsPlain kind
-IsReadable (RemoveSourceBuffer k) = IsIndex k
-IsReadable (SetDuration d) = IsShort d
-IsReadable (EndOfStream kind) = ⊤
-IsReadable (SetLiveSeekableRange a b) = IsShort a × IsShort b
-IsReadable ClearLiveSeekableRange = ⊤
-IsReadable (SetMode k mode) = IsIndex k
-IsReadable (SetTimestampOffset k t) = IsIndex k × IsShort t
-IsReadable (SetAppendWindowStart k t) = IsIndex k × IsShort t
-IsReadable (SetAppendWindowEnd k t) = IsIndex k × IsShort t
-IsReadable (AppendBuffer k piece) = IsIndex k × IsIndex piece.blob × IsPart piece.part
-IsReadable (Abort k) = IsIndex k
-IsReadable (Remove k a b) = IsIndex k × IsShort a × IsShort b
-IsReadable (ChangeType k kind) = IsIndex k × IsPlain kind
-IsReadable (Buffered k) = IsIndex k
-IsReadable SourceState = ⊤
-IsReadable (Seek t) = IsShort t
-IsReadable Play = ⊤
-IsReadable Pause = ⊤
-IsReadable (Advance t) = IsShort t
-IsReadable ElementBuffered = ⊤
-IsReadable Seekable = ⊤
+abbrev pub IsReadableCall : Call → Type 0
+IsReadableCall Attach = ⊤
+IsReadableCall (AddSourceBuffer kind) = IsPlain kind
+IsReadableCall (RemoveSourceBuffer k) = IsIndex k
+IsReadableCall (SetDuration d) = HasFewDigits d
+IsReadableCall (EndOfStream kind) = ⊤
+IsReadableCall (SetLiveSeekableRange a b) = HasFewDigits a × HasFewDigits b
+IsReadableCall ClearLiveSeekableRange = ⊤
+IsReadableCall (SetMode k mode) = IsIndex k
+IsReadableCall (SetTimestampOffset k t) = IsIndex k × HasFewDigits t
+IsReadableCall (SetAppendWindowStart k t) = IsIndex k × HasFewDigits t
+IsReadableCall (SetAppendWindowEnd k t) = IsIndex k × HasFewDigits t
+IsReadableCall (AppendBuffer k piece) = IsIndex k × IsIndex piece.blob × IsPart piece.part
+IsReadableCall (Abort k) = IsIndex k
+IsReadableCall (Remove k a b) = IsIndex k × HasFewDigits a × HasFewDigits b
+IsReadableCall (ChangeType k kind) = IsIndex k × IsPlain kind
+IsReadableCall (Buffered k) = IsIndex k
+IsReadableCall SourceState = ⊤
+IsReadableCall (Seek t) = HasFewDigits t
+IsReadableCall Play = ⊤
+IsReadableCall Pause = ⊤
+IsReadableCall (Advance t) = HasFewDigits t
+IsReadableCall ElementBuffered = ⊤
+IsReadableCall Seekable = ⊤

@@ -3,7 +3,7 @@ use Rattle.std.specs.Prelude.{ℕ, zero, suc, ◌==◌, nat_le, ℤ, pos, negsuc
 use Rattle.mse_base.specs.Time.{tick, converted}
 use Rattle.mse_base.specs.declared.ticks.Moment.{Moment}
 use Rattle.mse_base.specs.declared.ticks.Moment.TheVariants.{Nan, At, Infinite}
-use Rattle.call_script.specs.Words.{before, behind}
+use Rattle.call_script.specs.Words.{before, rest_after}
 use Rattle.call_script.specs.Numbers.{number_of, index_of}
 
 -- a number of at most 24 digits
@@ -36,7 +36,7 @@ ticks_of n None = tick n
 ticks_of n (Some scale) = option_and_then (λ units. tick (converted n units)) (scale_of scale)
 
 abbrev pub finite_of : List ℕ → Option ℤ
-finite_of text = option_and_then (λ n. ticks_of n (behind 47 text)) (signed_of (before 47 text))
+finite_of text = option_and_then (λ n. ticks_of n (rest_after 47 text)) (signed_of (before 47 text))
 
 unfoldable pub time_of : List ℕ → Option Moment
 time_of text =

@@ -7,13 +7,13 @@ abbrev pub before : ℕ → List ℕ → List ℕ
 before mark text = before_first (λ b. b == mark) text
 
 -- what stands behind the first such byte; nothing where there is none
-abbrev pub behind : ℕ → List ℕ → Option (List ℕ)
-behind mark [] = None
-behind mark (byte ∷ bytes) = if byte == mark then Some bytes else behind mark bytes
+abbrev pub rest_after : ℕ → List ℕ → Option (List ℕ)
+rest_after mark [] = None
+rest_after mark (byte ∷ bytes) = if byte == mark then Some bytes else rest_after mark bytes
 
 -- words are parted by one space
 abbrev pub first_word : List ℕ → List ℕ
 first_word text = before 32 text
 
 abbrev pub after_word : List ℕ → Option (List ℕ)
-after_word text = behind 32 text
+after_word text = rest_after 32 text

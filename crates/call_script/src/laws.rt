@@ -6,7 +6,7 @@ ghost use Rattle.mse_calls.specs.declared.calls.Call.{Call};
 ghost use Rattle.event_text.specs.Calls.{call_text};
 ghost use Rattle.call_script.specs.Numbers.{number_of};
 ghost use Rattle.call_script.specs.Lines.{call_of_line};
-ghost use Rattle.call_script.specs.ReadBack.{IsReadable};
+ghost use Rattle.call_script.specs.ReadBack.{IsReadableCall};
 
 /// A number without leading zeros is a number as it is printed.
 pub fn numbers_are_as_printed()
@@ -18,5 +18,5 @@ pub fn numbers_are_as_printed()
 /// The printed line of a call is a call line that reads back as the call, where its type has only
 /// printable characters and its times have at most 24 digits in ticks.
 pub fn printed_calls_read_back()
-    ensures { (call : Call) → IsReadable call → call_of_line (call_text call) ≡ Some call }
+    ensures { (call : Call) → IsReadableCall call → call_of_line (call_text call) ≡ Some call }
 {}

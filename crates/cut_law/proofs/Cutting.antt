@@ -10,7 +10,7 @@ use Rattle.call_script.specs.declared.script.StepLine.{StepLine}
 use Rattle.mse_engine.specs.State.{Core, State}
 use Rattle.cut_law.specs.Plays.{play_of}
 use Rattle.cut_law.specs.Room.{IsUnmet}
-use Rattle.cut_law.specs.Cuts.{append_lines, part_lines, extent_of, AreParts, Cut, IsAwaited, AreCuts}
+use Rattle.cut_law.specs.Cuts.{append_lines, part_lines, extent_of, AreParts, IsOtherCut, IsAwaited, AreCuts}
 use Rattle.cut_law.proofs.Drains.{append_core, drain_core, lowest, lowest-is, append-rests, cut-core}
 use Rattle.cut_law.proofs.Journals.{append_some, core_play, play-append, play-core, unmet-front}
 
@@ -77,7 +77,7 @@ whole-core blobs k start total piece bytes c e x l = ap (λ o. drain_core (appen
 play-three : (blobs : List (List ℕ)) (c : Core) (xs ys zs : List StepLine) → core_play blobs c (xs ++ (ys ++ zs)) ≡ core_play blobs (core_play blobs (core_play blobs c xs) ys) zs
 play-three blobs c xs ys zs = play-append blobs c xs (ys ++ zs) ∙ play-append blobs (core_play blobs c xs) ys zs
 
-cut-play : (blobs : List (List ℕ)) (c : Core) (s t : List StepLine) (x : Cut blobs s t) → lowest (core_play blobs c x.front).buffers ≡ None → core_play blobs c t ≡ core_play blobs c s
+cut-play : (blobs : List (List ℕ)) (c : Core) (s t : List StepLine) (x : IsOtherCut blobs s t) → lowest (core_play blobs c x.front).buffers ≡ None → core_play blobs c t ≡ core_play blobs c s
 cut-play blobs c s t x low =
     let d : Core = core_play blobs c x.front in
     ap (λ lines. core_play blobs c lines) x.cut
@@ -91,7 +91,7 @@ cut-play blobs c s t x low =
 pub idle-front : (blobs : List (List ℕ)) (st : State) (front : List StepLine) → IsUnmet blobs st front → IsAwaited blobs st front → lowest (core_play blobs st.core front).buffers ≡ None
 idle-front blobs st front u a = ap (λ (c : Core). lowest c.buffers) (sym (play-core blobs st front u)) ∙ sym (lowest-is (play_of blobs st front).core.buffers) ∙ a
 
-pub cutting : (blobs : List (List ℕ)) (st : State) (s t : List StepLine) (x : Cut blobs s t) → IsAwaited blobs st x.front → IsUnmet blobs st s → IsUnmet blobs st t → (play_of blobs st t).core ≡ (play_of blobs st s).core
+pub cutting : (blobs : List (List ℕ)) (st : State) (s t : List StepLine) (x : IsOtherCut blobs s t) → IsAwaited blobs st x.front → IsUnmet blobs st s → IsUnmet blobs st t → (play_of blobs st t).core ≡ (play_of blobs st s).core
 cutting blobs st s t x a us ut =
     let front : IsUnmet blobs st x.front = unmet-front blobs st x.front (append_lines x.buffer x.piece ++ x.back) (subst (λ lines. IsUnmet blobs st lines) x.whole us) in
     play-core blobs st t ut ∙ cut-play blobs st.core s t x (idle-front blobs st x.front front a) ∙ sym (play-core blobs st s us)

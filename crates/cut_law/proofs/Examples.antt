@@ -16,7 +16,7 @@ use Rattle.source_buffers.specs.State.{BufferState, new_buffer}
 use Rattle.mse_engine.specs.State.{Core, State, element_of}
 use Rattle.cut_law.specs.Plays.{play_of, drain_entries}
 use Rattle.cut_law.specs.Room.{IsUnmet}
-use Rattle.cut_law.specs.Cuts.{append_lines, part_lines, Cut, IsAwaited}
+use Rattle.cut_law.specs.Cuts.{append_lines, part_lines, IsOtherCut, IsAwaited}
 
 -- two frames of ten bytes, and bytes that are no frame
 abbrev frames : List ℕ
@@ -95,7 +95,7 @@ unfolding string_parse frame_found id3_length found_at tick drain_entries
 other_append-cut-room = (refl, (refl, (tt, (refl, (tt, tt)))))
 
 -- the append behind some lines, at once and a frame at a time
-abbrev cut_in_two : (front : List StepLine) → Cut blobs (front ++ whole_lines) (front ++ halves_lines)
+abbrev cut_in_two : (front : List StepLine) → IsOtherCut blobs (front ++ whole_lines) (front ++ halves_lines)
 cut_in_two front = record {
   front = front;
   back = [];
@@ -120,7 +120,7 @@ cut_in_two front = record {
 different : one_frame ≡ two_frames → ⊥
 different e = absurd (cc)
 
-pub needs-awaited : ((blobs : List (List ℕ)) (st : State) (s t : List StepLine) → Cut blobs s t → IsUnmet blobs st s → IsUnmet blobs st t → (play_of blobs st t).core ≡ (play_of blobs st s).core) → ⊥
+pub needs-awaited : ((blobs : List (List ℕ)) (st : State) (s t : List StepLine) → IsOtherCut blobs s t → IsUnmet blobs st s → IsUnmet blobs st t → (play_of blobs st t).core ≡ (play_of blobs st s).core) → ⊥
 needs-awaited f =
     let same : (play_of blobs (two_buffers 1000) (other_append ++ halves_lines)).core ≡ (play_of blobs (two_buffers 1000) (other_append ++ whole_lines)).core = f blobs (two_buffers 1000) (other_append ++ whole_lines) (other_append ++ halves_lines) (cut_in_two other_append) other_append-room other_append-cut-room in
     different (sym row-late-cut ∙ ap counts same ∙ row-late-whole)
@@ -138,7 +138,7 @@ row-quota-cut = refl
 nothing-runs : IsAwaited blobs (two_buffers 10) []
 nothing-runs = refl
 
-pub needs-room : ((blobs : List (List ℕ)) (st : State) (s t : List StepLine) (c : Cut blobs s t) → IsAwaited blobs st c.front → (play_of blobs st t).core ≡ (play_of blobs st s).core) → ⊥
+pub needs-room : ((blobs : List (List ℕ)) (st : State) (s t : List StepLine) (c : IsOtherCut blobs s t) → IsAwaited blobs st c.front → (play_of blobs st t).core ≡ (play_of blobs st s).core) → ⊥
 needs-room f =
     let same : (play_of blobs (two_buffers 10) halves_lines).core ≡ (play_of blobs (two_buffers 10) whole_lines).core = f blobs (two_buffers 10) whole_lines halves_lines (cut_in_two []) nothing-runs in
     different (sym row-quota-cut ∙ ap counts same ∙ row-quota-whole)

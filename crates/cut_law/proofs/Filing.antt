@@ -11,7 +11,7 @@ use Rattle.source_buffers.specs.State.{BufferState}
 use Rattle.mse_engine.specs.State.{CoreSource, Core, State}
 use Rattle.mse_engine.specs.Work.{running_in}
 use Rattle.cut_law.specs.Plays.{after_line}
-use Rattle.cut_law.specs.Room.{HasRoom}
+use Rattle.cut_law.specs.Room.{HasRoomForCall}
 use Rattle.cut_law.specs.Cuts.{extent_of, AreParts}
 use Rattle.cut_law.specs.Files.{after_piece, unless_fault, after_pieces, UnlessFault, HaveRoom}
 use Rattle.cut_law.proofs.Halves.{Half, Ran, Whole, Stopped, RanKeeps, half_behind, items_left, run, run-keeps, half_at_end, half_at_end-idle, half_after_append_by, half_after_append, is_refused, append_feed, begin_source}
@@ -92,11 +92,11 @@ files-core (next ∷ pieces) blobs k blob start total piece bytes c e p l low no
 
 -- ---- on states
 
-piece-core : (blobs : List (List ℕ)) (k : ℕ) (st : State) (piece : Piece) → HasRoom blobs st.core (AppendBuffer k piece) → (after_piece blobs k st piece).core ≡ drain_core (append_some (bytes_of blobs piece) k st.core)
+piece-core : (blobs : List (List ℕ)) (k : ℕ) (st : State) (piece : Piece) → HasRoomForCall blobs st.core (AppendBuffer k piece) → (after_piece blobs k st piece).core ≡ drain_core (append_some (bytes_of blobs piece) k st.core)
 piece-core blobs k st piece room =
     line-core blobs (after_line blobs st (Call (AppendBuffer k piece))) Drain tt ∙ ap (λ c. drain_core c) (line-core blobs st (Call (AppendBuffer k piece)) room)
 
-pieces-by : (o : Option FaultView) (blobs : List (List ℕ)) (k : ℕ) (st : State) (piece : Piece) (pieces : List Piece) → UnlessFault o (HasRoom blobs st.core (AppendBuffer k piece) × HaveRoom blobs k (after_piece blobs k st piece) pieces)
+pieces-by : (o : Option FaultView) (blobs : List (List ℕ)) (k : ℕ) (st : State) (piece : Piece) (pieces : List Piece) → UnlessFault o (HasRoomForCall blobs st.core (AppendBuffer k piece) × HaveRoom blobs k (after_piece blobs k st piece) pieces)
     → ((new : State) → HaveRoom blobs k new pieces → (after_pieces blobs k new pieces).core ≡ core_pieces blobs k new.core pieces)
     → (unless_fault o st (after_pieces blobs k (after_piece blobs k st piece) pieces)).core ≡ unless_fault o st.core (core_pieces blobs k (drain_core (append_some (bytes_of blobs piece) k st.core)) pieces)
 pieces-by None blobs k st piece pieces room f = f (after_piece blobs k st piece) room.1 ∙ ap (λ c. core_pieces blobs k c pieces) (piece-core blobs k st piece room.0)
@@ -107,7 +107,7 @@ pieces-core [] blobs k st room = refl
 pieces-core (piece ∷ pieces) blobs k st room = pieces-by st.core.source.fault blobs k st piece pieces room (λ new r. pieces-core pieces blobs k new r)
 
 pub filing : (blobs : List (List ℕ)) (k : ℕ) (st : State) (whole : Piece) (bytes : List ℕ) (start total : ℕ) (first : Piece) (others : List Piece) → slice_get blobs whole.blob ≡ Some bytes → extent_of whole.part bytes ≡ (start, total) → start + total ≤ length bytes
-    → AreParts whole.blob bytes start total (first ∷ others) → running_in st ≡ None → st.core.source.fault ≡ None → st.core.source.error ≡ 0 → HasRoom blobs st.core (AppendBuffer k whole) → HaveRoom blobs k st (first ∷ others)
+    → AreParts whole.blob bytes start total (first ∷ others) → running_in st ≡ None → st.core.source.fault ≡ None → st.core.source.error ≡ 0 → HasRoomForCall blobs st.core (AppendBuffer k whole) → HaveRoom blobs k st (first ∷ others)
     → (after_pieces blobs k st (first ∷ others)).core ≡ (after_piece blobs k st whole).core
 filing blobs k st whole bytes start total first others e x l p idle none fine room rooms =
     let low : lowest st.core.buffers ≡ None = sym (lowest-is st.core.buffers) ∙ idle in

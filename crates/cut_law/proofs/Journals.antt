@@ -34,7 +34,7 @@ use Rattle.mse_engine.specs.Calls.{call_moved}
 use Rattle.mse_engine.specs.Work.{work_moved, work_result, after_element_turn, without_first, fire_result, due_in, scene_in}
 use Rattle.mse_engine.specs.Run.{step_meaning, fire_meaning, after_entries}
 use Rattle.cut_law.specs.Plays.{after_entry, fire_entries, entries_if, line_entries, after_line, play_entries, play_of}
-use Rattle.cut_law.specs.Room.{HasRoomFor, HasRoom, EntryHasRoom, LineHasRoom, IsUnmet}
+use Rattle.cut_law.specs.Room.{HasRoomFor, HasRoomForCall, HasRoomForEntry, HasRoomForLine, IsUnmet}
 use Rattle.cut_law.proofs.Halves.{half_with, half_after_append}
 use Rattle.cut_law.proofs.Halves.{half_after_append_by as free_by}
 use Rattle.cut_law.proofs.Drains.{set_place, place_of, on_slot, append_core, core_by, work_core, drain_core}
@@ -105,7 +105,7 @@ append-moved (Some bytes) position k c room =
     (found-free (slice_get c.buffers k) bytes position k c refl room)
     (λ e. sym (ap (λ x. on_slot x k (half_after_append bytes) c) (slice_get_past c.buffers k (past k (length c.buffers) e))))
 
-pub call-free : (blobs : List (List ℕ)) (position : ℤ) (made : Call) (c : Core) → HasRoom blobs c made → (call_moved blobs position made c).core ≡ free_call blobs made c
+pub call-free : (blobs : List (List ℕ)) (position : ℤ) (made : Call) (c : Core) → HasRoomForCall blobs c made → (call_moved blobs position made c).core ≡ free_call blobs made c
 call-free blobs position call.Attach c room = refl
 call-free blobs position (call.AddSourceBuffer text) c room = refl
 call-free blobs position (call.RemoveSourceBuffer k) c room = refl
@@ -163,7 +163,7 @@ turn-core : (o : Option State) (blobs : List (List ℕ)) (st : State) → after_
 turn-core None blobs st e h = refl
 turn-core (Some new) blobs st e h = ap (λ o. (step_meaning o st).state.core) e ∙ h
 
-pub line-core : (blobs : List (List ℕ)) (st : State) (line : StepLine) → LineHasRoom blobs st.core line → (after_line blobs st line).core ≡ core_line blobs line st.core
+pub line-core : (blobs : List (List ℕ)) (st : State) (line : StepLine) → HasRoomForLine blobs st.core line → (after_line blobs st line).core ≡ core_line blobs line st.core
 line-core blobs st (step.Call made) room = call-free blobs st.outer.element.position made st.core room
 line-core blobs st step.Fire room = fire-core (fire_result st) blobs st refl (fired-core st)
 line-core blobs st (step.Work k) room = work-core (work_moved k st.core) blobs st k refl
@@ -220,7 +220,7 @@ unmet-front blobs st (line ∷ front) more u = (u.0, unmet-front blobs (after_li
 
 -- ---- the core behind a step follows from the core before it
 
-entry-core : (blobs : List (List ℕ)) (st : State) (entry : Entry) → EntryHasRoom blobs st.core entry → (after_entry blobs st entry).core ≡ core_entry blobs entry st.core
+entry-core : (blobs : List (List ℕ)) (st : State) (entry : Entry) → HasRoomForEntry blobs st.core entry → (after_entry blobs st entry).core ≡ core_entry blobs entry st.core
 entry-core blobs st (Step n) room = refl
 entry-core blobs st (Script made answer) room = call-free blobs st.outer.element.position made st.core room
 entry-core blobs st (Listener w made answer) room = call-free blobs st.outer.element.position made st.core room
@@ -228,13 +228,13 @@ entry-core blobs st (Fired event) room = fired-entry (fire_result st) event st (
 entry-core blobs st (Work k) room = meaning-core (work_moved k st.core) st
 entry-core blobs st Element room = turned-core st
 
-pub same-entry : (blobs : List (List ℕ)) (a b : State) (entry : Entry) → a.core ≡ b.core → EntryHasRoom blobs a.core entry → (after_entry blobs a entry).core ≡ (after_entry blobs b entry).core
+pub same-entry : (blobs : List (List ℕ)) (a b : State) (entry : Entry) → a.core ≡ b.core → HasRoomForEntry blobs a.core entry → (after_entry blobs a entry).core ≡ (after_entry blobs b entry).core
 same-entry blobs a b entry e room =
-    entry-core blobs a entry room ∙ ap (λ c. core_entry blobs entry c) e ∙ sym (entry-core blobs b entry (subst (λ c. EntryHasRoom blobs c entry) e room))
+    entry-core blobs a entry room ∙ ap (λ c. core_entry blobs entry c) e ∙ sym (entry-core blobs b entry (subst (λ c. HasRoomForEntry blobs c entry) e room))
 
-pub same-line : (blobs : List (List ℕ)) (a b : State) (line : StepLine) → a.core ≡ b.core → LineHasRoom blobs a.core line → (after_line blobs a line).core ≡ (after_line blobs b line).core
+pub same-line : (blobs : List (List ℕ)) (a b : State) (line : StepLine) → a.core ≡ b.core → HasRoomForLine blobs a.core line → (after_line blobs a line).core ≡ (after_line blobs b line).core
 same-line blobs a b line e room =
-    line-core blobs a line room ∙ ap (λ c. core_line blobs line c) e ∙ sym (line-core blobs b line (subst (λ c. LineHasRoom blobs c line) e room))
+    line-core blobs a line room ∙ ap (λ c. core_line blobs line c) e ∙ sym (line-core blobs b line (subst (λ c. HasRoomForLine blobs c line) e room))
 
 -- a turn of the element leaves the core
 pub turn-leaves : (st : State) → IfSome (after_element_turn st) (λ new. new.core ≡ st.core)

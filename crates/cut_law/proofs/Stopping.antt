@@ -10,7 +10,7 @@ use Rattle.call_script.specs.declared.script.StepLine.{StepLine}
 use Rattle.mse_engine.specs.State.{CoreSource, Core, State}
 use Rattle.cut_law.specs.Plays.{play_of}
 use Rattle.cut_law.specs.Room.{IsUnmet}
-use Rattle.cut_law.specs.Cuts.{AreParts, append_lines, part_lines, Cut, IsAwaited, stopped_lines}
+use Rattle.cut_law.specs.Cuts.{AreParts, append_lines, part_lines, IsOtherCut, IsAwaited, stopped_lines}
 use Rattle.cut_law.proofs.Halves.{half_after_append, half_after_append_by}
 use Rattle.cut_law.proofs.Drains.{set_place, place_of, on_slot, append_core, drain_core, lowest, drain-idle, append-rests}
 use Rattle.cut_law.proofs.Journals.{set-same, append_some, core_play, play-append, play-core, unmet-front}
@@ -71,7 +71,7 @@ stopped-core xs ys blobs k blob start total piece bytes c e p l low broken =
 not-zero : (n : ℕ) → n ≢ 0 → (n == 0) ≡ false
 not-zero n e = grind (arith, nat_tests)
 
-pub stopping : (blobs : List (List ℕ)) (st : State) (s t : List StepLine) (x : Cut blobs s t) (others left : List Piece) → x.back ≡ [] → x.others ≡ others ++ left → IsAwaited blobs st x.front
+pub stopping : (blobs : List (List ℕ)) (st : State) (s t : List StepLine) (x : IsOtherCut blobs s t) (others left : List Piece) → x.back ≡ [] → x.others ≡ others ++ left → IsAwaited blobs st x.front
     → IsUnmet blobs st s → IsUnmet blobs st (stopped_lines x others) → (play_of blobs st (stopped_lines x others)).core.source.error ≢ 0
     → (play_of blobs st (stopped_lines x others)).core ≡ (play_of blobs st s).core
 stopping blobs st s t x others left back parts a us ut broken =

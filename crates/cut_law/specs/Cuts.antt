@@ -33,7 +33,7 @@ part_lines k (piece ∷ pieces) = append_lines k piece ++ part_lines k pieces
 
 -- The scripts have the same lines but for one place. There `s` appends a piece that lies inside its blob, and drains;
 -- `t` appends one or more parts of it, in order and together the whole piece, and drains behind each.
-pub record Cut (blobs : List (List ℕ)) (s t : List StepLine) : Type 0 where
+pub record IsOtherCut (blobs : List (List ℕ)) (s t : List StepLine) : Type 0 where
   pub front : List StepLine
   pub back : List StepLine
   pub buffer : ℕ
@@ -51,7 +51,7 @@ pub record Cut (blobs : List (List ℕ)) (s t : List StepLine) : Type 0 where
   pub cut : t ≡ front ++ (part_lines buffer (first ∷ others) ++ back)
 
 -- the lines up to the part at which one stops: the first part, and others behind it
-abbrev pub stopped_lines : {blobs : List (List ℕ)} {s t : List StepLine} → Cut blobs s t
+abbrev pub stopped_lines : {blobs : List (List ℕ)} {s t : List StepLine} → IsOtherCut blobs s t
     → List Piece → List StepLine
 stopped_lines c others = c.front ++ part_lines c.buffer (c.first ∷ others)
 
@@ -64,4 +64,4 @@ abbrev pub AreCuts : List (List ℕ) → State → List StepLine → List (List 
     → Type 0
 AreCuts blobs st s [] u = s ≡ u
 AreCuts blobs st s (t ∷ ts) u =
-    (c : Cut blobs s t) × IsAwaited blobs st c.front × IsUnmet blobs st t × AreCuts blobs st t ts u
+    (c : IsOtherCut blobs s t) × IsAwaited blobs st c.front × IsUnmet blobs st t × AreCuts blobs st t ts u

@@ -6,7 +6,7 @@ use Rattle.mse_calls.specs.declared.views.FaultView.{FaultView}
 use Rattle.call_script.specs.declared.script.StepLine.TheVariants.{Call, Drain}
 use Rattle.mse_engine.specs.State.{State}
 use Rattle.cut_law.specs.Plays.{after_line}
-use Rattle.cut_law.specs.Room.{HasRoom}
+use Rattle.cut_law.specs.Room.{HasRoomForCall}
 
 -- a piece is appended to the buffer of a number, and drained
 abbrev pub after_piece : List (List ℕ) → ℕ → State → Piece → State
@@ -34,5 +34,5 @@ abbrev pub HaveRoom : List (List ℕ) → ℕ → State → List Piece → Type 
 HaveRoom blobs k st [] = Unit {0}
 HaveRoom blobs k st (piece ∷ pieces) =
     UnlessFault st.core.source.fault
-    (HasRoom blobs st.core (AppendBuffer k piece)
+    (HasRoomForCall blobs st.core (AppendBuffer k piece)
     × HaveRoom blobs k (after_piece blobs k st piece) pieces)

@@ -19,23 +19,23 @@ HasRoomFor None quota b = Unit {0}
 HasRoomFor (Some bytes) quota None = Unit {0}
 HasRoomFor (Some bytes) quota (Some b) = is_full bytes quota b.feed b.content.media ≡ false
 
-abbrev pub HasRoom : List (List ℕ) → Core → Call → Type 0
-HasRoom blobs c (AppendBuffer k piece) =
+abbrev pub HasRoomForCall : List (List ℕ) → Core → Call → Type 0
+HasRoomForCall blobs c (AppendBuffer k piece) =
     HasRoomFor (bytes_of blobs piece) c.source.quota (in_slot k c.buffers)
-HasRoom blobs c other = Unit {0}
+HasRoomForCall blobs c other = Unit {0}
 
 -- an entry that is a call, and a line that is one
-abbrev pub EntryHasRoom : List (List ℕ) → Core → Entry → Type 0
-EntryHasRoom blobs c (entry.Script made answer) = HasRoom blobs c made
-EntryHasRoom blobs c (entry.Listener w made answer) = HasRoom blobs c made
-EntryHasRoom blobs c other = Unit {0}
+abbrev pub HasRoomForEntry : List (List ℕ) → Core → Entry → Type 0
+HasRoomForEntry blobs c (entry.Script made answer) = HasRoomForCall blobs c made
+HasRoomForEntry blobs c (entry.Listener w made answer) = HasRoomForCall blobs c made
+HasRoomForEntry blobs c other = Unit {0}
 
-abbrev pub LineHasRoom : List (List ℕ) → Core → StepLine → Type 0
-LineHasRoom blobs c (step.Call made) = HasRoom blobs c made
-LineHasRoom blobs c other = Unit {0}
+abbrev pub HasRoomForLine : List (List ℕ) → Core → StepLine → Type 0
+HasRoomForLine blobs c (step.Call made) = HasRoomForCall blobs c made
+HasRoomForLine blobs c other = Unit {0}
 
 -- just before each append of these lines its buffer is not full
 abbrev pub IsUnmet : List (List ℕ) → State → List StepLine → Type 0
 IsUnmet blobs st [] = Unit {0}
 IsUnmet blobs st (line ∷ lines) =
-    LineHasRoom blobs st.core line × IsUnmet blobs (after_line blobs st line) lines
+    HasRoomForLine blobs st.core line × IsUnmet blobs (after_line blobs st line) lines

@@ -10,11 +10,11 @@ ghost use Rattle.call_script.specs.declared.script.StepLine.{StepLine};
 ghost use Rattle.mse_engine.specs.State.{State};
 ghost use Rattle.mse_engine.specs.Calls.{after_call};
 ghost use Rattle.mse_engine.specs.Work.{after_element_turn, fire_result, running_in};
-ghost use Rattle.cut_law.specs.Cuts.{AreCuts, AreParts, Cut, IsAwaited, extent_of, stopped_lines};
+ghost use Rattle.cut_law.specs.Cuts.{AreCuts, AreParts, IsOtherCut, IsAwaited, extent_of, stopped_lines};
 ghost use Rattle.cut_law.specs.Files.{HaveRoom, after_piece, after_pieces};
 ghost use Rattle.cut_law.specs.Outcomes.{outcome_of};
 ghost use Rattle.cut_law.specs.Plays.{after_entry, after_line, play_of};
-ghost use Rattle.cut_law.specs.Room.{EntryHasRoom, HasRoom, IsUnmet, LineHasRoom};
+ghost use Rattle.cut_law.specs.Room.{HasRoomForEntry, HasRoomForCall, IsUnmet, HasRoomForLine};
 
 /// What appending comes to follows from the core.
 pub fn outcome_law()
@@ -39,17 +39,18 @@ pub fn element_law()
 /// script whose listeners make no calls, follows from the core before it.
 pub fn core_law()
     ensures entry { (blobs : List (List ℕ)) (a b : State) (entry : Entry) → a.core ≡ b.core
-        → EntryHasRoom blobs a.core entry
+        → HasRoomForEntry blobs a.core entry
         → (after_entry blobs a entry).core ≡ (after_entry blobs b entry).core }
     ensures line { (blobs : List (List ℕ)) (a b : State) (line : StepLine) → a.core ≡ b.core
-        → LineHasRoom blobs a.core line
+        → HasRoomForLine blobs a.core line
         → (after_line blobs a line).core ≡ (after_line blobs b line).core }
 {}
 
 /// Cutting the bytes of an awaited append anywhere leaves the core, where no buffer is full just
 /// before an append of either script. So does one cut after another.
 pub fn any_cutting()
-    ensures once { (blobs : List (List ℕ)) (st : State) (s t : List StepLine) (c : Cut blobs s t)
+    ensures once { (blobs : List (List ℕ)) (st : State) (s t : List StepLine)
+        (c : IsOtherCut blobs s t)
         → IsAwaited blobs st c.front → IsUnmet blobs st s → IsUnmet blobs st t
         → (play_of blobs st t).core ≡ (play_of blobs st s).core }
     ensures again { (blobs : List (List ℕ)) (st : State) (s t : List StepLine)
@@ -60,7 +61,7 @@ pub fn any_cutting()
 /// Where one stops appending the parts of an awaited append behind one that brought an error, and
 /// nothing comes behind the append, the core is that of the whole append.
 pub fn stopped_parts()
-    ensures { (blobs : List (List ℕ)) (st : State) (s t : List StepLine) (c : Cut blobs s t)
+    ensures { (blobs : List (List ℕ)) (st : State) (s t : List StepLine) (c : IsOtherCut blobs s t)
         (others left : List Piece) → c.back ≡ [] → c.others ≡ others ++ left
         → IsAwaited blobs st c.front → IsUnmet blobs st s
         → IsUnmet blobs st (stopped_lines c others)
@@ -77,7 +78,7 @@ pub fn file_parts()
         → extent_of whole.part bytes ≡ (start, total) → start + total ≤ length bytes
         → AreParts whole.blob bytes start total (first ∷ others) → running_in st ≡ None
         → st.core.source.fault ≡ None → st.core.source.error ≡ 0
-        → HasRoom blobs st.core (Call.AppendBuffer k whole)
+        → HasRoomForCall blobs st.core (Call.AppendBuffer k whole)
         → HaveRoom blobs k st (first ∷ others)
         → (after_pieces blobs k st (first ∷ others)).core ≡ (after_piece blobs k st whole).core }
 {}
@@ -86,9 +87,9 @@ pub fn file_parts()
 /// it does not hold either.
 pub fn needed_premises()
     ensures awaited { ((blobs : List (List ℕ)) (st : State) (s t : List StepLine)
-        → Cut blobs s t → IsUnmet blobs st s → IsUnmet blobs st t
+        → IsOtherCut blobs s t → IsUnmet blobs st s → IsUnmet blobs st t
         → (play_of blobs st t).core ≡ (play_of blobs st s).core) → ⊥ }
     ensures room { ((blobs : List (List ℕ)) (st : State) (s t : List StepLine)
-        (c : Cut blobs s t) → IsAwaited blobs st c.front
+        (c : IsOtherCut blobs s t) → IsAwaited blobs st c.front
         → (play_of blobs st t).core ≡ (play_of blobs st s).core) → ⊥ }
 {}

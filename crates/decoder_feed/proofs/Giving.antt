@@ -8,7 +8,7 @@ use Rattle.std.proofs.lemmas.List.Quantifiers.{position-Some}
 use Rattle.std.proofs.lemmas.Option.{slice_get_within, get_or_from_slice_get}
 use Rattle.track_store.specs.declared.store.Stored.{Stored}
 use Rattle.track_store.specs.Frames.{IsAscending, has_serial, overlapped}
-use Rattle.track_store.specs.Sound.{Sound}
+use Rattle.track_store.specs.Sound.{IsSound}
 use Rattle.track_store.specs.State.{TrackState}
 use Rattle.track_store.proofs.Clearing.{each_at}
 use Rattle.decoder_feed.specs.declared.steps.FeedNext.{FeedNext}
@@ -200,7 +200,7 @@ comes_first next [] i x at e = cc
 comes_first next (f ∷ fs) zero x at e = (let own : f ≡ x = cc in e ∙ ap (λ (y : Stored). Some y.serial) (sym own))
 comes_first next (f ∷ fs) (suc i) x at e = comes_first next fs i x at e
 
-group_given : (t : TrackState) (o : Option Stored) → Sound t → IfSome o (IsPlaced t.frames) → AreGiven (state_after_seek_to o t.frames) t (group_up_to o t.frames)
+group_given : (t : TrackState) (o : Option Stored) → IsSound t → IfSome o (IsPlaced t.frames) → AreGiven (state_after_seek_to o t.frames) t (group_up_to o t.frames)
 group_given t None sound h = tt
 group_given t (Some wanted) sound h =
     let fs = t.frames in
@@ -211,5 +211,5 @@ group_given t (Some wanted) sound h =
     subst (λ feed. AreGiven (state_after_seek_to (Some wanted) fs) t feed) (sym g.1.frames)
     (all_given t (drop start.0 (take (i + 1) fs)) (group_serial wanted.serial fs) None held (group_in_order fs wanted g.0 i start.0 sound.chained g.1 start.1) (comes_first (group_serial wanted.serial fs) (take (i + 1) fs) start.0 g.0 g.1.begins g.1.serial))
 
-pub feed_given : (time : ℤ) (t : TrackState) → Sound t → AreGiven (state_after_seek time t.frames) t (feed_of time t.frames)
+pub feed_given : (time : ℤ) (t : TrackState) → IsSound t → AreGiven (state_after_seek time t.frames) t (feed_of time t.frames)
 feed_given time t sound = group_given t (overlapped time t.frames) sound (shown_placed time t.frames)

@@ -8,7 +8,7 @@ use Rattle.std.proofs.lemmas.List.{take_more, drop-append-le, length-take-le, ma
 use Rattle.std.proofs.lemmas.Option.{slice_get_within, slice_get_cases}
 use Rattle.track_store.specs.declared.store.Stored.{Stored}
 use Rattle.track_store.specs.Frames.{IsAscending, is_in_frame, overlapped, frame_at, group_start_of, last_place, last_place_after}
-use Rattle.track_store.specs.Sound.{IsChained, IsNext}
+use Rattle.track_store.specs.Sound.{IsChained, IsSuccessor}
 use Rattle.track_store.proofs.Clearing.{each_at}
 use Rattle.track_store.proofs.Overlapping.{fold-each}
 use Rattle.decoder_feed.specs.Feed.{greater_serial, greatest_serial, group_serial, frames_from, group_up_to, feed_of, ArePlaces, IsInOrder, IsLastOf, IsGroupUpTo}
@@ -184,7 +184,7 @@ none_after b (Some i) e = cc
 none_after true None e = cc
 none_after false None e = (refl, refl)
 
-rest_linked : (before : ℕ) (f : Stored) → (f.frame.sync ≡ true) ⊎ IsNext (Some before) f.serial → f.frame.sync ≡ false → before + 1 ≡ f.serial
+rest_linked : (before : ℕ) (f : Stored) → (f.frame.sync ≡ true) ⊎ IsSuccessor (Some before) f.serial → f.frame.sync ≡ false → before + 1 ≡ f.serial
 rest_linked before f (inl sync) other = cc
 rest_linked before f (inr next) other = next
 
@@ -240,7 +240,7 @@ start_step b (Some i) e = (i + 1, refl)
 start_step true None e = (0, refl)
 start_step false None e = cc
 
-first_sync : (f : Stored) → (f.frame.sync ≡ true) ⊎ IsNext None f.serial → f.frame.sync ≡ true
+first_sync : (f : Stored) → (f.frame.sync ≡ true) ⊎ IsSuccessor None f.serial → f.frame.sync ≡ true
 first_sync f (inl sync) = sync
 first_sync f (inr none) = absurd none
 

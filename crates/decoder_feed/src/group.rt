@@ -1,6 +1,6 @@
 ghost use Rattle.std.specs.Prelude.{◌≡◌, ◌≤◌, List, None, Some, length, map, take, drop, slice_get, IfOk, MatchOption};
 ghost use Rattle.track_store.specs.Frames.{overlapped};
-ghost use Rattle.track_store.specs.Sound.{Sound};
+ghost use Rattle.track_store.specs.Sound.{IsSound};
 ghost use Rattle.track_store.specs.State.{state_of};
 ghost use Rattle.track_store.specs.declared.store.Stored.{Stored};
 ghost use Rattle.decoder_feed.specs.Feed.{feed_of, ArePlaces, IsGroupUpTo};
@@ -32,7 +32,7 @@ pub fn feed<S: FrameStore>(
     track: &Track<S>,
     t: Ticks,
 ) -> Result<Option<Vec<usize>>, OutOfMemory>
-    requires { Sound (state_of S.frames track.now) }
+    requires { IsSound (state_of S.frames track.now) }
     ensures places { IfOk result (λ o. MatchOption o
         (feed_of t (S.frames track.now.store) ≡ None)
         (λ places. ArePlaces places.items (S.frames track.now.store)

@@ -3,7 +3,7 @@
 
 ghost use Rattle.std.specs.Prelude.{ℤ, List, None};
 ghost use Rattle.track_store.specs.Frames.{overlapped};
-ghost use Rattle.track_store.specs.Sound.{Sound};
+ghost use Rattle.track_store.specs.Sound.{IsSound};
 ghost use Rattle.track_store.specs.State.{TrackState};
 ghost use Rattle.track_store.specs.declared.store.Stored.{Stored};
 ghost use Rattle.decoder_feed.specs.Feed.{feed_of, IsGroupUpTo, IsInOrder};
@@ -13,7 +13,7 @@ ghost use Rattle.decoder_feed.specs.Steps.{FeederState, state_after_seek};
 /// In a track that is sound, the feed for a time is a group from its random access point up to the
 /// frame that is shown then, and there is none exactly where no frame is.
 pub fn feed_is_a_group()
-    ensures { (t : TrackState) (time : ℤ) → Sound t
+    ensures { (t : TrackState) (time : ℤ) → IsSound t
         → IsGroupUpTo (overlapped time t.frames) (feed_of time t.frames) }
 {}
 
@@ -30,6 +30,6 @@ pub fn frames_come_in_order()
 /// Over a track that does not change, what a feeder gives between a seek and the frame that is shown
 /// at its time is the feed for it, a frame a call.
 pub fn feed_is_given()
-    ensures { (t : TrackState) (time : ℤ) → Sound t
+    ensures { (t : TrackState) (time : ℤ) → IsSound t
         → AreGiven (state_after_seek time t.frames) t (feed_of time t.frames) }
 {}

@@ -1,7 +1,7 @@
 ghost use Rattle.std.specs.Prelude.{◌≡◌, [], slice_get, IfSome, option_map};
 ghost use Rattle.std.specs.List.{position};
 ghost use Rattle.track_store.specs.Frames.{has_serial, overlapped};
-ghost use Rattle.track_store.specs.Sound.{Sound};
+ghost use Rattle.track_store.specs.Sound.{IsSound};
 ghost use Rattle.track_store.specs.State.{state_of};
 ghost use Rattle.decoder_feed.specs.Feed.{group_serial, IsInOrder};
 ghost use Rattle.decoder_feed.specs.Runs.{frame_given, with_first};
@@ -110,7 +110,7 @@ impl Feeder {
     /// answers the serial of that frame; `None` exactly where no frame is shown then, and from then
     /// on the feeder is idle.
     pub fn seek<S: FrameStore>(&mut self, track: &Track<S>, t: Ticks) -> Option<u64>
-        requires { Sound (state_of S.frames track.now) }
+        requires { IsSound (state_of S.frames track.now) }
         ensures wanted { result
             ≡ option_map (λ f. f.serial) (overlapped t (S.frames track.now.store)) }
         ensures state { self.new ≡ state_after_seek t (S.frames track.now.store) }
@@ -125,7 +125,7 @@ impl Feeder {
     /// Gives the next frame, if the track holds it and it belongs to the group. The other answers
     /// change nothing.
     pub fn next<S: FrameStore>(&mut self, track: &Track<S>) -> FeedNext
-        requires { Sound (state_of S.frames track.now) }
+        requires { IsSound (state_of S.frames track.now) }
         ensures answer { result ≡ next_answer self.old (state_of S.frames track.now) }
         ensures state { self.new ≡ state_after result self.old }
         ensures in_order { IsInOrder self.old.given

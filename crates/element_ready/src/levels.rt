@@ -11,8 +11,8 @@ const THREE_SECONDS: i128 = 3 * 141_120_000_000;
 fn lasts(range: &Span, position: Ticks, duration: Moment) -> bool
     ensures { result ≡ lasts range.now position duration }
 {
-    let left = range.end.get() - position.get();
-    left >= THREE_SECONDS || Moment::At(range.end) == duration
+    let ticks_left = range.end.get() - position.get();
+    ticks_left >= THREE_SECONDS || Moment::At(range.end) == duration
 }
 
 /// How much data there is at a position (HTML, `HTMLMediaElement.readyState`), by the buffered range

@@ -6,7 +6,7 @@ use Rattle.std.proofs.lemmas.Int.{ints}
 use Rattle.mse_base.specs.Time.{IsTick, IsFloor, floor_div}
 use Rattle.mse_base.proofs.Floors.{floor_is}
 use Rattle.eviction.specs.Evicting.{first_of}
-use Rattle.eviction.specs.Steps.{Has, IsLatest, is_below, times_between}
+use Rattle.eviction.specs.Steps.{IsAmong, IsLatest, is_below, times_between}
 use Rattle.eviction.proofs.Times.{IsRising, all_along, filter-step, filter_none, first_least, first_none}
 use Rattle.eviction.proofs.Ranges.{and_parts, lt_of, not_lt_of, no_lt, split_latest}
 
@@ -63,7 +63,7 @@ first_empty (t ∷ ts) e = absurd cc
 pub record IsFound (a : ℤ) (next : Option ℤ) (ts : List ℤ) (t : ℤ) : Type 0 where
   pub after : a <ℤ t
   pub below : is_below next t ≡ true
-  pub has : Has t ts
+  pub has : IsAmong t ts
 
 pub found_between : (a : ℤ) (next : Option ℤ) (ts : List ℤ) (t : ℤ) → IsRising ts → first_of (times_between a next ts) ≡ Some t → IsFound a next ts t
 found_between a next ts t up e =
@@ -82,7 +82,7 @@ lower a next ts e = all_along (λ u. (int_lt a u && is_below next u) ≡ false) 
 pub gap_above : (low high t : ℤ) → low <ℤ t → t ≤ℤ high → int_gap t high < int_gap low high
 gap_above low high t less le = grind (arith, ints)
 
-pub latest_of : (low high : ℤ) (next : Option ℤ) (ts : List ℤ) → Has low ts → is_below next low ≡ true → AllByRecursion (λ u. is_below next u ≡ true → u ≤ℤ high) ts → high ≤ℤ low → IsLatest next ts low
+pub latest_of : (low high : ℤ) (next : Option ℤ) (ts : List ℤ) → IsAmong low ts → is_below next low ≡ true → AllByRecursion (λ u. is_below next u ≡ true → u ≤ℤ high) ts → high ≤ℤ low → IsLatest next ts low
 latest_of low high next ts has below all le = record { has = has; below = below; latest = all_along (λ u. is_below next u ≡ true → u ≤ℤ high) (λ u. is_below next u ≡ true → u ≤ℤ low) ts (λ u f h. (let most = f h in omega (arith, ints))) all }
 
 pub latest_between : (a : ℤ) (next : Option ℤ) (ts : List ℤ) (low t : ℤ) → IsRising ts → first_of (times_between a next ts) ≡ Some low → IsLatest next ts t → low ≤ℤ t → times_between a next ts ≡ times_between a (Some t) ts ++ t ∷ []

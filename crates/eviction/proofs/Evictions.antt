@@ -9,7 +9,7 @@ use Rattle.mse_base.specs.declared.ticks.Moment.TheVariants.{At}
 use Rattle.mse_base.specs.Time.{IsTick}
 use Rattle.track_store.specs.declared.store.Stored.{Stored}
 use Rattle.track_store.specs.Kept.{AreKept, AreEndedBy, AreStillSound, bytes_in}
-use Rattle.track_store.specs.Sound.{Sound, IsNotNegative}
+use Rattle.track_store.specs.Sound.{IsSound, IsNotNegative}
 use Rattle.track_store.specs.Frames.{IsTimed}
 use Rattle.track_store.specs.State.{TrackState}
 use Rattle.track_store.proofs.Clearing.{each-cleared}

@@ -13,7 +13,7 @@ use Rattle.mse_base.specs.Moments.{is_before, greatest, greater_of}
 use Rattle.track_store.specs.Frames.{starts}
 use Rattle.track_store.specs.State.{TrackState, state_of, states_of}
 use Rattle.eviction.specs.Evicting.{first_of, frames_of, is_video, lead_of, sync_times}
-use Rattle.eviction.specs.Steps.{Has, times_at}
+use Rattle.eviction.specs.Steps.{IsAmong, times_at}
 use Rattle.eviction.proofs.Times.{each_of, filter_same, filter_none, all_along}
 use Rattle.eviction.proofs.Syncs.{times_under}
 
@@ -113,11 +113,11 @@ some_high : (o : Option ℤ) (ts : List ℤ) → IsThere o → fold greater_of o
 some_high o [] there e = subst IsThere e there
 some_high o (t ∷ ts) there e = some_high (greater_of o t) ts (greater_there o t) e
 
-none_high : (fs : List Stored) (low : ℤ) → greatest (starts fs) ≡ None → Has low (sync_times fs) → AllByRecursion (λ u. u ≤ℤ low) (sync_times fs)
+none_high : (fs : List Stored) (low : ℤ) → greatest (starts fs) ≡ None → IsAmong low (sync_times fs) → AllByRecursion (λ u. u ≤ℤ low) (sync_times fs)
 none_high [] low e has = tt
 none_high (f ∷ fs) low e has = absurd (some_high (Some f.frame.pts) (starts fs) tt e)
 
-pub highest_is : (next : Option ℤ) (low : ℤ) (fs : List Stored) (o : Option ℤ) → o ≡ greatest (starts fs) → Has low (sync_times fs) → AllByRecursion (λ u. u ≤ℤ unwrap_or o low) (sync_times fs)
+pub highest_is : (next : Option ℤ) (low : ℤ) (fs : List Stored) (o : Option ℤ) → o ≡ greatest (starts fs) → IsAmong low (sync_times fs) → AllByRecursion (λ u. u ≤ℤ unwrap_or o low) (sync_times fs)
 highest_is next low fs None e has = none_high fs low (sym e) has
 highest_is next low fs (Some h) e has = times_under h fs (sym e)
 

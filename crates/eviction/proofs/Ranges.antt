@@ -8,7 +8,7 @@ use Rattle.mse_base.specs.declared.ticks.Moment.TheVariants.{Nan, At, Infinite}
 use Rattle.mse_base.specs.Moments.{is_before, is_at_or_before}
 use Rattle.mse_base.specs.Moments.{time_or}
 use Rattle.eviction.specs.Evicting.{RemovalRange, first_of, removal_ranges, ends_up_to, starts_after}
-use Rattle.eviction.specs.Steps.{Has, IsLatest, is_below, ranges_back, times_from, times_between}
+use Rattle.eviction.specs.Steps.{IsAmong, IsLatest, is_below, ranges_back, times_from, times_between}
 use Rattle.eviction.proofs.Times.{IsRising, all_along, all_both, all_has, each_of, filter-step, filter_all, filter_none, filter_same, filter_both, first_least, first_none}
 use Rattle.eviction.proofs.Syncs.{is_gone, gone_to}
 
@@ -44,7 +44,7 @@ le_lt_same s t h = yes_le s t (omega (arith, ints)) ∙ sym (yes_lt s t h)
 -- ---- from one time on
 
 -- the times from one of them on are it and those after it
-pub from_is : (s : ℤ) (ts : List ℤ) → IsRising ts → Has s ts → filter (int_le s) ts ≡ s ∷ filter (int_lt s) ts
+pub from_is : (s : ℤ) (ts : List ℤ) → IsRising ts → IsAmong s ts → filter (int_le s) ts ≡ s ∷ filter (int_lt s) ts
 from_is s [] up has = absurd has
 from_is s (t ∷ ts) up (inl e) =
     subst (λ x. filter (int_le x) (t ∷ ts) ≡ x ∷ filter (int_lt x) (t ∷ ts)) e
@@ -94,7 +94,7 @@ pub stays_of : (b : Bool) → (b ≡ true → ⊥) → not b ≡ true
 stays_of true f = absurd (f refl)
 stays_of false f = refl
 
-gone_pick : (s u t : ℤ) (d : Moment) (ts : List ℤ) → IsRising ts → Has u ts → (o : Option ℤ) → first_of (filter (λ v. not (is_before v (At u))) ts) ≡ o → is_gone s (time_or o d) t ≡ true → t <ℤ u
+gone_pick : (s u t : ℤ) (d : Moment) (ts : List ℤ) → IsRising ts → IsAmong u ts → (o : Option ℤ) → first_of (filter (λ v. not (is_before v (At u))) ts) ≡ o → is_gone s (time_or o d) t ≡ true → t <ℤ u
 gone_pick s u t d ts up has None e h =
     let all = first_none (λ v. not (is_before v (At u))) ts e in
     let no : int_lt u u ≡ true = not_no _ (all_has (λ v. not (int_lt v u) ≡ false) u ts all has) in
@@ -105,11 +105,11 @@ gone_pick s u t d ts up has (Some w) e h =
     let less = lt_of t w (and_parts (int_le s t) (int_lt t w) h).1 in
     omega (arith, ints)
 
-gone_before : (s u t : ℤ) (d : Moment) (ts : List ℤ) → IsRising ts → Has u ts → is_gone s (gone_to (At u) d ts) t ≡ true → t <ℤ u
+gone_before : (s u t : ℤ) (d : Moment) (ts : List ℤ) → IsRising ts → IsAmong u ts → is_gone s (gone_to (At u) d ts) t ≡ true → t <ℤ u
 gone_before s u t d ts up has h = gone_pick s u t d ts up has (first_of (filter (λ v. not (is_before v (At u))) ts)) refl h
 
 -- the times after a range that ends at one of them stay
-pub later_stay : (s u : ℤ) (d : Moment) (ts : List ℤ) → IsRising ts → Has u ts → filter (int_le u) (filter (λ t. not (is_gone s (gone_to (At u) d ts) t)) ts) ≡ filter (int_le u) ts
+pub later_stay : (s u : ℤ) (d : Moment) (ts : List ℤ) → IsRising ts → IsAmong u ts → filter (int_le u) (filter (λ t. not (is_gone s (gone_to (At u) d ts) t)) ts) ≡ filter (int_le u) ts
 later_stay s u d ts up has = filter_both (int_le u) (λ t. not (is_gone s (gone_to (At u) d ts) t)) ts (each_of _ ts (λ t h. stays_of (is_gone s (gone_to (At u) d ts) t) (λ g. (let low = gone_before s u t d ts up has g in let high = le_of u t h in omega (arith, ints)))))
 
 pub next_stay : (s : ℤ) (d : Moment) (ts : List ℤ) (o : Option ℤ) → IsRising ts → first_of (filter (int_lt s) ts) ≡ o → times_from o (filter (λ t. not (is_gone s (gone_to (time_or o d) d ts) t)) ts) ≡ filter (int_lt s) ts
@@ -251,7 +251,7 @@ split_step p next x t ts false e first one rest =
     filter-step (λ u. int_lt p u && is_below next u) t ts false (ap (λ b. b && is_below next t) e) ∙ rest
     ∙ ap (λ us. us ++ x ∷ []) (sym (filter-step (λ u. int_lt p u && int_lt u x) t ts false (ap (λ b. b && int_lt t x) e)))
 
-split : (p : ℤ) (next : Option ℤ) (x : ℤ) (ts : List ℤ) → IsRising ts → Has x ts → is_below next x ≡ true → AllByRecursion (λ u. is_below next u ≡ true → u ≤ℤ x) ts → p <ℤ x → times_between p next ts ≡ times_between p (Some x) ts ++ x ∷ []
+split : (p : ℤ) (next : Option ℤ) (x : ℤ) (ts : List ℤ) → IsRising ts → IsAmong x ts → is_below next x ≡ true → AllByRecursion (λ u. is_below next u ≡ true → u ≤ℤ x) ts → p <ℤ x → times_between p next ts ≡ times_between p (Some x) ts ++ x ∷ []
 split p next x [] up has below all less = absurd has
 split p next x (t ∷ ts) up (inl e) below all less = subst (λ y. is_below next y ≡ true → AllByRecursion (λ u. is_below next u ≡ true → u ≤ℤ y) (t ∷ ts) → p <ℤ y → times_between p next (t ∷ ts) ≡ times_between p (Some y) (t ∷ ts) ++ y ∷ []) e (split_here p next t ts up) below all less
 split p next x (t ∷ ts) up (inr has) below all less =

@@ -16,7 +16,7 @@ use Rattle.track_store.specs.State.{TrackState}
 use Rattle.track_store.proofs.Clearing.{goes, cleared-goes, cleared-stays, cleared-cleared, cleared-nothing}
 use Rattle.range_removal.specs.Removal.{remove_end, track_after_removal, tracks_after_removal}
 use Rattle.eviction.specs.Evicting.{RemovalRange, holds, first_of, frames_of, lead_of, sync_times, removal_ranges, ends_up_to, starts_after, ranges_in_order, has_room, tracks_while_full, tracks_after_eviction}
-use Rattle.eviction.specs.Steps.{Has}
+use Rattle.eviction.specs.Steps.{IsAmong}
 use Rattle.eviction.specs.Spared.{HasRange, IsLeftOf, IsSparedIn}
 use Rattle.eviction.proofs.Times.{IsRising, all_has}
 use Rattle.eviction.proofs.Syncs.{rising_times, times-each_sync}
@@ -263,7 +263,7 @@ left_of_each p new quota d ts r k t has held at =
 
 -- ---- the lead track has a random access point where the range starts
 
-start_has : (r : RemovalRange) (d : Moment) (ts : List ℤ) → HasRange r (removal_ranges d ts) → Has r.start ts
+start_has : (r : RemovalRange) (d : Moment) (ts : List ℤ) → HasRange r (removal_ranges d ts) → IsAmong r.start ts
 start_has r d [] has = absurd has
 start_has r d (t ∷ ts) has = elim has [ inl e ↦ inl (ap (λ (q : RemovalRange). q.start) e) | inr rest ↦ inr (start_has r d ts rest) ]
 

@@ -3,7 +3,7 @@ use Rattle.std.proofs.Common.{◌≡◌, ◌∙◌, ℤ, ◌<ℤ◌, ◌≤ℤ�
 use Rattle.std.specs.List.{AllByRecursion}
 use Rattle.std.proofs.lemmas.Int.{ints}
 use Rattle.eviction.specs.Evicting.{with_time, first_of}
-use Rattle.eviction.specs.Steps.{Has}
+use Rattle.eviction.specs.Steps.{IsAmong}
 
 -- ---- what holds of all
 
@@ -19,7 +19,7 @@ pub each_of : (P : ℤ → Type 0) (ts : List ℤ) → ((t : ℤ) → P t) → A
 each_of P [] f = tt
 each_of P (t ∷ ts) f = (f t, each_of P ts f)
 
-pub all_has : (P : ℤ → Type 0) (t : ℤ) (ts : List ℤ) → AllByRecursion P ts → Has t ts → P t
+pub all_has : (P : ℤ → Type 0) (t : ℤ) (ts : List ℤ) → AllByRecursion P ts → IsAmong t ts → P t
 all_has P t [] h (has) = absurd has
 all_has P t (u ∷ ts) h (inl e) = subst P e h.0
 all_has P t (u ∷ ts) h (inr e) = all_has P t ts h.1 e
@@ -158,15 +158,15 @@ at_most t = omega (arith, ints)
 before_most : (t u : ℤ) → t <ℤ u → t ≤ℤ u
 before_most t u h = omega (arith, ints)
 
-least-step : (p : ℤ → Bool) (u : ℤ) (ts : List ℤ) (t : ℤ) (b : Bool) → p u ≡ b → IsRising (u ∷ ts) → (first_of (filter p ts) ≡ Some t → (p t ≡ true) × Has t ts × AllByRecursion (λ v. p v ≡ true → t ≤ℤ v) ts) → first_of (cond b (u ∷ filter p ts) (filter p ts)) ≡ Some t → (p t ≡ true) × Has t (u ∷ ts) × AllByRecursion (λ v. p v ≡ true → t ≤ℤ v) (u ∷ ts)
+least-step : (p : ℤ → Bool) (u : ℤ) (ts : List ℤ) (t : ℤ) (b : Bool) → p u ≡ b → IsRising (u ∷ ts) → (first_of (filter p ts) ≡ Some t → (p t ≡ true) × IsAmong t ts × AllByRecursion (λ v. p v ≡ true → t ≤ℤ v) ts) → first_of (cond b (u ∷ filter p ts) (filter p ts)) ≡ Some t → (p t ≡ true) × IsAmong t (u ∷ ts) × AllByRecursion (λ v. p v ≡ true → t ≤ℤ v) (u ∷ ts)
 least-step p u ts t true g up rest e =
     let same : u ≡ t = cc in
-    subst (λ x. (p x ≡ true) × Has x (u ∷ ts) × AllByRecursion (λ v. p v ≡ true → x ≤ℤ v) (u ∷ ts)) same (g, inl refl, ((λ _. at_most u), all_along (λ v. u <ℤ v) (λ v. p v ≡ true → u ≤ℤ v) ts (λ v less _. before_most u v less) up.0))
+    subst (λ x. (p x ≡ true) × IsAmong x (u ∷ ts) × AllByRecursion (λ v. p v ≡ true → x ≤ℤ v) (u ∷ ts)) same (g, inl refl, ((λ _. at_most u), all_along (λ v. u <ℤ v) (λ v. p v ≡ true → u ≤ℤ v) ts (λ v less _. before_most u v less) up.0))
 least-step p u ts t false g up rest e =
     let facts = rest e in
     (facts.0, inr facts.1, ((λ yes. absurd (let no = sym g ∙ yes in cc)), facts.2))
 
-pub first_least : (p : ℤ → Bool) (ts : List ℤ) (t : ℤ) → IsRising ts → first_of (filter p ts) ≡ Some t → (p t ≡ true) × Has t ts × AllByRecursion (λ u. p u ≡ true → t ≤ℤ u) ts
+pub first_least : (p : ℤ → Bool) (ts : List ℤ) (t : ℤ) → IsRising ts → first_of (filter p ts) ≡ Some t → (p t ≡ true) × IsAmong t ts × AllByRecursion (λ u. p u ≡ true → t ≤ℤ u) ts
 first_least p [] t up e = absurd cc
 first_least p (u ∷ ts) t up e = least-step p u ts t (p u) refl up (first_least p ts t up.1) e
 

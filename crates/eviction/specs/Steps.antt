@@ -41,12 +41,12 @@ left_after position k duration next ts =
     ranges_back (time_or next duration) (reverse (times_between position next (times_at k ts)))
 
 -- the time is one of the list
-abbrev pub Has : ℤ → List ℤ → Type 0
-Has t [] = ⊥
-Has t (u ∷ us) = (u ≡ t) ⊎ Has t us
+abbrev pub IsAmong : ℤ → List ℤ → Type 0
+IsAmong t [] = ⊥
+IsAmong t (u ∷ us) = (u ≡ t) ⊎ IsAmong t us
 
 -- the latest of the times before the next
 pub record IsLatest (next : Option ℤ) (ts : List ℤ) (t : ℤ) : Type 0 where
-  pub has : Has t ts
+  pub has : IsAmong t ts
   pub below : is_below next t ≡ true
   pub latest : AllByRecursion (λ u. is_below next u ≡ true → u ≤ℤ t) ts

@@ -1,5 +1,5 @@
 ghost use Rattle.std.specs.Prelude.{◌≡◌, ◌<◌, ◌≤◌, ◌+◌, ℕ, ℤ, Some, None, int_lt, not, filter, length, if◌then◌else◌, MatchOption};
-ghost use Rattle.track_store.specs.Kept.{AreKept, AreEndedBy, AreStillSound, HasRoom, gaps_of};
+ghost use Rattle.track_store.specs.Kept.{AreKept, AreEndedBy, AreStillSound, HasSpareRoom, gaps_of};
 ghost use Rattle.track_store.specs.State.{states_of};
 ghost use Rattle.range_removal.specs.Rooms.{IsRoomKept};
 ghost use Rattle.range_removal.specs.Removal.{tracks_after_removal};
@@ -206,8 +206,8 @@ pub fn evict<S: FrameStore>(
     ensures ends { (limit : ℤ) → AreEndedBy limit (states_of S.frames tracks.old.items)
         → AreEndedBy limit (states_of S.frames tracks.new.items) }
     ensures spare { IsRoomKept S.spare tracks.old.items tracks.new.items }
-    ensures room { (n : ℕ) → HasRoom S.spare n tracks.old.items
-        → HasRoom S.spare n tracks.new.items }
+    ensures room { (n : ℕ) → HasSpareRoom S.spare n tracks.old.items
+        → HasSpareRoom S.spare n tracks.new.items }
     ensures gaps { gaps_of S.gap tracks.new.items ≡ gaps_of S.gap tracks.old.items }
     ensures places { tracks.new.spare ≡ tracks.old.spare }
     ensures len { length tracks.new.items ≡ length tracks.old.items }

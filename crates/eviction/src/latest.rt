@@ -3,7 +3,7 @@ ghost use Rattle.std.specs.List.{AllByRecursion};
 ghost use Rattle.mse_base.specs.Time.{IsTick, floor_div, tick};
 ghost use Rattle.track_store.specs.State.{states_of};
 ghost use Rattle.eviction.specs.Evicting.{first_of};
-ghost use Rattle.eviction.specs.Steps.{Has, IsLatest, is_below, times_at, times_between};
+ghost use Rattle.eviction.specs.Steps.{IsAmong, IsLatest, is_below, times_at, times_between};
 
 use crate::lead::{highest_start, sync_after};
 use mse_base::Ticks;
@@ -62,7 +62,7 @@ fn highest<S: FrameStore>(
     low: Ticks,
     next: &Option<Ticks>,
 ) -> Ticks
-    requires { Has low (times_at lead (states_of S.frames tracks.now.items)) }
+    requires { IsAmong low (times_at lead (states_of S.frames tracks.now.items)) }
     ensures { AllByRecursion (λ u. is_below next.now u ≡ true
         → u ≤ℤ result) (times_at lead (states_of S.frames tracks.now.items)) }
 {
@@ -80,7 +80,7 @@ fn latest_from<S: FrameStore>(
     mut low: Ticks,
     next: &Option<Ticks>,
 ) -> Ticks
-    requires has { Has low (times_at lead (states_of S.frames tracks.now.items)) }
+    requires has { IsAmong low (times_at lead (states_of S.frames tracks.now.items)) }
     requires below { is_below next.now low ≡ true }
     ensures latest { IsLatest next.now (times_at lead
         (states_of S.frames tracks.now.items)) result }

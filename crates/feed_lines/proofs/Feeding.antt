@@ -8,11 +8,11 @@ use Rattle.std.proofs.lemmas.List.{append-nil, map-append}
 use Rattle.std.proofs.lemmas.List.Sums.{fold-append}
 use Rattle.mse_base.specs.Moments.{greater_of, greatest}
 use Rattle.script_run.specs.declared.stop.Halt.{Halt}
-use Rattle.script_run.specs.Wrote.{Wrote, WroteFront}
+use Rattle.script_run.specs.Writes.{IsWritten, IsFrontWritten}
 use Rattle.script_run.proofs.Writing.{front_first, front_more, wrote_more, wrote_none}
 use Rattle.track_store.specs.declared.store.Stored.{Stored}
 use Rattle.track_store.specs.Frames.{ends, overlapped}
-use Rattle.track_store.specs.Sound.{Sound, last_serial}
+use Rattle.track_store.specs.Sound.{IsSound, last_serial}
 use Rattle.track_store.specs.State.{TrackState}
 use Rattle.track_store.proofs.Soundness.{last_push}
 use Rattle.decoder_feed.specs.declared.steps.FeedNext.{FeedNext}
@@ -38,7 +38,7 @@ pub record IsGiving (at : ℤ) (t : TrackState) (s : FeederState) (last : Option
   pub parts : frames_for at t ≡ done ++ rest_of t s
   pub behind : IsBehind at t s done
   pub last_is : last ≡ greatest (ends done)
-  pub wrote : Wrote (flat_map frame_line done) old new
+  pub wrote : IsWritten (flat_map frame_line done) old new
 
 enough_received : (t : TrackState) (next given : Option ℕ) → AreEnough t (record { next = next; given = given }) t.marks.received
 enough_received t None given = tt
@@ -79,7 +79,7 @@ rest_by t s place f is at (inr (g, gives)) =
 
 -- one more frame is given
 pub one_more : (at : ℤ) (t : TrackState) (s : FeederState) (place : ℕ) (f : Stored) (last : Option ℤ) (old mid new : Option (List ℕ))
-    → next_answer s t ≡ Frame place → slice_get t.frames place ≡ Some f → IsGiving at t s last old mid → Wrote (frame_line f) mid new
+    → next_answer s t ≡ Frame place → slice_get t.frames place ≡ Some f → IsGiving at t s last old mid → IsWritten (frame_line f) mid new
     → IsGiving at t (state_after (Frame place) s) (greater_of last (end f)) old new
 one_more at t s place f last old mid new is there p w =
     let step = rest_by t s place f is there (outcome s t) in
@@ -90,12 +90,12 @@ one_more at t s place f last old mid new is there p w =
       parts = p.parts ∙ ap (λ xs. p.done ++ xs) (step.1 ∙ ap (λ x. f ∷ rest_of t x) (sym step.0)) ∙ sym (append_assoc p.done (f ∷ []) (rest_of t (state_after (Frame place) s)));
       behind = behind_push at t (state_after (Frame place) s) p.done f behind;
       last_is = ap (λ o. greater_of o (end f)) p.last_is ∙ sym (ap greatest (map-append end p.done (f ∷ [])) ∙ fold-append greater_of None (ends p.done) (end f ∷ []));
-      wrote = subst (λ xs. Wrote xs old new) (ap (λ xs. flat_map frame_line p.done ++ xs) (sym (append-nil (frame_line f))) ∙ sym (flat_map-append frame_line p.done (f ∷ []))) (wrote_more (flat_map frame_line p.done) (frame_line f) old mid new p.wrote w);
+      wrote = subst (λ xs. IsWritten xs old new) (ap (λ xs. flat_map frame_line p.done ++ xs) (sym (append-nil (frame_line f))) ∙ sym (flat_map-append frame_line p.done (f ∷ []))) (wrote_more (flat_map frame_line p.done) (frame_line f) old mid new p.wrote w);
     }
 
 -- the line of the next frame was not put
 pub frame_failed : (at : ℤ) (t : TrackState) (s : FeederState) (place : ℕ) (f : Stored) (last : Option ℤ) (old mid new : Option (List ℕ))
-    → next_answer s t ≡ Frame place → slice_get t.frames place ≡ Some f → IsGiving at t s last old mid → WroteFront (frame_line f) mid new → WroteFront (given_text at t) old new
+    → next_answer s t ≡ Frame place → slice_get t.frames place ≡ Some f → IsGiving at t s last old mid → IsFrontWritten (frame_line f) mid new → IsFrontWritten (given_text at t) old new
 frame_failed at t s place f last old mid new is there p w =
     let step = rest_by t s place f is there (outcome s t) in
     let rest : List ℕ = flat_map frame_line (rest_of t (record { next = Some (f.serial + 1); given = Some f.serial })) in
@@ -106,7 +106,7 @@ frame_failed at t s place f last old mid new is there p w =
     ∙ ap (λ xs. xs ++ end) (flat_map-append frame_line p.done (f ∷ rest_of t (record { next = Some (f.serial + 1); given = Some f.serial })))
     ∙ append_assoc front (frame_line f ++ rest) end
     ∙ ap (λ xs. front ++ xs) (append_assoc (frame_line f) rest end) in
-    subst (λ xs. WroteFront xs old new) (sym whole) (front_more front (frame_line f ++ (rest ++ end)) old mid new p.wrote (front_first (frame_line f) (rest ++ end) mid new w))
+    subst (λ xs. IsFrontWritten xs old new) (sym whole) (front_more front (frame_line f ++ (rest ++ end)) old mid new p.wrote (front_first (frame_line f) (rest ++ end) mid new w))
 
 -- ---- and why no more are given
 
@@ -132,9 +132,9 @@ behind_all at t s (f ∷ done) h some = h
 pub record IsGiven (at : ℤ) (t : TrackState) (answer : FeedNext) (last : Option ℤ) (old new : Option (List ℕ)) : Type 0 where
   pub answer_is : answer ≡ answer_behind (frames_for at t) t
   pub last_is : last ≡ greatest (ends (frames_for at t))
-  pub wrote : Wrote (flat_map frame_line (frames_for at t)) old new
+  pub wrote : IsWritten (flat_map frame_line (frames_for at t)) old new
 
-all_given : (at : ℤ) (t : TrackState) (s : FeederState) (wanted : Stored) (answer : FeedNext) (last : Option ℤ) (old new : Option (List ℕ)) → Sound t → overlapped at t.frames ≡ Some wanted
+all_given : (at : ℤ) (t : TrackState) (s : FeederState) (wanted : Stored) (answer : FeedNext) (last : Option ℤ) (old new : Option (List ℕ)) → IsSound t → overlapped at t.frames ≡ Some wanted
     → answer ≡ next_answer s t → ((place : ℕ) → answer ≡ Frame place → ⊥) → IsGiving at t s last old new → IsGiven at t answer last old new
 all_given at t s wanted answer last old new sound shown is other p =
     let none = none_given t s (calls_left t s.next) (ap (frame_given t.frames) (sym is) ∙ no_frame t.frames answer other) (ap (λ a. state_after a s) (sym is) ∙ same_after answer s other) in
@@ -142,7 +142,7 @@ all_given at t s wanted answer last old new sound shown is other p =
     let behind : s ≡ state_behind p.done = behind_all at t s p.done p.behind (λ e. something_given at t wanted sound shown (all ∙ e)) in record {
       answer_is = is ∙ ap (λ x. next_answer x t) behind ∙ ap (λ xs. answer_behind xs t) (sym all);
       last_is = p.last_is ∙ ap (λ xs. greatest (ends xs)) (sym all);
-      wrote = subst (λ xs. Wrote (flat_map frame_line xs) old new) (sym all) p.wrote;
+      wrote = subst (λ xs. IsWritten (flat_map frame_line xs) old new) (sym all) p.wrote;
     }
 
 -- ---- one group after another
@@ -151,45 +151,45 @@ all_given at t s wanted answer last old new sound shown is other p =
 pub record IsFeeding (from at : ℤ) (t : TrackState) (old new : Option (List ℕ)) : Type 0 where
   pub front : List ℕ
   pub parts : feed_text from t ≡ front ++ groups_text (later at t.frames) at t
-  pub wrote : Wrote front old new
+  pub wrote : IsWritten front old new
 
-pub no_group_yet : (from : ℤ) (t : TrackState) (told : Option (List ℕ)) → Sound t → IsFeeding from from t told told
+pub no_group_yet : (from : ℤ) (t : TrackState) (told : Option (List ℕ)) → IsSound t → IsFeeding from from t told told
 no_group_yet from t told sound = record { front = []; parts = all_groups from t sound; wrote = wrote_none told }
 
 -- no frame is shown
-ends_feeding : (from at : ℤ) (t : TrackState) (old mid new : Option (List ℕ)) → overlapped at t.frames ≡ None → IsFeeding from at t old mid → Wrote (none_line t.id at) mid new → Wrote (feed_text from t) old new
+ends_feeding : (from at : ℤ) (t : TrackState) (old mid new : Option (List ℕ)) → overlapped at t.frames ≡ None → IsFeeding from at t old mid → IsWritten (none_line t.id at) mid new → IsWritten (feed_text from t) old new
 ends_feeding from at t old mid new is p w =
-    subst (λ xs. Wrote xs old new) (sym (p.parts ∙ ap (λ xs. p.front ++ xs) (nothing_shown (later at t.frames) at t is))) (wrote_more p.front (none_line t.id at) old mid new p.wrote w)
+    subst (λ xs. IsWritten xs old new) (sym (p.parts ∙ ap (λ xs. p.front ++ xs) (nothing_shown (later at t.frames) at t is))) (wrote_more p.front (none_line t.id at) old mid new p.wrote w)
 
-none_failed : (from at : ℤ) (t : TrackState) (old mid new : Option (List ℕ)) → overlapped at t.frames ≡ None → IsFeeding from at t old mid → WroteFront (none_line t.id at) mid new
-    → WroteFront (feed_text from t) old new
+none_failed : (from at : ℤ) (t : TrackState) (old mid new : Option (List ℕ)) → overlapped at t.frames ≡ None → IsFeeding from at t old mid → IsFrontWritten (none_line t.id at) mid new
+    → IsFrontWritten (feed_text from t) old new
 none_failed from at t old mid new is p w =
-    subst (λ xs. WroteFront xs old new) (sym (p.parts ∙ ap (λ xs. p.front ++ xs) (nothing_shown (later at t.frames) at t is))) (front_more p.front (none_line t.id at) old mid new p.wrote w)
+    subst (λ xs. IsFrontWritten xs old new) (sym (p.parts ∙ ap (λ xs. p.front ++ xs) (nothing_shown (later at t.frames) at t is))) (front_more p.front (none_line t.id at) old mid new p.wrote w)
 
 -- a frame is shown
-shown_parts : (from at : ℤ) (t : TrackState) (wanted : Stored) (old mid : Option (List ℕ)) → Sound t → overlapped at t.frames ≡ Some wanted → (p : IsFeeding from at t old mid)
+shown_parts : (from at : ℤ) (t : TrackState) (wanted : Stored) (old mid : Option (List ℕ)) → IsSound t → overlapped at t.frames ≡ Some wanted → (p : IsFeeding from at t old mid)
     → feed_text from t ≡ p.front ++ (wanted_line t.id at wanted.serial ++ (given_text at t ++ groups_text (later (end_of at (frames_for at t)) t.frames) (end_of at (frames_for at t)) t))
 shown_parts from at t wanted old mid sound is p = p.parts ∙ ap (λ xs. p.front ++ xs) (one_group at t wanted sound is)
 
-pub wanted_failed : (from at : ℤ) (t : TrackState) (wanted : Stored) (old mid new : Option (List ℕ)) → Sound t → overlapped at t.frames ≡ Some wanted → IsFeeding from at t old mid
-    → WroteFront (wanted_line t.id at wanted.serial) mid new → WroteFront (feed_text from t) old new
+pub wanted_failed : (from at : ℤ) (t : TrackState) (wanted : Stored) (old mid new : Option (List ℕ)) → IsSound t → overlapped at t.frames ≡ Some wanted → IsFeeding from at t old mid
+    → IsFrontWritten (wanted_line t.id at wanted.serial) mid new → IsFrontWritten (feed_text from t) old new
 wanted_failed from at t wanted old mid new sound is p w =
     let next : ℤ = end_of at (frames_for at t) in
     let rest : List ℕ = given_text at t ++ groups_text (later next t.frames) next t in
-    subst (λ xs. WroteFront xs old new) (sym (shown_parts from at t wanted old mid sound is p))
+    subst (λ xs. IsFrontWritten xs old new) (sym (shown_parts from at t wanted old mid sound is p))
     (front_more p.front (wanted_line t.id at wanted.serial ++ rest) old mid new p.wrote (front_first (wanted_line t.id at wanted.serial) rest mid new w))
 
-pub given_failed : (from at : ℤ) (t : TrackState) (wanted : Stored) (old mid put new : Option (List ℕ)) → Sound t → overlapped at t.frames ≡ Some wanted → IsFeeding from at t old mid
-    → Wrote (wanted_line t.id at wanted.serial) mid put → WroteFront (given_text at t) put new → WroteFront (feed_text from t) old new
+pub given_failed : (from at : ℤ) (t : TrackState) (wanted : Stored) (old mid put new : Option (List ℕ)) → IsSound t → overlapped at t.frames ≡ Some wanted → IsFeeding from at t old mid
+    → IsWritten (wanted_line t.id at wanted.serial) mid put → IsFrontWritten (given_text at t) put new → IsFrontWritten (feed_text from t) old new
 given_failed from at t wanted old mid put new sound is p w v =
     let next : ℤ = end_of at (frames_for at t) in
     let rest : List ℕ = groups_text (later next t.frames) next t in
-    subst (λ xs. WroteFront xs old new) (sym (shown_parts from at t wanted old mid sound is p))
+    subst (λ xs. IsFrontWritten xs old new) (sym (shown_parts from at t wanted old mid sound is p))
     (front_more p.front (wanted_line t.id at wanted.serial ++ (given_text at t ++ rest)) old mid new p.wrote
     (front_more (wanted_line t.id at wanted.serial) (given_text at t ++ rest) mid put new w (front_first (given_text at t) rest put new v)))
 
-pub group_put : (from at next : ℤ) (t : TrackState) (wanted : Stored) (old mid put new : Option (List ℕ)) → Sound t → overlapped at t.frames ≡ Some wanted → IsFeeding from at t old mid
-    → Wrote (wanted_line t.id at wanted.serial) mid put → Wrote (given_text at t) put new → next ≡ end_of at (frames_for at t) → IsFeeding from next t old new
+pub group_put : (from at next : ℤ) (t : TrackState) (wanted : Stored) (old mid put new : Option (List ℕ)) → IsSound t → overlapped at t.frames ≡ Some wanted → IsFeeding from at t old mid
+    → IsWritten (wanted_line t.id at wanted.serial) mid put → IsWritten (given_text at t) put new → next ≡ end_of at (frames_for at t) → IsFeeding from next t old new
 group_put from at next t wanted old mid put new sound is p w v ends =
     let then : ℤ = end_of at (frames_for at t) in
     let line : List ℕ = wanted_line t.id at wanted.serial in
@@ -217,28 +217,28 @@ some_frame (Some wanted) h = (wanted, refl)
 pub given_end : (at : ℤ) (t : TrackState) (answer : FeedNext) (last : Option ℤ) (old mid : Option (List ℕ)) → IsGiven at t answer last old mid → unwrap_or last at ≡ end_of at (frames_for at t)
 given_end at t answer last old mid p = ap (λ o. unwrap_or o at) p.last_is
 
-pub given_put : (at : ℤ) (t : TrackState) (answer : FeedNext) (last : Option ℤ) (old mid new : Option (List ℕ)) → IsGiven at t answer last old mid → Wrote (end_line answer) mid new → Wrote (given_text at t) old new
+pub given_put : (at : ℤ) (t : TrackState) (answer : FeedNext) (last : Option ℤ) (old mid new : Option (List ℕ)) → IsGiven at t answer last old mid → IsWritten (end_line answer) mid new → IsWritten (given_text at t) old new
 given_put at t answer last old mid new p w =
-    wrote_more (flat_map frame_line (frames_for at t)) (end_line (answer_behind (frames_for at t) t)) old mid new p.wrote (subst (λ a. Wrote (end_line a) mid new) p.answer_is w)
+    wrote_more (flat_map frame_line (frames_for at t)) (end_line (answer_behind (frames_for at t) t)) old mid new p.wrote (subst (λ a. IsWritten (end_line a) mid new) p.answer_is w)
 
-pub end_failed : (at : ℤ) (t : TrackState) (answer : FeedNext) (last : Option ℤ) (old mid new : Option (List ℕ)) → IsGiven at t answer last old mid → WroteFront (end_line answer) mid new → WroteFront (given_text at t) old new
+pub end_failed : (at : ℤ) (t : TrackState) (answer : FeedNext) (last : Option ℤ) (old mid new : Option (List ℕ)) → IsGiven at t answer last old mid → IsFrontWritten (end_line answer) mid new → IsFrontWritten (given_text at t) old new
 end_failed at t answer last old mid new p w =
-    front_more (flat_map frame_line (frames_for at t)) (end_line (answer_behind (frames_for at t) t)) old mid new p.wrote (subst (λ a. WroteFront (end_line a) mid new) p.answer_is w)
+    front_more (flat_map frame_line (frames_for at t)) (end_line (answer_behind (frames_for at t) t)) old mid new p.wrote (subst (λ a. IsFrontWritten (end_line a) mid new) p.answer_is w)
 
 -- the answer is no frame
-pub all_answered : (at : ℤ) (t : TrackState) (s : FeederState) (answer : FeedNext) (last : Option ℤ) (old new : Option (List ℕ)) → Sound t → IsSome (overlapped at t.frames)
+pub all_answered : (at : ℤ) (t : TrackState) (s : FeederState) (answer : FeedNext) (last : Option ℤ) (old new : Option (List ℕ)) → IsSound t → IsSome (overlapped at t.frames)
     → answer ≡ next_answer s t → ((place : ℕ) → answer ≡ Frame place → ⊥) → IsGiving at t s last old new → IsGiven at t answer last old new
 all_answered at t s answer last old new sound shown is other p =
     let wanted = some_frame (overlapped at t.frames) shown in
     all_given at t s wanted.0 answer last old new sound wanted.1 is other p
 
 -- what was put is a front of the text, whether or not the last line was
-pub none_by : (from at : ℤ) (t : TrackState) (old mid new : Option (List ℕ)) (result : Result (Unit {0}) Halt) → overlapped at t.frames ≡ None → IsFeeding from at t old mid → OnErr result (WroteFront (none_line t.id at) mid new)
-    → OnErr result (WroteFront (feed_text from t) old new)
+pub none_by : (from at : ℤ) (t : TrackState) (old mid new : Option (List ℕ)) (result : Result (Unit {0}) Halt) → overlapped at t.frames ≡ None → IsFeeding from at t old mid → OnErr result (IsFrontWritten (none_line t.id at) mid new)
+    → OnErr result (IsFrontWritten (feed_text from t) old new)
 none_by from at t old mid new (Ok u) is p w = tt
 none_by from at t old mid new (Err h) is p w = none_failed from at t old mid new is p w
 
-pub ends_by : (from at : ℤ) (t : TrackState) (old mid new : Option (List ℕ)) (result : Result (Unit {0}) Halt) → overlapped at t.frames ≡ None → IsFeeding from at t old mid → OnOk result (Wrote (none_line t.id at) mid new)
-    → OnOk result (Wrote (feed_text from t) old new)
+pub ends_by : (from at : ℤ) (t : TrackState) (old mid new : Option (List ℕ)) (result : Result (Unit {0}) Halt) → overlapped at t.frames ≡ None → IsFeeding from at t old mid → OnOk result (IsWritten (none_line t.id at) mid new)
+    → OnOk result (IsWritten (feed_text from t) old new)
 ends_by from at t old mid new (Ok u) is p w = ends_feeding from at t old mid new is p w
 ends_by from at t old mid new (Err h) is p w = tt

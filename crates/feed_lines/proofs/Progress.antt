@@ -7,7 +7,7 @@ use Rattle.std.proofs.lemmas.Int.{ints}
 use Rattle.mse_base.specs.Moments.{greatest}
 use Rattle.track_store.specs.declared.store.Stored.{Stored}
 use Rattle.track_store.specs.Frames.{ends, is_in_frame, overlapped}
-use Rattle.track_store.specs.Sound.{Sound}
+use Rattle.track_store.specs.Sound.{IsSound}
 use Rattle.track_store.specs.State.{TrackState}
 use Rattle.track_store.proofs.Limits.{highest_bounds, highest_none}
 use Rattle.track_store.proofs.Overlapping.{overlapped-covers}
@@ -49,7 +49,7 @@ enough_received t None given = tt
 enough_received t (Some n) given = omega arith
 
 -- the feed is given first
-pub feed_first : (at : ℤ) (t : TrackState) (feed : List Stored) → Sound t → feed_of at t.frames ≡ Some feed → (rest : List Stored) × (frames_for at t ≡ feed ++ rest)
+pub feed_first : (at : ℤ) (t : TrackState) (feed : List Stored) → IsSound t → feed_of at t.frames ≡ Some feed → (rest : List Stored) × (frames_for at t ≡ feed ++ rest)
 feed_first at t feed sound is =
     let all = subst (λ o. AreGiven (state_after_seek at t.frames) t o) is (feed_given at t sound) in
     let more = front_of_all (length feed) t (state_after_seek at t.frames) t.marks.received (enough_received t (state_after_seek at t.frames).next (state_after_seek at t.frames).given) in
@@ -62,7 +62,7 @@ pub record IsShown (at : ℤ) (t : TrackState) (wanted : Stored) : Type 0 where
   pub given : frames_for at t ≡ feed ++ rest
   pub last : IsLastOf wanted feed
 
-pub shown : (at : ℤ) (t : TrackState) (wanted : Stored) → Sound t → overlapped at t.frames ≡ Some wanted → IsShown at t wanted
+pub shown : (at : ℤ) (t : TrackState) (wanted : Stored) → IsSound t → overlapped at t.frames ≡ Some wanted → IsShown at t wanted
 shown at t wanted sound is =
     let group = ends_with wanted (feed_of at t.frames) (subst (λ o. IsGroupUpTo o (feed_of at t.frames)) is (feed_group at t.frames sound.ascending sound.chained)) in
     let more = feed_first at t group.0 sound group.1 in
@@ -73,7 +73,7 @@ none_before x [] rest h e = h
 none_before x (f ∷ fs) rest h e = cc
 
 -- something is given
-pub something_given : (at : ℤ) (t : TrackState) (wanted : Stored) → Sound t → overlapped at t.frames ≡ Some wanted → frames_for at t ≡ [] → ⊥
+pub something_given : (at : ℤ) (t : TrackState) (wanted : Stored) → IsSound t → overlapped at t.frames ≡ Some wanted → frames_for at t ≡ [] → ⊥
 something_given at t wanted sound is none =
     let h = shown at t wanted sound is in
     none_before wanted h.feed h.rest h.last (sym h.given ∙ none)
@@ -84,7 +84,7 @@ after_by : (at : ℤ) (wanted : Stored) (fs : List Stored) (o : Option ℤ) → 
 after_by at wanted fs None is some h = absurd (some (highest_none fs is))
 after_by at wanted fs (Some e) is some h = h e is
 
-ends_after : (at : ℤ) (t : TrackState) (wanted : Stored) → Sound t → overlapped at t.frames ≡ Some wanted → end wanted ≤ℤ end_of at (frames_for at t)
+ends_after : (at : ℤ) (t : TrackState) (wanted : Stored) → IsSound t → overlapped at t.frames ≡ Some wanted → end wanted ≤ℤ end_of at (frames_for at t)
 ends_after at t wanted sound is =
     let h = shown at t wanted sound is in
     after_by at wanted (frames_for at t) (greatest (ends (frames_for at t))) refl (something_given at t wanted sound is)
@@ -138,7 +138,7 @@ fewer_at a b (f ∷ fs) (suc i) x at h p q =
     by true g = omega (arith, g)
     by false g = omega (arith, g)
 
-pub goes_on : (at : ℤ) (t : TrackState) (wanted : Stored) → Sound t → overlapped at t.frames ≡ Some wanted → later (end_of at (frames_for at t)) t.frames < later at t.frames
+pub goes_on : (at : ℤ) (t : TrackState) (wanted : Stored) → IsSound t → overlapped at t.frames ≡ Some wanted → later (end_of at (frames_for at t)) t.frames < later at t.frames
 goes_on at t wanted sound is =
     let next : ℤ = end_of at (frames_for at t) in
     let after : end wanted ≤ℤ next = ends_after at t wanted sound is in
@@ -165,7 +165,7 @@ none_by (suc n) at t is = ap (λ o. text_by o at t (groups_text n (end_of at (fr
 pub nothing_shown : (n : ℕ) (at : ℤ) (t : TrackState) → overlapped at t.frames ≡ None → groups_text n at t ≡ none_line t.id at
 nothing_shown n at t is = none_by n at t is
 
-same_step : (n m : ℕ) (at : ℤ) (t : TrackState) (o : Option Stored) → Sound t → overlapped at t.frames ≡ o → later at t.frames ≤ n → later at t.frames ≤ m
+same_step : (n m : ℕ) (at : ℤ) (t : TrackState) (o : Option Stored) → IsSound t → overlapped at t.frames ≡ o → later at t.frames ≤ n → later at t.frames ≤ m
     → ((k : ℕ) (at' : ℤ) (j : ℕ) → n ≡ suc k → later at' t.frames ≤ k → later at' t.frames ≤ j → groups_text k at' t ≡ groups_text j at' t) → groups_text n at t ≡ groups_text m at t
 same_step n m at t None sound is a b ih = none_by n at t is ∙ sym (none_by m at t is)
 same_step zero m at t (Some wanted) sound is a b ih = let less = goes_on at t wanted sound is in absurd (omega (arith, less))
@@ -174,14 +174,14 @@ same_step (suc n) (suc m) at t (Some wanted) sound is a b ih =
     let less = goes_on at t wanted sound is in
     ap (λ xs. text_by (overlapped at t.frames) at t xs) (ih n (end_of at (frames_for at t)) m refl (omega (arith, less)) (omega (arith, less)))
 
-pub same_text : (n m : ℕ) (at : ℤ) (t : TrackState) → Sound t → later at t.frames ≤ n → later at t.frames ≤ m → groups_text n at t ≡ groups_text m at t
+pub same_text : (n m : ℕ) (at : ℤ) (t : TrackState) → IsSound t → later at t.frames ≤ n → later at t.frames ≤ m → groups_text n at t ≡ groups_text m at t
 same_text zero m at t sound a b = same_step zero m at t (overlapped at t.frames) sound refl a b (λ k at' j e h g. cc)
 same_text (suc n) m at t sound a b =
     same_step (suc n) m at t (overlapped at t.frames) sound refl a b
     (λ k at' j e h g. let same : n ≡ k = cc in subst (λ i. groups_text i at' t ≡ groups_text j at' t) same (same_text n j at' t sound (subst (λ i. later at' t.frames ≤ i) (sym same) h) g))
 
 -- the group of the frame that is shown, and the rest
-one_by : (n : ℕ) (at : ℤ) (t : TrackState) (wanted : Stored) → Sound t → overlapped at t.frames ≡ Some wanted → later at t.frames ≤ n
+one_by : (n : ℕ) (at : ℤ) (t : TrackState) (wanted : Stored) → IsSound t → overlapped at t.frames ≡ Some wanted → later at t.frames ≤ n
     → groups_text n at t ≡ text_by (Some wanted) at t (groups_text (later (end_of at (frames_for at t)) t.frames) (end_of at (frames_for at t)) t)
 one_by zero at t wanted sound is h = let less = goes_on at t wanted sound is in absurd (omega (arith, less))
 one_by (suc n) at t wanted sound is h =
@@ -190,16 +190,16 @@ one_by (suc n) at t wanted sound is h =
     ap (λ o. text_by o at t (groups_text n next t)) is
     ∙ ap (λ xs. text_by (Some wanted) at t xs) (same_text n (later next t.frames) next t sound (omega (arith, less)) (omega arith))
 
-pub one_group : (at : ℤ) (t : TrackState) (wanted : Stored) → Sound t → overlapped at t.frames ≡ Some wanted
+pub one_group : (at : ℤ) (t : TrackState) (wanted : Stored) → IsSound t → overlapped at t.frames ≡ Some wanted
     → groups_text (later at t.frames) at t ≡ text_by (Some wanted) at t (groups_text (later (end_of at (frames_for at t)) t.frames) (end_of at (frames_for at t)) t)
 one_group at t wanted sound is = one_by (later at t.frames) at t wanted sound is (omega arith)
 
-pub all_groups : (from : ℤ) (t : TrackState) → Sound t → feed_text from t ≡ groups_text (later from t.frames) from t
+pub all_groups : (from : ℤ) (t : TrackState) → IsSound t → feed_text from t ≡ groups_text (later from t.frames) from t
 unfolding feed_text
 all_groups from t sound = same_text (length t.frames) (later from t.frames) from t sound (later-length from t.frames) (omega arith)
 
 -- ---- laws
 
-pub enough_groups : (at : ℤ) (t : TrackState) (n : ℕ) → Sound t → length t.frames ≤ n → groups_text n at t ≡ feed_text at t
+pub enough_groups : (at : ℤ) (t : TrackState) (n : ℕ) → IsSound t → length t.frames ≤ n → groups_text n at t ≡ feed_text at t
 unfolding feed_text
 enough_groups at t n sound few = let late = later-length at t.frames in same_text n (length t.frames) at t sound (omega (arith, late)) late

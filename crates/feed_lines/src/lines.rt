@@ -2,7 +2,7 @@
 
 ghost use Rattle.std.specs.Prelude.{◌≡◌, ◌≤◌, IfOk, OnOk, OnErr, IsErrOf, string_bytes};
 ghost use Rattle.mse_outside.specs.Outside.{Rose};
-ghost use Rattle.script_run.specs.Wrote.{Wrote, WroteFront};
+ghost use Rattle.script_run.specs.Writes.{IsWritten, IsFrontWritten};
 ghost use Rattle.feed_lines.specs.Lines.{answer_text, end_line, frame_line, none_line, size_text, wanted_line};
 
 use decoder_feed::FeedNext;
@@ -67,8 +67,9 @@ fn end_line(alloc: Global, answer: FeedNext) -> Result<String, AllocError>
 
 /// No frame of the track of that number is shown at a time.
 pub fn put_none<K: Sink>(alloc: Global, sink: &mut K, id: u32, at: Ticks) -> Result<(), Halt>
-    ensures ok { OnOk result (Wrote (none_line id at) (K.written sink.old) (K.written sink.new)) }
-    ensures err { OnErr result (WroteFront (none_line id at) (K.written sink.old)
+    ensures ok { OnOk result (IsWritten (none_line id at) (K.written sink.old)
+        (K.written sink.new)) }
+    ensures err { OnErr result (IsFrontWritten (none_line id at) (K.written sink.old)
         (K.written sink.new)) }
     ensures later { K.faults sink.old ≤ K.faults sink.new }
     ensures cause { IsErrOf result Halt.Write → Rose (K.faults sink.old) (K.faults sink.new) }
@@ -87,9 +88,9 @@ pub fn put_wanted<K: Sink>(
     at: Ticks,
     serial: u64,
 ) -> Result<(), Halt>
-    ensures ok { OnOk result (Wrote (wanted_line id at serial) (K.written sink.old)
+    ensures ok { OnOk result (IsWritten (wanted_line id at serial) (K.written sink.old)
         (K.written sink.new)) }
-    ensures err { OnErr result (WroteFront (wanted_line id at serial) (K.written sink.old)
+    ensures err { OnErr result (IsFrontWritten (wanted_line id at serial) (K.written sink.old)
         (K.written sink.new)) }
     ensures later { K.faults sink.old ≤ K.faults sink.new }
     ensures cause { IsErrOf result Halt.Write → Rose (K.faults sink.old) (K.faults sink.new) }
@@ -102,9 +103,9 @@ pub fn put_wanted<K: Sink>(
 
 /// A frame is given.
 pub fn put_frame<K: Sink>(alloc: Global, sink: &mut K, stored: &Stored) -> Result<(), Halt>
-    ensures ok { OnOk result (Wrote (frame_line stored.now) (K.written sink.old)
+    ensures ok { OnOk result (IsWritten (frame_line stored.now) (K.written sink.old)
         (K.written sink.new)) }
-    ensures err { OnErr result (WroteFront (frame_line stored.now) (K.written sink.old)
+    ensures err { OnErr result (IsFrontWritten (frame_line stored.now) (K.written sink.old)
         (K.written sink.new)) }
     ensures later { K.faults sink.old ≤ K.faults sink.new }
     ensures cause { IsErrOf result Halt.Write → Rose (K.faults sink.old) (K.faults sink.new) }
@@ -117,8 +118,9 @@ pub fn put_frame<K: Sink>(alloc: Global, sink: &mut K, stored: &Stored) -> Resul
 
 /// No more frames are given, for this reason.
 pub fn put_end<K: Sink>(alloc: Global, sink: &mut K, answer: FeedNext) -> Result<(), Halt>
-    ensures ok { OnOk result (Wrote (end_line answer) (K.written sink.old) (K.written sink.new)) }
-    ensures err { OnErr result (WroteFront (end_line answer) (K.written sink.old)
+    ensures ok { OnOk result (IsWritten (end_line answer) (K.written sink.old)
+        (K.written sink.new)) }
+    ensures err { OnErr result (IsFrontWritten (end_line answer) (K.written sink.old)
         (K.written sink.new)) }
     ensures later { K.faults sink.old ≤ K.faults sink.new }
     ensures cause { IsErrOf result Halt.Write → Rose (K.faults sink.old) (K.faults sink.new) }

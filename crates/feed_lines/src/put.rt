@@ -4,9 +4,9 @@ ghost use Rattle.std.specs.Prelude.{◌≡◌, ◌≤◌, ◌+ℤ◌, ◌++◌, 
 ghost use Rattle.std.specs.List.{flat_map};
 ghost use Rattle.mse_base.specs.Time.{IsTick};
 ghost use Rattle.mse_outside.specs.Outside.{Rose};
-ghost use Rattle.script_run.specs.Wrote.{Wrote, WroteFront};
+ghost use Rattle.script_run.specs.Writes.{IsWritten, IsFrontWritten};
 ghost use Rattle.track_store.specs.Frames.{overlapped};
-ghost use Rattle.track_store.specs.Sound.{Sound};
+ghost use Rattle.track_store.specs.Sound.{IsSound};
 ghost use Rattle.track_store.specs.State.{state_of};
 ghost use Rattle.decoder_feed.specs.Steps.{state_after_seek};
 ghost use Rattle.feed_lines.specs.Groups.{end_of, frames_for};
@@ -40,14 +40,14 @@ fn put_given<S: FrameStore, K: Sink>(
     feeder: &mut Feeder,
     at: Ticks,
 ) -> Result<Ticks, Halt>
-    requires sound { Sound (state_of S.frames track.now) }
+    requires sound { IsSound (state_of S.frames track.now) }
     requires shown { IsSome (overlapped at (S.frames track.now.store)) }
     requires sought { feeder.old ≡ state_after_seek at (S.frames track.now.store) }
     ensures end { IfOk result (λ end. end
         ≡ end_of at (frames_for at (state_of S.frames track.now))) }
-    ensures ok { OnOk result (Wrote (given_text at (state_of S.frames track.now))
+    ensures ok { OnOk result (IsWritten (given_text at (state_of S.frames track.now))
         (K.written sink.old) (K.written sink.new)) }
-    ensures err { OnErr result (WroteFront (given_text at (state_of S.frames track.now))
+    ensures err { OnErr result (IsFrontWritten (given_text at (state_of S.frames track.now))
         (K.written sink.old) (K.written sink.new)) }
     ensures later { K.faults sink.old ≤ K.faults sink.new }
     ensures cause { IsErrOf result Halt.Write → Rose (K.faults sink.old) (K.faults sink.new) }
@@ -82,10 +82,10 @@ pub fn put_feeds<S: FrameStore, K: Sink>(
     track: &Track<S>,
     from: Ticks,
 ) -> Result<(), Halt>
-    requires { Sound (state_of S.frames track.now) }
-    ensures ok { OnOk result (Wrote (feed_text from (state_of S.frames track.now))
+    requires { IsSound (state_of S.frames track.now) }
+    ensures ok { OnOk result (IsWritten (feed_text from (state_of S.frames track.now))
         (K.written sink.old) (K.written sink.new)) }
-    ensures err { OnErr result (WroteFront (feed_text from (state_of S.frames track.now))
+    ensures err { OnErr result (IsFrontWritten (feed_text from (state_of S.frames track.now))
         (K.written sink.old) (K.written sink.new)) }
     ensures later { K.faults sink.old ≤ K.faults sink.new }
     ensures cause { IsErrOf result Halt.Write → Rose (K.faults sink.old) (K.faults sink.new) }

@@ -1,7 +1,7 @@
 //! A track without frames; the program's tests print the feeds of files.
 
 ghost use Rattle.std.specs.Prelude.{◌≡◌, []};
-ghost use Rattle.track_store.specs.Sound.{Sound};
+ghost use Rattle.track_store.specs.Sound.{IsSound};
 ghost use Rattle.track_store.specs.State.{state_of};
 
 use crate::put_feeds;
@@ -14,7 +14,7 @@ use track_store::{FrameStore, ListStore, Marks, Track};
 
 fn empty_track<S: FrameStore>(alloc: Global) -> Track<S>
     ensures empty { S.frames result.store ≡ [] }
-    ensures sound { Sound (state_of S.frames result) }
+    ensures sound { IsSound (state_of S.frames result) }
 {
     Track {
         id: 7,

@@ -41,7 +41,7 @@ use Rattle.source_buffers.specs.State.{BufferState, BufferStates, in_slot}
 use Rattle.mse_engine.specs.State.{CoreSource, Core, State}
 use Rattle.mse_engine.specs.Work.{running_in}
 use Rattle.cut_law.specs.Plays.{after_line}
-use Rattle.cut_law.specs.Room.{HasRoom, HasRoomFor}
+use Rattle.cut_law.specs.Room.{HasRoomForCall, HasRoomFor}
 use Rattle.cut_law.specs.Cuts.{extent_of, AreParts}
 use Rattle.cut_law.specs.Files.{after_piece, UnlessFault, HaveRoom}
 use Rattle.cut_law.proofs.Halves.{Half, Ran, Whole, Stopped, ran_by, run, effect_source, half_behind, items_left, half_at_end, half_at_end-idle, half_after_append_by, half_after_append, is_refused, append_feed, begin_source}
@@ -49,7 +49,7 @@ use Rattle.cut_law.proofs.Drains.{drain_core, append_core, on_slot, set_place, a
 use Rattle.cut_law.proofs.Drains as drains
 use Rattle.cut_law.proofs.Journals.{append_some, line-core}
 use Rattle.cut_law.proofs.Cutting.{piece-bytes}
-use Rattle.file_law.specs.Rooms.{HeldBefore, HoldsLittle}
+use Rattle.file_law.specs.Rooms.{IsHeldBefore, HoldsLittle}
 
 -- ---- the bytes of the tracks can be counted
 
@@ -184,17 +184,17 @@ run-counts k (x ∷ xs) c s h = run-by k xs s (item_result x c s.state.duration)
 -- ---- an append that is worked off
 
 record HalfHolds (start quota : ℕ) (h : Half) : Type 0 where
-  held : HeldBefore start h.buffer
+  held : IsHeldBefore start h.buffer
   same : h.source.quota ≡ quota
 
 behind-holds : (start : ℕ) (f : Feed) (count : ℕ) (s : CoreSource) (r : Ran) → length f.reading.whole ≤ start → RanCounts s r → HalfHolds start s.quota (half_behind f count r)
 behind-holds start f count s (Whole c t) l h = record { held = record { read = l; used = h.0 }; same = h.1 }
 behind-holds start f count s (Stopped c t) l h = record { held = record { read = omega arith; used = h.0 }; same = h.1 }
 
-held-later : (start more : ℕ) (b : BufferState) → HeldBefore start b → HeldBefore (start + more) b
+held-later : (start more : ℕ) (b : BufferState) → IsHeldBefore start b → IsHeldBefore (start + more) b
 held-later start more b h = let read = h.read in record { read = omega (arith, read); used = h.used }
 
-append-holds : (t : Bool) (start : ℕ) (bytes : List ℕ) (k : ℕ) (h : Half) → is_updating h.buffer.feed.running ≡ false → HeldBefore start h.buffer → HalfHolds (start + length bytes) h.source.quota (half_at_end k (half_after_append_by t bytes k h))
+append-holds : (t : Bool) (start : ℕ) (bytes : List ℕ) (k : ℕ) (h : Half) → is_updating h.buffer.feed.running ≡ false → IsHeldBefore start h.buffer → HalfHolds (start + length bytes) h.source.quota (half_at_end k (half_after_append_by t bytes k h))
 append-holds true start bytes k h idle held =
     subst (λ (g : Half). HalfHolds (start + length bytes) h.source.quota g) (sym (half_at_end-idle k h idle)) (record { held = held-later start (length bytes) h.buffer held; same = refl })
 append-holds false start bytes k h idle held =
@@ -211,14 +211,14 @@ get-set [] j a b e = absurd (cc)
 get-set (x ∷ bs) zero a b e = refl
 get-set (x ∷ bs) (suc j) a b e = get-set bs j a b e
 
-slot-later : (start more : ℕ) (o : Option BufferState) → IfSome o (HeldBefore start) → IfSome o (HeldBefore (start + more))
+slot-later : (start more : ℕ) (o : Option BufferState) → IfSome o (IsHeldBefore start) → IfSome o (IsHeldBefore (start + more))
 slot-later start more None h = tt
 slot-later start more (Some b) h = held-later start more b h
 
 holds-later : (start more k : ℕ) (c : Core) → HoldsLittle start k c → HoldsLittle (start + more) k c
 holds-later start more k c h = record { quota = h.quota; slot = slot-later start more (in_slot k c.buffers) h.slot }
 
-slot-holds : (x : Option (Option BufferState)) (start : ℕ) (bytes : List ℕ) (k : ℕ) (c : Core) → slice_get c.buffers k ≡ x → lowest c.buffers ≡ None → IfSome (option_flatten x) (HeldBefore start) → HoldsLittle start k c
+slot-holds : (x : Option (Option BufferState)) (start : ℕ) (bytes : List ℕ) (k : ℕ) (c : Core) → slice_get c.buffers k ≡ x → lowest c.buffers ≡ None → IfSome (option_flatten x) (IsHeldBefore start) → HoldsLittle start k c
     → HoldsLittle (start + length bytes) k (on_slot x k (λ n h. half_at_end n (half_after_append bytes n h)) c)
 slot-holds None start bytes k c e low held h = holds-later start (length bytes) k c h
 slot-holds (Some None) start bytes k c e low held h = holds-later start (length bytes) k c h
@@ -229,7 +229,7 @@ slot-holds (Some (Some b)) start bytes k c e low held h =
     let there : slice_get (slice_set c.buffers k (Some new.buffer)) k ≡ Some (Some new.buffer) = get-set c.buffers k (Some b) (Some new.buffer) e in
     record {
       quota = subst (λ n. 2 ^ 62 ≤ n) (sym holds.same) h.quota;
-      slot = subst (λ y. IfSome (option_flatten y) (HeldBefore (start + length bytes))) (sym there) holds.held;
+      slot = subst (λ y. IfSome (option_flatten y) (IsHeldBefore (start + length bytes))) (sym there) holds.held;
     }
 
 core-holds : (start : ℕ) (bytes : List ℕ) (k : ℕ) (c : Core) → lowest c.buffers ≡ None → HoldsLittle start k c → HoldsLittle (start + length bytes) k (drain_core (append_core bytes k c))
@@ -245,7 +245,7 @@ not-full n quota used m q u l =
     let yet : nat_le (2 ^ 62) m ≡ false = grind (arith, nat_tests) in
     ap (λ t. t || nat_le (2 ^ 62) m) no ∙ yet
 
-room-for : (o : Option BufferState) (quota start : ℕ) (bytes : List ℕ) → 2 ^ 62 ≤ quota → IfSome o (HeldBefore start) → start + length bytes < 2 ^ 62 → HasRoomFor (Some bytes) quota o
+room-for : (o : Option BufferState) (quota start : ℕ) (bytes : List ℕ) → 2 ^ 62 ≤ quota → IfSome o (IsHeldBefore start) → start + length bytes < 2 ^ 62 → HasRoomFor (Some bytes) quota o
 room-for None quota start bytes q h l = tt
 room-for (Some b) quota start bytes q h l =
     let read = h.read in
@@ -260,12 +260,12 @@ take-short zero xs = omega arith
 take-short (suc n) [] = omega arith
 take-short (suc n) (x ∷ xs) = let rest = take-short n xs in omega (arith, rest)
 
-pub piece-core : (blobs : List (List ℕ)) (k : ℕ) (st : State) (piece : Piece) → HasRoom blobs st.core (AppendBuffer k piece) → (after_piece blobs k st piece).core ≡ drain_core (append_some (bytes_of blobs piece) k st.core)
+pub piece-core : (blobs : List (List ℕ)) (k : ℕ) (st : State) (piece : Piece) → HasRoomForCall blobs st.core (AppendBuffer k piece) → (after_piece blobs k st piece).core ≡ drain_core (append_some (bytes_of blobs piece) k st.core)
 piece-core blobs k st piece room =
     line-core blobs (after_line blobs st (Call (AppendBuffer k piece))) Drain tt ∙ ap (λ c. drain_core c) (line-core blobs st (Call (AppendBuffer k piece)) room)
 
 -- just before a piece of these bytes
-pub piece-room : (blobs : List (List ℕ)) (k : ℕ) (c : Core) (piece : Piece) (start : ℕ) (some : List ℕ) → bytes_of blobs piece ≡ Some some → start + length some < 2 ^ 62 → HoldsLittle start k c → HasRoom blobs c (AppendBuffer k piece)
+pub piece-room : (blobs : List (List ℕ)) (k : ℕ) (c : Core) (piece : Piece) (start : ℕ) (some : List ℕ) → bytes_of blobs piece ≡ Some some → start + length some < 2 ^ 62 → HoldsLittle start k c → HasRoomForCall blobs c (AppendBuffer k piece)
 piece-room blobs k c piece start some e l h =
     subst (λ x. HasRoomFor x c.source.quota (in_slot k c.buffers)) (sym e) (room-for (in_slot k c.buffers) c.source.quota start some h.quota h.slot l)
 
@@ -279,7 +279,7 @@ rooms (piece ∷ pieces) blobs k st blob bytes start total e p l short low h =
     let some : List ℕ = take p.0 (drop start bytes) in
     let are : bytes_of blobs piece ≡ Some some = piece-bytes blobs piece blob start p.0 bytes e p.2 p.3 fits in
     let few = take-short p.0 (drop start bytes) in
-    let room : HasRoom blobs st.core (AppendBuffer k piece) = piece-room blobs k st.core piece start some are (omega (arith, few, fits, short)) h in
+    let room : HasRoomForCall blobs st.core (AppendBuffer k piece) = piece-room blobs k st.core piece start some are (omega (arith, few, fits, short)) h in
     let new : State = after_piece blobs k st piece in
     let core : new.core ≡ drain_core (append_core some k st.core) = piece-core blobs k st piece room ∙ ap (λ x. drain_core (append_some x k st.core)) are in
     let rests : lowest new.core.buffers ≡ None = ap (λ (c : Core). lowest c.buffers) core ∙ append-rests some k st.core low in

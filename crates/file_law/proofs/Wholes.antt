@@ -9,7 +9,7 @@ use Rattle.mse_engine.specs.State.{Core, State}
 use Rattle.mse_engine.specs.Work.{running_in}
 use Rattle.cut_law.specs.Cuts.{AreParts}
 use Rattle.cut_law.specs.Files.{after_piece, after_pieces, unless_fault, HaveRoom, UnlessFault}
-use Rattle.cut_law.specs.Room.{HasRoom}
+use Rattle.cut_law.specs.Room.{HasRoomForCall}
 use Rattle.cut_law.proofs.Cutting.{piece-bytes}
 use Rattle.cut_law.proofs.Filing.{filing}
 use Rattle.cut_law.proofs.Drains.{drain_core}
@@ -66,7 +66,7 @@ behind bytes more k st short fresh fault =
     let none : length more ≡ length more + 0 = omega arith in
     let parts : AreParts 0 (bytes ++ more) 0 (length (bytes ++ more)) (front_of bytes ∷ rest_of bytes more ∷ []) =
     (length bytes, length more, refl, refl, long, (length more, 0, refl, refl, none, refl)) in
-    let front : HasRoom blobs st.core (AppendBuffer k (front_of bytes)) = piece-room blobs k st.core (front_of bytes) 0 bytes (front-bytes bytes more) (omega (arith, less)) fresh.little in
+    let front : HasRoomForCall blobs st.core (AppendBuffer k (front_of bytes)) = piece-room blobs k st.core (front_of bytes) 0 bytes (front-bytes bytes more) (omega (arith, less)) fresh.little in
     let alone : (after_piece blobs k st (front_of bytes)).core ≡ (after_pieces (bytes ∷ []) k st (whole_of 0 ∷ [])).core =
     piece-core blobs k st (front_of bytes) front ∙ ap (λ x. drain_core (append_some x k st.core)) (front-bytes bytes more)
     ∙ sym (whole-core bytes k st less fresh) ∙ ap (λ (s : State). s.core) (sym (one-piece (bytes ∷ []) k st (whole_of 0) fresh.fault)) in

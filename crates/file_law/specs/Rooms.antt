@@ -7,14 +7,14 @@ use Rattle.mse_engine.specs.State.{Core, State}
 use Rattle.mse_engine.specs.Work.{running_in}
 
 -- it read no more than so many bytes, and the bytes of its coded frames can be counted
-pub record HeldBefore (start : ℕ) (b : BufferState) : Type 0 where
+pub record IsHeldBefore (start : ℕ) (b : BufferState) : Type 0 where
   pub read : length b.feed.reading.whole ≤ start
   pub used : used_in b.content.media < 2 ^ 62
 
 -- so does the buffer of a number, if there is one, and the quota is not met by what can be counted
 pub record HoldsLittle (start k : ℕ) (c : Core) : Type 0 where
   pub quota : 2 ^ 62 ≤ c.source.quota
-  pub slot : IfSome (in_slot k c.buffers) (HeldBefore start)
+  pub slot : IfSome (in_slot k c.buffers) (IsHeldBefore start)
 
 -- nothing runs, there was no fault and no error, and the buffer of a number has received nothing
 pub record IsFresh (k : ℕ) (st : State) : Type 0 where

@@ -8,7 +8,7 @@ use Rattle.track_store.specs.declared.tracks.Track.{Track}
 use Rattle.track_store.specs.declared.tracks.Marks.{Marks}
 use Rattle.track_store.specs.declared.tracks.Settings.{Settings}
 use Rattle.track_store.specs.State.{TrackState, state_of, states_of, unset_marks, marks_needing_sync}
-use Rattle.track_store.specs.Sound.{Sound, AreTogether}
+use Rattle.track_store.specs.Sound.{IsSound, AreTogether}
 use Rattle.frame_rules.specs.declared.timing.Timing.{Timing}
 use Rattle.frame_rules.specs.Timing.{timing_of}
 use Rattle.frame_rules.specs.declared.answer.Placed.{Placed}
@@ -19,7 +19,7 @@ use Rattle.std.proofs.lemmas.List.Sums.{get_or-le-sum_by}
 use Rattle.track_store.specs.Frames.{bytes_of}
 use Rattle.frame_rules.specs.Put.{drop_reason, track_after_frame, answer_by_reason}
 use Rattle.track_store.specs.Kept.{bytes_in}
-use Rattle.frame_rules.specs.Place.{Placement, new_placement, marks_after_reset, with_reset_marks, track_after_reset, placement_in_track, placement_by_times, placement, is_over_limit, settings_after_frame, IsReady}
+use Rattle.frame_rules.specs.Place.{Placement, new_placement, marks_after_reset, with_reset_marks, track_after_reset, placement_in_track, placement_by_times, placement, is_over_limit, settings_after_frame, IsReadyForFrame}
 
 pub if_some_map : {X Y : Type 0} (o : Option X) (f : X → Y) (P : X → Type 0) (Q : Y → Type 0) → ((x : X) → P x → Q (f x)) → IfSome o P → IfSome (option_map f o) Q
 if_some_map None f P Q k h = h
@@ -46,17 +46,17 @@ together_needs (Some decode) (Some duration) (Some end) (Some first) need h = h
 together_needs None None None None need h = refl
 together_needs decode duration end first need h = absurd h
 
-unset_sound : (t : TrackState) → Sound t → Sound (record t { marks = record t.marks { last_decode = None; last_duration = None; highest_end = None; group_first = None; need_sync = true } })
+unset_sound : (t : TrackState) → IsSound t → IsSound (record t { marks = record t.marks { last_decode = None; last_duration = None; highest_end = None; group_first = None; need_sync = true } })
 unset_sound t h = record { count = h.count; chained = h.chained; ascending = h.ascending; below = h.below; not_negative = h.not_negative; timed = h.timed; last_held = λ e. cc; together = refl; group_below = tt; group_sync = tt }
 
-needing_sound : (t : TrackState) → Sound t → Sound (record t { marks = record t.marks { need_sync = true } })
+needing_sound : (t : TrackState) → IsSound t → IsSound (record t { marks = record t.marks { need_sync = true } })
 needing_sound t h = record { count = h.count; chained = h.chained; ascending = h.ascending; below = h.below; not_negative = h.not_negative; timed = h.timed; last_held = λ e. cc; together = together_needs _ t.marks.last_duration _ _ t.marks.need_sync h.together; group_below = h.group_below; group_sync = h.group_sync }
 
-sound_either : (t : TrackState) (b : Bool) (m n : Marks) → Sound (record t { marks = m }) → Sound (record t { marks = n }) → Sound (record t { marks = cond b m n })
+sound_either : (t : TrackState) (b : Bool) (m n : Marks) → IsSound (record t { marks = m }) → IsSound (record t { marks = n }) → IsSound (record t { marks = cond b m n })
 sound_either t true m n p q = p
 sound_either t false m n p q = q
 
-pub sound_break : (w : Timing) (t : TrackState) → Sound t → Sound (track_after_reset w t)
+pub sound_break : (w : Timing) (t : TrackState) → IsSound t → IsSound (track_after_reset w t)
 sound_break w t h = sound_either t w.discontinuity _ _ (unset_sound t h) (sound_either t w.starts_group (record t.marks { need_sync = true }) t.marks (needing_sound t h) h)
 
 received_either : (n : ℕ) (b : Bool) (k m : Marks) → k.received < n → m.received < n → (cond b k m).received < n
@@ -66,7 +66,7 @@ received_either n false k m p q = q
 pub received_broken : (w : Timing) (m : Marks) → m.received < 2 ^ 62 → (marks_after_reset w m).received < 2 ^ 62
 received_broken w m h = received_either (2 ^ 62) w.discontinuity _ _ h (received_either (2 ^ 62) w.starts_group (record m { need_sync = true }) m h h)
 
-pub ready_marked : {S : Type 0} (frames : S → List Stored) (spare : S → ℕ) (bytes : ℕ) (w : Timing) (t : Track S) → IsReady frames spare bytes t → IsReady frames spare bytes (with_reset_marks w t)
+pub ready_marked : {S : Type 0} (frames : S → List Stored) (spare : S → ℕ) (bytes : ℕ) (w : Timing) (t : Track S) → IsReadyForFrame frames spare bytes t → IsReadyForFrame frames spare bytes (with_reset_marks w t)
 ready_marked frames spare bytes w t h = record { sound = sound_break w (state_of frames t) h.sound; room = h.room; count = received_broken w t.marks h.count; small = h.small }
 
 -- the bytes of the track at a place are among those of all
@@ -103,7 +103,7 @@ placed_counted frames ts s i f p low full is =
 pub fits_of : (received bytes more : ℕ) → received ≤ 2 ^ 62 → false ≡ is_over_limit received bytes more → (received < 2 ^ 62) × (bytes + more < 2 ^ 62)
 fits_of received bytes more low fits = grind (arith, nat_tests)
 
-ready_at : {S : Type 0} (frames : S → List Stored) (spare : S → ℕ) (ts : List (Track S)) (i : ℕ) (bytes : ℕ) → IfSome (slice_get ts i) (λ t. Sound (state_of frames t)) → IfSome (slice_get ts i) (λ t. 1 ≤ spare t.store) → IfSome (slice_get ts i) (λ t. t.marks.received ≤ 2 ^ 62) → IfSome (slice_get ts i) (λ t. false ≡ is_over_limit t.marks.received (bytes_in (states_of frames ts)) bytes) → IfSome (slice_get ts i) (λ t. IsReady frames spare bytes t)
+ready_at : {S : Type 0} (frames : S → List Stored) (spare : S → ℕ) (ts : List (Track S)) (i : ℕ) (bytes : ℕ) → IfSome (slice_get ts i) (λ t. IsSound (state_of frames t)) → IfSome (slice_get ts i) (λ t. 1 ≤ spare t.store) → IfSome (slice_get ts i) (λ t. t.marks.received ≤ 2 ^ 62) → IfSome (slice_get ts i) (λ t. false ≡ is_over_limit t.marks.received (bytes_in (states_of frames ts)) bytes) → IfSome (slice_get ts i) (λ t. IsReadyForFrame frames spare bytes t)
 ready_at frames spare ts i bytes sound room count fits =
     elim (slice_get_cases ts i).1 [
       | inl found ↦
@@ -117,15 +117,15 @@ ready_at frames spare ts i bytes sound room count fits =
     ]
 
 -- a state that is sound is that of a track
-sound_track : {S : Type 0} (frames : S → List Stored) (o : Option (Track S)) → IfSome (option_map (state_of frames) o) Sound → IfSome o (λ t. Sound (state_of frames t))
+sound_track : {S : Type 0} (frames : S → List Stored) (o : Option (Track S)) → IfSome (option_map (state_of frames) o) IsSound → IfSome o (λ t. IsSound (state_of frames t))
 sound_track frames None h = tt
 sound_track frames (Some t) h = h
 
-count_here : {S : Type 0} (frames : S → List Stored) (o : Option (Track S)) → IfSome o (λ t. Sound (state_of frames t)) → IfSome o (λ t. t.marks.received ≤ 2 ^ 62)
+count_here : {S : Type 0} (frames : S → List Stored) (o : Option (Track S)) → IfSome o (λ t. IsSound (state_of frames t)) → IfSome o (λ t. t.marks.received ≤ 2 ^ 62)
 count_here frames None h = tt
 count_here frames (Some t) h = h.count
 
-pub ready_sound : {S : Type 0} (frames : S → List Stored) (spare : S → ℕ) (ts : List (Track S)) (i : ℕ) (bytes : ℕ) → IfSome (slice_get (states_of frames ts) i) Sound → IfSome (slice_get ts i) (λ t. 1 ≤ spare t.store) → IfSome (slice_get ts i) (λ t. false ≡ is_over_limit t.marks.received (bytes_in (states_of frames ts)) bytes) → IfSome (slice_get ts i) (λ t. IsReady frames spare bytes t)
+pub ready_sound : {S : Type 0} (frames : S → List Stored) (spare : S → ℕ) (ts : List (Track S)) (i : ℕ) (bytes : ℕ) → IfSome (slice_get (states_of frames ts) i) IsSound → IfSome (slice_get ts i) (λ t. 1 ≤ spare t.store) → IfSome (slice_get ts i) (λ t. false ≡ is_over_limit t.marks.received (bytes_in (states_of frames ts)) bytes) → IfSome (slice_get ts i) (λ t. IsReadyForFrame frames spare bytes t)
 ready_sound frames spare ts i bytes h room fits =
     let sound = sound_track frames (slice_get ts i) (rw (slice_get-map (state_of frames) ts i) at h) in
     ready_at frames spare ts i bytes sound room (count_here frames (slice_get ts i) sound) fits

@@ -10,7 +10,7 @@ use Rattle.track_store.specs.declared.store.Stored.{Stored}
 use Rattle.track_store.specs.declared.tracks.Marks.{Marks}
 use Rattle.track_store.specs.Frames.{bytes_of, IsTimed}
 use Rattle.track_store.specs.State.{TrackState}
-use Rattle.track_store.specs.Sound.{Sound, HasPredecessor, IsNext, last_serial, IsNotNegative, AreTogether}
+use Rattle.track_store.specs.Sound.{IsSound, HasPredecessor, IsSuccessor, last_serial, IsNotNegative, AreTogether}
 use Rattle.track_store.proofs.Clearing.{ascending_push, each-push}
 use Rattle.track_store.proofs.Soundness.{predecessor_last, chained_push, last_push}
 use Rattle.overlap_rules.specs.Overlap.{track_with_room}
@@ -32,7 +32,7 @@ needs_sync false false true true x y z e f = cc
 needs_sync false false true false x y z e f = cc
 needs_sync false false false s x y z e f = refl
 
-pub may_follow : (w : Timing) (sync : Bool) (t : TrackState) → Sound t → drop_reason w sync t.marks.need_sync ≡ None → sync ≡ false → HasPredecessor t.marks.received (track_with_room w.pts w.end t).frames
+pub may_follow : (w : Timing) (sync : Bool) (t : TrackState) → IsSound t → drop_reason w sync t.marks.need_sync ≡ None → sync ≡ false → HasPredecessor t.marks.received (track_with_room w.pts w.end t).frames
 may_follow w sync t h kept none = predecessor_last _ _ (last_room w.pts w.end t h (needs_sync (int_lt w.pts w.settings.window_start) (is_after w.end w.settings.window_end) t.marks.need_sync sync Window Window NoSync kept none))
 
 -- a frame that is not dropped begins in the window
@@ -57,7 +57,7 @@ together_true (Some decode) (Some duration) (Some end) (Some first) need h = h
 together_true None None None None need h = refl
 together_true decode duration end first need h = absurd h
 
-sound_dropped : (t : TrackState) → Sound t → t.marks.received < 2 ^ 62 → Sound (track_after_drop t)
+sound_dropped : (t : TrackState) → IsSound t → t.marks.received < 2 ^ 62 → IsSound (track_after_drop t)
 sound_dropped t h less = record {
   count = omega arith;
   chained = h.chained;
@@ -93,7 +93,7 @@ sync_or : (b : Bool) (P : Type 0) → (b ≡ false → P) → (b ≡ true) ⊎ P
 sync_or true P h = inl refl
 sync_or false P h = inr (h refl)
 
-sound_stored : (w : Timing) (f : CodedFrame) (t : TrackState) → Sound t → t.marks.received < 2 ^ 62 → pos 0 ≤ℤ w.pts → pos 0 ≤ℤ f.dur → IsTimingOf f w → (f.sync ≡ false → t.marks.need_sync ≡ false) → Sound (track_with_frame w f t)
+sound_stored : (w : Timing) (f : CodedFrame) (t : TrackState) → IsSound t → t.marks.received < 2 ^ 62 → pos 0 ≤ℤ w.pts → pos 0 ≤ℤ f.dur → IsTimingOf f w → (f.sync ≡ false → t.marks.need_sync ≡ false) → IsSound (track_with_frame w f t)
 sound_stored w f t h less begins lasts timing needs =
     let left = (track_with_room w.pts w.end t).frames in
     let n = t.marks.received in
@@ -101,23 +101,23 @@ sound_stored w f t h less begins lasts timing needs =
     let firm = firm_room w.pts w.end t h in
     record {
       count = omega arith;
-      chained = chained_push None left x firm.chained (sync_or f.sync (IsNext (last_serial None left) n) (λ e. last_room w.pts w.end t h (needs e)));
+      chained = chained_push None left x firm.chained (sync_or f.sync (IsSuccessor (last_serial None left) n) (λ e. last_room w.pts w.end t h (needs e)));
       ascending = ascending_push left x firm.ascending firm.below;
       below = each-push (λ g. g.serial < n + 1) left x (below_more_serials n left firm.below) (omega arith);
       not_negative = each-push IsNotNegative left x firm.not_negative (begins, lasts);
       timed = each-push IsTimed left x firm.timed (lasts, timing.1);
-      last_held = λ _. subst (λ o. IsNext o (n + 1)) (sym (last_push None left x)) refl;
+      last_held = λ _. subst (λ o. IsSuccessor o (n + 1)) (sym (last_push None left x)) refl;
       together = tt;
       group_below = first_low t.marks.group_first n h.group_below;
       group_sync = group_of _ t.marks.last_duration _ t.marks.group_first t.marks.need_sync n x left h.together (need_gives t.marks.need_sync f.sync needs) refl firm.below h.group_below firm.group_sync;
     }
 
-sound_by : (why : Option Why) (w : Timing) (f : CodedFrame) (t : TrackState) → Sound t → t.marks.received < 2 ^ 62 → (why ≡ None → Sound (track_with_frame w f t)) → Sound (track_by_reason why w f t)
+sound_by : (why : Option Why) (w : Timing) (f : CodedFrame) (t : TrackState) → IsSound t → t.marks.received < 2 ^ 62 → (why ≡ None → IsSound (track_with_frame w f t)) → IsSound (track_by_reason why w f t)
 sound_by (Some why) w f t h less kept = sound_dropped t h less
 sound_by None w f t h less kept = kept refl
 
 -- a track stays sound where a frame is put into it
-pub sound_put : (w : Timing) (f : CodedFrame) (t : TrackState) → Sound t → t.marks.received < 2 ^ 62 → pos 0 ≤ℤ w.settings.window_start → pos 0 ≤ℤ f.dur → IsTimingOf f w → Sound (track_after_frame w f t)
+pub sound_put : (w : Timing) (f : CodedFrame) (t : TrackState) → IsSound t → t.marks.received < 2 ^ 62 → pos 0 ≤ℤ w.settings.window_start → pos 0 ≤ℤ f.dur → IsTimingOf f w → IsSound (track_after_frame w f t)
 sound_put w f t h less low lasts timing =
     sound_by (drop_reason w f.sync t.marks.need_sync) w f t h less (λ kept. sound_stored w f t h less (not_before w.pts w.pts w.settings.window_start low (in_window _ (is_after w.end w.settings.window_end) (t.marks.need_sync && not f.sync) Window Window NoSync kept)) lasts timing (needs_sync (int_lt w.pts w.settings.window_start) (is_after w.end w.settings.window_end) t.marks.need_sync f.sync Window Window NoSync kept))
 
@@ -135,7 +135,7 @@ used_put w f t = used_by (drop_reason w f.sync t.marks.need_sync) w f t
 abbrev pub AllEnd : ℤ → List Stored → Type 0
 AllEnd limit fs = AllByRecursion (λ f. (f.frame.pts +ℤ f.frame.dur) ≤ℤ limit) fs
 
-end_by : (why : Option Why) (w : Timing) (f : CodedFrame) (limit : ℤ) (t : TrackState) → Sound t → IsTimingOf f w → AllEnd limit t.frames → AllEnd (limit_after (answer_by_reason why) limit (settings_after_frame (answer_by_reason why) w).group_end) (track_by_reason why w f t).frames
+end_by : (why : Option Why) (w : Timing) (f : CodedFrame) (limit : ℤ) (t : TrackState) → IsSound t → IsTimingOf f w → AllEnd limit t.frames → AllEnd (limit_after (answer_by_reason why) limit (settings_after_frame (answer_by_reason why) w).group_end) (track_by_reason why w f t).frames
 end_by (Some why) w f limit t h timing low = low
 end_by None w f limit t h timing low =
     let group_end = int_max w.settings.group_end w.end in
@@ -146,7 +146,7 @@ end_by None w f limit t h timing low =
     let own : (w.pts +ℤ f.dur) ≤ℤ int_max limit group_end = omega (arith, ints) in
     each-push (λ g. (g.frame.pts +ℤ g.frame.dur) ≤ℤ int_max limit group_end) (track_with_room w.pts w.end t).frames (stored_frame w t.marks.received f) room own
 
-pub end_put : (w : Timing) (f : CodedFrame) (limit : ℤ) (t : TrackState) → Sound t → IsTimingOf f w → AllEnd limit t.frames → AllEnd (limit_after (answer_by_reason (drop_reason w f.sync t.marks.need_sync)) limit (settings_after_frame (answer_by_reason (drop_reason w f.sync t.marks.need_sync)) w).group_end) (track_after_frame w f t).frames
+pub end_put : (w : Timing) (f : CodedFrame) (limit : ℤ) (t : TrackState) → IsSound t → IsTimingOf f w → AllEnd limit t.frames → AllEnd (limit_after (answer_by_reason (drop_reason w f.sync t.marks.need_sync)) limit (settings_after_frame (answer_by_reason (drop_reason w f.sync t.marks.need_sync)) w).group_end) (track_after_frame w f t).frames
 end_put w f limit t h timing low = end_by (drop_reason w f.sync t.marks.need_sync) w f limit t h timing low
 
 -- the track after a frame that is not dropped, step by step

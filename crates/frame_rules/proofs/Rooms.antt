@@ -5,7 +5,7 @@ use Rattle.std.proofs.lemmas.Option.{slice_get-map}
 use Rattle.std.proofs.lemmas.List.{length-map}
 use Rattle.track_store.specs.declared.tracks.Track.{Track}
 use Rattle.frame_rules.specs.declared.timing.Timing.{Timing}
-use Rattle.track_store.specs.Kept.{HasRoom, gaps_of}
+use Rattle.track_store.specs.Kept.{HasSpareRoom, gaps_of}
 use Rattle.frame_rules.specs.Place.{with_reset_marks, IsRoomTakenAt}
 
 -- ---- room
@@ -46,7 +46,7 @@ pub takes_reset : {S : Type 0} (spare : S → ℕ) (i : ℕ) (w : Timing) (ts us
 takes_reset spare i w ts us h k = if_reset w (λ s. IfSome (slice_get us k) (λ u. (spare s ≤ spare u.store + 1) × (k ≢ i → spare s ≤ spare u.store))) (slice_get ts k) (rw (slice_get-map (with_reset_marks w) ts k) at (h k))
 
 -- what holds at each place, but for the room that one of them loses
-room_pair : {S : Type 0} (spare : S → ℕ) (n : ℕ) (ts us : List (Track S)) → length us ≡ length ts → ((k : ℕ) → IfSome (slice_get ts k) (λ t. IfSome (slice_get us k) (λ u. spare t.store ≤ spare u.store + 1))) → HasRoom spare (n + 1) ts → HasRoom spare n us
+room_pair : {S : Type 0} (spare : S → ℕ) (n : ℕ) (ts us : List (Track S)) → length us ≡ length ts → ((k : ℕ) → IfSome (slice_get ts k) (λ t. IfSome (slice_get us k) (λ u. spare t.store ≤ spare u.store + 1))) → HasSpareRoom spare (n + 1) ts → HasSpareRoom spare n us
 room_pair spare n ts [] e h all = tt
 room_pair spare n [] (u ∷ us) e h all = absurd (omega arith)
 room_pair spare n (t ∷ ts) (u ∷ us) e h all = (let less = h zero in let room = all.0 in omega arith, room_pair spare n ts us (omega arith) (λ k. h (suc k)) all.1)
@@ -57,7 +57,7 @@ if_less spare own (Some t) None h = tt
 if_less spare own (Some t) (Some u) h = h.0
 
 -- each store has room for one frame less at most
-pub room_left : {S : Type 0} (spare : S → ℕ) (i n : ℕ) (ts us : List (Track S)) → length us ≡ length ts → IsRoomTakenAt spare i ts us → HasRoom spare (n + 1) ts → HasRoom spare n us
+pub room_left : {S : Type 0} (spare : S → ℕ) (i n : ℕ) (ts us : List (Track S)) → length us ≡ length ts → IsRoomTakenAt spare i ts us → HasSpareRoom spare (n + 1) ts → HasSpareRoom spare n us
 room_left spare i n ts us e h all = room_pair spare n ts us e (λ k. if_less spare (k ≢ i) (slice_get ts k) (slice_get us k) (h k)) all
 
 -- as many gaps, as many tracks

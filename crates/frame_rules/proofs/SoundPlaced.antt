@@ -10,7 +10,7 @@ use Rattle.mse_base.specs.declared.frame.CodedFrame.{CodedFrame}
 use Rattle.track_store.specs.declared.tracks.Marks.{Marks}
 use Rattle.track_store.specs.declared.tracks.Settings.{Settings}
 use Rattle.track_store.specs.State.{TrackState}
-use Rattle.track_store.specs.Sound.{Sound}
+use Rattle.track_store.specs.Sound.{IsSound}
 use Rattle.frame_rules.specs.declared.timing.Timing.{Timing}
 use Rattle.frame_rules.specs.Timing.{raw_time, settings_at_group_start, offset_to, timing_in_pass, is_discontinuous, settings_after_discontinuity, timing_of, IsTimingOf}
 use Rattle.frame_rules.specs.Put.{track_after_frame, answer_by_reason, drop_reason}
@@ -87,7 +87,7 @@ less_reset w [] i h = h
 less_reset w (t ∷ ts) zero h = received_broken w t.marks h
 less_reset w (t ∷ ts) (suc i) h = less_reset w ts i h
 
-sound_reset : (w : Timing) (ts : List TrackState) (i : ℕ) → IfSome (slice_get ts i) Sound → IfSome (slice_get (map (track_after_reset w) ts) i) Sound
+sound_reset : (w : Timing) (ts : List TrackState) (i : ℕ) → IfSome (slice_get ts i) IsSound → IfSome (slice_get (map (track_after_reset w) ts) i) IsSound
 sound_reset w [] i h = h
 sound_reset w (t ∷ ts) zero h = sound_break w t h
 sound_reset w (t ∷ ts) (suc i) h = sound_reset w ts i h
@@ -137,18 +137,18 @@ firm_times : (o : Option Timing) (s : Settings) (f : CodedFrame) (i : ℕ) (ts :
 firm_times None s f i ts same timing less fits low lasts = firm_same ts (omega arith)
 firm_times (Some w) s f i ts same timing less fits low lasts = firm_at w f i ts less fits (subst (λ (z : ℤ). pos 0 ≤ℤ z) (sym same) low) lasts timing
 
-firm_cond : (b : Bool) (t : TrackState) (s : Settings) (f : CodedFrame) (i : ℕ) (ts : List TrackState) → b ≡ is_over_limit t.marks.received (bytes_in ts) (length f.payload) → slice_get ts i ≡ Some t → Sound t → bytes_in ts < 2 ^ 62 → pos 0 ≤ℤ s.window_start → pos 0 ≤ℤ f.dur → IsFirm ts (cond b (new_placement placed_as.Counts ts s) (placement_by_times (timing_of s t.marks f) s f i ts)).tracks
+firm_cond : (b : Bool) (t : TrackState) (s : Settings) (f : CodedFrame) (i : ℕ) (ts : List TrackState) → b ≡ is_over_limit t.marks.received (bytes_in ts) (length f.payload) → slice_get ts i ≡ Some t → IsSound t → bytes_in ts < 2 ^ 62 → pos 0 ≤ℤ s.window_start → pos 0 ≤ℤ f.dur → IsFirm ts (cond b (new_placement placed_as.Counts ts s) (placement_by_times (timing_of s t.marks f) s f i ts)).tracks
 firm_cond true t s f i ts full e own small low lasts = firm_same ts small
 firm_cond false t s f i ts full e own small low lasts =
     let both = fits_of t.marks.received (bytes_in ts) (length f.payload) own.count full in
     firm_times (timing_of s t.marks f) s f i ts (times_window s t.marks f) (timing_is s t.marks f) (rw e both.0) both.1 low lasts
 
-firm_of : (o : Option TrackState) (ts : List TrackState) (s : Settings) (i : ℕ) (f : CodedFrame) → slice_get ts i ≡ o → IfSome o Sound → bytes_in ts < 2 ^ 62 → pos 0 ≤ℤ s.window_start → pos 0 ≤ℤ f.dur → IsFirm ts (placement_in o ts s i f).tracks
+firm_of : (o : Option TrackState) (ts : List TrackState) (s : Settings) (i : ℕ) (f : CodedFrame) → slice_get ts i ≡ o → IfSome o IsSound → bytes_in ts < 2 ^ 62 → pos 0 ≤ℤ s.window_start → pos 0 ≤ℤ f.dur → IsFirm ts (placement_in o ts s i f).tracks
 firm_of None ts s i f e own small low lasts = firm_same ts small
 firm_of (Some t) ts s i f e own small low lasts = firm_cond (is_over_limit t.marks.received (bytes_in ts) (length f.payload)) t s f i ts refl e own small low lasts
 
 -- the same of tracks that are what the definition leaves
-pub firm_left : (news : List TrackState) (o : Placement) (ts : List TrackState) (s : Settings) (i : ℕ) (f : CodedFrame) → o.tracks ≡ news → o ≡ placement ts s i f → IfSome (slice_get ts i) Sound → bytes_in ts < 2 ^ 62 → pos 0 ≤ℤ s.window_start → pos 0 ≤ℤ f.dur → IsFirm ts news
+pub firm_left : (news : List TrackState) (o : Placement) (ts : List TrackState) (s : Settings) (i : ℕ) (f : CodedFrame) → o.tracks ≡ news → o ≡ placement ts s i f → IfSome (slice_get ts i) IsSound → bytes_in ts < 2 ^ 62 → pos 0 ≤ℤ s.window_start → pos 0 ≤ℤ f.dur → IsFirm ts news
 firm_left news o ts s i f own is sound small low lasts = subst (λ (us : List TrackState). IsFirm ts us) (sym (ap (λ p. p.tracks) is) ∙ own) (firm_of (slice_get ts i) ts s i f refl sound small low lasts)
 
 pub kept_of : (ts us : List TrackState) → IsFirm ts us → AreKept ts → AreKept us
@@ -210,7 +210,7 @@ end_reset : (limit : ℤ) (w : Timing) (ts : List TrackState) → AreEndedBy lim
 end_reset limit w [] h = h
 end_reset limit w (t ∷ ts) h = (h.0, end_reset limit w ts h.1)
 
-end_in : (o : Option TrackState) (w : Timing) (f : CodedFrame) (i : ℕ) (ts : List TrackState) (limit : ℤ) → slice_get ts i ≡ o → IfSome (slice_get ts i) Sound → IsTimingOf f w → AreEndedBy limit ts → AreEndedBy (limit_after (placement_in_track o w f i ts).answer limit (placement_in_track o w f i ts).settings.group_end) (placement_in_track o w f i ts).tracks
+end_in : (o : Option TrackState) (w : Timing) (f : CodedFrame) (i : ℕ) (ts : List TrackState) (limit : ℤ) → slice_get ts i ≡ o → IfSome (slice_get ts i) IsSound → IsTimingOf f w → AreEndedBy limit ts → AreEndedBy (limit_after (placement_in_track o w f i ts).answer limit (placement_in_track o w f i ts).settings.group_end) (placement_in_track o w f i ts).tracks
 end_in None w f i ts limit e sound timing h = h
 end_in (Some t) w f i ts limit e sound timing h =
     let own = rw e at sound in
@@ -218,10 +218,10 @@ end_in (Some t) w f i ts limit e sound timing h =
     let group_end = (settings_after_frame answer w).group_end in
     end_set (limit_after answer limit group_end) ts i (track_after_frame w f t) (ended_later limit (limit_after answer limit group_end) ts (limit_later answer limit group_end) h) (end_put w f limit t own timing (end_own limit ts i t e h).0, tt)
 
-end_at : (w : Timing) (f : CodedFrame) (i : ℕ) (ts : List TrackState) (limit : ℤ) → IfSome (slice_get ts i) Sound → IsTimingOf f w → AreEndedBy limit ts → AreEndedBy (limit_after (placement_at_times w f i ts).answer limit (placement_at_times w f i ts).settings.group_end) (placement_at_times w f i ts).tracks
+end_at : (w : Timing) (f : CodedFrame) (i : ℕ) (ts : List TrackState) (limit : ℤ) → IfSome (slice_get ts i) IsSound → IsTimingOf f w → AreEndedBy limit ts → AreEndedBy (limit_after (placement_at_times w f i ts).answer limit (placement_at_times w f i ts).settings.group_end) (placement_at_times w f i ts).tracks
 end_at w f i ts limit sound timing h = end_in (slice_get (map (track_after_reset w) ts) i) w f i (map (track_after_reset w) ts) limit refl (sound_reset w ts i sound) timing (end_reset limit w ts h)
 
-end_times : (o : Option Timing) (s : Settings) (f : CodedFrame) (i : ℕ) (ts : List TrackState) (limit : ℤ) → IfSome o (IsTimingOf f) → IfSome (slice_get ts i) Sound → AreEndedBy limit ts → AreEndedBy (limit_after (placement_by_times o s f i ts).answer limit (placement_by_times o s f i ts).settings.group_end) (placement_by_times o s f i ts).tracks
+end_times : (o : Option Timing) (s : Settings) (f : CodedFrame) (i : ℕ) (ts : List TrackState) (limit : ℤ) → IfSome o (IsTimingOf f) → IfSome (slice_get ts i) IsSound → AreEndedBy limit ts → AreEndedBy (limit_after (placement_by_times o s f i ts).answer limit (placement_by_times o s f i ts).settings.group_end) (placement_by_times o s f i ts).tracks
 end_times None s f i ts limit timing sound h = h
 end_times (Some w) s f i ts limit timing sound h = end_at w f i ts limit sound timing h
 
@@ -233,13 +233,13 @@ end_cond : (limit : ℤ) (b : Bool) (x y : Placement) → EndsBy limit x → End
 end_cond limit true x y p q = p
 end_cond limit false x y p q = q
 
-end_of : (o : Option TrackState) (ts : List TrackState) (s : Settings) (i : ℕ) (f : CodedFrame) (limit : ℤ) → IfSome (slice_get ts i) Sound → AreEndedBy limit ts → EndsBy limit (placement_in o ts s i f)
+end_of : (o : Option TrackState) (ts : List TrackState) (s : Settings) (i : ℕ) (f : CodedFrame) (limit : ℤ) → IfSome (slice_get ts i) IsSound → AreEndedBy limit ts → EndsBy limit (placement_in o ts s i f)
 end_of None ts s i f limit sound h = h
 end_of (Some t) ts s i f limit sound h = end_cond limit (is_over_limit t.marks.received (bytes_in ts) (length f.payload)) (new_placement placed_as.Counts ts s) (placement_by_times (timing_of s t.marks f) s f i ts) h (end_times (timing_of s t.marks f) s f i ts limit (timing_is s t.marks f) sound h)
 
-pub end_placed : (ts : List TrackState) (s : Settings) (i : ℕ) (f : CodedFrame) (limit : ℤ) → IfSome (slice_get ts i) Sound → AreEndedBy limit ts → EndsBy limit (placement ts s i f)
+pub end_placed : (ts : List TrackState) (s : Settings) (i : ℕ) (f : CodedFrame) (limit : ℤ) → IfSome (slice_get ts i) IsSound → AreEndedBy limit ts → EndsBy limit (placement ts s i f)
 end_placed ts s i f limit sound h = end_of (slice_get ts i) ts s i f limit sound h
 
 -- the same of a placement that is what the definition leaves
-pub end_left : (answer : Placed) (news : List TrackState) (settings : Settings) (ts : List TrackState) (s : Settings) (i : ℕ) (f : CodedFrame) (limit : ℤ) → new_placement answer news settings ≡ placement ts s i f → IfSome (slice_get ts i) Sound → AreEndedBy limit ts → AreEndedBy (limit_after answer limit settings.group_end) news
+pub end_left : (answer : Placed) (news : List TrackState) (settings : Settings) (ts : List TrackState) (s : Settings) (i : ℕ) (f : CodedFrame) (limit : ℤ) → new_placement answer news settings ≡ placement ts s i f → IfSome (slice_get ts i) IsSound → AreEndedBy limit ts → AreEndedBy (limit_after answer limit settings.group_end) news
 end_left answer news settings ts s i f limit is sound h = subst (λ (o : Placement). EndsBy limit o) (sym is) (end_placed ts s i f limit sound h)

@@ -9,7 +9,7 @@ use Rattle.track_store.specs.declared.tracks.Track.{Track}
 use Rattle.track_store.specs.declared.tracks.Settings.{Settings}
 use Rattle.track_store.specs.Frames.{bytes_of}
 use Rattle.track_store.specs.State.{TrackState, state_of, unset_marks, marks_needing_sync}
-use Rattle.track_store.specs.Sound.{Sound}
+use Rattle.track_store.specs.Sound.{IsSound}
 use Rattle.track_store.specs.Kept.{bytes_in}
 use Rattle.frame_rules.specs.declared.timing.Timing.{Timing}
 use Rattle.frame_rules.specs.declared.answer.Placed.{Placed}
@@ -91,9 +91,9 @@ abbrev pub placement : List TrackState → Settings → ℕ → CodedFrame → P
 placement ts s i f = placement_in (slice_get ts i) ts s i f
 
 -- a frame of so many bytes can be put into the track
-pub record IsReady {S : Type 0} (frames : S → List Stored) (spare : S → ℕ) (bytes : ℕ)
+pub record IsReadyForFrame {S : Type 0} (frames : S → List Stored) (spare : S → ℕ) (bytes : ℕ)
     (t : Track S) : Type 0 where
-  pub sound : Sound (state_of frames t)
+  pub sound : IsSound (state_of frames t)
   pub room : 1 ≤ spare t.store
   pub count : t.marks.received < 2 ^ 62
   pub small : bytes_of (frames t.store) + bytes < 2 ^ 62

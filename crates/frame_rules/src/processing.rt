@@ -1,11 +1,11 @@
 ghost use Rattle.std.specs.Prelude.{◌≡◌, ◌+◌, ◌<◌, ◌≤◌, ◌^◌, ℕ, ℤ, pos, ◌≤ℤ◌, ◌||◌, length, map, slice_get, slice_set, false, Some, IfSome, OnSome};
 ghost use Rattle.track_store.specs.State.{state_of, states_of};
-ghost use Rattle.track_store.specs.Sound.{Sound};
-ghost use Rattle.track_store.specs.Kept.{bytes_in, AreKept, AreStillSound, HasRoom, gaps_of, AreEndedBy};
+ghost use Rattle.track_store.specs.Sound.{IsSound};
+ghost use Rattle.track_store.specs.Kept.{bytes_in, AreKept, AreStillSound, HasSpareRoom, gaps_of, AreEndedBy};
 ghost use Rattle.frame_rules.specs.Put.{drop_reason, track_after_frame, answer_by_reason};
 ghost use Rattle.frame_rules.specs.Plain.{timing_by};
 ghost use Rattle.frame_rules.specs.Timing.{timing_of, IsTimingOf};
-ghost use Rattle.frame_rules.specs.Place.{marks_after_reset, with_reset_marks, is_over_limit, settings_after_frame, new_placement, placement, placement_at_times, placement_by_times, IsReady, IsRoomTakenAt, limit_after};
+ghost use Rattle.frame_rules.specs.Place.{marks_after_reset, with_reset_marks, is_over_limit, settings_after_frame, new_placement, placement, placement_at_times, placement_by_times, IsReadyForFrame, IsRoomTakenAt, limit_after};
 
 use crate::answer::Placed;
 use crate::storing::put;
@@ -148,7 +148,7 @@ fn put_at<S: FrameStore>(
 ) -> Placed
     requires in_range { index < length tracks.old.items }
     requires ready { IfSome (slice_get tracks.old.items index)
-        (λ t. IsReady S.frames S.spare (length frame.payload) t) }
+        (λ t. IsReadyForFrame S.frames S.spare (length frame.payload) t) }
     requires dur_not_negative { pos 0 ≤ℤ frame.dur }
     requires timed { IsTimingOf frame (timing_by settings.now times.now) }
     ensures states { IfSome (slice_get tracks.old.items index)
@@ -178,7 +178,7 @@ fn place_at_times<S: FrameStore>(
 ) -> Placed
     requires in_range { index < length tracks.old.items }
     requires ready { IfSome (slice_get tracks.old.items index)
-        (λ t. IsReady S.frames S.spare (length frame.payload) t) }
+        (λ t. IsReadyForFrame S.frames S.spare (length frame.payload) t) }
     requires dur_not_negative { pos 0 ≤ℤ frame.dur }
     requires timed { IsTimingOf frame timing.now }
     ensures placement { new_placement result (states_of S.frames tracks.new.items) settings.new
@@ -208,7 +208,7 @@ fn place_plain<S: FrameStore>(
 ) -> Placed
     requires in_range { index < length tracks.old.items }
     requires ready { IfSome (slice_get tracks.old.items index)
-        (λ t. IsReady S.frames S.spare (length frame.payload) t) }
+        (λ t. IsReadyForFrame S.frames S.spare (length frame.payload) t) }
     requires dur_not_negative { pos 0 ≤ℤ frame.dur }
     requires timed { IsTimingOf frame (timing_by settings.old times.now) }
     requires generate { settings.old.generate ≡ false }
@@ -235,7 +235,7 @@ fn place_by_timing<S: FrameStore>(
 ) -> Placed
     requires in_range { index < length tracks.old.items }
     requires ready { IfSome (slice_get tracks.old.items index)
-        (λ t. IsReady S.frames S.spare (length frame.payload) t) }
+        (λ t. IsReadyForFrame S.frames S.spare (length frame.payload) t) }
     requires dur_not_negative { pos 0 ≤ℤ frame.dur }
     ensures placement { IfSome (slice_get tracks.old.items index)
         (λ t. new_placement result (states_of S.frames tracks.new.items) settings.new
@@ -260,7 +260,7 @@ fn place_below_limits<S: FrameStore>(
 ) -> Placed
     requires in_range { index < length tracks.old.items }
     requires ready { IfSome (slice_get tracks.old.items index)
-        (λ t. IsReady S.frames S.spare (length frame.payload) t) }
+        (λ t. IsReadyForFrame S.frames S.spare (length frame.payload) t) }
     requires dur_not_negative { pos 0 ≤ℤ frame.dur }
     ensures placement { IfSome (slice_get tracks.old.items index)
         (λ t. new_placement result (states_of S.frames tracks.new.items) settings.new
@@ -291,7 +291,7 @@ pub fn place<S: FrameStore>(
 ) -> Placed
     requires in_range { index < length tracks.old.items }
     requires spare { IfSome (slice_get tracks.old.items index) (λ t. 1 ≤ S.spare t.store) }
-    requires sound { IfSome (slice_get (states_of S.frames tracks.old.items) index) Sound }
+    requires sound { IfSome (slice_get (states_of S.frames tracks.old.items) index) IsSound }
     requires small { bytes_in (states_of S.frames tracks.old.items) < 2 ^ 62 }
     requires window_start { pos 0 ≤ℤ settings.old.window_start }
     requires dur_not_negative { pos 0 ≤ℤ frame.dur }
@@ -307,8 +307,8 @@ pub fn place<S: FrameStore>(
         → AreEndedBy (limit_after result limit settings.new.group_end)
         (states_of S.frames tracks.new.items) }
     ensures spare { IsRoomTakenAt S.spare index tracks.old.items tracks.new.items }
-    ensures room { (n : ℕ) → HasRoom S.spare (n + 1) tracks.old.items
-        → HasRoom S.spare n tracks.new.items }
+    ensures room { (n : ℕ) → HasSpareRoom S.spare (n + 1) tracks.old.items
+        → HasSpareRoom S.spare n tracks.new.items }
     ensures gaps { gaps_of S.gap tracks.new.items ≡ gaps_of S.gap tracks.old.items }
     ensures len { length tracks.new.items ≡ length tracks.old.items }
     ensures places { tracks.new.spare ≡ tracks.old.spare }

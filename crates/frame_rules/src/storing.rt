@@ -2,7 +2,7 @@ ghost use Rattle.std.specs.Prelude.{◌≡◌, ◌+◌, ◌<◌, ◌≤◌, ◌^
 ghost use Rattle.track_store.specs.declared.tracks.Settings.{Settings};
 ghost use Rattle.track_store.specs.Frames.{bytes_of};
 ghost use Rattle.track_store.specs.State.{state_of};
-ghost use Rattle.track_store.specs.Sound.{Sound};
+ghost use Rattle.track_store.specs.Sound.{IsSound};
 ghost use Rattle.frame_rules.specs.Plain.{timing_by};
 ghost use Rattle.frame_rules.specs.Timing.{IsTimingOf};
 ghost use Rattle.frame_rules.specs.Put.{drop_reason, marks_after, track_after_frame, answer_by_reason, stored_frame};
@@ -58,7 +58,7 @@ pub fn put<S: FrameStore>(
     settings: &Settings,
     frame: CodedFrame,
 ) -> Placed
-    requires sound { Sound (state_of S.frames track.old) }
+    requires sound { IsSound (state_of S.frames track.old) }
     requires room { 1 ≤ S.spare track.old.store }
     requires count { track.old.marks.received < 2 ^ 62 }
     requires small { bytes_of (S.frames track.old.store) + length frame.payload < 2 ^ 62 }

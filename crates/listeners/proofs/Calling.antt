@@ -12,11 +12,11 @@ use Rattle.mse_calls.specs.declared.events.Event.{Event}
 use Rattle.mse_calls.specs.declared.rules.Rule.{Rule}
 use Rattle.listeners.specs.declared.listener.Note.{Note}
 use Rattle.listeners.specs.Notes.{heard_of, made_of}
-use Rattle.listeners.specs.RuleCalls.{has_calls, answers, answering, once_calls, again_calls, calls_from, rule_calls, next_call}
-use Rattle.listeners.specs.Coming.{once_left, IsLeft, HaveCalls, IsReady}
+use Rattle.listeners.specs.RuleCalls.{has_calls, answers, answering_rules, once_calls, again_calls, calls_from, rule_calls, next_call}
+use Rattle.listeners.specs.Coming.{once_left, IsLeft, HaveCalls, HasNextCall}
 
 -- nothing was heard
-pub none_left : (rules : List Rule) → IsLeft [] (answering rules []) 0 []
+pub none_left : (rules : List Rule) → IsLeft [] (answering_rules rules []) 0 []
 none_left rules more n = rw (zero-add n) refl
 
 -- what was made is the first that the rules give
@@ -98,16 +98,16 @@ get_end : (made : List Call) (x : Call) (xs : List Call) → slice_get (made ++ 
 get_end [] x xs = refl
 get_end (m ∷ made) x xs = get_end made x xs
 
-pub next_none : (rules : List Rule) (notes : List Note) → IsLeft (made_of notes) (answering rules (heard_of notes)) 0 [] → next_call rules notes ≡ None
+pub next_none : (rules : List Rule) (notes : List Note) → IsLeft (made_of notes) (answering_rules rules (heard_of notes)) 0 [] → next_call rules notes ≡ None
 unfolding next_call rule_calls
 next_none rules notes h =
-    rw (first_calls (made_of notes) (answering rules (heard_of notes)) 0 [] h 1, append-nil (made_of notes)) (slice_get_past (made_of notes) (length (made_of notes)) (omega arith))
+    rw (first_calls (made_of notes) (answering_rules rules (heard_of notes)) 0 [] h 1, append-nil (made_of notes)) (slice_get_past (made_of notes) (length (made_of notes)) (omega arith))
 
 pub next_some : (rules : List Rule) (notes : List Note) (call : ℕ) (rule : Rule) (left : List Rule) → call < length rule.calls
-    → IsLeft (made_of notes) (answering rules (heard_of notes)) call (rule ∷ left) → next_call rules notes ≡ Some (get_or rule.calls call Play)
+    → IsLeft (made_of notes) (answering_rules rules (heard_of notes)) call (rule ∷ left) → next_call rules notes ≡ Some (get_or rule.calls call Play)
 unfolding next_call rule_calls
 next_some rules notes call rule left inside h =
-    rw (first_calls (made_of notes) (answering rules (heard_of notes)) call (rule ∷ left) h 1, next_of 0 call rule left inside) (get_end (made_of notes) (get_or rule.calls call Play) [])
+    rw (first_calls (made_of notes) (answering_rules rules (heard_of notes)) call (rule ∷ left) h 1, next_of 0 call rule left inside) (get_end (made_of notes) (get_or rule.calls call Play) [])
 
 -- rules that answer have calls
 has_some : (calls : List Call) → has_calls calls ≡ true → 0 < length calls
@@ -133,10 +133,10 @@ have_append : (xs ys : List Rule) → HaveCalls xs → HaveCalls ys → HaveCall
 have_append [] ys h k = k
 have_append (x ∷ xs) ys h k = (h.0, have_append xs ys h.1 k)
 
-pub ready_begin : (rules : List Rule) → HaveCalls rules → IsReady 0 rules
+pub ready_begin : (rules : List Rule) → HaveCalls rules → HasNextCall 0 rules
 ready_begin [] h = refl
 ready_begin (rule ∷ rules) h = h
 
-pub ready_more : (call : ℕ) (left new : List Rule) → IsReady call left → HaveCalls new → IsReady call (left ++ new)
+pub ready_more : (call : ℕ) (left new : List Rule) → HasNextCall call left → HaveCalls new → HasNextCall call (left ++ new)
 ready_more call [] new h k = rw h (ready_begin new k)
 ready_more call (rule ∷ left) new h k = (h.0, have_append left new h.1 k)

@@ -17,7 +17,7 @@ use Rattle.listeners.specs.declared.listener.Note.{Note}
 use Rattle.listeners.specs.declared.event_dispatch.DispatchFault.{DispatchFault}
 use Rattle.listeners.specs.Notes.{entry_notes, is_call_of, call_notes, call_count, event_notes}
 use Rattle.listeners.specs.declared.event_dispatch.DispatchFault.TheVariants.{OutOfMemory, CallBudget, TaskBudget}
-use Rattle.listeners.specs.Dispatch.{CallsInTurn, MakesCalls, TurnEnd, IsFault, IsTurn, IsDispatch, ServedBelow, UnheardFrom, notes_at}
+use Rattle.listeners.specs.Dispatch.{CallsInTurn, MakesCalls, TurnEnd, IsFault, IsServed, IsDispatch, AreServedBelow, AreUnheardFrom, notes_at}
 use Rattle.listeners.specs.Views.{RunView, DispatchView, turn_view, dispatch_view}
 use Rattle.listeners.proofs.Serving.{CallsInTurn-induction, makes_none, makes_then}
 
@@ -28,8 +28,8 @@ pub record Progress (blobs : List (List ℕ)) (event : Event) (w : ℕ) (old new
   pub in_turn : CallsInTurn 0 w entries
   pub few : (k : ℕ) → call_count k entries ≤ 1000
   pub same : length new.notes ≡ length old.notes
-  pub served : ServedBelow event entries w old.notes new.notes
-  pub behind : UnheardFrom w entries old.notes new.notes
+  pub served : AreServedBelow event entries w old.notes new.notes
+  pub behind : AreUnheardFrom w entries old.notes new.notes
 
 -- a listener has no calls among those of others
 abbrev pub HasNoCalls : ℕ → List Entry → Type 0
@@ -114,13 +114,13 @@ progress_none blobs event v = record {
 
 -- listener `w` has the notes `m` now: those before it are as they were, and those behind it too
 served_before : (event : Event) (w : ℕ) (xs ys : List Entry) (n0 n1 : List (List Note)) (m : List Note)
-    → CallsInTurn w (w + 1) ys → ServedBelow event xs w n0 n1 → ServedBelow event (xs ++ ys) w n0 (slice_set n1 w m)
+    → CallsInTurn w (w + 1) ys → AreServedBelow event xs w n0 n1 → AreServedBelow event (xs ++ ys) w n0 (slice_set n1 w m)
 served_before event w xs ys n0 n1 m q s = λ k lt.
     let ne : k ≢ w = omega (arith, lt) in
     rw (lower_calls w k xs ys q lt) (get_or-set_other n1 w k m [] ne ∙ s k lt)
 
 unheard_behind : (w : ℕ) (xs ys : List Entry) (n0 n1 : List (List Note)) (m : List Note)
-    → CallsInTurn 0 w xs → CallsInTurn w (w + 1) ys → UnheardFrom w xs n0 n1 → UnheardFrom (w + 1) (xs ++ ys) n0 (slice_set n1 w m)
+    → CallsInTurn 0 w xs → CallsInTurn w (w + 1) ys → AreUnheardFrom w xs n0 n1 → AreUnheardFrom (w + 1) (xs ++ ys) n0 (slice_set n1 w m)
 unheard_behind w xs ys n0 n1 m h q u = λ k le.
     let ne : k ≢ w = omega (arith, le) in
     record { no_call = higher_calls w k xs ys h q le; notes = get_or-set_other n1 w k m [] ne ∙ (u k (omega (arith, le))).notes }
@@ -132,7 +132,7 @@ served_now event w xs ys n0 n1 m k e h lt same is =
 
 pub progress_more : (blobs : List (List ℕ)) (event : Event) (w : ℕ) (r0 r1 r2 : RunView) (n0 n1 : List (List Note)) (m : List Note)
     → Progress blobs event w (dispatch_view r0 n0) (dispatch_view r1 n1) → w < length n1
-    → IsTurn blobs event (turn_view w r1 (notes_at n1 w)) (turn_view w r2 m) (Ok tt)
+    → IsServed blobs event (turn_view w r1 (notes_at n1 w)) (turn_view w r2 m) (Ok tt)
     → Progress blobs event (w + 1) (dispatch_view r0 n0) (dispatch_view r2 (slice_set n1 w m))
 progress_more blobs event w r0 r1 r2 n0 n1 m p lt t = record {
   entries = p.entries ++ t.entries;
@@ -170,7 +170,7 @@ same_fault TaskBudget event w left xs ys b1 b2 m1 m2 p q r s t = rw (p, q, r, s)
 
 pub dispatch_ends : (blobs : List (List ℕ)) (event : Event) (w : ℕ) (r0 r1 r2 : RunView) (n0 n1 : List (List Note)) (m : List Note) (fault : DispatchFault)
     → Progress blobs event w (dispatch_view r0 n0) (dispatch_view r1 n1) → w < length n1
-    → IsTurn blobs event (turn_view w r1 (notes_at n1 w)) (turn_view w r2 m) (Err fault)
+    → IsServed blobs event (turn_view w r1 (notes_at n1 w)) (turn_view w r2 m) (Err fault)
     → IsDispatch blobs event (dispatch_view r0 n0) (dispatch_view r2 (slice_set n1 w m)) (Err fault)
 dispatch_ends blobs event w r0 r1 r2 n0 n1 m fault p lt t =
     let own = own_calls w p.entries t.entries p.in_turn in
@@ -198,18 +198,18 @@ notes_of_one notes xs w old lt is = sym (get_or-map notes xs w old [] lt ∙ ap 
 
 pub listeners_more : {X : Type 0} (notes : X → List Note) (blobs : List (List ℕ)) (event : Event) (w : ℕ) (r0 r1 r2 : RunView) (xs0 xs : List X) (old new : X)
     → Progress blobs event w (dispatch_view r0 (map notes xs0)) (dispatch_view r1 (map notes xs)) → w < length xs → old ≡ get_or xs w old
-    → IsTurn blobs event (turn_view w r1 (notes old)) (turn_view w r2 (notes new)) (Ok tt)
+    → IsServed blobs event (turn_view w r1 (notes old)) (turn_view w r2 (notes new)) (Ok tt)
     → Progress blobs event (w + 1) (dispatch_view r0 (map notes xs0)) (dispatch_view r2 (map notes (slice_set xs w new)))
 listeners_more notes blobs event w r0 r1 r2 xs0 xs old new p lt is t =
-    let t2 = subst (λ (x : List Note). IsTurn blobs event (turn_view w r1 x) (turn_view w r2 (notes new)) (Ok tt)) (notes_of_one notes xs w old lt is) t in
+    let t2 = subst (λ (x : List Note). IsServed blobs event (turn_view w r1 x) (turn_view w r2 (notes new)) (Ok tt)) (notes_of_one notes xs w old lt is) t in
     rw (map-set notes xs w new) (progress_more blobs event w r0 r1 r2 (map notes xs0) (map notes xs) (notes new) p (omega (arith, lt, length-map xs notes)) t2)
 
 pub listeners_end : {X : Type 0} (notes : X → List Note) (blobs : List (List ℕ)) (event : Event) (w : ℕ) (r0 r1 r2 : RunView) (xs0 xs : List X) (old new : X) (fault : DispatchFault)
     → Progress blobs event w (dispatch_view r0 (map notes xs0)) (dispatch_view r1 (map notes xs)) → w < length xs → old ≡ get_or xs w old
-    → IsTurn blobs event (turn_view w r1 (notes old)) (turn_view w r2 (notes new)) (Err fault)
+    → IsServed blobs event (turn_view w r1 (notes old)) (turn_view w r2 (notes new)) (Err fault)
     → IsDispatch blobs event (dispatch_view r0 (map notes xs0)) (dispatch_view r2 (map notes (slice_set xs w new))) (Err fault)
 listeners_end notes blobs event w r0 r1 r2 xs0 xs old new fault p lt is t =
-    let t2 = subst (λ (x : List Note). IsTurn blobs event (turn_view w r1 x) (turn_view w r2 (notes new)) (Err fault)) (notes_of_one notes xs w old lt is) t in
+    let t2 = subst (λ (x : List Note). IsServed blobs event (turn_view w r1 x) (turn_view w r2 (notes new)) (Err fault)) (notes_of_one notes xs w old lt is) t in
     rw (map-set notes xs w new) (dispatch_ends blobs event w r0 r1 r2 (map notes xs0) (map notes xs) (notes new) fault p (omega (arith, lt, length-map xs notes)) t2)
 
 -- a listener keeps its rules

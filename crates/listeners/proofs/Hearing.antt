@@ -8,7 +8,7 @@ use Rattle.mse_calls.specs.declared.rules.Rule.{Rule}
 use Rattle.listeners.specs.declared.index.RuleIndex.{RuleIndex}
 use Rattle.listeners.specs.Events.{is_same}
 use Rattle.listeners.specs.Index.{IsIndexed}
-use Rattle.listeners.specs.RuleCalls.{times_heard, answers, answering_after, answering}
+use Rattle.listeners.specs.RuleCalls.{times_heard, answers, answering_after, answering_rules}
 
 answering_more : (rules : List Rule) (earlier events : List Event) (event : Event)
     → answering_after rules earlier (events ++ event ∷ []) ≡ answering_after rules earlier events ++ filter (answers (earlier ++ events) event) rules
@@ -17,7 +17,7 @@ answering_more rules earlier (e ∷ events) event =
     ap (λ (rs : List Rule). filter (answers earlier e) rules ++ rs) (answering_more rules (earlier ++ e ∷ []) events event)
     ∙ rw (append_assoc earlier (e ∷ []) events) (sym (append_assoc (filter (answers earlier e) rules) (answering_after rules (earlier ++ e ∷ []) events) (filter (answers (earlier ++ e ∷ events) event) rules)))
 
-pub answering_next : (rules : List Rule) (heard : List Event) (event : Event) → answering rules (heard ++ event ∷ []) ≡ answering rules heard ++ filter (answers heard event) rules
+pub answering_next : (rules : List Rule) (heard : List Event) (event : Event) → answering_rules rules (heard ++ event ∷ []) ≡ answering_rules rules heard ++ filter (answers heard event) rules
 answering_next rules heard event = answering_more rules [] heard event
 
 times_by : (b : Bool) (m n : ℕ) → (if b then suc (m + n) else m + n) ≡ (if b then suc m else m) + n

@@ -16,9 +16,9 @@ use Rattle.listeners.specs.declared.index.RuleIndex.{RuleIndex}
 use Rattle.listeners.specs.declared.listener.Note.{Note}
 use Rattle.listeners.specs.declared.listener.Note.TheVariants.{Heard, Made, Told, Rested}
 use Rattle.listeners.specs.Notes.{told_note, heard_of, made_of}
-use Rattle.listeners.specs.RuleCalls.{answers, answering, once_calls, again_calls, calls_from, rule_calls, next_call}
+use Rattle.listeners.specs.RuleCalls.{answers, answering_rules, once_calls, again_calls, calls_from, rule_calls, next_call}
 use Rattle.listeners.specs.Index.{IsIndexed}
-use Rattle.listeners.specs.Coming.{no_rule, rule_at, call_at, rules_at, IsLeft, IsReady, HaveCalls, Holds}
+use Rattle.listeners.specs.Coming.{no_rule, rule_at, call_at, rules_at, IsLeft, HasNextCall, HaveCalls, Holds}
 use Rattle.listeners.proofs.Noting.{heard_more, heard_made, rested_heard, rested_made, made_heard, made_made}
 use Rattle.listeners.proofs.Hearing.{answering_next, Hears}
 use Rattle.listeners.proofs.Calling.{none_left, made_first, more_left, one_left, again_left, over_left, next_none, next_some, answers_have, ready_begin, ready_more}
@@ -47,7 +47,7 @@ pub holds_heard : (rules : List Rule) (notes : List Note) (event : Event) (index
     → Holds rules notes index due call → Hears rules (heard_of notes) event other (rules_at rules due) (rules_at rules after) → Holds rules (notes ++ Heard event ∷ []) other after call
 holds_heard rules notes event index other due after call h e = record {
   left = rw (heard_more notes event, heard_made notes event, answering_next rules (heard_of notes) event, e.due)
-      (more_left (made_of notes) (answering rules (heard_of notes)) call (rules_at rules due) (filter (answers (heard_of notes) event) rules) h.left);
+      (more_left (made_of notes) (answering_rules rules (heard_of notes)) call (rules_at rules due) (filter (answers (heard_of notes) event) rules) h.left);
   ready = rw e.due (ready_more call (rules_at rules due) (filter (answers (heard_of notes) event) rules) h.ready (answers_have (heard_of notes) event rules));
   indexed = rw (heard_more notes event) e.indexed;
 }
@@ -59,15 +59,15 @@ turn_of rule at call =
 
 turn_by : (b r : Bool) (rules : List Rule) (notes : List Note) (index : Option RuleIndex) (due : List ℕ) (at call : ℕ) (rule : Rule) (rest : List Rule) (told : Option Answer) (x : Call)
     → nat_lt (call + 1) (length rule.calls) ≡ b → rule.repeat ≡ r → at < length due → rules_at rules (drop at due) ≡ rule ∷ rest → rules_at rules (drop (at + 1) due) ≡ rest → call < length rule.calls → HaveCalls rest
-    → IsLeft (made_of notes ++ x ∷ []) (answering rules (heard_of notes)) (suc call) (rule ∷ rest)
+    → IsLeft (made_of notes ++ x ∷ []) (answering_rules rules (heard_of notes)) (suc call) (rule ∷ rest)
     → let turn : ℕ × ℕ = if b then (at, call + 1) else (if r then (at, 0) else (at + 1, 0)) in
-    (turn.0 ≤ length due) × IsLeft (made_of notes ++ x ∷ []) (answering rules (heard_of notes)) turn.1 (rules_at rules (drop turn.0 due)) × IsReady turn.1 (rules_at rules (drop turn.0 due))
+    (turn.0 ≤ length due) × IsLeft (made_of notes ++ x ∷ []) (answering_rules rules (heard_of notes)) turn.1 (rules_at rules (drop turn.0 due)) × HasNextCall turn.1 (rules_at rules (drop turn.0 due))
 turn_by true r rules notes index due at call rule rest told x b e within here there inside have h =
     (omega (arith, within), rw here (rw (add-one call) h), rw here (ltb-true (call + 1) (length rule.calls) b, have))
 turn_by false true rules notes index due at call rule rest told x b e within here there inside have h =
-    (omega (arith, within), rw here (again_left (made_of notes ++ x ∷ []) (answering rules (heard_of notes)) call rule rest (rw (← add-one call) (ltb-false (call + 1) (length rule.calls) b)) e h), rw here (omega (arith, inside), have))
+    (omega (arith, within), rw here (again_left (made_of notes ++ x ∷ []) (answering_rules rules (heard_of notes)) call rule rest (rw (← add-one call) (ltb-false (call + 1) (length rule.calls) b)) e h), rw here (omega (arith, inside), have))
 turn_by false false rules notes index due at call rule rest told x b e within here there inside have h =
-    (omega (arith, within), rw there (over_left (made_of notes ++ x ∷ []) (answering rules (heard_of notes)) call rule rest (rw (← add-one call) (ltb-false (call + 1) (length rule.calls) b)) e h), rw there (ready_begin rest have))
+    (omega (arith, within), rw there (over_left (made_of notes ++ x ∷ []) (answering_rules rules (heard_of notes)) call rule rest (rw (← add-one call) (ltb-false (call + 1) (length rule.calls) b)) e h), rw there (ready_begin rest have))
 
 places_here : (rules : List Rule) (due : List ℕ) (at : ℕ) → at < length due → rules_at rules (drop at due) ≡ rule_at rules (get_or due at 0) ∷ rules_at rules (drop (at + 1) due)
 places_here rules due at within = rw (drop_more due at 0 within) refl
@@ -75,7 +75,7 @@ places_here rules due at within = rw (drop_more due at 0 within) refl
 pub call_inside : (rules : List Rule) (notes : List Note) (index : Option RuleIndex) (due : List ℕ) (at call : ℕ) → at < length due
     → Holds rules notes index (drop at due) call → call < length (rule_at rules (get_or due at 0)).calls
 call_inside rules notes index due at call within h =
-    (subst (λ (rs : List Rule). IsReady call rs) (places_here rules due at within) h.ready).0
+    (subst (λ (rs : List Rule). HasNextCall call rs) (places_here rules due at within) h.ready).0
 
 pub holds_turn : (rules : List Rule) (notes : List Note) (index : Option RuleIndex) (due : List ℕ) (at call : ℕ) (told : Option Answer) → at < length due
     → Holds rules notes index (drop at due) call
@@ -84,9 +84,9 @@ pub holds_turn : (rules : List Rule) (notes : List Note) (index : Option RuleInd
 holds_turn rules notes index due at call told within h =
     let rule = rule_at rules (get_or due at 0) in
     let rest = rules_at rules (drop (at + 1) due) in
-    let ready : IsReady call (rule ∷ rest) = subst (λ (rs : List Rule). IsReady call rs) (places_here rules due at within) h.ready in
-    let left : IsLeft (made_of notes) (answering rules (heard_of notes)) call (rule ∷ rest) = subst (λ (rs : List Rule). IsLeft (made_of notes) (answering rules (heard_of notes)) call rs) (places_here rules due at within) h.left in
-    let turned = turn_by (nat_lt (call + 1) (length rule.calls)) rule.repeat rules notes index due at call rule rest told (get_or rule.calls call Play) refl refl within (places_here rules due at within) refl ready.0 ready.1 (one_left (made_of notes) (answering rules (heard_of notes)) call rule rest ready.0 left) in (
+    let ready : HasNextCall call (rule ∷ rest) = subst (λ (rs : List Rule). HasNextCall call rs) (places_here rules due at within) h.ready in
+    let left : IsLeft (made_of notes) (answering_rules rules (heard_of notes)) call (rule ∷ rest) = subst (λ (rs : List Rule). IsLeft (made_of notes) (answering_rules rules (heard_of notes)) call rs) (places_here rules due at within) h.left in
+    let turned = turn_by (nat_lt (call + 1) (length rule.calls)) rule.repeat rules notes index due at call rule rest told (get_or rule.calls call Play) refl refl within (places_here rules due at within) refl ready.0 ready.1 (one_left (made_of notes) (answering_rules rules (heard_of notes)) call rule rest ready.0 left) in (
       turned.0,
       record {
         left = rw (made_made notes told (get_or rule.calls call Play), made_heard notes told (get_or rule.calls call Play)) turned.1;
@@ -99,19 +99,19 @@ pub next_is_none : (rules : List Rule) (notes : List Note) (index : Option RuleI
     → Holds rules notes index (drop at due) call → next_call rules notes ≡ None
 next_is_none rules notes index due at call past h =
     let none : drop at due ≡ [] = drop_of_length-le due past in
-    let ready : call ≡ 0 = subst (λ (ps : List ℕ). IsReady call (rules_at rules ps)) none h.ready in
-    next_none rules notes (subst (λ (n : ℕ). IsLeft (made_of notes) (answering rules (heard_of notes)) n []) ready (subst (λ (ps : List ℕ). IsLeft (made_of notes) (answering rules (heard_of notes)) call (rules_at rules ps)) none h.left))
+    let ready : call ≡ 0 = subst (λ (ps : List ℕ). HasNextCall call (rules_at rules ps)) none h.ready in
+    next_none rules notes (subst (λ (n : ℕ). IsLeft (made_of notes) (answering_rules rules (heard_of notes)) n []) ready (subst (λ (ps : List ℕ). IsLeft (made_of notes) (answering_rules rules (heard_of notes)) call (rules_at rules ps)) none h.left))
 
 pub next_is_some : (rules : List Rule) (notes : List Note) (index : Option RuleIndex) (due : List ℕ) (at call : ℕ) → at < length due
     → Holds rules notes index (drop at due) call → next_call rules notes ≡ Some (call_at rules (get_or due at 0) call)
 next_is_some rules notes index due at call within h =
-    let left = subst (λ (rs : List Rule). IsLeft (made_of notes) (answering rules (heard_of notes)) call rs) (places_here rules due at within) h.left in
+    let left = subst (λ (rs : List Rule). IsLeft (made_of notes) (answering_rules rules (heard_of notes)) call rs) (places_here rules due at within) h.left in
     next_some rules notes call (rule_at rules (get_or due at 0)) (rules_at rules (drop (at + 1) due)) (call_inside rules notes index due at call within h) left
 
 pub made_by_rules : (rules : List Rule) (notes : List Note) (index : Option RuleIndex) (due : List ℕ) (call : ℕ) → Holds rules notes index due call
     → made_of notes ≡ rule_calls rules (heard_of notes) (length (made_of notes))
 unfolding rule_calls
-made_by_rules rules notes index due call h = made_first (made_of notes) (answering rules (heard_of notes)) call (rules_at rules due) h.left
+made_by_rules rules notes index due call h = made_first (made_of notes) (answering_rules rules (heard_of notes)) call (rules_at rules due) h.left
 
 -- ---- what the code reads
 pub past_end : (o : Option (Bor ℕ)) (xs : List ℕ) (at : ℕ) → is_some o ≡ nat_lt at (length xs) → None ≡ option_copied o → length xs ≤ at

@@ -14,12 +14,12 @@ use Rattle.mse_engine.specs.State.{State}
 use Rattle.mse_engine.specs.Standing.{Stands, IsStep}
 use Rattle.mse_engine.specs.Calls.{after_call}
 use Rattle.mse_engine.specs.Sound.{IsSoundEngine}
-use Rattle.mse_engine.proofs.Goes.{goes_none, goes_then, goes_listener}
+use Rattle.mse_engine.proofs.Transitions.{goes_none, goes_then, goes_listener}
 use Rattle.listeners.specs.declared.listener.Note.{Note}
 use Rattle.listeners.specs.declared.listener.Note.TheVariants.{Heard, Made, Told}
 use Rattle.listeners.specs.declared.event_dispatch.DispatchFault.TheVariants.{OutOfMemory, CallBudget, TaskBudget}
 use Rattle.listeners.specs.Notes.{told_note, asked_note, entry_notes, is_call_of, call_notes, call_count}
-use Rattle.listeners.specs.Dispatch.{CallsInTurn, MakesCalls, IsCallTurn, IsTurn}
+use Rattle.listeners.specs.Dispatch.{CallsInTurn, MakesCalls, IsCallTurn, IsServed}
 use Rattle.listeners.specs.Views.{RunView, TurnView, turn_view}
 
 -- ---- entries that are calls in turn
@@ -154,7 +154,7 @@ serving_more blobs event w r0 r1 r2 n0 n1 n2 call asked made s ne c =
 
 -- the event was not heard
 pub turn_unheard : (blobs : List (List ℕ)) (event : Event) (w : ℕ) (r : RunView) (n0 n1 : List Note)
-    → n1 ≡ n0 → IsTurn blobs event (turn_view w r n0) (turn_view w r n1) (Err OutOfMemory)
+    → n1 ≡ n0 → IsServed blobs event (turn_view w r n0) (turn_view w r n1) (Err OutOfMemory)
 turn_unheard blobs event w r n0 n1 p = record {
   entries = [];
   calls = makes_none blobs r;
@@ -165,7 +165,7 @@ turn_unheard blobs event w r n0 n1 p = record {
 
 -- it was not asked
 pub turn_unasked : (blobs : List (List ℕ)) (event : Event) (w : ℕ) (r : RunView) (n0 n1 n2 : List Note)
-    → n1 ≡ n0 ++ Heard event ∷ [] → n2 ≡ n1 → IsTurn blobs event (turn_view w r n0) (turn_view w r n2) (Err OutOfMemory)
+    → n1 ≡ n0 ++ Heard event ∷ [] → n2 ≡ n1 → IsServed blobs event (turn_view w r n0) (turn_view w r n2) (Err OutOfMemory)
 turn_unasked blobs event w r n0 n1 n2 p q = record {
   entries = [];
   calls = makes_none blobs r;
@@ -177,7 +177,7 @@ turn_unasked blobs event w r n0 n1 n2 p q = record {
 -- the call was not made
 call_unmade : (blobs : List (List ℕ)) (event : Event) (w : ℕ) (r0 r1 r2 : RunView) (n0 n1 n2 : List Note) (call : Call) (made : ℕ)
     → IsServing blobs event (turn_view w r0 n0) (turn_view w r1 n1) (Some call) made → n2 ≡ n1 → MakesCalls blobs r1 r2 []
-    → IsTurn blobs event (turn_view w r0 n0) (turn_view w r2 n2) (Err OutOfMemory)
+    → IsServed blobs event (turn_view w r0 n0) (turn_view w r2 n2) (Err OutOfMemory)
 call_unmade blobs event w r0 r1 r2 n0 n1 n2 call made s same stays = record {
   entries = s.entries;
   calls = subst (λ (x : List Entry). MakesCalls blobs r0 r2 x) (append-nil s.entries) (makes_then blobs r0 r1 r2 s.entries [] s.calls stays);
@@ -190,7 +190,7 @@ call_unmade blobs event w r0 r1 r2 n0 n1 n2 call made s same stays = record {
 answer_untold : (blobs : List (List ℕ)) (event : Event) (w : ℕ) (r0 r1 r2 : RunView) (n0 n1 n2 : List Note) (call : Call) (made : ℕ)
     → IsServing blobs event (turn_view w r0 n0) (turn_view w r1 n1) (Some call) made → made ≢ 1000 → n2 ≡ n1
     → (answer : Answer) → MakesCalls blobs r1 r2 (Listener w call answer ∷ [])
-    → IsTurn blobs event (turn_view w r0 n0) (turn_view w r2 n2) (Err OutOfMemory)
+    → IsServed blobs event (turn_view w r0 n0) (turn_view w r2 n2) (Err OutOfMemory)
 answer_untold blobs event w r0 r1 r2 n0 n1 n2 call made s ne same answer m =
     let one : List Entry = Listener w call answer ∷ [] in
     record {
@@ -209,7 +209,7 @@ answer_untold blobs event w r0 r1 r2 n0 n1 n2 call made s ne same answer m =
 pub turn_unmade : (blobs : List (List ℕ)) (event : Event) (w : ℕ) (r0 r1 r2 : RunView) (n0 n1 n2 : List Note) (call : Call) (made : ℕ) (memory : NoMemory)
     → IsServing blobs event (turn_view w r0 n0) (turn_view w r1 n1) (Some call) made → made ≢ 1000
     → IsCallTurn blobs call (turn_view w r1 n1) (turn_view w r2 n2) (Err memory)
-    → IsTurn blobs event (turn_view w r0 n0) (turn_view w r2 n2) (Err OutOfMemory)
+    → IsServed blobs event (turn_view w r0 n0) (turn_view w r2 n2) (Err OutOfMemory)
 turn_unmade blobs event w r0 r1 r2 n0 n1 n2 call made memory s ne c =
     elim c.1 [
       | inl stays ↦ call_unmade blobs event w r0 r1 r2 n0 n1 n2 call made s c.0 stays
@@ -217,11 +217,11 @@ turn_unmade blobs event w r0 r1 r2 n0 n1 n2 call made memory s ne c =
     ]
 
 pub turn_done : (blobs : List (List ℕ)) (event : Event) (old new : TurnView) (made : ℕ)
-    → IsServing blobs event old new None made → IsTurn blobs event old new (Ok tt)
+    → IsServing blobs event old new None made → IsServed blobs event old new (Ok tt)
 turn_done blobs event old new made s = record { entries = s.entries; calls = s.calls; own = s.own; few = omega (arith, s.count, s.few); notes = s.notes }
 
 pub turn_call_budget : (blobs : List (List ℕ)) (event : Event) (old new : TurnView) (call : Call) (made : ℕ)
-    → IsServing blobs event old new (Some call) made → made ≡ 1000 → IsTurn blobs event old new (Err (CallBudget old.number))
+    → IsServing blobs event old new (Some call) made → made ≡ 1000 → IsServed blobs event old new (Err (CallBudget old.number))
 turn_call_budget blobs event old new call made s full = record {
   entries = s.entries;
   calls = s.calls;
@@ -231,7 +231,7 @@ turn_call_budget blobs event old new call made s full = record {
 }
 
 pub turn_task_budget : (blobs : List (List ℕ)) (event : Event) (old new : TurnView) (call : Call) (made : ℕ)
-    → IsServing blobs event old new (Some call) made → made ≢ 1000 → new.run.left ≡ 0 → IsTurn blobs event old new (Err TaskBudget)
+    → IsServing blobs event old new (Some call) made → made ≢ 1000 → new.run.left ≡ 0 → IsServed blobs event old new (Err TaskBudget)
 turn_task_budget blobs event old new call made s ne none = record {
   entries = s.entries;
   calls = s.calls;

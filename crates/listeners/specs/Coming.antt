@@ -14,7 +14,7 @@ use Rattle.listeners.specs.declared.history.Remark.{Remark}
 use Rattle.listeners.specs.declared.history.Remark.TheVariants as remark
 use Rattle.listeners.specs.declared.index.RuleIndex.{RuleIndex}
 use Rattle.listeners.specs.Notes.{heard_of, made_of}
-use Rattle.listeners.specs.RuleCalls.{answering, once_calls, again_calls, calls_from}
+use Rattle.listeners.specs.RuleCalls.{answering_rules, once_calls, again_calls, calls_from}
 use Rattle.listeners.specs.Index.{IsIndexed}
 
 -- stands past the end of a list of rules, and answers nothing
@@ -63,9 +63,9 @@ HaveCalls [] = ⊤
 HaveCalls (rule ∷ rules) = (0 < length rule.calls) × HaveCalls rules
 
 -- the next call is one of the first of these rules
-abbrev pub IsReady : ℕ → List Rule → Type 0
-IsReady call [] = call ≡ 0
-IsReady call (rule ∷ rules) = (call < length rule.calls) × HaveCalls rules
+abbrev pub HasNextCall : ℕ → List Rule → Type 0
+HasNextCall call [] = call ≡ 0
+HasNextCall call (rule ∷ rules) = (call < length rule.calls) × HaveCalls rules
 
 -- the rules at some places
 abbrev pub rules_at : List Rule → List ℕ → List Rule
@@ -74,8 +74,8 @@ rules_at rules places = map (rule_at rules) places
 -- what a listener by rules keeps
 pub record Holds (rules : List Rule) (notes : List Note) (index : Option RuleIndex)
     (due : List ℕ) (call : ℕ) : Type 0 where
-  pub left : IsLeft (made_of notes) (answering rules (heard_of notes)) call (rules_at rules due)
-  pub ready : IsReady call (rules_at rules due)
+  pub left : IsLeft (made_of notes) (answering_rules rules (heard_of notes)) call (rules_at rules due)
+  pub ready : HasNextCall call (rules_at rules due)
   pub indexed : IsIndexed rules (heard_of notes) index
 
 -- the places that are due, where a hearing may have left them as they were

@@ -6,7 +6,7 @@ use Rattle.mse_calls.specs.declared.calls.Call.{Call}
 use Rattle.mse_calls.specs.declared.events.Event.{Event}
 use Rattle.mse_calls.specs.declared.entry.Entry.{Entry}
 use Rattle.mse_calls.specs.declared.entry.Entry.TheVariants.{Listener}
-use Rattle.mse_engine.specs.Goes.{Goes}
+use Rattle.mse_engine.specs.Transitions.{IsTransition}
 use Rattle.listeners.specs.declared.listener.Note.{Note}
 use Rattle.listeners.specs.declared.listener.Note.TheVariants.{Heard, Made, Told}
 use Rattle.listeners.specs.declared.event_dispatch.DispatchFault.{DispatchFault}
@@ -26,7 +26,7 @@ CallsInTurn low high (other ∷ entries) = ⊥
 pub record MakesCalls (blobs : List (List ℕ)) (old new : RunView)
     (entries : List Entry) : Type 0 where
   pub journal : new.entries ≡ old.entries ++ entries
-  pub engine : Goes blobs old.engine new.engine entries
+  pub engine : IsTransition blobs old.engine new.engine entries
   pub left : old.left ≡ new.left + length entries
 
 -- ---- how a listener could not be served
@@ -92,9 +92,9 @@ IsCallTurn blobs call old new (Err memory) =
     ⊎ ((answer : Answer)
     × MakesCalls blobs old.run new.run (Listener old.number call answer ∷ [])))
 
-abbrev pub TurnNotes : Event → TurnEnd → Result (Unit {0}) DispatchFault → Type 0
-TurnNotes event end (Ok u) = end.now ≡ end.before ++ event_notes event end.listener end.entries
-TurnNotes event end (Err fault) = IsFault fault event end
+abbrev pub HasTurnNotes : Event → TurnEnd → Result (Unit {0}) DispatchFault → Type 0
+HasTurnNotes event end (Ok u) = end.now ≡ end.before ++ event_notes event end.listener end.entries
+HasTurnNotes event end (Err fault) = IsFault fault event end
 
 -- where a turn in which these calls were made ends
 abbrev pub turn_end : List Entry → TurnView → TurnView → TurnEnd
@@ -107,13 +107,13 @@ turn_end entries old new = record {
 }
 
 -- the listener heard the event, and made its calls, at most 1000
-pub record IsTurn (blobs : List (List ℕ)) (event : Event) (old new : TurnView)
+pub record IsServed (blobs : List (List ℕ)) (event : Event) (old new : TurnView)
     (result : Result (Unit {0}) DispatchFault) : Type 0 where
   pub entries : List Entry
   pub calls : MakesCalls blobs old.run new.run entries
   pub own : CallsInTurn old.number (old.number + 1) entries
   pub few : length entries ≤ 1000
-  pub notes : TurnNotes event (turn_end entries old new) result
+  pub notes : HasTurnNotes event (turn_end entries old new) result
 
 -- ---- all listeners
 
@@ -122,13 +122,13 @@ abbrev pub notes_at : List (List Note) → ℕ → List Note
 notes_at all w = slice_index_or all w []
 
 -- the listeners below this number were served
-abbrev pub ServedBelow : Event → List Entry → ℕ → List (List Note) → List (List Note) → Type 0
-ServedBelow event entries high before now =
+abbrev pub AreServedBelow : Event → List Entry → ℕ → List (List Note) → List (List Note) → Type 0
+AreServedBelow event entries high before now =
     (w : ℕ) → w < high → notes_at now w ≡ notes_at before w ++ event_notes event w entries
 
 -- those from this number on heard nothing, and made no call
-abbrev pub UnheardFrom : ℕ → List Entry → List (List Note) → List (List Note) → Type 0
-UnheardFrom low entries before now =
+abbrev pub AreUnheardFrom : ℕ → List Entry → List (List Note) → List (List Note) → Type 0
+AreUnheardFrom low entries before now =
     (w : ℕ) → low ≤ w → IsUnheard (call_count w entries) (notes_at before w) (notes_at now w)
 
 -- Where a dispatch ends: the calls that listeners made, how many calls are left behind them, and the
@@ -158,13 +158,13 @@ turn_end_of w end = record {
 pub record EndsAt (event : Event) (end : DispatchEnd) (fault : DispatchFault) : Type 0 where
   pub listener : ℕ
   pub within : listener < length end.before
-  pub served : ServedBelow event end.entries listener end.before end.now
-  pub behind : UnheardFrom (listener + 1) end.entries end.before end.now
+  pub served : AreServedBelow event end.entries listener end.before end.now
+  pub behind : AreUnheardFrom (listener + 1) end.entries end.before end.now
   pub ending : IsFault fault event (turn_end_of listener end)
 
 abbrev pub IsOutcome : Event → DispatchEnd → Result (Unit {0}) DispatchFault → Type 0
 IsOutcome event end (Ok u) =
-    ServedBelow event end.entries (length end.before) end.before end.now
+    AreServedBelow event end.entries (length end.before) end.before end.now
 IsOutcome event end (Err fault) = EndsAt event end fault
 
 -- the dispatch of an event, by what was before it and is after it

@@ -30,8 +30,8 @@ answering_after rules earlier [] = []
 answering_after rules earlier (event ∷ events) =
     filter (answers earlier event) rules ++ answering_after rules (earlier ++ event ∷ []) events
 
-abbrev pub answering : List Rule → List Event → List Rule
-answering rules events = answering_after rules [] events
+abbrev pub answering_rules : List Rule → List Event → List Rule
+answering_rules rules events = answering_after rules [] events
 
 -- the calls of rules up to the first that repeats
 abbrev pub once_calls : List Rule → List Call
@@ -53,7 +53,7 @@ calls_from (suc n) [] (call ∷ again) = call ∷ calls_from n again (call ∷ a
 -- the first `n` calls that rules give for the events that are heard, or all where there are fewer
 unfoldable pub rule_calls : List Rule → List Event → ℕ → List Call
 rule_calls rules events n =
-    calls_from n (once_calls (answering rules events)) (again_calls (answering rules events))
+    calls_from n (once_calls (answering_rules rules events)) (again_calls (answering_rules rules events))
 
 -- the call that rules give after those that were made; none where they give no more
 unfoldable pub next_call : List Rule → List Note → Option Call

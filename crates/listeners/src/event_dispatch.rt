@@ -2,7 +2,7 @@ ghost use Rattle.std.specs.Prelude.{◌≡◌, ◌≤◌, ◌<◌, ◌^◌, ◌+
 ghost use Rattle.std.specs.Option.{option_copied};
 ghost use Rattle.listeners.specs.declared.listener.Note.{Note};
 ghost use Rattle.listeners.specs.Notes.{told_note, asked_note};
-ghost use Rattle.listeners.specs.Dispatch.{IsCallTurn, IsDispatch, IsTurn};
+ghost use Rattle.listeners.specs.Dispatch.{IsCallTurn, IsDispatch, IsServed};
 ghost use Rattle.listeners.specs.Views.{run_view, turn_view, dispatch_view};
 
 use crate::Listener;
@@ -93,7 +93,7 @@ fn serve<S: FrameStore>(
     journal: &mut Journal,
 ) -> Result<(), DispatchFault>
     ensures rules { rules listener.new ≡ rules listener.old }
-    ensures turn { IsTurn blobs.now event.now
+    ensures turn { IsServed blobs.now event.now
         (turn_view number (run_view engine.old journal.old.entries left.old)
         (notes listener.old))
         (turn_view number (run_view engine.new journal.new.entries left.new)

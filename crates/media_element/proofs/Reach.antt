@@ -11,7 +11,7 @@ use Rattle.element_seek.specs.declared.scene.Scene.{Scene}
 use Rattle.element_seek.specs.State.{PlayerState, Told}
 use Rattle.element_seek.specs.Seeking.{in_media, after_seek_in, after_seek}
 use Rattle.element_seek.specs.Inside.{IsInside, LiesInside, HasSpansInside, StaysInside}
-use Rattle.media_element.specs.Falling.{after_seek_to, after_fall, IsInReach}
+use Rattle.media_element.specs.DurationChange.{after_seek_to, after_fall, IsInReach}
 
 -- where something can be sought inside, 0 is inside
 not_after : (duration : Moment) (start end : ℤ) → pos 0 ≤ℤ start → start ≤ℤ end → is_after end duration ≡ false → is_after (pos 0) duration ≡ false

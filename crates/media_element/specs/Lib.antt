@@ -1,4 +1,4 @@
 pub mod State
 pub mod Queueing
-pub mod Falling
+pub mod DurationChange
 pub mod Settled

@@ -7,7 +7,7 @@ ghost use Rattle.element_seek.specs.Settling.{after_settle, stays_by};
 ghost use Rattle.element_seek.specs.Inside.{IsInside, HasSpansInside, StaysInside};
 ghost use Rattle.media_element.specs.State.{new_element};
 ghost use Rattle.media_element.specs.Queueing.{events_at, element_events, queued, after_fire, after, told_kinds, refusal, after_call, after_own_turn};
-ghost use Rattle.media_element.specs.Falling.{sought_end, after_fall, after_duration_change, IsInReach};
+ghost use Rattle.media_element.specs.DurationChange.{sought_end, after_fall, after_duration_change, IsInReach};
 
 use element_seek::laws::position_inside;
 use element_seek::{Acted, Player, Scene};

@@ -3,7 +3,7 @@ use Rattle.std.proofs.Common.{◌≡◌, ◌∙◌, ℕ, zero, suc, ℤ, pos, ne
 use Rattle.std.specs.List.{AllByRecursion}
 use Rattle.std.proofs.lemmas.Int.{ints}
 use Rattle.mse_base.specs.declared.span.Span.{Span}
-use Rattle.mse_base.specs.Spans.{has_tick, covers, StartsAfter, IsNormalized, IsBridged, Bridged}
+use Rattle.mse_base.specs.Spans.{has_tick, covers, StartsAfter, IsNormalized, IsBridged, IsBridging}
 use Rattle.mse_base.specs.Bridging.{bridged_ranges, is_near, is_near_any, IsRanges, is_empty}
 use Rattle.mse_base.proofs.Unique.{unique}
 use Rattle.mse_base.proofs.Merging.{ranges_bridged, times_bridged}
@@ -357,7 +357,7 @@ more_than g given rs t h same r i e =
     ]
 
 -- ranges of the near ticks of spans are their bridged ranges
-pub bridged_by : (gap : ℤ) (given rs : List Span) → pos 0 ≤ℤ gap → IsRanges gap rs → ((t : ℤ) → is_near_any gap t rs ≡ is_near_any gap t given) → Bridged gap given rs
+pub bridged_by : (gap : ℤ) (given rs : List Span) → pos 0 ≤ℤ gap → IsRanges gap rs → ((t : ℤ) → is_near_any gap t rs ≡ is_near_any gap t given) → IsBridging gap given rs
 bridged_by (pos g) given rs p h same = record {
   no_more = λ t e. let r = cover_holder t rs e in more_than g given rs t h same r.0 r.1 r.2;
   no_less = λ t b. no_less (pos g) given rs t p h same b;
@@ -365,7 +365,7 @@ bridged_by (pos g) given rs p h same = record {
 }
 bridged_by (negsuc g) given rs p h same = absurd (omega (arith, ints))
 
-pub bridged_law : (gap : ℤ) (spans : List Span) → pos 0 ≤ℤ gap → Bridged gap spans (bridged_ranges gap spans)
+pub bridged_law : (gap : ℤ) (spans : List Span) → pos 0 ≤ℤ gap → IsBridging gap spans (bridged_ranges gap spans)
 bridged_law gap spans g = bridged_by gap spans (bridged_ranges gap spans) g (ranges_bridged gap spans g) (λ t. times_bridged gap t spans g)
 
 both_true : (a b : Bool) → (a ≡ true → b ≡ true) → (b ≡ true → a ≡ true) → a ≡ b
@@ -374,5 +374,5 @@ both_true false true f g = g refl
 both_true false false f g = refl
 
 -- the bridged ranges of spans are one list
-pub one_bridged : (gap : ℤ) (given xs ys : List Span) → Bridged gap given xs → Bridged gap given ys → xs ≡ ys
+pub one_bridged : (gap : ℤ) (given xs ys : List Span) → IsBridging gap given xs → IsBridging gap given ys → xs ≡ ys
 one_bridged gap given xs ys p q = unique xs ys p.normalized q.normalized (λ t. both_true (covers xs t) (covers ys t) (λ e. q.no_less t (p.no_more t e)) (λ e. p.no_less t (q.no_more t e)))

@@ -4,7 +4,7 @@ use Rattle.std.specs.Int.{int_max}
 use Rattle.std.specs.Ordering.{int_cmp, ord_max}
 use Rattle.std.proofs.lemmas.Int.{ints}
 use Rattle.mse_base.specs.declared.span.Span.{Span}
-use Rattle.mse_base.specs.Spans.{IsNormalized, Joined, Bridged}
+use Rattle.mse_base.specs.Spans.{IsNormalized, IsUnion, IsBridging}
 use Rattle.mse_base.specs.Bridging.{bridged_ranges}
 use Rattle.mse_base.proofs.Compared.{max_is}
 use Rattle.mse_base.proofs.Extended.{bridged_law}
@@ -17,12 +17,12 @@ no_wider : (gap : ℤ) → gap ≤ℤ pos 0 → int_max gap (pos 0) ≡ pos 0
 no_wider gap h = grind (arith, ints)
 
 -- normalized ranges are their own joined ranges
-own_joined : (rs : List Span) → IsNormalized rs → Joined rs rs
+own_joined : (rs : List Span) → IsNormalized rs → IsUnion rs rs
 own_joined rs n = record { same = λ t. refl; normalized = n }
 
 pub unchanged : (gap : ℤ) (rs : List Span) → IsNormalized rs → gap ≤ℤ pos 0 → bridged_ranges (int_max gap (pos 0)) rs ≡ rs
 unchanged gap rs n h =
-    let b : Bridged (pos 0) rs (bridged_ranges (int_max gap (pos 0)) rs) = subst (λ (g : ℤ). Bridged g rs (bridged_ranges (int_max gap (pos 0)) rs)) (no_wider gap h) (bridged_law (int_max gap (pos 0)) rs (from_zero gap)) in
+    let b : IsBridging (pos 0) rs (bridged_ranges (int_max gap (pos 0)) rs) = subst (λ (g : ℤ). IsBridging g rs (bridged_ranges (int_max gap (pos 0)) rs)) (no_wider gap h) (bridged_law (int_max gap (pos 0)) rs (from_zero gap)) in
     one_joined rs _ rs (joined_of_bridged rs _ b) (own_joined rs n)
 
 pub filled_is : (gap filled zero : ℤ) → filled ≡ ord_max int_cmp gap zero → zero ≡ pos 0 → filled ≡ int_max gap (pos 0)

@@ -6,7 +6,7 @@ use Rattle.std.proofs.lemmas.Int.{ints}
 use Rattle.std.proofs.lemmas.List.Sums.{fold-append}
 use Rattle.mse_base.specs.declared.span.Span.{Span}
 use Rattle.mse_base.specs.Bridging.{overlap}
-use Rattle.mse_base.specs.Spans.{has_tick, covers, StartsAfter, IsNormalized, Met}
+use Rattle.mse_base.specs.Spans.{has_tick, covers, StartsAfter, IsNormalized, IsIntersection}
 use Rattle.mse_base.specs.Meets.{meet, meet_of_all}
 use Rattle.mse_base.proofs.Sets.{covers-append}
 use Rattle.mse_base.proofs.Neighbours.{one_met}
@@ -132,7 +132,7 @@ pub meet_normalized : (xs ys : List Span) → IsNormalized xs → IsNormalized y
 meet_normalized [] ys n m = tt
 meet_normalized (x ∷ xs) ys n m = normalized-append x.end (parts x ys) (meet xs ys) (parts_normalized x ys m) (meet_normalized xs ys n.2 m) (parts_ends x ys) (meet_after x.end xs ys (later_than x.end xs n.1 n.2))
 
-pub met_meet : (xs ys : List Span) → IsNormalized xs → IsNormalized ys → Met xs ys (meet xs ys)
+pub met_meet : (xs ys : List Span) → IsNormalized xs → IsNormalized ys → IsIntersection xs ys (meet xs ys)
 met_meet xs ys n m = record { same = covers-meet xs ys; normalized = meet_normalized xs ys n m }
 
 -- what all of some lists share
@@ -165,9 +165,9 @@ pub meet_push : (rs : List (List Span)) (x : List Span) → 1 ≤ length rs → 
 meet_push [] x h = absurd (omega arith)
 meet_push (r ∷ rs) x h = fold-append meet r rs (x ∷ [])
 
-pub meet_is : (xs ys met : List Span) → IsNormalized xs → IsNormalized ys → Met xs ys met → met ≡ meet xs ys
+pub meet_is : (xs ys met : List Span) → IsNormalized xs → IsNormalized ys → IsIntersection xs ys met → met ≡ meet xs ys
 meet_is xs ys met n m h = one_met xs ys met (meet xs ys) h (met_meet xs ys n m)
 
 -- the same of equal lists
-pub met_again : (xs ys left right given met : List Span) → left ≡ xs → right ≡ ys → met ≡ given → Met left right given → Met xs ys met
-met_again xs ys left right given met e f g m = subst (λ (zs : List Span). Met xs ys zs) (sym g) (subst (λ (zs : List Span). Met xs zs given) f (subst (λ (zs : List Span). Met zs right given) e m))
+pub met_again : (xs ys left right given met : List Span) → left ≡ xs → right ≡ ys → met ≡ given → IsIntersection left right given → IsIntersection xs ys met
+met_again xs ys left right given met e f g m = subst (λ (zs : List Span). IsIntersection xs ys zs) (sym g) (subst (λ (zs : List Span). IsIntersection xs zs given) f (subst (λ (zs : List Span). IsIntersection zs right given) e m))

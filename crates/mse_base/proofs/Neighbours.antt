@@ -2,17 +2,17 @@
 use Rattle.std.proofs.Common.{◌≡◌, ◌∙◌, ℤ, pos, ◌+ℤ◌, ◌-ℤ◌, ◌<ℤ◌, ◌≤ℤ◌, Bool, true, false, ◌||◌, List, [], ◌∷◌, ◌++◌, refl, sym, ap, subst, inl, inr, ◌⊎◌, arith}
 use Rattle.std.proofs.lemmas.Int.{ints}
 use Rattle.mse_base.specs.declared.span.Span.{Span}
-use Rattle.mse_base.specs.Spans.{has_tick, covers, IsNormalized, Joined, Met, CutOut, IsBridged, Bridged, IsInGap}
+use Rattle.mse_base.specs.Spans.{has_tick, covers, IsNormalized, IsUnion, IsIntersection, IsDifference, IsBridged, IsBridging, IsInGap}
 use Rattle.mse_base.proofs.Unique.{unique, not_yet}
 use Rattle.mse_base.proofs.Sets.{covers-append}
 
-pub one_joined : (given xs ys : List Span) → Joined given xs → Joined given ys → xs ≡ ys
+pub one_joined : (given xs ys : List Span) → IsUnion given xs → IsUnion given ys → xs ≡ ys
 one_joined given xs ys p q = unique xs ys p.normalized q.normalized (λ t. p.same t ∙ sym (q.same t))
 
-pub one_met : (left right xs ys : List Span) → Met left right xs → Met left right ys → xs ≡ ys
+pub one_met : (left right xs ys : List Span) → IsIntersection left right xs → IsIntersection left right ys → xs ≡ ys
 one_met left right xs ys p q = unique xs ys p.normalized q.normalized (λ t. p.same t ∙ sym (q.same t))
 
-pub one_cut_out : (from to : ℤ) (given xs ys : List Span) → CutOut from to given xs → CutOut from to given ys → xs ≡ ys
+pub one_cut_out : (from to : ℤ) (given xs ys : List Span) → IsDifference from to given xs → IsDifference from to given ys → xs ≡ ys
 one_cut_out from to given xs ys p q = unique xs ys p.normalized q.normalized (λ t. p.same t ∙ sym (q.same t))
 
 both_true : (a b : Bool) → (a ≡ true → b ≡ true) → (b ≡ true → a ≡ true) → a ≡ b
@@ -36,13 +36,13 @@ bridged_covers given t b = elim (one_of b.from t b.to b.above b.below b.near) as
 own_bridge : (gap : ℤ) (given : List Span) (t : ℤ) → pos 0 ≤ℤ gap → covers given t ≡ true → IsBridged gap given t
 own_bridge gap given t g e = record { from = t; to = t; has_from = e; has_to = e; above = omega (arith, ints); below = omega (arith, ints); near = omega (arith, ints) }
 
-pub joined_of_bridged : (given xs : List Span) → Bridged (pos 0) given xs → Joined given xs
+pub joined_of_bridged : (given xs : List Span) → IsBridging (pos 0) given xs → IsUnion given xs
 joined_of_bridged given xs b = record {
   same = λ t. both_true (covers xs t) (covers given t) (λ e. bridged_covers given t (b.no_more t e)) (λ e. b.no_less t (own_bridge (pos 0) given t (omega (arith, ints)) e));
   normalized = b.normalized;
 }
 
-pub bridged_of_joined : (given xs : List Span) → Joined given xs → Bridged (pos 0) given xs
+pub bridged_of_joined : (given xs : List Span) → IsUnion given xs → IsBridging (pos 0) given xs
 bridged_of_joined given xs j = record {
   no_more = λ t e. own_bridge (pos 0) given t (omega (arith, ints)) (sym (j.same t) ∙ e);
   no_less = λ t b. j.same t ∙ bridged_covers given t b;
@@ -141,7 +141,7 @@ yes_or_no : (b : Bool) → (b ≡ true) ⊎ (b ≡ false)
 yes_or_no true = inl refl
 yes_or_no false = inr refl
 
-pub gap_of_bridged : (gap : ℤ) (given joined : List Span) (t : ℤ) → Joined given joined → IsBridged gap given t → (covers joined t ≡ true) ⊎ IsInGap gap joined t
+pub gap_of_bridged : (gap : ℤ) (given joined : List Span) (t : ℤ) → IsUnion given joined → IsBridged gap given t → (covers joined t ≡ true) ⊎ IsInGap gap joined t
 gap_of_bridged gap given joined t j b = elim (yes_or_no (covers joined t)) as (λ _. (covers joined t ≡ true) ⊎ IsInGap gap joined t) [
   | inl e ↦ inl e
   | inr e ↦ inr (in_gap gap b.from t b.to joined j.normalized e (j.same b.from ∙ b.has_from) (j.same b.to ∙ b.has_to) b.above b.below b.near)
@@ -151,7 +151,7 @@ lasting_left : (front : List Span) (left right : Span) (back : List Span) → Is
 lasting_left [] left right back n = (n.0, n.2.0)
 lasting_left (x ∷ front) left right back n = lasting_left front left right back n.2
 
-pub bridged_of_gap : (gap : ℤ) (given joined : List Span) (t : ℤ) → pos 0 ≤ℤ gap → Joined given joined → (covers joined t ≡ true) ⊎ IsInGap gap joined t → IsBridged gap given t
+pub bridged_of_gap : (gap : ℤ) (given joined : List Span) (t : ℤ) → pos 0 ≤ℤ gap → IsUnion given joined → (covers joined t ≡ true) ⊎ IsInGap gap joined t → IsBridged gap given t
 bridged_of_gap gap given joined t g j (inl e) = own_bridge gap given t g (sym (j.same t) ∙ e)
 bridged_of_gap gap given joined t g j (inr i) =
     let n : IsNormalized (i.front ++ i.left ∷ i.right ∷ i.back) = subst (λ (zs : List Span). IsNormalized zs) i.neighbours j.normalized in

@@ -1,7 +1,7 @@
 -- The ticks that one of two lists of spans has, taken from the front.
 use Rattle.std.proofs.Common.{◌≡◌, ◌∙◌, ℤ, pos, ◌≤ℤ◌, Bool, true, false, ◌||◌, List, [], ◌∷◌, ◌++◌, inl, inr, refl, ap, sym, subst}
 use Rattle.mse_base.specs.declared.span.Span.{Span}
-use Rattle.mse_base.specs.Spans.{has_tick, covers, Joined}
+use Rattle.mse_base.specs.Spans.{has_tick, covers, IsUnion}
 use Rattle.mse_base.specs.Bridging.{ranges_with, is_near_any, IsRanges, IsHeadOfOne}
 use Rattle.mse_base.proofs.Sets.{covers-append, nears_covers, near_within}
 use Rattle.mse_base.proofs.Merging.{ranges_join_in, times_join_in}
@@ -61,7 +61,7 @@ none : (j : Bool) → (j || (false || false)) ≡ j
 none true = refl
 none false = refl
 
-pub finish : (left right xs ys joined : List Span) → pos 0 ≤ℤ pos 0 → xs ≡ [] → ys ≡ [] → Joining left right xs ys joined → Joined (left ++ right) joined
+pub finish : (left right xs ys joined : List Span) → pos 0 ≤ℤ pos 0 → xs ≡ [] → ys ≡ [] → Joining left right xs ys joined → IsUnion (left ++ right) joined
 finish left right xs ys joined g e f m = record {
   same = λ t. sym (nears_covers t joined) ∙ sym (ap (λ (zs : List Span). is_near_any (pos 0) t joined || (covers zs t || covers ys t)) e ∙ ap (λ (zs : List Span). is_near_any (pos 0) t joined || (false || covers zs t)) f ∙ none (is_near_any (pos 0) t joined)) ∙ m.same t;
   normalized = normalized_ranges (pos 0) joined g m.ranges;

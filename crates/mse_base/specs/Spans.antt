@@ -27,17 +27,17 @@ IsNormalized [] = Unit {0}
 IsNormalized (s ∷ ss) = (s.start <ℤ s.end) × StartsAfter s.end ss × IsNormalized ss
 
 -- the normalized ranges whose ticks are just those of the given spans
-pub record Joined (given joined : List Span) : Type 0 where
+pub record IsUnion (given joined : List Span) : Type 0 where
   pub same : (t : ℤ) → covers joined t ≡ covers given t
   pub normalized : IsNormalized joined
 
 -- the normalized ranges whose ticks are just those that both lists have
-pub record Met (left right met : List Span) : Type 0 where
+pub record IsIntersection (left right met : List Span) : Type 0 where
   pub same : (t : ℤ) → covers met t ≡ (covers left t && covers right t)
   pub normalized : IsNormalized met
 
 -- the normalized ranges whose ticks are those of the given spans, but for those from `from` on and below `to`
-pub record CutOut (from to : ℤ) (given left : List Span) : Type 0 where
+pub record IsDifference (from to : ℤ) (given left : List Span) : Type 0 where
   pub same : (t : ℤ) → covers left t ≡ (covers given t && not (int_le from t && int_lt t to))
   pub normalized : IsNormalized left
 
@@ -52,7 +52,7 @@ pub record IsBridged (gap : ℤ) (given : List Span) (t : ℤ) : Type 0 where
   pub near : to ≤ℤ (from +ℤ gap +ℤ pos 1)
 
 -- the normalized ranges whose ticks are just the bridged ticks of the given spans
-pub record Bridged (gap : ℤ) (given bridged : List Span) : Type 0 where
+pub record IsBridging (gap : ℤ) (given bridged : List Span) : Type 0 where
   pub no_more : (t : ℤ) → covers bridged t ≡ true → IsBridged gap given t
   pub no_less : (t : ℤ) → IsBridged gap given t → covers bridged t ≡ true
   pub normalized : IsNormalized bridged

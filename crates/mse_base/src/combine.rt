@@ -1,5 +1,5 @@
 ghost use Rattle.std.specs.Prelude.{◌≡◌, ◌++◌, [], None, IfOk, IfSome, OnOk};
-ghost use Rattle.mse_base.specs.Spans.{IsNormalized, Joined, Met};
+ghost use Rattle.mse_base.specs.Spans.{IsNormalized, IsUnion, IsIntersection};
 ghost use Rattle.mse_base.specs.Bridging.{overlap, IsHeadOfOne};
 
 use crate::bridge::join_in;
@@ -25,7 +25,7 @@ pub(crate) fn meet_of(
 ) -> Result<Vec<Span>, OutOfMemory>
     requires left { IsNormalized left.now }
     requires right { IsNormalized right.now }
-    ensures { IfOk result (λ v. Met left.now right.now v.items) }
+    ensures { IfOk result (λ v. IsIntersection left.now right.now v.items) }
 {
     let mut spans = Vec::new(alloc);
     let mut xs = left;
@@ -87,7 +87,7 @@ pub(crate) fn union_of(
     left: &[Span],
     right: &[Span],
 ) -> Result<SpanList, OutOfMemory>
-    ensures { IfOk result (λ v. Joined (left.now ++ right.now) v.spans) }
+    ensures { IfOk result (λ v. IsUnion (left.now ++ right.now) v.spans) }
 {
     let mut spans = SpanList::new(alloc);
     let mut heads = Heads { left, right };

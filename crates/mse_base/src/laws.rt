@@ -4,7 +4,7 @@
 ghost use Rattle.std.specs.Prelude.{◌≡◌, ◌≢◌, ◌⊎◌, ◌↔◌, ℤ, ℕ, ◌<◌, ◌≤◌, ◌≤ℤ◌, pos, List, [], ◌∷◌, ◌++◌, length, map, find, Option, option_to_list, true};
 ghost use Rattle.std.specs.List.{AllByRecursion, list_all};
 ghost use Rattle.mse_base.specs.Time.{floor_div, IsFloor};
-ghost use Rattle.mse_base.specs.Spans.{covers, reaches, IsNormalized, Joined, Met, CutOut, Bridged, IsBridged, IsInGap};
+ghost use Rattle.mse_base.specs.Spans.{covers, reaches, IsNormalized, IsUnion, IsIntersection, IsDifference, IsBridging, IsBridged, IsInGap};
 ghost use Rattle.mse_base.specs.Bridging.{bridged_ranges, overlap};
 ghost use Rattle.mse_base.specs.Meets.{meet, meet_of_all, overlap_span, overlap_of_two, overlap_of_all};
 ghost use Rattle.mse_base.specs.declared.span.Span.{Span};
@@ -16,28 +16,29 @@ pub fn floor()
 
 /// Ranges that are told by their ticks are one list.
 pub fn one_list()
-    ensures joined { (given xs ys : List Span) → Joined given xs → Joined given ys → xs ≡ ys }
-    ensures met { (left right xs ys : List Span) → Met left right xs → Met left right ys → xs ≡ ys }
-    ensures cut_out { (from to : ℤ) (given xs ys : List Span) → CutOut from to given xs →
-        CutOut from to given ys → xs ≡ ys }
-    ensures bridged { (gap : ℤ) (given xs ys : List Span) → Bridged gap given xs →
-        Bridged gap given ys → xs ≡ ys }
+    ensures joined { (given xs ys : List Span) → IsUnion given xs → IsUnion given ys → xs ≡ ys }
+    ensures met { (left right xs ys : List Span) → IsIntersection left right xs →
+        IsIntersection left right ys → xs ≡ ys }
+    ensures cut_out { (from to : ℤ) (given xs ys : List Span) → IsDifference from to given xs →
+        IsDifference from to given ys → xs ≡ ys }
+    ensures bridged { (gap : ℤ) (given xs ys : List Span) → IsBridging gap given xs →
+        IsBridging gap given ys → xs ≡ ys }
 {}
 
 /// Joining spans one after another gives their bridged ranges, which are never more than the
 /// spans. With no gap these are the joined ranges.
 pub fn bridging()
     ensures made { (gap : ℤ) (given : List Span) → pos 0 ≤ℤ gap →
-        Bridged gap given (bridged_ranges gap given) }
+        IsBridging gap given (bridged_ranges gap given) }
     ensures not_more { (gap : ℤ) (given : List Span) →
         length (bridged_ranges gap given) ≤ length given }
-    ensures no_gap { (given xs : List Span) → Bridged (pos 0) given xs ↔ Joined given xs }
+    ensures no_gap { (given xs : List Span) → IsBridging (pos 0) given xs ↔ IsUnion given xs }
 {}
 
 /// A tick is bridged exactly where it is a tick of the joined ranges, or lies in a gap of at most
 /// `gap` ticks between two neighbours of them.
 pub fn gaps_between_neighbours()
-    ensures { (gap : ℤ) (given joined : List Span) (t : ℤ) → pos 0 ≤ℤ gap → Joined given joined →
+    ensures { (gap : ℤ) (given joined : List Span) (t : ℤ) → pos 0 ≤ℤ gap → IsUnion given joined →
         IsBridged gap given t ↔ ((covers joined t ≡ true) ⊎ IsInGap gap joined t) }
 {}
 
@@ -45,7 +46,8 @@ pub fn gaps_between_neighbours()
 /// range that has a time, or ends at it, is the overlap of the range of each list that does, where
 /// that overlap has a tick; elsewhere there is none.
 pub fn meets()
-    ensures met { (xs ys : List Span) → IsNormalized xs → IsNormalized ys → Met xs ys (meet xs ys) }
+    ensures met { (xs ys : List Span) → IsNormalized xs → IsNormalized ys →
+        IsIntersection xs ys (meet xs ys) }
     ensures found { (t : ℤ) (xs ys : List Span) → IsNormalized xs → IsNormalized ys
         → find (reaches t) (meet xs ys)
         ≡ overlap_of_two (find (reaches t) xs) (find (reaches t) ys) }

@@ -1,7 +1,7 @@
 ghost use Rattle.std.specs.Prelude.{◌≡◌, ◌↔◌, ◌+◌, ◌≤◌, ◌<ℤ◌, ◌≤ℤ◌, ◌+ℤ◌, ◌-ℤ◌, pos, [], ◌∷◌, ◌++◌, length, slice_get, find, IsTrue, IfOk, OnOk};
 ghost use Rattle.std.specs.Int.{int_max};
 ghost use Rattle.std.specs.Option.{ForSome};
-ghost use Rattle.mse_base.specs.Spans.{IsNormalized, Joined, Met, Bridged, CutOut, reaches, last_of};
+ghost use Rattle.mse_base.specs.Spans.{IsNormalized, IsUnion, IsIntersection, IsBridging, IsDifference, reaches, last_of};
 ghost use Rattle.mse_base.specs.Bridging.{IsRanges, ranges_with, bridged_ranges, ranges_without};
 ghost use Rattle.mse_base.specs.Meets.{meet};
 
@@ -70,7 +70,7 @@ impl Ranges {
         requires order { ForSome (last_of self.old.spans) (λ last. last.start ≤ℤ span.start) }
         requires gap_from_zero { pos 0 ≤ℤ gap }
         requires ranges { IsRanges gap self.old.spans }
-        ensures bridged { Bridged gap (self.old.spans ++ span ∷ []) self.new.spans }
+        ensures bridged { IsBridging gap (self.old.spans ++ span ∷ []) self.new.spans }
         ensures spans { self.new.spans ≡ ranges_with gap self.old.spans span }
         ensures ranges { IsRanges gap self.new.spans }
         ensures room { self.old.spare + length self.old.spans
@@ -85,7 +85,7 @@ impl Ranges {
         requires room { 1 ≤ self.old.spare }
         requires gap_from_zero { pos 0 ≤ℤ gap }
         requires ranges { IsRanges gap self.old.spans }
-        ensures bridged { Bridged gap (self.old.spans ++ span ∷ []) self.new.spans }
+        ensures bridged { IsBridging gap (self.old.spans ++ span ∷ []) self.new.spans }
         ensures spans { self.new.spans ≡ ranges_with gap self.old.spans span }
         ensures ranges { IsRanges gap self.new.spans }
         ensures room { self.old.spare + length self.old.spans
@@ -101,7 +101,7 @@ impl Ranges {
         requires gap_from_zero { pos 0 ≤ℤ gap }
         requires hole_not_empty { hole.start <ℤ hole.end }
         requires ranges { IsRanges gap self.old.spans }
-        ensures cut_out { CutOut (hole.start -ℤ gap)
+        ensures cut_out { IsDifference (hole.start -ℤ gap)
             (hole.end +ℤ gap) self.old.spans self.new.spans }
         ensures spans { self.new.spans
             ≡ ranges_without (hole.start -ℤ gap) (hole.end +ℤ gap) self.old.spans }
@@ -159,7 +159,7 @@ impl Ranges {
 
     /// The ranges of the ticks that one of the two has.
     pub fn union(&self, other: &Ranges) -> Result<Ranges, OutOfMemory>
-        ensures { IfOk result (λ r. Joined (self.now.spans ++ other.now.spans) r.spans) }
+        ensures { IfOk result (λ r. IsUnion (self.now.spans ++ other.now.spans) r.spans) }
     {
         let left = self.spans.to_vec(self.alloc)?;
         let right = other.spans.to_vec(self.alloc)?;
@@ -172,7 +172,7 @@ impl Ranges {
 
     /// The ranges of the ticks that both have.
     pub fn meet(&self, other: &Ranges) -> Result<Ranges, OutOfMemory>
-        ensures met { IfOk result (λ r. Met self.now.spans other.now.spans r.spans) }
+        ensures met { IfOk result (λ r. IsIntersection self.now.spans other.now.spans r.spans) }
         ensures spans { IfOk result (λ r. r.spans ≡ meet self.now.spans other.now.spans) }
     {
         let left = self.spans.to_vec(self.alloc)?;
@@ -187,7 +187,8 @@ impl Ranges {
     /// The ranges with the gaps of at most `gap` ticks filled. A negative gap fills none, as 0
     /// does.
     pub fn bridge(&self, gap: Ticks) -> Result<Ranges, OutOfMemory>
-        ensures bridged { IfOk result (λ r. Bridged (int_max gap (pos 0)) self.now.spans r.spans) }
+        ensures bridged { IfOk result (λ r. IsBridging
+            (int_max gap (pos 0)) self.now.spans r.spans) }
         ensures spans { IfOk result (λ r. r.spans
             ≡ bridged_ranges (int_max gap (pos 0)) self.now.spans) }
         ensures ranges { IfOk result (λ r. IsRanges (int_max gap (pos 0)) r.spans) }

@@ -12,25 +12,25 @@ use Rattle.mse_calls.specs.declared.views.FaultView.{FaultView}
 use Rattle.mse_engine.specs.State.{State}
 use Rattle.mse_engine.specs.Standing.{Kept, Stands}
 use Rattle.mse_engine.specs.Run.{after_entries}
-use Rattle.mse_engine.proofs.Goes.{after_entries-append, goes_none, goes_then}
+use Rattle.mse_engine.proofs.Transitions.{after_entries-append, goes_none, goes_then}
 use Rattle.cut_law.specs.Plays.{drain_entries}
 use Rattle.play_law.proofs.Singles.{some-drain}
-use Rattle.script_run.specs.Doings.{InDrainOrder, IsAtRest}
-use Rattle.script_run.specs.Ran.{Drains, Stepped}
+use Rattle.script_run.specs.DrainSteps.{AreInDrainOrder, IsAtRest}
+use Rattle.script_run.specs.Plays.{Drains, IsOwnStep}
 use Rattle.listeners.specs.Views.{RunView}
-use Rattle.script_run.specs.Stage.{IsStanding}
+use Rattle.script_run.specs.RunStates.{IsStanding}
 use Rattle.script_run.specs.Turns.{calls_in}
 use Rattle.script_run.proofs.Following.{order_then}
 use Rattle.script_run.proofs.Turning.{calls_in-append}
 use Rattle.mse_commands.specs.Shown.{IsAppends, IsQuietDrain, IsWholeFile, StopsAtFault, append_entry, open_entries}
-use Rattle.mse_commands.specs.Works.{Appended, AppendedFront, IsOpened, OpenedFront}
+use Rattle.mse_commands.specs.Works.{IsAppended, IsPartAppended, IsOpened, IsFrontOpened}
 
 -- ---- entries that came
 
-stepped_none : (blobs : List (List ℕ)) (a : RunView) → Stepped blobs [] a a
+stepped_none : (blobs : List (List ℕ)) (a : RunView) → IsOwnStep blobs [] a a
 stepped_none blobs a = record { grew = sym (append-nil a.entries); goes = goes_none blobs a.engine; left = refl }
 
-stepped_then : (blobs : List (List ℕ)) (xs ys : List Entry) (a b c : RunView) → Stepped blobs xs a b → Stepped blobs ys b c → Stepped blobs (xs ++ ys) a c
+stepped_then : (blobs : List (List ℕ)) (xs ys : List Entry) (a b c : RunView) → IsOwnStep blobs xs a b → IsOwnStep blobs ys b c → IsOwnStep blobs (xs ++ ys) a c
 stepped_then blobs xs ys a b c p q = record {
   grew = q.grew ∙ ap (λ (x : List Entry). x ++ ys) p.grew ∙ append_assoc a.entries xs ys;
   goes = goes_then blobs a.engine b.engine c.engine xs ys p.goes q.goes;
@@ -38,24 +38,24 @@ stepped_then blobs xs ys a b c p q = record {
 }
 
 -- what is kept goes on standing for some state
-pub stands_on : (blobs : List (List ℕ)) (xs : List Entry) (a b : RunView) → Stepped blobs xs a b → IsStanding a.engine → IsStanding b.engine
+pub stands_on : (blobs : List (List ℕ)) (xs : List Entry) (a b : RunView) → IsOwnStep blobs xs a b → IsStanding a.engine → IsStanding b.engine
 stands_on blobs xs a b p s = record { state = after_entries blobs s.state xs; stands = p.goes.stands s.state s.stands }
 
 -- ---- the source is opened
 
-pub opened : (blobs : List (List ℕ)) (kind : List ℕ) (a b c : RunView) → ((answer : Answer) × Stepped blobs (Script Attach answer ∷ []) a b) → kind ≡ codes "video/mp4"
-    → ((answer : Answer) × Stepped blobs (Script (AddSourceBuffer kind) answer ∷ []) b c) → IsOpened blobs a c
+pub opened : (blobs : List (List ℕ)) (kind : List ℕ) (a b c : RunView) → ((answer : Answer) × IsOwnStep blobs (Script Attach answer ∷ []) a b) → kind ≡ codes "video/mp4"
+    → ((answer : Answer) × IsOwnStep blobs (Script (AddSourceBuffer kind) answer ∷ []) b c) → IsOpened blobs a c
 opened blobs kind a b c p is q = record {
   attached = p.0;
   added = q.0;
   stepped = stepped_then blobs (Script Attach p.0 ∷ []) (Script (AddSourceBuffer (codes "video/mp4")) q.0 ∷ []) a b c p.1
-      (subst (λ (x : List ℕ). Stepped blobs (Script (AddSourceBuffer x) q.0 ∷ []) b c) is q.1);
+      (subst (λ (x : List ℕ). IsOwnStep blobs (Script (AddSourceBuffer x) q.0 ∷ []) b c) is q.1);
 }
 
-pub opened_none : (blobs : List (List ℕ)) (a : RunView) → OpenedFront blobs a a
+pub opened_none : (blobs : List (List ℕ)) (a : RunView) → IsFrontOpened blobs a a
 opened_none blobs a = record { entries = []; stepped = stepped_none blobs a; attached = Done; added = Done; rest = open_entries Done Done; opens = refl }
 
-pub opened_half : (blobs : List (List ℕ)) (a b : RunView) → ((answer : Answer) × Stepped blobs (Script Attach answer ∷ []) a b) → OpenedFront blobs a b
+pub opened_half : (blobs : List (List ℕ)) (a b : RunView) → ((answer : Answer) × IsOwnStep blobs (Script Attach answer ∷ []) a b) → IsFrontOpened blobs a b
 opened_half blobs a b p = record {
   entries = Script Attach p.0 ∷ [];
   stepped = p.1;
@@ -73,7 +73,7 @@ open_stands blobs a b p s = stands_on blobs (open_entries p.attached p.added) a 
 -- Entries came of which nobody heard, and what appends the pieces that are left completes the file.
 pub record IsUnderWay (bytes : List ℕ) (pieces left : List Piece) (a b : RunView) : Type 0 where
   pub entries : List Entry
-  pub stepped : Stepped (bytes ∷ []) entries a b
+  pub stepped : IsOwnStep (bytes ∷ []) entries a b
   pub silent : calls_in entries ≡ 0
   pub completes : (st : State) → Stands a.engine st → (rest : List Entry) → IsAppends (bytes ∷ []) (after_entries (bytes ∷ []) st entries) left rest
       → IsWholeFile (bytes ∷ []) st pieces (entries ++ rest)
@@ -92,7 +92,7 @@ under_way_stands bytes pieces left a b p s = stands_on (bytes ∷ []) p.entries 
 -- The same behind a piece, where nothing more comes behind a fault.
 pub record IsBehindPiece (bytes : List ℕ) (pieces left : List Piece) (a b : RunView) : Type 0 where
   pub entries : List Entry
-  pub stepped : Stepped (bytes ∷ []) entries a b
+  pub stepped : IsOwnStep (bytes ∷ []) entries a b
   pub silent : calls_in entries ≡ 0
   pub completes : (st : State) → Stands a.engine st → (rest : List Entry)
       → StopsAtFault (after_entries (bytes ∷ []) st entries).core.source.fault rest (IsAppends (bytes ∷ []) (after_entries (bytes ∷ []) st entries) left rest)
@@ -100,13 +100,13 @@ pub record IsBehindPiece (bytes : List ℕ) (pieces left : List Piece) (a b : Ru
 
 -- one more piece
 pub piece_done : (bytes : List ℕ) (pieces : List Piece) (piece : Piece) (left : List Piece) (a b c d : RunView) → IsUnderWay bytes pieces (piece ∷ left) a b
-    → ((answer : Answer) × Stepped (bytes ∷ []) (append_entry piece answer ∷ []) b c) → Drains (bytes ∷ []) c d
+    → ((answer : Answer) × IsOwnStep (bytes ∷ []) (append_entry piece answer ∷ []) b c) → Drains (bytes ∷ []) c d
     → ((st : State) → Stands d.engine st → IsAtRest st) → IsBehindPiece bytes pieces left a d
 piece_done bytes pieces piece left a b c d p call drains end =
     let blobs : List (List ℕ) = bytes ∷ [] in
     let first : Entry = append_entry piece call.0 in
     let part : List Entry = drains.entries in
-    let both : Stepped blobs (first ∷ part) b d = stepped_then blobs (first ∷ []) part b c d call.1 drains.stepped in
+    let both : IsOwnStep blobs (first ∷ part) b d = stepped_then blobs (first ∷ []) part b c d call.1 drains.stepped in
     record {
       entries = p.entries ++ first ∷ part;
       stepped = stepped_then blobs p.entries (first ∷ part) a b d p.stepped both;
@@ -146,7 +146,7 @@ goes_on bytes pieces left a b p none = record {
 }
 
 -- all was appended
-pub appended : (bytes : List ℕ) (pieces : List Piece) (a b : RunView) → IsUnderWay bytes pieces [] a b → Appended bytes pieces a b
+pub appended : (bytes : List ℕ) (pieces : List Piece) (a b : RunView) → IsUnderWay bytes pieces [] a b → IsAppended bytes pieces a b
 appended bytes pieces a b p = record {
   entries = p.entries;
   grew = record {
@@ -162,7 +162,7 @@ none_more None = refl
 none_more (Some f) = refl
 
 -- also where a fault came with the last piece
-pub appended_last : (bytes : List ℕ) (pieces : List Piece) (a b : RunView) → IsBehindPiece bytes pieces [] a b → Appended bytes pieces a b
+pub appended_last : (bytes : List ℕ) (pieces : List Piece) (a b : RunView) → IsBehindPiece bytes pieces [] a b → IsAppended bytes pieces a b
 appended_last bytes pieces a b p = record {
   entries = p.entries;
   grew = record {
@@ -175,7 +175,7 @@ appended_last bytes pieces a b p = record {
 
 -- or before it
 pub appended_to_fault : (bytes : List ℕ) (pieces left : List Piece) (fault : FaultView) (a b : RunView) → IsBehindPiece bytes pieces left a b
-    → ((st : State) → Stands b.engine st → st.core.source.fault ≡ Some fault) → Appended bytes pieces a b
+    → ((st : State) → Stands b.engine st → st.core.source.fault ≡ Some fault) → IsAppended bytes pieces a b
 appended_to_fault bytes pieces left fault a b p some = record {
   entries = p.entries;
   grew = record {
@@ -208,7 +208,7 @@ rest_appends blobs st (piece ∷ pieces) =
     (first ∷ (part ++ more.0), (Done, part, more.0, refl, quiet_drain blobs (after_entries blobs st (first ∷ [])), more.1))
 
 -- a front of a drain can be drained to its end
-drain_on : (blobs : List (List ℕ)) (st : State) (part : List Entry) → InDrainOrder blobs st part → calls_in part ≡ 0
+drain_on : (blobs : List (List ℕ)) (st : State) (part : List Entry) → AreInDrainOrder blobs st part → calls_in part ≡ 0
     → IsQuietDrain blobs st (part ++ drain_entries blobs (after_entries blobs st part))
 drain_on blobs st part order silent =
     let now : State = after_entries blobs st part in
@@ -224,7 +224,7 @@ drain_on blobs st part order silent =
 -- ---- fronts
 
 -- what came and what is still to come, of a file that is opened by it
-opened_on : (bytes : List ℕ) (pieces : List Piece) (a b : RunView) → OpenedFront (bytes ∷ []) a b → AppendedFront bytes pieces a b
+opened_on : (bytes : List ℕ) (pieces : List Piece) (a b : RunView) → IsFrontOpened (bytes ∷ []) a b → IsPartAppended bytes pieces a b
 opened_on bytes pieces a b p = record {
   entries = p.entries;
   grew = record {
@@ -245,13 +245,13 @@ opened_on bytes pieces a b p = record {
   };
 }
 
-pub front_none : (bytes : List ℕ) (pieces : List Piece) (a : RunView) → AppendedFront bytes pieces a a
+pub front_none : (bytes : List ℕ) (pieces : List Piece) (a : RunView) → IsPartAppended bytes pieces a a
 front_none bytes pieces a = opened_on bytes pieces a a (opened_none (bytes ∷ []) a)
 
-pub front_opened : (bytes : List ℕ) (pieces : List Piece) (a b : RunView) → OpenedFront (bytes ∷ []) a b → AppendedFront bytes pieces a b
+pub front_opened : (bytes : List ℕ) (pieces : List Piece) (a b : RunView) → IsFrontOpened (bytes ∷ []) a b → IsPartAppended bytes pieces a b
 front_opened bytes pieces a b p = opened_on bytes pieces a b p
 
-pub front_under_way : (bytes : List ℕ) (pieces left : List Piece) (a b : RunView) → IsUnderWay bytes pieces left a b → AppendedFront bytes pieces a b
+pub front_under_way : (bytes : List ℕ) (pieces left : List Piece) (a b : RunView) → IsUnderWay bytes pieces left a b → IsPartAppended bytes pieces a b
 front_under_way bytes pieces left a b p = record {
   entries = p.entries;
   grew = record {
@@ -265,13 +265,13 @@ front_under_way bytes pieces left a b p = record {
 
 -- a piece was appended, and the drain behind it was cut off
 pub front_drained : (bytes : List ℕ) (pieces left : List Piece) (piece : Piece) (a b c d : RunView) → IsUnderWay bytes pieces (piece ∷ left) a b
-    → ((answer : Answer) × Stepped (bytes ∷ []) (append_entry piece answer ∷ []) b c) → Drains (bytes ∷ []) c d → AppendedFront bytes pieces a d
+    → ((answer : Answer) × IsOwnStep (bytes ∷ []) (append_entry piece answer ∷ []) b c) → Drains (bytes ∷ []) c d → IsPartAppended bytes pieces a d
 front_drained bytes pieces left piece a b c d p call drains =
     let blobs : List (List ℕ) = bytes ∷ [] in
     let first : Entry = append_entry piece call.0 in
     let part : List Entry = drains.entries in
-    let both : Stepped blobs (first ∷ part) b d = stepped_then blobs (first ∷ []) part b c d call.1 drains.stepped in
-    let all : Stepped blobs (p.entries ++ first ∷ part) a d = stepped_then blobs p.entries (first ∷ part) a b d p.stepped both in
+    let both : IsOwnStep blobs (first ∷ part) b d = stepped_then blobs (first ∷ []) part b c d call.1 drains.stepped in
+    let all : IsOwnStep blobs (p.entries ++ first ∷ part) a d = stepped_then blobs p.entries (first ∷ part) a b d p.stepped both in
     record {
       entries = p.entries ++ first ∷ part;
       grew = record {

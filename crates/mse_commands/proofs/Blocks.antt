@@ -14,8 +14,8 @@ use Rattle.segment_walk.specs.Segments.{segment_parse, Items}
 use Rattle.mse_engine.specs.State.{Core, Outer, State, opening_state}
 use Rattle.mse_engine.specs.Run.{after_entries}
 use Rattle.mse_engine.specs.Views.{view_in}
-use Rattle.mse_engine.proofs.Goes.{after_entries-append}
-use Rattle.script_run.specs.Wrote.{Wrote}
+use Rattle.mse_engine.proofs.Transitions.{after_entries-append}
+use Rattle.script_run.specs.Writes.{IsWritten}
 use Rattle.cut_law.specs.Cuts.{AreParts}
 use Rattle.cut_law.specs.Files.{after_piece, after_pieces, unless_fault}
 use Rattle.play_law.proofs.Singles.{append-drained}
@@ -31,7 +31,7 @@ use Rattle.mse_commands.specs.declared.ending.End.{End}
 use Rattle.mse_commands.specs.declared.ending.End.TheVariants.{NoFile}
 use Rattle.mse_commands.specs.Asked.{Request, Task, ByFile, asked, opening_of, request_of, ◌>>=◌}
 use Rattle.mse_commands.specs.Files.{AppendsFile, IsJournalOf, IsThrough, NameOneFile}
-use Rattle.mse_commands.specs.Outcomes.{Ends, EndsBehind, EndsRun, Left}
+use Rattle.mse_commands.specs.Outcomes.{Ends, EndsBehind, EndsRun, RunOutcome}
 use Rattle.mse_commands.specs.Shown.{IsAppends, IsWholeFile, StopsAtFault, append_entry, last_state, open_entries, pieces_by, pieces_of, text_of}
 use Rattle.mse_commands.specs.Words.{IsInRange, command_of, file_of, finite_time, longest_piece, most_segments, number_of}
 use Rattle.mse_commands.proofs.Numbers.{bounds_by}
@@ -245,12 +245,12 @@ not-some None h = refl
 not-some (Some fault) h = absurd (h refl)
 
 -- the whole file was run, and the status says whether it breaks the byte stream format
-record RanFile (command : Command) (bytes : List ℕ) (left : Left) (end : Status) : Type 0 where
+record RanFile (command : Command) (bytes : List ℕ) (left : RunOutcome) (end : Status) : Type 0 where
   journal : IsJournalOf command bytes left.entries
-  wrote : Wrote (text_of (ByFile command bytes) left.entries) left.before.written left.now.written
+  wrote : IsWritten (text_of (ByFile command bytes) left.entries) left.before.written left.now.written
   end_is : end ≡ status_by (is_some (last_state (ByFile command bytes) left.entries).core.source.fault)
 
-ran-file : (n : ℕ) (request : Request) (command : Command) (bytes : List ℕ) (left : Left) (end : Status) → AppendsFile command → IsInRange command → IsThrough end → EndsRun n request (ByFile command bytes) left end → RanFile command bytes left end
+ran-file : (n : ℕ) (request : Request) (command : Command) (bytes : List ℕ) (left : RunOutcome) (end : Status) → AppendsFile command → IsInRange command → IsThrough end → EndsRun n request (ByFile command bytes) left end → RanFile command bytes left end
 ran-file n request command bytes left end a r (inl e) ends =
     let all = subst (λ (x : Status). EndsRun n request (ByFile command bytes) left x) e ends in
     record {
@@ -266,15 +266,15 @@ ran-file n request command bytes left end a r (inr e) ends =
       end_is = e ∙ ap status_by (sym all.1);
     }
 
-file-run : (n : ℕ) (files : Table) (words : List (List ℕ)) (bytes : List ℕ) (left : Left) (end : Status) (named : Names files words bytes) → IsThrough end → Ends n (asked files words) left end → RanFile named.command bytes left end
+file-run : (n : ℕ) (files : Table) (words : List (List ℕ)) (bytes : List ℕ) (left : RunOutcome) (end : Status) (named : Names files words bytes) → IsThrough end → Ends n (asked files words) left end → RanFile named.command bytes left end
 file-run n files words bytes left end named through ends =
     ran-file n (asked files words) named.command bytes left end named.appends named.number through
     (subst (λ (r : Result Task End). EndsBehind n (asked files words) r left end) named.task ends)
 
-wrote-is : (text before : List ℕ) (old new : Option (List ℕ)) → old ≡ Some before → Wrote text old new → new ≡ Some (before ++ text)
-wrote-is text before old new e w = subst (λ (o : Option (List ℕ)). Wrote text o new) e w
+wrote-is : (text before : List ℕ) (old new : Option (List ℕ)) → old ≡ Some before → IsWritten text old new → new ≡ Some (before ++ text)
+wrote-is text before old new e w = subst (λ (o : Option (List ℕ)). IsWritten text o new) e w
 
-pub one-run : (files : Table) (a b : List (List ℕ)) (bytes : List ℕ) (n m : ℕ) (before : List ℕ) (s t : Left) (x y : Status) → NameOneFile files a b bytes → length bytes < 2 ^ 62
+pub one-run : (files : Table) (a b : List (List ℕ)) (bytes : List ℕ) (n m : ℕ) (before : List ℕ) (s t : RunOutcome) (x y : Status) → NameOneFile files a b bytes → length bytes < 2 ^ 62
     → s.before.written ≡ Some before → t.before.written ≡ Some before → IsThrough x → IsThrough y → Ends n (asked files a) s x → Ends m (asked files b) t y → (x ≡ y) × (s.now.written ≡ t.now.written)
 one-run files a b bytes n m before s t x y one short i j f g p q =
     let first : Names files a bytes = names files a bytes one.first one.found in

@@ -6,12 +6,12 @@ use Rattle.mse_calls.specs.declared.calls.Piece.{Piece}
 use Rattle.mse_calls.specs.declared.views.FaultView.{FaultView}
 use Rattle.mse_engine.specs.State.{State}
 use Rattle.mse_engine.specs.Standing.{Stands}
-use Rattle.script_run.specs.Doings.{IsAtRest}
-use Rattle.script_run.specs.Ran.{Drains, Stepped}
+use Rattle.script_run.specs.DrainSteps.{IsAtRest}
+use Rattle.script_run.specs.Plays.{Drains, IsOwnStep}
 use Rattle.listeners.specs.Views.{RunView}
-use Rattle.script_run.specs.Stage.{IsStanding}
+use Rattle.script_run.specs.RunStates.{IsStanding}
 use Rattle.mse_commands.specs.Shown.{append_entry, pieces_of}
-use Rattle.mse_commands.specs.Works.{Appended, AppendedFront, IsOpened}
+use Rattle.mse_commands.specs.Works.{IsAppended, IsPartAppended, IsOpened}
 use Rattle.mse_commands.proofs.Appending.{IsBehindPiece, IsUnderWay, appended, appended_to_fault, behind_stands, front_drained, front_under_way, goes_on, open_stands, piece_done, stands_on, under_way}
 use Rattle.mse_commands.proofs.Pieces.{IsLeft, all_left, next_left, none_left}
 
@@ -50,15 +50,15 @@ next_way bytes size len at blobs a b some more p =
     subst (λ (x : List Piece). IsUnderWay bytes (pieces_of size len) x a b) (next_left size len at p.left some more p.place).left_is p.way
 
 next_call : (bytes : List ℕ) (size len at count : ℕ) (blobs : List (List ℕ)) (a b c : RunView) → at < len → count ≡ min size (len - at) → IsAppending bytes size len at blobs a b
-    → ((answer : Answer) × Stepped blobs (append_entry (record { blob = 0; part = Some (at, count) }) answer ∷ []) b c)
-    → (answer : Answer) × Stepped (bytes ∷ []) (append_entry (record { blob = 0; part = Some (at, min size (len - at)) }) answer ∷ []) b c
+    → ((answer : Answer) × IsOwnStep blobs (append_entry (record { blob = 0; part = Some (at, count) }) answer ∷ []) b c)
+    → (answer : Answer) × IsOwnStep (bytes ∷ []) (append_entry (record { blob = 0; part = Some (at, min size (len - at)) }) answer ∷ []) b c
 next_call bytes size len at count blobs a b c more is p call =
-    subst (λ (n : ℕ). (answer : Answer) × Stepped (bytes ∷ []) (append_entry (record { blob = 0; part = Some (at, n) }) answer ∷ []) b c) is
-    (subst (λ (x : List (List ℕ)). (answer : Answer) × Stepped x (append_entry (record { blob = 0; part = Some (at, count) }) answer ∷ []) b c) (p.bytes_are more) call)
+    subst (λ (n : ℕ). (answer : Answer) × IsOwnStep (bytes ∷ []) (append_entry (record { blob = 0; part = Some (at, n) }) answer ∷ []) b c) is
+    (subst (λ (x : List (List ℕ)). (answer : Answer) × IsOwnStep x (append_entry (record { blob = 0; part = Some (at, count) }) answer ∷ []) b c) (p.bytes_are more) call)
 
 -- one more piece
 pub next_filed : (bytes : List ℕ) (size len at count : ℕ) (blobs : List (List ℕ)) (a b c d : RunView) → 1 ≤ size → at < len → count ≡ min size (len - at)
-    → IsAppending bytes size len at blobs a b → ((answer : Answer) × Stepped blobs (append_entry (record { blob = 0; part = Some (at, count) }) answer ∷ []) b c)
+    → IsAppending bytes size len at blobs a b → ((answer : Answer) × IsOwnStep blobs (append_entry (record { blob = 0; part = Some (at, count) }) answer ∷ []) b c)
     → Drains (bytes ∷ []) c d → ((st : State) → Stands d.engine st → IsAtRest st) → HasAppended bytes size len (at + count) a d
 next_filed bytes size len at count blobs a b c d some more is p call drains end =
     let next = next_left size len at p.left some more p.place in
@@ -87,26 +87,26 @@ goes_on_filing bytes size len at blobs a b None p none is within whole are s = r
 
 -- or ends at a fault
 pub ends_at_fault : (bytes : List ℕ) (size len at : ℕ) (a b : RunView) (fault : Option FaultView) → HasAppended bytes size len at a b → is_some fault ≡ true
-    → ((st : State) → Stands b.engine st → fault ≡ st.core.source.fault) → len ≡ length bytes → Appended bytes (pieces_of size (length bytes)) a b
+    → ((st : State) → Stands b.engine st → fault ≡ st.core.source.fault) → len ≡ length bytes → IsAppended bytes (pieces_of size (length bytes)) a b
 ends_at_fault bytes size len at a b None p some is whole = absurd (cc)
 ends_at_fault bytes size len at a b (Some f) p some is whole =
     rw (← whole) (appended_to_fault bytes (pieces_of size len) p.left f a b p.behind (λ st h. sym (is st h)))
 
 -- or at its end
 pub ends_filed : (bytes : List ℕ) (size len at : ℕ) (blobs : List (List ℕ)) (a b : RunView) → 1 ≤ size → len ≤ at → IsAppending bytes size len at blobs a b
-    → Appended bytes (pieces_of size (length bytes)) a b
+    → IsAppended bytes (pieces_of size (length bytes)) a b
 ends_filed bytes size len at blobs a b some past p =
     let none : p.left ≡ [] = none_left size len at p.left some past p.place in
     rw (← p.whole) (appended bytes (pieces_of size len) a b (subst (λ (x : List Piece). IsUnderWay bytes (pieces_of size len) x a b) none p.way))
 
 pub front_filed : (bytes : List ℕ) (size len at : ℕ) (blobs : List (List ℕ)) (a b : RunView) → IsAppending bytes size len at blobs a b
-    → AppendedFront bytes (pieces_of size (length bytes)) a b
+    → IsPartAppended bytes (pieces_of size (length bytes)) a b
 front_filed bytes size len at blobs a b p = rw (← p.whole) (front_under_way bytes (pieces_of size len) p.left a b p.way)
 
 -- the drain behind a piece was cut off
 pub front_cut : (bytes : List ℕ) (size len at count : ℕ) (blobs : List (List ℕ)) (a b c d : RunView) → 1 ≤ size → at < len → count ≡ min size (len - at)
-    → IsAppending bytes size len at blobs a b → ((answer : Answer) × Stepped blobs (append_entry (record { blob = 0; part = Some (at, count) }) answer ∷ []) b c)
-    → Drains (bytes ∷ []) c d → AppendedFront bytes (pieces_of size (length bytes)) a d
+    → IsAppending bytes size len at blobs a b → ((answer : Answer) × IsOwnStep blobs (append_entry (record { blob = 0; part = Some (at, count) }) answer ∷ []) b c)
+    → Drains (bytes ∷ []) c d → IsPartAppended bytes (pieces_of size (length bytes)) a d
 front_cut bytes size len at count blobs a b c d some more is p call drains =
     let next = next_left size len at p.left some more p.place in
     let piece : Piece = record { blob = 0; part = Some (at, min size (len - at)) } in
@@ -115,5 +115,5 @@ front_cut bytes size len at count blobs a b c d some more is p call drains =
 
 -- what is kept stands for a state behind the piece too
 pub stands_behind : (bytes : List ℕ) (size len at : ℕ) (blobs : List (List ℕ)) (piece : Piece) (a b c : RunView) → IsAppending bytes size len at blobs a b
-    → ((answer : Answer) × Stepped blobs (append_entry piece answer ∷ []) b c) → IsStanding c.engine
+    → ((answer : Answer) × IsOwnStep blobs (append_entry piece answer ∷ []) b c) → IsStanding c.engine
 stands_behind bytes size len at blobs piece a b c p call = stands_on blobs (append_entry piece call.0 ∷ []) b c call.1 p.standing

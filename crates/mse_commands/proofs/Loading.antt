@@ -15,7 +15,7 @@ use Rattle.call_script.specs.Script.{read_of}
 use Rattle.mse_commands.specs.declared.ending.End.{End}
 use Rattle.mse_commands.specs.declared.ending.End.TheVariants.{Memory, Write, Words, NoFile, Read, Script, CallBudget, TaskBudget}
 use Rattle.mse_commands.specs.Asked.{◌>>=◌, blob_bytes, blobs_bytes, file_in, files_in, loaded, script_loaded, script_read}
-use Rattle.mse_commands.specs.Loads.{IsReached, LoadEnd, ScriptEnd, failures}
+use Rattle.mse_commands.specs.Loads.{IsReached, IsLoadEnd, IsScriptEnd, failures}
 
 -- ---- names
 
@@ -77,7 +77,7 @@ pub end_as : {A B : Type 0} (table : Option Table) (a b c d : ℕ) (names more :
     → a ≤ b → c ≤ d
     → ((files : Table) (name : List ℕ) → table ≡ Some files → IsReached files names name → IsReached files more name)
     → ((files : Table) → table ≡ Some files → one files ≡ Err end → two files ≡ Err end)
-    → LoadEnd table (failures b c) names one end → LoadEnd table (failures a d) more two end
+    → IsLoadEnd table (failures b c) names one end → IsLoadEnd table (failures a d) more two end
 end_as table a b c d names more one two Memory before later reach tells p = tt
 end_as table a b c d names more one two (Read name) before later reach tells p =
     (rose_within a b c d before later p.0, reached_as table names more name (λ files. reach files name) p.1)
@@ -106,7 +106,7 @@ missing_by None name p = tt
 missing_by (Some files) name p = missing (files name) name p
 
 pub load_missing : (table : Option Table) (a b : ℕ) (name : List ℕ) (end : End) → IfSome table (λ files. files name ≡ None) → (end ≡ Memory) ⊎ (end ≡ NoFile name)
-    → LoadEnd table (failures a b) (name ∷ []) (λ files. loaded files name) end
+    → IsLoadEnd table (failures a b) (name ∷ []) (λ files. loaded files name) end
 load_missing table a b name end p (inl e) = rw e tt
 load_missing table a b name end p (inr e) = rw e (missing_by table name p)
 
@@ -115,7 +115,7 @@ first_by None name = tt
 first_by (Some files) name = reached_first files name []
 
 pub load_failed : (table : Option Table) (a b : ℕ) (name : List ℕ) (end : End) → Rose a b → (end ≡ Memory) ⊎ (end ≡ Read name)
-    → LoadEnd table (failures a b) (name ∷ []) (λ files. loaded files name) end
+    → IsLoadEnd table (failures a b) (name ∷ []) (λ files. loaded files name) end
 load_failed table a b name end rose (inl e) = rw e tt
 load_failed table a b name end rose (inr e) = rw e (rose, first_by table name)
 
@@ -144,14 +144,14 @@ script_faulty None name bytes fault p q = tt
 script_faulty (Some files) name bytes fault p q = script_behind files name bytes (Err fault) p q
 
 pub script_fault_end : (table : Option Table) (a b : ℕ) (name bytes : List ℕ) (fault : ScriptFault) → IfSome table (λ files. loaded files name ≡ Ok bytes) → read_of bytes ≡ Err fault
-    → ScriptEnd table (failures a b) name (Script fault)
+    → IsScriptEnd table (failures a b) name (Script fault)
 script_fault_end table a b name bytes fault p q = ((bytes, q), script_faulty table name bytes fault p q)
 
 script_fails : (files : Table) (name : List ℕ) (end : End) → loaded files name ≡ Err end → script_loaded files name ≡ Err end
 script_fails files name end e = rw e refl
 
 -- the end of its file is that of the script
-pub script_end : (table : Option Table) (a b : ℕ) (name : List ℕ) (end : End) → LoadEnd table (failures a b) (name ∷ []) (λ files. loaded files name) end → ScriptEnd table (failures a b) name end
+pub script_end : (table : Option Table) (a b : ℕ) (name : List ℕ) (end : End) → IsLoadEnd table (failures a b) (name ∷ []) (λ files. loaded files name) end → IsScriptEnd table (failures a b) name end
 script_end table a b name Memory p = tt
 script_end table a b name (Read other) p = p
 script_end table a b name (NoFile other) p =
@@ -242,11 +242,11 @@ blobs_step (Some files) table xs ys text bs new b same more grew p q =
 
 -- one was not
 pub blobs_end : (before table : Option Table) (a b c : ℕ) (texts xs : List BlobText) (text : BlobText) (ys : List BlobText) (bs : List (List ℕ)) (end : End) → table ≡ before → a ≤ b
-    → texts ≡ xs ++ text ∷ ys → IfSome before (λ files. blobs_bytes files xs ≡ Ok bs) → LoadEnd table (failures b c) (files_in (text ∷ [])) (λ files. blob_bytes files text) end
-    → LoadEnd before (failures a c) (files_in texts) (λ files. blobs_bytes files texts) end
+    → texts ≡ xs ++ text ∷ ys → IfSome before (λ files. blobs_bytes files xs ≡ Ok bs) → IsLoadEnd table (failures b c) (files_in (text ∷ [])) (λ files. blob_bytes files text) end
+    → IsLoadEnd before (failures a c) (files_in texts) (λ files. blobs_bytes files texts) end
 blobs_end before table a b c texts xs text ys bs end same later parts made p =
     rw parts (end_as before a b c c (files_in (text ∷ [])) (files_in (xs ++ text ∷ ys)) (λ files. blob_bytes files text) (λ files. blobs_bytes files (xs ++ text ∷ ys)) end
     later (omega arith)
     (λ files name e. blobs_reached files xs text ys bs name (told_at (λ files. blobs_bytes files xs ≡ Ok bs) before files made e))
     (λ files e. blobs_fail files xs text ys bs end (told_at (λ files. blobs_bytes files xs ≡ Ok bs) before files made e))
-    (subst (λ (t : Option Table). LoadEnd t (failures b c) (files_in (text ∷ [])) (λ files. blob_bytes files text) end) same p))
+    (subst (λ (t : Option Table). IsLoadEnd t (failures b c) (files_in (text ∷ [])) (λ files. blob_bytes files text) end) same p))

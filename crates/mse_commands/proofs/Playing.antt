@@ -12,37 +12,37 @@ use Rattle.script_run.specs.declared.stop.Halt.{Halt}
 use Rattle.script_run.specs.declared.stop.Halt.TheVariants as halt
 use Rattle.script_run.specs.declared.stop.Stop.{Stop}
 use Rattle.script_run.specs.declared.stop.Stop.TheVariants.{Halted, CallBudget, TaskBudget}
-use Rattle.script_run.specs.Follows.{LinesAre}
-use Rattle.script_run.specs.Ran.{Played, PlayedUpTo}
+use Rattle.script_run.specs.Follows.{AreScriptLinesDone}
+use Rattle.script_run.specs.Plays.{IsPlayed, IsPlayedUpTo}
 use Rattle.script_run.specs.Rules.{rules_at, rules_for}
 use Rattle.listeners.specs.Views.{RunView}
-use Rattle.script_run.specs.Stage.{Stage, stage}
-use Rattle.script_run.specs.Wrote.{Wrote, WroteFront}
+use Rattle.script_run.specs.RunStates.{RunState, run_at}
+use Rattle.script_run.specs.Writes.{IsWritten, IsFrontWritten}
 use Rattle.script_run.proofs.Writing.{front_more}
 use Rattle.mse_commands.specs.Endings.{end_of_halt, end_of_stop}
 use Rattle.mse_commands.specs.Outcomes.{HaveRules}
 use Rattle.mse_commands.specs.Works.{PlaysScript, ScriptInputs, lines_front}
 
-pub plays_to_stop : (inputs : ScriptInputs) (given : List (List Rule)) (a b : Stage) (stop : Stop)
-    → PlayedUpTo inputs.blobs (lines_front inputs) stop a b → HaveRules inputs.rules given → PlaysScript inputs given a b (Err (end_of_stop inputs.limits.limit stop))
+pub plays_to_stop : (inputs : ScriptInputs) (given : List (List Rule)) (a b : RunState) (stop : Stop)
+    → IsPlayedUpTo inputs.blobs (lines_front inputs) stop a b → HaveRules inputs.rules given → PlaysScript inputs given a b (Err (end_of_stop inputs.limits.limit stop))
 plays_to_stop inputs given a b (Halted halt.Memory) p h = inr (inl (record { played = p; rules_are = h }))
 plays_to_stop inputs given a b (Halted halt.Write) p h = inr (inl (record { played = p; rules_are = h }))
 plays_to_stop inputs given a b (CallBudget k) p h = record { played = p; rules_are = h }
 plays_to_stop inputs given a b TaskBudget p h = (refl, record { played = p; rules_are = h })
 
 pub plays_whole : (inputs : ScriptInputs) (given : List (List Rule)) (r0 r1 : RunView) (w0 w1 w2 : Option (List ℕ)) (n0 n1 : List (List Note))
-    → Played inputs.blobs (LinesAre inputs.blobs inputs.limits inputs.lines) (stage r0 w0 n0) (stage r1 w1 n1) → ((st : State) → Stands r1.engine st → Wrote (closing_text (view_in st) true) w1 w2) → HaveRules inputs.rules given
-    → PlaysScript inputs given (stage r0 w0 n0) (stage r1 w2 n1) (Ok false)
+    → IsPlayed inputs.blobs (AreScriptLinesDone inputs.blobs inputs.limits inputs.lines) (run_at r0 w0 n0) (run_at r1 w1 n1) → ((st : State) → Stands r1.engine st → IsWritten (closing_text (view_in st) true) w1 w2) → HaveRules inputs.rules given
+    → PlaysScript inputs given (run_at r0 w0 n0) (run_at r1 w2 n1) (Ok false)
 plays_whole inputs given r0 r1 w0 w1 w2 n0 n1 p wrote h = (refl, record { middle = w1; played = p; shown = record { wrote = wrote }; rules_are = h })
 
 pub plays_half : (inputs : ScriptInputs) (given : List (List Rule)) (r0 r1 : RunView) (w0 w1 w2 : Option (List ℕ)) (n0 n1 : List (List Note)) (h : Halt)
-    → Played inputs.blobs (LinesAre inputs.blobs inputs.limits inputs.lines) (stage r0 w0 n0) (stage r1 w1 n1) → ((st : State) → Stands r1.engine st → WroteFront (closing_text (view_in st) true) w1 w2) → HaveRules inputs.rules given
-    → PlaysScript inputs given (stage r0 w0 n0) (stage r1 w2 n1) (Err (end_of_halt h))
+    → IsPlayed inputs.blobs (AreScriptLinesDone inputs.blobs inputs.limits inputs.lines) (run_at r0 w0 n0) (run_at r1 w1 n1) → ((st : State) → Stands r1.engine st → IsFrontWritten (closing_text (view_in st) true) w1 w2) → HaveRules inputs.rules given
+    → PlaysScript inputs given (run_at r0 w0 n0) (run_at r1 w2 n1) (Err (end_of_halt h))
 plays_half inputs given r0 r1 w0 w1 w2 n0 n1 halt.Memory p wrote h = inr (inr (record { middle = w1; played = p; shown = wrote; rules_are = h }))
 plays_half inputs given r0 r1 w0 w1 w2 n0 n1 halt.Write p wrote h = inr (inr (record { middle = w1; played = p; shown = wrote; rules_are = h }))
 
 -- a put behind another one was not done
-pub err_behind : (r : Result (Unit {0}) Halt) (before text : List ℕ) (old mid new : Option (List ℕ)) → Wrote before old mid → OnErr r (WroteFront text mid new) → OnErr r (WroteFront (before ++ text) old new)
+pub err_behind : (r : Result (Unit {0}) Halt) (before text : List ℕ) (old mid new : Option (List ℕ)) → IsWritten before old mid → OnErr r (IsFrontWritten text mid new) → OnErr r (IsFrontWritten (before ++ text) old new)
 err_behind (Ok u) before text old mid new w p = tt
 err_behind (Err e) before text old mid new w p = front_more before text old mid new w p
 

@@ -7,7 +7,7 @@ use Rattle.std.proofs.lemmas.List.{length-map}
 use Rattle.mse_calls.specs.Ready.{is_ended}
 use Rattle.mse_calls.specs.declared.views.BufferView.{BufferView}
 use Rattle.mse_calls.specs.declared.views.View.{View}
-use Rattle.track_store.specs.Sound.{Sound}
+use Rattle.track_store.specs.Sound.{IsSound}
 use Rattle.track_store.specs.State.{TrackState}
 use Rattle.track_buffers.specs.Media.{Media}
 use Rattle.track_buffers.specs.Views.{track_view}
@@ -88,16 +88,16 @@ slot_is i (Some m) = refl
 pub track_is : (k : Kept) (st : State) (i : ℕ) → Stands k st → track_at 0 i (all_kept_media k.buffers) ≡ slice_get (tracks_in st) i
 track_is k st i stands = ap (λ ms. track_at 0 i ms) (same_media k.buffers st.core.buffers stands.buffers) ∙ slot_is i (in_slot 0 (media_of_all st.core.buffers))
 
-each_sound : (ts : List TrackState) (i : ℕ) (t : TrackState) → AllByRecursion Sound ts → slice_get ts i ≡ Some t → Sound t
+each_sound : (ts : List TrackState) (i : ℕ) (t : TrackState) → AllByRecursion IsSound ts → slice_get ts i ≡ Some t → IsSound t
 each_sound [] i t h e = cc
-each_sound (x ∷ ts) zero t h e = let same : x ≡ t = cc in subst Sound same h.0
+each_sound (x ∷ ts) zero t h e = let same : x ≡ t = cc in subst IsSound same h.0
 each_sound (x ∷ ts) (suc i) t h e = each_sound ts i t h.1 e
 
-sound_slot : (o : Option Media) (i : ℕ) (t : TrackState) → IsSoundSlot o → slot_track i o ≡ Some t → Sound t
+sound_slot : (o : Option Media) (i : ℕ) (t : TrackState) → IsSoundSlot o → slot_track i o ≡ Some t → IsSound t
 sound_slot None i t h e = cc
 sound_slot (Some m) i t h e = each_sound m.tracks i t h.0 e
 
-pub sound_track : (ms : List (Option Media)) (i : ℕ) (t : TrackState) → AreSound ms → track_at 0 i ms ≡ Some t → Sound t
+pub sound_track : (ms : List (Option Media)) (i : ℕ) (t : TrackState) → AreSound ms → track_at 0 i ms ≡ Some t → IsSound t
 sound_track [] i t h e = cc
 sound_track (o ∷ ms) i t h e = sound_slot o i t h.0 e
 

@@ -10,15 +10,15 @@ use Rattle.mse_commands.specs.declared.ending.Status.{Status}
 use Rattle.mse_commands.specs.declared.ending.Status.TheVariants as status
 use Rattle.mse_commands.specs.Asked.{Request, Task, ByScript, opening_of}
 use Rattle.mse_commands.specs.Loads.{Failures}
-use Rattle.mse_commands.specs.Outcomes.{HasCause, IsBroken, Left, RanWhole}
+use Rattle.mse_commands.specs.Outcomes.{HasCause, IsBroken, RunOutcome, RanWhole}
 use Rattle.mse_commands.specs.Shown.{last_state}
 
 -- Nothing stands in the way of a task: neither the library nor the sink failed, of which `puts` has
 -- the counts, and no listener called too often.
-pub record IsUnhindered (task : Task) (left : Left) (puts : Failures) : Type 0 where
-  pub loads_done : ¬ Rose left.before.faults left.now.faults
+pub record IsUnhindered (task : Task) (outcome : RunOutcome) (puts : Failures) : Type 0 where
+  pub loads_done : ¬ Rose outcome.before.faults outcome.now.faults
   pub puts_done : ¬ Rose puts.before puts.now
-  pub calls_within : (end : End) → ¬ HasCause task left end
+  pub calls_within : (end : End) → ¬ HasCause task outcome end
 
 -- the status is 9 where a file breaks the byte stream format, and else 0
 abbrev pub IsDoneBy : Task → List Entry → Status → Type 0
@@ -26,22 +26,22 @@ IsDoneBy task entries end =
     ((end ≡ status.Ok) × ¬ IsBroken task entries) ⊎ ((end ≡ status.Media) × IsBroken task entries)
 
 -- all of it was run, and the whole text was written
-pub record RanToEnd (count : ℕ) (task : Task) (left : Left) (end : Status) : Type 0 where
-  pub ran : RanWhole count task left
-  pub done : IsDoneBy task left.entries end
+pub record RanToEnd (count : ℕ) (task : Task) (outcome : RunOutcome) (end : Status) : Type 0 where
+  pub ran : RanWhole count task outcome
+  pub done : IsDoneBy task outcome.entries end
 
 -- Where the words are a command, its files are there and its script reads, and nothing stands in the way, all is run and
 -- the whole text is written, or there was no memory.
-abbrev pub IsComplete : ℕ → Request → Left → Failures → Status → Type 0
-IsComplete count request left puts end =
-    (task : Task) → request.task ≡ Ok task → IsUnhindered task left puts
-    → RanToEnd count task left end ⊎ (end ≡ status.Memory)
+abbrev pub IsComplete : ℕ → Request → RunOutcome → Failures → Status → Type 0
+IsComplete count request outcome puts end =
+    (task : Task) → request.task ≡ Ok task → IsUnhindered task outcome puts
+    → RanToEnd count task outcome end ⊎ (end ≡ status.Memory)
 
 -- Where a script was played to its end and no listener made a call, cutting appended bytes anywhere, where the append was
 -- awaited and the quota is not met, comes to the core of its last state: to the same tracks, ranges, duration and first
 -- fault.
-abbrev pub CutAnywhere : Request → List Entry → Status → Type 0
-CutAnywhere request entries end =
+abbrev pub IsCutAnywhere : Request → List Entry → Status → Type 0
+IsCutAnywhere request entries end =
     (script : CallScript) (blobs : List (List ℕ)) → request.task ≡ Ok (ByScript script blobs) → end ≡ status.Ok
     → calls_in entries ≡ 0
     → CutsAlike blobs (opening_of (ByScript script blobs)) script.steps

@@ -25,24 +25,24 @@ failures before now = record { before = before; now = now }
 
 -- A file that these ask for is not there; or the library counted a failure at one of the files of
 -- these names, or there was no memory.
-abbrev pub LoadEnd : {A : Type 0} → Option Table → Failures → List (List ℕ)
+abbrev pub IsLoadEnd : {A : Type 0} → Option Table → Failures → List (List ℕ)
     → (Table → Result A End) → End → Type 0
-LoadEnd table faults names told Memory = ⊤
-LoadEnd table faults names told (Read name) =
+IsLoadEnd table faults names told Memory = ⊤
+IsLoadEnd table faults names told (Read name) =
     Rose faults.before faults.now × IfSome table (λ files. IsReached files names name)
-LoadEnd table faults names told (NoFile name) = IfSome table (λ files. told files ≡ Err (NoFile name))
-LoadEnd table faults names told (Script fault) = ⊥
-LoadEnd table faults names told Write = ⊥
-LoadEnd table faults names told Words = ⊥
-LoadEnd table faults names told (CallBudget k) = ⊥
-LoadEnd table faults names told (TaskBudget limit) = ⊥
+IsLoadEnd table faults names told (NoFile name) = IfSome table (λ files. told files ≡ Err (NoFile name))
+IsLoadEnd table faults names told (Script fault) = ⊥
+IsLoadEnd table faults names told Write = ⊥
+IsLoadEnd table faults names told Words = ⊥
+IsLoadEnd table faults names told (CallBudget k) = ⊥
+IsLoadEnd table faults names told (TaskBudget limit) = ⊥
 
 -- why a script was not loaded: the same, or it has a fault
-abbrev pub ScriptEnd : Option Table → Failures → List ℕ → End → Type 0
-ScriptEnd table faults name (Script fault) =
+abbrev pub IsScriptEnd : Option Table → Failures → List ℕ → End → Type 0
+IsScriptEnd table faults name (Script fault) =
     IsReadOf (Err fault) × IfSome table (λ files. script_loaded files name ≡ Err (Script fault))
-ScriptEnd table faults name other =
-    LoadEnd table faults (name ∷ []) (λ files. script_loaded files name) other
+IsScriptEnd table faults name other =
+    IsLoadEnd table faults (name ∷ []) (λ files. script_loaded files name) other
 
 -- What is made is the file of the number, and only memory may be wanting for it.
 abbrev pub IsMade : Command → List ℕ → Type 0

@@ -12,11 +12,11 @@ use Rattle.remux.specs.Remuxed.{remuxed}
 use Rattle.script_run.specs.declared.stop.Halt.{Halt}
 use Rattle.script_run.specs.declared.stop.Halt.TheVariants as halt
 use Rattle.script_run.specs.declared.stop.Stop.TheVariants as stop
-use Rattle.script_run.specs.Ran.{HeardTo, IsOverLimit}
+use Rattle.script_run.specs.Plays.{IsHeardUpTo, IsOverLimit}
 use Rattle.script_run.specs.Rules.{rules_at, rules_for}
-use Rattle.script_run.specs.Story.{HeardAll}
-use Rattle.script_run.specs.Turns.{SpentInLine}
-use Rattle.script_run.specs.Wrote.{Wrote, WroteFront}
+use Rattle.script_run.specs.NoteHistory.{IsAllHeard}
+use Rattle.script_run.specs.Turns.{IsSpentInLine}
+use Rattle.script_run.specs.Writes.{IsWritten, IsFrontWritten}
 use Rattle.mse_commands.specs.declared.ending.End.{End}
 use Rattle.mse_commands.specs.declared.ending.End.TheVariants.{Memory, Write, Words, NoFile, Read, Script, CallBudget, TaskBudget}
 use Rattle.mse_commands.specs.declared.ending.Status.{Status}
@@ -39,14 +39,14 @@ outside_of faults written notes rules =
     record { faults = faults; written = written; notes = notes; rules = rules }
 
 -- what a run leaves: the journal, the engine, and what stands around the run before it and now
-pub record Left : Type 0 where
+pub record RunOutcome : Type 0 where
   pub entries : List Entry
   pub engine : Option Kept
   pub before : Outside
   pub now : Outside
 
-abbrev pub left : List Entry → Option Kept → Outside → Outside → Left
-left entries engine before now =
+abbrev pub outcome : List Entry → Option Kept → Outside → Outside → RunOutcome
+outcome entries engine before now =
     record { entries = entries; engine = engine; before = before; now = now }
 
 -- ---- the journal and the engine
@@ -62,10 +62,10 @@ HasEngine task entries engine = EngineStands task entries engine
 
 -- Each entry of the journal tells what the machine does there; in the state behind each, the tracks are sound and their
 -- frames end within the duration; and the engine stands for the state behind the last one.
-pub record IsRun (task : Task) (left : Left) : Type 0 where
-  pub replays : Replays (blobs_of task) (opening_of task) left.entries
-  pub sound : AreSoundBehind (blobs_of task) (opening_of task) left.entries
-  pub engine : HasEngine task left.entries left.engine
+pub record IsRun (task : Task) (outcome : RunOutcome) : Type 0 where
+  pub replays : Replays (blobs_of task) (opening_of task) outcome.entries
+  pub sound : AreSoundBehind (blobs_of task) (opening_of task) outcome.entries
+  pub engine : HasEngine task outcome.entries outcome.engine
 
 -- ---- the listeners
 
@@ -74,43 +74,43 @@ abbrev pub HaveRules : List Rule → List (List Rule) → Type 0
 HaveRules rules given = (w : ℕ) → w < length given → rules_at given w ≡ rules_for w rules
 
 -- of a script, each has its rules, heard each event, and answered it; else nobody was told anything
-abbrev pub IsHeard : Task → Left → Type 0
-IsHeard (ByScript script blobs) left = HaveRules script.rules left.now.rules × HeardAll left.entries left.before.notes left.now.notes
-IsHeard other left = (left.now.rules ≡ left.before.rules) × (left.now.notes ≡ left.before.notes)
+abbrev pub IsHeard : Task → RunOutcome → Type 0
+IsHeard (ByScript script blobs) outcome = HaveRules script.rules outcome.now.rules × IsAllHeard outcome.entries outcome.before.notes outcome.now.notes
+IsHeard other outcome = (outcome.now.rules ≡ outcome.before.rules) × (outcome.now.notes ≡ outcome.before.notes)
 
 -- of a script, each has its rules where anything was done
-abbrev pub HaveTheirRules : Task → Left → Type 0
-HaveTheirRules (ByScript script blobs) left = (left.entries ≡ []) ⊎ HaveRules script.rules left.now.rules
-HaveTheirRules other left = left.now.rules ≡ left.before.rules
+abbrev pub HaveTheirRules : Task → RunOutcome → Type 0
+HaveTheirRules (ByScript script blobs) outcome = (outcome.entries ≡ []) ⊎ HaveRules script.rules outcome.now.rules
+HaveTheirRules other outcome = outcome.now.rules ≡ outcome.before.rules
 
 -- What was heard where memory or the sink was wanting: each listener heard each event, but that the dispatch of the last
 -- event may have ended for want of memory, or, where the sink was wanting, at a limit of calls.
-abbrev pub IsHeardTo : Task → Halt → Left → Type 0
-IsHeardTo (ByScript script blobs) halt left =
-    HeardTo (SpentInLine script.drain) halt left.entries left.before.notes left.now.notes
-IsHeardTo other halt left = left.now.notes ≡ left.before.notes
+abbrev pub IsHeardTo : Task → Halt → RunOutcome → Type 0
+IsHeardTo (ByScript script blobs) halt outcome =
+    IsHeardUpTo (IsSpentInLine script.drain) halt outcome.entries outcome.before.notes outcome.now.notes
+IsHeardTo other halt outcome = outcome.now.notes ≡ outcome.before.notes
 
 -- ---- what was run
 
 -- all of it, and the whole text was written
-pub record RanWhole (count : ℕ) (task : Task) (left : Left) : Type 0 where
-  pub run : IsRun task left
-  pub all : IsAllOf count task left.entries
-  pub wrote : Wrote (text_of task left.entries) left.before.written left.now.written
-  pub heard : IsHeard task left
+pub record RanWhole (count : ℕ) (task : Task) (outcome : RunOutcome) : Type 0 where
+  pub run : IsRun task outcome
+  pub all : IsAllOf count task outcome.entries
+  pub wrote : IsWritten (text_of task outcome.entries) outcome.before.written outcome.now.written
+  pub heard : IsHeard task outcome
 
 -- a front of it
-pub record RanFront (count : ℕ) (task : Task) (left : Left) : Type 0 where
-  pub run : IsRun task left
-  pub front : IsFrontOf count task left.entries
-  pub rules : HaveTheirRules task left
+pub record RanFront (count : ℕ) (task : Task) (outcome : RunOutcome) : Type 0 where
+  pub run : IsRun task outcome
+  pub front : IsFrontOf count task outcome.entries
+  pub rules : HaveTheirRules task outcome
 
 -- nothing
-pub record RanNothing (left : Left) : Type 0 where
-  pub entries : left.entries ≡ []
-  pub engine : left.engine ≡ None
-  pub notes : left.now.notes ≡ left.before.notes
-  pub rules : left.now.rules ≡ left.before.rules
+pub record RanNothing (outcome : RunOutcome) : Type 0 where
+  pub entries : outcome.entries ≡ []
+  pub engine : outcome.engine ≡ None
+  pub notes : outcome.now.notes ≡ outcome.before.notes
+  pub rules : outcome.now.rules ≡ outcome.before.rules
 
 -- a file breaks the byte stream format, or is no classic file that can be turned into fragments
 abbrev pub IsBroken : Task → List Entry → Type 0
@@ -122,97 +122,97 @@ IsBroken (ByRemux bytes) entries = IsErr (remuxed bytes)
 
 -- A listener answered one call more than 1000 for one event, or one more than listeners may make in one line, and they
 -- had made so many in this one.
-abbrev pub HasCause : Task → Left → End → Type 0
-HasCause (ByScript script blobs) left (CallBudget k) =
-    IsOverLimit (SpentInLine script.drain) (stop.CallBudget k) left.entries left.before.notes left.now.notes
-HasCause (ByScript script blobs) left (TaskBudget limit) =
+abbrev pub HasCause : Task → RunOutcome → End → Type 0
+HasCause (ByScript script blobs) outcome (CallBudget k) =
+    IsOverLimit (IsSpentInLine script.drain) (stop.CallBudget k) outcome.entries outcome.before.notes outcome.now.notes
+HasCause (ByScript script blobs) outcome (TaskBudget limit) =
     (limit ≡ script.drain)
-    × IsOverLimit (SpentInLine script.drain) stop.TaskBudget left.entries left.before.notes left.now.notes
-HasCause task left end = ⊥
+    × IsOverLimit (IsSpentInLine script.drain) stop.TaskBudget outcome.entries outcome.before.notes outcome.now.notes
+HasCause task outcome end = ⊥
 
 -- the lines, and the error line whose cause had come
-pub record EndsBy (count : ℕ) (task : Task) (left : Left) (end : End) : Type 0 where
-  pub ran : RanFront count task left
-  pub cause : HasCause task left end
-  pub wrote : Wrote (shown_lines task left.entries ++ error_line end) left.before.written left.now.written
+pub record EndsBy (count : ℕ) (task : Task) (outcome : RunOutcome) (end : End) : Type 0 where
+  pub ran : RanFront count task outcome
+  pub cause : HasCause task outcome end
+  pub wrote : IsWritten (shown_lines task outcome.entries ++ error_line end) outcome.before.written outcome.now.written
 
 -- a front of the lines; or, where all was run, of the whole text
-abbrev pub WroteText : ℕ → Task → Left → Type 0
-WroteText count task left =
-    WroteFront (shown_lines task left.entries) left.before.written left.now.written
-    ⊎ (IsAllOf count task left.entries × WroteFront (text_of task left.entries) left.before.written left.now.written)
+abbrev pub WroteText : ℕ → Task → RunOutcome → Type 0
+WroteText count task outcome =
+    IsFrontWritten (shown_lines task outcome.entries) outcome.before.written outcome.now.written
+    ⊎ (IsAllOf count task outcome.entries × IsFrontWritten (text_of task outcome.entries) outcome.before.written outcome.now.written)
 
 -- or of the lines and the error line whose cause had come
-abbrev pub WroteSome : ℕ → Task → Left → Type 0
-WroteSome count task left =
-    WroteText count task left
-    ⊎ ((end : End) × HasCause task left end
-    × WroteFront (shown_lines task left.entries ++ error_line end) left.before.written left.now.written)
+abbrev pub WroteSome : ℕ → Task → RunOutcome → Type 0
+WroteSome count task outcome =
+    WroteText count task outcome
+    ⊎ ((end : End) × HasCause task outcome end
+    × IsFrontWritten (shown_lines task outcome.entries ++ error_line end) outcome.before.written outcome.now.written)
 
 -- the library failed to read a file of this name, which is one of those that are loaded, behind others that are there
-pub record FailedRead (request : Request) (left : Left) : Type 0 where
+pub record FailedRead (request : Request) (outcome : RunOutcome) : Type 0 where
   pub name : List ℕ
-  pub rose : Rose left.before.faults left.now.faults
+  pub rose : Rose outcome.before.faults outcome.now.faults
   pub reached : IsReached request.files request.names name
 
 -- so says the line, and nothing was run
-pub record EndsByRead (request : Request) (left : Left) : Type 0 where
-  pub nothing : RanNothing left
-  pub cause : FailedRead request left
-  pub wrote : Wrote (error_line (Read cause.name)) left.before.written left.now.written
+pub record EndsByRead (request : Request) (outcome : RunOutcome) : Type 0 where
+  pub nothing : RanNothing outcome
+  pub cause : FailedRead request outcome
+  pub wrote : IsWritten (error_line (Read cause.name)) outcome.before.written outcome.now.written
 
 -- nothing was run, and nothing was written, or a front of the line of a read that failed
-pub record SaidSome (request : Request) (left : Left) : Type 0 where
-  pub nothing : RanNothing left
-  pub wrote : (left.now.written ≡ left.before.written)
-      ⊎ ((cause : FailedRead request left) × WroteFront (error_line (Read cause.name)) left.before.written left.now.written)
+pub record SaidSome (request : Request) (outcome : RunOutcome) : Type 0 where
+  pub nothing : RanNothing outcome
+  pub wrote : (outcome.now.written ≡ outcome.before.written)
+      ⊎ ((cause : FailedRead request outcome) × IsFrontWritten (error_line (Read cause.name)) outcome.before.written outcome.now.written)
 
 -- a front was run, and memory or the sink was wanting
-pub record RanShort (count : ℕ) (halt : Halt) (task : Task) (left : Left) : Type 0 where
-  pub ran : RanFront count task left
-  pub heard : IsHeardTo task halt left
-  pub wrote : WroteSome count task left
+pub record RanShort (count : ℕ) (halt : Halt) (task : Task) (outcome : RunOutcome) : Type 0 where
+  pub ran : RanFront count task outcome
+  pub heard : IsHeardTo task halt outcome
+  pub wrote : WroteSome count task outcome
 
 -- or nothing was run
-abbrev pub EndsShort : ℕ → Halt → Request → Task → Left → Type 0
-EndsShort count halt request task left = RanShort count halt task left ⊎ SaidSome request left
+abbrev pub EndsShort : ℕ → Halt → Request → Task → RunOutcome → Type 0
+EndsShort count halt request task outcome = RanShort count halt task outcome ⊎ SaidSome request outcome
 
 -- ---- by the status
 
 -- how a run ends that has something to run
-abbrev pub EndsRun : ℕ → Request → Task → Left → Status → Type 0
-EndsRun count request task left status.Ok = RanWhole count task left × ¬ IsBroken task left.entries
-EndsRun count request task left status.Media = RanWhole count task left × IsBroken task left.entries
-EndsRun count request task left status.CallBudget = (k : ℕ) × EndsBy count task left (CallBudget k)
-EndsRun count request task left status.TaskBudget = (limit : ℕ) × EndsBy count task left (TaskBudget limit)
-EndsRun count request task left status.Read = EndsByRead request left
-EndsRun count request task left status.Write = EndsShort count halt.Write request task left
-EndsRun count request task left status.Memory = EndsShort count halt.Memory request task left
-EndsRun count request task left status.Words = ⊥
-EndsRun count request task left status.Script = ⊥
-EndsRun count request task left status.NoFile = ⊥
+abbrev pub EndsRun : ℕ → Request → Task → RunOutcome → Status → Type 0
+EndsRun count request task outcome status.Ok = RanWhole count task outcome × ¬ IsBroken task outcome.entries
+EndsRun count request task outcome status.Media = RanWhole count task outcome × IsBroken task outcome.entries
+EndsRun count request task outcome status.CallBudget = (k : ℕ) × EndsBy count task outcome (CallBudget k)
+EndsRun count request task outcome status.TaskBudget = (limit : ℕ) × EndsBy count task outcome (TaskBudget limit)
+EndsRun count request task outcome status.Read = EndsByRead request outcome
+EndsRun count request task outcome status.Write = EndsShort count halt.Write request task outcome
+EndsRun count request task outcome status.Memory = EndsShort count halt.Memory request task outcome
+EndsRun count request task outcome status.Words = ⊥
+EndsRun count request task outcome status.Script = ⊥
+EndsRun count request task outcome status.NoFile = ⊥
 
 -- nothing was run, and a front of this line was written
-pub record SaidFront (end : End) (left : Left) : Type 0 where
-  pub nothing : RanNothing left
-  pub wrote : WroteFront (error_line end) left.before.written left.now.written
+pub record SaidFront (end : End) (outcome : RunOutcome) : Type 0 where
+  pub nothing : RanNothing outcome
+  pub wrote : IsFrontWritten (error_line end) outcome.before.written outcome.now.written
 
 -- nothing was run, and this line was written
-pub record Said (end : End) (left : Left) : Type 0 where
-  pub nothing : RanNothing left
-  pub wrote : Wrote (error_line end) left.before.written left.now.written
+pub record Said (end : End) (outcome : RunOutcome) : Type 0 where
+  pub nothing : RanNothing outcome
+  pub wrote : IsWritten (error_line end) outcome.before.written outcome.now.written
 
 -- how one ends that has nothing to run: it says why, unless the library or the sink fails or memory is wanting
-abbrev pub EndsWith : Request → End → Left → Status → Type 0
-EndsWith request end left status.Read = EndsByRead request left
-EndsWith request end left status.Write = SaidFront end left ⊎ SaidSome request left
-EndsWith request end left status.Memory = SaidFront end left ⊎ SaidSome request left
-EndsWith request end left other = (other ≡ status_of end) × Said end left
+abbrev pub EndsWith : Request → End → RunOutcome → Status → Type 0
+EndsWith request end outcome status.Read = EndsByRead request outcome
+EndsWith request end outcome status.Write = SaidFront end outcome ⊎ SaidSome request outcome
+EndsWith request end outcome status.Memory = SaidFront end outcome ⊎ SaidSome request outcome
+EndsWith request end outcome other = (other ≡ status_of end) × Said end outcome
 
-abbrev pub EndsBehind : ℕ → Request → Result Task End → Left → Status → Type 0
-EndsBehind count request (Ok task) left end = EndsRun count request task left end
-EndsBehind count request (Err found) left end = EndsWith request found left end
+abbrev pub EndsBehind : ℕ → Request → Result Task End → RunOutcome → Status → Type 0
+EndsBehind count request (Ok task) outcome end = EndsRun count request task outcome end
+EndsBehind count request (Err found) outcome end = EndsWith request found outcome end
 
 -- How a run ends, by what was asked for and by its status.
-abbrev pub Ends : ℕ → Request → Left → Status → Type 0
-Ends count request left end = EndsBehind count request request.task left end
+abbrev pub Ends : ℕ → Request → RunOutcome → Status → Type 0
+Ends count request outcome end = EndsBehind count request request.task outcome end

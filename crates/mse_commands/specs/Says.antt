@@ -1,6 +1,6 @@
 -- What is said of an end, and the status that comes of it.
 use Rattle.std.specs.Prelude.{◌≡◌, ◌⊎◌, ℕ, List, Option}
-use Rattle.script_run.specs.Wrote.{Wrote, WroteFront}
+use Rattle.script_run.specs.Writes.{IsWritten, IsFrontWritten}
 use Rattle.mse_commands.specs.declared.ending.End.{End}
 use Rattle.mse_commands.specs.declared.ending.End.TheVariants.{Memory, Write, Words, NoFile, Read, Script, CallBudget, TaskBudget}
 use Rattle.mse_commands.specs.declared.ending.Status.{Status}
@@ -10,12 +10,12 @@ use Rattle.mse_commands.specs.Endings.{error_line, status_of}
 -- a front of the line was written, for want of memory or of the sink
 pub record SaidHalf (end : End) (old new : Option (List ℕ)) (said : Status) : Type 0 where
   pub wanting : (said ≡ status.Write) ⊎ (said ≡ status.Memory)
-  pub wrote : WroteFront (error_line end) old new
+  pub wrote : IsFrontWritten (error_line end) old new
 
 -- the status is that of the end, and its line was written
 pub record SaidWhole (end : End) (old new : Option (List ℕ)) (said : Status) : Type 0 where
   pub status_is : said ≡ status_of end
-  pub wrote : Wrote (error_line end) old new
+  pub wrote : IsWritten (error_line end) old new
 
 abbrev pub SaysLine : End → Option (List ℕ) → Option (List ℕ) → Status → Type 0
 SaysLine end old new said = SaidWhole end old new said ⊎ SaidHalf end old new said

@@ -12,8 +12,8 @@ use Rattle.event_text.specs.Block.{closing_text}
 use Rattle.mse_engine.specs.State.{State}
 use Rattle.mse_engine.specs.Run.{after_entries}
 use Rattle.mse_engine.specs.Views.{view_in}
-use Rattle.script_run.specs.Doings.{InDrainOrder, IsDrain}
-use Rattle.script_run.specs.Follows.{IsBegun, IsWhole}
+use Rattle.script_run.specs.DrainSteps.{AreInDrainOrder, IsDrain}
+use Rattle.script_run.specs.Follows.{AreLinesBegun, AreLinesDone}
 use Rattle.script_run.specs.Lines.{limits, play_inputs}
 use Rattle.script_run.specs.Text.{lines_of}
 use Rattle.script_run.specs.Turns.{calls_in}
@@ -83,7 +83,7 @@ pub record IsWholeFile (blobs : List (List ℕ)) (st : State) (pieces : List Pie
 -- all of it is done; there are `count` listeners
 abbrev pub IsAllOf : ℕ → Task → List Entry → Type 0
 IsAllOf count (ByScript script blobs) entries =
-    IsWhole (play_inputs blobs (limits script.drain count)) 0 (opening_of (ByScript script blobs)) script.steps entries
+    AreLinesDone (play_inputs blobs (limits script.drain count)) 0 (opening_of (ByScript script blobs)) script.steps entries
 IsAllOf count (ByFile command bytes) entries =
     IsWholeFile (bytes ∷ []) (opening_of (ByFile command bytes)) (pieces_by command (length bytes)) entries
 IsAllOf count (ByRemux bytes) entries = entries ≡ []
@@ -91,7 +91,7 @@ IsAllOf count (ByRemux bytes) entries = entries ≡ []
 -- a script is done up to some place; of a file, a front of all is done
 abbrev pub IsFrontOf : ℕ → Task → List Entry → Type 0
 IsFrontOf count (ByScript script blobs) entries =
-    IsBegun (play_inputs blobs (limits script.drain count)) 0 (opening_of (ByScript script blobs)) script.steps entries
+    AreLinesBegun (play_inputs blobs (limits script.drain count)) 0 (opening_of (ByScript script blobs)) script.steps entries
 IsFrontOf count (ByFile command bytes) entries =
     (rest : List Entry) × IsAllOf count (ByFile command bytes) (entries ++ rest)
 IsFrontOf count (ByRemux bytes) entries = entries ≡ []

@@ -16,17 +16,17 @@ use Rattle.script_run.specs.declared.stop.Halt.TheVariants as halt
 use Rattle.script_run.specs.declared.stop.Stop.{Stop}
 use Rattle.script_run.specs.declared.stop.Stop.TheVariants as stop
 use Rattle.script_run.specs.declared.stop.Stop.TheVariants.{Halted}
-use Rattle.script_run.specs.Follows.{LinesAre, LinesBegin}
+use Rattle.script_run.specs.Follows.{AreScriptLinesDone, AreScriptLinesBegun}
 use Rattle.script_run.specs.Lines.{Limits, limits}
 use Rattle.listeners.specs.Views.{RunView}
-use Rattle.script_run.specs.Ran.{Front, Grew, Played, PlayedUpTo, Stepped, front_of}
-use Rattle.script_run.specs.Stage.{PrintedRun, Stage}
-use Rattle.script_run.specs.Turns.{SpentInLine, calls_in}
-use Rattle.script_run.specs.Wrote.{Wrote, WroteFront}
+use Rattle.script_run.specs.Plays.{PartFront, HasGrown, IsPlayed, IsPlayedUpTo, IsOwnStep, part_front}
+use Rattle.script_run.specs.RunStates.{PrintedRun, RunState}
+use Rattle.script_run.specs.Turns.{IsSpentInLine, calls_in}
+use Rattle.script_run.specs.Writes.{IsWritten, IsFrontWritten}
 use Rattle.mse_commands.specs.declared.ending.End.{End}
 use Rattle.mse_commands.specs.declared.ending.End.TheVariants.{Memory, Write, Words, NoFile, Read, Script, CallBudget, TaskBudget}
 use Rattle.mse_commands.specs.Asked.{Request, Task, ByScript, ByFile, ByRemux}
-use Rattle.mse_commands.specs.Outcomes.{FailedRead, HasCause, HaveRules, IsHeardTo, Left, RanFront, RanNothing, RanWhole, WroteText}
+use Rattle.mse_commands.specs.Outcomes.{FailedRead, HasCause, HaveRules, IsHeardTo, RunOutcome, RanFront, RanNothing, RanWhole, WroteText}
 use Rattle.mse_commands.specs.Shown.{IsWholeFile, file_closing, last_state, open_entries, pieces_by, shown_lines, text_of}
 use Rattle.mse_commands.specs.declared.words.Command.{Command}
 
@@ -34,60 +34,60 @@ use Rattle.mse_commands.specs.declared.words.Command.{Command}
 pub record IsOpened (blobs : List (List ℕ)) (old new : RunView) : Type 0 where
   pub attached : Answer
   pub added : Answer
-  pub stepped : Stepped blobs (open_entries attached added) old new
+  pub stepped : IsOwnStep blobs (open_entries attached added) old new
 
 -- a front of that was done
-pub record OpenedFront (blobs : List (List ℕ)) (old new : RunView) : Type 0 where
+pub record IsFrontOpened (blobs : List (List ℕ)) (old new : RunView) : Type 0 where
   pub entries : List Entry
-  pub stepped : Stepped blobs entries old new
+  pub stepped : IsOwnStep blobs entries old new
   pub attached : Answer
   pub added : Answer
   pub rest : List Entry
   pub opens : open_entries attached added ≡ entries ++ rest
 
 -- a file was appended in these pieces, and nobody heard of it
-pub record Appended (bytes : List ℕ) (pieces : List Piece) (old new : RunView) : Type 0 where
+pub record IsAppended (bytes : List ℕ) (pieces : List Piece) (old new : RunView) : Type 0 where
   pub entries : List Entry
-  pub grew : Grew (bytes ∷ []) (λ st part. IsWholeFile (bytes ∷ []) st pieces part) old new entries
+  pub grew : HasGrown (bytes ∷ []) (λ st part. IsWholeFile (bytes ∷ []) st pieces part) old new entries
   pub silent : calls_in entries ≡ 0
 
 -- a front of that was done
-pub record AppendedFront (bytes : List ℕ) (pieces : List Piece) (old new : RunView) : Type 0 where
+pub record IsPartAppended (bytes : List ℕ) (pieces : List Piece) (old new : RunView) : Type 0 where
   pub entries : List Entry
-  pub grew : Grew (bytes ∷ []) (λ st part. (rest : List Entry) × IsWholeFile (bytes ∷ []) st pieces (part ++ rest)) old new entries
+  pub grew : HasGrown (bytes ∷ []) (λ st part. (rest : List Entry) × IsWholeFile (bytes ∷ []) st pieces (part ++ rest)) old new entries
 
 -- ---- a file that is shown
 
 -- what is written of it, for the state that the engine stands for
-abbrev pub ShownFront : (State → List ℕ) → RunView → Option (List ℕ) → Option (List ℕ) → Type 0
-ShownFront text new written_before written =
-    (st : State) → Stands new.engine st → WroteFront (text st) written_before written
+abbrev pub IsFrontShown : (State → List ℕ) → RunView → Option (List ℕ) → Option (List ℕ) → Type 0
+IsFrontShown text new written_before written =
+    (st : State) → Stands new.engine st → IsFrontWritten (text st) written_before written
 
-pub record ShownAll (text : State → List ℕ) (new : RunView) (written_before written : Option (List ℕ)) : Type 0 where
-  pub wrote : (st : State) → Stands new.engine st → Wrote (text st) written_before written
+pub record IsAllShown (text : State → List ℕ) (new : RunView) (written_before written : Option (List ℕ)) : Type 0 where
+  pub wrote : (st : State) → Stands new.engine st → IsWritten (text st) written_before written
 
 -- what closes a script
 abbrev pub script_closing : State → List ℕ
 script_closing st = closing_text (view_in st) true
 
-pub record FileShown (command : Command) (bytes : List ℕ) (old new : PrintedRun)
+pub record IsFileShown (command : Command) (bytes : List ℕ) (old new : PrintedRun)
     (broken : Bool) : Type 0 where
-  pub appended : Appended bytes (pieces_by command (length bytes)) old.run new.run
-  pub shown : ShownAll (file_closing command (length bytes)) new.run old.written new.written
+  pub appended : IsAppended bytes (pieces_by command (length bytes)) old.run new.run
+  pub shown : IsAllShown (file_closing command (length bytes)) new.run old.written new.written
   pub broken_is : (st : State) → Stands new.run.engine st → broken ≡ is_some st.core.source.fault
 
 -- a front was appended and nothing was written; or all was appended, and a front of it was written
-abbrev pub FileShownFront : Command → List ℕ → PrintedRun → PrintedRun → Type 0
-FileShownFront command bytes old new =
-    (AppendedFront bytes (pieces_by command (length bytes)) old.run new.run
+abbrev pub IsFileFrontShown : Command → List ℕ → PrintedRun → PrintedRun → Type 0
+IsFileFrontShown command bytes old new =
+    (IsPartAppended bytes (pieces_by command (length bytes)) old.run new.run
     × (new.written ≡ old.written))
-    ⊎ (Appended bytes (pieces_by command (length bytes)) old.run new.run
-    × ShownFront (file_closing command (length bytes)) new.run old.written new.written)
+    ⊎ (IsAppended bytes (pieces_by command (length bytes)) old.run new.run
+    × IsFrontShown (file_closing command (length bytes)) new.run old.written new.written)
 
 abbrev pub ShowsFile : Command → List ℕ → PrintedRun → PrintedRun → Result Bool End → Type 0
-ShowsFile command bytes old new (Ok broken) = FileShown command bytes old new broken
-ShowsFile command bytes old new (Err Memory) = FileShownFront command bytes old new
-ShowsFile command bytes old new (Err Write) = FileShownFront command bytes old new
+ShowsFile command bytes old new (Ok broken) = IsFileShown command bytes old new broken
+ShowsFile command bytes old new (Err Memory) = IsFileFrontShown command bytes old new
+ShowsFile command bytes old new (Err Write) = IsFileFrontShown command bytes old new
 ShowsFile command bytes old new (Err other) = ⊥
 
 -- ---- a script that is played
@@ -109,54 +109,54 @@ script_inputs count script blobs = record {
 }
 
 -- all lines, and what closes a script
-pub record ScriptPlayed (inputs : ScriptInputs) (given : List (List Rule))
-    (old new : Stage) : Type 0 where
+pub record IsScriptPlayed (inputs : ScriptInputs) (given : List (List Rule))
+    (old new : RunState) : Type 0 where
   pub middle : Option (List ℕ)
-  pub played : Played inputs.blobs (LinesAre inputs.blobs inputs.limits inputs.lines) old
+  pub played : IsPlayed inputs.blobs (AreScriptLinesDone inputs.blobs inputs.limits inputs.lines) old
       (record new { written = middle })
-  pub shown : ShownAll script_closing new.run middle new.written
+  pub shown : IsAllShown script_closing new.run middle new.written
   pub rules_are : HaveRules inputs.rules given
 
 -- a front of the lines, and when listeners may make no further call
-abbrev pub lines_front : ScriptInputs → Front
-lines_front inputs = front_of (LinesBegin inputs.blobs inputs.limits inputs.lines)
-    (SpentInLine inputs.limits.limit)
+abbrev pub lines_front : ScriptInputs → PartFront
+lines_front inputs = part_front (AreScriptLinesBegun inputs.blobs inputs.limits inputs.lines)
+    (IsSpentInLine inputs.limits.limit)
 
 -- it stopped in a line, or behind the last one
-pub record ScriptStopped (inputs : ScriptInputs) (given : List (List Rule)) (old new : Stage)
+pub record IsScriptStopped (inputs : ScriptInputs) (given : List (List Rule)) (old new : RunState)
     (stop : Stop) : Type 0 where
-  pub played : PlayedUpTo inputs.blobs (lines_front inputs) stop old new
+  pub played : IsPlayedUpTo inputs.blobs (lines_front inputs) stop old new
   pub rules_are : HaveRules inputs.rules given
 
 -- all lines, and a front of what closes a script
-pub record ScriptHalf (inputs : ScriptInputs) (given : List (List Rule))
-    (old new : Stage) : Type 0 where
+pub record IsScriptHalfPlayed (inputs : ScriptInputs) (given : List (List Rule))
+    (old new : RunState) : Type 0 where
   pub middle : Option (List ℕ)
-  pub played : Played inputs.blobs (LinesAre inputs.blobs inputs.limits inputs.lines) old
+  pub played : IsPlayed inputs.blobs (AreScriptLinesDone inputs.blobs inputs.limits inputs.lines) old
       (record new { written = middle })
-  pub shown : ShownFront script_closing new.run middle new.written
+  pub shown : IsFrontShown script_closing new.run middle new.written
   pub rules_are : HaveRules inputs.rules given
 
 -- no line was begun
-pub record ScriptUnplayed (old new : Stage) : Type 0 where
+pub record IsScriptUnplayed (old new : RunState) : Type 0 where
   pub run : new.run ≡ old.run
   pub written : new.written ≡ old.written
   pub notes : new.notes ≡ old.notes
 
-abbrev pub ScriptShort : ScriptInputs → List (List Rule) → Stage → Stage → Halt → Type 0
-ScriptShort inputs given old new halt =
-    ScriptUnplayed old new ⊎ ScriptStopped inputs given old new (Halted halt)
-    ⊎ ScriptHalf inputs given old new
+abbrev pub IsScriptCutShort : ScriptInputs → List (List Rule) → RunState → RunState → Halt → Type 0
+IsScriptCutShort inputs given old new halt =
+    IsScriptUnplayed old new ⊎ IsScriptStopped inputs given old new (Halted halt)
+    ⊎ IsScriptHalfPlayed inputs given old new
 
-abbrev pub PlaysScript : ScriptInputs → List (List Rule) → Stage → Stage → Result Bool End → Type 0
+abbrev pub PlaysScript : ScriptInputs → List (List Rule) → RunState → RunState → Result Bool End → Type 0
 PlaysScript inputs given old new (Ok broken) =
-    (broken ≡ false) × ScriptPlayed inputs given old new
-PlaysScript inputs given old new (Err Memory) = ScriptShort inputs given old new halt.Memory
-PlaysScript inputs given old new (Err Write) = ScriptShort inputs given old new halt.Write
+    (broken ≡ false) × IsScriptPlayed inputs given old new
+PlaysScript inputs given old new (Err Memory) = IsScriptCutShort inputs given old new halt.Memory
+PlaysScript inputs given old new (Err Write) = IsScriptCutShort inputs given old new halt.Write
 PlaysScript inputs given old new (Err (CallBudget k)) =
-    ScriptStopped inputs given old new (stop.CallBudget k)
+    IsScriptStopped inputs given old new (stop.CallBudget k)
 PlaysScript inputs given old new (Err (TaskBudget limit)) =
-    (limit ≡ inputs.limits.limit) × ScriptStopped inputs given old new stop.TaskBudget
+    (limit ≡ inputs.limits.limit) × IsScriptStopped inputs given old new stop.TaskBudget
 PlaysScript inputs given old new (Err other) = ⊥
 
 -- ---- a run
@@ -168,48 +168,48 @@ broken_in (ByFile command bytes) entries = is_some (last_state (ByFile command b
 broken_in (ByRemux bytes) entries = is_err (remuxed bytes)
 
 -- nothing was run and nothing was written
-pub record DidNothing (left : Left) : Type 0 where
-  pub nothing : RanNothing left
-  pub wrote : left.now.written ≡ left.before.written
+pub record DidNothing (outcome : RunOutcome) : Type 0 where
+  pub nothing : RanNothing outcome
+  pub wrote : outcome.now.written ≡ outcome.before.written
 
 -- a front was run, and memory or the sink was wanting
-pub record DidSome (count : ℕ) (halt : Halt) (task : Task) (left : Left) : Type 0 where
-  pub ran : RanFront count task left
-  pub heard : IsHeardTo task halt left
-  pub wrote : WroteText count task left
+pub record DidSome (count : ℕ) (halt : Halt) (task : Task) (outcome : RunOutcome) : Type 0 where
+  pub ran : RanFront count task outcome
+  pub heard : IsHeardTo task halt outcome
+  pub wrote : WroteText count task outcome
 
 -- it stopped for a cause, behind the lines of all its entries
-pub record DidUpTo (count : ℕ) (task : Task) (left : Left) (end : End) : Type 0 where
-  pub ran : RanFront count task left
-  pub cause : HasCause task left end
-  pub wrote : Wrote (shown_lines task left.entries) left.before.written left.now.written
+pub record DidUpTo (count : ℕ) (task : Task) (outcome : RunOutcome) (end : End) : Type 0 where
+  pub ran : RanFront count task outcome
+  pub cause : HasCause task outcome end
+  pub wrote : IsWritten (shown_lines task outcome.entries) outcome.before.written outcome.now.written
 
-pub record DidAll (count : ℕ) (task : Task) (left : Left) (broken : Bool) : Type 0 where
-  pub ran : RanWhole count task left
-  pub broken_is : broken ≡ broken_in task left.entries
+pub record DidAll (count : ℕ) (task : Task) (outcome : RunOutcome) (broken : Bool) : Type 0 where
+  pub ran : RanWhole count task outcome
+  pub broken_is : broken ≡ broken_in task outcome.entries
 
-abbrev pub WorksOn : ℕ → Request → Task → Left → Result Bool End → Type 0
-WorksOn count request task left (Ok broken) = DidAll count task left broken
-WorksOn count request task left (Err Memory) = DidNothing left ⊎ DidSome count halt.Memory task left
-WorksOn count request task left (Err Write) = DidSome count halt.Write task left
-WorksOn count request task left (Err (Read name)) = DidNothing left × ((cause : FailedRead request left) × (cause.name ≡ name))
-WorksOn count request task left (Err (CallBudget k)) = DidUpTo count task left (CallBudget k)
-WorksOn count request task left (Err (TaskBudget limit)) = DidUpTo count task left (TaskBudget limit)
-WorksOn count request task left (Err Words) = ⊥
-WorksOn count request task left (Err (NoFile name)) = ⊥
-WorksOn count request task left (Err (Script fault)) = ⊥
+abbrev pub WorksOn : ℕ → Request → Task → RunOutcome → Result Bool End → Type 0
+WorksOn count request task outcome (Ok broken) = DidAll count task outcome broken
+WorksOn count request task outcome (Err Memory) = DidNothing outcome ⊎ DidSome count halt.Memory task outcome
+WorksOn count request task outcome (Err Write) = DidSome count halt.Write task outcome
+WorksOn count request task outcome (Err (Read name)) = DidNothing outcome × ((cause : FailedRead request outcome) × (cause.name ≡ name))
+WorksOn count request task outcome (Err (CallBudget k)) = DidUpTo count task outcome (CallBudget k)
+WorksOn count request task outcome (Err (TaskBudget limit)) = DidUpTo count task outcome (TaskBudget limit)
+WorksOn count request task outcome (Err Words) = ⊥
+WorksOn count request task outcome (Err (NoFile name)) = ⊥
+WorksOn count request task outcome (Err (Script fault)) = ⊥
 
 -- there is nothing to run, for this end, unless the library failed before or there was no memory
-abbrev pub WorksNot : Request → End → Left → Result Bool End → Type 0
-WorksNot request end left (Ok broken) = ⊥
-WorksNot request end left (Err Memory) = DidNothing left
-WorksNot request end left (Err (Read name)) = DidNothing left × ((cause : FailedRead request left) × (cause.name ≡ name))
-WorksNot request end left (Err other) = DidNothing left × (other ≡ end)
+abbrev pub WorksNot : Request → End → RunOutcome → Result Bool End → Type 0
+WorksNot request end outcome (Ok broken) = ⊥
+WorksNot request end outcome (Err Memory) = DidNothing outcome
+WorksNot request end outcome (Err (Read name)) = DidNothing outcome × ((cause : FailedRead request outcome) × (cause.name ≡ name))
+WorksNot request end outcome (Err other) = DidNothing outcome × (other ≡ end)
 
-abbrev pub WorksBy : ℕ → Request → Result Task End → Left → Result Bool End → Type 0
-WorksBy count request (Ok task) left result = WorksOn count request task left result
-WorksBy count request (Err end) left result = WorksNot request end left result
+abbrev pub WorksBy : ℕ → Request → Result Task End → RunOutcome → Result Bool End → Type 0
+WorksBy count request (Ok task) outcome result = WorksOn count request task outcome result
+WorksBy count request (Err end) outcome result = WorksNot request end outcome result
 
 -- what is done of what was asked for
-abbrev pub Works : ℕ → Request → Left → Result Bool End → Type 0
-Works count request left result = WorksBy count request request.task left result
+abbrev pub Works : ℕ → Request → RunOutcome → Result Bool End → Type 0
+Works count request outcome result = WorksBy count request request.task outcome result

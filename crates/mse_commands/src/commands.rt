@@ -9,15 +9,15 @@ ghost use Rattle.mse_engine.specs.State.{State};
 ghost use Rattle.mse_engine.specs.Standing.{Stands};
 ghost use Rattle.mse_engine.specs.Views.{view_in};
 ghost use Rattle.mse_outside.specs.Outside.{Rose};
-ghost use Rattle.script_run.specs.Stage.{IsStanding, printed_run, stage};
-ghost use Rattle.script_run.specs.Wrote.{Wrote, WroteFront};
+ghost use Rattle.script_run.specs.RunStates.{IsStanding, printed_run, run_at};
+ghost use Rattle.script_run.specs.Writes.{IsWritten, IsFrontWritten};
 ghost use Rattle.mse_commands.specs.Asked.{IsFileCommand, OfCommand, OfWords, file_by, files_by};
 ghost use Rattle.mse_commands.specs.Heading.{heading_of};
-ghost use Rattle.mse_commands.specs.Loads.{IsMade, IsUnmade, LoadEnd, failures};
-ghost use Rattle.mse_commands.specs.Outcomes.{left, outside_of};
+ghost use Rattle.mse_commands.specs.Loads.{IsMade, IsUnmade, IsLoadEnd, failures};
+ghost use Rattle.mse_commands.specs.Outcomes.{outcome, outside_of};
 ghost use Rattle.mse_commands.specs.Shown.{file_closing, pieces_by};
 ghost use Rattle.mse_commands.specs.Words.{IsInRange, command_of};
-ghost use Rattle.mse_commands.specs.Works.{Appended, AppendedFront, PlaysScript, ShowsFile, Works, script_inputs};
+ghost use Rattle.mse_commands.specs.Works.{IsAppended, IsPartAppended, PlaysScript, ShowsFile, Works, script_inputs};
 
 use crate::ending::End;
 use crate::feeds::close_feed;
@@ -55,10 +55,10 @@ fn close<S: FrameStore, K: Sink>(
     whole: bool,
 ) -> Result<(), Halt>
     ensures ok { (st : State) → Stands engine.now st
-        → OnOk result (Wrote (string_bytes before ++ closing_text (view_in st) whole)
+        → OnOk result (IsWritten (string_bytes before ++ closing_text (view_in st) whole)
         (K.written sink.old) (K.written sink.new)) }
     ensures err { (st : State) → Stands engine.now st
-        → OnErr result (WroteFront (string_bytes before ++ closing_text (view_in st) whole)
+        → OnErr result (IsFrontWritten (string_bytes before ++ closing_text (view_in st) whole)
         (K.written sink.old) (K.written sink.new)) }
     ensures later { K.faults sink.old ≤ K.faults sink.new }
     ensures cause { IsErrOf result Halt.Write → Rose (K.faults sink.old) (K.faults sink.new) }
@@ -86,9 +86,9 @@ fn append_file<S: FrameStore>(
     requires range { IsInRange command.now }
     requires standing { IsStanding run.old.engine }
     ensures ok { OnOk result
-        (Appended file.items (pieces_by command.now (length file.items)) run.old run.new) }
+        (IsAppended file.items (pieces_by command.now (length file.items)) run.old run.new) }
     ensures err { OnErr result
-        (AppendedFront file.items (pieces_by command.now (length file.items)) run.old run.new) }
+        (IsPartAppended file.items (pieces_by command.now (length file.items)) run.old run.new) }
 {
     match *command {
         Command::Ranges | Command::Feed(_) | Command::Play | Command::Remux => {
@@ -110,7 +110,7 @@ fn file_for<L: Library>(
     ensures table { L.table library.new ≡ L.table library.old }
     ensures ok { IfSome (L.table library.old) (λ files.
         IfOk result (λ bytes. file_by files name.now command.now ≡ Ok bytes.items)) }
-    ensures end { IfErr result (LoadEnd (L.table library.old)
+    ensures end { IfErr result (IsLoadEnd (L.table library.old)
         (failures (L.faults library.old) (L.faults library.new))
         (files_by name.now command.now) (λ files. file_by files name.now command.now)) }
     ensures made { IfOk result (λ bytes. IsMade command.now bytes.items) }
@@ -139,10 +139,11 @@ fn close_block<S: FrameStore, K: Sink>(
     len: usize,
 ) -> Result<(), Halt>
     ensures ok { (st : State) → Stands engine.now st
-        → OnOk result (Wrote (heading_of command.now len ++ closing_text (view_in st) false)
+        → OnOk result (IsWritten (heading_of command.now len ++ closing_text (view_in st) false)
         (K.written sink.old) (K.written sink.new)) }
     ensures err { (st : State) → Stands engine.now st
-        → OnErr result (WroteFront (heading_of command.now len ++ closing_text (view_in st) false)
+        → OnErr result (IsFrontWritten
+        (heading_of command.now len ++ closing_text (view_in st) false)
         (K.written sink.old) (K.written sink.new)) }
     ensures later { K.faults sink.old ≤ K.faults sink.new }
     ensures cause { IsErrOf result Halt.Write → Rose (K.faults sink.old) (K.faults sink.new) }
@@ -162,10 +163,10 @@ fn close_file<S: FrameStore, K: Sink>(
     len: usize,
 ) -> Result<(), Halt>
     ensures ok { (st : State) → Stands engine.now st
-        → OnOk result (Wrote (file_closing command.now len st)
+        → OnOk result (IsWritten (file_closing command.now len st)
         (K.written sink.old) (K.written sink.new)) }
     ensures err { (st : State) → Stands engine.now st
-        → OnErr result (WroteFront (file_closing command.now len st)
+        → OnErr result (IsFrontWritten (file_closing command.now len st)
         (K.written sink.old) (K.written sink.new)) }
     ensures later { K.faults sink.old ≤ K.faults sink.new }
     ensures cause { IsErrOf result Halt.Write → Rose (K.faults sink.old) (K.faults sink.new) }
@@ -221,8 +222,8 @@ fn play_script<S: FrameStore, K: Sink>(
     requires standing { IsStanding run.old.engine }
     ensures plays { PlaysScript (script_inputs (vec_len listeners.old) script blobs.now)
         (map (λ b. rules b) listeners.new.items)
-        (stage run.old (K.written sink.old) (map (λ b. notes b) listeners.old.items))
-        (stage run.new (K.written sink.new) (map (λ b. notes b) listeners.new.items)) result }
+        (run_at run.old (K.written sink.old) (map (λ b. notes b) listeners.old.items))
+        (run_at run.new (K.written sink.new) (map (λ b. notes b) listeners.new.items)) result }
     ensures count { vec_len listeners.new ≡ vec_len listeners.old }
     ensures later { K.faults sink.old ≤ K.faults sink.new }
     ensures write { IsErrOf result End.Write → Rose (K.faults sink.old) (K.faults sink.new) }
@@ -267,7 +268,7 @@ fn run_file<S: FrameStore, L: Library, K: Sink>(
     requires engine { engine.old ≡ None }
     ensures works { (count : ℕ) (told : List (List Note)) (given : List (List Rule))
         → OfCommand (L.table library.old) name.now (Some command) (λ request. Works count request
-        (left journal.new.entries engine.new
+        (outcome journal.new.entries engine.new
         (outside_of (L.faults library.old) (K.written sink.old) told given)
         (outside_of (L.faults library.new) (K.written sink.new) told given))
         result) }
@@ -315,7 +316,7 @@ fn run_script<S: FrameStore, L: Library, K: Sink>(
     requires engine { engine.old ≡ None }
     ensures works { OfCommand (L.table library.old) name.now (Some Command.Play) (λ request.
         Works (vec_len listeners.old) request
-        (left journal.new.entries engine.new
+        (outcome journal.new.entries engine.new
         (outside_of (L.faults library.old) (K.written sink.old)
         (map (λ b. notes b) listeners.old.items) (map (λ b. rules b) listeners.old.items))
         (outside_of (L.faults library.new) (K.written sink.new)
@@ -362,7 +363,7 @@ fn run_command<S: FrameStore, L: Library, K: Sink>(
     requires engine { engine.old ≡ None }
     ensures works { OfCommand (L.table library.old) name.now (Some command) (λ request.
         Works (vec_len listeners.old) request
-        (left journal.new.entries engine.new
+        (outcome journal.new.entries engine.new
         (outside_of (L.faults library.old) (K.written sink.old)
         (map (λ b. notes b) listeners.old.items) (map (λ b. rules b) listeners.old.items))
         (outside_of (L.faults library.new) (K.written sink.new)
@@ -402,7 +403,7 @@ pub fn work<S: FrameStore, L: Library, K: Sink>(
     requires engine { engine.old ≡ None }
     ensures works { OfWords (L.table library.old) (map string_bytes words.now) (λ request.
         Works (vec_len listeners.old) request
-        (left journal.new.entries engine.new
+        (outcome journal.new.entries engine.new
         (outside_of (L.faults library.old) (K.written sink.old)
         (map (λ b. notes b) listeners.old.items) (map (λ b. rules b) listeners.old.items))
         (outside_of (L.faults library.new) (K.written sink.new)

@@ -6,7 +6,7 @@ ghost use Rattle.event_text.specs.Block.{fault_lines};
 ghost use Rattle.mse_engine.specs.State.{State};
 ghost use Rattle.mse_engine.specs.Standing.{Stands};
 ghost use Rattle.mse_outside.specs.Outside.{Rose};
-ghost use Rattle.script_run.specs.Wrote.{Wrote, WroteFront};
+ghost use Rattle.script_run.specs.Writes.{IsWritten, IsFrontWritten};
 ghost use Rattle.mse_commands.specs.Feeds.{feed_closing, feeds_in, tracks_in};
 
 use event_text::fault_line;
@@ -49,10 +49,10 @@ fn put_track<S: FrameStore, K: Sink>(
 ) -> Result<(), Halt>
     ensures ok { (st : State) → Stands engine.now st
         → OnOk result (IfSome (slice_get (tracks_in st) i)
-        (λ t. Wrote (feed_text at t) (K.written sink.old) (K.written sink.new))) }
+        (λ t. IsWritten (feed_text at t) (K.written sink.old) (K.written sink.new))) }
     ensures err { (st : State) → Stands engine.now st
         → OnErr result (IfSome (slice_get (tracks_in st) i)
-        (λ t. WroteFront (feed_text at t) (K.written sink.old) (K.written sink.new))) }
+        (λ t. IsFrontWritten (feed_text at t) (K.written sink.old) (K.written sink.new))) }
     ensures later { K.faults sink.old ≤ K.faults sink.new }
     ensures cause { IsErrOf result Halt.Write → Rose (K.faults sink.old) (K.faults sink.new) }
 {
@@ -71,9 +71,9 @@ fn put_tracks<S: FrameStore, K: Sink>(
     at: Ticks,
 ) -> Result<(), Halt>
     ensures ok { (st : State) → Stands engine.now st
-        → OnOk result (Wrote (feeds_in at st) (K.written sink.old) (K.written sink.new)) }
+        → OnOk result (IsWritten (feeds_in at st) (K.written sink.old) (K.written sink.new)) }
     ensures err { (st : State) → Stands engine.now st
-        → OnErr result (WroteFront (feeds_in at st) (K.written sink.old) (K.written sink.new)) }
+        → OnErr result (IsFrontWritten (feeds_in at st) (K.written sink.old) (K.written sink.new)) }
     ensures later { K.faults sink.old ≤ K.faults sink.new }
     ensures cause { IsErrOf result Halt.Write → Rose (K.faults sink.old) (K.faults sink.new) }
 {
@@ -91,8 +91,9 @@ fn put_tracks<S: FrameStore, K: Sink>(
 
 // Puts the line of the first fault, if there is one.
 fn put_fault<K: Sink>(alloc: Global, sink: &mut K, fault: Option<FaultView>) -> Result<(), Halt>
-    ensures ok { OnOk result (Wrote (fault_lines fault) (K.written sink.old) (K.written sink.new)) }
-    ensures err { OnErr result (WroteFront (fault_lines fault) (K.written sink.old)
+    ensures ok { OnOk result (IsWritten (fault_lines fault) (K.written sink.old)
+        (K.written sink.new)) }
+    ensures err { OnErr result (IsFrontWritten (fault_lines fault) (K.written sink.old)
         (K.written sink.new)) }
     ensures later { K.faults sink.old ≤ K.faults sink.new }
     ensures cause { IsErrOf result Halt.Write → Rose (K.faults sink.old) (K.faults sink.new) }
@@ -114,9 +115,10 @@ pub fn close_feed<S: FrameStore, K: Sink>(
     at: Ticks,
 ) -> Result<(), Halt>
     ensures ok { (st : State) → Stands engine.now st
-        → OnOk result (Wrote (feed_closing at st) (K.written sink.old) (K.written sink.new)) }
+        → OnOk result (IsWritten (feed_closing at st) (K.written sink.old) (K.written sink.new)) }
     ensures err { (st : State) → Stands engine.now st
-        → OnErr result (WroteFront (feed_closing at st) (K.written sink.old) (K.written sink.new)) }
+        → OnErr result (IsFrontWritten (feed_closing at st) (K.written sink.old)
+        (K.written sink.new)) }
     ensures later { K.faults sink.old ≤ K.faults sink.new }
     ensures cause { IsErrOf result Halt.Write → Rose (K.faults sink.old) (K.faults sink.new) }
 {

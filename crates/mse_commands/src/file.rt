@@ -2,10 +2,10 @@
 
 ghost use Rattle.std.specs.Prelude.{◌≡◌, ◌≤◌, ◌∷◌, [], Some, length, IfOk, OnOk, OnErr};
 ghost use Rattle.mse_calls.specs.declared.answers.Answer.{Answer};
-ghost use Rattle.script_run.specs.Ran.{Stepped};
-ghost use Rattle.script_run.specs.Stage.{IsStanding};
+ghost use Rattle.script_run.specs.Plays.{IsOwnStep};
+ghost use Rattle.script_run.specs.RunStates.{IsStanding};
 ghost use Rattle.mse_commands.specs.Shown.{append_entry, pieces_of, whole_piece};
-ghost use Rattle.mse_commands.specs.Works.{Appended, AppendedFront, IsOpened, OpenedFront};
+ghost use Rattle.mse_commands.specs.Works.{IsAppended, IsPartAppended, IsOpened, IsFrontOpened};
 
 use mse_base::{Bytes, OutOfMemory, Text};
 use mse_calls::{Blobs, Call, Piece};
@@ -20,7 +20,7 @@ fn open<S: FrameStore>(
     blobs: &Blobs,
 ) -> Result<(), OutOfMemory>
     ensures ok { OnOk result (IsOpened blobs.now run.old run.new) }
-    ensures err { OnErr result (OpenedFront blobs.now run.old run.new) }
+    ensures err { OnErr result (IsFrontOpened blobs.now run.old run.new) }
 {
     let Ok(()) = run.call(blobs, &Call::Attach) else {
         return Err(OutOfMemory);
@@ -50,7 +50,7 @@ fn append<S: FrameStore>(
     piece: Piece,
 ) -> Result<(), OutOfMemory>
     ensures ok { OnOk result ((answer : Answer)
-        × Stepped blobs.now (append_entry piece answer ∷ []) run.old run.new) }
+        × IsOwnStep blobs.now (append_entry piece answer ∷ []) run.old run.new) }
     ensures err { OnErr result (run.new ≡ run.old) }
 {
     match run.call(blobs, &Call::AppendBuffer(0, piece)) {
@@ -66,8 +66,8 @@ pub fn append_whole<S: FrameStore>(
     file: Vec<u8>,
 ) -> Result<(), OutOfMemory>
     requires { IsStanding run.old.engine }
-    ensures ok { OnOk result (Appended file.items (whole_piece ∷ []) run.old run.new) }
-    ensures err { OnErr result (AppendedFront file.items (whole_piece ∷ []) run.old run.new) }
+    ensures ok { OnOk result (IsAppended file.items (whole_piece ∷ []) run.old run.new) }
+    ensures err { OnErr result (IsPartAppended file.items (whole_piece ∷ []) run.old run.new) }
 {
     let Ok(blobs) = blobs_of(alloc, file) else {
         return Err(OutOfMemory);
@@ -114,9 +114,9 @@ pub fn append_pieces<S: FrameStore>(
     requires size { 1 ≤ size }
     requires standing { IsStanding run.old.engine }
     ensures ok { OnOk result
-        (Appended file.items (pieces_of size (length file.items)) run.old run.new) }
+        (IsAppended file.items (pieces_of size (length file.items)) run.old run.new) }
     ensures err { OnErr result
-        (AppendedFront file.items (pieces_of size (length file.items)) run.old run.new) }
+        (IsPartAppended file.items (pieces_of size (length file.items)) run.old run.new) }
 {
     let len = file.len();
     let Ok(mut blobs) = blobs_of(alloc, file) else {

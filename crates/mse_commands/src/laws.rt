@@ -8,7 +8,7 @@ ghost use Rattle.mse_commands.specs.declared.ending.Status.{Status};
 ghost use Rattle.mse_commands.specs.declared.words.Command.{Command};
 ghost use Rattle.mse_commands.specs.Asked.{ByFile, asked};
 ghost use Rattle.mse_commands.specs.Files.{AppendsFile, IsJournalOf, IsThrough, NameOneFile};
-ghost use Rattle.mse_commands.specs.Outcomes.{Ends, Left};
+ghost use Rattle.mse_commands.specs.Outcomes.{Ends, RunOutcome};
 ghost use Rattle.mse_commands.specs.Shown.{last_state, text_of};
 ghost use Rattle.mse_commands.specs.Words.{number_of};
 
@@ -32,7 +32,7 @@ pub fn one_block()
         → length bytes < 2 ^ 62 → IsJournalOf a bytes entries → IsJournalOf b bytes others
         → text_of (ByFile a bytes) entries ≡ text_of (ByFile b bytes) others }
     ensures runs { (files : Table) (a b : List (List ℕ)) (bytes : List ℕ) (n m : ℕ)
-        (before : List ℕ) (s t : Left) (x y : Status) → NameOneFile files a b bytes
+        (before : List ℕ) (s t : RunOutcome) (x y : Status) → NameOneFile files a b bytes
         → length bytes < 2 ^ 62 → s.before.written ≡ Some before → t.before.written ≡ Some before
         → IsThrough x → IsThrough y → Ends n (asked files a) s x → Ends m (asked files b) t y
         → (x ≡ y) × (s.now.written ≡ t.now.written) }

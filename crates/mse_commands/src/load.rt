@@ -3,7 +3,7 @@
 ghost use Rattle.std.specs.Prelude.{◌≡◌, ◌≤◌, ◌⊎◌, ◌∷◌, [], ℕ, length, Ok, IfSome, IfOk, IfErr};
 ghost use Rattle.mse_outside.specs.Outside.{Rose};
 ghost use Rattle.mse_commands.specs.Asked.{IsReadOf, blob_bytes, blobs_bytes, files_in, loaded, script_loaded};
-ghost use Rattle.mse_commands.specs.Loads.{LoadEnd, ScriptEnd, failures};
+ghost use Rattle.mse_commands.specs.Loads.{IsLoadEnd, IsScriptEnd, failures};
 
 use crate::ending::End;
 use call_script::{BlobText, Script, ScriptError, read_script};
@@ -37,7 +37,7 @@ pub fn load<L: Library>(alloc: Global, library: &mut L, name: &str) -> Result<Ve
     ensures table { L.table library.new ≡ L.table library.old }
     ensures ok { IfSome (L.table library.old) (λ files.
         IfOk result (λ made. loaded files name.now ≡ Ok made.items)) }
-    ensures end { IfErr result (LoadEnd (L.table library.old)
+    ensures end { IfErr result (IsLoadEnd (L.table library.old)
         (failures (L.faults library.old) (L.faults library.new))
         (name.now ∷ []) (λ files. loaded files name.now)) }
     ensures later { L.faults library.old ≤ L.faults library.new }
@@ -57,7 +57,7 @@ pub fn load_script<L: Library>(alloc: Global, library: &mut L, name: &str) -> Re
     ensures ok { IfSome (L.table library.old) (λ files.
         IfOk result (λ made. script_loaded files name.now ≡ Ok made)) }
     ensures read { IfOk result (λ made. IsReadOf (Ok made)) }
-    ensures end { IfErr result (ScriptEnd (L.table library.old)
+    ensures end { IfErr result (IsScriptEnd (L.table library.old)
         (failures (L.faults library.old) (L.faults library.new)) name.now) }
     ensures later { L.faults library.old ≤ L.faults library.new }
 {
@@ -77,7 +77,7 @@ fn load_blob<L: Library>(alloc: Global, library: &mut L, text: &BlobText) -> Res
     ensures table { L.table library.new ≡ L.table library.old }
     ensures ok { IfSome (L.table library.old) (λ files.
         IfOk result (λ made. blob_bytes files text.now ≡ Ok made)) }
-    ensures end { IfErr result (LoadEnd (L.table library.old)
+    ensures end { IfErr result (IsLoadEnd (L.table library.old)
         (failures (L.faults library.old) (L.faults library.new))
         (files_in (text.now ∷ [])) (λ files. blob_bytes files text.now)) }
     ensures later { L.faults library.old ≤ L.faults library.new }
@@ -107,7 +107,7 @@ pub fn load_blobs<L: Library>(
     ensures ok { IfSome (L.table library.old) (λ files.
         IfOk result (λ made. blobs_bytes files texts.now ≡ Ok made)) }
     ensures count { IfOk result (λ made. length made ≡ length texts.now) }
-    ensures end { IfErr result (LoadEnd (L.table library.old)
+    ensures end { IfErr result (IsLoadEnd (L.table library.old)
         (failures (L.faults library.old) (L.faults library.new))
         (files_in texts.now) (λ files. blobs_bytes files texts.now)) }
     ensures later { L.faults library.old ≤ L.faults library.new }

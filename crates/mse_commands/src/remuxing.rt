@@ -6,9 +6,9 @@ ghost use Rattle.listeners.specs.declared.listener.Note.{Note};
 ghost use Rattle.mse_calls.specs.declared.rules.Rule.{Rule};
 ghost use Rattle.mse_outside.specs.Outside.{Rose};
 ghost use Rattle.remux.specs.Remuxed.{remuxed};
-ghost use Rattle.script_run.specs.Wrote.{Wrote, WroteFront};
+ghost use Rattle.script_run.specs.Writes.{IsWritten, IsFrontWritten};
 ghost use Rattle.mse_commands.specs.Asked.{OfCommand};
-ghost use Rattle.mse_commands.specs.Outcomes.{left, outside_of};
+ghost use Rattle.mse_commands.specs.Outcomes.{outcome, outside_of};
 ghost use Rattle.mse_commands.specs.Remuxing.{remux_fault_line, remux_text};
 ghost use Rattle.mse_commands.specs.Works.{Works};
 
@@ -24,9 +24,9 @@ use std::alloc::Global;
 
 // Puts the pieces of a fragmented file, each with one put.
 fn put_pieces<K: Sink>(sink: &mut K, pieces: &[Bytes]) -> Result<(), Halt>
-    ensures ok { OnOk result (Wrote (flat_map (λ piece. piece) pieces.now)
+    ensures ok { OnOk result (IsWritten (flat_map (λ piece. piece) pieces.now)
         (K.written sink.old) (K.written sink.new)) }
-    ensures err { OnErr result (WroteFront (flat_map (λ piece. piece) pieces.now)
+    ensures err { OnErr result (IsFrontWritten (flat_map (λ piece. piece) pieces.now)
         (K.written sink.old) (K.written sink.new)) }
     ensures later { K.faults sink.old ≤ K.faults sink.new }
     ensures cause { IsErrOf result Halt.Write → Rose (K.faults sink.old) (K.faults sink.new) }
@@ -47,9 +47,9 @@ fn put_fault<K: Sink>(
     fault: RemuxFault,
     offset: u64,
 ) -> Result<(), Halt>
-    ensures ok { OnOk result (Wrote (remux_fault_line fault offset)
+    ensures ok { OnOk result (IsWritten (remux_fault_line fault offset)
         (K.written sink.old) (K.written sink.new)) }
-    ensures err { OnErr result (WroteFront (remux_fault_line fault offset)
+    ensures err { OnErr result (IsFrontWritten (remux_fault_line fault offset)
         (K.written sink.old) (K.written sink.new)) }
     ensures later { K.faults sink.old ≤ K.faults sink.new }
     ensures cause { IsErrOf result Halt.Write → Rose (K.faults sink.old) (K.faults sink.new) }
@@ -63,9 +63,9 @@ fn put_fault<K: Sink>(
 // Puts a file as fragments, or the line of its fault. It answers whether it has one.
 fn put_remuxed<K: Sink>(alloc: Global, sink: &mut K, file: &[u8]) -> Result<bool, Halt>
     ensures ok { IfOk result (λ broken. broken ≡ is_err (remuxed file.now)) }
-    ensures wrote { OnOk result (Wrote (remux_text file.now)
+    ensures wrote { OnOk result (IsWritten (remux_text file.now)
         (K.written sink.old) (K.written sink.new)) }
-    ensures err { OnErr result (WroteFront (remux_text file.now)
+    ensures err { OnErr result (IsFrontWritten (remux_text file.now)
         (K.written sink.old) (K.written sink.new)) }
     ensures later { K.faults sink.old ≤ K.faults sink.new }
     ensures cause { IsErrOf result Halt.Write → Rose (K.faults sink.old) (K.faults sink.new) }
@@ -94,7 +94,7 @@ pub fn run_remux<L: Library, K: Sink>(
     ensures works { (count : ℕ) (told : List (List Note)) (given : List (List Rule))
         → OfCommand (L.table library.old) name.now (Some Command.Remux) (λ request.
         Works count request
-        (left [] None
+        (outcome [] None
         (outside_of (L.faults library.old) (K.written sink.old) told given)
         (outside_of (L.faults library.new) (K.written sink.new) told given))
         result) }

@@ -4,9 +4,9 @@ ghost use Rattle.std.specs.Prelude.{◌≡◌, ◌≤◌, ◌<◌, ◌⊎◌, �
 ghost use Rattle.listeners.specs.Dispatch.{notes_at};
 ghost use Rattle.mse_outside.specs.Outside.{Rose};
 ghost use Rattle.mse_commands.specs.Asked.{OfWords, asked};
-ghost use Rattle.mse_commands.specs.Complete.{CutAnywhere, IsComplete};
+ghost use Rattle.mse_commands.specs.Complete.{IsCutAnywhere, IsComplete};
 ghost use Rattle.mse_commands.specs.Loads.{failures};
-ghost use Rattle.mse_commands.specs.Outcomes.{Ends, left, outside_of};
+ghost use Rattle.mse_commands.specs.Outcomes.{Ends, outcome, outside_of};
 ghost use Rattle.mse_commands.specs.Says.{Says, SaysLine};
 ghost use Rattle.mse_commands.specs.Words.{command_of};
 
@@ -77,7 +77,7 @@ pub fn run<S: FrameStore, L: Library, K: Sink>(
     requires engine { engine.old ≡ None }
     ensures ends { OfWords (L.table library.old) (map string_bytes words.now) (λ request.
         Ends (vec_len listeners.old) request
-        (left journal.new.entries engine.new
+        (outcome journal.new.entries engine.new
         (outside_of (L.faults library.old) (K.written sink.old)
         (map (λ b. notes b) listeners.old.items) (map (λ b. rules b) listeners.old.items))
         (outside_of (L.faults library.new) (K.written sink.new)
@@ -85,14 +85,14 @@ pub fn run<S: FrameStore, L: Library, K: Sink>(
         result) }
     ensures complete { IfSome (L.table library.old) (λ files. IsComplete (vec_len listeners.old)
         (asked files (map string_bytes words.now))
-        (left journal.new.entries engine.new
+        (outcome journal.new.entries engine.new
         (outside_of (L.faults library.old) (K.written sink.old)
         (map (λ b. notes b) listeners.old.items) (map (λ b. rules b) listeners.old.items))
         (outside_of (L.faults library.new) (K.written sink.new)
         (map (λ b. notes b) listeners.new.items) (map (λ b. rules b) listeners.new.items)))
         (failures (K.faults sink.old) (K.faults sink.new)) result) }
     ensures cuts { IfSome (L.table library.old) (λ files.
-        CutAnywhere (asked files (map string_bytes words.now)) journal.new.entries result) }
+        IsCutAnywhere (asked files (map string_bytes words.now)) journal.new.entries result) }
     ensures count { vec_len listeners.new ≡ vec_len listeners.old }
     ensures words { result ≡ Status.Words → command_of (map string_bytes words.now) ≡ None }
     ensures read { result ≡ Status.Read → Rose (L.faults library.old) (L.faults library.new) }

@@ -30,7 +30,7 @@ use Rattle.source_buffers.proofs.Staying.{all_later}
 use Rattle.source_buffers.proofs.Highest.{all_bounded, none_stored}
 use Rattle.media_element.specs.State.{ElementState}
 use Rattle.media_element.specs.Settled.{IsSettled}
-use Rattle.media_element.specs.Falling.{after_duration_change as after_element_change}
+use Rattle.media_element.specs.DurationChange.{after_duration_change as after_element_change}
 use Rattle.mse_engine.specs.State.{CoreSource, Core, State}
 use Rattle.mse_engine.specs.Scenes.{CoreView, scene_at}
 use Rattle.mse_engine.specs.Signals.{Signal, after_signals, step}

@@ -12,7 +12,7 @@ use Rattle.element_seek.specs.State.{PlayerState, Told, telling}
 use Rattle.element_seek.specs.Seeking.{in_media, after_seek_in, after_seek, after_start, after_load}
 use Rattle.media_element.specs.State.{ElementState}
 use Rattle.media_element.specs.Queueing.{after_told, after}
-use Rattle.media_element.specs.Falling.{after_seek_to, after_fall, after_change}
+use Rattle.media_element.specs.DurationChange.{after_seek_to, after_fall, after_change}
 use Rattle.mse_engine.specs.State.{outer_of, player_of}
 use Rattle.mse_engine.specs.Scenes.{CoreView, scene_at}
 use Rattle.mse_engine.specs.Signals.{Signal, Tell, DurationChanged, Loaded, after_signal, after_signals}

@@ -18,7 +18,7 @@ pub mod Working
 pub mod Refusing
 pub mod RefusedCalls
 pub mod SoundStates
-pub mod Goes
+pub mod Transitions
 pub mod UntoldCalls
 pub mod Progress
 pub mod Spanning

@@ -14,7 +14,7 @@ use Rattle.mse_types.specs.declared.answer.Container.{Container}
 use Rattle.buffer_state.specs.declared.reply.Reply.{Reply}
 use Rattle.buffer_state.specs.State.{Surroundings}
 use Rattle.source_state.specs.State.{SourceState, has}
-use Rattle.source_state.specs.Calls.{is_full, with_new, after_add_buffer, after_remove_buffer}
+use Rattle.source_state.specs.Calls.{has_most_buffers, with_new, after_add_buffer, after_remove_buffer}
 use Rattle.source_state.specs.declared.answers.Added.{Added}
 use Rattle.source_state.specs.declared.answers.Added.TheVariants as added
 use Rattle.source_state.specs.declared.answers.Removed.{Removed}
@@ -46,14 +46,14 @@ abbrev AddLeaves : SourceState → Answered Added SourceState → Type 0
 AddLeaves s a = (name : Name) → a.answer ≡ added.Refused name → a.state ≡ s
 
 add_leaves : (s : SourceState) → AddLeaves s (after_add_buffer s)
-add_leaves s = by_case (AddLeaves s) (is_full s) _ _ (λ name e. refl) (by_case (AddLeaves s) (not (is_open s.ready)) _ _ (λ name e. refl) (λ name e. absurd cc))
+add_leaves s = by_case (AddLeaves s) (has_most_buffers s) _ _ (λ name e. refl) (by_case (AddLeaves s) (not (is_open s.ready)) _ _ (λ name e. refl) (λ name e. absurd cc))
 
 -- a number was given, so that there are few
 abbrev AddGives : SourceState → Answered Added SourceState → Type 0
 AddGives s a = (n : ℕ) → a.answer ≡ added.Number n → a.state ≡ with_new s
 
 add_gives : (s : SourceState) → AddGives s (after_add_buffer s)
-add_gives s = by_case (AddGives s) (is_full s) _ _ (λ n e. absurd cc) (by_case (AddGives s) (not (is_open s.ready)) _ _ (λ n e. absurd cc) (λ n e. refl))
+add_gives s = by_case (AddGives s) (has_most_buffers s) _ _ (λ n e. absurd cc) (by_case (AddGives s) (not (is_open s.ready)) _ _ (λ n e. absurd cc) (λ n e. refl))
 
 few_by : (a b : Bool) (x y : Answered Added SourceState) (n : ℕ) (name : Name) → x.answer ≡ added.Refused name → (cond (a || b) x y).answer ≡ added.Number n → b ≡ false
 few_by true b x y n name r e = absurd cc

@@ -26,7 +26,7 @@ use Rattle.buffer_state.specs.State.{Feed, Content, Surroundings}
 use Rattle.buffer_state.specs.Replies.{CallResult}
 use Rattle.buffer_state.specs.Calls.{mode_result, offset_result, window_start_result, window_end_result, remove_result, append_result, abort_result, change_type_result}
 use Rattle.source_state.specs.State.{SourceState, has, are_in}
-use Rattle.source_state.specs.Calls.{answering, in_ready, with_live, after_set_live, is_full, with_new, without_buffer, after_duration_change, past_frames, has_frame_after, end_refusal}
+use Rattle.source_state.specs.Calls.{answering, in_ready, with_live, after_set_live, has_most_buffers, with_new, without_buffer, after_duration_change, past_frames, has_frame_after, end_refusal}
 use Rattle.source_state.specs.declared.answers.Added.{Added}
 use Rattle.source_state.specs.declared.answers.Added.TheVariants as added
 use Rattle.source_state.specs.declared.answers.Removed.{Removed}
@@ -186,7 +186,7 @@ module _ (law : AreInside) (c : Core) (none : AreUntracked c.source.state.durati
   add_of Empty = refused _
   add_of Unsupported = refused _
   add_of (Supported container) =
-      add_by (is_full c.source.state) (answering (added.Refused QuotaExceeded) c.source.state) _ container (refused QuotaExceeded)
+      add_by (has_most_buffers c.source.state) (answering (added.Refused QuotaExceeded) c.source.state) _ container (refused QuotaExceeded)
       (add_by (not (is_open c.source.state.ready)) (answering (added.Refused InvalidState) c.source.state) (answering (added.Number c.source.state.made) (with_new c.source.state)) container (refused InvalidState) (added_to container))
 
   made : (k : ℕ) (m : Moved) → IsPlacing c m → IsPlacing c (if_made k m c)

@@ -20,7 +20,7 @@ use Rattle.element_seek.specs.Seeking.{in_media, after_seek_in, after_seek, afte
 use Rattle.element_seek.specs.Playing.{after_rewind, after_unpause, after_play, after_pause, plays_on, after_time_in, after_time, after_advance}
 use Rattle.element_seek.specs.Turns.{is_seek_done, is_end_due, after_turn}
 use Rattle.media_element.specs.State.{ElementState}
-use Rattle.media_element.specs.Falling.{after_seek_to, after_fall}
+use Rattle.media_element.specs.DurationChange.{after_seek_to, after_fall}
 use Rattle.media_element.proofs.Reach.{SeekStaysInside, reached}
 use Rattle.mse_engine.specs.State.{Element, element_of}
 use Rattle.mse_engine.specs.Scenes.{CoreView, scene_at}

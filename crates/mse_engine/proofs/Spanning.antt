@@ -13,7 +13,7 @@ use Rattle.mse_base.specs.Meets.{meet, meet_of_all}
 use Rattle.mse_base.specs.Spans.{reaches, last_from, last_of}
 use Rattle.track_store.specs.declared.store.Stored.{Stored}
 use Rattle.track_store.specs.Frames.{ends, intervals, ranges_of}
-use Rattle.track_store.specs.Sound.{Sound, IsNotNegative}
+use Rattle.track_store.specs.Sound.{IsSound, IsNotNegative}
 use Rattle.track_store.specs.State.{TrackState}
 use Rattle.track_buffers.specs.Media.{Media, EndsWithin}
 use Rattle.track_buffers.specs.Frames.{highest_end_in}
@@ -101,7 +101,7 @@ frames_infinite : (fs : List Stored) → AllByRecursion IsNotNegative fs → Are
 frames_infinite [] h = tt
 frames_infinite (f ∷ fs) h = ((h.0.0, frame_above f.frame.pts f.frame.dur h.0.0 h.0.1, tt), frames_infinite fs h.1)
 
-tracks_within : (d : Moment) (gap : ℤ) (ts : List TrackState) → AllByRecursion Sound ts → EndsWithin d ts → AllByRecursion (AreWithin d) (map (λ t. ranges_of gap t.frames) ts)
+tracks_within : (d : Moment) (gap : ℤ) (ts : List TrackState) → AllByRecursion IsSound ts → EndsWithin d ts → AllByRecursion (AreWithin d) (map (λ t. ranges_of gap t.frames) ts)
 tracks_within Nan gap [] h k = tt
 tracks_within Nan gap (t ∷ ts) h k = (subst (λ (fs : List Stored). AreWithin Nan (ranges_of gap fs)) (sym k.0) tt, tracks_within Nan gap ts h.1 k.1)
 tracks_within (At d) gap [] h k = tt
@@ -174,7 +174,7 @@ all_meet : (d : Moment) (rs : List (List Span)) → AllByRecursion (AreWithin d)
 all_meet d [] h = tt
 all_meet d (r ∷ rs) h = fold_within d r rs h.0 h.1
 
-buffer_within : (d : Moment) (ended : Bool) (m : Media) → AllByRecursion Sound m.tracks → EndsWithin d m.tracks → AreWithin d (buffered_of ended m)
+buffer_within : (d : Moment) (ended : Bool) (m : Media) → AllByRecursion IsSound m.tracks → EndsWithin d m.tracks → AreWithin d (buffered_of ended m)
 buffer_within d ended m h k = all_meet d (with_common_end ended (track_ranges m)) (common_within d ended (track_ranges m) (tracks_within d m.gap m.tracks h k))
 
 slot_within : (d : Moment) (ended : Bool) (k : ℕ) (ms : List (Option Media)) → AreSound ms → AllEndWithin d ms → AreWithin d (slot_ranges ended (in_slot k ms))
@@ -268,7 +268,7 @@ frame_ends : (fs : List Stored) → AllByRecursion IsNotNegative fs → AllByRec
 frame_ends [] h = tt
 frame_ends (f ∷ fs) h = (frame_above f.frame.pts f.frame.dur h.0.0 h.0.1, frame_ends fs h.1)
 
-track_ends : (ts : List TrackState) → AllByRecursion Sound ts → AllByRecursion (λ t. pos 0 ≤ℤ t) (flat_map (λ t. ends t.frames) ts)
+track_ends : (ts : List TrackState) → AllByRecursion IsSound ts → AllByRecursion (λ t. pos 0 ≤ℤ t) (flat_map (λ t. ends t.frames) ts)
 track_ends [] h = tt
 track_ends (t ∷ ts) h = all_append (λ t. pos 0 ≤ℤ t) (ends t.frames) _ (frame_ends t.frames h.0.not_negative) (track_ends ts h.1)
 

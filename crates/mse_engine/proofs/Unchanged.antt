@@ -11,7 +11,7 @@ use Rattle.element_seek.specs.State.{PlayerState, has_ended}
 use Rattle.element_seek.specs.Seeking.{in_media, after_seek_in, after_seek}
 use Rattle.element_seek.specs.Playing.{after_rewind, after_unpause, after_play, after_pause, plays_on, after_move, after_time_in, after_time, after_advance}
 use Rattle.element_seek.specs.Turns.{is_seek_done, is_end_due, after_turn}
-use Rattle.media_element.specs.Falling.{after_seek_to, after_fall}
+use Rattle.media_element.specs.DurationChange.{after_seek_to, after_fall}
 
 pub record IsKept (p q : PlayerState) : Type 0 where
   pub error : q.error ≡ p.error

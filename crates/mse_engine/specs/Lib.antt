@@ -14,4 +14,4 @@ pub mod Positions
 pub mod Standing
 pub mod Progress
 pub mod Sound
-pub mod Goes
+pub mod Transitions

@@ -6,7 +6,7 @@ use Rattle.element_seek.specs.Seeking.{after_load}
 use Rattle.element_seek.specs.Settling.{after_settle}
 use Rattle.media_element.specs.State.{ElementState}
 use Rattle.media_element.specs.Queueing.{queued, after}
-use Rattle.media_element.specs.Falling.{after_duration_change}
+use Rattle.media_element.specs.DurationChange.{after_duration_change}
 use Rattle.mse_engine.specs.State.{Core, Outer, State, outer_of, element_in}
 use Rattle.mse_engine.specs.Scenes.{CoreView, core_view, scene_at}
 

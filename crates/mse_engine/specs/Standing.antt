@@ -1,5 +1,5 @@
 -- What the engine keeps, and the states that it stands for. Read first `Kept` and `Stands`, then `IsStep` and
--- `Answers`, which say what a call gives, then `IsSteady` and `IsWhole`, which say what every step keeps.
+-- `Answers`, which say what a call gives, then `IsSteady` and `HasEngineInvariants`, which say what every step keeps.
 use Rattle.std.specs.Prelude.{◌≡◌, ℕ, ◌<◌, ℤ, pos, int_lt, Bool, true, not, List, if◌then◌else◌, length, Option, Some, None, Result, IfOk}
 use Rattle.buffer_state.specs.declared.reply.Reply.{Reply}
 use Rattle.mse_calls.specs.Answered.{Answered}
@@ -101,7 +101,7 @@ pub record StandsPlaced (k : Kept) : Type 0 where
   pub placed : IsPlacedState state
 
 -- what every step of the whole engine keeps
-pub record IsWhole (k : Kept) : Type 0 where
+pub record HasEngineInvariants (k : Kept) : Type 0 where
   pub steady : IsSteady k
   pub inside : StandsPlaced k
 

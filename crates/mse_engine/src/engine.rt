@@ -47,13 +47,13 @@ pub struct Engine<S: FrameStore> {
 }
 
 impl<S: FrameStore> Model for Engine<S> {
-    ghost use Rattle.mse_engine.specs.Standing.{IsWhole, Kept, kept};
+    ghost use Rattle.mse_engine.specs.Standing.{HasEngineInvariants, Kept, kept};
 
     ghost Value = { Kept };
 
     ghost view = { λ e. kept e.side e.buffers.buffers e.element.state };
 
-    ghost invariant = { λ e. IsWhole (kept e.side e.buffers.buffers e.element.state) };
+    ghost invariant = { λ e. HasEngineInvariants (kept e.side e.buffers.buffers e.element.state) };
 }
 
 impl<S: FrameStore> Engine<S> {

@@ -7,8 +7,8 @@ use Rattle.mse_outside.specs.declared.library.Loaded.{Loaded}
 use Rattle.mse_outside.specs.declared.library.Loaded.TheVariants.{Done as LoadDone, Failed as LoadFailed, OutOfMemory as LoadOutOfMemory}
 
 -- all that the reader had left was appended, and it is at most so many bytes
-abbrev pub IsWhole : ℕ → Option (List ℕ) → List ℕ → List ℕ → Type 0
-IsWhole most left old new = IfSome left (λ bytes. (new ≡ old ++ bytes) × (length bytes ≤ most))
+abbrev pub IsReadToEnd : ℕ → Option (List ℕ) → List ℕ → List ℕ → Type 0
+IsReadToEnd most left old new = IfSome left (λ bytes. (new ≡ old ++ bytes) × (length bytes ≤ most))
 
 -- a front part of what the reader had left was appended
 abbrev pub IsFrontAppended : Option (List ℕ) → List ℕ → List ℕ → Type 0

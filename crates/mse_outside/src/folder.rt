@@ -4,7 +4,7 @@ ghost use Rattle.std.specs.IoError.{error_kind};
 ghost use Rattle.mse_outside.specs.Count.{next_count};
 ghost use Rattle.mse_outside.specs.Outside.{Appends, Rose};
 ghost use Rattle.mse_outside.specs.Folder.{faults_after};
-ghost use Rattle.mse_outside.specs.Reading.{IsWhole, IsFrontAppended, loaded_of};
+ghost use Rattle.mse_outside.specs.Reading.{IsReadToEnd, IsFrontAppended, loaded_of};
 
 use crate::{Library, Loaded};
 use std::fs::{self, Files};
@@ -72,7 +72,7 @@ pub(crate) fn append_all<F: Read>(
     into: &mut Vec<u8>,
     most: usize,
 ) -> Result<(), ReadStop>
-    ensures whole { OnOk result (IsWhole most
+    ensures whole { OnOk result (IsReadToEnd most
         (F.remaining file.old) into.old.items into.new.items) }
     ensures too_long { result ≡ Err ReadStop.TooLong →
         IfSome (F.remaining file.old) (λ bytes. most < length bytes) }

@@ -10,7 +10,7 @@ use Rattle.mse_base.specs.Time.{IsTick}
 use Rattle.track_store.specs.declared.store.Stored.{Stored}
 use Rattle.track_store.specs.Frames.{frames_with_dur, with_dur, has_serial, is_in_frame, overlapped, bytes_of, IsAscending, IsTimed}
 use Rattle.track_store.specs.State.{TrackState}
-use Rattle.track_store.specs.Sound.{Sound, IsNext, IsChained, last_serial, IsNotNegative, AreTogether}
+use Rattle.track_store.specs.Sound.{IsSound, IsSuccessor, IsChained, last_serial, IsNotNegative, AreTogether}
 use Rattle.track_store.proofs.Clearing.{each-cleared, ascending-cleared, used-cleared, pick-each, ascending-shortened, used-shortened}
 use Rattle.track_store.proofs.Soundness.{chained-cleared, chained-shortened, last-cleared}
 use Rattle.track_store.proofs.Overlapping.{overlapped-covers, fold-each}
@@ -168,11 +168,11 @@ firm-left received first kind p hit removed fs is h =
       group_sync = if_some first (λ n. AllByRecursion (λ f. f.serial ≡ n → f.frame.sync ≡ true) fs) (λ n. AllByRecursion (λ f. f.serial ≡ n → f.frame.sync ≡ true) (frames_left_by_overlap kind p hit removed fs)) (λ n k. left-stable (λ f. f.serial ≡ n → f.frame.sync ≡ true) kind p hit removed fs (λ dur f j. j) k) h.group_sync;
     }
 
-firm_of : (t : TrackState) → Sound t → Firm t.marks.received t.marks.group_first t.frames
+firm_of : (t : TrackState) → IsSound t → Firm t.marks.received t.marks.group_first t.frames
 firm_of t h = record { chained = h.chained; ascending = h.ascending; below = h.below; not_negative = h.not_negative; timed = h.timed; group_sync = h.group_sync }
 
 -- the frames that are left
-pub firm_room : (p e : ℤ) (t : TrackState) → Sound t → Firm t.marks.received t.marks.group_first (track_with_room p e t).frames
+pub firm_room : (p e : ℤ) (t : TrackState) → IsSound t → Firm t.marks.received t.marks.group_first (track_with_room p e t).frames
 firm_room p e t h = let firm = firm_of t h in firm-left _ _ t.kind p (overlapped_after t.marks.last_decode p t.frames) (is_removed t.marks p e) t.frames (hit_is t.marks.last_decode p t.marks.received t.marks.group_first t.frames firm) firm
 
 used-rule : (rule : OverlapRule) (serial : ℕ) (removed : Stored → Bool) (fs : List Stored) → bytes_of (frames_left_by_rule rule serial removed fs) ≤ bytes_of fs
@@ -197,24 +197,24 @@ spared from e n [] = tt
 spared None e n (f ∷ fs) = ((λ _. refl), spared None e n fs)
 spared (Some from) e n (f ∷ fs) = ((λ le. let late : nat_lt f.serial n ≡ false = grind (arith, nat_tests) in and_no (int_le from f.frame.pts && int_lt f.frame.pts e) _ late), spared (Some from) e n fs)
 
-next_of : (o : Option ℕ) (received : ℕ) → IsNext o received → (m : ℕ) × (o ≡ Some m) × (m + 1 ≡ received)
+next_of : (o : Option ℕ) (received : ℕ) → IsSuccessor o received → (m : ℕ) × (o ≡ Some m) × (m + 1 ≡ received)
 next_of None received h = absurd h
 next_of (Some m) received h = (m, refl, h)
 
 -- while no random access point is needed the last frame stays
-last-left : (kind : Kind) (p e : ℤ) (decode duration end : Option ℤ) (first : Option ℕ) (need : Bool) (received : ℕ) (fs : List Stored) → AreTogether decode duration end first need → need ≡ false → Firm received first fs → IfSome first (λ n. n < received) → IsNext (last_serial None fs) received → IsNext (last_serial None (frames_left_by_overlap kind p (overlapped_after decode p fs) (is_removed_from (removed_from end p) e first) fs)) received
+last-left : (kind : Kind) (p e : ℤ) (decode duration end : Option ℤ) (first : Option ℕ) (need : Bool) (received : ℕ) (fs : List Stored) → AreTogether decode duration end first need → need ≡ false → Firm received first fs → IfSome first (λ n. n < received) → IsSuccessor (last_serial None fs) received → IsSuccessor (last_serial None (frames_left_by_overlap kind p (overlapped_after decode p fs) (is_removed_from (removed_from end p) e first) fs)) received
 last-left kind p e (Some decode) (Some duration) (Some end) (Some n) need received fs together none h low next =
     let m = next_of (last_serial None fs) received next in
     let stays = last-cleared (is_removed_from (removed_from (Some end) p) e (Some n)) false None None n m.0 fs (spared (removed_from (Some end) p) e n fs) h.group_sync h.ascending h.chained tt m.1 (omega arith) in
-    subst (λ o. IsNext o received) (sym stays) m.2
+    subst (λ o. IsSuccessor o received) (sym stays) m.2
 last-left kind p e None None None None need received fs together none h low next = cc
 last-left kind p e decode duration end first need received fs together none h low next = absurd together
 
-pub last_room : (p e : ℤ) (t : TrackState) → Sound t → t.marks.need_sync ≡ false → IsNext (last_serial None (track_with_room p e t).frames) t.marks.received
+pub last_room : (p e : ℤ) (t : TrackState) → IsSound t → t.marks.need_sync ≡ false → IsSuccessor (last_serial None (track_with_room p e t).frames) t.marks.received
 last_room p e t h none = last-left t.kind p e _ t.marks.last_duration _ _ _ _ t.frames h.together none (firm_of t h) h.group_below (h.last_held none)
 
 -- a track stays sound where room is made
-pub sound_room : (p e : ℤ) (t : TrackState) → Sound t → Sound (track_with_room p e t)
+pub sound_room : (p e : ℤ) (t : TrackState) → IsSound t → IsSound (track_with_room p e t)
 sound_room p e t h =
     let firm = firm_room p e t h in
     record {
@@ -242,7 +242,7 @@ hit-each : (P : Stored → Type 0) (decode : Option ℤ) (p : ℤ) (fs : List St
 hit-each P None p fs h = overlapped-each P p fs h
 hit-each P (Some last) p fs h = tt
 
-pub end_room : (limit p e : ℤ) (t : TrackState) → Sound t → AllByRecursion (λ f. (f.frame.pts +ℤ f.frame.dur) ≤ℤ limit) t.frames → AllByRecursion (λ f. (f.frame.pts +ℤ f.frame.dur) ≤ℤ limit) (track_with_room p e t).frames
+pub end_room : (limit p e : ℤ) (t : TrackState) → IsSound t → AllByRecursion (λ f. (f.frame.pts +ℤ f.frame.dur) ≤ℤ limit) t.frames → AllByRecursion (λ f. (f.frame.pts +ℤ f.frame.dur) ≤ℤ limit) (track_with_room p e t).frames
 end_room limit p e t h low =
     let hit = overlapped_after t.marks.last_decode p t.frames in
     let is = hit_is t.marks.last_decode p t.marks.received t.marks.group_first t.frames (firm_of t h) in

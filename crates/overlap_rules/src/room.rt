@@ -1,6 +1,6 @@
 ghost use Rattle.std.specs.Prelude.{◌≡◌, ◌<◌, ◌≤◌, true, Some, int_lt, ◌+ℤ◌, ◌-ℤ◌, pos, length, IfSome, slice_get};
 ghost use Rattle.track_store.specs.Frames.{frames_without, is_in_frame, overlapped};
-ghost use Rattle.track_store.specs.Sound.{Sound};
+ghost use Rattle.track_store.specs.Sound.{IsSound};
 ghost use Rattle.track_store.specs.State.{state_of};
 ghost use Rattle.overlap_rules.specs.Overlap.{rule_for, removed_from, is_removed_from, track_with_room};
 ghost use Rattle.overlap_rules.specs.Steps.{CanApply, frames_after_rule, frames_after_overlap, track_after_overlap, track_without_older};
@@ -154,7 +154,7 @@ fn remove_existing<S: FrameStore>(track: &mut Track<S>, pts: Ticks, end: Ticks)
 pub fn make_room<S: FrameStore>(track: &mut Track<S>, pts: Ticks, end: Ticks)
     ensures state { state_of S.frames track.new
         ≡ track_with_room pts end (state_of S.frames track.old) }
-    ensures sound { Sound (state_of S.frames track.old) → Sound (state_of S.frames track.new) }
+    ensures sound { IsSound (state_of S.frames track.old) → IsSound (state_of S.frames track.new) }
     ensures spare { S.spare track.old.store ≤ S.spare track.new.store }
     ensures gap { S.gap track.new.store ≡ S.gap track.old.store }
 {

@@ -1,165 +1,165 @@
 -- Laws of what is taken ahead.
 use Rattle.std.proofs.Common.{◌≡◌, ℕ, zero, suc, ◌+◌, ◌<◌, ◌≤◌, Bool, true, false, List, [], ◌∷◌, ◌++◌, length, drop, slice_get, Option, Some, None, refl, ap, sym, ◌∙◌, arith}
 use Rattle.std.proofs.lemmas.List.{append_assoc}
-use Rattle.parser_loop.specs.Walk.{Move, Stop, Pass, Give, Kind, items_by, items_from, settle_by, settle, after_item, state_at, Shrinks, Follows, IsWalk, Run, stay_at, joined, run_give, run_by, run_in, run, Stands, fed, item_of, first_by, first_item, run_after, after_by, after_first, count_after, leading_by, leading}
+use Rattle.parser_loop.specs.Walk.{Move, Stop, Pass, Give, StreamKind, items_by, items_from, settle_by, settle, after_item, state_at, Shrinks, Follows, IsWalk, Lookahead, stay_at, with_items, run_give, run_by, run_in, run, Stands, fed, item_of, first_by, first_item, run_after, after_by, after_first, count_after, leading_by, leading}
 use Rattle.parser_loop.proofs.Walks.{items-step, settle-step, IsSettled, items-at, state-next, settled-at-state, state-more}
 
-agree-run : {S I : Type 0} (k : Kind S I) (s : S) (m : Move S I) (f g : S → Run S I) (n : ℕ) → Shrinks k n m → ((t : S) → k.size t < n → f t ≡ g t) → run_by k s f m ≡ run_by k s g m
+agree-run : {S I : Type 0} (k : StreamKind S I) (s : S) (m : Move S I) (f g : S → Lookahead S I) (n : ℕ) → Shrinks k n m → ((t : S) → k.size t < n → f t ≡ g t) → run_by k s f m ≡ run_by k s g m
 agree-run k s Stop f g n h e = refl
 agree-run k s (Pass t) f g n h e = e t h
 agree-run k s (Give item t) f g n h e = ap (λ r. run_give s item r (k.runs item)) (e t h)
 
-enough-run : {S I : Type 0} (k : Kind S I) (w : IsWalk k) (n m : ℕ) (s : S) → k.size s < n → k.size s < m → run_in k n s ≡ run_in k m s
+enough-run : {S I : Type 0} (k : StreamKind S I) (w : IsWalk k) (n m : ℕ) (s : S) → k.size s < n → k.size s < m → run_in k n s ≡ run_in k m s
 enough-run k w zero m s h l = absurd (omega arith)
 enough-run k w (suc n) zero s h l = absurd (omega arith)
 enough-run k w (suc n) (suc m) s h l = agree-run k s (k.move s) (run_in k n) (run_in k m) (k.size s) (w.shrinks s) (λ t q. enough-run k w n m t (omega arith) (omega arith))
 
 -- a run, by the next move
-pub run-step : {S I : Type 0} (k : Kind S I) (w : IsWalk k) (s : S) → run k s ≡ run_by k s (run k) (k.move s)
+pub run-step : {S I : Type 0} (k : StreamKind S I) (w : IsWalk k) (s : S) → run k s ≡ run_by k s (run k) (k.move s)
 unfolding run
 run-step k w s = agree-run k s (k.move s) (run_in k (k.size s)) (run k) (k.size s) (w.shrinks s) (λ t l. enough-run k w (k.size s) (suc (k.size t)) t l (omega arith))
 
 -- ---- the settled state runs as the state does
 
-run-settle-at : {S I : Type 0} (k : Kind S I) (w : IsWalk k) (s : S) (m : Move S I) → k.move s ≡ m → Shrinks k (k.size s) m → ((t : S) → k.size t < k.size s → run k (settle k t) ≡ run k t) → run k (settle_by s (settle k) m) ≡ run k s
+run-settle-at : {S I : Type 0} (k : StreamKind S I) (w : IsWalk k) (s : S) (m : Move S I) → k.move s ≡ m → Shrinks k (k.size s) m → ((t : S) → k.size t < k.size s → run k (settle k t) ≡ run k t) → run k (settle_by s (settle k) m) ≡ run k s
 run-settle-at k w s Stop e h f = refl
 run-settle-at k w s (Pass t) e h f = f t h ∙ sym (run-step k w s ∙ ap (run_by k s (run k)) e)
 run-settle-at k w s (Give item t) e h f = refl
 
-run-settle-in : {S I : Type 0} (k : Kind S I) (w : IsWalk k) (n : ℕ) (s : S) → k.size s < n → run k (settle k s) ≡ run k s
+run-settle-in : {S I : Type 0} (k : StreamKind S I) (w : IsWalk k) (n : ℕ) (s : S) → k.size s < n → run k (settle k s) ≡ run k s
 run-settle-in k w zero s h = absurd (omega arith)
 run-settle-in k w (suc n) s h = ap (run k) (settle-step k w s) ∙ run-settle-at k w s (k.move s) refl (w.shrinks s) (λ t l. run-settle-in k w n t (omega arith))
 
 -- a state on its way to the next item runs as that state does
-pub run-settle : {S I : Type 0} (k : Kind S I) (w : IsWalk k) (s : S) → run k (settle k s) ≡ run k s
+pub run-settle : {S I : Type 0} (k : StreamKind S I) (w : IsWalk k) (s : S) → run k (settle k s) ≡ run k s
 run-settle k w s = run-settle-in k w (suc (k.size s)) s (omega arith)
 
 -- ---- a run goes on when bytes come
 
-joined-joined : {S I : Type 0} (xs ys : List I) (r : Run S I) → joined xs (joined ys r) ≡ joined (xs ++ ys) r
+joined-joined : {S I : Type 0} (xs ys : List I) (r : Lookahead S I) → with_items xs (with_items ys r) ≡ with_items (xs ++ ys) r
 joined-joined xs ys r = ap (λ (zs : List _). record { items = zs; state = r.state }) (sym (append_assoc xs ys r.items))
 
-abbrev RunsOn : {S I : Type 0} → Kind S I → S → List ℕ → Type 0
-RunsOn k s c = run k (k.more s c) ≡ joined (run k s).items (run k (k.more (run k s).state c))
+abbrev RunsOn : {S I : Type 0} → StreamKind S I → S → List ℕ → Type 0
+RunsOn k s c = run k (k.more s c) ≡ with_items (run k s).items (run k (k.more (run k s).state c))
 
-over-run : {S I : Type 0} (k : Kind S I) (s : S) (c : List ℕ) (r : Run S I) → run k s ≡ r → run k (k.more s c) ≡ joined r.items (run k (k.more r.state c)) → RunsOn k s c
+over-run : {S I : Type 0} (k : StreamKind S I) (s : S) (c : List ℕ) (r : Lookahead S I) → run k s ≡ r → run k (k.more s c) ≡ with_items r.items (run k (k.more r.state c)) → RunsOn k s c
 over-run k s c r e h = rw e h
 
-run-give-more : {S I : Type 0} (k : Kind S I) (s t : S) (item : I) (c : List ℕ) (b : Bool) → run k s ≡ run_give s item (run k t) b → run k (k.more s c) ≡ run_give (k.more s c) item (run k (k.more t c)) b → RunsOn k t c → RunsOn k s c
+run-give-more : {S I : Type 0} (k : StreamKind S I) (s t : S) (item : I) (c : List ℕ) (b : Bool) → run k s ≡ run_give s item (run k t) b → run k (k.more s c) ≡ run_give (k.more s c) item (run k (k.more t c)) b → RunsOn k t c → RunsOn k s c
 run-give-more k s t item c true e q f =
-    over-run k s c (joined (item ∷ []) (run k t)) e (q ∙ ap (joined (item ∷ [])) f ∙ joined-joined (item ∷ []) (run k t).items (run k (k.more (run k t).state c)))
+    over-run k s c (with_items (item ∷ []) (run k t)) e (q ∙ ap (with_items (item ∷ [])) f ∙ joined-joined (item ∷ []) (run k t).items (run k (k.more (run k t).state c)))
 run-give-more k s t item c false e q f = over-run k s c (stay_at s) e refl
 
-run-more-at : {S I : Type 0} (k : Kind S I) (w : IsWalk k) (s : S) (c : List ℕ) (m : Move S I) → k.move s ≡ m → Shrinks k (k.size s) m → Follows k c m (k.move (k.more s c)) → ((t : S) → k.size t < k.size s → RunsOn k t c) → RunsOn k s c
+run-more-at : {S I : Type 0} (k : StreamKind S I) (w : IsWalk k) (s : S) (c : List ℕ) (m : Move S I) → k.move s ≡ m → Shrinks k (k.size s) m → Follows k c m (k.move (k.more s c)) → ((t : S) → k.size t < k.size s → RunsOn k t c) → RunsOn k s c
 run-more-at k w s c Stop e h q f = over-run k s c (stay_at s) (run-step k w s ∙ ap (run_by k s (run k)) e) refl
 run-more-at k w s c (Pass t) e h q f =
     over-run k s c (run k t) (run-step k w s ∙ ap (run_by k s (run k)) e) (run-step k w (k.more s c) ∙ ap (run_by k (k.more s c) (run k)) q ∙ f t h)
 run-more-at k w s c (Give item t) e h q f =
     run-give-more k s t item c (k.runs item) (run-step k w s ∙ ap (run_by k s (run k)) e) (run-step k w (k.more s c) ∙ ap (run_by k (k.more s c) (run k)) q.0) (f t h)
 
-run-more-in : {S I : Type 0} (k : Kind S I) (w : IsWalk k) (n : ℕ) (s : S) (c : List ℕ) → k.size s < n → RunsOn k s c
+run-more-in : {S I : Type 0} (k : StreamKind S I) (w : IsWalk k) (n : ℕ) (s : S) (c : List ℕ) → k.size s < n → RunsOn k s c
 run-more-in k w zero s c h = absurd (omega arith)
 run-more-in k w (suc n) s c h = run-more-at k w s c (k.move s) refl (w.shrinks s) (w.follows s c) (λ t l. run-more-in k w n t c (omega arith))
 
 -- to take items ahead before more bytes come or after is the same
-pub run-more : {S I : Type 0} (k : Kind S I) (w : IsWalk k) (s : S) (c : List ℕ) → RunsOn k s c
+pub run-more : {S I : Type 0} (k : StreamKind S I) (w : IsWalk k) (s : S) (c : List ℕ) → RunsOn k s c
 run-more k w s c = run-more-in k w (suc (k.size s)) s c (omega arith)
 
 -- ---- the items of a run are the next items
 
-abbrev Fronts : {S I : Type 0} → Kind S I → S → Type 0
+abbrev Fronts : {S I : Type 0} → StreamKind S I → S → Type 0
 Fronts k s = items_from k s ≡ (run k s).items ++ items_from k (run k s).state
 
-over-front : {S I : Type 0} (k : Kind S I) (s : S) (r : Run S I) → run k s ≡ r → items_from k s ≡ r.items ++ items_from k r.state → Fronts k s
+over-front : {S I : Type 0} (k : StreamKind S I) (s : S) (r : Lookahead S I) → run k s ≡ r → items_from k s ≡ r.items ++ items_from k r.state → Fronts k s
 over-front k s r e h = rw e h
 
-front-give : {S I : Type 0} (k : Kind S I) (s t : S) (item : I) (b : Bool) → run k s ≡ run_give s item (run k t) b → items_from k s ≡ item ∷ items_from k t → Fronts k t → Fronts k s
-front-give k s t item true e q f = over-front k s (joined (item ∷ []) (run k t)) e (q ∙ ap (λ items. item ∷ items) f)
+front-give : {S I : Type 0} (k : StreamKind S I) (s t : S) (item : I) (b : Bool) → run k s ≡ run_give s item (run k t) b → items_from k s ≡ item ∷ items_from k t → Fronts k t → Fronts k s
+front-give k s t item true e q f = over-front k s (with_items (item ∷ []) (run k t)) e (q ∙ ap (λ items. item ∷ items) f)
 front-give k s t item false e q f = over-front k s (stay_at s) e refl
 
-front-at : {S I : Type 0} (k : Kind S I) (w : IsWalk k) (s : S) (m : Move S I) → k.move s ≡ m → Shrinks k (k.size s) m → ((t : S) → k.size t < k.size s → Fronts k t) → Fronts k s
+front-at : {S I : Type 0} (k : StreamKind S I) (w : IsWalk k) (s : S) (m : Move S I) → k.move s ≡ m → Shrinks k (k.size s) m → ((t : S) → k.size t < k.size s → Fronts k t) → Fronts k s
 front-at k w s Stop e h f = over-front k s (stay_at s) (run-step k w s ∙ ap (run_by k s (run k)) e) refl
 front-at k w s (Pass t) e h f = over-front k s (run k t) (run-step k w s ∙ ap (run_by k s (run k)) e) (items-step k w s ∙ ap (items_by (items_from k)) e ∙ f t h)
 front-at k w s (Give item t) e h f = front-give k s t item (k.runs item) (run-step k w s ∙ ap (run_by k s (run k)) e) (items-step k w s ∙ ap (items_by (items_from k)) e) (f t h)
 
-front-in : {S I : Type 0} (k : Kind S I) (w : IsWalk k) (n : ℕ) (s : S) → k.size s < n → Fronts k s
+front-in : {S I : Type 0} (k : StreamKind S I) (w : IsWalk k) (n : ℕ) (s : S) → k.size s < n → Fronts k s
 front-in k w zero s h = absurd (omega arith)
 front-in k w (suc n) s h = front-at k w s (k.move s) refl (w.shrinks s) (λ t l. front-in k w n t (omega arith))
 
 -- the items of a run are the next ones
-pub run-items : {S I : Type 0} (k : Kind S I) (w : IsWalk k) (s : S) → Fronts k s
+pub run-items : {S I : Type 0} (k : StreamKind S I) (w : IsWalk k) (s : S) → Fronts k s
 run-items k w s = front-in k w (suc (k.size s)) s (omega arith)
 
 -- ---- the state behind a run, and a fact that the moves of a run keep
 
 -- what can come next behind a run
-abbrev pub IsRested : {S I : Type 0} → Kind S I → Move S I → Type 0
+abbrev pub IsRested : {S I : Type 0} → StreamKind S I → Move S I → Type 0
 IsRested k Stop = Unit {0}
 IsRested k (Pass t) = ⊥
 IsRested k (Give item t) = k.runs item ≡ false
 
 -- a fact that a run keeps
-abbrev pub Keeps : {S I : Type 0} → Kind S I → (S → Type 0) → Move S I → Type 0
+abbrev pub Keeps : {S I : Type 0} → StreamKind S I → (S → Type 0) → Move S I → Type 0
 Keeps k P Stop = Unit {0}
 Keeps k P (Pass t) = P t
 Keeps k P (Give item t) = k.runs item ≡ true → P t
 
-abbrev All : {S I : Type 0} → Kind S I → List I → Type 0
+abbrev All : {S I : Type 0} → StreamKind S I → List I → Type 0
 All k [] = Unit {0}
 All k (item ∷ items) = (k.runs item ≡ true) × All k items
 
 -- a run stops only before what may not be taken ahead, and holds only what may
-pub record IsRun {S I : Type 0} (k : Kind S I) (r : Run S I) : Type 0 where
+pub record IsRun {S I : Type 0} (k : StreamKind S I) (r : Lookahead S I) : Type 0 where
   pub rested : IsRested k (k.move r.state)
   pub all : All k r.items
 
-is_run-give : {S I : Type 0} (k : Kind S I) (s t : S) (item : I) (b : Bool) → k.runs item ≡ b → k.move s ≡ Give item t → IsRun k (run k t) → IsRun k (run_give s item (run k t) b)
+is_run-give : {S I : Type 0} (k : StreamKind S I) (s t : S) (item : I) (b : Bool) → k.runs item ≡ b → k.move s ≡ Give item t → IsRun k (run k t) → IsRun k (run_give s item (run k t) b)
 is_run-give k s t item true q e f = record { rested = f.rested; all = (q, f.all) }
 is_run-give k s t item false q e f = record { rested = rw e q; all = tt }
 
-is_run-at : {S I : Type 0} (k : Kind S I) (w : IsWalk k) (s : S) (m : Move S I) → k.move s ≡ m → Shrinks k (k.size s) m → ((t : S) → k.size t < k.size s → IsRun k (run k t)) → IsRun k (run_by k s (run k) m)
+is_run-at : {S I : Type 0} (k : StreamKind S I) (w : IsWalk k) (s : S) (m : Move S I) → k.move s ≡ m → Shrinks k (k.size s) m → ((t : S) → k.size t < k.size s → IsRun k (run k t)) → IsRun k (run_by k s (run k) m)
 is_run-at k w s Stop e h f = record { rested = rw e tt; all = tt }
 is_run-at k w s (Pass t) e h f = f t h
 is_run-at k w s (Give item t) e h f = is_run-give k s t item (k.runs item) refl e (f t h)
 
-is_run-in : {S I : Type 0} (k : Kind S I) (w : IsWalk k) (n : ℕ) (s : S) → k.size s < n → IsRun k (run k s)
+is_run-in : {S I : Type 0} (k : StreamKind S I) (w : IsWalk k) (n : ℕ) (s : S) → k.size s < n → IsRun k (run k s)
 is_run-in k w zero s h = absurd (omega arith)
 is_run-in k w (suc n) s h = rw (run-step k w s) (is_run-at k w s (k.move s) refl (w.shrinks s) (λ t l. is_run-in k w n t (omega arith)))
 
 -- what `run` gives is a run
-pub is_run : {S I : Type 0} (k : Kind S I) (w : IsWalk k) (s : S) → IsRun k (run k s)
+pub is_run : {S I : Type 0} (k : StreamKind S I) (w : IsWalk k) (s : S) → IsRun k (run k s)
 is_run k w s = is_run-in k w (suc (k.size s)) s (omega arith)
 
 -- a state that rests runs nowhere
-pub run-rested-at : {S I : Type 0} (k : Kind S I) (w : IsWalk k) (s : S) (m : Move S I) → k.move s ≡ m → IsRested k m → run k s ≡ stay_at s
+pub run-rested-at : {S I : Type 0} (k : StreamKind S I) (w : IsWalk k) (s : S) (m : Move S I) → k.move s ≡ m → IsRested k m → run k s ≡ stay_at s
 run-rested-at k w s Stop e h = run-step k w s ∙ ap (run_by k s (run k)) e
 run-rested-at k w s (Pass t) e h = absurd h
 run-rested-at k w s (Give item t) e h = run-step k w s ∙ ap (run_by k s (run k)) e ∙ ap (run_give s item (run k t)) h
 
-pub run-rested : {S I : Type 0} (k : Kind S I) (w : IsWalk k) (s : S) → IsRested k (k.move s) → run k s ≡ stay_at s
+pub run-rested : {S I : Type 0} (k : StreamKind S I) (w : IsWalk k) (s : S) → IsRested k (k.move s) → run k s ≡ stay_at s
 run-rested k w s h = run-rested-at k w s (k.move s) refl h
 
-keeps-give : {S I : Type 0} (k : Kind S I) (P : S → Type 0) (s t : S) (item : I) (b : Bool) → k.runs item ≡ b → P s → (b ≡ true → P (run k t).state) → P (run_give s item (run k t) b).state
+keeps-give : {S I : Type 0} (k : StreamKind S I) (P : S → Type 0) (s t : S) (item : I) (b : Bool) → k.runs item ≡ b → P s → (b ≡ true → P (run k t).state) → P (run_give s item (run k t) b).state
 keeps-give k P s t item true q p f = f refl
 keeps-give k P s t item false q p f = p
 
-keeps-at : {S I : Type 0} (k : Kind S I) (w : IsWalk k) (P : S → Type 0) (s : S) (m : Move S I) → Keeps k P m → P s → Shrinks k (k.size s) m → ((t : S) → k.size t < k.size s → P t → P (run k t).state) → P (run_by k s (run k) m).state
+keeps-at : {S I : Type 0} (k : StreamKind S I) (w : IsWalk k) (P : S → Type 0) (s : S) (m : Move S I) → Keeps k P m → P s → Shrinks k (k.size s) m → ((t : S) → k.size t < k.size s → P t → P (run k t).state) → P (run_by k s (run k) m).state
 keeps-at k w P s Stop q p h f = p
 keeps-at k w P s (Pass t) q p h f = f t h q
 keeps-at k w P s (Give item t) q p h f = keeps-give k P s t item (k.runs item) refl p (λ e. f t h (q e))
 
-keeps-in : {S I : Type 0} (k : Kind S I) (w : IsWalk k) (P : S → Type 0) (g : (s : S) → P s → Keeps k P (k.move s)) (n : ℕ) (s : S) → k.size s < n → P s → P (run k s).state
+keeps-in : {S I : Type 0} (k : StreamKind S I) (w : IsWalk k) (P : S → Type 0) (g : (s : S) → P s → Keeps k P (k.move s)) (n : ℕ) (s : S) → k.size s < n → P s → P (run k s).state
 keeps-in k w P g zero s h p = absurd (omega arith)
 keeps-in k w P g (suc n) s h p = rw (run-step k w s) (keeps-at k w P s (k.move s) (g s p) p (w.shrinks s) (λ t l q. keeps-in k w P g n t (omega arith) q))
 
 -- a fact that each pass and each item taken ahead keeps holds of the state behind a run
-pub keeps : {S I : Type 0} (k : Kind S I) (w : IsWalk k) (P : S → Type 0) → ((s : S) → P s → Keeps k P (k.move s)) → (s : S) → P s → P (run k s).state
+pub keeps : {S I : Type 0} (k : StreamKind S I) (w : IsWalk k) (P : S → Type 0) → ((s : S) → P s → Keeps k P (k.move s)) → (s : S) → P s → P (run k s).state
 keeps k w P g s p = keeps-in k w P g (suc (k.size s)) s (omega arith) p
 
 -- ---- what is kept stands for a string
 
 -- what is kept stands for the walk where more bytes have come
-pub stands-fed : {S I : Type 0} (k : Kind S I) (w : IsWalk k) (kept : Run S I) (s : S) (c : List ℕ) (n : ℕ) → n ≤ length (items_from k (k.more s c)) → Stands k kept s n → Stands k (fed k kept c) (k.more s c) n
+pub stands-fed : {S I : Type 0} (k : StreamKind S I) (w : IsWalk k) (kept : Lookahead S I) (s : S) (c : List ℕ) (n : ℕ) → n ≤ length (items_from k (k.more s c)) → Stands k kept s n → Stands k (fed k kept c) (k.more s c) n
 stands-fed {S = S} k w kept s c n l h =
     let t : S = state_at k n s in
     let e : fed k kept c ≡ run k (k.more t c) = ap (λ r. fed k r c) h.is ∙ sym (run-more k w t c) in
@@ -172,22 +172,22 @@ at-drop [] (suc n) i = refl
 at-drop (x ∷ xs) (suc n) i = let e : suc n + i ≡ suc (n + i) = omega arith in at-drop xs n i ∙ ap (slice_get (x ∷ xs)) (sym e)
 
 -- the items that are left
-pub stands-items : {S I : Type 0} (k : Kind S I) (w : IsWalk k) (kept : Run S I) (s : S) (n : ℕ) → Stands k kept s n → drop n (items_from k s) ≡ kept.items ++ items_from k kept.state
+pub stands-items : {S I : Type 0} (k : StreamKind S I) (w : IsWalk k) (kept : Lookahead S I) (s : S) (n : ℕ) → Stands k kept s n → drop n (items_from k s) ≡ kept.items ++ items_from k kept.state
 stands-items {S = S} {I = I} k w kept s n h =
     let t : S = state_at k n s in
-    sym (items-at k w n s) ∙ run-items k w t ∙ ap (λ (r : Run S I). r.items ++ items_from k r.state) (sym h.is)
+    sym (items-at k w n s) ∙ run-items k w t ∙ ap (λ (r : Lookahead S I). r.items ++ items_from k r.state) (sym h.is)
 
-first-is : {S I : Type 0} (k : Kind S I) (w : IsWalk k) (items : List I) (s : S) (m : Move S I) → k.move s ≡ m → IsRested k m → slice_get (items ++ items_from k s) 0 ≡ first_by items m
+first-is : {S I : Type 0} (k : StreamKind S I) (w : IsWalk k) (items : List I) (s : S) (m : Move S I) → k.move s ≡ m → IsRested k m → slice_get (items ++ items_from k s) 0 ≡ first_by items m
 first-is k w [] s Stop e h = ap (λ xs. slice_get xs 0) (items-step k w s ∙ ap (items_by (items_from k)) e)
 first-is k w [] s (Pass t) e h = absurd h
 first-is k w [] s (Give item t) e h = ap (λ xs. slice_get xs 0) (items-step k w s ∙ ap (items_by (items_from k)) e)
 first-is k w (x ∷ items) s m e h = refl
 
-kept-rested : {S I : Type 0} (k : Kind S I) (w : IsWalk k) (kept : Run S I) (t : S) → kept ≡ run k t → IsRun k kept
+kept-rested : {S I : Type 0} (k : StreamKind S I) (w : IsWalk k) (kept : Lookahead S I) (t : S) → kept ≡ run k t → IsRun k kept
 kept-rested k w kept t e = rw e (is_run k w t)
 
 -- what is kept tells the next item
-pub stands-first : {S I : Type 0} (k : Kind S I) (w : IsWalk k) (kept : Run S I) (s : S) (n : ℕ) → Stands k kept s n → first_item k kept ≡ slice_get (items_from k s) n
+pub stands-first : {S I : Type 0} (k : StreamKind S I) (w : IsWalk k) (kept : Lookahead S I) (s : S) (n : ℕ) → Stands k kept s n → first_item k kept ≡ slice_get (items_from k s) n
 stands-first k w kept s n h =
     let z : n + 0 ≡ n = omega arith in
     let r = kept-rested k w kept (state_at k n s) h.is in
@@ -200,38 +200,38 @@ get-front (x ∷ xs) ys zero h = refl
 get-front (x ∷ xs) ys (suc i) h = get-front xs ys i (omega arith)
 
 -- the items that were taken ahead are the next ones
-pub stands-look : {S I : Type 0} (k : Kind S I) (w : IsWalk k) (kept : Run S I) (s : S) (n i : ℕ) → i < length kept.items → Stands k kept s n → slice_get kept.items i ≡ slice_get (items_from k s) (n + i)
+pub stands-look : {S I : Type 0} (k : StreamKind S I) (w : IsWalk k) (kept : Lookahead S I) (s : S) (n i : ℕ) → i < length kept.items → Stands k kept s n → slice_get kept.items i ≡ slice_get (items_from k s) (n + i)
 stands-look k w kept s n i l h =
     sym (sym (at-drop (items_from k s) n i) ∙ ap (λ xs. slice_get xs i) (stands-items k w kept s n h) ∙ get-front kept.items (items_from k kept.state) i l)
 
-lead-rested : {S I : Type 0} (k : Kind S I) (w : IsWalk k) (s : S) (m : Move S I) → k.move s ≡ m → IsRested k m → leading k (items_from k s) ≡ 0
+lead-rested : {S I : Type 0} (k : StreamKind S I) (w : IsWalk k) (s : S) (m : Move S I) → k.move s ≡ m → IsRested k m → leading k (items_from k s) ≡ 0
 lead-rested k w s Stop e h = ap (leading k) (items-step k w s ∙ ap (items_by (items_from k)) e)
 lead-rested k w s (Pass t) e h = absurd h
 lead-rested k w s (Give item t) e h = ap (leading k) (items-step k w s ∙ ap (items_by (items_from k)) e) ∙ ap (leading_by (leading k (items_from k t))) h
 
-lead-all : {S I : Type 0} (k : Kind S I) (items others : List I) → All k items → leading k others ≡ 0 → leading k (items ++ others) ≡ length items
+lead-all : {S I : Type 0} (k : StreamKind S I) (items others : List I) → All k items → leading k others ≡ 0 → leading k (items ++ others) ≡ length items
 lead-all k [] others a e = e
 lead-all k (x ∷ items) others a e = ap (leading_by (leading k (items ++ others))) a.0 ∙ ap suc (lead-all k items others a.1 e)
 
 -- as many items were taken ahead as stand before the first that may not be
-pub stands-ready : {S I : Type 0} (k : Kind S I) (w : IsWalk k) (kept : Run S I) (s : S) (n : ℕ) → Stands k kept s n → length kept.items ≡ leading k (drop n (items_from k s))
+pub stands-ready : {S I : Type 0} (k : StreamKind S I) (w : IsWalk k) (kept : Lookahead S I) (s : S) (n : ℕ) → Stands k kept s n → length kept.items ≡ leading k (drop n (items_from k s))
 stands-ready k w kept s n h =
     let r = kept-rested k w kept (state_at k n s) h.is in
     sym (ap (leading k) (stands-items k w kept s n h) ∙ lead-all k kept.items (items_from k kept.state) r.all (lead-rested k w kept.state (k.move kept.state) refl r.rested))
 
 -- the next item is taken
-abbrev Next : {S I : Type 0} → Kind S I → S → S → ℕ → Type 0
+abbrev Next : {S I : Type 0} → StreamKind S I → S → S → ℕ → Type 0
 Next k t s n = run k (after_item t (k.move t)) ≡ run k (state_at k (suc n) s)
 
-next-state : {S I : Type 0} (k : Kind S I) (w : IsWalk k) (n : ℕ) (s : S) → Next k (state_at k n s) s n
+next-state : {S I : Type 0} (k : StreamKind S I) (w : IsWalk k) (n : ℕ) (s : S) → Next k (state_at k n s) s n
 next-state k w n s = sym (ap (run k) (state-next k n s) ∙ run-settle k w (after_item (state_at k n s) (k.move (state_at k n s))))
 
 -- what is kept after an item, from a settled state
-taken-give : {S I : Type 0} (k : Kind S I) (t u : S) (item : I) (b : Bool) → k.move t ≡ Give item u → after_first k (run_give t item (run k u) b) ≡ run k u
+taken-give : {S I : Type 0} (k : StreamKind S I) (t u : S) (item : I) (b : Bool) → k.move t ≡ Give item u → after_first k (run_give t item (run k u) b) ≡ run k u
 taken-give k t u item true e = refl
 taken-give k t u item false e = ap (run_after k t) e
 
-taken-at : {S I : Type 0} (k : Kind S I) (w : IsWalk k) (t : S) (m : Move S I) → k.move t ≡ m → IsSettled m → (first_item k (run k t) ≡ None → ⊥) → after_first k (run k t) ≡ run k (after_item t m)
+taken-at : {S I : Type 0} (k : StreamKind S I) (w : IsWalk k) (t : S) (m : Move S I) → k.move t ≡ m → IsSettled m → (first_item k (run k t) ≡ None → ⊥) → after_first k (run k t) ≡ run k (after_item t m)
 taken-at k w t Stop e d f =
     let r : run k t ≡ stay_at t = run-step k w t ∙ ap (run_by k t (run k)) e in
     absurd (f (ap (first_item k) r ∙ ap item_of e))
@@ -240,13 +240,13 @@ taken-at k w t (Give item u) e d f =
     let r : run k t ≡ run_give t item (run k u) (k.runs item) = run-step k w t ∙ ap (run_by k t (run k)) e in
     ap (after_first k) r ∙ taken-give k t u item (k.runs item) e
 
-none-after : {S I : Type 0} (k : Kind S I) (w : IsWalk k) (items : List I) (s : S) (m : Move S I) → k.move s ≡ m → IsRested k m → first_by items m ≡ None → after_by k s items ≡ record { items = items; state = s }
+none-after : {S I : Type 0} (k : StreamKind S I) (w : IsWalk k) (items : List I) (s : S) (m : Move S I) → k.move s ≡ m → IsRested k m → first_by items m ≡ None → after_by k s items ≡ record { items = items; state = s }
 none-after k w [] s Stop e h q = ap (run_after k s) e
 none-after k w [] s (Pass t) e h q = absurd h
 none-after k w [] s (Give item t) e h q = cc
 none-after k w (x ∷ items) s m e h q = cc
 
-abbrev After : {S I : Type 0} → Kind S I → Run S I → S → ℕ → Option I → Type 0
+abbrev After : {S I : Type 0} → StreamKind S I → Lookahead S I → S → ℕ → Option I → Type 0
 After k kept s n o = Stands k (after_first k kept) s (count_after n o)
 
 some-not : {X : Type 0} (x : X) (o : Option X) → o ≡ Some x → o ≡ None → ⊥
@@ -257,7 +257,7 @@ get-length [] n x e = absurd (cc)
 get-length (y ∷ xs) zero x e = omega arith
 get-length (y ∷ xs) (suc n) x e = let h = get-length xs n x e in omega arith
 
-after-by-option : {S I : Type 0} (k : Kind S I) (w : IsWalk k) (kept : Run S I) (s : S) (n : ℕ) (o : Option I) → first_item k kept ≡ o → Stands k kept s n → After k kept s n o
+after-by-option : {S I : Type 0} (k : StreamKind S I) (w : IsWalk k) (kept : Lookahead S I) (s : S) (n : ℕ) (o : Option I) → first_item k kept ≡ o → Stands k kept s n → After k kept s n o
 after-by-option {S = S} k w kept s n None e h =
     let r = kept-rested k w kept (state_at k n s) h.is in
     rw (none-after k w kept.items kept.state (k.move kept.state) refl r.rested e) h
@@ -272,5 +272,5 @@ after-by-option {S = S} k w kept s n (Some item) e h =
     }
 
 -- what is kept behind the next item stands for the walk, with one item more asked for
-pub stands-after : {S I : Type 0} (k : Kind S I) (w : IsWalk k) (kept : Run S I) (s : S) (n : ℕ) → Stands k kept s n → Stands k (after_first k kept) s (count_after n (first_item k kept))
+pub stands-after : {S I : Type 0} (k : StreamKind S I) (w : IsWalk k) (kept : Lookahead S I) (s : S) (n : ℕ) → Stands k kept s n → Stands k (after_first k kept) s (count_after n (first_item k kept))
 stands-after k w kept s n h = after-by-option k w kept s n (first_item k kept) refl h

@@ -1,6 +1,6 @@
 -- What is kept of a string before an item is an end of it.
 use Rattle.std.proofs.Common.{ℕ, ◌+◌, List, drop, refl, ap, ◌∙◌, drop-drop}
-use Rattle.parser_loop.specs.Walk.{Move, Stop, Pass, Give, Kind, state_at, IsWalk}
+use Rattle.parser_loop.specs.Walk.{Move, Stop, Pass, Give, StreamKind, state_at, IsWalk}
 use Rattle.parser_loop.specs.Parse.{Keeps, IsSuffix, Drops}
 use Rattle.parser_loop.proofs.Holding.{each-state}
 
@@ -16,5 +16,5 @@ keeps bytes string from Stop p d = tt
 keeps bytes string from (Pass t) p d = suffix-suffix (bytes t) from string d p
 keeps bytes string from (Give item t) p d = (tt, suffix-suffix (bytes t) from string d p)
 
-pub state-suffix : {S I : Type 0} (k : Kind S I) (w : IsWalk k) (bytes : S → List ℕ) (g : (s : S) → Drops bytes (bytes s) (k.move s)) (s : S) (n : ℕ) → IsSuffix (bytes (state_at k n s)) (bytes s)
+pub state-suffix : {S I : Type 0} (k : StreamKind S I) (w : IsWalk k) (bytes : S → List ℕ) (g : (s : S) → Drops bytes (bytes s) (k.move s)) (s : S) (n : ℕ) → IsSuffix (bytes (state_at k n s)) (bytes s)
 state-suffix k w bytes g s n = each-state k w (λ t. IsSuffix (bytes t) (bytes s)) (λ item. Unit {0}) (λ t p. keeps bytes (bytes s) (bytes t) (k.move t) p (g t)) n s (suffix-all (bytes s))

@@ -1,7 +1,7 @@
 -- A small walk, which shows what the definitions compute: it gives the characters of a text that ends at a zero
 -- byte, the zero byte as the last item, and passes over blanks.
 use Rattle.std.specs.Prelude.{ℕ, ◌==◌, Bool, true, false, List, [], ◌∷◌, ◌++◌, length, if◌then◌else◌}
-use Rattle.parser_loop.specs.Walk.{Move, Stop, Pass, Give, Kind}
+use Rattle.parser_loop.specs.Walk.{Move, Stop, Pass, Give, StreamKind}
 
 -- the bytes that are not walked over yet, and whether the zero byte was met
 pub record Reading : Type 0 where
@@ -28,7 +28,7 @@ more_by false rest c = reading (rest ++ c)
 abbrev pub is_letter : ℕ → Bool
 is_letter b = if b == 0 then false else true
 
-abbrev pub zero_ended : Kind Reading ℕ
+abbrev pub zero_ended : StreamKind Reading ℕ
 zero_ended = record {
   move = λ s. move_by s.ended s.rest;
   size = λ s. length s.rest;

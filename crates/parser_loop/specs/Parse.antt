@@ -2,7 +2,7 @@
 use Rattle.std.specs.Prelude.{◌≡◌, ℕ, zero, suc, Bool, true, List, [], ◌∷◌, drop, Option}
 use Rattle.mse_base.specs.declared.frame.Phase.{Phase}
 use Rattle.mse_base.specs.declared.track.Presentation.{Presentation}
-use Rattle.parser_loop.specs.Walk.{Move, Stop, Pass, Give, Kind}
+use Rattle.parser_loop.specs.Walk.{Move, Stop, Pass, Give, StreamKind}
 use Rattle.parser_loop.specs.Items.{Item, latest_after}
 
 -- `V` is what is seen of the parser: at the end of what can be parsed, and before an item, behind which the parse
@@ -41,11 +41,11 @@ parse_by see s go (Pass t) = go t
 parse_by see s go (Give item t) = ItemThen (see s) item (go t)
 
 -- that of at most n moves
-abbrev pub parse_in : {S V I : Type 0} → Kind S I → (S → V) → ℕ → S → Parse V I
+abbrev pub parse_in : {S V I : Type 0} → StreamKind S I → (S → V) → ℕ → S → Parse V I
 parse_in k see zero s = NoItem (see s)
 parse_in k see (suc n) s = parse_by see s (parse_in k see n) (k.move s)
 
-unfoldable pub parse_from : {S V I : Type 0} → Kind S I → (S → V) → S → Parse V I
+unfoldable pub parse_from : {S V I : Type 0} → StreamKind S I → (S → V) → S → Parse V I
 parse_from k see s = parse_in k see (suc (k.size s)) s
 
 -- ---- what the moves of a walk may keep
@@ -61,7 +61,7 @@ Keeps P Q (Pass t) = P t
 Keeps P Q (Give item t) = Q item × P t
 
 -- behind an item of which Q holds no move can be made
-abbrev pub Halts : {S I : Type 0} → Kind S I → (I → Type 0) → Move S I → Type 0
+abbrev pub Halts : {S I : Type 0} → StreamKind S I → (I → Type 0) → Move S I → Type 0
 Halts k Q Stop = Unit {0}
 Halts k Q (Pass t) = Unit {0}
 Halts k Q (Give item t) = Q item → k.move t ≡ Stop

@@ -12,7 +12,7 @@ pub data Move (S I : Type 0) : Type 0 where
 
 -- A kind of walk: the move of a state, a number that each move lowers, the state where more bytes have come, which
 -- items end the walk, and which items may be taken ahead, before anyone asked for them.
-pub record Kind (S I : Type 0) : Type 0 where
+pub record StreamKind (S I : Type 0) : Type 0 where
   pub move : S → Move S I
   pub size : S → ℕ
   pub more : S → List ℕ → S
@@ -27,12 +27,12 @@ items_by go (Pass s) = go s
 items_by go (Give item s) = item ∷ go s
 
 -- the items of at most n moves
-abbrev pub items_in : {S I : Type 0} → Kind S I → ℕ → S → List I
+abbrev pub items_in : {S I : Type 0} → StreamKind S I → ℕ → S → List I
 items_in k zero s = []
 items_in k (suc n) s = items_by (items_in k n) (k.move s)
 
 -- all items from a state on
-unfoldable pub items_from : {S I : Type 0} → Kind S I → S → List I
+unfoldable pub items_from : {S I : Type 0} → StreamKind S I → S → List I
 items_from k s = items_in k (suc (k.size s)) s
 
 -- ---- the state before an item
@@ -42,12 +42,12 @@ settle_by s go Stop = s
 settle_by s go (Pass t) = go t
 settle_by s go (Give item t) = s
 
-abbrev pub settle_in : {S I : Type 0} → Kind S I → ℕ → S → S
+abbrev pub settle_in : {S I : Type 0} → StreamKind S I → ℕ → S → S
 settle_in k zero s = s
 settle_in k (suc n) s = settle_by s (settle_in k n) (k.move s)
 
 -- the state just before the next item, or at the end of the walk where there is none
-unfoldable pub settle : {S I : Type 0} → Kind S I → S → S
+unfoldable pub settle : {S I : Type 0} → StreamKind S I → S → S
 settle k s = settle_in k (suc (k.size s)) s
 
 -- the state behind the item of a move
@@ -57,90 +57,90 @@ after_item s (Pass t) = s
 after_item s (Give item t) = t
 
 -- the state just before item n, counted from 0, or at the end of the walk where there is none
-abbrev pub state_at : {S I : Type 0} → Kind S I → ℕ → S → S
+abbrev pub state_at : {S I : Type 0} → StreamKind S I → ℕ → S → S
 state_at k zero s = settle k s
 state_at k (suc n) s = state_at k n (after_item (settle k s) (k.move (settle k s)))
 
 -- ---- what makes a kind a walk
 
 -- a move leads to a state of a smaller size
-abbrev pub Shrinks : {S I : Type 0} → Kind S I → ℕ → Move S I → Type 0
+abbrev pub Shrinks : {S I : Type 0} → StreamKind S I → ℕ → Move S I → Type 0
 Shrinks k n Stop = Unit {0}
 Shrinks k n (Pass t) = k.size t < n
 Shrinks k n (Give item t) = k.size t < n
 
 -- a move that could be made is the same with more bytes; behind an item that ends the walk no byte is looked at
-abbrev pub Follows : {S I : Type 0} → Kind S I → List ℕ → Move S I → Move S I → Type 0
+abbrev pub Follows : {S I : Type 0} → StreamKind S I → List ℕ → Move S I → Move S I → Type 0
 Follows k c Stop m = Unit {0}
 Follows k c (Pass t) m = m ≡ Pass (k.more t c)
 Follows k c (Give item t) m = (m ≡ Give item (k.more t c)) × (k.ends item ≡ true → k.more t c ≡ t)
 
-pub record IsWalk {S I : Type 0} (k : Kind S I) : Type 0 where
+pub record IsWalk {S I : Type 0} (k : StreamKind S I) : Type 0 where
   pub shrinks : (s : S) → Shrinks k (k.size s) (k.move s)
   pub follows : (s : S) (c : List ℕ) → Follows k c (k.move s) (k.move (k.more s c))
 
 -- ---- more bytes
 
 -- one of the items ends the walk
-abbrev pub holds_end : {S I : Type 0} → Kind S I → List I → Bool
+abbrev pub holds_end : {S I : Type 0} → StreamKind S I → List I → Bool
 holds_end k [] = false
 holds_end k (item ∷ items) = k.ends item || holds_end k items
 
 -- the items are the front of the others, and all of them where one of them ends the walk
-pub record Extends {S I : Type 0} (k : Kind S I) (items others : List I) : Type 0 where
+pub record Extends {S I : Type 0} (k : StreamKind S I) (items others : List I) : Type 0 where
   pub tail : List I
   pub is : others ≡ items ++ tail
   pub ended : holds_end k items ≡ true → others ≡ items
 
 -- the state where these pieces have come one after the other
-abbrev pub more_all : {S I : Type 0} → Kind S I → S → List (List ℕ) → S
+abbrev pub more_all : {S I : Type 0} → StreamKind S I → S → List (List ℕ) → S
 more_all k s [] = s
 more_all k s (c ∷ cs) = more_all k (k.more s c) cs
 
 -- ---- items that are taken ahead
 
 -- the items that were taken ahead and that nobody has asked for yet, and the state behind them
-pub record Run (S I : Type 0) : Type 0 where
+pub record Lookahead (S I : Type 0) : Type 0 where
   pub items : List I
   pub state : S
 
-abbrev pub stay_at : {S I : Type 0} → S → Run S I
+abbrev pub stay_at : {S I : Type 0} → S → Lookahead S I
 stay_at s = record { items = []; state = s }
 
 -- a run with these items in front
-abbrev pub joined : {S I : Type 0} → List I → Run S I → Run S I
-joined items r = record { items = items ++ r.items; state = r.state }
+abbrev pub with_items : {S I : Type 0} → List I → Lookahead S I → Lookahead S I
+with_items items r = record { items = items ++ r.items; state = r.state }
 
 -- at an item: a run goes on behind it where it may be taken ahead, and else stays before it
-abbrev pub run_give : {S I : Type 0} → S → I → Run S I → Bool → Run S I
-run_give s item r true = joined (item ∷ []) r
+abbrev pub run_give : {S I : Type 0} → S → I → Lookahead S I → Bool → Lookahead S I
+run_give s item r true = with_items (item ∷ []) r
 run_give s item r false = stay_at s
 
-abbrev pub run_by : {S I : Type 0} → Kind S I → S → (S → Run S I) → Move S I → Run S I
+abbrev pub run_by : {S I : Type 0} → StreamKind S I → S → (S → Lookahead S I) → Move S I → Lookahead S I
 run_by k s go Stop = stay_at s
 run_by k s go (Pass t) = go t
 run_by k s go (Give item t) = run_give s item (go t) (k.runs item)
 
-abbrev pub run_in : {S I : Type 0} → Kind S I → ℕ → S → Run S I
+abbrev pub run_in : {S I : Type 0} → StreamKind S I → ℕ → S → Lookahead S I
 run_in k zero s = stay_at s
 run_in k (suc n) s = run_by k s (run_in k n) (k.move s)
 
 -- all that can be taken ahead from a state on
-unfoldable pub run : {S I : Type 0} → Kind S I → S → Run S I
+unfoldable pub run : {S I : Type 0} → StreamKind S I → S → Lookahead S I
 run k s = run_in k (suc (k.size s)) s
 
 -- What is kept stands for the walk from s on, of whose items n were asked for: it is all that can be taken ahead
 -- from the state at item n on. Many strings may lead to one thing kept; each law holds for all of them.
-pub record Stands {S I : Type 0} (k : Kind S I) (kept : Run S I) (s : S) (n : ℕ) : Type 0 where
+pub record Stands {S I : Type 0} (k : StreamKind S I) (kept : Lookahead S I) (s : S) (n : ℕ) : Type 0 where
   pub taken : n ≤ length (items_from k s)
   pub is : kept ≡ run k (state_at k n s)
 
 -- what is kept where more bytes have come
-abbrev pub fed : {S I : Type 0} → Kind S I → Run S I → List ℕ → Run S I
-fed k kept c = joined kept.items (run k (k.more kept.state c))
+abbrev pub fed : {S I : Type 0} → StreamKind S I → Lookahead S I → List ℕ → Lookahead S I
+fed k kept c = with_items kept.items (run k (k.more kept.state c))
 
 -- what is kept where these pieces have come one after the other
-abbrev pub fed_all : {S I : Type 0} → Kind S I → Run S I → List (List ℕ) → Run S I
+abbrev pub fed_all : {S I : Type 0} → StreamKind S I → Lookahead S I → List (List ℕ) → Lookahead S I
 fed_all k kept [] = kept
 fed_all k kept (c ∷ cs) = fed_all k (fed k kept c) cs
 
@@ -154,20 +154,20 @@ first_by [] m = item_of m
 first_by (item ∷ items) m = Some item
 
 -- the next item, by what is kept
-abbrev pub first_item : {S I : Type 0} → Kind S I → Run S I → Option I
+abbrev pub first_item : {S I : Type 0} → StreamKind S I → Lookahead S I → Option I
 first_item k kept = first_by kept.items (k.move kept.state)
 
-abbrev pub run_after : {S I : Type 0} → Kind S I → S → Move S I → Run S I
+abbrev pub run_after : {S I : Type 0} → StreamKind S I → S → Move S I → Lookahead S I
 run_after k s Stop = stay_at s
 run_after k s (Pass t) = stay_at s
 run_after k s (Give item t) = run k t
 
-abbrev pub after_by : {S I : Type 0} → Kind S I → S → List I → Run S I
+abbrev pub after_by : {S I : Type 0} → StreamKind S I → S → List I → Lookahead S I
 after_by k s [] = run_after k s (k.move s)
 after_by k s (item ∷ items) = record { items = items; state = s }
 
 -- what is kept when the next item was given
-abbrev pub after_first : {S I : Type 0} → Kind S I → Run S I → Run S I
+abbrev pub after_first : {S I : Type 0} → StreamKind S I → Lookahead S I → Lookahead S I
 after_first k kept = after_by k kept.state kept.items
 
 -- how many items were asked for, where the answer was this one
@@ -180,6 +180,6 @@ leading_by n true = suc n
 leading_by n false = 0
 
 -- how many items stand before the first that may not be taken ahead
-abbrev pub leading : {S I : Type 0} → Kind S I → List I → ℕ
+abbrev pub leading : {S I : Type 0} → StreamKind S I → List I → ℕ
 leading k [] = 0
 leading k (item ∷ items) = leading_by (leading k items) (k.runs item)

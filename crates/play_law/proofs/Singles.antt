@@ -14,10 +14,10 @@ use Rattle.mse_engine.specs.State.{Core, State}
 use Rattle.mse_engine.specs.State.{Element as ElementPart}
 use Rattle.mse_engine.specs.Work.{after_work, after_element_turn, fire_result, running_in, due_in}
 use Rattle.mse_engine.specs.Run.{entry_meaning, step_meaning, fire_meaning, after_entries, Replays}
-use Rattle.script_run.specs.Doings.{IsDrain, IsNext, IsAtRest, InDrainOrder}
-use Rattle.script_run.specs.Turns.{Turn, first_turn, InTurns, calls_in}
+use Rattle.script_run.specs.DrainSteps.{IsDrain, IsNextStep, IsAtRest, AreInDrainOrder}
+use Rattle.script_run.specs.Turns.{ListenerTurn, first_turn, AreInTurn, calls_in}
 use Rattle.script_run.specs.Lines.{own_of, fired_of, done_of, Does, Limits, IsWithin, play_inputs}
-use Rattle.script_run.specs.Follows.{IsWhole}
+use Rattle.script_run.specs.Follows.{AreLinesDone}
 use Rattle.cut_law.specs.Plays.{after_entry, fired_entries, next_entry_by, next_entry, entries_behind, entries_then, drain_in, drain_entries, fire_entries, entries_if, line_entries, after_line, play_entries, play_of}
 use Rattle.cut_law.specs.Files.{after_piece}
 use Rattle.play_law.specs.Silent.{CutsAlike, IsSilentJournal}
@@ -59,7 +59,7 @@ no-event : (queue : List Event) → queue ≡ [] → slice_get queue 0 ≡ None
 no-event [] e = refl
 no-event (x ∷ xs) e = absurd (cc)
 
-next-due : (st : State) (entry : Entry) (entries : List Entry) → IsNext st entry → calls_in (entry ∷ entries) ≡ 0 → due st ≡ Some entry
+next-due : (st : State) (entry : Entry) (entries : List Entry) → IsNextStep st entry → calls_in (entry ∷ entries) ≡ 0 → due st ≡ Some entry
 next-due st (Fired event) entries n q = ap (λ x. due_by x (next_entry st)) n
 next-due st (Work k) entries n q =
     ap (λ x. due_by x (next_entry st)) (no-event st.outer.queue n.0)
@@ -78,8 +78,8 @@ rest-due st r =
     ∙ ap (λ low. next_entry_by low (due_in st)) r.quiet.running
     ∙ ap (λ t. next_entry_by None t) r.due
 
-one-drain : (blobs : List (List ℕ)) (st : State) (xs ys : List Entry) → InDrainOrder blobs st xs → IsAtRest (after_entries blobs st xs) → calls_in xs ≡ 0
-    → InDrainOrder blobs st ys → IsAtRest (after_entries blobs st ys) → calls_in ys ≡ 0 → xs ≡ ys
+one-drain : (blobs : List (List ℕ)) (st : State) (xs ys : List Entry) → AreInDrainOrder blobs st xs → IsAtRest (after_entries blobs st xs) → calls_in xs ≡ 0
+    → AreInDrainOrder blobs st ys → IsAtRest (after_entries blobs st ys) → calls_in ys ≡ 0 → xs ≡ ys
 one-drain blobs st [] [] a r q b s p = refl
 one-drain blobs st [] (y ∷ ys) a r q b s p =
     let here : due st ≡ None = rest-due st r in
@@ -93,7 +93,7 @@ one-drain blobs st (x ∷ xs) (y ∷ ys) a r q b s p =
     let here : due st ≡ Some x = next-due st x xs a.0 q in
     let there : due st ≡ Some y = next-due st y ys b.0 p in
     let same : x ≡ y = cc in
-    let order : InDrainOrder blobs (after_entry blobs st x) ys = subst (λ e. InDrainOrder blobs (after_entry blobs st e) ys) (sym same) b.1 in
+    let order : AreInDrainOrder blobs (after_entry blobs st x) ys = subst (λ e. AreInDrainOrder blobs (after_entry blobs st e) ys) (sym same) b.1 in
     let rest : IsAtRest (after_entries blobs (after_entry blobs st x) ys) = subst (λ e. IsAtRest (after_entries blobs (after_entry blobs st e) ys)) (sym same) s in
     let tails : xs ≡ ys = one-drain blobs (after_entry blobs st x) xs ys a.1 r (quiet-parts (x ∷ []) xs q).1 order rest (quiet-parts (y ∷ []) ys p).1 in
     ap (λ e. e ∷ xs) same ∙ ap (λ es. y ∷ es) tails
@@ -102,13 +102,13 @@ one-drain blobs st (x ∷ xs) (y ∷ ys) a r q b s p =
 
 -- the entries are a drain, without a listener's call, and replay
 pub record Drained (blobs : List (List ℕ)) (st : State) (entries : List Entry) : Type 0 where
-  pub order : InDrainOrder blobs st entries
+  pub order : AreInDrainOrder blobs st entries
   pub end : IsAtRest (after_entries blobs st entries)
   pub quiet : calls_in entries ≡ 0
   pub replays : Replays blobs st entries
 
 -- one entry that replays, and a drain behind it
-drained-more : (blobs : List (List ℕ)) (st : State) (entry : Entry) (entries : List Entry) → IsNext st entry → calls_in (entry ∷ []) ≡ 0 → (entry_meaning blobs st entry).holds
+drained-more : (blobs : List (List ℕ)) (st : State) (entry : Entry) (entries : List Entry) → IsNextStep st entry → calls_in (entry ∷ []) ≡ 0 → (entry_meaning blobs st entry).holds
     → Drained blobs (after_entry blobs st entry) entries → Drained blobs st (entry ∷ entries)
 drained-more blobs st entry entries n q h d =
     record { order = (n, d.order); end = d.end; quiet = quiet-more (entry ∷ []) entries q d.quiet; replays = (h, d.replays) }
@@ -161,7 +161,7 @@ quiet-drain blobs st part d q =
 
 -- ---- lines
 
-silent-turns : (count : ℕ) (turn : Option Turn) (xs : List Entry) → calls_in xs ≡ 0 → InTurns count turn xs
+silent-turns : (count : ℕ) (turn : Option ListenerTurn) (xs : List Entry) → calls_in xs ≡ 0 → AreInTurn count turn xs
 silent-turns count turn [] q = tt
 silent-turns count turn (Listener w call answer ∷ xs) q = absurd (omega (arith, q))
 silent-turns count turn (Fired event ∷ xs) q = silent-turns count (Some first_turn) xs q
@@ -252,7 +252,7 @@ quiet-join (Element ∷ xs) ys p q = quiet-join xs ys p q
 
 -- what holds of the journal of some lines, of which the first has the number n
 pub record IsPlayFrom (blobs : List (List ℕ)) (limits : Limits) (n : ℕ) (st : State) (lines : List StepLine) (entries : List Entry) : Type 0 where
-  pub whole : IsWhole (play_inputs blobs limits) n st lines entries
+  pub whole : AreLinesDone (play_inputs blobs limits) n st lines entries
   pub replays : Replays blobs st entries
   pub silent : calls_in entries ≡ 0
 
@@ -269,7 +269,7 @@ some-play blobs limits n st (line ∷ lines) =
       silent = quiet-join part rest d.quiet p.silent;
     }
 
-pub one-play : (blobs : List (List ℕ)) (limits : Limits) (n : ℕ) (st : State) (lines : List StepLine) (entries : List Entry) → IsWhole (play_inputs blobs limits) n st lines entries → Replays blobs st entries → calls_in entries ≡ 0
+pub one-play : (blobs : List (List ℕ)) (limits : Limits) (n : ℕ) (st : State) (lines : List StepLine) (entries : List Entry) → AreLinesDone (play_inputs blobs limits) n st lines entries → Replays blobs st entries → calls_in entries ≡ 0
     → entries ≡ play_entries blobs n st lines
 one-play blobs limits n st [] entries w r q = w
 one-play blobs limits n st (line ∷ lines) entries w r q =
@@ -280,7 +280,7 @@ one-play blobs limits n st (line ∷ lines) entries w r q =
     let none : calls_in (part ++ rest) ≡ 0 = ap calls_in (sym w.2) ∙ q in
     let quiet = quiet-parts part rest none in
     let same : part ≡ line_entries blobs st line = one-line blobs st line part w.3.does both.0 quiet.0 in
-    let later : IsWhole (play_inputs blobs limits) (suc n) (after_line blobs st line) lines rest = subst (λ es. IsWhole (play_inputs blobs limits) (suc n) (after_entries blobs st es) lines rest) same w.4 in
+    let later : AreLinesDone (play_inputs blobs limits) (suc n) (after_line blobs st line) lines rest = subst (λ es. AreLinesDone (play_inputs blobs limits) (suc n) (after_entries blobs st es) lines rest) same w.4 in
     let behind : Replays blobs (after_line blobs st line) rest = subst (λ es. Replays blobs (after_entries blobs st es) rest) same both.1 in
     let tail : rest ≡ play_entries blobs (suc n) (after_line blobs st line) lines = one-play blobs limits (suc n) (after_line blobs st line) lines rest later behind quiet.1 in
     w.2 ∙ ap (λ es. Step n ∷ (es ++ rest)) same ∙ ap (λ es. Step n ∷ (line_entries blobs st line ++ es)) tail

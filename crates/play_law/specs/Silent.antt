@@ -6,15 +6,15 @@ use Rattle.mse_engine.specs.State.{Core, State}
 use Rattle.mse_engine.specs.Run.{Replays}
 use Rattle.script_run.specs.Turns.{calls_in}
 use Rattle.script_run.specs.Lines.{Limits}
-use Rattle.script_run.specs.Follows.{LinesAre}
-use Rattle.cut_law.specs.Cuts.{AreCuts, Cut, IsAwaited}
+use Rattle.script_run.specs.Follows.{AreScriptLinesDone}
+use Rattle.cut_law.specs.Cuts.{AreCuts, IsOtherCut, IsAwaited}
 use Rattle.cut_law.specs.Plays.{play_of}
 use Rattle.cut_law.specs.Room.{IsUnmet}
 
 -- every line is done, each entry tells what the machine does there, and no entry is a listener's call
 pub record IsSilentJournal (blobs : List (List ℕ)) (limits : Limits) (st : State)
     (lines : List StepLine) (entries : List Entry) : Type 0 where
-  pub whole : LinesAre blobs limits lines st entries
+  pub whole : AreScriptLinesDone blobs limits lines st entries
   pub replays : Replays blobs st entries
   pub silent : calls_in entries ≡ 0
 
@@ -22,7 +22,7 @@ pub record IsSilentJournal (blobs : List (List ℕ)) (limits : Limits) (st : Sta
 -- so does each to which one comes by one such cut after another.
 pub record CutsAlike (blobs : List (List ℕ)) (st : State) (s : List StepLine)
     (core : Core) : Type 0 where
-  pub once : (t : List StepLine) (c : Cut blobs s t)
+  pub once : (t : List StepLine) (c : IsOtherCut blobs s t)
       → IsAwaited blobs st c.front → IsUnmet blobs st s → IsUnmet blobs st t
       → (play_of blobs st t).core ≡ core
   pub again : (steps : List (List StepLine)) (t : List StepLine)

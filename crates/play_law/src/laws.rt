@@ -5,7 +5,7 @@ ghost use Rattle.mse_calls.specs.declared.entry.Entry.{Entry};
 ghost use Rattle.call_script.specs.declared.script.StepLine.{StepLine};
 ghost use Rattle.mse_engine.specs.State.{State};
 ghost use Rattle.mse_engine.specs.Run.{after_entries};
-ghost use Rattle.script_run.specs.Doings.{IsDrain};
+ghost use Rattle.script_run.specs.DrainSteps.{IsDrain};
 ghost use Rattle.script_run.specs.Lines.{Limits};
 ghost use Rattle.script_run.specs.Turns.{calls_in};
 ghost use Rattle.cut_law.specs.Plays.{drain_entries, play_entries};

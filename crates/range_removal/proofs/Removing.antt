@@ -10,7 +10,7 @@ use Rattle.track_store.specs.declared.tracks.Marks.{Marks}
 use Rattle.mse_base.specs.Moments.{is_before}
 use Rattle.track_store.specs.Frames.{IsAscending, frames_without, frames_left, is_within, bytes_of}
 use Rattle.track_store.specs.Kept.{bytes_in, AreKept, AreEndedBy, AreStillSound}
-use Rattle.track_store.specs.Sound.{Sound, IsNext, AreTogether, last_serial}
+use Rattle.track_store.specs.Sound.{IsSound, IsSuccessor, AreTogether, last_serial}
 use Rattle.track_store.specs.State.{TrackState, unset_marks}
 use Rattle.track_store.proofs.Clearing.{goes, each-cleared, ascending-cleared, used-cleared, cleared-same}
 use Rattle.track_store.proofs.Soundness.{chained-cleared}
@@ -48,15 +48,15 @@ first_of : (P : ℕ → ℕ → Type 0) (b : Bool) (m : Marks) → IfSome m.grou
 first_of P true m h = tt
 first_of P false m h = h
 
-follows_of : (named : Stored → Bool) (fs : List Stored) (b : Bool) (m : Marks) → is_last_removed named fs ≡ b → (m.need_sync ≡ false → IsNext (last_serial None fs) m.received) → (cond b (unset_marks m) m).need_sync ≡ false → IsNext (last_serial None (frames_without named fs)) (cond b (unset_marks m) m).received
+follows_of : (named : Stored → Bool) (fs : List Stored) (b : Bool) (m : Marks) → is_last_removed named fs ≡ b → (m.need_sync ≡ false → IsSuccessor (last_serial None fs) m.received) → (cond b (unset_marks m) m).need_sync ≡ false → IsSuccessor (last_serial None (frames_without named fs)) (cond b (unset_marks m) m).received
 follows_of named fs true m e h none = absurd cc
-follows_of named fs false m e h none = subst (λ o. IsNext o m.received) (sym (last_stays named false None None fs e (λ _. refl))) (h none)
+follows_of named fs false m e h none = subst (λ o. IsSuccessor o m.received) (sym (last_stays named false None None fs e (λ _. refl))) (h none)
 
 if_some : (o : Option ℕ) (P Q : ℕ → Type 0) → ((n : ℕ) → P n → Q n) → IfSome o P → IfSome o Q
 if_some None P Q f h = h
 if_some (Some n) P Q f h = f n h
 
-pub sound_without : (named : Stored → Bool) (t : TrackState) → Sound t → Sound (track_without named t)
+pub sound_without : (named : Stored → Bool) (t : TrackState) → IsSound t → IsSound (track_without named t)
 sound_without named t h =
     let b = is_last_removed named t.frames in
     let m = t.marks in
@@ -91,7 +91,7 @@ bytes_removed start end duration (t ∷ ts) =
 
 pub kept_removed : (start : ℤ) (end duration : Moment) (ts : List TrackState) → AreKept ts → AreKept (tracks_after_removal start end duration ts)
 kept_removed start end duration ts h = record {
-  sound = each-map Sound Sound (track_after_removal start end duration) ts (λ t s. sound_without (is_between start (remove_end end duration t.frames)) t s) h.sound;
+  sound = each-map IsSound IsSound (track_after_removal start end duration) ts (λ t s. sound_without (is_between start (remove_end end duration t.frames)) t s) h.sound;
   small = let less = bytes_removed start end duration ts in let most = h.small in omega arith;
 }
 

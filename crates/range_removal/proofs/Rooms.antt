@@ -3,7 +3,7 @@ use Rattle.std.proofs.Common.{◌≡◌, ◌∙◌, ℕ, zero, suc, ℤ, ◌≤�
 use Rattle.std.specs.Option.{IfSome}
 use Rattle.std.proofs.lemmas.List.{length-map}
 use Rattle.track_store.specs.declared.tracks.Track.{Track}
-use Rattle.track_store.specs.Kept.{HasRoom, gaps_of}
+use Rattle.track_store.specs.Kept.{HasSpareRoom, gaps_of}
 use Rattle.range_removal.specs.Rooms.{IsRoomKept}
 
 same_room : {S : Type 0} (spare : S → ℕ) (o : Option (Track S)) → IfSome o (λ t. IfSome o (λ u. spare t.store ≤ spare u.store))
@@ -23,7 +23,7 @@ keeps_set spare (v ∷ ts) (suc i) t u e h (suc k) = keeps_set spare ts i t u e 
 more_here : {S : Type 0} (spare : S → ℕ) (n : ℕ) (t u : Track S) → spare t.store ≤ spare u.store → n ≤ spare t.store → n ≤ spare u.store
 more_here spare n t u h room = omega arith
 
-pub room_kept : {S : Type 0} (spare : S → ℕ) (n : ℕ) (ts us : List (Track S)) → length us ≡ length ts → IsRoomKept spare ts us → HasRoom spare n ts → HasRoom spare n us
+pub room_kept : {S : Type 0} (spare : S → ℕ) (n : ℕ) (ts us : List (Track S)) → length us ≡ length ts → IsRoomKept spare ts us → HasSpareRoom spare n ts → HasSpareRoom spare n us
 room_kept spare n ts [] e h all = tt
 room_kept spare n [] (u ∷ us) e h all = absurd (omega arith)
 room_kept spare n (t ∷ ts) (u ∷ us) e h all = (more_here spare n t u (h zero) all.0, room_kept spare n ts us (omega arith) (λ k. h (suc k)) all.1)

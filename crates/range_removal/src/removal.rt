@@ -1,5 +1,5 @@
 ghost use Rattle.std.specs.Prelude.{◌≡◌, ◌≤◌, ℕ, ℤ, None, length, slice_get, slice_set, IfSome};
-ghost use Rattle.track_store.specs.Kept.{AreKept, AreEndedBy, AreStillSound, HasRoom, gaps_of};
+ghost use Rattle.track_store.specs.Kept.{AreKept, AreEndedBy, AreStillSound, HasSpareRoom, gaps_of};
 ghost use Rattle.track_store.specs.Sound.{last_serial};
 ghost use Rattle.track_store.specs.State.{state_of, states_of};
 ghost use Rattle.range_removal.specs.Removal.{remove_end, track_after_removal, tracks_after_removal};
@@ -91,8 +91,8 @@ pub fn remove_frames<S: FrameStore>(
     ensures ends { (limit : ℤ) → AreEndedBy limit (states_of S.frames tracks.old.items)
         → AreEndedBy limit (states_of S.frames tracks.new.items) }
     ensures spare { IsRoomKept S.spare tracks.old.items tracks.new.items }
-    ensures room { (n : ℕ) → HasRoom S.spare n tracks.old.items
-        → HasRoom S.spare n tracks.new.items }
+    ensures room { (n : ℕ) → HasSpareRoom S.spare n tracks.old.items
+        → HasSpareRoom S.spare n tracks.new.items }
     ensures gaps { gaps_of S.gap tracks.new.items ≡ gaps_of S.gap tracks.old.items }
     ensures len { length tracks.new.items ≡ length tracks.old.items }
     ensures places { tracks.new.spare ≡ tracks.old.spare }

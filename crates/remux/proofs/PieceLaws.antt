@@ -23,7 +23,7 @@ use Rattle.bmff_write.specs.Tracks.{AreEdits, IsTrackOut, HaveDistinctNumbers, A
 use Rattle.sample_tables.specs.declared.sample.Sample.{Sample}
 use Rattle.sample_tables.specs.declared.media_track.MediaTrack.{MediaTrack}
 use Rattle.sample_tables.specs.Facts.{IsDescription, IsSampleIn, IsFileTrack, AreFileTracks}
-use Rattle.remux.specs.Runs.{RunView, IsShortRun, bytes_of}
+use Rattle.remux.specs.Runs.{SampleRun, IsShortRun, bytes_of}
 use Rattle.remux.specs.Remuxed.{edits_of, track_out, sample_out, traf_out}
 
 length_map : {X Y : Type 0} (f : X → Y) (xs : List X) → length (map f xs) ≡ length xs
@@ -124,7 +124,7 @@ payload_is file (s ∷ ss) h =
     let rest = payload_is file ss h.1 in
     omega (arith, rest, length_range file s.place s.size first.inside, sum_by-cons (λ (q : SampleOut). length q.payload) (sample_out file s) (map (sample_out file) ss), sum_by-cons (λ (q : Sample). q.size) s ss)
 
-pub trafs_are : (file : List ℕ) (run : RunView) → IsShortRun (length file) run.samples → AreTrafsOut (traf_out file run ∷ [])
+pub trafs_are : (file : List ℕ) (run : SampleRun) → IsShortRun (length file) run.samples → AreTrafsOut (traf_out file run ∷ [])
 trafs_are file run h =
     let few = h.few in
     let short = h.short in

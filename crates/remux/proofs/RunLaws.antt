@@ -9,7 +9,7 @@ use Rattle.sample_tables.specs.declared.media_track.MediaTrack.{MediaTrack}
 use Rattle.sample_tables.specs.Facts.{IsSampleIn, IsFileTrack}
 use Rattle.remux.specs.declared.runs.Run.{Run}
 use Rattle.remux.proofs.SortLaws.{put, sorted}
-use Rattle.remux.specs.Runs.{begins_run, bytes_of, IsShortRun, is_full, ends_before, runs_from, runs_of, RunView, run_value, run_view, track_runs, run_put, in_order, runs_in_order}
+use Rattle.remux.specs.Runs.{begins_run, bytes_of, IsShortRun, is_run_full, ends_before, runs_from, runs_of, SampleRun, run_value, run_view, track_runs, run_put, in_order, runs_in_order}
 
 one_sample : (len : ℕ) (s : Sample) → IsSampleIn len s → IsShortRun len (s ∷ [])
 one_sample len s h = let short = h.short in record { samples = (h, tt); few = omega arith; short = omega (arith, sum_by-cons (λ (q : Sample). q.size) s []) }
@@ -27,7 +27,7 @@ neither false b e = (refl, e)
 
 one_more : (len position : ℕ) (kind : Kind) (run : List Sample) (s : Sample) → IsShortRun len run → IsSampleIn len s → ends_before kind position run s ≡ false → IsShortRun len (run ++ s ∷ [])
 one_more len position kind run s h k e =
-    let room = (neither (begins_run kind position s) (is_full run s) e).1 in
+    let room = (neither (begins_run kind position s) (is_run_full run s) e).1 in
     let parts = neither (leb (2 ^ 16) (length run)) (ltb (2 ^ 26) (bytes_of run + s.size)) room in
     let few : length run < 2 ^ 16 = grind (arith, nat_tests, parts.0) in
     let short : bytes_of run + s.size ≤ 2 ^ 26 = grind (arith, nat_tests, parts.1) in
@@ -54,7 +54,7 @@ short_runs len kind [] h = tt
 short_runs len kind (s ∷ ss) h = short_from len 1 kind (s ∷ []) ss (one_sample len s h.0) h.1
 
 -- a run with its track
-abbrev pub IsShortView : ℕ → RunView → Type 0
+abbrev pub IsShortView : ℕ → SampleRun → Type 0
 IsShortView len run = IsShortRun len run.samples
 
 short_views : (len : ℕ) (track : MediaTrack) (runs : List (List Sample)) → AllByRecursion (IsShortRun len) runs → AllByRecursion (IsShortView len) (map (run_view track) runs)
@@ -71,7 +71,7 @@ short_tracks len (t ∷ ts) h =
     let first = h.0 in
     all_append (IsShortView len) (track_runs t) (flat_map track_runs ts) (short_views len t (runs_of t.info.kind t.samples) (short_runs len t.info.kind t.samples first.samples)) (short_tracks len ts h.1)
 
-put_short : (P : RunView → Type 0) (r : RunView) (rs : List RunView) → P r → AllByRecursion P rs → AllByRecursion P (run_put r rs)
+put_short : (P : SampleRun → Type 0) (r : SampleRun) (rs : List SampleRun) → P r → AllByRecursion P rs → AllByRecursion P (run_put r rs)
 put_short P r [] h k = (h, tt)
 put_short P r (n ∷ ns) h k = by (int_lt n.time r.time) (put_short P r ns h k.1)
   where
@@ -79,7 +79,7 @@ put_short P r (n ∷ ns) h k = by (int_lt n.time r.time) (put_short P r ns h k.1
     by true q = (k.0, q)
     by false q = (h, k)
 
-order_short : (P : RunView → Type 0) (rs : List RunView) → AllByRecursion P rs → AllByRecursion P (in_order rs)
+order_short : (P : SampleRun → Type 0) (rs : List SampleRun) → AllByRecursion P rs → AllByRecursion P (in_order rs)
 order_short P [] h = tt
 order_short P (r ∷ rs) h = put_short P r (in_order rs) h.0 (order_short P rs h.1)
 
@@ -114,7 +114,7 @@ length_tracks (t ∷ ts) =
     let first = length_runs t.info.kind t.samples in
     omega (arith, rest, first, length-append (track_runs t) (flat_map track_runs ts), length_map (run_view t) (runs_of t.info.kind t.samples), sum_by-cons (λ (q : MediaTrack). length q.samples) t ts)
 
-length_put : (r : RunView) (rs : List RunView) → length (run_put r rs) ≡ suc (length rs)
+length_put : (r : SampleRun) (rs : List SampleRun) → length (run_put r rs) ≡ suc (length rs)
 length_put r [] = refl
 length_put r (n ∷ ns) = by (int_lt n.time r.time) (length_put r ns)
   where
@@ -122,7 +122,7 @@ length_put r (n ∷ ns) = by (int_lt n.time r.time) (length_put r ns)
     by true q = ap suc q
     by false q = refl
 
-length_order : (rs : List RunView) → length (in_order rs) ≡ length rs
+length_order : (rs : List SampleRun) → length (in_order rs) ≡ length rs
 length_order [] = refl
 length_order (r ∷ rs) = length_put r (in_order rs) ∙ ap suc (length_order rs)
 

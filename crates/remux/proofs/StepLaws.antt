@@ -7,7 +7,7 @@ use Rattle.mse_base.specs.declared.track.Kind.{Kind}
 use Rattle.sample_tables.specs.declared.sample.Sample.{Sample}
 use Rattle.sample_tables.specs.declared.media_track.MediaTrack.{MediaTrack}
 use Rattle.remux.specs.declared.runs.Run.{Run}
-use Rattle.remux.specs.Runs.{begins_run, bytes_of, is_full, ends_before, runs_from, RunView, run_value, run_view}
+use Rattle.remux.specs.Runs.{begins_run, bytes_of, is_run_full, ends_before, runs_from, SampleRun, run_value, run_view}
 use Rattle.remux.proofs.RunLaws.{neither}
 
 -- the next element of a part of a list
@@ -22,13 +22,13 @@ pub range_one : {X : Type 0} (xs : List X) (b : ℕ) (x : X) → b < length xs �
 range_one xs b x k e = let none : b - b ≡ 0 = omega arith in range_push xs b b x (omega arith) k e ∙ ap (λ n. take n (drop b xs) ++ x ∷ []) none
 
 -- a run that goes on
-pub goes_on : (track : MediaTrack) (kind : Kind) (i : ℕ) (run ss : List Sample) (s : Sample) (before all : List RunView) → ends_before kind i run s ≡ false
+pub goes_on : (track : MediaTrack) (kind : Kind) (i : ℕ) (run ss : List Sample) (s : Sample) (before all : List SampleRun) → ends_before kind i run s ≡ false
     → before ++ map (run_view track) (runs_from kind i run (s ∷ ss)) ≡ all → before ++ map (run_view track) (runs_from kind (i + 1) (run ++ s ∷ []) ss) ≡ all
 goes_on track kind i run ss s before all e h =
     sym (ap (λ t. before ++ map (run_view track) (cond t (run ∷ runs_from kind (i + 1) (s ∷ []) ss) (runs_from kind (i + 1) (run ++ s ∷ []) ss))) e) ∙ h
 
 -- a run that ends
-pub ends : (track : MediaTrack) (kind : Kind) (i : ℕ) (run ss : List Sample) (s : Sample) (before next all : List RunView) → ends_before kind i run s ≡ true
+pub ends : (track : MediaTrack) (kind : Kind) (i : ℕ) (run ss : List Sample) (s : Sample) (before next all : List SampleRun) → ends_before kind i run s ≡ true
     → next ≡ before ++ run_view track run ∷ [] → before ++ map (run_view track) (runs_from kind i run (s ∷ ss)) ≡ all → next ++ map (run_view track) (runs_from kind (i + 1) (s ∷ []) ss) ≡ all
 ends track kind i run ss s before next all e n h =
     ap (λ xs. xs ++ map (run_view track) (runs_from kind (i + 1) (s ∷ []) ss)) n
@@ -49,11 +49,11 @@ all_index P (x ∷ xs) (suc i) d h k = all_index P xs i d h.1 (omega arith)
 -- a run that goes on has room
 pub fits_one : (kind : Kind) (i : ℕ) (run : List Sample) (s : Sample) → ends_before kind i run s ≡ false → bytes_of run + s.size ≤ 2 ^ 26
 fits_one kind i run s e =
-    let room = (neither (begins_run kind i s) (is_full run s) e).1 in
+    let room = (neither (begins_run kind i s) (is_run_full run s) e).1 in
     let parts = neither (leb (2 ^ 16) (length run)) (ltb (2 ^ 26) (bytes_of run + s.size)) room in
     grind (arith, nat_tests, parts.1)
 
-pub push_value : (runs next : List Run) (r : Run) (v : RunView) → next ≡ runs ++ r ∷ [] → run_value r ≡ v → map run_value next ≡ map run_value runs ++ v ∷ []
+pub push_value : (runs next : List Run) (r : Run) (v : SampleRun) → next ≡ runs ++ r ∷ [] → run_value r ≡ v → map run_value next ≡ map run_value runs ++ v ∷ []
 push_value runs next r v n e = ap (map run_value) n ∙ (push runs ∙ ap (λ w. map run_value runs ++ w ∷ []) e)
   where
     push : (rs : List Run) → map run_value (rs ++ r ∷ []) ≡ map run_value rs ++ run_value r ∷ []

@@ -15,7 +15,7 @@ use Rattle.sample_tables.specs.declared.fault.PlacedFault.{PlacedFault}
 use Rattle.sample_tables.specs.declared.sample.Sample.{Sample}
 use Rattle.sample_tables.specs.declared.media_track.MediaTrack.{MediaTrack}
 use Rattle.sample_tables.specs.Movies.{file_tracks}
-use Rattle.remux.specs.Runs.{RunView, runs_in_order}
+use Rattle.remux.specs.Runs.{SampleRun, runs_in_order}
 use Rattle.remux.specs.declared.error.RemuxError.{RemuxError}
 use Rattle.remux.specs.declared.error.RemuxError.TheVariants.{OutOfMemory, Fault}
 
@@ -45,7 +45,7 @@ sample_out file s = record {
   payload = slice_range file s.place (s.place + s.size);
 }
 
-abbrev pub traf_out : List ℕ → RunView → TrafOut
+abbrev pub traf_out : List ℕ → SampleRun → TrafOut
 traf_out file run = record {
   id = run.id;
   decode = run.decode;
@@ -53,7 +53,7 @@ traf_out file run = record {
 }
 
 -- a media segment for each run, with sequence numbers from `number` on
-abbrev pub segments_from : List ℕ → ℕ → List RunView → List (List ℕ)
+abbrev pub segments_from : List ℕ → ℕ → List SampleRun → List (List ℕ)
 segments_from file number [] = []
 segments_from file number (run ∷ runs) =
     segment_bytes number (traf_out file run ∷ []) ∷ segments_from file (number + 1) runs

@@ -20,12 +20,12 @@ abbrev pub bytes_of : List Sample → ℕ
 bytes_of samples = sum_by (λ s. s.size) samples
 
 -- whether a run has no room for one more sample
-abbrev pub is_full : List Sample → Sample → Bool
-is_full run sample = nat_le (2 ^ 16) (length run) || nat_lt (2 ^ 26) (bytes_of run + sample.size)
+abbrev pub is_run_full : List Sample → Sample → Bool
+is_run_full run sample = nat_le (2 ^ 16) (length run) || nat_lt (2 ^ 26) (bytes_of run + sample.size)
 
 -- whether a run ends before a sample
 abbrev pub ends_before : Kind → ℕ → List Sample → Sample → Bool
-ends_before kind position run sample = begins_run kind position sample || is_full run sample
+ends_before kind position run sample = begins_run kind position sample || is_run_full run sample
 
 -- the runs of samples from a position on, where the samples of `run` stand before them in the first run
 abbrev pub runs_from : Kind → ℕ → List Sample → List Sample → List (List Sample)
@@ -48,14 +48,14 @@ pub record IsShortRun (len : ℕ) (run : List Sample) : Type 0 where
 
 -- a run with the number of its track, the decode time of its first sample in the track's media time, and that time
 -- in ticks of the presentation
-pub record RunView : Type 0 where
+pub record SampleRun : Type 0 where
   pub id : ℕ
   pub decode : ℕ
   pub time : ℤ
   pub samples : List Sample
 
 -- the same of what the code keeps
-abbrev pub run_value : Run → RunView
+abbrev pub run_value : Run → SampleRun
 run_value run = record {
   id = run.id;
   decode = run.decode;
@@ -72,7 +72,7 @@ first_decode [] = 0
 first_decode (s ∷ ss) = s.decode
 
 -- the media of a track begin later by its lag, and are shifted by its edit list
-abbrev pub run_view : MediaTrack → List Sample → RunView
+abbrev pub run_view : MediaTrack → List Sample → SampleRun
 run_view track samples = record {
   id = track.info.id;
   decode = first_decode samples + track.lag;
@@ -81,20 +81,20 @@ run_view track samples = record {
   samples = samples;
 }
 
-abbrev pub track_runs : MediaTrack → List RunView
+abbrev pub track_runs : MediaTrack → List SampleRun
 track_runs track = map (run_view track) (runs_of track.info.kind track.samples)
 
 -- a run put before the first that is not earlier
-abbrev pub run_put : RunView → List RunView → List RunView
+abbrev pub run_put : SampleRun → List SampleRun → List SampleRun
 run_put run [] = run ∷ []
 run_put run (next ∷ runs) =
     if int_lt next.time run.time then next ∷ run_put run runs else run ∷ next ∷ runs
 
 -- runs in order of time; those of one time stay in their order
-abbrev pub in_order : List RunView → List RunView
+abbrev pub in_order : List SampleRun → List SampleRun
 in_order [] = []
 in_order (run ∷ runs) = run_put run (in_order runs)
 
 -- the runs of all tracks in order of time, at a tie in order of tracks
-unfoldable pub runs_in_order : List MediaTrack → List RunView
+unfoldable pub runs_in_order : List MediaTrack → List SampleRun
 runs_in_order tracks = in_order (flat_map track_runs tracks)

@@ -15,7 +15,7 @@ use Rattle.segment_walk.specs.Segments.{Items}
 use Rattle.segment_walk.specs.Tables.{SegmentItem}
 use Rattle.sample_tables.specs.declared.media_track.MediaTrack.{MediaTrack}
 use Rattle.sample_tables.specs.Facts.{IsFileTrack, AreFileTracks}
-use Rattle.remux.specs.Runs.{RunView, runs_in_order}
+use Rattle.remux.specs.Runs.{SampleRun, runs_in_order}
 use Rattle.remux.specs.Remuxed.{edits_of, track_out, init_of, pieces_of}
 use Rattle.remux.proofs.RunLaws.{ordered_short}
 use Rattle.remux.proofs.PieceLaws.{tracks_out_are, descriptions_are}
@@ -98,7 +98,7 @@ items_by infos len segments = InitItem (record { scale = 1000; duration = Infini
 pub read_back : (file : List ℕ) (tracks : List MediaTrack) → AreFileTracks (length file) tracks → AllByRecursion IsTold tracks → Items None (flat_map (λ (piece : List ℕ). piece) (pieces_of file tracks)) ≡ items_of_file file tracks
 unfolding items_by
 read_back file tracks h k =
-    let runs : List RunView = runs_in_order tracks in
+    let runs : List SampleRun = runs_in_order tracks in
     let ts : List TrackOut = map track_out tracks in
     let stsds : List (List ℕ) = map (λ (t : MediaTrack). t.stsd) tracks in
     let segments : List SegmentOut = segments_out file 1 runs in

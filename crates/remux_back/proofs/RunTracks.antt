@@ -7,7 +7,7 @@ use Rattle.mse_base.specs.declared.track.TrackInfo.{TrackInfo}
 use Rattle.mse_base.specs.Presentation.{HasDistinctIds}
 use Rattle.sample_tables.specs.declared.sample.Sample.{Sample}
 use Rattle.sample_tables.specs.declared.media_track.MediaTrack.{MediaTrack}
-use Rattle.remux.specs.Runs.{runs_of, RunView, first_decode, run_view, track_runs, run_put, in_order, runs_in_order}
+use Rattle.remux.specs.Runs.{runs_of, SampleRun, first_decode, run_view, track_runs, run_put, in_order, runs_in_order}
 use Rattle.remux_back.specs.Fragments.{has_number}
 use Rattle.remux_back.proofs.Chains.{FitsRun, IsChain, IsPart, parts_of}
 
@@ -51,7 +51,7 @@ pub record IsTold (t : MediaTrack) : Type 0 where
   pub fits : AllByRecursion FitsRun t.samples
 
 -- a run of one of the tracks
-pub record IsRunIn (tracks : List MediaTrack) (run : RunView) : Type 0 where
+pub record IsRunIn (tracks : List MediaTrack) (run : SampleRun) : Type 0 where
   pub track : MediaTrack
   pub found : find (has_number run.id) tracks ≡ Some track
   pub lag : track.lag ≤ 2 ^ 62
@@ -75,7 +75,7 @@ tracks_in : (tracks ts : List MediaTrack) → AllByRecursion (IsNamed tracks) ts
 tracks_in tracks [] n h = tt
 tracks_in tracks (t ∷ ts) n h = all_append (IsRunIn tracks) (track_runs t) (flat_map track_runs ts) (track_in tracks t n.0 h.0) (tracks_in tracks ts n.1 h.1)
 
-all_put : (P : RunView → Type 0) (r : RunView) (rs : List RunView) → P r → AllByRecursion P rs → AllByRecursion P (run_put r rs)
+all_put : (P : SampleRun → Type 0) (r : SampleRun) (rs : List SampleRun) → P r → AllByRecursion P rs → AllByRecursion P (run_put r rs)
 all_put P r [] h k = (h, tt)
 all_put P r (n ∷ ns) h k = by (int_lt n.time r.time) (all_put P r ns h k.1)
   where
@@ -83,7 +83,7 @@ all_put P r (n ∷ ns) h k = by (int_lt n.time r.time) (all_put P r ns h k.1)
     by true q = (k.0, q)
     by false q = (h, k)
 
-all_ordered : (P : RunView → Type 0) (rs : List RunView) → AllByRecursion P rs → AllByRecursion P (in_order rs)
+all_ordered : (P : SampleRun → Type 0) (rs : List SampleRun) → AllByRecursion P rs → AllByRecursion P (in_order rs)
 all_ordered P [] h = tt
 all_ordered P (r ∷ rs) h = all_put P r (in_order rs) h.0 (all_ordered P rs h.1)
 

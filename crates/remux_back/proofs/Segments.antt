@@ -21,7 +21,7 @@ use Rattle.segment_walk.specs.Tables.{SegmentItem}
 use Rattle.sample_tables.specs.declared.sample.Sample.{Sample}
 use Rattle.sample_tables.specs.declared.media_track.MediaTrack.{MediaTrack}
 use Rattle.sample_tables.specs.Facts.{IsSampleIn}
-use Rattle.remux.specs.Runs.{RunView, bytes_of, first_decode}
+use Rattle.remux.specs.Runs.{SampleRun, bytes_of, first_decode}
 use Rattle.remux.specs.Remuxed.{sample_out, traf_out, segments_from}
 use Rattle.remux.proofs.RunLaws.{IsShortView}
 use Rattle.remux.proofs.PieceLaws.{length_range, payload_is, trafs_are}
@@ -90,10 +90,10 @@ infos_find id (t ∷ ts) = by (t.info.id == id) (infos_find id ts)
     by true e = refl
     by false e = e
 
-track_found : (tracks : List MediaTrack) (run : RunView) (h : IsRunIn tracks run) → track_of (map track_info tracks) run.id ≡ Some (track_info h.track)
+track_found : (tracks : List MediaTrack) (run : SampleRun) (h : IsRunIn tracks run) → track_of (map track_info tracks) run.id ≡ Some (track_info h.track)
 track_found tracks run h = infos_find run.id tracks ∙ ap (option_map track_info) h.found
 
-run_is : (file : List ℕ) (tracks : List MediaTrack) (at : ℕ) (run : RunView) → IsRunIn tracks run → IsShortView (length file) run
+run_is : (file : List ℕ) (tracks : List MediaTrack) (at : ℕ) (run : SampleRun) → IsRunIn tracks run → IsShortView (length file) run
     → traf_read (track_of (map track_info tracks) run.id) at (traf_out file run) ≡ frames_of_run file (find (has_number run.id) tracks) at run
 run_is file tracks at run h k =
     ap (λ (o : Option TrackInfo). traf_read o at (traf_out file run)) (track_found tracks run h)
@@ -104,24 +104,24 @@ run_is file tracks at run h k =
 -- ---- the segments
 
 -- what is written of runs, with sequence numbers from `number` on
-abbrev pub segments_out : List ℕ → ℕ → List RunView → List SegmentOut
+abbrev pub segments_out : List ℕ → ℕ → List SampleRun → List SegmentOut
 segments_out file number [] = []
 segments_out file number (run ∷ runs) = record { sequence = number; trafs = traf_out file run ∷ [] } ∷ segments_out file (number + 1) runs
 
-pub joined : (file : List ℕ) (number : ℕ) (runs : List RunView) → flat_map (λ (piece : List ℕ). piece) (segments_from file number runs) ≡ segments_bytes (segments_out file number runs)
+pub joined : (file : List ℕ) (number : ℕ) (runs : List SampleRun) → flat_map (λ (piece : List ℕ). piece) (segments_from file number runs) ≡ segments_bytes (segments_out file number runs)
 joined file number [] = refl
 joined file number (run ∷ runs) = ap (λ (xs : List ℕ). segment_bytes number (traf_out file run ∷ []) ++ xs) (joined file (number + 1) runs)
 
-head_is : (file : List ℕ) (run : RunView) → moof_len (traf_out file run ∷ []) + 8 ≡ head_len run
+head_is : (file : List ℕ) (run : SampleRun) → moof_len (traf_out file run ∷ []) + 8 ≡ head_len run
 head_is file run = omega (arith, sum_by-cons traf_len (traf_out file run) [], length-map run.samples (sample_out file))
 
-segment_is : (file : List ℕ) (number : ℕ) (run : RunView) → IsShortView (length file) run → length (segment_bytes number (traf_out file run ∷ [])) ≡ head_len run + bytes_of run.samples
+segment_is : (file : List ℕ) (number : ℕ) (run : SampleRun) → IsShortView (length file) run → length (segment_bytes number (traf_out file run ∷ [])) ≡ head_len run + bytes_of run.samples
 segment_is file number run h =
     let payload = payload_is file run.samples h.samples in
     let head = head_is file run in
     omega (arith, segment_size number (traf_out file run ∷ []), sum_by-cons (λ (t : TrafOut). payload_len t.samples) (traf_out file run) [], payload, head)
 
-pub segments_are : (file : List ℕ) (tracks : List MediaTrack) (number at : ℕ) (runs : List RunView) → AllByRecursion (IsRunIn tracks) runs → AllByRecursion (IsShortView (length file)) runs
+pub segments_are : (file : List ℕ) (tracks : List MediaTrack) (number at : ℕ) (runs : List SampleRun) → AllByRecursion (IsRunIn tracks) runs → AllByRecursion (IsShortView (length file)) runs
     → segments_read (map track_info tracks) at (segments_out file number runs) ≡ items_of_runs file tracks at runs
 segments_are file tracks number at [] h k = refl
 segments_are file tracks number at (run ∷ runs) h k =
@@ -148,7 +148,7 @@ first_below len (s ∷ ss) h = let one = h.0 in one.decoded
 is_there : {X : Type 0} (o : Option X) (x : X) → o ≡ Some x → IsSome o
 is_there o x e = subst IsSome (sym e) refl
 
-traf_is : (file : List ℕ) (tracks : List MediaTrack) (run : RunView) → IsRunIn tracks run → IsShortView (length file) run → IsTrafOf (map track_info tracks) (traf_out file run)
+traf_is : (file : List ℕ) (tracks : List MediaTrack) (run : SampleRun) → IsRunIn tracks run → IsShortView (length file) run → IsTrafOf (map track_info tracks) (traf_out file run)
 traf_is file tracks run h k =
     let below = first_below (length file) run.samples k.samples in
     let part = h.part in
@@ -157,7 +157,7 @@ traf_is file tracks run h k =
       fits = record { decode = omega (arith, below, h.decode, h.lag); samples = samples_fit file run.samples part.fits };
     }
 
-pub segments_fit : (file : List ℕ) (tracks : List MediaTrack) (number : ℕ) (runs : List RunView) → AllByRecursion (IsRunIn tracks) runs → AllByRecursion (IsShortView (length file)) runs
+pub segments_fit : (file : List ℕ) (tracks : List MediaTrack) (number : ℕ) (runs : List SampleRun) → AllByRecursion (IsRunIn tracks) runs → AllByRecursion (IsShortView (length file)) runs
     → AllByRecursion (IsSegmentOf (map track_info tracks)) (segments_out file number runs)
 segments_fit file tracks number [] h k = tt
 segments_fit file tracks number (run ∷ runs) h k =

@@ -10,7 +10,7 @@ use Rattle.parser_loop.specs.Items.{InitItem, FrameItem, SegmentEnd}
 use Rattle.segment_walk.specs.Tables.{SegmentItem}
 use Rattle.sample_tables.specs.declared.sample.Sample.{Sample}
 use Rattle.sample_tables.specs.declared.media_track.MediaTrack.{MediaTrack}
-use Rattle.remux.specs.Runs.{RunView, bytes_of, runs_in_order}
+use Rattle.remux.specs.Runs.{SampleRun, bytes_of, runs_in_order}
 use Rattle.remux.specs.Remuxed.{init_of}
 
 -- a track: in place of its empty edits the decode times have its lag, and its samples have no defaults
@@ -66,16 +66,16 @@ abbrev pub has_number : ℕ → MediaTrack → Bool
 has_number id track = track.info.id == id
 
 -- the samples of a run, which are of the track that it names
-abbrev pub frames_of_run : List ℕ → Option MediaTrack → ℕ → RunView → List SegmentItem
+abbrev pub frames_of_run : List ℕ → Option MediaTrack → ℕ → SampleRun → List SegmentItem
 frames_of_run file None at run = []
 frames_of_run file (Some track) at run = frames_of file track at run.samples
 
 -- how many bytes stand in a segment before those of its samples: moof and the header of mdat
-abbrev pub head_len : RunView → ℕ
+abbrev pub head_len : SampleRun → ℕ
 head_len run = 96 + 16 * length run.samples
 
 -- the segments of runs, the first of which begins at an offset: the frames of each, and its end
-abbrev pub items_of_runs : List ℕ → List MediaTrack → ℕ → List RunView → List SegmentItem
+abbrev pub items_of_runs : List ℕ → List MediaTrack → ℕ → List SampleRun → List SegmentItem
 items_of_runs file tracks at [] = []
 items_of_runs file tracks at (run ∷ runs) =
     frames_of_run file (find (has_number run.id) tracks) (at + head_len run) run

@@ -38,5 +38,5 @@ abbrev pub entries_at : List AnsweredCall → List Piece → List Mark → List 
 entries_at calls pieces marks = map (entry_at calls pieces) marks
 
 -- a list begins with another
-abbrev pub Extends : {X : Type 0} → List X → List X → Type 0
-Extends {X} old new = (more : List X) × (new ≡ old ++ more)
+abbrev pub IsExtension : {X : Type 0} → List X → List X → Type 0
+IsExtension {X} old new = (more : List X) × (new ≡ old ++ more)

@@ -3,7 +3,7 @@
 ghost use Rattle.std.specs.Prelude.{◌≡◌, ◌+◌, ◌<◌, ◌≤◌, vec_len};
 ghost use Rattle.std.specs.Vec.{vec_capacity};
 ghost use Rattle.run_journal.specs.EntryRef.{entry_of};
-ghost use Rattle.run_journal.specs.Marks.{entry_at, PointsInside, Extends};
+ghost use Rattle.run_journal.specs.Marks.{entry_at, PointsInside, IsExtension};
 
 use crate::EntryRef;
 use mse_calls::{Answer, Call, Entry, Event, Piece};
@@ -41,8 +41,8 @@ pub(crate) fn keep(calls: &mut Vec<AnsweredCall>, pieces: &mut Vec<Piece>, entry
     requires pieces { vec_len pieces.old < vec_capacity pieces.old }
     ensures entry { entry_at calls.new.items pieces.new.items result ≡ entry }
     ensures placed { PointsInside calls.new.items pieces.new.items result }
-    ensures calls { Extends calls.old.items calls.new.items }
-    ensures pieces { Extends pieces.old.items pieces.new.items }
+    ensures calls { IsExtension calls.old.items calls.new.items }
+    ensures pieces { IsExtension pieces.old.items pieces.new.items }
     ensures calls_len { vec_len calls.new ≤ vec_len calls.old + 1 }
     ensures pieces_len { vec_len pieces.new ≤ vec_len pieces.old + 1 }
     ensures calls_room { vec_capacity calls.new ≡ vec_capacity calls.old }

@@ -18,11 +18,11 @@ use Rattle.script_run.specs.declared.stop.Halt.{Halt}
 use Rattle.script_run.specs.declared.stop.Halt.TheVariants as halt
 use Rattle.script_run.specs.declared.stop.Stop.{Stop}
 use Rattle.script_run.specs.declared.stop.Stop.TheVariants.{Halted, CallBudget, TaskBudget}
-use Rattle.script_run.specs.Doings.{InDrainOrder}
+use Rattle.script_run.specs.DrainSteps.{AreInDrainOrder}
 use Rattle.script_run.specs.Lines.{Begins, done_of, fired_of, own_of}
-use Rattle.script_run.specs.Ran.{CutDispatch, HeardTo, IsOverLimit}
-use Rattle.script_run.specs.Story.{HeardAll}
-use Rattle.script_run.specs.Turns.{InTurns, IsSpent, SpentInLine, steps_in}
+use Rattle.script_run.specs.Plays.{IsDispatchCut, IsHeardUpTo, IsOverLimit}
+use Rattle.script_run.specs.NoteHistory.{IsAllHeard}
+use Rattle.script_run.specs.Turns.{AreInTurn, IsSpent, IsSpentInLine, steps_in}
 use Rattle.script_run.proofs.Telling.{cut_then}
 
 -- ---- a dispatch that was cut
@@ -35,7 +35,7 @@ fault_alone (fault.CallBudget k) event calls left w n0 n1 p = p
 fault_alone fault.TaskBudget event calls left w n0 n1 p = (refl, p.1, p.2)
 
 pub cut_of : (f : DispatchFault) (event : Event) (calls : List Entry) (left : ℕ) (n0 n1 : List (List Note)) → CallsInTurn 0 (length n0) calls
-    → length n1 ≡ length n0 → HeardAll [] n0 n0 → EndsAt event (dispatch_end calls left n0 n1) f → CutDispatch f (entry.Fired event ∷ calls) n0 n1
+    → length n1 ≡ length n0 → IsAllHeard [] n0 n0 → EndsAt event (dispatch_end calls left n0 n1) f → IsDispatchCut f (entry.Fired event ∷ calls) n0 n1
 cut_of f event calls left n0 n1 turns count heard p = record {
   before = [];
   event = event;
@@ -60,7 +60,7 @@ fault_as_memory fault.OutOfMemory event end p = p
 fault_as_memory (fault.CallBudget k) event end p = inr (inr (inr p.2))
 fault_as_memory fault.TaskBudget event end p = inr (inr (inr p.2))
 
-pub cut_as_memory : (f : DispatchFault) (es : List Entry) (n0 n1 : List (List Note)) → CutDispatch f es n0 n1 → CutDispatch fault.OutOfMemory es n0 n1
+pub cut_as_memory : (f : DispatchFault) (es : List Entry) (n0 n1 : List (List Note)) → IsDispatchCut f es n0 n1 → IsDispatchCut fault.OutOfMemory es n0 n1
 cut_as_memory f es n0 n1 p = record {
   before = p.before;
   event = p.event;
@@ -81,7 +81,7 @@ cut_as_memory f es n0 n1 p = record {
 
 -- so is a dispatch that a limit cut
 pub over_as_memory : (spent : List Entry → Type 0) (stop : Stop) (es : List Entry) (n0 n1 : List (List Note)) → IsOverLimit spent stop es n0 n1
-    → CutDispatch fault.OutOfMemory es n0 n1
+    → IsDispatchCut fault.OutOfMemory es n0 n1
 over_as_memory spent (CallBudget k) es n0 n1 p = cut_as_memory (fault.CallBudget k) es n0 n1 p
 over_as_memory spent TaskBudget es n0 n1 p = cut_as_memory fault.TaskBudget es n0 n1 p.1
 over_as_memory spent (Halted h) es n0 n1 p = absurd p
@@ -90,13 +90,13 @@ over_as_memory spent (Halted h) es n0 n1 p = absurd p
 
 -- what is spent in a part is spent in the whole, by `more`
 pub over_then : (spent whole : List Entry → Type 0) (stop : Stop) (count : ℕ) (xs ys : List Entry) (n0 n1 n2 : List (List Note)) → (spent ys → whole (xs ++ ys))
-    → HeardAll xs n0 n1 → InTurns count None ys → IsOverLimit spent stop ys n1 n2 → IsOverLimit whole stop (xs ++ ys) n0 n2
+    → IsAllHeard xs n0 n1 → AreInTurn count None ys → IsOverLimit spent stop ys n1 n2 → IsOverLimit whole stop (xs ++ ys) n0 n2
 over_then spent whole (CallBudget k) count xs ys n0 n1 n2 more p turns q = cut_then (fault.CallBudget k) count xs ys n0 n1 n2 p q turns
 over_then spent whole TaskBudget count xs ys n0 n1 n2 more p turns q = (more q.0, cut_then fault.TaskBudget count xs ys n0 n1 n2 p q.1 turns)
 over_then spent whole (Halted h) count xs ys n0 n1 n2 more p turns q = absurd q
 
 -- each heard each event, where memory or the sink was wanting
-pub heard_to_all : (spent : List Entry → Type 0) (h : Halt) (es : List Entry) (n0 n1 : List (List Note)) → HeardAll es n0 n1 → HeardTo spent h es n0 n1
+pub heard_to_all : (spent : List Entry → Type 0) (h : Halt) (es : List Entry) (n0 n1 : List (List Note)) → IsAllHeard es n0 n1 → IsHeardUpTo spent h es n0 n1
 heard_to_all spent halt.Memory es n0 n1 p = inl p
 heard_to_all spent halt.Write es n0 n1 p = inl p
 
@@ -124,7 +124,7 @@ no_step_turned : (st : Option State) → steps_in (done_of entry.Element st) ≡
 no_step_turned None = refl
 no_step_turned (Some st) = refl
 
-no_step_in_order : (blobs : List (List ℕ)) (st : State) (es : List Entry) → InDrainOrder blobs st es → steps_in es ≡ 0
+no_step_in_order : (blobs : List (List ℕ)) (st : State) (es : List Entry) → AreInDrainOrder blobs st es → steps_in es ≡ 0
 no_step_in_order blobs st [] h = refl
 no_step_in_order blobs st (entry.Listener w call answer ∷ es) h = no_step_in_order blobs (entry_meaning blobs st (entry.Listener w call answer)).state es h.1
 no_step_in_order blobs st (entry.Fired event ∷ es) h = no_step_in_order blobs (entry_meaning blobs st (entry.Fired event)).state es h.1
@@ -149,11 +149,11 @@ no_step_in_line blobs st step.Element es (inr e) = by_own es _ e (no_step_turned
 no_step_in_line blobs st step.Drain es h = no_step_in_order blobs st es h
 
 -- what was spent behind a number was spent in its line
-pub spent_line : (limit n : ℕ) (es : List Entry) → steps_in es ≡ 0 → IsSpent limit es → SpentInLine limit (entry.Step n ∷ es)
+pub spent_line : (limit n : ℕ) (es : List Entry) → steps_in es ≡ 0 → IsSpent limit es → IsSpentInLine limit (entry.Step n ∷ es)
 spent_line limit n es one e = record { front = []; number = n; part = es; entries_are = refl; one_line = one; calls = e }
 
 -- lines before it change nothing
-pub spent_behind : (limit : ℕ) (xs ys : List Entry) → SpentInLine limit ys → SpentInLine limit (xs ++ ys)
+pub spent_behind : (limit : ℕ) (xs ys : List Entry) → IsSpentInLine limit ys → IsSpentInLine limit (xs ++ ys)
 spent_behind limit xs ys p = record {
   front = xs ++ p.front;
   number = p.number;

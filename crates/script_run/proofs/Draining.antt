@@ -11,18 +11,18 @@ use Rattle.mse_engine.specs.declared.engine.Worked.TheVariants.{Did}
 use Rattle.mse_engine.specs.Standing.{IsWork, Kept, Stands}
 use Rattle.mse_engine.specs.Run.{after_entries, fire_meaning}
 use Rattle.mse_engine.specs.Work.{after_element_turn, due_in, running_in, without_first}
-use Rattle.mse_engine.specs.Goes.{Goes}
-use Rattle.mse_engine.proofs.Goes.{goes_none, goes_then}
+use Rattle.mse_engine.specs.Transitions.{IsTransition}
+use Rattle.mse_engine.proofs.Transitions.{goes_none, goes_then}
 use Rattle.call_script.specs.declared.script.StepLine.TheVariants.{Fire, Drain}
 use Rattle.script_run.specs.declared.stop.Stop.{Stop}
-use Rattle.script_run.specs.Doings.{InDrainOrder, IsAtRest, IsQuiet, NoEvent, element_step, work_step}
-use Rattle.script_run.specs.Progress.{IsCalm, IsTurnTaken}
+use Rattle.script_run.specs.DrainSteps.{AreInDrainOrder, IsAtRest, IsQuiet, HasNoEvent, element_step, work_step}
+use Rattle.script_run.specs.Progress.{IsCalm, HasFewerTurns}
 use Rattle.script_run.specs.Lines.{Begins, Does}
 use Rattle.listeners.specs.Views.{RunView}
-use Rattle.script_run.specs.Courses.{Doing}
-use Rattle.script_run.specs.Ran.{Drains, Ran, RanUpTo, Stepped, SteppedIf}
-use Rattle.script_run.specs.Stage.{IsStanding, Stage, stage}
-use Rattle.script_run.specs.Turns.{InTurns}
+use Rattle.script_run.specs.RunParts.{EntryRelation}
+use Rattle.script_run.specs.Plays.{Drains, IsPlayedInLine, IsPlayedInLineUpTo, IsOwnStep, IsOwnStepIf}
+use Rattle.script_run.specs.RunStates.{IsStanding, RunState, run_at}
+use Rattle.script_run.specs.Turns.{AreInTurn}
 use Rattle.script_run.proofs.Writing.{wrote_none}
 use Rattle.script_run.proofs.Turning.{calls_in-append}
 use Rattle.script_run.proofs.Telling.{heard_silence}
@@ -32,10 +32,10 @@ use Rattle.script_run.proofs.Playing.{Joins, ran_as, stop_as, ran_then, ran_stop
 use Rattle.script_run.proofs.Resting.{due_turns, running_works, same_running, turn_taken}
 
 -- what an engine goes to stands too
-pub standing_on : (blobs : List (List ℕ)) (a b : Kept) (es : List Entry) → IsStanding a → Goes blobs a b es → IsStanding b
+pub standing_on : (blobs : List (List ℕ)) (a b : Kept) (es : List Entry) → IsStanding a → IsTransition blobs a b es → IsStanding b
 standing_on blobs a b es s goes = record { state = after_entries blobs s.state es; stands = goes.stands s.state s.stands }
 
-pub standing_ran : (blobs : List (List ℕ)) (does : Doing) (a b : Stage) → IsStanding a.run.engine → Ran blobs does a b → IsStanding b.run.engine
+pub standing_ran : (blobs : List (List ℕ)) (does : EntryRelation) (a b : RunState) → IsStanding a.run.engine → IsPlayedInLine blobs does a b → IsStanding b.run.engine
 standing_ran blobs does a b s p = standing_on blobs a.run.engine b.run.engine p.played.entries s p.played.grew.goes
 
 pub standing_drains : (a b : RunView) → IsStanding a.engine → ((blobs : List (List ℕ)) → Drains blobs a b) → IsStanding b.engine
@@ -43,40 +43,40 @@ standing_drains a b s p = let d = p [] in standing_on [] a.engine b.engine d.ent
 
 -- ---- an event
 
-pub fire_ran_order : (blobs : List (List ℕ)) (a b : Stage) → Ran blobs (λ st part. Does blobs st Fire part) a b → Ran blobs (InDrainOrder blobs) a b
-fire_ran_order blobs a b p = ran_as blobs (λ st part. Does blobs st Fire part) (InDrainOrder blobs) a b p (λ st es h goes turns d. fire_in_order blobs (length a.notes) st es turns d)
+pub fire_ran_order : (blobs : List (List ℕ)) (a b : RunState) → IsPlayedInLine blobs (λ st part. Does blobs st Fire part) a b → IsPlayedInLine blobs (AreInDrainOrder blobs) a b
+fire_ran_order blobs a b p = ran_as blobs (λ st part. Does blobs st Fire part) (AreInDrainOrder blobs) a b p (λ st es h goes turns d. fire_in_order blobs (length a.notes) st es turns d)
 
-begins_order : (blobs : List (List ℕ)) (count : ℕ) (st : State) (es : List Entry) → InTurns count None es → Begins blobs st Fire es → InDrainOrder blobs st es
+begins_order : (blobs : List (List ℕ)) (count : ℕ) (st : State) (es : List Entry) → AreInTurn count None es → Begins blobs st Fire es → AreInDrainOrder blobs st es
 begins_order blobs count st es turns (inl e) = rw e tt
 begins_order blobs count st es turns (inr d) = fire_in_order blobs count st es turns d
 
-pub fire_stop_order : (blobs : List (List ℕ)) (stop : Stop) (a b : Stage) → RanUpTo blobs (λ st part. Begins blobs st Fire part) stop a b → RanUpTo blobs (InDrainOrder blobs) stop a b
-fire_stop_order blobs stop a b p = stop_as blobs (λ st part. Begins blobs st Fire part) (InDrainOrder blobs) stop a b p (λ st es h goes turns d. begins_order blobs (length a.notes) st es turns d)
+pub fire_stop_order : (blobs : List (List ℕ)) (stop : Stop) (a b : RunState) → IsPlayedInLineUpTo blobs (λ st part. Begins blobs st Fire part) stop a b → IsPlayedInLineUpTo blobs (AreInDrainOrder blobs) stop a b
+fire_stop_order blobs stop a b p = stop_as blobs (λ st part. Begins blobs st Fire part) (AreInDrainOrder blobs) stop a b p (λ st es h goes turns d. begins_order blobs (length a.notes) st es turns d)
 
 -- ---- one part after another
 
-pub order_joins : (blobs : List (List ℕ)) → Joins blobs (InDrainOrder blobs) (InDrainOrder blobs) (InDrainOrder blobs)
+pub order_joins : (blobs : List (List ℕ)) → Joins blobs (AreInDrainOrder blobs) (AreInDrainOrder blobs) (AreInDrainOrder blobs)
 order_joins blobs = λ st xs ys p q. order_then blobs st xs ys p q
 
-pub order_then_ran : (blobs : List (List ℕ)) (a b c : Stage) → Ran blobs (InDrainOrder blobs) a b → Ran blobs (InDrainOrder blobs) b c → Ran blobs (InDrainOrder blobs) a c
-order_then_ran blobs a b c p q = ran_then blobs (InDrainOrder blobs) (InDrainOrder blobs) (InDrainOrder blobs) a b c (order_joins blobs) p q
+pub order_then_ran : (blobs : List (List ℕ)) (a b c : RunState) → IsPlayedInLine blobs (AreInDrainOrder blobs) a b → IsPlayedInLine blobs (AreInDrainOrder blobs) b c → IsPlayedInLine blobs (AreInDrainOrder blobs) a c
+order_then_ran blobs a b c p q = ran_then blobs (AreInDrainOrder blobs) (AreInDrainOrder blobs) (AreInDrainOrder blobs) a b c (order_joins blobs) p q
 
-pub order_then_stop : (blobs : List (List ℕ)) (stop : Stop) (a b c : Stage) → Ran blobs (InDrainOrder blobs) a b → RanUpTo blobs (InDrainOrder blobs) stop b c → RanUpTo blobs (InDrainOrder blobs) stop a c
-order_then_stop blobs stop a b c p q = ran_stop blobs (InDrainOrder blobs) (InDrainOrder blobs) (InDrainOrder blobs) stop a b c (order_joins blobs) p q
+pub order_then_stop : (blobs : List (List ℕ)) (stop : Stop) (a b c : RunState) → IsPlayedInLine blobs (AreInDrainOrder blobs) a b → IsPlayedInLineUpTo blobs (AreInDrainOrder blobs) stop b c → IsPlayedInLineUpTo blobs (AreInDrainOrder blobs) stop a c
+order_then_stop blobs stop a b c p q = ran_stop blobs (AreInDrainOrder blobs) (AreInDrainOrder blobs) (AreInDrainOrder blobs) stop a b c (order_joins blobs) p q
 
-pub order_none : (blobs : List (List ℕ)) (a : Stage) → Ran blobs (InDrainOrder blobs) a a
-order_none blobs a = ran_none blobs (InDrainOrder blobs) a (λ st h. tt)
+pub order_none : (blobs : List (List ℕ)) (a : RunState) → IsPlayedInLine blobs (AreInDrainOrder blobs) a a
+order_none blobs a = ran_none blobs (AreInDrainOrder blobs) a (λ st h. tt)
 
 -- the whole, where nothing is left
-pub drain_of : (blobs : List (List ℕ)) (a b : Stage) → Ran blobs (InDrainOrder blobs) a b → ((st : State) → Stands b.run.engine st → IsAtRest st)
-    → Ran blobs (λ st part. Does blobs st Drain part) a b
-drain_of blobs a b p rest = ran_as blobs (InDrainOrder blobs) (λ st part. Does blobs st Drain part) a b p
+pub drain_of : (blobs : List (List ℕ)) (a b : RunState) → IsPlayedInLine blobs (AreInDrainOrder blobs) a b → ((st : State) → Stands b.run.engine st → IsAtRest st)
+    → IsPlayedInLine blobs (λ st part. Does blobs st Drain part) a b
+drain_of blobs a b p rest = ran_as blobs (AreInDrainOrder blobs) (λ st part. Does blobs st Drain part) a b p
     (λ st es h goes turns d. record { order = d; end = rest (after_entries blobs st es) (goes.stands st h) })
 
 -- ---- a step of work, and a turn
 
-pub work_ran : (blobs : List (List ℕ)) (does : Doing) (k : ℕ) (a b : RunView) (t : Option (List ℕ)) (n : List (List Note)) → ((st : State) → Stands a.engine st → does st (Work k ∷ []))
-    → Stepped blobs (Work k ∷ []) a b → Ran blobs does (stage a t n) (stage b t n)
+pub work_ran : (blobs : List (List ℕ)) (does : EntryRelation) (k : ℕ) (a b : RunView) (t : Option (List ℕ)) (n : List (List Note)) → ((st : State) → Stands a.engine st → does st (Work k ∷ []))
+    → IsOwnStep blobs (Work k ∷ []) a b → IsPlayedInLine blobs does (run_at a t n) (run_at b t n)
 work_ran blobs does k a b t n holds p = record {
   played = record {
     entries = Work k ∷ [];
@@ -88,8 +88,8 @@ work_ran blobs does k a b t n holds p = record {
   left = omega (arith, p.left);
 }
 
-pub turn_ran : (blobs : List (List ℕ)) (does : Doing) (a b : RunView) (t : Option (List ℕ)) (n : List (List Note)) → ((st : State) → Stands a.engine st → does st (Element ∷ []))
-    → Stepped blobs (Element ∷ []) a b → Ran blobs does (stage a t n) (stage b t n)
+pub turn_ran : (blobs : List (List ℕ)) (does : EntryRelation) (a b : RunView) (t : Option (List ℕ)) (n : List (List Note)) → ((st : State) → Stands a.engine st → does st (Element ∷ []))
+    → IsOwnStep blobs (Element ∷ []) a b → IsPlayedInLine blobs does (run_at a t n) (run_at b t n)
 turn_ran blobs does a b t n holds p = record {
   played = record {
     entries = Element ∷ [];
@@ -103,26 +103,26 @@ turn_ran blobs does a b t n holds p = record {
 
 -- the buffer that runs works
 pub did_work : (blobs : List (List ℕ)) (k : ℕ) (worked : Bool) (a b : RunView) → IsStanding a.engine → ((st : State) → Stands a.engine st → running_in st ≡ Some k)
-    → SteppedIf blobs (work_step k) a b worked → worked ≡ true
+    → IsOwnStepIf blobs (work_step k) a b worked → worked ≡ true
 did_work blobs k true a b s runs p = refl
 did_work blobs k false a b s runs p = absurd (running_works s.state k (runs s.state s.stands) (p.1 s.state s.stands))
 
 pub working_ran : (blobs : List (List ℕ)) (k : ℕ) (worked : Bool) (a b : RunView) (t : Option (List ℕ)) (n : List (List Note)) → IsStanding a.engine
-    → ((st : State) → Stands a.engine st → NoEvent st) → ((st : State) → Stands a.engine st → running_in st ≡ Some k)
-    → SteppedIf blobs (work_step k) a b worked → Ran blobs (InDrainOrder blobs) (stage a t n) (stage b t n)
-working_ran blobs k true a b t n s empty runs p = work_ran blobs (InDrainOrder blobs) k a b t n (λ st h. ((empty st h, runs st h), tt)) p
+    → ((st : State) → Stands a.engine st → HasNoEvent st) → ((st : State) → Stands a.engine st → running_in st ≡ Some k)
+    → IsOwnStepIf blobs (work_step k) a b worked → IsPlayedInLine blobs (AreInDrainOrder blobs) (run_at a t n) (run_at b t n)
+working_ran blobs k true a b t n s empty runs p = work_ran blobs (AreInDrainOrder blobs) k a b t n (λ st h. ((empty st h, runs st h), tt)) p
 working_ran blobs k false a b t n s empty runs p = absurd (running_works s.state k (runs s.state s.stands) (p.1 s.state s.stands))
 
 -- the element takes the turn that is due
 pub did_turn : (blobs : List (List ℕ)) (turned : Bool) (a b : RunView) → IsStanding a.engine → ((st : State) → Stands a.engine st → due_in st ≡ true)
-    → SteppedIf blobs element_step a b turned → turned ≡ true
+    → IsOwnStepIf blobs element_step a b turned → turned ≡ true
 did_turn blobs true a b s due p = refl
 did_turn blobs false a b s due p = absurd (due_turns s.state (due s.state s.stands) (p.1 s.state s.stands))
 
 pub turning_ran : (blobs : List (List ℕ)) (turned : Bool) (a b : RunView) (t : Option (List ℕ)) (n : List (List Note)) → IsStanding a.engine
     → ((st : State) → Stands a.engine st → IsQuiet st) → ((st : State) → Stands a.engine st → due_in st ≡ true)
-    → SteppedIf blobs element_step a b turned → Ran blobs (InDrainOrder blobs) (stage a t n) (stage b t n)
-turning_ran blobs true a b t n s quiet due p = turn_ran blobs (InDrainOrder blobs) a b t n (λ st h. ((quiet st h, due st h), tt)) p
+    → IsOwnStepIf blobs element_step a b turned → IsPlayedInLine blobs (AreInDrainOrder blobs) (run_at a t n) (run_at b t n)
+turning_ran blobs true a b t n s quiet due p = turn_ran blobs (AreInDrainOrder blobs) a b t n (λ st h. ((quiet st h, due st h), tt)) p
 turning_ran blobs false a b t n s quiet due p = absurd (due_turns s.state (due s.state s.stands) (p.1 s.state s.stands))
 
 -- ---- what nobody hears
@@ -151,7 +151,7 @@ first_event : (st : State) (first : Option Event) (event : Event) → (fire_mean
 first_event st None event h = absurd h
 first_event st (Some x) event h = ap (λ (y : Event). Some y) (sym h)
 
-pub drains_event : (blobs : List (List ℕ)) (a b : RunView) (event : Event) → Stepped blobs (Fired event ∷ []) a b → Drains blobs a b
+pub drains_event : (blobs : List (List ℕ)) (a b : RunView) (event : Event) → IsOwnStep blobs (Fired event ∷ []) a b → Drains blobs a b
 drains_event blobs a b event p = record {
   entries = Fired event ∷ [];
   stepped = p;
@@ -160,14 +160,14 @@ drains_event blobs a b event p = record {
 }
 
 pub drains_work : (blobs : List (List ℕ)) (k : ℕ) (worked : Bool) (a b : RunView) → IsStanding a.engine
-    → ((st : State) → Stands a.engine st → NoEvent st) → ((st : State) → Stands a.engine st → running_in st ≡ Some k)
-    → SteppedIf blobs (work_step k) a b worked → Drains blobs a b
+    → ((st : State) → Stands a.engine st → HasNoEvent st) → ((st : State) → Stands a.engine st → running_in st ≡ Some k)
+    → IsOwnStepIf blobs (work_step k) a b worked → Drains blobs a b
 drains_work blobs k true a b s empty runs p = record { entries = Work k ∷ []; stepped = p; order = λ st h. ((empty st h, runs st h), tt); silent = refl }
 drains_work blobs k false a b s empty runs p = absurd (running_works s.state k (runs s.state s.stands) (p.1 s.state s.stands))
 
 pub drains_turn : (blobs : List (List ℕ)) (turned : Bool) (a b : RunView) → IsStanding a.engine
     → ((st : State) → Stands a.engine st → IsQuiet st) → ((st : State) → Stands a.engine st → due_in st ≡ true)
-    → SteppedIf blobs element_step a b turned → Drains blobs a b
+    → IsOwnStepIf blobs element_step a b turned → Drains blobs a b
 drains_turn blobs true a b s quiet due p = record { entries = Element ∷ []; stepped = p; order = λ st h. ((quiet st h, due st h), tt); silent = refl }
 drains_turn blobs false a b s quiet due p = absurd (due_turns s.state (due s.state s.stands) (p.1 s.state s.stands))
 
@@ -175,10 +175,10 @@ pub calm_then : (a b c : Kept) → IsCalm a b → IsCalm b c → IsCalm a c
 calm_then a b c p q = record { buffers = q.buffers ∙ p.buffers; turns = q.turns ∙ p.turns }
 
 -- a turn that was taken
-pub turn_did : (a b : Kept) (st : State) → Stands a st → IsWork Did a b (after_element_turn st) → b.buffers ≡ a.buffers → IsTurnTaken a b
+pub turn_did : (a b : Kept) (st : State) → Stands a st → IsWork Did a b (after_element_turn st) → b.buffers ≡ a.buffers → HasFewerTurns a b
 turn_did a b st s w same = by_result (after_element_turn st) refl w
   where
-    by_result : (r : Option State) → after_element_turn st ≡ r → IsWork Did a b r → IsTurnTaken a b
+    by_result : (r : Option State) → after_element_turn st ≡ r → IsWork Did a b r → HasFewerTurns a b
     by_result None e w = absurd w
     by_result (Some new) e w = turn_taken a b st new s e w same
 

@@ -21,21 +21,21 @@ use Rattle.mse_engine.specs.State.{State}
 use Rattle.mse_engine.specs.Run.{entry_meaning}
 use Rattle.mse_engine.specs.Standing.{Kept, Stands}
 use Rattle.mse_engine.specs.Work.{fire_result, without_first}
-use Rattle.mse_engine.specs.Goes.{Goes}
-use Rattle.mse_engine.proofs.Goes.{goes_then}
+use Rattle.mse_engine.specs.Transitions.{IsTransition}
+use Rattle.mse_engine.proofs.Transitions.{goes_then}
 use Rattle.call_script.specs.declared.script.StepLine.TheVariants.{Fire}
 use Rattle.script_run.specs.declared.stop.Halt.{Halt}
 use Rattle.script_run.specs.declared.stop.Halt.TheVariants as halt
 use Rattle.script_run.specs.declared.stop.Stop.TheVariants.{Halted}
-use Rattle.script_run.specs.Doings.{InDrainOrder, NoEvent}
+use Rattle.script_run.specs.DrainSteps.{AreInDrainOrder, HasNoEvent}
 use Rattle.script_run.specs.Lines.{Begins, Does, fired_of, own_of}
-use Rattle.script_run.specs.Courses.{Doing}
-use Rattle.script_run.specs.Ran.{CutDispatch, Grew, HeardTo, IsOverLimit, Ran, RanUpTo, Stepped, StoppedBy, stop_of}
-use Rattle.script_run.specs.Stage.{stage}
-use Rattle.script_run.specs.Story.{HeardAll, story, until_fired}
+use Rattle.script_run.specs.RunParts.{EntryRelation}
+use Rattle.script_run.specs.Plays.{IsDispatchCut, HasGrown, IsHeardUpTo, IsOverLimit, IsPlayedInLine, IsPlayedInLineUpTo, IsOwnStep, IsStoppedBy, stop_of}
+use Rattle.script_run.specs.RunStates.{run_at}
+use Rattle.script_run.specs.NoteHistory.{IsAllHeard, note_history, until_fired}
 use Rattle.script_run.specs.Text.{lines_of}
-use Rattle.script_run.specs.Turns.{InTurns, IsSpent, calls_in}
-use Rattle.script_run.specs.Wrote.{Wrote, WroteFront}
+use Rattle.script_run.specs.Turns.{AreInTurn, IsSpent, calls_in}
+use Rattle.script_run.specs.Writes.{IsWritten, IsFrontWritten}
 use Rattle.script_run.proofs.Stepping.{fired_one}
 use Rattle.script_run.proofs.Telling.{heard_none}
 use Rattle.script_run.proofs.Writing.{front_none}
@@ -60,7 +60,7 @@ calls_until low high (Fired e ∷ es) h = absurd h
 calls_until low high (Work k ∷ es) h = absurd h
 calls_until low high (Element ∷ es) h = absurd h
 
-calls_story : (low high : ℕ) (es : List Entry) (w : ℕ) → CallsInTurn low high es → story w es ≡ []
+calls_story : (low high : ℕ) (es : List Entry) (w : ℕ) → CallsInTurn low high es → note_history w es ≡ []
 calls_story low high [] w h = refl
 calls_story low high (Listener v c a ∷ es) w h = calls_story v high es w h.2
 calls_story low high (Step n ∷ es) w h = absurd h
@@ -97,7 +97,7 @@ count_here v low c a es e = omega (arith, count_more low (Listener v c a) es, ca
 
 -- their turns, of which each has at most 1000
 turns_of_calls : (count made low : ℕ) (es : List Entry) → CallsInTurn low count es → made + call_count low es ≤ 1000 → ((w : ℕ) → call_count w es ≤ 1000)
-    → InTurns count (Some (record { listener = low; made = made })) es
+    → AreInTurn count (Some (record { listener = low; made = made })) es
 turns_of_calls count made low [] h few each = tt
 turns_of_calls count made low (Listener v c a ∷ es) h few each =
     let tail : (w : ℕ) → call_count w es ≤ 1000 = λ w. omega (arith, count_tail w (Listener v c a) es, each w) in
@@ -122,15 +122,15 @@ turns_of_calls count made low (Element ∷ es) h few each = absurd h
 fired_grew : (event : Event) (j0 j1 j2 es : List Entry) → j1 ≡ j0 ++ Fired event ∷ [] → j2 ≡ j1 ++ es → j2 ≡ j0 ++ Fired event ∷ es
 fired_grew event j0 j1 j2 es p q = q ∙ ap (λ (x : List Entry). x ++ es) p ∙ append_assoc j0 (Fired event ∷ []) es
 
-fired_does : (blobs : List (List ℕ)) (event : Event) (high : ℕ) (st : State) (a b : Kept) (es : List Entry) → Stands a st → Goes blobs a b (Fired event ∷ [])
+fired_does : (blobs : List (List ℕ)) (event : Event) (high : ℕ) (st : State) (a b : Kept) (es : List Entry) → Stands a st → IsTransition blobs a b (Fired event ∷ [])
     → CallsInTurn 0 high es → own_of (Fired event ∷ es) ≡ fired_of (fire_result st)
 fired_does blobs event high st a b es s goes calls =
     ap (λ (x : List Entry). Fired event ∷ x) (calls_own 0 high es calls) ∙ fired_one (fire_result st) event st (goes.replays st s).0
 
-fired_entries : (blobs : List (List ℕ)) (does : Doing) (event : Event) (a b c : RunView) (n0 n1 : List (List Note)) (result : Result (Unit {0}) DispatchFault)
+fired_entries : (blobs : List (List ℕ)) (does : EntryRelation) (event : Event) (a b c : RunView) (n0 n1 : List (List Note)) (result : Result (Unit {0}) DispatchFault)
     → ((st : State) (part : List Entry) → own_of part ≡ fired_of (fire_result st) → does st part)
-    → Stepped blobs (Fired event ∷ []) a b → (d : IsDispatch blobs event (dispatch_view b n0) (dispatch_view c n1) result)
-    → Grew blobs does a c (Fired event ∷ d.entries)
+    → IsOwnStep blobs (Fired event ∷ []) a b → (d : IsDispatch blobs event (dispatch_view b n0) (dispatch_view c n1) result)
+    → HasGrown blobs does a c (Fired event ∷ d.entries)
 fired_entries blobs does event a b c n0 n1 result is step d = record {
   grew = fired_grew event a.entries b.entries c.entries d.entries step.grew d.calls.journal;
   goes = goes_then blobs a.engine b.engine c.engine (Fired event ∷ []) d.entries step.goes d.calls.engine;
@@ -138,7 +138,7 @@ fired_entries blobs does event a b c n0 n1 result is step d = record {
 }
 
 fired_left : (blobs : List (List ℕ)) (event : Event) (a b c : RunView) (n0 n1 : List (List Note)) (result : Result (Unit {0}) DispatchFault)
-    → Stepped blobs (Fired event ∷ []) a b → (d : IsDispatch blobs event (dispatch_view b n0) (dispatch_view c n1) result)
+    → IsOwnStep blobs (Fired event ∷ []) a b → (d : IsDispatch blobs event (dispatch_view b n0) (dispatch_view c n1) result)
     → a.left ≡ c.left + calls_in (Fired event ∷ d.entries)
 fired_left blobs event a b c n0 n1 result step d =
     let number : calls_in d.entries ≡ length d.entries = calls_number 0 (length n0) d.entries d.in_turn in
@@ -146,7 +146,7 @@ fired_left blobs event a b c n0 n1 result step d =
     omega (arith, number, step.left, made)
 
 fired_turns : (blobs : List (List ℕ)) (event : Event) (b c : RunView) (n0 n1 : List (List Note)) (result : Result (Unit {0}) DispatchFault)
-    → (d : IsDispatch blobs event (dispatch_view b n0) (dispatch_view c n1) result) → InTurns (length n0) None (Fired event ∷ d.entries)
+    → (d : IsDispatch blobs event (dispatch_view b n0) (dispatch_view c n1) result) → AreInTurn (length n0) None (Fired event ∷ d.entries)
 fired_turns blobs event b c n0 n1 result d = turns_of_calls (length n0) 0 0 d.entries d.in_turn (omega (arith, d.few 0)) d.few
 
 fired_lines : (event : Event) (j0 j1 j2 es : List Entry) → j1 ≡ j0 ++ Fired event ∷ [] → j2 ≡ j1 ++ es → drop (length j0) j2 ≡ Fired event ∷ es
@@ -155,7 +155,7 @@ fired_lines event j0 j1 j2 es p q = rw (fired_grew event j0 j1 j2 es p q) (drop-
 -- each listener was served, and heard
 heard_at : (blobs : List (List ℕ)) (event : Event) (b c : RunView) (n0 n1 : List (List Note))
     → (d : IsDispatch blobs event (dispatch_view b n0) (dispatch_view c n1) (Ok tt)) → length n1 ≡ length n0
-    → HeardAll (Fired event ∷ d.entries) n0 n1
+    → IsAllHeard (Fired event ∷ d.entries) n0 n1
 heard_at blobs event b c n0 n1 d same =
     let until : until_fired d.entries ≡ d.entries = calls_until 0 (length n0) d.entries d.in_turn in
     record {
@@ -165,8 +165,8 @@ heard_at blobs event b c n0 n1 d same =
     }
 
 pub fired_ran : (blobs : List (List ℕ)) (event : Event) (a b c : RunView) (t0 t1 : Option (List ℕ)) (n0 n1 : List (List Note))
-    → Stepped blobs (Fired event ∷ []) a b → IsDispatch blobs event (dispatch_view b n0) (dispatch_view c n1) (Ok tt) → length n1 ≡ length n0
-    → Wrote (lines_of (drop (length a.entries) c.entries)) t0 t1 → Ran blobs (λ st part. Does blobs st Fire part) (stage a t0 n0) (stage c t1 n1)
+    → IsOwnStep blobs (Fired event ∷ []) a b → IsDispatch blobs event (dispatch_view b n0) (dispatch_view c n1) (Ok tt) → length n1 ≡ length n0
+    → IsWritten (lines_of (drop (length a.entries) c.entries)) t0 t1 → IsPlayedInLine blobs (λ st part. Does blobs st Fire part) (run_at a t0 n0) (run_at c t1 n1)
 fired_ran blobs event a b c t0 t1 n0 n1 step d same wrote =
     let lines : drop (length a.entries) c.entries ≡ Fired event ∷ d.entries = fired_lines event a.entries b.entries c.entries d.entries step.grew d.calls.journal in
     record {
@@ -183,11 +183,11 @@ fired_ran blobs event a b c t0 t1 n0 n1 step d same wrote =
 -- a dispatch that ended with a fault
 cut_at : (blobs : List (List ℕ)) (event : Event) (b c : RunView) (n0 n1 : List (List Note)) (f : DispatchFault)
     → (d : IsDispatch blobs event (dispatch_view b n0) (dispatch_view c n1) (Err f)) → length n1 ≡ length n0
-    → CutDispatch f (Fired event ∷ d.entries) n0 n1
+    → IsDispatchCut f (Fired event ∷ d.entries) n0 n1
 cut_at blobs event b c n0 n1 f d same = cut_of f event d.entries c.left n0 n1 d.in_turn same (heard_none n0) d.outcome
 
 -- the calls that were left were made
-fired_spent : (blobs : List (List ℕ)) (event : Event) (a b c : RunView) (n0 n1 : List (List Note)) → Stepped blobs (Fired event ∷ []) a b
+fired_spent : (blobs : List (List ℕ)) (event : Event) (a b c : RunView) (n0 n1 : List (List Note)) → IsOwnStep blobs (Fired event ∷ []) a b
     → (d : IsDispatch blobs event (dispatch_view b n0) (dispatch_view c n1) (Err fault.TaskBudget)) → IsSpent a.left (Fired event ∷ d.entries)
 fired_spent blobs event a b c n0 n1 step d =
     let left : a.left ≡ c.left + calls_in (Fired event ∷ d.entries) = fired_left blobs event a b c n0 n1 (Err fault.TaskBudget) step d in
@@ -196,7 +196,7 @@ fired_spent blobs event a b c n0 n1 step d =
 
 -- it was cut by a limit
 fired_over : (blobs : List (List ℕ)) (event : Event) (f : DispatchFault) (a b c : RunView) (n0 n1 : List (List Note)) → ¬ (f ≡ fault.OutOfMemory)
-    → Stepped blobs (Fired event ∷ []) a b → (d : IsDispatch blobs event (dispatch_view b n0) (dispatch_view c n1) (Err f)) → length n1 ≡ length n0
+    → IsOwnStep blobs (Fired event ∷ []) a b → (d : IsDispatch blobs event (dispatch_view b n0) (dispatch_view c n1) (Err f)) → length n1 ≡ length n0
     → IsOverLimit (IsSpent a.left) (stop_of f) (Fired event ∷ d.entries) n0 n1
 fired_over blobs event fault.OutOfMemory a b c n0 n1 not step d same = absurd (not refl)
 fired_over blobs event (fault.CallBudget k) a b c n0 n1 not step d same = cut_at blobs event b c n0 n1 (fault.CallBudget k) d same
@@ -204,9 +204,9 @@ fired_over blobs event fault.TaskBudget a b c n0 n1 not step d same =
     (fired_spent blobs event a b c n0 n1 step d, cut_at blobs event b c n0 n1 fault.TaskBudget d same)
 
 heard_to : (blobs : List (List ℕ)) (event : Event) (h : Halt) (a b c : RunView) (n0 n1 : List (List Note)) (result : Result (Unit {0}) DispatchFault)
-    → ¬ (result ≡ Err fault.OutOfMemory) → Stepped blobs (Fired event ∷ []) a b
+    → ¬ (result ≡ Err fault.OutOfMemory) → IsOwnStep blobs (Fired event ∷ []) a b
     → (d : IsDispatch blobs event (dispatch_view b n0) (dispatch_view c n1) result) → length n1 ≡ length n0
-    → HeardTo (IsSpent a.left) h (Fired event ∷ d.entries) n0 n1
+    → IsHeardUpTo (IsSpent a.left) h (Fired event ∷ d.entries) n0 n1
 heard_to blobs event h a b c n0 n1 (Ok u) not step d same = heard_to_all (IsSpent a.left) h (Fired event ∷ d.entries) n0 n1 (heard_at blobs event b c n0 n1 d same)
 heard_to blobs event halt.Memory a b c n0 n1 (Err f) not step d same =
     inr (cut_as_memory f (Fired event ∷ d.entries) n0 n1 (cut_at blobs event b c n0 n1 f d same))
@@ -215,9 +215,9 @@ heard_to blobs event halt.Write a b c n0 n1 (Err f) not step d same =
 
 -- the lines were not all written
 pub fired_half : (blobs : List (List ℕ)) (event : Event) (h : Halt) (a b c : RunView) (t0 t1 : Option (List ℕ)) (n0 n1 : List (List Note)) (result : Result (Unit {0}) DispatchFault)
-    → ¬ (result ≡ Err fault.OutOfMemory) → Stepped blobs (Fired event ∷ []) a b
+    → ¬ (result ≡ Err fault.OutOfMemory) → IsOwnStep blobs (Fired event ∷ []) a b
     → IsDispatch blobs event (dispatch_view b n0) (dispatch_view c n1) result → length n1 ≡ length n0
-    → WroteFront (lines_of (drop (length a.entries) c.entries)) t0 t1 → RanUpTo blobs (λ st part. Begins blobs st Fire part) (Halted h) (stage a t0 n0) (stage c t1 n1)
+    → IsFrontWritten (lines_of (drop (length a.entries) c.entries)) t0 t1 → IsPlayedInLineUpTo blobs (λ st part. Begins blobs st Fire part) (Halted h) (run_at a t0 n0) (run_at c t1 n1)
 fired_half blobs event h a b c t0 t1 n0 n1 result not step d same wrote =
     let lines : drop (length a.entries) c.entries ≡ Fired event ∷ d.entries = fired_lines event a.entries b.entries c.entries d.entries step.grew d.calls.journal in
     record {
@@ -232,8 +232,8 @@ fired_half blobs event h a b c t0 t1 n0 n1 result not step d same wrote =
 
 -- memory was wanting in the dispatch, and none of its lines was written
 pub fired_short : (blobs : List (List ℕ)) (event : Event) (a b c : RunView) (t : Option (List ℕ)) (n0 n1 : List (List Note))
-    → Stepped blobs (Fired event ∷ []) a b → IsDispatch blobs event (dispatch_view b n0) (dispatch_view c n1) (Err fault.OutOfMemory)
-    → length n1 ≡ length n0 → RanUpTo blobs (λ st part. Begins blobs st Fire part) (Halted halt.Memory) (stage a t n0) (stage c t n1)
+    → IsOwnStep blobs (Fired event ∷ []) a b → IsDispatch blobs event (dispatch_view b n0) (dispatch_view c n1) (Err fault.OutOfMemory)
+    → length n1 ≡ length n0 → IsPlayedInLineUpTo blobs (λ st part. Begins blobs st Fire part) (Halted halt.Memory) (run_at a t n0) (run_at c t n1)
 fired_short blobs event a b c t n0 n1 step d same = record {
   played = record {
     entries = Fired event ∷ d.entries;
@@ -245,17 +245,17 @@ fired_short blobs event a b c t n0 n1 step d same = record {
 }
 
 stopped_by : (spent : List Entry → Type 0) (f : DispatchFault) (es : List Entry) (a c : RunView) (t0 t1 : Option (List ℕ)) (n0 n1 : List (List Note))
-    → Wrote (lines_of es) t0 t1 → IsOverLimit spent (stop_of f) es n0 n1 → StoppedBy spent (stop_of f) es (stage a t0 n0) (stage c t1 n1)
+    → IsWritten (lines_of es) t0 t1 → IsOverLimit spent (stop_of f) es n0 n1 → IsStoppedBy spent (stop_of f) es (run_at a t0 n0) (run_at c t1 n1)
 stopped_by spent fault.OutOfMemory es a c t0 t1 n0 n1 wrote over = absurd over
 stopped_by spent (fault.CallBudget k) es a c t0 t1 n0 n1 wrote over = (wrote, over)
 stopped_by spent fault.TaskBudget es a c t0 t1 n0 n1 wrote over = (wrote, over)
 
 -- a limit ended the dispatch
 pub fired_stopped : (blobs : List (List ℕ)) (event : Event) (f : DispatchFault) (a b c : RunView) (t0 t1 : Option (List ℕ)) (n0 n1 : List (List Note))
-    → ¬ (f ≡ fault.OutOfMemory) → Stepped blobs (Fired event ∷ []) a b
+    → ¬ (f ≡ fault.OutOfMemory) → IsOwnStep blobs (Fired event ∷ []) a b
     → IsDispatch blobs event (dispatch_view b n0) (dispatch_view c n1) (Err f) → length n1 ≡ length n0
-    → Wrote (lines_of (drop (length a.entries) c.entries)) t0 t1
-    → RanUpTo blobs (λ st part. Begins blobs st Fire part) (stop_of f) (stage a t0 n0) (stage c t1 n1)
+    → IsWritten (lines_of (drop (length a.entries) c.entries)) t0 t1
+    → IsPlayedInLineUpTo blobs (λ st part. Begins blobs st Fire part) (stop_of f) (run_at a t0 n0) (run_at c t1 n1)
 fired_stopped blobs event f a b c t0 t1 n0 n1 not step d same wrote =
     let lines : drop (length a.entries) c.entries ≡ Fired event ∷ d.entries = fired_lines event a.entries b.entries c.entries d.entries step.grew d.calls.journal in
     record {
@@ -280,7 +280,7 @@ fired_alone blobs event b c n0 n1 result d same =
     none (x ∷ es) e = absurd (omega (arith, e))
 
 -- nothing but calls of listeners is in the order of a drain
-silent_order : (blobs : List (List ℕ)) (st : State) (es : List Entry) → own_of es ≡ [] → InDrainOrder blobs st es
+silent_order : (blobs : List (List ℕ)) (st : State) (es : List Entry) → own_of es ≡ [] → AreInDrainOrder blobs st es
 silent_order blobs st [] own = tt
 silent_order blobs st (Listener v c a ∷ es) own = (tt, silent_order blobs (entry_meaning blobs st (Listener v c a)).state es own)
 silent_order blobs st (Step n ∷ es) own = absurd (cc)
@@ -306,7 +306,7 @@ not_fired st None entry es other e = cc
 not_fired st (Some x) entry es other e = other x (cc)
 
 -- it is what a drain does first
-pub fire_in_order : (blobs : List (List ℕ)) (count : ℕ) (st : State) (part : List Entry) → InTurns count None part → own_of part ≡ fired_of (fire_result st) → InDrainOrder blobs st part
+pub fire_in_order : (blobs : List (List ℕ)) (count : ℕ) (st : State) (part : List Entry) → AreInTurn count None part → own_of part ≡ fired_of (fire_result st) → AreInDrainOrder blobs st part
 fire_in_order blobs count st [] turns own = tt
 fire_in_order blobs count st (Fired event ∷ es) turns own = (
   first_fired st (slice_get st.outer.queue 0) event (own_of es) own,
@@ -322,5 +322,5 @@ fire_in_order blobs count st (Element ∷ es) turns own = absurd (not_fired st (
 nothing_by : (st : State) (q : List Event) → q ≡ [] → [] ≡ fired_by st (slice_get q 0)
 nothing_by st q e = rw e refl
 
-pub nothing_fired : (st : State) → NoEvent st → own_of [] ≡ fired_of (fire_result st)
+pub nothing_fired : (st : State) → HasNoEvent st → own_of [] ≡ fired_of (fire_result st)
 nothing_fired st e = nothing_by st st.outer.queue e

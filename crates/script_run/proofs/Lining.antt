@@ -15,22 +15,22 @@ use Rattle.mse_engine.specs.State.{State}
 use Rattle.mse_engine.specs.Standing.{Kept, Stands}
 use Rattle.mse_engine.specs.Work.{after_element_turn, after_work}
 use Rattle.mse_engine.specs.Sound.{IsSoundEngine}
-use Rattle.mse_engine.specs.Goes.{Goes}
-use Rattle.mse_engine.proofs.Goes.{goes_one, goes_then}
+use Rattle.mse_engine.specs.Transitions.{IsTransition}
+use Rattle.mse_engine.proofs.Transitions.{goes_one, goes_then}
 use Rattle.script_run.specs.declared.stop.Halt.{Halt}
 use Rattle.script_run.specs.declared.stop.Stop.{Stop}
 use Rattle.script_run.specs.declared.stop.Stop.TheVariants.{Halted}
-use Rattle.script_run.specs.Follows.{LineBegins, LineIs}
+use Rattle.script_run.specs.Follows.{IsNumberedLineBegun, IsNumberedLineDone}
 use Rattle.script_run.specs.Lines.{Begins, Does, Limits, play_inputs}
 use Rattle.listeners.specs.Views.{RunView}
-use Rattle.script_run.specs.Courses.{Doing, line_course, numbered_course}
-use Rattle.script_run.specs.Doings.{element_step, work_step}
-use Rattle.script_run.specs.Ran.{CallHalted, Called, Played, PlayedUpTo, PlayedBy, Ran, RanBy, RanUpTo, Stepped, SteppedIf, front_of}
-use Rattle.script_run.specs.Stage.{IsStanding, Stage, printed_run, stage}
+use Rattle.script_run.specs.RunParts.{EntryRelation, line_part, numbered_line_part}
+use Rattle.script_run.specs.DrainSteps.{element_step, work_step}
+use Rattle.script_run.specs.Plays.{IsCallHalted, IsCallMade, IsPlayed, IsPlayedUpTo, IsPlayedBy, IsPlayedInLine, IsPlayedInLineBy, IsPlayedInLineUpTo, IsOwnStep, IsOwnStepIf, part_front}
+use Rattle.script_run.specs.RunStates.{IsStanding, RunState, printed_run, run_at}
 use Rattle.script_run.specs.Text.{lines_of}
-use Rattle.script_run.specs.Story.{HeardAll}
-use Rattle.script_run.specs.Turns.{InTurns, IsSpent, SpentInLine, calls_in, steps_in}
-use Rattle.script_run.specs.Wrote.{Wrote, WroteFront}
+use Rattle.script_run.specs.NoteHistory.{IsAllHeard}
+use Rattle.script_run.specs.Turns.{AreInTurn, IsSpent, IsSpentInLine, calls_in, steps_in}
+use Rattle.script_run.specs.Writes.{IsWritten, IsFrontWritten}
 use Rattle.script_run.proofs.Stepping.{done_one}
 use Rattle.script_run.proofs.Telling.{heard_silence}
 use Rattle.script_run.proofs.Writing.{wrote_none}
@@ -40,12 +40,12 @@ use Rattle.script_run.proofs.Draining.{standing_on, turn_ran, work_ran}
 
 -- ---- a call
 
-call_does : (blobs : List (List ℕ)) (call : Call) (answer : Answer) (a b : Kept) (st : State) → Stands a st → Goes blobs a b (entry.Script call answer ∷ [])
+call_does : (blobs : List (List ℕ)) (call : Call) (answer : Answer) (a b : Kept) (st : State) → Stands a st → IsTransition blobs a b (entry.Script call answer ∷ [])
     → Does blobs st (step.Call call) (entry.Script call answer ∷ [])
 call_does blobs call answer a b st h goes = ap (λ (x : Answer). entry.Script call x ∷ []) (goes.replays st h).0
 
-pub called_ran : (blobs : List (List ℕ)) (call : Call) (a b : RunView) (t0 t1 : Option (List ℕ)) (n : List (List Note)) → Called blobs call (printed_run a t0) (printed_run b t1)
-    → Ran blobs (λ st part. Does blobs st (step.Call call) part) (stage a t0 n) (stage b t1 n)
+pub called_ran : (blobs : List (List ℕ)) (call : Call) (a b : RunView) (t0 t1 : Option (List ℕ)) (n : List (List Note)) → IsCallMade blobs call (printed_run a t0) (printed_run b t1)
+    → IsPlayedInLine blobs (λ st part. Does blobs st (step.Call call) part) (run_at a t0 n) (run_at b t1 n)
 called_ran blobs call a b t0 t1 n p =
     let left : b.left ≡ a.left = p.stepped.left in
     record {
@@ -59,12 +59,12 @@ called_ran blobs call a b t0 t1 n p =
       left = omega (arith, left);
     }
 
-pub call_halted : (blobs : List (List ℕ)) (call : Call) (halt : Halt) (a b : RunView) (t0 t1 : Option (List ℕ)) (n : List (List Note)) → CallHalted blobs call (printed_run a t0) (printed_run b t1)
-    → RanUpTo blobs (λ st part. Begins blobs st (step.Call call) part) (Halted halt) (stage a t0 n) (stage b t1 n)
+pub call_halted : (blobs : List (List ℕ)) (call : Call) (halt : Halt) (a b : RunView) (t0 t1 : Option (List ℕ)) (n : List (List Note)) → IsCallHalted blobs call (printed_run a t0) (printed_run b t1)
+    → IsPlayedInLineUpTo blobs (λ st part. Begins blobs st (step.Call call) part) (Halted halt) (run_at a t0 n) (run_at b t1 n)
 call_halted blobs call halt a b t0 t1 n (inl same) =
     let run : b ≡ a = same.0 in
     let text : t1 ≡ t0 = same.1 in
-    rw (run, text) (halt_none blobs (λ st part. Begins blobs st (step.Call call) part) halt (stage a t0 n) (λ st h. inl refl))
+    rw (run, text) (halt_none blobs (λ st part. Begins blobs st (step.Call call) part) halt (run_at a t0 n) (λ st h. inl refl))
 call_halted blobs call halt a b t0 t1 n (inr p) =
     let left : b.left ≡ a.left = p.stepped.left in
     record {
@@ -82,15 +82,15 @@ call_halted blobs call halt a b t0 t1 n (inr p) =
 
 -- ---- a step of work, and a turn
 
-pub work_line_ran : (blobs : List (List ℕ)) (k : ℕ) (worked : Bool) (a b : RunView) (t : Option (List ℕ)) (n : List (List Note)) → SteppedIf blobs (work_step k) a b worked
-    → Ran blobs (λ st part. Does blobs st (step.Work k) part) (stage a t n) (stage b t n)
+pub work_line_ran : (blobs : List (List ℕ)) (k : ℕ) (worked : Bool) (a b : RunView) (t : Option (List ℕ)) (n : List (List Note)) → IsOwnStepIf blobs (work_step k) a b worked
+    → IsPlayedInLine blobs (λ st part. Does blobs st (step.Work k) part) (run_at a t n) (run_at b t n)
 work_line_ran blobs k true a b t n p = work_ran blobs (λ st part. Does blobs st (step.Work k) part) k a b t n (λ st h. done_one (entry.Work k) (after_work k st) st (p.goes.replays st h).0) p
-work_line_ran blobs k false a b t n p = rw p.0 (ran_none blobs (λ st part. Does blobs st (step.Work k) part) (stage a t n) (λ st h. rw (p.1 st h) refl))
+work_line_ran blobs k false a b t n p = rw p.0 (ran_none blobs (λ st part. Does blobs st (step.Work k) part) (run_at a t n) (λ st h. rw (p.1 st h) refl))
 
-pub turn_line_ran : (blobs : List (List ℕ)) (turned : Bool) (a b : RunView) (t : Option (List ℕ)) (n : List (List Note)) → SteppedIf blobs element_step a b turned
-    → Ran blobs (λ st part. Does blobs st step.Element part) (stage a t n) (stage b t n)
+pub turn_line_ran : (blobs : List (List ℕ)) (turned : Bool) (a b : RunView) (t : Option (List ℕ)) (n : List (List Note)) → IsOwnStepIf blobs element_step a b turned
+    → IsPlayedInLine blobs (λ st part. Does blobs st step.Element part) (run_at a t n) (run_at b t n)
 turn_line_ran blobs true a b t n p = turn_ran blobs (λ st part. Does blobs st step.Element part) a b t n (λ st h. done_one entry.Element (after_element_turn st) st (p.goes.replays st h).0) p
-turn_line_ran blobs false a b t n p = rw p.0 (ran_none blobs (λ st part. Does blobs st step.Element part) (stage a t n) (λ st h. rw (p.1 st h) refl))
+turn_line_ran blobs false a b t n p = rw p.0 (ran_none blobs (λ st part. Does blobs st step.Element part) (run_at a t n) (λ st h. rw (p.1 st h) refl))
 
 -- ---- a line with its number
 
@@ -98,24 +98,24 @@ turn_line_ran blobs false a b t n p = rw p.0 (ran_none blobs (λ st part. Does b
 abbrev pub opened : ℕ → ℕ → RunView → RunView
 opened n limit a = record { engine = a.engine; entries = a.entries ++ entry.Step n ∷ []; left = limit }
 
-step_goes : (blobs : List (List ℕ)) (k : Kept) (n : ℕ) → IsSoundEngine k → Goes blobs k k (entry.Step n ∷ [])
+step_goes : (blobs : List (List ℕ)) (k : Kept) (n : ℕ) → IsSoundEngine k → IsTransition blobs k k (entry.Step n ∷ [])
 step_goes blobs k n sound = goes_one blobs k k (entry.Step n) (λ st h. tt) (λ st h. h) sound
 
-step_then : (blobs : List (List ℕ)) (n : ℕ) (a b : Kept) (es : List Entry) → IsSoundEngine a → Goes blobs a b es → Goes blobs a b (entry.Step n ∷ es)
+step_then : (blobs : List (List ℕ)) (n : ℕ) (a b : Kept) (es : List Entry) → IsSoundEngine a → IsTransition blobs a b es → IsTransition blobs a b (entry.Step n ∷ es)
 step_then blobs n a b es sound p = goes_then blobs a a b (entry.Step n ∷ []) es (step_goes blobs a n sound) p
 
 within_limit : (limit left calls : ℕ) → limit ≡ left + calls → calls ≤ limit
 within_limit limit left calls e = omega (arith, e)
 
-heard_step : (n : ℕ) (es : List Entry) (n0 n1 : List (List Note)) → HeardAll es n0 n1 → HeardAll (entry.Step n ∷ es) n0 n1
+heard_step : (n : ℕ) (es : List Entry) (n0 n1 : List (List Note)) → IsAllHeard es n0 n1 → IsAllHeard (entry.Step n ∷ es) n0 n1
 heard_step n es n0 n1 p = record { count = p.count; notes = p.notes }
 
 pub line_played : (blobs : List (List ℕ)) (limits : Limits) (n : ℕ) (line : StepLine) (a b : RunView) (t0 t1 : Option (List ℕ)) (n0 n1 : List (List Note))
-    → IsSoundEngine a.engine → limits.count ≡ length n0 → Ran blobs (λ st part. Does blobs st line part) (stage (opened n limits.limit a) t0 n0) (stage b t1 n1)
-    → Played blobs (LineIs (play_inputs blobs limits) n line) (stage a t0 n0) (stage b t1 n1)
+    → IsSoundEngine a.engine → limits.count ≡ length n0 → IsPlayedInLine blobs (λ st part. Does blobs st line part) (run_at (opened n limits.limit a) t0 n0) (run_at b t1 n1)
+    → IsPlayed blobs (IsNumberedLineDone (play_inputs blobs limits) n line) (run_at a t0 n0) (run_at b t1 n1)
 line_played blobs limits n line a b t0 t1 n0 n1 sound count p =
     let few : calls_in p.played.entries ≤ limits.limit = within_limit limits.limit b.left (calls_in p.played.entries) p.left in
-    let turns : InTurns limits.count None p.played.entries = rw count p.played.turns in
+    let turns : AreInTurn limits.count None p.played.entries = rw count p.played.turns in
     record {
       entries = entry.Step n ∷ p.played.entries;
       grew = record {
@@ -130,12 +130,12 @@ line_played blobs limits n line a b t0 t1 n0 n1 sound count p =
 
 pub line_stopped : (blobs : List (List ℕ)) (limits : Limits) (n : ℕ) (line : StepLine) (stop : Stop) (a b : RunView) (t0 t1 : Option (List ℕ)) (n0 n1 : List (List Note))
     → IsStanding a.engine → IsSoundEngine a.engine → limits.count ≡ length n0
-    → RanUpTo blobs (λ st part. Begins blobs st line part) stop (stage (opened n limits.limit a) t0 n0) (stage b t1 n1)
-    → PlayedUpTo blobs (front_of (LineBegins (play_inputs blobs limits) n line) (SpentInLine limits.limit)) stop (stage a t0 n0) (stage b t1 n1)
+    → IsPlayedInLineUpTo blobs (λ st part. Begins blobs st line part) stop (run_at (opened n limits.limit a) t0 n0) (run_at b t1 n1)
+    → IsPlayedUpTo blobs (part_front (IsNumberedLineBegun (play_inputs blobs limits) n line) (IsSpentInLine limits.limit)) stop (run_at a t0 n0) (run_at b t1 n1)
 line_stopped blobs limits n line stop a b t0 t1 n0 n1 standing sound count p =
     let es : List Entry = p.played.entries in
     let few : calls_in es ≤ limits.limit = within_limit limits.limit b.left (calls_in es) p.left in
-    let turns : InTurns limits.count None es = rw count p.played.turns in
+    let turns : AreInTurn limits.count None es = rw count p.played.turns in
     let one : steps_in es ≡ 0 = no_step_in_line blobs standing.state line es (p.played.grew.holds standing.state standing.stands) in
     record {
       entries = entry.Step n ∷ es;
@@ -145,15 +145,15 @@ line_stopped blobs limits n line stop a b t0 t1 n0 n1 standing sound count p =
         holds = λ st h. inr (es, refl, record { begins = p.played.grew.holds st h; within = record { few = few; turns = turns } });
       };
       turns = p.played.turns;
-      stopped = stopped_then (IsSpent limits.limit) (SpentInLine limits.limit) stop (length n0) (entry.Step n ∷ []) es
-          (stage a t0 n0) (stage (opened n limits.limit a) t0 n0) (stage b t1 n1) (spent_line limits.limit n es one)
+      stopped = stopped_then (IsSpent limits.limit) (IsSpentInLine limits.limit) stop (length n0) (entry.Step n ∷ []) es
+          (run_at a t0 n0) (run_at (opened n limits.limit a) t0 n0) (run_at b t1 n1) (spent_line limits.limit n es one)
           (wrote_none t0) (heard_silence (entry.Step n ∷ []) n0 (λ w. refl)) p.played.turns p.played.stopped;
     }
 
 -- a line that did not begin
 pub line_unopened : (blobs : List (List ℕ)) (limits : Limits) (n : ℕ) (line : StepLine) (halt : Halt) (a : RunView) (t : Option (List ℕ)) (notes : List (List Note))
-    → PlayedUpTo blobs (front_of (LineBegins (play_inputs blobs limits) n line) (SpentInLine limits.limit)) (Halted halt) (stage a t notes) (stage a t notes)
-line_unopened blobs limits n line halt a t notes = played_none blobs (SpentInLine limits.limit) (LineBegins (play_inputs blobs limits) n line) halt (stage a t notes) (λ st h. inl refl)
+    → IsPlayedUpTo blobs (part_front (IsNumberedLineBegun (play_inputs blobs limits) n line) (IsSpentInLine limits.limit)) (Halted halt) (run_at a t notes) (run_at a t notes)
+line_unopened blobs limits n line halt a t notes = played_none blobs (IsSpentInLine limits.limit) (IsNumberedLineBegun (play_inputs blobs limits) n line) halt (run_at a t notes) (λ st h. inl refl)
 
 -- ---- a call as it is made
 
@@ -161,27 +161,27 @@ line_of_call : (from : ℕ) (a b : RunView) (x : Entry) → from ≡ length a.en
 line_of_call from a b x e grew = rw (e, grew, drop-append_seam a.entries (x ∷ [])) (append-nil (line_text x))
 
 pub called_of : (blobs : List (List ℕ)) (call : Call) (from : ℕ) (a b : RunView) (t0 t1 : Option (List ℕ)) → from ≡ length a.entries
-    → ((answer : Answer) × Stepped blobs (entry.Script call answer ∷ []) a b) → Wrote (lines_of (drop from b.entries)) t0 t1 → Called blobs call (printed_run a t0) (printed_run b t1)
+    → ((answer : Answer) × IsOwnStep blobs (entry.Script call answer ∷ []) a b) → IsWritten (lines_of (drop from b.entries)) t0 t1 → IsCallMade blobs call (printed_run a t0) (printed_run b t1)
 called_of blobs call from a b t0 t1 e p wrote = record { answer = p.0; stepped = p.1; wrote = rw (line_of_call from a b (entry.Script call p.0) e p.1.grew) at wrote }
 
 pub called_half_of : (blobs : List (List ℕ)) (call : Call) (from : ℕ) (a b : RunView) (t0 t1 : Option (List ℕ)) → from ≡ length a.entries
-    → ((answer : Answer) × Stepped blobs (entry.Script call answer ∷ []) a b) → WroteFront (lines_of (drop from b.entries)) t0 t1 → CallHalted blobs call (printed_run a t0) (printed_run b t1)
+    → ((answer : Answer) × IsOwnStep blobs (entry.Script call answer ∷ []) a b) → IsFrontWritten (lines_of (drop from b.entries)) t0 t1 → IsCallHalted blobs call (printed_run a t0) (printed_run b t1)
 called_half_of blobs call from a b t0 t1 e p wrote = inr (record { answer = p.0; stepped = p.1; wrote = rw (line_of_call from a b (entry.Script call p.0) e p.1.grew) at wrote })
 
 -- ---- a line with its number, by how it ended
 
 pub line_by : (blobs : List (List ℕ)) (limits : Limits) (n : ℕ) (line : StepLine) (a b : RunView) (t0 t1 : Option (List ℕ)) (n0 n1 : List (List Note)) (result : Result (Unit {0}) Stop)
     → IsStanding a.engine → IsSoundEngine a.engine → limits.count ≡ length n0
-    → RanBy (line_course blobs line) (stage (opened n limits.limit a) t0 n0) (stage b t1 n1) result
-    → PlayedBy (SpentInLine limits.limit) (numbered_course (play_inputs blobs limits) n line) (stage a t0 n0) (stage b t1 n1) result
+    → IsPlayedInLineBy (line_part blobs line) (run_at (opened n limits.limit a) t0 n0) (run_at b t1 n1) result
+    → IsPlayedBy (IsSpentInLine limits.limit) (numbered_line_part (play_inputs blobs limits) n line) (run_at a t0 n0) (run_at b t1 n1) result
 line_by blobs limits n line a b t0 t1 n0 n1 (Ok u) standing sound count p = line_played blobs limits n line a b t0 t1 n0 n1 sound count p
 line_by blobs limits n line a b t0 t1 n0 n1 (Err stop) standing sound count p = line_stopped blobs limits n line stop a b t0 t1 n0 n1 standing sound count p
 
-pub standing_played : (blobs : List (List ℕ)) (does : Doing) (a b : Stage) → IsStanding a.run.engine → Played blobs does a b → IsStanding b.run.engine
+pub standing_played : (blobs : List (List ℕ)) (does : EntryRelation) (a b : RunState) → IsStanding a.run.engine → IsPlayed blobs does a b → IsStanding b.run.engine
 standing_played blobs does a b s p = standing_on blobs a.run.engine b.run.engine p.entries s p.grew.goes
 
 pub halted_call : (blobs : List (List ℕ)) (call : Call) (from : ℕ) (a b : RunView) (t0 t1 : Option (List ℕ)) (result : Result (Unit {0}) Halt) → from ≡ length a.entries
-    → ((answer : Answer) × Stepped blobs (entry.Script call answer ∷ []) a b) → OnErr result (WroteFront (lines_of (drop from b.entries)) t0 t1)
-    → OnErr result (CallHalted blobs call (printed_run a t0) (printed_run b t1))
+    → ((answer : Answer) × IsOwnStep blobs (entry.Script call answer ∷ []) a b) → OnErr result (IsFrontWritten (lines_of (drop from b.entries)) t0 t1)
+    → OnErr result (IsCallHalted blobs call (printed_run a t0) (printed_run b t1))
 halted_call blobs call from a b t0 t1 (Ok u) e p wrote = tt
 halted_call blobs call from a b t0 t1 (Err halt) e p wrote = called_half_of blobs call from a b t0 t1 e p wrote

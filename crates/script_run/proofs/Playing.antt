@@ -9,44 +9,44 @@ use Rattle.listeners.specs.declared.listener.Note.{Note}
 use Rattle.mse_engine.specs.State.{State}
 use Rattle.mse_engine.specs.Standing.{Stands}
 use Rattle.mse_engine.specs.Run.{after_entries}
-use Rattle.mse_engine.specs.Goes.{Goes}
-use Rattle.mse_engine.proofs.Goes.{goes_none, goes_then}
+use Rattle.mse_engine.specs.Transitions.{IsTransition}
+use Rattle.mse_engine.proofs.Transitions.{goes_none, goes_then}
 use Rattle.script_run.specs.declared.stop.Halt.{Halt}
 use Rattle.script_run.specs.declared.stop.Halt.TheVariants as halt
 use Rattle.script_run.specs.declared.stop.Stop.{Stop}
 use Rattle.script_run.specs.declared.stop.Stop.TheVariants.{Halted, CallBudget, TaskBudget}
 use Rattle.listeners.specs.Views.{RunView}
-use Rattle.script_run.specs.Courses.{Doing}
-use Rattle.script_run.specs.Ran.{Grew, Played, PlayedUpTo, Ran, RanUpTo, StoppedBy, HeardTo, front_of}
-use Rattle.script_run.specs.Stage.{Stage}
-use Rattle.script_run.specs.Story.{HeardAll}
+use Rattle.script_run.specs.RunParts.{EntryRelation}
+use Rattle.script_run.specs.Plays.{HasGrown, IsPlayed, IsPlayedUpTo, IsPlayedInLine, IsPlayedInLineUpTo, IsStoppedBy, IsHeardUpTo, part_front}
+use Rattle.script_run.specs.RunStates.{RunState}
+use Rattle.script_run.specs.NoteHistory.{IsAllHeard}
 use Rattle.script_run.specs.Text.{lines_of}
-use Rattle.script_run.specs.Turns.{InTurns, IsSpent, calls_in}
-use Rattle.script_run.specs.Wrote.{Wrote, WroteFront}
+use Rattle.script_run.specs.Turns.{AreInTurn, IsSpent, calls_in}
+use Rattle.script_run.specs.Writes.{IsWritten, IsFrontWritten}
 use Rattle.script_run.proofs.Writing.{wrote_none, wrote_more, front_more, front_none}
 use Rattle.script_run.proofs.Turning.{turns_then, calls_in-append}
 use Rattle.script_run.proofs.Telling.{heard_none, heard_then, cut_then}
 use Rattle.script_run.proofs.Cutting.{heard_to_all, over_then}
 
--- one doing after another is a third
-abbrev pub Joins : List (List ℕ) → Doing → Doing → Doing → Type 0
+-- one part after another is a third
+abbrev pub Joins : List (List ℕ) → EntryRelation → EntryRelation → EntryRelation → Type 0
 Joins blobs one two both = (st : State) (xs ys : List Entry) → one st xs → two (after_entries blobs st xs) ys → both st (xs ++ ys)
 
-grew_then : (blobs : List (List ℕ)) (one two both : Doing) (a b c : RunView) (xs ys : List Entry) → Joins blobs one two both
-    → Grew blobs one a b xs → Grew blobs two b c ys → Grew blobs both a c (xs ++ ys)
+grew_then : (blobs : List (List ℕ)) (one two both : EntryRelation) (a b c : RunView) (xs ys : List Entry) → Joins blobs one two both
+    → HasGrown blobs one a b xs → HasGrown blobs two b c ys → HasGrown blobs both a c (xs ++ ys)
 grew_then blobs one two both a b c xs ys joins p q = record {
   grew = q.grew ∙ ap (λ (x : List Entry). x ++ ys) p.grew ∙ append_assoc a.entries xs ys;
   goes = goes_then blobs a.engine b.engine c.engine xs ys p.goes q.goes;
   holds = λ st h. joins st xs ys (p.holds st h) (q.holds (after_entries blobs st xs) (p.goes.stands st h));
 }
 
-lines_then : (xs ys : List Entry) (t0 t1 t2 : Option (List ℕ)) → Wrote (lines_of xs) t0 t1 → Wrote (lines_of ys) t1 t2 → Wrote (lines_of (xs ++ ys)) t0 t2
+lines_then : (xs ys : List Entry) (t0 t1 t2 : Option (List ℕ)) → IsWritten (lines_of xs) t0 t1 → IsWritten (lines_of ys) t1 t2 → IsWritten (lines_of (xs ++ ys)) t0 t2
 lines_then xs ys t0 t1 t2 p q = rw (flat_map-append line_text xs ys) (wrote_more (lines_of xs) (lines_of ys) t0 t1 t2 p q)
 
-lines_then_front : (xs ys : List Entry) (t0 t1 t2 : Option (List ℕ)) → Wrote (lines_of xs) t0 t1 → WroteFront (lines_of ys) t1 t2 → WroteFront (lines_of (xs ++ ys)) t0 t2
+lines_then_front : (xs ys : List Entry) (t0 t1 t2 : Option (List ℕ)) → IsWritten (lines_of xs) t0 t1 → IsFrontWritten (lines_of ys) t1 t2 → IsFrontWritten (lines_of (xs ++ ys)) t0 t2
 lines_then_front xs ys t0 t1 t2 p q = rw (flat_map-append line_text xs ys) (front_more (lines_of xs) (lines_of ys) t0 t1 t2 p q)
 
-pub played_then : (blobs : List (List ℕ)) (one two both : Doing) (a b c : Stage) → Joins blobs one two both → Played blobs one a b → Played blobs two b c → Played blobs both a c
+pub played_then : (blobs : List (List ℕ)) (one two both : EntryRelation) (a b c : RunState) → Joins blobs one two both → IsPlayed blobs one a b → IsPlayed blobs two b c → IsPlayed blobs both a c
 played_then blobs one two both a b c joins p q = record {
   entries = p.entries ++ q.entries;
   grew = grew_then blobs one two both a.run b.run c.run p.entries q.entries joins p.grew q.grew;
@@ -56,16 +56,16 @@ played_then blobs one two both a b c joins p q = record {
 }
 
 heard_to_then : (spent whole : List Entry → Type 0) (h : Halt) (count : ℕ) (xs ys : List Entry) (n0 n1 n2 : List (List Note)) → (spent ys → whole (xs ++ ys))
-    → HeardAll xs n0 n1 → InTurns count None ys → HeardTo spent h ys n1 n2 → HeardTo whole h (xs ++ ys) n0 n2
+    → IsAllHeard xs n0 n1 → AreInTurn count None ys → IsHeardUpTo spent h ys n1 n2 → IsHeardUpTo whole h (xs ++ ys) n0 n2
 heard_to_then spent whole halt.Memory count xs ys n0 n1 n2 more p turns (inl q) = inl (heard_then count xs ys n0 n1 n2 p q turns)
 heard_to_then spent whole halt.Memory count xs ys n0 n1 n2 more p turns (inr q) = inr (cut_then _ count xs ys n0 n1 n2 p q turns)
 heard_to_then spent whole halt.Write count xs ys n0 n1 n2 more p turns (inl q) = inl (heard_then count xs ys n0 n1 n2 p q turns)
 heard_to_then spent whole halt.Write count xs ys n0 n1 n2 more p turns (inr q) = inr (q.0, over_then spent whole q.0 count xs ys n0 n1 n2 more p turns q.1)
 
--- a doing stopped behind another; what is spent in the second is spent in both, by `more`
-pub stopped_then : (spent whole : List Entry → Type 0) (stop : Stop) (count : ℕ) (xs ys : List Entry) (a b c : Stage) → (spent ys → whole (xs ++ ys))
-    → Wrote (lines_of xs) a.written b.written → HeardAll xs a.notes b.notes → InTurns count None ys → StoppedBy spent stop ys b c
-    → StoppedBy whole stop (xs ++ ys) a c
+-- a part stopped behind another; what is spent in the second is spent in both, by `more`
+pub stopped_then : (spent whole : List Entry → Type 0) (stop : Stop) (count : ℕ) (xs ys : List Entry) (a b c : RunState) → (spent ys → whole (xs ++ ys))
+    → IsWritten (lines_of xs) a.written b.written → IsAllHeard xs a.notes b.notes → AreInTurn count None ys → IsStoppedBy spent stop ys b c
+    → IsStoppedBy whole stop (xs ++ ys) a c
 stopped_then spent whole (Halted h) count xs ys a b c more w p turns s = (
   lines_then_front xs ys a.written b.written c.written w s.0,
   heard_to_then spent whole h count xs ys a.notes b.notes c.notes more p turns s.1,
@@ -79,8 +79,8 @@ stopped_then spent whole TaskBudget count xs ys a b c more w p turns s = (
   over_then spent whole TaskBudget count xs ys a.notes b.notes c.notes more p turns s.1,
 )
 
-pub played_stop : (blobs : List (List ℕ)) (one two both : Doing) (spent whole : List Entry → Type 0) (stop : Stop) (a b c : Stage) → Joins blobs one two both
-    → (p : Played blobs one a b) → ((ys : List Entry) → spent ys → whole (p.entries ++ ys)) → PlayedUpTo blobs (front_of two spent) stop b c → PlayedUpTo blobs (front_of both whole) stop a c
+pub played_stop : (blobs : List (List ℕ)) (one two both : EntryRelation) (spent whole : List Entry → Type 0) (stop : Stop) (a b c : RunState) → Joins blobs one two both
+    → (p : IsPlayed blobs one a b) → ((ys : List Entry) → spent ys → whole (p.entries ++ ys)) → IsPlayedUpTo blobs (part_front two spent) stop b c → IsPlayedUpTo blobs (part_front both whole) stop a c
 played_stop blobs one two both spent whole stop a b c joins p more q = record {
   entries = p.entries ++ q.entries;
   grew = grew_then blobs one two both a.run b.run c.run p.entries q.entries joins p.grew q.grew;
@@ -95,15 +95,15 @@ left_then xs ys l0 l1 l2 p q = rw (calls_in-append xs ys) (omega (arith, p, q))
 spent_then : (xs ys : List Entry) (l0 l1 : ℕ) → l0 ≡ l1 + calls_in xs → IsSpent l1 ys → IsSpent l0 (xs ++ ys)
 spent_then xs ys l0 l1 p e = rw (calls_in-append xs ys) (omega (arith, p, e))
 
-pub ran_then : (blobs : List (List ℕ)) (one two both : Doing) (a b c : Stage) → Joins blobs one two both → Ran blobs one a b → Ran blobs two b c → Ran blobs both a c
+pub ran_then : (blobs : List (List ℕ)) (one two both : EntryRelation) (a b c : RunState) → Joins blobs one two both → IsPlayedInLine blobs one a b → IsPlayedInLine blobs two b c → IsPlayedInLine blobs both a c
 unfolding played_then
 ran_then blobs one two both a b c joins p q = record {
   played = played_then blobs one two both a b c joins p.played q.played;
   left = left_then p.played.entries q.played.entries a.run.left b.run.left c.run.left p.left q.left;
 }
 
-pub ran_stop : (blobs : List (List ℕ)) (one two both : Doing) (stop : Stop) (a b c : Stage) → Joins blobs one two both → Ran blobs one a b
-    → RanUpTo blobs two stop b c → RanUpTo blobs both stop a c
+pub ran_stop : (blobs : List (List ℕ)) (one two both : EntryRelation) (stop : Stop) (a b c : RunState) → Joins blobs one two both → IsPlayedInLine blobs one a b
+    → IsPlayedInLineUpTo blobs two stop b c → IsPlayedInLineUpTo blobs both stop a c
 unfolding played_stop
 ran_stop blobs one two both stop a b c joins p q = record {
   played = played_stop blobs one two both (IsSpent b.run.left) (IsSpent a.run.left) stop a b c joins p.played
@@ -111,11 +111,11 @@ ran_stop blobs one two both stop a b c joins p q = record {
   left = left_then p.played.entries q.played.entries a.run.left b.run.left c.run.left p.left q.left;
 }
 
-grew_none : (blobs : List (List ℕ)) (does : Doing) (a : RunView) → ((st : State) → Stands a.engine st → does st []) → Grew blobs does a a []
+grew_none : (blobs : List (List ℕ)) (does : EntryRelation) (a : RunView) → ((st : State) → Stands a.engine st → does st []) → HasGrown blobs does a a []
 grew_none blobs does a holds = record { grew = sym (append-nil a.entries); goes = goes_none blobs a.engine; holds = holds }
 
 -- nothing was done
-pub ran_none : (blobs : List (List ℕ)) (does : Doing) (a : Stage) → ((st : State) → Stands a.run.engine st → does st []) → Ran blobs does a a
+pub ran_none : (blobs : List (List ℕ)) (does : EntryRelation) (a : RunState) → ((st : State) → Stands a.run.engine st → does st []) → IsPlayedInLine blobs does a a
 ran_none blobs does a holds = record {
   played = record {
     entries = [];
@@ -128,8 +128,8 @@ ran_none blobs does a holds = record {
 }
 
 -- it stopped before anything was done
-pub played_none : (blobs : List (List ℕ)) (spent : List Entry → Type 0) (begins : Doing) (h : Halt) (a : Stage) → ((st : State) → Stands a.run.engine st → begins st [])
-    → PlayedUpTo blobs (front_of begins spent) (Halted h) a a
+pub played_none : (blobs : List (List ℕ)) (spent : List Entry → Type 0) (begins : EntryRelation) (h : Halt) (a : RunState) → ((st : State) → Stands a.run.engine st → begins st [])
+    → IsPlayedUpTo blobs (part_front begins spent) (Halted h) a a
 played_none blobs spent begins h a holds = record {
   entries = [];
   grew = grew_none blobs begins a.run holds;
@@ -137,7 +137,7 @@ played_none blobs spent begins h a holds = record {
   stopped = (front_none a.written [], heard_to_all spent h [] a.notes a.notes (heard_none a.notes));
 }
 
-pub halt_none : (blobs : List (List ℕ)) (begins : Doing) (h : Halt) (a : Stage) → ((st : State) → Stands a.run.engine st → begins st []) → RanUpTo blobs begins (Halted h) a a
+pub halt_none : (blobs : List (List ℕ)) (begins : EntryRelation) (h : Halt) (a : RunState) → ((st : State) → Stands a.run.engine st → begins st []) → IsPlayedInLineUpTo blobs begins (Halted h) a a
 unfolding played_none
 halt_none blobs begins h a holds = record {
   played = played_none blobs (IsSpent a.run.left) begins h a holds;
@@ -145,8 +145,8 @@ halt_none blobs begins h a holds = record {
 }
 
 -- what is done is also something else
-pub ran_as : (blobs : List (List ℕ)) (one two : Doing) (a b : Stage) → Ran blobs one a b
-    → ((st : State) (es : List Entry) → Stands a.run.engine st → Goes blobs a.run.engine b.run.engine es → InTurns (length a.notes) None es → one st es → two st es) → Ran blobs two a b
+pub ran_as : (blobs : List (List ℕ)) (one two : EntryRelation) (a b : RunState) → IsPlayedInLine blobs one a b
+    → ((st : State) (es : List Entry) → Stands a.run.engine st → IsTransition blobs a.run.engine b.run.engine es → AreInTurn (length a.notes) None es → one st es → two st es) → IsPlayedInLine blobs two a b
 ran_as blobs one two a b p weaker = record {
   played = record {
     entries = p.played.entries;
@@ -162,8 +162,8 @@ ran_as blobs one two a b p weaker = record {
   left = p.left;
 }
 
-pub stop_as : (blobs : List (List ℕ)) (one two : Doing) (stop : Stop) (a b : Stage) → RanUpTo blobs one stop a b
-    → ((st : State) (es : List Entry) → Stands a.run.engine st → Goes blobs a.run.engine b.run.engine es → InTurns (length a.notes) None es → one st es → two st es) → RanUpTo blobs two stop a b
+pub stop_as : (blobs : List (List ℕ)) (one two : EntryRelation) (stop : Stop) (a b : RunState) → IsPlayedInLineUpTo blobs one stop a b
+    → ((st : State) (es : List Entry) → Stands a.run.engine st → IsTransition blobs a.run.engine b.run.engine es → AreInTurn (length a.notes) None es → one st es → two st es) → IsPlayedInLineUpTo blobs two stop a b
 stop_as blobs one two stop a b p weaker = record {
   played = record {
     entries = p.played.entries;

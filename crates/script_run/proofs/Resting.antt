@@ -21,7 +21,7 @@ use Rattle.mse_engine.specs.BufferCalls.{reply_moved}
 use Rattle.mse_engine.specs.Replies.{surroundings_in}
 use Rattle.mse_engine.specs.Work.{after_element_turn, after_work, due_in, fire_result, player_in, running_in, scene_in, without_first, work_result}
 use Rattle.mse_engine.specs.Standing.{IsFired, Kept, Stands}
-use Rattle.script_run.specs.Progress.{IsTaken, IsTurnTaken, events_left, one_unless, turns_left, two_if}
+use Rattle.script_run.specs.Progress.{HasFewerEvents, HasFewerTurns, events_left, one_unless, turns_left, two_if}
 
 -- ---- an event
 
@@ -48,7 +48,7 @@ seeking_of k st s = ap (λ o. o.element.seeking) s.outer
 finished_of : (k : Kept) (st : State) → Stands k st → k.element.player.finished ≡ st.outer.element.finished
 finished_of k st s = ap (λ o. o.element.finished) s.outer
 
-pub fired_taken : (a b : Kept) (st : State) (event : Event) → Stands a st → IsFired (Some event) a b (fire_result st) → b.buffers ≡ a.buffers → IsTaken a b
+pub fired_taken : (a b : Kept) (st : State) (event : Event) → Stands a st → IsFired (Some event) a b (fire_result st) → b.buffers ≡ a.buffers → HasFewerEvents a b
 fired_taken a b st event s f same =
     let now : Stands b (without_first st) = fired_state st.outer.queue st a b event f in
     let some : 0 < length st.outer.queue = fired_some st.outer.queue st a b event f in
@@ -119,7 +119,7 @@ turned_finished : (st : State) → (turned st).outer.element.finished ≡ finish
 unfolding turned finished_then
 turned_finished st = refl
 
-pub turn_taken : (a b : Kept) (st new : State) → Stands a st → after_element_turn st ≡ Some new → Stands b new → b.buffers ≡ a.buffers → IsTurnTaken a b
+pub turn_taken : (a b : Kept) (st new : State) → Stands a st → after_element_turn st ≡ Some new → Stands b new → b.buffers ≡ a.buffers → HasFewerTurns a b
 unfolding turns_of
 turn_taken a b st new s e t same =
     let is = turned_is st new (due_in st) refl e in

@@ -12,8 +12,8 @@ use Rattle.mse_engine.specs.Run.{fire_meaning, step_meaning}
 use Rattle.mse_engine.specs.Standing.{IsFired, IsWork, Kept, Stands}
 use Rattle.mse_engine.specs.Work.{after_element_turn, after_work, fire_result, without_first}
 use Rattle.mse_engine.specs.Sound.{IsSoundEngine}
-use Rattle.mse_engine.specs.Goes.{Goes}
-use Rattle.mse_engine.proofs.Goes.{goes_one}
+use Rattle.mse_engine.specs.Transitions.{IsTransition}
+use Rattle.mse_engine.proofs.Transitions.{goes_one}
 use Rattle.script_run.specs.Lines.{done_of, fired_of}
 
 fired_holds : (r : Option (Answered Event State)) (st : State) (event : Event) (a b : Kept) → IsFired (Some event) a b r → (fire_meaning r event st).holds
@@ -26,7 +26,7 @@ fired_stands (Some meant) st event a b h = h.1
 
 -- an event was fired
 pub fired_goes : (blobs : List (List ℕ)) (a b : Kept) (event : Event) → ((st : State) → Stands a st → IsFired (Some event) a b (fire_result st)) → IsSoundEngine b
-    → Goes blobs a b (Fired event ∷ [])
+    → IsTransition blobs a b (Fired event ∷ [])
 fired_goes blobs a b event h sound = goes_one blobs a b (Fired event) (λ st s. fired_holds (fire_result st) st event a b (h st s)) (λ st s. fired_stands (fire_result st) st event a b (h st s)) sound
 
 pub not_fired : (r : Option (Answered Event State)) (a b : Kept) → IsFired None a b r → b ≡ a
@@ -41,10 +41,10 @@ worked_stands : (r : Option State) (st : State) (a b : Kept) → IsWork Did a b 
 worked_stands None st a b h = absurd h
 worked_stands (Some new) st a b h = h
 
-pub worked_goes : (blobs : List (List ℕ)) (a b : Kept) (k : ℕ) → ((st : State) → Stands a st → IsWork Did a b (after_work k st)) → IsSoundEngine b → Goes blobs a b (Work k ∷ [])
+pub worked_goes : (blobs : List (List ℕ)) (a b : Kept) (k : ℕ) → ((st : State) → Stands a st → IsWork Did a b (after_work k st)) → IsSoundEngine b → IsTransition blobs a b (Work k ∷ [])
 worked_goes blobs a b k h sound = goes_one blobs a b (Work k) (λ st s. worked_holds (after_work k st) st a b (h st s)) (λ st s. worked_stands (after_work k st) st a b (h st s)) sound
 
-pub turned_goes : (blobs : List (List ℕ)) (a b : Kept) → ((st : State) → Stands a st → IsWork Did a b (after_element_turn st)) → IsSoundEngine b → Goes blobs a b (Element ∷ [])
+pub turned_goes : (blobs : List (List ℕ)) (a b : Kept) → ((st : State) → Stands a st → IsWork Did a b (after_element_turn st)) → IsSoundEngine b → IsTransition blobs a b (Element ∷ [])
 turned_goes blobs a b h sound = goes_one blobs a b Element (λ st s. worked_holds (after_element_turn st) st a b (h st s)) (λ st s. worked_stands (after_element_turn st) st a b (h st s)) sound
 
 pub idle_same : (r : Option State) (a b : Kept) → IsWork Idle a b r → b ≡ a

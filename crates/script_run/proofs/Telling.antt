@@ -9,13 +9,13 @@ use Rattle.listeners.specs.declared.listener.Note.TheVariants.{Heard, Rested}
 use Rattle.listeners.specs.declared.event_dispatch.DispatchFault.{DispatchFault}
 use Rattle.listeners.specs.Notes.{call_notes, entry_notes, event_notes}
 use Rattle.listeners.specs.Dispatch.{notes_at}
-use Rattle.script_run.specs.Turns.{InTurns}
-use Rattle.script_run.specs.Story.{until_fired, story, HeardAll}
-use Rattle.script_run.specs.Ran.{CutDispatch}
+use Rattle.script_run.specs.Turns.{AreInTurn}
+use Rattle.script_run.specs.NoteHistory.{until_fired, note_history, IsAllHeard}
+use Rattle.script_run.specs.Plays.{IsDispatchCut}
 use Rattle.script_run.proofs.Turning.{turns_front}
 
 -- before the first event no listener calls
-pub fresh_turns : (count : ℕ) (es : List Entry) (w : ℕ) → InTurns count None es → call_notes w (until_fired es) ≡ []
+pub fresh_turns : (count : ℕ) (es : List Entry) (w : ℕ) → AreInTurn count None es → call_notes w (until_fired es) ≡ []
 fresh_turns count [] w h = refl
 fresh_turns count (Fired event ∷ es) w h = refl
 fresh_turns count (Step n ∷ es) w h = fresh_turns count es w h
@@ -34,39 +34,39 @@ until-append (Work k ∷ xs) ys w e = until-append xs ys w e
 until-append (Element ∷ xs) ys w e = until-append xs ys w e
 until-append (Listener v call answer ∷ xs) ys w e = ap (λ (x : List Note). entry_notes w (Listener v call answer) ++ x) (until-append xs ys w e)
 
-story-append : (xs ys : List Entry) (w : ℕ) → call_notes w (until_fired ys) ≡ [] → story w (xs ++ ys) ≡ story w xs ++ story w ys
-story-append [] ys w e = refl
-story-append (Fired event ∷ xs) ys w e =
-    ap (λ (x : List Note). (Heard event ∷ (x ++ Rested ∷ [])) ++ story w (xs ++ ys)) (until-append xs ys w e)
-    ∙ ap (λ (x : List Note). event_notes event w (until_fired xs) ++ x) (story-append xs ys w e)
-    ∙ sym (append_assoc (event_notes event w (until_fired xs)) (story w xs) (story w ys))
-story-append (Step n ∷ xs) ys w e = story-append xs ys w e
-story-append (Script call answer ∷ xs) ys w e = story-append xs ys w e
-story-append (Work k ∷ xs) ys w e = story-append xs ys w e
-story-append (Element ∷ xs) ys w e = story-append xs ys w e
-story-append (Listener v call answer ∷ xs) ys w e = story-append xs ys w e
+note_history-append : (xs ys : List Entry) (w : ℕ) → call_notes w (until_fired ys) ≡ [] → note_history w (xs ++ ys) ≡ note_history w xs ++ note_history w ys
+note_history-append [] ys w e = refl
+note_history-append (Fired event ∷ xs) ys w e =
+    ap (λ (x : List Note). (Heard event ∷ (x ++ Rested ∷ [])) ++ note_history w (xs ++ ys)) (until-append xs ys w e)
+    ∙ ap (λ (x : List Note). event_notes event w (until_fired xs) ++ x) (note_history-append xs ys w e)
+    ∙ sym (append_assoc (event_notes event w (until_fired xs)) (note_history w xs) (note_history w ys))
+note_history-append (Step n ∷ xs) ys w e = note_history-append xs ys w e
+note_history-append (Script call answer ∷ xs) ys w e = note_history-append xs ys w e
+note_history-append (Work k ∷ xs) ys w e = note_history-append xs ys w e
+note_history-append (Element ∷ xs) ys w e = note_history-append xs ys w e
+note_history-append (Listener v call answer ∷ xs) ys w e = note_history-append xs ys w e
 
 -- nothing was told
-pub heard_none : (notes : List (List Note)) → HeardAll [] notes notes
+pub heard_none : (notes : List (List Note)) → IsAllHeard [] notes notes
 heard_none notes = record { count = refl; notes = λ w lt. sym (append-nil (notes_at notes w)) }
 
 -- entries of which nobody hears
-pub heard_silence : (es : List Entry) (notes : List (List Note)) → ((w : ℕ) → story w es ≡ []) → HeardAll es notes notes
+pub heard_silence : (es : List Entry) (notes : List (List Note)) → ((w : ℕ) → note_history w es ≡ []) → IsAllHeard es notes notes
 heard_silence es notes silent = record { count = refl; notes = λ w lt. rw (silent w) (sym (append-nil (notes_at notes w))) }
 
-pub heard_then : (count : ℕ) (xs ys : List Entry) (n0 n1 n2 : List (List Note)) → HeardAll xs n0 n1 → HeardAll ys n1 n2 → InTurns count None ys → HeardAll (xs ++ ys) n0 n2
+pub heard_then : (count : ℕ) (xs ys : List Entry) (n0 n1 n2 : List (List Note)) → IsAllHeard xs n0 n1 → IsAllHeard ys n1 n2 → AreInTurn count None ys → IsAllHeard (xs ++ ys) n0 n2
 heard_then count xs ys n0 n1 n2 p q turns = record {
   count = q.count ∙ p.count;
   notes = λ w lt.
       let one = p.notes w lt in
       let two = q.notes w (omega (arith, lt, p.count)) in
-      two ∙ ap (λ (x : List Note). x ++ story w ys) one ∙ append_assoc (notes_at n0 w) (story w xs) (story w ys)
-      ∙ ap (λ (x : List Note). notes_at n0 w ++ x) (sym (story-append xs ys w (fresh_turns count ys w turns)));
+      two ∙ ap (λ (x : List Note). x ++ note_history w ys) one ∙ append_assoc (notes_at n0 w) (note_history w xs) (note_history w ys)
+      ∙ ap (λ (x : List Note). notes_at n0 w ++ x) (sym (note_history-append xs ys w (fresh_turns count ys w turns)));
 }
 
 -- a dispatch that was cut, behind others
-pub cut_then : (fault : DispatchFault) (count : ℕ) (xs ys : List Entry) (n0 n1 n2 : List (List Note)) → HeardAll xs n0 n1
-    → CutDispatch fault ys n1 n2 → InTurns count None ys → CutDispatch fault (xs ++ ys) n0 n2
+pub cut_then : (fault : DispatchFault) (count : ℕ) (xs ys : List Entry) (n0 n1 n2 : List (List Note)) → IsAllHeard xs n0 n1
+    → IsDispatchCut fault ys n1 n2 → AreInTurn count None ys → IsDispatchCut fault (xs ++ ys) n0 n2
 cut_then fault count xs ys n0 n1 n2 p q turns = record {
   before = xs ++ q.before;
   event = q.event;

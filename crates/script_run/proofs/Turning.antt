@@ -3,10 +3,10 @@ use Rattle.std.proofs.Common.{◌≡◌, ◌+◌, ℕ, List, [], ◌∷◌, ◌+
 use Rattle.std.specs.Prelude.{Option, Some, None}
 use Rattle.mse_calls.specs.declared.entry.Entry.{Entry}
 use Rattle.mse_calls.specs.declared.entry.Entry.TheVariants.{Step, Script, Listener, Fired, Work, Element}
-use Rattle.script_run.specs.Turns.{InTurns, Turn, turn_after, calls_in}
+use Rattle.script_run.specs.Turns.{AreInTurn, ListenerTurn, turn_after, calls_in}
 
 -- what holds without a turn holds with one
-pub turns_any : (count : ℕ) (turn : Option Turn) (es : List Entry) → InTurns count None es → InTurns count turn es
+pub turns_any : (count : ℕ) (turn : Option ListenerTurn) (es : List Entry) → AreInTurn count None es → AreInTurn count turn es
 turns_any count None es h = h
 turns_any count (Some turn) [] h = tt
 turns_any count (Some turn) (Fired event ∷ es) h = h
@@ -16,7 +16,7 @@ turns_any count (Some turn) (Work k ∷ es) h = h
 turns_any count (Some turn) (Element ∷ es) h = h
 turns_any count (Some turn) (Listener w call answer ∷ es) h = absurd h
 
-pub turns_then : (count : ℕ) (turn : Option Turn) (xs ys : List Entry) → InTurns count turn xs → InTurns count None ys → InTurns count turn (xs ++ ys)
+pub turns_then : (count : ℕ) (turn : Option ListenerTurn) (xs ys : List Entry) → AreInTurn count turn xs → AreInTurn count None ys → AreInTurn count turn (xs ++ ys)
 turns_then count turn [] ys p q = turns_any count turn ys q
 turns_then count turn (Fired event ∷ xs) ys p q = turns_then count _ xs ys p q
 turns_then count turn (Step n ∷ xs) ys p q = turns_then count None xs ys p q
@@ -26,7 +26,7 @@ turns_then count turn (Element ∷ xs) ys p q = turns_then count None xs ys p q
 turns_then count None (Listener w call answer ∷ xs) ys p q = absurd p
 turns_then count (Some turn) (Listener w call answer ∷ xs) ys p q = (p.0, p.1, turns_then count (Some (turn_after turn w)) xs ys p.2 q)
 
-pub turns_front : (count : ℕ) (turn : Option Turn) (xs ys : List Entry) → InTurns count turn (xs ++ ys) → InTurns count turn xs
+pub turns_front : (count : ℕ) (turn : Option ListenerTurn) (xs ys : List Entry) → AreInTurn count turn (xs ++ ys) → AreInTurn count turn xs
 turns_front count turn [] ys p = tt
 turns_front count turn (Fired event ∷ xs) ys p = turns_front count _ xs ys p
 turns_front count turn (Step n ∷ xs) ys p = turns_front count None xs ys p

@@ -5,10 +5,10 @@ use Rattle.std.proofs.lemmas.List.{append-nil}
 use Rattle.mse_calls.specs.declared.entry.Entry.{Entry}
 use Rattle.event_text.specs.Lines.{line_text}
 use Rattle.script_run.specs.Text.{lines_of}
-use Rattle.script_run.specs.Wrote.{Wrote, WroteFront}
+use Rattle.script_run.specs.Writes.{IsWritten, IsFrontWritten}
 
 -- one put after another
-pub wrote_more : (a b : List ℕ) (old mid new : Option (List ℕ)) → Wrote a old mid → Wrote b mid new → Wrote (a ++ b) old new
+pub wrote_more : (a b : List ℕ) (old mid new : Option (List ℕ)) → IsWritten a old mid → IsWritten b mid new → IsWritten (a ++ b) old new
 wrote_more a b None mid new u v = tt
 wrote_more a b (Some xs) None new u v = absurd cc
 wrote_more a b (Some xs) (Some ys) new u v =
@@ -16,37 +16,37 @@ wrote_more a b (Some xs) (Some ys) new u v =
     v ∙ ap Some (ap (λ (zs : List ℕ). zs ++ b) first ∙ append_assoc xs a b)
 
 -- a put that was not done after others
-pub front_more : (a b : List ℕ) (old mid new : Option (List ℕ)) → Wrote a old mid → WroteFront b mid new → WroteFront (a ++ b) old new
+pub front_more : (a b : List ℕ) (old mid new : Option (List ℕ)) → IsWritten a old mid → IsFrontWritten b mid new → IsFrontWritten (a ++ b) old new
 front_more a b old mid new u v =
     (a ++ v.0, v.1, ap (λ (zs : List ℕ). a ++ zs) v.2 ∙ sym (append_assoc a v.0 v.1), wrote_more a v.0 old mid new u v.3)
 
 -- and before others
-pub front_first : (a b : List ℕ) (old new : Option (List ℕ)) → WroteFront a old new → WroteFront (a ++ b) old new
+pub front_first : (a b : List ℕ) (old new : Option (List ℕ)) → IsFrontWritten a old new → IsFrontWritten (a ++ b) old new
 front_first a b old new v = (v.0, v.1 ++ b, ap (λ (zs : List ℕ). zs ++ b) v.2 ∙ append_assoc v.0 v.1 b, v.3)
 
 -- one more line was put
 pub line_put : (front text rest line more : List ℕ) (old mid new : Option (List ℕ)) → rest ≡ line ++ more
-    → Wrote front old mid → front ++ rest ≡ text → Wrote line mid new → (x : List ℕ) × Wrote x old new × (x ++ more ≡ text)
+    → IsWritten front old mid → front ++ rest ≡ text → IsWritten line mid new → (x : List ℕ) × IsWritten x old new × (x ++ more ≡ text)
 line_put front text rest line more old mid new parts w all v =
     (front ++ line, wrote_more front line old mid new w v, append_assoc front line more ∙ ap (λ (xs : List ℕ). front ++ xs) (sym parts) ∙ all)
 
 -- a line was not put
 pub line_failed : (front text rest line more : List ℕ) (old mid new : Option (List ℕ)) → rest ≡ line ++ more
-    → Wrote front old mid → front ++ rest ≡ text → WroteFront line mid new → WroteFront text old new
+    → IsWritten front old mid → front ++ rest ≡ text → IsFrontWritten line mid new → IsFrontWritten text old new
 line_failed front text rest line more old mid new parts w all v =
     let whole : front ++ (line ++ more) ≡ text = ap (λ (xs : List ℕ). front ++ xs) (sym parts) ∙ all in
-    subst (λ (t : List ℕ). WroteFront t old new) whole (front_more front (line ++ more) old mid new w (front_first line more mid new v))
+    subst (λ (t : List ℕ). IsFrontWritten t old new) whole (front_more front (line ++ more) old mid new w (front_first line more mid new v))
 
 -- nothing was put
-pub wrote_none : (told : Option (List ℕ)) → Wrote [] told told
+pub wrote_none : (told : Option (List ℕ)) → IsWritten [] told told
 wrote_none None = tt
 wrote_none (Some bytes) = ap (λ (b : List ℕ). Some b) (sym (append-nil bytes))
 
-pub front_none : (told : Option (List ℕ)) (text : List ℕ) → WroteFront text told told
+pub front_none : (told : Option (List ℕ)) (text : List ℕ) → IsFrontWritten text told told
 front_none told text = ([], text, refl, wrote_none told)
 
 -- all of it is a front of it
-pub front_whole : (text : List ℕ) (old new : Option (List ℕ)) → Wrote text old new → WroteFront text old new
+pub front_whole : (text : List ℕ) (old new : Option (List ℕ)) → IsWritten text old new → IsFrontWritten text old new
 front_whole text old new w = (text, [], sym (append-nil text), w)
 
 -- the entry at a place stands before the rest
@@ -60,8 +60,8 @@ drop_entry xs i x e = rw add-one (drop_suc xs i x e)
 
 -- the line of one more entry was put
 pub entry_put : (es : List Entry) (i : ℕ) (entry : Entry) (all : List ℕ) (t0 t1 t2 : Option (List ℕ)) → Some entry ≡ slice_get es i
-    → ((front : List ℕ) × Wrote front t0 t1 × (all ≡ front ++ lines_of (drop i es))) → Wrote (line_text entry) t1 t2
-    → (front : List ℕ) × Wrote front t0 t2 × (all ≡ front ++ lines_of (drop (i + 1) es))
+    → ((front : List ℕ) × IsWritten front t0 t1 × (all ≡ front ++ lines_of (drop i es))) → IsWritten (line_text entry) t1 t2
+    → (front : List ℕ) × IsWritten front t0 t2 × (all ≡ front ++ lines_of (drop (i + 1) es))
 entry_put es i entry all t0 t1 t2 is w p = (
   w.0 ++ line_text entry,
   wrote_more w.0 (line_text entry) t0 t1 t2 w.1 p,
@@ -70,8 +70,8 @@ entry_put es i entry all t0 t1 t2 is w p = (
 
 -- it was not put
 pub entry_failed : (es : List Entry) (i : ℕ) (entry : Entry) (all : List ℕ) (t0 t1 t2 : Option (List ℕ)) → Some entry ≡ slice_get es i
-    → ((front : List ℕ) × Wrote front t0 t1 × (all ≡ front ++ lines_of (drop i es))) → WroteFront (line_text entry) t1 t2 → WroteFront all t0 t2
+    → ((front : List ℕ) × IsWritten front t0 t1 × (all ≡ front ++ lines_of (drop i es))) → IsFrontWritten (line_text entry) t1 t2 → IsFrontWritten all t0 t2
 entry_failed es i entry all t0 t1 t2 is w p =
     let tail : List ℕ = lines_of (drop (i + 1) es) in
     let whole : all ≡ w.0 ++ (line_text entry ++ tail) = w.2 ∙ ap (λ (x : List Entry). w.0 ++ lines_of x) (drop_entry es i entry (sym is)) in
-    subst (λ (t : List ℕ). WroteFront t t0 t2) (sym whole) (front_more w.0 (line_text entry ++ tail) t0 t1 t2 w.1 (front_first (line_text entry) tail t1 t2 p))
+    subst (λ (t : List ℕ). IsFrontWritten t t0 t2) (sym whole) (front_more w.0 (line_text entry ++ tail) t0 t1 t2 w.1 (front_first (line_text entry) tail t1 t2 p))

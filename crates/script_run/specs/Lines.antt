@@ -9,8 +9,8 @@ use Rattle.call_script.specs.declared.script.StepLine.TheVariants.{Call, Fire, W
 use Rattle.mse_engine.specs.State.{State}
 use Rattle.mse_engine.specs.Calls.{after_call}
 use Rattle.mse_engine.specs.Work.{after_element_turn, after_work, fire_result}
-use Rattle.script_run.specs.Doings.{InDrainOrder, IsDrain}
-use Rattle.script_run.specs.Turns.{InTurns, calls_in}
+use Rattle.script_run.specs.DrainSteps.{AreInDrainOrder, IsDrain}
+use Rattle.script_run.specs.Turns.{AreInTurn, calls_in}
 
 -- the entries but for the calls of listeners
 abbrev pub own_of : List Entry → List Entry
@@ -47,7 +47,7 @@ Begins blobs st (Call call) part = (part ≡ []) ⊎ Does blobs st (Call call) p
 Begins blobs st Fire part = (part ≡ []) ⊎ Does blobs st Fire part
 Begins blobs st (Work k) part = (part ≡ []) ⊎ Does blobs st (Work k) part
 Begins blobs st Element part = (part ≡ []) ⊎ Does blobs st Element part
-Begins blobs st Drain part = InDrainOrder blobs st part
+Begins blobs st Drain part = AreInDrainOrder blobs st part
 
 -- there are `count` listeners, which make at most `limit` calls in one line
 pub record Limits : Type 0 where
@@ -67,4 +67,4 @@ play_inputs blobs limits = record { blobs = blobs; limits = limits }
 
 pub record IsWithin (limits : Limits) (part : List Entry) : Type 0 where
   pub few : calls_in part ≤ limits.limit
-  pub turns : InTurns limits.count None part
+  pub turns : AreInTurn limits.count None part

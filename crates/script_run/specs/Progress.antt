@@ -30,11 +30,11 @@ pub record IsCalm (old new : Kept) : Type 0 where
   pub turns : turns_left new ≡ turns_left old
 
 -- an event was fired
-pub record IsTaken (old new : Kept) : Type 0 where
+pub record HasFewerEvents (old new : Kept) : Type 0 where
   pub fewer : events_left new < events_left old
   pub calm : IsCalm old new
 
 -- a turn of the element was taken
-pub record IsTurnTaken (old new : Kept) : Type 0 where
+pub record HasFewerTurns (old new : Kept) : Type 0 where
   pub fewer : turns_left new < turns_left old
   pub buffers : new.buffers ≡ old.buffers

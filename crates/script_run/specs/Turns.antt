@@ -4,12 +4,12 @@ use Rattle.mse_calls.specs.declared.entry.Entry.{Entry}
 use Rattle.mse_calls.specs.declared.entry.Entry.TheVariants.{Step, Script, Listener, Fired, Work, Element}
 
 -- the listener whose turn it is to call after an event, and how many calls it has made
-pub record Turn : Type 0 where
+pub record ListenerTurn : Type 0 where
   pub listener : ℕ
   pub made : ℕ
 
 -- listener 0 hears an event first
-abbrev pub first_turn : Turn
+abbrev pub first_turn : ListenerTurn
 first_turn = record { listener = 0; made = 0 }
 
 -- a listener makes at most so many calls for one event
@@ -17,26 +17,26 @@ abbrev pub most_calls : ℕ
 most_calls = 1000
 
 -- it may call: it is its turn and it has a call left, or it comes behind the one whose turn it was
-abbrev pub MayCall : Turn → ℕ → Type 0
+abbrev pub MayCall : ListenerTurn → ℕ → Type 0
 MayCall turn w = (turn.listener < w) ⊎ ((turn.listener ≡ w) × (turn.made < most_calls))
 
-abbrev pub turn_after : Turn → ℕ → Turn
+abbrev pub turn_after : ListenerTurn → ℕ → ListenerTurn
 turn_after turn w =
     if turn.listener == w then record { listener = w; made = suc turn.made }
     else record { listener = w; made = 1 }
 
 -- Listeners call only behind an event, in order of their numbers, at most 1000 times each; there
 -- are `count` of them. Without a turn no event was fired since the last thing that was done.
-abbrev pub InTurns : ℕ → Option Turn → List Entry → Type 0
-InTurns count turn [] = ⊤
-InTurns count turn (Fired event ∷ entries) = InTurns count (Some first_turn) entries
-InTurns count None (Listener w call answer ∷ entries) = ⊥
-InTurns count (Some turn) (Listener w call answer ∷ entries) =
-    (w < count) × MayCall turn w × InTurns count (Some (turn_after turn w)) entries
-InTurns count turn (Script call answer ∷ entries) = InTurns count None entries
-InTurns count turn (Step n ∷ entries) = InTurns count None entries
-InTurns count turn (Work k ∷ entries) = InTurns count None entries
-InTurns count turn (Element ∷ entries) = InTurns count None entries
+abbrev pub AreInTurn : ℕ → Option ListenerTurn → List Entry → Type 0
+AreInTurn count turn [] = ⊤
+AreInTurn count turn (Fired event ∷ entries) = AreInTurn count (Some first_turn) entries
+AreInTurn count None (Listener w call answer ∷ entries) = ⊥
+AreInTurn count (Some turn) (Listener w call answer ∷ entries) =
+    (w < count) × MayCall turn w × AreInTurn count (Some (turn_after turn w)) entries
+AreInTurn count turn (Script call answer ∷ entries) = AreInTurn count None entries
+AreInTurn count turn (Step n ∷ entries) = AreInTurn count None entries
+AreInTurn count turn (Work k ∷ entries) = AreInTurn count None entries
+AreInTurn count turn (Element ∷ entries) = AreInTurn count None entries
 
 -- how many calls listeners made
 abbrev pub calls_in : List Entry → ℕ
@@ -63,7 +63,7 @@ abbrev pub IsSpent : ℕ → List Entry → Type 0
 IsSpent limit entries = calls_in entries ≡ limit
 
 -- listeners made so many calls in the line that was begun last
-pub record SpentInLine (limit : ℕ) (entries : List Entry) : Type 0 where
+pub record IsSpentInLine (limit : ℕ) (entries : List Entry) : Type 0 where
   pub front : List Entry
   pub number : ℕ
   pub part : List Entry

@@ -5,11 +5,11 @@ ghost use Rattle.call_script.specs.declared.script.StepLine.{StepLine};
 ghost use Rattle.mse_engine.specs.State.{State};
 ghost use Rattle.mse_engine.specs.Standing.{Stands};
 ghost use Rattle.mse_outside.specs.Outside.{Rose};
-ghost use Rattle.script_run.specs.Courses.{line_course, order_course};
-ghost use Rattle.script_run.specs.Doings.{IsAtRest, IsQuiet, NoEvent};
-ghost use Rattle.script_run.specs.Progress.{IsCalm, IsTaken};
-ghost use Rattle.script_run.specs.Ran.{RanBy};
-ghost use Rattle.script_run.specs.Stage.{IsStanding, stage};
+ghost use Rattle.script_run.specs.RunParts.{line_part, drain_part};
+ghost use Rattle.script_run.specs.DrainSteps.{IsAtRest, IsQuiet, HasNoEvent};
+ghost use Rattle.script_run.specs.Progress.{IsCalm, HasFewerEvents};
+ghost use Rattle.script_run.specs.Plays.{IsPlayedInLineBy};
+ghost use Rattle.script_run.specs.RunStates.{IsStanding, run_at};
 
 use crate::put::put_entries;
 use crate::run::ScriptRun;
@@ -33,13 +33,14 @@ impl<S: FrameStore> ScriptRun<S> {
         ensures count { vec_len listeners.new ≡ vec_len listeners.old }
         ensures rules { map (λ b. rules b) listeners.new.items
             ≡ map (λ b. rules b) listeners.old.items }
-        ensures ran { RanBy (line_course blobs.now StepLine.Fire)
-            (stage self.old (K.written sink.old) (map (λ b. notes b) listeners.old.items))
-            (stage self.new (K.written sink.new) (map (λ b. notes b) listeners.new.items)) result }
+        ensures ran { IsPlayedInLineBy (line_part blobs.now StepLine.Fire)
+            (run_at self.old (K.written sink.old) (map (λ b. notes b) listeners.old.items))
+            (run_at self.new (K.written sink.new) (map (λ b. notes b) listeners.new.items)) result }
         ensures fewer { result ≡ Ok true → self.new.left ≡ self.old.left
-            → IsTaken self.old.engine self.new.engine }
+            → HasFewerEvents self.old.engine self.new.engine }
         ensures none { result ≡ Ok false → self.new ≡ self.old }
-        ensures empty { result ≡ Ok false → (st : State) → Stands self.old.engine st → NoEvent st }
+        ensures empty { result ≡ Ok false → (st : State) → Stands self.old.engine st →
+            HasNoEvent st }
         ensures later { K.faults sink.old ≤ K.faults sink.new }
         ensures cause { IsErrOf result (Stop.Halted Halt.Write)
             → Rose (K.faults sink.old) (K.faults sink.new) }
@@ -86,11 +87,11 @@ impl<S: FrameStore> ScriptRun<S> {
         ensures count { vec_len listeners.new ≡ vec_len listeners.old }
         ensures rules { map (λ b. rules b) listeners.new.items
             ≡ map (λ b. rules b) listeners.old.items }
-        ensures ran { RanBy (order_course blobs.now)
-            (stage self.old (K.written sink.old) (map (λ b. notes b) listeners.old.items))
-            (stage self.new (K.written sink.new) (map (λ b. notes b) listeners.new.items)) result }
+        ensures ran { IsPlayedInLineBy (drain_part blobs.now)
+            (run_at self.old (K.written sink.old) (map (λ b. notes b) listeners.old.items))
+            (run_at self.new (K.written sink.new) (map (λ b. notes b) listeners.new.items)) result }
         ensures calm { result ≡ Ok true → IsCalm self.old.engine self.new.engine }
-        ensures end { result ≡ Ok true → (st : State) → Stands self.new.engine st → NoEvent st }
+        ensures end { result ≡ Ok true → (st : State) → Stands self.new.engine st → HasNoEvent st }
         ensures called { result ≡ Ok false → self.new.left < self.old.left }
         ensures later { K.faults sink.old ≤ K.faults sink.new }
         ensures cause { IsErrOf result (Stop.Halted Halt.Write)
@@ -122,9 +123,9 @@ impl<S: FrameStore> ScriptRun<S> {
         ensures count { vec_len listeners.new ≡ vec_len listeners.old }
         ensures rules { map (λ b. rules b) listeners.new.items
             ≡ map (λ b. rules b) listeners.old.items }
-        ensures ran { RanBy (order_course blobs.now)
-            (stage self.old (K.written sink.old) (map (λ b. notes b) listeners.old.items))
-            (stage self.new (K.written sink.new) (map (λ b. notes b) listeners.new.items)) result }
+        ensures ran { IsPlayedInLineBy (drain_part blobs.now)
+            (run_at self.old (K.written sink.old) (map (λ b. notes b) listeners.old.items))
+            (run_at self.new (K.written sink.new) (map (λ b. notes b) listeners.new.items)) result }
         ensures end { result ≡ Ok true → (st : State) → Stands self.new.engine st → IsQuiet st }
         ensures called { result ≡ Ok false → self.new.left < self.old.left }
         ensures later { K.faults sink.old ≤ K.faults sink.new }
@@ -160,9 +161,9 @@ impl<S: FrameStore> ScriptRun<S> {
         ensures count { vec_len listeners.new ≡ vec_len listeners.old }
         ensures rules { map (λ b. rules b) listeners.new.items
             ≡ map (λ b. rules b) listeners.old.items }
-        ensures ran { RanBy (order_course blobs.now)
-            (stage self.old (K.written sink.old) (map (λ b. notes b) listeners.old.items))
-            (stage self.new (K.written sink.new) (map (λ b. notes b) listeners.new.items)) result }
+        ensures ran { IsPlayedInLineBy (drain_part blobs.now)
+            (run_at self.old (K.written sink.old) (map (λ b. notes b) listeners.old.items))
+            (run_at self.new (K.written sink.new) (map (λ b. notes b) listeners.new.items)) result }
         ensures end { result ≡ Ok true → (st : State) → Stands self.new.engine st → IsAtRest st }
         ensures called { result ≡ Ok false → self.new.left < self.old.left }
         ensures later { K.faults sink.old ≤ K.faults sink.new }
@@ -196,9 +197,9 @@ impl<S: FrameStore> ScriptRun<S> {
         ensures count { vec_len listeners.new ≡ vec_len listeners.old }
         ensures rules { map (λ b. rules b) listeners.new.items
             ≡ map (λ b. rules b) listeners.old.items }
-        ensures ran { RanBy (order_course blobs.now)
-            (stage self.old (K.written sink.old) (map (λ b. notes b) listeners.old.items))
-            (stage self.new (K.written sink.new) (map (λ b. notes b) listeners.new.items)) result }
+        ensures ran { IsPlayedInLineBy (drain_part blobs.now)
+            (run_at self.old (K.written sink.old) (map (λ b. notes b) listeners.old.items))
+            (run_at self.new (K.written sink.new) (map (λ b. notes b) listeners.new.items)) result }
         ensures end { result ≡ Ok true → (st : State) → Stands self.new.engine st → IsAtRest st }
         ensures called { result ≡ Ok false → self.new.left < self.old.left }
         ensures later { K.faults sink.old ≤ K.faults sink.new }
@@ -228,9 +229,9 @@ impl<S: FrameStore> ScriptRun<S> {
         ensures count { vec_len listeners.new ≡ vec_len listeners.old }
         ensures rules { map (λ b. rules b) listeners.new.items
             ≡ map (λ b. rules b) listeners.old.items }
-        ensures ran { RanBy (line_course blobs.now StepLine.Drain)
-            (stage self.old (K.written sink.old) (map (λ b. notes b) listeners.old.items))
-            (stage self.new (K.written sink.new) (map (λ b. notes b) listeners.new.items)) result }
+        ensures ran { IsPlayedInLineBy (line_part blobs.now StepLine.Drain)
+            (run_at self.old (K.written sink.old) (map (λ b. notes b) listeners.old.items))
+            (run_at self.new (K.written sink.new) (map (λ b. notes b) listeners.new.items)) result }
         ensures later { K.faults sink.old ≤ K.faults sink.new }
         ensures cause { IsErrOf result (Stop.Halted Halt.Write)
             → Rose (K.faults sink.old) (K.faults sink.new) }

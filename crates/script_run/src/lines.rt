@@ -3,11 +3,11 @@
 ghost use Rattle.std.specs.Prelude.{◌≡◌, ◌≤◌, ◌<◌, ◌^◌, OnOk, OnErr, IsErrOf, length, map, vec_len};
 ghost use Rattle.call_script.specs.declared.script.StepLine.{StepLine};
 ghost use Rattle.mse_outside.specs.Outside.{Rose};
-ghost use Rattle.script_run.specs.Courses.{line_course, numbered_course, script_course};
+ghost use Rattle.script_run.specs.RunParts.{line_part, numbered_line_part, script_part};
 ghost use Rattle.script_run.specs.Lines.{limits, play_inputs};
-ghost use Rattle.script_run.specs.Ran.{CallHalted, Called, PlayedBy, RanBy};
-ghost use Rattle.script_run.specs.Stage.{IsStanding, printed_run, stage};
-ghost use Rattle.script_run.specs.Turns.{SpentInLine};
+ghost use Rattle.script_run.specs.Plays.{IsCallHalted, IsCallMade, IsPlayedBy, IsPlayedInLineBy};
+ghost use Rattle.script_run.specs.RunStates.{IsStanding, printed_run, run_at};
+ghost use Rattle.script_run.specs.Turns.{IsSpentInLine};
 
 use crate::put::put_entries;
 use crate::run::ScriptRun;
@@ -21,10 +21,10 @@ use track_store::FrameStore;
 impl<S: FrameStore> ScriptRun<S> {
     /// Makes a call of the script, and puts its line.
     fn call_aloud<K: Sink>(&mut self, blobs: &Blobs, sink: &mut K, call: &Call) -> Result<(), Halt>
-        ensures ok { OnOk result (Called blobs.now call.now
+        ensures ok { OnOk result (IsCallMade blobs.now call.now
             (printed_run self.old (K.written sink.old))
             (printed_run self.new (K.written sink.new))) }
-        ensures err { OnErr result (CallHalted blobs.now call.now
+        ensures err { OnErr result (IsCallHalted blobs.now call.now
             (printed_run self.old (K.written sink.old))
             (printed_run self.new (K.written sink.new))) }
         ensures later { K.faults sink.old ≤ K.faults sink.new }
@@ -50,9 +50,9 @@ impl<S: FrameStore> ScriptRun<S> {
         ensures count { vec_len listeners.new ≡ vec_len listeners.old }
         ensures rules { map (λ b. rules b) listeners.new.items
             ≡ map (λ b. rules b) listeners.old.items }
-        ensures ran { RanBy (line_course blobs.now line.now)
-            (stage self.old (K.written sink.old) (map (λ b. notes b) listeners.old.items))
-            (stage self.new (K.written sink.new) (map (λ b. notes b) listeners.new.items)) result }
+        ensures ran { IsPlayedInLineBy (line_part blobs.now line.now)
+            (run_at self.old (K.written sink.old) (map (λ b. notes b) listeners.old.items))
+            (run_at self.new (K.written sink.new) (map (λ b. notes b) listeners.new.items)) result }
         ensures later { K.faults sink.old ≤ K.faults sink.new }
         ensures cause { IsErrOf result (Stop.Halted Halt.Write)
             → Rose (K.faults sink.old) (K.faults sink.new) }
@@ -93,10 +93,10 @@ impl<S: FrameStore> ScriptRun<S> {
         ensures count { vec_len listeners.new ≡ vec_len listeners.old }
         ensures rules { map (λ b. rules b) listeners.new.items
             ≡ map (λ b. rules b) listeners.old.items }
-        ensures played { PlayedBy (SpentInLine limit) (numbered_course
+        ensures played { IsPlayedBy (IsSpentInLine limit) (numbered_line_part
             (play_inputs blobs.now (limits limit (vec_len listeners.old))) n line.now)
-            (stage self.old (K.written sink.old) (map (λ b. notes b) listeners.old.items))
-            (stage self.new (K.written sink.new) (map (λ b. notes b) listeners.new.items)) result }
+            (run_at self.old (K.written sink.old) (map (λ b. notes b) listeners.old.items))
+            (run_at self.new (K.written sink.new) (map (λ b. notes b) listeners.new.items)) result }
         ensures later { K.faults sink.old ≤ K.faults sink.new }
         ensures cause { IsErrOf result (Stop.Halted Halt.Write)
             → Rose (K.faults sink.old) (K.faults sink.new) }
@@ -127,10 +127,10 @@ impl<S: FrameStore> ScriptRun<S> {
         ensures count { vec_len listeners.new ≡ vec_len listeners.old }
         ensures rules { map (λ b. rules b) listeners.new.items
             ≡ map (λ b. rules b) listeners.old.items }
-        ensures played { PlayedBy (SpentInLine limit) (script_course blobs.now
+        ensures played { IsPlayedBy (IsSpentInLine limit) (script_part blobs.now
             (limits limit (vec_len listeners.old)) lines.now)
-            (stage self.old (K.written sink.old) (map (λ b. notes b) listeners.old.items))
-            (stage self.new (K.written sink.new) (map (λ b. notes b) listeners.new.items)) result }
+            (run_at self.old (K.written sink.old) (map (λ b. notes b) listeners.old.items))
+            (run_at self.new (K.written sink.new) (map (λ b. notes b) listeners.new.items)) result }
         ensures later { K.faults sink.old ≤ K.faults sink.new }
         ensures cause { IsErrOf result (Stop.Halted Halt.Write)
             → Rose (K.faults sink.old) (K.faults sink.new) }

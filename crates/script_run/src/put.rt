@@ -5,7 +5,7 @@ ghost use Rattle.mse_outside.specs.Outside.{Rose};
 ghost use Rattle.event_text.specs.Lines.{line_text};
 ghost use Rattle.run_journal.specs.EntryRef.{entry_of};
 ghost use Rattle.script_run.specs.Text.{lines_of};
-ghost use Rattle.script_run.specs.Wrote.{Wrote, WroteFront, halt_of};
+ghost use Rattle.script_run.specs.Writes.{IsWritten, IsFrontWritten, halt_of};
 
 use crate::stop::Halt;
 use event_text::{event_line, listener_line, script_line};
@@ -29,8 +29,9 @@ fn halt_of(answer: Put) -> Result<(), Halt>
 /// Puts bytes. After an `Err` a front part of them was written: `Write` where the sink counted a
 /// failure, and `Memory` where it found none.
 pub fn put_bytes<K: Sink>(sink: &mut K, bytes: &[u8]) -> Result<(), Halt>
-    ensures ok { OnOk result (Wrote bytes.now (K.written sink.old) (K.written sink.new)) }
-    ensures err { OnErr result (WroteFront bytes.now (K.written sink.old) (K.written sink.new)) }
+    ensures ok { OnOk result (IsWritten bytes.now (K.written sink.old) (K.written sink.new)) }
+    ensures err { OnErr result (IsFrontWritten bytes.now (K.written sink.old)
+        (K.written sink.new)) }
     ensures later { K.faults sink.old ≤ K.faults sink.new }
     ensures cause { IsErrOf result Halt.Write → Rose (K.faults sink.old) (K.faults sink.new) }
 {
@@ -40,8 +41,8 @@ pub fn put_bytes<K: Sink>(sink: &mut K, bytes: &[u8]) -> Result<(), Halt>
 /// Puts a text line by line: each put is one whole line with its line feed. An `Err` is as of
 /// [`put_bytes`].
 pub fn put_lines<K: Sink>(sink: &mut K, text: &str) -> Result<(), Halt>
-    ensures ok { OnOk result (Wrote text.now (K.written sink.old) (K.written sink.new)) }
-    ensures err { OnErr result (WroteFront text.now (K.written sink.old) (K.written sink.new)) }
+    ensures ok { OnOk result (IsWritten text.now (K.written sink.old) (K.written sink.new)) }
+    ensures err { OnErr result (IsFrontWritten text.now (K.written sink.old) (K.written sink.new)) }
     ensures later { K.faults sink.old ≤ K.faults sink.new }
     ensures cause { IsErrOf result Halt.Write → Rose (K.faults sink.old) (K.faults sink.new) }
 {
@@ -72,9 +73,9 @@ fn entry_line(alloc: Global, entry: &EntryRef<'_>) -> Result<Option<Text>, OutOf
 
 /// Puts the line of an entry.
 fn put_entry<K: Sink>(alloc: Global, sink: &mut K, entry: &EntryRef<'_>) -> Result<(), Halt>
-    ensures ok { OnOk result (Wrote (line_text (entry_of entry.now)) (K.written sink.old)
+    ensures ok { OnOk result (IsWritten (line_text (entry_of entry.now)) (K.written sink.old)
         (K.written sink.new)) }
-    ensures err { OnErr result (WroteFront (line_text (entry_of entry.now)) (K.written sink.old)
+    ensures err { OnErr result (IsFrontWritten (line_text (entry_of entry.now)) (K.written sink.old)
         (K.written sink.new)) }
     ensures later { K.faults sink.old ≤ K.faults sink.new }
     ensures cause { IsErrOf result Halt.Write → Rose (K.faults sink.old) (K.faults sink.new) }
@@ -94,9 +95,9 @@ pub(crate) fn put_entries<K: Sink>(
     from: usize,
 ) -> Result<(), Halt>
     requires { from ≤ length journal.now.entries }
-    ensures ok { OnOk result (Wrote (lines_of (drop from journal.now.entries))
+    ensures ok { OnOk result (IsWritten (lines_of (drop from journal.now.entries))
         (K.written sink.old) (K.written sink.new)) }
-    ensures err { OnErr result (WroteFront (lines_of (drop from journal.now.entries))
+    ensures err { OnErr result (IsFrontWritten (lines_of (drop from journal.now.entries))
         (K.written sink.old) (K.written sink.new)) }
     ensures later { K.faults sink.old ≤ K.faults sink.new }
     ensures cause { IsErrOf result Halt.Write → Rose (K.faults sink.old) (K.faults sink.new) }

@@ -3,10 +3,10 @@
 ghost use Rattle.std.specs.Prelude.{◌≡◌, ℕ, List, Ok, None, IfOk, OnOk, OnErr};
 ghost use Rattle.mse_engine.specs.State.{State};
 ghost use Rattle.mse_engine.specs.Standing.{Stands};
-ghost use Rattle.script_run.specs.Doings.{IsAtRest, IsQuiet, NoEvent};
+ghost use Rattle.script_run.specs.DrainSteps.{IsAtRest, IsQuiet, HasNoEvent};
 ghost use Rattle.script_run.specs.Progress.{IsCalm};
-ghost use Rattle.script_run.specs.Ran.{Drains};
-ghost use Rattle.script_run.specs.Stage.{IsStanding};
+ghost use Rattle.script_run.specs.Plays.{Drains};
+ghost use Rattle.script_run.specs.RunStates.{IsStanding};
 
 use crate::run::ScriptRun;
 use mse_base::OutOfMemory;
@@ -18,7 +18,7 @@ impl<S: FrameStore> ScriptRun<S> {
         requires { IsStanding self.old.engine }
         ensures drains { (blobs : List (List ℕ)) → Drains blobs self.old self.new }
         ensures calm { IsCalm self.old.engine self.new.engine }
-        ensures end { OnOk result ((st : State) → Stands self.new.engine st → NoEvent st) }
+        ensures end { OnOk result ((st : State) → Stands self.new.engine st → HasNoEvent st) }
     {
         'firing: loop {
             let Ok(taken) = self.take_event() else {

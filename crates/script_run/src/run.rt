@@ -6,10 +6,10 @@ ghost use Rattle.mse_calls.specs.declared.entry.Entry.{Entry};
 ghost use Rattle.mse_engine.specs.State.{opening_state};
 ghost use Rattle.mse_engine.specs.Sound.{IsSoundEngine};
 ghost use Rattle.mse_engine.specs.Standing.{Stands};
-ghost use Rattle.script_run.specs.Doings.{element_step, work_step};
-ghost use Rattle.script_run.specs.Progress.{IsTaken, IsTurnTaken, works_left};
-ghost use Rattle.script_run.specs.Ran.{Stepped, SteppedIf, TookEvent};
-ghost use Rattle.script_run.specs.Stage.{IsStanding};
+ghost use Rattle.script_run.specs.DrainSteps.{element_step, work_step};
+ghost use Rattle.script_run.specs.Progress.{HasFewerEvents, HasFewerTurns, works_left};
+ghost use Rattle.script_run.specs.Plays.{IsOwnStep, IsOwnStepIf, IsEventTaken};
+ghost use Rattle.script_run.specs.RunStates.{IsStanding};
 
 use mse_base::{OutOfMemory, Ticks};
 use mse_calls::{Blobs, Call, Entry, Event};
@@ -72,7 +72,7 @@ impl<S: FrameStore> ScriptRun<S> {
     /// nothing.
     pub fn call(&mut self, blobs: &Blobs, call: &Call) -> Result<(), OutOfMemory>
         ensures ok { OnOk result ((answer : Answer)
-            × Stepped blobs.now (Entry.Script call.now answer ∷ []) self.old self.new) }
+            × IsOwnStep blobs.now (Entry.Script call.now answer ∷ []) self.old self.new) }
         ensures err { OnErr result (self.new ≡ self.old) }
     {
         let Ok(()) = self.journal.reserve(1) else {
@@ -93,7 +93,7 @@ impl<S: FrameStore> ScriptRun<S> {
     pub fn work(&mut self, k: u32) -> Result<bool, OutOfMemory>
         requires { IsStanding self.old.engine }
         ensures ok { (blobs : List (List ℕ)) → IfOk result (λ worked.
-            SteppedIf blobs (work_step k) self.old self.new worked) }
+            IsOwnStepIf blobs (work_step k) self.old self.new worked) }
         ensures fewer { result ≡ Ok true → works_left self.new.engine < works_left self.old.engine }
         ensures err { OnErr result (self.new ≡ self.old) }
     {
@@ -115,8 +115,8 @@ impl<S: FrameStore> ScriptRun<S> {
     pub fn turn(&mut self) -> Result<bool, OutOfMemory>
         requires { IsStanding self.old.engine }
         ensures ok { (blobs : List (List ℕ)) → IfOk result (λ turned.
-            SteppedIf blobs element_step self.old self.new turned) }
-        ensures fewer { result ≡ Ok true → IsTurnTaken self.old.engine self.new.engine }
+            IsOwnStepIf blobs element_step self.old self.new turned) }
+        ensures fewer { result ≡ Ok true → HasFewerTurns self.old.engine self.new.engine }
         ensures err { OnErr result (self.new ≡ self.old) }
     {
         let Ok(()) = self.journal.reserve(1) else {
@@ -137,9 +137,9 @@ impl<S: FrameStore> ScriptRun<S> {
     pub fn take_event(&mut self) -> Result<Option<Event>, OutOfMemory>
         requires { IsStanding self.old.engine }
         ensures ok { (blobs : List (List ℕ))
-            → IfOk result (λ taken. TookEvent blobs self.old self.new taken) }
+            → IfOk result (λ taken. IsEventTaken blobs self.old self.new taken) }
         ensures fewer { IfOk result (λ taken. IsSome taken
-            → IsTaken self.old.engine self.new.engine) }
+            → HasFewerEvents self.old.engine self.new.engine) }
         ensures err { OnErr result (self.new ≡ self.old) }
     {
         if !self.engine.has_event() {
@@ -153,9 +153,9 @@ impl<S: FrameStore> ScriptRun<S> {
     fn fire_first(&mut self) -> Result<Option<Event>, OutOfMemory>
         requires { IsStanding self.old.engine }
         ensures ok { (blobs : List (List ℕ))
-            → IfOk result (λ taken. TookEvent blobs self.old self.new taken) }
+            → IfOk result (λ taken. IsEventTaken blobs self.old self.new taken) }
         ensures fewer { IfOk result (λ taken. IsSome taken
-            → IsTaken self.old.engine self.new.engine) }
+            → HasFewerEvents self.old.engine self.new.engine) }
         ensures err { OnErr result (self.new ≡ self.old) }
     {
         let Ok(()) = self.journal.reserve(1) else {

@@ -10,7 +10,7 @@ use Rattle.bmff_init.specs.declared.fault.InitFault.{InitFault}
 use Rattle.bmff_init.specs.Movies.{init_of}
 use Rattle.bmff_fragment.specs.declared.slot.Slot.{Slot}
 use Rattle.bmff_fragment.specs.Plans.{plan_of}
-use Rattle.parser_loop.specs.Walk.{Move, Stop, Pass, Give, run, run_by, joined, Follows, Shrinks}
+use Rattle.parser_loop.specs.Walk.{Move, Stop, Pass, Give, run, run_by, with_items, Follows, Shrinks}
 use Rattle.parser_loop.proofs.Runs.{run-step, run-rested, IsRested}
 use Rattle.mse_base.specs.declared.frame.Phase.{Phase}
 use Rattle.segment_walk.specs.declared.kinds.DataRange.{DataRange}
@@ -28,7 +28,7 @@ use Rattle.segment_walk.proofs.WalkLaws.{going, good-step, Same, Fits, is_walk}
 use Rattle.segment_stream.specs.declared.progress.Progress.{Progress}
 use Rattle.segment_stream.specs.declared.progress.Tables.{Tables}
 use Rattle.segment_stream.specs.Kept
-use Rattle.segment_stream.specs.Kept.{state_of, fragment_in, in_mode, IsConsistent, IsCounted, IsOrdered, GoesOn, Since, Keeps, Rests, frames, frame_at, IsSlotEndingBy, IsEndingBy, IsPlan, with_tables}
+use Rattle.segment_stream.specs.Kept.{state_of, fragment_in, in_mode, IsConsistent, IsCounted, IsOrdered, GoesOn, IsUnchangedSince, Keeps, Rests, frames, frame_at, IsSlotEndingBy, IsEndingBy, IsPlan, with_tables}
 
 -- ---- where the walk rests
 
@@ -130,7 +130,7 @@ plan-passes s len (Some p) slots h = ap (opened s len) h
 
 -- ---- frames
 
-frames-give-at : (s t : State) (slot : Slot) → segments.move s ≡ Give (frame_of s.rest s.offset slot) t → (run segments s ≡ joined (frame_of s.rest s.offset slot ∷ []) (run segments t)) × (segments.size t < segments.size s)
+frames-give-at : (s t : State) (slot : Slot) → segments.move s ≡ Give (frame_of s.rest s.offset slot) t → (run segments s ≡ with_items (frame_of s.rest s.offset slot ∷ []) (run segments t)) × (segments.size t < segments.size s)
 frames-give-at s t slot e = (
   run-step segments is_walk s ∙ ap (run_by segments s (run segments)) e,
   subst (Shrinks segments (segments.size s)) e (is_walk.shrinks s),
@@ -170,7 +170,7 @@ moved-skip last (codes.Within i) offset from first ready want failed tables byte
 moved-skip last (codes.Between o) offset from first ready want failed tables bytes to len f g fine e =
     let p = passes last (Between o) offset (drop from bytes) failed (step.Skip to len) _ f tt e refl in
     record {
-      same = ap (joined (frames (drop from bytes) offset tables.slots.items first ready)) p.0;
+      same = ap (with_items (frames (drop from bytes) offset tables.slots.items first ready)) p.0;
       consistent = record { inside = fine.inside; counts = fine.counts; ends = fine.ends; small = fine.small };
       since = tt;
       going = sym f;
@@ -188,7 +188,7 @@ moved-plan last (codes.Between o) offset from first ready want failed tables new
     let p = passes last (Between o) offset (drop from bytes) failed (step.ReadMoof len) _ f tt e (plan-passes (going last (Between o) offset (drop from bytes)) len last new_tables.slots.items h) in
     let z : frames (drop from bytes) offset tables.slots.items first ready ≡ [] = ap (frames (drop from bytes) offset tables.slots.items first) fine.counts in
     record {
-      same = ap (joined []) p.0 ∙ ap (λ xs. joined xs (run segments (state_of last (record { mode = codes.Between o; offset = offset; failed = failed }) tables (drop from bytes)))) (sym z);
+      same = ap (with_items []) p.0 ∙ ap (λ xs. with_items xs (run segments (state_of last (record { mode = codes.Between o; offset = offset; failed = failed }) tables (drop from bytes)))) (sym z);
       consistent = record {
         inside = fine.inside;
         counts = record { taken = refl; slots_there = omega arith; ordered = a; known_there = omega arith; ascending = none-known new_tables.known.items k; ended = λ d q. absurd (omega arith); behind = omega arith; near = omega arith };
@@ -235,7 +235,7 @@ moved-data last (codes.Within i) offset from first ready want failed tables push
     let z : i.known + 1 - 1 ≡ i.known = omega arith in
     let from_last : (d : DataRange) → get_or (take (i.known + 1) pushed.items) (i.known + 1 - 1) d ≡ x = λ d. ap (λ ks. get_or ks (i.known + 1 - 1) d) q.0 ∙ ap (λ n. get_or (take i.known tables.known.items ++ x ∷ []) n d) z ∙ get-last (take i.known tables.known.items) x d i.known l in
     record {
-      same = ap (λ ks. joined (frames (drop from bytes) offset tables.slots.items first ready) (run segments (t ks))) q.0 ∙ ap (joined (frames (drop from bytes) offset tables.slots.items first ready)) p.0;
+      same = ap (λ ks. with_items (frames (drop from bytes) offset tables.slots.items first ready) (run segments (t ks))) q.0 ∙ ap (with_items (frames (drop from bytes) offset tables.slots.items first ready)) p.0;
       consistent = record {
         inside = fine.inside;
         counts = record {
@@ -264,7 +264,7 @@ moved-next last (codes.Within i) offset from first ready want failed tables byte
     let w = fits last (Within (open_at tables.slots.items tables.known.items i)) (drop from bytes) (step.NextBox at) e in
     let p = passes last (Within (open_at tables.slots.items tables.known.items i)) offset (drop from bytes) failed (step.NextBox at) _ f tt e refl in
     record {
-      same = ap (joined (frames (drop from bytes) offset tables.slots.items first ready)) p.0;
+      same = ap (with_items (frames (drop from bytes) offset tables.slots.items first ready)) p.0;
       consistent = record {
         inside = fine.inside;
         counts = record { taken = fine.counts.taken; slots_there = fine.counts.slots_there; ordered = fine.counts.ordered; known_there = fine.counts.known_there; ascending = fine.counts.ascending; ended = fine.counts.ended; behind = omega (arith, fine.counts.behind, w.1); near = fine.counts.near };
@@ -277,15 +277,15 @@ moved-next last (codes.Within i) offset from first ready want failed tables byte
       size = p.1;
     }
 
-gives : (last : Option Presentation) (m : ParserMode) (offset : ℕ) (rest : List ℕ) (failed : Bool) (slot : Slot) (t : State) → failed ≡ false → IsActive m → step.GiveFrame slot ≡ step_of (is_some last) rest m → act (going last m offset rest) (step.GiveFrame slot) ≡ Give (frame_of rest offset slot) t → let s : State = record { last = last; mode = m; offset = offset; rest = rest; failed = failed } in (run segments s ≡ joined (frame_of rest offset slot ∷ []) (run segments t)) × (segments.size t < segments.size s)
+gives : (last : Option Presentation) (m : ParserMode) (offset : ℕ) (rest : List ℕ) (failed : Bool) (slot : Slot) (t : State) → failed ≡ false → IsActive m → step.GiveFrame slot ≡ step_of (is_some last) rest m → act (going last m offset rest) (step.GiveFrame slot) ≡ Give (frame_of rest offset slot) t → let s : State = record { last = last; mode = m; offset = offset; rest = rest; failed = failed } in (run segments s ≡ with_items (frame_of rest offset slot ∷ []) (run segments t)) × (segments.size t < segments.size s)
 gives last m offset rest failed slot t f a e g = rw f (frames-give-at (going last m offset rest) t slot (acts last m offset rest (step.GiveFrame slot) a e ∙ g))
 
-frames-more : (rest : List ℕ) (offset : ℕ) (slots : List Slot) (i n at : ℕ) (slot : Slot) (s t : State) → i + n ≡ at → slice_get slots at ≡ Some slot → run segments s ≡ joined (frame_of rest offset slot ∷ []) (run segments t) → joined (frames rest offset slots i (n + 1)) (run segments t) ≡ joined (frames rest offset slots i n) (run segments s)
+frames-more : (rest : List ℕ) (offset : ℕ) (slots : List Slot) (i n at : ℕ) (slot : Slot) (s t : State) → i + n ≡ at → slice_get slots at ≡ Some slot → run segments s ≡ with_items (frame_of rest offset slot ∷ []) (run segments t) → with_items (frames rest offset slots i (n + 1)) (run segments t) ≡ with_items (frames rest offset slots i n) (run segments s)
 frames-more rest offset slots i n at slot s t e g h =
     let z : n + 1 ≡ suc n = omega arith in
     let xs = frames rest offset slots i n in
     let l : frames rest offset slots i (n + 1) ≡ xs ++ frame_of rest offset slot ∷ [] = ap (frames rest offset slots i) z ∙ frames-end rest offset slots i n ∙ ap (λ o. xs ++ frame_at rest offset o) (ap (slice_get slots) e ∙ g) in
-    ap (λ ys. joined ys (run segments t)) l ∙ ap (λ (ys : List SegmentItem). record { items = ys; state = (run segments t).state }) (append_assoc xs (frame_of rest offset slot ∷ []) (run segments t).items) ∙ ap (joined xs) (sym h)
+    ap (λ ys. with_items ys (run segments t)) l ∙ ap (λ (ys : List SegmentItem). record { items = ys; state = (run segments t).state }) (append_assoc xs (frame_of rest offset slot ∷ []) (run segments t).items) ∙ ap (with_items xs) (sym h)
 
 pub moved-frame : (last : Option Presentation) (m : code.ParserMode) (offset from first ready want : ℕ) (failed : Bool) (tables : Tables) (bytes : List ℕ) (slot : Slot) → let r : Progress = record { position = record { mode = m; offset = offset; failed = failed }; from = from; first = first; ready = ready; want = want } in let i = fragment_in m in failed ≡ false → Kept.IsActive m → IsConsistent r tables bytes → step.GiveFrame slot ≡ at_step last m tables (drop from bytes) → GoesOn last (with_tables r tables) (with_tables (record { position = record { mode = codes.Within (record { taken = i.taken + 1; known = i.known; end = i.end; place = i.place }); offset = offset; failed = false }; from = from; first = first; ready = ready + 1; want = 0 }) tables) bytes
 moved-frame last (codes.Skipping y z) offset from first ready want failed tables bytes slot f g fine e = absurd g
@@ -362,7 +362,7 @@ skip-part last m to offset from first ready want left there failed tables bytes 
     let y : from + there ≡ length bytes = omega arith in
     let d : drop (length bytes) bytes ≡ drop there (drop from bytes) = ap (λ n. drop n bytes) (sym y) ∙ sym (drop-drop there from bytes) in
     rw (e, f, z) (record {
-      same = rw d (ap (joined []) (skip-run last to offset there left (drop from bytes) (omega arith) (omega arith)));
+      same = rw d (ap (with_items []) (skip-run last to offset there left (drop from bytes) (omega arith) (omega arith)));
       consistent = record { inside = omega arith; counts = refl; ends = tt; small = omega arith };
       since = tt;
       going = refl;
@@ -379,7 +379,7 @@ skip-all last m to offset from first ready want left failed tables bytes e f z i
     let p = passes-at (going last (Skipping to 0) (offset + left) rest) (going last (Between to) (offset + left) rest) refl in
     let q = ap (λ n. run segments (going last (Skipping to n) (offset + left) rest)) (sym y) ∙ skip-run last to offset left left (drop from bytes) (omega arith) (omega arith) in
     rw (e, f, z) (record {
-      same = rw d (ap (joined []) (p.0 ∙ q));
+      same = rw d (ap (with_items []) (p.0 ∙ q));
       consistent = record { inside = omega arith; counts = refl; ends = tt; small = omega arith };
       since = tt;
       going = refl;
@@ -402,7 +402,7 @@ ordered-is (Some w) v h e = subst (λ (u : Vec Slot Global). All IsOrdered u.ite
 
 -- ---- a run of moves
 
-pub since-trans : (a b d : code.ParserMode) (before between after : Tables) → Since a b before between → Since b d between after → Since a d before after
+pub since-trans : (a b d : code.ParserMode) (before between after : Tables) → IsUnchangedSince a b before between → IsUnchangedSince b d between after → IsUnchangedSince a d before after
 since-trans (codes.Between o) b d before between after h g = tt
 since-trans (codes.Skipping y z) b d before between after h g = tt
 since-trans (codes.Within i) (codes.Between o) d before between after h g = absurd h
@@ -416,10 +416,10 @@ since-trans (codes.Within i) (codes.Within j) (codes.Within k) before between af
       omega (arith, g.2),
     )
 
-pub since-on : (a b d : code.ParserMode) (before between after : Tables) → Since a b before between → Since b d between after → Since a d before after
+pub since-on : (a b d : code.ParserMode) (before between after : Tables) → IsUnchangedSince a b before between → IsUnchangedSince b d between after → IsUnchangedSince a d before after
 since-on a b d before between after h g = since-trans a b d before between after h g
 
-pub since-back : (a b : code.ParserMode) (before between after : Tables) → Since a b before between → Keeps b between after → Keeps a before after
+pub since-back : (a b : code.ParserMode) (before between after : Tables) → IsUnchangedSince a b before between → Keeps b between after → Keeps a before after
 since-back (codes.Between o) b before between after h g = tt
 since-back (codes.Skipping y z) b before between after h g = tt
 since-back (codes.Within i) (codes.Between o) before between after h g = absurd h
@@ -428,7 +428,7 @@ since-back (codes.Within i) (codes.Within j) before between after h g =
     let l : i.known ≤ j.known = h.2 in
     (g.0 ∙ h.0, sym (take-take i.known j.known after.known.items l) ∙ ap (take i.known) g.1 ∙ take-take i.known j.known between.known.items l ∙ h.1, omega arith)
 
-pub since-same : (m : code.ParserMode) (tables new_tables : Tables) → new_tables.slots.items ≡ tables.slots.items → new_tables.known.items ≡ tables.known.items → Since m m tables new_tables
+pub since-same : (m : code.ParserMode) (tables new_tables : Tables) → new_tables.slots.items ≡ tables.slots.items → new_tables.known.items ≡ tables.known.items → IsUnchangedSince m m tables new_tables
 since-same (codes.Between o) tables new_tables e f = tt
 since-same (codes.Skipping y z) tables new_tables e f = tt
 since-same (codes.Within i) tables new_tables e f = (e, ap (take i.known) f, omega arith)

@@ -4,7 +4,7 @@ use Rattle.std.specs.Prelude.{All}
 use Rattle.std.proofs.lemmas.List.{append-nil, append_assoc, length-append, length-drop, length-take-le, drop_all}
 use Rattle.mse_base.specs.declared.track.Presentation.{Presentation}
 use Rattle.bmff_fragment.specs.declared.slot.Slot.{Slot}
-use Rattle.parser_loop.specs.Walk.{Run, run, stay_at, joined, fed}
+use Rattle.parser_loop.specs.Walk.{Lookahead, run, stay_at, with_items, fed}
 use Rattle.parser_loop.proofs.Runs.{run-rested}
 use Rattle.segment_walk.specs.declared.kinds.DataRange.{DataRange}
 use Rattle.segment_walk.specs.declared.kinds.ParserMode as code
@@ -15,7 +15,7 @@ use Rattle.segment_walk.specs.Ranges.{IsAscending, mode_of}
 use Rattle.segment_walk.proofs.WalkLaws.{slice-longer, is_walk}
 use Rattle.segment_stream.specs.declared.progress.Progress.{Progress}
 use Rattle.segment_stream.specs.declared.progress.Tables.{Tables}
-use Rattle.segment_stream.specs.Kept.{frames, frame_at, IsEndingBy, IsSlotEndingBy, IsCountedIn, IsCounted, IsOrdered, IsConsistent, Rests, Since, Keeps, IsAtRest, IsFoundWith, IsEmptied, kept_of, state_of, run_on, with_tables}
+use Rattle.segment_stream.specs.Kept.{frames, frame_at, IsEndingBy, IsSlotEndingBy, IsCountedIn, IsCounted, IsOrdered, IsConsistent, Rests, IsUnchangedSince, Keeps, IsWaitingForBytes, IsFoundWith, IsEmptied, kept_of, state_of, run_on, with_tables}
 use Rattle.segment_stream.proofs.Acts.{rests-failed}
 
 frame-longer : (b c : List ℕ) (offset : ℕ) (s : Option Slot) → IsSlotEndingBy (length b) s → frame_at (b ++ c) offset s ≡ frame_at b offset s
@@ -48,7 +48,7 @@ ran last m offset (suc from) first ready want failed tables b c z g f = absurd (
 ran last m offset zero first ready want true tables b c z g f = cc
 ran last m offset zero first ready want false tables b c z g f =
     let e : IsEndingBy (length b) tables.slots.items first ready = ends-longer (length b - 0) (length b) tables.slots.items first ready (omega arith) f.ends in
-    ap (λ xs. joined xs (run segments (state_of last (record { mode = m; offset = offset; failed = false }) tables (b ++ c)))) (frames-longer b c offset tables.slots.items first ready e)
+    ap (λ xs. with_items xs (run segments (state_of last (record { mode = m; offset = offset; failed = false }) tables (b ++ c)))) (frames-longer b c offset tables.slots.items first ready e)
 
 -- ---- the place that was left sees what it saw
 
@@ -57,7 +57,7 @@ keeps-kept last (codes.Between o) offset from first ready want failed tables new
 keeps-kept last (codes.Skipping y l) offset from first ready want failed tables new_tables b h k = rw h refl
 keeps-kept last (codes.Within i) offset from first ready want failed tables new_tables b h k = rw (k.0, k.1) refl
 
-pub since-keeps : (a b : code.ParserMode) (tables new_tables : Tables) → Since a b tables new_tables → Keeps a tables new_tables
+pub since-keeps : (a b : code.ParserMode) (tables new_tables : Tables) → IsUnchangedSince a b tables new_tables → Keeps a tables new_tables
 since-keeps (codes.Between o) b tables new_tables h = tt
 since-keeps (codes.Skipping y l) b tables new_tables h = tt
 since-keeps (codes.Within i) (codes.Between o) tables new_tables h = absurd h
@@ -99,7 +99,7 @@ mode-kept (codes.Skipping y l) tables new_tables k = refl
 mode-kept (codes.Within i) tables new_tables k = rw (k.0, k.1) refl
 
 -- and rests where it rested
-pub keeps-rest : (last : Option Presentation) (r : Progress) (tables new_tables : Tables) (b : List ℕ) → Keeps r.position.mode tables new_tables → IsAtRest last r tables b → IsAtRest last r new_tables b
+pub keeps-rest : (last : Option Presentation) (r : Progress) (tables new_tables : Tables) (b : List ℕ) → Keeps r.position.mode tables new_tables → IsWaitingForBytes last r tables b → IsWaitingForBytes last r new_tables b
 keeps-rest last r tables new_tables b k h = record {
   front = h.front;
   consistent = record {
@@ -113,7 +113,7 @@ keeps-rest last r tables new_tables b k h = record {
 
 -- ---- what is found
 
-found-run : (last : Option Presentation) (m : code.ParserMode) (offset from first ready want : ℕ) (failed : Bool) (tables new_tables : Tables) (b c : List ℕ) (s : Progress) → let r : Progress = record { position = record { mode = m; offset = offset; failed = failed }; from = from; first = first; ready = ready; want = want } in failed ≡ false → IsAtRest last r tables b → kept_of last r new_tables b ≡ kept_of last r tables b → kept_of last s new_tables (b ++ c) ≡ run_on (kept_of last r tables (b ++ c)) → IsConsistent s new_tables (b ++ c) → Rests (state_of last s.position new_tables (drop s.from (b ++ c))) s.want → s.position.offset + (length (b ++ c) - s.from) ≡ offset + (length (b ++ c) - from) → IsFoundWith last (kept_of last r new_tables b) (with_tables s new_tables) (b ++ c) c
+found-run : (last : Option Presentation) (m : code.ParserMode) (offset from first ready want : ℕ) (failed : Bool) (tables new_tables : Tables) (b c : List ℕ) (s : Progress) → let r : Progress = record { position = record { mode = m; offset = offset; failed = failed }; from = from; first = first; ready = ready; want = want } in failed ≡ false → IsWaitingForBytes last r tables b → kept_of last r new_tables b ≡ kept_of last r tables b → kept_of last s new_tables (b ++ c) ≡ run_on (kept_of last r tables (b ++ c)) → IsConsistent s new_tables (b ++ c) → Rests (state_of last s.position new_tables (drop s.from (b ++ c))) s.want → s.position.offset + (length (b ++ c) - s.from) ≡ offset + (length (b ++ c) - from) → IsFoundWith last (kept_of last r new_tables b) (with_tables s new_tables) (b ++ c) c
 found-run last m offset from first ready want failed tables new_tables b c s g h q e f w t = record {
   same = e ∙ ran last m offset from first ready want failed tables b c h.front g h.consistent ∙ ap (λ k. fed segments k c) (sym q);
   consistent = f;
@@ -121,8 +121,8 @@ found-run last m offset from first ready want failed tables new_tables b c s g h
   total = omega (arith, t, h.front, length-append b c, length-drop from b);
 }
 
-stays : (k : Run State SegmentItem) → run segments k.state ≡ stay_at k.state → run_on k ≡ k
-stays k e = ap (joined k.items) e ∙ ap (λ (xs : List SegmentItem). record { items = xs; state = k.state }) (append-nil k.items)
+stays : (k : Lookahead State SegmentItem) → run segments k.state ≡ stay_at k.state → run_on k ≡ k
+stays k e = ap (with_items k.items) e ∙ ap (λ (xs : List SegmentItem). record { items = xs; state = k.state }) (append-nil k.items)
 
 still-more : (last : Option Presentation) (m : code.ParserMode) (offset : ℕ) (failed : Bool) (want : ℕ) (tables : Tables) (b c : List ℕ) → failed ≡ false → Rests (state_of last (record { mode = m; offset = offset; failed = failed }) tables b) want → length b + length c < want → let t : State = state_of last (record { mode = m; offset = offset; failed = false }) tables (b ++ c) in run segments t ≡ stay_at t
 still-more last m offset failed want tables b c g h l =
@@ -139,14 +139,14 @@ rests-longer last m offset failed want tables b c g x h =
     }
 
 -- fewer bytes than are wanted
-pub found-same : (last : Option Presentation) (m : code.ParserMode) (offset from first ready want : ℕ) (failed : Bool) (tables : Tables) (b c all : List ℕ) → let r : Progress = record { position = record { mode = m; offset = offset; failed = failed }; from = from; first = first; ready = ready; want = want } in all ≡ b ++ c → failed ≡ false → IsAtRest last r tables b → length b + length c < want → offset + (length b + length c) < 2 ^ 62 → IsFoundWith last (kept_of last r tables b) (with_tables r tables) all c
+pub found-same : (last : Option Presentation) (m : code.ParserMode) (offset from first ready want : ℕ) (failed : Bool) (tables : Tables) (b c all : List ℕ) → let r : Progress = record { position = record { mode = m; offset = offset; failed = failed }; from = from; first = first; ready = ready; want = want } in all ≡ b ++ c → failed ≡ false → IsWaitingForBytes last r tables b → length b + length c < want → offset + (length b + length c) < 2 ^ 62 → IsFoundWith last (kept_of last r tables b) (with_tables r tables) all c
 found-same last m offset from first ready want failed tables b c all x' g h l room =
     let r : Progress = record { position = record { mode = m; offset = offset; failed = failed }; from = from; first = first; ready = ready; want = want } in
     let t : List ℕ → State = λ rest. state_of last (record { mode = m; offset = offset; failed = failed }) tables rest in
     let u : List ℕ → State = λ rest. state_of last (record { mode = m; offset = offset; failed = false }) tables rest in
     let y : run segments (u (b ++ c)) ≡ stay_at (u (b ++ c)) = still-more last m offset failed want tables b c g h.rests l in
     let x : run segments (t (b ++ c)) ≡ stay_at (t (b ++ c)) = rw g y in
-    let k : Run State SegmentItem = kept_of last r tables (b ++ c) in
+    let k : Lookahead State SegmentItem = kept_of last r tables (b ++ c) in
     subst (λ v. IsFoundWith last (kept_of last r tables b) (with_tables r tables) v c) (sym x') (record {
       same = sym (stays k (rw h.front x)) ∙ ran last m offset from first ready want failed tables b c h.front g h.consistent;
       consistent = consistent-longer m offset from first ready want failed tables b c h.front room h.consistent;
@@ -154,7 +154,7 @@ found-same last m offset from first ready want failed tables b c all x' g h l ro
       total = omega (arith, h.front, length-append b c, length-drop from b);
     })
 
-pub found-ok : (s : Progress) (last : Option Presentation) (r : Progress) (tables new_tables : Tables) (b c bytes : List ℕ) → bytes ≡ b ++ c → r.position.failed ≡ false → IsAtRest last r tables b → Since r.position.mode s.position.mode tables new_tables → kept_of last s new_tables bytes ≡ run_on (kept_of last r tables bytes) → IsConsistent s new_tables bytes → Rests (state_of last s.position new_tables (drop s.from bytes)) s.want → s.position.offset + (length bytes - s.from) ≡ r.position.offset + (length bytes - r.from) → IsFoundWith last (kept_of last r new_tables b) (with_tables s new_tables) bytes c
+pub found-ok : (s : Progress) (last : Option Presentation) (r : Progress) (tables new_tables : Tables) (b c bytes : List ℕ) → bytes ≡ b ++ c → r.position.failed ≡ false → IsWaitingForBytes last r tables b → IsUnchangedSince r.position.mode s.position.mode tables new_tables → kept_of last s new_tables bytes ≡ run_on (kept_of last r tables bytes) → IsConsistent s new_tables bytes → Rests (state_of last s.position new_tables (drop s.from bytes)) s.want → s.position.offset + (length bytes - s.from) ≡ r.position.offset + (length bytes - r.from) → IsFoundWith last (kept_of last r new_tables b) (with_tables s new_tables) bytes c
 found-ok s last r tables new_tables b c bytes d g h q e f w t =
     let k = keeps-kept last r.position.mode r.position.offset r.from r.first r.ready r.want r.position.failed tables new_tables b h.consistent.counts (since-keeps r.position.mode s.position.mode tables new_tables q) in
     subst (λ v. IsFoundWith last (kept_of last r new_tables b) (with_tables s new_tables) v c) (sym d) (found-run last r.position.mode r.position.offset r.from r.first r.ready r.want r.position.failed tables new_tables b c s g h k (subst (λ v. kept_of last s new_tables v ≡ run_on (kept_of last r tables v)) d e) (subst (λ v. IsConsistent s new_tables v) d f) (subst (λ v. Rests (state_of last s.position new_tables (drop s.from v)) s.want) d w) (subst (λ (v : List ℕ). s.position.offset + (length v - s.from) ≡ r.position.offset + (length v - r.from)) d t))
@@ -163,19 +163,19 @@ found-ok s last r tables new_tables b c bytes d g h q e f w t =
 pub failed-more : (last : Option Presentation) (m : code.ParserMode) (offset : ℕ) (tables : Tables) (b : List ℕ) → let s : State = state_of last (record { mode = m; offset = offset; failed = true }) tables b in run segments s ≡ stay_at s
 failed-more last m offset tables b = run-rested segments is_walk (state_of last (record { mode = m; offset = offset; failed = true }) tables b) tt
 
-pub found-failed : (last : Option Presentation) (m : code.ParserMode) (offset from first ready want new_want len : ℕ) (failed : Bool) (tables : Tables) (b c all : List ℕ) → let r : Progress = record { position = record { mode = m; offset = offset; failed = failed }; from = from; first = first; ready = ready; want = want } in all ≡ b ++ c → failed ≡ true → len ≡ length all → IsAtRest last r tables b → (b ≡ []) × (ready ≡ 0) → IsFoundWith last (kept_of last r tables b) (with_tables (record { position = record { mode = m; offset = offset; failed = failed }; from = len; first = first; ready = ready; want = new_want }) tables) all c
+pub found-failed : (last : Option Presentation) (m : code.ParserMode) (offset from first ready want new_want len : ℕ) (failed : Bool) (tables : Tables) (b c all : List ℕ) → let r : Progress = record { position = record { mode = m; offset = offset; failed = failed }; from = from; first = first; ready = ready; want = want } in all ≡ b ++ c → failed ≡ true → len ≡ length all → IsWaitingForBytes last r tables b → (b ≡ []) × (ready ≡ 0) → IsFoundWith last (kept_of last r tables b) (with_tables (record { position = record { mode = m; offset = offset; failed = failed }; from = len; first = first; ready = ready; want = new_want }) tables) all c
 found-failed last m offset from first ready want new_want len false tables b c all x' g e h z = cc
 found-failed last m offset from first ready want new_want len true tables b c all x' g e h z =
     let r : Progress = record { position = record { mode = m; offset = offset; failed = true }; from = from; first = first; ready = ready; want = want } in
     let none : drop len all ≡ [] = drop_all len all (omega arith) in
     let empty : drop from b ≡ [] = ap (λ n. drop n b) h.front ∙ z.0 in
-    let k : Run State SegmentItem = kept_of last r tables b in
+    let k : Lookahead State SegmentItem = kept_of last r tables b in
     let still : run segments (segments.more k.state c) ≡ stay_at k.state = failed-more last m offset tables (drop from b) in
-    let mk : List SegmentItem → List ℕ → Run State SegmentItem = λ items rest. record { items = items; state = state_of last (record { mode = m; offset = offset; failed = true }) tables rest } in
+    let mk : List SegmentItem → List ℕ → Lookahead State SegmentItem = λ items rest. record { items = items; state = state_of last (record { mode = m; offset = offset; failed = true }) tables rest } in
     let a : mk (frames (drop len all) offset tables.slots.items first ready) (drop len all) ≡ mk [] [] = ap (λ v. mk (frames v offset tables.slots.items first ready) v) none ∙ ap (λ n. mk (frames [] offset tables.slots.items first n) []) z.1 in
     let d : mk (frames (drop from b) offset tables.slots.items first ready ++ []) (drop from b) ≡ mk [] [] = ap (λ n. mk (frames (drop from b) offset tables.slots.items first n ++ []) (drop from b)) z.1 ∙ ap (mk []) empty in
     record {
-      same = a ∙ sym (ap (joined k.items) still ∙ d);
+      same = a ∙ sym (ap (with_items k.items) still ∙ d);
       consistent = record { inside = omega arith; counts = h.consistent.counts; ends = subst (IsEndingBy (length all - len) tables.slots.items first) (sym z.1) tt; small = omega (arith, h.consistent.small) };
       rests = rests-failed last (mode_of tables.slots.items tables.known.items m) offset (drop len all) true new_want refl;
       total = omega arith;
@@ -192,7 +192,7 @@ found-emptied r b g = λ e. absurd (both r.position.failed g e)
 pub accepted-kept : (last : Option Presentation) (r : Progress) (tables : Tables) (old new : List ℕ) → new ≡ drop r.from old → kept_of last (record { position = r.position; from = 0; first = r.first; ready = r.ready; want = r.want }) tables new ≡ kept_of last r tables old
 accepted-kept last r tables old new e = rw e refl
 
-pub accepted-rest : (last : Option Presentation) (r : Progress) (tables : Tables) (old new : List ℕ) → new ≡ drop r.from old → IsConsistent r tables old → Rests (state_of last r.position tables (drop r.from old)) r.want → IsAtRest last (record { position = r.position; from = 0; first = r.first; ready = r.ready; want = r.want }) tables new
+pub accepted-rest : (last : Option Presentation) (r : Progress) (tables : Tables) (old new : List ℕ) → new ≡ drop r.from old → IsConsistent r tables old → Rests (state_of last r.position tables (drop r.from old)) r.want → IsWaitingForBytes last (record { position = r.position; from = 0; first = r.first; ready = r.ready; want = r.want }) tables new
 accepted-rest last r tables old new e f w =
     let l : length new ≡ length old - r.from = ap length e ∙ length-drop r.from old in
     record {

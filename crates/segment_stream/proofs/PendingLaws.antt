@@ -5,7 +5,7 @@ use Rattle.std.proofs.lemmas.Option.{slice_get_within}
 use Rattle.mse_base.specs.declared.track.Presentation.{Presentation}
 use Rattle.bmff_fragment.specs.declared.slot.Slot.{Slot}
 use Rattle.bmff_fragment.specs.Plans.{plan_of}
-use Rattle.parser_loop.specs.Walk.{Move, Stop, Pass, Give, Run, first_by, after_by}
+use Rattle.parser_loop.specs.Walk.{Move, Stop, Pass, Give, Lookahead, first_by, after_by}
 use Rattle.parser_loop.proofs.Runs.{IsRested, is_run}
 use Rattle.mse_base.specs.declared.frame.Phase.{Phase}
 use Rattle.segment_walk.specs.declared.kinds.ParserMode as code
@@ -81,7 +81,7 @@ frame-there (codes.Within f) tables first ready i h l e =
 -- ---- a place that rests
 
 pub rested : (s : State) (want : ℕ) → Rests s want → IsRested segments (segments.move s)
-rested s want r = subst (λ (v : Run State SegmentItem). IsRested segments (segments.move v.state)) r.still (is_run segments is_walk s).rested
+rested s want r = subst (λ (v : Lookahead State SegmentItem). IsRested segments (segments.move v.state)) r.still (is_run segments is_walk s).rested
 
 abbrev pub Passes : Move State SegmentItem → Type 0
 Passes Stop = ⊥

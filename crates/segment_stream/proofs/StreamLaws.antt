@@ -14,7 +14,7 @@ use Rattle.bmff_fragment.specs.declared.slot.Slot.{Slot}
 use Rattle.bmff_fragment.specs.Plans.{plan_of}
 use Rattle.input_chunks.specs.Pieces.{pieces_with, pieces_without_first, pieces_without_last, HasNoEmptyPiece}
 use Rattle.input_chunks.proofs.Rows.{bytes-pushed, bytes-without, none-added, none-without}
-use Rattle.parser_loop.specs.Walk.{Move, Stop, Pass, Give, Run, run, run_by, run_give, stay_at, fed, fed_all, first_by, after_by, run_after, first_item, after_first, count_after}
+use Rattle.parser_loop.specs.Walk.{Move, Stop, Pass, Give, Lookahead, run, run_by, run_give, stay_at, fed, fed_all, first_by, after_by, run_after, first_item, after_first, count_after}
 use Rattle.parser_loop.proofs.Walks.{IsSettled, settled-at-state}
 use Rattle.parser_loop.proofs.Runs.{run-step, run-rested, keeps, Keeps, IsRested, stands-first, stands-after, stands-look, stands-ready}
 use Rattle.parser_loop.proofs.Pieces.{stands-start, stands-piece}
@@ -35,10 +35,10 @@ use Rattle.segment_walk.proofs.Latest.{last-move, LastAfter, state-latest}
 use Rattle.segment_stream.specs.declared.progress.Progress.{Progress}
 use Rattle.segment_stream.specs.declared.progress.ParserPosition.{ParserPosition}
 use Rattle.segment_stream.specs.declared.progress.Tables.{Tables}
-use Rattle.segment_stream.specs.declared.next.Next.{Next}
+use Rattle.segment_stream.specs.declared.next.SegmentNext.{SegmentNext}
 use Rattle.segment_stream.specs.declared.stream.Offered.{Offered}
-use Rattle.segment_stream.specs.Kept.{frames, IsCountedIn, Rests, IsAtRest, IsEmptied, IsFoundWith, IsLast, kept_of, state_of, progress_at_start, last_bytes, seen, with_tables}
-use Rattle.segment_stream.specs.Streams.{Stands, Streamed, streamed, pushed_last, IsStreamAtRest, IsStreamWithOffer, IsStream}
+use Rattle.segment_stream.specs.Kept.{frames, IsCountedIn, Rests, IsWaitingForBytes, IsEmptied, IsFoundWith, IsLast, kept_of, state_of, progress_at_start, last_bytes, seen, with_tables}
+use Rattle.segment_stream.specs.Streams.{Stands, SegmentView, segment_view, pushed_last, IsStreamAtRest, IsStreamWithOffer, IsStream}
 use Rattle.segment_stream.proofs.PendingLaws.{some-there, rested}
 use Rattle.segment_stream.proofs.ArmLaws.{all-kept, dropped}
 
@@ -124,42 +124,42 @@ abbrev Alike : State → State → Type 0
 Alike s t = (t.rest ≡ s.rest) × (phase_of t.mode ≡ phase_of s.mode)
 
 alike-give : (s t : State) (item : SegmentItem) (b : Bool) → segments.runs item ≡ b → run segments s ≡ run_give s item (run segments t) b → Keeping s (Give item t) → Alike s (run segments s).state
-alike-give s t item false e r f = (ap (λ (k : Run State SegmentItem). k.state.rest) r, ap (λ (k : Run State SegmentItem). phase_of k.state.mode) r)
+alike-give s t item false e r f = (ap (λ (k : Lookahead State SegmentItem). k.state.rest) r, ap (λ (k : Lookahead State SegmentItem). phase_of k.state.mode) r)
 alike-give s t item true e r f =
     let q = f e in
     let h = keeps segments is_walk (Held s.rest) (held-move s.rest) t (q.1, q.2) in (
-      ap (λ (k : Run State SegmentItem). k.state.rest) r ∙ h.1,
-      ap (λ (k : Run State SegmentItem). phase_of k.state.mode) r ∙ phase-within (run segments t).state.mode h.0 ∙ sym (phase-within s.mode q.0),
+      ap (λ (k : Lookahead State SegmentItem). k.state.rest) r ∙ h.1,
+      ap (λ (k : Lookahead State SegmentItem). phase_of k.state.mode) r ∙ phase-within (run segments t).state.mode h.0 ∙ sym (phase-within s.mode q.0),
     )
 
 alike-at : (s : State) (m : Move State SegmentItem) → segments.move s ≡ m → IsSettled m → Keeping s m → Alike s (run segments s).state
-alike-at s Stop e d f = let r = run-step segments is_walk s ∙ ap (run_by segments s (run segments)) e in (ap (λ (k : Run State SegmentItem). k.state.rest) r, ap (λ (k : Run State SegmentItem). phase_of k.state.mode) r)
+alike-at s Stop e d f = let r = run-step segments is_walk s ∙ ap (run_by segments s (run segments)) e in (ap (λ (k : Lookahead State SegmentItem). k.state.rest) r, ap (λ (k : Lookahead State SegmentItem). phase_of k.state.mode) r)
 alike-at s (Pass t) e d f = absurd d
 alike-at s (Give item t) e d f = alike-give s t item (segments.runs item) refl (run-step segments is_walk s ∙ ap (run_by segments s (run segments)) e) f
 
 alike-run : (s : State) → IsSettled (segments.move s) → Alike s (run segments s).state
 alike-run s d = alike-at s (segments.move s) refl d (keeping s.last s.mode s.offset s.rest s.failed)
 
-alike-stands : (kept : Run State SegmentItem) (last : Option Presentation) (b : List ℕ) (n : ℕ) → Stands kept last b n → Alike (state_before last b n) kept.state
+alike-stands : (kept : Lookahead State SegmentItem) (last : Option Presentation) (b : List ℕ) (n : ℕ) → Stands kept last b n → Alike (state_before last b n) kept.state
 alike-stands kept last b n h =
     let s : State = state_before last b n in
     let a = alike-run s (settled-at-state segments is_walk n (start last b)) in
-    (ap (λ (k : Run State SegmentItem). k.state.rest) h.is ∙ a.0, ap (λ (k : Run State SegmentItem). phase_of k.state.mode) h.is ∙ a.1)
+    (ap (λ (k : Lookahead State SegmentItem). k.state.rest) h.is ∙ a.0, ap (λ (k : Lookahead State SegmentItem). phase_of k.state.mode) h.is ∙ a.1)
 
-pub stands-phase : (kept : Run State SegmentItem) (last : Option Presentation) (b : List ℕ) (n : ℕ) → Stands kept last b n → phase_of kept.state.mode ≡ phase_before last b n
+pub stands-phase : (kept : Lookahead State SegmentItem) (last : Option Presentation) (b : List ℕ) (n : ℕ) → Stands kept last b n → phase_of kept.state.mode ≡ phase_before last b n
 stands-phase kept last b n h = (alike-stands kept last b n h).1 ∙ ap (λ (v : ParserView). v.phase) (seen-boxes last b n)
 
-pub stands-held : (kept : Run State SegmentItem) (last : Option Presentation) (b : List ℕ) (n : ℕ) → Stands kept last b n → kept.state.rest ≡ held_before last b n
+pub stands-held : (kept : Lookahead State SegmentItem) (last : Option Presentation) (b : List ℕ) (n : ℕ) → Stands kept last b n → kept.state.rest ≡ held_before last b n
 stands-held kept last b n h = (alike-stands kept last b n h).0 ∙ ap (λ (v : ParserView). v.held) (seen-boxes last b n)
 
 -- the items are those that the boxes tell
-pub stands-item : (kept : Run State SegmentItem) (last : Option Presentation) (b : List ℕ) (n : ℕ) → Stands kept last b n → first_item segments kept ≡ slice_get (Items last b) n
+pub stands-item : (kept : Lookahead State SegmentItem) (last : Option Presentation) (b : List ℕ) (n : ℕ) → Stands kept last b n → first_item segments kept ≡ slice_get (Items last b) n
 stands-item kept last b n h = stands-first segments is_walk kept (start last b) n h ∙ ap (λ items. slice_get items n) (items-boxes last b)
 
-pub stands-ahead : (kept : Run State SegmentItem) (last : Option Presentation) (b : List ℕ) (n i : ℕ) → i < length kept.items → Stands kept last b n → slice_get kept.items i ≡ slice_get (Items last b) (n + i)
+pub stands-ahead : (kept : Lookahead State SegmentItem) (last : Option Presentation) (b : List ℕ) (n i : ℕ) → i < length kept.items → Stands kept last b n → slice_get kept.items i ≡ slice_get (Items last b) (n + i)
 stands-ahead kept last b n i l h = stands-look segments is_walk kept (start last b) n i l h ∙ ap (λ items. slice_get items (n + i)) (items-boxes last b)
 
-pub stands-count : (kept : Run State SegmentItem) (last : Option Presentation) (b : List ℕ) (n : ℕ) → Stands kept last b n → length kept.items ≡ ready_before last b n
+pub stands-count : (kept : Lookahead State SegmentItem) (last : Option Presentation) (b : List ℕ) (n : ℕ) → Stands kept last b n → length kept.items ≡ ready_before last b n
 stands-count kept last b n h = stands-ready segments is_walk kept (start last b) n h ∙ ready-boxes last b n
 
 -- ---- the presentation
@@ -178,15 +178,15 @@ last-by last s (Give item t) f p = λ e. f ∙ frame-latest s.last item e ∙ p
 last-run : (s : State) → (run segments s).state.last ≡ s.last
 last-run s = keeps segments is_walk (λ t. t.last ≡ s.last) (λ t p. last-by s.last t (segments.move t) (last-move t) p) s refl
 
-pub stands-latest : (kept : Run State SegmentItem) (last : Option Presentation) (b : List ℕ) (n : ℕ) → Stands kept last b n → kept.state.last ≡ latest_after_all last (take n (Items last b))
-stands-latest kept last b n h = ap (λ (k : Run State SegmentItem). k.state.last) h.is ∙ last-run (state_before last b n) ∙ state-latest n (start last b) ∙ ap (λ items. latest_after_all last (take n items)) (items-boxes last b)
+pub stands-latest : (kept : Lookahead State SegmentItem) (last : Option Presentation) (b : List ℕ) (n : ℕ) → Stands kept last b n → kept.state.last ≡ latest_after_all last (take n (Items last b))
+stands-latest kept last b n h = ap (λ (k : Lookahead State SegmentItem). k.state.last) h.is ∙ last-run (state_before last b n) ∙ state-latest n (start last b) ∙ ap (λ items. latest_after_all last (take n items)) (items-boxes last b)
 
 -- ---- pieces
 
-pub stands-more : (kept : Run State SegmentItem) (last : Option Presentation) (b c : List ℕ) (n : ℕ) → Stands kept last b n → Stands (fed segments kept c) last (b ++ c) n
+pub stands-more : (kept : Lookahead State SegmentItem) (last : Option Presentation) (b c : List ℕ) (n : ℕ) → Stands kept last b n → Stands (fed segments kept c) last (b ++ c) n
 stands-more kept last b c n h = stands-piece segments is_walk kept (start last b) c n h
 
-pub stands-pieces : (kept : Run State SegmentItem) (last : Option Presentation) (b : List ℕ) (n : ℕ) (cs : List (List ℕ)) → Stands kept last b n → Stands (fed_all segments kept cs) last (b ++ concat cs) n
+pub stands-pieces : (kept : Lookahead State SegmentItem) (last : Option Presentation) (b : List ℕ) (n : ℕ) (cs : List (List ℕ)) → Stands kept last b n → Stands (fed_all segments kept cs) last (b ++ concat cs) n
 stands-pieces kept last b n [] h = rw (append-nil b) h
 stands-pieces kept last b n (c ∷ cs) h =
     subst (λ v. Stands (fed_all segments (fed segments kept c) cs) last v n) (append_assoc b c (concat cs)) (stands-pieces (fed segments kept c) last (b ++ c) n cs (stands-more kept last b c n h))
@@ -196,9 +196,9 @@ stands-pieces kept last b n (c ∷ cs) h =
 some-none : (x : List ℕ) → Some x ≡ None → ⊥
 some-none x e = cc
 
-pub idle : (last : Option Presentation) (r : Progress) (tables : Tables) (input : List (List ℕ)) (fed : ℕ) (o : Option Offered) (v : Streamed) → streamed last (with_tables r tables) input fed o ≡ v → v.offered ≡ None → IsStream last (with_tables r tables) input fed o → IsStreamAtRest last (with_tables r tables) input fed × (streamed last (with_tables r tables) input fed None ≡ v) × (o ≡ None)
+pub idle : (last : Option Presentation) (r : Progress) (tables : Tables) (input : List (List ℕ)) (fed : ℕ) (o : Option Offered) (v : SegmentView) → segment_view last (with_tables r tables) input fed o ≡ v → v.offered ≡ None → IsStream last (with_tables r tables) input fed o → IsStreamAtRest last (with_tables r tables) input fed × (segment_view last (with_tables r tables) input fed None ≡ v) × (o ≡ None)
 idle last r tables input fed None v e q h = (h, e, refl)
-idle last r tables input fed (Some o) v e q h = absurd (some-none (pushed_last o.len input) (ap (λ (w : Streamed). w.offered) e ∙ q))
+idle last r tables input fed (Some o) v e q h = absurd (some-none (pushed_last o.len input) (ap (λ (w : SegmentView). w.offered) e ∙ q))
 
 frames-length : (rest : List ℕ) (offset : ℕ) (slots : List Slot) (first ready : ℕ) → first + ready ≤ length slots → length (frames rest offset slots first ready) ≡ ready
 frames-length rest offset slots first zero h = refl
@@ -261,15 +261,15 @@ pushed-is-last bytes old new len l b e =
     let w : pieces_without_last len new ≡ old = ap (λ n. pieces_without_last n new) l ∙ b in
     ap (λ ps. drop (length (concat ps)) (concat new)) w ∙ ap (drop (length (concat old))) (ap concat e ∙ bytes-pushed bytes old) ∙ drop-front (concat old) bytes
 
-pub offer-view : (last : Option Presentation) (r found : Progress) (tables new_tables : Tables) (old new : List (List ℕ)) (bytes : List ℕ) (fed len : ℕ) → len ≡ length bytes → pieces_without_last (length bytes) new ≡ old → new ≡ pieces_with bytes old → kept_of last r new_tables (concat old) ≡ kept_of last r tables (concat old) → streamed last (with_tables r new_tables) new fed (Some (record { len = len; progress = found })) ≡ record { kept = kept_of last r tables (concat old); pieces = old; fed = fed; offered = Some bytes }
+pub offer-view : (last : Option Presentation) (r found : Progress) (tables new_tables : Tables) (old new : List (List ℕ)) (bytes : List ℕ) (fed len : ℕ) → len ≡ length bytes → pieces_without_last (length bytes) new ≡ old → new ≡ pieces_with bytes old → kept_of last r new_tables (concat old) ≡ kept_of last r tables (concat old) → segment_view last (with_tables r new_tables) new fed (Some (record { len = len; progress = found })) ≡ record { kept = kept_of last r tables (concat old); pieces = old; fed = fed; offered = Some bytes }
 offer-view last r found tables new_tables old new bytes fed len l b e k =
     let w : pieces_without_last len new ≡ old = ap (λ n. pieces_without_last n new) l ∙ b in
     let p : pushed_last len new ≡ bytes = pushed-is-last bytes old new len l b e in
-    let view : List (List ℕ) → List ℕ → Streamed = λ ps c. record { kept = kept_of last r new_tables (concat ps); pieces = ps; fed = fed; offered = Some c } in
-    let view' : Run State SegmentItem → Streamed = λ v. record { kept = v; pieces = old; fed = fed; offered = Some bytes } in
+    let view : List (List ℕ) → List ℕ → SegmentView = λ ps c. record { kept = kept_of last r new_tables (concat ps); pieces = ps; fed = fed; offered = Some c } in
+    let view' : Lookahead State SegmentItem → SegmentView = λ v. record { kept = v; pieces = old; fed = fed; offered = Some bytes } in
     ap (λ ps. view ps (pushed_last len new)) w ∙ ap (view old) p ∙ ap view' k
 
-pub offer-holds : (last : Option Presentation) (r found : Progress) (tables new_tables : Tables) (old new : List (List ℕ)) (bytes : List ℕ) (fed len : ℕ) → len ≡ length bytes → pieces_without_last (length bytes) new ≡ old → new ≡ pieces_with bytes old → IsStreamAtRest last (with_tables r tables) old fed → IsAtRest last r new_tables (concat old) → IsFoundWith last (kept_of last r new_tables (concat old)) (with_tables found new_tables) (concat new) bytes → IsEmptied found (drop found.from (concat new)) → fed + len < 2 ^ 62 → IsStreamWithOffer last (with_tables r new_tables) new fed (record { len = len; progress = found })
+pub offer-holds : (last : Option Presentation) (r found : Progress) (tables new_tables : Tables) (old new : List (List ℕ)) (bytes : List ℕ) (fed len : ℕ) → len ≡ length bytes → pieces_without_last (length bytes) new ≡ old → new ≡ pieces_with bytes old → IsStreamAtRest last (with_tables r tables) old fed → IsWaitingForBytes last r new_tables (concat old) → IsFoundWith last (kept_of last r new_tables (concat old)) (with_tables found new_tables) (concat new) bytes → IsEmptied found (drop found.from (concat new)) → fed + len < 2 ^ 62 → IsStreamWithOffer last (with_tables r new_tables) new fed (record { len = len; progress = found })
 offer-holds last r found tables new_tables old new bytes fed len l b e h rest f q room =
     let w : pieces_without_last len new ≡ old = ap (λ n. pieces_without_last n new) l ∙ b in
     let p : pushed_last len new ≡ bytes = pushed-is-last bytes old new len l b e in
@@ -285,7 +285,7 @@ offer-holds last r found tables new_tables old new bytes fed len l b e h rest f 
 emptied-as : (r s : Progress) (a b : List ℕ) → s.position ≡ r.position → s.ready ≡ r.ready → b ≡ a → IsEmptied r a → IsEmptied s b
 emptied-as r s a b e f g h = λ q. let k = h (ap (λ (x : ParserPosition). x.failed) (sym e) ∙ q) in (g ∙ k.0, f ∙ k.1)
 
-pub accept-holds : (last : Option Presentation) (r s : Progress) (tables : Tables) (input new : List (List ℕ)) (fed : ℕ) (o : Offered) → IsStreamWithOffer last (with_tables r tables) input fed o → IsAtRest last s tables (concat new) → s.position ≡ o.progress.position → s.ready ≡ o.progress.ready → new ≡ pieces_without_first o.progress.from input → IsStreamAtRest last (with_tables s tables) new (fed + o.len)
+pub accept-holds : (last : Option Presentation) (r s : Progress) (tables : Tables) (input new : List (List ℕ)) (fed : ℕ) (o : Offered) → IsStreamWithOffer last (with_tables r tables) input fed o → IsWaitingForBytes last s tables (concat new) → s.position ≡ o.progress.position → s.ready ≡ o.progress.ready → new ≡ pieces_without_first o.progress.from input → IsStreamAtRest last (with_tables s tables) new (fed + o.len)
 accept-holds last r s tables input new fed o h rest e f g =
     let b : concat new ≡ drop o.progress.from (concat input) = ap concat g ∙ bytes-without o.progress.from input in
     let before = pieces_without_last o.len input in
@@ -299,17 +299,17 @@ accept-holds last r s tables input new fed o h rest e f g =
       few = h.room;
     }
 
-pub accept-stands : (last : Option Presentation) (r s : Progress) (tables : Tables) (input new : List (List ℕ)) (fed : ℕ) (o : Offered) (v : Streamed) → streamed last (with_tables r tables) input fed (Some o) ≡ v → IsStreamWithOffer last (with_tables r tables) input fed o → kept_of last s tables (concat new) ≡ kept_of last o.progress tables (concat input) → IfSome v.offered (λ bytes. (last' : Option Presentation) (b : List ℕ) (n : ℕ) → Stands v.kept last' b n → Stands (kept_of last s tables (concat new)) last' (b ++ bytes) n)
+pub accept-stands : (last : Option Presentation) (r s : Progress) (tables : Tables) (input new : List (List ℕ)) (fed : ℕ) (o : Offered) (v : SegmentView) → segment_view last (with_tables r tables) input fed (Some o) ≡ v → IsStreamWithOffer last (with_tables r tables) input fed o → kept_of last s tables (concat new) ≡ kept_of last o.progress tables (concat input) → IfSome v.offered (λ bytes. (last' : Option Presentation) (b : List ℕ) (n : ℕ) → Stands v.kept last' b n → Stands (kept_of last s tables (concat new)) last' (b ++ bytes) n)
 accept-stands last r s tables input new fed o v e h k =
     let c = pushed_last o.len input in
-    let kept : Run State SegmentItem = kept_of last r tables (concat (pieces_without_last o.len input)) in
+    let kept : Lookahead State SegmentItem = kept_of last r tables (concat (pieces_without_last o.len input)) in
     let f : (last' : Option Presentation) (b : List ℕ) (n : ℕ) → Stands kept last' b n → Stands (kept_of last s tables (concat new)) last' (b ++ c) n = λ last' b n q. subst (λ v. Stands v last' (b ++ c) n) (sym (k ∙ h.found.same)) (stands-more kept last' b c n q) in
-    subst (λ (v : Streamed). IfSome v.offered (λ bytes. (last' : Option Presentation) (b : List ℕ) (n : ℕ) → Stands v.kept last' b n → Stands (kept_of last s tables (concat new)) last' (b ++ bytes) n)) e f
+    subst (λ (v : SegmentView). IfSome v.offered (λ bytes. (last' : Option Presentation) (b : List ℕ) (n : ℕ) → Stands v.kept last' b n → Stands (kept_of last s tables (concat new)) last' (b ++ bytes) n)) e f
 
-pub accept-pieces : (last : Option Presentation) (r : Progress) (tables : Tables) (input new : List (List ℕ)) (fed from : ℕ) (o : Offered) (v : Streamed) → streamed last (with_tables r tables) input fed (Some o) ≡ v → IsStreamWithOffer last (with_tables r tables) input fed o → from ≡ 0 → new ≡ pieces_without_first o.progress.from input → IfSome v.offered (λ bytes. new ≡ last_bytes (length (drop from (concat new))) (pieces_with bytes v.pieces))
+pub accept-pieces : (last : Option Presentation) (r : Progress) (tables : Tables) (input new : List (List ℕ)) (fed from : ℕ) (o : Offered) (v : SegmentView) → segment_view last (with_tables r tables) input fed (Some o) ≡ v → IsStreamWithOffer last (with_tables r tables) input fed o → from ≡ 0 → new ≡ pieces_without_first o.progress.from input → IfSome v.offered (λ bytes. new ≡ last_bytes (length (drop from (concat new))) (pieces_with bytes v.pieces))
 accept-pieces last r tables input new fed from o v e h z g =
     let f : new ≡ last_bytes (length (drop from (concat new))) (pieces_with (pushed_last o.len input) (pieces_without_last o.len input)) = dropped o.progress.from input new h.found.consistent.inside g ∙ ap (λ n. last_bytes (length (drop n (concat new))) input) (sym z) ∙ ap (last_bytes (length (drop from (concat new)))) h.is_pushed in
-    subst (λ (v : Streamed). IfSome v.offered (λ bytes. new ≡ last_bytes (length (drop from (concat new))) (pieces_with bytes v.pieces))) e f
+    subst (λ (v : SegmentView). IfSome v.offered (λ bytes. new ≡ last_bytes (length (drop from (concat new))) (pieces_with bytes v.pieces))) e f
 
 -- ---- the next item
 
@@ -320,14 +320,14 @@ after-none [] s (Pass t) e h q = absurd h
 after-none [] s (Give item t) e h q = cc
 after-none (x ∷ items) s m e h q = cc
 
-pub dry-kept : (kept : Run State SegmentItem) (want : ℕ) → Rests kept.state want → first_item segments kept ≡ None → after_first segments kept ≡ kept
+pub dry-kept : (kept : Lookahead State SegmentItem) (want : ℕ) → Rests kept.state want → first_item segments kept ≡ None → after_first segments kept ≡ kept
 dry-kept kept want r q = after-none kept.items kept.state (segments.move kept.state) refl (rested kept.state want r) q
 
 -- and the pieces
 pub dry-pieces : (old new : List (List ℕ)) → HasNoEmptyPiece old → concat new ≡ concat old → new ≡ last_bytes (length (concat new)) old → new ≡ old
 dry-pieces old new h e p = p ∙ ap (λ (b : List ℕ). last_bytes (length b) old) e ∙ sym (all-kept old h)
 
-pub next-holds : {E : Type 0} (result : Result Next E) (last new_last : Option Presentation) (r new_r : Progress) (tables new_tables : Tables) (input new : List (List ℕ)) (fed : ℕ) → IsStreamAtRest last (with_tables r tables) input fed → OnOk result (IsAtRest new_last new_r new_tables (concat new)) → OnOk result (IsEmptied new_r (concat new)) → IsLast new_last → OnOk result (new_r.position.offset + length (concat new) ≤ r.position.offset + length (concat input)) → OnOk result (new ≡ last_bytes (length (concat new)) input) → OnErr result (new_last ≡ last) → OnErr result (new_r ≡ r) → OnErr result (new_tables ≡ tables) → OnErr result (new ≡ input) → IsStreamAtRest new_last (with_tables new_r new_tables) new fed
+pub next-holds : {E : Type 0} (result : Result SegmentNext E) (last new_last : Option Presentation) (r new_r : Progress) (tables new_tables : Tables) (input new : List (List ℕ)) (fed : ℕ) → IsStreamAtRest last (with_tables r tables) input fed → OnOk result (IsWaitingForBytes new_last new_r new_tables (concat new)) → OnOk result (IsEmptied new_r (concat new)) → IsLast new_last → OnOk result (new_r.position.offset + length (concat new) ≤ r.position.offset + length (concat input)) → OnOk result (new ≡ last_bytes (length (concat new)) input) → OnErr result (new_last ≡ last) → OnErr result (new_r ≡ r) → OnErr result (new_tables ≡ tables) → OnErr result (new ≡ input) → IsStreamAtRest new_last (with_tables new_r new_tables) new fed
 next-holds (Ok x) last new_last r new_r tables new_tables input new fed h rest emptied readable total pieces e_last e_r e_tables e_input = record {
   rest = rest;
   emptied = emptied;
@@ -338,28 +338,28 @@ next-holds (Ok x) last new_last r new_r tables new_tables input new fed h rest e
 }
 next-holds (Err e) last new_last r new_r tables new_tables input new fed h rest emptied readable total pieces e_last e_r e_tables e_input = rw (e_last, e_r, e_tables, e_input) h
 
-pub next-item : {E : Type 0} (result : Result Next E) (last : Option Presentation) (r : Progress) (tables : Tables) (input : List (List ℕ)) (fed : ℕ) (v : Streamed) → streamed last (with_tables r tables) input fed None ≡ v → (before : Option Presentation) (b : List ℕ) (n : ℕ) → Stands v.kept before b n → IfOk result (λ x. seen x ≡ first_item segments (kept_of last r tables (concat input))) → IfOk result (λ x. seen x ≡ slice_get (Items before b) n)
-next-item (Ok x) last r tables input fed v e before b n st g = g ∙ ap (λ (w : Streamed). first_item segments w.kept) e ∙ stands-item v.kept before b n st
+pub next-item : {E : Type 0} (result : Result SegmentNext E) (last : Option Presentation) (r : Progress) (tables : Tables) (input : List (List ℕ)) (fed : ℕ) (v : SegmentView) → segment_view last (with_tables r tables) input fed None ≡ v → (before : Option Presentation) (b : List ℕ) (n : ℕ) → Stands v.kept before b n → IfOk result (λ x. seen x ≡ first_item segments (kept_of last r tables (concat input))) → IfOk result (λ x. seen x ≡ slice_get (Items before b) n)
+next-item (Ok x) last r tables input fed v e before b n st g = g ∙ ap (λ (w : SegmentView). first_item segments w.kept) e ∙ stands-item v.kept before b n st
 next-item (Err x) last r tables input fed v e before b n st g = tt
 
-pub next-stands : {E : Type 0} (result : Result Next E) (last new_last : Option Presentation) (r new_r : Progress) (tables new_tables : Tables) (input new : List (List ℕ)) (fed : ℕ) (v : Streamed) → streamed last (with_tables r tables) input fed None ≡ v → (before : Option Presentation) (b : List ℕ) (n : ℕ) → Stands v.kept before b n → IfOk result (λ x. seen x ≡ first_item segments (kept_of last r tables (concat input))) → OnOk result (kept_of new_last new_r new_tables (concat new) ≡ after_first segments (kept_of last r tables (concat input))) → IfOk result (λ x. Stands (kept_of new_last new_r new_tables (concat new)) before b (count_after n (seen x)))
+pub next-stands : {E : Type 0} (result : Result SegmentNext E) (last new_last : Option Presentation) (r new_r : Progress) (tables new_tables : Tables) (input new : List (List ℕ)) (fed : ℕ) (v : SegmentView) → segment_view last (with_tables r tables) input fed None ≡ v → (before : Option Presentation) (b : List ℕ) (n : ℕ) → Stands v.kept before b n → IfOk result (λ x. seen x ≡ first_item segments (kept_of last r tables (concat input))) → OnOk result (kept_of new_last new_r new_tables (concat new) ≡ after_first segments (kept_of last r tables (concat input))) → IfOk result (λ x. Stands (kept_of new_last new_r new_tables (concat new)) before b (count_after n (seen x)))
 next-stands (Ok x) last new_last r new_r tables new_tables input new fed v e before b n st g k =
-    let f : seen x ≡ first_item segments v.kept = g ∙ ap (λ (w : Streamed). first_item segments w.kept) e in
-    let q : kept_of new_last new_r new_tables (concat new) ≡ after_first segments v.kept = k ∙ ap (λ (w : Streamed). after_first segments w.kept) e in
+    let f : seen x ≡ first_item segments v.kept = g ∙ ap (λ (w : SegmentView). first_item segments w.kept) e in
+    let q : kept_of new_last new_r new_tables (concat new) ≡ after_first segments v.kept = k ∙ ap (λ (w : SegmentView). after_first segments w.kept) e in
     let a : Stands (after_first segments v.kept) before b (count_after n (first_item segments v.kept)) = stands-after segments is_walk v.kept (start before b) n st in
     subst (λ w. Stands w before b (count_after n (seen x))) (sym q) (subst (λ o. Stands (after_first segments v.kept) before b (count_after n o)) (sym f) a)
 next-stands (Err x) last new_last r new_r tables new_tables input new fed v e before b n st g k = tt
 
-pub next-dry : {E : Type 0} (result : Result Next E) (last new_last : Option Presentation) (r new_r : Progress) (tables new_tables : Tables) (input new : List (List ℕ)) (fed : ℕ) (v : Streamed) → IsStreamAtRest last (with_tables r tables) input fed → streamed last (with_tables r tables) input fed None ≡ v → IfOk result (λ x. seen x ≡ first_item segments (kept_of last r tables (concat input))) → OnOk result (kept_of new_last new_r new_tables (concat new) ≡ after_first segments (kept_of last r tables (concat input))) → OnOk result (IsAtRest new_last new_r new_tables (concat new)) → OnOk result (new ≡ last_bytes (length (concat new)) input) → IfOk result (λ x. seen x ≡ None → streamed new_last (with_tables new_r new_tables) new fed None ≡ v)
+pub next-dry : {E : Type 0} (result : Result SegmentNext E) (last new_last : Option Presentation) (r new_r : Progress) (tables new_tables : Tables) (input new : List (List ℕ)) (fed : ℕ) (v : SegmentView) → IsStreamAtRest last (with_tables r tables) input fed → segment_view last (with_tables r tables) input fed None ≡ v → IfOk result (λ x. seen x ≡ first_item segments (kept_of last r tables (concat input))) → OnOk result (kept_of new_last new_r new_tables (concat new) ≡ after_first segments (kept_of last r tables (concat input))) → OnOk result (IsWaitingForBytes new_last new_r new_tables (concat new)) → OnOk result (new ≡ last_bytes (length (concat new)) input) → IfOk result (λ x. seen x ≡ None → segment_view new_last (with_tables new_r new_tables) new fed None ≡ v)
 next-dry (Err x) last new_last r new_r tables new_tables input new fed v h e g k rest pieces = tt
 next-dry (Ok x) last new_last r new_r tables new_tables input new fed v h e g k rest pieces = λ z.
-    let old_kept : Run State SegmentItem = kept_of last r tables (concat input) in
-    let new_kept : Run State SegmentItem = kept_of new_last new_r new_tables (concat new) in
+    let old_kept : Lookahead State SegmentItem = kept_of last r tables (concat input) in
+    let new_kept : Lookahead State SegmentItem = kept_of new_last new_r new_tables (concat new) in
     let y : drop r.from (concat input) ≡ concat input = ap (λ i. drop i (concat input)) h.rest.front in
     let y' : drop new_r.from (concat new) ≡ concat new = ap (λ i. drop i (concat new)) rest.front in
     let w : Rests old_kept.state r.want = subst (λ bytes. Rests (state_of last r.position tables bytes) r.want) (sym y) h.rest.rests in
     let same : new_kept ≡ old_kept = k ∙ dry-kept old_kept r.want w (sym g ∙ z) in
-    let bytes : concat new ≡ concat input = sym y' ∙ ap (λ (q : Run State SegmentItem). q.state.rest) same ∙ y in
+    let bytes : concat new ≡ concat input = sym y' ∙ ap (λ (q : Lookahead State SegmentItem). q.state.rest) same ∙ y in
     let p : new ≡ input = dry-pieces input new h.full bytes pieces in
-    let view : Run State SegmentItem → List (List ℕ) → Streamed = λ q ps. record { kept = q; pieces = ps; fed = fed; offered = None } in
+    let view : Lookahead State SegmentItem → List (List ℕ) → SegmentView = λ q ps. record { kept = q; pieces = ps; fed = fed; offered = None } in
     ap (λ q. view q new) same ∙ ap (view old_kept) p ∙ e

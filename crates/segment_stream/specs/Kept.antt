@@ -6,7 +6,7 @@ use Rattle.mse_base.specs.Presentation.{IsPresentation}
 use Rattle.bmff_fragment.specs.declared.slot.Slot.{Slot}
 use Rattle.bmff_fragment.specs.declared.fault.MoofFault.{MoofFault}
 use Rattle.bmff_fragment.specs.Plans.{plan_of}
-use Rattle.parser_loop.specs.Walk.{Move, Stop, Give, Run, run, joined, stay_at, fed}
+use Rattle.parser_loop.specs.Walk.{Move, Stop, Give, Lookahead, run, with_items, stay_at, fed}
 use Rattle.mse_base.specs.declared.frame.Phase.TheVariants.{Waiting}
 use Rattle.segment_walk.specs.declared.kinds.DataRange.{DataRange}
 use Rattle.segment_walk.specs.declared.kinds.Fragment.{Fragment}
@@ -27,11 +27,11 @@ use Rattle.segment_stream.specs.declared.progress.MoveResult.{MoveResult}
 use Rattle.segment_stream.specs.declared.progress.MoveResult.TheVariants as move_result
 use Rattle.segment_stream.specs.declared.progress.PendingItem.{PendingItem}
 use Rattle.segment_stream.specs.declared.progress.PendingItem.TheVariants as pending
-use Rattle.segment_stream.specs.declared.next.Next.{Next}
-use Rattle.segment_stream.specs.declared.next.Next.TheVariants as next
+use Rattle.segment_stream.specs.declared.next.SegmentNext.{SegmentNext}
+use Rattle.segment_stream.specs.declared.next.SegmentNext.TheVariants as next
 
 -- what an answer of the stream shows of the items
-abbrev pub seen : Next → Option SegmentItem
+abbrev pub seen : SegmentNext → Option SegmentItem
 seen (next.Init p offset) = Some (InitItem p offset)
 seen (next.Frame frame offset) = Some (FrameItem frame offset)
 seen next.SegmentEnd = Some SegmentEnd
@@ -58,15 +58,15 @@ frames rest offset slots i (suc n) =
     frame_at rest offset (slice_get slots i) ++ frames rest offset slots (i + 1) n
 
 -- what is kept: the frames that are ready, and the state behind them
-abbrev pub kept_of : Option Presentation → Progress → Tables → List ℕ → Run State SegmentItem
+abbrev pub kept_of : Option Presentation → Progress → Tables → List ℕ → Lookahead State SegmentItem
 kept_of last r tables bytes = record {
   items = frames (drop r.from bytes) r.position.offset tables.slots.items r.first r.ready;
   state = state_of last r.position tables (drop r.from bytes);
 }
 
 -- what is kept once the walk was run on
-abbrev pub run_on : Run State SegmentItem → Run State SegmentItem
-run_on kept = joined kept.items (run segments kept.state)
+abbrev pub run_on : Lookahead State SegmentItem → Lookahead State SegmentItem
+run_on kept = with_items kept.items (run segments kept.state)
 
 -- the walk stays there until there are `want` bytes
 pub record Rests (s : State) (want : ℕ) : Type 0 where
@@ -118,18 +118,18 @@ pub record IsConsistent (r : Progress) (tables : Tables) (bytes : List ℕ) : Ty
   pub small : r.position.offset + (length bytes - r.from) < 2 ^ 62
 
 -- a place that was left behind sees the same of its tables
-abbrev pub Since : ParserMode → ParserMode → Tables → Tables → Type 0
-Since (code.Between phase) now tables new_tables = Unit {0}
-Since (code.Skipping to left) now tables new_tables = Unit {0}
-Since (code.Within f) (code.Between phase) tables new_tables = ⊥
-Since (code.Within f) (code.Skipping to left) tables new_tables = ⊥
-Since (code.Within f) (code.Within g) tables new_tables =
+abbrev pub IsUnchangedSince : ParserMode → ParserMode → Tables → Tables → Type 0
+IsUnchangedSince (code.Between phase) now tables new_tables = Unit {0}
+IsUnchangedSince (code.Skipping to left) now tables new_tables = Unit {0}
+IsUnchangedSince (code.Within f) (code.Between phase) tables new_tables = ⊥
+IsUnchangedSince (code.Within f) (code.Skipping to left) tables new_tables = ⊥
+IsUnchangedSince (code.Within f) (code.Within g) tables new_tables =
     (new_tables.slots.items ≡ tables.slots.items)
     × (take f.known new_tables.known.items ≡ take f.known tables.known.items)
     × (f.known ≤ g.known)
 
 abbrev pub Keeps : ParserMode → Tables → Tables → Type 0
-Keeps mode tables new_tables = Since mode mode tables new_tables
+Keeps mode tables new_tables = IsUnchangedSince mode mode tables new_tables
 
 abbrev pub with_tables : Progress → Tables → ProgressWithTables
 with_tables r tables = record { progress = r; tables = tables }
@@ -140,7 +140,7 @@ pub record GoesOn (last : Option Presentation) (before after : ProgressWithTable
   pub same : run_on (kept_of last after.progress after.tables bytes)
       ≡ run_on (kept_of last before.progress before.tables bytes)
   pub consistent : IsConsistent after.progress after.tables bytes
-  pub since : Since before.progress.position.mode after.progress.position.mode before.tables
+  pub since : IsUnchangedSince before.progress.position.mode after.progress.position.mode before.tables
       after.tables
   pub going : after.progress.position.failed ≡ before.progress.position.failed
   pub total : after.progress.position.offset + (length bytes - after.progress.from)
@@ -200,14 +200,14 @@ with_taken r f n =
     record (in_mode r (code.Within (record f { taken = f.taken + n }))) { ready = r.ready + n }
 
 -- a place that rests, with nothing of the input before it
-pub record IsAtRest (last : Option Presentation) (r : Progress) (tables : Tables)
+pub record IsWaitingForBytes (last : Option Presentation) (r : Progress) (tables : Tables)
     (bytes : List ℕ) : Type 0 where
   pub front : r.from ≡ 0
   pub consistent : IsConsistent r tables bytes
   pub rests : Rests (state_of last r.position tables bytes) r.want
 
 -- what is found when `more` bytes come, of which `bytes` is the whole input then
-pub record IsFoundWith (last : Option Presentation) (kept : Run State SegmentItem)
+pub record IsFoundWith (last : Option Presentation) (kept : Lookahead State SegmentItem)
     (found : ProgressWithTables) (bytes more : List ℕ) : Type 0 where
   pub same : kept_of last found.progress found.tables bytes ≡ fed segments kept more
   pub consistent : IsConsistent found.progress found.tables bytes

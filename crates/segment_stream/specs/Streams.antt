@@ -3,26 +3,26 @@ use Rattle.std.specs.Prelude.{◌≡◌, ℕ, ◌+◌, ◌<◌, ◌≤◌, ◌^�
 use Rattle.std.specs.List.{concat}
 use Rattle.mse_base.specs.declared.track.Presentation.{Presentation}
 use Rattle.input_chunks.specs.Pieces.{pieces_with, pieces_without_last, HasNoEmptyPiece}
-use Rattle.parser_loop.specs.Walk.{Run}
+use Rattle.parser_loop.specs.Walk.{Lookahead}
 use Rattle.parser_loop.specs.Walk as walk
 use Rattle.segment_walk.specs.Moves.{State, segments}
 use Rattle.segment_walk.specs.Tables.{SegmentItem}
 use Rattle.segment_walk.specs.Strings.{start}
 use Rattle.segment_stream.specs.declared.progress.ProgressWithTables.{ProgressWithTables}
 use Rattle.segment_stream.specs.declared.stream.Offered.{Offered}
-use Rattle.segment_stream.specs.Kept.{IsAtRest, IsEmptied, IsFoundWith, IsLast, kept_of, with_tables}
+use Rattle.segment_stream.specs.Kept.{IsWaitingForBytes, IsEmptied, IsFoundWith, IsLast, kept_of, with_tables}
 
 -- A stream: the coded frames that are ready and the state of the walk behind them, the pieces of its input, the
 -- length of the string since the last reset, and the bytes that are offered, if there are any.
-pub record Streamed : Type 0 where
-  pub kept : Run State SegmentItem
+pub record SegmentView : Type 0 where
+  pub kept : Lookahead State SegmentItem
   pub pieces : List (List ℕ)
   pub fed : ℕ
   pub offered : Option (List ℕ)
 
 -- What is kept stands for the string `b`, read with the presentation `last` from before, of whose items n were given.
 -- Many strings may belong to one stream.
-abbrev pub Stands : Run State SegmentItem → Option Presentation → List ℕ → ℕ → Type 0
+abbrev pub Stands : Lookahead State SegmentItem → Option Presentation → List ℕ → ℕ → Type 0
 Stands kept last b n = walk.Stands segments kept (start last b) n
 
 -- ---- what the fields are to this
@@ -31,15 +31,15 @@ Stands kept last b n = walk.Stands segments kept (start last b) n
 abbrev pub pushed_last : ℕ → List (List ℕ) → List ℕ
 pushed_last n input = drop (length (concat (pieces_without_last n input))) (concat input)
 
-abbrev pub streamed : Option Presentation → ProgressWithTables → List (List ℕ) → ℕ
-    → Option Offered → Streamed
-streamed last place input fed None = record {
+abbrev pub segment_view : Option Presentation → ProgressWithTables → List (List ℕ) → ℕ
+    → Option Offered → SegmentView
+segment_view last place input fed None = record {
   kept = kept_of last place.progress place.tables (concat input);
   pieces = input;
   fed = fed;
   offered = None;
 }
-streamed last place input fed (Some o) = record {
+segment_view last place input fed (Some o) = record {
   kept = kept_of last place.progress place.tables (concat (pieces_without_last o.len input));
   pieces = pieces_without_last o.len input;
   fed = fed;
@@ -49,7 +49,7 @@ streamed last place input fed (Some o) = record {
 -- a place at rest in a string of `fed` bytes
 pub record IsStreamAtRest (last : Option Presentation) (place : ProgressWithTables)
     (input : List (List ℕ)) (fed : ℕ) : Type 0 where
-  pub rest : IsAtRest last place.progress place.tables (concat input)
+  pub rest : IsWaitingForBytes last place.progress place.tables (concat input)
   pub emptied : IsEmptied place.progress (concat input)
   pub readable : IsLast last
   pub full : HasNoEmptyPiece input

@@ -7,11 +7,11 @@ ghost use Rattle.input_chunks.specs.Pieces.{pieces_without_first, HasNoEmptyPiec
 ghost use Rattle.segment_walk.specs.Moves.{segments, Between, behind};
 ghost use Rattle.parser_loop.specs.Items.{FaultItem, InitItem, SegmentEnd};
 ghost use Rattle.mse_base.specs.declared.frame.Phase.TheVariants.{Waiting};
-ghost use Rattle.segment_stream.specs.Kept.{IsConsistent, IsAtRest, IsEmptied, HasPendingBytes, IsLast, Rests, kept_of, last_bytes, seen, state_of};
+ghost use Rattle.segment_stream.specs.Kept.{IsConsistent, IsWaitingForBytes, IsEmptied, HasPendingBytes, IsLast, Rests, kept_of, last_bytes, seen, state_of};
 ghost use Rattle.parser_loop.specs.Items.{latest_after_any};
 
 use crate::moves::{NEVER, run_on};
-use crate::next::Next;
+use crate::next::SegmentNext;
 use crate::offers::accept_on;
 use crate::pending::{look_frame, pending_item};
 use crate::progress::{ParserPosition, PendingItem, Progress, ProgressWithTables, Tables};
@@ -21,7 +21,11 @@ use segment_walk::{ParserMode, StreamFault};
 use std::alloc::Global;
 
 /// Takes the first ready frame. An `Err` changes nothing.
-fn take_frame(progress: &mut Progress, tables: &Tables, input: &Chunks) -> Result<Next, OutOfMemory>
+fn take_frame(
+    progress: &mut Progress,
+    tables: &Tables,
+    input: &Chunks,
+) -> Result<SegmentNext, OutOfMemory>
     requires ready { 0 < progress.old.ready }
     requires front { progress.old.from ≡ 0 }
     requires consistent { IsConsistent progress.old tables.now (concat input.now) }
@@ -103,7 +107,8 @@ fn enter(
     requires { next_state.progress.from ≤ length (concat input.old) }
     ensures rest { (last : Option Presentation) → IsConsistent next_state.progress next_state.tables
         (concat input.old) → Rests (state_of last next_state.progress.position next_state.tables
-        (drop next_state.progress.from (concat input.old))) next_state.progress.want → IsAtRest last
+        (drop next_state.progress.from (concat input.old))) next_state.progress.want →
+        IsWaitingForBytes last
         progress.new tables.new (concat input.new) }
     ensures kept { (last : Option Presentation) → kept_of last progress.new tables.new (concat
         input.new) ≡ kept_of last next_state.progress next_state.tables (concat input.old) }
@@ -123,7 +128,7 @@ fn init_on(
     input: &mut Chunks,
     presentation: Presentation,
     len: u64,
-) -> Result<Next, OutOfMemory>
+) -> Result<SegmentNext, OutOfMemory>
     requires inside { len ≤ length (concat input.old) }
     requires readable { IsPresentation presentation }
     requires small { progress.old.position.offset + length (concat input.old) < 2 ^ 62 }
@@ -139,7 +144,8 @@ fn init_on(
               input.old);
           failed = false;
         })) }
-    ensures rest { OnOk result (IsAtRest (Some presentation) progress.new tables.new (concat
+    ensures rest { OnOk result (IsWaitingForBytes (Some presentation) progress.new tables.new
+        (concat
         input.new)) }
     ensures going { OnOk result (progress.new.position.failed ≡ false) }
     ensures total { OnOk result (progress.new.position.offset + length (concat input.new) ≡
@@ -155,7 +161,7 @@ fn init_on(
     let next_state = leave_on(alloc, &latest, offset, len, input)?;
     enter(next_state, progress, tables, input);
     *last = latest;
-    Ok(Next::Init(presentation, offset))
+    Ok(SegmentNext::Init(presentation, offset))
 }
 
 /// Behind the end of a media segment. An `Err` changes nothing.
@@ -166,7 +172,7 @@ fn end_on(
     tables: &mut Tables,
     input: &mut Chunks,
     end: u64,
-) -> Result<Next, OutOfMemory>
+) -> Result<SegmentNext, OutOfMemory>
     requires inside { end ≤ length (concat input.old) }
     requires readable { IsLast last.now }
     requires small { progress.old.position.offset + length (concat input.old) < 2 ^ 62 }
@@ -180,7 +186,8 @@ fn end_on(
               input.old);
           failed = false;
         })) }
-    ensures rest { OnOk result (IsAtRest last.now progress.new tables.new (concat input.new)) }
+    ensures rest { OnOk result (IsWaitingForBytes last.now progress.new tables.new
+        (concat input.new)) }
     ensures going { OnOk result (progress.new.position.failed ≡ false) }
     ensures total { OnOk result (progress.new.position.offset + length (concat input.new) ≡
         progress.old.position.offset + length (concat input.old)) }
@@ -191,11 +198,11 @@ fn end_on(
 {
     let next_state = leave_on(alloc, last, progress.position.offset, end, input)?;
     enter(next_state, progress, tables, input);
-    Ok(Next::SegmentEnd)
+    Ok(SegmentNext::SegmentEnd)
 }
 
 /// A fault was taken: no byte is kept.
-fn fail_on(progress: &mut Progress, input: &mut Chunks, fault: StreamFault, at: u64) -> Next
+fn fail_on(progress: &mut Progress, input: &mut Chunks, fault: StreamFault, at: u64) -> SegmentNext
     requires { progress.old.position.offset + at < 2 ^ 64 }
     ensures item { seen result ≡ Some (FaultItem fault (progress.old.position.offset + at)) }
     ensures progress { progress.new ≡ record {
@@ -217,7 +224,7 @@ fn fail_on(progress: &mut Progress, input: &mut Chunks, fault: StreamFault, at: 
     progress.position.failed = true;
     progress.from = 0;
     progress.want = NEVER;
-    Next::Fault { fault, offset }
+    SegmentNext::Fault { fault, offset }
 }
 
 /// Takes the next item. An `Err` changes nothing.
@@ -227,8 +234,8 @@ pub(crate) fn next_on(
     progress: &mut Progress,
     tables: &mut Tables,
     input: &mut Chunks,
-) -> Result<Next, OutOfMemory>
-    requires rest { IsAtRest last.old progress.old tables.old (concat input.old) }
+) -> Result<SegmentNext, OutOfMemory>
+    requires rest { IsWaitingForBytes last.old progress.old tables.old (concat input.old) }
     requires emptied { IsEmptied progress.old (concat input.old) }
     requires readable { IsLast last.old }
     requires full { HasNoEmptyPiece input.old }
@@ -238,7 +245,8 @@ pub(crate) fn next_on(
         after_first segments (kept_of last.old progress.old tables.old (concat input.old))) }
     ensures last { IfOk result (λ x. last.new ≡ latest_after_any last.old (seen x)) }
     ensures readable { IsLast last.new }
-    ensures rest { OnOk result (IsAtRest last.new progress.new tables.new (concat input.new)) }
+    ensures rest { OnOk result (IsWaitingForBytes last.new progress.new tables.new
+        (concat input.new)) }
     ensures emptied { OnOk result (IsEmptied progress.new (concat input.new)) }
     ensures total { OnOk result (progress.new.position.offset + length (concat input.new) ≤
         progress.old.position.offset + length (concat input.old)) }
@@ -252,7 +260,7 @@ pub(crate) fn next_on(
         return take_frame(progress, tables, input);
     }
     match pending_item(alloc, last, progress, tables, input)? {
-        PendingItem::Dry => Ok(Next::Dry),
+        PendingItem::Dry => Ok(SegmentNext::Dry),
         PendingItem::Init(presentation, len) => init_on(
             alloc,
             last,

@@ -17,6 +17,6 @@ mod progress;
 mod stream;
 
 pub use laws::pieces_law;
-pub use next::Next;
+pub use next::SegmentNext;
 pub use segment_walk::StreamFault;
 pub use stream::Stream;

@@ -4,7 +4,7 @@ ghost use Rattle.mse_base.specs.declared.track.Presentation.{Presentation};
 ghost use Rattle.segment_walk.specs.Moves.{step_of, segments};
 ghost use Rattle.segment_walk.specs.Ranges.{mode_of, SeesAscending};
 ghost use Rattle.segment_stream.specs.declared.progress.Tables.{Tables};
-ghost use Rattle.segment_stream.specs.Kept.{kept_of, run_on as runs_on, IsConsistent, IsCounted, IsActive, IsLast, IsMoveResult, IsPlan, Keeps, IsOrdered, Rests, Since, fragment_in, ready_behind, state_of, in_mode, with_tables, with_taken};
+ghost use Rattle.segment_stream.specs.Kept.{kept_of, run_on as runs_on, IsConsistent, IsCounted, IsActive, IsLast, IsMoveResult, IsPlan, Keeps, IsOrdered, Rests, IsUnchangedSince, fragment_in, ready_behind, state_of, in_mode, with_tables, with_taken};
 
 use crate::progress::{MoveResult, ParserPosition, Progress, Tables};
 use bmff_fragment::{MoofError, Slot, read_moof};
@@ -282,7 +282,8 @@ pub(crate) fn run_on(
     ensures same { IfOk result (λ r. kept_of last.now r tables.new (concat input.now) ≡ runs_on
         (kept_of last.now start tables.old (concat input.now))) }
     ensures consistent { IfOk result (λ r. IsConsistent r tables.new (concat input.now)) }
-    ensures since { IfOk result (λ r. Since start.position.mode r.position.mode tables.old
+    ensures since { IfOk result (λ r. IsUnchangedSince start.position.mode r.position.mode
+        tables.old
         tables.new) }
     ensures total { IfOk result (λ r. r.position.offset + (length (concat input.now) - r.from) ≡
         start.position.offset + (length (concat input.now) - start.from)) }

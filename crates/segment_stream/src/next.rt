@@ -3,7 +3,7 @@ use segment_walk::StreamFault;
 
 /// What a stream gives next.
 #[derive(Debug, Drop)]
-pub enum Next {
+pub enum SegmentNext {
     /// An initialization segment was received; with the offset of its moov in the string.
     Init(Presentation, u64),
     /// A coded frame, with the offset of its first byte in the string.

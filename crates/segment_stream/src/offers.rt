@@ -3,7 +3,7 @@ ghost use Rattle.std.specs.List.{concat};
 ghost use Rattle.mse_base.specs.declared.track.Presentation.{Presentation};
 ghost use Rattle.input_chunks.specs.Pieces.{pieces_with, pieces_without_last, pieces_without_first};
 ghost use Rattle.segment_stream.specs.declared.progress.Tables.{Tables};
-ghost use Rattle.segment_stream.specs.Kept.{IsConsistent, IsAtRest, IsEmptied, IsFoundWith, IsLast, Keeps, Rests, kept_of, state_of, with_tables};
+ghost use Rattle.segment_stream.specs.Kept.{IsConsistent, IsWaitingForBytes, IsEmptied, IsFoundWith, IsLast, Keeps, Rests, kept_of, state_of, with_tables};
 
 use crate::moves::{NEVER, run_on};
 use crate::progress::{Progress, Tables};
@@ -40,7 +40,7 @@ pub(crate) fn offer_on(
     input: &mut Chunks,
     bytes: Bytes,
 ) -> Result<Progress, OutOfMemory>
-    requires rest { IsAtRest last.now progress tables.old (concat input.old) }
+    requires rest { IsWaitingForBytes last.now progress tables.old (concat input.old) }
     requires emptied { IsEmptied progress (concat input.old) }
     requires readable { IsLast last.now }
     requires room { progress.position.offset + (length (concat input.old) + length bytes) < 2
@@ -53,7 +53,7 @@ pub(crate) fn offer_on(
     ensures err { OnErr result (input.new ≡ input.old) }
     ensures as_before { kept_of last.now progress tables.new (concat input.old) ≡ kept_of last.now
         progress tables.old (concat input.old) }
-    ensures rest { IsAtRest last.now progress tables.new (concat input.old) }
+    ensures rest { IsWaitingForBytes last.now progress tables.new (concat input.old) }
 {
     let len = bytes.len();
     input.push_bytes(bytes)?;
@@ -77,7 +77,7 @@ pub(crate) fn accept_on(found: Progress, input: &mut Chunks) -> Progress
     requires { found.from ≤ length (concat input.old) }
     ensures rest { (last : Option Presentation) (tables : Tables) → IsConsistent found tables
         (concat input.old) → Rests (state_of last found.position tables (drop found.from (concat
-        input.old))) found.want → IsAtRest last result tables (concat input.new) }
+        input.old))) found.want → IsWaitingForBytes last result tables (concat input.new) }
     ensures kept { (last : Option Presentation) (tables : Tables) → kept_of last result tables
         (concat input.new) ≡ kept_of last found tables (concat input.old) }
     ensures progress { result ≡ record {

@@ -5,11 +5,11 @@ ghost use Rattle.parser_loop.specs.Walk.{item_of};
 ghost use Rattle.segment_walk.specs.Moves.{State, segments, step_of};
 ghost use Rattle.segment_walk.specs.Ranges.{mode_of};
 ghost use Rattle.segment_walk.specs.declared.kinds.BoxStep.TheVariants.{ReadInit, ReadMoof};
-ghost use Rattle.segment_stream.specs.Kept.{IsConsistent, IsAtRest, HasPendingBytes, IsLast, IsActive, move_of_pending, kept_of, seen, skips, state_of};
+ghost use Rattle.segment_stream.specs.Kept.{IsConsistent, IsWaitingForBytes, HasPendingBytes, IsLast, IsActive, move_of_pending, kept_of, seen, skips, state_of};
 ghost use Rattle.parser_loop.specs.Items.{latest_after_any};
 
 use crate::moves::next_step;
-use crate::next::Next;
+use crate::next::SegmentNext;
 use crate::progress::{PendingItem, Progress, Tables};
 use bmff_fragment::{MoofError, Slot, read_moof};
 use bmff_init::{InitError, read_init};
@@ -39,7 +39,7 @@ pub(crate) fn look_frame(
     tables: &Tables,
     input: &Chunks,
     i: usize,
-) -> Result<Next, OutOfMemory>
+) -> Result<SegmentNext, OutOfMemory>
     requires ready { i < progress.now.ready }
     requires front { progress.now.from ≡ 0 }
     requires consistent { IsConsistent progress.now tables.now (concat input.now) }
@@ -49,7 +49,7 @@ pub(crate) fn look_frame(
         (seen x)) }
 {
     let Some(slot) = slot_at(tables.slots.as_slice(), progress.first + i) else {
-        return Ok(Next::Dry);
+        return Ok(SegmentNext::Dry);
     };
     let payload = copy_payload(input, slot.start, slot.end)?;
     let offset = progress.position.offset + slot.start;
@@ -61,7 +61,7 @@ pub(crate) fn look_frame(
         sync: slot.sync,
         payload,
     };
-    Ok(Next::Frame(frame, offset))
+    Ok(SegmentNext::Frame(frame, offset))
 }
 
 /// The initialization segment whose moov is whole.
@@ -73,7 +73,7 @@ fn pending_init(
     input: &Chunks,
     len: u64,
 ) -> Result<PendingItem, OutOfMemory>
-    requires rest { IsAtRest last.now progress.now tables.now (concat input.now) }
+    requires rest { IsWaitingForBytes last.now progress.now tables.now (concat input.now) }
     requires going { progress.now.position.failed ≡ false }
     requires active { IsActive progress.now.position.mode }
     requires step { ReadInit len ≡ step_of (is_some last.now) (concat input.now) (mode_of
@@ -100,7 +100,7 @@ fn pending_moof(
     input: &Chunks,
     len: u64,
 ) -> Result<PendingItem, OutOfMemory>
-    requires rest { IsAtRest last.now progress.now tables.now (concat input.now) }
+    requires rest { IsWaitingForBytes last.now progress.now tables.now (concat input.now) }
     requires readable { IsLast last.now }
     requires going { progress.now.position.failed ≡ false }
     requires active { IsActive progress.now.position.mode }
@@ -140,7 +140,7 @@ pub(crate) fn pending_item(
     tables: &Tables,
     input: &Chunks,
 ) -> Result<PendingItem, OutOfMemory>
-    requires rest { IsAtRest last.now progress.now tables.now (concat input.now) }
+    requires rest { IsWaitingForBytes last.now progress.now tables.now (concat input.now) }
     requires readable { IsLast last.now }
     ensures value { IfOk result (λ f. segments.move (state_of last.now progress.now.position
         tables.now (concat input.now)) ≡ move_of_pending (state_of last.now progress.now.position
@@ -167,16 +167,16 @@ pub(crate) fn pending_item(
 }
 
 /// What the stream shows of a front at an offset.
-pub(crate) fn shown(front: PendingItem, offset: u64) -> Next
+pub(crate) fn shown(front: PendingItem, offset: u64) -> SegmentNext
     requires small { (at : ℕ) (f : StreamFault) → front ≡ PendingItem.Fault f at → offset + at < 2 ^
         64 }
     ensures { (s : State) → s.offset ≡ offset → seen result ≡ item_of (move_of_pending s front) }
 {
     match front {
-        PendingItem::Dry => Next::Dry,
-        PendingItem::Init(presentation, _) => Next::Init(presentation, offset),
-        PendingItem::End(_) => Next::SegmentEnd,
-        PendingItem::Fault(fault, at) => Next::Fault {
+        PendingItem::Dry => SegmentNext::Dry,
+        PendingItem::Init(presentation, _) => SegmentNext::Init(presentation, offset),
+        PendingItem::End(_) => SegmentNext::SegmentEnd,
+        PendingItem::Fault(fault, at) => SegmentNext::Fault {
             fault,
             offset: offset + at,
         },

@@ -12,7 +12,7 @@ ghost use Rattle.segment_walk.specs.Strings.{phase_of};
 ghost use Rattle.segment_stream.specs.Kept.{progress_at_start};
 
 use crate::arms::next_on;
-use crate::next::Next;
+use crate::next::SegmentNext;
 use crate::offers::{accept_on, offer_on};
 use crate::pending::{look_frame, pending_item, shown};
 use crate::progress::{ParserPosition, Progress, Tables};
@@ -46,12 +46,13 @@ pub struct Stream {
 }
 
 impl Model for Stream {
-    ghost use Rattle.segment_stream.specs.Streams.{Streamed, streamed, IsStream};
+    ghost use Rattle.segment_stream.specs.Streams.{SegmentView, segment_view, IsStream};
     ghost use Rattle.segment_stream.specs.Kept.{with_tables};
 
-    ghost Value = { Streamed };
+    ghost Value = { SegmentView };
 
-    ghost view = { λ s. streamed s.last (with_tables s.progress s.tables) s.input s.fed s.offered };
+    ghost view = { λ s. segment_view s.last
+        (with_tables s.progress s.tables) s.input s.fed s.offered };
 
     ghost invariant = { λ s. IsStream s.last (with_tables s.progress s.tables) s.input s.fed
         s.offered };
@@ -232,7 +233,7 @@ impl Stream {
 
     /// The item that stands `i` places after the next one, or `Dry` exactly where the string gives none.
     /// Nothing changes.
-    pub fn look(&self, i: usize) -> Result<Next, OutOfMemory>
+    pub fn look(&self, i: usize) -> Result<SegmentNext, OutOfMemory>
         requires idle { self.now.offered ≡ None }
         requires ready { (i ≡ 0) ⊎ (i < length self.now.kept.items) }
         ensures { (last : Option Presentation) (b : List ℕ) (n : ℕ) → Stands self.now.kept last b n
@@ -253,7 +254,7 @@ impl Stream {
 
     /// The next item, or `Dry` exactly where the string gives none; then nothing changes. After a fault the
     /// string gives none until the next reset. An `Err` changes nothing.
-    pub fn next(&mut self) -> Result<Next, OutOfMemory>
+    pub fn next(&mut self) -> Result<SegmentNext, OutOfMemory>
         requires { self.old.offered ≡ None }
         ensures item { (last : Option Presentation) (b : List ℕ) (n : ℕ) → Stands self.old.kept last
             b n → IfOk result (λ next. seen next ≡ slice_get (Items last b) n) }

@@ -7,7 +7,7 @@ use Rattle.mse_base.specs.declared.frame.Phase.TheVariants.{InMedia, Waiting, In
 use Rattle.mse_base.specs.declared.track.Presentation.{Presentation}
 use Rattle.bmff_boxes.specs.declared.box_header.Header.{Header}
 use Rattle.bmff_boxes.specs.declared.box_header.Header.TheVariants as head
-use Rattle.bmff_boxes.specs.Headers.{header_of, HasRoom}
+use Rattle.bmff_boxes.specs.Headers.{header_of, IsHeaderWithin}
 use Rattle.bmff_boxes.proofs.HeaderLaws.{header-room}
 use Rattle.bmff_init.specs.declared.fault.InitFault.{InitFault}
 use Rattle.bmff_init.specs.Movies.{init_of}
@@ -216,7 +216,7 @@ out-box b n at start len (Some p) InMedia MovieFragment i = out-large b n at sta
 out-box b n at start len last InMedia MediaData i = out-passed b n at start len last InMedia InMedia MediaData i
 out-box b n at start len last InMedia Other i = out-passed b n at start len last InMedia InMedia Other i
 
-out-header : (b : List ℕ) (n at : ℕ) (last : Option Presentation) (phase : Phase) (h : Header) → Out b n → In b n → at ≤ length b → length b < at + suc n → HasRoom (length (drop at b)) h → parse_of_header (parse_of_boxes n b) b (view_at b last (NoFragment phase) at) (NoFragment phase) at h ≡ done (going last (Between phase) at (drop at b)) (box_between (is_some last) phase (length (drop at b)) h)
+out-header : (b : List ℕ) (n at : ℕ) (last : Option Presentation) (phase : Phase) (h : Header) → Out b n → In b n → at ≤ length b → length b < at + suc n → IsHeaderWithin (length (drop at b)) h → parse_of_header (parse_of_boxes n b) b (view_at b last (NoFragment phase) at) (NoFragment phase) at h ≡ done (going last (Between phase) at (drop at b)) (box_between (is_some last) phase (length (drop at b)) h)
 out-header b n at last phase head.Short o i l m r = refl
 out-header b n at last phase (head.Bad f) o i l m r = out-fault b at last phase (size_fault f)
 out-header b n at last phase (head.Whole kind start len) o i l m r =
@@ -327,7 +327,7 @@ in-box b n last m slots left taken known end p Other begin len out inside d a l 
     (λ _. once-same b m (p + len) (m + p + len) s (step.NextBox (p + len)) (parse_of_boxes n b last (InFragment (fragment m left known end)) (m + p + len)) (omega arith) e
     (λ h. ap (parse_of_boxes n b last (InFragment (fragment m left known end))) e ∙ inside last m slots left taken known end (p + len) d a (omega arith) (omega arith)))
 
-in-header : (b : List ℕ) (n : ℕ) (last : Option Presentation) (m : ℕ) (slots left : List Slot) (taken : ℕ) (known : List DataRange) (end p : ℕ) (h : Header) → Out b n → In b n → drop taken slots ≡ left → Awaits known end left → m + p ≤ length b → length b < m + p + suc n → HasRoom (length (drop (m + p) b)) h → parse_of_header (parse_of_boxes n b) b (now_in b last m) (InFragment (fragment m left known end)) (m + p) h ≡ done (going last (Within (open_with slots taken known end (AtBox p))) m (drop m b)) (box_within (length (drop m b)) p h)
+in-header : (b : List ℕ) (n : ℕ) (last : Option Presentation) (m : ℕ) (slots left : List Slot) (taken : ℕ) (known : List DataRange) (end p : ℕ) (h : Header) → Out b n → In b n → drop taken slots ≡ left → Awaits known end left → m + p ≤ length b → length b < m + p + suc n → IsHeaderWithin (length (drop (m + p) b)) h → parse_of_header (parse_of_boxes n b) b (now_in b last m) (InFragment (fragment m left known end)) (m + p) h ≡ done (going last (Within (open_with slots taken known end (AtBox p))) m (drop m b)) (box_within (length (drop m b)) p h)
 in-header b n last m slots left taken known end p head.Short out inside d a l k r = refl
 in-header b n last m slots left taken known end p (head.Bad f) out inside d a l k r = fail-items (going last (Within (open_with slots taken known end (AtBox p))) m (drop m b)) (size_fault f) p (m + p) refl
 in-header b n last m slots left taken known end p (head.Whole kind begin len) out inside d a l k r = in-box b n last m slots left taken known end p (box_type kind) begin len out inside d a l k (omega (arith, r.0, r.1))

@@ -7,7 +7,7 @@ use Rattle.std.proofs.lemmas.Bool.{cases_lt}
 use Rattle.mse_base.specs.declared.track.Presentation.{Presentation}
 use Rattle.bmff_boxes.specs.declared.box_header.Header.{Header}
 use Rattle.bmff_boxes.specs.declared.box_header.Header.TheVariants as head
-use Rattle.bmff_boxes.specs.Headers.{header_of, HasRoom}
+use Rattle.bmff_boxes.specs.Headers.{header_of, IsHeaderWithin}
 use Rattle.bmff_boxes.proofs.HeaderLaws.{header-longer, header-room, is_short}
 use Rattle.bmff_init.specs.declared.fault.InitFault.{InitFault}
 use Rattle.bmff_init.specs.Movies.{init_of}
@@ -132,7 +132,7 @@ good-judge : (phase : Phase) (kind : TopLevelBox) (n k len : ℕ) (f : Option St
 good-judge phase kind n k len (Some f) l h = (omega arith, refl)
 good-judge phase kind n k len None l h = good-if (Between phase) n k (ltb (greatest_size kind) len) _ _ _ _ (omega arith, refl) (λ _. good-take phase kind n k len l h)
 
-good-between : (ready : Bool) (phase : Phase) (n k : ℕ) (h h' : Header) → n ≤ k → HasRoom n h → (is_short h ≡ false → h' ≡ h) → Good (Between phase) n k (box_between ready phase n h) (box_between ready phase k h')
+good-between : (ready : Bool) (phase : Phase) (n k : ℕ) (h h' : Header) → n ≤ k → IsHeaderWithin n h → (is_short h ≡ false → h' ≡ h) → Good (Between phase) n k (box_between ready phase n h) (box_between ready phase k h')
 good-between ready phase n k head.Short h' l m e = (tt, λ q. absurd (omega arith))
 good-between ready phase n k (head.Bad f) h' l m e = rw (e refl) (omega arith, refl)
 good-between ready phase n k (head.Whole kind start len) h' l m e = rw (e refl) (good-judge phase (box_type kind) n k len (place_fault ready phase (box_type kind)) l (omega (arith, m.0, m.1)))
@@ -154,7 +154,7 @@ good-judge-in o n k at MovieFragment start len e l h s r = (omega arith, refl)
 good-judge-in o n k at MediaData start len e l h s r = good-if (Within o) n k (ltb (2 ^ 27) (at + len)) _ _ _ _ (omega arith, refl) (λ q. (near-data n at (at + start) (at + len) o e r (omega arith) (omega arith) (omega arith) (not-above (2 ^ 27) (at + len) q), refl))
 good-judge-in o n k at Other start len e l h s r = good-if (Within o) n k (ltb (2 ^ 27) (at + len)) _ _ _ _ (omega arith, refl) (λ _. good-once (Within o) n k (at + len) (step.NextBox (at + len)) l (λ _. near n at (at + len) o e r (omega arith)))
 
-good-in : (o : Open) (n k at : ℕ) (h h' : Header) → o.place ≡ AtBox at → n ≤ k → HasRoom (n - at) h → (is_short h ≡ false → h' ≡ h) → Good (Within o) n k (box_within n at h) (box_within k at h')
+good-in : (o : Open) (n k at : ℕ) (h h' : Header) → o.place ≡ AtBox at → n ≤ k → IsHeaderWithin (n - at) h → (is_short h ≡ false → h' ≡ h) → Good (Within o) n k (box_within n at h) (box_within k at h')
 good-in o n k at head.Short h' p l m e = (tt, λ q. absurd (omega arith))
 good-in o n k at (head.Bad f) h' p l m e = rw (e refl) (omega (arith, m), refl)
 good-in o n k at (head.Whole kind start len) h' p l m e = rw (e refl) (good-judge-in o n k at (box_type kind) start len p l (omega (arith, m.0, m.1)) m.1 (omega (arith, m.0, m.1, m.2)))
@@ -182,7 +182,7 @@ header-at rest c at e =
       | inr h ↦ let f : is_short (header_of (drop at rest)) ≡ true = ap (λ b. is_short (header_of b)) h ∙ short-nil in absurd (clash (header_of (drop at rest)) e f)
     ]
 
-room-at : (rest : List ℕ) (at : ℕ) → HasRoom (length rest - at) (header_of (drop at rest))
+room-at : (rest : List ℕ) (at : ℕ) → IsHeaderWithin (length rest - at) (header_of (drop at rest))
 room-at rest at = rw (← length-drop at rest) (header-room (drop at rest))
 
 good-place : (o : Open) (rest c : List ℕ) (done : Bool) (p : Place) → o.place ≡ p → Good (Within o) (length rest) (length (rest ++ c)) (place_step rest done p) (place_step (rest ++ c) done p)

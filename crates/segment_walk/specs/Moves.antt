@@ -13,7 +13,7 @@ use Rattle.bmff_fragment.specs.declared.fault.MoofFault.{MoofFault}
 use Rattle.bmff_fragment.specs.declared.slot.Slot.{Slot}
 use Rattle.bmff_fragment.specs.Plans.{plan_of}
 use Rattle.parser_loop.specs.Items.{InitItem, FrameItem, SegmentEnd, FaultItem, is_fault, is_frame}
-use Rattle.parser_loop.specs.Walk.{Move, Stop, Pass, Give, Kind}
+use Rattle.parser_loop.specs.Walk.{Move, Stop, Pass, Give, StreamKind}
 use Rattle.segment_walk.specs.declared.kinds.StreamFault.{StreamFault}
 use Rattle.segment_walk.specs.declared.kinds.StreamFault.TheVariants as fault
 use Rattle.segment_walk.specs.declared.kinds.TopLevelBox.{TopLevelBox}
@@ -292,7 +292,7 @@ more_unless s c false = record {
 }
 
 -- a fault ends the walk; coded frames may be taken ahead
-abbrev pub segments : Kind State SegmentItem
+abbrev pub segments : StreamKind State SegmentItem
 segments = record {
   move = λ s. move_unless s s.failed;
   size = λ s. size_unless s s.failed;

@@ -8,7 +8,7 @@ use Rattle.buffer_state.specs.declared.reply.Reply.{Reply}
 use Rattle.buffer_state.specs.declared.reply.Turned.{Turned}
 use Rattle.buffer_state.specs.declared.reply.Turned.TheVariants.{Did, Idle}
 use Rattle.buffer_state.specs.State.{Feed, Content, Kept, Surroundings, Stands}
-use Rattle.buffer_state.specs.Replies.{CallResult, IsResult, IsTurn, refusal}
+use Rattle.buffer_state.specs.Replies.{CallResult, IsResult, IsTurnResult, refusal}
 use Rattle.buffer_state.specs.Calls.{end_work_result}
 use Rattle.buffer_state.specs.Turns.{turn_result}
 use Rattle.source_buffers.specs.State.{BufferState, BufferStates, KeptBuffers, SlotStands, AllStand}
@@ -63,13 +63,13 @@ none_answers ks i d reply call e is bs all =
 
 -- ---- a step of work
 
-did_turn : (t : Turned) (new : Kept) (o : Option CallResult) → IsTurn t new o → IsSlotTurn t (Some new) (slot_turn_of o)
+did_turn : (t : Turned) (new : Kept) (o : Option CallResult) → IsTurnResult t new o → IsSlotTurn t (Some new) (slot_turn_of o)
 did_turn (Did reply) new None h = absurd h
 did_turn (Did reply) new (Some x) h = record { replies = h.replies; stands = h.stands }
 did_turn Idle new None h = tt
 did_turn Idle new (Some x) h = absurd h
 
-pub full_turns : {E : Type 0} (r : Result Turned E) (old new : Kept) (a : Surroundings) → ((f : Feed) (c : Content) → Stands old f c → IfOk r (λ t. IsTurn t new (turn_result a f c))) → SlotTurnIfOk (Some old) r (Some new) (turn_in_slot a)
+pub full_turns : {E : Type 0} (r : Result Turned E) (old new : Kept) (a : Surroundings) → ((f : Feed) (c : Content) → Stands old f c → IfOk r (λ t. IsTurnResult t new (turn_result a f c))) → SlotTurnIfOk (Some old) r (Some new) (turn_in_slot a)
 full_turns r old new a go None h = absurd h
 full_turns (Err e) old new a go (Some b) h = tt
 full_turns (Ok t) old new a go (Some b) h = did_turn t new (turn_result a b.feed b.content) (go b.feed b.content h)

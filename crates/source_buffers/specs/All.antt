@@ -4,7 +4,7 @@ use Rattle.std.specs.List.{AllByRecursion, list_all, list_any}
 use Rattle.mse_base.specs.declared.ticks.Moment.{Moment}
 use Rattle.mse_base.specs.Moments.{greatest}
 use Rattle.byte_stream.specs.Streams.{ready_of}
-use Rattle.track_store.specs.Sound.{Sound}
+use Rattle.track_store.specs.Sound.{IsSound}
 use Rattle.track_buffers.specs.Media.{Media, EndsWithin, awaits_first}
 use Rattle.track_buffers.specs.Frames.{highest_start_in, highest_end_in}
 use Rattle.buffer_state.specs.declared.reply.Reply.{Reply}
@@ -12,7 +12,7 @@ use Rattle.buffer_state.specs.declared.reply.Turned.{Turned}
 use Rattle.buffer_state.specs.declared.reply.Turned.TheVariants.{Did, Idle}
 use Rattle.buffer_state.specs.declared.running.Running.{Running}
 use Rattle.buffer_state.specs.State.{Kept, is_updating}
-use Rattle.buffer_state.specs.Left.{steps_left}
+use Rattle.buffer_state.specs.StepsLeft.{steps_left}
 use Rattle.source_state.specs.declared.answers.AllBuffers.{AllBuffers}
 use Rattle.source_buffers.specs.State.{KeptBuffers, in_slot, kept_media, kept_running, all_kept_media, all_kept_running}
 
@@ -84,7 +84,7 @@ AllStayWithin duration old reply new =
 -- each track buffer is sound, and the gap across which ranges join is not negative
 abbrev pub IsSoundSlot : Option Media → Type 0
 IsSoundSlot None = Unit {0}
-IsSoundSlot (Some m) = AllByRecursion Sound m.tracks × (pos 0 ≤ℤ m.gap)
+IsSoundSlot (Some m) = AllByRecursion IsSound m.tracks × (pos 0 ≤ℤ m.gap)
 
 -- the same of each buffer
 abbrev pub AreSound : List (Option Media) → Type 0

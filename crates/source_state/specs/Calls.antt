@@ -55,8 +55,8 @@ after_clear_live s =
 -- ---- the lists of source buffers
 
 -- 16 buffers are in the list, or all numbers below 2 ^ 32 - 1 are given
-abbrev pub is_full : SourceState → Bool
-is_full s = nat_le 16 (length s.listed) || nat_le (2 ^ 32 - 1) s.made
+abbrev pub has_most_buffers : SourceState → Bool
+has_most_buffers s = nat_le 16 (length s.listed) || nat_le (2 ^ 32 - 1) s.made
 
 -- a buffer with the next number, at the end of sourceBuffers
 abbrev pub with_new : SourceState → SourceState
@@ -65,7 +65,7 @@ with_new s = record s { made = s.made + 1; listed = s.listed ++ s.made ∷ [] }
 -- addSourceBuffer, once its type is known to be supported: to an open source that is not full
 abbrev pub after_add_buffer : SourceState → Answered Added SourceState
 after_add_buffer s =
-    if is_full s then answering (added.Refused QuotaExceeded) s
+    if has_most_buffers s then answering (added.Refused QuotaExceeded) s
     else (if not (is_open s.ready) then answering (added.Refused InvalidState) s
     else answering (added.Number s.made) (with_new s))
 

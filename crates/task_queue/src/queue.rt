@@ -15,9 +15,9 @@ pub struct Queue {
 impl Model for Queue {
     ghost use Rattle.std.specs.Prelude.{◌-◌};
     ghost use Rattle.std.specs.VecDeque.{deque_len, deque_capacity};
-    ghost use Rattle.task_queue.specs.Queued.{Queued};
+    ghost use Rattle.task_queue.specs.Queued.{QueueView};
 
-    ghost Value = { Queued };
+    ghost Value = { QueueView };
 
     ghost view = { λ q. record {
       events = q.events.items;

@@ -17,8 +17,8 @@ use Rattle.mse_base.specs.declared.track.Presentation.{Presentation}
 use Rattle.track_store.specs.declared.store.Stored.{Stored}
 use Rattle.track_store.specs.declared.tracks.Track.{Track}
 use Rattle.track_store.specs.Frames.{bytes_of}
-use Rattle.track_store.specs.Kept.{bytes_in, AreKept, AreEndedBy, HasRoom, gaps_of}
-use Rattle.track_store.specs.Sound.{Sound, AreTogether}
+use Rattle.track_store.specs.Kept.{bytes_in, AreKept, AreEndedBy, HasSpareRoom, gaps_of}
+use Rattle.track_store.specs.Sound.{IsSound, AreTogether}
 use Rattle.track_store.specs.State.{TrackState, state_of, states_of}
 use Rattle.range_removal.specs.Rooms.{IsRoomKept}
 use Rattle.track_buffers.proofs.Loops.{found_at}
@@ -33,13 +33,13 @@ together_needs (Some decode) (Some duration) (Some end) (Some first) need h = h
 together_needs None None None None need h = refl
 together_needs decode duration end first need h = absurd h
 
-unset_sound : (t : TrackState) → Sound t → Sound (unset_track t)
+unset_sound : (t : TrackState) → IsSound t → IsSound (unset_track t)
 unset_sound t h = record { count = h.count; chained = h.chained; ascending = h.ascending; below = h.below; not_negative = h.not_negative; timed = h.timed; last_held = λ e. cc; together = refl; group_below = tt; group_sync = tt }
 
-new_sound : (u : TrackInfo) → Sound (new_track u)
+new_sound : (u : TrackInfo) → IsSound (new_track u)
 new_sound u = record { count = omega arith; chained = tt; ascending = tt; below = tt; not_negative = tt; timed = tt; last_held = λ e. cc; together = refl; group_below = tt; group_sync = tt }
 
-renewed_sound : (t : TrackState) (o : Option TrackInfo) → Sound t → Sound (track_with_partner t o)
+renewed_sound : (t : TrackState) (o : Option TrackInfo) → IsSound t → IsSound (track_with_partner t o)
 renewed_sound t None h = h
 renewed_sound t (Some u) h = record { count = h.count; chained = h.chained; ascending = h.ascending; below = h.below; not_negative = h.not_negative; timed = h.timed; last_held = λ e. cc; together = together_needs _ t.marks.last_duration _ _ t.marks.need_sync h.together; group_below = h.group_below; group_sync = h.group_sync }
 
@@ -53,11 +53,11 @@ module _ (f : TrackState → TrackState) (frames : (t : TrackState) → (f t).fr
       ∙ ap (λ (n : ℕ). bytes_of t.frames + n) (bytes-map ts)
       ∙ sym (sum_by-cons (λ (u : TrackState). bytes_of u.frames) t ts)
 
-  sound-map : ((t : TrackState) → Sound t → Sound (f t)) → (ts : List TrackState) → AllByRecursion Sound ts → AllByRecursion Sound (map f ts)
+  sound-map : ((t : TrackState) → IsSound t → IsSound (f t)) → (ts : List TrackState) → AllByRecursion IsSound ts → AllByRecursion IsSound (map f ts)
   sound-map sound [] h = tt
   sound-map sound (t ∷ ts) h = (sound t h.0, sound-map sound ts h.1)
 
-  kept-map : ((t : TrackState) → Sound t → Sound (f t)) → (ts : List TrackState) → AreKept ts → AreKept (map f ts)
+  kept-map : ((t : TrackState) → IsSound t → IsSound (f t)) → (ts : List TrackState) → AreKept ts → AreKept (map f ts)
   kept-map sound ts h = record { sound = sound-map sound ts h.sound; small = subst (λ (n : ℕ). n < 2 ^ 62) (sym (bytes-map ts)) h.small }
 
   endby-map : (limit : ℤ) (ts : List TrackState) → AreEndedBy limit ts → AreEndedBy limit (map f ts)
@@ -89,7 +89,7 @@ kept_renewed news ts h = kept-map (λ t. track_with_partner t (partner_of ts new
 pub ends_renewed : (news : List TrackInfo) (d : Moment) (ts : List TrackState) → EndsWithin d ts → EndsWithin d (tracks_with_partners news ts)
 ends_renewed news d ts h = ends-map (λ t. track_with_partner t (partner_of ts news t)) (λ t. frames_renewed t (partner_of ts news t)) d ts h
 
-sound_new : (news : List TrackInfo) → AllByRecursion Sound (map new_track news)
+sound_new : (news : List TrackInfo) → AllByRecursion IsSound (map new_track news)
 sound_new [] = tt
 sound_new (u ∷ news) = (new_sound u, sound_new news)
 
@@ -156,36 +156,36 @@ least_bound (n ∷ ns) = let rest = least_bound ns in omega arith
 pub room_bound : {S : Type 0} (spare : S → ℕ) (ts : List (Track S)) → room_of spare ts ≤ 2 ^ 64
 room_bound spare ts = least_bound (map (λ t. spare t.store) ts)
 
-pub room_all : {S : Type 0} (spare : S → ℕ) (n : ℕ) (ts : List (Track S)) → n ≤ room_of spare ts → HasRoom spare n ts
+pub room_all : {S : Type 0} (spare : S → ℕ) (n : ℕ) (ts : List (Track S)) → n ≤ room_of spare ts → HasSpareRoom spare n ts
 room_all spare n [] h = tt
 room_all spare n (t ∷ ts) h = (omega arith, room_all spare n ts (omega arith))
 
-pub all_room : {S : Type 0} (spare : S → ℕ) (n : ℕ) (ts : List (Track S)) → n ≤ 2 ^ 64 → HasRoom spare n ts → n ≤ room_of spare ts
+pub all_room : {S : Type 0} (spare : S → ℕ) (n : ℕ) (ts : List (Track S)) → n ≤ 2 ^ 64 → HasSpareRoom spare n ts → n ≤ room_of spare ts
 all_room spare n [] most h = most
 all_room spare n (t ∷ ts) most h = let rest = all_room spare n ts most h.1 in let own = h.0 in omega arith
 
-pub room_fewer : {S : Type 0} (spare : S → ℕ) (n m : ℕ) (ts : List (Track S)) → n ≤ m → HasRoom spare m ts → HasRoom spare n ts
+pub room_fewer : {S : Type 0} (spare : S → ℕ) (n m : ℕ) (ts : List (Track S)) → n ≤ m → HasSpareRoom spare m ts → HasSpareRoom spare n ts
 room_fewer spare n m [] less h = tt
 room_fewer spare n m (t ∷ ts) less h = (let own = h.0 in omega arith, room_fewer spare n m ts less h.1)
 
-pub room_none : {S : Type 0} (spare : S → ℕ) (ts : List (Track S)) → HasRoom spare 0 ts
+pub room_none : {S : Type 0} (spare : S → ℕ) (ts : List (Track S)) → HasSpareRoom spare 0 ts
 room_none spare [] = tt
 room_none spare (t ∷ ts) = (omega arith, room_none spare ts)
 
 -- room for some frames where there is room for more
-pub room_within : {S : Type 0} (spare : S → ℕ) (n m : ℕ) (ts : List (Track S)) → n ≤ m → n ≤ 2 ^ 64 → HasRoom spare m ts → n ≤ room_of spare ts
+pub room_within : {S : Type 0} (spare : S → ℕ) (n m : ℕ) (ts : List (Track S)) → n ≤ m → n ≤ 2 ^ 64 → HasSpareRoom spare m ts → n ≤ room_of spare ts
 room_within spare n m ts less most h = all_room spare n ts most (room_fewer spare n m ts less h)
 
 -- what is left of known room after a step that takes room for one frame
-pub room_one_less : {S : Type 0} (spare : S → ℕ) (ts us : List (Track S)) (n : ℕ) → ((k : ℕ) → HasRoom spare (k + 1) ts → HasRoom spare k us) → HasRoom spare n ts → HasRoom spare (n - 1) us
+pub room_one_less : {S : Type 0} (spare : S → ℕ) (ts us : List (Track S)) (n : ℕ) → ((k : ℕ) → HasSpareRoom spare (k + 1) ts → HasSpareRoom spare k us) → HasSpareRoom spare n ts → HasSpareRoom spare (n - 1) us
 room_one_less spare ts us zero keep h = room_none spare us
 room_one_less spare ts us (suc n) keep h = room_fewer spare (suc n - 1) n us (omega arith) (keep n (room_fewer spare (n + 1) (suc n) ts (omega arith) h))
 
 -- a step that keeps the room of each store
-pub room_kept_by : {S : Type 0} (spare : S → ℕ) (ts us : List (Track S)) → ((n : ℕ) → HasRoom spare n ts → HasRoom spare n us) → room_of spare ts ≤ room_of spare us
+pub room_kept_by : {S : Type 0} (spare : S → ℕ) (ts us : List (Track S)) → ((n : ℕ) → HasSpareRoom spare n ts → HasSpareRoom spare n us) → room_of spare ts ≤ room_of spare us
 room_kept_by spare ts us keep = all_room spare (room_of spare ts) us (room_bound spare ts) (keep (room_of spare ts) (room_all spare (room_of spare ts) ts (omega arith)))
 
-less_by : {S : Type 0} (spare : S → ℕ) (ts us : List (Track S)) (r : ℕ) → room_of spare ts ≡ r → ((n : ℕ) → HasRoom spare (n + 1) ts → HasRoom spare n us) → r ≤ room_of spare us + 1
+less_by : {S : Type 0} (spare : S → ℕ) (ts us : List (Track S)) (r : ℕ) → room_of spare ts ≡ r → ((n : ℕ) → HasSpareRoom spare (n + 1) ts → HasSpareRoom spare n us) → r ≤ room_of spare us + 1
 less_by spare ts us zero e keep = omega arith
 less_by spare ts us (suc r) e keep =
     let most = room_bound spare ts in
@@ -194,14 +194,14 @@ less_by spare ts us (suc r) e keep =
     omega arith
 
 -- a step that takes room for one frame
-pub room_less_by : {S : Type 0} (spare : S → ℕ) (ts us : List (Track S)) → ((n : ℕ) → HasRoom spare (n + 1) ts → HasRoom spare n us) → room_of spare ts ≤ room_of spare us + 1
+pub room_less_by : {S : Type 0} (spare : S → ℕ) (ts us : List (Track S)) → ((n : ℕ) → HasSpareRoom spare (n + 1) ts → HasSpareRoom spare n us) → room_of spare ts ≤ room_of spare us + 1
 room_less_by spare ts us keep = less_by spare ts us (room_of spare ts) refl keep
 
-push_room : {S : Type 0} (spare : S → ℕ) (n : ℕ) (ts : List (Track S)) (t : Track S) → HasRoom spare n ts → n ≤ spare t.store → HasRoom spare n (ts ++ t ∷ [])
+push_room : {S : Type 0} (spare : S → ℕ) (n : ℕ) (ts : List (Track S)) (t : Track S) → HasSpareRoom spare n ts → n ≤ spare t.store → HasSpareRoom spare n (ts ++ t ∷ [])
 push_room spare n [] t h own = (own, tt)
 push_room spare n (u ∷ ts) t h own = (h.0, push_room spare n ts t h.1 own)
 
-room_take : {S : Type 0} (spare : S → ℕ) (n : ℕ) (ts us : List (Track S)) (i : ℕ) → IsRoomKept spare ts us → length us ≡ length ts → HasRoom spare n (take i ts) → HasRoom spare n (take i us)
+room_take : {S : Type 0} (spare : S → ℕ) (n : ℕ) (ts us : List (Track S)) (i : ℕ) → IsRoomKept spare ts us → length us ≡ length ts → HasSpareRoom spare n (take i ts) → HasSpareRoom spare n (take i us)
 room_take spare n ts us zero keep e h = tt
 room_take spare n [] [] (suc i) keep e h = tt
 room_take spare n [] (u ∷ us) (suc i) keep e h = absurd (omega arith)
@@ -209,10 +209,10 @@ room_take spare n (t ∷ ts) [] (suc i) keep e h = tt
 room_take spare n (t ∷ ts) (u ∷ us) (suc i) keep e h = (let own = h.0 in let more = keep zero in omega arith, room_take spare n ts us i (λ k. keep (suc k)) (omega arith) h.1)
 
 -- one more store has room
-pub room_more : {S : Type 0} (spare : S → ℕ) (n : ℕ) (ts us : List (Track S)) (i : ℕ) → i < length us → IsRoomKept spare ts us → length us ≡ length ts → HasRoom spare n (take i ts) → IfSome (slice_get us i) (λ t. n ≤ spare t.store) → HasRoom spare n (take (i + 1) us)
+pub room_more : {S : Type 0} (spare : S → ℕ) (n : ℕ) (ts us : List (Track S)) (i : ℕ) → i < length us → IsRoomKept spare ts us → length us ≡ length ts → HasSpareRoom spare n (take i ts) → IfSome (slice_get us i) (λ t. n ≤ spare t.store) → HasSpareRoom spare n (take (i + 1) us)
 room_more spare n ts us i low keep e so_far h =
     let at = found_at (λ t. n ≤ spare t.store) us i low h in
-    subst (λ vs. HasRoom spare n vs) (sym at.more) (push_room spare n (take i us) at.x (room_take spare n ts us i keep e so_far) at.holds)
+    subst (λ vs. HasSpareRoom spare n vs) (sym at.more) (push_room spare n (take i us) at.x (room_take spare n ts us i keep e so_far) at.holds)
 
 -- ---- gaps
 

@@ -5,7 +5,7 @@ use Rattle.mse_base.specs.declared.span.Span.{Span}
 use Rattle.mse_base.specs.Spans.{IsNormalized}
 use Rattle.mse_base.specs.Meets.{meet_of_all}
 use Rattle.mse_base.proofs.Meeting.{all_normalized}
-use Rattle.track_buffers.specs.Media.{Media, IsSteady}
+use Rattle.track_buffers.specs.Media.{Media, HasMediaInvariants}
 use Rattle.track_store.specs.Frames.{ranges_of}
 use Rattle.track_store.specs.State.{TrackState}
 use Rattle.track_buffers.specs.Buffered.{with_common_end, track_ranges, buffered_of}
@@ -25,7 +25,7 @@ pub buffered_normalized : (ended : Bool) (m : Media) → pos 0 ≤ℤ m.gap → 
 buffered_normalized ended m low = (buffered_is ended m low).normalized
 
 -- so are those of what a source buffer keeps
-pub steady_normalized : (ended : Bool) (m : Media) (gaps : List ℤ) → IsSteady m.tracks gaps m.settings m.gap → IsNormalized (buffered_of ended m)
+pub steady_normalized : (ended : Bool) (m : Media) (gaps : List ℤ) → HasMediaInvariants m.tracks gaps m.settings m.gap → IsNormalized (buffered_of ended m)
 steady_normalized ended m gaps h = buffered_normalized ended m h.gap_not_negative
 
 -- so are those that some normalized lists share, of which the last range may last to a common end: also those of the

@@ -8,7 +8,7 @@ use Rattle.std.proofs.lemmas.Int.{ints}
 use Rattle.std.proofs.lemmas.List.Sums.{fold-append}
 use Rattle.mse_base.specs.declared.span.Span.{Span}
 use Rattle.mse_base.specs.Bridging.{overlap, is_empty, is_far_before, span_round, ranges_with_lasting, ranges_with, IsRanges}
-use Rattle.mse_base.specs.Spans.{RangesView, has_tick, covers, StartsAfter, IsNormalized, Joined, Met, last_from, last_of}
+use Rattle.mse_base.specs.Spans.{RangesView, has_tick, covers, StartsAfter, IsNormalized, IsUnion, IsIntersection, last_from, last_of}
 use Rattle.mse_base.proofs.Sets.{covers-append}
 use Rattle.mse_base.proofs.Extended.{normalized_ranges}
 use Rattle.mse_base.proofs.Merging.{ranges_bridged}
@@ -80,7 +80,7 @@ covers-last e [] t = refl
 covers-last e (s ∷ []) t = or_none _ ∙ within-longer s e t ∙ sym (ap (λ b. (has_tick s t || false) || b) (or_none _) ∙ ap (λ b. b || has_tick (record { start = s.start; end = e }) t) (or_none (has_tick s t)))
 covers-last e (s ∷ r ∷ ss) t = ap (λ b. has_tick s t || b) (covers-last e (r ∷ ss) t) ∙ or_assoc (has_tick s t) (covers (r ∷ ss) t) (covers (last_up_to e (r ∷ ss)) t)
 
-pub last_joined : (e : ℤ) (ss : List Span) → IsNormalized ss → Joined (ss ++ last_up_to e ss) (with_last_end e ss)
+pub last_joined : (e : ℤ) (ss : List Span) → IsNormalized ss → IsUnion (ss ++ last_up_to e ss) (with_last_end e ss)
 last_joined e ss n = record {
   same = λ t. covers-last e ss t ∙ sym (covers-append ss (last_up_to e ss) t);
   normalized = grown_normalized e ss n;
@@ -221,7 +221,7 @@ all_front P [] (suc i) h = tt
 all_front P (x ∷ xs) (suc i) h = (h.0, all_front P xs i h.1)
 
 -- one more track
-pub met_more : (rs : List (List Span)) (i : ℕ) (met own next : List Span) → i < length rs → 1 ≤ length (take i rs) → AllByRecursion IsNormalized rs → met ≡ meet_of_all (take i rs) → IfSome (slice_get rs i) (λ x. own ≡ x) → Met met own next → next ≡ meet_of_all (take (i + 1) rs)
+pub met_more : (rs : List (List Span)) (i : ℕ) (met own next : List Span) → i < length rs → 1 ≤ length (take i rs) → AllByRecursion IsNormalized rs → met ≡ meet_of_all (take i rs) → IfSome (slice_get rs i) (λ x. own ≡ x) → IsIntersection met own next → next ≡ meet_of_all (take (i + 1) rs)
 met_more rs i met own next low some all so_far h m =
     let at = found_at (λ x. own ≡ x) rs i low h in
     let one : IsNormalized met = subst IsNormalized (sym so_far) (all_normalized (take i rs) (all_front IsNormalized rs i all)) in

@@ -6,9 +6,9 @@ use Rattle.mse_base.specs.declared.ticks.Moment.TheVariants.{Nan}
 use Rattle.track_store.specs.declared.tracks.Settings.{Settings}
 use Rattle.track_store.specs.Kept.{AreKept}
 use Rattle.track_store.specs.State.{TrackState}
-use Rattle.track_buffers.specs.Media.{IsSteady}
+use Rattle.track_buffers.specs.Media.{HasMediaInvariants}
 
-pub steady_by : (ts us : List TrackState) (gs hs : List ℤ) (s t : Settings) (g : ℤ) → IsSteady ts gs s g → AreKept us → hs ≡ gs → pos 0 ≤ℤ t.window_start → t.window_end ≡ s.window_end → IsSteady us hs t g
+pub steady_by : (ts us : List TrackState) (gs hs : List ℤ) (s t : Settings) (g : ℤ) → HasMediaInvariants ts gs s g → AreKept us → hs ≡ gs → pos 0 ≤ℤ t.window_start → t.window_end ≡ s.window_end → HasMediaInvariants us hs t g
 steady_by ts us gs hs s t g h kept same start end = record {
   kept = kept;
   window_start = start;

@@ -44,8 +44,8 @@ abbrev pub first_of : List Span → Option Span
 first_of ss = slice_get ss 0
 
 -- the range begins at or after a time, and ends at or before another
-abbrev pub IsInside : ℤ → ℤ → Span → Type 0
-IsInside a b s = (a ≤ℤ s.start) × (s.end ≤ℤ b)
+abbrev pub IsSpanWithin : ℤ → ℤ → Span → Type 0
+IsSpanWithin a b s = (a ≤ℤ s.start) × (s.end ≤ℤ b)
 
 -- the greatest frame end timestamp of all frames of some buffers
 abbrev pub highest_end_of_all : List Media → Option ℤ

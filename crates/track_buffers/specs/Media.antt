@@ -59,7 +59,7 @@ room_of spare ts = least_room (map (λ t. spare t.store) ts)
 
 -- each track buffer is sound, the window has a start that is not negative and an end, and ranges of each track join
 -- across the same gap
-pub record IsSteady (tracks : List TrackState) (gaps : List ℤ) (settings : Settings)
+pub record HasMediaInvariants (tracks : List TrackState) (gaps : List ℤ) (settings : Settings)
     (gap : ℤ) : Type 0 where
   pub kept : AreKept tracks
   pub window_start : pos 0 ≤ℤ settings.window_start

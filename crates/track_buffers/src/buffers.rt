@@ -3,7 +3,7 @@ ghost use Rattle.std.specs.List.{AllByRecursion};
 ghost use Rattle.mse_base.specs.declared.ticks.Moment.{Moment};
 ghost use Rattle.mse_base.specs.Spans.{last_of, reaches};
 ghost use Rattle.track_store.specs.Kept.{AreKept};
-ghost use Rattle.track_store.specs.Sound.{Sound};
+ghost use Rattle.track_store.specs.Sound.{IsSound};
 ghost use Rattle.track_store.specs.State.{states_of};
 ghost use Rattle.track_buffers.specs.Effects.{media_result, source_effect};
 ghost use Rattle.track_buffers.specs.Media.{awaits_first, EndsWithin, IsNotAfter};
@@ -46,9 +46,9 @@ pub struct TrackBuffers<S: FrameStore> {
 }
 
 impl<S: FrameStore> Model for TrackBuffers<S> {
-    ghost use Rattle.track_store.specs.Kept.{HasRoom, gaps_of};
+    ghost use Rattle.track_store.specs.Kept.{HasSpareRoom, gaps_of};
     ghost use Rattle.track_store.specs.State.{states_of};
-    ghost use Rattle.track_buffers.specs.Media.{MediaView, media_of, room_of, IsSteady};
+    ghost use Rattle.track_buffers.specs.Media.{MediaView, media_of, room_of, HasMediaInvariants};
 
     ghost Value = { MediaView };
 
@@ -58,9 +58,9 @@ impl<S: FrameStore> Model for TrackBuffers<S> {
       places = b.tracks.spare;
     } };
 
-    ghost invariant = { λ b. IsSteady (states_of S.frames b.tracks.items)
+    ghost invariant = { λ b. HasMediaInvariants (states_of S.frames b.tracks.items)
         (gaps_of S.gap b.tracks.items) b.settings b.gap
-        × HasRoom S.spare b.ahead b.tracks.items };
+        × HasSpareRoom S.spare b.ahead b.tracks.items };
 }
 
 impl<S: FrameStore> TrackBuffers<S> {
@@ -394,7 +394,7 @@ impl<S: FrameStore> TrackBuffers<S> {
     /// is not negative.
     pub fn sound(&self)
         ensures kept { AreKept self.now.media.tracks }
-        ensures sound { AllByRecursion Sound self.now.media.tracks }
+        ensures sound { AllByRecursion IsSound self.now.media.tracks }
         ensures window_start { pos 0 ≤ℤ self.now.media.settings.window_start }
         ensures window_end { self.now.media.settings.window_end ≢ Moment.Nan }
         ensures gap { pos 0 ≤ℤ self.now.media.gap }

@@ -2,7 +2,7 @@
 
 ghost use Rattle.std.specs.Prelude.{◌≡◌, ◌≤◌, ◌<◌, ◌+◌, ℕ, ℤ, pos, ◌≤ℤ◌, ◌==◌, Bool, false, Some, map, length, slice_get, slice_set, IfSome};
 ghost use Rattle.mse_base.specs.declared.ticks.Moment.{Moment};
-ghost use Rattle.track_store.specs.Kept.{AreKept, HasRoom, gaps_of};
+ghost use Rattle.track_store.specs.Kept.{AreKept, HasSpareRoom, gaps_of};
 ghost use Rattle.track_store.specs.State.{state_of, states_of};
 ghost use Rattle.range_removal.specs.Rooms.{IsRoomKept};
 ghost use Rattle.track_buffers.specs.Effects.{media_result, source_effect};
@@ -46,7 +46,7 @@ pub(crate) fn process_at<S: FrameStore>(
     duration: &Moment,
 ) -> MediaEffect
     requires in_range { i < length tracks.old.items }
-    requires room { HasRoom S.spare 1 tracks.old.items }
+    requires room { HasSpareRoom S.spare 1 tracks.old.items }
     requires kept { AreKept (states_of S.frames tracks.old.items) }
     requires window_start { pos 0 ≤ℤ settings.old.window_start }
     requires dur { pos 0 ≤ℤ frame.dur }
@@ -62,8 +62,8 @@ pub(crate) fn process_at<S: FrameStore>(
         → EndsWithin (source_effect result).duration (states_of S.frames tracks.new.items) }
     ensures no_fall { IsNotAfter duration.now (source_effect result).duration }
     ensures no_init { (source_effect result).received_init ≡ false }
-    ensures room { (n : ℕ) → HasRoom S.spare (n + 1) tracks.old.items
-        → HasRoom S.spare n tracks.new.items }
+    ensures room { (n : ℕ) → HasSpareRoom S.spare (n + 1) tracks.old.items
+        → HasSpareRoom S.spare n tracks.new.items }
     ensures gaps { gaps_of S.gap tracks.new.items ≡ gaps_of S.gap tracks.old.items }
     ensures places { tracks.new.spare ≡ tracks.old.spare }
 {
@@ -106,8 +106,8 @@ pub(crate) fn unset_all<S: FrameStore>(tracks: &mut Tracks<S>)
         ≡ map unset_track (states_of S.frames tracks.old.items) }
     ensures kept { AreKept (states_of S.frames tracks.old.items)
         → AreKept (states_of S.frames tracks.new.items) }
-    ensures room { (n : ℕ) → HasRoom S.spare n tracks.old.items
-        → HasRoom S.spare n tracks.new.items }
+    ensures room { (n : ℕ) → HasSpareRoom S.spare n tracks.old.items
+        → HasSpareRoom S.spare n tracks.new.items }
     ensures gaps { gaps_of S.gap tracks.new.items ≡ gaps_of S.gap tracks.old.items }
     ensures places { tracks.new.spare ≡ tracks.old.spare }
 {

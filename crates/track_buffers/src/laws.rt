@@ -8,7 +8,7 @@ ghost use Rattle.mse_base.specs.declared.ticks.Moment.{Moment};
 ghost use Rattle.mse_base.specs.declared.frame.CodedFrame.{CodedFrame};
 ghost use Rattle.mse_base.specs.declared.track.Presentation.{Presentation};
 ghost use Rattle.mse_base.specs.Moments.{greater_moment};
-ghost use Rattle.mse_base.specs.Spans.{IsNormalized, Joined};
+ghost use Rattle.mse_base.specs.Spans.{IsNormalized, IsUnion};
 ghost use Rattle.track_buffers.specs.declared.effects.SourceEffect.{SourceEffect};
 ghost use Rattle.track_buffers.specs.declared.effects.MediaFault.{MediaFault};
 ghost use Rattle.track_buffers.specs.Media.{Media, Done, AppendError, effect_of, EndsWithin, IsNotAfter};
@@ -26,7 +26,7 @@ pub fn buffered_law()
 /// have and of those from the start of the last on up to the end.
 pub fn last_end()
     ensures { (e : ℤ) (ranges : List Span) → IsNormalized ranges
-        → Joined (ranges ++ last_up_to e ranges) (with_last_end e ranges) }
+        → IsUnion (ranges ++ last_up_to e ranges) (with_last_end e ranges) }
 {}
 
 /// An initialization segment that is not refused is told as received and leaves the buffered

@@ -9,11 +9,11 @@ ghost use Rattle.mse_base.specs.declared.track.Presentation.{Presentation};
 ghost use Rattle.mse_base.specs.Meets.{meet_of_all, overlap_of_all};
 ghost use Rattle.mse_base.specs.Moments.{greatest};
 ghost use Rattle.mse_base.specs.Spans.{IsNormalized, reaches, last_of};
-ghost use Rattle.track_store.specs.Sound.{Sound};
+ghost use Rattle.track_store.specs.Sound.{IsSound};
 ghost use Rattle.track_buffers.specs.declared.effects.MediaFault.{MediaFault};
 ghost use Rattle.track_buffers.specs.declared.effects.SourceEffect.{SourceEffect};
 ghost use Rattle.track_buffers.specs.Buffered.{buffered_of, last_ends, track_ranges, with_common_end, with_last_end};
-ghost use Rattle.track_buffers.specs.Extended.{IsInside, common_end, first_of, held_up_to, held_with_end, highest_end_of_all, last_up_to_end};
+ghost use Rattle.track_buffers.specs.Extended.{IsSpanWithin, common_end, first_of, held_up_to, held_with_end, highest_end_of_all, last_up_to_end};
 ghost use Rattle.track_buffers.specs.Frames.{highest_end_in};
 ghost use Rattle.track_buffers.specs.Initialized.{init_result};
 ghost use Rattle.track_buffers.specs.Media.{AppendError, Done, EndsWithin, Media};
@@ -64,11 +64,12 @@ pub fn last_and_first()
 /// The buffered ranges begin at or after 0, and end at or before each time by which all frames
 /// end, as the highest end or the duration; without a frame there is none.
 pub fn within()
-    ensures times { (e : ℤ) (ended : Bool) (m : Media) → AllByRecursion Sound m.tracks
+    ensures times { (e : ℤ) (ended : Bool) (m : Media) → AllByRecursion IsSound m.tracks
         → EndsWithin (Moment.At e) m.tracks
-        → AllByRecursion (IsInside (pos 0) e) (buffered_of ended m) }
-    ensures highest { (e : ℤ) (ended : Bool) (m : Media) → AllByRecursion Sound m.tracks
-        → highest_end_in m ≡ Some e → AllByRecursion (IsInside (pos 0) e) (buffered_of ended m) }
+        → AllByRecursion (IsSpanWithin (pos 0) e) (buffered_of ended m) }
+    ensures highest { (e : ℤ) (ended : Bool) (m : Media) → AllByRecursion IsSound m.tracks
+        → highest_end_in m ≡ Some e → AllByRecursion (IsSpanWithin (pos 0) e)
+        (buffered_of ended m) }
     ensures none { (ended : Bool) (m : Media) → highest_end_in m ≡ None
         → buffered_of ended m ≡ [] }
 {}

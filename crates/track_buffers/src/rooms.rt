@@ -1,7 +1,7 @@
 //! Room for more frames.
 
 ghost use Rattle.std.specs.Prelude.{◌≡◌, ◌≤◌, ℕ, length, slice_get, IfSome, IfOk, OnOk};
-ghost use Rattle.track_store.specs.Kept.{HasRoom, gaps_of};
+ghost use Rattle.track_store.specs.Kept.{HasSpareRoom, gaps_of};
 ghost use Rattle.track_store.specs.State.{state_of, states_of};
 ghost use Rattle.range_removal.specs.Rooms.{IsRoomKept};
 
@@ -28,9 +28,9 @@ fn reserve_at<S: FrameStore>(tracks: &mut Tracks<S>, i: usize, n: usize) -> Resu
 /// Makes room for `n` more frames in each store.
 fn reserve_all<S: FrameStore>(tracks: &mut Tracks<S>, n: usize) -> Result<(), OutOfMemory>
     ensures states { states_of S.frames tracks.new.items ≡ states_of S.frames tracks.old.items }
-    ensures ok { OnOk result (HasRoom S.spare n tracks.new.items) }
-    ensures room { (k : ℕ) → HasRoom S.spare k tracks.old.items →
-        HasRoom S.spare k tracks.new.items }
+    ensures ok { OnOk result (HasSpareRoom S.spare n tracks.new.items) }
+    ensures room { (k : ℕ) → HasSpareRoom S.spare k tracks.old.items →
+        HasSpareRoom S.spare k tracks.new.items }
     ensures gaps { gaps_of S.gap tracks.new.items ≡ gaps_of S.gap tracks.old.items }
     ensures places { tracks.new.spare ≡ tracks.old.spare }
 {
@@ -49,9 +49,9 @@ pub(crate) fn reserve_ahead<S: FrameStore>(
     n: usize,
 ) -> Result<usize, OutOfMemory>
     ensures states { states_of S.frames tracks.new.items ≡ states_of S.frames tracks.old.items }
-    ensures ok { IfOk result (λ m. (n ≤ m) × HasRoom S.spare m tracks.new.items) }
-    ensures room { (k : ℕ) → HasRoom S.spare k tracks.old.items →
-        HasRoom S.spare k tracks.new.items }
+    ensures ok { IfOk result (λ m. (n ≤ m) × HasSpareRoom S.spare m tracks.new.items) }
+    ensures room { (k : ℕ) → HasSpareRoom S.spare k tracks.old.items →
+        HasSpareRoom S.spare k tracks.new.items }
     ensures gaps { gaps_of S.gap tracks.new.items ≡ gaps_of S.gap tracks.old.items }
     ensures places { tracks.new.spare ≡ tracks.old.spare }
 {

@@ -4,13 +4,13 @@ use Rattle.std.specs.List.{AllByRecursion, list_any}
 use Rattle.std.proofs.lemmas.Int.{ints}
 use Rattle.std.proofs.lemmas.List.{drop_all, take-append-drop, append_assoc, append-nil, length-append}
 use Rattle.mse_base.specs.declared.ticks.Moment.{Moment}
-use Rattle.block_list.specs.Rows.{joined, row, start, NoneEmpty}
+use Rattle.block_list.specs.Rows.{joined, row, start, AreNonEmpty}
 use Rattle.block_list.specs.Spots.{rank, IsPlace}
 use Rattle.block_list.specs.declared.block_list.Spot.{Spot}
 use Rattle.block_list.proofs.Joining.{start_more}
 use Rattle.block_list.proofs.Ranging.{take_at, row_count}
 use Rattle.mse_base.specs.Moments.{is_before}
-use Rattle.track_index.specs.declared.entry.Entry.{Entry}
+use Rattle.track_index.specs.declared.entry.OrderEntry.{OrderEntry}
 use Rattle.track_index.specs.declared.key.Key.{Key}
 use Rattle.track_index.specs.Order.{end_of, entry_covers, or_else, last_that, first_start, is_sync_from, is_ended}
 use Rattle.track_index.specs.Keyed.{before_key}
@@ -51,7 +51,7 @@ rows_all (r ∷ rows) zero e = absurd (omega arith)
 rows_all (r ∷ rows) (suc n) e = ap (λ qs. r ∷ qs) (rows_all rows n (omega arith))
 
 -- what the ends need after a change in a block
-pub record Ready (ts : List (Option ℤ)) (rows : List (List Entry)) (b cap : ℕ) : Type 0 where
+pub record Ready (ts : List (Option ℤ)) (rows : List (List OrderEntry)) (b cap : ℕ) : Type 0 where
   pub within : b ≤ length ts
   pub more : length rows ≤ length ts + 1
   pub fewer : length ts ≤ length rows + 1
@@ -60,7 +60,7 @@ pub record Ready (ts : List (Option ℤ)) (rows : List (List Entry)) (b cap : �
   pub front : take b ts ≡ take b (tops_of rows)
   pub rest : RunsFrom (b + 1) ts ((b + 1 + length rows) - length ts) rows
 
-pub ready : (ts : List (Option ℤ)) (old new : List (List Entry)) (b cap : ℕ) → ts ≡ tops_of old → b < length old → length new ≤ length old + 1 → length old ≤ length new + 1 → length new ≤ cap → take b new ≡ take b old → drop ((b + 1 + length new) - length old) new ≡ drop (b + 1) old → Ready ts new b cap
+pub ready : (ts : List (Option ℤ)) (old new : List (List OrderEntry)) (b cap : ℕ) → ts ≡ tops_of old → b < length old → length new ≤ length old + 1 → length old ≤ length new + 1 → length new ≤ cap → take b new ≡ take b old → drop ((b + 1 + length new) - length old) new ≡ drop (b + 1) old → Ready ts new b cap
 ready ts old new b cap e l m f c front rest =
     let n : length ts ≡ length old = ap length e ∙ length_running None old in
     record {
@@ -74,14 +74,14 @@ ready ts old new b cap e l m f c front rest =
     }
 
 -- the last end, made later by that of an entry that came
-pub top_with : (ts : List (Option ℤ)) (old new : List (List Entry)) (b k : ℕ) (x : Entry) (end : ℤ) → ts ≡ tops_of old → b + 1 ≡ length old → end ≡ end_of x → joined new ≡ insert (joined old) k x → later_end (get_or ts b None) (Some end) ≡ greatest_end (joined new)
+pub top_with : (ts : List (Option ℤ)) (old new : List (List OrderEntry)) (b k : ℕ) (x : OrderEntry) (end : ℤ) → ts ≡ tops_of old → b + 1 ≡ length old → end ≡ end_of x → joined new ≡ insert (joined old) k x → later_end (get_or ts b None) (Some end) ≡ greatest_end (joined new)
 top_with ts old new b k x end e l z j =
     let os = joined old in
     let n : b + 1 - 1 ≡ b = omega arith in
     let top : get_or ts b None ≡ greatest_end os = ap (λ i. get_or ts i None) (sym n) ∙ top_at ts old (b + 1) None e (omega arith) (omega arith) ∙ ap (λ rows. greatest_end (joined rows)) (rows_all old (b + 1) l) in
     ap (λ t. later_end t (Some end)) top ∙ ap (λ t. later_end (greatest_end os) (Some t)) z ∙ ap (λ zs. later_end (greatest_end zs) (Some (end_of x))) (sym (take-append-drop k os)) ∙ greatest_with (take k os) (drop k os) x ∙ ap greatest_end (sym j)
 
-pub first_ready : (ts : List (Option ℤ)) (old new : List (List Entry)) (cap : ℕ) → ts ≡ tops_of old → length old ≡ 0 → length new ≤ 1 → length new ≤ cap → Ready ts new 0 cap
+pub first_ready : (ts : List (Option ℤ)) (old new : List (List OrderEntry)) (cap : ℕ) → ts ≡ tops_of old → length old ≡ 0 → length new ≤ 1 → length new ≤ cap → Ready ts new 0 cap
 first_ready ts old new cap e l m c =
     let none : ts ≡ [] = e ∙ ap tops_of (rows_none old l) in
     let n : length ts ≡ 0 = ap length none in
@@ -97,26 +97,26 @@ first_ready ts old new cap e l m c =
 
 -- ---- the last that holds a time
 
-pub last_front : (c : Entry → Bool) (os : List Entry) (n : ℕ) → AllByRecursion (λ o. c o ≡ false) (drop n os) → last_that c (take n os) ≡ last_that c os
+pub last_front : (c : OrderEntry → Bool) (os : List OrderEntry) (n : ℕ) → AllByRecursion (λ o. c o ≡ false) (drop n os) → last_that c (take n os) ≡ last_that c os
 last_front c os n h = sym (ap (last_that c) (sym (take-append-drop n os)) ∙ last-append c (take n os) (drop n os) ∙ ap (λ r. or_else r (last_that c (take n os))) (last_none c (drop n os) h))
 
 -- where no entry of a block ends after the time
-pub passed_over : (t : ℤ) (os : List Entry) (n : ℕ) → is_ended t (greatest_end os) ≡ true → last_that (entry_covers t) (take n os) ≡ None
+pub passed_over : (t : ℤ) (os : List OrderEntry) (n : ℕ) → is_ended t (greatest_end os) ≡ true → last_that (entry_covers t) (take n os) ≡ None
 passed_over t os n e = last_none (entry_covers t) (take n os) (each_take (λ o. entry_covers t o ≡ false) os n (none_covers t os e))
 
 -- in the place's own block and before it
-pub last_at_place : (t m : ℤ) (rows : List (List Entry)) (s : Spot) → m ≡ (t +ℤ pos 1) → s.block < length rows → s.index ≤ length (row rows s.block) → AllByRecursion (λ o. before_key (record { mark = m; serial = 0 }) o ≡ false) (drop (rank rows s) (joined rows)) → last_that (entry_covers t) (joined rows) ≡ or_else (last_that (entry_covers t) (take s.index (row rows s.block))) (last_that (entry_covers t) (joined (take s.block rows)))
+pub last_at_place : (t m : ℤ) (rows : List (List OrderEntry)) (s : Spot) → m ≡ (t +ℤ pos 1) → s.block < length rows → s.index ≤ length (row rows s.block) → AllByRecursion (λ o. before_key (record { mark = m; serial = 0 }) o ≡ false) (drop (rank rows s) (joined rows)) → last_that (entry_covers t) (joined rows) ≡ or_else (last_that (entry_covers t) (take s.index (row rows s.block))) (last_that (entry_covers t) (joined (take s.block rows)))
 last_at_place t m rows s e l k h =
     let late = begin_later t (drop (rank rows s) (joined rows)) (subst (λ (n : ℤ). AllByRecursion (λ o. n ≤ℤ o.pts) (drop (rank rows s) (joined rows))) e (highs m (drop (rank rows s) (joined rows)) h)) in
     sym (last_front (entry_covers t) (joined rows) (rank rows s) late) ∙ ap (last_that (entry_covers t)) (take_at rows s.block s.index l k) ∙ last-append (entry_covers t) (joined (take s.block rows)) (take s.index (row rows s.block))
 
-take_all : (os : List Entry) (n : ℕ) → n ≡ length os → take n os ≡ os
+take_all : (os : List OrderEntry) (n : ℕ) → n ≡ length os → take n os ≡ os
 take_all [] zero e = refl
 take_all [] (suc n) e = refl
 take_all (o ∷ os) zero e = absurd (omega arith)
 take_all (o ∷ os) (suc n) e = ap (λ zs. o ∷ zs) (take_all os n (omega arith))
 
-pub last_step : (t : ℤ) (rows : List (List Entry)) (b n : ℕ) → 0 < b → b ≤ length rows → n ≡ length (row rows (b - 1)) → last_that (entry_covers t) (joined (take b rows)) ≡ or_else (last_that (entry_covers t) (take n (row rows (b - 1)))) (last_that (entry_covers t) (joined (take (b - 1) rows)))
+pub last_step : (t : ℤ) (rows : List (List OrderEntry)) (b n : ℕ) → 0 < b → b ≤ length rows → n ≡ length (row rows (b - 1)) → last_that (entry_covers t) (joined (take b rows)) ≡ or_else (last_that (entry_covers t) (take n (row rows (b - 1)))) (last_that (entry_covers t) (joined (take (b - 1) rows)))
 last_step t rows zero n p l e = absurd (omega arith)
 last_step t rows (suc b) n p l e =
     let k : suc b - 1 ≡ b = omega arith in
@@ -127,19 +127,19 @@ last_step t rows (suc b) n p l e =
 
 -- ---- the first random access point
 
-some_if : (b : Bool) (x : Entry) (r q : Option ℤ) (v : ℤ) → cond b (Some x.pts) r ≡ Some v → (r ≡ Some v → q ≡ Some v) → cond b (Some x.pts) q ≡ Some v
+some_if : (b : Bool) (x : OrderEntry) (r q : Option ℤ) (v : ℤ) → cond b (Some x.pts) r ≡ Some v → (r ≡ Some v → q ≡ Some v) → cond b (Some x.pts) q ≡ Some v
 some_if true x r q v e f = e
 some_if false x r q v e f = f e
 
-none_if : (b : Bool) (x : Entry) (r q w : Option ℤ) → cond b (Some x.pts) r ≡ None → (r ≡ None → q ≡ w) → cond b (Some x.pts) q ≡ w
+none_if : (b : Bool) (x : OrderEntry) (r q w : Option ℤ) → cond b (Some x.pts) r ≡ None → (r ≡ None → q ≡ w) → cond b (Some x.pts) q ≡ w
 none_if true x r q w e f = absurd cc
 none_if false x r q w e f = f e
 
-pub first_some : (c : Entry → Bool) (xs ys : List Entry) (v : ℤ) → first_start c xs ≡ Some v → first_start c (xs ++ ys) ≡ Some v
+pub first_some : (c : OrderEntry → Bool) (xs ys : List OrderEntry) (v : ℤ) → first_start c xs ≡ Some v → first_start c (xs ++ ys) ≡ Some v
 first_some c [] ys v e = absurd cc
 first_some c (x ∷ xs) ys v e = some_if (c x) x (first_start c xs) (first_start c (xs ++ ys)) v e (first_some c xs ys v)
 
-pub first_none : (c : Entry → Bool) (xs ys : List Entry) → first_start c xs ≡ None → first_start c (xs ++ ys) ≡ first_start c ys
+pub first_none : (c : OrderEntry → Bool) (xs ys : List OrderEntry) → first_start c xs ≡ None → first_start c (xs ++ ys) ≡ first_start c ys
 first_none c [] ys e = refl
 first_none c (x ∷ xs) ys e = none_if (c x) x (first_start c xs) (first_start c (xs ++ ys)) (first_start c ys) e (first_none c xs ys)
 
@@ -147,7 +147,7 @@ or_false : (a b : Bool) → (a || b) ≡ false → (a ≡ false) × (b ≡ false
 or_false true b e = absurd cc
 or_false false b e = (refl, e)
 
-pub no_sync : (t : Moment) (os : List Entry) → list_any is_sync os ≡ false → first_start (is_sync_from t) os ≡ None
+pub no_sync : (t : Moment) (os : List OrderEntry) → list_any is_sync os ≡ false → first_start (is_sync_from t) os ≡ None
 no_sync t [] e = refl
 no_sync t (o ∷ os) e =
     let p = or_false o.sync (list_any is_sync os) e in
@@ -155,7 +155,7 @@ no_sync t (o ∷ os) e =
 
 -- ---- the greatest end before a key
 
-pub greatest_before : (key : Key) (rows : List (List Entry)) (s : Spot) (a b : Option ℤ) → s.block < length rows → s.index ≤ length (row rows s.block) → AllByRecursion (λ o. before_key key o ≡ true) (take (rank rows s) (joined rows)) → AllByRecursion (λ o. before_key key o ≡ false) (drop (rank rows s) (joined rows)) → a ≡ greatest_end (joined (take s.block rows)) → b ≡ greatest_end (take s.index (row rows s.block)) → later_end a b ≡ greatest_end (filter (before_key key) (joined rows))
+pub greatest_before : (key : Key) (rows : List (List OrderEntry)) (s : Spot) (a b : Option ℤ) → s.block < length rows → s.index ≤ length (row rows s.block) → AllByRecursion (λ o. before_key key o ≡ true) (take (rank rows s) (joined rows)) → AllByRecursion (λ o. before_key key o ≡ false) (drop (rank rows s) (joined rows)) → a ≡ greatest_end (joined (take s.block rows)) → b ≡ greatest_end (take s.index (row rows s.block)) → later_end a b ≡ greatest_end (filter (before_key key) (joined rows))
 greatest_before key rows s a b l k before after x y =
     ap (λ z. later_end z b) x ∙ ap (later_end (greatest_end (joined (take s.block rows)))) y ∙ sym (greatest-append (joined (take s.block rows)) (take s.index (row rows s.block)))
     ∙ ap greatest_end (sym (take_at rows s.block s.index l k)) ∙ ap greatest_end (sym (filter_front (before_key key) (joined rows) (rank rows s) before after))
@@ -208,53 +208,53 @@ rest_is xs zero = take_over xs (length xs - 0) (omega arith)
 rest_is [] (suc i) = take_none (0 - suc i)
 rest_is (x ∷ xs) (suc i) = let k : length (x ∷ xs) - suc i ≡ length xs - i = omega arith in ap (λ n. take n (drop i xs)) k ∙ rest_is xs i
 
-pub start_place : {T : Type 0} (rows : List (List T)) → NoneEmpty rows → IsPlace rows (record { block = 0; index = 0 })
+pub start_place : {T : Type 0} (rows : List (List T)) → AreNonEmpty rows → IsPlace rows (record { block = 0; index = 0 })
 start_place [] k = record { item = λ l. absurd (omega arith); end = λ _. refl }
 start_place (r ∷ rows) k = record { item = λ _. k.0; end = λ l. absurd (omega arith) }
 
 -- ---- what begins by a time
 
 -- one block back
-pub last_back : (t : ℤ) (rows : List (List Entry)) (b : ℕ) → 0 < b → b ≤ length rows → last_that (entry_covers t) (joined (take b rows)) ≡ or_else (last_that (entry_covers t) (row rows (b - 1))) (last_that (entry_covers t) (joined (take (b - 1) rows)))
+pub last_back : (t : ℤ) (rows : List (List OrderEntry)) (b : ℕ) → 0 < b → b ≤ length rows → last_that (entry_covers t) (joined (take b rows)) ≡ or_else (last_that (entry_covers t) (row rows (b - 1))) (last_that (entry_covers t) (joined (take (b - 1) rows)))
 last_back t rows b p l =
     last_step t rows b (length (row rows (b - 1))) p l refl
     ∙ ap (λ zs. or_else (last_that (entry_covers t) zs) (last_that (entry_covers t) (joined (take (b - 1) rows)))) (take_all (row rows (b - 1)) (length (row rows (b - 1))) refl)
 
 -- one block back that is passed whole
-pub last_pass : (t : ℤ) (rows : List (List Entry)) (b : ℕ) → 0 < b → b ≤ length rows → is_ended t (greatest_end (row rows (b - 1))) ≡ true → last_that (entry_covers t) (joined (take b rows)) ≡ last_that (entry_covers t) (joined (take (b - 1) rows))
+pub last_pass : (t : ℤ) (rows : List (List OrderEntry)) (b : ℕ) → 0 < b → b ≤ length rows → is_ended t (greatest_end (row rows (b - 1))) ≡ true → last_that (entry_covers t) (joined (take b rows)) ≡ last_that (entry_covers t) (joined (take (b - 1) rows))
 last_pass t rows b p l e =
     last_back t rows b p l
     ∙ ap (λ r. or_else r (last_that (entry_covers t) (joined (take (b - 1) rows)))) (last_none (entry_covers t) (row rows (b - 1)) (none_covers t (row rows (b - 1)) e))
 
-each_left : (P : Entry → Type 0) (xs ys : List Entry) → AllByRecursion P (xs ++ ys) → AllByRecursion P xs
+each_left : (P : OrderEntry → Type 0) (xs ys : List OrderEntry) → AllByRecursion P (xs ++ ys) → AllByRecursion P xs
 each_left P [] ys h = tt
 each_left P (x ∷ xs) ys h = (h.0, each_left P xs ys h.1)
 
-each_right : (P : Entry → Type 0) (xs ys : List Entry) → AllByRecursion P (xs ++ ys) → AllByRecursion P ys
+each_right : (P : OrderEntry → Type 0) (xs ys : List OrderEntry) → AllByRecursion P (xs ++ ys) → AllByRecursion P ys
 each_right P [] ys h = h
 each_right P (x ∷ xs) ys h = each_right P xs ys h.1
 
-back_rows : (rows : List (List Entry)) (b : ℕ) → 0 < b → b ≤ length rows → joined (take b rows) ≡ joined (take (b - 1) rows) ++ row rows (b - 1)
+back_rows : (rows : List (List OrderEntry)) (b : ℕ) → 0 < b → b ≤ length rows → joined (take b rows) ≡ joined (take (b - 1) rows) ++ row rows (b - 1)
 back_rows rows zero p l = absurd (omega arith)
 back_rows rows (suc b) p l =
     let k : suc b - 1 ≡ b = omega arith in
     rows_more rows b (omega arith) ∙ ap (λ i. joined (take i rows) ++ row rows i) (sym k)
 
-pub begun_row : (t : ℤ) (rows : List (List Entry)) (b : ℕ) → 0 < b → b ≤ length rows → AllByRecursion (λ o. o.pts ≤ℤ t) (joined (take b rows)) → AllByRecursion (λ o. o.pts ≤ℤ t) (row rows (b - 1))
+pub begun_row : (t : ℤ) (rows : List (List OrderEntry)) (b : ℕ) → 0 < b → b ≤ length rows → AllByRecursion (λ o. o.pts ≤ℤ t) (joined (take b rows)) → AllByRecursion (λ o. o.pts ≤ℤ t) (row rows (b - 1))
 begun_row t rows b p l h = each_right (λ o. o.pts ≤ℤ t) (joined (take (b - 1) rows)) (row rows (b - 1)) (subst (AllByRecursion (λ o. o.pts ≤ℤ t)) (back_rows rows b p l) h)
 
-pub begun_less : (t : ℤ) (rows : List (List Entry)) (b : ℕ) → 0 < b → b ≤ length rows → AllByRecursion (λ o. o.pts ≤ℤ t) (joined (take b rows)) → AllByRecursion (λ o. o.pts ≤ℤ t) (joined (take (b - 1) rows))
+pub begun_less : (t : ℤ) (rows : List (List OrderEntry)) (b : ℕ) → 0 < b → b ≤ length rows → AllByRecursion (λ o. o.pts ≤ℤ t) (joined (take b rows)) → AllByRecursion (λ o. o.pts ≤ℤ t) (joined (take (b - 1) rows))
 begun_less t rows b p l h = each_left (λ o. o.pts ≤ℤ t) (joined (take (b - 1) rows)) (row rows (b - 1)) (subst (AllByRecursion (λ o. o.pts ≤ℤ t)) (back_rows rows b p l) h)
 
-begun_by : (t m : ℤ) (o : Entry) → m ≡ (t +ℤ pos 1) → o.pts <ℤ m → o.pts ≤ℤ t
+begun_by : (t m : ℤ) (o : OrderEntry) → m ≡ (t +ℤ pos 1) → o.pts <ℤ m → o.pts ≤ℤ t
 begun_by t m o e h = omega (arith, ints)
 
-begun_all : (t m : ℤ) (os : List Entry) → m ≡ (t +ℤ pos 1) → AllByRecursion (λ o. o.pts <ℤ m) os → AllByRecursion (λ o. o.pts ≤ℤ t) os
+begun_all : (t m : ℤ) (os : List OrderEntry) → m ≡ (t +ℤ pos 1) → AllByRecursion (λ o. o.pts <ℤ m) os → AllByRecursion (λ o. o.pts ≤ℤ t) os
 begun_all t m [] e h = tt
 begun_all t m (o ∷ os) e h = (begun_by t m o e h.0, begun_all t m os e h.1)
 
 -- the blocks before a place before which all begin by a time
-pub begun_before : (t m : ℤ) (rows : List (List Entry)) (s : Spot) → m ≡ (t +ℤ pos 1) → s.block < length rows → s.index ≤ length (row rows s.block) → AllByRecursion (λ o. before_key (record { mark = m; serial = 0 }) o ≡ true) (take (rank rows s) (joined rows)) → AllByRecursion (λ o. o.pts ≤ℤ t) (joined (take s.block rows))
+pub begun_before : (t m : ℤ) (rows : List (List OrderEntry)) (s : Spot) → m ≡ (t +ℤ pos 1) → s.block < length rows → s.index ≤ length (row rows s.block) → AllByRecursion (λ o. before_key (record { mark = m; serial = 0 }) o ≡ true) (take (rank rows s) (joined rows)) → AllByRecursion (λ o. o.pts ≤ℤ t) (joined (take s.block rows))
 begun_before t m rows s e l k h =
     let each = begun_all t m (take (rank rows s) (joined rows)) e (lows m (take (rank rows s) (joined rows)) h) in
     each_left (λ o. o.pts ≤ℤ t) (joined (take s.block rows)) (take s.index (row rows s.block)) (subst (AllByRecursion (λ o. o.pts ≤ℤ t)) (take_at rows s.block s.index l k) each)

@@ -7,7 +7,7 @@ use Rattle.std.proofs.lemmas.List.{drop_more, drop_all, take_more, take-append-d
 use Rattle.std.proofs.lemmas.List.Sums.{fold-append}
 use Rattle.mse_base.specs.Moments.{greater_of, greatest}
 use Rattle.block_list.specs.Rows.{joined, row}
-use Rattle.track_index.specs.declared.entry.Entry.{Entry}
+use Rattle.track_index.specs.declared.entry.OrderEntry.{OrderEntry}
 use Rattle.track_index.specs.declared.known.Known.{Known}
 use Rattle.track_index.specs.Order.{end_of, entry_covers, is_ended, last_that, or_else}
 use Rattle.track_index.specs.Known.{is_sync, greatest_end, later_end, known_of}
@@ -46,16 +46,16 @@ fold_later a [] = sym (later_none a)
 fold_later a (t ∷ ts) =
     fold_later (greater_of a t) ts ∙ ap (λ z. later_end z (greatest ts)) (greater_is a t) ∙ later_assoc a (Some t) (greatest ts) ∙ ap (later_end a) (sym (fold_later (Some t) ts))
 
-pub greatest-append : (xs ys : List Entry) → greatest_end (xs ++ ys) ≡ later_end (greatest_end xs) (greatest_end ys)
+pub greatest-append : (xs ys : List OrderEntry) → greatest_end (xs ++ ys) ≡ later_end (greatest_end xs) (greatest_end ys)
 greatest-append xs ys =
     ap greatest (map-append end_of xs ys) ∙ fold-append greater_of None (map end_of xs) (map end_of ys) ∙ fold_later (greatest_end xs) (map end_of ys)
 
-pub greatest_more : (os : List Entry) (i : ℕ) (x : Entry) → i < length os → x ≡ get_or os i x → later_end (greatest_end (take i os)) (Some (end_of x)) ≡ greatest_end (take (i + 1) os)
+pub greatest_more : (os : List OrderEntry) (i : ℕ) (x : OrderEntry) → i < length os → x ≡ get_or os i x → later_end (greatest_end (take i os)) (Some (end_of x)) ≡ greatest_end (take (i + 1) os)
 greatest_more os i x l at =
     sym (greatest-append (take i os) (x ∷ [])) ∙ ap greatest_end (ap (λ z. take i os ++ z ∷ []) at ∙ sym (take_more os i x l))
 
 -- one item more among some
-pub greatest_with : (xs ys : List Entry) (x : Entry) → later_end (greatest_end (xs ++ ys)) (Some (end_of x)) ≡ greatest_end (xs ++ x ∷ ys)
+pub greatest_with : (xs ys : List OrderEntry) (x : OrderEntry) → later_end (greatest_end (xs ++ ys)) (Some (end_of x)) ≡ greatest_end (xs ++ x ∷ ys)
 greatest_with xs ys x =
     let a = greatest_end xs in let b = greatest_end ys in let c = Some (end_of x) in
     let here : greatest_end (x ∷ ys) ≡ later_end (Some (end_of x)) (greatest_end ys) = greatest-append (x ∷ []) ys in
@@ -79,7 +79,7 @@ any-append p (x ∷ xs) ys = ap (λ b. p x || b) (any-append p xs ys) ∙ sym (o
 pub any_with : {X : Type 0} (p : X → Bool) (xs ys : List X) (x : X) → (list_any p (xs ++ ys) || p x) ≡ list_any p (xs ++ x ∷ ys)
 any_with p xs ys x = ap (λ b. b || p x) (any-append p xs ys) ∙ or_turn (list_any p xs) (list_any p ys) (p x) ∙ sym (any-append p xs (x ∷ ys))
 
-pub known_with : (known : Known) (xs ys : List Entry) (x : Entry) (end : Option ℤ) (sync : Bool) → known ≡ known_of (xs ++ ys) → end ≡ later_end known.end (Some (end_of x)) → sync ≡ (known.sync || x.sync) → record { end = end; sync = sync } ≡ known_of (xs ++ x ∷ ys)
+pub known_with : (known : Known) (xs ys : List OrderEntry) (x : OrderEntry) (end : Option ℤ) (sync : Bool) → known ≡ known_of (xs ++ ys) → end ≡ later_end known.end (Some (end_of x)) → sync ≡ (known.sync || x.sync) → record { end = end; sync = sync } ≡ known_of (xs ++ x ∷ ys)
 known_with known xs ys x end sync k e s =
     let a : end ≡ greatest_end (xs ++ x ∷ ys) = e ∙ ap (λ (z : Known). later_end z.end (Some (end_of x))) k ∙ greatest_with xs ys x in
     let b : sync ≡ list_any is_sync (xs ++ x ∷ ys) = s ∙ ap (λ (z : Known). z.sync || x.sync) k ∙ any_with is_sync xs ys x in
@@ -87,32 +87,32 @@ known_with known xs ys x end sync k e s =
 
 -- ---- what the running ends are
 
-pub length_running : (best : Option ℤ) (rows : List (List Entry)) → length (running best rows) ≡ length rows
+pub length_running : (best : Option ℤ) (rows : List (List OrderEntry)) → length (running best rows) ≡ length rows
 length_running best [] = refl
 length_running best (r ∷ rows) = ap suc (length_running (later_end best (greatest_end r)) rows)
 
-top_is : (best : Option ℤ) (rows : List (List Entry)) (i : ℕ) (d : Option ℤ) → i < length rows → get_or (running best rows) i d ≡ later_end best (greatest_end (joined (take (suc i) rows)))
+top_is : (best : Option ℤ) (rows : List (List OrderEntry)) (i : ℕ) (d : Option ℤ) → i < length rows → get_or (running best rows) i d ≡ later_end best (greatest_end (joined (take (suc i) rows)))
 top_is best [] i d l = absurd (omega arith)
 top_is best (r ∷ rows) zero d l = ap (λ q. later_end best (greatest_end q)) (sym (append-nil r))
 top_is best (r ∷ rows) (suc i) d l =
     top_is (later_end best (greatest_end r)) rows i d (omega arith) ∙ later_assoc best (greatest_end r) (greatest_end (joined (take (suc i) rows))) ∙ ap (later_end best) (sym (greatest-append r (joined (take (suc i) rows))))
 
-pub top_at : (ts : List (Option ℤ)) (rows : List (List Entry)) (b : ℕ) (d : Option ℤ) → ts ≡ tops_of rows → 0 < b → b ≤ length rows → get_or ts (b - 1) d ≡ greatest_end (joined (take b rows))
+pub top_at : (ts : List (Option ℤ)) (rows : List (List OrderEntry)) (b : ℕ) (d : Option ℤ) → ts ≡ tops_of rows → 0 < b → b ≤ length rows → get_or ts (b - 1) d ≡ greatest_end (joined (take b rows))
 top_at ts rows zero d e p l = absurd (omega arith)
 top_at ts rows (suc b) d e p l = let k : suc b - 1 ≡ b = omega arith in ap (λ n. get_or ts n d) k ∙ ap (λ q. get_or q b d) e ∙ top_is None rows b d (omega arith)
 
-pub top_of : (ts : List (Option ℤ)) (rows : List (List Entry)) (b : ℕ) (r : Option ℤ) → ts ≡ tops_of rows → b ≤ length rows → (b ≡ 0 → r ≡ None) → (0 < b → r ≡ get_or ts (b - 1) r) → r ≡ greatest_end (joined (take b rows))
+pub top_of : (ts : List (Option ℤ)) (rows : List (List OrderEntry)) (b : ℕ) (r : Option ℤ) → ts ≡ tops_of rows → b ≤ length rows → (b ≡ 0 → r ≡ None) → (0 < b → r ≡ get_or ts (b - 1) r) → r ≡ greatest_end (joined (take b rows))
 top_of ts rows zero r e l z p = z refl
 top_of ts rows (suc b) r e l z p = p (omega arith) ∙ top_at ts rows (suc b) r e (omega arith) l
 
 -- ---- the ends after rows changed
 
-row_drop : (rows : List (List Entry)) (i : ℕ) → i < length rows → drop i rows ≡ row rows i ∷ drop (i + 1) rows
+row_drop : (rows : List (List OrderEntry)) (i : ℕ) → i < length rows → drop i rows ≡ row rows i ∷ drop (i + 1) rows
 row_drop [] i l = absurd (omega arith)
 row_drop (r ∷ rows) zero l = refl
 row_drop (r ∷ rows) (suc i) l = let z : suc i + 1 ≡ suc (i + 1) = omega arith in row_drop rows i (omega arith) ∙ ap (λ n. row rows i ∷ drop n (r ∷ rows)) (sym z)
 
-drop_running : (best : Option ℤ) (rows : List (List Entry)) (i : ℕ) (d : Option ℤ) → i < length rows → drop (suc i) (running best rows) ≡ running (get_or (running best rows) i d) (drop (suc i) rows)
+drop_running : (best : Option ℤ) (rows : List (List OrderEntry)) (i : ℕ) (d : Option ℤ) → i < length rows → drop (suc i) (running best rows) ≡ running (get_or (running best rows) i d) (drop (suc i) rows)
 drop_running best [] i d l = absurd (omega arith)
 drop_running best (r ∷ rows) zero d l = refl
 drop_running best (r ∷ rows) (suc i) d l = drop_running (later_end best (greatest_end r)) rows i d (omega arith)
@@ -125,7 +125,7 @@ same_at (x ∷ xs) (y ∷ ys) (suc n) zero d e l p q = cc
 same_at (x ∷ xs) (y ∷ ys) (suc n) (suc i) d e l p q = let f : take n xs ≡ take n ys = cc in same_at xs ys n i d f (omega arith) (omega arith) (omega arith)
 
 -- the ends up to a place and the running ends from there on
-pub follow_init : (ts : List (Option ℤ)) (rows : List (List Entry)) (n : ℕ) (best : Option ℤ) → (n ≡ 0 → best ≡ None) → (0 < n → best ≡ get_or ts (n - 1) best) → n ≤ length rows → length ts ≡ length rows → take n ts ≡ take n (tops_of rows) → take n ts ++ running best (drop n rows) ≡ tops_of rows
+pub follow_init : (ts : List (Option ℤ)) (rows : List (List OrderEntry)) (n : ℕ) (best : Option ℤ) → (n ≡ 0 → best ≡ None) → (0 < n → best ≡ get_or ts (n - 1) best) → n ≤ length rows → length ts ≡ length rows → take n ts ≡ take n (tops_of rows) → take n ts ++ running best (drop n rows) ≡ tops_of rows
 follow_init ts rows zero best z p l m h = ap (λ b. running b rows) (z refl)
 follow_init ts rows (suc n) best z p l m h =
     let k : suc n - 1 ≡ n = omega arith in
@@ -141,11 +141,11 @@ tail_same : (s t : Option ℤ) (ss ts : List (Option ℤ)) → s ∷ ss ≡ t �
 tail_same s t ss ts e = cc
 
 -- from a place on the ends are the running ends of the rows from there on, behind some end
-abbrev Runs : ℕ → List (Option ℤ) → List (List Entry) → Type 0
+abbrev Runs : ℕ → List (Option ℤ) → List (List OrderEntry) → Type 0
 Runs i ts rows = RunsFrom i ts i rows
 
 -- an end that stays as it is: all behind it do too
-pub follow_stop : (best : Option ℤ) (ts : List (Option ℤ)) (rows : List (List Entry)) (i : ℕ) (top : Option ℤ) → i < length rows → i < length ts → top ≡ later_end best (greatest_end (row rows i)) → get_or ts i top ≡ top → Runs i ts rows → take i ts ++ running best (drop i rows) ≡ tops_of rows → ts ≡ tops_of rows
+pub follow_stop : (best : Option ℤ) (ts : List (Option ℤ)) (rows : List (List OrderEntry)) (i : ℕ) (top : Option ℤ) → i < length rows → i < length ts → top ≡ later_end best (greatest_end (row rows i)) → get_or ts i top ≡ top → Runs i ts rows → take i ts ++ running best (drop i rows) ≡ tops_of rows → ts ≡ tops_of rows
 follow_stop best ts rows i top l m new same h inv =
     let b = h.0 in
     let x = row rows i in
@@ -157,16 +157,16 @@ follow_stop best ts rows i top l m new same h inv =
     sym (take-append-drop i ts) ∙ ap (λ zs. take i ts ++ zs) all ∙ inv
 
 -- an end that is written
-pub follow_front : (best : Option ℤ) (ts : List (Option ℤ)) (rows : List (List Entry)) (i : ℕ) (top : Option ℤ) → i < length rows → i < length ts → top ≡ later_end best (greatest_end (row rows i)) → take i ts ++ running best (drop i rows) ≡ tops_of rows → take (i + 1) (set ts i top) ++ running top (drop (i + 1) rows) ≡ tops_of rows
+pub follow_front : (best : Option ℤ) (ts : List (Option ℤ)) (rows : List (List OrderEntry)) (i : ℕ) (top : Option ℤ) → i < length rows → i < length ts → top ≡ later_end best (greatest_end (row rows i)) → take i ts ++ running best (drop i rows) ≡ tops_of rows → take (i + 1) (set ts i top) ++ running top (drop (i + 1) rows) ≡ tops_of rows
 follow_front best ts rows i top l m new inv =
     let entries = row_drop rows i l in
     ap (λ zs. zs ++ running top (drop (i + 1) rows)) (take_more_set ts i top m) ∙ append_assoc (take i ts) (top ∷ []) (running top (drop (i + 1) rows))
     ∙ ap (λ z. take i ts ++ (z ∷ running z (drop (i + 1) rows))) new ∙ ap (λ zs. take i ts ++ running best zs) (sym entries) ∙ inv
 
-runs_set : (ts : List (Option ℤ)) (rows : List (List Entry)) (i n : ℕ) (top : Option ℤ) → i < n → Runs n ts rows → Runs n (set ts i top) rows
+runs_set : (ts : List (Option ℤ)) (rows : List (List OrderEntry)) (i n : ℕ) (top : Option ℤ) → i < n → Runs n ts rows → Runs n (set ts i top) rows
 runs_set ts rows i n top l h = (h.0, drop-set-lt n ts i top l ∙ h.1)
 
-runs_next : (ts : List (Option ℤ)) (rows : List (List Entry)) (i : ℕ) → i < length rows → i < length ts → Runs i ts rows → Runs (i + 1) ts rows
+runs_next : (ts : List (Option ℤ)) (rows : List (List OrderEntry)) (i : ℕ) → i < length rows → i < length ts → Runs i ts rows → Runs (i + 1) ts rows
 runs_next ts rows i l m h =
     let b = h.0 in
     let x = row rows i in
@@ -175,19 +175,19 @@ runs_next ts rows i l m h =
     (later_end b (greatest_end x), tail_same _ _ _ _ runs)
 
 -- the ends that were not looked at yet, from a place on or from where the rows stayed
-abbrev pub Unseen : ℕ → ℕ → List (Option ℤ) → List (List Entry) → Type 0
+abbrev pub Unseen : ℕ → ℕ → List (Option ℤ) → List (List OrderEntry) → Type 0
 Unseen to i ts rows = (i ≤ to → Runs to ts rows) × (to ≤ i → Runs i ts rows)
 
-same_place : (ts : List (Option ℤ)) (rows : List (List Entry)) (m n : ℕ) → m ≡ n → Runs m ts rows → Runs n ts rows
+same_place : (ts : List (Option ℤ)) (rows : List (List OrderEntry)) (m n : ℕ) → m ≡ n → Runs m ts rows → Runs n ts rows
 same_place ts rows m n e h = subst (λ (k : ℕ). Runs k ts rows) e h
 
-pub unseen_init : (ts : List (Option ℤ)) (rows : List (List Entry)) (from to : ℕ) → from ≤ to → RunsFrom to ts to rows → Unseen to from ts rows
+pub unseen_init : (ts : List (Option ℤ)) (rows : List (List OrderEntry)) (from to : ℕ) → from ≤ to → RunsFrom to ts to rows → Unseen to from ts rows
 unseen_init ts rows from to l h = (λ _. h, λ k. same_place ts rows to from (omega arith) h)
 
 next_cases : (to i : ℕ) → (to ≤ i) ⊎ (i + 1 ≤ to)
 next_cases to i = grind arith
 
-pub unseen_next : (ts : List (Option ℤ)) (rows : List (List Entry)) (to i : ℕ) (top : Option ℤ) → i < length rows → i < length ts → Unseen to i ts rows → Unseen to (i + 1) (set ts i top) rows
+pub unseen_next : (ts : List (Option ℤ)) (rows : List (List OrderEntry)) (to i : ℕ) (top : Option ℤ) → i < length rows → i < length ts → Unseen to i ts rows → Unseen to (i + 1) (set ts i top) rows
 unseen_next ts rows to i top l m h = (
   λ k. runs_set ts rows i to top (omega arith) (h.0 (omega arith)),
   λ k. elim (next_cases to i) as (λ _. Runs (i + 1) (set ts i top) rows) [
@@ -196,7 +196,7 @@ unseen_next ts rows to i top l m h = (
   ],
 )
 
-pub follow_end : (best : Option ℤ) (ts : List (Option ℤ)) (rows : List (List Entry)) (i : ℕ) → length ts ≤ i → length ts ≡ length rows → take i ts ++ running best (drop i rows) ≡ tops_of rows → ts ≡ tops_of rows
+pub follow_end : (best : Option ℤ) (ts : List (Option ℤ)) (rows : List (List OrderEntry)) (i : ℕ) → length ts ≤ i → length ts ≡ length rows → take i ts ++ running best (drop i rows) ≡ tops_of rows → ts ≡ tops_of rows
 follow_end best ts rows i l same inv =
     let none : drop i rows ≡ [] = drop_all i rows (omega arith) in
     sym (take-append-drop i ts) ∙ ap (λ zs. take i ts ++ zs) (drop_all i ts l ∙ sym (ap (running best) none)) ∙ inv
@@ -229,21 +229,21 @@ drop_remove (y ∷ ys) (suc i) n l e =
     ap (λ k. drop k (y ∷ remove ys i)) e ∙ drop_remove ys i i (omega arith) refl ∙ ap (λ k. drop k (y ∷ ys)) (sym w)
 
 -- the ends of rows of which those from a place on stayed
-pub runs_kept : (ts us : List (Option ℤ)) (old rows : List (List Entry)) (b n : ℕ) → ts ≡ tops_of old → b < length old → drop n rows ≡ drop (b + 1) old → RunsFrom (b + 1) ts n rows
+pub runs_kept : (ts us : List (Option ℤ)) (old rows : List (List OrderEntry)) (b n : ℕ) → ts ≡ tops_of old → b < length old → drop n rows ≡ drop (b + 1) old → RunsFrom (b + 1) ts n rows
 runs_kept ts us old rows b n e l r =
     let z : b + 1 ≡ suc b = omega arith in
     (get_or (tops_of old) b None, ap (drop (b + 1)) e ∙ ap (λ k. drop k (tops_of old)) z ∙ drop_running None old b None l ∙ ap (λ k. running (get_or (tops_of old) b None) (drop k old)) (sym z) ∙ ap (running (get_or (tops_of old) b None)) (sym r))
 
-take_running : (best : Option ℤ) (rows : List (List Entry)) (n : ℕ) → take n (running best rows) ≡ running best (take n rows)
+take_running : (best : Option ℤ) (rows : List (List OrderEntry)) (n : ℕ) → take n (running best rows) ≡ running best (take n rows)
 take_running best rows zero = refl
 take_running best [] (suc n) = refl
 take_running best (r ∷ rows) (suc n) = ap (λ ts. later_end best (greatest_end r) ∷ ts) (take_running (later_end best (greatest_end r)) rows n)
 
-pub front_kept : (ts : List (Option ℤ)) (old rows : List (List Entry)) (b : ℕ) → ts ≡ tops_of old → take b rows ≡ take b old → take b ts ≡ take b (tops_of rows)
+pub front_kept : (ts : List (Option ℤ)) (old rows : List (List OrderEntry)) (b : ℕ) → ts ≡ tops_of old → take b rows ≡ take b old → take b ts ≡ take b (tops_of rows)
 front_kept ts old rows b e f = ap (take b) e ∙ take_running None old b ∙ ap (running None) (sym f) ∙ sym (take_running None rows b)
 
 -- the last end, made anew from all that stands before it
-last_from : (best : Option ℤ) (ts : List (Option ℤ)) (rows : List (List Entry)) (b : ℕ) (top : Option ℤ) → suc b ≡ length ts → length rows ≡ length ts → take b ts ≡ take b (running best rows) → top ≡ later_end best (greatest_end (joined rows)) → set ts b top ≡ running best rows
+last_from : (best : Option ℤ) (ts : List (Option ℤ)) (rows : List (List OrderEntry)) (b : ℕ) (top : Option ℤ) → suc b ≡ length ts → length rows ≡ length ts → take b ts ≡ take b (running best rows) → top ≡ later_end best (greatest_end (joined rows)) → set ts b top ≡ running best rows
 last_from best [] rows b top l m f e = absurd (omega arith)
 last_from best (t ∷ ts) [] b top l m f e = absurd (omega arith)
 last_from best (t ∷ []) (r ∷ []) zero top l m f e = ap (λ z. z ∷ []) (e ∙ ap (λ q. later_end best (greatest_end q)) (append-nil r))
@@ -255,7 +255,7 @@ last_from best (t ∷ ts) (r ∷ rows) (suc b) top l m f e =
     ap (λ z. z ∷ set ts b top) (head_same _ _ _ _ f) ∙ ap (λ zs. next ∷ zs) rest
 
 -- the last of the ends is that of all entries
-pub last_top : (ts : List (Option ℤ)) (rows : List (List Entry)) (b : ℕ) (top : Option ℤ) → b + 1 ≡ length ts → length rows ≡ length ts → take b ts ≡ take b (tops_of rows) → top ≡ greatest_end (joined rows) → set ts b top ≡ tops_of rows
+pub last_top : (ts : List (Option ℤ)) (rows : List (List OrderEntry)) (b : ℕ) (top : Option ℤ) → b + 1 ≡ length ts → length rows ≡ length ts → take b ts ≡ take b (tops_of rows) → top ≡ greatest_end (joined rows) → set ts b top ≡ tops_of rows
 last_top ts rows b top l m f e = last_from None ts rows b top (omega arith) m f e
 
 -- ---- what has ended
@@ -271,11 +271,11 @@ ended_first : (t : ℤ) (a : ℤ) (b : Option ℤ) → is_ended t (later_end (So
 ended_first t a None e = (e, refl)
 ended_first t a (Some b) e = max_ended t a b e
 
-not_covered : (t : ℤ) (o : Entry) → int_le (end_of o) t ≡ true → entry_covers t o ≡ false
+not_covered : (t : ℤ) (o : OrderEntry) → int_le (end_of o) t ≡ true → entry_covers t o ≡ false
 not_covered t o e = grind (arith, ints)
 
 -- where the greatest end is not after a time no entry holds it
-pub none_covers : (t : ℤ) (os : List Entry) → is_ended t (greatest_end os) ≡ true → AllByRecursion (λ o. entry_covers t o ≡ false) os
+pub none_covers : (t : ℤ) (os : List OrderEntry) → is_ended t (greatest_end os) ≡ true → AllByRecursion (λ o. entry_covers t o ≡ false) os
 none_covers t [] e = tt
 none_covers t (o ∷ os) e =
     let p = ended_first t (end_of o) (greatest_end os) (ap (is_ended t) (sym (greatest-append (o ∷ []) os)) ∙ e) in
@@ -288,22 +288,22 @@ both_ended : (t a : ℤ) (b : Option ℤ) → a ≤ℤ t → is_ended t b ≡ tr
 both_ended t a None l e = grind (arith, ints)
 both_ended t a (Some b) l e = max_both t a b l e
 
-ends_by : (t : ℤ) (o : Entry) → o.pts ≤ℤ t → entry_covers t o ≡ false → end_of o ≤ℤ t
+ends_by : (t : ℤ) (o : OrderEntry) → o.pts ≤ℤ t → entry_covers t o ≡ false → end_of o ≤ℤ t
 ends_by t o l e = grind (arith, ints)
 
-neither : (r : Option Entry) (b : Bool) (o : Entry) → or_else r (cond b (Some o) None) ≡ None → (r ≡ None) × (b ≡ false)
+neither : (r : Option OrderEntry) (b : Bool) (o : OrderEntry) → or_else r (cond b (Some o) None) ≡ None → (r ≡ None) × (b ≡ false)
 neither None true o e = absurd cc
 neither None false o e = (refl, refl)
 neither (Some p) b o e = absurd cc
 
 -- where all begin by a time and none holds it all end by it
-all_ended : (t : ℤ) (os : List Entry) → AllByRecursion (λ o. o.pts ≤ℤ t) os → last_that (entry_covers t) os ≡ None → is_ended t (greatest_end os) ≡ true
+all_ended : (t : ℤ) (os : List OrderEntry) → AllByRecursion (λ o. o.pts ≤ℤ t) os → last_that (entry_covers t) os ≡ None → is_ended t (greatest_end os) ≡ true
 all_ended t [] h e = refl
 all_ended t (o ∷ os) h e =
     let n = neither (last_that (entry_covers t) os) (entry_covers t o) o e in
     ap (is_ended t) (greatest-append (o ∷ []) os) ∙ both_ended t (end_of o) (greatest_end os) (ends_by t o h.0 n.1) (all_ended t os h.1 n.0)
 
-or_found : (r rest : Option Entry) → (r ≡ None → ⊥) → or_else r rest ≡ r
+or_found : (r rest : Option OrderEntry) → (r ≡ None → ⊥) → or_else r rest ≡ r
 or_found None rest h = absurd (h refl)
 or_found (Some x) rest h = refl
 
@@ -311,5 +311,5 @@ open_not : (b : Bool) → b ≡ true → b ≡ false → ⊥
 open_not b e f = cc
 
 -- where all begin by a time and one ends after it one holds it
-pub found_in : (t : ℤ) (os : List Entry) (rest : Option Entry) → AllByRecursion (λ o. o.pts ≤ℤ t) os → is_ended t (greatest_end os) ≡ false → or_else (last_that (entry_covers t) os) rest ≡ last_that (entry_covers t) os
+pub found_in : (t : ℤ) (os : List OrderEntry) (rest : Option OrderEntry) → AllByRecursion (λ o. o.pts ≤ℤ t) os → is_ended t (greatest_end os) ≡ false → or_else (last_that (entry_covers t) os) rest ≡ last_that (entry_covers t) os
 found_in t os rest h e = or_found (last_that (entry_covers t) os) rest (λ n. open_not (is_ended t (greatest_end os)) (all_ended t os h n) e)

@@ -11,7 +11,7 @@ use Rattle.mse_base.proofs.Extended.{same_near}
 use Rattle.track_store.specs.declared.store.Stored.{Stored}
 use Rattle.track_store.specs.Frames.{IsKept, IsTimed, bytes_of, interval, intervals, ranges_of, frames_left}
 use Rattle.track_store.proofs.Clearing.{kept_push, kept-cleared, each-cleared, each-push}
-use Rattle.track_index.specs.declared.entry.Entry.{Entry}
+use Rattle.track_index.specs.declared.entry.OrderEntry.{OrderEntry}
 use Rattle.track_index.specs.Order.{put, put_all, entry_of, span_of, ordered}
 use Rattle.track_index.specs.Repair.{AreTimed}
 use Rattle.track_index.specs.Indexed.{IsIndexed}
@@ -22,7 +22,7 @@ use Rattle.track_index.proofs.Ordering.{each_to_ordered, ordered_push}
 join_push : (gap : ℤ) (fs : List Stored) (x : Stored) → ranges_of gap (fs ++ x ∷ []) ≡ ranges_with gap (ranges_of gap fs) (interval x)
 join_push gap fs x = ap (bridged_ranges gap) (map_push interval fs x) ∙ fold-append (ranges_with gap) [] (intervals fs) (interval x ∷ [])
 
-pub indexed_added : (fs hs : List Stored) (os ps : List Entry) (rs ss : List Span) (gap : ℤ) (total all room next : ℕ) (x : Stored) → IsIndexed fs os rs gap total room → length fs + 1 ≤ next → AllByRecursion (λ f. f.serial < x.serial) fs → IsTimed x → bytes_of fs + length x.frame.payload < 2 ^ 62 → hs ≡ fs ++ x ∷ [] → ps ≡ put (entry_of x) os → ss ≡ ranges_with gap rs (interval x) → all ≡ total + length x.frame.payload → IsIndexed hs ps ss gap all next
+pub indexed_added : (fs hs : List Stored) (os ps : List OrderEntry) (rs ss : List Span) (gap : ℤ) (total all room next : ℕ) (x : Stored) → IsIndexed fs os rs gap total room → length fs + 1 ≤ next → AllByRecursion (λ f. f.serial < x.serial) fs → IsTimed x → bytes_of fs + length x.frame.payload < 2 ^ 62 → hs ≡ fs ++ x ∷ [] → ps ≡ put (entry_of x) os → ss ≡ ranges_with gap rs (interval x) → all ≡ total + length x.frame.payload → IsIndexed hs ps ss gap all next
 indexed_added fs hs os ps rs ss gap total all room next x h r l t s eh ep es en = record {
   kept = subst (λ (zs : List Stored). IsKept zs) (sym eh) (kept_push fs x h.kept l s);
   timed = subst (λ (zs : List Stored). AllByRecursion IsTimed zs) (sym eh) (each-push IsTimed fs x h.timed t);
@@ -45,11 +45,11 @@ or_swap true true c = refl
 or_swap true false c = refl
 or_swap false b c = refl
 
-near_cond : (gap t : ℤ) (e o : Entry) (os : List Entry) (b : Bool) → is_near_any gap t (map span_of (put e os)) ≡ (is_near gap t (span_of e) || is_near_any gap t (map span_of os)) → is_near_any gap t (map span_of (cond b (e ∷ o ∷ os) (o ∷ put e os))) ≡ (is_near gap t (span_of e) || (is_near gap t (span_of o) || is_near_any gap t (map span_of os)))
+near_cond : (gap t : ℤ) (e o : OrderEntry) (os : List OrderEntry) (b : Bool) → is_near_any gap t (map span_of (put e os)) ≡ (is_near gap t (span_of e) || is_near_any gap t (map span_of os)) → is_near_any gap t (map span_of (cond b (e ∷ o ∷ os) (o ∷ put e os))) ≡ (is_near gap t (span_of e) || (is_near gap t (span_of o) || is_near_any gap t (map span_of os)))
 near_cond gap t e o os true h = refl
 near_cond gap t e o os false h = ap (λ b. is_near gap t (span_of o) || b) h ∙ or_swap (is_near gap t (span_of o)) (is_near gap t (span_of e)) (is_near_any gap t (map span_of os))
 
-near_put : (gap t : ℤ) (e : Entry) (os : List Entry) → is_near_any gap t (map span_of (put e os)) ≡ (is_near gap t (span_of e) || is_near_any gap t (map span_of os))
+near_put : (gap t : ℤ) (e : OrderEntry) (os : List OrderEntry) → is_near_any gap t (map span_of (put e os)) ≡ (is_near gap t (span_of e) || is_near_any gap t (map span_of os))
 near_put gap t e [] = refl
 near_put gap t e (o ∷ os) = near_cond gap t e o os (int_lt e.pts o.pts) (near_put gap t e os)
 
@@ -57,7 +57,7 @@ or_none : (a : Bool) → a ≡ (a || false)
 or_none true = refl
 or_none false = refl
 
-near_all : (gap t : ℤ) (os : List Entry) (fs : List Stored) → is_near_any gap t (map span_of (put_all os fs)) ≡ (is_near_any gap t (map span_of os) || is_near_any gap t (intervals fs))
+near_all : (gap t : ℤ) (os : List OrderEntry) (fs : List Stored) → is_near_any gap t (map span_of (put_all os fs)) ≡ (is_near_any gap t (map span_of os) || is_near_any gap t (intervals fs))
 near_all gap t os [] = or_none (is_near_any gap t (map span_of os))
 near_all gap t os (f ∷ fs) = near_all gap t (put (entry_of f) os) fs ∙ ap (λ b. b || is_near_any gap t (intervals fs)) (near_put gap t (entry_of f) os) ∙ or_turn (is_near gap t (interval f)) (is_near_any gap t (map span_of os)) (is_near_any gap t (intervals fs))
 
@@ -72,15 +72,15 @@ each_second [] h = tt
 each_second (f ∷ fs) h = let one = h.0 in (one.1, each_second fs h.1)
 
 -- the times of the entries
-pub timed_entries : (fs : List Stored) (os : List Entry) → os ≡ ordered fs → AllByRecursion IsTimed fs → AreTimed os
-timed_entries fs os o h = subst (λ (ps : List Entry). AreTimed ps) (sym o) (each_to_ordered (λ e. IsTick (e.pts +ℤ e.dur)) fs (each_second fs h))
+pub timed_entries : (fs : List Stored) (os : List OrderEntry) → os ≡ ordered fs → AllByRecursion IsTimed fs → AreTimed os
+timed_entries fs os o h = subst (λ (ps : List OrderEntry). AreTimed ps) (sym o) (each_to_ordered (λ e. IsTick (e.pts +ℤ e.dur)) fs (each_second fs h))
 
 length_pick : (b : Bool) (f : Stored) (xs ys : List Stored) (n : ℕ) → length xs ≤ n → length ys ≤ n → length (cond b xs (f ∷ ys)) ≤ suc n
 length_pick true f xs ys n p q = omega arith
 length_pick false f xs ys n p q = omega arith
 
 -- what the store keeps where frames went
-pub indexed_removed : (named : Stored → Bool) (fs gs : List Stored) (os ps : List Entry) (rs ss : List Span) (gap : ℤ) (total left room next : ℕ) → IsIndexed fs os rs gap total room → room ≤ next → length gs ≤ length fs → gs ≡ frames_left false named fs → ps ≡ ordered gs → ss ≡ bridged_ranges gap (map span_of ps) → left ≡ bytes_of gs → IsIndexed gs ps ss gap left next
+pub indexed_removed : (named : Stored → Bool) (fs gs : List Stored) (os ps : List OrderEntry) (rs ss : List Span) (gap : ℤ) (total left room next : ℕ) → IsIndexed fs os rs gap total room → room ≤ next → length gs ≤ length fs → gs ≡ frames_left false named fs → ps ≡ ordered gs → ss ≡ bridged_ranges gap (map span_of ps) → left ≡ bytes_of gs → IsIndexed gs ps ss gap left next
 indexed_removed named fs gs os ps rs ss gap total left room next h n m g o s l = record {
   kept = subst (λ (zs : List Stored). IsKept zs) (sym g) (kept-cleared false named fs h.kept);
   timed = subst (λ (zs : List Stored). AllByRecursion IsTimed zs) (sym g) (each-cleared IsTimed false named fs h.timed);

@@ -11,12 +11,12 @@ use Rattle.mse_base.specs.Bridging.{IsRanges, ranges_with, ranges_with_all, brid
 use Rattle.mse_base.proofs.Merging.{ranges_bridged, times_bridged, length_bridged}
 use Rattle.mse_base.proofs.Extended.{same_near, near_parts, near_is}
 use Rattle.mse_base.proofs.Carving.{left_holds, right_holds, carved_less, hole_empty}
-use Rattle.track_index.specs.declared.entry.Entry.{Entry}
+use Rattle.track_index.specs.declared.entry.OrderEntry.{OrderEntry}
 use Rattle.track_index.specs.declared.key.Key.{Key}
 use Rattle.track_index.specs.Order.{span_of, end_of}
 use Rattle.track_index.specs.Keyed.{before_key, IsKeyed}
 use Rattle.track_index.specs.Known.{greatest_end, later_end}
-use Rattle.track_index.specs.Repair.{AreTimed, Between, Ends, IsPast, JoinsIn, Joining, IsPastJoined, IsRefilled}
+use Rattle.track_index.specs.Repair.{AreTimed, AreBetween, HasEndAt, IsPast, JoinsIn, Joining, IsPastJoined, IsRefilled}
 use Rattle.track_index.proofs.Ordering.{each_weaker, each_both, each_whole, each_more, each_at}
 use Rattle.track_index.proofs.Ending.{greatest-append}
 use Rattle.track_index.proofs.Keys.{before_parts, low_of, later_starts}
@@ -48,20 +48,20 @@ both_true false false f g = refl
 between : (u m : ℤ) → (u <ℤ m) ⊎ (m ≤ℤ u)
 between u m = grind (arith, ints)
 
-pub join_more : (gap : ℤ) (rs : List Span) (es : List Entry) (i : ℕ) (x : Entry) → i < length es → x ≡ get_or es i x → ranges_with_all gap rs (map span_of (take (i + 1) es)) ≡ ranges_with gap (ranges_with_all gap rs (map span_of (take i es))) (span_of x)
+pub join_more : (gap : ℤ) (rs : List Span) (es : List OrderEntry) (i : ℕ) (x : OrderEntry) → i < length es → x ≡ get_or es i x → ranges_with_all gap rs (map span_of (take (i + 1) es)) ≡ ranges_with gap (ranges_with_all gap rs (map span_of (take i es))) (span_of x)
 join_more gap rs es i x l at =
     ap (ranges_with_all gap rs) (map_more span_of es i x l) ∙ fold-append (ranges_with gap) rs (map span_of (take i es)) (span_of (get_or es i x) ∷ []) ∙ ap (λ z. ranges_with gap (ranges_with_all gap rs (map span_of (take i es))) (span_of z)) (sym at)
 
 -- ---- ticks of entries
 
 -- each entry's ticks are among those of all
-pub each_near : (gap : ℤ) (os : List Entry) → AllByRecursion (λ o. (t : ℤ) → is_near gap t (span_of o) ≡ true → is_near_any gap t (map span_of os) ≡ true) os
+pub each_near : (gap : ℤ) (os : List OrderEntry) → AllByRecursion (λ o. (t : ℤ) → is_near gap t (span_of o) ≡ true → is_near_any gap t (map span_of os) ≡ true) os
 each_near gap [] = tt
 each_near gap (o ∷ os) =
     (λ t e. or_left (is_near gap t (span_of o)) _ e, each_weaker (λ p. (t : ℤ) → is_near gap t (span_of p) ≡ true → is_near_any gap t (map span_of os) ≡ true) (λ p. (t : ℤ) → is_near gap t (span_of p) ≡ true → is_near_any gap t (map span_of (o ∷ os)) ≡ true) os (λ p f t e. or_right (is_near gap t (span_of o)) _ (f t e)) (each_near gap os))
 
 -- what follows from the ticks of each entry follows from those of all
-nears_each : {P : Type 0} (gap t : ℤ) (os : List Entry) → AllByRecursion (λ o. is_near gap t (span_of o) ≡ true → P) os → is_near_any gap t (map span_of os) ≡ true → P
+nears_each : {P : Type 0} (gap t : ℤ) (os : List OrderEntry) → AllByRecursion (λ o. is_near gap t (span_of o) ≡ true → P) os → is_near_any gap t (map span_of os) ≡ true → P
 nears_each gap t [] h e = absurd cc
 nears_each gap t (o ∷ os) h e = or_cases (is_near gap t (span_of o)) (is_near_any gap t (map span_of os)) e h.0 (nears_each gap t os h.1)
 
@@ -76,52 +76,52 @@ max_first a b = grind (arith, ints)
 max_second : (a b : ℤ) → b ≤ℤ int_max a b
 max_second a b = grind (arith, ints)
 
-abbrev Greatest : (Entry → Bool) → Option ℤ → List Entry → Type 0
+abbrev Greatest : (OrderEntry → Bool) → Option ℤ → List OrderEntry → Type 0
 Greatest q None os = AllByRecursion (λ o. q o ≡ true → ⊥) os
-Greatest q (Some e) os = AllByRecursion (λ o. q o ≡ true → (end_of o) ≤ℤ e) os × Ends q e os
+Greatest q (Some e) os = AllByRecursion (λ o. q o ≡ true → (end_of o) ≤ℤ e) os × HasEndAt q e os
 
-grows : (q : Entry → Bool) (o : Entry) (os : List Entry) (r : Option ℤ) → q o ≡ true → Greatest q r os → Greatest q (later_end (Some (end_of o)) r) (o ∷ os)
+grows : (q : OrderEntry → Bool) (o : OrderEntry) (os : List OrderEntry) (r : Option ℤ) → q o ≡ true → Greatest q r os → Greatest q (later_end (Some (end_of o)) r) (o ∷ os)
 grows q o os None y h = ((λ _. omega (arith, ints), each_weaker (λ p. q p ≡ true → ⊥) (λ p. q p ≡ true → (end_of p) ≤ℤ end_of o) os (λ p f e. absurd (f e)) h), inl (y, refl))
 grows q o os (Some s) y h =
     let m = max_first (end_of o) s in
     let n = max_second (end_of o) s in (
       (λ _. m, each_weaker (λ p. q p ≡ true → (end_of p) ≤ℤ s) (λ p. q p ≡ true → (end_of p) ≤ℤ int_max (end_of o) s) os (λ p f e. let k = f e in omega (arith, ints)) h.0),
-      elim (max_cases (end_of o) s) as (λ _. Ends q (int_max (end_of o) s) (o ∷ os)) [
+      elim (max_cases (end_of o) s) as (λ _. HasEndAt q (int_max (end_of o) s) (o ∷ os)) [
         | inl a ↦ inl (y, sym a)
-        | inr b ↦ inr (subst (λ (z : ℤ). Ends q z os) (sym b) h.1)
+        | inr b ↦ inr (subst (λ (z : ℤ). HasEndAt q z os) (sym b) h.1)
       ],
     )
 
-stays : (q : Entry → Bool) (o : Entry) (os : List Entry) (r : Option ℤ) → q o ≡ false → Greatest q r os → Greatest q r (o ∷ os)
+stays : (q : OrderEntry → Bool) (o : OrderEntry) (os : List OrderEntry) (r : Option ℤ) → q o ≡ false → Greatest q r os → Greatest q r (o ∷ os)
 stays q o os None n h = (λ y. absurd (true_false (q o) y n), h)
 stays q o os (Some s) n h = ((λ y. absurd (true_false (q o) y n), h.0), inr h.1)
 
-greatest_step : (q : Entry → Bool) (o : Entry) (os : List Entry) (b : Bool) → q o ≡ b → Greatest q (greatest_end (filter q os)) os → Greatest q (greatest_end (cond b (o ∷ filter q os) (filter q os))) (o ∷ os)
+greatest_step : (q : OrderEntry → Bool) (o : OrderEntry) (os : List OrderEntry) (b : Bool) → q o ≡ b → Greatest q (greatest_end (filter q os)) os → Greatest q (greatest_end (cond b (o ∷ filter q os) (filter q os))) (o ∷ os)
 greatest_step q o os true e h = subst (λ (r : Option ℤ). Greatest q r (o ∷ os)) (sym (greatest-append (o ∷ []) (filter q os))) (grows q o os (greatest_end (filter q os)) e h)
 greatest_step q o os false e h = stays q o os (greatest_end (filter q os)) e h
 
-greatest_is : (q : Entry → Bool) (os : List Entry) → Greatest q (greatest_end (filter q os)) os
+greatest_is : (q : OrderEntry → Bool) (os : List OrderEntry) → Greatest q (greatest_end (filter q os)) os
 greatest_is q [] = tt
 greatest_is q (o ∷ os) = greatest_step q o os (q o) refl (greatest_is q os)
 
-pub past_none : (key : Key) (os : List Entry) → None ≡ greatest_end (filter (before_key key) os) → IsPast key None os
+pub past_none : (key : Key) (os : List OrderEntry) → None ≡ greatest_end (filter (before_key key) os) → IsPast key None os
 past_none key os e = each_weaker (λ o. before_key key o ≡ true → ⊥) (λ o. before_key key o ≡ true → (end_of o) ≤ℤ key.mark) os (λ o f y. absurd (f y)) (subst (λ (r : Option ℤ). Greatest (before_key key) r os) (sym e) (greatest_is (before_key key) os))
 
-pub past_early : (key : Key) (os : List Entry) (e : ℤ) → Some e ≡ greatest_end (filter (before_key key) os) → e ≤ℤ key.mark → IsPast key None os
+pub past_early : (key : Key) (os : List OrderEntry) (e : ℤ) → Some e ≡ greatest_end (filter (before_key key) os) → e ≤ℤ key.mark → IsPast key None os
 past_early key os e h l =
     let g = subst (λ (r : Option ℤ). Greatest (before_key key) r os) (sym h) (greatest_is (before_key key) os) in
     each_weaker (λ o. before_key key o ≡ true → (end_of o) ≤ℤ e) (λ o. before_key key o ≡ true → (end_of o) ≤ℤ key.mark) os (λ o f y. let k = f y in omega (arith, ints)) g.0
 
-pub past_some : (key : Key) (os : List Entry) (e : ℤ) (s : Span) → Some e ≡ greatest_end (filter (before_key key) os) → key.mark <ℤ e → s.start ≡ key.mark → s.end ≡ e → IsPast key (Some s) os
+pub past_some : (key : Key) (os : List OrderEntry) (e : ℤ) (s : Span) → Some e ≡ greatest_end (filter (before_key key) os) → key.mark <ℤ e → s.start ≡ key.mark → s.end ≡ e → IsPast key (Some s) os
 past_some key os e s h l a b =
     let g = subst (λ (r : Option ℤ). Greatest (before_key key) r os) (sym h) (greatest_is (before_key key) os) in
-    let k = subst (λ (z : ℤ). AllByRecursion (λ o. before_key key o ≡ true → (end_of o) ≤ℤ z) os × Ends (before_key key) z os) (sym b) g in
+    let k = subst (λ (z : ℤ). AllByRecursion (λ o. before_key key o ≡ true → (end_of o) ≤ℤ z) os × HasEndAt (before_key key) z os) (sym b) g in
     (a, omega (arith, ints), k.0, k.1)
 
 -- ---- the ranges after a hole was taken out and filled
 
 -- the ticks that some entry before the key has past it
-past_ticks : (gap t : ℤ) (key : Key) (end : ℤ) (os : List Entry) → Ends (before_key key) end os → ((o : Entry) → before_key key o ≡ true → o.pts ≤ℤ key.mark) → key.mark <ℤ end → key.mark ≤ℤ t → t <ℤ (end +ℤ gap) → is_near_any gap t (map span_of os) ≡ true
+past_ticks : (gap t : ℤ) (key : Key) (end : ℤ) (os : List OrderEntry) → HasEndAt (before_key key) end os → ((o : OrderEntry) → before_key key o ≡ true → o.pts ≤ℤ key.mark) → key.mark <ℤ end → key.mark ≤ℤ t → t <ℤ (end +ℤ gap) → is_near_any gap t (map span_of os) ≡ true
 past_ticks gap t key end [] h f l a b = absurd h
 past_ticks gap t key end (o ∷ os) (inl p) f l a b =
     let low = f o p.0 in
@@ -139,7 +139,7 @@ one_near : (gap u : ℤ) (s : Span) → is_near_any gap u (s ∷ []) ≡ true �
 one_near gap u s e = or_cases (is_near gap u s) false e (λ k. k) (λ k. absurd cc)
 
 -- left of the hole an entry that begins before it is still there
-kept_left : (gap t a b : ℤ) (rs : List Span) (o : Entry) → pos 0 ≤ℤ gap → (a +ℤ gap) <ℤ b → IsRanges gap rs → ((u : ℤ) → is_near gap u (span_of o) ≡ true → is_near_any gap u rs ≡ true) → o.pts <ℤ a → t <ℤ (a +ℤ gap) → is_near gap t (span_of o) ≡ true → is_near_any gap t (ranges_without a b rs) ≡ true
+kept_left : (gap t a b : ℤ) (rs : List Span) (o : OrderEntry) → pos 0 ≤ℤ gap → (a +ℤ gap) <ℤ b → IsRanges gap rs → ((u : ℤ) → is_near gap u (span_of o) ≡ true → is_near_any gap u rs ≡ true) → o.pts <ℤ a → t <ℤ (a +ℤ gap) → is_near gap t (span_of o) ≡ true → is_near_any gap t (ranges_without a b rs) ≡ true
 kept_left gap t a b rs o g w r sub l h e =
     let p = near_parts gap t (span_of o) e in
     let p0 = p.0 in let p1 = p.1 in let p2 = p.2 in
@@ -157,7 +157,7 @@ kept_left gap t a b rs o g w r sub l h e =
     (z1, tt) h (or_left (is_near gap t (record { start = o.pts; end = z.0 })) false here)
 
 -- right of the hole an entry that begins behind it is still there
-kept_right : (gap t a b : ℤ) (rs : List Span) (o : Entry) → pos 0 ≤ℤ gap → (a +ℤ gap) <ℤ b → IsRanges gap rs → ((u : ℤ) → is_near gap u (span_of o) ≡ true → is_near_any gap u rs ≡ true) → b ≤ℤ o.pts → is_near gap t (span_of o) ≡ true → is_near_any gap t (ranges_without a b rs) ≡ true
+kept_right : (gap t a b : ℤ) (rs : List Span) (o : OrderEntry) → pos 0 ≤ℤ gap → (a +ℤ gap) <ℤ b → IsRanges gap rs → ((u : ℤ) → is_near gap u (span_of o) ≡ true → is_near_any gap u rs ≡ true) → b ≤ℤ o.pts → is_near gap t (span_of o) ≡ true → is_near_any gap t (ranges_without a b rs) ≡ true
 kept_right gap t a b rs o g w r sub l e =
     let p = near_parts gap t (span_of o) e in
     let p1 = p.1 in
@@ -166,16 +166,16 @@ kept_right gap t a b rs o g w r sub l e =
 -- ---- the loops
 
 -- nothing is joined in yet
-pub joins_init : (gap : ℤ) (key : Key) (high : ℤ) (os : List Entry) (rs : List Span) (i : ℕ) → AllByRecursion (λ o. before_key key o ≡ true) (take i os) → Joining gap key high os rs rs i
+pub joins_init : (gap : ℤ) (key : Key) (high : ℤ) (os : List OrderEntry) (rs : List Span) (i : ℕ) → AllByRecursion (λ o. before_key key o ≡ true) (take i os) → Joining gap key high os rs rs i
 joins_init gap key high os rs i h = record {
   kept = λ t e. e;
   only = λ t e. or_left _ _ e;
   all = each_weaker (λ o. before_key key o ≡ true) (λ o. before_key key o ≡ false → o.pts <ℤ high → (t : ℤ) → is_near gap t (span_of o) ≡ true → is_near_any gap t rs ≡ true) (take i os) (λ o b f. absurd (true_false _ b f)) h;
 }
 
-pub joins_more : (gap : ℤ) (key : Key) (high : ℤ) (os : List Entry) (rs now next : List Span) (i : ℕ) (x : Entry) → i < length os → x ≡ get_or os i x → ((t : ℤ) → is_near_any gap t next ≡ (is_near gap t (span_of x) || is_near_any gap t now)) → Joining gap key high os rs now i → Joining gap key high os rs next (i + 1)
+pub joins_more : (gap : ℤ) (key : Key) (high : ℤ) (os : List OrderEntry) (rs now next : List Span) (i : ℕ) (x : OrderEntry) → i < length os → x ≡ get_or os i x → ((t : ℤ) → is_near_any gap t next ≡ (is_near gap t (span_of x) || is_near_any gap t now)) → Joining gap key high os rs now i → Joining gap key high os rs next (i + 1)
 joins_more gap key high os rs now next i x l at e h =
-    let own : (t : ℤ) → is_near gap t (span_of x) ≡ true → is_near_any gap t (map span_of os) ≡ true = λ t. subst (λ (o : Entry). is_near gap t (span_of o) ≡ true → is_near_any gap t (map span_of os) ≡ true) (sym at) (each_at (λ o. (u : ℤ) → is_near gap u (span_of o) ≡ true → is_near_any gap u (map span_of os) ≡ true) os i x l (each_near gap os) t) in
+    let own : (t : ℤ) → is_near gap t (span_of x) ≡ true → is_near_any gap t (map span_of os) ≡ true = λ t. subst (λ (o : OrderEntry). is_near gap t (span_of o) ≡ true → is_near_any gap t (map span_of os) ≡ true) (sym at) (each_at (λ o. (u : ℤ) → is_near gap u (span_of o) ≡ true → is_near_any gap u (map span_of os) ≡ true) os i x l (each_near gap os) t) in
     record {
       kept = λ t k. e t ∙ or_right _ _ (h.kept t k);
       only = λ t k. or_cases (is_near gap t (span_of x)) (is_near_any gap t now) (sym (e t) ∙ k) (λ y. or_right _ _ (own t y)) (h.only t);
@@ -183,7 +183,7 @@ joins_more gap key high os rs now next i x l at e h =
     }
 
 -- the walk ended at an entry that does not begin before `high`, or past the last
-pub joins_high : (gap : ℤ) (key : Key) (high : ℤ) (os : List Entry) (rs now : List Span) (i : ℕ) (x : Entry) → IsKeyed os → i < length os → x ≡ get_or os i x → high ≤ℤ x.pts → Joining gap key high os rs now i → JoinsIn gap key high os rs now
+pub joins_high : (gap : ℤ) (key : Key) (high : ℤ) (os : List OrderEntry) (rs now : List Span) (i : ℕ) (x : OrderEntry) → IsKeyed os → i < length os → x ≡ get_or os i x → high ≤ℤ x.pts → Joining gap key high os rs now i → JoinsIn gap key high os rs now
 joins_high gap key high os rs now i x keyed l at b h =
     record {
       kept = h.kept;
@@ -191,16 +191,16 @@ joins_high gap key high os rs now i x keyed l at b h =
       all = each_whole (λ o. before_key key o ≡ false → o.pts <ℤ high → (t : ℤ) → is_near gap t (span_of o) ≡ true → is_near_any gap t now ≡ true) os i h.all (each_weaker (λ o. x.pts ≤ℤ o.pts) (λ o. before_key key o ≡ false → o.pts <ℤ high → (t : ℤ) → is_near gap t (span_of o) ≡ true → is_near_any gap t now ≡ true) (drop i os) (λ o k _ c. absurd (omega (arith, ints))) (later_starts os i x keyed l at));
     }
 
-pub joins_end : (gap : ℤ) (key : Key) (high : ℤ) (os : List Entry) (rs now : List Span) (i : ℕ) → length os ≤ i → Joining gap key high os rs now i → JoinsIn gap key high os rs now
+pub joins_end : (gap : ℤ) (key : Key) (high : ℤ) (os : List OrderEntry) (rs now : List Span) (i : ℕ) → length os ≤ i → Joining gap key high os rs now i → JoinsIn gap key high os rs now
 joins_end gap key high os rs now i l h = record { kept = h.kept; only = h.only; all = each_whole (λ o. before_key key o ≡ false → o.pts <ℤ high → (t : ℤ) → is_near gap t (span_of o) ≡ true → is_near_any gap t now ≡ true) os i h.all (rw (drop_all i os l) tt) }
 
 -- ---- what is past the key
 
-key_low : (key : Key) (o : Entry) → before_key key o ≡ true → o.pts ≤ℤ key.mark
+key_low : (key : Key) (o : OrderEntry) → before_key key o ≡ true → o.pts ≤ℤ key.mark
 key_low key o e = elim (before_parts key o e) as (λ _. o.pts ≤ℤ key.mark) [ inl early ↦ omega (arith, ints) | inr tie ↦ tie.0 ]
 
 -- the ranges after the end past the key was joined in
-pub past_joined_some : (gap : ℤ) (key : Key) (os : List Entry) (rs mid : List Span) (s : Span) → IsPast key (Some s) os → ((t : ℤ) → is_near_any gap t mid ≡ (is_near gap t s || is_near_any gap t rs)) → IsPastJoined gap key os rs mid
+pub past_joined_some : (gap : ℤ) (key : Key) (os : List OrderEntry) (rs mid : List Span) (s : Span) → IsPast key (Some s) os → ((t : ℤ) → is_near_any gap t mid ≡ (is_near gap t s || is_near_any gap t rs)) → IsPastJoined gap key os rs mid
 past_joined_some gap key os rs mid s p e =
     let start = p.0 in
     let lasts = p.1 in
@@ -216,7 +216,7 @@ past_joined_some gap key os rs mid s p e =
     }
 
 -- where nothing is past the key
-pub past_joined_none : (gap : ℤ) (key : Key) (os : List Entry) (rs : List Span) → IsPast key None os → IsPastJoined gap key os rs rs
+pub past_joined_none : (gap : ℤ) (key : Key) (os : List OrderEntry) (rs : List Span) → IsPast key None os → IsPastJoined gap key os rs rs
 past_joined_none gap key os rs p = record {
   kept = λ t k. k;
   only = λ t k. or_left _ _ k;
@@ -224,7 +224,7 @@ past_joined_none gap key os rs p = record {
 }
 
 -- and then what follows the key
-pub refilled : (gap : ℤ) (key : Key) (high : ℤ) (os : List Entry) (rs mid new : List Span) → IsPastJoined gap key os rs mid → JoinsIn gap key high os mid new → IsRefilled gap key high os rs new
+pub refilled : (gap : ℤ) (key : Key) (high : ℤ) (os : List OrderEntry) (rs mid new : List Span) → IsPastJoined gap key os rs mid → JoinsIn gap key high os mid new → IsRefilled gap key high os rs new
 refilled gap key high os rs mid new p h = record {
   joins = record {
     kept = λ t k. h.kept t (p.kept t k);
@@ -236,12 +236,12 @@ refilled gap key high os rs mid new p h = record {
 
 -- ---- the repair
 
-all_given : (P : Entry → Type 0) (a t : ℤ) (os : List Entry) → (a ≤ℤ t → AllByRecursion P os) → AllByRecursion (λ o. a ≤ℤ t → P o) os
+all_given : (P : OrderEntry → Type 0) (a t : ℤ) (os : List OrderEntry) → (a ≤ℤ t → AllByRecursion P os) → AllByRecursion (λ o. a ≤ℤ t → P o) os
 all_given P a t [] f = tt
 all_given P a t (o ∷ os) f = ((λ l. (f l).0), all_given P a t os (λ l. (f l).1))
 
 -- an entry's ticks near the time are there after the repair
-one_mended : (gap a b t : ℤ) (rs new : List Span) (o : Entry) → pos 0 ≤ℤ gap → (a +ℤ gap) <ℤ b → IsRanges gap rs → ((u : ℤ) → is_near gap u (span_of o) ≡ true → is_near_any gap u rs ≡ true) → (is_near_any gap t (ranges_without a b rs) ≡ true → is_near_any gap t new ≡ true) → (before_key (record { mark = a; serial = 0 }) o ≡ false → o.pts <ℤ b → is_near_any gap t new ≡ true) → (a ≤ℤ t → before_key (record { mark = a; serial = 0 }) o ≡ true → a <ℤ end_of o → is_near_any gap t new ≡ true) → is_near gap t (span_of o) ≡ true → is_near_any gap t new ≡ true
+one_mended : (gap a b t : ℤ) (rs new : List Span) (o : OrderEntry) → pos 0 ≤ℤ gap → (a +ℤ gap) <ℤ b → IsRanges gap rs → ((u : ℤ) → is_near gap u (span_of o) ≡ true → is_near_any gap u rs ≡ true) → (is_near_any gap t (ranges_without a b rs) ≡ true → is_near_any gap t new ≡ true) → (before_key (record { mark = a; serial = 0 }) o ≡ false → o.pts <ℤ b → is_near_any gap t new ≡ true) → (a ≤ℤ t → before_key (record { mark = a; serial = 0 }) o ≡ true → a <ℤ end_of o → is_near_any gap t new ≡ true) → is_near gap t (span_of o) ≡ true → is_near_any gap t new ≡ true
 one_mended gap a b t rs new o g w r sub kept mid past e =
     let p = near_parts gap t (span_of o) e in
     let p0 = p.0 in let p1 = p.1 in let p2 = p.2 in
@@ -256,7 +256,7 @@ one_mended gap a b t rs new o g w r sub kept mid past e =
       ])
     ]
 
-pub mended : (gap a b : ℤ) (hole : Span) (os : List Entry) (rs new holes : List Span) → pos 0 ≤ℤ gap → hole.start <ℤ hole.end → a ≡ (hole.start -ℤ gap) → b ≡ (hole.end +ℤ gap) → IsRanges gap rs → IsRefilled gap (record { mark = a; serial = 0 }) b os (ranges_without a b rs) new → Between gap (map span_of os) (hole ∷ holes) rs → Between gap (map span_of os) holes new
+pub mended : (gap a b : ℤ) (hole : Span) (os : List OrderEntry) (rs new holes : List Span) → pos 0 ≤ℤ gap → hole.start <ℤ hole.end → a ≡ (hole.start -ℤ gap) → b ≡ (hole.end +ℤ gap) → IsRanges gap rs → IsRefilled gap (record { mark = a; serial = 0 }) b os (ranges_without a b rs) new → AreBetween gap (map span_of os) (hole ∷ holes) rs → AreBetween gap (map span_of os) holes new
 mended gap a b hole os rs new holes g w ea eb r h same = λ t.
     let key : Key = record { mark = a; serial = 0 } in
     let wide : (a +ℤ gap) <ℤ b = omega (arith, ints) in
@@ -279,7 +279,7 @@ mended gap a b hole os rs new holes g w ea eb r h same = λ t.
     )
 
 -- the ranges of the entries are between them and any holes
-pub between_whole : (gap : ℤ) (spans holes rs : List Span) → pos 0 ≤ℤ gap → rs ≡ bridged_ranges gap spans → Between gap spans holes rs
+pub between_whole : (gap : ℤ) (spans holes rs : List Span) → pos 0 ≤ℤ gap → rs ≡ bridged_ranges gap spans → AreBetween gap spans holes rs
 between_whole gap spans holes rs g e = λ t.
     let same : is_near_any gap t rs ≡ is_near_any gap t spans = ap (is_near_any gap t) e ∙ times_bridged gap t spans g in
     ((λ k. same ∙ k), (λ k. or_left _ _ (sym same ∙ k)))
@@ -291,11 +291,11 @@ empty_near : (gap t : ℤ) (hole : Span) → hole.end ≤ℤ hole.start → is_n
 empty_near gap t hole h = ap (λ b. not b && (int_le hole.start t && int_lt t (hole.end +ℤ gap))) (is_le_true hole.end hole.start h)
 
 -- a hole without a tick
-pub between_empty : (gap : ℤ) (spans holes rs : List Span) (hole : Span) → hole.end ≤ℤ hole.start → Between gap spans (hole ∷ holes) rs → Between gap spans holes rs
+pub between_empty : (gap : ℤ) (spans holes rs : List Span) (hole : Span) → hole.end ≤ℤ hole.start → AreBetween gap spans (hole ∷ holes) rs → AreBetween gap spans holes rs
 between_empty gap spans holes rs hole h same = λ t. ((same t).0, (λ k. or_cases (is_near_any gap t spans) (is_near gap t hole || is_near_any gap t holes) ((same t).1 k) (λ m. or_left _ _ m) (λ m. or_right _ _ (sym (ap (λ b. b || is_near_any gap t holes) (empty_near gap t hole h)) ∙ m))))
 
 -- where no hole is left they are the ranges of the entries
-pub between_none : (gap : ℤ) (spans rs : List Span) → pos 0 ≤ℤ gap → IsRanges gap rs → Between gap spans [] rs → rs ≡ bridged_ranges gap spans
+pub between_none : (gap : ℤ) (spans rs : List Span) → pos 0 ≤ℤ gap → IsRanges gap rs → AreBetween gap spans [] rs → rs ≡ bridged_ranges gap spans
 between_none gap spans rs g r same = same_near gap rs (bridged_ranges gap spans) g r (ranges_bridged gap spans g) (λ t. both_true _ _ (λ e. or_cases (is_near_any gap t spans) false ((same t).1 e) (λ k. k) (λ k. absurd cc)) (same t).0 ∙ sym (times_bridged gap t spans g))
 
 -- ---- for the loops
@@ -306,19 +306,19 @@ le_of a b e = grind (arith, ints)
 pub gt_of : (a b : ℤ) → int_le a b ≡ false → b <ℤ a
 gt_of a b e = grind (arith, ints)
 
-pub timed_at : (os : List Entry) (i : ℕ) (d : Entry) → i < length os → AreTimed os → IsTick ((get_or os i d).pts +ℤ (get_or os i d).dur)
+pub timed_at : (os : List OrderEntry) (i : ℕ) (d : OrderEntry) → i < length os → AreTimed os → IsTick ((get_or os i d).pts +ℤ (get_or os i d).dur)
 timed_at os i d l h = each_at (λ e. IsTick (e.pts +ℤ e.dur)) os i d l h
 
-take_length : (os : List Entry) (i : ℕ) → i ≤ length os → length (take i os) ≡ i
+take_length : (os : List OrderEntry) (i : ℕ) → i ≤ length os → length (take i os) ≡ i
 take_length os zero l = refl
 take_length [] (suc i) l = absurd (omega arith)
 take_length (o ∷ os) (suc i) l = ap suc (take_length os i (omega arith))
 
 -- no more ranges than entries joined in
-pub few_taken : (gap : ℤ) (os : List Entry) (i : ℕ) (rs : List Span) → i < length os → rs ≡ bridged_ranges gap (map span_of (take i os)) → length rs ≤ i
+pub few_taken : (gap : ℤ) (os : List OrderEntry) (i : ℕ) (rs : List Span) → i < length os → rs ≡ bridged_ranges gap (map span_of (take i os)) → length rs ≤ i
 few_taken gap os i rs l e = omega (arith, ap length e, length_bridged gap (map span_of (take i os)), length-map (take i os) span_of, take_length os i (omega arith))
 
-pub take_end : (os : List Entry) (i : ℕ) → length os ≤ i → take i os ≡ os
+pub take_end : (os : List OrderEntry) (i : ℕ) → length os ≤ i → take i os ≡ os
 take_end [] zero l = refl
 take_end [] (suc i) l = refl
 take_end (o ∷ os) zero l = absurd (omega arith)

@@ -6,7 +6,7 @@ use Rattle.std.proofs.lemmas.Bool.Decides.{nat_tests}
 use Rattle.track_store.specs.declared.store.Stored.{Stored}
 use Rattle.track_store.specs.Frames.{is_in_frame, overlapped, has_serial, IsAscending}
 use Rattle.track_store.proofs.Overlapping.{fold-each}
-use Rattle.track_index.specs.declared.entry.Entry.{Entry}
+use Rattle.track_index.specs.declared.entry.OrderEntry.{OrderEntry}
 use Rattle.track_index.specs.Order.{entry_of, entry_covers, ordered, last_that}
 use Rattle.track_index.proofs.Ordering.{found_ordered}
 
@@ -40,7 +40,7 @@ each_of_filter p all [] sub = tt
 each_of_filter p all (f ∷ fs) sub = kept_in (p f) all f (filter p fs) (sub f (inl refl)) (each_of_filter p all fs (λ g i. sub g (inr i)))
 
 -- the frame that an entry names
-abbrev pub named_by : Option Entry → List Stored → Option Stored
+abbrev pub named_by : Option OrderEntry → List Stored → Option Stored
 named_by None fs = None
 named_by (Some e) fs = find (has_serial e.serial) fs
 
@@ -49,6 +49,6 @@ named_same fs None up i = refl
 named_same fs (Some g) up i = find_own fs g up i
 
 -- what the order names is the overlapped frame
-pub named_ordered : (t : ℤ) (fs : List Stored) (os : List Entry) (o : Option Entry) → IsAscending fs → os ≡ ordered fs → o ≡ last_that (entry_covers t) os → named_by o fs ≡ overlapped t fs
+pub named_ordered : (t : ℤ) (fs : List Stored) (os : List OrderEntry) (o : Option OrderEntry) → IsAscending fs → os ≡ ordered fs → o ≡ last_that (entry_covers t) os → named_by o fs ≡ overlapped t fs
 named_ordered t fs os o up e h =
     ap (λ z. named_by z fs) (h ∙ ap (last_that (entry_covers t)) e ∙ found_ordered t fs) ∙ named_same fs (overlapped t fs) up (fold-each (λ g. IsIn g fs) None (filter (is_in_frame t) fs) tt (each_of_filter (is_in_frame t) fs fs (λ g i. i)))

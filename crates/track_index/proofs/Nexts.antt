@@ -9,11 +9,11 @@ use Rattle.track_store.specs.declared.store.Stored.{Stored}
 use Rattle.track_store.specs.Frames.{IsAscending, has_serial, is_within, frames_left}
 use Rattle.track_store.proofs.Clearing.{each-cleared, cleared-cleared, cleared-same}
 use Rattle.track_store.proofs.Soundness.{cleared-unnamed}
-use Rattle.track_index.specs.declared.entry.Entry.{Entry}
+use Rattle.track_index.specs.declared.entry.OrderEntry.{OrderEntry}
 use Rattle.track_index.specs.declared.key.Key.{Key}
 use Rattle.track_index.specs.Order.{entry_of, ordered}
 use Rattle.track_index.specs.Keyed.{before_key, key_of, has_entry_serial, entry_named, IsFound}
-use Rattle.track_index.specs.Indexed.{is_next, IsNext}
+use Rattle.track_index.specs.Indexed.{is_next, IsNextKey}
 use Rattle.track_index.proofs.Ordering.{each_to_ordered, each_of_ordered, each_at}
 use Rattle.track_index.proofs.Keys.{any_at, behind_parts, not_before_serial}
 use Rattle.track_index.proofs.Removing.{each_frame, any_ordered}
@@ -55,21 +55,21 @@ not_true : (a : Bool) → not a ≡ true → a ≡ false
 not_true true e = absurd cc
 not_true false e = refl
 
-is_next_of : (key : Key) (to : Moment) (below : ℕ) (e : Entry) → before_key key e ≡ false → entry_named to below e ≡ true → (not (before_key key e) && entry_named to below e) ≡ true
+is_next_of : (key : Key) (to : Moment) (below : ℕ) (e : OrderEntry) → before_key key e ≡ false → entry_named to below e ≡ true → (not (before_key key e) && entry_named to below e) ≡ true
 is_next_of key to below e b n = ap (λ x. not x && entry_named to below e) b ∙ n
 
-not_next : (key : Key) (to : Moment) (below : ℕ) (o : Entry) → (before_key key o ≡ false → entry_named to below o ≡ false) → (not (before_key key o) && entry_named to below o) ≡ false
+not_next : (key : Key) (to : Moment) (below : ℕ) (o : OrderEntry) → (before_key key o ≡ false → entry_named to below o ≡ false) → (not (before_key key o) && entry_named to below o) ≡ false
 not_next key to below o h = elim (bool_cases (before_key key o)) as (λ _. (not (before_key key o) && entry_named to below o) ≡ false) [
   | inl y ↦ ap (λ x. not x && entry_named to below o) y
   | inr n ↦ ap (λ x. not x && entry_named to below o) n ∙ h n
 ]
 
-pub next_none : (key : Key) (to : Moment) (below : ℕ) (fs : List Stored) (os : List Entry) → os ≡ ordered fs → AllByRecursion (λ o. before_key key o ≡ false → entry_named to below o ≡ false) os → IsNext key to below None fs
+pub next_none : (key : Key) (to : Moment) (below : ℕ) (fs : List Stored) (os : List OrderEntry) → os ≡ ordered fs → AllByRecursion (λ o. before_key key o ≡ false → entry_named to below o ≡ false) os → IsNextKey key to below None fs
 next_none key to below fs os o h =
     each_frame (λ f. before_key key (entry_of f) ≡ false → entry_named to below (entry_of f) ≡ false) (λ f. is_next key to below f ≡ false) fs (λ f g. not_next key to below (entry_of f) g)
-    (each_of_ordered (λ o. before_key key o ≡ false → entry_named to below o ≡ false) fs (subst (λ (ps : List Entry). AllByRecursion (λ o. before_key key o ≡ false → entry_named to below o ≡ false) ps) o h))
+    (each_of_ordered (λ o. before_key key o ≡ false → entry_named to below o ≡ false) fs (subst (λ (ps : List OrderEntry). AllByRecursion (λ o. before_key key o ≡ false → entry_named to below o ≡ false) ps) o h))
 
-passed_key : (key : Key) (to : Moment) (below : ℕ) (e o : Entry) → (before_key key o ≡ false → before_key (key_of e) o ≡ true → entry_named to below o ≡ false) → (not (before_key key o) && entry_named to below o) ≡ true → before_key (key_of e) o ≡ false
+passed_key : (key : Key) (to : Moment) (below : ℕ) (e o : OrderEntry) → (before_key key o ≡ false → before_key (key_of e) o ≡ true → entry_named to below o ≡ false) → (not (before_key key o) && entry_named to below o) ≡ true → before_key (key_of e) o ≡ false
 passed_key key to below e o h n =
     let p = and_parts (not (before_key key o)) (entry_named to below o) n in
     elim (bool_cases (before_key (key_of e) o)) as (λ _. before_key (key_of e) o ≡ false) [
@@ -77,15 +77,15 @@ passed_key key to below e o h n =
       | inr k ↦ k
     ]
 
-pub next_some : (key : Key) (to : Moment) (below : ℕ) (fs : List Stored) (os : List Entry) (e : Entry) (next : Key) → IsAscending fs → os ≡ ordered fs → IsFound key to below e os → next ≡ key_of e → IsNext key to below (Some next) fs
+pub next_some : (key : Key) (to : Moment) (below : ℕ) (fs : List Stored) (os : List OrderEntry) (e : OrderEntry) (next : Key) → IsAscending fs → os ≡ ordered fs → IsFound key to below e os → next ≡ key_of e → IsNextKey key to below (Some next) fs
 next_some key to below fs os e next u o h n =
-    let own : AllByRecursion (λ f. f.serial ≡ e.serial → entry_of f ≡ e) fs = subst (λ (z : Entry). AllByRecursion (λ f. f.serial ≡ z.serial → entry_of f ≡ z) fs) (sym h.at) (each_at (λ z. AllByRecursion (λ f. f.serial ≡ z.serial → entry_of f ≡ z) fs) os h.place e h.within (subst (λ (ps : List Entry). AllByRecursion (λ z. AllByRecursion (λ f. f.serial ≡ z.serial → entry_of f ≡ z) fs) ps) (sym o) (entry_own fs u))) in
-    let held : list_any (has_entry_serial e.serial) os ≡ true = any_at (has_entry_serial e.serial) os h.place e h.within (subst (λ (z : Entry). nat_eq z.serial e.serial ≡ true) h.at (own_serial e.serial)) in
-    let passed = each_of_ordered (λ o. before_key key o ≡ false → before_key (key_of e) o ≡ true → entry_named to below o ≡ false) fs (subst (λ (ps : List Entry). AllByRecursion (λ o. before_key key o ≡ false → before_key (key_of e) o ≡ true → entry_named to below o ≡ false) ps) o h.passed) in
-    subst (λ (k : Key). IsNext key to below (Some k) fs) (sym n) (
+    let own : AllByRecursion (λ f. f.serial ≡ e.serial → entry_of f ≡ e) fs = subst (λ (z : OrderEntry). AllByRecursion (λ f. f.serial ≡ z.serial → entry_of f ≡ z) fs) (sym h.at) (each_at (λ z. AllByRecursion (λ f. f.serial ≡ z.serial → entry_of f ≡ z) fs) os h.place e h.within (subst (λ (ps : List OrderEntry). AllByRecursion (λ z. AllByRecursion (λ f. f.serial ≡ z.serial → entry_of f ≡ z) fs) ps) (sym o) (entry_own fs u))) in
+    let held : list_any (has_entry_serial e.serial) os ≡ true = any_at (has_entry_serial e.serial) os h.place e h.within (subst (λ (z : OrderEntry). nat_eq z.serial e.serial ≡ true) h.at (own_serial e.serial)) in
+    let passed = each_of_ordered (λ o. before_key key o ≡ false → before_key (key_of e) o ≡ true → entry_named to below o ≡ false) fs (subst (λ (ps : List OrderEntry). AllByRecursion (λ o. before_key key o ≡ false → before_key (key_of e) o ≡ true → entry_named to below o ≡ false) ps) o h.passed) in
+    subst (λ (k : Key). IsNextKey key to below (Some k) fs) (sym n) (
       sym (any_ordered (has_entry_serial e.serial) fs) ∙ sym (ap (list_any (has_entry_serial e.serial)) o) ∙ held,
       (behind_parts key e h.from_key).0,
-      each_frame (λ f. f.serial ≡ e.serial → entry_of f ≡ e) (λ f. f.serial ≡ e.serial → (is_next key to below f ≡ true) × (key_of e ≡ key_of (entry_of f))) fs (λ f g s. let z = g s in (subst (λ (x : Entry). (not (before_key key x) && entry_named to below x) ≡ true) (sym z) (is_next_of key to below e h.from_key h.named), ap key_of (sym z))) own,
+      each_frame (λ f. f.serial ≡ e.serial → entry_of f ≡ e) (λ f. f.serial ≡ e.serial → (is_next key to below f ≡ true) × (key_of e ≡ key_of (entry_of f))) fs (λ f g s. let z = g s in (subst (λ (x : OrderEntry). (not (before_key key x) && entry_named to below x) ≡ true) (sym z) (is_next_of key to below e h.from_key h.named), ap key_of (sym z))) own,
       each_frame (λ f. before_key key (entry_of f) ≡ false → before_key (key_of e) (entry_of f) ≡ true → entry_named to below (entry_of f) ≡ false) (λ f. is_next key to below f ≡ true → before_key (key_of e) (entry_of f) ≡ false) fs (λ f g k. passed_key key to below e (entry_of f) g k) passed,
     )
 
@@ -117,7 +117,7 @@ passed_init from to below key (f ∷ fs) k =
 within_next : (from : ℤ) (to : Moment) (below : ℕ) (key : Key) (f : Stored) → (is_within from to below f ≡ true → before_key key (entry_of f) ≡ false) → is_within from to below f ≡ true → is_next key to below f ≡ true
 within_next from to below key f h e = is_next_of key to below (entry_of f) (h e) (within_parts (int_le from f.frame.pts) (is_before f.frame.pts to) (nat_lt f.serial below) e).1
 
-pub passed_next : (from : ℤ) (to : Moment) (below : ℕ) (key next : Key) (fs gs : List Stored) → Passed from to below key fs → IsNext key to below (Some next) fs → gs ≡ frames_left false (has_serial next.serial) fs → Passed from to below next gs
+pub passed_next : (from : ℤ) (to : Moment) (below : ℕ) (key next : Key) (fs gs : List Stored) → Passed from to below key fs → IsNextKey key to below (Some next) fs → gs ≡ frames_left false (has_serial next.serial) fs → Passed from to below next gs
 passed_next from to below key next fs gs h n g =
     let all = each_frame (λ f. (is_within from to below f ≡ true → before_key key (entry_of f) ≡ false) × (is_next key to below f ≡ true → before_key next (entry_of f) ≡ false)) (λ f. is_within from to below f ≡ true → before_key next (entry_of f) ≡ false) fs (λ f p e. p.1 (within_next from to below key f p.0 e)) (both_frames (λ f. is_within from to below f ≡ true → before_key key (entry_of f) ≡ false) (λ f. is_next key to below f ≡ true → before_key next (entry_of f) ≡ false) fs h n.3) in
     subst (λ (zs : List Stored). Passed from to below next zs) (sym g) (each-cleared (λ f. is_within from to below f ≡ true → before_key next (entry_of f) ≡ false) false (has_serial next.serial) fs all)
@@ -130,7 +130,7 @@ serial_of : (n m : ℕ) → nat_eq n m ≡ true → n ≡ m
 serial_of n m e = grind (arith, nat_tests)
 
 -- one removal more of what is named
-pub removed_next : (from : ℤ) (to : Moment) (below : ℕ) (key next : Key) (fs gs : List Stored) → from ≤ℤ key.mark → IsNext key to below (Some next) fs → gs ≡ frames_left false (has_serial next.serial) fs → frames_left false (is_within from to below) gs ≡ frames_left false (is_within from to below) fs
+pub removed_next : (from : ℤ) (to : Moment) (below : ℕ) (key next : Key) (fs gs : List Stored) → from ≤ℤ key.mark → IsNextKey key to below (Some next) fs → gs ≡ frames_left false (has_serial next.serial) fs → frames_left false (is_within from to below) gs ≡ frames_left false (is_within from to below) fs
 removed_next from to below key next fs gs l n g =
     let low = n.1 in
     let named = each_frame (λ f. f.serial ≡ next.serial → (is_next key to below f ≡ true) × (next ≡ key_of (entry_of f))) (λ f. (has_serial next.serial f || is_within from to below f) ≡ is_within from to below f) fs
@@ -141,5 +141,5 @@ removed_next from to below key next fs gs l n g =
     ap (frames_left false (is_within from to below)) g ∙ cleared-cleared false false (has_serial next.serial) (is_within from to below) fs ∙ cleared-same false (λ f. has_serial next.serial f || is_within from to below f) (is_within from to below) fs named
 
 -- where none is next none is named
-pub removed_all : (from : ℤ) (to : Moment) (below : ℕ) (key : Key) (fs : List Stored) → Passed from to below key fs → IsNext key to below None fs → frames_left false (is_within from to below) fs ≡ fs
+pub removed_all : (from : ℤ) (to : Moment) (below : ℕ) (key : Key) (fs : List Stored) → Passed from to below key fs → IsNextKey key to below None fs → frames_left false (is_within from to below) fs ≡ fs
 removed_all from to below key fs h n = cleared-unnamed (is_within from to below) fs (each_frame (λ f. (is_within from to below f ≡ true → before_key key (entry_of f) ≡ false) × (is_next key to below f ≡ false)) (λ f. is_within from to below f ≡ false) fs (λ f p. elim (bool_cases (is_within from to below f)) as (λ _. is_within from to below f ≡ false) [ inl y ↦ absurd (true_false _ (within_next from to below key f p.0 y) p.1) | inr k ↦ k ]) (both_frames (λ f. is_within from to below f ≡ true → before_key key (entry_of f) ≡ false) (λ f. is_next key to below f ≡ false) fs h n))

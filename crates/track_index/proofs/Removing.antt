@@ -15,12 +15,12 @@ use Rattle.track_store.specs.declared.store.Stored.{Stored}
 use Rattle.track_store.specs.Frames.{IsAscending, has_serial, bytes_of, from_sync, frames_left, interval, intervals, ranges_of}
 use Rattle.track_store.proofs.Clearing.{cleared-goes}
 use Rattle.track_store.proofs.Soundness.{cleared-unnamed, cleared-from_sync, cleared-append}
-use Rattle.track_index.specs.declared.entry.Entry.{Entry}
+use Rattle.track_index.specs.declared.entry.OrderEntry.{OrderEntry}
 use Rattle.track_index.specs.declared.frames.SerialBelow.{SerialBelow}
 use Rattle.track_index.specs.Order.{put, put_all, entry_of, span_of, ordered}
 use Rattle.track_index.specs.Keyed.{has_entry_serial}
 use Rattle.track_index.specs.Frames.{serial_below}
-use Rattle.track_index.specs.Repair.{Between}
+use Rattle.track_index.specs.Repair.{AreBetween}
 use Rattle.track_index.proofs.Ordering.{each_to_ordered}
 use Rattle.track_index.proofs.Serials.{filter_ordered}
 use Rattle.track_index.proofs.Keeping.{near_ordered}
@@ -109,11 +109,11 @@ or_swap true true c = refl
 or_swap true false c = refl
 or_swap false b c = refl
 
-any_cond : (p : Entry → Bool) (e o : Entry) (os : List Entry) (b : Bool) → list_any p (put e os) ≡ (p e || list_any p os) → list_any p (cond b (e ∷ o ∷ os) (o ∷ put e os)) ≡ (p e || (p o || list_any p os))
+any_cond : (p : OrderEntry → Bool) (e o : OrderEntry) (os : List OrderEntry) (b : Bool) → list_any p (put e os) ≡ (p e || list_any p os) → list_any p (cond b (e ∷ o ∷ os) (o ∷ put e os)) ≡ (p e || (p o || list_any p os))
 any_cond p e o os true h = refl
 any_cond p e o os false h = ap (λ b. p o || b) h ∙ or_swap (p o) (p e) (list_any p os)
 
-any_put : (p : Entry → Bool) (e : Entry) (os : List Entry) → list_any p (put e os) ≡ (p e || list_any p os)
+any_put : (p : OrderEntry → Bool) (e : OrderEntry) (os : List OrderEntry) → list_any p (put e os) ≡ (p e || list_any p os)
 any_put p e [] = refl
 any_put p e (o ∷ os) = any_cond p e o os (int_lt e.pts o.pts) (any_put p e os)
 
@@ -126,11 +126,11 @@ or_none : (a : Bool) → a ≡ (a || false)
 or_none true = refl
 or_none false = refl
 
-any_all : (p : Entry → Bool) (os : List Entry) (fs : List Stored) → list_any p (put_all os fs) ≡ (list_any p os || list_any (λ f. p (entry_of f)) fs)
+any_all : (p : OrderEntry → Bool) (os : List OrderEntry) (fs : List Stored) → list_any p (put_all os fs) ≡ (list_any p os || list_any (λ f. p (entry_of f)) fs)
 any_all p os [] = or_none (list_any p os)
 any_all p os (f ∷ fs) = any_all p (put (entry_of f) os) fs ∙ ap (λ b. b || list_any (λ g. p (entry_of g)) fs) (any_put p (entry_of f) os) ∙ sym (or_turn (p (entry_of f)) (list_any p os) (list_any (λ g. p (entry_of g)) fs))
 
-pub any_ordered : (p : Entry → Bool) (fs : List Stored) → list_any p (ordered fs) ≡ list_any (λ f. p (entry_of f)) fs
+pub any_ordered : (p : OrderEntry → Bool) (fs : List Stored) → list_any p (ordered fs) ≡ list_any (λ f. p (entry_of f)) fs
 any_ordered p fs = any_all p [] fs
 
 or_right : (a b : Bool) → b ≡ true → (a || b) ≡ true
@@ -254,7 +254,7 @@ parts3 : (gap t : ℤ) (xs ms ys : List Stored) → is_near_any gap t (intervals
 parts3 gap t xs ms ys = parts2 gap t xs (ms ++ ys) ∙ ap (λ b. is_near_any gap t (intervals xs) || b) (parts2 gap t ms ys)
 
 -- the ranges of all frames lie between those of what stays and those of what goes too
-pub between_run : (gap : ℤ) (fs : List Stored) (i n : ℕ) (rs : List Span) → pos 0 ≤ℤ gap → rs ≡ ranges_of gap fs → Between gap (map span_of (ordered (take i fs ++ drop (i + n) fs))) (intervals (take n (drop i fs))) rs
+pub between_run : (gap : ℤ) (fs : List Stored) (i n : ℕ) (rs : List Span) → pos 0 ≤ℤ gap → rs ≡ ranges_of gap fs → AreBetween gap (map span_of (ordered (take i fs ++ drop (i + n) fs))) (intervals (take n (drop i fs))) rs
 between_run gap fs i n rs g e = λ t.
     let xs = take i fs in let ms = take n (drop i fs) in let ys = drop (i + n) fs in
     let all : is_near_any gap t rs ≡ (is_near_any gap t (map span_of (ordered (take i fs ++ drop (i + n) fs))) || is_near_any gap t (intervals (take n (drop i fs)))) =
@@ -312,5 +312,5 @@ any_at [] i x l e = absurd (omega arith)
 any_at (f ∷ fs) zero x l e = ap (λ (g : Stored). has_serial x.serial g || list_any (has_serial x.serial) fs) (sym e) ∙ ap (λ b. b || list_any (has_serial x.serial) fs) (own x.serial)
 any_at (f ∷ fs) (suc i) x l e = or_right (has_serial x.serial f) (list_any (has_serial x.serial) fs) (any_at fs i x (omega arith) e)
 
-pub held_in : (fs : List Stored) (os : List Entry) (i : ℕ) (x : Stored) → os ≡ ordered fs → i < length fs → x ≡ get_or fs i x → list_any (has_entry_serial x.serial) os ≡ true
+pub held_in : (fs : List Stored) (os : List OrderEntry) (i : ℕ) (x : Stored) → os ≡ ordered fs → i < length fs → x ≡ get_or fs i x → list_any (has_entry_serial x.serial) os ≡ true
 held_in fs os i x o l e = ap (list_any (has_entry_serial x.serial)) o ∙ any_ordered (has_entry_serial x.serial) fs ∙ any_at fs i x l e

@@ -23,6 +23,6 @@ abbrev pub with_new_dur : NewDuration → Stored → Stored
 with_new_dur n f = with_dur n.dur f
 
 -- the place of the last random access point of the first rows
-abbrev pub SyncAt : List (List Stored) → ℕ → Option Spot → Type 0
-SyncAt rows from None = last_place (λ f. f.frame.sync) (joined (take from rows)) ≡ None
-SyncAt rows from (Some s) = (s.block < length rows) × (s.index < length (row rows s.block)) × (last_place (λ f. f.frame.sync) (joined (take from rows)) ≡ Some (rank rows s))
+abbrev pub IsSyncAt : List (List Stored) → ℕ → Option Spot → Type 0
+IsSyncAt rows from None = last_place (λ f. f.frame.sync) (joined (take from rows)) ≡ None
+IsSyncAt rows from (Some s) = (s.block < length rows) × (s.index < length (row rows s.block)) × (last_place (λ f. f.frame.sync) (joined (take from rows)) ≡ Some (rank rows s))

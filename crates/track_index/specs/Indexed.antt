@@ -5,13 +5,13 @@ use Rattle.mse_base.specs.declared.ticks.Moment.{Moment}
 use Rattle.mse_base.specs.declared.span.Span.{Span}
 use Rattle.track_store.specs.declared.store.Stored.{Stored}
 use Rattle.track_store.specs.Frames.{IsKept, IsTimed, has_serial, bytes_of, ranges_of}
-use Rattle.track_index.specs.declared.entry.Entry.{Entry}
+use Rattle.track_index.specs.declared.entry.OrderEntry.{OrderEntry}
 use Rattle.track_index.specs.declared.key.Key.{Key}
 use Rattle.track_index.specs.Order.{ordered, entry_of}
 use Rattle.track_index.specs.Keyed.{before_key, key_of, entry_named}
 
 -- all that is kept beside the frames is what it is of the frames, and there is room for one range a frame
-pub record IsIndexed (frames : List Stored) (order : List Entry) (ranges : List Span) (gap : ℤ) (total room : ℕ) : Type 0 where
+pub record IsIndexed (frames : List Stored) (order : List OrderEntry) (ranges : List Span) (gap : ℤ) (total room : ℕ) : Type 0 where
   pub kept : IsKept frames
   pub timed : AllByRecursion IsTimed frames
   pub gap_from_zero : pos 0 ≤ℤ gap
@@ -29,6 +29,6 @@ abbrev pub is_next : Key → Moment → ℕ → Stored → Bool
 is_next key to below f = not (before_key key (entry_of f)) && entry_named to below (entry_of f)
 
 -- the key of a frame that is not before the key and named, before which none is; or none where there is none
-abbrev pub IsNext : Key → Moment → ℕ → Option Key → List Stored → Type 0
-IsNext key to below None fs = AllByRecursion (λ f. is_next key to below f ≡ false) fs
-IsNext key to below (Some next) fs = (list_any (has_serial next.serial) fs ≡ true) × (key.mark ≤ℤ next.mark) × AllByRecursion (λ f. f.serial ≡ next.serial → (is_next key to below f ≡ true) × (next ≡ key_of (entry_of f))) fs × AllByRecursion (λ f. is_next key to below f ≡ true → before_key next (entry_of f) ≡ false) fs
+abbrev pub IsNextKey : Key → Moment → ℕ → Option Key → List Stored → Type 0
+IsNextKey key to below None fs = AllByRecursion (λ f. is_next key to below f ≡ false) fs
+IsNextKey key to below (Some next) fs = (list_any (has_serial next.serial) fs ≡ true) × (key.mark ≤ℤ next.mark) × AllByRecursion (λ f. f.serial ≡ next.serial → (is_next key to below f ≡ true) × (next ≡ key_of (entry_of f))) fs × AllByRecursion (λ f. is_next key to below f ≡ true → before_key next (entry_of f) ≡ false) fs

@@ -3,15 +3,15 @@ use Rattle.std.specs.Prelude.{ℤ, Bool, List, map, Option, Some, None}
 use Rattle.std.specs.Int.{int_max}
 use Rattle.std.specs.List.{list_any}
 use Rattle.mse_base.specs.Moments.{greatest}
-use Rattle.track_index.specs.declared.entry.Entry.{Entry}
+use Rattle.track_index.specs.declared.entry.OrderEntry.{OrderEntry}
 use Rattle.track_index.specs.declared.known.Known.{Known}
 use Rattle.track_index.specs.Order.{end_of}
 
-abbrev pub is_sync : Entry → Bool
+abbrev pub is_sync : OrderEntry → Bool
 is_sync e = e.sync
 
 -- the greatest end of some entries
-abbrev pub greatest_end : List Entry → Option ℤ
+abbrev pub greatest_end : List OrderEntry → Option ℤ
 greatest_end os = greatest (map end_of os)
 
 -- the later of two ends, of which each may be absent
@@ -21,5 +21,5 @@ later_end (Some s) None = Some s
 later_end (Some s) (Some t) = Some (int_max s t)
 
 -- what is known of some entries
-abbrev pub known_of : List Entry → Known
+abbrev pub known_of : List OrderEntry → Known
 known_of os = record { end = greatest_end os; sync = list_any is_sync os }

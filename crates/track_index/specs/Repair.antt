@@ -4,50 +4,50 @@ use Rattle.std.specs.List.{AllByRecursion}
 use Rattle.mse_base.specs.Time.{IsTick}
 use Rattle.mse_base.specs.declared.span.Span.{Span}
 use Rattle.mse_base.specs.Bridging.{is_near, is_near_any}
-use Rattle.track_index.specs.declared.entry.Entry.{Entry}
+use Rattle.track_index.specs.declared.entry.OrderEntry.{OrderEntry}
 use Rattle.track_index.specs.declared.key.Key.{Key}
 use Rattle.track_index.specs.Order.{span_of, end_of}
 use Rattle.track_index.specs.Keyed.{before_key}
 
 -- the ends of the entries are times in range
-abbrev pub AreTimed : List Entry → Type 0
+abbrev pub AreTimed : List OrderEntry → Type 0
 AreTimed os = AllByRecursion (λ e. IsTick (e.pts +ℤ e.dur)) os
 
 -- the ranges have all ticks of the spans, and no others but near some holes
-abbrev pub Between : ℤ → List Span → List Span → List Span → Type 0
-Between gap spans holes rs = (t : ℤ) → (is_near_any gap t spans ≡ true → is_near_any gap t rs ≡ true) × (is_near_any gap t rs ≡ true → (is_near_any gap t spans || is_near_any gap t holes) ≡ true)
+abbrev pub AreBetween : ℤ → List Span → List Span → List Span → Type 0
+AreBetween gap spans holes rs = (t : ℤ) → (is_near_any gap t spans ≡ true → is_near_any gap t rs ≡ true) × (is_near_any gap t rs ≡ true → (is_near_any gap t spans || is_near_any gap t holes) ≡ true)
 
 -- an entry that passes the test ends at a time
-abbrev pub Ends : (Entry → Bool) → ℤ → List Entry → Type 0
-Ends q end [] = ⊥
-Ends q end (o ∷ os) = ((q o ≡ true) × (end_of o ≡ end)) ⊎ Ends q end os
+abbrev pub HasEndAt : (OrderEntry → Bool) → ℤ → List OrderEntry → Type 0
+HasEndAt q end [] = ⊥
+HasEndAt q end (o ∷ os) = ((q o ≡ true) × (end_of o ≡ end)) ⊎ HasEndAt q end os
 
 -- what the entries that stand before a key have past its time: where it begins at that time, and the
 -- greatest of their ends
-abbrev pub IsPast : Key → Option Span → List Entry → Type 0
+abbrev pub IsPast : Key → Option Span → List OrderEntry → Type 0
 IsPast key None os = AllByRecursion (λ o. before_key key o ≡ true → (end_of o) ≤ℤ key.mark) os
-IsPast key (Some s) os = (s.start ≡ key.mark) × (s.start <ℤ s.end) × AllByRecursion (λ o. before_key key o ≡ true → (end_of o) ≤ℤ s.end) os × Ends (before_key key) s.end os
+IsPast key (Some s) os = (s.start ≡ key.mark) × (s.start <ℤ s.end) × AllByRecursion (λ o. before_key key o ≡ true → (end_of o) ≤ℤ s.end) os × HasEndAt (before_key key) s.end os
 
 -- ranges after entries were joined in: what was there, and no tick that no entry has, and the ticks of the
 -- entries that stand at or behind the key and begin before `high`
-pub record JoinsIn (gap : ℤ) (key : Key) (high : ℤ) (os : List Entry) (rs new : List Span) : Type 0 where
+pub record JoinsIn (gap : ℤ) (key : Key) (high : ℤ) (os : List OrderEntry) (rs new : List Span) : Type 0 where
   pub kept : (t : ℤ) → is_near_any gap t rs ≡ true → is_near_any gap t new ≡ true
   pub only : (t : ℤ) → is_near_any gap t new ≡ true → (is_near_any gap t rs || is_near_any gap t (map span_of os)) ≡ true
   pub all : AllByRecursion (λ o. before_key key o ≡ false → o.pts <ℤ high → (t : ℤ) → is_near gap t (span_of o) ≡ true → is_near_any gap t new ≡ true) os
 
 -- the same of the first entries alone
-pub record Joining (gap : ℤ) (key : Key) (high : ℤ) (os : List Entry) (rs new : List Span) (i : ℕ) : Type 0 where
+pub record Joining (gap : ℤ) (key : Key) (high : ℤ) (os : List OrderEntry) (rs new : List Span) (i : ℕ) : Type 0 where
   pub kept : (t : ℤ) → is_near_any gap t rs ≡ true → is_near_any gap t new ≡ true
   pub only : (t : ℤ) → is_near_any gap t new ≡ true → (is_near_any gap t rs || is_near_any gap t (map span_of os)) ≡ true
   pub all : AllByRecursion (λ o. before_key key o ≡ false → o.pts <ℤ high → (t : ℤ) → is_near gap t (span_of o) ≡ true → is_near_any gap t new ≡ true) (take i os)
 
 -- ranges after what the entries that stand before a key have past its time was joined in
-pub record IsPastJoined (gap : ℤ) (key : Key) (os : List Entry) (rs new : List Span) : Type 0 where
+pub record IsPastJoined (gap : ℤ) (key : Key) (os : List OrderEntry) (rs new : List Span) : Type 0 where
   pub kept : (t : ℤ) → is_near_any gap t rs ≡ true → is_near_any gap t new ≡ true
   pub only : (t : ℤ) → is_near_any gap t new ≡ true → (is_near_any gap t rs || is_near_any gap t (map span_of os)) ≡ true
   pub past : (t : ℤ) → key.mark ≤ℤ t → AllByRecursion (λ o. before_key key o ≡ true → key.mark <ℤ end_of o → is_near gap t (span_of o) ≡ true → is_near_any gap t new ≡ true) os
 
 -- ranges after what the entries have from a key's time on and before `high` was joined in again
-pub record IsRefilled (gap : ℤ) (key : Key) (high : ℤ) (os : List Entry) (rs new : List Span) : Type 0 where
+pub record IsRefilled (gap : ℤ) (key : Key) (high : ℤ) (os : List OrderEntry) (rs new : List Span) : Type 0 where
   pub joins : JoinsIn gap key high os rs new
   pub past : (t : ℤ) → key.mark ≤ℤ t → AllByRecursion (λ o. before_key key o ≡ true → key.mark <ℤ end_of o → is_near gap t (span_of o) ≡ true → is_near_any gap t new ≡ true) os

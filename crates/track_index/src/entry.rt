@@ -9,17 +9,17 @@ use track_store::Stored;
 
 /// What the order knows of a frame, which it names by its serial.
 #[derive(Clone, Copy, Drop)]
-pub(crate) struct Entry {
+pub(crate) struct OrderEntry {
     pub(crate) pts: Ticks,
     pub(crate) dur: Ticks,
     pub(crate) serial: u64,
     pub(crate) sync: bool,
 }
 
-pub(crate) fn entry_of(stored: &Stored) -> Entry
+pub(crate) fn entry_of(stored: &Stored) -> OrderEntry
     ensures { result ≡ entry_of stored.now }
 {
-    Entry {
+    OrderEntry {
         pts: stored.frame.pts,
         dur: stored.frame.dur,
         serial: stored.serial,
@@ -28,14 +28,14 @@ pub(crate) fn entry_of(stored: &Stored) -> Entry
 }
 
 /// Whether the presentation interval of the entry's frame holds a time.
-pub(crate) fn covers(entry: &Entry, t: Ticks) -> bool
+pub(crate) fn covers(entry: &OrderEntry, t: Ticks) -> bool
     ensures { result ≡ entry_covers t entry.now }
 {
     entry.pts <= t && t.get() < entry.pts.get() + entry.dur.get()
 }
 
 /// Whether it is a random access point that is not before a moment.
-pub(crate) fn is_sync_from(entry: &Entry, t: &Moment) -> bool
+pub(crate) fn is_sync_from(entry: &OrderEntry, t: &Moment) -> bool
     ensures { result ≡ is_sync_from t.now entry.now }
 {
     let before = entry.pts.is_before(*t);
@@ -53,7 +53,7 @@ pub(crate) fn end_at(pts: Ticks, dur: Ticks) -> Ticks
 }
 
 /// Where the entry's frame ends.
-pub(crate) fn end_of(entry: &Entry) -> Ticks
+pub(crate) fn end_of(entry: &OrderEntry) -> Ticks
     requires { IsTick (entry.now.pts +ℤ entry.now.dur) }
     ensures { result ≡ end_of entry.now }
 {
@@ -61,7 +61,7 @@ pub(crate) fn end_of(entry: &Entry) -> Ticks
 }
 
 /// The presentation interval of the entry's frame.
-pub(crate) fn span_of(entry: &Entry) -> Span
+pub(crate) fn span_of(entry: &OrderEntry) -> Span
     requires { IsTick (entry.now.pts +ℤ entry.now.dur) }
     ensures { result ≡ span_of entry.now }
 {

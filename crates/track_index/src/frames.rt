@@ -5,7 +5,7 @@ ghost use Rattle.std.specs.List.{AllByRecursion, list_any, position};
 ghost use Rattle.track_store.specs.Frames.{IsAscending, has_serial, from_sync, last_place, group_start_of};
 ghost use Rattle.block_list.specs.Rows.{joined, row};
 ghost use Rattle.block_list.specs.Spots.{rank, IsPlace};
-ghost use Rattle.track_index.specs.Frames.{SyncAt};
+ghost use Rattle.track_index.specs.Frames.{IsSyncAt};
 
 use crate::known::either;
 use block_list::{Change, Fact, RankedList, Spot, Test};
@@ -140,7 +140,7 @@ fn sync_in(frames: &Frames, b: usize) -> Option<usize>
 /// passed whole.
 fn last_sync_before(frames: &Frames, from: usize) -> Option<Spot>
     requires { from ≤ length frames.now.rows }
-    ensures { SyncAt frames.now.rows from result }
+    ensures { IsSyncAt frames.now.rows from result }
 {
     let mut b = from;
     while b > 0 {
@@ -177,13 +177,13 @@ pub(crate) fn group_start(frames: &Frames, i: usize) -> Option<usize>
 
 /// Some frames that stand side by side: the place of the last, and how many.
 #[derive(Clone, Copy)]
-pub(crate) struct Run {
+pub(crate) struct RemovedRun {
     pub(crate) last: Spot,
     pub(crate) count: usize,
 }
 
 /// A frame with those appended after it up to the next random access point.
-pub(crate) fn run_from(frames: &Frames, from: Spot) -> Run
+pub(crate) fn run_from(frames: &Frames, from: Spot) -> RemovedRun
     requires block { from.block < length frames.now.rows }
     requires index { from.index < length (row frames.now.rows from.block) }
     ensures block { result.last.block < length frames.now.rows }
@@ -200,13 +200,13 @@ pub(crate) fn run_from(frames: &Frames, from: Spot) -> Run
     let mut next = frames.next(from);
     while next.block < frames.blocks() {
         if frames.item(next).frame.sync {
-            return Run { last, count };
+            return RemovedRun { last, count };
         }
         last = next;
         count += 1;
         next = frames.next(next);
     }
-    Run { last, count }
+    RemovedRun { last, count }
 }
 
 /// Some frames that stand side by side: the place of the first, and how many.

@@ -1,16 +1,16 @@
 ghost use Rattle.std.specs.Prelude.{◌≡◌, ◌+◌, ◌<◌, ◌≤◌, ◌≤ℤ◌, ◌++◌, pos, true, [], length, take, drop, map, IfSome};
 ghost use Rattle.std.specs.List.{AllByRecursion, list_any};
-ghost use Rattle.mse_base.specs.Spans.{Bridged};
+ghost use Rattle.mse_base.specs.Spans.{IsBridging};
 ghost use Rattle.block_list.specs.Rows.{joined, row};
 ghost use Rattle.block_list.specs.Spots.{rank};
 ghost use Rattle.track_store.specs.Frames.{frames_without, IsAscending, has_serial, intervals, ranges_of, bytes_of};
 ghost use Rattle.track_index.specs.Order.{ordered};
-ghost use Rattle.track_index.specs.Indexed.{IsNext};
+ghost use Rattle.track_index.specs.Indexed.{IsNextKey};
 
 use crate::entry::{end_at, end_of, entry_of, span_of};
 use crate::frames::{Frames, NewDuration, Stretch, group_start, place_below, place_of, run_from};
 use crate::key::Key;
-use crate::mark::Mark;
+use crate::mark::TimeMark;
 use crate::order::Order;
 use crate::repair::{mend, mend_run};
 use block_list::{RankedList, Spot};
@@ -80,15 +80,15 @@ fn take_run_out(order: &mut Order, frames: &Frames, run: Stretch, total: u64) ->
         ++ drop (rank frames.now.rows run.from + run.count) (joined frames.now.rows)) }
     ensures spare { order.old.spare ≤ order.new.spare }
 {
-    let mut left = total;
+    let mut bytes_left = total;
     let mut spot = run.from;
     for n in 0..run.count {
         let stored = frames.item(spot);
         order.take_out(stored.frame.pts, stored.serial);
-        left -= stored.frame.payload.len() as u64;
+        bytes_left -= stored.frame.payload.len() as u64;
         spot = frames.next(spot);
     }
-    left
+    bytes_left
 }
 
 impl IndexStore {
@@ -112,7 +112,7 @@ impl IndexStore {
     /// The ranges of the frames (Media Source Extensions, "track buffer ranges").
     pub fn kept(&self) -> &Ranges
         ensures spans { result.now.spans ≡ ranges_of self.now.gap self.now.frames }
-        ensures bridged { Bridged self.now.gap (intervals self.now.frames) result.now.spans }
+        ensures bridged { IsBridging self.now.gap (intervals self.now.frames) result.now.spans }
     {
         &self.ranges
     }
@@ -155,11 +155,11 @@ impl IndexStore {
     /// The serial of the first frame in order of presentation that is named, of those not before
     /// a key.
     fn next_named(&self, key: &Key, to: &Moment, below: u64) -> Option<Key>
-        ensures { IsNext key.now to.now below result self.now.frames }
+        ensures { IsNextKey key.now to.now below result self.now.frames }
     {
         match self.order.first_named(key, to, below) {
             Some(entry) => Some(Key {
-                mark: Mark::at(entry.pts),
+                mark: TimeMark::at(entry.pts),
                 serial: entry.serial,
             }),
             None => None,
@@ -246,7 +246,7 @@ impl FrameStore for IndexStore {
     }
 
     fn remove_where_time(&mut self, from: Ticks, to: Moment, below: u64) {
-        let mut key = Key::at(Mark::at(from));
+        let mut key = Key::at(TimeMark::at(from));
         while let Some(next) = self.next_named(&key, &to, below) {
             self.remove_serial(next.serial);
             key = next;

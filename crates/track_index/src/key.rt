@@ -2,30 +2,30 @@
 
 ghost use Rattle.std.specs.Prelude.{◌≡◌};
 
-use crate::entry::Entry;
-use crate::mark::Mark;
+use crate::entry::OrderEntry;
+use crate::mark::TimeMark;
 use block_list::Test;
 
 /// The entries that begin before `mark` ticks, and those that begin there whose serial is lower.
 #[derive(Clone, Copy, Drop)]
 pub(crate) struct Key {
-    pub(crate) mark: Mark,
+    pub(crate) mark: TimeMark,
     pub(crate) serial: u64,
 }
 
-impl Test<Entry> for Key {
+impl Test<OrderEntry> for Key {
     ghost use Rattle.track_index.specs.Keyed.{before_key};
 
     ghost passes = { before_key };
 
-    fn passes(&self, x: &Entry) -> bool {
+    fn passes(&self, x: &OrderEntry) -> bool {
         self.mark.is_after(x.pts) || (self.mark.is_from(x.pts) && x.serial < self.serial)
     }
 }
 
 impl Key {
     /// Before it stands what begins before a mark.
-    pub(crate) fn at(mark: Mark) -> Key
+    pub(crate) fn at(mark: TimeMark) -> Key
         ensures { result ≡ record { mark = mark; serial = 0 } }
     {
         Key { mark, serial: 0 }

@@ -6,8 +6,8 @@ ghost use Rattle.mse_base.specs.Moments.{greatest};
 ghost use Rattle.track_index.specs.Order.{end_of};
 ghost use Rattle.track_index.specs.Known.{is_sync, greatest_end, later_end, known_of};
 
-use crate::entry::Entry;
-use crate::mark::Mark;
+use crate::entry::OrderEntry;
+use crate::mark::TimeMark;
 use block_list::Fact;
 
 /// Whether one of two is true.
@@ -20,12 +20,12 @@ pub(crate) fn either(a: bool, b: bool) -> bool
 /// The greatest end of some entries, and whether one is a random access point.
 #[derive(Drop)]
 pub(crate) struct Known {
-    pub(crate) end: Option<Mark>,
+    pub(crate) end: Option<TimeMark>,
     pub(crate) sync: bool,
 }
 
 /// The later of two ends, of which each may be absent.
-pub(crate) fn later_end(a: Option<Mark>, b: Option<Mark>) -> Option<Mark>
+pub(crate) fn later_end(a: Option<TimeMark>, b: Option<TimeMark>) -> Option<TimeMark>
     ensures { result ≡ later_end a b }
 {
     match a {
@@ -37,14 +37,14 @@ pub(crate) fn later_end(a: Option<Mark>, b: Option<Mark>) -> Option<Mark>
     }
 }
 
-pub(crate) fn end_mark(entry: &Entry) -> Mark
+pub(crate) fn end_mark(entry: &OrderEntry) -> TimeMark
     ensures { result ≡ end_of entry.now }
 {
-    Mark::beyond(entry.pts, entry.dur)
+    TimeMark::beyond(entry.pts, entry.dur)
 }
 
 /// The greatest end of some entries.
-pub(crate) fn greatest_end(items: &[Entry]) -> Option<Mark>
+pub(crate) fn greatest_end(items: &[OrderEntry]) -> Option<TimeMark>
     ensures { result ≡ greatest_end items.now }
 {
     let mut best = None;
@@ -54,7 +54,7 @@ pub(crate) fn greatest_end(items: &[Entry]) -> Option<Mark>
     best
 }
 
-fn has_sync(items: &[Entry]) -> bool
+fn has_sync(items: &[OrderEntry]) -> bool
     ensures { result ≡ list_any is_sync items.now }
 {
     for entry in items {
@@ -65,19 +65,19 @@ fn has_sync(items: &[Entry]) -> bool
     false
 }
 
-impl Fact<Entry> for Known {
+impl Fact<OrderEntry> for Known {
     ghost use Rattle.track_index.specs.Known.{known_of};
 
     ghost of = { known_of };
 
-    fn of(items: &[Entry]) -> Known {
+    fn of(items: &[OrderEntry]) -> Known {
         Known {
             end: greatest_end(items),
             sync: has_sync(items),
         }
     }
 
-    fn with(&self, x: &Entry) -> Known {
+    fn with(&self, x: &OrderEntry) -> Known {
         Known {
             end: later_end(self.end, Some(end_mark(x))),
             sync: either(self.sync, x.sync),

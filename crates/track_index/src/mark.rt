@@ -8,11 +8,11 @@ use std::marker::Model;
 
 /// A time, or one a little beyond the ticks.
 #[derive(Clone, Copy, Drop)]
-pub(crate) struct Mark {
+pub(crate) struct TimeMark {
     value: i128,
 }
 
-impl Model for Mark {
+impl Model for TimeMark {
     ghost use Rattle.std.specs.Prelude.{ℤ};
 
     ghost Value = { ℤ };
@@ -22,35 +22,35 @@ impl Model for Mark {
     ghost inverse = { λ z. record { value = z } };
 }
 
-impl Mark {
+impl TimeMark {
     /// At a time.
-    pub(crate) fn at(t: Ticks) -> Mark
+    pub(crate) fn at(t: Ticks) -> TimeMark
         ensures { result ≡ t }
     {
-        Mark { value: t.get() }
+        TimeMark { value: t.get() }
     }
 
     /// Just after a time.
-    pub(crate) fn after(t: Ticks) -> Mark
+    pub(crate) fn after(t: Ticks) -> TimeMark
         ensures { result ≡ t +ℤ pos 1 }
     {
-        Mark { value: t.get() + 1 }
+        TimeMark { value: t.get() + 1 }
     }
 
     /// Some ticks after a time.
-    pub(crate) fn beyond(t: Ticks, gap: Ticks) -> Mark
+    pub(crate) fn beyond(t: Ticks, gap: Ticks) -> TimeMark
         ensures { result ≡ t +ℤ gap }
     {
-        Mark {
+        TimeMark {
             value: t.get() + gap.get(),
         }
     }
 
     /// Some ticks before a time.
-    pub(crate) fn ahead(t: Ticks, gap: Ticks) -> Mark
+    pub(crate) fn ahead(t: Ticks, gap: Ticks) -> TimeMark
         ensures { result ≡ t -ℤ gap }
     {
-        Mark {
+        TimeMark {
             value: t.get() - gap.get(),
         }
     }
@@ -77,14 +77,14 @@ impl Mark {
     }
 
     /// Whether it is not after another.
-    pub(crate) fn is_up_to(self, other: Mark) -> bool
+    pub(crate) fn is_up_to(self, other: TimeMark) -> bool
         ensures { result ≡ int_le self other }
     {
         self.value <= other.value
     }
 
     /// Whether it is another.
-    pub(crate) fn is_same(self, other: Mark) -> bool
+    pub(crate) fn is_same(self, other: TimeMark) -> bool
         ensures { result ≡ true → self ≡ other }
     {
         self.value == other.value

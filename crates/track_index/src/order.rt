@@ -11,10 +11,10 @@ ghost use Rattle.track_index.specs.Keyed.{before_key, IsKeyed, IsFound, entry_na
 ghost use Rattle.track_index.specs.Known.{greatest_end};
 ghost use Rattle.track_index.specs.Tops.{tops_of};
 
-use crate::entry::{Entry, covers, is_sync_from};
+use crate::entry::{OrderEntry, covers, is_sync_from};
 use crate::key::Key;
 use crate::known::{Known, end_mark, greatest_end, later_end};
-use crate::mark::Mark;
+use crate::mark::TimeMark;
 use crate::tops::{refresh, refresh_with, top_before};
 use block_list::{BlockList, Spot, Test, search};
 use mse_base::{Moment, OutOfMemory, Ticks};
@@ -25,16 +25,16 @@ use std::marker::Model;
 /// end of each block.
 #[derive(Drop)]
 pub(crate) struct Order {
-    list: BlockList<Entry, Known>,
-    tops: Vec<Option<Mark>>,
+    list: BlockList<OrderEntry, Known>,
+    tops: Vec<Option<TimeMark>>,
 }
 
 impl Model for Order {
     ghost use Rattle.std.specs.Prelude.{◌≡◌, ◌-◌, min, vec_capacity, vec_len};
-    ghost use Rattle.block_list.specs.Rows.{Listed};
-    ghost use Rattle.track_index.specs.declared.entry.Entry.{Entry};
+    ghost use Rattle.block_list.specs.Rows.{ListView};
+    ghost use Rattle.track_index.specs.declared.entry.OrderEntry.{OrderEntry};
 
-    ghost Value = { Listed Entry };
+    ghost Value = { ListView OrderEntry };
 
     ghost use Rattle.track_index.specs.Tops.{tops_of};
 
@@ -45,7 +45,7 @@ impl Model for Order {
 }
 
 /// The place of the entry of a serial.
-fn place_of(list: &BlockList<Entry, Known>, pts: Ticks, serial: u64) -> Spot
+fn place_of(list: &BlockList<OrderEntry, Known>, pts: Ticks, serial: u64) -> Spot
     requires keyed { IsKeyed (joined list.now.rows) }
     requires own { AllByRecursion (λ o. o.serial ≡ serial → o.pts ≡ pts) (joined list.now.rows) }
     requires held { list_any (has_entry_serial serial) (joined list.now.rows) ≡ true }
@@ -54,7 +54,7 @@ fn place_of(list: &BlockList<Entry, Known>, pts: Ticks, serial: u64) -> Spot
     ensures names { Names serial (joined list.now.rows) (rank list.now.rows result) }
 {
     let key = Key {
-        mark: Mark::at(pts),
+        mark: TimeMark::at(pts),
         serial,
     };
     let spot = search(list, &key);
@@ -62,7 +62,7 @@ fn place_of(list: &BlockList<Entry, Known>, pts: Ticks, serial: u64) -> Spot
 }
 
 /// The last entry of some that holds a time; each that is looked at is counted.
-fn last_in(items: &[Entry], t: Ticks, visits: &mut u64) -> Option<Entry>
+fn last_in(items: &[OrderEntry], t: Ticks, visits: &mut u64) -> Option<OrderEntry>
     ensures last { result ≡ last_that (entry_covers t) items.now }
     ensures not_less { visits.old ≤ visits.new }
     ensures at_most { visits.new ≤ visits.old + length items.now }
@@ -80,7 +80,7 @@ fn last_in(items: &[Entry], t: Ticks, visits: &mut u64) -> Option<Entry>
 }
 
 /// Whether an end, if there is one, is not after a time.
-fn is_ended(end: &Option<Mark>, t: Ticks) -> bool
+fn is_ended(end: &Option<TimeMark>, t: Ticks) -> bool
     ensures { result ≡ is_ended t end.now }
 {
     match end {
@@ -92,12 +92,12 @@ fn is_ended(end: &Option<Mark>, t: Ticks) -> bool
 /// The last of the first `count` entries of a block that holds a time: no entry is looked at where
 /// none of the block ends after it.
 fn look(
-    list: &BlockList<Entry, Known>,
+    list: &BlockList<OrderEntry, Known>,
     b: usize,
     count: usize,
     t: Ticks,
     visits: &mut u64,
-) -> Option<Entry>
+) -> Option<OrderEntry>
     requires block { b < length list.now.rows }
     requires count { count ≤ length (row list.now.rows b) }
     ensures last { result ≡ last_that (entry_covers t) (take count (row list.now.rows b)) }
@@ -112,7 +112,7 @@ fn look(
 }
 
 /// Where the first random access point of some entries begins that is not before a moment.
-fn first_sync(items: &[Entry], t: &Moment) -> Option<Ticks>
+fn first_sync(items: &[OrderEntry], t: &Moment) -> Option<Ticks>
     ensures { result ≡ first_start (is_sync_from t.now) items.now }
 {
     for entry in items {
@@ -127,12 +127,12 @@ fn first_sync(items: &[Entry], t: &Moment) -> Option<Ticks>
 /// none of their entries ends after it, and in the first other block one does, since all begin by
 /// the time.
 fn last_in_blocks(
-    list: &BlockList<Entry, Known>,
-    tops: &[Option<Mark>],
+    list: &BlockList<OrderEntry, Known>,
+    tops: &[Option<TimeMark>],
     from: usize,
     t: Ticks,
     visits: &mut u64,
-) -> Option<Entry>
+) -> Option<OrderEntry>
     requires tops { tops.now ≡ tops_of list.now.rows }
     requires within { from ≤ length list.now.rows }
     requires begun { AllByRecursion (λ o. o.pts ≤ℤ t) (joined (take from list.now.rows)) }
@@ -155,7 +155,7 @@ fn last_in_blocks(
 }
 
 /// A place of a block before which all entries begin before a moment.
-fn spot_from(list: &BlockList<Entry, Known>, t: &Moment) -> Spot
+fn spot_from(list: &BlockList<OrderEntry, Known>, t: &Moment) -> Spot
     requires keyed { IsKeyed (joined list.now.rows) }
     requires some { 0 < length list.now.rows }
     ensures block { result.block < length list.now.rows }
@@ -164,14 +164,14 @@ fn spot_from(list: &BlockList<Entry, Known>, t: &Moment) -> Spot
         (take (rank list.now.rows result) (joined list.now.rows)) }
 {
     match t {
-        Moment::At(t) => search(list, &Key::at(Mark::at(*t))),
+        Moment::At(t) => search(list, &Key::at(TimeMark::at(*t))),
         _ => Spot { block: 0, index: 0 },
     }
 }
 
 /// Where the first random access point of a block begins that is not before a moment: no entry is
 /// looked at where the block has none.
-fn sync_in(list: &BlockList<Entry, Known>, b: usize, t: &Moment) -> Option<Ticks>
+fn sync_in(list: &BlockList<OrderEntry, Known>, b: usize, t: &Moment) -> Option<Ticks>
     requires { b < length list.now.rows }
     ensures { result ≡ first_start (is_sync_from t.now) (row list.now.rows b) }
 {
@@ -183,7 +183,7 @@ fn sync_in(list: &BlockList<Entry, Known>, b: usize, t: &Moment) -> Option<Ticks
 
 /// Where the first random access point of the blocks from one on begins that is not before a
 /// moment: blocks without one are passed whole.
-fn sync_in_blocks(list: &BlockList<Entry, Known>, from: usize, t: &Moment) -> Option<Ticks>
+fn sync_in_blocks(list: &BlockList<OrderEntry, Known>, from: usize, t: &Moment) -> Option<Ticks>
     requires { from ≤ length list.now.rows }
     ensures { result ≡ first_start (is_sync_from t.now) (joined (drop from list.now.rows)) }
 {
@@ -221,13 +221,13 @@ impl Order {
     }
 
     /// Puts an entry after all that begin no later.
-    pub(crate) fn put(&mut self, entry: Entry)
+    pub(crate) fn put(&mut self, entry: OrderEntry)
         requires spare { 1 ≤ self.old.spare }
         requires keyed { IsKeyed (joined self.old.rows) }
         ensures items { joined self.new.rows ≡ put entry (joined self.old.rows) }
         ensures spare { self.old.spare ≤ self.new.spare + 1 }
     {
-        let key = Key::at(Mark::after(entry.pts));
+        let key = Key::at(TimeMark::after(entry.pts));
         if self.list.blocks() == 0 {
             self.list.push(entry);
             refresh(&mut self.tops, &self.list, 0);
@@ -265,7 +265,7 @@ impl Order {
     {
         let spot = place_of(&self.list, pts, serial);
         let entry = *self.list.item(spot);
-        let shorter = Entry {
+        let shorter = OrderEntry {
             pts: entry.pts,
             dur,
             serial: entry.serial,
@@ -276,13 +276,13 @@ impl Order {
     }
 
     /// The last entry that holds a time.
-    pub(crate) fn last_holding(&self, t: Ticks, visits: &mut u64) -> Option<Entry>
+    pub(crate) fn last_holding(&self, t: Ticks, visits: &mut u64) -> Option<OrderEntry>
         requires keyed { IsKeyed (joined self.now.rows) }
         ensures last { result ≡ last_that (entry_covers t) (joined self.now.rows) }
         ensures not_less { visits.old ≤ visits.new }
         ensures at_most { visits.new ≤ visits.old + 256 }
     {
-        let key = Key::at(Mark::after(t));
+        let key = Key::at(TimeMark::after(t));
         if self.list.blocks() == 0 {
             return None;
         }
@@ -328,14 +328,14 @@ impl Order {
     }
 
     /// The greatest end.
-    pub(crate) fn highest_end(&self) -> Option<Mark>
+    pub(crate) fn highest_end(&self) -> Option<TimeMark>
         ensures { result ≡ greatest_end (joined self.now.rows) }
     {
         top_before(&self.tops, &self.list, self.list.blocks())
     }
 
     /// The greatest end of the entries that stand before a key.
-    pub(crate) fn greatest_end_before(&self, key: &Key) -> Option<Mark>
+    pub(crate) fn greatest_end_before(&self, key: &Key) -> Option<TimeMark>
         requires keyed { IsKeyed (joined self.now.rows) }
         ensures { result ≡ greatest_end (filter (before_key key.now) (joined self.now.rows)) }
     {
@@ -382,7 +382,7 @@ impl Order {
     }
 
     /// The entry at a place.
-    pub(crate) fn entry(&self, spot: Spot) -> Entry
+    pub(crate) fn entry(&self, spot: Spot) -> OrderEntry
         requires block { spot.block < length self.now.rows }
         requires index { spot.index < length (row self.now.rows spot.block) }
         ensures { result ≡ slice_index_or (joined self.now.rows) (rank self.now.rows spot) result }
@@ -421,7 +421,7 @@ impl Order {
 
     /// The first entry not before a key that begins before a moment and has a serial below a
     /// number.
-    pub(crate) fn first_named(&self, key: &Key, to: &Moment, below: u64) -> Option<Entry>
+    pub(crate) fn first_named(&self, key: &Key, to: &Moment, below: u64) -> Option<OrderEntry>
         requires keyed { IsKeyed (joined self.now.rows) }
         ensures found { IfSome result (λ e. IsFound key.now to.now below e (joined self.now.rows)) }
         ensures none { IfNone result

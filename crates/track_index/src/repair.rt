@@ -9,12 +9,12 @@ ghost use Rattle.block_list.specs.Spots.{rank};
 ghost use Rattle.track_store.specs.Frames.{intervals, IsTimed};
 ghost use Rattle.track_index.specs.Order.{span_of};
 ghost use Rattle.track_index.specs.Keyed.{before_key, IsKeyed};
-ghost use Rattle.track_index.specs.Repair.{AreTimed, JoinsIn, IsPastJoined, IsRefilled, Between};
+ghost use Rattle.track_index.specs.Repair.{AreTimed, JoinsIn, IsPastJoined, IsRefilled, AreBetween};
 
 use crate::entry::{entry_of, span_of};
 use crate::frames::{Frames, Stretch};
 use crate::key::Key;
-use crate::mark::Mark;
+use crate::mark::TimeMark;
 use crate::order::Order;
 use block_list::Spot;
 use mse_base::{Ranges, Span, Ticks};
@@ -55,7 +55,7 @@ fn remake(ranges: &mut Ranges, order: &Order, gap: Ticks)
 }
 
 /// A span between marks, where both are times.
-fn span_between(start: Mark, end: Mark) -> Option<Span>
+fn span_between(start: TimeMark, end: TimeMark) -> Option<Span>
     ensures { IfSome result (λ s. (s.start ≡ start) × (s.end ≡ end)) }
 {
     match start.time() {
@@ -94,7 +94,7 @@ fn join_past(ranges: &mut Ranges, order: &Order, key: &Key, gap: Ticks) -> bool
 
 /// Joins in the frames that stand at or behind a key and begin before `high`; whether there was
 /// room.
-fn join_between(ranges: &mut Ranges, order: &Order, key: &Key, high: Mark, gap: Ticks) -> bool
+fn join_between(ranges: &mut Ranges, order: &Order, key: &Key, high: TimeMark, gap: Ticks) -> bool
     requires gap_from_zero { pos 0 ≤ℤ gap }
     requires ranges { IsRanges gap ranges.old.spans }
     requires keyed { IsKeyed (joined order.now.rows) }
@@ -120,7 +120,7 @@ fn join_between(ranges: &mut Ranges, order: &Order, key: &Key, high: Mark, gap: 
 }
 
 /// Joins in what the frames have from a key's time on and before `high`; whether there was room.
-fn refill(ranges: &mut Ranges, order: &Order, key: &Key, high: Mark, gap: Ticks) -> bool
+fn refill(ranges: &mut Ranges, order: &Order, key: &Key, high: TimeMark, gap: Ticks) -> bool
     requires gap_from_zero { pos 0 ≤ℤ gap }
     requires ranges { IsRanges gap ranges.old.spans }
     requires keyed { IsKeyed (joined order.now.rows) }
@@ -150,14 +150,14 @@ pub(crate) fn mend(ranges: &mut Ranges, order: &Order, hole: Span, gap: Ticks)
     ensures room { ranges.old.spare + length ranges.old.spans ≤ ranges.new.spare
         + length ranges.new.spans }
     ensures between { (holes : List Span)
-        → Between gap (map span_of (joined order.now.rows)) (hole ∷ holes) ranges.old.spans
-        → Between gap (map span_of (joined order.now.rows)) holes ranges.new.spans }
+        → AreBetween gap (map span_of (joined order.now.rows)) (hole ∷ holes) ranges.old.spans
+        → AreBetween gap (map span_of (joined order.now.rows)) holes ranges.new.spans }
 {
     if hole.end <= hole.start {
         return;
     }
-    let key = Key::at(Mark::ahead(hole.start, gap));
-    let high = Mark::beyond(hole.end, gap);
+    let key = Key::at(TimeMark::ahead(hole.start, gap));
+    let high = TimeMark::beyond(hole.end, gap);
     if ranges.spare() == 0 {
         remake(ranges, order, gap);
         return;
@@ -185,7 +185,7 @@ pub(crate) fn mend_run(
     requires block { run.from.block < length frames.now.rows }
     requires index { run.from.index < length (row frames.now.rows run.from.block) }
     requires within { rank frames.now.rows run.from + run.count ≤ length (joined frames.now.rows) }
-    requires between { Between gap (map span_of (joined order.now.rows))
+    requires between { AreBetween gap (map span_of (joined order.now.rows))
         (intervals (take run.count (drop (rank frames.now.rows run.from) (joined frames.now.rows))))
         ranges.old.spans }
     ensures spans { ranges.new.spans ≡ bridged_ranges gap (map span_of (joined order.now.rows)) }

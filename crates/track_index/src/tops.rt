@@ -6,17 +6,17 @@ ghost use Rattle.block_list.specs.Rows.{joined, row};
 ghost use Rattle.track_index.specs.Known.{greatest_end, later_end};
 ghost use Rattle.track_index.specs.Tops.{tops_of, RunsFrom};
 
-use crate::entry::Entry;
+use crate::entry::OrderEntry;
 use crate::known::{Known, later_end};
-use crate::mark::Mark;
+use crate::mark::TimeMark;
 use block_list::BlockList;
 
 /// The running end of the block before one.
 pub(crate) fn top_before(
-    tops: &[Option<Mark>],
-    list: &BlockList<Entry, Known>,
+    tops: &[Option<TimeMark>],
+    list: &BlockList<OrderEntry, Known>,
     b: usize,
-) -> Option<Mark>
+) -> Option<TimeMark>
     requires tops { tops.now ≡ tops_of list.now.rows }
     requires within { b ≤ length list.now.rows }
     ensures { result ≡ greatest_end (joined (take b list.now.rows)) }
@@ -25,7 +25,7 @@ pub(crate) fn top_before(
 }
 
 /// The end before a place.
-fn end_before(tops: &[Option<Mark>], b: usize) -> Option<Mark>
+fn end_before(tops: &[Option<TimeMark>], b: usize) -> Option<TimeMark>
     requires { b ≤ length tops.now }
     ensures none { b ≡ 0 → result ≡ None }
     ensures some { 0 < b → result ≡ slice_index_or tops.now (b - 1) result }
@@ -33,7 +33,7 @@ fn end_before(tops: &[Option<Mark>], b: usize) -> Option<Mark>
     if b == 0 { None } else { tops[b - 1] }
 }
 
-fn is_same(a: &Option<Mark>, b: &Option<Mark>) -> bool
+fn is_same(a: &Option<TimeMark>, b: &Option<TimeMark>) -> bool
     ensures { result ≡ true → a.now ≡ b.now }
 {
     match a {
@@ -46,7 +46,12 @@ fn is_same(a: &Option<Mark>, b: &Option<Mark>) -> bool
 }
 
 /// Makes the running ends anew from a block on; from `to` on only until one stays as it is.
-fn follow(tops: &mut Vec<Option<Mark>>, list: &BlockList<Entry, Known>, from: usize, to: usize)
+fn follow(
+    tops: &mut Vec<Option<TimeMark>>,
+    list: &BlockList<OrderEntry, Known>,
+    from: usize,
+    to: usize,
+)
     requires len { length tops.old.items ≡ length list.now.rows }
     requires in_order { from ≤ to }
     requires within { from ≤ length list.now.rows }
@@ -69,7 +74,7 @@ fn follow(tops: &mut Vec<Option<Mark>>, list: &BlockList<Entry, Known>, from: us
 }
 
 /// Makes as many ends as there are blocks, after block `b` was cut in two or went.
-fn adjust(tops: &mut Vec<Option<Mark>>, b: usize, after: usize)
+fn adjust(tops: &mut Vec<Option<TimeMark>>, b: usize, after: usize)
     requires within { b ≤ length tops.old.items }
     requires more { after ≤ length tops.old.items + 1 }
     requires fewer { length tops.old.items ≤ after + 1 }
@@ -97,10 +102,10 @@ fn adjust(tops: &mut Vec<Option<Mark>>, b: usize, after: usize)
 /// Makes the running ends anew after an entry that ends at `end` came into block `b`, which may
 /// have been cut in two. No block follows the last one: only its own end may become later.
 pub(crate) fn refresh_with(
-    tops: &mut Vec<Option<Mark>>,
-    list: &BlockList<Entry, Known>,
+    tops: &mut Vec<Option<TimeMark>>,
+    list: &BlockList<OrderEntry, Known>,
     b: usize,
-    end: Mark,
+    end: TimeMark,
 )
     requires within { b ≤ length tops.old.items }
     requires more { length list.now.rows ≤ length tops.old.items + 1 }
@@ -127,7 +132,11 @@ pub(crate) fn refresh_with(
 
 /// Makes the running ends anew after a change in block `b`, which may have been cut in two or
 /// have gone.
-pub(crate) fn refresh(tops: &mut Vec<Option<Mark>>, list: &BlockList<Entry, Known>, b: usize)
+pub(crate) fn refresh(
+    tops: &mut Vec<Option<TimeMark>>,
+    list: &BlockList<OrderEntry, Known>,
+    b: usize,
+)
     requires within { b ≤ length tops.old.items }
     requires more { length list.now.rows ≤ length tops.old.items + 1 }
     requires fewer { length tops.old.items ≤ length list.now.rows + 1 }

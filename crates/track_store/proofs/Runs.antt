@@ -10,7 +10,7 @@ use Rattle.track_store.specs.declared.calls.StoreLook.TheVariants.{Len, Get, Pla
 use Rattle.track_store.specs.declared.calls.StoreCall.{StoreCall}
 use Rattle.track_store.specs.declared.calls.StoreCall.TheVariants.{Change, Look}
 use Rattle.track_store.specs.Frames.{IsAscending, frame_at}
-use Rattle.track_store.specs.Calls.{AnswerView, Place, IsChange, IsAnswer, IsRun, IsSameAnswer, AreSameAnswers}
+use Rattle.track_store.specs.Calls.{AnswerView, Place, IsChange, IsLookAnswer, IsCallRun, IsSameAnswer, AreSameAnswers}
 use Rattle.track_store.proofs.Clearing.{each_at}
 
 -- a frame stands at one place of a list with ascending serials
@@ -33,7 +33,7 @@ same_place fs (Some i) (Some j) up e low below = let x = at_frame fs i low in ap
 same_answer : (a b c : AnswerView) → a ≡ c → b ≡ c → IsSameAnswer a b
 same_answer a b c h k = inr (inr (h ∙ sym k))
 
-one_answer : (gap : ℤ) (l : StoreLook) (fs : List Stored) (a b : AnswerView) → IsAscending fs → IsAnswer gap l fs a → IsAnswer gap l fs b → IsSameAnswer a b
+one_answer : (gap : ℤ) (l : StoreLook) (fs : List Stored) (a b : AnswerView) → IsAscending fs → IsLookAnswer gap l fs a → IsLookAnswer gap l fs b → IsSameAnswer a b
 one_answer gap Len fs a b up h k = same_answer a b _ h k
 one_answer gap (Get i) fs a b up h k = same_answer a b _ h k
 one_answer gap (PlaceOf serial) fs a b up h k = same_answer a b _ h k
@@ -60,12 +60,12 @@ one_change (Cut i dur) fs gs hs h k = both_left (slice_get fs i) _ gs hs (at_fra
 one_change (RemoveAt i) fs gs hs h k = both_left (slice_get fs i) _ gs hs (at_frame fs i h.0) h.1 k.1
 one_change (RemoveWhereTime from to below) fs gs hs h k = h ∙ sym k
 
-pub one_run : (gap : ℤ) (fs gs hs : List Stored) (calls : List StoreCall) (xs ys : List AnswerView) → IsRun gap fs calls xs gs → IsRun gap fs calls ys hs → AreSameAnswers xs ys × (gs ≡ hs)
+pub one_run : (gap : ℤ) (fs gs hs : List Stored) (calls : List StoreCall) (xs ys : List AnswerView) → IsCallRun gap fs calls xs gs → IsCallRun gap fs calls ys hs → AreSameAnswers xs ys × (gs ≡ hs)
 one_run gap fs gs hs [] [] [] h k = (tt, h.1 ∙ sym k.1)
 one_run gap fs gs hs [] [] (y ∷ ys) h k = absurd (let e = k.0 in cc)
 one_run gap fs gs hs [] (x ∷ xs) ys h k = absurd (let e = h.0 in cc)
 one_run gap fs gs hs (Change c ∷ cs) xs ys h k =
-    one_run gap h.0 gs hs cs xs ys h.2 (subst (λ (ms : List Stored). IsRun gap ms cs ys hs) (sym (one_change c fs h.0 k.0 h.1 k.1)) k.2)
+    one_run gap h.0 gs hs cs xs ys h.2 (subst (λ (ms : List Stored). IsCallRun gap ms cs ys hs) (sym (one_change c fs h.0 k.0 h.1 k.1)) k.2)
 one_run gap fs gs hs (Look l ∷ cs) [] ys h k = absurd h
 one_run gap fs gs hs (Look l ∷ cs) (x ∷ xs) [] h k = absurd k
 one_run gap fs gs hs (Look l ∷ cs) (x ∷ xs) (y ∷ ys) h k =

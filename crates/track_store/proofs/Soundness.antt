@@ -5,7 +5,7 @@ use Rattle.std.specs.List.{AllByRecursion}
 use Rattle.std.proofs.lemmas.Bool.{cases_lt}
 use Rattle.track_store.specs.declared.store.Stored.{Stored}
 use Rattle.track_store.specs.Frames.{frames_left, IsAscending, frames_with_dur, has_serial, with_dur, from_sync}
-use Rattle.track_store.specs.Sound.{HasPredecessor, IsDecodable, IsNext, IsChained, last_serial}
+use Rattle.track_store.specs.Sound.{HasPredecessor, IsDecodable, IsSuccessor, IsChained, last_serial}
 use Rattle.track_store.proofs.Clearing.{goes, cleared-goes, cleared-stays}
 
 -- where no frame is named all stay
@@ -14,10 +14,10 @@ cleared-unnamed named [] h = refl
 cleared-unnamed named (f ∷ fs) h = cleared-stays named false f fs (ap (λ b. b || false) h.0) ∙ ap (λ gs. f ∷ gs) (cleared-unnamed named fs h.1)
 
 -- a removal keeps the chain: a frame that is no random access point stays only where the frame before it does
-stays_linked : (n gone s : Bool) (before : Option ℕ) (before' : Option ℕ) (serial : ℕ) → (n || (gone && not s)) ≡ false → (gone ≡ false → before ≡ before') → (s ≡ true) ⊎ IsNext before serial → (s ≡ true) ⊎ IsNext before' serial
+stays_linked : (n gone s : Bool) (before : Option ℕ) (before' : Option ℕ) (serial : ℕ) → (n || (gone && not s)) ≡ false → (gone ≡ false → before ≡ before') → (s ≡ true) ⊎ IsSuccessor before serial → (s ≡ true) ⊎ IsSuccessor before' serial
 stays_linked n gone s before before' serial e same (inl h) = inl h
 stays_linked n gone true before before' serial e same (inr h) = inl refl
-stays_linked n false false before before' serial e same (inr h) = inr (subst (λ b. IsNext b serial) (same refl) h)
+stays_linked n false false before before' serial e same (inr h) = inr (subst (λ b. IsSuccessor b serial) (same refl) h)
 stays_linked false true false before before' serial e same (inr h) = cc
 stays_linked true true false before before' serial e same (inr h) = cc
 
@@ -44,7 +44,7 @@ newer : (named : Stored → Bool) (n k : ℕ) (fs : List Stored) → n ≤ k →
 newer named n k [] le a h = h
 newer named n k (f ∷ fs) le a h = (h.0 (omega arith), newer named n k fs le a.1 h.1)
 
-begins_group : (before : Option ℕ) (n : ℕ) (f : Stored) → n ≤ f.serial → IfSome before (λ m. m < n) → (f.serial ≡ n → f.frame.sync ≡ true) → (f.frame.sync ≡ true) ⊎ IsNext before f.serial → f.frame.sync ≡ true
+begins_group : (before : Option ℕ) (n : ℕ) (f : Stored) → n ≤ f.serial → IfSome before (λ m. m < n) → (f.serial ≡ n → f.frame.sync ≡ true) → (f.frame.sync ≡ true) ⊎ IsSuccessor before f.serial → f.frame.sync ≡ true
 begins_group before n f le older first (inl h) = h
 begins_group None n f le older first (inr h) = absurd h
 begins_group (Some m) n f le older first (inr h) = first (omega arith)
@@ -63,16 +63,16 @@ last-cleared named gone before before' n m (f ∷ fs) older first up chain low l
     ]
 
 -- the last frame has a serial one less, or what was before
-predecessor : (before : Option ℕ) (serial : ℕ) (fs : List Stored) → IsNext (last_serial before fs) serial → IsNext before serial ⊎ HasPredecessor serial fs
+predecessor : (before : Option ℕ) (serial : ℕ) (fs : List Stored) → IsSuccessor (last_serial before fs) serial → IsSuccessor before serial ⊎ HasPredecessor serial fs
 predecessor before serial [] h = inl h
 predecessor before serial (f ∷ fs) h =
     elim (predecessor (Some f.serial) serial fs h) [ inl own ↦ inr (inl own) | inr later ↦ inr (inr later) ]
 
-pub predecessor_last : (serial : ℕ) (fs : List Stored) → IsNext (last_serial None fs) serial → HasPredecessor serial fs
+pub predecessor_last : (serial : ℕ) (fs : List Stored) → IsSuccessor (last_serial None fs) serial → HasPredecessor serial fs
 predecessor_last serial fs h = elim (predecessor None serial fs h) [ inl none ↦ absurd none | inr there ↦ there ]
 
 -- one more frame at the end
-pub chained_push : (before : Option ℕ) (fs : List Stored) (x : Stored) → IsChained before fs → (x.frame.sync ≡ true) ⊎ IsNext (last_serial before fs) x.serial → IsChained before (fs ++ x ∷ [])
+pub chained_push : (before : Option ℕ) (fs : List Stored) (x : Stored) → IsChained before fs → (x.frame.sync ≡ true) ⊎ IsSuccessor (last_serial before fs) x.serial → IsChained before (fs ++ x ∷ [])
 chained_push before [] x h link = (link, tt)
 chained_push before (f ∷ fs) x h link = (h.0, chained_push (Some f.serial) fs x h.1 link)
 
@@ -81,7 +81,7 @@ last_push before [] x = refl
 last_push before (f ∷ fs) x = last_push (Some f.serial) fs x
 
 -- another duration
-link_along : (before : Option ℕ) (b : Bool) (dur : ℤ) (f : Stored) → (f.frame.sync ≡ true) ⊎ IsNext before f.serial → ((cond b (with_dur dur f) f).frame.sync ≡ true) ⊎ IsNext before (cond b (with_dur dur f) f).serial
+link_along : (before : Option ℕ) (b : Bool) (dur : ℤ) (f : Stored) → (f.frame.sync ≡ true) ⊎ IsSuccessor before f.serial → ((cond b (with_dur dur f) f).frame.sync ≡ true) ⊎ IsSuccessor before (cond b (with_dur dur f) f).serial
 link_along before true dur f h = h
 link_along before false dur f h = h
 
@@ -95,7 +95,7 @@ chained-shortened serial dur before (f ∷ fs) h =
     (link_along before (has_serial serial f) dur f h.0, chain_along serial dur (has_serial serial f) f _ (chained-shortened serial dur (Some f.serial) fs h.1))
 
 -- the chain says that each frame is a random access point or the list has its predecessor
-gives : (all : List Stored) (before : Option ℕ) (fs : List Stored) → ((s : ℕ) → IsNext before s → HasPredecessor s all) → ((s : ℕ) → HasPredecessor s fs → HasPredecessor s all) → IsChained before fs → AllByRecursion (λ f. (f.frame.sync ≡ true) ⊎ HasPredecessor f.serial all) fs
+gives : (all : List Stored) (before : Option ℕ) (fs : List Stored) → ((s : ℕ) → IsSuccessor before s → HasPredecessor s all) → ((s : ℕ) → HasPredecessor s fs → HasPredecessor s all) → IsChained before fs → AllByRecursion (λ f. (f.frame.sync ≡ true) ⊎ HasPredecessor f.serial all) fs
 gives all before [] own rest h = h
 gives all before (f ∷ fs) own rest h =
     (elim h.0 [ inl sync ↦ inl sync | inr next ↦ inr (own f.serial next) ], gives all (Some f.serial) fs (λ s e. rest s (inl e)) (λ s p. rest s (inr p)) h.1)

@@ -88,32 +88,32 @@ abbrev pub IsPlaceOf : Option Stored → List Stored → Option ℕ → Type 0
 IsPlaceOf f fs place = (frame_at fs place ≡ f) × IfSome place (λ i. i < length fs)
 
 -- the answer to a look-up in frames whose ranges join across a gap
-abbrev pub IsAnswer : ℤ → StoreLook → List Stored → AnswerView → Type 0
-IsAnswer gap Len fs a = a ≡ Frames (length fs)
-IsAnswer gap (Get i) fs a = a ≡ Frame (slice_get fs i)
-IsAnswer gap (PlaceOf serial) fs a = a ≡ Place (position (has_serial serial) fs)
-IsAnswer gap (GroupStart i) fs a = a ≡ Place (group_start_of i fs)
-IsAnswer gap (Overlapped t) fs a =
+abbrev pub IsLookAnswer : ℤ → StoreLook → List Stored → AnswerView → Type 0
+IsLookAnswer gap Len fs a = a ≡ Frames (length fs)
+IsLookAnswer gap (Get i) fs a = a ≡ Frame (slice_get fs i)
+IsLookAnswer gap (PlaceOf serial) fs a = a ≡ Place (position (has_serial serial) fs)
+IsLookAnswer gap (GroupStart i) fs a = a ≡ Place (group_start_of i fs)
+IsLookAnswer gap (Overlapped t) fs a =
     (place : Option ℕ) × (a ≡ Place place) × IsPlaceOf (overlapped t fs) fs place
-IsAnswer gap (SyncAtOrAfter t) fs a = a ≡ Time (least (sync_times_from t fs))
-IsAnswer gap (SpanHolding t) fs a = a ≡ Range (find (reaches t) (ranges_of gap fs))
-IsAnswer gap LastSpan fs a = a ≡ Range (last_of (ranges_of gap fs))
-IsAnswer gap HighestStart fs a = a ≡ Time (greatest (starts fs))
-IsAnswer gap HighestEnd fs a = a ≡ Time (greatest (ends fs))
-IsAnswer gap Used fs a = a ≡ Bytes (bytes_of fs)
-IsAnswer gap CopyRanges fs a = (a ≡ NoMemory) ⊎ (a ≡ Ranges (ranges_of gap fs))
+IsLookAnswer gap (SyncAtOrAfter t) fs a = a ≡ Time (least (sync_times_from t fs))
+IsLookAnswer gap (SpanHolding t) fs a = a ≡ Range (find (reaches t) (ranges_of gap fs))
+IsLookAnswer gap LastSpan fs a = a ≡ Range (last_of (ranges_of gap fs))
+IsLookAnswer gap HighestStart fs a = a ≡ Time (greatest (starts fs))
+IsLookAnswer gap HighestEnd fs a = a ≡ Time (greatest (ends fs))
+IsLookAnswer gap Used fs a = a ≡ Bytes (bytes_of fs)
+IsLookAnswer gap CopyRanges fs a = (a ≡ NoMemory) ⊎ (a ≡ Ranges (ranges_of gap fs))
 
 -- ---- runs
 
 -- over a list of calls a store gives these answers to those that look something up, and is left with the frames
 -- `gs`; serials ascend in every store
-abbrev pub IsRun : ℤ → List Stored → List StoreCall → List AnswerView → List Stored → Type 0
-IsRun gap fs [] answers gs = (answers ≡ []) × (gs ≡ fs)
-IsRun gap fs (Change c ∷ cs) answers gs =
-    (ms : List Stored) × IsChange c fs ms × IsRun gap ms cs answers gs
-IsRun gap fs (Look l ∷ cs) [] gs = ⊥
-IsRun gap fs (Look l ∷ cs) (a ∷ answers) gs =
-    IsAscending fs × IsAnswer gap l fs a × IsRun gap fs cs answers gs
+abbrev pub IsCallRun : ℤ → List Stored → List StoreCall → List AnswerView → List Stored → Type 0
+IsCallRun gap fs [] answers gs = (answers ≡ []) × (gs ≡ fs)
+IsCallRun gap fs (Change c ∷ cs) answers gs =
+    (ms : List Stored) × IsChange c fs ms × IsCallRun gap ms cs answers gs
+IsCallRun gap fs (Look l ∷ cs) [] gs = ⊥
+IsCallRun gap fs (Look l ∷ cs) (a ∷ answers) gs =
+    IsAscending fs × IsLookAnswer gap l fs a × IsCallRun gap fs cs answers gs
 
 -- the answers of two stores are the same, but that either may find no memory
 abbrev pub IsSameAnswer : AnswerView → AnswerView → Type 0

@@ -4,7 +4,7 @@ use Rattle.std.specs.List.{AllByRecursion}
 use Rattle.track_store.specs.declared.tracks.Track.{Track}
 use Rattle.track_store.specs.Frames.{bytes_of}
 use Rattle.track_store.specs.State.{TrackState}
-use Rattle.track_store.specs.Sound.{Sound}
+use Rattle.track_store.specs.Sound.{IsSound}
 
 -- the bytes stored in all track buffers
 abbrev pub bytes_in : List TrackState → ℕ
@@ -12,7 +12,7 @@ bytes_in ts = sum_by (λ t. bytes_of t.frames) ts
 
 -- what every step keeps: each track buffer is sound, and the bytes of all can be counted
 pub record AreKept (ts : List TrackState) : Type 0 where
-  pub sound : AllByRecursion Sound ts
+  pub sound : AllByRecursion IsSound ts
   pub small : bytes_in ts < 2 ^ 62
 
 -- of two lists of the same tracks, each track that is sound in the first is sound in the second
@@ -20,7 +20,7 @@ abbrev pub AreStillSound : List TrackState → List TrackState → Type 0
 AreStillSound [] [] = ⊤
 AreStillSound [] (u ∷ us) = ⊥
 AreStillSound (t ∷ ts) [] = ⊥
-AreStillSound (t ∷ ts) (u ∷ us) = (Sound t → Sound u) × AreStillSound ts us
+AreStillSound (t ∷ ts) (u ∷ us) = (IsSound t → IsSound u) × AreStillSound ts us
 
 -- each stored frame ends at or before a time
 abbrev pub AreEndedBy : ℤ → List TrackState → Type 0
@@ -28,8 +28,8 @@ AreEndedBy limit ts =
     AllByRecursion (λ t. AllByRecursion (λ f. (f.frame.pts +ℤ f.frame.dur) ≤ℤ limit) t.frames) ts
 
 -- each store has room for so many more frames
-abbrev pub HasRoom : {S : Type 0} → (S → ℕ) → ℕ → List (Track S) → Type 0
-HasRoom spare n ts = AllByRecursion (λ t. n ≤ spare t.store) ts
+abbrev pub HasSpareRoom : {S : Type 0} → (S → ℕ) → ℕ → List (Track S) → Type 0
+HasSpareRoom spare n ts = AllByRecursion (λ t. n ≤ spare t.store) ts
 
 -- across which gaps the ranges of each track join
 abbrev pub gaps_of : {S : Type 0} → (S → ℤ) → List (Track S) → List ℤ

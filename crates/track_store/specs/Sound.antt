@@ -17,15 +17,15 @@ abbrev pub IsDecodable : List Stored → Type 0
 IsDecodable fs = AllByRecursion (λ f. (f.frame.sync ≡ true) ⊎ HasPredecessor f.serial fs) fs
 
 -- a serial is one more than another, if there is one
-abbrev pub IsNext : Option ℕ → ℕ → Type 0
-IsNext None serial = ⊥
-IsNext (Some before) serial = before + 1 ≡ serial
+abbrev pub IsSuccessor : Option ℕ → ℕ → Type 0
+IsSuccessor None serial = ⊥
+IsSuccessor (Some before) serial = before + 1 ≡ serial
 
 -- each frame is a random access point, or its serial is the next after that of the frame before it in the list
 abbrev pub IsChained : Option ℕ → List Stored → Type 0
 IsChained before [] = ⊤
 IsChained before (f ∷ fs) =
-    ((f.frame.sync ≡ true) ⊎ IsNext before f.serial) × IsChained (Some f.serial) fs
+    ((f.frame.sync ≡ true) ⊎ IsSuccessor before f.serial) × IsChained (Some f.serial) fs
 
 -- the serial of the last frame, or what was before
 abbrev pub last_serial : Option ℕ → List Stored → Option ℕ
@@ -42,7 +42,7 @@ AreTogether (Some decode) (Some duration) (Some end) (Some first) need = ⊤
 AreTogether None None None None need = need ≡ true
 AreTogether decode duration end first need = ⊥
 
-pub record Sound (t : TrackState) : Type 0 where
+pub record IsSound (t : TrackState) : Type 0 where
   -- a track receives at most 2 ^ 62 frames
   pub count : t.marks.received ≤ 2 ^ 62
   -- each frame can be decoded after the one before it
@@ -52,7 +52,7 @@ pub record Sound (t : TrackState) : Type 0 where
   pub not_negative : AllByRecursion IsNotNegative t.frames
   pub timed : AllByRecursion IsTimed t.frames
   -- while no random access point is needed, the frame that was received last is held, and last
-  pub last_held : t.marks.need_sync ≡ false → IsNext (last_serial None t.frames) t.marks.received
+  pub last_held : t.marks.need_sync ≡ false → IsSuccessor (last_serial None t.frames) t.marks.received
   pub together : AreTogether t.marks.last_decode t.marks.last_duration t.marks.highest_end
       t.marks.group_first t.marks.need_sync
   -- the group of frames since the last discontinuity begins with a random access point

@@ -1,7 +1,7 @@
 //! Calls of a store as values, so that laws can speak of lists of them.
 
 ghost use Rattle.std.specs.Prelude.{◌≡◌, ◌≤◌};
-ghost use Rattle.track_store.specs.Calls.{CanChange, IsAnswer, IsChange, LeavesRoom, answer_view};
+ghost use Rattle.track_store.specs.Calls.{CanChange, IsLookAnswer, IsChange, LeavesRoom, answer_view};
 ghost use Rattle.track_store.specs.Frames.{IsAscending};
 
 use crate::{FrameStore, Stored};
@@ -74,7 +74,7 @@ pub fn change<S: FrameStore>(store: &mut S, change: StoreChange) -> Result<(), O
 /// Looks something up in a store by a call. Only `CopyRanges` takes memory.
 pub fn look_up<'a, S: FrameStore>(store: &'a S, look: &StoreLook) -> StoreAnswer<'a>
     ensures ascending { IsAscending (S.frames store.now) }
-    ensures answer { IsAnswer (S.gap store.now) look.now (S.frames store.now)
+    ensures answer { IsLookAnswer (S.gap store.now) look.now (S.frames store.now)
         (answer_view result) }
 {
     store.serials_ascend();

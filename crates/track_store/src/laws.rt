@@ -3,11 +3,11 @@
 
 ghost use Rattle.std.specs.Prelude.{◌≡◌, ◌+ℤ◌, ◌≤ℤ◌, ℤ, Bool, true, false, List, [], ◌∷◌, ◌++◌, ◌||◌, Some, None};
 ghost use Rattle.std.specs.List.{AllByRecursion};
-ghost use Rattle.track_store.specs.Calls.{AnswerView, AreSameAnswers, IsRun};
+ghost use Rattle.track_store.specs.Calls.{AnswerView, AreSameAnswers, IsCallRun};
 ghost use Rattle.mse_base.specs.Moments.{greatest};
 ghost use Rattle.track_store.specs.Frames.{ends, frames_without, from_sync};
 ghost use Rattle.track_store.specs.Kept.{AreEndedBy};
-ghost use Rattle.track_store.specs.Sound.{Sound, IsDecodable};
+ghost use Rattle.track_store.specs.Sound.{IsSound, IsDecodable};
 ghost use Rattle.track_store.specs.State.{TrackState};
 ghost use Rattle.track_store.specs.declared.calls.StoreCall.{StoreCall};
 ghost use Rattle.track_store.specs.declared.store.Stored.{Stored};
@@ -30,7 +30,7 @@ pub fn clearing()
 /// In a track buffer that is sound each frame is a random access point, or the frame that the
 /// track received just before it is held too.
 pub fn decodable()
-    ensures { (t : TrackState) → Sound t → IsDecodable t.frames }
+    ensures { (t : TrackState) → IsSound t → IsDecodable t.frames }
 {}
 
 /// Any two stores give the same answers: from the same frames and gap, over the same calls, the
@@ -40,7 +40,7 @@ pub fn decodable()
 /// store, and they know of it only the contract of `FrameStore`.
 pub fn same_answers()
     ensures { (gap : ℤ) (fs gs hs : List Stored) (calls : List StoreCall)
-        (xs ys : List AnswerView) → IsRun gap fs calls xs gs → IsRun gap fs calls ys hs
+        (xs ys : List AnswerView) → IsCallRun gap fs calls xs gs → IsCallRun gap fs calls ys hs
         → AreSameAnswers xs ys × (gs ≡ hs) }
 {}
 

@@ -3,7 +3,7 @@
 
 ghost use Rattle.std.specs.Prelude.{◌≡◌, pos, ◌≤ℤ◌, [], length, IfOk, IfSome, OnOk, slice_get, ◌≤◌};
 ghost use Rattle.track_store.specs.Kept.{AreKept};
-ghost use Rattle.track_store.specs.Sound.{Sound};
+ghost use Rattle.track_store.specs.Sound.{IsSound};
 ghost use Rattle.track_store.specs.State.{state_of, states_of};
 
 use decoder_feed::{FeedNext, Feeder, feed};
@@ -72,7 +72,7 @@ fn frame_of(alloc: Global, clock: Clock, sample: &Sample) -> Result<CodedFrame, 
 
 fn empty_track<S: FrameStore>(alloc: Global) -> Track<S>
     ensures empty { S.frames result.store ≡ [] }
-    ensures sound { Sound (state_of S.frames result) }
+    ensures sound { IsSound (state_of S.frames result) }
 {
     Track {
         id: 1,
@@ -97,7 +97,7 @@ fn one_track<S: FrameStore>(alloc: Global) -> Result<Tracks<S>, OutOfMemory>
 /// The track, which is sound.
 fn first_of<S: FrameStore>(tracks: &Tracks<S>) -> Option<&Track<S>>
     requires { AreKept (states_of S.frames tracks.now.items) }
-    ensures { IfSome result (λ t. Sound (state_of S.frames t.now)) }
+    ensures { IfSome result (λ t. IsSound (state_of S.frames t.now)) }
 {
     tracks.get(0)
 }

@@ -3,7 +3,7 @@
 
 ghost use Rattle.std.specs.Prelude.{◌≡◌, ◌<◌, ◌≤◌, ◌^◌, [], ℤ, pos, ◌≤ℤ◌, length, IfOk, IfSome, slice_get, OnOk};
 ghost use Rattle.track_store.specs.State.{state_of, states_of};
-ghost use Rattle.track_store.specs.Sound.{Sound};
+ghost use Rattle.track_store.specs.Sound.{IsSound};
 ghost use Rattle.track_store.specs.Kept.{bytes_in, AreKept};
 
 use frame_rules::{Placed, Why, place};
@@ -68,7 +68,7 @@ fn segments() -> Settings
 fn empty_track<S: FrameStore>(alloc: Global, kind: Kind, received: u64) -> Track<S>
     requires { received ≤ 2 ^ 62 }
     ensures empty { S.frames result.store ≡ [] }
-    ensures sound { Sound (state_of S.frames result) }
+    ensures sound { IsSound (state_of S.frames result) }
 {
     let mut marks = Marks::new();
     marks.received = received;
@@ -163,7 +163,7 @@ fn feed_all<S: FrameStore>(
 /// Two tracks with no frames, of which the second claims to hold the frame it received last.
 fn beside_unsound<S: FrameStore>(alloc: Global) -> Result<Tracks<S>, OutOfMemory>
     ensures two { IfOk result (λ ts. length ts.items ≡ 2) }
-    ensures sound { IfOk result (λ ts. IfSome (slice_get (states_of S.frames ts.items) 0) Sound) }
+    ensures sound { IfOk result (λ ts. IfSome (slice_get (states_of S.frames ts.items) 0) IsSound) }
     ensures small { IfOk result (λ ts. bytes_in (states_of S.frames ts.items) < 2 ^ 62) }
 {
     let mut tracks = Tracks::new(alloc);

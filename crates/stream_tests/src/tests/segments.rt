@@ -15,10 +15,10 @@ use std::test::*;
 /// it is a sync sample.
 type Shown = (u8, u64, u32, i128, usize, bool);
 
-fn shown_of(next: &Next) -> Shown {
+fn shown_of(next: &SegmentNext) -> Shown {
     match next {
-        Next::Init(_, offset) => (1, *offset, 0, 0, 0, false),
-        Next::Frame(frame, offset) => (
+        SegmentNext::Init(_, offset) => (1, *offset, 0, 0, 0, false),
+        SegmentNext::Frame(frame, offset) => (
             2,
             *offset,
             frame.track_id,
@@ -26,9 +26,9 @@ fn shown_of(next: &Next) -> Shown {
             frame.payload.len(),
             frame.sync,
         ),
-        Next::SegmentEnd => (3, 0, 0, 0, 0, false),
-        Next::Fault { offset, .. } => (4, *offset, 0, 0, 0, false),
-        Next::Dry => (0, 0, 0, 0, 0, false),
+        SegmentNext::SegmentEnd => (3, 0, 0, 0, 0, false),
+        SegmentNext::Fault { offset, .. } => (4, *offset, 0, 0, 0, false),
+        SegmentNext::Dry => (0, 0, 0, 0, 0, false),
     }
 }
 
@@ -140,11 +140,11 @@ fn fault_of(alloc: Global, bytes: &[u8]) -> Result<Option<(StreamFault, u64)>, O
     stream.feed(bytes)?;
     'items: for _ in 0..20 {
         match stream.next()? {
-            Next::Fault { fault, offset } => return Ok(Some((fault, offset))),
-            Next::Dry => return Ok(None),
-            Next::Init(_, _) => {}
-            Next::Frame(_, _) => {}
-            Next::SegmentEnd => {}
+            SegmentNext::Fault { fault, offset } => return Ok(Some((fault, offset))),
+            SegmentNext::Dry => return Ok(None),
+            SegmentNext::Init(_, _) => {}
+            SegmentNext::Frame(_, _) => {}
+            SegmentNext::SegmentEnd => {}
         }
     }
     Ok(None)
@@ -329,16 +329,16 @@ fn offers(rt: HostRuntime) -> Result<(), Fail> {
 fn resets(rt: HostRuntime) -> Result<(), Fail> {
     let mut stream = Stream::new(rt.alloc());
     stream.feed(b"\0\0\0\0free")?;
-    assert!(rt; matches!(stream.look(0)?, Next::Fault { .. }));
-    assert!(rt; matches!(stream.next()?, Next::Fault { .. }));
+    assert!(rt; matches!(stream.look(0)?, SegmentNext::Fault { .. }));
+    assert!(rt; matches!(stream.next()?, SegmentNext::Fault { .. }));
     stream.feed(b"\0\0\0\0free")?;
-    assert!(rt; matches!(stream.next()?, Next::Dry));
+    assert!(rt; matches!(stream.next()?, SegmentNext::Dry));
     stream.reset();
     stream.feed(b"\0\0\0\x08moof")?;
     assert!(rt;
         matches!(
             stream.next()?,
-            Next::Fault {
+            SegmentNext::Fault {
                 fault: StreamFault::NoInit,
                 ..
             }
@@ -366,7 +366,7 @@ fn presentations(rt: HostRuntime) -> Result<(), Fail> {
     assert!(rt;
         matches!(
             stream.next()?,
-            Next::Fault {
+            SegmentNext::Fault {
                 fault: StreamFault::NoInit,
                 ..
             }

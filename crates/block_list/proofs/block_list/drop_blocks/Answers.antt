@@ -32,7 +32,7 @@ dropping-preserved g c =
     let z : n ≡ suc (n - 1) = omega arith in
     let less = c.remove-block.ensures.items ∙ ap (λ q. remove q (n - 1)) (c.dropping.invariant.rows ∙ ap (λ k. take k rows ++ drop to rows) z) ∙ less_rows rows (n - 1) to (omega (arith, c.dropping.invariant.within)) c.requires.within in
     record {
-      count = omega (arith, c.dropping.invariant.count, less_items c.dropping.blocks.items (n - 1) c.remove-block.result (omega (arith, m)) c.remove-block.ensures.value, ap (λ q. length (joined q)) c.remove-block.ensures.items, c.len-gone.ensures.value);
+      count = omega (arith, c.dropping.invariant.count, less_items c.dropping.blocks.items (n - 1) c.remove-block.result (omega (arith, m)) c.remove-block.ensures.value, ap (λ q. length (joined q)) c.remove-block.ensures.items, c.len-removed_count.ensures.value);
       in_order = omega arith;
       within = omega (arith, c.dropping.invariant.within);
       rows = less;
@@ -40,7 +40,7 @@ dropping-preserved g c =
       listed = λ h e k. listed_less h c.dropping.blocks.items c.remove-block.new.self.items c.dropping.pool.items c.push_reserved.new.self.items c.clear.new.self e (n - 1) (vec_capacity c.dropping.blocks) (vec_capacity c.remove-block.new.self) (vec_capacity c.dropping.pool) (vec_capacity c.push_reserved.new.self) (c.dropping.invariant.listed h e k) (omega (arith, m)) c.remove-block.ensures.items c.push_reserved.ensures.items c.clear.ensures c.remove-block.ensures.capacity c.push_reserved.ensures.capacity;
     }
 
-pub overflow_add-gone : goal.overflow_add-gone
-overflow_add-gone g c =
+pub overflow_add-removed_count : goal.overflow_add-removed_count
+overflow_add-removed_count g c =
     let m = long c.args.blocks.now.items c.dropping.blocks.items c.dropping.end c.args.to c.dropping.invariant.rows c.dropping.invariant.within c.requires.within in
-    omega (arith, c.dropping.invariant.count, c.requires.small, less_items c.dropping.blocks.items (c.dropping.end - 1) c.remove-block.result (omega (arith, m)) c.remove-block.ensures.value, ap (λ q. length (joined q)) c.remove-block.ensures.items, c.len-gone.ensures.value)
+    omega (arith, c.dropping.invariant.count, c.requires.small, less_items c.dropping.blocks.items (c.dropping.end - 1) c.remove-block.result (omega (arith, m)) c.remove-block.ensures.value, ap (λ q. length (joined q)) c.remove-block.ensures.items, c.len-removed_count.ensures.value)

@@ -5,7 +5,7 @@ use Rattle.buffer_state.specs.declared.running.Running.{Running}
 use Rattle.buffer_state.specs.State.{Feed, Content, kept, next_item, surroundings}
 use Rattle.buffer_state.specs.Replies.{Answers}
 use Rattle.buffer_state.specs.Turns.{append_turn_result}
-use Rattle.buffer_state.specs.Left.{steps_left}
+use Rattle.buffer_state.specs.StepsLeft.{steps_left}
 use Rattle.buffer_state.proofs.Stepping.{frame-breaks}
 use Rattle.buffer_state.proofs.Leaving.{fewer-given}
 use Rattle.buffer_state.proofs.turns.frame_turn.Goals as goal

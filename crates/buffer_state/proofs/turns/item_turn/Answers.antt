@@ -8,8 +8,8 @@ use Rattle.buffer_state.specs.declared.running.Running.TheVariants.{Append}
 use Rattle.buffer_state.specs.State.{Feed, Content, kept, next_item, surroundings}
 use Rattle.buffer_state.specs.Replies.{Answers}
 use Rattle.buffer_state.specs.Turns.{append_turn_result}
-use Rattle.buffer_state.specs.Steps.{Leaves, IsPrepared, IsRefused}
-use Rattle.buffer_state.specs.Left.{steps_left}
+use Rattle.buffer_state.specs.Steps.{Leaves, IsPrepared, IsItemRefused}
+use Rattle.buffer_state.specs.StepsLeft.{steps_left}
 use Rattle.buffer_state.proofs.Stepping.{append-turns, refusal-turns}
 use Rattle.buffer_state.proofs.Leaving.{fewer}
 use Rattle.buffer_state.proofs.turns.item_turn.Goals as goal

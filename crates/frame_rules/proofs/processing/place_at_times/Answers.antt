@@ -4,7 +4,7 @@ use Rattle.std.proofs.lemmas.List.{length-map}
 use Rattle.std.specs.Prelude.{slice_get}
 use Rattle.track_store.specs.State.{TrackState, states_of}
 use Rattle.track_store.specs.Kept.{gaps_of}
-use Rattle.frame_rules.specs.Place.{IsReady, with_reset_marks, placement_in_track}
+use Rattle.frame_rules.specs.Place.{IsReadyForFrame, with_reset_marks, placement_in_track}
 use Rattle.frame_rules.proofs.AllTracks.{if_some_map, ready_marked, states_marked, outcome_in}
 use Rattle.frame_rules.proofs.PlainFrames.{by_times, settings_same, in_track_same}
 use Rattle.frame_rules.proofs.Rooms.{takes_reset, gaps_reset}
@@ -13,7 +13,7 @@ use Rattle.frame_rules.proofs.processing.place_at_times.Goals as goal
 pub put_at-answer-requires-clause-ready : goal.put_at-answer-requires-clause-ready
 put_at-answer-requires-clause-ready g c =
     let w = c.args.timing.now in
-    let ready = IsReady {S = g.row.S.Denot} g.S.FrameStore.frames g.S.FrameStore.spare (length c.args.frame.payload) in
+    let ready = IsReadyForFrame {S = g.row.S.Denot} g.S.FrameStore.frames g.S.FrameStore.spare (length c.args.frame.payload) in
     rw (c.reset_where_due.ensures.items, slice_get-map (with_reset_marks w) c.args.tracks.now.items c.args.index) (if_some_map (slice_get c.args.tracks.now.items c.args.index) (with_reset_marks w) ready ready (ready_marked g.S.FrameStore.frames g.S.FrameStore.spare (length c.args.frame.payload) w) c.requires.ready)
 
 pub returns-clause-placement : goal.returns-clause-placement

@@ -3,7 +3,7 @@ use Rattle.std.specs.Prelude.{false, OnErr}
 use Rattle.event_text.specs.Block.{closing_text}
 use Rattle.mse_engine.specs.State.{State}
 use Rattle.mse_engine.specs.Views.{view_in}
-use Rattle.script_run.specs.Wrote.{WroteFront}
+use Rattle.script_run.specs.Writes.{IsFrontWritten}
 use Rattle.mse_commands.specs.Heading.{heading_of}
 use Rattle.mse_commands.specs.Shown.{file_closing}
 use Rattle.mse_commands.specs.declared.words.Command.{Command}
@@ -15,5 +15,5 @@ made_closing command n len st e = rw e refl
 
 pub returns-in-Make-clause-err : goal.returns-in-Make-clause-err
 returns-in-Make-clause-err g c = λ st h.
-    subst (λ xs. OnErr c.close_block-in-Make.result (WroteFront xs (g.K.Sink.written c.args.sink.now) (g.K.Sink.written c.close_block-in-Make.new.sink)))
+    subst (λ xs. OnErr c.close_block-in-Make.result (IsFrontWritten xs (g.K.Sink.written c.args.sink.now) (g.K.Sink.written c.close_block-in-Make.new.sink)))
     (made_closing c.args.command.now c.in-Make.field-0 c.args.len st c.in-Make.is) (c.close_block-in-Make.ensures.err st h)

@@ -5,7 +5,7 @@ use Rattle.mse_base.specs.declared.span.Span.{Span}
 use Rattle.mse_calls.specs.Ready.{is_ended}
 use Rattle.element_seek.specs.declared.scene.Scene.{Scene}
 use Rattle.track_buffers.specs.Buffered.{last_end}
-use Rattle.media_element.specs.Falling.{after_duration_change}
+use Rattle.media_element.specs.DurationChange.{after_duration_change}
 use Rattle.mse_engine.specs.Scenes.{buffered_in, first_start, scene_with, span_at}
 use Rattle.mse_engine.specs.Standing.{SourceSide, view_of}
 use Rattle.mse_engine.proofs.Changing.{fall_alike}

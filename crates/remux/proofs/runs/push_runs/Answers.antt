@@ -3,7 +3,7 @@ use Rattle.std.specs.List.{slice_range}
 use Rattle.std.proofs.lemmas.List.{drop_more}
 use Rattle.sample_tables.specs.declared.sample.Sample.{Sample}
 use Rattle.sample_tables.specs.Facts.{IsSampleIn}
-use Rattle.remux.specs.Runs.{bytes_of, ends_before, runs_from, RunView, run_value, run_view}
+use Rattle.remux.specs.Runs.{bytes_of, ends_before, runs_from, SampleRun, run_value, run_view}
 use Rattle.remux.proofs.RunLaws.{bytes_push}
 use Rattle.remux.proofs.StepLaws.{range_push, range_one, goes_on, ends, get_any, all_index, fits_one, push_value}
 use Rattle.remux.proofs.runs.push_runs.Goals as goal
@@ -28,7 +28,7 @@ loop-i-preserved c =
     let same_s : s ≡ get_or samples i s = get_any samples i none s here in
     let run : List Sample = slice_range samples start i in
     let rest : List Sample = drop (i + 1) samples in
-    let mapped : List RunView = map run_value c.loop-i.runs.items in
+    let mapped : List SampleRun = map run_value c.loop-i.runs.items in
     let next : drop i samples ≡ s ∷ rest = drop_more samples i none here in
     let before = ap (λ ss. mapped ++ map (run_view t) (runs_from kind i run ss)) (sym next) ∙ was.same in
     let told : ends_before kind i run s ≡ c.ends_before.result = sym (c.ends_before.ensures ∙ ap (λ xs. ends_before kind i (slice_range xs start i) (get_or xs i none)) e) in

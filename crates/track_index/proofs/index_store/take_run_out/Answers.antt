@@ -4,7 +4,7 @@ use Rattle.std.proofs.lemmas.List.{take-append-drop}
 use Rattle.block_list.specs.Rows.{joined}
 use Rattle.block_list.specs.Spots.{rank}
 use Rattle.track_store.specs.Frames.{IsAscending, bytes_of}
-use Rattle.track_index.specs.declared.entry.Entry.{Entry}
+use Rattle.track_index.specs.declared.entry.OrderEntry.{OrderEntry}
 use Rattle.track_index.specs.Order.{ordered}
 use Rattle.track_index.specs.Keyed.{IsKeyed, has_entry_serial}
 use Rattle.track_index.proofs.Keys.{keyed_ordered}
@@ -51,8 +51,8 @@ take_out-requires c =
       held = ap (list_any (has_entry_serial x.serial)) o ∙ held_mid (take i fs) x ys;
     }
 
-pub overflow_sub-left : goal.overflow_sub-left
-overflow_sub-left c =
+pub overflow_sub-bytes_left : goal.overflow_sub-bytes_left
+overflow_sub-bytes_left c =
     let rows = c.args.frames.now.rows in
     let fs = joined rows in
     let i = rank rows c.args.run.from in
@@ -85,7 +85,7 @@ loop-n-preserved c =
     record {
       place = c.next-spot.ensures.place;
       next = omega (arith, c.next-spot.ensures.rank, c.loop-n.invariant.next);
-      order = c.take_out.ensures.items ∙ ap (filter (λ (p : Entry). not (has_entry_serial x.serial p))) o ∙ order_without (take i fs) x ys u;
+      order = c.take_out.ensures.items ∙ ap (filter (λ (p : OrderEntry). not (has_entry_serial x.serial p))) o ∙ order_without (take i fs) x ys u;
       bytes = omega (arith, c.loop-n.invariant.bytes, ap bytes_of e, bytes_mid (take i fs) x ys, c.len.ensures);
       spare = omega (arith, c.loop-n.invariant.spare, c.take_out.ensures.spare);
     }

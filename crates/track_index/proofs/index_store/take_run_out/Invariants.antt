@@ -10,6 +10,6 @@ invariant-loop-n l = record {
   place : IsPlace l.frames.rows l.spot;
   next : rank l.frames.rows l.spot ≡ rank l.frames.rows l.fn.run.from + l.n;
   order : joined l.order.rows ≡ ordered (take (rank l.frames.rows l.fn.run.from) (joined l.frames.rows) ++ drop (rank l.frames.rows l.fn.run.from + l.n) (joined l.frames.rows));
-  bytes : l.left ≡ bytes_of (take (rank l.frames.rows l.fn.run.from) (joined l.frames.rows) ++ drop (rank l.frames.rows l.fn.run.from + l.n) (joined l.frames.rows));
+  bytes : l.bytes_left ≡ bytes_of (take (rank l.frames.rows l.fn.run.from) (joined l.frames.rows) ++ drop (rank l.frames.rows l.fn.run.from + l.n) (joined l.frames.rows));
   spare : l.fn.order.spare ≤ l.order.spare;
 }

@@ -4,7 +4,7 @@ use Rattle.mse_base.specs.declared.span.Span.{Span}
 use Rattle.mse_base.specs.Bridging.{is_near, is_near_any}
 use Rattle.block_list.specs.Rows.{joined}
 use Rattle.block_list.specs.Spots.{rank}
-use Rattle.track_index.specs.declared.entry.Entry.{Entry}
+use Rattle.track_index.specs.declared.entry.OrderEntry.{OrderEntry}
 use Rattle.track_index.specs.Repair.{Joining}
 use Rattle.track_index.proofs.Blocks.{rank_within}
 use Rattle.track_index.proofs.Mending.{joins_init, joins_more, joins_high, joins_end, timed_at, le_of}
@@ -37,7 +37,7 @@ span_of-requires c =
     let s = c.loop-spot.spot in
     let l : s.block < length rows = omega (arith, c.blocks-in-loop-spot.ensures, c.loop-spot-test.true) in
     let k = rank_within rows s l (c.loop-spot.invariant.place.item l) in
-    subst (λ (o : Entry). IsTick (o.pts +ℤ o.dur)) (sym c.entry-entry.ensures) (timed_at os (rank rows s) c.entry-entry.result k c.requires.timed)
+    subst (λ (o : OrderEntry). IsTick (o.pts +ℤ o.dur)) (sym c.entry-entry.ensures) (timed_at os (rank rows s) c.entry-entry.result k c.requires.timed)
 
 pub next-spot-requires : goal.next-spot-requires
 next-spot-requires c = let l : c.loop-spot.spot.block < length c.args.order.now.rows = omega (arith, c.blocks-in-loop-spot.ensures, c.loop-spot-test.true) in record { block = l; index = c.loop-spot.invariant.place.item l }

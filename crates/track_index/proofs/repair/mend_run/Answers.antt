@@ -4,9 +4,9 @@ use Rattle.mse_base.specs.declared.span.Span.{Span}
 use Rattle.block_list.specs.Rows.{joined}
 use Rattle.block_list.specs.Spots.{rank}
 use Rattle.track_store.specs.Frames.{intervals, interval, IsTimed}
-use Rattle.track_index.specs.declared.entry.Entry.{Entry}
+use Rattle.track_index.specs.declared.entry.OrderEntry.{OrderEntry}
 use Rattle.track_index.specs.Order.{span_of}
-use Rattle.track_index.specs.Repair.{Between}
+use Rattle.track_index.specs.Repair.{AreBetween}
 use Rattle.track_index.proofs.Mending.{between_none}
 use Rattle.track_index.proofs.Removing.{each_at, run_next, run_over, first_place}
 use Rattle.track_index.proofs.Blocks.{item_place}
@@ -34,7 +34,7 @@ span_of-hole-requires c =
     let k : rank rows c.loop-n.spot < length (joined rows) = omega (arith, c.loop-n.invariant.next, c.requires.within) in
     let x = c.item.result.now in
     let t = subst IsTimed (sym c.item.ensures) (each_at IsTimed (joined rows) (rank rows c.loop-n.spot) x k c.requires.frames) in
-    subst (λ (o : Entry). IsTick (o.pts +ℤ o.dur)) (sym c.entry_of.ensures) t.1
+    subst (λ (o : OrderEntry). IsTick (o.pts +ℤ o.dur)) (sym c.entry_of.ensures) t.1
 
 pub mend-requires : goal.mend-requires
 mend-requires c = record { gap_from_zero = c.requires.gap_from_zero; ranges = c.loop-n.invariant.ranges; room = omega (arith, c.requires.room, c.loop-n.invariant.room); keyed = c.requires.keyed; timed = c.requires.timed }
@@ -57,8 +57,8 @@ loop-n-preserved c =
     let S = map span_of (joined c.args.order.now.rows) in
     let at : x ≡ get_or fs (i + n) x = c.item.ensures ∙ ap (λ (k : ℕ). get_or fs k x) c.loop-n.invariant.next in
     let step = ap intervals (run_next fs i c.args.run.count n x c.requires.within (omega arith) at) in
-    let hole : interval x ≡ c.span_of-hole.result = sym (c.span_of-hole.ensures ∙ ap (λ (o : Entry). span_of o) c.entry_of.ensures) in
-    let before = subst (λ zs. Between c.args.gap (map span_of (joined c.args.order.now.rows)) zs c.loop-n.ranges.spans) (step ∙ ap (λ (z : Span). z ∷ intervals (drop (n + 1) run)) hole) c.loop-n.invariant.between in
+    let hole : interval x ≡ c.span_of-hole.result = sym (c.span_of-hole.ensures ∙ ap (λ (o : OrderEntry). span_of o) c.entry_of.ensures) in
+    let before = subst (λ zs. AreBetween c.args.gap (map span_of (joined c.args.order.now.rows)) zs c.loop-n.ranges.spans) (step ∙ ap (λ (z : Span). z ∷ intervals (drop (n + 1) run)) hole) c.loop-n.invariant.between in
     record {
       place = c.next-spot.ensures.place;
       next = omega (arith, c.next-spot.ensures.rank, c.loop-n.invariant.next);
@@ -72,4 +72,4 @@ returns-clause-spans c =
     let fs = joined c.args.frames.now.rows in
     let i = rank c.args.frames.now.rows c.args.run.from in
     let none = ap intervals (run_over fs i c.args.run.count c.loop-n.n c.requires.within (omega arith)) in
-    between_none c.args.gap (map span_of (joined c.args.order.now.rows)) c.loop-n.ranges.spans c.requires.gap_from_zero c.loop-n.invariant.ranges (subst (λ zs. Between c.args.gap (map span_of (joined c.args.order.now.rows)) zs c.loop-n.ranges.spans) none c.loop-n.invariant.between)
+    between_none c.args.gap (map span_of (joined c.args.order.now.rows)) c.loop-n.ranges.spans c.requires.gap_from_zero c.loop-n.invariant.ranges (subst (λ zs. AreBetween c.args.gap (map span_of (joined c.args.order.now.rows)) zs c.loop-n.ranges.spans) none c.loop-n.invariant.between)

@@ -4,7 +4,7 @@ use Rattle.block_list.specs.Spots.{rank, IsPlace}
 use Rattle.mse_base.specs.Bridging.{IsRanges}
 use Rattle.track_store.specs.Frames.{intervals}
 use Rattle.track_index.specs.Order.{span_of}
-use Rattle.track_index.specs.Repair.{Between}
+use Rattle.track_index.specs.Repair.{AreBetween}
 use Rattle.track_index.proofs.repair.mend_run.Given as goal
 
 abbrev pub invariant-loop-n : goal.invariant-loop-n
@@ -13,5 +13,5 @@ invariant-loop-n l = record {
   next : rank l.frames.rows l.spot ≡ rank l.frames.rows l.fn.run.from + l.n;
   ranges : IsRanges l.gap l.ranges.spans;
   room : l.fn.ranges.spare + length l.fn.ranges.spans ≤ l.ranges.spare + length l.ranges.spans;
-  between : Between l.gap (map span_of (joined l.order.rows)) (intervals (drop l.n (take l.fn.run.count (drop (rank l.frames.rows l.fn.run.from) (joined l.frames.rows))))) l.ranges.spans;
+  between : AreBetween l.gap (map span_of (joined l.order.rows)) (intervals (drop l.n (take l.fn.run.count (drop (rank l.frames.rows l.fn.run.from) (joined l.frames.rows))))) l.ranges.spans;
 }

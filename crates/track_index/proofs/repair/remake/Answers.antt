@@ -4,7 +4,7 @@ use Rattle.mse_base.specs.Bridging.{bridged_ranges, ranges_with, IsRanges}
 use Rattle.mse_base.proofs.Merging.{ranges_bridged}
 use Rattle.block_list.specs.Rows.{joined}
 use Rattle.block_list.specs.Spots.{rank}
-use Rattle.track_index.specs.declared.entry.Entry.{Entry}
+use Rattle.track_index.specs.declared.entry.OrderEntry.{OrderEntry}
 use Rattle.track_index.specs.Order.{span_of}
 use Rattle.track_index.proofs.Blocks.{rank_within}
 use Rattle.track_index.proofs.Mending.{join_more, timed_at, few_taken, take_end}
@@ -27,7 +27,7 @@ span_of-requires c =
     let s = c.loop-spot.spot in
     let l : s.block < length rows = omega (arith, c.blocks-in-loop-spot.ensures, c.loop-spot-test.true) in
     let k = rank_within rows s l (c.loop-spot.invariant.place.item l) in
-    subst (λ (o : Entry). IsTick (o.pts +ℤ o.dur)) (sym c.entry-entry.ensures) (timed_at os (rank rows s) c.entry-entry.result k c.requires.timed)
+    subst (λ (o : OrderEntry). IsTick (o.pts +ℤ o.dur)) (sym c.entry-entry.ensures) (timed_at os (rank rows s) c.entry-entry.result k c.requires.timed)
 
 pub add_span-requires : goal.add_span-requires
 add_span-requires c =

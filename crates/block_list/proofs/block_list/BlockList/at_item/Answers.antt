@@ -1,5 +1,5 @@
 use Rattle.std.proofs.Common.{◌≡◌, ◌+◌, length, ap, arith, subst}
-use Rattle.block_list.specs.Rows.{row, NoneEmpty}
+use Rattle.block_list.specs.Rows.{row, AreNonEmpty}
 use Rattle.block_list.proofs.Joining.{start_more, start_all}
 use Rattle.block_list.proofs.Keeping.{full_of}
 use Rattle.block_list.proofs.Cutting.{some_row}
@@ -12,7 +12,7 @@ pub returns-clause-place : goal.returns-clause-place
 returns-clause-place g c =
     let rows = c.args.self.now.rows in
     let b = c.args.spot.block in
-    let none = subst (λ w. NoneEmpty w.rows) c.self.view_is (full_of c.self.inside.half c.self.inside.blocks.items c.self.invariant.0.short) in
+    let none = subst (λ w. AreNonEmpty w.rows) c.self.view_is (full_of c.self.inside.half c.self.inside.blocks.items c.self.invariant.0.short) in
     record {
       item = λ l. omega (arith, some_row rows (b + 1) none l);
       end = λ l. let e : b + 1 ≡ length rows = omega arith in omega (arith, start_all rows (b + 1) e);

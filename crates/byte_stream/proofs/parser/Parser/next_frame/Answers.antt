@@ -2,7 +2,7 @@ use Rattle.std.proofs.Common.{refl, ap, sym}
 use Rattle.std.specs.Prelude.{Some}
 use Rattle.std.specs.Option.{option_map}
 use Rattle.parser_loop.specs.Items.{FrameItem}
-use Rattle.segment_stream.specs.declared.next.Next.{Next}
+use Rattle.segment_stream.specs.declared.next.SegmentNext.{SegmentNext}
 use Rattle.segment_stream.specs.Kept as segment_kept
 use Rattle.adts_stream.specs.declared.next.AdtsNext.{AdtsNext}
 use Rattle.adts_stream.specs.Values as frame_kept
@@ -30,7 +30,7 @@ unreachable-requires-in_default-2 c =
 pub returns-in-Frame-clause-item : goal.returns-in-Frame-clause-item
 returns-in-Frame-clause-item c =
     let next = c.in_ok-frame-in-Segments in
-    let shown = sym (ap (λ (x : Next). option_map of_segments (segment_kept.seen x)) c.in-Frame.is) in
+    let shown = sym (ap (λ (x : SegmentNext). option_map of_segments (segment_kept.seen x)) c.in-Frame.is) in
     rw c.in-Segments.is (seen-segments c.in-Segments.stream (segment_kept.seen next.field-0) (Some (FrameItem c.in-Frame.frame c.in-Frame.offset)) (λ n. n) shown next.ensures.item)
 
 pub returns-in-Frame-2-clause-item : goal.returns-in-Frame-2-clause-item

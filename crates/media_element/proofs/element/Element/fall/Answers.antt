@@ -3,7 +3,7 @@ use Rattle.mse_calls.specs.declared.events.EventKind.TheVariants.{DurationChange
 use Rattle.element_seek.specs.Inside.{IsInside}
 use Rattle.media_element.specs.State.{ElementState}
 use Rattle.media_element.specs.Queueing.{after}
-use Rattle.media_element.specs.Falling.{after_fall, after_change, after_duration_change}
+use Rattle.media_element.specs.DurationChange.{after_fall, after_change, after_duration_change}
 use Rattle.media_element.proofs.Heard.{in_turn, inside}
 use Rattle.media_element.proofs.Reach.{reached, fall-inside}
 use Rattle.media_element.proofs.element.Element.fall.Goals as goal

@@ -1,5 +1,5 @@
 use Rattle.std.proofs.Common.{refl}
-use Rattle.mse_engine.proofs.Goes.{goes_script}
+use Rattle.mse_engine.proofs.Transitions.{goes_script}
 use Rattle.script_run.proofs.run.ScriptRun.call.Goals as goal
 
 pub returns-clause-ok : goal.returns-clause-ok

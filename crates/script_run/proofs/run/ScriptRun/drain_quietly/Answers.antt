@@ -2,8 +2,8 @@ use Rattle.std.proofs.Common.{◌≡◌, ◌∙◌, [], List, ℕ, refl, sym, tr
 use Rattle.mse_engine.specs.State.{State}
 use Rattle.mse_engine.specs.Standing.{Stands}
 use Rattle.mse_engine.specs.Work.{due_in}
-use Rattle.script_run.specs.Ran.{Drains}
-use Rattle.script_run.specs.Stage.{IsStanding}
+use Rattle.script_run.specs.Plays.{Drains}
+use Rattle.script_run.specs.RunStates.{IsStanding}
 use Rattle.script_run.proofs.Draining.{did_turn, drains_then, drains_turn, standing_drains, still_idle}
 use Rattle.script_run.proofs.run.ScriptRun.drain_quietly.Goals as goal
 

@@ -1,9 +1,9 @@
 use Rattle.std.proofs.Common.{List, ℕ}
 use Rattle.mse_engine.specs.State.{State}
 use Rattle.mse_engine.specs.Standing.{Stands}
-use Rattle.script_run.specs.Doings.{IsQuiet}
+use Rattle.script_run.specs.DrainSteps.{IsQuiet}
 use Rattle.script_run.specs.Progress.{turns_left}
-use Rattle.script_run.specs.Ran.{Drains}
+use Rattle.script_run.specs.Plays.{Drains}
 use Rattle.script_run.proofs.run.ScriptRun.drain_quietly.Given as goal
 
 abbrev pub invariant-turning : goal.invariant-turning

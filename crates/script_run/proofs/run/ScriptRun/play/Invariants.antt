@@ -1,8 +1,8 @@
 use Rattle.std.proofs.Common.{◌≡◌, ◌≤◌, map, vec_len}
-use Rattle.script_run.specs.Ran.{Played}
-use Rattle.script_run.specs.Stage.{stage}
+use Rattle.script_run.specs.Plays.{IsPlayed}
+use Rattle.script_run.specs.RunStates.{run_at}
 use Rattle.std.proofs.Common.{take}
-use Rattle.script_run.specs.Follows.{LinesAre}
+use Rattle.script_run.specs.Follows.{AreScriptLinesDone}
 use Rattle.script_run.specs.Lines.{limits}
 use Rattle.script_run.proofs.run.ScriptRun.play.Given as goal
 
@@ -10,8 +10,8 @@ abbrev pub invariant-loop-n : goal.invariant-loop-n
 invariant-loop-n g l = record {
   count : vec_len l.listeners ≡ vec_len l.fn.listeners;
   rules : map (λ b. (goal.Listener-dyn g (b.vtable, b.value)).rules b.value) l.listeners.items ≡ map (λ b. (goal.Listener-dyn g (b.vtable, b.value)).rules b.value) l.fn.listeners.items;
-  played : Played l.blobs (LinesAre l.blobs (limits l.limit (vec_len l.fn.listeners)) (take l.n l.lines))
-      (stage l.fn.self (g.K.Sink.written l.fn.sink) (map (λ b. (goal.Listener-dyn g (b.vtable, b.value)).notes b.value) l.fn.listeners.items))
-      (stage l.self (g.K.Sink.written l.sink) (map (λ b. (goal.Listener-dyn g (b.vtable, b.value)).notes b.value) l.listeners.items));
+  played : IsPlayed l.blobs (AreScriptLinesDone l.blobs (limits l.limit (vec_len l.fn.listeners)) (take l.n l.lines))
+      (run_at l.fn.self (g.K.Sink.written l.fn.sink) (map (λ b. (goal.Listener-dyn g (b.vtable, b.value)).notes b.value) l.fn.listeners.items))
+      (run_at l.self (g.K.Sink.written l.sink) (map (λ b. (goal.Listener-dyn g (b.vtable, b.value)).notes b.value) l.listeners.items));
   later : g.K.Sink.faults l.fn.sink ≤ g.K.Sink.faults l.sink;
 }

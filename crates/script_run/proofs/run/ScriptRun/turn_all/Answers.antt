@@ -2,7 +2,7 @@ use Rattle.std.proofs.Common.{◌≡◌, ◌∙◌, [], refl, sym, arith, true}
 use Rattle.mse_engine.specs.State.{State}
 use Rattle.mse_engine.specs.Standing.{Stands}
 use Rattle.mse_engine.specs.Work.{due_in}
-use Rattle.script_run.specs.Stage.{IsStanding}
+use Rattle.script_run.specs.RunStates.{IsStanding}
 use Rattle.script_run.proofs.Playing.{halt_none}
 use Rattle.script_run.proofs.Draining.{did_turn, order_none, order_then_ran, order_then_stop, standing_ran, still_idle, turning_ran}
 use Rattle.script_run.proofs.run.ScriptRun.turn_all.Goals as goal

@@ -1,19 +1,19 @@
 use Rattle.std.proofs.Common.{◌≡◌, ◌≤◌, map, vec_len}
 use Rattle.mse_engine.specs.State.{State}
 use Rattle.mse_engine.specs.Standing.{Stands}
-use Rattle.script_run.specs.Doings.{InDrainOrder, IsQuiet}
+use Rattle.script_run.specs.DrainSteps.{AreInDrainOrder, IsQuiet}
 use Rattle.script_run.specs.Progress.{turns_left}
-use Rattle.script_run.specs.Ran.{Ran}
-use Rattle.script_run.specs.Stage.{stage}
+use Rattle.script_run.specs.Plays.{IsPlayedInLine}
+use Rattle.script_run.specs.RunStates.{run_at}
 use Rattle.script_run.proofs.run.ScriptRun.turn_all.Given as goal
 
 abbrev pub invariant-turning : goal.invariant-turning
 invariant-turning g l = record {
   count : vec_len l.listeners ≡ vec_len l.fn.listeners;
   rules : map (λ b. (goal.Listener-dyn g (b.vtable, b.value)).rules b.value) l.listeners.items ≡ map (λ b. (goal.Listener-dyn g (b.vtable, b.value)).rules b.value) l.fn.listeners.items;
-  ran : Ran l.blobs (InDrainOrder l.blobs)
-      (stage l.fn.self (g.K.Sink.written l.fn.sink) (map (λ b. (goal.Listener-dyn g (b.vtable, b.value)).notes b.value) l.fn.listeners.items))
-      (stage l.self (g.K.Sink.written l.sink) (map (λ b. (goal.Listener-dyn g (b.vtable, b.value)).notes b.value) l.listeners.items));
+  ran : IsPlayedInLine l.blobs (AreInDrainOrder l.blobs)
+      (run_at l.fn.self (g.K.Sink.written l.fn.sink) (map (λ b. (goal.Listener-dyn g (b.vtable, b.value)).notes b.value) l.fn.listeners.items))
+      (run_at l.self (g.K.Sink.written l.sink) (map (λ b. (goal.Listener-dyn g (b.vtable, b.value)).notes b.value) l.listeners.items));
   later : g.K.Sink.faults l.fn.sink ≤ g.K.Sink.faults l.sink;
   left : l.self.left ≤ l.fn.self.left;
   quiet : (st : State) → Stands l.self.engine st → IsQuiet st;

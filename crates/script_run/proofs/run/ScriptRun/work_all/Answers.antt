@@ -3,7 +3,7 @@ use Rattle.std.specs.Prelude.{Some}
 use Rattle.mse_engine.specs.State.{State}
 use Rattle.mse_engine.specs.Standing.{Stands}
 use Rattle.mse_engine.specs.Work.{running_in}
-use Rattle.script_run.specs.Stage.{IsStanding}
+use Rattle.script_run.specs.RunStates.{IsStanding}
 use Rattle.script_run.proofs.Playing.{halt_none}
 use Rattle.script_run.proofs.Draining.{did_work, order_none, order_then_ran, order_then_stop, standing_ran, working_ran}
 use Rattle.script_run.proofs.run.ScriptRun.work_all.Goals as goal

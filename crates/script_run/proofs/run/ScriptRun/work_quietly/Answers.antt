@@ -3,8 +3,8 @@ use Rattle.std.specs.Prelude.{Some}
 use Rattle.mse_engine.specs.State.{State}
 use Rattle.mse_engine.specs.Standing.{Stands}
 use Rattle.mse_engine.specs.Work.{running_in}
-use Rattle.script_run.specs.Ran.{Drains}
-use Rattle.script_run.specs.Stage.{IsStanding}
+use Rattle.script_run.specs.Plays.{Drains}
+use Rattle.script_run.specs.RunStates.{IsStanding}
 use Rattle.script_run.proofs.Draining.{did_work, drains_none, drains_then, drains_work, standing_drains}
 use Rattle.script_run.proofs.run.ScriptRun.work_quietly.Goals as goal
 

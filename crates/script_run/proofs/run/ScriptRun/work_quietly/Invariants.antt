@@ -1,6 +1,6 @@
 use Rattle.std.proofs.Common.{List, ℕ}
 use Rattle.script_run.specs.Progress.{works_left}
-use Rattle.script_run.specs.Ran.{Drains}
+use Rattle.script_run.specs.Plays.{Drains}
 use Rattle.script_run.proofs.run.ScriptRun.work_quietly.Given as goal
 
 abbrev pub invariant-working : goal.invariant-working

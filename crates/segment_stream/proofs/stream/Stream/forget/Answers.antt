@@ -1,7 +1,7 @@
 use Rattle.std.proofs.Common.{[], None, Option, sym, subst}
 use Rattle.segment_stream.specs.declared.stream.Offered.{Offered}
 use Rattle.segment_stream.specs.Kept.{kept_of, with_tables}
-use Rattle.segment_stream.specs.Streams.{Stands, streamed, IsStreamAtRest, IsStream}
+use Rattle.segment_stream.specs.Streams.{Stands, segment_view, IsStreamAtRest, IsStream}
 use Rattle.std.specs.List.{concat}
 use Rattle.segment_stream.proofs.StreamLaws.{idle, holds-start, stands-empty}
 use Rattle.segment_stream.proofs.stream.Stream.forget.Goals as goal
@@ -22,4 +22,4 @@ returns-clause-stands c =
     let tables = s.tables in
     let new = c.restart.new in
     let q : Stands (kept_of None new.progress tables (concat new.input)) None [] 0 = rw (c.restart.ensures.progress, c.restart.ensures.input) (stands-empty None tables) in
-    subst (λ (o : Option Offered). Stands (streamed None (with_tables new.progress tables) new.input 0 o).kept None [] 0) (sym h.2) q
+    subst (λ (o : Option Offered). Stands (segment_view None (with_tables new.progress tables) new.input 0 o).kept None [] 0) (sym h.2) q

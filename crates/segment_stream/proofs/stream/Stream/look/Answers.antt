@@ -4,7 +4,7 @@ use Rattle.parser_loop.specs.Walk.{first_item}
 use Rattle.segment_walk.specs.Moves.{State, segments}
 use Rattle.segment_walk.specs.Segments.{Items}
 use Rattle.segment_stream.specs.Kept.{state_of}
-use Rattle.segment_stream.specs.Streams.{Streamed}
+use Rattle.segment_stream.specs.Streams.{SegmentView}
 use Rattle.segment_stream.proofs.ArmLaws.{front-item}
 use Rattle.segment_stream.proofs.StreamLaws.{idle, frames-counted, stands-item, stands-ahead}
 use Rattle.segment_stream.proofs.stream.Stream.look.Goals as goal
@@ -23,7 +23,7 @@ returns-then-i-self c = λ last b n st.
     let h = idle s.last s.progress s.tables s.input s.fed s.offered c.args.self.now c.self.view_is c.requires.idle c.self.invariant in
     let r = s.progress in
     let l = frames-counted r.position.mode (drop r.from (concat s.input)) r.position.offset s.tables r.first r.ready h.0.rest.consistent.counts in
-    let k = ap (λ (v : Streamed). v.kept.items) h.1 in
+    let k = ap (λ (v : SegmentView). v.kept.items) h.1 in
     let e = ap (λ items. slice_get items c.args.i) k ∙ stands-ahead c.args.self.now.kept last b n c.args.i (omega (arith, l, ap length k)) st in
     if_ok c.look_frame.result _ _ (c.look_frame.ensures.item s.last) (λ x g. g ∙ e)
 
@@ -34,9 +34,9 @@ returns c = λ last b n st.
     let r = s.progress in
     let tables = s.tables in
     let l = frames-counted r.position.mode (drop r.from (concat s.input)) r.position.offset tables r.first r.ready h.0.rest.consistent.counts in
-    let k = ap (λ (v : Streamed). length v.kept.items) h.1 in
+    let k = ap (λ (v : SegmentView). length v.kept.items) h.1 in
     let z = none-ready c.args.i r.ready (length c.args.self.now.kept.items) (omega arith) (omega arith) c.requires.ready in
     let t : State = state_of s.last r.position tables (concat s.input) in
     let q = front-item s.last r.position.mode r.position.offset r.from r.first r.ready r.want r.position.failed tables (concat s.input) c.in_ok-front.front h.0.rest.front z.1 c.in_ok-front.ensures.value in
     let y : n ≡ n + c.args.i = omega arith in
-    c.shown.ensures t refl ∙ sym q.0 ∙ ap (λ (v : Streamed). first_item segments v.kept) h.1 ∙ stands-item c.args.self.now.kept last b n st ∙ ap (slice_get (Items last b)) y
+    c.shown.ensures t refl ∙ sym q.0 ∙ ap (λ (v : SegmentView). first_item segments v.kept) h.1 ∙ stands-item c.args.self.now.kept last b n st ∙ ap (slice_get (Items last b)) y

@@ -2,7 +2,7 @@ use Rattle.std.proofs.Common.{◌≡◌, Option, None, IfOk, sym, subst}
 use Rattle.parser_loop.specs.Walk.{count_after}
 use Rattle.segment_stream.specs.declared.stream.Offered.{Offered}
 use Rattle.segment_stream.specs.Kept.{seen, with_tables}
-use Rattle.segment_stream.specs.Streams.{Stands, streamed, IsStreamAtRest, IsStream}
+use Rattle.segment_stream.specs.Streams.{Stands, segment_view, IsStreamAtRest, IsStream}
 use Rattle.segment_stream.proofs.StreamLaws.{idle, next-holds, next-item, next-stands, next-dry}
 use Rattle.segment_stream.proofs.stream.Stream.next.Goals as goal
 
@@ -33,7 +33,7 @@ returns-clause-stands c = λ last b n st.
     let new = c.next_on.new in
     let q = c.next_on.ensures in
     let p = next-stands c.next_on.result s.last new.last s.progress new.progress tables new.tables s.input new.input s.fed c.args.self.now h.1 last b n st q.item q.kept in
-    subst (λ (o : Option Offered). IfOk c.next_on.result (λ next. Stands (streamed new.last (with_tables new.progress new.tables) new.input s.fed o).kept last b (count_after n (seen next)))) (sym h.2) p
+    subst (λ (o : Option Offered). IfOk c.next_on.result (λ next. Stands (segment_view new.last (with_tables new.progress new.tables) new.input s.fed o).kept last b (count_after n (seen next)))) (sym h.2) p
 
 pub returns-clause-dry : goal.returns-clause-dry
 returns-clause-dry c =
@@ -43,4 +43,4 @@ returns-clause-dry c =
     let new = c.next_on.new in
     let q = c.next_on.ensures in
     let p = next-dry c.next_on.result s.last new.last s.progress new.progress tables new.tables s.input new.input s.fed c.args.self.now h.0 h.1 q.item q.kept q.rest q.pieces in
-    subst (λ (o : Option Offered). IfOk c.next_on.result (λ next. seen next ≡ None → streamed new.last (with_tables new.progress new.tables) new.input s.fed o ≡ c.args.self.now)) (sym h.2) p
+    subst (λ (o : Option Offered). IfOk c.next_on.result (λ next. seen next ≡ None → segment_view new.last (with_tables new.progress new.tables) new.input s.fed o ≡ c.args.self.now)) (sym h.2) p

@@ -1,6 +1,6 @@
 use Rattle.std.proofs.Common.{length, drop, ap, ◌∙◌, sym}
 use Rattle.std.specs.List.{concat}
-use Rattle.segment_stream.specs.Streams.{Streamed}
+use Rattle.segment_stream.specs.Streams.{SegmentView}
 use Rattle.segment_stream.proofs.StreamLaws.{idle, frames-counted, stands-count}
 use Rattle.segment_stream.proofs.stream.Stream.ready_frames.Goals as goal
 
@@ -9,11 +9,11 @@ returns-clause-kept c =
     let s = c.self.inside in
     let h = idle s.last s.progress s.tables s.input s.fed s.offered c.args.self.now c.self.view_is c.requires c.self.invariant in
     let r = s.progress in
-    sym (frames-counted r.position.mode (drop r.from (concat s.input)) r.position.offset s.tables r.first r.ready h.0.rest.consistent.counts) ∙ ap (λ (v : Streamed). length v.kept.items) h.1
+    sym (frames-counted r.position.mode (drop r.from (concat s.input)) r.position.offset s.tables r.first r.ready h.0.rest.consistent.counts) ∙ ap (λ (v : SegmentView). length v.kept.items) h.1
 
 pub returns-clause-ready : goal.returns-clause-ready
 returns-clause-ready c = λ last b n st.
     let s = c.self.inside in
     let h = idle s.last s.progress s.tables s.input s.fed s.offered c.args.self.now c.self.view_is c.requires c.self.invariant in
     let r = s.progress in
-    sym (frames-counted r.position.mode (drop r.from (concat s.input)) r.position.offset s.tables r.first r.ready h.0.rest.consistent.counts) ∙ ap (λ (v : Streamed). length v.kept.items) h.1 ∙ stands-count c.args.self.now.kept last b n st
+    sym (frames-counted r.position.mode (drop r.from (concat s.input)) r.position.offset s.tables r.first r.ready h.0.rest.consistent.counts) ∙ ap (λ (v : SegmentView). length v.kept.items) h.1 ∙ stands-count c.args.self.now.kept last b n st

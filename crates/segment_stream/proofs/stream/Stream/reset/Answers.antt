@@ -2,7 +2,7 @@ use Rattle.std.proofs.Common.{[], Option, ap, ◌∙◌, sym, subst}
 use Rattle.mse_base.specs.declared.track.Presentation.{Presentation}
 use Rattle.segment_stream.specs.declared.stream.Offered.{Offered}
 use Rattle.segment_stream.specs.Kept.{kept_of, with_tables}
-use Rattle.segment_stream.specs.Streams.{Streamed, Stands, streamed, IsStreamAtRest, IsStream}
+use Rattle.segment_stream.specs.Streams.{SegmentView, Stands, segment_view, IsStreamAtRest, IsStream}
 use Rattle.std.specs.List.{concat}
 use Rattle.segment_stream.proofs.StreamLaws.{idle, holds-start, stands-empty, stands-latest}
 use Rattle.segment_stream.proofs.stream.Stream.reset.Goals as goal
@@ -23,8 +23,8 @@ returns-clause-stands c =
     let tables = s.tables in
     let new = c.restart.new in
     let q : Stands (kept_of s.last new.progress tables (concat new.input)) s.last [] 0 = rw (c.restart.ensures.progress, c.restart.ensures.input) (stands-empty s.last tables) in
-    let p = subst (λ (o : Option Offered). Stands (streamed s.last (with_tables new.progress tables) new.input 0 o).kept s.last [] 0) (sym h.2) q in
-    subst (λ (last : Option Presentation). Stands (streamed s.last (with_tables new.progress tables) new.input 0 s.offered).kept last [] 0) (ap (λ (v : Streamed). v.kept.state.last) h.1) p
+    let p = subst (λ (o : Option Offered). Stands (segment_view s.last (with_tables new.progress tables) new.input 0 o).kept s.last [] 0) (sym h.2) q in
+    subst (λ (last : Option Presentation). Stands (segment_view s.last (with_tables new.progress tables) new.input 0 s.offered).kept last [] 0) (ap (λ (v : SegmentView). v.kept.state.last) h.1) p
 
 pub returns-clause-latest : goal.returns-clause-latest
 returns-clause-latest c = λ last b n st.
@@ -33,5 +33,5 @@ returns-clause-latest c = λ last b n st.
     let tables = s.tables in
     let new = c.restart.new in
     let q : Stands (kept_of s.last new.progress tables (concat new.input)) s.last [] 0 = rw (c.restart.ensures.progress, c.restart.ensures.input) (stands-empty s.last tables) in
-    let p = subst (λ (o : Option Offered). Stands (streamed s.last (with_tables new.progress tables) new.input 0 o).kept s.last [] 0) (sym h.2) q in
-    subst (λ (last : Option Presentation). Stands (streamed s.last (with_tables new.progress tables) new.input 0 s.offered).kept last [] 0) (ap (λ (v : Streamed). v.kept.state.last) h.1 ∙ stands-latest c.args.self.now.kept last b n st) p
+    let p = subst (λ (o : Option Offered). Stands (segment_view s.last (with_tables new.progress tables) new.input 0 o).kept s.last [] 0) (sym h.2) q in
+    subst (λ (last : Option Presentation). Stands (segment_view s.last (with_tables new.progress tables) new.input 0 s.offered).kept last [] 0) (ap (λ (v : SegmentView). v.kept.state.last) h.1 ∙ stands-latest c.args.self.now.kept last b n st) p

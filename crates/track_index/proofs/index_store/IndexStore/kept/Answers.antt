@@ -1,5 +1,5 @@
 use Rattle.std.proofs.Common.{List, subst, sym}
-use Rattle.mse_base.specs.Spans.{Bridged}
+use Rattle.mse_base.specs.Spans.{IsBridging}
 use Rattle.mse_base.specs.declared.span.Span.{Span}
 use Rattle.mse_base.proofs.Extended.{bridged_law}
 use Rattle.block_list.specs.Rows.{joined}
@@ -9,4 +9,4 @@ use Rattle.track_index.proofs.index_store.IndexStore.kept.Goals as goal
 pub returns-clause-bridged : goal.returns-clause-bridged
 returns-clause-bridged c =
     let fs = joined c.self.inside.items.rows in
-    rw (← c.self.view_is) (subst (λ (rs : List Span). Bridged c.self.inside.gap (intervals fs) rs) (sym c.self.invariant.joined) (bridged_law c.self.inside.gap (intervals fs) c.self.invariant.gap_from_zero))
+    rw (← c.self.view_is) (subst (λ (rs : List Span). IsBridging c.self.inside.gap (intervals fs) rs) (sym c.self.invariant.joined) (bridged_law c.self.inside.gap (intervals fs) c.self.invariant.gap_from_zero))

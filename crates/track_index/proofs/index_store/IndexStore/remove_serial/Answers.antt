@@ -4,9 +4,9 @@ use Rattle.block_list.specs.Rows.{joined, start}
 use Rattle.block_list.specs.Spots.{rank}
 use Rattle.track_store.specs.Frames.{bytes_of, has_serial, frames_left, intervals, IsTimed}
 use Rattle.track_store.proofs.Listing.{are_ranges}
-use Rattle.track_index.specs.declared.entry.Entry.{Entry}
+use Rattle.track_index.specs.declared.entry.OrderEntry.{OrderEntry}
 use Rattle.track_index.specs.Order.{ordered, span_of}
-use Rattle.track_index.specs.Repair.{Between}
+use Rattle.track_index.specs.Repair.{AreBetween}
 use Rattle.track_index.proofs.Ordering.{length_ordered}
 use Rattle.track_index.proofs.Keys.{keyed_of}
 use Rattle.track_index.proofs.Keeping.{timed_entries, indexed_removed}
@@ -60,7 +60,7 @@ mend_run-requires c =
       block = p.0;
       index = p.1;
       within = l;
-      between = subst (λ (ps : List Entry). Between c.self.inside.gap (map span_of ps) (intervals (take n (drop i fs))) c.self.inside.ranges.spans) (sym e) (between_run c.self.inside.gap fs i n c.self.inside.ranges.spans h.gap_from_zero h.joined);
+      between = subst (λ (ps : List OrderEntry). AreBetween c.self.inside.gap (map span_of ps) (intervals (take n (drop i fs))) c.self.inside.ranges.spans) (sym e) (between_run c.self.inside.gap fs i n c.self.inside.ranges.spans h.gap_from_zero h.joined);
     }
 
 pub remove_range-requires : goal.remove_range-requires

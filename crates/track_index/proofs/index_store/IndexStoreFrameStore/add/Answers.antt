@@ -3,7 +3,7 @@ use Rattle.mse_base.specs.declared.span.Span.{Span}
 use Rattle.mse_base.specs.Bridging.{ranges_with}
 use Rattle.block_list.specs.Rows.{joined}
 use Rattle.track_store.proofs.Listing.{few_ranges, are_ranges}
-use Rattle.track_index.specs.declared.entry.Entry.{Entry}
+use Rattle.track_index.specs.declared.entry.OrderEntry.{OrderEntry}
 use Rattle.track_index.specs.Order.{put, span_of}
 use Rattle.track_index.proofs.Keys.{keyed_of}
 use Rattle.track_index.proofs.Keeping.{indexed_added}
@@ -40,8 +40,8 @@ invariant_of-self c =
     let entry = c.entry_of-entry.ensures in
     indexed_added fs _ os _ c.self.inside.ranges.spans _ c.self.inside.gap c.self.inside.total _ _ _ x c.self.invariant next older (c.requires.dur_not_negative, c.requires.in_range) small
     c.push.ensures.items
-    (c.put.ensures.items ∙ ap (λ (e : Entry). put e os) entry)
-    (c.add_span.ensures.spans ∙ ap (λ (s : Span). ranges_with c.self.inside.gap c.self.inside.ranges.spans s) (c.span_of.ensures ∙ ap (λ (e : Entry). span_of e) entry))
+    (c.put.ensures.items ∙ ap (λ (e : OrderEntry). put e os) entry)
+    (c.add_span.ensures.spans ∙ ap (λ (s : Span). ranges_with c.self.inside.gap c.self.inside.ranges.spans s) (c.span_of.ensures ∙ ap (λ (e : OrderEntry). span_of e) entry))
     (ap (λ (n : ℕ). c.self.inside.total + n) c.len.ensures)
 
 pub returns-clause-spare : goal.returns-clause-spare

@@ -6,7 +6,7 @@ use Rattle.block_list.specs.Rows.{joined}
 use Rattle.track_store.specs.Frames.{frames_with_dur, IsTimed}
 use Rattle.track_store.proofs.Clearing.{kept-shortened}
 use Rattle.track_store.proofs.Listing.{are_ranges}
-use Rattle.track_index.specs.declared.entry.Entry.{Entry}
+use Rattle.track_index.specs.declared.entry.OrderEntry.{OrderEntry}
 use Rattle.track_index.specs.Order.{shorter, span_of}
 use Rattle.track_index.proofs.Ordering.{length_ordered}
 use Rattle.track_index.proofs.Keys.{keyed_of}
@@ -24,8 +24,8 @@ end_at-requires c =
     let value : x ≡ get_or fs c.args.i x = c.item.ensures ∙ ap (λ (n : ℕ). get_or fs n x) c.place-spot.ensures.place in
     let at = found_at fs c.args.i x within value in
     let less = rw (← c.self.view_is, at) at c.requires.shorter in
-    let tick = cut_tick x.frame.pts c.args.dur x.frame.dur (subst (λ (e : Entry). IsTick e.pts) c.entry_of-entry.ensures c.get-begins.ensures.in_range) less.0 less.1 (subst IsTimed (sym value) (each_at IsTimed fs c.args.i x within c.self.invariant.timed)).1 in
-    subst (λ (e : Entry). IsTick (e.pts +ℤ c.args.dur)) (sym c.entry_of-entry.ensures) tick
+    let tick = cut_tick x.frame.pts c.args.dur x.frame.dur (subst (λ (e : OrderEntry). IsTick e.pts) c.entry_of-entry.ensures c.get-begins.ensures.in_range) less.0 less.1 (subst IsTimed (sym value) (each_at IsTimed fs c.args.i x within c.self.invariant.timed)).1 in
+    subst (λ (e : OrderEntry). IsTick (e.pts +ℤ c.args.dur)) (sym c.entry_of-entry.ensures) tick
 
 pub shorten-requires-clause-keyed : goal.shorten-requires-clause-keyed
 shorten-requires-clause-keyed c = keyed_of (joined c.self.inside.order.rows) (joined c.self.inside.items.rows) c.self.invariant.in_order c.self.invariant.kept.ascending
@@ -66,8 +66,8 @@ mend-requires-clause-keyed c =
     let less = rw (← c.self.view_is, at) at c.requires.shorter in
     let os = joined c.self.inside.order.rows in
     let ps = joined c.shorten.new.self.rows in
-    let p : ps ≡ map (shorter x.serial c.args.dur) os = c.shorten.ensures.items ∙ ap (λ (e : Entry). map (shorter e.serial c.args.dur) os) c.entry_of-entry.ensures in
-    let tick = cut_tick x.frame.pts c.args.dur x.frame.dur (subst (λ (e : Entry). IsTick e.pts) c.entry_of-entry.ensures c.get-begins.ensures.in_range) less.0 less.1 (subst IsTimed (sym value) (each_at IsTimed fs c.args.i x within c.self.invariant.timed)).1 in
+    let p : ps ≡ map (shorter x.serial c.args.dur) os = c.shorten.ensures.items ∙ ap (λ (e : OrderEntry). map (shorter e.serial c.args.dur) os) c.entry_of-entry.ensures in
+    let tick = cut_tick x.frame.pts c.args.dur x.frame.dur (subst (λ (e : OrderEntry). IsTick e.pts) c.entry_of-entry.ensures c.get-begins.ensures.in_range) less.0 less.1 (subst IsTimed (sym value) (each_at IsTimed fs c.args.i x within c.self.invariant.timed)).1 in
     keyed_of ps (frames_with_dur x.serial c.args.dur fs) (order_cut c.args.dur x.serial fs os ps c.self.invariant.in_order p) (kept-shortened x.serial c.args.dur fs c.self.invariant.kept).ascending
 
 pub mend-requires-clause-timed : goal.mend-requires-clause-timed
@@ -80,8 +80,8 @@ mend-requires-clause-timed c =
     let less = rw (← c.self.view_is, at) at c.requires.shorter in
     let os = joined c.self.inside.order.rows in
     let ps = joined c.shorten.new.self.rows in
-    let p : ps ≡ map (shorter x.serial c.args.dur) os = c.shorten.ensures.items ∙ ap (λ (e : Entry). map (shorter e.serial c.args.dur) os) c.entry_of-entry.ensures in
-    let tick = cut_tick x.frame.pts c.args.dur x.frame.dur (subst (λ (e : Entry). IsTick e.pts) c.entry_of-entry.ensures c.get-begins.ensures.in_range) less.0 less.1 (subst IsTimed (sym value) (each_at IsTimed fs c.args.i x within c.self.invariant.timed)).1 in
+    let p : ps ≡ map (shorter x.serial c.args.dur) os = c.shorten.ensures.items ∙ ap (λ (e : OrderEntry). map (shorter e.serial c.args.dur) os) c.entry_of-entry.ensures in
+    let tick = cut_tick x.frame.pts c.args.dur x.frame.dur (subst (λ (e : OrderEntry). IsTick e.pts) c.entry_of-entry.ensures c.get-begins.ensures.in_range) less.0 less.1 (subst IsTimed (sym value) (each_at IsTimed fs c.args.i x within c.self.invariant.timed)).1 in
     timed_entries (frames_with_dur x.serial c.args.dur fs) ps (order_cut c.args.dur x.serial fs os ps c.self.invariant.in_order p) (timed_cut c.args.dur x fs c.args.i c.self.invariant.kept.ascending within value less.0 tick c.self.invariant.timed)
 
 pub invariant_of-self : goal.invariant_of-self
@@ -94,10 +94,10 @@ invariant_of-self c =
     let less = rw (← c.self.view_is, at) at c.requires.shorter in
     let os = joined c.self.inside.order.rows in
     let ps = joined c.shorten.new.self.rows in
-    let p : ps ≡ map (shorter x.serial c.args.dur) os = c.shorten.ensures.items ∙ ap (λ (e : Entry). map (shorter e.serial c.args.dur) os) c.entry_of-entry.ensures in
-    let tick = cut_tick x.frame.pts c.args.dur x.frame.dur (subst (λ (e : Entry). IsTick e.pts) c.entry_of-entry.ensures c.get-begins.ensures.in_range) less.0 less.1 (subst IsTimed (sym value) (each_at IsTimed fs c.args.i x within c.self.invariant.timed)).1 in
-    let start = c.end_at.ensures ∙ ap (λ (e : Entry). e.pts +ℤ c.args.dur) c.entry_of-entry.ensures in
-    let end = c.end_of.ensures ∙ ap (λ (e : Entry). e.pts +ℤ e.dur) c.entry_of-entry.ensures in
+    let p : ps ≡ map (shorter x.serial c.args.dur) os = c.shorten.ensures.items ∙ ap (λ (e : OrderEntry). map (shorter e.serial c.args.dur) os) c.entry_of-entry.ensures in
+    let tick = cut_tick x.frame.pts c.args.dur x.frame.dur (subst (λ (e : OrderEntry). IsTick e.pts) c.entry_of-entry.ensures c.get-begins.ensures.in_range) less.0 less.1 (subst IsTimed (sym value) (each_at IsTimed fs c.args.i x within c.self.invariant.timed)).1 in
+    let start = c.end_at.ensures ∙ ap (λ (e : OrderEntry). e.pts +ℤ c.args.dur) c.entry_of-entry.ensures in
+    let end = c.end_of.ensures ∙ ap (λ (e : OrderEntry). e.pts +ℤ e.dur) c.entry_of-entry.ensures in
     let hole : Span = record { start = c.end_at.result; end = c.end_of.result } in
     let own = own_entry fs os c.args.i x c.self.invariant.kept.ascending c.self.invariant.in_order within value in
     let between = between_cut c.self.inside.gap c.args.dur fs os ps c.self.inside.ranges.spans x hole own c.self.invariant.gap_from_zero less.0 less.1 start end c.self.invariant.joined c.self.invariant.in_order p in

@@ -3,7 +3,7 @@ use Rattle.block_list.specs.Rows.{joined, start}
 use Rattle.block_list.specs.Spots.{rank}
 use Rattle.block_list.proofs.Joining.{start_more, start_all}
 use Rattle.block_list.proofs.Cutting.{some_row}
-use Rattle.track_index.specs.declared.entry.Entry.{Entry}
+use Rattle.track_index.specs.declared.entry.OrderEntry.{OrderEntry}
 use Rattle.track_index.specs.Order.{last_start}
 use Rattle.track_index.proofs.Lookups.{last_at}
 use Rattle.track_index.proofs.order.Order.last_start.Goals as goal
@@ -33,4 +33,4 @@ returns c =
     let all = start_all rows n (omega (arith, c.blocks-n.ensures)) in
     let same : start rows (n - 1 + 1) ≡ start rows n = ap (start rows) z in
     let k : rank rows (record { block = n - 1; index = length c.block.result.now - 1 }) ≡ length (joined rows) - 1 = omega (arith, more, all, same, some, ap length c.block.ensures.value) in
-    ap (λ (o : Entry). Some o.pts) (c.item-entry.ensures ∙ ap (λ (i : ℕ). get_or (joined rows) i c.item-entry.result.now) k) ∙ last_at (joined rows) c.item-entry.result.now (omega (arith, more, all, same, some)) ∙ ap (λ w. last_start (joined w.rows)) c.self.view_is
+    ap (λ (o : OrderEntry). Some o.pts) (c.item-entry.ensures ∙ ap (λ (i : ℕ). get_or (joined rows) i c.item-entry.result.now) k) ∙ last_at (joined rows) c.item-entry.result.now (omega (arith, more, all, same, some)) ∙ ap (λ w. last_start (joined w.rows)) c.self.view_is

@@ -1,7 +1,7 @@
 use Rattle.std.proofs.Common.{◌∙◌, length, filter, not, ap, arith, None, vec_capacity}
 use Rattle.block_list.specs.Rows.{joined}
 use Rattle.block_list.specs.Spots.{rank}
-use Rattle.track_index.specs.declared.entry.Entry.{Entry}
+use Rattle.track_index.specs.declared.entry.OrderEntry.{OrderEntry}
 use Rattle.track_index.specs.Keyed.{has_entry_serial}
 use Rattle.track_index.proofs.Ending.{length_running}
 use Rattle.track_index.proofs.Keys.{taken_out}
@@ -23,7 +23,7 @@ refresh-requires c =
 pub returns-clause-items : goal.returns-clause-items
 returns-clause-items c =
     let os = joined c.self.inside.list.rows in
-    c.remove.ensures.items ∙ taken_out c.args.serial os (rank c.self.inside.list.rows c.place_of-spot.result) c.place_of-spot.ensures.names ∙ ap (λ w. filter (λ (o : Entry). not (has_entry_serial c.args.serial o)) (joined w.rows)) c.self.view_is
+    c.remove.ensures.items ∙ taken_out c.args.serial os (rank c.self.inside.list.rows c.place_of-spot.result) c.place_of-spot.ensures.names ∙ ap (λ w. filter (λ (o : OrderEntry). not (has_entry_serial c.args.serial o)) (joined w.rows)) c.self.view_is
 
 pub returns-clause-spare : goal.returns-clause-spare
 returns-clause-spare c =

@@ -27,17 +27,17 @@ pub record IsQuiet (st : State) : Type 0 where
 -- The entry is what a drain does next: an event is fired while there is one, else the lowest buffer
 -- that has work works one item, else the element takes a turn that is due. The calls of listeners
 -- are not its own.
-abbrev pub IsNext : State → Entry → Type 0
-IsNext st (Fired event) = slice_get st.outer.queue 0 ≡ Some event
-IsNext st (Work k) = (st.outer.queue ≡ []) × (running_in st ≡ Some k)
-IsNext st Element = IsQuiet st × (due_in st ≡ true)
-IsNext st (Listener w call answer) = ⊤
-IsNext st (Script call answer) = ⊥
-IsNext st (Step n) = ⊥
+abbrev pub IsNextStep : State → Entry → Type 0
+IsNextStep st (Fired event) = slice_get st.outer.queue 0 ≡ Some event
+IsNextStep st (Work k) = (st.outer.queue ≡ []) × (running_in st ≡ Some k)
+IsNextStep st Element = IsQuiet st × (due_in st ≡ true)
+IsNextStep st (Listener w call answer) = ⊤
+IsNextStep st (Script call answer) = ⊥
+IsNextStep st (Step n) = ⊥
 
 -- no event waits
-abbrev pub NoEvent : State → Type 0
-NoEvent st = st.outer.queue ≡ []
+abbrev pub HasNoEvent : State → Type 0
+HasNoEvent st = st.outer.queue ≡ []
 
 -- there is nothing left to do
 pub record IsAtRest (st : State) : Type 0 where
@@ -45,12 +45,12 @@ pub record IsAtRest (st : State) : Type 0 where
   pub due : due_in st ≡ false
 
 -- the entries come in the order in which a drain does things
-abbrev pub InDrainOrder : List (List ℕ) → State → List Entry → Type 0
-InDrainOrder blobs st [] = ⊤
-InDrainOrder blobs st (entry ∷ entries) =
-    IsNext st entry × InDrainOrder blobs (entry_meaning blobs st entry).state entries
+abbrev pub AreInDrainOrder : List (List ℕ) → State → List Entry → Type 0
+AreInDrainOrder blobs st [] = ⊤
+AreInDrainOrder blobs st (entry ∷ entries) =
+    IsNextStep st entry × AreInDrainOrder blobs (entry_meaning blobs st entry).state entries
 
 -- until nothing is left
 pub record IsDrain (blobs : List (List ℕ)) (st : State) (entries : List Entry) : Type 0 where
-  pub order : InDrainOrder blobs st entries
+  pub order : AreInDrainOrder blobs st entries
   pub end : IsAtRest (after_entries blobs st entries)

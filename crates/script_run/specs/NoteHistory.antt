@@ -18,16 +18,16 @@ until_fired (Work k ∷ entries) = Work k ∷ until_fired entries
 until_fired (Element ∷ entries) = Element ∷ until_fired entries
 
 -- the notes of listener `w`: one part for each event, of the calls between it and the next
-abbrev pub story : ℕ → List Entry → List Note
-story w [] = []
-story w (Fired event ∷ entries) = event_notes event w (until_fired entries) ++ story w entries
-story w (Step n ∷ entries) = story w entries
-story w (Script call answer ∷ entries) = story w entries
-story w (Listener v call answer ∷ entries) = story w entries
-story w (Work k ∷ entries) = story w entries
-story w (Element ∷ entries) = story w entries
+abbrev pub note_history : ℕ → List Entry → List Note
+note_history w [] = []
+note_history w (Fired event ∷ entries) = event_notes event w (until_fired entries) ++ note_history w entries
+note_history w (Step n ∷ entries) = note_history w entries
+note_history w (Script call answer ∷ entries) = note_history w entries
+note_history w (Listener v call answer ∷ entries) = note_history w entries
+note_history w (Work k ∷ entries) = note_history w entries
+note_history w (Element ∷ entries) = note_history w entries
 
 -- the notes of each listener grew by what the journal tells of it
-pub record HeardAll (entries : List Entry) (old new : List (List Note)) : Type 0 where
+pub record IsAllHeard (entries : List Entry) (old new : List (List Note)) : Type 0 where
   pub count : length new ≡ length old
-  pub notes : (w : ℕ) → w < length old → notes_at new w ≡ notes_at old w ++ story w entries
+  pub notes : (w : ℕ) → w < length old → notes_at new w ≡ notes_at old w ++ note_history w entries

@@ -14,13 +14,13 @@ abbrev pub printed_run : RunView → Option (List ℕ) → PrintedRun
 printed_run run written = record { run = run; written = written }
 
 -- and with the notes of each listener
-pub record Stage : Type 0 where
+pub record RunState : Type 0 where
   pub run : RunView
   pub written : Option (List ℕ)
   pub notes : List (List Note)
 
-abbrev pub stage : RunView → Option (List ℕ) → List (List Note) → Stage
-stage run written notes = record { run = run; written = written; notes = notes }
+abbrev pub run_at : RunView → Option (List ℕ) → List (List Note) → RunState
+run_at run written notes = record { run = run; written = written; notes = notes }
 
 -- what is kept stands for some state
 pub record IsStanding (k : Kept) : Type 0 where

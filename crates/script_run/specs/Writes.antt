@@ -6,13 +6,13 @@ use Rattle.script_run.specs.declared.stop.Halt.{Halt}
 use Rattle.script_run.specs.declared.stop.Halt.TheVariants.{Memory, Write}
 
 -- where the written bytes are told, these came
-abbrev pub Wrote : List ℕ → Option (List ℕ) → Option (List ℕ) → Type 0
-Wrote bytes old new = IfSome old (λ before. new ≡ Some (before ++ bytes))
+abbrev pub IsWritten : List ℕ → Option (List ℕ) → Option (List ℕ) → Type 0
+IsWritten bytes old new = IfSome old (λ before. new ≡ Some (before ++ bytes))
 
 -- where they are told, a front part of these came
-abbrev pub WroteFront : List ℕ → Option (List ℕ) → Option (List ℕ) → Type 0
-WroteFront bytes old new =
-    (front : List ℕ) × (rest : List ℕ) × (bytes ≡ front ++ rest) × Wrote front old new
+abbrev pub IsFrontWritten : List ℕ → Option (List ℕ) → Option (List ℕ) → Type 0
+IsFrontWritten bytes old new =
+    (front : List ℕ) × (rest : List ℕ) × (bytes ≡ front ++ rest) × IsWritten front old new
 
 -- what a run makes of the answer to a put
 abbrev pub halt_of : Put → Result (Unit {0}) Halt

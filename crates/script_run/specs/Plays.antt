@@ -1,0 +1,170 @@
+-- A part of a run.
+use Rattle.std.specs.Prelude.{◌≡◌, ◌⊎◌, ℕ, ◌+◌, Bool, true, false, List, [], ◌∷◌, ◌++◌, length, Option, Some, None, Result, Ok, Err}
+use Rattle.mse_calls.specs.declared.answers.Answer.{Answer}
+use Rattle.mse_calls.specs.declared.calls.Call.{Call}
+use Rattle.mse_calls.specs.declared.events.Event.{Event}
+use Rattle.mse_calls.specs.declared.entry.Entry.{Entry}
+use Rattle.mse_calls.specs.declared.entry.Entry.TheVariants.{Script, Fired}
+use Rattle.listeners.specs.declared.listener.Note.{Note}
+use Rattle.listeners.specs.declared.event_dispatch.DispatchFault.{DispatchFault}
+use Rattle.listeners.specs.declared.event_dispatch.DispatchFault.TheVariants as fault
+use Rattle.listeners.specs.Dispatch.{CallsInTurn, EndsAt, dispatch_end}
+use Rattle.listeners.specs.Views.{RunView}
+use Rattle.event_text.specs.Lines.{line_text}
+use Rattle.mse_engine.specs.State.{State}
+use Rattle.mse_engine.specs.Standing.{Stands}
+use Rattle.mse_engine.specs.Transitions.{IsTransition}
+use Rattle.script_run.specs.declared.stop.Halt.{Halt}
+use Rattle.script_run.specs.declared.stop.Halt.TheVariants as halt
+use Rattle.script_run.specs.declared.stop.Stop.{Stop}
+use Rattle.script_run.specs.declared.stop.Stop.TheVariants.{Halted, CallBudget, TaskBudget}
+use Rattle.script_run.specs.RunParts.{RunPart, EntryRelation}
+use Rattle.script_run.specs.DrainSteps.{AreInDrainOrder, MachineStep, HasNoEvent}
+use Rattle.script_run.specs.RunStates.{PrintedRun, RunState}
+use Rattle.script_run.specs.NoteHistory.{IsAllHeard}
+use Rattle.script_run.specs.Text.{lines_of}
+use Rattle.script_run.specs.Turns.{AreInTurn, IsSpent, calls_in}
+use Rattle.script_run.specs.Writes.{IsWritten, IsFrontWritten}
+
+-- entries came, which the engine went by, and no listener called
+pub record IsOwnStep (blobs : List (List ℕ)) (entries : List Entry) (old new : RunView) : Type 0 where
+  pub grew : new.entries ≡ old.entries ++ entries
+  pub goes : IsTransition blobs old.engine new.engine entries
+  pub left : new.left ≡ old.left
+
+-- a part of a drain of which no listener heard
+pub record Drains (blobs : List (List ℕ)) (old new : RunView) : Type 0 where
+  pub entries : List Entry
+  pub stepped : IsOwnStep blobs entries old new
+  pub order : (st : State) → Stands old.engine st → AreInDrainOrder blobs st entries
+  pub silent : calls_in entries ≡ 0
+
+-- the entry of a step came where there was something to do; else nothing changed
+abbrev pub IsOwnStepIf : List (List ℕ) → MachineStep → RunView → RunView → Bool → Type 0
+IsOwnStepIf blobs step old new true = IsOwnStep blobs (step.entry ∷ []) old new
+IsOwnStepIf blobs step old new false =
+    (new ≡ old) × ((st : State) → Stands old.engine st → step.after st ≡ None)
+
+-- the first event was fired; or there was none, and nothing changed
+abbrev pub IsEventTaken : List (List ℕ) → RunView → RunView → Option Event → Type 0
+IsEventTaken blobs old new (Some event) = IsOwnStep blobs (Fired event ∷ []) old new
+IsEventTaken blobs old new None = (new ≡ old) × ((st : State) → Stands old.engine st → HasNoEvent st)
+
+-- the journal grew by entries of a part, which the engine went by
+pub record HasGrown (blobs : List (List ℕ)) (does : EntryRelation) (old new : RunView)
+    (entries : List Entry) : Type 0 where
+  pub grew : new.entries ≡ old.entries ++ entries
+  pub goes : IsTransition blobs old.engine new.engine entries
+  pub holds : (st : State) → Stands old.engine st → does st entries
+
+-- a part went through: all its lines were written, and each listener heard each event and answered
+-- it in its turn
+pub record IsPlayed (blobs : List (List ℕ)) (does : EntryRelation) (old new : RunState) : Type 0 where
+  pub entries : List Entry
+  pub grew : HasGrown blobs does old.run new.run entries
+  pub turns : AreInTurn (length old.notes) None entries
+  pub wrote : IsWritten (lines_of entries) old.written new.written
+  pub heard : IsAllHeard entries old.notes new.notes
+
+-- and the calls that listeners made were taken off what is left
+pub record IsPlayedInLine (blobs : List (List ℕ)) (does : EntryRelation) (old new : RunState) : Type 0 where
+  pub played : IsPlayed blobs does old new
+  pub left : old.run.left ≡ new.run.left + calls_in played.entries
+
+-- The dispatch of the last event ended with a fault; the entries behind it are its calls. Whether
+-- no call was left to the listeners, these entries alone do not tell.
+pub record IsDispatchCut (fault : DispatchFault) (entries : List Entry)
+    (old new : List (List Note)) : Type 0 where
+  pub before : List Entry
+  pub event : Event
+  pub calls : List Entry
+  pub middle : List (List Note)
+  pub entries_are : entries ≡ before ++ Fired event ∷ calls
+  pub heard : IsAllHeard before old middle
+  pub in_turn : CallsInTurn 0 (length middle) calls
+  pub count : length new ≡ length middle
+  pub end : EndsAt event (dispatch_end calls 0 middle new) fault
+
+-- A listener answered a call beyond a limit, for which a run stops so. `spent` says of entries that
+-- listeners may make no further call.
+abbrev pub IsOverLimit : (List Entry → Type 0) → Stop → List Entry
+    → List (List Note) → List (List Note) → Type 0
+IsOverLimit spent (CallBudget k) entries old new = IsDispatchCut (fault.CallBudget k) entries old new
+IsOverLimit spent TaskBudget entries old new =
+    spent entries × IsDispatchCut fault.TaskBudget entries old new
+IsOverLimit spent (Halted halt) entries old new = ⊥
+
+-- What was heard where memory or the sink was wanting: each listener heard each event, but that
+-- memory may have been wanting in the dispatch of the last one, or, where the sink was wanting, that
+-- this dispatch may have ended at a limit.
+abbrev pub IsHeardUpTo : (List Entry → Type 0) → Halt → List Entry
+    → List (List Note) → List (List Note) → Type 0
+IsHeardUpTo spent halt.Memory entries old new =
+    IsAllHeard entries old new ⊎ IsDispatchCut fault.OutOfMemory entries old new
+IsHeardUpTo spent halt.Write entries old new =
+    IsAllHeard entries old new ⊎ ((stop : Stop) × IsOverLimit spent stop entries old new)
+
+-- what was written and heard where a part stopped so
+abbrev pub IsStoppedBy : (List Entry → Type 0) → Stop → List Entry → RunState → RunState → Type 0
+IsStoppedBy spent (Halted halt) entries old new =
+    IsFrontWritten (lines_of entries) old.written new.written
+    × IsHeardUpTo spent halt entries old.notes new.notes
+IsStoppedBy spent stop entries old new =
+    IsWritten (lines_of entries) old.written new.written
+    × IsOverLimit spent stop entries old.notes new.notes
+
+-- a front of a part, and what says of its entries that listeners may make no further call
+pub record PartFront : Type 1 where
+  pub begins : EntryRelation
+  pub spent : List Entry → Type 0
+
+abbrev pub part_front : EntryRelation → (List Entry → Type 0) → PartFront
+part_front begins spent = record { begins = begins; spent = spent }
+
+-- a part stopped: the entries are those of a front of it
+pub record IsPlayedUpTo (blobs : List (List ℕ)) (front : PartFront) (stop : Stop)
+    (old new : RunState) : Type 0 where
+  pub entries : List Entry
+  pub grew : HasGrown blobs front.begins old.run new.run entries
+  pub turns : AreInTurn (length old.notes) None entries
+  pub stopped : IsStoppedBy front.spent stop entries old new
+
+-- in a line, in which so many calls were left
+pub record IsPlayedInLineUpTo (blobs : List (List ℕ)) (begins : EntryRelation) (stop : Stop)
+    (old new : RunState) : Type 0 where
+  pub played : IsPlayedUpTo blobs (part_front begins (IsSpent old.run.left)) stop old new
+  pub left : old.run.left ≡ new.run.left + calls_in played.entries
+
+-- a part or a front of it, by how it ended
+abbrev pub IsPlayedBy : {A : Type 0} → (List Entry → Type 0) → RunPart
+    → RunState → RunState → Result A Stop → Type 0
+IsPlayedBy spent course old new (Ok x) = IsPlayed course.blobs course.does old new
+IsPlayedBy spent course old new (Err stop) =
+    IsPlayedUpTo course.blobs (part_front course.begins spent) stop old new
+
+abbrev pub IsPlayedInLineBy : {A : Type 0} → RunPart → RunState → RunState → Result A Stop → Type 0
+IsPlayedInLineBy course old new (Ok x) = IsPlayedInLine course.blobs course.does old new
+IsPlayedInLineBy course old new (Err stop) = IsPlayedInLineUpTo course.blobs course.begins stop old new
+
+-- a call of the script was made, and its line was written
+pub record IsCallMade (blobs : List (List ℕ)) (call : Call) (old new : PrintedRun) : Type 0 where
+  pub answer : Answer
+  pub stepped : IsOwnStep blobs (Script call answer ∷ []) old.run new.run
+  pub wrote : IsWritten (line_text (Script call answer)) old.written new.written
+
+-- a front of its line was written
+pub record IsCallHalfWritten (blobs : List (List ℕ)) (call : Call) (old new : PrintedRun) : Type 0 where
+  pub answer : Answer
+  pub stepped : IsOwnStep blobs (Script call answer ∷ []) old.run new.run
+  pub wrote : IsFrontWritten (line_text (Script call answer)) old.written new.written
+
+-- it was not made, or a front of its line was written
+abbrev pub IsCallHalted : List (List ℕ) → Call → PrintedRun → PrintedRun → Type 0
+IsCallHalted blobs call old new =
+    ((new.run ≡ old.run) × (new.written ≡ old.written)) ⊎ IsCallHalfWritten blobs call old new
+
+-- the stop that a fault of a dispatch is
+abbrev pub stop_of : DispatchFault → Stop
+stop_of fault.OutOfMemory = Halted halt.Memory
+stop_of (fault.CallBudget k) = CallBudget k
+stop_of fault.TaskBudget = TaskBudget
