@@ -4,10 +4,13 @@
     make.py samples COUNT SIZE FILE   COUNT samples of one video track in B-frame order, of SIZE bytes on average
     make.py bytes COUNT SIZE FILE     COUNT samples of SIZE bytes each
     make.py classic COUNT SIZE FILE   COUNT samples in B-frame order, of SIZE bytes on average, as a classic file
+    make.py tracks TRACKS COUNT FILE  COUNT samples of 16 bytes, of each track in turn a hundred
+    make.py turns TRACKS COUNT FILE   the same, of each track in turn one
     make.py store CASE COUNT FILE     COUNT samples that come as CASE says: twice, sound-twice, backwards, gaps-filled,
                                       gaps-backwards, random
 
-The initialization segment is that of examples/plain.mp4: one video track, number 1, 90000 units a second. A media
+The initialization segment is that of examples/plain.mp4: one video track, number 1, 90000 units a second; where there are
+more tracks, they are like it. A media
 segment, or a chunk of a classic file, has at most 100 samples of 3000 units; each tenth sample is a random access point.
 """
 import os
@@ -119,6 +122,16 @@ def store(case, count):
     sys.exit(f"no case {case}")
 
 
+# so many tracks, of each of which a movie fragment has so many samples
+def tracks(number, count, per_fragment):
+    make = maker()
+    numbers = range(1, number + 1)
+    yield make.FTYP + make.moov(*(make.Track(track, b"vide", 90000, b"avc1") for track in numbers), following=number + 1)
+    for at in range(count // number // per_fragment):
+        start, samples = at * per_fragment * UNITS, make.sounds(per_fragment)
+        yield make.segment(at + 1, *(make.Run(track, start, UNITS, samples, size=16) for track in numbers))
+
+
 def main():
     command = sys.argv[1]
     if command == "samples":
@@ -127,6 +140,10 @@ def main():
     elif command == "bytes":
         count, size = int(sys.argv[2]), int(sys.argv[3])
         write(sys.argv[4], parts(count, 10, lambda i: size))
+    elif command in ("tracks", "turns"):
+        with open(sys.argv[4], "wb") as out:
+            for part in tracks(int(sys.argv[2]), int(sys.argv[3]), PER_CHUNK if command == "tracks" else 1):
+                out.write(part)
     elif command == "classic":
         count, size = int(sys.argv[2]), int(sys.argv[3])
         with open(sys.argv[4], "wb") as out:

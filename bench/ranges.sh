@@ -16,6 +16,10 @@ python3 "$here/make.py" samples 300000 40 small.mp4
 python3 "$here/make.py" samples 30000 40 tenth.mp4
 python3 "$here/make.py" samples 300000 200 medium.mp4
 python3 "$here/make.py" bytes 2500 40000 large.mp4
+for way in tracks turns; do
+    python3 "$here/make.py" $way 1 300000 $way-1.mp4
+    python3 "$here/make.py" $way 64 300000 $way-64.mp4
+done
 python3 "$here/make.py" samples 4600 200 1m.mp4
 python3 "$here/make.py" samples 9200 200 2m.mp4
 if command -v rustc >/dev/null; then
@@ -83,6 +87,10 @@ for name, file in FILES:
 many = show("ranges, 300,000 samples", [program, "ranges", "small.mp4"])
 tenth = show("ranges, 30,000 samples", [program, "ranges", "tenth.mp4"])
 print(f"ten times the samples: {many / tenth:.1f} times the time")
+for way, name in ("tracks", "a hundred"), ("turns", "one"):
+    one = show(f"ranges, of one track {name}", [program, "ranges", f"{way}-1.mp4"])
+    more = show(f"ranges, of 64 tracks {name} each", [program, "ranges", f"{way}-64.mp4"])
+    print(f"of 64 tracks {name} each in turn: {more / one:.2f} times those of one track")
 one = show("pieces 1, 1 MB", [program, "pieces", "1", "1m.mp4"])
 two = show("pieces 1, 2 MB", [program, "pieces", "1", "2m.mp4"])
 print(f"pieces 1, twice the bytes: {two / one:.2f} times the time")

@@ -215,6 +215,8 @@ fn frame_turn<S: FrameStore>(
     // that the stream stands for some string is used where the frame is taken
     stream.stands();
     let (frame, offset) = stream.next_frame()?;
+    // the end of the step looks up what is buffered at the position
+    media.watch(around.position);
     match media.process(frame, around.duration) {
         MediaEffect::Done(effect) => Ok(effect_reply(false, effect, Changes::new())),
         MediaEffect::AppendError(fault, effect) => {

@@ -19,4 +19,4 @@ mod storing;
 mod timing;
 
 pub use answer::{Placed, Why};
-pub use processing::place;
+pub use processing::{place, place_with_used};

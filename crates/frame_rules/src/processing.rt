@@ -71,13 +71,14 @@ fn is_over_limit(received: u64, bytes: u64, more: usize) -> bool
     received == 1 << 62 || (1 << 62) - bytes <= more as u64
 }
 
-fn is_full<S: FrameStore>(tracks: &Tracks<S>, index: usize, more: usize) -> bool
-    requires { bytes_in (states_of S.frames tracks.now.items) < 2 ^ 62 }
+fn is_full<S: FrameStore>(tracks: &Tracks<S>, index: usize, used: u64, more: usize) -> bool
+    requires used { used ≡ bytes_in (states_of S.frames tracks.now.items) }
+    requires small { bytes_in (states_of S.frames tracks.now.items) < 2 ^ 62 }
     ensures { IfSome (slice_get tracks.now.items index) (λ t. result
         ≡ is_over_limit t.marks.received (bytes_in (states_of S.frames tracks.now.items)) more) }
 {
     match tracks.get(index) {
-        Some(track) => is_over_limit(track.marks.received, tracks.used(), more),
+        Some(track) => is_over_limit(track.marks.received, used, more),
         None => true,
     }
 }
@@ -276,6 +277,46 @@ fn place_below_limits<S: FrameStore>(
     }
 }
 
+/// The same as [`place`], where `used` is the number of bytes of all stored frames, so that no store
+/// but that of the track is asked.
+pub fn place_with_used<S: FrameStore>(
+    tracks: &mut Tracks<S>,
+    settings: &mut Settings,
+    index: usize,
+    frame: CodedFrame,
+    used: u64,
+) -> Placed
+    requires used { used ≡ bytes_in (states_of S.frames tracks.old.items) }
+    requires in_range { index < length tracks.old.items }
+    requires spare { IfSome (slice_get tracks.old.items index) (λ t. 1 ≤ S.spare t.store) }
+    requires sound { IfSome (slice_get (states_of S.frames tracks.old.items) index) IsSound }
+    requires small { bytes_in (states_of S.frames tracks.old.items) < 2 ^ 62 }
+    requires window_start { pos 0 ≤ℤ settings.old.window_start }
+    requires dur_not_negative { pos 0 ≤ℤ frame.dur }
+    ensures placement { new_placement result (states_of S.frames tracks.new.items) settings.new
+        ≡ placement (states_of S.frames tracks.old.items) settings.old index frame }
+    ensures sound { AreStillSound (states_of S.frames tracks.old.items)
+        (states_of S.frames tracks.new.items) }
+    ensures small { bytes_in (states_of S.frames tracks.new.items) < 2 ^ 62 }
+    ensures kept { AreKept (states_of S.frames tracks.old.items)
+        → AreKept (states_of S.frames tracks.new.items) }
+    ensures window_start { pos 0 ≤ℤ settings.new.window_start }
+    ensures ends { (limit : ℤ) → AreEndedBy limit (states_of S.frames tracks.old.items)
+        → AreEndedBy (limit_after result limit settings.new.group_end)
+        (states_of S.frames tracks.new.items) }
+    ensures spare { IsRoomTakenAt S.spare index tracks.old.items tracks.new.items }
+    ensures room { (n : ℕ) → HasSpareRoom S.spare (n + 1) tracks.old.items
+        → HasSpareRoom S.spare n tracks.new.items }
+    ensures gaps { gaps_of S.gap tracks.new.items ≡ gaps_of S.gap tracks.old.items }
+    ensures len { length tracks.new.items ≡ length tracks.old.items }
+    ensures places { tracks.new.spare ≡ tracks.old.spare }
+{
+    if is_full(tracks, index, used, frame.payload.len()) {
+        return Placed::Counts;
+    }
+    place_below_limits(tracks, settings, index, frame)
+}
+
 /// Processes a coded frame of the track at place `index` (Media Source Extensions, 3.5.8, step 1).
 /// It needs no memory: the track's store has room for the frame. Its room falls by one frame at
 /// most, that of the other stores does not fall, and the places for further tracks stay.
@@ -313,8 +354,6 @@ pub fn place<S: FrameStore>(
     ensures len { length tracks.new.items ≡ length tracks.old.items }
     ensures places { tracks.new.spare ≡ tracks.old.spare }
 {
-    if is_full(tracks, index, frame.payload.len()) {
-        return Placed::Counts;
-    }
-    place_below_limits(tracks, settings, index, frame)
+    let used = tracks.used();
+    place_with_used(tracks, settings, index, frame, used)
 }

@@ -1,12 +1,11 @@
 -- Durations within which frames end.
-use Rattle.std.proofs.Common.{◌≡◌, ◌∙◌, ℤ, pos, ◌+ℤ◌, ◌≤ℤ◌, List, [], ◌∷◌, ◌++◌, map, fold, Option, Some, None, refl, sym, ap, subst, arith}
+use Rattle.std.proofs.Common.{◌≡◌, ◌∙◌, ℤ, ◌+ℤ◌, ◌≤ℤ◌, List, [], ◌∷◌, ◌++◌, fold, Some, None, refl, sym, ap, subst, arith}
 use Rattle.std.specs.List.{AllByRecursion, flat_map}
 use Rattle.std.specs.Int.{int_max}
 use Rattle.std.proofs.lemmas.Int.{ints}
 use Rattle.mse_base.specs.declared.ticks.Moment.{Moment}
 use Rattle.mse_base.specs.declared.ticks.Moment.TheVariants.{Nan, At, Infinite}
 use Rattle.mse_base.specs.Moments.{greater_of, greatest, greater_moment}
-use Rattle.mse_base.specs.declared.frame.CodedFrame.{CodedFrame}
 use Rattle.mse_base.specs.declared.track.Presentation.{Presentation}
 use Rattle.track_store.specs.declared.store.Stored.{Stored}
 use Rattle.track_store.specs.Frames.{ends}
@@ -16,8 +15,8 @@ use Rattle.track_buffers.specs.declared.effects.SourceEffect.{SourceEffect}
 use Rattle.track_buffers.specs.Media.{Media, EndsWithin, IsNotAfter, no_effect, with_duration}
 use Rattle.track_buffers.specs.Initialized.{segment_effect}
 use Rattle.track_buffers.specs.Frames.{highest_end_in}
-use Rattle.track_buffers.proofs.Keeping.{ends_none, endby_none, ends_told}
-use Rattle.track_buffers.proofs.Framing.{changed_is, max_self}
+use Rattle.track_buffers.proofs.Keeping.{ends_none, ends_told}
+use Rattle.track_buffers.proofs.Framing.{changed_is}
 
 -- ---- of two times
 

@@ -16,3 +16,7 @@ pub mod Renewing
 pub mod Highest
 pub mod Ended
 pub mod Steady
+pub mod Placing
+pub mod Watching
+pub mod Ahead
+pub mod Using

@@ -1,13 +1,12 @@
 -- Ranges that tracks share, and last ranges that grow.
-use Rattle.std.proofs.Common.{◌≡◌, ◌≢◌, ℕ, ℤ, zero, suc, ◌+◌, ◌<◌, ◌≤◌, Bool, true, false, cond, ◌&&◌, ◌||◌, List, [], ◌∷◌, ◌++◌, length, map, take, fold, slice_get, Option, Some, None, Result, Ok, Err, refl, sym, ap, ◌∙◌, subst, arith, pos, ◌+ℤ◌, ◌≤ℤ◌, ◌<ℤ◌, int_lt, int_le}
-use Rattle.std.specs.List.{AllByRecursion, flat_map}
+use Rattle.std.proofs.Common.{◌≡◌, ◌≢◌, ℕ, ℤ, zero, suc, ◌+◌, ◌<◌, ◌≤◌, Bool, true, false, cond, ◌||◌, List, [], ◌∷◌, ◌++◌, length, map, take, slice_get, Option, Some, None, Result, Ok, Err, refl, sym, ap, ◌∙◌, subst, arith, pos, ◌+ℤ◌, ◌≤ℤ◌, ◌<ℤ◌, int_le}
+use Rattle.std.specs.List.{AllByRecursion}
 use Rattle.std.specs.Option.{IfSome, option_to_list}
 use Rattle.std.specs.Result.{IfOk}
 use Rattle.std.specs.Int.{int_max}
 use Rattle.std.proofs.lemmas.Int.{ints}
-use Rattle.std.proofs.lemmas.List.Sums.{fold-append}
 use Rattle.mse_base.specs.declared.span.Span.{Span}
-use Rattle.mse_base.specs.Bridging.{overlap, is_empty, is_far_before, span_round, ranges_with_lasting, ranges_with, IsRanges}
+use Rattle.mse_base.specs.Bridging.{is_empty, is_far_before, span_round, ranges_with_lasting, ranges_with, IsRanges}
 use Rattle.mse_base.specs.Spans.{RangesView, has_tick, covers, StartsAfter, IsNormalized, IsUnion, IsIntersection, last_from, last_of}
 use Rattle.mse_base.proofs.Sets.{covers-append}
 use Rattle.mse_base.proofs.Extended.{normalized_ranges}
@@ -22,7 +21,7 @@ use Rattle.track_store.specs.State.{TrackState, states_of}
 use Rattle.track_buffers.specs.Media.{Media}
 use Rattle.mse_base.specs.Meets.{meet, meet_of_all}
 use Rattle.mse_base.proofs.Meeting.{met_meet, all_normalized, covers-all, meet_push}
-use Rattle.track_buffers.specs.Buffered.{last_end, last_ends, with_last_end, with_end, with_common_end, last_up_to, track_ranges, buffered_of, all_cover, IsBuffered, ranges_in}
+use Rattle.track_buffers.specs.Buffered.{last_end, last_ends, with_last_end, with_end, with_common_end, last_up_to, track_ranges, buffered_of, IsBuffered, ranges_in}
 use Rattle.track_buffers.proofs.Loops.{found_at}
 
 -- ---- normalized lists

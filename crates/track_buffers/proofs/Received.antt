@@ -1,5 +1,5 @@
 -- An initialization segment leaves the buffered ranges, and it alone is told as received.
-use Rattle.std.proofs.Common.{◌≡◌, ◌∙◌, ℕ, ◌+◌, ℤ, Bool, true, false, cond, ◌||◌, List, [], ◌∷◌, map, fold, refl, ap, subst}
+use Rattle.std.proofs.Common.{◌≡◌, ◌∙◌, ℕ, ◌+◌, ℤ, Bool, true, false, cond, List, [], ◌∷◌, map, fold, refl, ap, subst}
 use Rattle.std.specs.Prelude.{Option, Some, None}
 use Rattle.mse_base.specs.declared.frame.CodedFrame.{CodedFrame}
 use Rattle.mse_base.specs.declared.span.Span.{Span}
@@ -17,7 +17,7 @@ use Rattle.frame_rules.specs.declared.answer.Placed.TheVariants as placed_as
 use Rattle.frame_rules.specs.Place.{placement}
 use Rattle.track_buffers.specs.declared.effects.SourceEffect.{SourceEffect}
 use Rattle.track_buffers.specs.declared.effects.MediaFault.{MediaFault}
-use Rattle.track_buffers.specs.Media.{Media, MediaResult, Done, AppendError, effect_of, is_empty_list, awaits_first, no_effect, with_duration}
+use Rattle.track_buffers.specs.Media.{Media, Done, AppendError, effect_of, is_empty_list, awaits_first, no_effect, with_duration}
 use Rattle.track_buffers.specs.Initialized.{partner_of, track_with_partner, new_track, tracks_after, media_tracks, init_fault, init_result, init_result_of, segment_effect}
 use Rattle.track_buffers.specs.Frames.{place_of, placement_result, frame_result, frame_result_at}
 use Rattle.track_buffers.specs.Buffered.{last_ends, with_end, with_common_end, buffered_of}

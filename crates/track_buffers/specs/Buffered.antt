@@ -1,5 +1,5 @@
 -- The buffered ranges of a source buffer (Media Source Extensions, 3.1, buffered).
-use Rattle.std.specs.Prelude.{◌≡◌, ◌≢◌, ℤ, Bool, true, false, List, [], ◌∷◌, map, fold, flat_map, Option, Some, None, option_map, option_to_list}
+use Rattle.std.specs.Prelude.{◌≡◌, ◌≢◌, ℤ, Bool, true, false, List, [], ◌∷◌, map, flat_map, Option, Some, None, option_map, option_to_list}
 use Rattle.std.specs.Int.{int_max}
 use Rattle.std.specs.List.{list_all}
 use Rattle.mse_base.specs.declared.span.Span.{Span}

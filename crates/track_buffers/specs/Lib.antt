@@ -6,3 +6,5 @@ pub mod Buffered
 pub mod Effects
 pub mod Views
 pub mod Extended
+pub mod Ahead
+pub mod Watching

@@ -15,11 +15,12 @@ ghost use Rattle.track_buffers.specs.Views.{track_views_of};
 
 use crate::buffered::buffered_of;
 use crate::effects::{MediaEffect, MediaFault, SourceEffect, effect_of_both, no_effect};
-use crate::frames::{place_of, process_at, unset_all};
-use crate::holding::{ended_last_span, span_holding};
+use crate::frames::{TrackPlace, place_from, process_at, unset_all};
+use crate::holding::ended_last_span;
 use crate::incoming::{init_fault, segment_effect, take_tracks};
-use crate::looks::{highest_end, highest_start, track_views};
-use crate::rooms::reserve_ahead;
+use crate::looks::{highest_end, highest_start, track_views, used_at};
+use crate::rooms::{Ahead, reserve_ahead};
+use crate::watch::{Watch, is_watched, own_span, watch_after, watch_of, watched_span};
 use eviction::evict;
 use mse_base::{CodedFrame, Moment, OutOfMemory, Presentation, Ranges, Span, Ticks};
 use mse_calls::TrackViews;
@@ -41,14 +42,22 @@ pub struct TrackBuffers<S: FrameStore> {
     settings: Settings,
     pending: bool,
     gap: Ticks,
-    /// For how many more frames each store has room at least.
-    ahead: usize,
+    ahead: Ahead,
+    watch: Option<Watch>,
+    /// The track of the last frame.
+    last: Option<TrackPlace>,
+    /// The bytes of all stored frames.
+    used: u64,
 }
 
 impl<S: FrameStore> Model for TrackBuffers<S> {
-    ghost use Rattle.track_store.specs.Kept.{HasSpareRoom, gaps_of};
+    ghost use Rattle.std.specs.Prelude.{◌≡◌, IfSome};
+    ghost use Rattle.track_store.specs.Kept.{bytes_in, gaps_of};
     ghost use Rattle.track_store.specs.State.{states_of};
+    ghost use Rattle.track_buffers.specs.Ahead.{HasRoomAhead};
+    ghost use Rattle.track_buffers.specs.Buffered.{ranges_in};
     ghost use Rattle.track_buffers.specs.Media.{MediaView, media_of, room_of, HasMediaInvariants};
+    ghost use Rattle.track_buffers.specs.Watching.{IsPlaceOf, IsWatchOf};
 
     ghost Value = { MediaView };
 
@@ -60,7 +69,10 @@ impl<S: FrameStore> Model for TrackBuffers<S> {
 
     ghost invariant = { λ b. HasMediaInvariants (states_of S.frames b.tracks.items)
         (gaps_of S.gap b.tracks.items) b.settings b.gap
-        × HasSpareRoom S.spare b.ahead b.tracks.items };
+        × HasRoomAhead S.spare b.ahead b.tracks.items
+        × IfSome b.watch (λ w. IsWatchOf w (ranges_in S.frames S.gap b.tracks.items))
+        × IfSome b.last (λ l. IsPlaceOf l (states_of S.frames b.tracks.items))
+        × (b.used ≡ bytes_in (states_of S.frames b.tracks.items)) };
 }
 
 impl<S: FrameStore> TrackBuffers<S> {
@@ -84,7 +96,10 @@ impl<S: FrameStore> TrackBuffers<S> {
             },
             pending: false,
             gap,
-            ahead: 0,
+            ahead: Ahead::NONE,
+            watch: None,
+            last: None,
+            used: 0,
         }
     }
 
@@ -95,10 +110,10 @@ impl<S: FrameStore> TrackBuffers<S> {
         ensures room { self.old.room ≤ self.new.room }
         ensures places { self.new.places ≡ self.old.places }
     {
-        if n <= self.ahead {
+        if n <= self.ahead.least() {
             return Ok(());
         }
-        self.ahead = reserve_ahead(&mut self.tracks, n)?;
+        self.ahead = reserve_ahead(&mut self.tracks, self.ahead, n)?;
         Ok(())
     }
 
@@ -147,7 +162,10 @@ impl<S: FrameStore> TrackBuffers<S> {
                 let activated = self.tracks.len() == 0;
                 let news = presentation.tracks.as_slice();
                 take_tracks(&mut self.tracks, self.alloc, self.gap, news);
-                self.ahead = 0;
+                self.ahead = Ahead::NONE;
+                self.watch = None;
+                self.last = None;
+                self.used = self.tracks.used();
                 self.pending = false;
                 MediaEffect::Done(SourceEffect {
                     duration_changes: effect.duration_changes,
@@ -175,12 +193,31 @@ impl<S: FrameStore> TrackBuffers<S> {
         ensures room { self.old.room ≤ self.new.room + 1 }
         ensures places { self.new.places ≡ self.old.places }
     {
-        match place_of(&self.tracks, frame.track_id) {
+        let id = frame.track_id;
+        match place_from(&self.tracks, &self.last, id) {
             Some(i) => {
-                self.ahead = self.ahead.saturating_sub(1);
-                process_at(&mut self.tracks, &mut self.settings, i, frame, &duration)
+                let old = own_span(&self.tracks, i, &self.watch);
+                let stored = used_at(&self.tracks, i);
+                self.ahead = self.ahead.after_frame(i);
+                let (tracks, settings) = (&mut self.tracks, &mut self.settings);
+                let effect = process_at(tracks, settings, i, frame, &duration, self.used);
+                self.used = self.used - stored + used_at(&self.tracks, i);
+                self.watch = watch_after(&self.tracks, i, self.watch, &old);
+                self.last = Some(TrackPlace { id, place: i });
+                effect
             }
             None => MediaEffect::Done(no_effect(&duration)),
+        }
+    }
+
+    /// Keeps the buffered range that holds a time known from here on while frames come, so that
+    /// [`span_holding`](Self::span_holding) of this time need not look at each track. It helps where
+    /// there are more than two tracks, and changes nothing that can be asked.
+    pub fn watch(&mut self, t: Ticks)
+        ensures { self.new ≡ self.old }
+    {
+        if self.tracks.len() > 2 && !is_watched(&self.watch, t) {
+            self.watch = Some(watch_of(&self.tracks, t));
         }
     }
 
@@ -219,6 +256,10 @@ impl<S: FrameStore> TrackBuffers<S> {
         ensures places { self.new.places ≡ self.old.places }
     {
         unset_all(&mut self.tracks);
+        self.ahead = Ahead::NONE;
+        self.watch = None;
+        self.last = None;
+        self.used = self.tracks.used();
         if self.settings.sequence {
             self.settings.group_start = Some(self.settings.group_end);
         }
@@ -234,6 +275,10 @@ impl<S: FrameStore> TrackBuffers<S> {
         ensures places { self.new.places ≡ self.old.places }
     {
         remove_frames(&mut self.tracks, start, end, duration);
+        self.ahead = Ahead::NONE;
+        self.watch = None;
+        self.last = None;
+        self.used = self.tracks.used();
     }
 
     /// Makes room for new bytes, where the source buffer is full (Media Source Extensions,
@@ -247,6 +292,10 @@ impl<S: FrameStore> TrackBuffers<S> {
         ensures places { self.new.places ≡ self.old.places }
     {
         evict(&mut self.tracks, position, new_bytes, quota, duration);
+        self.ahead = Ahead::NONE;
+        self.watch = None;
+        self.last = None;
+        self.used = self.tracks.used();
     }
 
     /// How frames are placed.
@@ -332,7 +381,7 @@ impl<S: FrameStore> TrackBuffers<S> {
         ensures value { result ≡ used_in self.now.media }
         ensures small { result < 2 ^ 62 }
     {
-        self.tracks.used()
+        self.used
     }
 
     /// The greatest presentation timestamp; `None` exactly where there is no frame.
@@ -371,7 +420,7 @@ impl<S: FrameStore> TrackBuffers<S> {
     pub fn span_holding(&self, t: Ticks, ended: bool) -> Option<Span>
         ensures { result ≡ find (reaches t) (buffered_of ended self.now.media) }
     {
-        span_holding(&self.tracks, t, ended)
+        watched_span(&self.tracks, &self.watch, t, ended)
     }
 
     /// The last buffered range where the source is ended; `None` exactly where there is none. It

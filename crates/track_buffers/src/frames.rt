@@ -2,15 +2,17 @@
 
 ghost use Rattle.std.specs.Prelude.{◌≡◌, ◌≤◌, ◌<◌, ◌+◌, ℕ, ℤ, pos, ◌≤ℤ◌, ◌==◌, Bool, false, Some, map, length, slice_get, slice_set, IfSome};
 ghost use Rattle.mse_base.specs.declared.ticks.Moment.{Moment};
-ghost use Rattle.track_store.specs.Kept.{AreKept, HasSpareRoom, gaps_of};
+ghost use Rattle.track_store.specs.Kept.{AreKept, HasSpareRoom, bytes_in, gaps_of};
 ghost use Rattle.track_store.specs.State.{state_of, states_of};
 ghost use Rattle.range_removal.specs.Rooms.{IsRoomKept};
 ghost use Rattle.track_buffers.specs.Effects.{media_result, source_effect};
 ghost use Rattle.track_buffers.specs.Media.{media_of, EndsWithin, IsNotAfter};
+ghost use Rattle.frame_rules.specs.Place.{IsRoomTakenAt};
+ghost use Rattle.track_buffers.specs.Watching.{AreFramesSetAt, IsPlaceOf, track_ids};
 ghost use Rattle.track_buffers.specs.Frames.{has_number, place_of, frame_result_at, unset_track};
 
 use crate::effects::{MediaEffect, MediaFault, duration_change, no_effect};
-use frame_rules::{Placed, place};
+use frame_rules::{Placed, place_with_used};
 use mse_base::{CodedFrame, Moment};
 use track_store::{FrameStore, Settings, Track, Tracks};
 
@@ -25,7 +27,7 @@ fn has_number_at<S: FrameStore>(tracks: &Tracks<S>, i: usize, id: u32) -> bool
 }
 
 /// The place of the track buffer of a number.
-pub(crate) fn place_of<S: FrameStore>(tracks: &Tracks<S>, id: u32) -> Option<usize>
+fn place_of<S: FrameStore>(tracks: &Tracks<S>, id: u32) -> Option<usize>
     ensures place { result ≡ place_of id (states_of S.frames tracks.now.items) }
     ensures in_range { IfSome result (λ i. i < length tracks.now.items) }
 {
@@ -37,6 +39,29 @@ pub(crate) fn place_of<S: FrameStore>(tracks: &Tracks<S>, id: u32) -> Option<usi
     None
 }
 
+/// The number of a track, and the place of its track buffer.
+#[derive(Clone, Copy, Debug)]
+pub(crate) struct TrackPlace {
+    pub(crate) id: u32,
+    pub(crate) place: usize,
+}
+
+/// The same, where the place of one track is known: the frames of a track mostly come in a row.
+pub(crate) fn place_from<S: FrameStore>(
+    tracks: &Tracks<S>,
+    last: &Option<TrackPlace>,
+    id: u32,
+) -> Option<usize>
+    requires { IfSome last.now (λ l. IsPlaceOf l (states_of S.frames tracks.now.items)) }
+    ensures place { result ≡ place_of id (states_of S.frames tracks.now.items) }
+    ensures in_range { IfSome result (λ i. i < length tracks.now.items) }
+{
+    match last {
+        Some(last) if last.id == id => Some(last.place),
+        _ => place_of(tracks, id),
+    }
+}
+
 /// Processes a frame of the track buffer at a place.
 pub(crate) fn process_at<S: FrameStore>(
     tracks: &mut Tracks<S>,
@@ -44,7 +69,9 @@ pub(crate) fn process_at<S: FrameStore>(
     i: usize,
     frame: CodedFrame,
     duration: &Moment,
+    used: u64,
 ) -> MediaEffect
+    requires used { used ≡ bytes_in (states_of S.frames tracks.old.items) }
     requires in_range { i < length tracks.old.items }
     requires room { HasSpareRoom S.spare 1 tracks.old.items }
     requires kept { AreKept (states_of S.frames tracks.old.items) }
@@ -62,12 +89,18 @@ pub(crate) fn process_at<S: FrameStore>(
         → EndsWithin (source_effect result).duration (states_of S.frames tracks.new.items) }
     ensures no_fall { IsNotAfter duration.now (source_effect result).duration }
     ensures no_init { (source_effect result).received_init ≡ false }
+    ensures frames { IfSome (slice_get (states_of S.frames tracks.new.items) i)
+        (λ t. AreFramesSetAt i (states_of S.frames tracks.old.items)
+        (states_of S.frames tracks.new.items) t) }
+    ensures ids { track_ids (states_of S.frames tracks.new.items)
+        ≡ track_ids (states_of S.frames tracks.old.items) }
+    ensures spare { IsRoomTakenAt S.spare i tracks.old.items tracks.new.items }
     ensures room { (n : ℕ) → HasSpareRoom S.spare (n + 1) tracks.old.items
         → HasSpareRoom S.spare n tracks.new.items }
     ensures gaps { gaps_of S.gap tracks.new.items ≡ gaps_of S.gap tracks.old.items }
     ensures places { tracks.new.spare ≡ tracks.old.spare }
 {
-    match place(tracks, settings, i, frame) {
+    match place_with_used(tracks, settings, i, frame, used) {
         Placed::Stored => {
             let new_duration = duration.at_least(settings.group_end);
             MediaEffect::Done(duration_change(&new_duration, duration))

@@ -74,6 +74,7 @@ pub fn overlap_of_two(x: Option<Span>, y: Option<Span>) -> Option<Span>
 }
 
 /// The buffered range of tracks that holds a time: one look-up in each track.
+#[cold]
 #[inline(never)]
 fn shared_span_holding<S: FrameStore>(tracks: &Tracks<S>, t: Ticks, ended: bool) -> Option<Span>
     requires { AllByRecursion (λ g. pos 0 ≤ℤ g) (gaps_of S.gap tracks.now.items) }
@@ -92,7 +93,7 @@ fn shared_span_holding<S: FrameStore>(tracks: &Tracks<S>, t: Ticks, ended: bool)
 }
 
 /// The range that holds a time of the track at a place.
-fn own_span_at<S: FrameStore>(tracks: &Tracks<S>, i: usize, t: Ticks) -> Option<Span>
+pub(crate) fn own_span_at<S: FrameStore>(tracks: &Tracks<S>, i: usize, t: Ticks) -> Option<Span>
     ensures { IfSome (slice_get (ranges_in S.frames S.gap tracks.now.items) i)
         (λ r. result ≡ find (reaches t) r) }
 {

@@ -22,6 +22,7 @@ mod looks;
 mod partners;
 pub mod range_laws;
 mod rooms;
+mod watch;
 
 pub use buffered::{extend_last, span_up_to};
 pub use buffers::TrackBuffers;

@@ -1,8 +1,8 @@
 //! What is stored in all track buffers.
 
-ghost use Rattle.std.specs.Prelude.{◌≡◌, ◌≤◌, map, slice_get, IfSome, IfOk, OnOk, flat_map, [], ◌∷◌, ◌++◌};
+ghost use Rattle.std.specs.Prelude.{◌≡◌, ◌≤◌, ◌<◌, ◌^◌, map, slice_get, IfSome, IfOk, OnOk, flat_map, [], ◌∷◌, ◌++◌};
 ghost use Rattle.mse_base.specs.Moments.{greatest, greatest_of_two};
-ghost use Rattle.track_store.specs.Frames.{starts, ends};
+ghost use Rattle.track_store.specs.Frames.{bytes_of, starts, ends};
 ghost use Rattle.track_store.specs.State.{state_of, states_of};
 ghost use Rattle.track_buffers.specs.Views.{track_view};
 
@@ -10,6 +10,18 @@ use mse_base::{OutOfMemory, Ticks};
 use mse_calls::{TimeRanges, TrackView, TrackViews};
 use std::alloc::Global;
 use track_store::{FrameStore, Track, Tracks};
+
+/// The bytes that are stored in the track buffer at a place, where there is one.
+pub(crate) fn used_at<S: FrameStore>(tracks: &Tracks<S>, i: usize) -> u64
+    ensures value { IfSome (slice_get (states_of S.frames tracks.now.items) i)
+        (λ t. result ≡ bytes_of t.frames) }
+    ensures small { result < 2 ^ 62 }
+{
+    match tracks.get(i) {
+        Some(track) => track.store.used(),
+        None => 0,
+    }
+}
 
 /// The greater of two times, each of which may be missing.
 pub fn greatest_of_two(a: Option<Ticks>, b: Option<Ticks>) -> Option<Ticks>

@@ -1,6 +1,6 @@
-use Rattle.std.proofs.Common.{◌<◌, sym, subst}
+use Rattle.std.proofs.Common.{◌<◌, ◌∙◌, ap, sym, subst}
 use Rattle.parser_loop.specs.Items.{FrameItem}
-use Rattle.track_buffers.specs.Media.{Media}
+use Rattle.track_buffers.specs.Media.{Media, MediaView}
 use Rattle.buffer_state.specs.declared.running.Running.{Running}
 use Rattle.buffer_state.specs.State.{Feed, Content, kept, next_item, surroundings}
 use Rattle.buffer_state.specs.Replies.{Answers}
@@ -19,5 +19,5 @@ returns-in-Done-clause-fewer g c =
 pub returns-in-AppendError-clause-answered : goal.returns-in-AppendError-clause-answered
 returns-in-AppendError-clause-answered g c =
     let a = surroundings c.args.around.now in
-    let turned = frame-breaks c.args.stream.now c.next_frame.new.self c.frame_fault.new.stream c.reserve_frames.new.self.media c.process.new.self.media c.frame_fault.new.media.media c.args.running.now c.frame_fault.new.running c.in_ok-frame.frame c.in_ok-frame.offset c.in-AppendError.fault c.in-AppendError.effect c.frame_fault.result a c.in_ok-frame.ensures.item c.in_ok-frame.ensures.stands c.in_ok-frame.ensures.latest c.in-AppendError.ensures.result c.frame_fault.ensures.answered in
-    subst (λ (m : Media). Answers (kept c.args.stream.now m c.args.running.now) c.frame_fault.result (kept c.frame_fault.new.stream c.frame_fault.new.media.media c.frame_fault.new.running) (λ (f : Feed) (d : Content). append_turn_result (next_item f) a f d)) c.in_ok-reserve_frames.ensures.media turned
+    let turned = frame-breaks c.args.stream.now c.next_frame.new.self c.frame_fault.new.stream c.watch.new.self.media c.process.new.self.media c.frame_fault.new.media.media c.args.running.now c.frame_fault.new.running c.in_ok-frame.frame c.in_ok-frame.offset c.in-AppendError.fault c.in-AppendError.effect c.frame_fault.result a c.in_ok-frame.ensures.item c.in_ok-frame.ensures.stands c.in_ok-frame.ensures.latest c.in-AppendError.ensures.result c.frame_fault.ensures.answered in
+    subst (λ (m : Media). Answers (kept c.args.stream.now m c.args.running.now) c.frame_fault.result (kept c.frame_fault.new.stream c.frame_fault.new.media.media c.frame_fault.new.running) (λ (f : Feed) (d : Content). append_turn_result (next_item f) a f d)) (ap (λ (v : MediaView). v.media) c.watch.ensures ∙ c.in_ok-reserve_frames.ensures.media) turned

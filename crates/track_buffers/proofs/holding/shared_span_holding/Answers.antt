@@ -1,14 +1,10 @@
-use Rattle.std.proofs.Common.{◌≡◌, ◌∙◌, ◌≤◌, ◌<◌, List, map, take, length, ap, arith}
-use Rattle.std.specs.List.{find}
-use Rattle.std.proofs.lemmas.List.{length-map, length-take, take_all}
-use Rattle.mse_base.specs.declared.span.Span.{Span}
-use Rattle.mse_base.specs.Spans.{reaches}
-use Rattle.mse_base.specs.Meets.{meet_of_all}
+use Rattle.std.proofs.Common.{◌≡◌, ◌∙◌, ◌≤◌, ◌<◌, map, take, length, arith}
+use Rattle.std.proofs.lemmas.List.{length-map, length-take}
 use Rattle.track_store.specs.declared.tracks.Track.{Track}
 use Rattle.track_store.specs.Frames.{ranges_of}
-use Rattle.track_buffers.specs.Buffered.{with_end, with_common_end, ranges_in}
+use Rattle.track_buffers.specs.Buffered.{with_end, ranges_in}
 use Rattle.track_buffers.proofs.Ranging.{grown_all, ranges_all}
-use Rattle.track_buffers.proofs.Lookups.{held_first, held_more, held_none}
+use Rattle.track_buffers.proofs.Lookups.{held_more}
 use Rattle.track_buffers.proofs.holding.shared_span_holding.Goals as goal
 
 pub loop-i-preserved : goal.loop-i-preserved

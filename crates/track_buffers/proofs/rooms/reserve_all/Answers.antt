@@ -1,15 +1,14 @@
 use Rattle.std.proofs.Common.{◌∙◌, ◌<◌, length, arith}
-use Rattle.range_removal.proofs.Rooms.{keeps_both, room_kept, same_length}
+use Rattle.range_removal.proofs.Rooms.{keeps_both, same_length}
 use Rattle.track_buffers.proofs.Keeping.{room_more}
 use Rattle.track_buffers.proofs.rooms.reserve_all.Goals as goal
 
-pub returns-in_err-reserve_at-clause-room : goal.returns-in_err-reserve_at-clause-room
-returns-in_err-reserve_at-clause-room g c = λ k h.
+pub returns-in_err-reserve_at-clause-spare : goal.returns-in_err-reserve_at-clause-spare
+returns-in_err-reserve_at-clause-spare g c =
     let old = c.args.tracks.now.items in
     let now = c.loop-i.tracks.items in
     let next = c.reserve_at.new.tracks.items in
-    let spare = keeps_both g.S.FrameStore.spare g.S.FrameStore.gap old now next c.reserve_at.ensures.gaps c.loop-i.invariant.spare c.reserve_at.ensures.spare in
-    room_kept g.S.FrameStore.spare k old next (same_length g.S.FrameStore.gap old next (c.reserve_at.ensures.gaps ∙ c.loop-i.invariant.gaps)) spare h
+    keeps_both g.S.FrameStore.spare g.S.FrameStore.gap old now next c.reserve_at.ensures.gaps c.loop-i.invariant.spare c.reserve_at.ensures.spare
 
 pub loop-i-preserved : goal.loop-i-preserved
 loop-i-preserved g c =
@@ -27,7 +26,3 @@ loop-i-preserved g c =
       places = c.reserve_at.ensures.places ∙ c.loop-i.invariant.places;
       end = c.loop-i.invariant.end;
     }
-
-pub returns-clause-room : goal.returns-clause-room
-returns-clause-room g c = λ k h.
-    room_kept g.S.FrameStore.spare k c.args.tracks.now.items c.loop-i.tracks.items (same_length g.S.FrameStore.gap c.args.tracks.now.items c.loop-i.tracks.items c.loop-i.invariant.gaps) c.loop-i.invariant.spare h

@@ -2,6 +2,7 @@ use Rattle.track_store.specs.State.{states_of}
 use Rattle.track_buffers.proofs.Keeping.{ends_kept, room_kept_by}
 use Rattle.std.proofs.Common.{refl}
 use Rattle.track_store.specs.Kept.{gaps_of}
+use Rattle.track_buffers.proofs.Ahead.{ahead_none}
 use Rattle.track_buffers.proofs.Steady.{steady_by}
 use Rattle.track_buffers.proofs.buffers.TrackBuffers.evict.Goals as goal
 
@@ -20,4 +21,4 @@ invariant_of-self g c =
     let b = c.self.inside in
     let ts = b.tracks.items in
     let us = c.evict.new.tracks.items in
-    (steady_by (states_of F ts) (states_of F us) (gaps_of G ts) (gaps_of G us) b.settings _ b.gap c.self.invariant.0 (c.evict.ensures.kept c.self.invariant.0.kept) c.evict.ensures.gaps c.self.invariant.0.window_start refl, c.evict.ensures.room b.ahead c.self.invariant.1)
+    (steady_by (states_of F ts) (states_of F us) (gaps_of G ts) (gaps_of G us) b.settings _ b.gap c.self.invariant.0 (c.evict.ensures.kept c.self.invariant.0.kept) c.evict.ensures.gaps c.self.invariant.0.window_start refl, ahead_none g.S.FrameStore.spare us, tt, tt, c.used-self-inside.ensures)

@@ -1,16 +1,24 @@
-use Rattle.std.proofs.Common.{◌≤◌, ◌^◌, List, refl, sym, subst, arith}
-use Rattle.track_store.specs.Kept.{AreKept, gaps_of}
+use Rattle.std.proofs.Common.{◌∙◌, ◌≤◌, ◌^◌, List, refl, sym, ap, subst, arith}
+use Rattle.std.specs.Option.{IfSome}
+use Rattle.range_removal.proofs.Rooms.{room_kept, same_length}
+use Rattle.track_store.specs.Kept.{AreKept, bytes_in, gaps_of}
 use Rattle.track_store.specs.State.{TrackState, states_of}
-use Rattle.track_buffers.proofs.Keeping.{room_within, room_kept_by}
+use Rattle.track_buffers.specs.Watching.{IsPlaceOf}
+use Rattle.track_buffers.specs.Buffered.{ranges_in}
+use Rattle.track_buffers.proofs.Ahead.{ahead_least, ahead_kept}
+use Rattle.track_buffers.proofs.Keeping.{all_room, room_kept_by}
 use Rattle.track_buffers.proofs.Steady.{steady_by}
+use Rattle.track_buffers.proofs.Watching.{watch_kept, ranges_kept}
 use Rattle.track_buffers.proofs.buffers.TrackBuffers.reserve_frames.Goals as goal
 
-pub returns-then-n-self-clause-ok : goal.returns-then-n-self-clause-ok
-returns-then-n-self-clause-ok g c =
+pub returns-then-n-least-clause-ok : goal.returns-then-n-least-clause-ok
+returns-then-n-least-clause-ok g c =
     let b = c.self.inside in
     let most : c.args.n ≤ 2 ^ 64 = omega (arith, c.ranges.n) in
-    let less : c.args.n ≤ c.self.inside.ahead = omega (arith, c.if-n-self.true) in
-    rw (← c.self.view_is) (room_within g.S.FrameStore.spare c.args.n b.ahead b.tracks.items less most c.self.invariant.1)
+    let less : c.args.n ≤ c.least.result = omega (arith, c.if-n-least.true) in
+    let own : c.args.n ≤ b.ahead.own = omega (arith, less, c.least.ensures.own) in
+    let others : c.args.n ≤ b.ahead.others = omega (arith, less, c.least.ensures.others) in
+    rw (← c.self.view_is) (all_room g.S.FrameStore.spare c.args.n b.tracks.items most (ahead_least g.S.FrameStore.spare c.args.n b.ahead b.tracks.items own others c.self.invariant.1))
 
 pub invariant_of-self : goal.invariant_of-self
 invariant_of-self g c =
@@ -19,16 +27,38 @@ invariant_of-self g c =
     let b = c.self.inside in
     let ts = b.tracks.items in
     let us = c.reserve_ahead.new.tracks.items in
-    let kept = subst (λ (xs : List TrackState). AreKept xs) (sym c.reserve_ahead.ensures.states) c.self.invariant.0.kept in
-    (steady_by (states_of F ts) (states_of F us) (gaps_of G ts) (gaps_of G us) b.settings _ b.gap c.self.invariant.0 kept c.reserve_ahead.ensures.gaps c.self.invariant.0.window_start refl, c.reserve_ahead.ensures.room b.ahead c.self.invariant.1)
+    let r = c.reserve_ahead.ensures in
+    let kept = subst (λ (xs : List TrackState). AreKept xs) (sym r.states) c.self.invariant.0.kept in
+    (steady_by (states_of F ts) (states_of F us) (gaps_of G ts) (gaps_of G us) b.settings _ b.gap c.self.invariant.0 kept r.gaps c.self.invariant.0.window_start refl, ahead_kept g.S.FrameStore.spare b.ahead ts us (same_length G ts us r.gaps) r.spare c.self.invariant.1, watch_kept b.watch (ranges_in F G ts) (ranges_in F G us) (ranges_kept F G b.gap ts us c.self.invariant.0.gaps_are r.gaps r.states) c.self.invariant.2, subst (λ (xs : List TrackState). IfSome b.last (λ l. IsPlaceOf l xs)) (sym r.states) c.self.invariant.3, c.self.invariant.4 ∙ sym (ap bytes_in r.states))
+
+pub invariant_of-self-2 : goal.invariant_of-self-2
+invariant_of-self-2 g c =
+    let F = g.S.FrameStore.frames in
+    let G = g.S.FrameStore.gap in
+    let b = c.self.inside in
+    let ts = b.tracks.items in
+    let us = c.reserve_ahead.new.tracks.items in
+    let r = c.reserve_ahead.ensures in
+    let kept = subst (λ (xs : List TrackState). AreKept xs) (sym r.states) c.self.invariant.0.kept in
+    (steady_by (states_of F ts) (states_of F us) (gaps_of G ts) (gaps_of G us) b.settings _ b.gap c.self.invariant.0 kept r.gaps c.self.invariant.0.window_start refl, c.in_ok-self-inside.ensures.ok.2, watch_kept b.watch (ranges_in F G ts) (ranges_in F G us) (ranges_kept F G b.gap ts us c.self.invariant.0.gaps_are r.gaps r.states) c.self.invariant.2, subst (λ (xs : List TrackState). IfSome b.last (λ l. IsPlaceOf l xs)) (sym r.states) c.self.invariant.3, c.self.invariant.4 ∙ sym (ap bytes_in r.states))
 
 pub returns-clause-ok : goal.returns-clause-ok
 returns-clause-ok g c =
     let most : c.args.n ≤ 2 ^ 64 = omega (arith, c.ranges.n) in
-    room_within g.S.FrameStore.spare c.args.n c.in_ok-self-inside.field-0 c.reserve_ahead.new.tracks.items c.in_ok-self-inside.ensures.ok.0 most c.in_ok-self-inside.ensures.ok.1
+    let us = c.reserve_ahead.new.tracks.items in
+    let a = c.in_ok-self-inside.field-0 in
+    all_room g.S.FrameStore.spare c.args.n us most (ahead_least g.S.FrameStore.spare c.args.n a us c.in_ok-self-inside.ensures.ok.0 c.in_ok-self-inside.ensures.ok.1 c.in_ok-self-inside.ensures.ok.2)
 
 pub returns-clause-room : goal.returns-clause-room
-returns-clause-room g c = rw (← c.self.view_is) (room_kept_by g.S.FrameStore.spare c.self.inside.tracks.items c.reserve_ahead.new.tracks.items c.reserve_ahead.ensures.room)
+returns-clause-room g c =
+    let ts = c.self.inside.tracks.items in
+    let us = c.reserve_ahead.new.tracks.items in
+    let long = same_length g.S.FrameStore.gap ts us c.reserve_ahead.ensures.gaps in
+    rw (← c.self.view_is) (room_kept_by g.S.FrameStore.spare ts us (λ n. room_kept g.S.FrameStore.spare n ts us long c.reserve_ahead.ensures.spare))
 
 pub returns-in_err-self-inside-clause-room : goal.returns-in_err-self-inside-clause-room
-returns-in_err-self-inside-clause-room g c = rw (← c.self.view_is) (room_kept_by g.S.FrameStore.spare c.self.inside.tracks.items c.reserve_ahead.new.tracks.items c.reserve_ahead.ensures.room)
+returns-in_err-self-inside-clause-room g c =
+    let ts = c.self.inside.tracks.items in
+    let us = c.reserve_ahead.new.tracks.items in
+    let long = same_length g.S.FrameStore.gap ts us c.reserve_ahead.ensures.gaps in
+    rw (← c.self.view_is) (room_kept_by g.S.FrameStore.spare ts us (λ n. room_kept g.S.FrameStore.spare n ts us long c.reserve_ahead.ensures.spare))

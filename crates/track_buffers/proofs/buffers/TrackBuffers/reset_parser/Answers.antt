@@ -3,6 +3,7 @@ use Rattle.track_store.specs.State.{TrackState, states_of}
 use Rattle.track_buffers.specs.Media.{EndsWithin}
 use Rattle.track_buffers.proofs.Keeping.{ends_unset, room_kept_by}
 use Rattle.track_store.specs.Kept.{gaps_of}
+use Rattle.track_buffers.proofs.Ahead.{ahead_none}
 use Rattle.track_buffers.proofs.Steady.{steady_by}
 use Rattle.track_buffers.proofs.buffers.TrackBuffers.reset_parser.Goals as goal
 
@@ -29,7 +30,7 @@ invariant_of-self g c =
     let b = c.self.inside in
     let ts = b.tracks.items in
     let us = c.unset_all.new.tracks.items in
-    (steady_by (states_of F ts) (states_of F us) (gaps_of G ts) (gaps_of G us) b.settings _ b.gap c.self.invariant.0 (c.unset_all.ensures.kept c.self.invariant.0.kept) c.unset_all.ensures.gaps c.self.invariant.0.window_start refl, c.unset_all.ensures.room b.ahead c.self.invariant.1)
+    (steady_by (states_of F ts) (states_of F us) (gaps_of G ts) (gaps_of G us) b.settings _ b.gap c.self.invariant.0 (c.unset_all.ensures.kept c.self.invariant.0.kept) c.unset_all.ensures.gaps c.self.invariant.0.window_start refl, ahead_none g.S.FrameStore.spare us, tt, tt, c.used-self-inside.ensures)
 
 pub invariant_of-self-else-self : goal.invariant_of-self-else-self
 invariant_of-self-else-self g c =
@@ -38,4 +39,4 @@ invariant_of-self-else-self g c =
     let b = c.self.inside in
     let ts = b.tracks.items in
     let us = c.unset_all.new.tracks.items in
-    (steady_by (states_of F ts) (states_of F us) (gaps_of G ts) (gaps_of G us) b.settings _ b.gap c.self.invariant.0 (c.unset_all.ensures.kept c.self.invariant.0.kept) c.unset_all.ensures.gaps c.self.invariant.0.window_start refl, c.unset_all.ensures.room b.ahead c.self.invariant.1)
+    (steady_by (states_of F ts) (states_of F us) (gaps_of G ts) (gaps_of G us) b.settings _ b.gap c.self.invariant.0 (c.unset_all.ensures.kept c.self.invariant.0.kept) c.unset_all.ensures.gaps c.self.invariant.0.window_start refl, ahead_none g.S.FrameStore.spare us, tt, tt, c.used-self-inside.ensures)

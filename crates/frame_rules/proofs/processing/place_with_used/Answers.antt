@@ -5,10 +5,10 @@ use Rattle.frame_rules.proofs.AllTracks.{placed_full, placed_counted, ready_soun
 use Rattle.frame_rules.proofs.SoundPlaced.{firm_left, kept_of, placed_window, end_left}
 use Rattle.frame_rules.proofs.Rooms.{takes_nothing, room_left, same_length}
 use Rattle.frame_rules.specs.Place.{Placement}
-use Rattle.frame_rules.proofs.processing.place.Goals as goal
+use Rattle.frame_rules.proofs.processing.place_with_used.Goals as goal
 
-pub is_full-requires : goal.is_full-requires
-is_full-requires g c = c.requires.small
+pub is_full-requires-clause-small : goal.is_full-requires-clause-small
+is_full-requires-clause-small g c = c.requires.small
 
 pub returns-then-is_full-clause-placement : goal.returns-then-is_full-clause-placement
 returns-then-is_full-clause-placement g c =

@@ -1,0 +1,199 @@
+//! The buffered range at a time that is looked up at each step: it stays known while frames come,
+//! so that a frame costs the same in a buffer of many tracks as in one of few.
+
+ghost use Rattle.std.specs.Prelude.{◌≡◌, ◌≤◌, ◌≤ℤ◌, ◌<◌, pos, List, length, find, slice_get, slice_set, IfSome};
+ghost use Rattle.std.specs.List.{AllByRecursion};
+ghost use Rattle.mse_base.specs.declared.span.Span.{Span};
+ghost use Rattle.mse_base.specs.Meets.{meet_of_all};
+ghost use Rattle.mse_base.specs.Spans.{reaches, IsNormalized};
+ghost use Rattle.track_store.specs.Kept.{gaps_of};
+ghost use Rattle.track_buffers.specs.Buffered.{ranges_in, with_common_end};
+ghost use Rattle.track_buffers.specs.Watching.{IsWatchOf, end_or, ends_at, is_watched, least_after, least_after_end, least_with};
+
+use crate::holding::{overlap_of_two, own_span_at, span_holding};
+use mse_base::{Span, Ticks};
+use track_store::{FrameStore, Tracks};
+
+/// A time, and the buffered range that holds it where the source is not ended.
+#[derive(Clone, Copy, Debug)]
+pub(crate) struct Watch {
+    pub(crate) t: Ticks,
+    pub(crate) span: Option<Span>,
+    /// Of how many tracks, at least, the range that holds the time ends where `span` ends.
+    pub(crate) least: usize,
+}
+
+/// How many ranges end where the shared one does, where one more track has the range `own`.
+fn least_with(shared: &Option<Span>, n: usize, own: &Option<Span>) -> usize
+    ensures { result ≤ least_with shared.now n own.now }
+{
+    match (shared, own) {
+        (Some(shared), Some(own)) => {
+            if own.end == shared.end {
+                n.saturating_add(1)
+            } else if own.end < shared.end {
+                1
+            } else {
+                n
+            }
+        }
+        _ => 0,
+    }
+}
+
+/// The watch of a time: one look-up in each track.
+#[cold]
+#[inline(never)]
+pub(crate) fn watch_of<S: FrameStore>(tracks: &Tracks<S>, t: Ticks) -> Watch
+    requires some { 1 ≤ length tracks.now.items }
+    requires gaps { AllByRecursion (λ g. pos 0 ≤ℤ g) (gaps_of S.gap tracks.now.items) }
+    ensures { IsWatchOf result (ranges_in S.frames S.gap tracks.now.items) }
+{
+    let mut span = own_span_at(tracks, 0, t);
+    let mut least = 1;
+    for i in 1..tracks.len() {
+        let own = own_span_at(tracks, i, t);
+        least = least_with(&span, least, &own);
+        span = overlap_of_two(span, own);
+    }
+    Watch { t, span, least }
+}
+
+/// The range of the track at a place that holds the time of a watch, if there is a watch.
+pub(crate) fn own_span<S: FrameStore>(
+    tracks: &Tracks<S>,
+    i: usize,
+    watch: &Option<Watch>,
+) -> Option<Span>
+    ensures { IfSome watch.now
+        (λ w. IfSome (slice_get (ranges_in S.frames S.gap tracks.now.items) i)
+        (λ r. result ≡ find (reaches w.t) r)) }
+{
+    match watch {
+        Some(watch) => own_span_at(tracks, i, watch.t),
+        None => None,
+    }
+}
+
+fn end_or(t: Ticks, span: &Option<Span>) -> Ticks
+    ensures { result ≡ end_or t span.now }
+{
+    match span {
+        Some(span) => span.end,
+        None => t,
+    }
+}
+
+/// Whether the range that all tracks share ends at a time.
+fn ends_at(t: Ticks, span: &Option<Span>) -> bool
+    ensures { result ≡ ends_at t span.now }
+{
+    match span {
+        Some(span) => span.end == t,
+        None => false,
+    }
+}
+
+/// How many ranges still end where the one that all tracks share does, where that of one track keeps
+/// its start and gets another end; `None` where the shared one may change.
+fn least_after_end(watch: &Watch, old: Ticks, new: Ticks) -> Option<usize>
+    ensures { result ≡ least_after_end watch.now old new }
+{
+    let end = end_or(watch.t, &watch.span);
+    if end < new {
+        if end < old {
+            Some(watch.least)
+        } else if 2 <= watch.least && ends_at(old, &watch.span) {
+            Some(watch.least - 1)
+        } else {
+            None
+        }
+    } else {
+        None
+    }
+}
+
+/// The same, where the range of one track changes so.
+fn least_after(watch: &Watch, old: &Option<Span>, new: &Option<Span>) -> Option<usize>
+    ensures { result ≡ least_after watch.now old.now new.now }
+{
+    match (old, new) {
+        (Some(old), Some(new)) => {
+            if old.start == new.start {
+                if old.end == new.end {
+                    Some(watch.least)
+                } else {
+                    least_after_end(watch, old.end, new.end)
+                }
+            } else {
+                None
+            }
+        }
+        (None, None) => Some(watch.least),
+        _ => None,
+    }
+}
+
+/// The watch of the same time, where the track at a place has changed alone, whose own range was
+/// `old`.
+pub(crate) fn watch_after<S: FrameStore>(
+    tracks: &Tracks<S>,
+    i: usize,
+    watch: Option<Watch>,
+    old: &Option<Span>,
+) -> Option<Watch>
+    requires some { 1 ≤ length tracks.now.items }
+    requires gaps { AllByRecursion (λ g. pos 0 ≤ℤ g) (gaps_of S.gap tracks.now.items) }
+    ensures { (rs : List (List Span))
+        → i < length (ranges_in S.frames S.gap tracks.now.items)
+        → AllByRecursion IsNormalized rs
+        → IfSome (slice_get (ranges_in S.frames S.gap tracks.now.items) i)
+        (λ r. ranges_in S.frames S.gap tracks.now.items ≡ slice_set rs i r)
+        → IfSome watch (λ w. IsWatchOf w rs)
+        → IfSome watch (λ w. IfSome (slice_get rs i) (λ r. old.now ≡ find (reaches w.t) r))
+        → IfSome result (λ w. IsWatchOf w (ranges_in S.frames S.gap tracks.now.items)) }
+{
+    match watch {
+        Some(watch) => {
+            let new = own_span_at(tracks, i, watch.t);
+            match least_after(&watch, old, &new) {
+                Some(least) => Some(Watch {
+                    t: watch.t,
+                    span: watch.span,
+                    least,
+                }),
+                None => Some(watch_of(tracks, watch.t)),
+            }
+        }
+        None => None,
+    }
+}
+
+/// Whether a time is watched.
+pub(crate) fn is_watched(watch: &Option<Watch>, t: Ticks) -> bool
+    ensures { result ≡ is_watched t watch.now }
+{
+    match watch {
+        Some(watch) => watch.t == t,
+        None => false,
+    }
+}
+
+/// The buffered range that holds a time: that of the watch, or by a look-up in each track.
+pub(crate) fn watched_span<S: FrameStore>(
+    tracks: &Tracks<S>,
+    watch: &Option<Watch>,
+    t: Ticks,
+    ended: bool,
+) -> Option<Span>
+    requires gaps { AllByRecursion (λ g. pos 0 ≤ℤ g) (gaps_of S.gap tracks.now.items) }
+    requires watch { IfSome watch.now
+        (λ w. IsWatchOf w (ranges_in S.frames S.gap tracks.now.items)) }
+    ensures { result ≡ find (reaches t)
+        (meet_of_all (with_common_end ended (ranges_in S.frames S.gap tracks.now.items))) }
+{
+    match watch {
+        Some(watch) if !ended && watch.t == t => watch.span,
+        _ => span_holding(tracks, t, ended),
+    }
+}
