@@ -73,8 +73,12 @@ fn frame_found(header: u64) -> Found
         return Found::Fault(AdtsFault::Rate);
     };
     let blocks = bits(header, 54, 2) + 1;
-    let protected = bits(header, 15, 1) == 0;
-    let head = if protected { 9 + 2 * (blocks - 1) } else { 7 };
+    let is_protected = bits(header, 15, 1) == 0;
+    let head = if is_protected {
+        9 + 2 * (blocks - 1)
+    } else {
+        7
+    };
     let len = bits(header, 30, 13);
     if len < head {
         return Found::Fault(AdtsFault::Length);

@@ -42,8 +42,8 @@ fn has_rate(last: &Option<Presentation>, rate: u32) -> bool
 }
 
 /// Passes over the bytes of a tag that are there; `false` where none is.
-fn pass_tag(position: &mut ParsePosition, left: u64, input: &mut Chunks) -> bool
-    requires in_tag { position.old.point ≡ InTag left }
+fn pass_tag(position: &mut ParsePosition, len_left: u64, input: &mut Chunks) -> bool
+    requires in_tag { position.old.point ≡ InTag len_left }
     requires unfailed { position.old.failed ≡ false }
     requires bounded { position.old.offset + length (concat input.old) < 2 ^ 62 }
     ensures moved { (last : _) →
@@ -54,9 +54,9 @@ fn pass_tag(position: &mut ParsePosition, left: u64, input: &mut Chunks) -> bool
     ensures unfailed { position.new.failed ≡ false }
 {
     let there = input.len() as u64;
-    if left <= there {
-        input.drop_front(left as usize);
-        position.offset += left;
+    if len_left <= there {
+        input.drop_front(len_left as usize);
+        position.offset += len_left;
         position.point = ParsePoint::AtHeader;
         return true;
     }
@@ -65,7 +65,7 @@ fn pass_tag(position: &mut ParsePosition, left: u64, input: &mut Chunks) -> bool
     }
     input.drop_front(there as usize);
     position.offset += there;
-    position.point = ParsePoint::InTag(left - there);
+    position.point = ParsePoint::InTag(len_left - there);
     true
 }
 
@@ -95,7 +95,7 @@ fn move_on(last: &Option<Presentation>, position: &mut ParsePosition, input: &mu
             Found::Nothing => false,
             Found::Fault(_) => false,
         },
-        ParsePoint::InTag(left) => pass_tag(position, left, input),
+        ParsePoint::InTag(len_left) => pass_tag(position, len_left, input),
         ParsePoint::AtFrame(_) => false,
         ParsePoint::AtEnd(_) => false,
     }

@@ -93,10 +93,10 @@ fn first_in<'a>(bytes: &'a [u8], kind: [u8; 4]) -> Option<&'a [u8]>
     'boxes: loop {
         match walk.next() {
             Child::Found {
-                kind: found,
+                kind: child_kind,
                 payload,
             } => {
-                if found == kind {
+                if child_kind == kind {
                     return Some(payload);
                 }
             }

@@ -113,9 +113,9 @@ fn read_runs(
         data_end: fragment.base,
         decode_time: u128::from(fragment.decode_time),
     };
-    'boxes: while let Some(found) = row.next() {
-        if found.kind == *b"trun" {
-            at = read_run(alloc, fragment, at, found.payload, slots)?;
+    'boxes: while let Some(child) = row.next() {
+        if child.kind == *b"trun" {
+            at = read_run(alloc, fragment, at, child.payload, slots)?;
         }
     }
     Ok(MoofProgress {
@@ -169,9 +169,9 @@ fn read_trafs(alloc: Global, tracks: &TrackList, row: Row<'_>) -> Result<Vec<Slo
         samples: 0,
         data_end: 0,
     };
-    'boxes: while let Some(found) = row.next() {
-        if found.kind == *b"traf" {
-            at = read_traf(alloc, tracks, at, found.payload, &mut slots)?;
+    'boxes: while let Some(child) = row.next() {
+        if child.kind == *b"traf" {
+            at = read_traf(alloc, tracks, at, child.payload, &mut slots)?;
         }
     }
     Ok(slots)

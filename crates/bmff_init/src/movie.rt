@@ -84,8 +84,8 @@ fn are_whole_trexes(mvex: Row<'_>) -> bool
         (all_of (codes "trex") mvex.entry) }
 {
     let mut mvex = mvex;
-    'boxes: while let Some(found) = mvex.next() {
-        if found.kind == *b"trex" && found.payload.len() < TREX_LEN {
+    'boxes: while let Some(child) = mvex.next() {
+        if child.kind == *b"trex" && child.payload.len() < TREX_LEN {
             return false;
         }
     }
@@ -122,8 +122,8 @@ fn has_few_tracks(movie: Row<'_>) -> bool
 {
     let mut movie = movie;
     let mut count = 0;
-    'boxes: while let Some(found) = movie.next() {
-        if found.kind == *b"trak" {
+    'boxes: while let Some(child) = movie.next() {
+        if child.kind == *b"trak" {
             if count == MOST_TRACKS {
                 return false;
             }

@@ -302,9 +302,9 @@ pub fn read_tracks(
 {
     let mut movie = movie;
     let mut tracks = Vec::new(alloc);
-    'boxes: while let Some(found) = movie.next() {
-        if found.kind == *b"trak" {
-            let track = read_track(form, movie_scale, mvex, tracks.as_slice(), found.payload)?;
+    'boxes: while let Some(child) = movie.next() {
+        if child.kind == *b"trak" {
+            let track = read_track(form, movie_scale, mvex, tracks.as_slice(), child.payload)?;
             tracks.push(track)?;
         }
     }

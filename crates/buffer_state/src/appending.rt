@@ -67,15 +67,15 @@ fn accept_or_decline<S: FrameStore>(
     ensures no_init { result.received_init ≡ false }
     ensures none_offered { stream.new.offered ≡ None }
 {
-    let used = evict(media, bytes.len(), around);
-    if used >= around.quota {
+    let used_bytes = evict(media, bytes.len(), around);
+    if used_bytes >= around.quota {
         stream.decline();
         return refuse_full(around);
     }
     stream.accept();
     *running = Running::Append;
-    let reopened = reopens(around.ready);
-    event_reply(reopened, &around.duration, one(EventKind::UpdateStart))
+    let is_reopened = reopens(around.ready);
+    event_reply(is_reopened, &around.duration, one(EventKind::UpdateStart))
 }
 
 /// The refusal of an append before coded frames are evicted.
@@ -116,7 +116,7 @@ pub(crate) fn append<S: FrameStore>(
         return Ok(Reply::refused(name, false, &around.duration));
     }
     if is_too_long(stream.len(), bytes.len()) {
-        let _used = evict(media, bytes.len(), around);
+        let _used_bytes = evict(media, bytes.len(), around);
         return Ok(refuse_full(around));
     }
     stream.offer_bytes(bytes.copy()?)?;

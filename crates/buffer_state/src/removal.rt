@@ -69,6 +69,6 @@ pub(crate) fn remove(running: &mut Running, start: Ticks, end: Moment, around: &
         return Reply::refused(name, false, &around.duration);
     }
     *running = Running::Removal { start, end };
-    let reopened = reopens(around.ready);
-    event_reply(reopened, &around.duration, one(EventKind::UpdateStart))
+    let is_reopened = reopens(around.ready);
+    event_reply(is_reopened, &around.duration, one(EventKind::UpdateStart))
 }

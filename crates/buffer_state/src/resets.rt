@@ -172,11 +172,11 @@ fn take_type<S: FrameStore>(
     ensures none_offered { stream.new.offered ≡ None }
     ensures err { OnErr result ((stream.new ≡ stream.old) × (media.new.media ≡ media.old.media)) }
 {
-    let done = flush(alloc, stream, media, around.duration)?;
+    let effect = flush(alloc, stream, media, around.duration)?;
     media.reset_parser();
     media.change_container(generates_timestamps(container));
     stream.restart(container);
-    Ok(effect_reply(reopens(around.ready), done, Changes::new()))
+    Ok(effect_reply(reopens(around.ready), effect, Changes::new()))
 }
 
 /// The refusal of a change of type.

@@ -83,12 +83,12 @@ pub(crate) fn set_mode<S: FrameStore>(
     if let Some(name) = mode_refusal(stream, media, running, mode, around) {
         return Reply::refused(name, false, &around.duration);
     }
-    let reopened = reopens(around.ready);
+    let is_reopened = reopens(around.ready);
     if stream.phase() == Phase::InMedia {
-        return Reply::refused(Name::InvalidState, reopened, &around.duration);
+        return Reply::refused(Name::InvalidState, is_reopened, &around.duration);
     }
     media.set_mode(is_sequence(mode));
-    event_reply(reopened, &around.duration, Changes::new())
+    event_reply(is_reopened, &around.duration, Changes::new())
 }
 
 /// The refusal of an offset before anything comes of the call.
@@ -126,12 +126,12 @@ pub(crate) fn set_offset<S: FrameStore>(
     if let Some(name) = offset_refusal(stream, running, around) {
         return Reply::refused(name, false, &around.duration);
     }
-    let reopened = reopens(around.ready);
+    let is_reopened = reopens(around.ready);
     if stream.phase() == Phase::InMedia {
-        return Reply::refused(Name::InvalidState, reopened, &around.duration);
+        return Reply::refused(Name::InvalidState, is_reopened, &around.duration);
     }
     media.set_offset(t);
-    event_reply(reopened, &around.duration, Changes::new())
+    event_reply(is_reopened, &around.duration, Changes::new())
 }
 
 /// The refusal of a window start.

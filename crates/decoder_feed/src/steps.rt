@@ -60,10 +60,10 @@ fn group_serial<S: FrameStore>(store: &S, place: usize) -> Option<u64>
 }
 
 /// What the frame at a place is answered with.
-fn answer_with(given: Option<u64>, place: usize, sync: bool) -> FeedNext
-    ensures { result ≡ answer_with given place sync }
+fn answer_with(last_serial: Option<u64>, place: usize, sync: bool) -> FeedNext
+    ensures { result ≡ answer_with last_serial place sync }
 {
-    match given {
+    match last_serial {
         None => {
             if sync {
                 FeedNext::Frame(place)
@@ -82,15 +82,15 @@ fn answer_with(given: Option<u64>, place: usize, sync: bool) -> FeedNext
 }
 
 /// What the frame of a serial that was received is answered with.
-fn answer_at<S: FrameStore>(store: &S, given: Option<u64>, serial: u64) -> FeedNext
-    ensures { result ≡ answer_at given (S.frames store.now)
+fn answer_at<S: FrameStore>(store: &S, last_serial: Option<u64>, serial: u64) -> FeedNext
+    ensures { result ≡ answer_at last_serial (S.frames store.now)
         (position (has_serial serial) (S.frames store.now)) }
 {
     let Some(place) = store.place_of(serial) else {
         return FeedNext::Lost;
     };
     match store.get(place) {
-        Some(stored) => answer_with(given, place, stored.frame.sync),
+        Some(stored) => answer_with(last_serial, place, stored.frame.sync),
         None => FeedNext::Lost,
     }
 }
@@ -117,9 +117,9 @@ impl Feeder {
     {
         *self = Feeder::new();
         let last = track.store.overlapped(t)?;
-        let wanted = track.store.get(last)?.serial;
+        let serial = track.store.get(last)?.serial;
         self.next = group_serial(&track.store, last);
-        Some(wanted)
+        Some(serial)
     }
 
     /// Gives the next frame, if the track holds it and it belongs to the group. The other answers

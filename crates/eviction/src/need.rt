@@ -17,10 +17,10 @@ pub struct Need {
 
 impl Need {
     /// Whether the new bytes have room beside so many others.
-    fn fits(&self, used: u128) -> bool
-        ensures { result ≡ fits used self.now.new_bytes self.now.quota }
+    fn fits(&self, used_bytes: u128) -> bool
+        ensures { result ≡ fits used_bytes self.now.new_bytes self.now.quota }
     {
-        self.new_bytes <= self.quota && used <= u128::from(self.quota - self.new_bytes)
+        self.new_bytes <= self.quota && used_bytes <= u128::from(self.quota - self.new_bytes)
     }
 }
 

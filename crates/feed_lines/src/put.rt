@@ -93,10 +93,10 @@ pub fn put_feeds<S: FrameStore, K: Sink>(
     let mut feeder = Feeder::new();
     let mut at = from;
     'feeding: loop {
-        let Some(wanted) = feeder.seek(track, at) else {
+        let Some(serial) = feeder.seek(track, at) else {
             return put_none(alloc, sink, track.id, at);
         };
-        match put_wanted(alloc, sink, track.id, at, wanted) {
+        match put_wanted(alloc, sink, track.id, at, serial) {
             Ok(()) => {}
             Err(halt) => return Err(halt),
         }

@@ -64,11 +64,11 @@ fn reset_where_due<S: FrameStore>(tracks: &mut Tracks<S>, timing: &Timing)
 }
 
 /// Whether a count would pass its limit.
-fn is_over_limit(received: u64, bytes: u64, more: usize) -> bool
+fn is_over_limit(received_count: u64, bytes: u64, more: usize) -> bool
     requires { bytes < 2 ^ 62 }
-    ensures { result ≡ is_over_limit received bytes more }
+    ensures { result ≡ is_over_limit received_count bytes more }
 {
-    received == 1 << 62 || (1 << 62) - bytes <= more as u64
+    received_count == 1 << 62 || (1 << 62) - bytes <= more as u64
 }
 
 fn is_full<S: FrameStore>(tracks: &Tracks<S>, index: usize, used: u64, more: usize) -> bool

@@ -114,10 +114,10 @@ impl Chunks {
         requires { n ≤ length (concat self.old) }
         ensures { self.new ≡ pieces_without_last n self.old }
     {
-        let left = self.len - n;
-        let end = self.dropped.wrapping_add(left as u64);
+        let len_left = self.len - n;
+        let end = self.dropped.wrapping_add(len_left as u64);
         drop_back_of(&mut self.entries, n, end);
-        self.len = left;
+        self.len = len_left;
     }
 
     /// Fills `into` with the bytes from `from` on.
@@ -190,9 +190,9 @@ fn extend_last(
         entries.push_back_reserved(last);
         return Ok(false);
     }
-    let extended = last.extend(bytes, end);
+    let extension = last.extend(bytes, end);
     entries.push_back_reserved(last);
-    extended?;
+    extension?;
     Ok(true)
 }
 
@@ -236,15 +236,15 @@ fn drop_front_of(entries: &mut VecDeque<PieceWithEnd>, n: usize)
         ≡ pieces_without_first n (pieces_of entries.old.items) }
     ensures ended { (at : ℕ) → HasEnds at entries.old.items → HasEnds (at + n) entries.new.items }
 {
-    let mut left = n;
+    let mut len_left = n;
     'entries: while let Some(mut first) = entries.pop_front() {
         let len = first.piece.len();
-        if left < len {
-            first.piece.drop_front(left);
+        if len_left < len {
+            first.piece.drop_front(len_left);
             entries.push_front_reserved(first);
             return;
         }
-        left -= len;
+        len_left -= len;
     }
 }
 
@@ -257,19 +257,19 @@ fn drop_back_of(entries: &mut VecDeque<PieceWithEnd>, n: usize, end: u64)
     ensures ended { HasNewEnds end (length (bytes_of entries.old.items) - n)
         entries.old.items entries.new.items }
 {
-    let mut left = n;
-    'entries: while left > 0 {
+    let mut len_left = n;
+    'entries: while len_left > 0 {
         let Some(mut last) = entries.pop_back() else {
             return;
         };
         let len = last.piece.len();
-        if left < len {
-            last.piece.truncate(len - left);
+        if len_left < len {
+            last.piece.truncate(len - len_left);
             last.end = end;
             entries.push_back_reserved(last);
             return;
         }
-        left -= len;
+        len_left -= len;
     }
 }
 
@@ -310,19 +310,19 @@ fn copy_of(
         ≡ take n (drop skip (bytes_from first entries.now.items))) }
 {
     let mut skip = skip;
-    let mut left = n;
+    let mut len_left = n;
     'entries: for i in first..entries.len() {
         let entry = &entries[i];
         let bytes = entry.piece.as_slice();
         if skip < bytes.len() {
             let (_, rest) = bytes.split_at(skip);
-            if left <= rest.len() {
-                let (part, _) = rest.split_at(left);
+            if len_left <= rest.len() {
+                let (part, _) = rest.split_at(len_left);
                 into.extend_from_slice(part)?;
                 return Ok(());
             }
             into.extend_from_slice(rest)?;
-            left -= rest.len();
+            len_left -= rest.len();
             skip = 0;
         } else {
             skip -= bytes.len();
@@ -347,20 +347,20 @@ fn read_of(entries: &VecDeque<PieceWithEnd>, first: usize, skip: usize, into: &m
     ensures { into.new ≡ take (length into.old) (drop skip (bytes_from first entries.now.items)) }
 {
     let mut skip = skip;
-    let mut filled = 0;
+    let mut filled_len = 0;
     'entries: for i in first..entries.len() {
-        let left = into.len() - filled;
+        let len_left = into.len() - filled_len;
         let entry = &entries[i];
         let bytes = entry.piece.as_slice();
         if skip < bytes.len() {
             let (_, rest) = bytes.split_at(skip);
-            if left <= rest.len() {
-                let (part, _) = rest.split_at(left);
-                fill(into, filled, part);
+            if len_left <= rest.len() {
+                let (part, _) = rest.split_at(len_left);
+                fill(into, filled_len, part);
                 return;
             }
-            fill(into, filled, rest);
-            filled += rest.len();
+            fill(into, filled_len, rest);
+            filled_len += rest.len();
             skip = 0;
         } else {
             skip -= bytes.len();

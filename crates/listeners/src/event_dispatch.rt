@@ -76,10 +76,10 @@ fn make_one<S: FrameStore>(
     let Ok(answer) = engine.call(&call, blobs) else {
         return Err(OutOfMemory);
     };
-    let asked = ask_one(listener, Some(&answer));
+    let next_call = ask_one(listener, Some(&answer));
     journal.push_reserved(Entry::Listener(number, call, answer));
     *left -= 1;
-    asked
+    next_call
 }
 
 // One listener hears the event, and makes its calls.
@@ -103,12 +103,12 @@ fn serve<S: FrameStore>(
     let Ok(()) = hear_one(listener, event) else {
         return Err(DispatchFault::OutOfMemory);
     };
-    let Ok(mut asked) = ask_one(listener, None) else {
+    let Ok(mut next_call) = ask_one(listener, None) else {
         return Err(DispatchFault::OutOfMemory);
     };
-    let mut made = 0u32;
-    while let Some(call) = asked {
-        if made == MOST_CALLS {
+    let mut call_count = 0u32;
+    while let Some(call) = next_call {
+        if call_count == MOST_CALLS {
             return Err(DispatchFault::CallBudget(number));
         }
         if *left == 0 {
@@ -117,8 +117,8 @@ fn serve<S: FrameStore>(
         let Ok(next) = make_one(engine, blobs, listener, number, call, left, journal) else {
             return Err(DispatchFault::OutOfMemory);
         };
-        asked = next;
-        made += 1;
+        next_call = next;
+        call_count += 1;
     }
     Ok(())
 }

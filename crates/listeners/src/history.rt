@@ -41,8 +41,8 @@ pub fn told_and_remarked(history: &History, last: Option<&Answer>, remark: Remar
 {
     match last {
         Some(answer) => {
-            let told = history.and(&Remark::Told, answer);
-            remarked(&told, remark)
+            let with_answer = history.and(&Remark::Told, answer);
+            remarked(&with_answer, remark)
         }
         None => remarked(history, remark),
     }

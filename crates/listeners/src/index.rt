@@ -108,15 +108,16 @@ impl RuleIndex {
 pub fn due_places(
     alloc: Global,
     rules: &[Rule],
-    left: &[usize],
+    places_left: &[usize],
     places: &[usize],
     count: u32,
 ) -> Result<Vec<usize>, OutOfMemory>
     ensures { (times : ℕ) → count ≡ bounded_count times → IfOk result (λ due. due.items
-        ≡ left.now ++ filter (λ place. nat_lt times (rule_at rules.now place).times) places.now) }
+        ≡ places_left.now
+        ++ filter (λ place. nat_lt times (rule_at rules.now place).times) places.now) }
 {
     let mut due = Vec::new(alloc);
-    due.extend_from_slice(left)?;
+    due.extend_from_slice(places_left)?;
     for place in places {
         if answers_again(rules, *place, count) {
             due.push(*place)?;

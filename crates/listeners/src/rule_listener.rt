@@ -56,12 +56,12 @@ fn take_index(
     rules: &[Rule],
 ) -> Result<RuleIndex, OutOfMemory>
     ensures ok { (heard : List Event) → IsIndexed rules.now heard index.old
-        → IfOk result (λ made. Indexes rules.now heard made) }
+        → IfOk result (λ rule_index. Indexes rules.now heard rule_index) }
     ensures err { (heard : List Event) → IsIndexed rules.now heard index.old
         → OnErr result (IsIndexed rules.now heard index.new) }
 {
     match index.take() {
-        Some(made) => Ok(made),
+        Some(rule_index) => Ok(rule_index),
         None => RuleIndex::of(alloc, rules),
     }
 }
@@ -71,14 +71,14 @@ fn hear_by_index(
     alloc: Global,
     index: &mut RuleIndex,
     rules: &[Rule],
-    left: &[usize],
+    places_left: &[usize],
     event: &Event,
 ) -> Result<Option<Vec<usize>>, OutOfMemory>
     ensures index { (heard : List Event) → Indexes rules.now heard index.old
         → OnOk result (Indexes rules.now (heard ++ event.now ∷ []) index.new) }
     ensures due { (heard : List Event) → Indexes rules.now heard index.old
-        → IfOk result (λ due. rules_at rules.now (due_after left.now due)
-        ≡ rules_at rules.now left.now ++ filter (answers heard event.now) rules.now) }
+        → IfOk result (λ due. rules_at rules.now (due_after places_left.now due)
+        ≡ rules_at rules.now places_left.now ++ filter (answers heard event.now) rules.now) }
     ensures err { (heard : List Event) → Indexes rules.now heard index.old
         → OnErr result (Indexes rules.now heard index.new) }
 {
@@ -87,7 +87,7 @@ fn hear_by_index(
     if places.is_empty() {
         return Ok(None);
     }
-    let due = due_places(alloc, rules, left, places, index.count(number))?;
+    let due = due_places(alloc, rules, places_left, places, index.count(number))?;
     index.count_one(number)?;
     Ok(Some(due))
 }
@@ -97,20 +97,20 @@ fn hear_event(
     alloc: Global,
     index: &mut Option<RuleIndex>,
     rules: &[Rule],
-    left: &[usize],
+    places_left: &[usize],
     event: &Event,
 ) -> Result<Option<Vec<usize>>, OutOfMemory>
     ensures index { (heard : List Event) → IsIndexed rules.now heard index.old
         → OnOk result (IsIndexed rules.now (heard ++ event.now ∷ []) index.new) }
     ensures due { (heard : List Event) → IsIndexed rules.now heard index.old
-        → IfOk result (λ due. rules_at rules.now (due_after left.now due)
-        ≡ rules_at rules.now left.now ++ filter (answers heard event.now) rules.now) }
+        → IfOk result (λ due. rules_at rules.now (due_after places_left.now due)
+        ≡ rules_at rules.now places_left.now ++ filter (answers heard event.now) rules.now) }
     ensures err { (heard : List Event) → IsIndexed rules.now heard index.old
         → OnErr result (IsIndexed rules.now heard index.new) }
 {
-    let mut made = take_index(alloc, index, rules)?;
-    let due = hear_by_index(alloc, &mut made, rules, left, event);
-    *index = Some(made);
+    let mut rule_index = take_index(alloc, index, rules)?;
+    let due = hear_by_index(alloc, &mut rule_index, rules, places_left, event);
+    *index = Some(rule_index);
     due
 }
 
@@ -174,9 +174,9 @@ impl Listener for RuleListener {
     }
 
     fn hear(&mut self, event: &Event) -> Result<(), OutOfMemory> {
-        let left = &self.due[self.at..];
+        let places_left = &self.due[self.at..];
         let rules = self.rules.as_slice();
-        let Some(due) = hear_event(self.alloc, &mut self.index, rules, left, event)? else {
+        let Some(due) = hear_event(self.alloc, &mut self.index, rules, places_left, event)? else {
             self.history = remarked(&self.history, Remark::Heard(*event));
             return Ok(());
         };

@@ -308,7 +308,7 @@ pub(crate) fn fill(
     blocks: &mut Vec<Block>,
     pool: &mut Vec<Block>,
     alloc: Global,
-    needed: usize,
+    block_count: usize,
 ) -> Result<(), OutOfMemory>
     requires empty { AreEmpty pool.old.items }
     requires block_room { length pool.old.items + length blocks.old.items
@@ -316,13 +316,13 @@ pub(crate) fn fill(
     requires pool_room { length pool.old.items + length blocks.old.items ≤ vec_capacity pool.old }
     ensures rows { blocks.new.items ≡ blocks.old.items }
     ensures empty { AreEmpty pool.new.items }
-    ensures ok { OnOk result (needed ≤ length pool.new.items + length blocks.new.items) }
+    ensures ok { OnOk result (block_count ≤ length pool.new.items + length blocks.new.items) }
     ensures more { length pool.old.items ≤ length pool.new.items }
     ensures block_room { length pool.new.items + length blocks.new.items ≤ vec_capacity blocks.new }
     ensures pool_room { length pool.new.items + length blocks.new.items ≤ vec_capacity pool.new }
 {
-    let used = blocks.len();
-    'fill: while used < needed && pool.len() < needed - used {
+    let used_count = blocks.len();
+    'fill: while used_count < block_count && pool.len() < block_count - used_count {
         add_empty(blocks, pool, alloc)?;
     }
     Ok(())

@@ -195,8 +195,8 @@ impl Ranges {
         ensures unchanged { gap ≤ℤ pos 0 → IfOk result (λ r. r.spans ≡ self.now.spans) }
     {
         let longest_gap = gap.max(Ticks::zero());
-        let given = self.spans.to_vec(self.alloc)?;
-        let spans = bridged_of(self.alloc, given.as_slice(), longest_gap)?;
+        let list = self.spans.to_vec(self.alloc)?;
+        let spans = bridged_of(self.alloc, list.as_slice(), longest_gap)?;
         Ok(Ranges {
             alloc: self.alloc,
             spans,

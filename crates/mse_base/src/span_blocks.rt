@@ -213,8 +213,8 @@ impl SpanBlocks {
         if n > usize::MAX / 8 || self.len > usize::MAX / 8 {
             return Err(OutOfMemory);
         }
-        let needed = (self.len + n) / HALF + 2;
-        fill(&mut self.blocks, &mut self.pool, self.alloc, needed)?;
+        let block_count = (self.len + n) / HALF + 2;
+        fill(&mut self.blocks, &mut self.pool, self.alloc, block_count)?;
         self.spare = n;
         Ok(())
     }

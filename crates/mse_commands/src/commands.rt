@@ -247,8 +247,8 @@ fn hand_out<S: FrameStore>(run: ScriptRun<S>, engine: &mut Option<Engine<S>>, jo
     ensures engine { engine.new ≡ Some run.engine }
     ensures entries { journal.new.entries ≡ run.entries }
 {
-    let (made, entries) = run.into_parts();
-    *engine = Some(made);
+    let (run_engine, entries) = run.into_parts();
+    *engine = Some(run_engine);
     *journal = entries;
 }
 

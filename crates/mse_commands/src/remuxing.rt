@@ -110,7 +110,7 @@ pub fn run_remux<L: Library, K: Sink>(
         Err(end) => return Err(end),
     };
     match put_remuxed(alloc, sink, file.as_slice()) {
-        Ok(broken) => Ok(broken),
+        Ok(is_broken) => Ok(is_broken),
         Err(halt) => Err(End::of_halt(halt)),
     }
 }

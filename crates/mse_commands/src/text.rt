@@ -38,9 +38,9 @@ fn line_naming(alloc: Global, words: &str, name: &str) -> Result<String, OutOfMe
     ensures { IfOk result (λ line.
         string_bytes line ≡ words.now ++ (printable_text name.now ++ 10 ∷ [])) }
 {
-    let shown = printable(alloc, name)?;
-    let shown = shown.as_str();
-    let line = format!(in alloc; "{words}{shown}\n")?;
+    let shown_name = printable(alloc, name)?;
+    let shown_name = shown_name.as_str();
+    let line = format!(in alloc; "{words}{shown_name}\n")?;
     Ok(line)
 }
 

@@ -67,11 +67,11 @@ pub(crate) fn around(side: &SourceSide, element: &Element, k: u32) -> Around
 }
 
 /// Opens an ended source again, where a reply says so.
-fn open_again(source: &mut Source, reopened: bool)
+fn open_again(source: &mut Source, is_reopened: bool)
     ensures { source.new
-        ≡ record source.old { ready = ready_again reopened source.old.ready } }
+        ≡ record source.old { ready = ready_again is_reopened source.old.ready } }
 {
-    if reopened {
+    if is_reopened {
         source.reopen();
     }
 }

@@ -24,10 +24,10 @@ use source_state::{Added, Changed, Removed};
 use track_store::FrameStore;
 
 /// The answer of a call that may be refused and tells nothing else.
-pub(crate) fn answer_by(refused: Option<Name>) -> Answer
-    ensures { result ≡ refused_or refused Done }
+pub(crate) fn answer_by(refusal: Option<Name>) -> Answer
+    ensures { result ≡ refused_or refusal Done }
 {
-    match refused {
+    match refusal {
         Some(name) => Answer::Refused(name),
         None => Answer::Done,
     }

@@ -105,10 +105,10 @@ pub(crate) fn append_all<F: Read>(
 }
 
 /// What a load answers whose file was opened.
-fn answer_for_read(read: &Result<(), ReadStop>) -> Loaded
-    ensures { result ≡ loaded_of read.now }
+fn answer_for_read(outcome: &Result<(), ReadStop>) -> Loaded
+    ensures { result ≡ loaded_of outcome.now }
 {
-    match read {
+    match outcome {
         Ok(()) => Loaded::Done,
         Err(ReadStop::OutOfMemory) => Loaded::OutOfMemory,
         Err(ReadStop::TooLong | ReadStop::Reader(_) | ReadStop::Endless) => Loaded::Failed,

@@ -18,14 +18,14 @@ const SAMPLE_ENTRIES: [[u8; 4]; 11] = [
 pub fn codec_known(codec: [u8; 4]) -> bool
     ensures { result ≡ is_among sample_entries codec }
 {
-    SAMPLE_ENTRIES.iter().any(|known| *known == codec)
+    SAMPLE_ENTRIES.iter().any(|entry| *entry == codec)
 }
 
 /// Whether a codecs parameter may name this codec.
 pub(crate) fn is_codec_name(name: &[u8]) -> bool
     ensures { result ≡ is_among codec_names name.now }
 {
-    CODECS.iter().any(|known| name == known.as_slice())
+    CODECS.iter().any(|codec| name == codec.as_slice())
 }
 
 /// The container of a media type, which may be written in letters of either case.

@@ -25,8 +25,8 @@ use track_index::IndexStore;
 fn arguments(rt: &HostRuntime) -> Result<Vec<String>, OutOfMemory> {
     let mut words = Vec::new(rt.alloc());
     match env::args(rt) {
-        Ok(given) => {
-            for word in given.skip(1) {
+        Ok(texts) => {
+            for word in texts.skip(1) {
                 words.push(word)?;
             }
         }

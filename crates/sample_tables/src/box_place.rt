@@ -37,10 +37,13 @@ pub(crate) fn first_place(bytes: &[u8], kind: [u8; 4]) -> Result<Option<BoxPlace
     'boxes: loop {
         let start = bytes.len() - walk.rest.len();
         match walk.next() {
-            Child::Found { kind: found, .. } => {
+            Child::Found {
+                kind: child_kind,
+                ..
+            } => {
                 let end = bytes.len() - walk.rest.len();
                 let next = BoxPlace {
-                    kind: found,
+                    kind: child_kind,
                     start,
                     end,
                 };

@@ -38,14 +38,15 @@ fn media_track_with(
     len: u64,
     before: &Totals,
     info: &TrackInfo,
-    read: TrackTables,
+    track_tables: TrackTables,
 ) -> Result<MediaTrack, MovieError>
     requires readable { IsReadable info.now }
     requires samples { before.now.samples ≤ 2 ^ 22 }
     requires bytes { before.now.bytes ≤ 2 ^ 30 }
-    requires chunks { length read.tables.chunk_offsets ≤ 2 ^ 32 }
-    requires described { IsDescription read.codec read.stsd }
-    ensures value { Gives (λ track. track) result (media_track_with len before.now info.now read) }
+    requires chunks { length track_tables.tables.chunk_offsets ≤ 2 ^ 32 }
+    requires described { IsDescription track_tables.codec track_tables.stsd }
+    ensures value { Gives (λ track. track) result
+        (media_track_with len before.now info.now track_tables) }
     ensures facts { info.now.kind ≢ Kind.Other → IfOk result (λ track. IsFileTrack len track) }
     ensures few { IfOk result (λ track. AreFew before.now track) }
     ensures named { IfOk result (λ track. track.info ≡ info.now) }
@@ -54,7 +55,7 @@ fn media_track_with(
         stsd,
         codec,
         tables,
-    } = read;
+    } = track_tables;
     if !are_consistent(&tables) {
         return Err(MovieError::Fault(MovieFault::Tables));
     }
@@ -94,7 +95,7 @@ fn read_media_track(
     ensures named { IfOk result (λ track. track.info ≡ info.now) }
 {
     match read_track_tables(alloc, trak) {
-        Ok(read) => media_track_with(alloc, len, before, info, read),
+        Ok(track_tables) => media_track_with(alloc, len, before, info, track_tables),
         Err(error) => Err(in_moov(error)),
     }
 }
@@ -112,8 +113,8 @@ fn has_media(infos: &[TrackInfo], movie: Row<'_>) -> bool
 {
     let mut movie = movie;
     let mut rest = infos;
-    'boxes: while let Some(found) = movie.next() {
-        if found.kind == *b"trak" {
+    'boxes: while let Some(child) = movie.next() {
+        if child.kind == *b"trak" {
             let [info, behind @ ..] = rest else {
                 return false;
             };
@@ -192,14 +193,14 @@ fn read_media_tracks(
         samples: 0,
         bytes: 0,
     };
-    'boxes: while let Some(found) = movie.next() {
-        if found.kind == *b"trak" {
+    'boxes: while let Some(child) = movie.next() {
+        if child.kind == *b"trak" {
             let [info, behind @ ..] = rest else {
                 return Ok(tracks);
             };
             rest = behind;
             if is_media(info) {
-                totals = match push_track(alloc, len, &mut tracks, &totals, info, found.payload) {
+                totals = match push_track(alloc, len, &mut tracks, &totals, info, child.payload) {
                     Ok(totals) => totals,
                     Err(error) => return Err(error),
                 };

@@ -46,13 +46,13 @@ impl<S: FrameStore> ScriptRun<S> {
             → Rose (K.faults sink.old) (K.faults sink.new) }
     {
         let from = self.journal.len();
-        let Ok(taken) = self.take_event() else {
+        let Ok(next_event) = self.take_event() else {
             return Err(Stop::Halted(Halt::Memory));
         };
-        let Some(event) = taken else {
+        let Some(event) = next_event else {
             return Ok(false);
         };
-        let dispatched = dispatch(
+        let outcome = dispatch(
             &mut self.engine,
             blobs,
             listeners,
@@ -60,14 +60,14 @@ impl<S: FrameStore> ScriptRun<S> {
             &mut self.left,
             &mut self.journal,
         );
-        if wanted_memory(dispatched) {
+        if wanted_memory(outcome) {
             return Err(Stop::Halted(Halt::Memory));
         }
         match put_entries(self.alloc, sink, &self.journal, from) {
             Ok(()) => {}
             Err(halt) => return Err(Stop::Halted(halt)),
         }
-        match dispatched {
+        match outcome {
             Ok(()) => {}
             Err(fault) => return Err(Stop::of(fault)),
         }
@@ -141,7 +141,7 @@ impl<S: FrameStore> ScriptRun<S> {
             let Some(k) = self.engine.running() else {
                 return Ok(true);
             };
-            let Ok(_worked) = self.work(k) else {
+            let Ok(_has_worked) = self.work(k) else {
                 return Err(Stop::Halted(Halt::Memory));
             };
         }
@@ -174,7 +174,7 @@ impl<S: FrameStore> ScriptRun<S> {
             if !self.engine.due() {
                 return Ok(true);
             }
-            let Ok(_turned) = self.turn() else {
+            let Ok(_has_turned) = self.turn() else {
                 return Err(Stop::Halted(Halt::Memory));
             };
             match self.fire_all(blobs, sink, listeners) {
@@ -213,7 +213,7 @@ impl<S: FrameStore> ScriptRun<S> {
         }
         match self.turn_all(blobs, sink, listeners) {
             Err(stop) => Err(stop),
-            Ok(ended) => Ok(ended),
+            Ok(is_done) => Ok(is_done),
         }
     }
 

@@ -70,12 +70,12 @@ pub fn give_rules(
     ensures given { OnOk result ((w : ℕ) → w < vec_len listeners.new
         → rules_at (map (λ b. rules b) listeners.new.items) w ≡ rules_for w list.items) }
 {
-    let mut left = list;
+    let mut rules_left = list;
     for number in 0..listeners.len() {
-        let Ok((own, others)) = rules_by_number(alloc, left, number as u32) else {
+        let Ok((own, others)) = rules_by_number(alloc, rules_left, number as u32) else {
             return Err(OutOfMemory);
         };
-        left = others;
+        rules_left = others;
         let listener = &mut listeners[number];
         give_to(listener, own);
     }

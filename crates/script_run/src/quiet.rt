@@ -21,10 +21,10 @@ impl<S: FrameStore> ScriptRun<S> {
         ensures end { OnOk result ((st : State) → Stands self.new.engine st → HasNoEvent st) }
     {
         'firing: loop {
-            let Ok(taken) = self.take_event() else {
+            let Ok(next_event) = self.take_event() else {
                 return Err(OutOfMemory);
             };
-            let Some(_event) = taken else {
+            let Some(_event) = next_event else {
                 return Ok(());
             };
         }
@@ -43,7 +43,7 @@ impl<S: FrameStore> ScriptRun<S> {
             let Some(k) = self.engine.running() else {
                 return Ok(());
             };
-            let Ok(_worked) = self.work(k) else {
+            let Ok(_has_worked) = self.work(k) else {
                 return Err(OutOfMemory);
             };
         }
@@ -63,7 +63,7 @@ impl<S: FrameStore> ScriptRun<S> {
             if !self.engine.due() {
                 return Ok(());
             }
-            let Ok(_turned) = self.turn() else {
+            let Ok(_has_turned) = self.turn() else {
                 return Err(OutOfMemory);
             };
             let Ok(()) = self.fire_quietly() else {

@@ -39,10 +39,10 @@ impl Stop {
 }
 
 /// Whether memory was wanting in a dispatch.
-pub(crate) fn wanted_memory(dispatched: Result<(), DispatchFault>) -> bool
-    ensures { (result ≡ true) ↔ (dispatched ≡ Err DispatchFault.OutOfMemory) }
+pub(crate) fn wanted_memory(outcome: Result<(), DispatchFault>) -> bool
+    ensures { (result ≡ true) ↔ (outcome ≡ Err DispatchFault.OutOfMemory) }
 {
-    match dispatched {
+    match outcome {
         Err(DispatchFault::OutOfMemory) => true,
         Ok(()) | Err(DispatchFault::CallBudget(_)) | Err(DispatchFault::TaskBudget) => false,
     }

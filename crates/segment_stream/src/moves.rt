@@ -17,24 +17,24 @@ use std::alloc::Global;
 pub(crate) const NEVER: u64 = u64::MAX;
 
 /// Passes over the bytes of a box that are there.
-fn pass_over(at: Progress, to: Phase, left: u64, input: &Chunks) -> MoveResult
+fn pass_over(at: Progress, to: Phase, len_left: u64, input: &Chunks) -> MoveResult
     requires inside { at.from ≤ length (concat input.now) }
     requires idle { at.ready ≡ 0 }
     requires small { at.position.offset + (length (concat input.now) - at.from) < 2 ^ 62 }
-    requires skipping { at.position.mode ≡ ParserMode.Skipping to left }
+    requires skipping { at.position.mode ≡ ParserMode.Skipping to len_left }
     requires going { at.position.failed ≡ false }
     ensures { (last : Option Presentation) (tables : Tables) → IsMoveResult last (with_tables at
         tables) tables (concat input.now) result }
 {
     let there = (input.len() - at.from) as u64;
-    if there == 0 && left > 0 {
+    if there == 0 && len_left > 0 {
         return MoveResult::Rest(0);
     }
-    if there < left {
+    if there < len_left {
         let position = ParserPosition {
             mode: ParserMode::Skipping {
                 to,
-                left: left - there,
+                left: len_left - there,
             },
             offset: at.position.offset + there,
             failed: false,
@@ -48,12 +48,12 @@ fn pass_over(at: Progress, to: Phase, left: u64, input: &Chunks) -> MoveResult
     }
     let position = ParserPosition {
         mode: ParserMode::Between(to),
-        offset: at.position.offset + left,
+        offset: at.position.offset + len_left,
         failed: false,
     };
     MoveResult::Go(Progress {
         position,
-        from: at.from + left as usize,
+        from: at.from + len_left as usize,
         want: 0,
         ..at
     })
@@ -180,9 +180,9 @@ fn behind_frames(at: Progress, fragment: Fragment, tables: &Tables, input: &Chun
         (1 + ready_behind (length (concat input.now) - at.from) fragment tables.now) }
 {
     let (_, slots) = tables.slots.as_slice().split_at(fragment.taken + 1);
-    let (known, _) = tables.known.as_slice().split_at(fragment.known);
+    let (ranges, _) = tables.known.as_slice().split_at(fragment.known);
     let there = (input.len() - at.from) as u64;
-    let count = 1 + count_ready(slots, known, there);
+    let count = 1 + count_ready(slots, ranges, there);
     let fragment = Fragment {
         taken: fragment.taken + count,
         ..fragment
@@ -263,7 +263,7 @@ fn move_on(
         return Ok(MoveResult::Rest(NEVER));
     }
     match at.position.mode {
-        ParserMode::Skipping { to, left } => Ok(pass_over(at, to, left, input)),
+        ParserMode::Skipping { to, left: len_left } => Ok(pass_over(at, to, len_left, input)),
         ParserMode::Between(_) => act_on(alloc, last, at, tables, input),
         ParserMode::Within(_) => act_on(alloc, last, at, tables, input),
     }

@@ -64,7 +64,7 @@ pub(crate) fn offer_on(
         return Ok(progress);
     }
     match run_on(alloc, last, progress, tables, input) {
-        Ok(found) => Ok(found),
+        Ok(next) => Ok(next),
         Err(e) => {
             input.drop_back(len);
             Err(e)
@@ -73,30 +73,31 @@ pub(crate) fn offer_on(
 }
 
 /// Puts in place what was found. It takes no memory.
-pub(crate) fn accept_on(found: Progress, input: &mut Chunks) -> Progress
-    requires { found.from ≤ length (concat input.old) }
-    ensures rest { (last : Option Presentation) (tables : Tables) → IsConsistent found tables
-        (concat input.old) → Rests (state_of last found.position tables (drop found.from (concat
-        input.old))) found.want → IsWaitingForBytes last result tables (concat input.new) }
+pub(crate) fn accept_on(progress: Progress, input: &mut Chunks) -> Progress
+    requires { progress.from ≤ length (concat input.old) }
+    ensures rest { (last : Option Presentation) (tables : Tables) → IsConsistent progress tables
+        (concat input.old) → Rests (state_of last progress.position tables
+        (drop progress.from (concat input.old))) progress.want
+        → IsWaitingForBytes last result tables (concat input.new) }
     ensures kept { (last : Option Presentation) (tables : Tables) → kept_of last result tables
-        (concat input.new) ≡ kept_of last found tables (concat input.old) }
+        (concat input.new) ≡ kept_of last progress tables (concat input.old) }
     ensures progress { result ≡ record {
-      position = found.position;
+      position = progress.position;
       from = 0;
-      first = found.first;
-      ready = found.ready;
-      want = found.want;
+      first = progress.first;
+      ready = progress.ready;
+      want = progress.want;
     } }
-    ensures position { result.position ≡ found.position }
-    ensures ready { result.ready ≡ found.ready }
-    ensures pieces { input.new ≡ pieces_without_first found.from input.old }
+    ensures position { result.position ≡ progress.position }
+    ensures ready { result.ready ≡ progress.ready }
+    ensures pieces { input.new ≡ pieces_without_first progress.from input.old }
 {
-    input.drop_front(found.from);
+    input.drop_front(progress.from);
     Progress {
-        position: found.position,
+        position: progress.position,
         from: 0,
-        first: found.first,
-        ready: found.ready,
-        want: found.want,
+        first: progress.first,
+        ready: progress.ready,
+        want: progress.want,
     }
 }

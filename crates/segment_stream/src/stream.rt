@@ -188,11 +188,11 @@ impl Stream {
             (λ bytes. self.new.fed ≡ self.old.fed + length bytes) }
         ensures idle { self.new.offered ≡ None }
     {
-        let Some(offered) = self.offered else {
+        let Some(offer) = self.offered else {
             return;
         };
-        self.progress = accept_on(offered.progress, &mut self.input);
-        self.fed += offered.len as u64;
+        self.progress = accept_on(offer.progress, &mut self.input);
+        self.fed += offer.len as u64;
         self.offered = None;
     }
 
@@ -206,10 +206,10 @@ impl Stream {
           offered = None;
         } }
     {
-        let Some(offered) = self.offered else {
+        let Some(offer) = self.offered else {
             return;
         };
-        self.input.drop_back(offered.len);
+        self.input.drop_back(offer.len);
         self.offered = None;
     }
 

@@ -184,20 +184,20 @@ fn header_at(input: &Chunks, from: usize, at: u64) -> Header
     }
     let place = place as usize;
     let mut front = [0; 16];
-    let left = input.len() - place;
-    if left >= 16 {
+    let len_left = input.len() - place;
+    if len_left >= 16 {
         input.read(place, &mut front);
         return header(&front);
     }
-    let (part, _) = front.split_at_mut(left);
+    let (part, _) = front.split_at_mut(len_left);
     input.read(place, part);
     header(part)
 }
 
-/// The step at a place of a movie fragment; `done` says that no slot is left.
-fn place_step(input: &Chunks, from: usize, done: bool, place: Place) -> BoxStep
+/// The step at a place of a movie fragment; `is_done` says that no slot is left.
+fn place_step(input: &Chunks, from: usize, is_done: bool, place: Place) -> BoxStep
     requires { from ≤ length (concat input.now) }
-    ensures { result ≡ placed_step (drop from (concat input.now)) done place }
+    ensures { result ≡ placed_step (drop from (concat input.now)) is_done place }
 {
     let there = (input.len() - from) as u64;
     match place {
@@ -205,7 +205,7 @@ fn place_step(input: &Chunks, from: usize, done: bool, place: Place) -> BoxStep
         Place::InData(end) => {
             if there < end {
                 BoxStep::Wait(end)
-            } else if done {
+            } else if is_done {
                 BoxStep::EndSegment(end)
             } else {
                 BoxStep::NextBox(end)

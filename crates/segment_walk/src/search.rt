@@ -12,11 +12,11 @@ fn range_of(known: &[DataRange], slot: &Slot) -> Option<DataRange>
     ensures found { is_some result ≡ lying known.now slot.now }
     ensures among { IfSome result (IsAmong known.now) }
 {
-    let begun = known.partition_point(|range| range.start <= slot.start);
-    if begun == 0 {
+    let begun_count = known.partition_point(|range| range.start <= slot.start);
+    if begun_count == 0 {
         return None;
     }
-    let range = known[begun - 1];
+    let range = known[begun_count - 1];
     if slot.end <= range.end {
         Some(range)
     } else {

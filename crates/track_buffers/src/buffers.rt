@@ -159,7 +159,7 @@ impl<S: FrameStore> TrackBuffers<S> {
         match init_fault(&self.tracks, self.pending, presentation) {
             Some(fault) => MediaEffect::AppendError(fault, effect),
             None => {
-                let activated = self.tracks.len() == 0;
+                let is_first = self.tracks.len() == 0;
                 let news = presentation.tracks.as_slice();
                 take_tracks(&mut self.tracks, self.alloc, self.gap, news);
                 self.ahead = Ahead::NONE;
@@ -170,7 +170,7 @@ impl<S: FrameStore> TrackBuffers<S> {
                 MediaEffect::Done(SourceEffect {
                     duration_changes: effect.duration_changes,
                     duration: effect.duration,
-                    activated,
+                    activated: is_first,
                     received_init: true,
                 })
             }

@@ -129,7 +129,7 @@ impl IndexStore {
         let from = place_below(&self.items, serial);
         let run = run_from(&self.items, from);
         let count = run.count;
-        let left = take_run_out(
+        let bytes_left = take_run_out(
             &mut self.order,
             &self.items,
             Stretch { from, count },
@@ -149,7 +149,7 @@ impl IndexStore {
             index: run.last.index + 1,
         };
         self.items.remove_range(from, to);
-        self.total = left;
+        self.total = bytes_left;
     }
 
     /// The serial of the first frame in order of presentation that is named, of those not before
@@ -190,8 +190,8 @@ impl FrameStore for IndexStore {
             Some(more) => more,
             None => return Err(OutOfMemory),
         };
-        let held = self.items.len() - self.ranges.len();
-        match more.checked_add(held) {
+        let surplus = self.items.len() - self.ranges.len();
+        match more.checked_add(surplus) {
             Some(room) => self.ranges.reserve(room),
             None => Err(OutOfMemory),
         }

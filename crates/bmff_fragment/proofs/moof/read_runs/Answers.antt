@@ -14,11 +14,11 @@ pub returns-in_err-at-clause-value : goal.returns-in_err-at-clause-value
 returns-in_err-at-clause-value c =
     let s = c.boxes in
     let f = c.args.fragment.now in
-    let found = c.in-Some.found in
+    let child = c.in-Some.child in
     let left = all_of (codes "trun") c.next.new.self in
-    let here = all-here found.kind (codes "trun") found.payload.now c.next.new.self s.row (sym c.eq.ensures ∙ c.if-eq.true) c.in-Some.ensures.some in
+    let here = all-here child.kind (codes "trun") child.payload.now c.next.new.self s.row (sym c.eq.ensures ∙ c.if-eq.true) c.in-Some.ensures.some in
     let same = sym (ap (runs_steps f s.at s.slots.items) here) ∙ s.invariant.same in
-    let stop = run_stops f s.at s.slots.items found.payload.now left _ c.in_err-at.field-0.0 c.in_err-at.ensures.value same in
+    let stop = run_stops f s.at s.slots.items child.payload.now left _ c.in_err-at.field-0.0 c.in_err-at.ensures.value same in
     let p = err_from_is_err_and c.from_residual.result c.from_residual.ensures.1 in
     rw (p.1, p.2) (part_stops f c.args.samples c.args.slots.now.items (all_of (codes "trun") c.args.row) c.in_err-at.field-0.0 stop)
 
@@ -26,12 +26,12 @@ pub boxes-preserved-then-eq : goal.boxes-preserved-then-eq
 boxes-preserved-then-eq c =
     let s = c.boxes in
     let f = c.args.fragment.now in
-    let found = c.in-Some.found in
+    let child = c.in-Some.child in
     let left = all_of (codes "trun") c.next.new.self in
-    let here = all-here found.kind (codes "trun") found.payload.now c.next.new.self s.row (sym c.eq.ensures ∙ c.if-eq.true) c.in-Some.ensures.some in
+    let here = all-here child.kind (codes "trun") child.payload.now c.next.new.self s.row (sym c.eq.ensures ∙ c.if-eq.true) c.in-Some.ensures.some in
     let same = sym (ap (runs_steps f s.at s.slots.items) here) ∙ s.invariant.same in
     record {
-      same = run_goes f s.at c.in_ok-at.at s.slots.items c.read_run.new.slots.items found.payload.now left _ c.in_ok-at.ensures.value same;
+      same = run_goes f s.at c.in_ok-at.at s.slots.items c.read_run.new.slots.items child.payload.now left _ c.in_ok-at.ensures.value same;
       few = c.in_ok-at.ensures.few;
       end = c.in_ok-at.ensures.end;
       time = c.in_ok-at.ensures.time;

@@ -10,7 +10,7 @@ use Rattle.bmff_init.proofs.track.read_tracks.Goals as goal
 pub returns-in_err-track : goal.returns-in_err-track
 returns-in_err-track c =
     let s = c.boxes in
-    let f = c.in-Some.found in
+    let f = c.in-Some.child in
     let trexes = all_of (codes "trex") (boxes_in c.args.mvex.now) in
     let h = all-here f.kind (codes "trak") f.payload.now c.next.new.self s.movie (sym c.eq.ensures ∙ c.if-eq.true) c.in-Some.ensures.some in
     let read : c.read_track.result ≡ track_of c.args.form c.args.movie_scale trexes s.tracks.items f.payload.now = c.read_track.ensures ∙ ap (λ before. track_of c.args.form c.args.movie_scale trexes before f.payload.now) c.as_slice.ensures.value in
@@ -21,7 +21,7 @@ returns-in_err-track c =
 pub boxes-preserved-in-Continue-branch-2 : goal.boxes-preserved-in-Continue-branch-2
 boxes-preserved-in-Continue-branch-2 c =
     let s = c.boxes in
-    let f = c.in-Some.found in
+    let f = c.in-Some.child in
     let trexes = all_of (codes "trex") (boxes_in c.args.mvex.now) in
     let h = all-here f.kind (codes "trak") f.payload.now c.next.new.self s.movie (sym c.eq.ensures ∙ c.if-eq.true) c.in-Some.ensures.some in
     let read : c.read_track.result ≡ track_of c.args.form c.args.movie_scale trexes s.tracks.items f.payload.now = c.read_track.ensures ∙ ap (λ before. track_of c.args.form c.args.movie_scale trexes before f.payload.now) c.as_slice.ensures.value in

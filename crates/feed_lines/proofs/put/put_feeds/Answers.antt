@@ -21,18 +21,18 @@ returns-in_default-clause-err g c =
 pub returns-in-Err-clause-err : goal.returns-in-Err-clause-err
 returns-in-Err-clause-err g c =
     let t = state_of g.S.FrameStore.frames c.args.track.now in
-    let wanted = wanted_frame c.in-Some.wanted _ c.in-Some.ensures.wanted in
+    let wanted = wanted_frame c.in-Some.serial _ c.in-Some.ensures.wanted in
     wanted_failed c.args.from c.feeding.at t wanted.0 _ _ _ c.requires wanted.1 c.feeding.invariant.feeding (rw wanted.2 at c.in-Err.ensures.err)
 
 pub feeding-smaller : goal.feeding-smaller
 feeding-smaller g c =
-    let wanted = wanted_frame c.in-Some.wanted _ c.in-Some.ensures.wanted in
+    let wanted = wanted_frame c.in-Some.serial _ c.in-Some.ensures.wanted in
     rw c.in-Ok-put_given.ensures.end (goes_on c.feeding.at (state_of g.S.FrameStore.frames c.args.track.now) wanted.0 c.requires wanted.1)
 
 pub feeding-preserved : goal.feeding-preserved
 feeding-preserved g c =
     let t = state_of g.S.FrameStore.frames c.args.track.now in
-    let wanted = wanted_frame c.in-Some.wanted _ c.in-Some.ensures.wanted in record {
+    let wanted = wanted_frame c.in-Some.serial _ c.in-Some.ensures.wanted in record {
       feeding = group_put c.args.from c.feeding.at c.in-Ok-put_given.end t wanted.0 _ _ _ _ c.requires wanted.1 c.feeding.invariant.feeding (rw wanted.2 at c.in-Ok.ensures.ok) c.in-Ok-put_given.ensures.ok c.in-Ok-put_given.ensures.end;
       later = omega (arith, c.feeding.invariant.later, c.put_wanted.ensures.later, c.put_given.ensures.later);
     }
@@ -40,5 +40,5 @@ feeding-preserved g c =
 pub returns-in-Err-put_given-clause-err : goal.returns-in-Err-put_given-clause-err
 returns-in-Err-put_given-clause-err g c =
     let t = state_of g.S.FrameStore.frames c.args.track.now in
-    let wanted = wanted_frame c.in-Some.wanted _ c.in-Some.ensures.wanted in
+    let wanted = wanted_frame c.in-Some.serial _ c.in-Some.ensures.wanted in
     given_failed c.args.from c.feeding.at t wanted.0 _ _ _ _ c.requires wanted.1 c.feeding.invariant.feeding (rw wanted.2 at c.in-Ok.ensures.ok) c.in-Err-put_given.ensures.err

@@ -8,24 +8,24 @@ use Rattle.input_chunks.proofs.Rows.{front-less, front-last, front-all, none-fro
 use Rattle.input_chunks.proofs.Kept.{pieces-popped, bytes-popped, ended-cut, ended-front}
 use Rattle.input_chunks.proofs.chunks.drop_back_of.Goals as goal
 
-pub returns-then-left-len-clause-pieces : goal.returns-then-left-len-clause-pieces
-returns-then-left-len-clause-pieces c =
+pub returns-then-len_left-len-clause-pieces : goal.returns-then-len_left-len-clause-pieces
+returns-then-len_left-len-clause-pieces c =
     let m = length (concat (pieces_of c.args.entries.now.items)) - c.args.n in
     let front = c.pop_back.new.self.items in
     let last = c.in-Some.last in
     let x : PieceWithEnd = record { piece = c.truncate.new.self; end = c.args.end } in
     let e = pieces-popped front c.entries.entries.items last c.in-Some.ensures.items in
     let l = bytes-popped front c.entries.entries.items last c.in-Some.ensures.items in
-    let k = c.len-len.result - c.entries.left in
+    let k = c.len-len.result - c.entries.len_left in
     pieces-popped front _ x c.push_back_reserved.ensures.items ∙ ap (λ p. pieces_of front ++ p ∷ []) c.truncate.ensures ∙ sym (front-last m k last.piece (pieces_of front) (omega (arith, l, c.entries.invariant.room, c.len-len.ensures)) (omega arith) (omega (arith, c.len-len.ensures))) ∙ sym (ap (first_pieces m) e) ∙ c.entries.invariant.same
 
-pub returns-then-left-len-clause-ended : goal.returns-then-left-len-clause-ended
-returns-then-left-len-clause-ended c = λ at h q.
+pub returns-then-len_left-len-clause-ended : goal.returns-then-len_left-len-clause-ended
+returns-then-len_left-len-clause-ended c = λ at h q.
     let front = c.pop_back.new.self.items in
     let last = c.in-Some.last in
     let x : PieceWithEnd = record { piece = c.truncate.new.self; end = c.args.end } in
     let l = bytes-popped front c.entries.entries.items last c.in-Some.ensures.items in
-    let k = c.len-len.result - c.entries.left in
+    let k = c.len-len.result - c.entries.len_left in
     ended-cut c.args.end _ last x front c.entries.entries.items _ c.in-Some.ensures.items refl (omega (arith, l, c.entries.invariant.room, c.len-len.ensures, ap length c.truncate.ensures, length-take-le k last.piece (omega (arith, c.len-len.ensures)))) c.push_back_reserved.ensures.items at (c.entries.invariant.ended at h) q
 
 pub entries-preserved : goal.entries-preserved

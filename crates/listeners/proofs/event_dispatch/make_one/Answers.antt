@@ -11,6 +11,6 @@ returns-in_default-call-clause-turn g c =
 pub returns-clause-turn : goal.returns-clause-turn
 returns-clause-turn g c =
     let one : List Entry = Listener c.args.number c.args.call c.in-Ok-call.answer ∷ [] in
-    call_turn_made _ _ _ c.in-Ok-call.answer _ _ _ _ c.ask_one-asked.result
+    call_turn_made _ _ _ c.in-Ok-call.answer _ _ _ _ c.ask_one-next_call.result
     (makes_one _ _ _ c.in-Ok-call.answer _ _ (c.push_reserved.ensures.entries ∙ ap (λ (x : List Entry). x ++ one) c.reserve.ensures.entries) c.in-Ok-call.ensures.answered c.in-Ok-call.ensures.sound (omega arith))
-    c.ask_one-asked.ensures.ok c.ask_one-asked.ensures.err
+    c.ask_one-next_call.ensures.ok c.ask_one-next_call.ensures.err

@@ -3,13 +3,13 @@ use Rattle.listeners.specs.Views.{turn_view, run_view}
 use Rattle.listeners.proofs.Serving.{IsServing}
 use Rattle.listeners.proofs.event_dispatch.serve.Given as goal
 
-abbrev pub invariant-loop-asked : goal.invariant-loop-asked
-invariant-loop-asked g l = record {
+abbrev pub invariant-loop-next_call : goal.invariant-loop-next_call
+invariant-loop-next_call g l = record {
   rules : (goal.Listener-dyn g (l.listener.vtable, l.listener.value)).rules l.listener.value ≡ (goal.Listener-dyn g (l.fn.listener.vtable, l.fn.listener.value)).rules l.fn.listener.value;
   serving : IsServing l.blobs l.event
       (turn_view l.number (run_view l.fn.engine l.fn.journal.entries l.fn.left) ((goal.Listener-dyn g (l.fn.listener.vtable, l.fn.listener.value)).notes l.fn.listener.value))
-      (turn_view l.number (run_view l.engine l.journal.entries l.left) ((goal.Listener-dyn g (l.listener.vtable, l.listener.value)).notes l.listener.value)) l.asked l.made;
+      (turn_view l.number (run_view l.engine l.journal.entries l.left) ((goal.Listener-dyn g (l.listener.vtable, l.listener.value)).notes l.listener.value)) l.next_call l.call_count;
 }
 
-abbrev pub decreases-loop-asked : goal.decreases-loop-asked
-decreases-loop-asked g l = 1001 - l.made
+abbrev pub decreases-loop-next_call : goal.decreases-loop-next_call
+decreases-loop-next_call g l = 1001 - l.call_count

@@ -7,13 +7,13 @@ use Rattle.listeners.proofs.rule_listener.hear_by_index.Goals as goal
 pub returns-then-is_empty-clause-index : goal.returns-then-is_empty-clause-index
 returns-then-is_empty-clause-index c heard h =
     let there = c.places-places.ensures ∙ ap (λ (n : ℕ). places_at c.args.index.now n) c.event_number-number.ensures in
-    let heard_one = hears_none c.args.rules.now heard c.args.event.now c.args.index.now c.args.left.now (empty_there c.places-places.result.now _ there c.if-is_empty.ensures) h in
+    let heard_one = hears_none c.args.rules.now heard c.args.event.now c.args.index.now c.args.places_left.now (empty_there c.places-places.result.now _ there c.if-is_empty.ensures) h in
     heard_one.indexed
 
 pub returns-then-is_empty-clause-due : goal.returns-then-is_empty-clause-due
 returns-then-is_empty-clause-due c heard h =
     let there = c.places-places.ensures ∙ ap (λ (n : ℕ). places_at c.args.index.now n) c.event_number-number.ensures in
-    let heard_one = hears_none c.args.rules.now heard c.args.event.now c.args.index.now c.args.left.now (empty_there c.places-places.result.now _ there c.if-is_empty.ensures) h in
+    let heard_one = hears_none c.args.rules.now heard c.args.event.now c.args.index.now c.args.places_left.now (empty_there c.places-places.result.now _ there c.if-is_empty.ensures) h in
     heard_one.due
 
 pub returns-clause-index : goal.returns-clause-index
@@ -25,7 +25,7 @@ returns-clause-index c heard h =
     let counted_there = rw number at counted in
     let chosen_there = rw there at chosen in
     let heard_one =
-    hears_some c.args.rules.now heard c.args.event.now c.count_one.new.self c.args.index.now c.args.left.now c.in_ok-due.due.items
+    hears_some c.args.rules.now heard c.args.event.now c.count_one.new.self c.args.index.now c.args.places_left.now c.in_ok-due.due.items
     (not_empty c.places-places.result.now _ there c.if-is_empty.ensures) c.in_ok-count_one.ensures.places counted_there
     (λ times is. chosen_there times (c.count.ensures ∙ (ap (λ (n : ℕ). count_at c.args.index.now n) number ∙ is))) h in
     heard_one.indexed
@@ -39,7 +39,7 @@ returns-clause-due c heard h =
     let counted_there = rw number at counted in
     let chosen_there = rw there at chosen in
     let heard_one =
-    hears_some c.args.rules.now heard c.args.event.now c.count_one.new.self c.args.index.now c.args.left.now c.in_ok-due.due.items
+    hears_some c.args.rules.now heard c.args.event.now c.count_one.new.self c.args.index.now c.args.places_left.now c.in_ok-due.due.items
     (not_empty c.places-places.result.now _ there c.if-is_empty.ensures) c.in_ok-count_one.ensures.places counted_there
     (λ times is. chosen_there times (c.count.ensures ∙ (ap (λ (n : ℕ). count_at c.args.index.now n) number ∙ is))) h in
     heard_one.due

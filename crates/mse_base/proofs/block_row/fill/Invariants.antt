@@ -12,4 +12,4 @@ invariant-fill l = record {
 }
 
 abbrev pub decreases-fill : goal.decreases-fill
-decreases-fill l = l.needed - length l.pool.items
+decreases-fill l = l.block_count - length l.pool.items

@@ -9,7 +9,7 @@ returns-in-Err-clause-works g c = λ count told given.
 pub returns-in-Ok-put_remuxed-clause-works : goal.returns-in-Ok-put_remuxed-clause-works
 returns-in-Ok-put_remuxed-clause-works g c = λ count told given.
     remux_works (g.L.Library.table c.args.library.now) (g.L.Library.faults c.args.library.now) (g.L.Library.faults c.load.new.library) c.args.name.now c.in-Ok.file.items
-    (g.K.Sink.written c.args.sink.now) (g.K.Sink.written c.put_remuxed.new.sink) count told given c.in-Ok-put_remuxed.broken c.in-Ok.ensures.ok
+    (g.K.Sink.written c.args.sink.now) (g.K.Sink.written c.put_remuxed.new.sink) count told given c.in-Ok-put_remuxed.is_broken c.in-Ok.ensures.ok
     (rw c.as_slice.ensures.value at c.in-Ok-put_remuxed.ensures.wrote) (rw c.as_slice.ensures.value at c.in-Ok-put_remuxed.ensures.ok)
 
 pub returns-clause-works : goal.returns-clause-works

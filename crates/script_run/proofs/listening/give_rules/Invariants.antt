@@ -6,5 +6,5 @@ abbrev pub invariant-loop-number : goal.invariant-loop-number
 invariant-loop-number g l = record {
   len : vec_len l.listeners ≡ l.number-end;
   notes : map (λ b. (goal.Listener-dyn g (b.vtable, b.value)).notes b.value) l.listeners.items ≡ map (λ b. (goal.Listener-dyn g (b.vtable, b.value)).notes b.value) l.fn.listeners.items;
-  given : Given l.fn.list.items l.left.items (map (λ b. (goal.Listener-dyn g (b.vtable, b.value)).rules b.value) l.listeners.items) l.number;
+  given : Given l.fn.list.items l.rules_left.items (map (λ b. (goal.Listener-dyn g (b.vtable, b.value)).rules b.value) l.listeners.items) l.number;
 }

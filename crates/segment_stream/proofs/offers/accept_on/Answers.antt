@@ -5,7 +5,7 @@ use Rattle.segment_stream.proofs.Found.{accepted-kept, accepted-rest}
 use Rattle.segment_stream.proofs.offers.accept_on.Goals as goal
 
 pub returns-clause-rest : goal.returns-clause-rest
-returns-clause-rest c = λ last tables f w. accepted-rest last c.args.found tables (concat c.args.input.now) _ (ap concat c.drop_front.ensures ∙ bytes-without c.args.found.from c.args.input.now) f w
+returns-clause-rest c = λ last tables f w. accepted-rest last c.args.progress tables (concat c.args.input.now) _ (ap concat c.drop_front.ensures ∙ bytes-without c.args.progress.from c.args.input.now) f w
 
 pub returns-clause-kept : goal.returns-clause-kept
-returns-clause-kept c = λ last tables. accepted-kept last c.args.found tables (concat c.args.input.now) _ (ap concat c.drop_front.ensures ∙ bytes-without c.args.found.from c.args.input.now)
+returns-clause-kept c = λ last tables. accepted-kept last c.args.progress tables (concat c.args.input.now) _ (ap concat c.drop_front.ensures ∙ bytes-without c.args.progress.from c.args.input.now)

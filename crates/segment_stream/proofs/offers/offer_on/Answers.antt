@@ -30,7 +30,7 @@ pub returns-in-Ok-clause-found : goal.returns-in-Ok-clause-found
 returns-in-Ok-clause-found c =
     let b = concat c.args.input.now in
     let e = ap concat c.in_ok-push_bytes.ensures.ok ∙ bytes-pushed c.args.bytes c.args.input.now in
-    found-ok c.in-Ok.found c.args.last.now c.args.progress c.args.tables.now _ b c.args.bytes _ e c.if-progress.false c.requires.rest c.in-Ok.ensures.since c.in-Ok.ensures.same c.in-Ok.ensures.consistent c.in-Ok.ensures.rests c.in-Ok.ensures.total
+    found-ok c.in-Ok.next c.args.last.now c.args.progress c.args.tables.now _ b c.args.bytes _ e c.if-progress.false c.requires.rest c.in-Ok.ensures.since c.in-Ok.ensures.same c.in-Ok.ensures.consistent c.in-Ok.ensures.rests c.in-Ok.ensures.total
 
 pub returns-then-progress-clause-found : goal.returns-then-progress-clause-found
 returns-then-progress-clause-found c =
@@ -44,4 +44,4 @@ returns-in-Ok-clause-rest c =
     let r = c.args.progress in
     let tables = c.args.tables.now in
     let new = c.run_on.new.tables in
-    keeps-rest c.args.last.now r tables new (concat c.args.input.now) (since-keeps r.position.mode c.in-Ok.found.position.mode tables new c.in-Ok.ensures.since) c.requires.rest
+    keeps-rest c.args.last.now r tables new (concat c.args.input.now) (since-keeps r.position.mode c.in-Ok.next.position.mode tables new c.in-Ok.ensures.since) c.requires.rest

@@ -18,7 +18,7 @@ fire_quietly-requires g c =
     let stands : IsStanding c.turning.self.engine = standing_drains c.args.self.now c.turning.self c.requires c.turning.invariant.drains in
     let due : (st : State) → Stands c.turning.self.engine st → due_in st ≡ true = λ st h. sym (c.due.ensures st (rw (← c.self.view_is) at h)) ∙ c.if-not-due.false in
     let both : (blobs : List (List ℕ)) → Drains blobs c.args.self.now c.turn.new.self = λ blobs. drains_then blobs _ _ _ (c.turning.invariant.drains blobs)
-    (drains_turn blobs c.in-Ok-turn._turned c.turning.self c.turn.new.self stands c.turning.invariant.quiet due (c.in-Ok-turn.ensures.ok blobs)) in
+    (drains_turn blobs c.in-Ok-turn._has_turned c.turning.self c.turn.new.self stands c.turning.invariant.quiet due (c.in-Ok-turn.ensures.ok blobs)) in
     standing_drains c.args.self.now c.turn.new.self c.requires both
 
 pub turning-smaller : goal.turning-smaller
@@ -26,8 +26,8 @@ turning-smaller g c =
     let stands : IsStanding c.turning.self.engine = standing_drains c.args.self.now c.turning.self c.requires c.turning.invariant.drains in
     let due : (st : State) → Stands c.turning.self.engine st → due_in st ≡ true = λ st h. sym (c.due.ensures st (rw (← c.self.view_is) at h)) ∙ c.if-not-due.false in
     let both : (blobs : List (List ℕ)) → Drains blobs c.args.self.now c.turn.new.self = λ blobs. drains_then blobs _ _ _ (c.turning.invariant.drains blobs)
-    (drains_turn blobs c.in-Ok-turn._turned c.turning.self c.turn.new.self stands c.turning.invariant.quiet due (c.in-Ok-turn.ensures.ok blobs)) in
-    let did : c.in-Ok-turn._turned ≡ true = did_turn [] c.in-Ok-turn._turned c.turning.self c.turn.new.self stands due (c.in-Ok-turn.ensures.ok []) in
+    (drains_turn blobs c.in-Ok-turn._has_turned c.turning.self c.turn.new.self stands c.turning.invariant.quiet due (c.in-Ok-turn.ensures.ok blobs)) in
+    let did : c.in-Ok-turn._has_turned ≡ true = did_turn [] c.in-Ok-turn._has_turned c.turning.self c.turn.new.self stands due (c.in-Ok-turn.ensures.ok []) in
     let taken = (rw did at c.in-Ok-turn.ensures.fewer) refl in
     rw c.in-Ok-fire_quietly.ensures.calm.turns taken.fewer
 
@@ -36,8 +36,8 @@ turning-preserved g c =
     let stands : IsStanding c.turning.self.engine = standing_drains c.args.self.now c.turning.self c.requires c.turning.invariant.drains in
     let due : (st : State) → Stands c.turning.self.engine st → due_in st ≡ true = λ st h. sym (c.due.ensures st (rw (← c.self.view_is) at h)) ∙ c.if-not-due.false in
     let both : (blobs : List (List ℕ)) → Drains blobs c.args.self.now c.turn.new.self = λ blobs. drains_then blobs _ _ _ (c.turning.invariant.drains blobs)
-    (drains_turn blobs c.in-Ok-turn._turned c.turning.self c.turn.new.self stands c.turning.invariant.quiet due (c.in-Ok-turn.ensures.ok blobs)) in
-    let did : c.in-Ok-turn._turned ≡ true = did_turn [] c.in-Ok-turn._turned c.turning.self c.turn.new.self stands due (c.in-Ok-turn.ensures.ok []) in
+    (drains_turn blobs c.in-Ok-turn._has_turned c.turning.self c.turn.new.self stands c.turning.invariant.quiet due (c.in-Ok-turn.ensures.ok blobs)) in
+    let did : c.in-Ok-turn._has_turned ≡ true = did_turn [] c.in-Ok-turn._has_turned c.turning.self c.turn.new.self stands due (c.in-Ok-turn.ensures.ok []) in
     let taken = (rw did at c.in-Ok-turn.ensures.fewer) refl in
     let buffers : c.fire_quietly.new.self.engine.buffers ≡ c.turning.self.engine.buffers = c.in-Ok-fire_quietly.ensures.calm.buffers ∙ taken.buffers in
     record {
@@ -53,5 +53,5 @@ returns-in_default-fire_quietly-clause-drains g c =
     let stands : IsStanding c.turning.self.engine = standing_drains c.args.self.now c.turning.self c.requires c.turning.invariant.drains in
     let due : (st : State) → Stands c.turning.self.engine st → due_in st ≡ true = λ st h. sym (c.due.ensures st (rw (← c.self.view_is) at h)) ∙ c.if-not-due.false in
     let both : (blobs : List (List ℕ)) → Drains blobs c.args.self.now c.turn.new.self = λ blobs. drains_then blobs _ _ _ (c.turning.invariant.drains blobs)
-    (drains_turn blobs c.in-Ok-turn._turned c.turning.self c.turn.new.self stands c.turning.invariant.quiet due (c.in-Ok-turn.ensures.ok blobs)) in
+    (drains_turn blobs c.in-Ok-turn._has_turned c.turning.self c.turn.new.self stands c.turning.invariant.quiet due (c.in-Ok-turn.ensures.ok blobs)) in
     λ blobs. drains_then blobs _ _ _ (both blobs) (c.fire_quietly.ensures.drains blobs)

@@ -10,19 +10,19 @@ use Rattle.script_run.proofs.run.ScriptRun.fire.Goals as goal
 pub returns-in_default-clause-ran : goal.returns-in_default-clause-ran
 returns-in_default-clause-ran g c = rw c.in_default.ensures.err (halt_none _ _ _ _ (λ st h. inl refl))
 
-pub returns-in_default-taken-clause-ran : goal.returns-in_default-taken-clause-ran
-returns-in_default-taken-clause-ran g c =
-    let took = rw c.in_default-taken.is at c.in-Ok.ensures.ok in
+pub returns-in_default-next_event-clause-ran : goal.returns-in_default-next_event-clause-ran
+returns-in_default-next_event-clause-ran g c =
+    let took = rw c.in_default-next_event.is at c.in-Ok.ensures.ok in
     rw (took []).0 (ran_none _ _ _ (λ st h. nothing_fired st ((took []).1 st h)))
 
-pub returns-in_default-taken-clause-none : goal.returns-in_default-taken-clause-none
-returns-in_default-taken-clause-none g c =
-    let took = rw c.in_default-taken.is at c.in-Ok.ensures.ok in
+pub returns-in_default-next_event-clause-none : goal.returns-in_default-next_event-clause-none
+returns-in_default-next_event-clause-none g c =
+    let took = rw c.in_default-next_event.is at c.in-Ok.ensures.ok in
     λ e. (took []).0
 
-pub returns-in_default-taken-clause-empty : goal.returns-in_default-taken-clause-empty
-returns-in_default-taken-clause-empty g c =
-    let took = rw c.in_default-taken.is at c.in-Ok.ensures.ok in
+pub returns-in_default-next_event-clause-empty : goal.returns-in_default-next_event-clause-empty
+returns-in_default-next_event-clause-empty g c =
+    let took = rw c.in_default-next_event.is at c.in-Ok.ensures.ok in
     λ e. (took []).1
 
 pub put_entries-requires : goal.put_entries-requires
@@ -30,7 +30,7 @@ put_entries-requires g c =
     let took = rw c.in-Some.is at c.in-Ok.ensures.ok in
     let step = rw (← c.self.view_is, ← c.self-2.view_is) at (took []) in
     let one = step.grew in
-    let two = c.dispatch-dispatched.ensures.dispatch.calls.journal in
+    let two = c.dispatch-outcome.ensures.dispatch.calls.journal in
     let from = c.len-from.ensures in
     grind (arith, common_steps)
 
@@ -38,39 +38,39 @@ pub returns-then-wanted_memory-clause-ran : goal.returns-then-wanted_memory-clau
 returns-then-wanted_memory-clause-ran g c =
     let took = rw c.in-Some.is at c.in-Ok.ensures.ok in
     let step = rw (← c.self.view_is, ← c.self-2.view_is) at (took c.args.blobs.now) in
-    let wanted : c.dispatch-dispatched.result ≡ Err OutOfMemory = c.wanted_memory.ensures.0 c.if-wanted_memory.true in
-    let short = rw wanted at c.dispatch-dispatched.ensures.dispatch in
-    rw (← c.self.view_is) (fired_short c.args.blobs.now c.in-Some.event _ _ _ _ _ _ step short (simp length-map (grind (arith, common_steps, c.dispatch-dispatched.ensures.count))))
+    let wanted : c.dispatch-outcome.result ≡ Err OutOfMemory = c.wanted_memory.ensures.0 c.if-wanted_memory.true in
+    let short = rw wanted at c.dispatch-outcome.ensures.dispatch in
+    rw (← c.self.view_is) (fired_short c.args.blobs.now c.in-Some.event _ _ _ _ _ _ step short (simp length-map (grind (arith, common_steps, c.dispatch-outcome.ensures.count))))
 
 pub returns-in-Err-clause-ran : goal.returns-in-Err-clause-ran
 returns-in-Err-clause-ran g c =
     let took = rw c.in-Some.is at c.in-Ok.ensures.ok in
     let step = rw (← c.self.view_is, ← c.self-2.view_is) at (took c.args.blobs.now) in
     let wrote = rw c.len-from.ensures at c.in-Err.ensures.err in
-    let not : ¬ (c.dispatch-dispatched.result ≡ Err OutOfMemory) = λ e. absurd (cc (c.wanted_memory.ensures.1 e, c.if-wanted_memory.false)) in
-    rw (← c.self.view_is) (fired_half c.args.blobs.now c.in-Some.event c.in-Err.halt _ _ _ _ _ _ _ c.dispatch-dispatched.result not step c.dispatch-dispatched.ensures.dispatch (simp length-map (grind (arith, common_steps, c.dispatch-dispatched.ensures.count))) wrote)
+    let not : ¬ (c.dispatch-outcome.result ≡ Err OutOfMemory) = λ e. absurd (cc (c.wanted_memory.ensures.1 e, c.if-wanted_memory.false)) in
+    rw (← c.self.view_is) (fired_half c.args.blobs.now c.in-Some.event c.in-Err.halt _ _ _ _ _ _ _ c.dispatch-outcome.result not step c.dispatch-outcome.ensures.dispatch (simp length-map (grind (arith, common_steps, c.dispatch-outcome.ensures.count))) wrote)
 
-pub returns-in-Err-dispatched-clause-ran : goal.returns-in-Err-dispatched-clause-ran
-returns-in-Err-dispatched-clause-ran g c =
+pub returns-in-Err-outcome-clause-ran : goal.returns-in-Err-outcome-clause-ran
+returns-in-Err-outcome-clause-ran g c =
     let took = rw c.in-Some.is at c.in-Ok.ensures.ok in
     let step = rw (← c.self.view_is, ← c.self-2.view_is) at (took c.args.blobs.now) in
     let wrote = rw c.len-from.ensures at c.in-Ok-put_entries.ensures.ok in
-    let not : ¬ (c.in-Err-dispatched.fault ≡ OutOfMemory) =
-    λ e. absurd (cc (c.wanted_memory.ensures.1 (c.in-Err-dispatched.is ∙ ap (λ (f : DispatchFault). Err f) e), c.if-wanted_memory.false)) in
-    rw (c.of.ensures, ← c.self.view_is) (fired_stopped c.args.blobs.now c.in-Some.event c.in-Err-dispatched.fault _ _ _ _ _ _ _ not step c.in-Err-dispatched.ensures.dispatch
-    (simp length-map (grind (arith, common_steps, c.dispatch-dispatched.ensures.count))) wrote)
+    let not : ¬ (c.in-Err-outcome.fault ≡ OutOfMemory) =
+    λ e. absurd (cc (c.wanted_memory.ensures.1 (c.in-Err-outcome.is ∙ ap (λ (f : DispatchFault). Err f) e), c.if-wanted_memory.false)) in
+    rw (c.of.ensures, ← c.self.view_is) (fired_stopped c.args.blobs.now c.in-Some.event c.in-Err-outcome.fault _ _ _ _ _ _ _ not step c.in-Err-outcome.ensures.dispatch
+    (simp length-map (grind (arith, common_steps, c.dispatch-outcome.ensures.count))) wrote)
 
 pub returns-clause-ran : goal.returns-clause-ran
 returns-clause-ran g c =
     let took = rw c.in-Some.is at c.in-Ok.ensures.ok in
     let step = rw (← c.self.view_is, ← c.self-2.view_is) at (took c.args.blobs.now) in
     let wrote = rw c.len-from.ensures at c.in-Ok-put_entries.ensures.ok in
-    rw (← c.self.view_is) (fired_ran c.args.blobs.now c.in-Some.event _ _ _ _ _ _ _ step c.in-Ok-dispatched.ensures.dispatch (simp length-map (grind (arith, common_steps, c.dispatch-dispatched.ensures.count))) wrote)
+    rw (← c.self.view_is) (fired_ran c.args.blobs.now c.in-Some.event _ _ _ _ _ _ _ step c.in-Ok-outcome.ensures.dispatch (simp length-map (grind (arith, common_steps, c.dispatch-outcome.ensures.count))) wrote)
 
 pub returns-clause-fewer : goal.returns-clause-fewer
 returns-clause-fewer g c = λ e same.
     let took = rw c.in-Some.is at c.in-Ok.ensures.ok in
     let step = rw (← c.self-2.view_is) at (took c.args.blobs.now) in
     let taken = (rw c.in-Some.is at c.in-Ok.ensures.fewer) refl in
-    let alone = fired_alone c.args.blobs.now c.in-Some.event _ _ _ _ _ c.dispatch-dispatched.ensures.dispatch (same ∙ sym step.left) in
+    let alone = fired_alone c.args.blobs.now c.in-Some.event _ _ _ _ _ c.dispatch-outcome.ensures.dispatch (same ∙ sym step.left) in
     rw alone (rw (← c.self-2.view_is) at taken)

@@ -17,17 +17,17 @@ firing-preserved g c =
       calm = calm_then _ _ _ c.firing.invariant.calm (fewer refl).calm;
     }
 
-pub returns-in_default-taken-clause-drains : goal.returns-in_default-taken-clause-drains
-returns-in_default-taken-clause-drains g c =
-    let took = rw c.in_default-taken.is at c.in-Ok.ensures.ok in
+pub returns-in_default-next_event-clause-drains : goal.returns-in_default-next_event-clause-drains
+returns-in_default-next_event-clause-drains g c =
+    let took = rw c.in_default-next_event.is at c.in-Ok.ensures.ok in
     λ blobs. rw (took blobs).0 (c.firing.invariant.drains blobs)
 
-pub returns-in_default-taken-clause-calm : goal.returns-in_default-taken-clause-calm
-returns-in_default-taken-clause-calm g c =
-    let took = rw c.in_default-taken.is at c.in-Ok.ensures.ok in
+pub returns-in_default-next_event-clause-calm : goal.returns-in_default-next_event-clause-calm
+returns-in_default-next_event-clause-calm g c =
+    let took = rw c.in_default-next_event.is at c.in-Ok.ensures.ok in
     rw (took []).0 c.firing.invariant.calm
 
-pub returns-in_default-taken-clause-end : goal.returns-in_default-taken-clause-end
-returns-in_default-taken-clause-end g c =
-    let took = rw c.in_default-taken.is at c.in-Ok.ensures.ok in
+pub returns-in_default-next_event-clause-end : goal.returns-in_default-next_event-clause-end
+returns-in_default-next_event-clause-end g c =
+    let took = rw c.in_default-next_event.is at c.in-Ok.ensures.ok in
     λ st h. (took []).1 st (rw (took []).0 at h)

@@ -23,7 +23,7 @@ pub fire_all-requires-clause-standing : goal.fire_all-requires-clause-standing
 fire_all-requires-clause-standing g c =
     let stands : IsStanding c.turning.self.engine = standing_ran _ _ _ _ c.requires.standing c.turning.invariant.ran in
     let due : (st : State) → Stands c.turning.self.engine st → due_in st ≡ true = λ st h. sym (c.due.ensures st (rw (← c.self.view_is) at h)) ∙ c.if-not-due.false in
-    let turned = turning_ran c.args.blobs.now c.in-Ok._turned c.turning.self c.turn.new.self _ _ stands c.turning.invariant.quiet due (c.in-Ok.ensures.ok c.args.blobs.now) in
+    let turned = turning_ran c.args.blobs.now c.in-Ok._has_turned c.turning.self c.turn.new.self _ _ stands c.turning.invariant.quiet due (c.in-Ok.ensures.ok c.args.blobs.now) in
     let both = order_then_ran _ _ _ _ c.turning.invariant.ran turned in
     standing_ran _ _ _ _ c.requires.standing both
 
@@ -31,7 +31,7 @@ pub returns-in-Err-clause-ran : goal.returns-in-Err-clause-ran
 returns-in-Err-clause-ran g c =
     let stands : IsStanding c.turning.self.engine = standing_ran _ _ _ _ c.requires.standing c.turning.invariant.ran in
     let due : (st : State) → Stands c.turning.self.engine st → due_in st ≡ true = λ st h. sym (c.due.ensures st (rw (← c.self.view_is) at h)) ∙ c.if-not-due.false in
-    let turned = turning_ran c.args.blobs.now c.in-Ok._turned c.turning.self c.turn.new.self _ _ stands c.turning.invariant.quiet due (c.in-Ok.ensures.ok c.args.blobs.now) in
+    let turned = turning_ran c.args.blobs.now c.in-Ok._has_turned c.turning.self c.turn.new.self _ _ stands c.turning.invariant.quiet due (c.in-Ok.ensures.ok c.args.blobs.now) in
     let both = order_then_ran _ _ _ _ c.turning.invariant.ran turned in
     order_then_stop _ c.in-Err.stop _ _ _ both c.in-Err.ensures.ran
 
@@ -39,7 +39,7 @@ pub returns-in-Ok-false-clause-ran : goal.returns-in-Ok-false-clause-ran
 returns-in-Ok-false-clause-ran g c =
     let stands : IsStanding c.turning.self.engine = standing_ran _ _ _ _ c.requires.standing c.turning.invariant.ran in
     let due : (st : State) → Stands c.turning.self.engine st → due_in st ≡ true = λ st h. sym (c.due.ensures st (rw (← c.self.view_is) at h)) ∙ c.if-not-due.false in
-    let turned = turning_ran c.args.blobs.now c.in-Ok._turned c.turning.self c.turn.new.self _ _ stands c.turning.invariant.quiet due (c.in-Ok.ensures.ok c.args.blobs.now) in
+    let turned = turning_ran c.args.blobs.now c.in-Ok._has_turned c.turning.self c.turn.new.self _ _ stands c.turning.invariant.quiet due (c.in-Ok.ensures.ok c.args.blobs.now) in
     let both = order_then_ran _ _ _ _ c.turning.invariant.ran turned in
     order_then_ran _ _ _ _ both c.in-Ok-false.ensures.ran
 
@@ -47,7 +47,7 @@ pub returns-in-Ok-false-clause-called : goal.returns-in-Ok-false-clause-called
 returns-in-Ok-false-clause-called g c = λ e.
     let stands : IsStanding c.turning.self.engine = standing_ran _ _ _ _ c.requires.standing c.turning.invariant.ran in
     let due : (st : State) → Stands c.turning.self.engine st → due_in st ≡ true = λ st h. sym (c.due.ensures st (rw (← c.self.view_is) at h)) ∙ c.if-not-due.false in
-    let turned = turning_ran c.args.blobs.now c.in-Ok._turned c.turning.self c.turn.new.self _ _ stands c.turning.invariant.quiet due (c.in-Ok.ensures.ok c.args.blobs.now) in
+    let turned = turning_ran c.args.blobs.now c.in-Ok._has_turned c.turning.self c.turn.new.self _ _ stands c.turning.invariant.quiet due (c.in-Ok.ensures.ok c.args.blobs.now) in
     let both = order_then_ran _ _ _ _ c.turning.invariant.ran turned in
     omega (arith, both.left, ((rw c.in-Ok-false.field-0-test at c.in-Ok-false.ensures.called) refl))
 
@@ -55,9 +55,9 @@ pub turning-preserved : goal.turning-preserved
 turning-preserved g c =
     let stands : IsStanding c.turning.self.engine = standing_ran _ _ _ _ c.requires.standing c.turning.invariant.ran in
     let due : (st : State) → Stands c.turning.self.engine st → due_in st ≡ true = λ st h. sym (c.due.ensures st (rw (← c.self.view_is) at h)) ∙ c.if-not-due.false in
-    let turned = turning_ran c.args.blobs.now c.in-Ok._turned c.turning.self c.turn.new.self _ _ stands c.turning.invariant.quiet due (c.in-Ok.ensures.ok c.args.blobs.now) in
+    let turned = turning_ran c.args.blobs.now c.in-Ok._has_turned c.turning.self c.turn.new.self _ _ stands c.turning.invariant.quiet due (c.in-Ok.ensures.ok c.args.blobs.now) in
     let both = order_then_ran _ _ _ _ c.turning.invariant.ran turned in
-    let did : c.in-Ok._turned ≡ true = did_turn [] c.in-Ok._turned c.turning.self c.turn.new.self stands due (c.in-Ok.ensures.ok []) in
+    let did : c.in-Ok._has_turned ≡ true = did_turn [] c.in-Ok._has_turned c.turning.self c.turn.new.self stands due (c.in-Ok.ensures.ok []) in
     let taken = (rw did at c.in-Ok.ensures.fewer) refl in
     let all = order_then_ran _ _ _ _ both c.in-Ok-true.ensures.ran in
     let buffers : c.fire_all.new.self.engine.buffers ≡ c.turning.self.engine.buffers = ((rw c.in-Ok-true.field-0-test at c.in-Ok-true.ensures.calm) refl).buffers ∙ taken.buffers in
@@ -77,6 +77,6 @@ pub turning-smaller : goal.turning-smaller
 turning-smaller g c =
     let stands : IsStanding c.turning.self.engine = standing_ran _ _ _ _ c.requires.standing c.turning.invariant.ran in
     let due : (st : State) → Stands c.turning.self.engine st → due_in st ≡ true = λ st h. sym (c.due.ensures st (rw (← c.self.view_is) at h)) ∙ c.if-not-due.false in
-    let did : c.in-Ok._turned ≡ true = did_turn [] c.in-Ok._turned c.turning.self c.turn.new.self stands due (c.in-Ok.ensures.ok []) in
+    let did : c.in-Ok._has_turned ≡ true = did_turn [] c.in-Ok._has_turned c.turning.self c.turn.new.self stands due (c.in-Ok.ensures.ok []) in
     let taken = (rw did at c.in-Ok.ensures.fewer) refl in
     rw ((rw c.in-Ok-true.field-0-test at c.in-Ok-true.ensures.calm) refl).turns taken.fewer

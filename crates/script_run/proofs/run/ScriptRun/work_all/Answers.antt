@@ -41,7 +41,7 @@ working-preserved g c =
     let both = order_then_ran _ _ _ _ c.working.invariant.ran c.in-Ok-true.ensures.ran in
     let stands : IsStanding c.fire_all.new.self.engine = standing_ran _ _ _ _ c.requires.standing both in
     let runs : (st : State) → Stands c.fire_all.new.self.engine st → running_in st ≡ Some c.in-Some.k = λ st h. sym (c.in-Some.ensures st (rw (← c.self.view_is) at h)) in
-    let step = working_ran c.args.blobs.now c.in-Some.k c.in-Ok._worked c.fire_all.new.self c.work.new.self _ _ stands ((rw c.in-Ok-true.field-0-test at c.in-Ok-true.ensures.end) refl) runs (c.in-Ok.ensures.ok c.args.blobs.now) in
+    let step = working_ran c.args.blobs.now c.in-Some.k c.in-Ok._has_worked c.fire_all.new.self c.work.new.self _ _ stands ((rw c.in-Ok-true.field-0-test at c.in-Ok-true.ensures.end) refl) runs (c.in-Ok.ensures.ok c.args.blobs.now) in
     record {
       count = c.fire_all.ensures.count ∙ c.working.invariant.count;
       rules = c.fire_all.ensures.rules ∙ c.working.invariant.rules;
@@ -55,6 +55,6 @@ working-smaller g c =
     let both = order_then_ran _ _ _ _ c.working.invariant.ran c.in-Ok-true.ensures.ran in
     let stands : IsStanding c.fire_all.new.self.engine = standing_ran _ _ _ _ c.requires.standing both in
     let runs : (st : State) → Stands c.fire_all.new.self.engine st → running_in st ≡ Some c.in-Some.k = λ st h. sym (c.in-Some.ensures st (rw (← c.self.view_is) at h)) in
-    let did : c.in-Ok._worked ≡ true = did_work [] c.in-Some.k c.in-Ok._worked c.fire_all.new.self c.work.new.self stands runs (c.in-Ok.ensures.ok []) in
+    let did : c.in-Ok._has_worked ≡ true = did_work [] c.in-Some.k c.in-Ok._has_worked c.fire_all.new.self c.work.new.self stands runs (c.in-Ok.ensures.ok []) in
     let fewer = (rw did at c.in-Ok.ensures.fewer) refl in
     rw ((rw c.in-Ok-true.field-0-test at c.in-Ok-true.ensures.calm) refl).buffers at fewer

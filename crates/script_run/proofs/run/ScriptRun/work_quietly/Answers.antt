@@ -33,7 +33,7 @@ working-smaller g c =
     let both : (blobs : List (List ℕ)) → Drains blobs c.args.self.now c.fire_quietly.new.self = λ blobs. drains_then blobs _ _ _ (c.working.invariant.drains blobs) (c.fire_quietly.ensures.drains blobs) in
     let stands : IsStanding c.fire_quietly.new.self.engine = standing_drains c.args.self.now c.fire_quietly.new.self c.requires both in
     let runs : (st : State) → Stands c.fire_quietly.new.self.engine st → running_in st ≡ Some c.in-Some.k = λ st h. sym (c.in-Some.ensures st (rw (← c.self.view_is) at h)) in
-    let did : c.in-Ok-work._worked ≡ true = did_work [] c.in-Some.k c.in-Ok-work._worked c.fire_quietly.new.self c.work.new.self stands runs (c.in-Ok-work.ensures.ok []) in
+    let did : c.in-Ok-work._has_worked ≡ true = did_work [] c.in-Some.k c.in-Ok-work._has_worked c.fire_quietly.new.self c.work.new.self stands runs (c.in-Ok-work.ensures.ok []) in
     let fewer = (rw did at c.in-Ok-work.ensures.fewer) refl in
     rw c.in-Ok.ensures.calm.buffers at fewer
 
@@ -44,7 +44,7 @@ working-preserved g c =
     let runs : (st : State) → Stands c.fire_quietly.new.self.engine st → running_in st ≡ Some c.in-Some.k = λ st h. sym (c.in-Some.ensures st (rw (← c.self.view_is) at h)) in
     record {
       drains = λ blobs. drains_then blobs _ _ _ (both blobs)
-          (drains_work blobs c.in-Some.k c.in-Ok-work._worked c.fire_quietly.new.self c.work.new.self stands c.in-Ok.ensures.end runs (c.in-Ok-work.ensures.ok blobs));
+          (drains_work blobs c.in-Some.k c.in-Ok-work._has_worked c.fire_quietly.new.self c.work.new.self stands c.in-Ok.ensures.end runs (c.in-Ok-work.ensures.ok blobs));
     }
 
 pub returns-in_default-work-clause-drains : goal.returns-in_default-work-clause-drains

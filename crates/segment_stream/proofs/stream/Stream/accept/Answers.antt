@@ -8,7 +8,7 @@ use Rattle.segment_stream.proofs.stream.Stream.accept.Goals as goal
 pub invariant_of-self : goal.invariant_of-self
 invariant_of-self c =
     let s = c.self.inside in
-    let o = c.in-Some.offered in
+    let o = c.in-Some.offer in
     let tables = s.tables in
     let new = c.accept_on-self-inside.new.input in
     let q = c.accept_on-self-inside.ensures in
@@ -18,7 +18,7 @@ invariant_of-self c =
 pub returns-clause-stands : goal.returns-clause-stands
 returns-clause-stands c =
     let s = c.self.inside in
-    let o = c.in-Some.offered in
+    let o = c.in-Some.offer in
     let tables = s.tables in
     let new = c.accept_on-self-inside.new.input in
     let q = c.accept_on-self-inside.ensures in
@@ -29,7 +29,7 @@ returns-clause-stands c =
 pub returns-clause-pieces : goal.returns-clause-pieces
 returns-clause-pieces c =
     let s = c.self.inside in
-    let o = c.in-Some.offered in
+    let o = c.in-Some.offer in
     let tables = s.tables in
     let new = c.accept_on-self-inside.new.input in
     let q = c.accept_on-self-inside.ensures in

@@ -26,8 +26,8 @@ run_from-run-requires c =
     let p = item_place rows s c.place_below-from.ensures.place (held_place c.args.serial (joined rows) (rank rows s) held c.place_below-from.ensures.before) in
     record { block = p.0; index = p.1 }
 
-pub take_run_out-left-requires : goal.take_run_out-left-requires
-take_run_out-left-requires c =
+pub take_run_out-bytes_left-requires : goal.take_run_out-bytes_left-requires
+take_run_out-bytes_left-requires c =
     let rows = c.self.inside.items.rows in
     let s = c.place_below-from.result in
     let held = subst (λ v. list_any (has_serial c.args.serial) v.frames ≡ true) (sym c.self.view_is) c.requires in
@@ -48,8 +48,8 @@ mend_run-requires c =
     let k = rank_within rows c.run_from-run.result.last c.run_from-run.ensures.block c.run_from-run.ensures.index in
     let l : i + n ≤ length fs = omega (arith, c.run_from-run.ensures.count, k) in
     let gs = take i fs ++ drop (i + n) fs in
-    let e = c.take_run_out-left.ensures.order in
-    let os = joined c.take_run_out-left.new.order.rows in
+    let e = c.take_run_out-bytes_left.ensures.order in
+    let os = joined c.take_run_out-bytes_left.new.order.rows in
     record {
       gap_from_zero = h.gap_from_zero;
       ranges = are_ranges c.self.inside.gap fs c.self.inside.ranges.spans h.gap_from_zero h.joined;
@@ -97,7 +97,7 @@ invariant_of-self c =
     let z : start rows c.run_from-run.result.last.block + (c.run_from-run.result.last.index + 1) ≡ i + n = omega (arith, c.run_from-run.ensures.count) in
     let left = c.remove_range.ensures.items ∙ ap (λ (m : ℕ). take i fs ++ drop m fs) z in
     let gone = serial_gone c.args.serial fs i (i + n) h.kept.ascending held c.place_below-from.ensures.before c.place_below-from.ensures.after c.run_from-run.ensures.rest in
-    indexed_removed (has_serial c.args.serial) fs (joined c.remove_range.new.self.rows) (joined c.self.inside.order.rows) (joined c.take_run_out-left.new.order.rows) c.self.inside.ranges.spans c.mend_run.new.ranges.spans c.self.inside.gap c.self.inside.total c.take_run_out-left.result _ _ h c.mend_run.ensures.room (omega (arith, ap length left, length_without fs i n l)) (left ∙ sym gone) (c.take_run_out-left.ensures.order ∙ ap ordered (sym left)) c.mend_run.ensures.spans (c.take_run_out-left.ensures.bytes ∙ ap bytes_of (sym left))
+    indexed_removed (has_serial c.args.serial) fs (joined c.remove_range.new.self.rows) (joined c.self.inside.order.rows) (joined c.take_run_out-bytes_left.new.order.rows) c.self.inside.ranges.spans c.mend_run.new.ranges.spans c.self.inside.gap c.self.inside.total c.take_run_out-bytes_left.result _ _ h c.mend_run.ensures.room (omega (arith, ap length left, length_without fs i n l)) (left ∙ sym gone) (c.take_run_out-bytes_left.ensures.order ∙ ap ordered (sym left)) c.mend_run.ensures.spans (c.take_run_out-bytes_left.ensures.bytes ∙ ap bytes_of (sym left))
 
 pub returns-clause-frames : goal.returns-clause-frames
 returns-clause-frames c =
@@ -137,7 +137,7 @@ returns-clause-spare c =
     let l : i + n ≤ length fs = omega (arith, c.run_from-run.ensures.count, k) in
     let z : start rows c.run_from-run.result.last.block + (c.run_from-run.result.last.index + 1) ≡ i + n = omega (arith, c.run_from-run.ensures.count) in
     let left = c.remove_range.ensures.items ∙ ap (λ (m : ℕ). take i fs ++ drop m fs) z in
-    rw (← c.self.view_is) (room_grown _ _ _ _ _ _ (omega (arith, c.remove_range.ensures.spare)) c.take_run_out-left.ensures.spare (omega (arith, c.mend_run.ensures.room, ap length left, length_without fs i n l)))
+    rw (← c.self.view_is) (room_grown _ _ _ _ _ _ (omega (arith, c.remove_range.ensures.spare)) c.take_run_out-bytes_left.ensures.spare (omega (arith, c.mend_run.ensures.room, ap length left, length_without fs i n l)))
 
 pub overflow_add-to : goal.overflow_add-to
 overflow_add-to c = omega (arith, c.run_from-run.ensures.index, ap length c.block-few.ensures.value, c.block-few.ensures.at_most_128)

@@ -3,7 +3,7 @@ use Rattle.block_list.specs.Rows.{joined}
 use Rattle.track_store.proofs.Listing.{few_ranges}
 use Rattle.track_index.proofs.index_store.IndexStoreFrameStore.reserve.Goals as goal
 
-pub overflow_sub-held : goal.overflow_sub-held
-overflow_sub-held c =
+pub overflow_sub-surplus : goal.overflow_sub-surplus
+overflow_sub-surplus c =
     let few = few_ranges c.self.inside.gap (joined c.self.inside.items.rows) c.self.inside.ranges.spans c.self.invariant.joined in
     omega (arith, few, c.len.ensures, c.len-2.ensures.len, ap (λ rs. length (joined rs)) c.reserve.ensures.rows)
