@@ -200,16 +200,22 @@ drop_split (r ∷ rows) (suc b) s =
     let w : suc b + 1 ≡ suc (b + 1) = omega arith in
     ap (λ n. drop n (r ∷ split_row rows b s)) z ∙ drop_split rows b s ∙ ap (λ n. drop n (r ∷ rows)) (sym w)
 
+-- an item that is put in: the row that it comes into, and its place among all
+pub record Addition (T : Type 0) : Type 0 where
+  pub row : ℕ
+  pub place : ℕ
+  pub item : T
+
 -- what the rows are after an item is put into a full one that is cut
-pub record Apart {T : Type 0} (half : ℕ) (rows new : List (List T)) (b k : ℕ) (x : T) : Type 0 where
-  pub front : take b new ≡ take b rows
-  pub rest : drop (b + 2) new ≡ drop (b + 1) rows
-  pub items : joined new ≡ insert (joined rows) k x
+pub record Apart {T : Type 0} (half : ℕ) (rows new : List (List T)) (added : Addition T) : Type 0 where
+  pub front : take added.row new ≡ take added.row rows
+  pub rest : drop (added.row + 2) new ≡ drop (added.row + 1) rows
+  pub items : joined new ≡ insert (joined rows) added.place added.item
   pub short : AreShort half new
   pub held : held half new + half ≤ held half rows + 1
   pub len : length new ≡ length rows + 1
 
-pub apart_left : {T : Type 0} (half : ℕ) (rows : List (List T)) (b i s : ℕ) (x : T) → b < length rows → length (row rows b) ≡ 2 * half → AreShort half rows → i < s → s ≡ half → Apart half rows (set (split_row rows b s) b (insert (row (split_row rows b s) b) i x)) b (start rows b + i) x
+pub apart_left : {T : Type 0} (half : ℕ) (rows : List (List T)) (b i s : ℕ) (x : T) → b < length rows → length (row rows b) ≡ 2 * half → AreShort half rows → i < s → s ≡ half → Apart half rows (set (split_row rows b s) b (insert (row (split_row rows b s) b) i x)) (record { row = b; place = start rows b + i; item = x })
 apart_left half rows b i s x l h a k m =
     let mid = split_row rows b s in
     let e = left_row rows b s l in
@@ -225,7 +231,7 @@ apart_left half rows b i s x l h a k m =
       rest = drop-set-lt (b + 2) mid b (insert (row mid b) i x) (omega arith) ∙ drop_split rows b s;
     }
 
-pub apart_right : {T : Type 0} (half : ℕ) (rows : List (List T)) (b i s : ℕ) (x : T) → b < length rows → length (row rows b) ≡ 2 * half → AreShort half rows → s ≤ i → i ≤ length (row rows b) → 0 < half → half ≤ s → s ≤ 2 * half → (suc b < length rows → s ≡ half) → Apart half rows (set (split_row rows b s) (b + 1) (insert (row (split_row rows b s) (b + 1)) (i - s) x)) b (start rows b + i) x
+pub apart_right : {T : Type 0} (half : ℕ) (rows : List (List T)) (b i s : ℕ) (x : T) → b < length rows → length (row rows b) ≡ 2 * half → AreShort half rows → s ≤ i → i ≤ length (row rows b) → 0 < half → half ≤ s → s ≤ 2 * half → (suc b < length rows → s ≡ half) → Apart half rows (set (split_row rows b s) (b + 1) (insert (row (split_row rows b s) (b + 1)) (i - s) x)) (record { row = b; place = start rows b + i; item = x })
 apart_right half rows b i s x l h a k w o m n u =
     let mid = split_row rows b s in
     let z : b + 1 ≡ suc b = omega arith in

@@ -44,15 +44,23 @@ AreShort half rows = AllByRecursion (λ r. (0 < length r) × (length r ≤ 2 * h
 abbrev pub AreEmpty : {T : Type 0} → List (List T) → Type 0
 AreEmpty rows = AllByRecursion (λ r. r ≡ []) rows
 
+-- rows in blocks, a pool of empty blocks, and for how many blocks each of the two has room
+pub record Blocks (T : Type 0) : Type 0 where
+  pub rows : List (List T)
+  pub pool : List (List T)
+  pub block_capacity : ℕ
+  pub pool_capacity : ℕ
+
 -- what a list in rows keeps
-pub record IsListed {T : Type 0} (rows pool : List (List T)) (half extra block_cap pool_cap : ℕ) : Type 0 where
+pub record IsListed {T : Type 0} (blocks : Blocks T) (half extra : ℕ) : Type 0 where
   pub some : 0 < half
   pub small : half ≤ 64
-  pub short : AreShort half rows
-  pub empty : AreEmpty pool
-  pub block_room : length pool + length rows ≤ block_cap
-  pub pool_room : length pool + length rows ≤ pool_cap
-  pub spared : extra ≤ max (length pool) (half * length pool - held half rows)
+  pub short : AreShort half blocks.rows
+  pub empty : AreEmpty blocks.pool
+  pub block_room : length blocks.pool + length blocks.rows ≤ blocks.block_capacity
+  pub pool_room : length blocks.pool + length blocks.rows ≤ blocks.pool_capacity
+  pub spared : extra
+      ≤ max (length blocks.pool) (half * length blocks.pool - held half blocks.rows)
 
 -- once the test fails, it fails
 abbrev pub IsCut : {T : Type 0} → (T → Bool) → List T → Type 0

@@ -31,8 +31,12 @@ impl<T, F: Fact<T>> Model for BlockList<T, F> {
 
     ghost view = { λ l. record { rows = l.blocks.items; spare = l.spare } };
 
-    ghost invariant = { λ l. IsListed l.blocks.items l.pool.items l.half l.spare
-        (vec_capacity l.blocks) (vec_capacity l.pool) × IsCounted l.len l.spare l.blocks.items };
+    ghost invariant = { λ l. IsListed (record {
+      rows = l.blocks.items;
+      pool = l.pool.items;
+      block_capacity = vec_capacity l.blocks;
+      pool_capacity = vec_capacity l.pool;
+    }) l.half l.spare × IsCounted l.len l.spare l.blocks.items };
 }
 
 /// A place: a block, and how many of its items come before.
@@ -279,10 +283,18 @@ fn drop_blocks<T: Drop, F: Fact<T>>(
     ensures count { result + length (joined blocks.new.items) ≡ length (joined blocks.old.items) }
     ensures rows { blocks.new.items ≡ take from blocks.old.items ++ drop to blocks.old.items }
     ensures listed { (half e : ℕ)
-        → IsListed blocks.old.items pool.old.items half e (vec_capacity blocks.old)
-        (vec_capacity pool.old)
-        → IsListed blocks.new.items pool.new.items half e (vec_capacity blocks.new)
-        (vec_capacity pool.new) }
+        → IsListed (record {
+          rows = blocks.old.items;
+          pool = pool.old.items;
+          block_capacity = vec_capacity blocks.old;
+          pool_capacity = vec_capacity pool.old;
+        }) half e
+        → IsListed (record {
+          rows = blocks.new.items;
+          pool = pool.new.items;
+          block_capacity = vec_capacity blocks.new;
+          pool_capacity = vec_capacity pool.new;
+        }) half e }
 {
     let mut end = to;
     let mut removed_count = 0;

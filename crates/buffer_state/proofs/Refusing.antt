@@ -13,7 +13,7 @@ use Rattle.mse_types.specs.Texts.{type_of}
 use Rattle.track_buffers.specs.Media.{Media}
 use Rattle.track_buffers.specs.Frames.{flush_result}
 use Rattle.track_buffers.specs.Settings.{with_mode, with_offset, with_window_start, with_window_end}
-use Rattle.buffer_state.specs.State.{Feed, Content, Surroundings, is_updating, feed_running, phase_in, ready_in}
+use Rattle.buffer_state.specs.State.{Feed, Content, Surroundings, AppendInput, is_updating, feed_running, phase_in, ready_in}
 use Rattle.buffer_state.specs.Replies.{CallResult, refused_result, result_with, event_reply, reopens, TellsRefusals}
 use Rattle.buffer_state.specs.Calls.{unless_refused, is_sequence, is_in_media, settings_result, settings_result_by_phase, phase_refusal, mode_refusal, mode_result, offset_refusal, offset_result, window_start_refusal, window_start_result, window_end_refusal, window_end_result, remove_refusal, remove_result, append_refusal, append_result, append_result_after_eviction, abort_refusal, abort_result, abort_result_after_flush, change_type_refusal, change_type_refusal_by_answer, change_type_result, change_type_result_by_answer, change_type_result_after_flush}
 
@@ -82,11 +82,11 @@ offset_told t a f c name =
 
 -- ---- appends
 
-pub append_refused : (bytes : List ℕ) (position : ℤ) (quota : ℕ) (a : Surroundings) (f : Feed) (c : Content) (name : Name) → append_refusal a f ≡ Some name → append_result bytes position quota a f c ≡ refused_result name false a f c
-append_refused bytes position quota a f c name is = refused_by (append_refusal a f) (append_result_after_eviction bytes position quota a f c) a f c name is
+pub append_refused : (input : AppendInput) (a : Surroundings) (f : Feed) (c : Content) (name : Name) → append_refusal a f ≡ Some name → append_result input a f c ≡ refused_result name false a f c
+append_refused input a f c name is = refused_by (append_refusal a f) (append_result_after_eviction input a f c) a f c name is
 
-pub append_evicts : (bytes : List ℕ) (position : ℤ) (quota : ℕ) (a : Surroundings) (f : Feed) (c : Content) → append_refusal a f ≡ None → append_result bytes position quota a f c ≡ append_result_after_eviction bytes position quota a f c
-append_evicts bytes position quota a f c is = ap (λ (x : Option Name). unless_refused x (append_result_after_eviction bytes position quota a f c) a f c) is
+pub append_evicts : (input : AppendInput) (a : Surroundings) (f : Feed) (c : Content) → append_refusal a f ≡ None → append_result input a f c ≡ append_result_after_eviction input a f c
+append_evicts input a f c is = ap (λ (x : Option Name). unless_refused x (append_result_after_eviction input a f c) a f c) is
 
 -- ---- types
 

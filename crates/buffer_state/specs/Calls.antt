@@ -24,7 +24,7 @@ use Rattle.track_buffers.specs.Frames.{FlushResult, flush_result, media_after_re
 use Rattle.track_buffers.specs.Buffered.{buffered_of}
 use Rattle.track_buffers.specs.Views.{track_views_of}
 use Rattle.buffer_state.specs.declared.running.Running.TheVariants.{Removal}
-use Rattle.buffer_state.specs.State.{Feed, Content, Surroundings, is_updating, is_appending, is_removing, feed_running, idle_feed, feed_with, new_feed, phase_in, ready_in}
+use Rattle.buffer_state.specs.State.{Feed, Content, Surroundings, AppendInput, is_updating, is_appending, is_removing, feed_running, idle_feed, feed_with, new_feed, phase_in, ready_in}
 use Rattle.buffer_state.specs.Replies.{CallResult, is_open, reopens, refused_result, result_with, event_reply, effect_reply, events_first_reply}
 
 abbrev pub is_in_media : Phase → Bool
@@ -145,20 +145,19 @@ append_result_by_room bytes quota a f c =
     (feed_with bytes f) c
 
 -- the prepare append algorithm (3.5.4): coded frame eviction comes before the quota is looked at
-abbrev pub append_result_after_eviction : List ℕ → ℤ → ℕ → Surroundings → Feed → Content
-    → CallResult
-append_result_after_eviction bytes position quota a f c =
-    append_result_by_room bytes quota a f
-    (with_media (media_after_eviction position (length bytes) quota a.duration c.media) c)
+abbrev pub append_result_after_eviction : AppendInput → Surroundings → Feed → Content → CallResult
+append_result_after_eviction input a f c =
+    append_result_by_room input.bytes input.quota a f
+    (with_media
+    (media_after_eviction input.position (length input.bytes) input.quota a.duration c.media) c)
 
 -- appendBuffer: for the quota it is refused behind the eviction alone
 abbrev pub append_refusal : Surroundings → Feed → Option Name
 append_refusal a f = if is_updating f.running || a.error then Some InvalidState else None
 
-abbrev pub append_result : List ℕ → ℤ → ℕ → Surroundings → Feed → Content → CallResult
-append_result bytes position quota a f c =
-    unless_refused (append_refusal a f) (append_result_after_eviction bytes position quota a f c) a
-    f c
+abbrev pub append_result : AppendInput → Surroundings → Feed → Content → CallResult
+append_result input a f c =
+    unless_refused (append_refusal a f) (append_result_after_eviction input a f c) a f c
 
 -- ---- resets of the parser
 

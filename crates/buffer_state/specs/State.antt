@@ -1,5 +1,5 @@
 -- A source buffer as a state: its feed and its content.
-use Rattle.std.specs.Prelude.{◌≡◌, ℕ, ◌+◌, Bool, true, false, List, [], ◌++◌, slice_get, Option}
+use Rattle.std.specs.Prelude.{◌≡◌, ℕ, ◌+◌, ℤ, Bool, true, false, List, [], ◌++◌, slice_get, Option}
 use Rattle.mse_base.specs.declared.frame.CodedFrame.{CodedFrame}
 use Rattle.mse_base.specs.declared.frame.Phase.{Phase}
 use Rattle.mse_base.specs.declared.ticks.Moment.{Moment}
@@ -39,6 +39,15 @@ surroundings a = record {
   error = a.error;
   duration = a.duration;
 }
+
+-- what is appended, and what the eviction before it goes by besides: the position and the quota
+pub record AppendInput : Type 0 where
+  pub bytes : List ℕ
+  pub position : ℤ
+  pub quota : ℕ
+
+abbrev pub append_input : List ℕ → Around → AppendInput
+append_input bytes a = record { bytes = bytes; position = a.position; quota = a.quota }
 
 -- ---- what the code keeps
 

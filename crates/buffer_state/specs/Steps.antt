@@ -15,6 +15,7 @@ use Rattle.buffer_state.specs.declared.running.Running.TheVariants.{Nothing}
 use Rattle.buffer_state.specs.declared.turns.ItemEffect.{ItemEffect}
 use Rattle.buffer_state.specs.declared.turns.ItemEffect.TheVariants as step
 use Rattle.buffer_state.specs.State.{Feed, Content, Surroundings, feed_after_item}
+use Rattle.buffer_state.specs.Faults.{fault_view}
 use Rattle.buffer_state.specs.Replies.{CallResult, effect_reply, result_with}
 use Rattle.buffer_state.specs.Turns.{ItemResult, Done, AppendError, item_result, append_error_result, last_turn_result}
 
@@ -90,7 +91,8 @@ after_given (Some item) f = feed_after_item f
 abbrev pub step_turn : ItemEffect → Surroundings → Feed → Content → CallResult
 step_turn step.NoItem a f c = last_turn_result a f c
 step_turn (step.Done b) a f c = result_with (effect_reply false b []) f c
-step_turn (step.AppendError fault at b) a f c = append_error_result fault at b a f c
+step_turn (step.AppendError fault at b) a f c =
+    append_error_result (fault_view fault a.number at) b f c
 
 -- a step that went well leaves the stream and the append; behind another nothing runs
 abbrev pub Leaves : ItemEffect → StreamView → Running → StreamView → Running → Type 0

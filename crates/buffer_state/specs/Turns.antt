@@ -3,6 +3,7 @@ use Rattle.std.specs.Prelude.{ℕ, ℤ, false, [], ◌∷◌, Option, Some, None
 use Rattle.mse_base.specs.declared.ticks.Moment.{Moment}
 use Rattle.mse_base.specs.declared.track.Presentation.{Presentation}
 use Rattle.mse_calls.specs.declared.events.EventKind.TheVariants.{Update, UpdateEnd}
+use Rattle.mse_calls.specs.declared.views.FaultView.{FaultView}
 use Rattle.parser_loop.specs.Items.{InitItem, FrameItem, SegmentEnd, FaultItem}
 use Rattle.byte_stream.specs.Readings.{ByteItem}
 use Rattle.track_buffers.specs.declared.effects.SourceEffect.{SourceEffect}
@@ -44,10 +45,9 @@ abbrev pub content_after_error : Content → Content
 content_after_error c = record { media = media_after_reset c.media; latest = c.latest }
 
 -- the append error (3.5.3): the parser is reset, and the append has ended
-abbrev pub append_error_result : Fault → ℕ → SourceEffect → Surroundings → Feed → Content
-    → CallResult
-append_error_result fault at e a f c =
-    result_with (error_reply (fault_view fault a.number at) e)
+abbrev pub append_error_result : FaultView → SourceEffect → Feed → Content → CallResult
+append_error_result fault e f c =
+    result_with (error_reply fault e)
     (new_feed f.reading.container c.latest) (content_after_error c)
 
 -- the end of work (3.5.5, buffer append, and 3.5.6, range removal, last steps)
@@ -57,7 +57,8 @@ last_turn_result a f c =
 
 abbrev pub item_turn_result : ItemResult → Surroundings → Feed → CallResult
 item_turn_result (Done c e) a f = result_with (effect_reply false e []) (feed_after_item f) c
-item_turn_result (AppendError fault at c e) a f = append_error_result fault at e a f c
+item_turn_result (AppendError fault at c e) a f =
+    append_error_result (fault_view fault a.number at) e f c
 
 -- one step of an append (Media Source Extensions, 3.5.5, buffer append): the next item, or the end where there is none
 abbrev pub append_turn_result : Option ByteItem → Surroundings → Feed → Content → CallResult

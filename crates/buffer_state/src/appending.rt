@@ -3,7 +3,7 @@
 ghost use Rattle.std.specs.Prelude.{◌≡◌, ◌+◌, ◌^◌, nat_le, false, length, Some, None, IfOk, OnErr};
 ghost use Rattle.track_buffers.specs.Media.{EndsWithin};
 ghost use Rattle.track_buffers.specs.Frames.{media_after_eviction, used_in};
-ghost use Rattle.buffer_state.specs.State.{Feed, kept, surroundings};
+ghost use Rattle.buffer_state.specs.State.{Feed, kept, surroundings, append_input};
 ghost use Rattle.buffer_state.specs.Replies.{Answers, StaysWithin, refusal, reopens};
 ghost use Rattle.buffer_state.specs.Calls.{append_result_after_eviction, append_refusal, append_result};
 
@@ -58,7 +58,7 @@ fn accept_or_decline<S: FrameStore>(
     requires short { nat_le (2 ^ 62) (stream.old.fed + length bytes.now) ≡ false }
     ensures answered { Answers (kept stream.old media.old.media running.old) result
         (kept stream.new media.new.media running.new)
-        (append_result_after_eviction bytes.now around.now.position around.now.quota
+        (append_result_after_eviction (append_input bytes.now around.now)
         (surroundings around.now)) }
     ensures within_duration { StaysWithin around.now.duration media.old.media result
         media.new.media }
@@ -102,7 +102,7 @@ pub(crate) fn append<S: FrameStore>(
     ensures answered { IfOk result (λ reply. Answers
         (kept stream.old media.old.media running.old) reply
         (kept stream.new media.new.media running.new)
-        (append_result bytes.now around.now.position around.now.quota (surroundings around.now))) }
+        (append_result (append_input bytes.now around.now) (surroundings around.now))) }
     ensures within_duration { IfOk result
         (λ reply. StaysWithin around.now.duration media.old.media reply media.new.media) }
     ensures changes { IfOk result (λ reply. reply.duration_changes ≡ 0) }

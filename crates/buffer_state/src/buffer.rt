@@ -9,7 +9,7 @@ ghost use Rattle.track_buffers.specs.Settings.{new_media};
 ghost use Rattle.track_buffers.specs.Media.{awaits_first, IsNotAfter};
 ghost use Rattle.track_buffers.specs.Frames.{used_in, highest_start_in, highest_end_in};
 ghost use Rattle.track_buffers.specs.Buffered.{buffered_of};
-ghost use Rattle.buffer_state.specs.State.{Feed, Content, Kept, Stands, surroundings, new_feed, phase_in, ready_in, is_updating, is_appending, is_removing};
+ghost use Rattle.buffer_state.specs.State.{Feed, Content, Kept, Stands, surroundings, append_input, new_feed, phase_in, ready_in, is_updating, is_appending, is_removing};
 ghost use Rattle.buffer_state.specs.Replies.{Answers, AnswersIfOk, StaysWithin, LeavesRanges, IsTurnResult, OfTurn, changes_of};
 ghost use Rattle.buffer_state.specs.Turns.{turn_result};
 ghost use Rattle.buffer_state.specs.Calls.{generates_timestamps, mode_refusal, mode_result, offset_refusal, offset_result, window_start_refusal, window_start_result, window_end_refusal, window_end_result, remove_refusal, remove_result, append_refusal, append_result, abort_refusal, abort_result, change_type_refusal, change_type_result, end_work_result, buffer_view};
@@ -161,8 +161,7 @@ impl<S: FrameStore> Buffer<S> {
     /// last reset would be `2^62` or more.
     pub fn append(&mut self, bytes: &Bytes, around: &Around) -> Result<Reply, OutOfMemory>
         ensures answered { AnswersIfOk self.old result self.new
-            (append_result bytes.now around.now.position around.now.quota
-            (surroundings around.now)) }
+            (append_result (append_input bytes.now around.now) (surroundings around.now)) }
         ensures within_duration { IfOk result
             (λ reply. StaysWithin around.now.duration self.old.media reply self.new.media) }
         ensures changes { IfOk result (λ reply. reply.duration_changes ≡ 0) }

@@ -7,7 +7,7 @@ ghost use Rattle.mse_calls.specs.declared.answers.Name.{Name};
 ghost use Rattle.mse_calls.specs.declared.calls.Mode.{Mode};
 ghost use Rattle.byte_stream.specs.Readings.{Reading, items_in};
 ghost use Rattle.byte_stream.specs.Streams.{Stands, StreamView};
-ghost use Rattle.buffer_state.specs.State.{Feed, Content, Surroundings};
+ghost use Rattle.buffer_state.specs.State.{Feed, Content, Surroundings, AppendInput};
 ghost use Rattle.buffer_state.specs.Replies.{TellsRefusals, refused_result};
 ghost use Rattle.buffer_state.specs.Calls.{mode_refusal, mode_result, offset_refusal, offset_result, window_start_refusal, window_start_result, window_end_refusal, window_end_result, remove_refusal, remove_result, append_refusal, append_result, append_result_after_eviction, abort_refusal, abort_result, change_type_refusal, change_type_result};
 ghost use Rattle.buffer_state.specs.StepsLeft.{items_left};
@@ -37,10 +37,10 @@ pub fn refusals()
 /// An append that is refused before coded frames are evicted leaves all as it was, and any other
 /// evicts.
 pub fn append_refusals()
-    ensures refused { (bytes : List ℕ) (t : ℤ) (quota : ℕ) (a : Surroundings) (f : Feed)
-        (c : Content) (name : Name) → append_refusal a f ≡ Some name
-        → append_result bytes t quota a f c ≡ refused_result name false a f c }
-    ensures evicts { (bytes : List ℕ) (t : ℤ) (quota : ℕ) (a : Surroundings) (f : Feed)
-        (c : Content) → append_refusal a f ≡ None
-        → append_result bytes t quota a f c ≡ append_result_after_eviction bytes t quota a f c }
+    ensures refused { (input : AppendInput) (a : Surroundings) (f : Feed) (c : Content)
+        (name : Name) → append_refusal a f ≡ Some name
+        → append_result input a f c ≡ refused_result name false a f c }
+    ensures evicts { (input : AppendInput) (a : Surroundings) (f : Feed) (c : Content)
+        → append_refusal a f ≡ None
+        → append_result input a f c ≡ append_result_after_eviction input a f c }
 {}

@@ -68,7 +68,7 @@ evicts-none bytes position quota d f m e =
     ap (λ ts. record m { tracks = ts }) (pick (nat_lt (bytes_in m.tracks) quota) m.tracks _ less)
 
 append-free : (t : Bool) (bytes : List ℕ) (position : ℤ) (k : ℕ) (b : BufferState) (s : CoreSource) → is_full bytes s.quota b.feed b.content.media ≡ false
-    → half_with k (unless_refused (if t then Some InvalidState else None) (append_result_after_eviction bytes position s.quota (surroundings_in k s) b.feed b.content) (surroundings_in k s) b.feed b.content) s
+    → half_with k (unless_refused (if t then Some InvalidState else None) (append_result_after_eviction (record { bytes = bytes; position = position; quota = s.quota }) (surroundings_in k s) b.feed b.content) (surroundings_in k s) b.feed b.content) s
     ≡ free_by t bytes k (record { buffer = b; source = s })
 append-free true bytes position k b s e = refl
 append-free false bytes position k b s e =
@@ -82,7 +82,7 @@ set-same (y ∷ ys) zero x e = let same : y ≡ x = cc in ap (λ z. z ∷ ys) (s
 set-same (y ∷ ys) (suc k) x e = ap (λ zs. y ∷ zs) (set-same ys k x e)
 
 found-free : (x : Option (Option BufferState)) (bytes : List ℕ) (position : ℤ) (k : ℕ) (c : Core) → slice_get c.buffers k ≡ x → HasRoomFor (Some bytes) c.source.quota (option_flatten x)
-    → (reply_moved k (result_by_slot x (call_in_slot InvalidState c.source.state.duration (append_result bytes position c.source.quota (surroundings_in k c.source))) c.source.state.duration k c.buffers) c).core
+    → (reply_moved k (result_by_slot x (call_in_slot InvalidState c.source.state.duration (append_result (record { bytes = bytes; position = position; quota = c.source.quota }) (surroundings_in k c.source))) c.source.state.duration k c.buffers) c).core
     ≡ on_slot x k (half_after_append bytes) c
 found-free None bytes position k c e room = refl
 found-free (Some None) bytes position k c e room = ap (λ bs. record { source = c.source; buffers = bs }) (set-same c.buffers k None e)

@@ -32,11 +32,19 @@ abbrev pub IsBehind : ℤ → TrackState → FeederState → List Stored → Typ
 IsBehind at t s [] = s ≡ state_after_seek at t.frames
 IsBehind at t s (f ∷ fs) = s ≡ state_behind (f ∷ fs)
 
+-- the time that a group of frames is looked for at, and the track that it is of
+pub record GroupPlace : Type 0 where
+  pub at : ℤ
+  pub track : TrackState
+
+abbrev pub group_place : ℤ → TrackState → GroupPlace
+group_place at t = record { at = at; track = t }
+
 -- some of the frames are given and their lines are put
-pub record IsGiving (at : ℤ) (t : TrackState) (s : FeederState) (last : Option ℤ) (old new : Option (List ℕ)) : Type 0 where
+pub record IsGiving (group : GroupPlace) (s : FeederState) (last : Option ℤ) (old new : Option (List ℕ)) : Type 0 where
   pub done : List Stored
-  pub parts : frames_for at t ≡ done ++ rest_of t s
-  pub behind : IsBehind at t s done
+  pub parts : frames_for group.at group.track ≡ done ++ rest_of group.track s
+  pub behind : IsBehind group.at group.track s done
   pub last_is : last ≡ greatest (ends done)
   pub wrote : IsWritten (flat_map frame_line done) old new
 
@@ -44,7 +52,7 @@ enough_received : (t : TrackState) (next given : Option ℕ) → AreEnough t (re
 enough_received t None given = tt
 enough_received t (Some n) given = omega arith
 
-pub none_yet : (at : ℤ) (t : TrackState) (s : FeederState) (told : Option (List ℕ)) → s ≡ state_after_seek at t.frames → IsGiving at t s None told told
+pub none_yet : (at : ℤ) (t : TrackState) (s : FeederState) (told : Option (List ℕ)) → s ≡ state_after_seek at t.frames → IsGiving (group_place at t) s None told told
 none_yet at t s told is = record {
   done = [];
   parts = ap (λ x. frames_given x (replicate t.marks.received t)) (sym is) ∙ all_same t.marks.received t s (calls_left t s.next) (enough_received t s.next s.given) (enough_left t s.next s.given);
@@ -79,8 +87,8 @@ rest_by t s place f is at (inr (g, gives)) =
 
 -- one more frame is given
 pub one_more : (at : ℤ) (t : TrackState) (s : FeederState) (place : ℕ) (f : Stored) (last : Option ℤ) (old mid new : Option (List ℕ))
-    → next_answer s t ≡ Frame place → slice_get t.frames place ≡ Some f → IsGiving at t s last old mid → IsWritten (frame_line f) mid new
-    → IsGiving at t (state_after (Frame place) s) (greater_of last (end f)) old new
+    → next_answer s t ≡ Frame place → slice_get t.frames place ≡ Some f → IsGiving (group_place at t) s last old mid → IsWritten (frame_line f) mid new
+    → IsGiving (group_place at t) (state_after (Frame place) s) (greater_of last (end f)) old new
 one_more at t s place f last old mid new is there p w =
     let step = rest_by t s place f is there (outcome s t) in
     let s' : FeederState = record { next = Some (f.serial + 1); given = Some f.serial } in
@@ -95,7 +103,7 @@ one_more at t s place f last old mid new is there p w =
 
 -- the line of the next frame was not put
 pub frame_failed : (at : ℤ) (t : TrackState) (s : FeederState) (place : ℕ) (f : Stored) (last : Option ℤ) (old mid new : Option (List ℕ))
-    → next_answer s t ≡ Frame place → slice_get t.frames place ≡ Some f → IsGiving at t s last old mid → IsFrontWritten (frame_line f) mid new → IsFrontWritten (given_text at t) old new
+    → next_answer s t ≡ Frame place → slice_get t.frames place ≡ Some f → IsGiving (group_place at t) s last old mid → IsFrontWritten (frame_line f) mid new → IsFrontWritten (given_text at t) old new
 frame_failed at t s place f last old mid new is there p w =
     let step = rest_by t s place f is there (outcome s t) in
     let rest : List ℕ = flat_map frame_line (rest_of t (record { next = Some (f.serial + 1); given = Some f.serial })) in
@@ -129,13 +137,13 @@ behind_all at t s [] h some = absurd (some refl)
 behind_all at t s (f ∷ done) h some = h
 
 -- all are given
-pub record IsGiven (at : ℤ) (t : TrackState) (answer : FeedNext) (last : Option ℤ) (old new : Option (List ℕ)) : Type 0 where
-  pub answer_is : answer ≡ answer_behind (frames_for at t) t
-  pub last_is : last ≡ greatest (ends (frames_for at t))
-  pub wrote : IsWritten (flat_map frame_line (frames_for at t)) old new
+pub record IsGiven (group : GroupPlace) (answer : FeedNext) (last : Option ℤ) (old new : Option (List ℕ)) : Type 0 where
+  pub answer_is : answer ≡ answer_behind (frames_for group.at group.track) group.track
+  pub last_is : last ≡ greatest (ends (frames_for group.at group.track))
+  pub wrote : IsWritten (flat_map frame_line (frames_for group.at group.track)) old new
 
 all_given : (at : ℤ) (t : TrackState) (s : FeederState) (wanted : Stored) (answer : FeedNext) (last : Option ℤ) (old new : Option (List ℕ)) → IsSound t → overlapped at t.frames ≡ Some wanted
-    → answer ≡ next_answer s t → ((place : ℕ) → answer ≡ Frame place → ⊥) → IsGiving at t s last old new → IsGiven at t answer last old new
+    → answer ≡ next_answer s t → ((place : ℕ) → answer ≡ Frame place → ⊥) → IsGiving (group_place at t) s last old new → IsGiven (group_place at t) answer last old new
 all_given at t s wanted answer last old new sound shown is other p =
     let none = none_given t s (calls_left t s.next) (ap (frame_given t.frames) (sym is) ∙ no_frame t.frames answer other) (ap (λ a. state_after a s) (sym is) ∙ same_after answer s other) in
     let all : frames_for at t ≡ p.done = p.parts ∙ ap (λ xs. p.done ++ xs) none ∙ append-nil p.done in
@@ -214,20 +222,20 @@ some_frame None h = cc
 some_frame (Some wanted) h = (wanted, refl)
 
 -- the frames were given and their end was told
-pub given_end : (at : ℤ) (t : TrackState) (answer : FeedNext) (last : Option ℤ) (old mid : Option (List ℕ)) → IsGiven at t answer last old mid → unwrap_or last at ≡ end_of at (frames_for at t)
+pub given_end : (at : ℤ) (t : TrackState) (answer : FeedNext) (last : Option ℤ) (old mid : Option (List ℕ)) → IsGiven (group_place at t) answer last old mid → unwrap_or last at ≡ end_of at (frames_for at t)
 given_end at t answer last old mid p = ap (λ o. unwrap_or o at) p.last_is
 
-pub given_put : (at : ℤ) (t : TrackState) (answer : FeedNext) (last : Option ℤ) (old mid new : Option (List ℕ)) → IsGiven at t answer last old mid → IsWritten (end_line answer) mid new → IsWritten (given_text at t) old new
+pub given_put : (at : ℤ) (t : TrackState) (answer : FeedNext) (last : Option ℤ) (old mid new : Option (List ℕ)) → IsGiven (group_place at t) answer last old mid → IsWritten (end_line answer) mid new → IsWritten (given_text at t) old new
 given_put at t answer last old mid new p w =
     wrote_more (flat_map frame_line (frames_for at t)) (end_line (answer_behind (frames_for at t) t)) old mid new p.wrote (subst (λ a. IsWritten (end_line a) mid new) p.answer_is w)
 
-pub end_failed : (at : ℤ) (t : TrackState) (answer : FeedNext) (last : Option ℤ) (old mid new : Option (List ℕ)) → IsGiven at t answer last old mid → IsFrontWritten (end_line answer) mid new → IsFrontWritten (given_text at t) old new
+pub end_failed : (at : ℤ) (t : TrackState) (answer : FeedNext) (last : Option ℤ) (old mid new : Option (List ℕ)) → IsGiven (group_place at t) answer last old mid → IsFrontWritten (end_line answer) mid new → IsFrontWritten (given_text at t) old new
 end_failed at t answer last old mid new p w =
     front_more (flat_map frame_line (frames_for at t)) (end_line (answer_behind (frames_for at t) t)) old mid new p.wrote (subst (λ a. IsFrontWritten (end_line a) mid new) p.answer_is w)
 
 -- the answer is no frame
 pub all_answered : (at : ℤ) (t : TrackState) (s : FeederState) (answer : FeedNext) (last : Option ℤ) (old new : Option (List ℕ)) → IsSound t → IsSome (overlapped at t.frames)
-    → answer ≡ next_answer s t → ((place : ℕ) → answer ≡ Frame place → ⊥) → IsGiving at t s last old new → IsGiven at t answer last old new
+    → answer ≡ next_answer s t → ((place : ℕ) → answer ≡ Frame place → ⊥) → IsGiving (group_place at t) s last old new → IsGiven (group_place at t) answer last old new
 all_answered at t s answer last old new sound shown is other p =
     let wanted = some_frame (overlapped at t.frames) shown in
     all_given at t s wanted.0 answer last old new sound wanted.1 is other p

@@ -33,7 +33,12 @@ times_more event e [] = times_one (is_same event e)
 times_more event e (x ∷ heard) =
     ap (λ (n : ℕ). if is_same event x then suc n else n) (times_more event e heard) ∙ times_by (is_same event x) (times_heard event heard) (if is_same event e then 1 else 0)
 
+-- the index of a listener, and the rules that are due
+pub record Duties : Type 0 where
+  pub index : Option RuleIndex
+  pub due : List Rule
+
 -- what hearing an event makes of the index, and of the rules that are due
-pub record Hears (rules : List Rule) (heard : List Event) (event : Event) (index : Option RuleIndex) (before after : List Rule) : Type 0 where
-  pub indexed : IsIndexed rules (heard ++ event ∷ []) index
-  pub due : after ≡ before ++ filter (answers heard event) rules
+pub record Hears (rules : List Rule) (heard : List Event) (event : Event) (before : List Rule) (after : Duties) : Type 0 where
+  pub indexed : IsIndexed rules (heard ++ event ∷ []) after.index
+  pub due : after.due ≡ before ++ filter (answers heard event) rules

@@ -44,7 +44,7 @@ pub holds_index : (rules : List Rule) (notes : List Note) (index other : Option 
 holds_index rules notes index other due call indexed h = record { left = h.left; ready = h.ready; indexed = indexed }
 
 pub holds_heard : (rules : List Rule) (notes : List Note) (event : Event) (index other : Option RuleIndex) (due after : List ℕ) (call : ℕ)
-    → Holds rules notes index due call → Hears rules (heard_of notes) event other (rules_at rules due) (rules_at rules after) → Holds rules (notes ++ Heard event ∷ []) other after call
+    → Holds rules notes index due call → Hears rules (heard_of notes) event (rules_at rules due) (record { index = other; due = rules_at rules after }) → Holds rules (notes ++ Heard event ∷ []) other after call
 holds_heard rules notes event index other due after call h e = record {
   left = rw (heard_more notes event, heard_made notes event, answering_next rules (heard_of notes) event, e.due)
       (more_left (made_of notes) (answering_rules rules (heard_of notes)) call (rules_at rules due) (filter (answers (heard_of notes) event) rules) h.left);

@@ -104,7 +104,7 @@ counts_same event e rules heard count none (inr h) = by (eqb_tells (event_number
 
 -- the rules on an event, and its count, tell which rules answer
 pub hears_none : (rules : List Rule) (heard : List Event) (event : Event) (index : RuleIndex) (left : List ℕ) → places_at index (event_number event) ≡ []
-    → Indexes rules heard index → Hears rules heard event (Some index) (rules_at rules left) (rules_at rules left)
+    → Indexes rules heard index → Hears rules heard event (rules_at rules left) (record { index = Some index; due = rules_at rules left })
 hears_none rules heard event index left none h =
     let no = sym (h.places (event_number event)) ∙ none in
     record {
@@ -116,7 +116,7 @@ pub hears_some : (rules : List Rule) (heard : List Event) (event : Event) (new o
     → new.places ≡ old.places
     → ((m : ℕ) → count_at new m ≡ (if m == event_number event then bounded_count (count_at old m + 1) else count_at old m))
     → ((times : ℕ) → count_at old (event_number event) ≡ bounded_count times → due ≡ left ++ filter (λ p. nat_lt times (rule_at rules p).times) (places_at old (event_number event)))
-    → Indexes rules heard old → Hears rules heard event (Some new) (rules_at rules left) (rules_at rules due)
+    → Indexes rules heard old → Hears rules heard event (rules_at rules left) (record { index = Some new; due = rules_at rules due })
 hears_some rules heard event new old left due some same counted chosen h =
     record {
       indexed = record {

@@ -112,18 +112,23 @@ begun_more event w xs call answer =
 seam : (n b a : List Note) (m t : Note) → (n ++ (b ++ m ∷ [])) ++ t ∷ a ≡ n ++ ((b ++ m ∷ t ∷ []) ++ a)
 seam n b a m t = simp append_assoc
 
--- The listener heard the event, made so many calls, and then answered what stands for `asked`.
-pub record IsServing (blobs : List (List ℕ)) (event : Event) (old new : TurnView) (asked : Option Call) (made : ℕ) : Type 0 where
+-- so many calls were made, and then the listener answered what stands for `next_call`
+pub record Asking : Type 0 where
+  pub call_count : ℕ
+  pub next_call : Option Call
+
+-- The listener heard the event, and was asked so far.
+pub record IsServing (blobs : List (List ℕ)) (event : Event) (old new : TurnView) (asking : Asking) : Type 0 where
   pub entries : List Entry
   pub calls : MakesCalls blobs old.run new.run entries
   pub own : CallsInTurn old.number (old.number + 1) entries
-  pub count : length entries ≡ made
-  pub few : made ≤ 1000
-  pub notes : new.notes ≡ old.notes ++ (begun event old.number entries ++ asked_note asked)
+  pub count : length entries ≡ asking.call_count
+  pub few : asking.call_count ≤ 1000
+  pub notes : new.notes ≡ old.notes ++ (begun event old.number entries ++ asked_note asking.next_call)
 
 pub serving_start : (blobs : List (List ℕ)) (event : Event) (w : ℕ) (r : RunView) (n0 n1 n2 : List Note) (asked : Option Call)
     → n1 ≡ n0 ++ Heard event ∷ [] → n2 ≡ n1 ++ ([] ++ asked_note asked)
-    → IsServing blobs event (turn_view w r n0) (turn_view w r n2) asked 0
+    → IsServing blobs event (turn_view w r n0) (turn_view w r n2) (record { call_count = 0; next_call = asked })
 serving_start blobs event w r n0 n1 n2 asked p q = record {
   entries = [];
   calls = makes_none blobs r;
@@ -134,9 +139,9 @@ serving_start blobs event w r n0 n1 n2 asked p q = record {
 }
 
 pub serving_more : (blobs : List (List ℕ)) (event : Event) (w : ℕ) (r0 r1 r2 : RunView) (n0 n1 n2 : List Note) (call : Call) (asked : Option Call) (made : ℕ)
-    → IsServing blobs event (turn_view w r0 n0) (turn_view w r1 n1) (Some call) made → made ≢ 1000
+    → IsServing blobs event (turn_view w r0 n0) (turn_view w r1 n1) (record { call_count = made; next_call = Some call }) → made ≢ 1000
     → IsCallTurn blobs call (turn_view w r1 n1) (turn_view w r2 n2) (Ok asked)
-    → IsServing blobs event (turn_view w r0 n0) (turn_view w r2 n2) asked (made + 1)
+    → IsServing blobs event (turn_view w r0 n0) (turn_view w r2 n2) (record { call_count = made + 1; next_call = asked })
 serving_more blobs event w r0 r1 r2 n0 n1 n2 call asked made s ne c =
     let one : List Entry = Listener w call c.0 ∷ [] in
     record {
@@ -176,7 +181,7 @@ turn_unasked blobs event w r n0 n1 n2 p q = record {
 
 -- the call was not made
 call_unmade : (blobs : List (List ℕ)) (event : Event) (w : ℕ) (r0 r1 r2 : RunView) (n0 n1 n2 : List Note) (call : Call) (made : ℕ)
-    → IsServing blobs event (turn_view w r0 n0) (turn_view w r1 n1) (Some call) made → n2 ≡ n1 → MakesCalls blobs r1 r2 []
+    → IsServing blobs event (turn_view w r0 n0) (turn_view w r1 n1) (record { call_count = made; next_call = Some call }) → n2 ≡ n1 → MakesCalls blobs r1 r2 []
     → IsServed blobs event (turn_view w r0 n0) (turn_view w r2 n2) (Err OutOfMemory)
 call_unmade blobs event w r0 r1 r2 n0 n1 n2 call made s same stays = record {
   entries = s.entries;
@@ -188,7 +193,7 @@ call_unmade blobs event w r0 r1 r2 n0 n1 n2 call made s same stays = record {
 
 -- the answer was not told
 answer_untold : (blobs : List (List ℕ)) (event : Event) (w : ℕ) (r0 r1 r2 : RunView) (n0 n1 n2 : List Note) (call : Call) (made : ℕ)
-    → IsServing blobs event (turn_view w r0 n0) (turn_view w r1 n1) (Some call) made → made ≢ 1000 → n2 ≡ n1
+    → IsServing blobs event (turn_view w r0 n0) (turn_view w r1 n1) (record { call_count = made; next_call = Some call }) → made ≢ 1000 → n2 ≡ n1
     → (answer : Answer) → MakesCalls blobs r1 r2 (Listener w call answer ∷ [])
     → IsServed blobs event (turn_view w r0 n0) (turn_view w r2 n2) (Err OutOfMemory)
 answer_untold blobs event w r0 r1 r2 n0 n1 n2 call made s ne same answer m =
@@ -207,7 +212,7 @@ answer_untold blobs event w r0 r1 r2 n0 n1 n2 call made s ne same answer m =
     }
 
 pub turn_unmade : (blobs : List (List ℕ)) (event : Event) (w : ℕ) (r0 r1 r2 : RunView) (n0 n1 n2 : List Note) (call : Call) (made : ℕ) (memory : NoMemory)
-    → IsServing blobs event (turn_view w r0 n0) (turn_view w r1 n1) (Some call) made → made ≢ 1000
+    → IsServing blobs event (turn_view w r0 n0) (turn_view w r1 n1) (record { call_count = made; next_call = Some call }) → made ≢ 1000
     → IsCallTurn blobs call (turn_view w r1 n1) (turn_view w r2 n2) (Err memory)
     → IsServed blobs event (turn_view w r0 n0) (turn_view w r2 n2) (Err OutOfMemory)
 turn_unmade blobs event w r0 r1 r2 n0 n1 n2 call made memory s ne c =
@@ -217,11 +222,11 @@ turn_unmade blobs event w r0 r1 r2 n0 n1 n2 call made memory s ne c =
     ]
 
 pub turn_done : (blobs : List (List ℕ)) (event : Event) (old new : TurnView) (made : ℕ)
-    → IsServing blobs event old new None made → IsServed blobs event old new (Ok tt)
+    → IsServing blobs event old new (record { call_count = made; next_call = None }) → IsServed blobs event old new (Ok tt)
 turn_done blobs event old new made s = record { entries = s.entries; calls = s.calls; own = s.own; few = omega (arith, s.count, s.few); notes = s.notes }
 
 pub turn_call_budget : (blobs : List (List ℕ)) (event : Event) (old new : TurnView) (call : Call) (made : ℕ)
-    → IsServing blobs event old new (Some call) made → made ≡ 1000 → IsServed blobs event old new (Err (CallBudget old.number))
+    → IsServing blobs event old new (record { call_count = made; next_call = Some call }) → made ≡ 1000 → IsServed blobs event old new (Err (CallBudget old.number))
 turn_call_budget blobs event old new call made s full = record {
   entries = s.entries;
   calls = s.calls;
@@ -231,7 +236,7 @@ turn_call_budget blobs event old new call made s full = record {
 }
 
 pub turn_task_budget : (blobs : List (List ℕ)) (event : Event) (old new : TurnView) (call : Call) (made : ℕ)
-    → IsServing blobs event old new (Some call) made → made ≢ 1000 → new.run.left ≡ 0 → IsServed blobs event old new (Err TaskBudget)
+    → IsServing blobs event old new (record { call_count = made; next_call = Some call }) → made ≢ 1000 → new.run.left ≡ 0 → IsServed blobs event old new (Err TaskBudget)
 turn_task_budget blobs event old new call made s ne none = record {
   entries = s.entries;
   calls = s.calls;

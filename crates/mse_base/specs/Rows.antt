@@ -45,13 +45,22 @@ AreDense [] = Unit {0}
 AreDense (r ∷ []) = Unit {0}
 AreDense (r ∷ s ∷ rows) = (1024 < length r + length s) × AreDense (s ∷ rows)
 
--- what spans in blocks keep: how many there are, and for how many more there is room, and a pool of empty blocks
--- that is large enough for all of these, however they stand, once no two neighbours can be one block
-pub record IsSpread (rows pool : List (List Span)) (len spare block_cap pool_cap : ℕ) : Type 0 where
-  pub filled : AreFilled rows
-  pub empty : AreEmpty pool
-  pub block_room : length pool + length rows ≤ block_cap
-  pub pool_room : length pool + length rows ≤ pool_cap
-  pub count : len ≡ length (joined rows)
+-- blocks of spans, a pool of empty blocks, and for how many blocks each of the two has room
+pub record Blocks : Type 0 where
+  pub rows : List (List Span)
+  pub pool : List (List Span)
+  pub block_capacity : ℕ
+  pub pool_capacity : ℕ
+
+-- what spans in blocks keep: how many there are, and for how many more there is room, and a pool
+-- of empty blocks that is large enough for all of these, however they stand, once no two neighbours
+-- can be one block
+pub record IsSpread (blocks : Blocks) (len spare : ℕ) : Type 0 where
+  pub filled : AreFilled blocks.rows
+  pub empty : AreEmpty blocks.pool
+  pub block_room : length blocks.pool + length blocks.rows ≤ blocks.block_capacity
+  pub pool_room : length blocks.pool + length blocks.rows ≤ blocks.pool_capacity
+  pub count : len ≡ length (joined blocks.rows)
   pub fits : len + spare < 2 ^ 64
-  pub enough : 0 < len + spare → 2 * (len + spare) + 1025 ≤ 1025 * (length rows + length pool)
+  pub enough : 0 < len + spare
+      → 2 * (len + spare) + 1025 ≤ 1025 * (length blocks.rows + length blocks.pool)

@@ -38,8 +38,12 @@ impl Model for SpanBlocks {
 
     ghost view = { λ s. record { spans = joined s.blocks.items; spare = s.spare } };
 
-    ghost invariant = { λ s. IsSpread s.blocks.items s.pool.items s.len s.spare
-        (vec_capacity s.blocks) (vec_capacity s.pool) };
+    ghost invariant = { λ s. IsSpread (record {
+      rows = s.blocks.items;
+      pool = s.pool.items;
+      block_capacity = vec_capacity s.blocks;
+      pool_capacity = vec_capacity s.pool;
+    }) s.len s.spare };
 }
 
 /// Sees to it that the pool has a block: where it has none, neighbours are joined.

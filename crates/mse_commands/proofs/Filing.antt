@@ -15,24 +15,34 @@ use Rattle.mse_commands.specs.Works.{IsAppended, IsPartAppended, IsOpened}
 use Rattle.mse_commands.proofs.Appending.{IsBehindPiece, IsUnderWay, appended, appended_to_fault, behind_stands, front_drained, front_under_way, goes_on, open_stands, piece_done, stands_on, under_way}
 use Rattle.mse_commands.proofs.Pieces.{IsLeft, all_left, next_left, none_left}
 
+-- a place in a file, which has so many bytes, and the size of the pieces that it is appended in
+pub record FilePlace : Type 0 where
+  pub bytes : List ℕ
+  pub size : ℕ
+  pub len : ℕ
+  pub at : ℕ
+
+abbrev pub file_place : List ℕ → ℕ → ℕ → ℕ → FilePlace
+file_place bytes size len at = record { bytes = bytes; size = size; len = len; at = at }
+
 -- what is left from a place on completes the file, whose bytes are there until then
-pub record IsAppending (bytes : List ℕ) (size len at : ℕ) (blobs : List (List ℕ)) (old new : RunView) : Type 0 where
+pub record IsAppending (file : FilePlace) (blobs : List (List ℕ)) (old new : RunView) : Type 0 where
   pub left : List Piece
-  pub way : IsUnderWay bytes (pieces_of size len) left old new
-  pub place : IsLeft size len at left
-  pub within : at ≤ len
-  pub whole : len ≡ length bytes
-  pub bytes_are : at < len → blobs ≡ bytes ∷ []
+  pub way : IsUnderWay file.bytes (pieces_of file.size file.len) left old new
+  pub place : IsLeft file.size file.len file.at left
+  pub within : file.at ≤ file.len
+  pub whole : file.len ≡ length file.bytes
+  pub bytes_are : file.at < file.len → blobs ≡ file.bytes ∷ []
   pub standing : IsStanding new.engine
 
 -- the same behind a piece
-pub record HasAppended (bytes : List ℕ) (size len at : ℕ) (old new : RunView) : Type 0 where
+pub record HasAppended (file : FilePlace) (old new : RunView) : Type 0 where
   pub left : List Piece
-  pub behind : IsBehindPiece bytes (pieces_of size len) left old new
-  pub place : IsLeft size len at left
+  pub behind : IsBehindPiece file.bytes (pieces_of file.size file.len) left old new
+  pub place : IsLeft file.size file.len file.at left
 
 pub begins_filing : (bytes : List ℕ) (size len : ℕ) (blobs : List (List ℕ)) (a b : RunView) → len ≡ length bytes → blobs ≡ bytes ∷ [] → IsOpened blobs a b → IsStanding a.engine
-    → IsAppending bytes size len 0 blobs a b
+    → IsAppending (file_place bytes size len 0) blobs a b
 begins_filing bytes size len blobs a b whole are p s = record {
   left = pieces_of size len;
   way = under_way bytes (pieces_of size len) a b (subst (λ (x : List (List ℕ)). IsOpened x a b) are p);
@@ -44,12 +54,12 @@ begins_filing bytes size len blobs a b whole are p s = record {
 }
 
 -- the next piece, and the call that appends it
-next_way : (bytes : List ℕ) (size len at : ℕ) (blobs : List (List ℕ)) (a b : RunView) (some : 1 ≤ size) (more : at < len) (p : IsAppending bytes size len at blobs a b)
+next_way : (bytes : List ℕ) (size len at : ℕ) (blobs : List (List ℕ)) (a b : RunView) (some : 1 ≤ size) (more : at < len) (p : IsAppending (file_place bytes size len at) blobs a b)
     → IsUnderWay bytes (pieces_of size len) (record { blob = 0; part = Some (at, min size (len - at)) } ∷ (next_left size len at p.left some more p.place).more) a b
 next_way bytes size len at blobs a b some more p =
     subst (λ (x : List Piece). IsUnderWay bytes (pieces_of size len) x a b) (next_left size len at p.left some more p.place).left_is p.way
 
-next_call : (bytes : List ℕ) (size len at count : ℕ) (blobs : List (List ℕ)) (a b c : RunView) → at < len → count ≡ min size (len - at) → IsAppending bytes size len at blobs a b
+next_call : (bytes : List ℕ) (size len at count : ℕ) (blobs : List (List ℕ)) (a b c : RunView) → at < len → count ≡ min size (len - at) → IsAppending (file_place bytes size len at) blobs a b
     → ((answer : Answer) × IsOwnStep blobs (append_entry (record { blob = 0; part = Some (at, count) }) answer ∷ []) b c)
     → (answer : Answer) × IsOwnStep (bytes ∷ []) (append_entry (record { blob = 0; part = Some (at, min size (len - at)) }) answer ∷ []) b c
 next_call bytes size len at count blobs a b c more is p call =
@@ -58,8 +68,8 @@ next_call bytes size len at count blobs a b c more is p call =
 
 -- one more piece
 pub next_filed : (bytes : List ℕ) (size len at count : ℕ) (blobs : List (List ℕ)) (a b c d : RunView) → 1 ≤ size → at < len → count ≡ min size (len - at)
-    → IsAppending bytes size len at blobs a b → ((answer : Answer) × IsOwnStep blobs (append_entry (record { blob = 0; part = Some (at, count) }) answer ∷ []) b c)
-    → Drains (bytes ∷ []) c d → ((st : State) → Stands d.engine st → IsAtRest st) → HasAppended bytes size len (at + count) a d
+    → IsAppending (file_place bytes size len at) blobs a b → ((answer : Answer) × IsOwnStep blobs (append_entry (record { blob = 0; part = Some (at, count) }) answer ∷ []) b c)
+    → Drains (bytes ∷ []) c d → ((st : State) → Stands d.engine st → IsAtRest st) → HasAppended (file_place bytes size len (at + count)) a d
 next_filed bytes size len at count blobs a b c d some more is p call drains end =
     let next = next_left size len at p.left some more p.place in
     let piece : Piece = record { blob = 0; part = Some (at, min size (len - at)) } in
@@ -71,9 +81,9 @@ next_filed bytes size len at count blobs a b c d some more is p call drains end 
     }
 
 -- after which it goes on
-pub goes_on_filing : (bytes : List ℕ) (size len at : ℕ) (blobs : List (List ℕ)) (a b : RunView) (fault : Option FaultView) → HasAppended bytes size len at a b → is_some fault ≡ false
+pub goes_on_filing : (bytes : List ℕ) (size len at : ℕ) (blobs : List (List ℕ)) (a b : RunView) (fault : Option FaultView) → HasAppended (file_place bytes size len at) a b → is_some fault ≡ false
     → ((st : State) → Stands b.engine st → fault ≡ st.core.source.fault) → at ≤ len → len ≡ length bytes → (at < len → blobs ≡ bytes ∷ []) → IsStanding a.engine
-    → IsAppending bytes size len at blobs a b
+    → IsAppending (file_place bytes size len at) blobs a b
 goes_on_filing bytes size len at blobs a b (Some f) p none is within whole are s = absurd (cc)
 goes_on_filing bytes size len at blobs a b None p none is within whole are s = record {
   left = p.left;
@@ -86,26 +96,26 @@ goes_on_filing bytes size len at blobs a b None p none is within whole are s = r
 }
 
 -- or ends at a fault
-pub ends_at_fault : (bytes : List ℕ) (size len at : ℕ) (a b : RunView) (fault : Option FaultView) → HasAppended bytes size len at a b → is_some fault ≡ true
+pub ends_at_fault : (bytes : List ℕ) (size len at : ℕ) (a b : RunView) (fault : Option FaultView) → HasAppended (file_place bytes size len at) a b → is_some fault ≡ true
     → ((st : State) → Stands b.engine st → fault ≡ st.core.source.fault) → len ≡ length bytes → IsAppended bytes (pieces_of size (length bytes)) a b
 ends_at_fault bytes size len at a b None p some is whole = absurd (cc)
 ends_at_fault bytes size len at a b (Some f) p some is whole =
     rw (← whole) (appended_to_fault bytes (pieces_of size len) p.left f a b p.behind (λ st h. sym (is st h)))
 
 -- or at its end
-pub ends_filed : (bytes : List ℕ) (size len at : ℕ) (blobs : List (List ℕ)) (a b : RunView) → 1 ≤ size → len ≤ at → IsAppending bytes size len at blobs a b
+pub ends_filed : (bytes : List ℕ) (size len at : ℕ) (blobs : List (List ℕ)) (a b : RunView) → 1 ≤ size → len ≤ at → IsAppending (file_place bytes size len at) blobs a b
     → IsAppended bytes (pieces_of size (length bytes)) a b
 ends_filed bytes size len at blobs a b some past p =
     let none : p.left ≡ [] = none_left size len at p.left some past p.place in
     rw (← p.whole) (appended bytes (pieces_of size len) a b (subst (λ (x : List Piece). IsUnderWay bytes (pieces_of size len) x a b) none p.way))
 
-pub front_filed : (bytes : List ℕ) (size len at : ℕ) (blobs : List (List ℕ)) (a b : RunView) → IsAppending bytes size len at blobs a b
+pub front_filed : (bytes : List ℕ) (size len at : ℕ) (blobs : List (List ℕ)) (a b : RunView) → IsAppending (file_place bytes size len at) blobs a b
     → IsPartAppended bytes (pieces_of size (length bytes)) a b
 front_filed bytes size len at blobs a b p = rw (← p.whole) (front_under_way bytes (pieces_of size len) p.left a b p.way)
 
 -- the drain behind a piece was cut off
 pub front_cut : (bytes : List ℕ) (size len at count : ℕ) (blobs : List (List ℕ)) (a b c d : RunView) → 1 ≤ size → at < len → count ≡ min size (len - at)
-    → IsAppending bytes size len at blobs a b → ((answer : Answer) × IsOwnStep blobs (append_entry (record { blob = 0; part = Some (at, count) }) answer ∷ []) b c)
+    → IsAppending (file_place bytes size len at) blobs a b → ((answer : Answer) × IsOwnStep blobs (append_entry (record { blob = 0; part = Some (at, count) }) answer ∷ []) b c)
     → Drains (bytes ∷ []) c d → IsPartAppended bytes (pieces_of size (length bytes)) a d
 front_cut bytes size len at count blobs a b c d some more is p call drains =
     let next = next_left size len at p.left some more p.place in
@@ -114,6 +124,6 @@ front_cut bytes size len at count blobs a b c d some more is p call drains =
     (next_call bytes size len at count blobs a b c more is p call) drains)
 
 -- what is kept stands for a state behind the piece too
-pub stands_behind : (bytes : List ℕ) (size len at : ℕ) (blobs : List (List ℕ)) (piece : Piece) (a b c : RunView) → IsAppending bytes size len at blobs a b
+pub stands_behind : (bytes : List ℕ) (size len at : ℕ) (blobs : List (List ℕ)) (piece : Piece) (a b c : RunView) → IsAppending (file_place bytes size len at) blobs a b
     → ((answer : Answer) × IsOwnStep blobs (append_entry piece answer ∷ []) b c) → IsStanding c.engine
 stands_behind bytes size len at blobs piece a b c p call = stands_on blobs (append_entry piece call.0 ∷ []) b c call.1 p.standing

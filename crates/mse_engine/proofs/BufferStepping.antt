@@ -42,9 +42,9 @@ use Rattle.mse_engine.proofs.Stepping.{still}
 
 -- ---- a call that reaches the buffers
 
--- what the end of a step makes of a reply
-abbrev pub Concludes : ℕ → Answer → SourceSide → ElementState → Reply → KeptBuffers → Kept → Type 0
-Concludes k a side e r new after = (st : State) (meant : BuffersResult) → core_source side e ≡ st.core.source → outer_of e ≡ st.outer → IsBuffersResult r new meant → IsStep a after (after_call_by (reply_moved k meant st.core) (without_action st.outer) answer.Done)
+-- what the end of a step makes of a reply, of what is kept behind the reply
+abbrev pub Concludes : ℕ → Answer → Reply → Kept → Kept → Type 0
+Concludes k a r replied after = (st : State) (meant : BuffersResult) → core_source replied.side replied.element ≡ st.core.source → outer_of replied.element ≡ st.outer → IsBuffersResult r replied.buffers meant → IsStep a after (after_call_by (reply_moved k meant st.core) (without_action st.outer) answer.Done)
 
 -- the call as it is at a state
 abbrev pub result_at : ℕ → Name → (Surroundings → Feed → Content → CallResult) → Core → BuffersResult
@@ -53,7 +53,7 @@ result_at k name call c = result_on_buffer k name c.source.state.duration (call 
 pub call_steps : (k : ℕ) (name : Name) (call : Surroundings → Feed → Content → CallResult) (around : Surroundings) (d : Moment) (r : Reply) (a : Answer) (side : SourceSide) (e e1 : ElementState) (old new : KeptBuffers) (after : Kept)
     → e1 ≡ e → around ≡ surroundings_in k (core_source side e1) → d ≡ side.state.duration
     → BuffersAnswer old r new (result_on_buffer k name d (call around))
-    → Concludes k a side e1 r new after
+    → Concludes k a r (kept side new e1) after
     → (st : State) → Stands (kept side old e) st → IsStep a after (after_call_by (reply_moved k (result_at k name call st.core) st.core) (without_action st.outer) answer.Done)
 call_steps k name call around d r a side e e1 old new after same there long answers concludes st h =
     let source : core_source side e1 ≡ st.core.source = ap (core_source side) same ∙ h.source in
@@ -206,15 +206,15 @@ unread_steps k x st past settled h = unmade_steps k (read_slot_moved (in_slot k 
 pub append_steps : (k : ℕ) (bytes : List ℕ) (piece : Piece) (blobs : List (List ℕ)) (around : Surroundings) (d : Moment) (position : ℤ) (quota : ℕ) (r : Reply) (a : Answer) (side : SourceSide) (e e1 : ElementState) (old new : KeptBuffers) (after : Kept)
     → nat_lt k (length old) ≡ true → bytes_of blobs piece ≡ Some bytes
     → e1 ≡ e → around ≡ surroundings_in k (core_source side e1) → d ≡ side.state.duration → position ≡ e1.player.position → quota ≡ side.quota
-    → BuffersAnswer old r new (result_on_buffer k InvalidState d (append_result bytes position quota around))
-    → Concludes k a side e1 r new after
+    → BuffersAnswer old r new (result_on_buffer k InvalidState d (append_result (record { bytes = bytes; position = position; quota = quota }) around))
+    → Concludes k a r (kept side new e1) after
     → (st : State) → Stands (kept side old e) st → IsStep a after (after_call blobs (call.AppendBuffer k piece) st)
 append_steps k bytes piece blobs around d position quota r a side e e1 old new after is there same told long at most answers concludes st h =
     let here : position ≡ st.outer.element.position = at ∙ ap (λ (x : ElementState). x.player.position) same ∙ ap (λ (o : Outer). o.element.position) h.outer in
     let room : quota ≡ st.core.source.quota = most ∙ ap (λ (s : CoreSource). s.quota) h.source in
-    let first = call_steps k InvalidState (append_result bytes position quota) around d r a side e e1 old new after same told long answers concludes st h in
-    let next : IsStep a after (after_call_by (buffer_moved k (append_result bytes st.outer.element.position st.core.source.quota) st.core) (without_action st.outer) answer.Done) = subst (λ (q : ℕ). IsStep a after (after_call_by (buffer_moved k (append_result bytes st.outer.element.position q) st.core) (without_action st.outer) answer.Done)) room (subst (λ (p : ℤ). IsStep a after (after_call_by (buffer_moved k (append_result bytes p quota) st.core) (without_action st.outer) answer.Done)) here first) in
-    let moved : append_moved blobs piece k st.outer.element.position st.core ≡ buffer_moved k (append_result bytes st.outer.element.position st.core.source.quota) st.core = made_moved k (append_moved_of (bytes_of blobs piece) k st.outer.element.position st.core) (kept side old e) st is h ∙ ap (λ (o : Option (List ℕ)). append_moved_of o k st.outer.element.position st.core) there in
+    let first = call_steps k InvalidState (append_result (record { bytes = bytes; position = position; quota = quota })) around d r a side e e1 old new after same told long answers concludes st h in
+    let next : IsStep a after (after_call_by (buffer_moved k (append_result (record { bytes = bytes; position = st.outer.element.position; quota = st.core.source.quota })) st.core) (without_action st.outer) answer.Done) = subst (λ (q : ℕ). IsStep a after (after_call_by (buffer_moved k (append_result (record { bytes = bytes; position = st.outer.element.position; quota = q })) st.core) (without_action st.outer) answer.Done)) room (subst (λ (p : ℤ). IsStep a after (after_call_by (buffer_moved k (append_result (record { bytes = bytes; position = p; quota = quota })) st.core) (without_action st.outer) answer.Done)) here first) in
+    let moved : append_moved blobs piece k st.outer.element.position st.core ≡ buffer_moved k (append_result (record { bytes = bytes; position = st.outer.element.position; quota = st.core.source.quota })) st.core = made_moved k (append_moved_of (bytes_of blobs piece) k st.outer.element.position st.core) (kept side old e) st is h ∙ ap (λ (o : Option (List ℕ)). append_moved_of o k st.outer.element.position st.core) there in
     subst (λ (m : Moved). IsStep a after (after_call_by m (without_action st.outer) answer.Done)) (sym moved) next
 
 -- there are no such bytes

@@ -297,7 +297,7 @@ module _ (law : AreInside) (c : Core) (none : AreUntracked c.source.state.durati
 
   append_of : (o : Option (List ℕ)) (k : ℕ) (position : ℤ) → IsPlacing c (append_moved_of o k position c)
   append_of None k position = refused _
-  append_of (Some bytes) k position = on_buffer k (append_result bytes position c.source.quota) (append_timely bytes position c.source.quota (surroundings_in k c.source))
+  append_of (Some bytes) k position = on_buffer k (append_result (record { bytes = bytes; position = position; quota = c.source.quota })) (append_timely bytes position c.source.quota (surroundings_in k c.source))
 
   read_slot : (o : Option BufferState) → IsPlacing c (read_slot_moved o c)
   read_slot None = refused InvalidState

@@ -215,7 +215,7 @@ bytes_refuse : (bytes : Option (List ℕ)) (k : ℕ) (position : ℤ) (st : Stat
 bytes_refuse None k position st = plain_refuses NoSuchBytes answer.Done st
 bytes_refuse (Some bytes) k position st =
     let a = surroundings_in k st.core.source in
-    on_buffer_refuses k InvalidState (λ f c. append_refusal a f) (append_result bytes position st.core.source.quota) st (λ f c n e. append_refused bytes position st.core.source.quota a f c n e)
+    on_buffer_refuses k InvalidState (λ f c. append_refusal a f) (append_result (record { bytes = bytes; position = position; quota = st.core.source.quota })) st (λ f c n e. append_refused (record { bytes = bytes; position = position; quota = st.core.source.quota }) a f c n e)
 
 append_refuses : (blobs : List (List ℕ)) (k : ℕ) (piece : Piece) (st : State) → TellsRefusal blobs (call.AppendBuffer k piece) st
 append_refuses blobs k piece st =

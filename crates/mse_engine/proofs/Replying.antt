@@ -85,12 +85,12 @@ none_evicted position new quota d =
     let rs : List RemovalRange = ranges_in_order position (removal_ranges d (sync_times (frames_of (lead_of [])))) in
     by_tracks _ [] (tracks_while_full new quota d rs []) refl (none_while_full new quota d rs)
 
-pub append_timely : (bytes : List ℕ) (position : ℤ) (quota : ℕ) (a : Surroundings) → AreTimely a (append_result bytes position quota)
+pub append_timely : (bytes : List ℕ) (position : ℤ) (quota : ℕ) (a : Surroundings) → AreTimely a (append_result (record { bytes = bytes; position = position; quota = quota }))
 append_timely bytes position quota a f c h =
     let n : ℕ = length bytes in
     let m : Media = media_after_eviction position n quota a.duration c.media in
     let none : IsUntracked a.duration m = λ e. ap (tracks_after_eviction position n quota a.duration) (h e) ∙ none_evicted position n quota a.duration in
-    unless (append_refusal a f) (append_result_after_eviction bytes position quota a f c) a f c h
+    unless (append_refusal a f) (append_result_after_eviction (record { bytes = bytes; position = position; quota = quota }) a f c) a f c h
     (call_by a.duration (is_full bytes quota f m) _ _ (timely_still a.duration m.tracks none) (timely_still a.duration m.tracks none))
 
 -- ---- resets of the parser

@@ -123,7 +123,7 @@ for_quota : (full : Bool) (r s : CallResult) (name : Name) → r.reply.refused �
 for_quota true r s name quota none is = let both : Some QuotaExceeded ≡ Some name = sym quota ∙ is in cc
 for_quota false r s name quota none is = let both : None ≡ Some name = sym none ∙ is in absurd (cc)
 
-after_eviction : (bytes : List ℕ) (position : ℤ) (quota : ℕ) (a : Surroundings) (f : Feed) (c : Content) (name : Name) → (append_result_after_eviction bytes position quota a f c).reply.refused ≡ Some name → name ≡ QuotaExceeded
+after_eviction : (bytes : List ℕ) (position : ℤ) (quota : ℕ) (a : Surroundings) (f : Feed) (c : Content) (name : Name) → (append_result_after_eviction (record { bytes = bytes; position = position; quota = quota }) a f c).reply.refused ≡ Some name → name ≡ QuotaExceeded
 after_eviction bytes position quota a f c name is =
     let m : Media = media_after_eviction position (length bytes) quota a.duration c.media in
     let x : Content = with_media m c in
@@ -131,13 +131,13 @@ after_eviction bytes position quota a f c name is =
 
 in_slot_quota : (k : ℕ) (bytes : List ℕ) (position : ℤ) (quota : ℕ) (c : Core) (name : Name) (o : Option (Option BufferState))
     → refusal_by_slot o (refusal_in_slot InvalidState (λ f x. append_refusal (surroundings_in k c.source) f)) ≡ None
-    → (result_by_slot o (call_in_slot InvalidState c.source.state.duration (append_result bytes position quota (surroundings_in k c.source))) c.source.state.duration k c.buffers).reply.refused ≡ Some name
+    → (result_by_slot o (call_in_slot InvalidState c.source.state.duration (append_result (record { bytes = bytes; position = position; quota = quota }) (surroundings_in k c.source))) c.source.state.duration k c.buffers).reply.refused ≡ Some name
     → name ≡ QuotaExceeded
 in_slot_quota k bytes position quota c name None none is = absurd (cc)
 in_slot_quota k bytes position quota c name (Some None) none is = absurd (cc)
 in_slot_quota k bytes position quota c name (Some (Some b)) none is =
     let a = surroundings_in k c.source in
-    let did : append_result bytes position quota a b.feed b.content ≡ append_result_after_eviction bytes position quota a b.feed b.content = ap (λ (o : Option Name). unless_refused o (append_result_after_eviction bytes position quota a b.feed b.content) a b.feed b.content) none in
+    let did : append_result (record { bytes = bytes; position = position; quota = quota }) a b.feed b.content ≡ append_result_after_eviction (record { bytes = bytes; position = position; quota = quota }) a b.feed b.content = ap (λ (o : Option Name). unless_refused o (append_result_after_eviction (record { bytes = bytes; position = position; quota = quota }) a b.feed b.content) a b.feed b.content) none in
     after_eviction bytes position quota a b.feed b.content name (sym (ap (λ (r : CallResult). r.reply.refused) did) ∙ is)
 
 bytes_untold : (bytes : Option (List ℕ)) (k : ℕ) (st : State) (name : Name) → Untold (refusal_if_there bytes (refusal_on_buffer k InvalidState (λ f c. append_refusal (surroundings_in k st.core.source) f) st.core.buffers)) (append_moved_of bytes k st.outer.element.position st.core) st name

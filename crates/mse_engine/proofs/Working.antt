@@ -51,7 +51,7 @@ idle_by (Some meant) k ks old new st h same = absurd h
 
 pub work_did : (k : ℕ) (around : Surroundings) (r : Reply) (a : Answer) (side : SourceSide) (e start : ElementState) (old new : KeptBuffers) (behind : Kept) (st : State)
     → start ≡ e → around ≡ surroundings_in k (core_source side start) → IsBuffersTurn (turned.Did r) new (buffers_turn k around st.core.buffers)
-    → Concludes k a side start r new behind → Stands (kept side old e) st
+    → Concludes k a r (kept side new start) behind → Stands (kept side old e) st
     → IsWork worked.Did (kept side old e) behind (after_work k st)
 work_did k around r a side e start old new behind st ready there turns concludes h =
     let source : core_source side start ≡ st.core.source = ap (core_source side) ready ∙ h.source in

@@ -49,7 +49,8 @@ remove_frames_moved k start end c =
 abbrev pub append_moved_of : Option (List ℕ) → ℕ → ℤ → Core → Moved
 append_moved_of None k position c = refused_moved NoSuchBytes c
 append_moved_of (Some bytes) k position c =
-    buffer_moved k (append_result bytes position c.source.quota) c
+    buffer_moved k
+    (append_result (record { bytes = bytes; position = position; quota = c.source.quota })) c
 
 abbrev pub append_moved : List (List ℕ) → Piece → ℕ → ℤ → Core → Moved
 append_moved blobs piece k position c =

@@ -16,7 +16,7 @@ use Rattle.mse_engine.specs.Work.{after_work, after_element_turn, fire_result, r
 use Rattle.mse_engine.specs.Run.{entry_meaning, step_meaning, fire_meaning, after_entries, Replays}
 use Rattle.script_run.specs.DrainSteps.{IsDrain, IsNextStep, IsAtRest, AreInDrainOrder}
 use Rattle.script_run.specs.Turns.{ListenerTurn, first_turn, AreInTurn, calls_in}
-use Rattle.script_run.specs.Lines.{own_of, fired_of, done_of, Does, Limits, IsWithin, play_inputs}
+use Rattle.script_run.specs.Lines.{own_of, fired_of, done_of, Does, Limits, IsWithin, PlayInputs, play_inputs}
 use Rattle.script_run.specs.Follows.{AreLinesDone}
 use Rattle.cut_law.specs.Plays.{after_entry, fired_entries, next_entry_by, next_entry, entries_behind, entries_then, drain_in, drain_entries, fire_entries, entries_if, line_entries, after_line, play_entries, play_of}
 use Rattle.cut_law.specs.Files.{after_piece}
@@ -251,12 +251,12 @@ quiet-join (Work k ∷ xs) ys p q = quiet-join xs ys p q
 quiet-join (Element ∷ xs) ys p q = quiet-join xs ys p q
 
 -- what holds of the journal of some lines, of which the first has the number n
-pub record IsPlayFrom (blobs : List (List ℕ)) (limits : Limits) (n : ℕ) (st : State) (lines : List StepLine) (entries : List Entry) : Type 0 where
-  pub whole : AreLinesDone (play_inputs blobs limits) n st lines entries
-  pub replays : Replays blobs st entries
+pub record IsPlayFrom (inputs : PlayInputs) (n : ℕ) (st : State) (lines : List StepLine) (entries : List Entry) : Type 0 where
+  pub whole : AreLinesDone inputs n st lines entries
+  pub replays : Replays inputs.blobs st entries
   pub silent : calls_in entries ≡ 0
 
-pub some-play : (blobs : List (List ℕ)) (limits : Limits) (n : ℕ) (st : State) (lines : List StepLine) → IsPlayFrom blobs limits n st lines (play_entries blobs n st lines)
+pub some-play : (blobs : List (List ℕ)) (limits : Limits) (n : ℕ) (st : State) (lines : List StepLine) → IsPlayFrom (play_inputs blobs limits) n st lines (play_entries blobs n st lines)
 some-play blobs limits n st [] = record { whole = refl; replays = tt; silent = refl }
 some-play blobs limits n st (line ∷ lines) =
     let part : List Entry = line_entries blobs st line in

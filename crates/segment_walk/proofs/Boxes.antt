@@ -34,7 +34,7 @@ use Rattle.parser_loop.proofs.ItemLaws.{is-prefix, leading-length}
 use Rattle.segment_walk.proofs.Latest.{state-latest}
 use Rattle.parser_loop.specs.Parse.{ParserView, NoItem, ItemThen, items_of, seen_before, parse_by, parse_from}
 use Rattle.parser_loop.proofs.Parses.{parse-step, items-parse, seen-parse}
-use Rattle.segment_walk.specs.Segments.{SegmentParse, OpenFragment, TopBox, NoFragment, InFragment, is_inside, frame_at, view_at, view_without_bytes, parse_once_there, parse_of_fault, parse_of_moov, parse_of_moof, parse_of_use, parse_outside, parse_of_slots, parse_of_data_end, parse_of_mdat, parse_inside, parse_of_header, parse_of_boxes, segment_parse, Items, latest_before, ready_before}
+use Rattle.segment_walk.specs.Segments.{SegmentParse, Onwards, OpenFragment, TopBox, NoFragment, InFragment, is_inside, frame_at, view_at, view_without_bytes, parse_once_there, parse_of_fault, parse_of_moov, parse_of_moof, parse_of_use, parse_outside, parse_of_slots, parse_of_data_end, parse_of_mdat, parse_inside, parse_of_box, parse_of_header, parse_of_boxes, segment_parse, Items, latest_before, ready_before}
 use Rattle.segment_walk.proofs.WalkLaws.{is_walk, going, once-short, once-there}
 
 -- what is told of a state of the walk
@@ -122,16 +122,37 @@ Awaits known end (s ∷ left) = (lies_in known s ≡ false) × (ltb s.start end 
 abbrev In : List ℕ → ℕ → Type 0
 In b n = (last : Option Presentation) (m : ℕ) (slots left : List Slot) (taken : ℕ) (known : List DataRange) (end p : ℕ) → drop taken slots ≡ left → Awaits known end left → m + p ≤ length b → length b < m + p + n → parse_of_boxes n b last (InFragment (fragment m left known end)) (m + p) ≡ its (going last (Within (open_with slots taken known end (AtBox p))) m (drop m b))
 
--- what is known on the box at `at`, with its size, before the walk is at its end
-record Here (b : List ℕ) (n at len : ℕ) : Type 0 where
-  out : Out b n
-  inside : In b n
-  begins : at ≤ length b
-  size : 8 ≤ len
-  more : length b < at + suc n
+-- where a box stands: its string, how many boxes are read behind it at most, its offset, and the lengths of its header
+-- and of the whole
+record BoxPlace : Type 0 where
+  string : List ℕ
+  boxes : ℕ
+  at : ℕ
+  head : ℕ
+  len : ℕ
 
-out-skip : (b : List ℕ) (n at len : ℕ) (last : Option Presentation) (phase to : Phase) → Here b n at len → parse_once_there b (at + len) (view_without_bytes to last) (parse_of_boxes n b last (NoFragment to) (at + len)) ≡ done (going last (Between phase) at (drop at b)) (step.Skip to len)
-out-skip b n at len last phase to i =
+-- what is known on a box, before the walk is at its end
+record Here (w : BoxPlace) : Type 0 where
+  out : Out w.string w.boxes
+  inside : In w.string w.boxes
+  begins : w.at ≤ length w.string
+  size : 8 ≤ w.len
+  more : length w.string < w.at + suc w.boxes
+
+-- what the boxes behind one give
+abbrev behind : BoxPlace → Onwards
+behind w = parse_of_boxes w.boxes w.string
+
+-- before a box where no movie fragment is open
+abbrev before_box : BoxPlace → Option Presentation → Phase → State
+before_box w last phase = going last (Between phase) w.at (drop w.at w.string)
+
+out-skip : (w : BoxPlace) (last : Option Presentation) (phase to : Phase) → Here w → parse_once_there w.string (w.at + w.len) (view_without_bytes to last) (behind w last (NoFragment to) (w.at + w.len)) ≡ done (before_box w last phase) (step.Skip to w.len)
+out-skip w last phase to i =
+    let b = w.string in
+    let n = w.boxes in
+    let at = w.at in
+    let len = w.len in
     elim (cases_lt (length b) (at + len)) as (λ _. parse_once_there b (at + len) (view_without_bytes to last) (parse_of_boxes n b last (NoFragment to) (at + len)) ≡ its (going last (Skipping to len) at (drop at b))) [
       | inl h ↦ missing b (at + len) (view_without_bytes to last) (parse_of_boxes n b last (NoFragment to) (at + len)) h ∙ sym (skip-short last to len at (drop at b) (omega (arith, length-drop at b, i.begins)))
       | inr h ↦
@@ -145,82 +166,86 @@ out-skip b n at len last phase to i =
 abbrev box_of : TopLevelBox → ℕ → ℕ → ℕ → TopBox
 box_of kind at start len = record { kind = kind; at = at; start = at + start; end = at + len }
 
-out-init : (b : List ℕ) (n at start len : ℕ) (last : Option Presentation) (phase : Phase) (kind : TopLevelBox) (r : Result Presentation InitFault) → Here b n at len → at + len ≤ length b → parse_of_moov (parse_of_boxes n b) (view_at b last (NoFragment phase) at) (box_of kind at start len) r ≡ parse_by see (going last (Between phase) at (drop at b)) its (initialized (going last (Between phase) at (drop at b)) len r)
-out-init b n at start len last phase kind (Ok p) i h =
-    ap (λ items. ItemThen (view_at b last (NoFragment phase) at) (InitItem p at) items) (i.out (Some p) Waiting (at + len) h (omega (arith, i.size, i.more)) ∙ ap (λ rest. its (going (Some p) (Between Waiting) (at + len) rest)) (sym (drop-drop len at b)))
-out-init b n at start len last phase kind (Err f) i h = fail-items (going last (Between phase) at (drop at b)) (fault.Init f) 0 at (omega arith)
+abbrev box_at : BoxPlace → TopLevelBox → TopBox
+box_at w kind = box_of kind w.at w.head w.len
+
+out-init : (w : BoxPlace) (last : Option Presentation) (phase : Phase) (kind : TopLevelBox) (r : Result Presentation InitFault) → Here w → w.at + w.len ≤ length w.string → parse_of_moov (behind w) (see (before_box w last phase)) (box_at w kind) r ≡ parse_by see (before_box w last phase) its (initialized (before_box w last phase) w.len r)
+out-init w last phase kind (Ok p) i h =
+    ap (λ items. ItemThen (see (before_box w last phase)) (InitItem p w.at) items) (i.out (Some p) Waiting (w.at + w.len) h (omega (arith, i.size, i.more)) ∙ ap (λ rest. its (going (Some p) (Between Waiting) (w.at + w.len) rest)) (sym (drop-drop w.len w.at w.string)))
+out-init w last phase kind (Err f) i h = fail-items (before_box w last phase) (fault.Init f) 0 w.at (omega arith)
 
 awaits-none : (slots : List Slot) → Awaits [] 0 slots
 awaits-none [] = tt
 awaits-none (s ∷ slots) = (refl, let h : 0 ≤ s.start = omega arith in grind (arith, nat_tests))
 
-out-opened : (b : List ℕ) (n at start len : ℕ) (last : Option Presentation) (phase : Phase) (kind : TopLevelBox) (r : Result (List Slot) MoofFault) → Here b n at len → at + len ≤ length b → parse_of_moof (parse_of_boxes n b) (view_at b last (NoFragment phase) at) (box_of kind at start len) r ≡ parse_by see (going last (Between phase) at (drop at b)) its (opened (going last (Between phase) at (drop at b)) len r)
-out-opened b n at start len last phase kind (Ok slots) i h =
+out-opened : (w : BoxPlace) (last : Option Presentation) (phase : Phase) (kind : TopLevelBox) (r : Result (List Slot) MoofFault) → Here w → w.at + w.len ≤ length w.string → parse_of_moof (behind w) (see (before_box w last phase)) (box_at w kind) r ≡ parse_by see (before_box w last phase) its (opened (before_box w last phase) w.len r)
+out-opened w last phase kind (Ok slots) i h =
+    let at = w.at in
     let e : at ≡ at + 0 = omega arith in
-    ap (λ end. parse_of_boxes n b last (InFragment (record { moof = at; slots = slots; payloads = []; end = end })) (at + len)) e
-    ∙ i.inside last at slots slots 0 [] 0 len refl (awaits-none slots) h (omega (arith, i.size, i.more))
-out-opened b n at start len last phase kind (Err f) i h = fail-items (going last (Between phase) at (drop at b)) (fault.Moof f) 0 at (omega arith)
+    ap (λ end. behind w last (InFragment (record { moof = at; slots = slots; payloads = []; end = end })) (at + w.len)) e
+    ∙ i.inside last at slots slots 0 [] 0 w.len refl (awaits-none slots) h (omega (arith, i.size, i.more))
+out-opened w last phase kind (Err f) i h = fail-items (before_box w last phase) (fault.Moof f) 0 w.at (omega arith)
 
--- what the use of a box gives, and the step
-abbrev Used : List ℕ → ℕ → ℕ → ℕ → ℕ → Option Presentation → Phase → TopLevelBox → BoxUse → BoxStep → Type 0
-Used b n at start len last phase kind usage st = parse_of_use (parse_of_boxes n b) b (view_at b last (NoFragment phase) at) (box_of kind at start len) usage ≡ done (going last (Between phase) at (drop at b)) st
+-- what the use of a box gives, and the step, in a state of the walk
+abbrev Used : BoxPlace → TopLevelBox → State → BoxUse → BoxStep → Type 0
+Used w kind s usage st = parse_of_use (behind w) w.string (see s) (box_at w kind) usage ≡ done s st
 
-out-moov : (b : List ℕ) (n at start len : ℕ) (last : Option Presentation) (phase : Phase) (kind : TopLevelBox) → Here b n at len → Used b n at start len last phase kind ReadMovie (once (length (drop at b)) len (step.ReadInit len))
-out-moov b n at start len last phase kind i =
-    once-same b at len (at + len) (going last (Between phase) at (drop at b)) (step.ReadInit len) _ i.begins refl
-    (λ h. ap (λ moov. parse_of_moov (parse_of_boxes n b) (view_at b last (NoFragment phase) at) (box_of kind at start len) (init_of moov)) (sliced b at len) ∙ out-init b n at start len last phase kind (init_of (take len (drop at b))) i h)
+out-moov : (w : BoxPlace) (last : Option Presentation) (phase : Phase) (kind : TopLevelBox) → Here w → Used w kind (before_box w last phase) ReadMovie (once (length (drop w.at w.string)) w.len (step.ReadInit w.len))
+out-moov w last phase kind i =
+    once-same w.string w.at w.len (w.at + w.len) (before_box w last phase) (step.ReadInit w.len) _ i.begins refl
+    (λ h. ap (λ moov. parse_of_moov (behind w) (see (before_box w last phase)) (box_at w kind) (init_of moov)) (sliced w.string w.at w.len) ∙ out-init w last phase kind (init_of (take w.len (drop w.at w.string))) i h)
 
-out-moof : (b : List ℕ) (n at start len : ℕ) (p : Presentation) (phase : Phase) (kind : TopLevelBox) → Here b n at len → Used b n at start len (Some p) phase kind (ReadFragment p) (once (length (drop at b)) len (step.ReadMoof len))
-out-moof b n at start len p phase kind i =
-    once-same b at len (at + len) (going (Some p) (Between phase) at (drop at b)) (step.ReadMoof len) _ i.begins refl
-    (λ h. ap (λ moof. parse_of_moof (parse_of_boxes n b) (view_at b (Some p) (NoFragment phase) at) (box_of kind at start len) (plan_of p.tracks moof)) (sliced b at len) ∙ out-opened b n at start len (Some p) phase kind (plan_of p.tracks (take len (drop at b))) i h)
+out-moof : (w : BoxPlace) (p : Presentation) (phase : Phase) (kind : TopLevelBox) → Here w → Used w kind (before_box w (Some p) phase) (ReadFragment p) (once (length (drop w.at w.string)) w.len (step.ReadMoof w.len))
+out-moof w p phase kind i =
+    once-same w.string w.at w.len (w.at + w.len) (before_box w (Some p) phase) (step.ReadMoof w.len) _ i.begins refl
+    (λ h. ap (λ moof. parse_of_moof (behind w) (see (before_box w (Some p) phase)) (box_at w kind) (plan_of p.tracks moof)) (sliced w.string w.at w.len) ∙ out-opened w (Some p) phase kind (plan_of p.tracks (take w.len (drop w.at w.string))) i h)
 
 if-same : (c d : Bool) (x y : SegmentParse) (s : State) (st t : BoxStep) → c ≡ d → x ≡ done s st → y ≡ done s t → cond c x y ≡ done s (cond d st t)
 if-same c true x y s st t e p q = ap (λ c. cond c x y) e ∙ p
 if-same c false x y s st t e p q = ap (λ c. cond c x y) e ∙ q
 
 -- a box in its place
-out-large : (b : List ℕ) (n at start len : ℕ) (last : Option Presentation) (phase : Phase) (kind : TopLevelBox) (usage : BoxUse) (st : BoxStep) → Used b n at start len last phase kind usage st → parse_outside (parse_of_boxes n b) b (view_at b last (NoFragment phase) at) (box_of kind at start len) (Ok usage) ≡ done (going last (Between phase) at (drop at b)) (cond (ltb (greatest_size kind) len) (step.Fail fault.TooLarge 0) st)
-out-large b n at start len last phase kind usage st u =
-    if-same (ltb (at + greatest_size kind) (at + len)) (ltb (greatest_size kind) len) _ _ (going last (Between phase) at (drop at b)) (step.Fail fault.TooLarge 0) st (ltb-shift at (greatest_size kind) len)
-    (fail-items (going last (Between phase) at (drop at b)) fault.TooLarge 0 at (omega arith)) u
+out-large : (w : BoxPlace) (last : Option Presentation) (phase : Phase) (kind : TopLevelBox) (usage : BoxUse) (st : BoxStep) → Used w kind (before_box w last phase) usage st → parse_outside (behind w) w.string (see (before_box w last phase)) (box_at w kind) (Ok usage) ≡ done (before_box w last phase) (cond (ltb (greatest_size kind) w.len) (step.Fail fault.TooLarge 0) st)
+out-large w last phase kind usage st u =
+    if-same (ltb (w.at + greatest_size kind) (w.at + w.len)) (ltb (greatest_size kind) w.len) _ _ (before_box w last phase) (step.Fail fault.TooLarge 0) st (ltb-shift w.at (greatest_size kind) w.len)
+    (fail-items (before_box w last phase) fault.TooLarge 0 w.at (omega arith)) u
 
-out-passed : (b : List ℕ) (n at start len : ℕ) (last : Option Presentation) (phase to : Phase) (kind : TopLevelBox) → Here b n at len → parse_outside (parse_of_boxes n b) b (view_at b last (NoFragment phase) at) (box_of kind at start len) (Ok (PassOver to)) ≡ done (going last (Between phase) at (drop at b)) (cond (ltb (greatest_size kind) len) (step.Fail fault.TooLarge 0) (step.Skip to len))
-out-passed b n at start len last phase to kind i = out-large b n at start len last phase kind (PassOver to) (step.Skip to len) (out-skip b n at len last phase to i)
+out-passed : (w : BoxPlace) (last : Option Presentation) (phase to : Phase) (kind : TopLevelBox) → Here w → parse_outside (behind w) w.string (see (before_box w last phase)) (box_at w kind) (Ok (PassOver to)) ≡ done (before_box w last phase) (cond (ltb (greatest_size kind) w.len) (step.Fail fault.TooLarge 0) (step.Skip to w.len))
+out-passed w last phase to kind i = out-large w last phase kind (PassOver to) (step.Skip to w.len) (out-skip w last phase to i)
 
 out-fault : (b : List ℕ) (at : ℕ) (last : Option Presentation) (phase : Phase) (f : StreamFault) → parse_of_fault (view_at b last (NoFragment phase) at) f at ≡ done (going last (Between phase) at (drop at b)) (step.Fail f 0)
 out-fault b at last phase f = fail-items (going last (Between phase) at (drop at b)) f 0 at (omega arith)
 
-abbrev OutBox : List ℕ → ℕ → ℕ → ℕ → ℕ → Option Presentation → Phase → TopLevelBox → Type 0
-OutBox b n at start len last phase kind = parse_outside (parse_of_boxes n b) b (view_at b last (NoFragment phase) at) (box_of kind at start len) (box_use phase kind last) ≡ done (going last (Between phase) at (drop at b)) (judge_between phase kind (length (drop at b)) len (place_fault (is_some last) phase kind))
+abbrev OutBox : BoxPlace → Option Presentation → Phase → TopLevelBox → Type 0
+OutBox w last phase kind = parse_outside (behind w) w.string (see (before_box w last phase)) (box_at w kind) (box_use phase kind last) ≡ done (before_box w last phase) (judge_between phase kind (length (drop w.at w.string)) w.len (place_fault (is_some last) phase kind))
 
-out-box : (b : List ℕ) (n at start len : ℕ) (last : Option Presentation) (phase : Phase) (kind : TopLevelBox) → Here b n at len → OutBox b n at start len last phase kind
-out-box b n at start len last Waiting FileType i = out-passed b n at start len last Waiting InInit FileType i
-out-box b n at start len last Waiting SegmentType i = out-passed b n at start len last Waiting InMedia SegmentType i
-out-box b n at start len last Waiting Movie i = out-fault b at last Waiting fault.MoovPlace
-out-box b n at start len None Waiting MovieFragment i = out-fault b at None Waiting fault.NoInit
-out-box b n at start len (Some p) Waiting MovieFragment i = out-large b n at start len (Some p) Waiting MovieFragment (ReadFragment p) _ (out-moof b n at start len p Waiting MovieFragment i)
-out-box b n at start len last Waiting MediaData i = out-passed b n at start len last Waiting Waiting MediaData i
-out-box b n at start len last Waiting Other i = out-passed b n at start len last Waiting Waiting Other i
-out-box b n at start len last InInit FileType i = out-passed b n at start len last InInit InInit FileType i
-out-box b n at start len last InInit SegmentType i = out-passed b n at start len last InInit InInit SegmentType i
-out-box b n at start len last InInit Movie i = out-large b n at start len last InInit Movie ReadMovie _ (out-moov b n at start len last InInit Movie i)
-out-box b n at start len last InInit MovieFragment i = out-fault b at last InInit fault.MoofPlace
-out-box b n at start len last InInit MediaData i = out-passed b n at start len last InInit InInit MediaData i
-out-box b n at start len last InInit Other i = out-passed b n at start len last InInit InInit Other i
-out-box b n at start len last InMedia FileType i = out-passed b n at start len last InMedia InInit FileType i
-out-box b n at start len last InMedia SegmentType i = out-passed b n at start len last InMedia InMedia SegmentType i
-out-box b n at start len last InMedia Movie i = out-fault b at last InMedia fault.MoovPlace
-out-box b n at start len None InMedia MovieFragment i = out-fault b at None InMedia fault.NoInit
-out-box b n at start len (Some p) InMedia MovieFragment i = out-large b n at start len (Some p) InMedia MovieFragment (ReadFragment p) _ (out-moof b n at start len p InMedia MovieFragment i)
-out-box b n at start len last InMedia MediaData i = out-passed b n at start len last InMedia InMedia MediaData i
-out-box b n at start len last InMedia Other i = out-passed b n at start len last InMedia InMedia Other i
+out-box : (w : BoxPlace) (last : Option Presentation) (phase : Phase) (kind : TopLevelBox) → Here w → OutBox w last phase kind
+out-box w last Waiting FileType i = out-passed w last Waiting InInit FileType i
+out-box w last Waiting SegmentType i = out-passed w last Waiting InMedia SegmentType i
+out-box w last Waiting Movie i = out-fault w.string w.at last Waiting fault.MoovPlace
+out-box w None Waiting MovieFragment i = out-fault w.string w.at None Waiting fault.NoInit
+out-box w (Some p) Waiting MovieFragment i = out-large w (Some p) Waiting MovieFragment (ReadFragment p) _ (out-moof w p Waiting MovieFragment i)
+out-box w last Waiting MediaData i = out-passed w last Waiting Waiting MediaData i
+out-box w last Waiting Other i = out-passed w last Waiting Waiting Other i
+out-box w last InInit FileType i = out-passed w last InInit InInit FileType i
+out-box w last InInit SegmentType i = out-passed w last InInit InInit SegmentType i
+out-box w last InInit Movie i = out-large w last InInit Movie ReadMovie _ (out-moov w last InInit Movie i)
+out-box w last InInit MovieFragment i = out-fault w.string w.at last InInit fault.MoofPlace
+out-box w last InInit MediaData i = out-passed w last InInit InInit MediaData i
+out-box w last InInit Other i = out-passed w last InInit InInit Other i
+out-box w last InMedia FileType i = out-passed w last InMedia InInit FileType i
+out-box w last InMedia SegmentType i = out-passed w last InMedia InMedia SegmentType i
+out-box w last InMedia Movie i = out-fault w.string w.at last InMedia fault.MoovPlace
+out-box w None InMedia MovieFragment i = out-fault w.string w.at None InMedia fault.NoInit
+out-box w (Some p) InMedia MovieFragment i = out-large w (Some p) InMedia MovieFragment (ReadFragment p) _ (out-moof w p InMedia MovieFragment i)
+out-box w last InMedia MediaData i = out-passed w last InMedia InMedia MediaData i
+out-box w last InMedia Other i = out-passed w last InMedia InMedia Other i
 
-out-header : (b : List ℕ) (n at : ℕ) (last : Option Presentation) (phase : Phase) (h : Header) → Out b n → In b n → at ≤ length b → length b < at + suc n → IsHeaderWithin (length (drop at b)) h → parse_of_header (parse_of_boxes n b) b (view_at b last (NoFragment phase) at) (NoFragment phase) at h ≡ done (going last (Between phase) at (drop at b)) (box_between (is_some last) phase (length (drop at b)) h)
+out-header : (b : List ℕ) (n at : ℕ) (last : Option Presentation) (phase : Phase) (h : Header) → Out b n → In b n → at ≤ length b → length b < at + suc n → IsHeaderWithin (length (drop at b)) h → parse_of_header (view_at b last (NoFragment phase) at) at (parse_of_box (parse_of_boxes n b) b (view_at b last (NoFragment phase) at) (NoFragment phase)) h ≡ done (going last (Between phase) at (drop at b)) (box_between (is_some last) phase (length (drop at b)) h)
 out-header b n at last phase head.Short o i l m r = refl
 out-header b n at last phase (head.Bad f) o i l m r = out-fault b at last phase (size_fault f)
 out-header b n at last phase (head.Whole kind start len) o i l m r =
-    out-box b n at start len last phase (box_type kind) (record { out = o; inside = i; begins = l; size = omega (arith, r.0, r.1); more = m })
+    out-box (record { string = b; boxes = n; at = at; head = start; len = len }) last phase (box_type kind) (record { out = o; inside = i; begins = l; size = omega (arith, r.0, r.1); more = m })
 
 -- the items before a box, by the step
 between-step : (b : List ℕ) (at : ℕ) (last : Option Presentation) (phase : Phase) → its (going last (Between phase) at (drop at b)) ≡ done (going last (Between phase) at (drop at b)) (box_between (is_some last) phase (length (drop at b)) (header_of (drop at b)))
@@ -307,7 +332,7 @@ in-mdat b n last m slots left taken known begin end i j out inside l k d e g =
     ∙ ap (λ ks. mdat_at b n last m left ks (m + end)) (sym (shift-append m known begin end))
     ∙ in-data b n last m slots left (known ++ (record { start = begin; end = end }) ∷ []) end left taken out inside l k d
 
-in-box : (b : List ℕ) (n : ℕ) (last : Option Presentation) (m : ℕ) (slots left : List Slot) (taken : ℕ) (known : List DataRange) (end p : ℕ) (kind : TopLevelBox) (begin len : ℕ) → Out b n → In b n → drop taken slots ≡ left → Awaits known end left → m + p ≤ length b → length b < m + p + suc n → 8 ≤ len → parse_inside (parse_of_boxes n b) b (now_in b last m) (fragment m left known end) (box_of kind (m + p) begin len) kind ≡ done (going last (Within (open_with slots taken known end (AtBox p))) m (drop m b)) (judge_within (length (drop m b)) p kind begin len)
+in-box : (b : List ℕ) (n : ℕ) (last : Option Presentation) (m : ℕ) (slots left : List Slot) (taken : ℕ) (known : List DataRange) (end p : ℕ) (kind : TopLevelBox) (begin len : ℕ) → Out b n → In b n → drop taken slots ≡ left → Awaits known end left → m + p ≤ length b → length b < m + p + suc n → 8 ≤ len → parse_inside (parse_of_boxes n b) b (now_in b last m) (fragment m left known end) (box_of kind (m + p) begin len) ≡ done (going last (Within (open_with slots taken known end (AtBox p))) m (drop m b)) (judge_within (length (drop m b)) p kind begin len)
 in-box b n last m slots left taken known end p FileType begin len out inside d a l k q = fail-items (going last (Within (open_with slots taken known end (AtBox p))) m (drop m b)) fault.InSegment p (m + p) refl
 in-box b n last m slots left taken known end p SegmentType begin len out inside d a l k q = fail-items (going last (Within (open_with slots taken known end (AtBox p))) m (drop m b)) fault.InSegment p (m + p) refl
 in-box b n last m slots left taken known end p Movie begin len out inside d a l k q = fail-items (going last (Within (open_with slots taken known end (AtBox p))) m (drop m b)) fault.InSegment p (m + p) refl
@@ -327,7 +352,7 @@ in-box b n last m slots left taken known end p Other begin len out inside d a l 
     (λ _. once-same b m (p + len) (m + p + len) s (step.NextBox (p + len)) (parse_of_boxes n b last (InFragment (fragment m left known end)) (m + p + len)) (omega arith) e
     (λ h. ap (parse_of_boxes n b last (InFragment (fragment m left known end))) e ∙ inside last m slots left taken known end (p + len) d a (omega arith) (omega arith)))
 
-in-header : (b : List ℕ) (n : ℕ) (last : Option Presentation) (m : ℕ) (slots left : List Slot) (taken : ℕ) (known : List DataRange) (end p : ℕ) (h : Header) → Out b n → In b n → drop taken slots ≡ left → Awaits known end left → m + p ≤ length b → length b < m + p + suc n → IsHeaderWithin (length (drop (m + p) b)) h → parse_of_header (parse_of_boxes n b) b (now_in b last m) (InFragment (fragment m left known end)) (m + p) h ≡ done (going last (Within (open_with slots taken known end (AtBox p))) m (drop m b)) (box_within (length (drop m b)) p h)
+in-header : (b : List ℕ) (n : ℕ) (last : Option Presentation) (m : ℕ) (slots left : List Slot) (taken : ℕ) (known : List DataRange) (end p : ℕ) (h : Header) → Out b n → In b n → drop taken slots ≡ left → Awaits known end left → m + p ≤ length b → length b < m + p + suc n → IsHeaderWithin (length (drop (m + p) b)) h → parse_of_header (now_in b last m) (m + p) (parse_of_box (parse_of_boxes n b) b (now_in b last m) (InFragment (fragment m left known end))) h ≡ done (going last (Within (open_with slots taken known end (AtBox p))) m (drop m b)) (box_within (length (drop m b)) p h)
 in-header b n last m slots left taken known end p head.Short out inside d a l k r = refl
 in-header b n last m slots left taken known end p (head.Bad f) out inside d a l k r = fail-items (going last (Within (open_with slots taken known end (AtBox p))) m (drop m b)) (size_fault f) p (m + p) refl
 in-header b n last m slots left taken known end p (head.Whole kind begin len) out inside d a l k r = in-box b n last m slots left taken known end p (box_type kind) begin len out inside d a l k (omega (arith, r.0, r.1))

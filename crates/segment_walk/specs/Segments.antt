@@ -167,24 +167,25 @@ parse_unless_large now f box parse =
     if nat_lt (f.moof + 2 ^ 27) box.end then parse_of_fault now fault.TooLarge box.at else parse
 
 -- no other segment may begin in a movie fragment
-abbrev pub parse_inside : Onwards → List ℕ → ParserView → OpenFragment → TopBox → TopLevelBox
-    → SegmentParse
-parse_inside onwards b now f box FileType = parse_of_fault now fault.InSegment box.at
-parse_inside onwards b now f box SegmentType = parse_of_fault now fault.InSegment box.at
-parse_inside onwards b now f box Movie = parse_of_fault now fault.InSegment box.at
-parse_inside onwards b now f box MovieFragment = parse_of_fault now fault.InSegment box.at
-parse_inside onwards b now f box MediaData =
-    parse_unless_large now f box (parse_of_mdat onwards b now (fragment_with f box))
-parse_inside onwards b now f box Other =
-    parse_unless_large now f box
-    (parse_once_there b box.end now (onwards now.latest (InFragment f) box.end))
+abbrev pub parse_inside : Onwards → List ℕ → ParserView → OpenFragment → TopBox → SegmentParse
+parse_inside onwards b now f box = elim box.kind as (λ _. SegmentParse) [
+  | FileType ↦ parse_of_fault now fault.InSegment box.at
+  | SegmentType ↦ parse_of_fault now fault.InSegment box.at
+  | Movie ↦ parse_of_fault now fault.InSegment box.at
+  | MovieFragment ↦ parse_of_fault now fault.InSegment box.at
+  | MediaData ↦
+      parse_unless_large now f box (parse_of_mdat onwards b now (fragment_with f box))
+  | Other ↦
+      parse_unless_large now f box
+      (parse_once_there b box.end now (onwards now.latest (InFragment f) box.end))
+]
 
 -- ---- the string
 
 abbrev pub parse_of_box : Onwards → List ℕ → ParserView → Context → TopBox → SegmentParse
 parse_of_box onwards b now (NoFragment phase) box =
     parse_outside onwards b now box (box_use phase box.kind now.latest)
-parse_of_box onwards b now (InFragment f) box = parse_inside onwards b now f box box.kind
+parse_of_box onwards b now (InFragment f) box = parse_inside onwards b now f box
 
 -- the box of a header at an offset
 abbrev pub box_behind : ℕ → List ℕ → ℕ → ℕ → TopBox
@@ -195,17 +196,18 @@ box_behind at kind head len = record {
   end = at + len;
 }
 
-abbrev pub parse_of_header : Onwards → List ℕ → ParserView → Context → ℕ → Header → SegmentParse
-parse_of_header onwards b now before at head.Short = NoItem now
-parse_of_header onwards b now before at (head.Bad f) = parse_of_fault now (size_fault f) at
-parse_of_header onwards b now before at (head.Whole kind start len) =
-    parse_of_box onwards b now before (box_behind at kind start len)
+-- what comes at a header at an offset; `whole` is what comes with the box behind it
+abbrev pub parse_of_header : ParserView → ℕ → (TopBox → SegmentParse) → Header → SegmentParse
+parse_of_header now at whole head.Short = NoItem now
+parse_of_header now at whole (head.Bad f) = parse_of_fault now (size_fault f) at
+parse_of_header now at whole (head.Whole kind start len) = whole (box_behind at kind start len)
 
 -- what at most n boxes from an offset on give
 abbrev pub parse_of_boxes : ℕ → List ℕ → Onwards
 parse_of_boxes zero b last before at = NoItem (view_at b last before at)
 parse_of_boxes (suc n) b last before at =
-    parse_of_header (parse_of_boxes n b) b (view_at b last before at) before at
+    parse_of_header (view_at b last before at) at
+    (parse_of_box (parse_of_boxes n b) b (view_at b last before at) before)
     (header_of (drop at b))
 
 -- What the whole string gives, where the presentation `last` was left by what came before. It has no more boxes than

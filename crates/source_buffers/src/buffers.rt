@@ -2,7 +2,7 @@ ghost use Rattle.std.specs.Prelude.{◌≡◌, ◌+◌, ◌<◌, ◌≤◌, ◌^
 ghost use Rattle.mse_base.specs.declared.ticks.Moment.{Moment};
 ghost use Rattle.track_store.specs.State.{state_of};
 ghost use Rattle.track_buffers.specs.Media.{IsNotAfter};
-ghost use Rattle.buffer_state.specs.State.{surroundings};
+ghost use Rattle.buffer_state.specs.State.{surroundings, append_input};
 ghost use Rattle.buffer_state.specs.Replies.{OfTurn, changes_of};
 ghost use Rattle.buffer_state.specs.Calls.{mode_refusal, mode_result, offset_refusal, offset_result, window_start_refusal, window_start_result, window_end_refusal, window_end_result, remove_refusal, remove_result, append_refusal, append_result, abort_refusal, abort_result, change_type_refusal, change_type_result};
 ghost use Rattle.source_buffers.specs.State.{BufferStates, AllStand, SlotStands, all_kept_media, all_kept_running, new_buffer};
@@ -213,8 +213,7 @@ impl<S: FrameStore> SourceBuffers<S> {
     pub fn append(&mut self, k: u32, bytes: &Bytes, around: &Around) -> Result<Reply, OutOfMemory>
         ensures answered { BuffersAnswerIfOk self.old.buffers result self.new.buffers
             (result_on_buffer k Name.InvalidState around.now.duration
-            (append_result bytes.now around.now.position around.now.quota
-            (surroundings around.now))) }
+            (append_result (append_input bytes.now around.now) (surroundings around.now))) }
         ensures within_duration { IfOk result (λ reply.
             AllStayWithin around.now.duration self.old.buffers reply self.new.buffers) }
         ensures changes { IfOk result (λ reply. reply.duration_changes ≡ 0) }

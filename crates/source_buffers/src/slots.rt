@@ -2,7 +2,7 @@
 
 ghost use Rattle.std.specs.Prelude.{◌≡◌, ◌≤◌, false, length, vec_capacity, Option, IfOk, OnErr};
 ghost use Rattle.track_buffers.specs.Media.{IsNotAfter};
-ghost use Rattle.buffer_state.specs.State.{surroundings};
+ghost use Rattle.buffer_state.specs.State.{surroundings, append_input};
 ghost use Rattle.buffer_state.specs.Replies.{OfTurn, changes_of};
 ghost use Rattle.buffer_state.specs.Calls.{mode_refusal, mode_result, offset_refusal, offset_result, window_start_refusal, window_start_result, window_end_refusal, window_end_result, remove_refusal, remove_result, append_refusal, append_result, abort_refusal, abort_result, change_type_refusal, change_type_result};
 ghost use Rattle.source_buffers.specs.State.{BufferStates, AllStand};
@@ -162,8 +162,7 @@ pub(crate) fn append<S: FrameStore>(
 ) -> Result<Reply, OutOfMemory>
     ensures answered { BuffersAnswerIfOk slots.old.items result slots.new.items
         (result_on_buffer k Name.InvalidState around.now.duration
-        (append_result bytes.now around.now.position around.now.quota
-        (surroundings around.now))) }
+        (append_result (append_input bytes.now around.now) (surroundings around.now))) }
     ensures within_duration { IfOk result (λ reply.
         AllStayWithin around.now.duration slots.old.items reply slots.new.items) }
     ensures changes { IfOk result (λ reply. reply.duration_changes ≡ 0) }

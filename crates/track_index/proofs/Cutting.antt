@@ -16,7 +16,7 @@ use Rattle.std.proofs.lemmas.Option.{slice_get_read}
 use Rattle.track_index.specs.declared.entry.OrderEntry.{OrderEntry}
 use Rattle.track_index.specs.Order.{put, put_all, entry_of, span_of, ordered, shorter}
 use Rattle.track_index.specs.Repair.{AreBetween}
-use Rattle.track_index.specs.Indexed.{IsIndexed}
+use Rattle.track_index.specs.Indexed.{FrameIndex, IsIndexed}
 use Rattle.track_index.proofs.Ordering.{each_weaker, each_to_ordered}
 use Rattle.track_index.proofs.Keeping.{near_ordered, ranges_by_order}
 
@@ -186,9 +186,9 @@ order_cut dur n fs os ps o q = q ∙ ap (map (shorter n dur)) o ∙ ordered_shor
 pub length_shortened : (n : ℕ) (dur : ℤ) (fs : List Stored) → length (frames_with_dur n dur fs) ≡ length fs
 length_shortened n dur fs = length-map fs _
 
-pub indexed_cut : (fs : List Stored) (os ps : List OrderEntry) (rs ss : List Span) (gap dur : ℤ) (total room next : ℕ) (x : Stored) (i : ℕ) → IsIndexed fs os rs gap total room → room ≤ next → i < length fs → x ≡ get_or fs i x → pos 0 ≤ℤ dur → dur ≤ℤ x.frame.dur → IsTick (x.frame.pts +ℤ dur) → ps ≡ map (shorter x.serial dur) os → ss ≡ bridged_ranges gap (map span_of ps) → IsIndexed (frames_with_dur x.serial dur fs) ps ss gap total next
-indexed_cut fs os ps rs ss gap dur total room next x i h n l at d less t p s =
-    let order = order_cut dur x.serial fs os ps h.in_order p in
+pub indexed_cut : (fs : List Stored) (old : FrameIndex) (ps : List OrderEntry) (ss : List Span) (gap dur : ℤ) (room next : ℕ) (x : Stored) (i : ℕ) → IsIndexed fs old gap room → room ≤ next → i < length fs → x ≡ get_or fs i x → pos 0 ≤ℤ dur → dur ≤ℤ x.frame.dur → IsTick (x.frame.pts +ℤ dur) → ps ≡ map (shorter x.serial dur) old.order → ss ≡ bridged_ranges gap (map span_of ps) → IsIndexed (frames_with_dur x.serial dur fs) (record old { order = ps; ranges = ss }) gap next
+indexed_cut fs old ps ss gap dur room next x i h n l at d less t p s =
+    let order = order_cut dur x.serial fs old.order ps h.in_order p in
     record {
       kept = kept-shortened x.serial dur fs h.kept;
       timed = timed_cut dur x fs i h.kept.ascending l at d t h.timed;

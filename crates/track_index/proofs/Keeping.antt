@@ -4,7 +4,6 @@ use Rattle.std.specs.List.{AllByRecursion}
 use Rattle.std.proofs.lemmas.List.{map_push, length-append}
 use Rattle.std.proofs.lemmas.List.Sums.{sum_by-append, sum_by-cons, fold-append}
 use Rattle.mse_base.specs.Time.{IsTick}
-use Rattle.mse_base.specs.declared.span.Span.{Span}
 use Rattle.mse_base.specs.Bridging.{ranges_with, bridged_ranges, is_near, is_near_any}
 use Rattle.mse_base.proofs.Merging.{ranges_bridged, times_bridged}
 use Rattle.mse_base.proofs.Extended.{same_near}
@@ -14,7 +13,7 @@ use Rattle.track_store.proofs.Clearing.{kept_push, kept-cleared, each-cleared, e
 use Rattle.track_index.specs.declared.entry.OrderEntry.{OrderEntry}
 use Rattle.track_index.specs.Order.{put, put_all, entry_of, span_of, ordered}
 use Rattle.track_index.specs.Repair.{AreTimed}
-use Rattle.track_index.specs.Indexed.{IsIndexed}
+use Rattle.track_index.specs.Indexed.{FrameIndex, IsIndexed}
 use Rattle.track_index.proofs.Ordering.{each_to_ordered, ordered_push}
 
 -- ---- one more frame
@@ -22,8 +21,8 @@ use Rattle.track_index.proofs.Ordering.{each_to_ordered, ordered_push}
 join_push : (gap : ℤ) (fs : List Stored) (x : Stored) → ranges_of gap (fs ++ x ∷ []) ≡ ranges_with gap (ranges_of gap fs) (interval x)
 join_push gap fs x = ap (bridged_ranges gap) (map_push interval fs x) ∙ fold-append (ranges_with gap) [] (intervals fs) (interval x ∷ [])
 
-pub indexed_added : (fs hs : List Stored) (os ps : List OrderEntry) (rs ss : List Span) (gap : ℤ) (total all room next : ℕ) (x : Stored) → IsIndexed fs os rs gap total room → length fs + 1 ≤ next → AllByRecursion (λ f. f.serial < x.serial) fs → IsTimed x → bytes_of fs + length x.frame.payload < 2 ^ 62 → hs ≡ fs ++ x ∷ [] → ps ≡ put (entry_of x) os → ss ≡ ranges_with gap rs (interval x) → all ≡ total + length x.frame.payload → IsIndexed hs ps ss gap all next
-indexed_added fs hs os ps rs ss gap total all room next x h r l t s eh ep es en = record {
+pub indexed_added : (fs hs : List Stored) (old new : FrameIndex) (gap : ℤ) (room next : ℕ) (x : Stored) → IsIndexed fs old gap room → length fs + 1 ≤ next → AllByRecursion (λ f. f.serial < x.serial) fs → IsTimed x → bytes_of fs + length x.frame.payload < 2 ^ 62 → hs ≡ fs ++ x ∷ [] → new.order ≡ put (entry_of x) old.order → new.ranges ≡ ranges_with gap old.ranges (interval x) → new.total ≡ old.total + length x.frame.payload → IsIndexed hs new gap next
+indexed_added fs hs old new gap room next x h r l t s eh ep es en = record {
   kept = subst (λ (zs : List Stored). IsKept zs) (sym eh) (kept_push fs x h.kept l s);
   timed = subst (λ (zs : List Stored). AllByRecursion IsTimed zs) (sym eh) (each-push IsTimed fs x h.timed t);
   gap_from_zero = h.gap_from_zero;
@@ -80,8 +79,8 @@ length_pick true f xs ys n p q = omega arith
 length_pick false f xs ys n p q = omega arith
 
 -- what the store keeps where frames went
-pub indexed_removed : (named : Stored → Bool) (fs gs : List Stored) (os ps : List OrderEntry) (rs ss : List Span) (gap : ℤ) (total left room next : ℕ) → IsIndexed fs os rs gap total room → room ≤ next → length gs ≤ length fs → gs ≡ frames_left false named fs → ps ≡ ordered gs → ss ≡ bridged_ranges gap (map span_of ps) → left ≡ bytes_of gs → IsIndexed gs ps ss gap left next
-indexed_removed named fs gs os ps rs ss gap total left room next h n m g o s l = record {
+pub indexed_removed : (named : Stored → Bool) (fs gs : List Stored) (old new : FrameIndex) (gap : ℤ) (room next : ℕ) → IsIndexed fs old gap room → room ≤ next → length gs ≤ length fs → gs ≡ frames_left false named fs → new.order ≡ ordered gs → new.ranges ≡ bridged_ranges gap (map span_of new.order) → new.total ≡ bytes_of gs → IsIndexed gs new gap next
+indexed_removed named fs gs old new gap room next h n m g o s l = record {
   kept = subst (λ (zs : List Stored). IsKept zs) (sym g) (kept-cleared false named fs h.kept);
   timed = subst (λ (zs : List Stored). AllByRecursion IsTimed zs) (sym g) (each-cleared IsTimed false named fs h.timed);
   gap_from_zero = h.gap_from_zero;

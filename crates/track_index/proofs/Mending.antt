@@ -16,7 +16,7 @@ use Rattle.track_index.specs.declared.key.Key.{Key}
 use Rattle.track_index.specs.Order.{span_of, end_of}
 use Rattle.track_index.specs.Keyed.{before_key, IsKeyed}
 use Rattle.track_index.specs.Known.{greatest_end, later_end}
-use Rattle.track_index.specs.Repair.{AreTimed, AreBetween, HasEndAt, IsPast, JoinsIn, Joining, IsPastJoined, IsRefilled}
+use Rattle.track_index.specs.Repair.{AreTimed, AreBetween, HasEndAt, IsPast, AreGrownBy, HasTicksBetween, HasTicksPast}
 use Rattle.track_index.proofs.Ordering.{each_weaker, each_both, each_whole, each_more, each_at}
 use Rattle.track_index.proofs.Ending.{greatest-append}
 use Rattle.track_index.proofs.Keys.{before_parts, low_of, later_starts}
@@ -166,33 +166,36 @@ kept_right gap t a b rs o g w r sub l e =
 -- ---- the loops
 
 -- nothing is joined in yet
-pub joins_init : (gap : ℤ) (key : Key) (high : ℤ) (os : List OrderEntry) (rs : List Span) (i : ℕ) → AllByRecursion (λ o. before_key key o ≡ true) (take i os) → Joining gap key high os rs rs i
-joins_init gap key high os rs i h = record {
-  kept = λ t e. e;
-  only = λ t e. or_left _ _ e;
-  all = each_weaker (λ o. before_key key o ≡ true) (λ o. before_key key o ≡ false → o.pts <ℤ high → (t : ℤ) → is_near gap t (span_of o) ≡ true → is_near_any gap t rs ≡ true) (take i os) (λ o b f. absurd (true_false _ b f)) h;
-}
+pub grown_none : (gap : ℤ) (os : List OrderEntry) (rs : List Span) → AreGrownBy gap os rs rs
+grown_none gap os rs = record { kept = λ t e. e; only = λ t e. or_left _ _ e }
 
-pub joins_more : (gap : ℤ) (key : Key) (high : ℤ) (os : List OrderEntry) (rs now next : List Span) (i : ℕ) (x : OrderEntry) → i < length os → x ≡ get_or os i x → ((t : ℤ) → is_near_any gap t next ≡ (is_near gap t (span_of x) || is_near_any gap t now)) → Joining gap key high os rs now i → Joining gap key high os rs next (i + 1)
-joins_more gap key high os rs now next i x l at e h =
+pub grown_more : (gap : ℤ) (os : List OrderEntry) (rs now next : List Span) (i : ℕ) (x : OrderEntry) → i < length os → x ≡ get_or os i x → ((t : ℤ) → is_near_any gap t next ≡ (is_near gap t (span_of x) || is_near_any gap t now)) → AreGrownBy gap os rs now → AreGrownBy gap os rs next
+grown_more gap os rs now next i x l at e h =
     let own : (t : ℤ) → is_near gap t (span_of x) ≡ true → is_near_any gap t (map span_of os) ≡ true = λ t. subst (λ (o : OrderEntry). is_near gap t (span_of o) ≡ true → is_near_any gap t (map span_of os) ≡ true) (sym at) (each_at (λ o. (u : ℤ) → is_near gap u (span_of o) ≡ true → is_near_any gap u (map span_of os) ≡ true) os i x l (each_near gap os) t) in
     record {
       kept = λ t k. e t ∙ or_right _ _ (h.kept t k);
       only = λ t k. or_cases (is_near gap t (span_of x)) (is_near_any gap t now) (sym (e t) ∙ k) (λ y. or_right _ _ (own t y)) (h.only t);
-      all = each_more (λ o. before_key key o ≡ false → o.pts <ℤ high → (t : ℤ) → is_near gap t (span_of o) ≡ true → is_near_any gap t next ≡ true) os i x l at (each_weaker (λ o. before_key key o ≡ false → o.pts <ℤ high → (t : ℤ) → is_near gap t (span_of o) ≡ true → is_near_any gap t now ≡ true) (λ o. before_key key o ≡ false → o.pts <ℤ high → (t : ℤ) → is_near gap t (span_of o) ≡ true → is_near_any gap t next ≡ true) (take i os) (λ o f b c t k. e t ∙ or_right _ _ (f b c t k)) h.all) (λ b c t k. e t ∙ or_left _ _ k);
     }
+
+-- one step after the other
+pub grown_both : (gap : ℤ) (os : List OrderEntry) (rs mid new : List Span) → AreGrownBy gap os rs mid → AreGrownBy gap os mid new → AreGrownBy gap os rs new
+grown_both gap os rs mid new p h = record {
+  kept = λ t k. h.kept t (p.kept t k);
+  only = λ t k. or_cases (is_near_any gap t mid) (is_near_any gap t (map span_of os)) (h.only t k) (p.only t) (λ m. or_right (is_near_any gap t rs) _ m);
+}
+
+pub between_init : (gap : ℤ) (key : Key) (high : ℤ) (os : List OrderEntry) (rs : List Span) (i : ℕ) → AllByRecursion (λ o. before_key key o ≡ true) (take i os) → HasTicksBetween gap key high (take i os) rs
+between_init gap key high os rs i h = each_weaker (λ o. before_key key o ≡ true) (λ o. before_key key o ≡ false → o.pts <ℤ high → (t : ℤ) → is_near gap t (span_of o) ≡ true → is_near_any gap t rs ≡ true) (take i os) (λ o b f. absurd (true_false _ b f)) h
+
+pub between_more : (gap : ℤ) (key : Key) (high : ℤ) (os : List OrderEntry) (now next : List Span) (i : ℕ) (x : OrderEntry) → i < length os → x ≡ get_or os i x → ((t : ℤ) → is_near_any gap t next ≡ (is_near gap t (span_of x) || is_near_any gap t now)) → HasTicksBetween gap key high (take i os) now → HasTicksBetween gap key high (take (i + 1) os) next
+between_more gap key high os now next i x l at e h = each_more (λ o. before_key key o ≡ false → o.pts <ℤ high → (t : ℤ) → is_near gap t (span_of o) ≡ true → is_near_any gap t next ≡ true) os i x l at (each_weaker (λ o. before_key key o ≡ false → o.pts <ℤ high → (t : ℤ) → is_near gap t (span_of o) ≡ true → is_near_any gap t now ≡ true) (λ o. before_key key o ≡ false → o.pts <ℤ high → (t : ℤ) → is_near gap t (span_of o) ≡ true → is_near_any gap t next ≡ true) (take i os) (λ o f b c t k. e t ∙ or_right _ _ (f b c t k)) h) (λ b c t k. e t ∙ or_left _ _ k)
 
 -- the walk ended at an entry that does not begin before `high`, or past the last
-pub joins_high : (gap : ℤ) (key : Key) (high : ℤ) (os : List OrderEntry) (rs now : List Span) (i : ℕ) (x : OrderEntry) → IsKeyed os → i < length os → x ≡ get_or os i x → high ≤ℤ x.pts → Joining gap key high os rs now i → JoinsIn gap key high os rs now
-joins_high gap key high os rs now i x keyed l at b h =
-    record {
-      kept = h.kept;
-      only = h.only;
-      all = each_whole (λ o. before_key key o ≡ false → o.pts <ℤ high → (t : ℤ) → is_near gap t (span_of o) ≡ true → is_near_any gap t now ≡ true) os i h.all (each_weaker (λ o. x.pts ≤ℤ o.pts) (λ o. before_key key o ≡ false → o.pts <ℤ high → (t : ℤ) → is_near gap t (span_of o) ≡ true → is_near_any gap t now ≡ true) (drop i os) (λ o k _ c. absurd (omega (arith, ints))) (later_starts os i x keyed l at));
-    }
+pub between_high : (gap : ℤ) (key : Key) (high : ℤ) (os : List OrderEntry) (now : List Span) (i : ℕ) (x : OrderEntry) → IsKeyed os → i < length os → x ≡ get_or os i x → high ≤ℤ x.pts → HasTicksBetween gap key high (take i os) now → HasTicksBetween gap key high os now
+between_high gap key high os now i x keyed l at b h = each_whole (λ o. before_key key o ≡ false → o.pts <ℤ high → (t : ℤ) → is_near gap t (span_of o) ≡ true → is_near_any gap t now ≡ true) os i h (each_weaker (λ o. x.pts ≤ℤ o.pts) (λ o. before_key key o ≡ false → o.pts <ℤ high → (t : ℤ) → is_near gap t (span_of o) ≡ true → is_near_any gap t now ≡ true) (drop i os) (λ o k _ c. absurd (omega (arith, ints))) (later_starts os i x keyed l at))
 
-pub joins_end : (gap : ℤ) (key : Key) (high : ℤ) (os : List OrderEntry) (rs now : List Span) (i : ℕ) → length os ≤ i → Joining gap key high os rs now i → JoinsIn gap key high os rs now
-joins_end gap key high os rs now i l h = record { kept = h.kept; only = h.only; all = each_whole (λ o. before_key key o ≡ false → o.pts <ℤ high → (t : ℤ) → is_near gap t (span_of o) ≡ true → is_near_any gap t now ≡ true) os i h.all (rw (drop_all i os l) tt) }
+pub between_end : (gap : ℤ) (key : Key) (high : ℤ) (os : List OrderEntry) (now : List Span) (i : ℕ) → length os ≤ i → HasTicksBetween gap key high (take i os) now → HasTicksBetween gap key high os now
+between_end gap key high os now i l h = each_whole (λ o. before_key key o ≡ false → o.pts <ℤ high → (t : ℤ) → is_near gap t (span_of o) ≡ true → is_near_any gap t now ≡ true) os i h (rw (drop_all i os l) tt)
 
 -- ---- what is past the key
 
@@ -200,39 +203,33 @@ key_low : (key : Key) (o : OrderEntry) → before_key key o ≡ true → o.pts �
 key_low key o e = elim (before_parts key o e) as (λ _. o.pts ≤ℤ key.mark) [ inl early ↦ omega (arith, ints) | inr tie ↦ tie.0 ]
 
 -- the ranges after the end past the key was joined in
-pub past_joined_some : (gap : ℤ) (key : Key) (os : List OrderEntry) (rs mid : List Span) (s : Span) → IsPast key (Some s) os → ((t : ℤ) → is_near_any gap t mid ≡ (is_near gap t s || is_near_any gap t rs)) → IsPastJoined gap key os rs mid
-past_joined_some gap key os rs mid s p e =
+pub grown_past : (gap : ℤ) (key : Key) (os : List OrderEntry) (rs mid : List Span) (s : Span) → IsPast key (Some s) os → ((t : ℤ) → is_near_any gap t mid ≡ (is_near gap t s || is_near_any gap t rs)) → AreGrownBy gap os rs mid
+grown_past gap key os rs mid s p e =
     let start = p.0 in
     let lasts = p.1 in
-    let long = p.2 in
     let ends = p.3 in
     record {
       kept = λ t k. e t ∙ or_right _ _ k;
       only = λ t m. or_cases (is_near gap t s) (is_near_any gap t rs) (sym (e t) ∙ m)
           (λ n. let q = near_parts gap t s n in let q1 = q.1 in let q2 = q.2 in or_right (is_near_any gap t rs) _ (past_ticks gap t key s.end os ends (key_low key) (omega (arith, ints)) (omega (arith, ints)) q2))
           (λ n. or_left (is_near_any gap t rs) _ n);
-      past = λ t l. each_weaker (λ o. before_key key o ≡ true → (end_of o) ≤ℤ s.end) (λ o. before_key key o ≡ true → key.mark <ℤ end_of o → is_near gap t (span_of o) ≡ true → is_near_any gap t mid ≡ true) os
-          (λ o f y _ k. e t ∙ or_left _ _ (let q = near_parts gap t (span_of o) k in let q2 = q.2 in let g = f y in near_is gap t s lasts (omega (arith, ints)) (omega (arith, ints)))) long;
     }
 
+pub past_some_held : (gap : ℤ) (key : Key) (os : List OrderEntry) (rs mid : List Span) (s : Span) → IsPast key (Some s) os → ((t : ℤ) → is_near_any gap t mid ≡ (is_near gap t s || is_near_any gap t rs)) → HasTicksPast gap key os mid
+past_some_held gap key os rs mid s p e =
+    let start = p.0 in
+    let lasts = p.1 in
+    let long = p.2 in
+    λ t l. each_weaker (λ o. before_key key o ≡ true → (end_of o) ≤ℤ s.end) (λ o. before_key key o ≡ true → key.mark <ℤ end_of o → is_near gap t (span_of o) ≡ true → is_near_any gap t mid ≡ true) os
+    (λ o f y _ k. e t ∙ or_left _ _ (let q = near_parts gap t (span_of o) k in let q2 = q.2 in let g = f y in near_is gap t s lasts (omega (arith, ints)) (omega (arith, ints)))) long
+
 -- where nothing is past the key
-pub past_joined_none : (gap : ℤ) (key : Key) (os : List OrderEntry) (rs : List Span) → IsPast key None os → IsPastJoined gap key os rs rs
-past_joined_none gap key os rs p = record {
-  kept = λ t k. k;
-  only = λ t k. or_left _ _ k;
-  past = λ t l. each_weaker (λ o. before_key key o ≡ true → (end_of o) ≤ℤ key.mark) (λ o. before_key key o ≡ true → key.mark <ℤ end_of o → is_near gap t (span_of o) ≡ true → is_near_any gap t rs ≡ true) os (λ o f y m k. let g = f y in absurd (omega (arith, ints))) p;
-}
+pub past_none_held : (gap : ℤ) (key : Key) (os : List OrderEntry) (rs : List Span) → IsPast key None os → HasTicksPast gap key os rs
+past_none_held gap key os rs p = λ t l. each_weaker (λ o. before_key key o ≡ true → (end_of o) ≤ℤ key.mark) (λ o. before_key key o ≡ true → key.mark <ℤ end_of o → is_near gap t (span_of o) ≡ true → is_near_any gap t rs ≡ true) os (λ o f y m k. let g = f y in absurd (omega (arith, ints))) p
 
 -- and then what follows the key
-pub refilled : (gap : ℤ) (key : Key) (high : ℤ) (os : List OrderEntry) (rs mid new : List Span) → IsPastJoined gap key os rs mid → JoinsIn gap key high os mid new → IsRefilled gap key high os rs new
-refilled gap key high os rs mid new p h = record {
-  joins = record {
-    kept = λ t k. h.kept t (p.kept t k);
-    only = λ t k. or_cases (is_near_any gap t mid) (is_near_any gap t (map span_of os)) (h.only t k) (p.only t) (λ m. or_right (is_near_any gap t rs) _ m);
-    all = h.all;
-  };
-  past = λ t l. each_weaker (λ o. before_key key o ≡ true → key.mark <ℤ end_of o → is_near gap t (span_of o) ≡ true → is_near_any gap t mid ≡ true) (λ o. before_key key o ≡ true → key.mark <ℤ end_of o → is_near gap t (span_of o) ≡ true → is_near_any gap t new ≡ true) os (λ o f y m k. h.kept t (f y m k)) (p.past t l);
-}
+pub past_grown : (gap : ℤ) (key : Key) (os : List OrderEntry) (mid new : List Span) → HasTicksPast gap key os mid → AreGrownBy gap os mid new → HasTicksPast gap key os new
+past_grown gap key os mid new p h = λ t l. each_weaker (λ o. before_key key o ≡ true → key.mark <ℤ end_of o → is_near gap t (span_of o) ≡ true → is_near_any gap t mid ≡ true) (λ o. before_key key o ≡ true → key.mark <ℤ end_of o → is_near gap t (span_of o) ≡ true → is_near_any gap t new ≡ true) os (λ o f y m k. h.kept t (f y m k)) (p t l)
 
 -- ---- the repair
 
@@ -256,20 +253,20 @@ one_mended gap a b t rs new o g w r sub kept mid past e =
       ])
     ]
 
-pub mended : (gap a b : ℤ) (hole : Span) (os : List OrderEntry) (rs new holes : List Span) → pos 0 ≤ℤ gap → hole.start <ℤ hole.end → a ≡ (hole.start -ℤ gap) → b ≡ (hole.end +ℤ gap) → IsRanges gap rs → IsRefilled gap (record { mark = a; serial = 0 }) b os (ranges_without a b rs) new → AreBetween gap (map span_of os) (hole ∷ holes) rs → AreBetween gap (map span_of os) holes new
-mended gap a b hole os rs new holes g w ea eb r h same = λ t.
+pub mended : (gap a b : ℤ) (hole : Span) (os : List OrderEntry) (rs new holes : List Span) → pos 0 ≤ℤ gap → hole.start <ℤ hole.end → a ≡ (hole.start -ℤ gap) → b ≡ (hole.end +ℤ gap) → IsRanges gap rs → AreGrownBy gap os (ranges_without a b rs) new → HasTicksPast gap (record { mark = a; serial = 0 }) os new → HasTicksBetween gap (record { mark = a; serial = 0 }) b os new → AreBetween gap (map span_of os) (hole ∷ holes) rs → AreBetween gap (map span_of os) holes new
+mended gap a b hole os rs new holes g w ea eb r h past mid same = λ t.
     let key : Key = record { mark = a; serial = 0 } in
     let wide : (a +ℤ gap) <ℤ b = omega (arith, ints) in
     let P1 = each_near gap os in
-    let P3 = all_given (λ o. before_key (record { mark = a; serial = 0 }) o ≡ true → a <ℤ end_of o → is_near gap t (span_of o) ≡ true → is_near_any gap t new ≡ true) a t os (h.past t) in
+    let P3 = all_given (λ o. before_key (record { mark = a; serial = 0 }) o ≡ true → a <ℤ end_of o → is_near gap t (span_of o) ≡ true → is_near_any gap t new ≡ true) a t os (past t) in
     let each = each_weaker
     (λ o. ((u : ℤ) → is_near gap u (span_of o) ≡ true → is_near_any gap u (map span_of os) ≡ true) × ((before_key (record { mark = a; serial = 0 }) o ≡ false → o.pts <ℤ b → (u : ℤ) → is_near gap u (span_of o) ≡ true → is_near_any gap u new ≡ true) × (a ≤ℤ t → before_key (record { mark = a; serial = 0 }) o ≡ true → a <ℤ end_of o → is_near gap t (span_of o) ≡ true → is_near_any gap t new ≡ true)))
     (λ o. is_near gap t (span_of o) ≡ true → is_near_any gap t new ≡ true) os
-    (λ o p e. one_mended gap a b t rs new o g wide r (λ u k. (same u).0 (p.0 u k)) (λ n. h.joins.kept t n) (λ x y. p.1.0 x y t e) (λ l y m. p.1.1 l y m e) e)
+    (λ o p e. one_mended gap a b t rs new o g wide r (λ u k. (same u).0 (p.0 u k)) (λ n. h.kept t n) (λ x y. p.1.0 x y t e) (λ l y m. p.1.1 l y m e) e)
     (each_both (λ o. (u : ℤ) → is_near gap u (span_of o) ≡ true → is_near_any gap u (map span_of os) ≡ true) (λ o. (before_key (record { mark = a; serial = 0 }) o ≡ false → o.pts <ℤ b → (u : ℤ) → is_near gap u (span_of o) ≡ true → is_near_any gap u new ≡ true) × (a ≤ℤ t → before_key (record { mark = a; serial = 0 }) o ≡ true → a <ℤ end_of o → is_near gap t (span_of o) ≡ true → is_near_any gap t new ≡ true)) os P1
-    (each_both (λ o. before_key (record { mark = a; serial = 0 }) o ≡ false → o.pts <ℤ b → (u : ℤ) → is_near gap u (span_of o) ≡ true → is_near_any gap u new ≡ true) (λ o. a ≤ℤ t → before_key (record { mark = a; serial = 0 }) o ≡ true → a <ℤ end_of o → is_near gap t (span_of o) ≡ true → is_near_any gap t new ≡ true) os h.joins.all P3)) in (
+    (each_both (λ o. before_key (record { mark = a; serial = 0 }) o ≡ false → o.pts <ℤ b → (u : ℤ) → is_near gap u (span_of o) ≡ true → is_near_any gap u new ≡ true) (λ o. a ≤ℤ t → before_key (record { mark = a; serial = 0 }) o ≡ true → a <ℤ end_of o → is_near gap t (span_of o) ≡ true → is_near_any gap t new ≡ true) os mid P3)) in (
       (λ e. nears_each gap t os each e),
-      (λ e. or_cases (is_near_any gap t (ranges_without a b rs)) (is_near_any gap t (map span_of os)) (h.joins.only t e)
+      (λ e. or_cases (is_near_any gap t (ranges_without a b rs)) (is_near_any gap t (map span_of os)) (h.only t e)
           (λ k. or_cases (is_near_any gap t (map span_of os)) (is_near gap t hole || is_near_any gap t holes) ((same t).1 (carved_less gap t a b rs k))
           (λ m. or_left _ (is_near_any gap t holes) m)
           (λ m. or_cases (is_near gap t hole) (is_near_any gap t holes) m

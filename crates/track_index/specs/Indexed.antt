@@ -10,14 +10,22 @@ use Rattle.track_index.specs.declared.key.Key.{Key}
 use Rattle.track_index.specs.Order.{ordered, entry_of}
 use Rattle.track_index.specs.Keyed.{before_key, key_of, entry_named}
 
--- all that is kept beside the frames is what it is of the frames, and there is room for one range a frame
-pub record IsIndexed (frames : List Stored) (order : List OrderEntry) (ranges : List Span) (gap : ℤ) (total room : ℕ) : Type 0 where
+-- what is kept beside the frames: their order of presentation, their ranges, and their bytes
+pub record FrameIndex : Type 0 where
+  pub order : List OrderEntry
+  pub ranges : List Span
+  pub total : ℕ
+
+-- all that is kept beside the frames is what it is of the frames, and there is room for one range
+-- a frame
+pub record IsIndexed (frames : List Stored) (index : FrameIndex) (gap : ℤ) (room : ℕ)
+    : Type 0 where
   pub kept : IsKept frames
   pub timed : AllByRecursion IsTimed frames
   pub gap_from_zero : pos 0 ≤ℤ gap
-  pub in_order : order ≡ ordered frames
-  pub joined : ranges ≡ ranges_of gap frames
-  pub summed : total ≡ bytes_of frames
+  pub in_order : index.order ≡ ordered frames
+  pub joined : index.ranges ≡ ranges_of gap frames
+  pub summed : index.total ≡ bytes_of frames
   pub roomy : length frames ≤ room
 
 -- for how many more frames there is room, where each list has room for so many more

@@ -1,5 +1,5 @@
 -- Ranges that are repaired.
-use Rattle.std.specs.Prelude.{◌≡◌, ℕ, take, ℤ, ◌+ℤ◌, ◌≤ℤ◌, ◌<ℤ◌, ◌||◌, Bool, true, false, List, [], ◌∷◌, map, Option, Some, None, ◌⊎◌}
+use Rattle.std.specs.Prelude.{◌≡◌, ℤ, ◌+ℤ◌, ◌≤ℤ◌, ◌<ℤ◌, ◌||◌, Bool, true, false, List, [], ◌∷◌, map, Option, Some, None, ◌⊎◌}
 use Rattle.std.specs.List.{AllByRecursion}
 use Rattle.mse_base.specs.Time.{IsTick}
 use Rattle.mse_base.specs.declared.span.Span.{Span}
@@ -28,26 +28,21 @@ abbrev pub IsPast : Key → Option Span → List OrderEntry → Type 0
 IsPast key None os = AllByRecursion (λ o. before_key key o ≡ true → (end_of o) ≤ℤ key.mark) os
 IsPast key (Some s) os = (s.start ≡ key.mark) × (s.start <ℤ s.end) × AllByRecursion (λ o. before_key key o ≡ true → (end_of o) ≤ℤ s.end) os × HasEndAt (before_key key) s.end os
 
--- ranges after entries were joined in: what was there, and no tick that no entry has, and the ticks of the
--- entries that stand at or behind the key and begin before `high`
-pub record JoinsIn (gap : ℤ) (key : Key) (high : ℤ) (os : List OrderEntry) (rs new : List Span) : Type 0 where
+-- ranges that have what was there, and no tick beside it that no entry has
+pub record AreGrownBy (gap : ℤ) (os : List OrderEntry) (rs new : List Span) : Type 0 where
   pub kept : (t : ℤ) → is_near_any gap t rs ≡ true → is_near_any gap t new ≡ true
-  pub only : (t : ℤ) → is_near_any gap t new ≡ true → (is_near_any gap t rs || is_near_any gap t (map span_of os)) ≡ true
-  pub all : AllByRecursion (λ o. before_key key o ≡ false → o.pts <ℤ high → (t : ℤ) → is_near gap t (span_of o) ≡ true → is_near_any gap t new ≡ true) os
+  pub only : (t : ℤ) → is_near_any gap t new ≡ true
+      → (is_near_any gap t rs || is_near_any gap t (map span_of os)) ≡ true
 
--- the same of the first entries alone
-pub record Joining (gap : ℤ) (key : Key) (high : ℤ) (os : List OrderEntry) (rs new : List Span) (i : ℕ) : Type 0 where
-  pub kept : (t : ℤ) → is_near_any gap t rs ≡ true → is_near_any gap t new ≡ true
-  pub only : (t : ℤ) → is_near_any gap t new ≡ true → (is_near_any gap t rs || is_near_any gap t (map span_of os)) ≡ true
-  pub all : AllByRecursion (λ o. before_key key o ≡ false → o.pts <ℤ high → (t : ℤ) → is_near gap t (span_of o) ≡ true → is_near_any gap t new ≡ true) (take i os)
+-- the ranges have the ticks of the entries that stand at or behind the key and begin before `high`
+abbrev pub HasTicksBetween : ℤ → Key → ℤ → List OrderEntry → List Span → Type 0
+HasTicksBetween gap key high os rs =
+    AllByRecursion (λ o. before_key key o ≡ false → o.pts <ℤ high
+    → (t : ℤ) → is_near gap t (span_of o) ≡ true → is_near_any gap t rs ≡ true) os
 
--- ranges after what the entries that stand before a key have past its time was joined in
-pub record IsPastJoined (gap : ℤ) (key : Key) (os : List OrderEntry) (rs new : List Span) : Type 0 where
-  pub kept : (t : ℤ) → is_near_any gap t rs ≡ true → is_near_any gap t new ≡ true
-  pub only : (t : ℤ) → is_near_any gap t new ≡ true → (is_near_any gap t rs || is_near_any gap t (map span_of os)) ≡ true
-  pub past : (t : ℤ) → key.mark ≤ℤ t → AllByRecursion (λ o. before_key key o ≡ true → key.mark <ℤ end_of o → is_near gap t (span_of o) ≡ true → is_near_any gap t new ≡ true) os
-
--- ranges after what the entries have from a key's time on and before `high` was joined in again
-pub record IsRefilled (gap : ℤ) (key : Key) (high : ℤ) (os : List OrderEntry) (rs new : List Span) : Type 0 where
-  pub joins : JoinsIn gap key high os rs new
-  pub past : (t : ℤ) → key.mark ≤ℤ t → AllByRecursion (λ o. before_key key o ≡ true → key.mark <ℤ end_of o → is_near gap t (span_of o) ≡ true → is_near_any gap t new ≡ true) os
+-- the ranges have what the entries that stand before the key have past its time
+abbrev pub HasTicksPast : ℤ → Key → List OrderEntry → List Span → Type 0
+HasTicksPast gap key os rs =
+    (t : ℤ) → key.mark ≤ℤ t
+    → AllByRecursion (λ o. before_key key o ≡ true → key.mark <ℤ end_of o
+    → is_near gap t (span_of o) ≡ true → is_near_any gap t rs ≡ true) os

@@ -57,9 +57,11 @@ impl Model for IndexStore {
           ((s.ranges.spare + length s.ranges.spans) - length (joined s.items.rows));
     } };
 
-    ghost invariant = { λ s. IsIndexed (joined s.items.rows)
-        (joined s.order.rows) s.ranges.spans s.gap s.total
-        (s.ranges.spare + length s.ranges.spans) };
+    ghost invariant = { λ s. IsIndexed (joined s.items.rows) (record {
+      order = joined s.order.rows;
+      ranges = s.ranges.spans;
+      total = s.total;
+    }) s.gap (s.ranges.spare + length s.ranges.spans) };
 }
 
 /// Takes some frames out of the order; the bytes that are left.

@@ -9,7 +9,7 @@ ghost use Rattle.block_list.specs.Spots.{rank};
 ghost use Rattle.track_store.specs.Frames.{intervals, IsTimed};
 ghost use Rattle.track_index.specs.Order.{span_of};
 ghost use Rattle.track_index.specs.Keyed.{before_key, IsKeyed};
-ghost use Rattle.track_index.specs.Repair.{AreTimed, JoinsIn, IsPastJoined, IsRefilled, AreBetween};
+ghost use Rattle.track_index.specs.Repair.{AreTimed, AreGrownBy, HasTicksBetween, HasTicksPast, AreBetween};
 
 use crate::entry::{entry_of, span_of};
 use crate::frames::{Frames, Stretch};
@@ -75,8 +75,10 @@ fn join_past(ranges: &mut Ranges, order: &Order, key: &Key, gap: Ticks) -> bool
     ensures ranges { IsRanges gap ranges.new.spans }
     ensures room { ranges.new.spare + length ranges.new.spans ≡ ranges.old.spare
         + length ranges.old.spans }
-    ensures ticks { result ≡ true
-        → IsPastJoined gap key.now (joined order.now.rows) ranges.old.spans ranges.new.spans }
+    ensures grown { result ≡ true
+        → AreGrownBy gap (joined order.now.rows) ranges.old.spans ranges.new.spans }
+    ensures past { result ≡ true
+        → HasTicksPast gap key.now (joined order.now.rows) ranges.new.spans }
 {
     match order.greatest_end_before(key) {
         None => true,
@@ -102,8 +104,10 @@ fn join_between(ranges: &mut Ranges, order: &Order, key: &Key, high: TimeMark, g
     ensures ranges { IsRanges gap ranges.new.spans }
     ensures room { ranges.new.spare + length ranges.new.spans ≡ ranges.old.spare
         + length ranges.old.spans }
-    ensures ticks { result ≡ true
-        → JoinsIn gap key.now high (joined order.now.rows) ranges.old.spans ranges.new.spans }
+    ensures grown { result ≡ true
+        → AreGrownBy gap (joined order.now.rows) ranges.old.spans ranges.new.spans }
+    ensures between { result ≡ true
+        → HasTicksBetween gap key.now high (joined order.now.rows) ranges.new.spans }
 {
     let mut spot = order.place_at(key);
     while spot.block < order.blocks() {
@@ -128,8 +132,12 @@ fn refill(ranges: &mut Ranges, order: &Order, key: &Key, high: TimeMark, gap: Ti
     ensures ranges { IsRanges gap ranges.new.spans }
     ensures room { ranges.new.spare + length ranges.new.spans ≡ ranges.old.spare
         + length ranges.old.spans }
-    ensures ticks { result ≡ true
-        → IsRefilled gap key.now high (joined order.now.rows) ranges.old.spans ranges.new.spans }
+    ensures grown { result ≡ true
+        → AreGrownBy gap (joined order.now.rows) ranges.old.spans ranges.new.spans }
+    ensures past { result ≡ true
+        → HasTicksPast gap key.now (joined order.now.rows) ranges.new.spans }
+    ensures between { result ≡ true
+        → HasTicksBetween gap key.now high (joined order.now.rows) ranges.new.spans }
 {
     if join_past(ranges, order, key, gap) {
         join_between(ranges, order, key, high, gap)

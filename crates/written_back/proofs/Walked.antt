@@ -19,7 +19,7 @@ use Rattle.bmff_fragment.specs.Times.{slot_of}
 use Rattle.parser_loop.specs.Items.{FrameItem, SegmentEnd}
 use Rattle.parser_loop.specs.Parse.{ParserView, items_of}
 use Rattle.segment_walk.specs.Tables.{SegmentItem}
-use Rattle.segment_walk.specs.Segments.{OpenFragment, Context, NoFragment, InFragment, SegmentParse, view_at, is_inside, frame_at, parse_once_there, parse_of_slots, parse_of_boxes, parse_of_header, parse_of_mdat, parse_of_data_end}
+use Rattle.segment_walk.specs.Segments.{OpenFragment, Context, NoFragment, InFragment, SegmentParse, view_at, is_inside, frame_at, parse_once_there, parse_of_slots, parse_of_boxes, parse_of_box, parse_of_header, parse_of_mdat, parse_of_data_end}
 use Rattle.bmff_write.specs.declared.traf_out.SampleOut.{SampleOut}
 use Rattle.bmff_write.specs.declared.traf_out.TrafOut.{TrafOut}
 use Rattle.bmff_write.specs.Boxes.{box_bytes}
@@ -154,8 +154,8 @@ trafs_walked b now moof start end all next tracks place at (t ∷ trafs) rest ea
 -- ---- a media segment
 
 pub at_header : (n : ℕ) (b : List ℕ) (last : Option Presentation) (before : Context) (at : ℕ) (h : Header) → header_of (drop at b) ≡ h
-    → parse_of_boxes (suc n) b last before at ≡ parse_of_header (parse_of_boxes n b) b (view_at b last before at) before at h
-at_header n b last before at h e = ap (parse_of_header (parse_of_boxes n b) b (view_at b last before at) before at) e
+    → parse_of_boxes (suc n) b last before at ≡ parse_of_header (view_at b last before at) at (parse_of_box (parse_of_boxes n b) b (view_at b last before at) before) h
+at_header n b last before at h e = ap (parse_of_header (view_at b last before at) at (parse_of_box (parse_of_boxes n b) b (view_at b last before at) before)) e
 
 pub box_there : (b : List ℕ) (at len : ℕ) (kind payload rest : List ℕ) → drop at b ≡ box_bytes kind payload ++ rest → length kind ≡ 4 → 8 + length payload < 2 ^ 32 → 8 + length payload ≡ len
     → header_of (drop at b) ≡ head.Whole kind 8 len

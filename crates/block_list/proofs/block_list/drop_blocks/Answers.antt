@@ -37,7 +37,7 @@ dropping-preserved g c =
       within = omega (arith, c.dropping.invariant.within);
       rows = less;
       room = omega (arith, c.dropping.invariant.room, ap length c.push_reserved.ensures.items, one_more c.dropping.pool.items c.clear.new.self, c.remove-block.ensures.len, c.remove-block.new.self.ok.0, c.dropping.blocks.ok.0, c.push_reserved.ensures.capacity);
-      listed = λ h e k. listed_less h c.dropping.blocks.items c.remove-block.new.self.items c.dropping.pool.items c.push_reserved.new.self.items c.clear.new.self e (n - 1) (vec_capacity c.dropping.blocks) (vec_capacity c.remove-block.new.self) (vec_capacity c.dropping.pool) (vec_capacity c.push_reserved.new.self) (c.dropping.invariant.listed h e k) (omega (arith, m)) c.remove-block.ensures.items c.push_reserved.ensures.items c.clear.ensures c.remove-block.ensures.capacity c.push_reserved.ensures.capacity;
+      listed = λ h e k. listed_less h _ (record { rows = c.remove-block.new.self.items; pool = c.push_reserved.new.self.items; block_capacity = vec_capacity c.remove-block.new.self; pool_capacity = vec_capacity c.push_reserved.new.self }) c.clear.new.self e (n - 1) (c.dropping.invariant.listed h e k) (omega (arith, m)) c.remove-block.ensures.items c.push_reserved.ensures.items c.clear.ensures c.remove-block.ensures.capacity c.push_reserved.ensures.capacity;
     }
 
 pub overflow_add-removed_count : goal.overflow_add-removed_count

@@ -9,7 +9,7 @@ invariant-dropping g l = record {
   within : l.end ≤ l.to;
   rows : l.blocks.items ≡ take l.end l.fn.blocks.items ++ drop l.to l.fn.blocks.items;
   room : length l.pool.items + length l.blocks.items ≤ vec_capacity l.pool;
-  listed : (half e : ℕ) → IsListed l.fn.blocks.items l.fn.pool.items half e (vec_capacity l.fn.blocks) (vec_capacity l.fn.pool) → IsListed l.blocks.items l.pool.items half e (vec_capacity l.blocks) (vec_capacity l.pool);
+  listed : (half e : ℕ) → IsListed (record { rows = l.fn.blocks.items; pool = l.fn.pool.items; block_capacity = vec_capacity l.fn.blocks; pool_capacity = vec_capacity l.fn.pool }) half e → IsListed (record { rows = l.blocks.items; pool = l.pool.items; block_capacity = vec_capacity l.blocks; pool_capacity = vec_capacity l.pool }) half e;
 }
 
 abbrev pub decreases-dropping : goal.decreases-dropping

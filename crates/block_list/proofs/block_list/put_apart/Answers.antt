@@ -26,11 +26,11 @@ put_in-requires-else-i-s-clause-room g c =
     let z : c.args.b + 1 ≡ suc c.args.b = omega arith in
     rw (c.split_at.ensures.rows, z, right_row c.args.blocks.now.items c.args.b c.cut_place-s.result c.requires.block) (omega (arith, length-drop c.cut_place-s.result (row c.args.blocks.now.items c.args.b), c.requires.full, c.cut_place-s.ensures.low))
 
-the_left : {T : Type 0} (half : ℕ) (rows mid new : List (List T)) (b i s : ℕ) (x : T) (last : Bool) → mid ≡ split_row rows b s → new ≡ set mid b (insert (row mid b) i x) → b < length rows → length (row rows b) ≡ 2 * half → AreShort half rows → i < s → (i < s → s ≡ half) → Apart half rows new b (start rows b + i) x
-the_left half rows mid new b i s x last e f l h a k m = subst (λ q. Apart half rows q b (start rows b + i) x) (sym (f ∙ ap (λ q. set q b (insert (row q b) i x)) e)) (apart_left half rows b i s x l h a k (m k))
+the_left : {T : Type 0} (half : ℕ) (rows mid new : List (List T)) (b i s : ℕ) (x : T) (last : Bool) → mid ≡ split_row rows b s → new ≡ set mid b (insert (row mid b) i x) → b < length rows → length (row rows b) ≡ 2 * half → AreShort half rows → i < s → (i < s → s ≡ half) → Apart half rows new (record { row = b; place = start rows b + i; item = x })
+the_left half rows mid new b i s x last e f l h a k m = subst (λ q. Apart half rows q (record { row = b; place = start rows b + i; item = x })) (sym (f ∙ ap (λ q. set q b (insert (row q b) i x)) e)) (apart_left half rows b i s x l h a k (m k))
 
-the_right : {T : Type 0} (half : ℕ) (rows mid new : List (List T)) (b i s : ℕ) (x : T) (last : Bool) → mid ≡ split_row rows b s → new ≡ set mid (b + 1) (insert (row mid (b + 1)) (i - s) x) → b < length rows → length (row rows b) ≡ 2 * half → AreShort half rows → s ≤ i → i ≤ length (row rows b) → 0 < half → half ≤ s → s ≤ 2 * half → last ≡ eqb (b + 1) (length rows) → (last ≡ false → s ≡ half) → Apart half rows new b (start rows b + i) x
-the_right half rows mid new b i s x last e f l h a k w o m n v u = subst (λ q. Apart half rows q b (start rows b + i) x) (sym (f ∙ ap (λ q. set q (b + 1) (insert (row q (b + 1)) (i - s) x)) e)) (apart_right half rows b i s x l h a k w o m n (λ z. u (v ∙ split_last b (length rows) z)))
+the_right : {T : Type 0} (half : ℕ) (rows mid new : List (List T)) (b i s : ℕ) (x : T) (last : Bool) → mid ≡ split_row rows b s → new ≡ set mid (b + 1) (insert (row mid (b + 1)) (i - s) x) → b < length rows → length (row rows b) ≡ 2 * half → AreShort half rows → s ≤ i → i ≤ length (row rows b) → 0 < half → half ≤ s → s ≤ 2 * half → last ≡ eqb (b + 1) (length rows) → (last ≡ false → s ≡ half) → Apart half rows new (record { row = b; place = start rows b + i; item = x })
+the_right half rows mid new b i s x last e f l h a k w o m n v u = subst (λ q. Apart half rows q (record { row = b; place = start rows b + i; item = x })) (sym (f ∙ ap (λ q. set q (b + 1) (insert (row q (b + 1)) (i - s) x)) e)) (apart_right half rows b i s x l h a k w o m n (λ z. u (v ∙ split_last b (length rows) z)))
 
 pub returns-then-i-s : goal.returns-then-i-s
 returns-then-i-s g c =

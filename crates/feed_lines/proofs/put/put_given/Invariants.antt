@@ -1,12 +1,12 @@
 use Rattle.std.proofs.Common.{◌≤◌}
 use Rattle.track_store.specs.State.{state_of}
 use Rattle.feed_lines.proofs.Giving.{calls_left}
-use Rattle.feed_lines.proofs.Feeding.{IsGiving}
+use Rattle.feed_lines.proofs.Feeding.{group_place, IsGiving}
 use Rattle.feed_lines.proofs.put.put_given.Given as goal
 
 abbrev pub invariant-giving : goal.invariant-giving
 invariant-giving g l = record {
-  giving : IsGiving l.at (state_of g.S.FrameStore.frames l.track) l.feeder l.last (g.K.Sink.written l.fn.sink) (g.K.Sink.written l.sink);
+  giving : IsGiving (group_place l.at (state_of g.S.FrameStore.frames l.track)) l.feeder l.last (g.K.Sink.written l.fn.sink) (g.K.Sink.written l.sink);
   later : g.K.Sink.faults l.fn.sink ≤ g.K.Sink.faults l.sink;
 }
 

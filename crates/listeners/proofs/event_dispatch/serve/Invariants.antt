@@ -8,7 +8,7 @@ invariant-loop-next_call g l = record {
   rules : (goal.Listener-dyn g (l.listener.vtable, l.listener.value)).rules l.listener.value ≡ (goal.Listener-dyn g (l.fn.listener.vtable, l.fn.listener.value)).rules l.fn.listener.value;
   serving : IsServing l.blobs l.event
       (turn_view l.number (run_view l.fn.engine l.fn.journal.entries l.fn.left) ((goal.Listener-dyn g (l.fn.listener.vtable, l.fn.listener.value)).notes l.fn.listener.value))
-      (turn_view l.number (run_view l.engine l.journal.entries l.left) ((goal.Listener-dyn g (l.listener.vtable, l.listener.value)).notes l.listener.value)) l.next_call l.call_count;
+      (turn_view l.number (run_view l.engine l.journal.entries l.left) ((goal.Listener-dyn g (l.listener.vtable, l.listener.value)).notes l.listener.value)) (record { call_count = l.call_count; next_call = l.next_call });
 }
 
 abbrev pub decreases-loop-next_call : goal.decreases-loop-next_call

@@ -1,8 +1,8 @@
-use Rattle.std.proofs.Common.{◌≡◌, ◌+◌, ◌-◌, length}
+use Rattle.std.proofs.Common.{◌≡◌, ◌+◌, ◌-◌, length, take}
 use Rattle.block_list.specs.Rows.{joined}
 use Rattle.block_list.specs.Spots.{rank, IsPlace}
 use Rattle.mse_base.specs.Bridging.{IsRanges}
-use Rattle.track_index.specs.Repair.{Joining}
+use Rattle.track_index.specs.Repair.{AreGrownBy, HasTicksBetween}
 use Rattle.track_index.proofs.repair.join_between.Given as goal
 
 abbrev pub invariant-loop-spot : goal.invariant-loop-spot
@@ -10,7 +10,8 @@ invariant-loop-spot l = record {
   place : IsPlace l.order.rows l.spot;
   ranges : IsRanges l.gap l.ranges.spans;
   room : l.ranges.spare + length l.ranges.spans ≡ l.fn.ranges.spare + length l.fn.ranges.spans;
-  ticks : Joining l.gap l.key l.high (joined l.order.rows) l.fn.ranges.spans l.ranges.spans (rank l.order.rows l.spot);
+  grown : AreGrownBy l.gap (joined l.order.rows) l.fn.ranges.spans l.ranges.spans;
+  between : HasTicksBetween l.gap l.key l.high (take (rank l.order.rows l.spot) (joined l.order.rows)) l.ranges.spans;
 }
 
 abbrev pub decreases-loop-spot : goal.decreases-loop-spot

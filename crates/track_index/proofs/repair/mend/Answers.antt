@@ -5,7 +5,7 @@ use Rattle.mse_base.proofs.Merging.{ranges_bridged}
 use Rattle.block_list.specs.Rows.{joined}
 use Rattle.track_index.specs.declared.key.Key.{Key}
 use Rattle.track_index.specs.Order.{span_of}
-use Rattle.track_index.specs.Repair.{IsRefilled}
+use Rattle.track_index.specs.Repair.{AreGrownBy, HasTicksPast, HasTicksBetween}
 use Rattle.track_index.proofs.Mending.{mended, between_whole, between_empty}
 use Rattle.track_index.proofs.repair.mend.Goals as goal
 
@@ -35,7 +35,7 @@ returns-else-not-refill-clause-between c = λ holes same.
     let b = c.beyond-high.result in
     let w : c.args.hole.start <ℤ c.args.hole.end = grind (arith, ints, c.le.ensures, c.if-le.false) in
     let hollow : c.carve.new.self.spans ≡ ranges_without a b old = c.carve.ensures.spans ∙ ap (λ (z : ℤ). ranges_without z (c.args.hole.end +ℤ c.args.gap) old) (sym c.ahead.ensures) ∙ ap (λ (z : ℤ). ranges_without a z old) (sym c.beyond-high.ensures) in
-    let r = c.refill.ensures.ticks c.if-not-refill.false in
-    let r1 = subst (λ (k : Key). IsRefilled c.args.gap k b os c.carve.new.self.spans new) c.at-key.ensures r in
-    let r2 = subst (λ rs. IsRefilled c.args.gap (record { mark = a; serial = 0 }) b os rs new) hollow r1 in
-    mended c.args.gap a b c.args.hole os old new holes c.requires.gap_from_zero w c.ahead.ensures c.beyond-high.ensures c.requires.ranges r2 same
+    let grown = subst (λ rs. AreGrownBy c.args.gap os rs new) hollow (c.refill.ensures.grown c.if-not-refill.false) in
+    let past = subst (λ (k : Key). HasTicksPast c.args.gap k os new) c.at-key.ensures (c.refill.ensures.past c.if-not-refill.false) in
+    let between = subst (λ (k : Key). HasTicksBetween c.args.gap k b os new) c.at-key.ensures (c.refill.ensures.between c.if-not-refill.false) in
+    mended c.args.gap a b c.args.hole os old new holes c.requires.gap_from_zero w c.ahead.ensures c.beyond-high.ensures c.requires.ranges grown past between same

@@ -21,7 +21,7 @@ invariant_of-self g c =
     let k : i < length (row rows b) = omega (arith, ap (λ w. length (row w.rows b)) v, c.requires.index) in
     let d = some_item (row rows b) i k in
     let x = g.C.Change.after c.args.change.now (get_or (row rows b) i d) in (
-      listed_set c.self.inside.half rows c.change_in.new.blocks.items c.self.inside.pool.items c.self.inside.spare b (set (row rows b) i x) (vec_capacity c.self.inside.blocks) (vec_capacity c.change_in.new.blocks) (vec_capacity c.self.inside.pool) c.self.invariant.0 l (length-set (row rows b) i x) (c.change_in.ensures.rows d) c.change_in.ensures.capacity,
+      listed_set c.self.inside.half _ c.change_in.new.blocks.items c.self.inside.spare b (set (row rows b) i x) (vec_capacity c.change_in.new.blocks) c.self.invariant.0 l (length-set (row rows b) i x) (c.change_in.ensures.rows d) c.change_in.ensures.capacity,
       record { count = omega (arith, c.self.invariant.1.count, ap length (ap joined (c.change_in.ensures.rows d) ∙ joined_set_set rows b i x l k), length-set (joined rows) (start rows b + i) x); fits = c.self.invariant.1.fits },
     )
 

@@ -13,7 +13,7 @@ invariant_of-self g c =
     let i = c.args.spot.index in
     let l : b < length rows = omega (arith, ap (λ w. length w.rows) v, c.requires.block) in
     let k : i < length (row rows b) = omega (arith, ap (λ w. length (row w.rows b)) v, c.requires.index) in (
-      listed_set c.self.inside.half rows c.set_in.new.blocks.items c.self.inside.pool.items c.self.inside.spare b (set (row rows b) i c.args.x) (vec_capacity c.self.inside.blocks) (vec_capacity c.set_in.new.blocks) (vec_capacity c.self.inside.pool) c.self.invariant.0 l (length-set (row rows b) i c.args.x) c.set_in.ensures.rows c.set_in.ensures.capacity,
+      listed_set c.self.inside.half _ c.set_in.new.blocks.items c.self.inside.spare b (set (row rows b) i c.args.x) (vec_capacity c.set_in.new.blocks) c.self.invariant.0 l (length-set (row rows b) i c.args.x) c.set_in.ensures.rows c.set_in.ensures.capacity,
       record { count = omega (arith, c.self.invariant.1.count, ap length (ap joined c.set_in.ensures.rows ∙ joined_set_set rows b i c.args.x l k), length-set (joined rows) (start rows b + i) c.args.x); fits = c.self.invariant.1.fits },
     )
 

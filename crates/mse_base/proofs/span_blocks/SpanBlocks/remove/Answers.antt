@@ -5,7 +5,7 @@ use Rattle.mse_base.proofs.SpreadOut.{spread_take, spread_less}
 use Rattle.mse_base.proofs.span_blocks.SpanBlocks.remove.Goals as goal
 
 pub invariant_of-self : goal.invariant_of-self
-invariant_of-self c = spread_take c.self.inside.blocks.items c.take_from.new.blocks.items c.self.inside.pool.items c.self.inside.len c.self.inside.spare c.place_of-place.result.block c.place_of-place.result.index (vec_capacity c.self.inside.blocks) (vec_capacity c.take_from.new.blocks) (vec_capacity c.self.inside.pool) c.self.invariant c.place_of-place.ensures.block c.place_of-place.ensures.index (omega (arith, c.len_at.ensures.value)) c.take_from.ensures.rows c.take_from.ensures.capacity
+invariant_of-self c = spread_take _ c.take_from.new.blocks.items c.self.inside.len c.self.inside.spare c.place_of-place.result.block c.place_of-place.result.index (vec_capacity c.take_from.new.blocks) c.self.invariant c.place_of-place.ensures.block c.place_of-place.ensures.index (omega (arith, c.len_at.ensures.value)) c.take_from.ensures.rows c.take_from.ensures.capacity
 
 pub returns-then-len_at-gt1-clause-spans : goal.returns-then-len_at-gt1-clause-spans
 returns-then-len_at-gt1-clause-spans c =
@@ -13,7 +13,8 @@ returns-then-len_at-gt1-clause-spans c =
     ap joined c.take_from.ensures.rows ∙ joined_set_remove rows c.place_of-place.result.block c.place_of-place.result.index c.place_of-place.ensures.block c.place_of-place.ensures.index ∙ ap (λ n. remove (joined rows) n) c.place_of-place.ensures.rank ∙ ap (λ w. remove w.spans c.args.i) c.self.view_is
 
 pub invariant_of-self-2 : goal.invariant_of-self-2
-invariant_of-self-2 c = spread_less c.self.inside.blocks.items c.remove-block.new.self.items c.self.inside.pool.items c.push_reserved.new.self.items c.clear.new.self c.self.inside.len c.self.inside.spare c.place_of-place.result.block c.place_of-place.result.index (vec_capacity c.self.inside.blocks) (vec_capacity c.remove-block.new.self) (vec_capacity c.self.inside.pool) (vec_capacity c.push_reserved.new.self) c.self.invariant c.place_of-place.ensures.block c.place_of-place.ensures.index (omega (arith, c.len_at.ensures.value)) c.remove-block.ensures.items c.push_reserved.ensures.items c.clear.ensures c.remove-block.ensures.capacity c.push_reserved.ensures.capacity
+invariant_of-self-2 c =
+    spread_less _ (record { rows = c.remove-block.new.self.items; pool = c.push_reserved.new.self.items; block_capacity = vec_capacity c.remove-block.new.self; pool_capacity = vec_capacity c.push_reserved.new.self }) c.clear.new.self c.self.inside.len c.self.inside.spare c.place_of-place.result.block c.place_of-place.result.index c.self.invariant c.place_of-place.ensures.block c.place_of-place.ensures.index (omega (arith, c.len_at.ensures.value)) c.remove-block.ensures.items c.push_reserved.ensures.items c.clear.ensures c.remove-block.ensures.capacity c.push_reserved.ensures.capacity
 
 pub returns-clause-spans : goal.returns-clause-spans
 returns-clause-spans c =

@@ -5,7 +5,7 @@ use Rattle.mse_base.proofs.SpreadOut.{spread_set}
 use Rattle.mse_base.proofs.span_blocks.SpanBlocks.set.Goals as goal
 
 pub invariant_of-self : goal.invariant_of-self
-invariant_of-self c = spread_set c.self.inside.blocks.items c.set_in.new.blocks.items c.self.inside.pool.items c.self.inside.len c.self.inside.spare c.place_of-place.result.block c.place_of-place.result.index (vec_capacity c.self.inside.blocks) (vec_capacity c.set_in.new.blocks) (vec_capacity c.self.inside.pool) c.args.x c.self.invariant c.place_of-place.ensures.block c.place_of-place.ensures.index c.set_in.ensures.rows c.set_in.ensures.capacity
+invariant_of-self c = spread_set _ c.set_in.new.blocks.items c.self.inside.len c.self.inside.spare c.place_of-place.result.block c.place_of-place.result.index (vec_capacity c.set_in.new.blocks) c.args.x c.self.invariant c.place_of-place.ensures.block c.place_of-place.ensures.index c.set_in.ensures.rows c.set_in.ensures.capacity
 
 pub returns-clause-spans : goal.returns-clause-spans
 returns-clause-spans c =

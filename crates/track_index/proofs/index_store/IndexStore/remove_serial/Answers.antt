@@ -97,7 +97,7 @@ invariant_of-self c =
     let z : start rows c.run_from-run.result.last.block + (c.run_from-run.result.last.index + 1) ≡ i + n = omega (arith, c.run_from-run.ensures.count) in
     let left = c.remove_range.ensures.items ∙ ap (λ (m : ℕ). take i fs ++ drop m fs) z in
     let gone = serial_gone c.args.serial fs i (i + n) h.kept.ascending held c.place_below-from.ensures.before c.place_below-from.ensures.after c.run_from-run.ensures.rest in
-    indexed_removed (has_serial c.args.serial) fs (joined c.remove_range.new.self.rows) (joined c.self.inside.order.rows) (joined c.take_run_out-bytes_left.new.order.rows) c.self.inside.ranges.spans c.mend_run.new.ranges.spans c.self.inside.gap c.self.inside.total c.take_run_out-bytes_left.result _ _ h c.mend_run.ensures.room (omega (arith, ap length left, length_without fs i n l)) (left ∙ sym gone) (c.take_run_out-bytes_left.ensures.order ∙ ap ordered (sym left)) c.mend_run.ensures.spans (c.take_run_out-bytes_left.ensures.bytes ∙ ap bytes_of (sym left))
+    indexed_removed (has_serial c.args.serial) fs (joined c.remove_range.new.self.rows) _ _ c.self.inside.gap _ _ h c.mend_run.ensures.room (omega (arith, ap length left, length_without fs i n l)) (left ∙ sym gone) (c.take_run_out-bytes_left.ensures.order ∙ ap ordered (sym left)) c.mend_run.ensures.spans (c.take_run_out-bytes_left.ensures.bytes ∙ ap bytes_of (sym left))
 
 pub returns-clause-frames : goal.returns-clause-frames
 returns-clause-frames c =

@@ -38,7 +38,7 @@ invariant_of-self c =
     let room = room_each _ _ _ _ (rw (← c.self.view_is) at c.requires.room) in
     let next : length fs + 1 ≤ c.add_span.new.self.spare + length c.add_span.new.self.spans = omega (arith, room.ranges, c.add_span.ensures.room) in
     let entry = c.entry_of-entry.ensures in
-    indexed_added fs _ os _ c.self.inside.ranges.spans _ c.self.inside.gap c.self.inside.total _ _ _ x c.self.invariant next older (c.requires.dur_not_negative, c.requires.in_range) small
+    indexed_added fs _ _ _ c.self.inside.gap _ _ x c.self.invariant next older (c.requires.dur_not_negative, c.requires.in_range) small
     c.push.ensures.items
     (c.put.ensures.items ∙ ap (λ (e : OrderEntry). put e os) entry)
     (c.add_span.ensures.spans ∙ ap (λ (s : Span). ranges_with c.self.inside.gap c.self.inside.ranges.spans s) (c.span_of.ensures ∙ ap (λ (e : OrderEntry). span_of e) entry))

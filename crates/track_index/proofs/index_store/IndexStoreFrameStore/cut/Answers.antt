@@ -103,7 +103,7 @@ invariant_of-self c =
     let between = between_cut c.self.inside.gap c.args.dur fs os ps c.self.inside.ranges.spans x hole own c.self.invariant.gap_from_zero less.0 less.1 start end c.self.invariant.joined c.self.invariant.in_order p in
     let s = between_none c.self.inside.gap (map span_of ps) c.mend.new.ranges.spans c.self.invariant.gap_from_zero c.mend.ensures.ranges (c.mend.ensures.between [] between) in
     let new = with_new_at fs (joined c.change.new.self.rows) c.args.i _ x c.args.dur c.self.invariant.kept.ascending c.place-spot.ensures.place within value (c.change.ensures.items x) in
-    rw new (indexed_cut fs os ps c.self.inside.ranges.spans c.mend.new.ranges.spans c.self.inside.gap c.args.dur c.self.inside.total _ _ x c.args.i c.self.invariant c.mend.ensures.room within value less.0 less.1 tick p s)
+    rw new (indexed_cut fs _ ps c.mend.new.ranges.spans c.self.inside.gap c.args.dur _ _ x c.args.i c.self.invariant c.mend.ensures.room within value less.0 less.1 tick p s)
 
 pub returns-clause-frames : goal.returns-clause-frames
 returns-clause-frames c =
