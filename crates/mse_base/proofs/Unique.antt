@@ -11,21 +11,21 @@ not_yet e t (y ∷ ys) a p h =
     let r : covers ys t ≡ false = not_yet y.end t ys p.1 p.2 k in
     rw r (grind (arith, ints))
 
-starts_in : (x : Span) (b : Bool) → x.start <ℤ x.end → (has_tick x x.start || b) ≡ true
+pub starts_in : (x : Span) (b : Bool) → x.start <ℤ x.end → (has_tick x x.start || b) ≡ true
 starts_in x b h = grind (arith, ints)
 
-before_all : (x : Span) (xs : List Span) (t : ℤ) → IsNormalized (x ∷ xs) → t <ℤ x.start → covers (x ∷ xs) t ≡ false
+pub before_all : (x : Span) (xs : List Span) (t : ℤ) → IsNormalized (x ∷ xs) → t <ℤ x.start → covers (x ∷ xs) t ≡ false
 before_all x xs t p h =
     let n : x.start <ℤ x.end = p.0 in
     let k : t ≤ℤ x.end = omega (arith, ints) in
     rw (not_yet x.end t xs p.1 p.2 k) (grind (arith, ints))
 
-at_end : (x : Span) (xs : List Span) → IsNormalized (x ∷ xs) → covers (x ∷ xs) x.end ≡ false
+pub at_end : (x : Span) (xs : List Span) → IsNormalized (x ∷ xs) → covers (x ∷ xs) x.end ≡ false
 at_end x xs p =
     let k : x.end ≤ℤ x.end = omega (arith, ints) in
     rw (not_yet x.end x.end xs p.1 p.2 k) (grind (arith, ints))
 
-inner : (y : Span) (t : ℤ) (b : Bool) → y.start ≤ℤ t → t <ℤ y.end → (has_tick y t || b) ≡ true
+pub inner : (y : Span) (t : ℤ) (b : Bool) → y.start ≤ℤ t → t <ℤ y.end → (has_tick y t || b) ≡ true
 inner y t b h k = grind (arith, ints)
 
 not_before : (x y : Span) (xs ys : List Span) → IsNormalized (x ∷ xs) → IsNormalized (y ∷ ys) → ((t : ℤ) → covers (x ∷ xs) t ≡ covers (y ∷ ys) t) → x.start <ℤ y.start → ⊥
@@ -44,7 +44,7 @@ not_shorter x y xs ys p q same s h =
     let e = same x.end in
     cc
 
-pick : (a b : ℤ) → (a <ℤ b → ⊥) → (b <ℤ a → ⊥) → a ≡ b
+pub pick : (a b : ℤ) → (a <ℤ b → ⊥) → (b <ℤ a → ⊥) → a ≡ b
 pick a b f g = grind (arith, ints)
 
 flip : (xs ys : List Span) → ((t : ℤ) → covers xs t ≡ covers ys t) → (t : ℤ) → covers ys t ≡ covers xs t
@@ -53,7 +53,7 @@ flip xs ys same t = sym (same t)
 before_or_out : (x : Span) (t : ℤ) → (t ≤ℤ x.end) ⊎ (has_tick x t ≡ false)
 before_or_out x t = grind (arith, ints)
 
-same_span : (x y : Span) → x.start ≡ y.start → x.end ≡ y.end → x ≡ y
+pub same_span : (x y : Span) → x.start ≡ y.start → x.end ≡ y.end → x ≡ y
 same_span x y s f =
     let make : ℤ → ℤ → Span = λ a b. record { start = a; end = b } in
     ap (λ a. make a x.end) s ∙ ap (make y.start) f

@@ -95,3 +95,15 @@ same_kind Audio Other = false
 same_kind Other Video = false
 same_kind Other Audio = false
 same_kind Other Other = true
+
+-- a buffer takes frames of a track of this kind
+abbrev pub is_media : Kind → Bool
+is_media Video = true
+is_media Audio = true
+is_media Other = false
+
+-- the kind is video
+abbrev pub is_video : Kind → Bool
+is_video Video = true
+is_video Audio = false
+is_video Other = false

@@ -81,3 +81,16 @@ last_from s (r ∷ rs) = last_from r rs
 abbrev pub last_of : List Span → Option Span
 last_of [] = None
 last_of (s ∷ ss) = last_from s ss
+
+-- the first of some spans
+abbrev pub first_of : List Span → Option Span
+first_of [] = None
+first_of (s ∷ ss) = Some s
+
+-- the span ends after the time
+abbrev pub ends_after : ℤ → Span → Bool
+ends_after t s = int_lt t s.end
+
+-- the span begins before the time
+abbrev pub starts_before : ℤ → Span → Bool
+starts_before t s = int_lt s.start t

@@ -10,7 +10,7 @@ use std::alloc::Global;
 
 /// A place: a block, and how many of its spans come before.
 #[derive(Clone, Copy)]
-pub(crate) struct Place {
+pub(crate) struct BlockPlace {
     pub block: usize,
     pub index: usize,
 }
@@ -25,7 +25,7 @@ pub(crate) fn len_at(blocks: &Vec<Block>, b: usize) -> usize
 }
 
 /// The span at a place.
-pub(crate) fn span_at(blocks: &Vec<Block>, place: Place) -> Span
+pub(crate) fn span_at(blocks: &Vec<Block>, place: BlockPlace) -> Span
     requires block { place.block < length blocks.now.items }
     requires index { place.index < length (row blocks.now.items place.block) }
     ensures { result
@@ -52,7 +52,7 @@ pub(crate) fn start_of(blocks: &Vec<Block>, b: usize) -> usize
 }
 
 /// The place of a span.
-pub(crate) fn place_of(blocks: &Vec<Block>, i: usize) -> Place
+pub(crate) fn place_of(blocks: &Vec<Block>, i: usize) -> BlockPlace
     requires { i < length (joined blocks.now.items) }
     ensures block { result.block < length blocks.now.items }
     ensures index { result.index < length (row blocks.now.items result.block) }
@@ -63,7 +63,7 @@ pub(crate) fn place_of(blocks: &Vec<Block>, i: usize) -> Place
     'walk: loop {
         let len = len_at(blocks, block);
         if index < len {
-            return Place { block, index };
+            return BlockPlace { block, index };
         }
         index -= len;
         block += 1;
@@ -72,7 +72,7 @@ pub(crate) fn place_of(blocks: &Vec<Block>, i: usize) -> Place
 
 /// The place at which a span is put: that behind a block's last rather than before the next one's
 /// first.
-pub(crate) fn place_to_put(blocks: &Vec<Block>, i: usize) -> Place
+pub(crate) fn place_to_put(blocks: &Vec<Block>, i: usize) -> BlockPlace
     requires within { i ≤ length (joined blocks.now.items) }
     requires some { 0 < length blocks.now.items }
     ensures block { result.block < length blocks.now.items }
@@ -84,7 +84,7 @@ pub(crate) fn place_to_put(blocks: &Vec<Block>, i: usize) -> Place
     'walk: loop {
         let len = len_at(blocks, block);
         if index <= len {
-            return Place { block, index };
+            return BlockPlace { block, index };
         }
         index -= len;
         block += 1;
@@ -146,8 +146,8 @@ fn split_at(blocks: &mut Vec<Block>, b: usize, s: usize, right: Block)
 /// which come in order leave full blocks behind.
 fn cut_place(last: bool, i: usize) -> usize
     requires { i ≤ 1024 }
-    ensures low { 512 ≤ result }
-    ensures high { result ≤ 1024 }
+    ensures at_least_half { 512 ≤ result }
+    ensures at_most_full { result ≤ 1024 }
     ensures left { i < result → result ≡ 512 }
 {
     if last && i > LONG / 2 { i } else { LONG / 2 }
@@ -190,9 +190,9 @@ pub(crate) fn put_if_room(blocks: &mut Vec<Block>, i: usize, x: &Span) -> bool
     if blocks.is_empty() {
         return false;
     }
-    let spot = place_to_put(blocks, i);
-    if len_at(blocks, spot.block) < LONG {
-        put_in(blocks, spot.block, spot.index, *x);
+    let place = place_to_put(blocks, i);
+    if len_at(blocks, place.block) < LONG {
+        put_in(blocks, place.block, place.index, *x);
         return true;
     }
     false

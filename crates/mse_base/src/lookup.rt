@@ -1,6 +1,6 @@
-ghost use Rattle.std.specs.Prelude.{◌≡◌, ◌≤◌, ◌<ℤ◌, ◌≤ℤ◌, ◌-ℤ◌, int_lt, pos, length, take, drop, find, true};
-ghost use Rattle.std.specs.List.{AllByRecursion};
-ghost use Rattle.mse_base.specs.Spans.{IsNormalized, reaches};
+ghost use Rattle.std.specs.Prelude.{◌≡◌, ◌≤◌, ◌<ℤ◌, ◌≤ℤ◌, ◌-ℤ◌, int_lt, pos, length, take, drop, find, slice_get, true};
+ghost use Rattle.std.specs.List.{AllByRecursion, filter};
+ghost use Rattle.mse_base.specs.Spans.{IsNormalized, reaches, last_of, ends_after, starts_before};
 ghost use Rattle.mse_base.specs.Bridging.{IsRanges, is_far_before};
 
 use crate::span_list::SpanList;
@@ -64,4 +64,65 @@ pub(crate) fn span_holding(ranges: &SpanList, t: Ticks) -> Option<Span>
         }
     }
     None
+}
+
+/// The span at a place; `None` exactly where `i` is past the last.
+fn span_at(ranges: &SpanList, i: usize) -> Option<Span>
+    ensures { result ≡ slice_get ranges.now.spans i }
+{
+    if i < ranges.len() {
+        Some(ranges.get(i))
+    } else {
+        None
+    }
+}
+
+/// How many ranges end before a time or at it.
+fn count_ended(ranges: &SpanList, t: Ticks) -> usize
+    requires { IsNormalized ranges.now.spans }
+    ensures ended { AllByRecursion (λ r. r.end ≤ℤ t) (take result ranges.now.spans) }
+    ensures left { AllByRecursion (λ r. t <ℤ r.end) (drop result ranges.now.spans) }
+{
+    let count = ranges.count_ending(t, Ticks::zero());
+    if count < ranges.len() && ranges.get(count).end == t {
+        count + 1
+    } else {
+        count
+    }
+}
+
+/// How many ranges start before a time.
+fn count_started(ranges: &SpanList, t: Ticks) -> usize
+    requires { IsNormalized ranges.now.spans }
+    ensures within { result ≤ length ranges.now.spans }
+    ensures started { AllByRecursion (λ r. r.start <ℤ t) (take result ranges.now.spans) }
+    ensures left { AllByRecursion (λ r. t ≤ℤ r.start) (drop result ranges.now.spans) }
+{
+    let count = ranges.count_ending(t, Ticks::zero());
+    if count < ranges.len() && ranges.get(count).start < t {
+        count + 1
+    } else {
+        count
+    }
+}
+
+/// The first range that ends after a time.
+pub(crate) fn first_after(ranges: &SpanList, t: Ticks) -> Option<Span>
+    requires { IsNormalized ranges.now.spans }
+    ensures { result ≡ find (ends_after t) ranges.now.spans }
+{
+    span_at(ranges, count_ended(ranges, t))
+}
+
+/// The last range that starts before a time.
+pub(crate) fn last_before(ranges: &SpanList, t: Ticks) -> Option<Span>
+    requires { IsNormalized ranges.now.spans }
+    ensures { result ≡ last_of (filter (starts_before t) ranges.now.spans) }
+{
+    let count = count_started(ranges, t);
+    if count == 0 {
+        None
+    } else {
+        Some(ranges.get(count - 1))
+    }
 }

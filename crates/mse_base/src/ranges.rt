@@ -1,14 +1,15 @@
 ghost use Rattle.std.specs.Prelude.{◌≡◌, ◌↔◌, ◌+◌, ◌≤◌, ◌<ℤ◌, ◌≤ℤ◌, ◌+ℤ◌, ◌-ℤ◌, pos, [], ◌∷◌, ◌++◌, length, slice_get, find, IsTrue, IfOk, OnOk};
 ghost use Rattle.std.specs.Int.{int_max};
+ghost use Rattle.std.specs.List.{filter};
 ghost use Rattle.std.specs.Option.{ForSome};
-ghost use Rattle.mse_base.specs.Spans.{IsNormalized, IsUnion, IsIntersection, IsBridging, IsDifference, reaches, last_of};
+ghost use Rattle.mse_base.specs.Spans.{IsNormalized, IsUnion, IsIntersection, IsBridging, IsDifference, reaches, last_of, ends_after, starts_before};
 ghost use Rattle.mse_base.specs.Bridging.{IsRanges, ranges_with, bridged_ranges, ranges_without};
 ghost use Rattle.mse_base.specs.Meets.{meet};
 
 use crate::bridge::{bridged_of, join_in};
 use crate::carve::carve_out;
 use crate::combine::{meet_of, union_of};
-use crate::lookup::span_holding;
+use crate::lookup::{first_after, last_before, span_holding};
 use crate::span_list::SpanList;
 use crate::{OutOfMemory, Span, Ticks};
 use std::alloc::Global;
@@ -208,6 +209,20 @@ impl Ranges {
         ensures { result ≡ find (reaches t) self.now.spans }
     {
         span_holding(&self.spans, t)
+    }
+
+    /// The first range that ends after a time; `None` exactly where none does.
+    pub fn first_after(&self, t: Ticks) -> Option<Span>
+        ensures { result ≡ find (ends_after t) self.now.spans }
+    {
+        first_after(&self.spans, t)
+    }
+
+    /// The last range that starts before a time; `None` exactly where none does.
+    pub fn last_before(&self, t: Ticks) -> Option<Span>
+        ensures { result ≡ last_of (filter (starts_before t) self.now.spans) }
+    {
+        last_before(&self.spans, t)
     }
 
     /// The same ranges again.

@@ -6,8 +6,8 @@ ghost use Rattle.mse_base.specs.Spans.{IsNormalized};
 ghost use Rattle.mse_base.specs.Rows.{joined, start, row, AreFilled, AreEmpty};
 
 use crate::block_row::{
-    Place, drop_all, fill, gather, len_at, place_of, put, put_if_room, set_in, span_at, start_of,
-    take_from,
+    BlockPlace, drop_all, fill, gather, len_at, place_of, put, put_if_room, set_in, span_at,
+    start_of, take_from,
 };
 use crate::lookup::ends_before;
 use crate::span_block::Block;
@@ -120,7 +120,7 @@ fn first_of(blocks: &Vec<Block>, b: usize) -> Span
         ≡ slice_index_or (joined blocks.now.items) (start blocks.now.items b) result }
     ensures within { start blocks.now.items b < length (joined blocks.now.items) }
 {
-    span_at(blocks, Place { block: b, index: 0 })
+    span_at(blocks, BlockPlace { block: b, index: 0 })
 }
 
 /// Up to which block the first spans end more than the gap before a time.
@@ -165,7 +165,7 @@ fn spans_ending(blocks: &Vec<Block>, b: usize, t: Ticks, gap: Ticks) -> usize
     let mut high = len_at(blocks, b);
     while low < high {
         let middle = low + (high - low) / 2;
-        let place = Place {
+        let place = BlockPlace {
             block: b,
             index: middle,
         };

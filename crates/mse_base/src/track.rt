@@ -1,4 +1,5 @@
 ghost use Rattle.std.specs.Prelude.{◌≡◌, IfOk, find, option_copied};
+ghost use Rattle.mse_base.specs.Moments.{is_media, is_video};
 ghost use Rattle.mse_base.specs.Presentation.{has_id};
 
 use crate::{Moment, OutOfMemory, Ticks};
@@ -11,6 +12,28 @@ pub enum Kind {
     Video,
     Audio,
     Other,
+}
+
+impl Kind {
+    /// Whether a buffer takes frames of a track of this kind.
+    pub fn is_media(self) -> bool
+        ensures { result ≡ is_media self }
+    {
+        match self {
+            Kind::Video | Kind::Audio => true,
+            Kind::Other => false,
+        }
+    }
+
+    /// Whether it is video.
+    pub fn is_video(self) -> bool
+        ensures { result ≡ is_video self }
+    {
+        match self {
+            Kind::Video => true,
+            Kind::Audio | Kind::Other => false,
+        }
+    }
 }
 
 /// What an initialization segment tells of a track.

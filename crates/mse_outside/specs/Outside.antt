@@ -7,8 +7,8 @@ use Rattle.mse_outside.specs.declared.sink.Put.{Put}
 use Rattle.mse_outside.specs.declared.sink.Put.TheVariants.{Done as PutDone, Failed as PutFailed, OutOfMemory as PutOutOfMemory}
 
 -- a count rose, or stands at its end
-abbrev pub Rose : ℕ → ℕ → Type 0
-Rose before now = next_count before ≤ now
+abbrev pub HasRisen : ℕ → ℕ → Type 0
+HasRisen before now = next_count before ≤ now
 
 -- the bytes of a file by its name, where there is such a file
 abbrev pub Table : Type 0

@@ -1,8 +1,9 @@
-// The files of a folder.
+//! The files of a folder.
+
 ghost use Rattle.std.specs.Prelude.{◌≡◌, ◌≢◌, ◌<◌, ◌≤◌, ◌+◌, ◌^◌, ◌↔◌, ◌++◌, ℕ, List, None, IfSome, OnOk, length, vec_len};
 ghost use Rattle.std.specs.IoError.{error_kind};
 ghost use Rattle.mse_outside.specs.Count.{next_count};
-ghost use Rattle.mse_outside.specs.Outside.{Appends, Rose};
+ghost use Rattle.mse_outside.specs.Outside.{Appends, HasRisen};
 ghost use Rattle.mse_outside.specs.Folder.{faults_after};
 ghost use Rattle.mse_outside.specs.Reading.{IsReadToEnd, IsFrontAppended, loaded_of};
 

@@ -1,6 +1,7 @@
-// A library of files, by its told table and its count of failures.
+//! A library of files, by its told table and its count of failures.
+
 ghost use Rattle.std.specs.Prelude.{◌≡◌, ◌≢◌, ◌≤◌, ℕ, Option, IfSome};
-ghost use Rattle.mse_outside.specs.Outside.{Rose, Appends, Table, LoadTells};
+ghost use Rattle.mse_outside.specs.Outside.{HasRisen, Appends, Table, LoadTells};
 
 /// What a load answers. With `Failed` the count of failures (`faults`) has risen, or stands at 2^64 - 1.
 #[derive(Clone, Copy, Debug, PartialEq, Eq)]
@@ -30,6 +31,6 @@ pub trait Library {
             (λ files. LoadTells (files name.now) into.old.items into.new.items result) }
         ensures appends { Appends into.old.items into.new.items }
         ensures kept { result ≢ Loaded.Done → into.new.items ≡ into.old.items }
-        ensures later { faults self.old ≤ faults self.new }
-        ensures cause { result ≡ Loaded.Failed → Rose (faults self.old) (faults self.new) };
+        ensures no_fewer_faults { faults self.old ≤ faults self.new }
+        ensures cause { result ≡ Loaded.Failed → HasRisen (faults self.old) (faults self.new) };
 }

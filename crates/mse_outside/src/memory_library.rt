@@ -1,4 +1,5 @@
-// Libraries in memory.
+//! Libraries in memory.
+
 ghost use Rattle.std.specs.Prelude.{◌≡◌, ◌≢◌, ◌≤◌, ◌++◌, ◌↔◌, ℕ, List, Option, Some, None, IfSome, IsSome, IsSomeAnd, AllPairs, Contains, map, vec_len, length, string_bytes, option_map};
 ghost use Rattle.mse_outside.specs.Count.{next_count};
 ghost use Rattle.mse_outside.specs.Outside.{Appends};

@@ -1,4 +1,5 @@
-// Sinks in memory.
+//! Sinks in memory.
+
 ghost use Rattle.std.specs.Prelude.{◌≡◌, ◌≢◌, ◌≤◌, ◌++◌, ◌↔◌, [], ℕ, List, Option, Some, None, IsSome, take};
 ghost use Rattle.mse_outside.specs.Count.{next_count};
 ghost use Rattle.mse_outside.specs.Outside.{PutsOn};

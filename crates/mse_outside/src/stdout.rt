@@ -1,4 +1,5 @@
-// Standard output.
+//! Standard output.
+
 ghost use Rattle.std.specs.Prelude.{◌≡◌, ◌≢◌, ℕ, None};
 ghost use Rattle.mse_outside.specs.Folder.{faults_after_put};
 

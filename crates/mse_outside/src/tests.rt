@@ -1,4 +1,5 @@
-// What no clause says: that calls succeed where there is memory, and what the real folder and standard output do.
+//! What no clause says: that calls succeed where there is memory, and what the real folder and standard output do.
+
 ghost use Rattle.std.specs.Prelude.{◌≡◌, ◌<◌, IfOk, vec_len, length};
 
 use crate::folder::{ReadStop, append_all};

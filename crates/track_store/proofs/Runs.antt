@@ -6,7 +6,7 @@ use Rattle.track_store.specs.declared.store.Stored.{Stored}
 use Rattle.track_store.specs.declared.calls.StoreChange.{StoreChange}
 use Rattle.track_store.specs.declared.calls.StoreChange.TheVariants.{Reserve, Add, Cut, RemoveAt, RemoveWhereTime}
 use Rattle.track_store.specs.declared.calls.StoreLook.{StoreLook}
-use Rattle.track_store.specs.declared.calls.StoreLook.TheVariants.{Len, Get, PlaceOf, GroupStart, Overlapped, SyncAtOrAfter, SpanHolding, LastSpan, HighestStart, HighestEnd, Used, CopyRanges}
+use Rattle.track_store.specs.declared.calls.StoreLook.TheVariants.{Len, Get, PlaceOf, GroupStart, Overlapped, SyncAtOrAfter, SpanHolding, FirstSpanAfter, LastSpanBefore, LastSpan, HighestStart, HighestEnd, Used, CopyRanges}
 use Rattle.track_store.specs.declared.calls.StoreCall.{StoreCall}
 use Rattle.track_store.specs.declared.calls.StoreCall.TheVariants.{Change, Look}
 use Rattle.track_store.specs.Frames.{IsAscending, frame_at}
@@ -41,6 +41,8 @@ one_answer gap (GroupStart i) fs a b up h k = same_answer a b _ h k
 one_answer gap (Overlapped t) fs a b up h k = inr (inr (h.1 ∙ ap Place (same_place fs h.0 k.0 up (h.2.0 ∙ sym k.2.0) h.2.1 k.2.1) ∙ sym k.1))
 one_answer gap (SyncAtOrAfter t) fs a b up h k = same_answer a b _ h k
 one_answer gap (SpanHolding t) fs a b up h k = same_answer a b _ h k
+one_answer gap (FirstSpanAfter t) fs a b up h k = same_answer a b _ h k
+one_answer gap (LastSpanBefore t) fs a b up h k = same_answer a b _ h k
 one_answer gap LastSpan fs a b up h k = same_answer a b _ h k
 one_answer gap HighestStart fs a b up h k = same_answer a b _ h k
 one_answer gap HighestEnd fs a b up h k = same_answer a b _ h k

@@ -1,16 +1,16 @@
 -- What the contract of a store says of lists of calls.
 use Rattle.std.specs.Prelude.{◌≡◌, ◌⊎◌, ◌<◌, ◌≤◌, ◌+◌, ◌^◌, ℕ, ℤ, pos, ◌≤ℤ◌, ◌+ℤ◌, false, List, [], ◌∷◌, ◌++◌, length, slice_get, find, Option, Result, Ok, Err, OnOk, option_copied, ⊤}
-use Rattle.std.specs.List.{AllByRecursion, position}
+use Rattle.std.specs.List.{AllByRecursion, filter, position}
 use Rattle.std.specs.Option.{IfSome}
 use Rattle.mse_base.specs.Time.{IsTick}
-use Rattle.mse_base.specs.Spans.{reaches, last_of, RangesView}
+use Rattle.mse_base.specs.Spans.{reaches, last_of, ends_after, starts_before, RangesView}
 use Rattle.mse_base.specs.declared.memory.OutOfMemory.{OutOfMemory}
 use Rattle.mse_base.specs.declared.span.Span.{Span}
 use Rattle.track_store.specs.declared.store.Stored.{Stored}
 use Rattle.track_store.specs.declared.calls.StoreChange.{StoreChange}
 use Rattle.track_store.specs.declared.calls.StoreChange.TheVariants.{Reserve, Add, Cut, RemoveAt, RemoveWhereTime}
 use Rattle.track_store.specs.declared.calls.StoreLook.{StoreLook}
-use Rattle.track_store.specs.declared.calls.StoreLook.TheVariants.{Len, Get, PlaceOf, GroupStart, Overlapped, SyncAtOrAfter, SpanHolding, LastSpan, HighestStart, HighestEnd, Used, CopyRanges}
+use Rattle.track_store.specs.declared.calls.StoreLook.TheVariants.{Len, Get, PlaceOf, GroupStart, Overlapped, SyncAtOrAfter, SpanHolding, FirstSpanAfter, LastSpanBefore, LastSpan, HighestStart, HighestEnd, Used, CopyRanges}
 use Rattle.track_store.specs.declared.calls.StoreAnswer.{StoreAnswer}
 use Rattle.track_store.specs.declared.calls.StoreAnswer.TheVariants as answers
 use Rattle.track_store.specs.declared.calls.StoreCall.{StoreCall}
@@ -97,6 +97,9 @@ IsLookAnswer gap (Overlapped t) fs a =
     (place : Option ℕ) × (a ≡ Place place) × IsPlaceOf (overlapped t fs) fs place
 IsLookAnswer gap (SyncAtOrAfter t) fs a = a ≡ Time (least (sync_times_from t fs))
 IsLookAnswer gap (SpanHolding t) fs a = a ≡ Range (find (reaches t) (ranges_of gap fs))
+IsLookAnswer gap (FirstSpanAfter t) fs a = a ≡ Range (find (ends_after t) (ranges_of gap fs))
+IsLookAnswer gap (LastSpanBefore t) fs a =
+    a ≡ Range (last_of (filter (starts_before t) (ranges_of gap fs)))
 IsLookAnswer gap LastSpan fs a = a ≡ Range (last_of (ranges_of gap fs))
 IsLookAnswer gap HighestStart fs a = a ≡ Time (greatest (starts fs))
 IsLookAnswer gap HighestEnd fs a = a ≡ Time (greatest (ends fs))

@@ -276,6 +276,14 @@ impl FrameStore for ListStore {
         self.ranges.holding(t)
     }
 
+    fn first_span_after(&self, t: Ticks) -> Option<Span> {
+        self.ranges.first_after(t)
+    }
+
+    fn last_span_before(&self, t: Ticks) -> Option<Span> {
+        self.ranges.last_before(t)
+    }
+
     fn last_span(&self) -> Option<Span> {
         self.ranges.last()
     }

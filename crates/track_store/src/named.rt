@@ -1,7 +1,6 @@
 //! The frames that a removal names, for stores.
 
 ghost use Rattle.std.specs.Prelude.{◌≡◌, ◌||◌, ◌&&◌, not};
-ghost use Rattle.mse_base.specs.Moments.{is_before};
 ghost use Rattle.track_store.specs.Named.{is_named};
 
 use crate::Stored;
@@ -16,13 +15,6 @@ pub enum Named {
     Within { from: Ticks, to: Moment, below: u64 },
 }
 
-/// Whether a time is before a moment. No time is before `Moment::Nan`.
-pub fn is_before(t: Ticks, moment: &Moment) -> bool
-    ensures { result ≡ is_before t moment.now }
-{
-    t.is_before(*moment)
-}
-
 impl Named {
     /// Whether the frame is one of those named.
     pub fn holds(&self, stored: &Stored) -> bool
@@ -31,9 +23,7 @@ impl Named {
         match *self {
             Named::Serial(serial) => stored.serial == serial,
             Named::Within { from, to, below } => {
-                from <= stored.frame.pts
-                    && is_before(stored.frame.pts, &to)
-                    && stored.serial < below
+                from <= stored.frame.pts && stored.frame.pts.is_before(to) && stored.serial < below
             }
         }
     }

@@ -2,7 +2,6 @@ ghost use Rattle.std.specs.Prelude.{◌≡◌, ◌≤◌, ◌<◌, ◌&&◌, len
 ghost use Rattle.track_store.specs.Frames.{frames_without, has_serial, is_between};
 ghost use Rattle.track_store.specs.Named.{AreNamedBelow, AreNamedWith};
 
-use crate::named::is_before;
 use crate::{FrameStore, Stored};
 use mse_base::{Moment, Ticks};
 
@@ -10,7 +9,7 @@ use mse_base::{Moment, Ticks};
 fn is_between(stored: &Stored, from: Ticks, to: &Moment) -> bool
     ensures { result ≡ is_between from to.now stored.now }
 {
-    from <= stored.frame.pts && is_before(stored.frame.pts, to)
+    from <= stored.frame.pts && stored.frame.pts.is_before(*to)
 }
 
 /// Whether a frame has the greatest serial that there is, and begins in the time.

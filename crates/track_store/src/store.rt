@@ -1,7 +1,7 @@
 ghost use Rattle.std.specs.Prelude.{◌≡◌, ◌+◌, ◌<◌, ◌≤◌, ◌^◌, ℕ, ℤ, pos, ◌≤ℤ◌, ◌+ℤ◌, find, IfOk, List, [], ◌∷◌, ◌++◌, length, false, slice_get, option_copied, OnOk, IfSome};
-ghost use Rattle.std.specs.List.{AllByRecursion, position};
+ghost use Rattle.std.specs.List.{AllByRecursion, filter, position};
 ghost use Rattle.mse_base.specs.Time.{IsTick};
-ghost use Rattle.mse_base.specs.Spans.{reaches, last_of};
+ghost use Rattle.mse_base.specs.Spans.{reaches, last_of, ends_after, starts_before};
 ghost use Rattle.mse_base.specs.Moments.{least, greatest};
 ghost use Rattle.track_store.specs.Frames.{bytes_of, ends, ranges_of, has_serial, is_within, frames_without, frames_with_dur, group_start_of, overlapped, frame_at, sync_times_from, starts, IsKept};
 ghost use Rattle.track_store.specs.Sound.{HasPredecessor};
@@ -120,6 +120,15 @@ pub trait FrameStore: Sized + Drop {
     /// The range with `start <= t` and `t <= end`; `None` exactly where there is none.
     fn span_holding(&self, t: Ticks) -> Option<Span>
         ensures { result ≡ find (reaches t) (ranges_of (gap self.now) (frames self.now)) };
+
+    /// The first range that ends after a time; `None` exactly where none does.
+    fn first_span_after(&self, t: Ticks) -> Option<Span>
+        ensures { result ≡ find (ends_after t) (ranges_of (gap self.now) (frames self.now)) };
+
+    /// The last range that starts before a time; `None` exactly where none does.
+    fn last_span_before(&self, t: Ticks) -> Option<Span>
+        ensures { result
+            ≡ last_of (filter (starts_before t) (ranges_of (gap self.now) (frames self.now))) };
 
     /// The last range; `None` exactly where there is no range.
     fn last_span(&self) -> Option<Span>

@@ -6,4 +6,4 @@ use Rattle.mse_base.proofs.block_row.put_if_room.Goals as goal
 pub returns-then-len_at-lt-LONG-clause-spans : goal.returns-then-len_at-lt-LONG-clause-spans
 returns-then-len_at-lt-LONG-clause-spans c = λ _.
     let rows = c.args.blocks.now.items in
-    ap joined c.put_in.ensures.rows ∙ joined_set_insert rows c.place_to_put-spot.result.block c.place_to_put-spot.result.index c.args.x.now c.place_to_put-spot.ensures.block c.place_to_put-spot.ensures.index ∙ ap (λ n. insert (joined rows) n c.args.x.now) c.place_to_put-spot.ensures.rank
+    ap joined c.put_in.ensures.rows ∙ joined_set_insert rows c.place_to_put-place.result.block c.place_to_put-place.result.index c.args.x.now c.place_to_put-place.ensures.block c.place_to_put-place.ensures.index ∙ ap (λ n. insert (joined rows) n c.args.x.now) c.place_to_put-place.ensures.rank
