@@ -1,3 +1,3 @@
 pub mod Rows
-pub mod Spots
+pub mod BlockPlaces
 pub mod Starts

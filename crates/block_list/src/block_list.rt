@@ -3,7 +3,7 @@
 ghost use Rattle.std.specs.Prelude.{◌≡◌, ℕ, ◌+◌, ◌-◌, ◌*◌, ◌^◌, ◌<◌, ◌≤◌, List, [], ◌∷◌, ◌++◌, length, take, drop, IfOk, OnOk, IfSome, IfNone, suc, slice_index_or, slice_set, vec_len, vec_capacity, max, false};
 ghost use Rattle.std.specs.List.{insert, remove};
 ghost use Rattle.block_list.specs.Rows.{ListView, joined, start, row, split_row, held, AreShort, AreEmpty, AreNonEmpty, IsListed, IsCounted};
-ghost use Rattle.block_list.specs.Spots.{rank, IsPlace};
+ghost use Rattle.block_list.specs.BlockPlaces.{rank, IsPlace};
 ghost use Rattle.block_list.specs.Starts.{starts_of};
 
 use crate::block::{Block, Change, Fact};
@@ -41,7 +41,7 @@ impl<T, F: Fact<T>> Model for BlockList<T, F> {
 
 /// A place: a block, and how many of its items come before.
 #[derive(Clone, Copy)]
-pub struct Spot {
+pub struct BlockPlace {
     pub block: usize,
     pub index: usize,
 }
@@ -56,7 +56,7 @@ fn len_at<T, F: Fact<T>>(blocks: &Vec<Block<T, F>>, b: usize) -> usize
 }
 
 /// The place behind the last item, where its block has room.
-fn open_end<T, F: Fact<T>>(blocks: &Vec<Block<T, F>>, most: usize) -> Option<Spot>
+fn open_end<T, F: Fact<T>>(blocks: &Vec<Block<T, F>>, most: usize) -> Option<BlockPlace>
     ensures room { IfSome result
         (λ s. (s.block + 1 ≡ length blocks.now.items)
         × ((s.index ≡ length (row blocks.now.items s.block)) × (s.index < most))) }
@@ -69,7 +69,7 @@ fn open_end<T, F: Fact<T>>(blocks: &Vec<Block<T, F>>, most: usize) -> Option<Spo
     }
     let index = len_at(blocks, n - 1);
     if index < most {
-        Some(Spot {
+        Some(BlockPlace {
             block: n - 1,
             index,
         })
@@ -115,8 +115,8 @@ fn split_at<T: Copy + Drop, F: Fact<T>>(
 /// Where a full block is cut: the last one behind what stands before the place.
 fn cut_place(last: bool, i: usize, half: usize) -> usize
     requires { i ≤ 2 * half }
-    ensures low { half ≤ result }
-    ensures high { result ≤ 2 * half }
+    ensures at_least_half { half ≤ result }
+    ensures at_most_full { result ≤ 2 * half }
     ensures middle { last ≡ false → result ≡ half }
     ensures left { i < result → result ≡ half }
 {
@@ -386,87 +386,87 @@ impl<T, F: Fact<T>> BlockList<T, F> {
     }
 
     /// The item at a place.
-    pub fn item(&self, spot: Spot) -> &T
-        requires block { spot.block < length self.now.rows }
-        requires index { spot.index < length (row self.now.rows spot.block) }
+    pub fn item(&self, place: BlockPlace) -> &T
+        requires block { place.block < length self.now.rows }
+        requires index { place.index < length (row self.now.rows place.block) }
         ensures { result.now
-            ≡ slice_index_or (joined self.now.rows) (rank self.now.rows spot) result.now }
+            ≡ slice_index_or (joined self.now.rows) (rank self.now.rows place) result.now }
     {
-        let items = self.block(spot.block);
-        &items[spot.index]
+        let items = self.block(place.block);
+        &items[place.index]
     }
 
     /// The place behind that of an item.
-    pub fn next(&self, spot: Spot) -> Spot
-        requires block { spot.block < length self.now.rows }
-        requires index { spot.index < length (row self.now.rows spot.block) }
-        ensures rank { rank self.now.rows result ≡ rank self.now.rows spot + 1 }
+    pub fn next(&self, place: BlockPlace) -> BlockPlace
+        requires block { place.block < length self.now.rows }
+        requires index { place.index < length (row self.now.rows place.block) }
+        ensures rank { rank self.now.rows result ≡ rank self.now.rows place + 1 }
         ensures place { IsPlace self.now.rows result }
     {
         // A block has few items, so the sum fits.
-        let _len = len_at(&self.blocks, spot.block);
-        let behind = Spot {
-            block: spot.block,
-            index: spot.index + 1,
+        let _len = len_at(&self.blocks, place.block);
+        let behind = BlockPlace {
+            block: place.block,
+            index: place.index + 1,
         };
         self.at_item(behind)
     }
 
     /// The same place as that of an item, where it is behind a block's last and not at the end.
-    pub fn at_item(&self, spot: Spot) -> Spot
-        requires block { spot.block < length self.now.rows }
-        requires index { spot.index ≤ length (row self.now.rows spot.block) }
-        ensures rank { rank self.now.rows result ≡ rank self.now.rows spot }
+    pub fn at_item(&self, place: BlockPlace) -> BlockPlace
+        requires block { place.block < length self.now.rows }
+        requires index { place.index ≤ length (row self.now.rows place.block) }
+        ensures rank { rank self.now.rows result ≡ rank self.now.rows place }
         ensures place { IsPlace self.now.rows result }
     {
         let _len = self.len;
-        if spot.index < len_at(&self.blocks, spot.block) {
-            return spot;
+        if place.index < len_at(&self.blocks, place.block) {
+            return place;
         }
-        Spot {
-            block: spot.block + 1,
+        BlockPlace {
+            block: place.block + 1,
             index: 0,
         }
     }
 
     /// Changes the item at a place.
-    pub fn change<C: Change<T>>(&mut self, spot: Spot, change: &C)
-        requires block { spot.block < length self.old.rows }
-        requires index { spot.index < length (row self.old.rows spot.block) }
+    pub fn change<C: Change<T>>(&mut self, place: BlockPlace, change: &C)
+        requires block { place.block < length self.old.rows }
+        requires index { place.index < length (row self.old.rows place.block) }
         ensures items { (d : T) → joined self.new.rows
-            ≡ slice_set (joined self.old.rows) (rank self.old.rows spot)
+            ≡ slice_set (joined self.old.rows) (rank self.old.rows place)
             (C.after change.now
-            (slice_index_or (joined self.old.rows) (rank self.old.rows spot) d)) }
+            (slice_index_or (joined self.old.rows) (rank self.old.rows place) d)) }
         ensures starts { starts_of self.new.rows ≡ starts_of self.old.rows }
         ensures spare { self.new.spare ≡ self.old.spare }
     {
         let _len = self.len;
-        change_in(&mut self.blocks, spot.block, spot.index, change);
+        change_in(&mut self.blocks, place.block, place.index, change);
     }
 
     /// Takes out the item at a place.
-    pub fn remove(&mut self, spot: Spot) -> T
-        requires block { spot.block < length self.old.rows }
-        requires index { spot.index < length (row self.old.rows spot.block) }
-        ensures value { result ≡ slice_index_or (row self.old.rows spot.block) spot.index result }
+    pub fn remove(&mut self, place: BlockPlace) -> T
+        requires block { place.block < length self.old.rows }
+        requires index { place.index < length (row self.old.rows place.block) }
+        ensures value { result ≡ slice_index_or (row self.old.rows place.block) place.index result }
         ensures items { joined self.new.rows
-            ≡ remove (joined self.old.rows) (start self.old.rows spot.block + spot.index) }
+            ≡ remove (joined self.old.rows) (start self.old.rows place.block + place.index) }
         // Only the block of the place changes, or goes.
-        ensures front { take spot.block self.new.rows ≡ take spot.block self.old.rows }
+        ensures front { take place.block self.new.rows ≡ take place.block self.old.rows }
         ensures rest { drop
-            ((spot.block + 1 + length self.new.rows) - length self.old.rows) self.new.rows
-            ≡ drop (spot.block + 1) self.old.rows }
+            ((place.block + 1 + length self.new.rows) - length self.old.rows) self.new.rows
+            ≡ drop (place.block + 1) self.old.rows }
         ensures one_block_apart { (length self.new.rows ≤ length self.old.rows)
             × (length self.old.rows ≤ length self.new.rows + 1) }
         ensures spare { self.new.spare ≡ self.old.spare }
     {
         let _len = self.len;
         self.len -= 1;
-        if len_at(&self.blocks, spot.block) > 1 {
-            return take_from(&mut self.blocks, spot.block, spot.index);
+        if len_at(&self.blocks, place.block) > 1 {
+            return take_from(&mut self.blocks, place.block, place.index);
         }
-        let mut block = self.blocks.remove(spot.block);
-        let x = block.remove(spot.index);
+        let mut block = self.blocks.remove(place.block);
+        let x = block.remove(place.index);
         self.pool.push_reserved(block);
         x
     }
@@ -474,18 +474,18 @@ impl<T, F: Fact<T>> BlockList<T, F> {
 
 impl<T: Drop, F: Fact<T>> BlockList<T, F> {
     /// Puts another item in place of one.
-    pub fn set(&mut self, spot: Spot, x: T)
-        requires block { spot.block < length self.old.rows }
-        requires index { spot.index < length (row self.old.rows spot.block) }
+    pub fn set(&mut self, place: BlockPlace, x: T)
+        requires block { place.block < length self.old.rows }
+        requires index { place.index < length (row self.old.rows place.block) }
         ensures items { joined self.new.rows
-            ≡ slice_set (joined self.old.rows) (rank self.old.rows spot) x }
-        ensures front { take spot.block self.new.rows ≡ take spot.block self.old.rows }
-        ensures rest { drop (spot.block + 1) self.new.rows ≡ drop (spot.block + 1) self.old.rows }
+            ≡ slice_set (joined self.old.rows) (rank self.old.rows place) x }
+        ensures front { take place.block self.new.rows ≡ take place.block self.old.rows }
+        ensures rest { drop (place.block + 1) self.new.rows ≡ drop (place.block + 1) self.old.rows }
         ensures len { length self.new.rows ≡ length self.old.rows }
         ensures spare { self.new.spare ≡ self.old.spare }
     {
         let _len = self.len;
-        set_in(&mut self.blocks, spot.block, spot.index, x);
+        set_in(&mut self.blocks, place.block, place.index, x);
     }
 
     /// Takes out a stretch of a block, of which some item stays.
@@ -517,48 +517,49 @@ impl<T: Drop, F: Fact<T>> BlockList<T, F> {
     }
 
     /// Takes out what stands behind a place in its block; the number of blocks up to there.
-    fn cut_tail(&mut self, spot: Spot) -> usize
-        requires block { spot.block < length self.old.rows }
-        requires index { spot.index < length (row self.old.rows spot.block) }
-        ensures low { spot.block ≤ result }
-        ensures high { result ≤ spot.block + 1 }
-        ensures front { joined (take result self.new.rows) ≡ joined (take spot.block self.old.rows)
-            ++ take spot.index (row self.old.rows spot.block) }
-        ensures before { take spot.block self.new.rows ≡ take spot.block self.old.rows }
-        ensures rest { drop (spot.block + 1) self.new.rows ≡ drop (spot.block + 1) self.old.rows }
+    fn cut_tail(&mut self, place: BlockPlace) -> usize
+        requires block { place.block < length self.old.rows }
+        requires index { place.index < length (row self.old.rows place.block) }
+        ensures from_block { place.block ≤ result }
+        ensures to_next { result ≤ place.block + 1 }
+        ensures front { joined (take result self.new.rows) ≡ joined (take place.block self.old.rows)
+            ++ take place.index (row self.old.rows place.block) }
+        ensures before { take place.block self.new.rows ≡ take place.block self.old.rows }
+        ensures rest { drop (place.block + 1) self.new.rows ≡ drop (place.block + 1) self.old.rows }
         ensures len { length self.new.rows ≡ length self.old.rows }
         ensures spare { self.new.spare ≡ self.old.spare }
     {
-        if spot.index > 0 {
-            let len = len_at(&self.blocks, spot.block);
-            self.cut(spot.block, spot.index, len);
-            return spot.block + 1;
+        if place.index > 0 {
+            let len = len_at(&self.blocks, place.block);
+            self.cut(place.block, place.index, len);
+            return place.block + 1;
         }
-        spot.block
+        place.block
     }
 
     /// Takes out what stands before a place in its block; the number of blocks before the rest.
-    fn cut_head(&mut self, spot: Spot) -> usize
-        requires block { spot.block < length self.old.rows }
-        requires some { 0 < spot.index }
-        requires index { spot.index ≤ length (row self.old.rows spot.block) }
-        ensures low { spot.block ≤ result }
-        ensures high { result ≤ length self.new.rows }
-        ensures front { take spot.block self.new.rows ≡ take spot.block self.old.rows }
+    fn cut_head(&mut self, place: BlockPlace) -> usize
+        requires block { place.block < length self.old.rows }
+        requires some { 0 < place.index }
+        requires index { place.index ≤ length (row self.old.rows place.block) }
+        ensures from_block { place.block ≤ result }
+        ensures within { result ≤ length self.new.rows }
+        ensures front { take place.block self.new.rows ≡ take place.block self.old.rows }
         ensures rest { joined (drop result self.new.rows)
-            ≡ drop spot.index (row self.old.rows spot.block)
-            ++ joined (drop (spot.block + 1) self.old.rows) }
-        ensures behind { drop (spot.block + 1) self.new.rows ≡ drop (spot.block + 1) self.old.rows }
-        ensures next { result ≤ spot.block + 1 }
+            ≡ drop place.index (row self.old.rows place.block)
+            ++ joined (drop (place.block + 1) self.old.rows) }
+        ensures behind { drop (place.block + 1) self.new.rows
+            ≡ drop (place.block + 1) self.old.rows }
+        ensures next { result ≤ place.block + 1 }
         ensures len { length self.new.rows ≡ length self.old.rows }
         ensures spare { self.new.spare ≡ self.old.spare }
     {
-        let len = len_at(&self.blocks, spot.block);
-        if spot.index < len {
-            self.cut(spot.block, 0, spot.index);
-            return spot.block;
+        let len = len_at(&self.blocks, place.block);
+        if place.index < len {
+            self.cut(place.block, 0, place.index);
+            return place.block;
         }
-        spot.block + 1
+        place.block + 1
     }
 
     /// Takes out a stretch of a block, or the block.
@@ -585,7 +586,7 @@ impl<T: Drop, F: Fact<T>> BlockList<T, F> {
     }
 
     /// Takes out the items from a place up to before another.
-    pub fn remove_range(&mut self, from: Spot, to: Spot)
+    pub fn remove_range(&mut self, from: BlockPlace, to: BlockPlace)
         requires from { from.block < length self.old.rows }
         requires from_index { from.index < length (row self.old.rows from.block) }
         requires to { to.block < length self.old.rows }
@@ -628,8 +629,8 @@ impl<T: Drop, F: Fact<T>> BlockList<T, F> {
         self.spare -= 1;
         self.len += 1;
         match open_end(&self.blocks, 2 * self.half) {
-            Some(spot) => {
-                put_in(&mut self.blocks, spot.block, spot.index, x);
+            Some(place) => {
+                put_in(&mut self.blocks, place.block, place.index, x);
                 return;
             }
             None => {
@@ -644,32 +645,32 @@ impl<T: Drop, F: Fact<T>> BlockList<T, F> {
 
 impl<T: Copy + Drop, F: Fact<T>> BlockList<T, F> {
     /// Puts an item before that at a place, or behind a block's last.
-    pub fn insert(&mut self, spot: Spot, x: T)
-        requires block { spot.block < length self.old.rows }
-        requires index { spot.index ≤ length (row self.old.rows spot.block) }
+    pub fn insert(&mut self, place: BlockPlace, x: T)
+        requires block { place.block < length self.old.rows }
+        requires index { place.index ≤ length (row self.old.rows place.block) }
         requires spare { 1 ≤ self.old.spare }
         ensures items { joined self.new.rows
-            ≡ insert (joined self.old.rows) (start self.old.rows spot.block + spot.index) x }
+            ≡ insert (joined self.old.rows) (start self.old.rows place.block + place.index) x }
         // Only the block of the place changes, or two stand for it.
-        ensures front { take spot.block self.new.rows ≡ take spot.block self.old.rows }
+        ensures front { take place.block self.new.rows ≡ take place.block self.old.rows }
         ensures rest { drop
-            ((spot.block + 1 + length self.new.rows) - length self.old.rows) self.new.rows
-            ≡ drop (spot.block + 1) self.old.rows }
+            ((place.block + 1 + length self.new.rows) - length self.old.rows) self.new.rows
+            ≡ drop (place.block + 1) self.old.rows }
         ensures one_block_apart { (length self.old.rows ≤ length self.new.rows)
             × (length self.new.rows ≤ length self.old.rows + 1) }
         ensures spare { self.new.spare + 1 ≡ self.old.spare }
     {
         self.spare -= 1;
         self.len += 1;
-        if len_at(&self.blocks, spot.block) < 2 * self.half {
-            put_in(&mut self.blocks, spot.block, spot.index, x);
+        if len_at(&self.blocks, place.block) < 2 * self.half {
+            put_in(&mut self.blocks, place.block, place.index, x);
             return;
         }
         let right = self.pool.take_last();
         put_apart(
             &mut self.blocks,
-            spot.block,
-            spot.index,
+            place.block,
+            place.index,
             x,
             right,
             self.half,

@@ -3,10 +3,10 @@
 ghost use Rattle.std.specs.Prelude.{◌≡◌, ◌+◌, ◌-◌, ◌^◌, ◌<◌, ◌≤◌, length, take, drop, true, false, IfSome, IfNone};
 ghost use Rattle.std.specs.List.{AllByRecursion};
 ghost use Rattle.block_list.specs.Rows.{joined, row, IsCut, AreNonEmpty};
-ghost use Rattle.block_list.specs.Spots.{rank};
+ghost use Rattle.block_list.specs.BlockPlaces.{rank};
 
 use crate::block::Fact;
-use crate::block_list::{BlockList, Spot};
+use crate::block_list::{BlockList, BlockPlace};
 
 /// A test of items.
 pub trait Test<T>: Sized {
@@ -84,7 +84,7 @@ fn block_of<T, F: Fact<T>, P: Test<T>>(list: &BlockList<T, F>, test: &P) -> usiz
 
 /// The place behind the last item that passes, where that is the last of all, or the one before
 /// in the same block.
-fn spot_near_end<T, F: Fact<T>, P: Test<T>>(list: &BlockList<T, F>, test: &P) -> Option<Spot>
+fn place_near_end<T, F: Fact<T>, P: Test<T>>(list: &BlockList<T, F>, test: &P) -> Option<BlockPlace>
     requires cut { IsCut (P.passes test.now) (joined list.now.rows) }
     requires full { AreNonEmpty list.now.rows }
     ensures block { IfSome result (λ s. s.block < length list.now.rows) }
@@ -100,15 +100,15 @@ fn spot_near_end<T, F: Fact<T>, P: Test<T>>(list: &BlockList<T, F>, test: &P) ->
     }
     let block = blocks - 1;
     let len = list.block(block).len();
-    let last = Spot {
+    let last = BlockPlace {
         block,
         index: len - 1,
     };
     if test.passes(list.item(last)) {
-        return Some(Spot { block, index: len });
+        return Some(BlockPlace { block, index: len });
     }
     if len > 1 {
-        let before = Spot {
+        let before = BlockPlace {
             block,
             index: len - 2,
         };
@@ -120,7 +120,7 @@ fn spot_near_end<T, F: Fact<T>, P: Test<T>>(list: &BlockList<T, F>, test: &P) ->
 }
 
 /// The place behind the last item that passes.
-pub fn search<T, F: Fact<T>, P: Test<T>>(list: &BlockList<T, F>, test: &P) -> Spot
+pub fn search<T, F: Fact<T>, P: Test<T>>(list: &BlockList<T, F>, test: &P) -> BlockPlace
     requires { IsCut (P.passes test.now) (joined list.now.rows) }
     ensures block { 0 < length list.now.rows → result.block < length list.now.rows }
     ensures index { result.index ≤ length (row list.now.rows result.block) }
@@ -131,16 +131,16 @@ pub fn search<T, F: Fact<T>, P: Test<T>>(list: &BlockList<T, F>, test: &P) -> Sp
 {
     let _spare = list.spare();
     // Most items are put behind all others, or before few.
-    if let Some(spot) = spot_near_end(list, test) {
-        return spot;
+    if let Some(place) = place_near_end(list, test) {
+        return place;
     }
     let b = block_of(list, test);
     if b == 0 {
-        return Spot { block: 0, index: 0 };
+        return BlockPlace { block: 0, index: 0 };
     }
     let items = list.block(b - 1);
     let index = place_in(items, test);
-    Spot {
+    BlockPlace {
         block: b - 1,
         index,
     }

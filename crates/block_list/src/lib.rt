@@ -7,6 +7,6 @@ mod finding;
 mod ranked;
 
 pub use block::{Block, Change, Fact};
-pub use block_list::{BlockList, Spot};
+pub use block_list::{BlockList, BlockPlace};
 pub use finding::{Test, search};
 pub use ranked::RankedList;

@@ -3,11 +3,11 @@
 ghost use Rattle.std.specs.Prelude.{◌≡◌, ◌+◌, ◌<◌, ◌≤◌, ◌^◌, List, [], ◌∷◌, ◌++◌, length, take, drop, true, false, OnOk, slice_index_or, slice_set, vec_capacity};
 ghost use Rattle.std.specs.List.{AllByRecursion};
 ghost use Rattle.block_list.specs.Rows.{joined, start, row, IsCut};
-ghost use Rattle.block_list.specs.Spots.{rank, IsPlace};
+ghost use Rattle.block_list.specs.BlockPlaces.{rank, IsPlace};
 ghost use Rattle.block_list.specs.Starts.{starts_of, raised, IsKeptAs};
 
 use crate::block::{Change, Fact};
-use crate::block_list::{BlockList, Spot};
+use crate::block_list::{BlockList, BlockPlace};
 use crate::finding::{Test, search};
 use mse_base::OutOfMemory;
 use std::alloc::Global;
@@ -280,7 +280,7 @@ impl<T, F: Fact<T>> RankedList<T, F> {
     }
 
     /// The place of item `k`.
-    pub fn place(&self, k: usize) -> Spot
+    pub fn place(&self, k: usize) -> BlockPlace
         requires { k < length (joined self.now.rows) }
         ensures block { result.block < length self.now.rows }
         ensures index { result.index < length (row self.now.rows result.block) }
@@ -296,24 +296,24 @@ impl<T, F: Fact<T>> RankedList<T, F> {
                 high = middle;
             }
         }
-        Spot {
+        BlockPlace {
             block: low,
             index: k - self.start(low),
         }
     }
 
     /// How many items stand before a place.
-    pub fn rank(&self, spot: Spot) -> usize
-        requires block { spot.block < length self.now.rows }
-        requires index { spot.index ≤ length (row self.now.rows spot.block) }
-        ensures { result ≡ rank self.now.rows spot }
+    pub fn rank(&self, place: BlockPlace) -> usize
+        requires block { place.block < length self.now.rows }
+        requires index { place.index ≤ length (row self.now.rows place.block) }
+        ensures { result ≡ rank self.now.rows place }
     {
         let _len = self.len();
-        self.start(spot.block) + spot.index
+        self.start(place.block) + place.index
     }
 
     /// The place behind the last item that passes.
-    pub fn search<P: Test<T>>(&self, test: &P) -> Spot
+    pub fn search<P: Test<T>>(&self, test: &P) -> BlockPlace
         requires { IsCut (P.passes test.now) (joined self.now.rows) }
         ensures block { 0 < length self.now.rows → result.block < length self.now.rows }
         ensures index { result.index ≤ length (row self.now.rows result.block) }
@@ -326,46 +326,46 @@ impl<T, F: Fact<T>> RankedList<T, F> {
     }
 
     /// The item at a place.
-    pub fn item(&self, spot: Spot) -> &T
-        requires block { spot.block < length self.now.rows }
-        requires index { spot.index < length (row self.now.rows spot.block) }
+    pub fn item(&self, place: BlockPlace) -> &T
+        requires block { place.block < length self.now.rows }
+        requires index { place.index < length (row self.now.rows place.block) }
         ensures { result.now
-            ≡ slice_index_or (joined self.now.rows) (rank self.now.rows spot) result.now }
+            ≡ slice_index_or (joined self.now.rows) (rank self.now.rows place) result.now }
     {
-        self.list.item(spot)
+        self.list.item(place)
     }
 
     /// The place behind that of an item.
-    pub fn next(&self, spot: Spot) -> Spot
-        requires block { spot.block < length self.now.rows }
-        requires index { spot.index < length (row self.now.rows spot.block) }
-        ensures rank { rank self.now.rows result ≡ rank self.now.rows spot + 1 }
+    pub fn next(&self, place: BlockPlace) -> BlockPlace
+        requires block { place.block < length self.now.rows }
+        requires index { place.index < length (row self.now.rows place.block) }
+        ensures rank { rank self.now.rows result ≡ rank self.now.rows place + 1 }
         ensures place { IsPlace self.now.rows result }
     {
-        self.list.next(spot)
+        self.list.next(place)
     }
 
     /// The same place as that of an item, where it is behind a block's last and not at the end.
-    pub fn at_item(&self, spot: Spot) -> Spot
-        requires block { spot.block < length self.now.rows }
-        requires index { spot.index ≤ length (row self.now.rows spot.block) }
-        ensures rank { rank self.now.rows result ≡ rank self.now.rows spot }
+    pub fn at_item(&self, place: BlockPlace) -> BlockPlace
+        requires block { place.block < length self.now.rows }
+        requires index { place.index ≤ length (row self.now.rows place.block) }
+        ensures rank { rank self.now.rows result ≡ rank self.now.rows place }
         ensures place { IsPlace self.now.rows result }
     {
-        self.list.at_item(spot)
+        self.list.at_item(place)
     }
 
     /// Changes the item at a place.
-    pub fn change<C: Change<T>>(&mut self, spot: Spot, change: &C)
-        requires block { spot.block < length self.old.rows }
-        requires index { spot.index < length (row self.old.rows spot.block) }
+    pub fn change<C: Change<T>>(&mut self, place: BlockPlace, change: &C)
+        requires block { place.block < length self.old.rows }
+        requires index { place.index < length (row self.old.rows place.block) }
         ensures items { (d : T) → joined self.new.rows
-            ≡ slice_set (joined self.old.rows) (rank self.old.rows spot)
+            ≡ slice_set (joined self.old.rows) (rank self.old.rows place)
             (C.after change.now
-            (slice_index_or (joined self.old.rows) (rank self.old.rows spot) d)) }
+            (slice_index_or (joined self.old.rows) (rank self.old.rows place) d)) }
         ensures spare { self.new.spare ≡ self.old.spare }
     {
-        self.list.change(spot, change);
+        self.list.change(place, change);
     }
 }
 
@@ -391,7 +391,7 @@ impl<T: Drop, F: Fact<T>> RankedList<T, F> {
     }
 
     /// Takes out the items from a place up to before another.
-    pub fn remove_range(&mut self, from: Spot, to: Spot)
+    pub fn remove_range(&mut self, from: BlockPlace, to: BlockPlace)
         requires from { from.block < length self.old.rows }
         requires from_index { from.index < length (row self.old.rows from.block) }
         requires to { to.block < length self.old.rows }

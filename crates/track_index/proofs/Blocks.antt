@@ -2,11 +2,11 @@
 use Rattle.std.proofs.Common.{◌≡◌, ◌∙◌, ℕ, zero, suc, ℤ, pos, ◌+◌, ◌-◌, ◌<◌, ◌≤◌, ◌+ℤ◌, ◌≤ℤ◌, ◌<ℤ◌, Bool, true, false, not, cond, ◌&&◌, ◌||◌, List, [], ◌∷◌, ◌++◌, length, get_or, take, drop, insert, filter, Option, Some, None, refl, sym, ap, subst, inl, inr, ◌⊎◌, arith}
 use Rattle.std.specs.List.{AllByRecursion, list_any}
 use Rattle.std.proofs.lemmas.Int.{ints}
-use Rattle.std.proofs.lemmas.List.{drop_all, take-append-drop, append_assoc, append-nil, length-append}
+use Rattle.std.proofs.lemmas.List.{drop_all, take-append-drop, append_assoc, append-nil}
 use Rattle.mse_base.specs.declared.ticks.Moment.{Moment}
 use Rattle.block_list.specs.Rows.{joined, row, start, AreNonEmpty}
-use Rattle.block_list.specs.Spots.{rank, IsPlace}
-use Rattle.block_list.specs.declared.block_list.Spot.{Spot}
+use Rattle.block_list.specs.BlockPlaces.{rank, IsPlace}
+use Rattle.block_list.specs.declared.block_list.BlockPlace.{BlockPlace}
 use Rattle.block_list.proofs.Joining.{start_more}
 use Rattle.block_list.proofs.Ranging.{take_at, row_count}
 use Rattle.mse_base.specs.Moments.{is_before}
@@ -105,7 +105,7 @@ pub passed_over : (t : ℤ) (os : List OrderEntry) (n : ℕ) → is_ended t (gre
 passed_over t os n e = last_none (entry_covers t) (take n os) (each_take (λ o. entry_covers t o ≡ false) os n (none_covers t os e))
 
 -- in the place's own block and before it
-pub last_at_place : (t m : ℤ) (rows : List (List OrderEntry)) (s : Spot) → m ≡ (t +ℤ pos 1) → s.block < length rows → s.index ≤ length (row rows s.block) → AllByRecursion (λ o. before_key (record { mark = m; serial = 0 }) o ≡ false) (drop (rank rows s) (joined rows)) → last_that (entry_covers t) (joined rows) ≡ or_else (last_that (entry_covers t) (take s.index (row rows s.block))) (last_that (entry_covers t) (joined (take s.block rows)))
+pub last_at_place : (t m : ℤ) (rows : List (List OrderEntry)) (s : BlockPlace) → m ≡ (t +ℤ pos 1) → s.block < length rows → s.index ≤ length (row rows s.block) → AllByRecursion (λ o. before_key (record { mark = m; serial = 0 }) o ≡ false) (drop (rank rows s) (joined rows)) → last_that (entry_covers t) (joined rows) ≡ or_else (last_that (entry_covers t) (take s.index (row rows s.block))) (last_that (entry_covers t) (joined (take s.block rows)))
 last_at_place t m rows s e l k h =
     let late = begin_later t (drop (rank rows s) (joined rows)) (subst (λ (n : ℤ). AllByRecursion (λ o. n ≤ℤ o.pts) (drop (rank rows s) (joined rows))) e (highs m (drop (rank rows s) (joined rows)) h)) in
     sym (last_front (entry_covers t) (joined rows) (rank rows s) late) ∙ ap (last_that (entry_covers t)) (take_at rows s.block s.index l k) ∙ last-append (entry_covers t) (joined (take s.block rows)) (take s.index (row rows s.block))
@@ -155,26 +155,21 @@ no_sync t (o ∷ os) e =
 
 -- ---- the greatest end before a key
 
-pub greatest_before : (key : Key) (rows : List (List OrderEntry)) (s : Spot) (a b : Option ℤ) → s.block < length rows → s.index ≤ length (row rows s.block) → AllByRecursion (λ o. before_key key o ≡ true) (take (rank rows s) (joined rows)) → AllByRecursion (λ o. before_key key o ≡ false) (drop (rank rows s) (joined rows)) → a ≡ greatest_end (joined (take s.block rows)) → b ≡ greatest_end (take s.index (row rows s.block)) → later_end a b ≡ greatest_end (filter (before_key key) (joined rows))
+pub greatest_before : (key : Key) (rows : List (List OrderEntry)) (s : BlockPlace) (a b : Option ℤ) → s.block < length rows → s.index ≤ length (row rows s.block) → AllByRecursion (λ o. before_key key o ≡ true) (take (rank rows s) (joined rows)) → AllByRecursion (λ o. before_key key o ≡ false) (drop (rank rows s) (joined rows)) → a ≡ greatest_end (joined (take s.block rows)) → b ≡ greatest_end (take s.index (row rows s.block)) → later_end a b ≡ greatest_end (filter (before_key key) (joined rows))
 greatest_before key rows s a b l k before after x y =
     ap (λ z. later_end z b) x ∙ ap (later_end (greatest_end (joined (take s.block rows)))) y ∙ sym (greatest-append (joined (take s.block rows)) (take s.index (row rows s.block)))
     ∙ ap greatest_end (sym (take_at rows s.block s.index l k)) ∙ ap greatest_end (sym (filter_front (before_key key) (joined rows) (rank rows s) before after))
 
 -- ---- places
 
-pub item_place : {T : Type 0} (rows : List (List T)) (s : Spot) → IsPlace rows s → rank rows s < length (joined rows) → (s.block < length rows) × (s.index < length (row rows s.block))
+pub item_place : {T : Type 0} (rows : List (List T)) (s : BlockPlace) → IsPlace rows s → rank rows s < length (joined rows) → (s.block < length rows) × (s.index < length (row rows s.block))
 item_place rows s p l = elim (less_cases s.block (length rows)) as (λ _. (s.block < length rows) × (s.index < length (row rows s.block))) [
   | inl a ↦ (a, p.item a)
   | inr b ↦ (let e = p.end b in absurd (omega arith))
 ]
 
-pub rank_within : {T : Type 0} (rows : List (List T)) (s : Spot) → s.block < length rows → s.index < length (row rows s.block) → rank rows s < length (joined rows)
+pub rank_within : {T : Type 0} (rows : List (List T)) (s : BlockPlace) → s.block < length rows → s.index < length (row rows s.block) → rank rows s < length (joined rows)
 rank_within rows s l k = let n = row_count rows s.block l in omega arith
-
-pub length_rows : {T : Type 0} (rows : List (List T)) (b : ℕ) → b ≤ length rows → length (joined (take b rows)) ≡ start rows b
-length_rows rows zero l = refl
-length_rows [] (suc b) l = absurd (omega arith)
-length_rows (r ∷ rows) (suc b) l = omega (arith, length-append r (joined (take b rows)), length_rows rows b (omega arith))
 
 -- of two places with items the one with fewer before it is in no later block, and no further in its own
 start_grows : {T : Type 0} (rows : List (List T)) (a b : ℕ) → a ≤ b → b ≤ length rows → start rows a ≤ start rows b
@@ -184,13 +179,13 @@ start_grows [] (suc a) (suc b) l k = absurd (omega arith)
 start_grows (r ∷ rows) (suc a) zero l k = absurd (omega arith)
 start_grows (r ∷ rows) (suc a) (suc b) l k = omega (arith, start_grows rows a b (omega arith) (omega arith))
 
-pub block_order : {T : Type 0} (rows : List (List T)) (a b : Spot) → a.block < length rows → b.block < length rows → b.index < length (row rows b.block) → rank rows a ≤ rank rows b → a.block ≤ b.block
+pub block_order : {T : Type 0} (rows : List (List T)) (a b : BlockPlace) → a.block < length rows → b.block < length rows → b.index < length (row rows b.block) → rank rows a ≤ rank rows b → a.block ≤ b.block
 block_order rows a b l m k h = elim (less_cases b.block a.block) as (λ _. a.block ≤ b.block) [
   | inr le ↦ le
   | inl lt ↦ (let g = start_grows rows (b.block + 1) a.block (omega arith) (omega arith) in let s = start_more rows b.block m in absurd (omega arith))
 ]
 
-pub index_order : {T : Type 0} (rows : List (List T)) (a b : Spot) → rank rows a ≤ rank rows b → a.block ≡ b.block → a.index ≤ b.index
+pub index_order : {T : Type 0} (rows : List (List T)) (a b : BlockPlace) → rank rows a ≤ rank rows b → a.block ≡ b.block → a.index ≤ b.index
 index_order rows a b h e = let s = ap (start rows) e in omega arith
 
 take_none : {A : Type 0} (n : ℕ) → take {A = A} n [] ≡ []
@@ -254,7 +249,7 @@ begun_all t m [] e h = tt
 begun_all t m (o ∷ os) e h = (begun_by t m o e h.0, begun_all t m os e h.1)
 
 -- the blocks before a place before which all begin by a time
-pub begun_before : (t m : ℤ) (rows : List (List OrderEntry)) (s : Spot) → m ≡ (t +ℤ pos 1) → s.block < length rows → s.index ≤ length (row rows s.block) → AllByRecursion (λ o. before_key (record { mark = m; serial = 0 }) o ≡ true) (take (rank rows s) (joined rows)) → AllByRecursion (λ o. o.pts ≤ℤ t) (joined (take s.block rows))
+pub begun_before : (t m : ℤ) (rows : List (List OrderEntry)) (s : BlockPlace) → m ≡ (t +ℤ pos 1) → s.block < length rows → s.index ≤ length (row rows s.block) → AllByRecursion (λ o. before_key (record { mark = m; serial = 0 }) o ≡ true) (take (rank rows s) (joined rows)) → AllByRecursion (λ o. o.pts ≤ℤ t) (joined (take s.block rows))
 begun_before t m rows s e l k h =
     let each = begun_all t m (take (rank rows s) (joined rows)) e (lows m (take (rank rows s) (joined rows)) h) in
     each_left (λ o. o.pts ≤ℤ t) (joined (take s.block rows)) (take s.index (row rows s.block)) (subst (AllByRecursion (λ o. o.pts ≤ℤ t)) (take_at rows s.block s.index l k) each)

@@ -11,12 +11,14 @@ use Rattle.mse_base.proofs.Extended.{near_parts, near_is}
 use Rattle.mse_base.proofs.Merging.{times_bridged}
 use Rattle.track_store.specs.declared.store.Stored.{Stored}
 use Rattle.track_store.specs.Frames.{IsAscending, IsTimed, has_serial, frames_with_dur, with_dur, ranges_of, intervals}
+use Rattle.track_store.proofs.Soundness.{chained-shortened}
 use Rattle.track_store.proofs.Clearing.{kept-shortened, used-shortened, shortened_at}
 use Rattle.std.proofs.lemmas.Option.{slice_get_read}
 use Rattle.track_index.specs.declared.entry.OrderEntry.{OrderEntry}
 use Rattle.track_index.specs.Order.{put, put_all, entry_of, span_of, ordered, shorter}
 use Rattle.track_index.specs.Repair.{AreBetween}
 use Rattle.track_index.specs.Indexed.{FrameIndex, IsIndexed}
+use Rattle.track_index.proofs.Noting.{syncs-shortened}
 use Rattle.track_index.proofs.Ordering.{each_weaker, each_to_ordered}
 use Rattle.track_index.proofs.Keeping.{near_ordered, ranges_by_order}
 
@@ -191,9 +193,11 @@ indexed_cut fs old ps ss gap dur room next x i h n l at d less t p s =
     let order = order_cut dur x.serial fs old.order ps h.in_order p in
     record {
       kept = kept-shortened x.serial dur fs h.kept;
+      chained = chained-shortened x.serial dur None fs h.chained;
       timed = timed_cut dur x fs i h.kept.ascending l at d t h.timed;
       gap_from_zero = h.gap_from_zero;
       in_order = order;
+      syncs = syncs-shortened old.syncs x.serial dur fs h.syncs;
       joined = s ∙ ap (λ zs. bridged_ranges gap (map span_of zs)) order ∙ ranges_by_order gap (frames_with_dur x.serial dur fs) h.gap_from_zero;
       summed = h.summed ∙ sym (used-shortened x.serial dur fs);
       roomy = let a = length_shortened x.serial dur fs in let b = h.roomy in omega arith;

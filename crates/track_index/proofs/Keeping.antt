@@ -1,5 +1,5 @@
 -- What the store keeps.
-use Rattle.std.proofs.Common.{◌≡◌, ◌∙◌, ℕ, suc, ℤ, pos, ◌+◌, ◌<◌, ◌≤◌, ◌^◌, ◌+ℤ◌, ◌≤ℤ◌, Bool, true, false, cond, ◌||◌, List, [], ◌∷◌, ◌++◌, length, map, refl, sym, ap, subst, arith, int_lt}
+use Rattle.std.proofs.Common.{◌≡◌, ◌∙◌, ℕ, suc, ℤ, pos, ◌+◌, ◌<◌, ◌≤◌, ◌^◌, ◌+ℤ◌, ◌≤ℤ◌, Bool, true, false, cond, ◌||◌, List, [], ◌∷◌, ◌++◌, Option, Some, None, ◌⊎◌, inl, inr, length, map, refl, sym, ap, subst, arith, int_lt}
 use Rattle.std.specs.List.{AllByRecursion}
 use Rattle.std.proofs.lemmas.List.{map_push, length-append}
 use Rattle.std.proofs.lemmas.List.Sums.{sum_by-append, sum_by-cons, fold-append}
@@ -8,11 +8,14 @@ use Rattle.mse_base.specs.Bridging.{ranges_with, bridged_ranges, is_near, is_nea
 use Rattle.mse_base.proofs.Merging.{ranges_bridged, times_bridged}
 use Rattle.mse_base.proofs.Extended.{same_near}
 use Rattle.track_store.specs.declared.store.Stored.{Stored}
-use Rattle.track_store.specs.Frames.{IsKept, IsTimed, bytes_of, interval, intervals, ranges_of, frames_left}
+use Rattle.track_store.specs.Frames.{IsKept, IsTimed, IsAscending, bytes_of, interval, intervals, ranges_of, frames_left}
+use Rattle.track_store.specs.Sound.{HasPredecessor, IsChained, IsSuccessor, last_serial}
+use Rattle.track_store.proofs.Soundness.{chained_push, chained-cleared}
 use Rattle.track_store.proofs.Clearing.{kept_push, kept-cleared, each-cleared, each-push}
 use Rattle.track_index.specs.declared.entry.OrderEntry.{OrderEntry}
 use Rattle.track_index.specs.Order.{put, put_all, entry_of, span_of, ordered}
 use Rattle.track_index.specs.Repair.{AreTimed}
+use Rattle.track_index.specs.Syncs.{IsToldBy, AreSyncsOf}
 use Rattle.track_index.specs.Indexed.{FrameIndex, IsIndexed}
 use Rattle.track_index.proofs.Ordering.{each_to_ordered, ordered_push}
 
@@ -21,12 +24,30 @@ use Rattle.track_index.proofs.Ordering.{each_to_ordered, ordered_push}
 join_push : (gap : ℤ) (fs : List Stored) (x : Stored) → ranges_of gap (fs ++ x ∷ []) ≡ ranges_with gap (ranges_of gap fs) (interval x)
 join_push gap fs x = ap (bridged_ranges gap) (map_push interval fs x) ∙ fold-append (ranges_with gap) [] (intervals fs) (interval x ∷ [])
 
-pub indexed_added : (fs hs : List Stored) (old new : FrameIndex) (gap : ℤ) (room next : ℕ) (x : Stored) → IsIndexed fs old gap room → length fs + 1 ≤ next → AllByRecursion (λ f. f.serial < x.serial) fs → IsTimed x → bytes_of fs + length x.frame.payload < 2 ^ 62 → hs ≡ fs ++ x ∷ [] → new.order ≡ put (entry_of x) old.order → new.ranges ≡ ranges_with gap old.ranges (interval x) → new.total ≡ old.total + length x.frame.payload → IsIndexed hs new gap next
-indexed_added fs hs old new gap room next x h r l t s eh ep es en = record {
+before_last : (before : Option ℕ) (serial : ℕ) (f : Stored) (fs : List Stored) → AllByRecursion (λ g. f.serial < g.serial) fs → AllByRecursion (λ g. g.serial < serial) fs → f.serial + 1 ≡ serial → IsSuccessor (last_serial before (f ∷ fs)) serial
+before_last before serial f [] up low e = e
+before_last before serial f (g ∷ fs) up low e = let a = up.0 in let b = low.0 in absurd (omega arith)
+
+-- a frame whose predecessor is held, and all others are below it, comes behind the last
+behind_last : (before : Option ℕ) (serial : ℕ) (fs : List Stored) → IsAscending fs → AllByRecursion (λ g. g.serial < serial) fs → HasPredecessor serial fs → IsSuccessor (last_serial before fs) serial
+behind_last before serial [] up low h = absurd h
+behind_last before serial (f ∷ fs) up low h = elim h as (λ _. IsSuccessor (last_serial before (f ∷ fs)) serial) [
+  | inl own ↦ before_last before serial f fs up.0 low.1 own
+  | inr rest ↦ behind_last (Some f.serial) serial fs up.1 low.1 rest
+]
+
+chain_link : (fs : List Stored) (x : Stored) (b : Bool) → x.frame.sync ≡ b → IsAscending fs → AllByRecursion (λ f. f.serial < x.serial) fs → (x.frame.sync ≡ false → HasPredecessor x.serial fs) → (x.frame.sync ≡ true) ⊎ IsSuccessor (last_serial None fs) x.serial
+chain_link fs x true e up l link = inl e
+chain_link fs x false e up l link = inr (behind_last None x.serial fs up l (link e))
+
+pub indexed_added : (fs hs : List Stored) (old new : FrameIndex) (gap : ℤ) (room next : ℕ) (x : Stored) → IsIndexed fs old gap room → length fs + 1 ≤ next → AllByRecursion (λ f. f.serial < x.serial) fs → IsTimed x → bytes_of fs + length x.frame.payload < 2 ^ 62 → (x.frame.sync ≡ false → HasPredecessor x.serial fs) → AreSyncsOf (fs ++ x ∷ []) new.syncs → hs ≡ fs ++ x ∷ [] → new.order ≡ put (entry_of x) old.order → new.ranges ≡ ranges_with gap old.ranges (interval x) → new.total ≡ old.total + length x.frame.payload → IsIndexed hs new gap next
+indexed_added fs hs old new gap room next x h r l t s link syncs eh ep es en = record {
   kept = subst (λ (zs : List Stored). IsKept zs) (sym eh) (kept_push fs x h.kept l s);
+  chained = subst (λ (zs : List Stored). IsChained None zs) (sym eh) (chained_push None fs x h.chained (chain_link fs x x.frame.sync refl h.kept.ascending l link));
   timed = subst (λ (zs : List Stored). AllByRecursion IsTimed zs) (sym eh) (each-push IsTimed fs x h.timed t);
   gap_from_zero = h.gap_from_zero;
   in_order = ep ∙ ap (put (entry_of x)) h.in_order ∙ sym (ordered_push fs x) ∙ ap ordered (sym eh);
+  syncs = subst (λ (zs : List Stored). AreSyncsOf zs new.syncs) (sym eh) syncs;
   joined = es ∙ ap (λ qs. ranges_with gap qs (interval x)) h.joined ∙ sym (join_push gap fs x) ∙ ap (ranges_of gap) (sym eh);
   summed = let a = h.summed in let b = sum_by-append (λ f. length f.frame.payload) fs (x ∷ []) in let c = sum_by-cons (λ f. length f.frame.payload) x [] in let d : bytes_of [] ≡ 0 = refl in let e = ap bytes_of eh in omega arith;
   roomy = let a = length-append fs (x ∷ []) in let b : length (x ∷ []) ≡ 1 = refl in let e = ap length eh in omega arith;
@@ -79,12 +100,17 @@ length_pick true f xs ys n p q = omega arith
 length_pick false f xs ys n p q = omega arith
 
 -- what the store keeps where frames went
-pub indexed_removed : (named : Stored → Bool) (fs gs : List Stored) (old new : FrameIndex) (gap : ℤ) (room next : ℕ) → IsIndexed fs old gap room → room ≤ next → length gs ≤ length fs → gs ≡ frames_left false named fs → new.order ≡ ordered gs → new.ranges ≡ bridged_ranges gap (map span_of new.order) → new.total ≡ bytes_of gs → IsIndexed gs new gap next
-indexed_removed named fs gs old new gap room next h n m g o s l = record {
+pub indexed_removed : (named : Stored → Bool) (fs gs : List Stored) (old new : FrameIndex) (gap : ℤ) (room next : ℕ) → IsIndexed fs old gap room → room ≤ next → length gs ≤ length fs → gs ≡ frames_left false named fs → new.syncs ≡ old.syncs → new.order ≡ ordered gs → new.ranges ≡ bridged_ranges gap (map span_of new.order) → new.total ≡ bytes_of gs → IsIndexed gs new gap next
+indexed_removed named fs gs old new gap room next h n m g k o s l = record {
   kept = subst (λ (zs : List Stored). IsKept zs) (sym g) (kept-cleared false named fs h.kept);
+  chained = subst (λ (zs : List Stored). IsChained None zs) (sym g) (chained-cleared named false None None fs (λ e. refl) h.chained);
   timed = subst (λ (zs : List Stored). AllByRecursion IsTimed zs) (sym g) (each-cleared IsTimed false named fs h.timed);
   gap_from_zero = h.gap_from_zero;
   in_order = o;
+  syncs = rw k (record {
+    ascending = h.syncs.ascending;
+    telling = subst (λ (zs : List Stored). AllByRecursion (IsToldBy old.syncs) zs) (sym g) (each-cleared (IsToldBy old.syncs) false named fs h.syncs.telling);
+  });
   joined = s ∙ ap (λ zs. bridged_ranges gap (map span_of zs)) o ∙ ranges_by_order gap gs h.gap_from_zero;
   summed = l;
   roomy = let c = h.roomy in omega arith;

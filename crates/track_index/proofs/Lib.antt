@@ -14,3 +14,5 @@ pub mod Preceding
 pub mod Framing
 pub mod Nexts
 pub mod Highest
+pub mod Noting
+pub mod Grouping

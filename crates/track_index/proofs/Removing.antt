@@ -9,8 +9,8 @@ use Rattle.mse_base.specs.Bridging.{is_near_any}
 use Rattle.mse_base.proofs.Carving.{nears-append}
 use Rattle.mse_base.proofs.Merging.{times_bridged}
 use Rattle.block_list.specs.Rows.{row, IsCut}
-use Rattle.block_list.specs.Spots.{IsPlace}
-use Rattle.block_list.specs.declared.block_list.Spot.{Spot}
+use Rattle.block_list.specs.BlockPlaces.{IsPlace}
+use Rattle.block_list.specs.declared.block_list.BlockPlace.{BlockPlace}
 use Rattle.track_store.specs.declared.store.Stored.{Stored}
 use Rattle.track_store.specs.Frames.{IsAscending, has_serial, bytes_of, from_sync, frames_left, interval, intervals, ranges_of}
 use Rattle.track_store.proofs.Clearing.{cleared-goes}
@@ -270,7 +270,7 @@ each_at P [] i d l h = absurd (omega arith)
 each_at P (f ∷ fs) zero d l h = h.0
 each_at P (f ∷ fs) (suc i) d l h = each_at P fs i d (omega arith) h.1
 
-pub first_place : {T : Type 0} (rows : List (List T)) (s : Spot) → s.block < length rows → s.index < length (row rows s.block) → IsPlace rows s
+pub first_place : {T : Type 0} (rows : List (List T)) (s : BlockPlace) → s.block < length rows → s.index < length (row rows s.block) → IsPlace rows s
 first_place rows s l k = record { item = λ _. k; end = λ h. absurd (omega arith) }
 
 pub run_next : (fs : List Stored) (i count n : ℕ) (x : Stored) → i + count ≤ length fs → n < count → x ≡ get_or fs (i + n) x → drop n (take count (drop i fs)) ≡ x ∷ drop (n + 1) (take count (drop i fs))

@@ -5,32 +5,38 @@ use Rattle.mse_base.specs.declared.ticks.Moment.{Moment}
 use Rattle.mse_base.specs.declared.span.Span.{Span}
 use Rattle.track_store.specs.declared.store.Stored.{Stored}
 use Rattle.track_store.specs.Frames.{IsKept, IsTimed, has_serial, bytes_of, ranges_of}
+use Rattle.track_store.specs.Sound.{IsChained}
 use Rattle.track_index.specs.declared.entry.OrderEntry.{OrderEntry}
 use Rattle.track_index.specs.declared.key.Key.{Key}
 use Rattle.track_index.specs.Order.{ordered, entry_of}
 use Rattle.track_index.specs.Keyed.{before_key, key_of, entry_named}
+use Rattle.track_index.specs.Syncs.{AreSyncsOf}
 
--- what is kept beside the frames: their order of presentation, their ranges, and their bytes
+-- what is kept beside the frames: their order of presentation, serials of random access points, their
+-- ranges, and their bytes
 pub record FrameIndex : Type 0 where
   pub order : List OrderEntry
+  pub syncs : List ℕ
   pub ranges : List Span
   pub total : ℕ
 
--- all that is kept beside the frames is what it is of the frames, and there is room for one range
--- a frame
+-- all that is kept beside the frames is what it is of the frames, each of which can be decoded after the
+-- one before it, and there is room for one range a frame
 pub record IsIndexed (frames : List Stored) (index : FrameIndex) (gap : ℤ) (room : ℕ)
     : Type 0 where
   pub kept : IsKept frames
+  pub chained : IsChained None frames
   pub timed : AllByRecursion IsTimed frames
   pub gap_from_zero : pos 0 ≤ℤ gap
   pub in_order : index.order ≡ ordered frames
+  pub syncs : AreSyncsOf frames index.syncs
   pub joined : index.ranges ≡ ranges_of gap frames
   pub summed : index.total ≡ bytes_of frames
   pub roomy : length frames ≤ room
 
 -- for how many more frames there is room, where each list has room for so many more
-abbrev pub least_room : ℕ → ℕ → ℕ → ℕ
-least_room items order ranges = min (min items order) ranges
+abbrev pub least_room : ℕ → ℕ → ℕ → ℕ → ℕ
+least_room items order syncs ranges = min (min (min items order) syncs) ranges
 
 -- whether the frame is not before the key, and named: it begins before a moment, and its serial is below a number
 abbrev pub is_next : Key → Moment → ℕ → Stored → Bool

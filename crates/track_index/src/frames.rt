@@ -1,44 +1,34 @@
 //! The frames of a store in order of appending, in blocks.
 
-ghost use Rattle.std.specs.Prelude.{◌≡◌, ◌+◌, ◌<◌, ◌≤◌, ◌||◌, nat_lt, length, take, drop, IfSome};
+ghost use Rattle.std.specs.Prelude.{◌≡◌, ◌+◌, ◌<◌, ◌≤◌, length, take, drop, IfSome, None};
 ghost use Rattle.std.specs.List.{AllByRecursion, list_any, position};
-ghost use Rattle.track_store.specs.Frames.{IsAscending, has_serial, from_sync, last_place, group_start_of};
+ghost use Rattle.track_store.specs.Frames.{IsAscending, has_serial, from_sync, group_start_of};
+ghost use Rattle.track_store.specs.Sound.{IsChained};
 ghost use Rattle.block_list.specs.Rows.{joined, row};
-ghost use Rattle.block_list.specs.Spots.{rank, IsPlace};
-ghost use Rattle.track_index.specs.Frames.{IsSyncAt};
+ghost use Rattle.block_list.specs.BlockPlaces.{rank, IsPlace};
+ghost use Rattle.track_index.specs.Syncs.{AreSyncsOf};
 
-use crate::known::either;
-use block_list::{Change, Fact, RankedList, Spot, Test};
+use crate::syncs::last_up_to;
+use block_list::{BlockPlace, Change, Fact, RankedList, Test};
 use mse_base::Ticks;
 use track_store::Stored;
 
-/// Whether there is a random access point among some frames.
+/// Nothing is asked of the frames of a block.
 #[derive(Drop)]
-pub(crate) struct SyncKnown {
-    pub(crate) sync: bool,
-}
+pub(crate) struct NoFact {}
 
 /// Frames in blocks.
-pub(crate) type Frames = RankedList<Stored, SyncKnown>;
+pub(crate) type Frames = RankedList<Stored, NoFact>;
 
-impl Fact<Stored> for SyncKnown {
-    ghost use Rattle.track_index.specs.Frames.{sync_known};
+impl Fact<Stored> for NoFact {
+    ghost of = { λ _. record {} };
 
-    ghost of = { sync_known };
-
-    fn of(items: &[Stored]) -> SyncKnown {
-        for stored in items {
-            if stored.frame.sync {
-                return SyncKnown { sync: true };
-            }
-        }
-        SyncKnown { sync: false }
+    fn of(_items: &[Stored]) -> NoFact {
+        NoFact {}
     }
 
-    fn with(&self, x: &Stored) -> SyncKnown {
-        SyncKnown {
-            sync: either(self.sync, x.frame.sync),
-        }
+    fn with(&self, _x: &Stored) -> NoFact {
+        NoFact {}
     }
 }
 
@@ -75,7 +65,7 @@ impl Change<Stored> for NewDuration {
 }
 
 /// The place of the first frame whose serial is not lower.
-pub(crate) fn place_below(frames: &Frames, serial: u64) -> Spot
+pub(crate) fn place_below(frames: &Frames, serial: u64) -> BlockPlace
     requires { IsAscending (joined frames.now.rows) }
     ensures place { IsPlace frames.now.rows result }
     ensures before { AllByRecursion (λ f. f.serial < serial)
@@ -84,10 +74,10 @@ pub(crate) fn place_below(frames: &Frames, serial: u64) -> Spot
         (drop (rank frames.now.rows result) (joined frames.now.rows)) }
 {
     if frames.blocks() == 0 {
-        return Spot { block: 0, index: 0 };
+        return BlockPlace { block: 0, index: 0 };
     }
-    let spot = frames.search(&SerialBelow { serial });
-    frames.at_item(spot)
+    let place = frames.search(&SerialBelow { serial });
+    frames.at_item(place)
 }
 
 /// The place of a frame by its serial.
@@ -96,94 +86,55 @@ pub(crate) fn place_of(frames: &Frames, serial: u64) -> Option<usize>
     ensures place { result ≡ position (has_serial serial) (joined frames.now.rows) }
     ensures in_range { IfSome result (λ i. i < length (joined frames.now.rows)) }
 {
-    let spot = place_below(frames, serial);
-    if spot.block >= frames.blocks() {
+    let place = place_below(frames, serial);
+    if place.block >= frames.blocks() {
         return None;
     }
-    if frames.item(spot).serial == serial {
-        Some(frames.rank(spot))
+    if frames.item(place).serial == serial {
+        Some(frames.rank(place))
     } else {
         None
     }
 }
 
-/// The place of the last random access point among the first `count` frames of a block.
-fn last_sync(items: &[Stored], count: usize) -> Option<usize>
-    requires { count ≤ length items.now }
-    ensures place { result ≡ last_place (λ f. f.frame.sync) (take count items.now) }
-    ensures in_range { IfSome result (λ i. i < count) }
+/// Whether a frame of a serial is held.
+pub(crate) fn is_held(frames: &Frames, serial: u64) -> bool
+    requires { IsAscending (joined frames.now.rows) }
+    ensures { result ≡ list_any (has_serial serial) (joined frames.now.rows) }
 {
-    let mut i = count;
-    while i > 0 {
-        i -= 1;
-        if items[i].frame.sync {
-            return Some(i);
-        }
-    }
-    None
+    place_of(frames, serial).is_some()
 }
 
-/// The place of the last random access point of a block: no frame is looked at where it has none.
-fn sync_in(frames: &Frames, b: usize) -> Option<usize>
-    requires { b < length frames.now.rows }
-    ensures place { result ≡ last_place (λ f. f.frame.sync) (row frames.now.rows b) }
-    ensures in_range { IfSome result (λ i. i < length (row frames.now.rows b)) }
-{
-    if !frames.fact(b).sync {
-        return None;
-    }
-    let items = frames.block(b);
-    last_sync(items, items.len())
-}
-
-/// The place of the last random access point of the first `from` blocks: blocks without one are
-/// passed whole.
-fn last_sync_before(frames: &Frames, from: usize) -> Option<Spot>
-    requires { from ≤ length frames.now.rows }
-    ensures { IsSyncAt frames.now.rows from result }
-{
-    let mut b = from;
-    while b > 0 {
-        b -= 1;
-        match sync_in(frames, b) {
-            Some(index) => return Some(Spot { block: b, index }),
-            None => {}
-        }
-    }
-    None
-}
-
-/// The place of the last random access point at or before a place.
-pub(crate) fn group_start(frames: &Frames, i: usize) -> Option<usize>
+/// The place of the last random access point at or before a place: that of the greatest of their
+/// serials which is not above that of the frame there. The group of a frame is whole, so the frame
+/// of that serial is held.
+pub(crate) fn group_start(frames: &Frames, syncs: &[u64], i: usize) -> Option<usize>
+    requires ascending { IsAscending (joined frames.now.rows) }
+    requires chained { IsChained None (joined frames.now.rows) }
+    requires syncs { AreSyncsOf (joined frames.now.rows) syncs.now }
     ensures { result ≡ group_start_of i (joined frames.now.rows) }
 {
     let len = frames.len();
     if len == 0 {
         return None;
     }
-    let place = if i < len { i } else { len - 1 };
-    let spot = frames.place(place);
-    match last_sync(frames.block(spot.block), spot.index + 1) {
-        Some(index) => Some(frames.rank(Spot {
-            block: spot.block,
-            index,
-        })),
-        None => match last_sync_before(frames, spot.block) {
-            Some(start) => Some(frames.rank(start)),
-            None => None,
-        },
+    let number = if i < len { i } else { len - 1 };
+    let place = frames.place(number);
+    match last_up_to(syncs, frames.item(place).serial) {
+        Some(start) => place_of(frames, start),
+        None => None,
     }
 }
 
 /// Some frames that stand side by side: the place of the last, and how many.
 #[derive(Clone, Copy)]
 pub(crate) struct RemovedRun {
-    pub(crate) last: Spot,
+    pub(crate) last: BlockPlace,
     pub(crate) count: usize,
 }
 
 /// A frame with those appended after it up to the next random access point.
-pub(crate) fn run_from(frames: &Frames, from: Spot) -> RemovedRun
+pub(crate) fn run_from(frames: &Frames, from: BlockPlace) -> RemovedRun
     requires block { from.block < length frames.now.rows }
     requires index { from.index < length (row frames.now.rows from.block) }
     ensures block { result.last.block < length frames.now.rows }
@@ -212,6 +163,6 @@ pub(crate) fn run_from(frames: &Frames, from: Spot) -> RemovedRun
 /// Some frames that stand side by side: the place of the first, and how many.
 #[derive(Clone, Copy)]
 pub(crate) struct Stretch {
-    pub(crate) from: Spot,
+    pub(crate) from: BlockPlace,
     pub(crate) count: usize,
 }

@@ -2,7 +2,7 @@ ghost use Rattle.std.specs.Prelude.{◌≡◌, ◌+◌, ◌<◌, ◌≤◌, ◌�
 ghost use Rattle.std.specs.List.{AllByRecursion, list_any};
 ghost use Rattle.mse_base.specs.Spans.{IsBridging};
 ghost use Rattle.block_list.specs.Rows.{joined, row};
-ghost use Rattle.block_list.specs.Spots.{rank};
+ghost use Rattle.block_list.specs.BlockPlaces.{rank};
 ghost use Rattle.track_store.specs.Frames.{frames_without, IsAscending, has_serial, intervals, ranges_of, bytes_of};
 ghost use Rattle.track_index.specs.Order.{ordered};
 ghost use Rattle.track_index.specs.Indexed.{IsNextKey};
@@ -13,7 +13,8 @@ use crate::key::Key;
 use crate::mark::TimeMark;
 use crate::order::Order;
 use crate::repair::{mend, mend_run};
-use block_list::{RankedList, Spot};
+use crate::syncs::{make_room, note};
+use block_list::{BlockPlace, RankedList};
 use mse_base::{Moment, OutOfMemory, Ranges, Span, Ticks};
 use std::alloc::Global;
 use std::marker::Model;
@@ -26,16 +27,21 @@ const HALF: usize = 64;
 ///
 /// It keeps the frames in order of appending and, by serial, in order of presentation, both in
 /// blocks of at most 128; of each block of that order the greatest end, that of all entries up to
-/// its last, and whether it has a random access point; and the ranges. Only `reserve` and
-/// `copy_ranges` take memory.
+/// its last, and whether it has a random access point; the serials of the random access points;
+/// and the ranges. Only `reserve` and `copy_ranges` take memory.
 ///
 /// A call costs a search, work within one or two blocks, and at worst one look at what is known of
 /// each block; a removal costs that for each frame that goes; `add`, `cut` and removals move the
-/// ranges behind theirs, which are repaired near the hole alone.
+/// ranges behind theirs, which are repaired near the hole alone. The group of a frame is found by
+/// searches alone. A removal leaves the serials of random access points as they are; those of
+/// frames that are gone are dropped by `add` of a lower one, and by `reserve` where all are twice as
+/// many as the frames and 64 more.
 #[derive(Drop)]
 pub struct IndexStore {
     pub(crate) items: Frames,
     pub(crate) order: Order,
+    /// The serials of all random access points held, ascending, and perhaps of some that are gone.
+    pub(crate) syncs: Vec<u64>,
     pub(crate) ranges: Ranges,
     /// The bytes of all payloads.
     pub(crate) total: u64,
@@ -43,7 +49,7 @@ pub struct IndexStore {
 }
 
 impl Model for IndexStore {
-    ghost use Rattle.std.specs.Prelude.{◌-◌, ◌+◌, length};
+    ghost use Rattle.std.specs.Prelude.{◌-◌, ◌+◌, length, vec_len, vec_capacity};
     ghost use Rattle.block_list.specs.Rows.{joined};
     ghost use Rattle.track_store.specs.Frames.{StoreState};
     ghost use Rattle.track_index.specs.Indexed.{IsIndexed, least_room};
@@ -54,11 +60,13 @@ impl Model for IndexStore {
       frames = joined s.items.rows;
       gap = s.gap;
       spare = least_room s.items.spare s.order.spare
+          (vec_capacity s.syncs - vec_len s.syncs)
           ((s.ranges.spare + length s.ranges.spans) - length (joined s.items.rows));
     } };
 
     ghost invariant = { λ s. IsIndexed (joined s.items.rows) (record {
       order = joined s.order.rows;
+      syncs = s.syncs.items;
       ranges = s.ranges.spans;
       total = s.total;
     }) s.gap (s.ranges.spare + length s.ranges.spans) };
@@ -83,12 +91,12 @@ fn take_run_out(order: &mut Order, frames: &Frames, run: Stretch, total: u64) ->
     ensures spare { order.old.spare ≤ order.new.spare }
 {
     let mut bytes_left = total;
-    let mut spot = run.from;
+    let mut place = run.from;
     for n in 0..run.count {
-        let stored = frames.item(spot);
+        let stored = frames.item(place);
         order.take_out(stored.frame.pts, stored.serial);
         bytes_left -= stored.frame.payload.len() as u64;
-        spot = frames.next(spot);
+        place = frames.next(place);
     }
     bytes_left
 }
@@ -105,6 +113,7 @@ impl IndexStore {
         IndexStore {
             items: RankedList::new(alloc, half),
             order: Order::new(alloc, half),
+            syncs: Vec::new(alloc),
             ranges: Ranges::new(alloc),
             total: 0,
             gap: tolerance,
@@ -146,7 +155,7 @@ impl IndexStore {
         );
         // A block has few items, so the place behind one is a number.
         let _few = self.items.block(run.last.block);
-        let to = Spot {
+        let to = BlockPlace {
             block: run.last.block,
             index: run.last.index + 1,
         };
@@ -188,6 +197,7 @@ impl FrameStore for IndexStore {
     fn reserve(&mut self, n: usize) -> Result<(), OutOfMemory> {
         self.items.reserve(n)?;
         self.order.reserve(n)?;
+        make_room(&mut self.syncs, &self.items, n)?;
         let more = match n.checked_add(2) {
             Some(more) => more,
             None => return Err(OutOfMemory),
@@ -204,6 +214,7 @@ impl FrameStore for IndexStore {
         self.ranges.add_span(span_of(&entry), self.gap);
         self.total += frame.frame.payload.len() as u64;
         self.order.put(entry);
+        note(&mut self.syncs, &frame);
         self.items.push(frame);
     }
 
@@ -215,8 +226,8 @@ impl FrameStore for IndexStore {
         if i >= self.items.len() {
             return None;
         }
-        let spot = self.items.place(i);
-        Some(self.items.item(spot))
+        let place = self.items.place(i);
+        Some(self.items.item(place))
     }
 
     fn place_of(&self, serial: u64) -> Option<usize> {
@@ -224,12 +235,12 @@ impl FrameStore for IndexStore {
     }
 
     fn group_start(&self, i: usize) -> Option<usize> {
-        group_start(&self.items, i)
+        group_start(&self.items, self.syncs.as_slice(), i)
     }
 
     fn cut(&mut self, i: usize, dur: Ticks) {
-        let spot = self.items.place(i);
-        let entry = entry_of(self.items.item(spot));
+        let place = self.items.place(i);
+        let entry = entry_of(self.items.item(place));
         // A Ticks is in range, so the frame still ends at one.
         let _begins = entry.pts.get();
         let hole = Span {
@@ -238,12 +249,12 @@ impl FrameStore for IndexStore {
         };
         self.order.shorten(entry.pts, entry.serial, dur);
         mend(&mut self.ranges, &self.order, hole, self.gap);
-        self.items.change(spot, &NewDuration { dur });
+        self.items.change(place, &NewDuration { dur });
     }
 
     fn remove_at(&mut self, i: usize) {
-        let spot = self.items.place(i);
-        let serial = self.items.item(spot).serial;
+        let place = self.items.place(i);
+        let serial = self.items.item(place).serial;
         self.remove_serial(serial);
     }
 
@@ -266,6 +277,14 @@ impl FrameStore for IndexStore {
 
     fn span_holding(&self, t: Ticks) -> Option<Span> {
         self.ranges.holding(t)
+    }
+
+    fn first_span_after(&self, t: Ticks) -> Option<Span> {
+        self.ranges.first_after(t)
+    }
+
+    fn last_span_before(&self, t: Ticks) -> Option<Span> {
+        self.ranges.last_before(t)
     }
 
     fn last_span(&self) -> Option<Span> {

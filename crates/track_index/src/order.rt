@@ -5,7 +5,7 @@ ghost use Rattle.std.specs.List.{AllByRecursion, list_all, list_any};
 ghost use Rattle.mse_base.specs.Time.{IsTick};
 ghost use Rattle.mse_base.specs.Moments.{is_before};
 ghost use Rattle.block_list.specs.Rows.{joined, row, start};
-ghost use Rattle.block_list.specs.Spots.{rank, IsPlace};
+ghost use Rattle.block_list.specs.BlockPlaces.{rank, IsPlace};
 ghost use Rattle.track_index.specs.Order.{put, entry_covers, end_of, span_of, last_that, first_start, is_sync_from, last_start, shorter, is_ended};
 ghost use Rattle.track_index.specs.Keyed.{before_key, IsKeyed, IsFound, entry_named, has_entry_serial, Names};
 ghost use Rattle.track_index.specs.Known.{greatest_end};
@@ -16,7 +16,7 @@ use crate::key::Key;
 use crate::known::{Known, end_mark, greatest_end, later_end};
 use crate::mark::TimeMark;
 use crate::tops::{refresh, refresh_with, top_before};
-use block_list::{BlockList, Spot, Test, search};
+use block_list::{BlockList, BlockPlace, Test, search};
 use mse_base::{Moment, OutOfMemory, Ticks};
 use std::alloc::Global;
 use std::marker::Model;
@@ -45,7 +45,7 @@ impl Model for Order {
 }
 
 /// The place of the entry of a serial.
-fn place_of(list: &BlockList<OrderEntry, Known>, pts: Ticks, serial: u64) -> Spot
+fn place_of(list: &BlockList<OrderEntry, Known>, pts: Ticks, serial: u64) -> BlockPlace
     requires keyed { IsKeyed (joined list.now.rows) }
     requires own { AllByRecursion (λ o. o.serial ≡ serial → o.pts ≡ pts) (joined list.now.rows) }
     requires held { list_any (has_entry_serial serial) (joined list.now.rows) ≡ true }
@@ -57,8 +57,8 @@ fn place_of(list: &BlockList<OrderEntry, Known>, pts: Ticks, serial: u64) -> Spo
         mark: TimeMark::at(pts),
         serial,
     };
-    let spot = search(list, &key);
-    list.at_item(spot)
+    let place = search(list, &key);
+    list.at_item(place)
 }
 
 /// The last entry of some that holds a time; each that is looked at is counted.
@@ -155,7 +155,7 @@ fn last_in_blocks(
 }
 
 /// A place of a block before which all entries begin before a moment.
-fn spot_from(list: &BlockList<OrderEntry, Known>, t: &Moment) -> Spot
+fn place_from(list: &BlockList<OrderEntry, Known>, t: &Moment) -> BlockPlace
     requires keyed { IsKeyed (joined list.now.rows) }
     requires some { 0 < length list.now.rows }
     ensures block { result.block < length list.now.rows }
@@ -165,7 +165,7 @@ fn spot_from(list: &BlockList<OrderEntry, Known>, t: &Moment) -> Spot
 {
     match t {
         Moment::At(t) => search(list, &Key::at(TimeMark::at(*t))),
-        _ => Spot { block: 0, index: 0 },
+        _ => BlockPlace { block: 0, index: 0 },
     }
 }
 
@@ -233,10 +233,10 @@ impl Order {
             refresh(&mut self.tops, &self.list, 0);
             return;
         }
-        let spot = search(&self.list, &key);
+        let place = search(&self.list, &key);
         let end = end_mark(&entry);
-        self.list.insert(spot, entry);
-        refresh_with(&mut self.tops, &self.list, spot.block, end);
+        self.list.insert(place, entry);
+        refresh_with(&mut self.tops, &self.list, place.block, end);
     }
 
     /// Takes out the entry of a serial, which begins at `pts`.
@@ -249,9 +249,9 @@ impl Order {
             ≡ filter (λ o. not (has_entry_serial serial o)) (joined self.old.rows) }
         ensures spare { self.old.spare ≤ self.new.spare }
     {
-        let spot = place_of(&self.list, pts, serial);
-        self.list.remove(spot);
-        refresh(&mut self.tops, &self.list, spot.block);
+        let place = place_of(&self.list, pts, serial);
+        self.list.remove(place);
+        refresh(&mut self.tops, &self.list, place.block);
     }
 
     /// Gives the entry of a serial, which begins at `pts`, another duration.
@@ -263,16 +263,16 @@ impl Order {
         ensures items { joined self.new.rows ≡ map (shorter serial dur) (joined self.old.rows) }
         ensures spare { self.old.spare ≤ self.new.spare }
     {
-        let spot = place_of(&self.list, pts, serial);
-        let entry = *self.list.item(spot);
+        let place = place_of(&self.list, pts, serial);
+        let entry = *self.list.item(place);
         let shorter = OrderEntry {
             pts: entry.pts,
             dur,
             serial: entry.serial,
             sync: entry.sync,
         };
-        self.list.set(spot, shorter);
-        refresh(&mut self.tops, &self.list, spot.block);
+        self.list.set(place, shorter);
+        refresh(&mut self.tops, &self.list, place.block);
     }
 
     /// The last entry that holds a time.
@@ -286,10 +286,10 @@ impl Order {
         if self.list.blocks() == 0 {
             return None;
         }
-        let spot = search(&self.list, &key);
-        match look(&self.list, spot.block, spot.index, t, visits) {
+        let place = search(&self.list, &key);
+        match look(&self.list, place.block, place.index, t, visits) {
             Some(entry) => Some(entry),
-            None => last_in_blocks(&self.list, &self.tops, spot.block, t, visits),
+            None => last_in_blocks(&self.list, &self.tops, place.block, t, visits),
         }
     }
 
@@ -301,11 +301,11 @@ impl Order {
         if self.list.blocks() == 0 {
             return None;
         }
-        let spot = spot_from(&self.list, t);
-        let items = self.list.block(spot.block);
-        match first_sync(&items[spot.index..], t) {
+        let place = place_from(&self.list, t);
+        let items = self.list.block(place.block);
+        match first_sync(&items[place.index..], t) {
             Some(pts) => Some(pts),
-            None => sync_in_blocks(&self.list, spot.block + 1, t),
+            None => sync_in_blocks(&self.list, place.block + 1, t),
         }
     }
 
@@ -320,7 +320,7 @@ impl Order {
         // No block is empty.
         let _spare = self.list.spare();
         let index = self.list.block(n - 1).len() - 1;
-        let entry = self.list.item(Spot {
+        let entry = self.list.item(BlockPlace {
             block: n - 1,
             index,
         });
@@ -342,14 +342,14 @@ impl Order {
         if self.list.blocks() == 0 {
             return None;
         }
-        let spot = search(&self.list, key);
-        let items = self.list.block(spot.block);
-        let within = greatest_end(&items[..spot.index]);
-        later_end(top_before(&self.tops, &self.list, spot.block), within)
+        let place = search(&self.list, key);
+        let items = self.list.block(place.block);
+        let within = greatest_end(&items[..place.index]);
+        later_end(top_before(&self.tops, &self.list, place.block), within)
     }
 
     /// The place of the first entry that does not stand before a key.
-    pub(crate) fn place_at(&self, key: &Key) -> Spot
+    pub(crate) fn place_at(&self, key: &Key) -> BlockPlace
         requires keyed { IsKeyed (joined self.now.rows) }
         ensures place { IsPlace self.now.rows result }
         ensures before { AllByRecursion (λ o. before_key key.now o ≡ true)
@@ -358,20 +358,20 @@ impl Order {
             (drop (rank self.now.rows result) (joined self.now.rows)) }
     {
         if self.list.blocks() == 0 {
-            return Spot { block: 0, index: 0 };
+            return BlockPlace { block: 0, index: 0 };
         }
-        let spot = search(&self.list, key);
-        self.list.at_item(spot)
+        let place = search(&self.list, key);
+        self.list.at_item(place)
     }
 
     /// The place of the first entry.
-    pub(crate) fn start(&self) -> Spot
+    pub(crate) fn start(&self) -> BlockPlace
         ensures place { IsPlace self.now.rows result }
         ensures rank { rank self.now.rows result ≡ 0 }
     {
         // No block is empty.
         let _spare = self.list.spare();
-        Spot { block: 0, index: 0 }
+        BlockPlace { block: 0, index: 0 }
     }
 
     /// How many blocks there are.
@@ -382,22 +382,22 @@ impl Order {
     }
 
     /// The entry at a place.
-    pub(crate) fn entry(&self, spot: Spot) -> OrderEntry
-        requires block { spot.block < length self.now.rows }
-        requires index { spot.index < length (row self.now.rows spot.block) }
-        ensures { result ≡ slice_index_or (joined self.now.rows) (rank self.now.rows spot) result }
+    pub(crate) fn entry(&self, place: BlockPlace) -> OrderEntry
+        requires block { place.block < length self.now.rows }
+        requires index { place.index < length (row self.now.rows place.block) }
+        ensures { result ≡ slice_index_or (joined self.now.rows) (rank self.now.rows place) result }
     {
-        *self.list.item(spot)
+        *self.list.item(place)
     }
 
     /// The place behind that of an entry.
-    pub(crate) fn next(&self, spot: Spot) -> Spot
-        requires block { spot.block < length self.now.rows }
-        requires index { spot.index < length (row self.now.rows spot.block) }
-        ensures rank { rank self.now.rows result ≡ rank self.now.rows spot + 1 }
+    pub(crate) fn next(&self, place: BlockPlace) -> BlockPlace
+        requires block { place.block < length self.now.rows }
+        requires index { place.index < length (row self.now.rows place.block) }
+        ensures rank { rank self.now.rows result ≡ rank self.now.rows place + 1 }
         ensures place { IsPlace self.now.rows result }
     {
-        self.list.next(spot)
+        self.list.next(place)
     }
 
     /// Whether all entries stand before a key, as they do where the last one does.
@@ -412,7 +412,7 @@ impl Order {
         // No block is empty.
         let _spare = self.list.spare();
         let index = self.list.block(n - 1).len() - 1;
-        let entry = self.list.item(Spot {
+        let entry = self.list.item(BlockPlace {
             block: n - 1,
             index,
         });
@@ -431,16 +431,16 @@ impl Order {
         if self.is_all_before(key) {
             return None;
         }
-        let mut spot = self.place_at(key);
-        while spot.block < self.blocks() {
-            let entry = self.entry(spot);
+        let mut place = self.place_at(key);
+        while place.block < self.blocks() {
+            let entry = self.entry(place);
             if !entry.pts.is_before(*to) {
                 return None;
             }
             if entry.serial < below {
                 return Some(entry);
             }
-            spot = self.next(spot);
+            place = self.next(place);
         }
         None
     }

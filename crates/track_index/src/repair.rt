@@ -5,7 +5,7 @@ ghost use Rattle.std.specs.List.{AllByRecursion};
 ghost use Rattle.mse_base.specs.Time.{IsTick};
 ghost use Rattle.mse_base.specs.Bridging.{IsRanges, bridged_ranges, is_near_any, is_near};
 ghost use Rattle.block_list.specs.Rows.{joined, row};
-ghost use Rattle.block_list.specs.Spots.{rank};
+ghost use Rattle.block_list.specs.BlockPlaces.{rank};
 ghost use Rattle.track_store.specs.Frames.{intervals, IsTimed};
 ghost use Rattle.track_index.specs.Order.{span_of};
 ghost use Rattle.track_index.specs.Keyed.{before_key, IsKeyed};
@@ -16,7 +16,7 @@ use crate::frames::{Frames, Stretch};
 use crate::key::Key;
 use crate::mark::TimeMark;
 use crate::order::Order;
-use block_list::Spot;
+use block_list::BlockPlace;
 use mse_base::{Ranges, Span, Ticks};
 
 /// Joins in a span, where there is room for one range more; whether there was.
@@ -46,11 +46,11 @@ fn remake(ranges: &mut Ranges, order: &Order, gap: Ticks)
         + length ranges.new.spans }
 {
     ranges.clear();
-    let mut spot = order.start();
-    while spot.block < order.blocks() {
-        let entry = order.entry(spot);
+    let mut place = order.start();
+    while place.block < order.blocks() {
+        let entry = order.entry(place);
         ranges.add_span(span_of(&entry), gap);
-        spot = order.next(spot);
+        place = order.next(place);
     }
 }
 
@@ -109,16 +109,16 @@ fn join_between(ranges: &mut Ranges, order: &Order, key: &Key, high: TimeMark, g
     ensures between { result ≡ true
         → HasTicksBetween gap key.now high (joined order.now.rows) ranges.new.spans }
 {
-    let mut spot = order.place_at(key);
-    while spot.block < order.blocks() {
-        let entry = order.entry(spot);
+    let mut place = order.place_at(key);
+    while place.block < order.blocks() {
+        let entry = order.entry(place);
         if high.is_by(entry.pts) {
             return true;
         }
         if !join(ranges, span_of(&entry), gap) {
             return false;
         }
-        spot = order.next(spot);
+        place = order.next(place);
     }
     true
 }
@@ -200,10 +200,10 @@ pub(crate) fn mend_run(
     ensures room { ranges.old.spare + length ranges.old.spans ≤ ranges.new.spare
         + length ranges.new.spans }
 {
-    let mut spot = run.from;
+    let mut place = run.from;
     for n in 0..run.count {
-        let hole = span_of(&entry_of(frames.item(spot)));
+        let hole = span_of(&entry_of(frames.item(place)));
         mend(ranges, order, hole, gap);
-        spot = frames.next(spot);
+        place = frames.next(place);
     }
 }

@@ -1,39 +1,27 @@
-use Rattle.std.proofs.Common.{◌≡◌, ◌∙◌, ◌+◌, ◌≤◌, ◌⊎◌, inl, inr, Some, None, length, take, ap, sym, arith}
+use Rattle.std.proofs.Common.{◌≡◌, ◌∙◌, ◌<◌, ℕ, inl, inr, length, get_or, ap, arith}
 use Rattle.block_list.specs.Rows.{joined}
-use Rattle.track_store.specs.Frames.{last_place}
-use Rattle.track_index.proofs.Framing.{group_at}
+use Rattle.track_index.proofs.Grouping.{IsPlaceUpTo, group_found, group_there}
 use Rattle.track_index.proofs.frames.group_start.Goals.{then-i-len, else-i-len}
 use Rattle.track_index.proofs.frames.group_start.Goals as goal
 
 pub returns-in-Some : goal.returns-in-Some
 returns-in-Some c =
-    let rows = c.args.frames.now.rows in
-    let s = c.place-spot.result in
-    let which : (c.if-i-len.place ≡ c.args.i) ⊎ ((c.if-i-len.place + 1 ≡ length (joined rows)) × (length (joined rows) ≤ c.args.i)) = elim c.if-i-len.branch as (λ _. (c.if-i-len.place ≡ c.args.i) ⊎ ((c.if-i-len.place + 1 ≡ length (joined rows)) × (length (joined rows) ≤ c.args.i))) [
-      | then-i-len w ↦ inl w.place-is
-      | else-i-len w ↦ inr (omega (arith, c.len-len.ensures, c.if-len-eq0.false, w.place-is), omega (arith, c.len-len.ensures, w.if-i-len.false))
+    let fs = joined c.args.frames.now.rows in
+    let x = c.item.result.now in
+    let k = c.if-i-len.number in
+    let which : IsPlaceUpTo c.args.i k (length fs) = elim c.if-i-len.branch as (λ _. IsPlaceUpTo c.args.i k (length fs)) [
+      | then-i-len w ↦ inl w.number-is
+      | else-i-len w ↦ inr (omega arith, omega arith)
     ] in
-    let r = c.in-Some.ensures.place ∙ ap (λ zs. last_place (λ f. f.frame.sync) (take (s.index + 1) zs)) c.block.ensures.value in
-    ap Some c.rank.ensures ∙ sym (group_at rows c.args.i c.if-i-len.place s (Some c.in-Some.index) c.place-spot.ensures.block c.place-spot.ensures.index c.place-spot.ensures.place which r)
+    let within : k < length fs = omega arith in
+    let at : x ≡ get_or fs k x = c.item.ensures ∙ ap (λ (n : ℕ). get_or fs n x) c.place-place.ensures.place in
+    c.place_of.ensures.place ∙ group_found c.args.syncs.now c.args.i k c.in-Some.start fs x within which at c.requires.ascending c.requires.chained c.requires.syncs c.in-Some.ensures
 
-pub returns-in-Some-last_sync_before : goal.returns-in-Some-last_sync_before
-returns-in-Some-last_sync_before c =
-    let rows = c.args.frames.now.rows in
-    let s = c.place-spot.result in
-    let which : (c.if-i-len.place ≡ c.args.i) ⊎ ((c.if-i-len.place + 1 ≡ length (joined rows)) × (length (joined rows) ≤ c.args.i)) = elim c.if-i-len.branch as (λ _. (c.if-i-len.place ≡ c.args.i) ⊎ ((c.if-i-len.place + 1 ≡ length (joined rows)) × (length (joined rows) ≤ c.args.i))) [
-      | then-i-len w ↦ inl w.place-is
-      | else-i-len w ↦ inr (omega (arith, c.len-len.ensures, c.if-len-eq0.false, w.place-is), omega (arith, c.len-len.ensures, w.if-i-len.false))
-    ] in
-    let r = c.in-None.ensures.place ∙ ap (λ zs. last_place (λ f. f.frame.sync) (take (s.index + 1) zs)) c.block.ensures.value in
-    ap Some c.rank-in-Some-last_sync_before.ensures ∙ sym c.in-Some-last_sync_before.ensures.2 ∙ sym (group_at rows c.args.i c.if-i-len.place s None c.place-spot.ensures.block c.place-spot.ensures.index c.place-spot.ensures.place which r)
-
-pub returns-in-None-last_sync_before : goal.returns-in-None-last_sync_before
-returns-in-None-last_sync_before c =
-    let rows = c.args.frames.now.rows in
-    let s = c.place-spot.result in
-    let which : (c.if-i-len.place ≡ c.args.i) ⊎ ((c.if-i-len.place + 1 ≡ length (joined rows)) × (length (joined rows) ≤ c.args.i)) = elim c.if-i-len.branch as (λ _. (c.if-i-len.place ≡ c.args.i) ⊎ ((c.if-i-len.place + 1 ≡ length (joined rows)) × (length (joined rows) ≤ c.args.i))) [
-      | then-i-len w ↦ inl w.place-is
-      | else-i-len w ↦ inr (omega (arith, c.len-len.ensures, c.if-len-eq0.false, w.place-is), omega (arith, c.len-len.ensures, w.if-i-len.false))
-    ] in
-    let r = c.in-None.ensures.place ∙ ap (λ zs. last_place (λ f. f.frame.sync) (take (s.index + 1) zs)) c.block.ensures.value in
-    sym c.in-None-last_sync_before.ensures ∙ sym (group_at rows c.args.i c.if-i-len.place s None c.place-spot.ensures.block c.place-spot.ensures.index c.place-spot.ensures.place which r)
+pub returns-in-None : goal.returns-in-None
+returns-in-None c =
+    let fs = joined c.args.frames.now.rows in
+    let x = c.item.result.now in
+    let k = c.if-i-len.number in
+    let within : k < length fs = omega arith in
+    let at : x ≡ get_or fs k x = c.item.ensures ∙ ap (λ (n : ℕ). get_or fs n x) c.place-place.ensures.place in
+    absurd (group_there c.args.syncs.now k fs x within at c.requires.ascending c.requires.chained c.requires.syncs c.in-None.ensures)

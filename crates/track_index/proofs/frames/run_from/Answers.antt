@@ -1,6 +1,6 @@
 use Rattle.std.proofs.Common.{◌∙◌, ◌<◌, ◌+◌, ◌≤◌, ℕ, length, drop, ap, sym, refl, arith}
 use Rattle.block_list.specs.Rows.{joined}
-use Rattle.block_list.specs.Spots.{rank}
+use Rattle.block_list.specs.BlockPlaces.{rank}
 use Rattle.track_store.specs.Frames.{from_sync}
 use Rattle.track_index.proofs.Framing.{run_stops, run_goes, run_ends}
 use Rattle.track_index.proofs.Blocks.{rank_within}

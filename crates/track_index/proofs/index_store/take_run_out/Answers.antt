@@ -2,7 +2,7 @@ use Rattle.std.proofs.Common.{◌≡◌, ◌∙◌, ◌<◌, ◌+◌, ◌++◌, 
 use Rattle.std.specs.List.{AllByRecursion, list_any}
 use Rattle.std.proofs.lemmas.List.{take-append-drop}
 use Rattle.block_list.specs.Rows.{joined}
-use Rattle.block_list.specs.Spots.{rank}
+use Rattle.block_list.specs.BlockPlaces.{rank}
 use Rattle.track_store.specs.Frames.{IsAscending, bytes_of}
 use Rattle.track_index.specs.declared.entry.OrderEntry.{OrderEntry}
 use Rattle.track_index.specs.Order.{ordered}
@@ -29,8 +29,8 @@ loop-n-init c =
 pub item-stored-requires : goal.item-stored-requires
 item-stored-requires c =
     let rows = c.args.frames.now.rows in
-    let k : rank rows c.loop-n.spot < length (joined rows) = omega (arith, c.loop-n.invariant.next, c.requires.within) in
-    let p = item_place rows c.loop-n.spot c.loop-n.invariant.place k in
+    let k : rank rows c.loop-n.place < length (joined rows) = omega (arith, c.loop-n.invariant.next, c.requires.within) in
+    let p = item_place rows c.loop-n.place c.loop-n.invariant.place k in
     record { block = p.0; index = p.1 }
 
 pub take_out-requires : goal.take_out-requires
@@ -63,11 +63,11 @@ overflow_sub-bytes_left c =
     let e = ap bytes_of (without_more fs i n x (omega (arith, c.requires.within)) at) in
     omega (arith, c.loop-n.invariant.bytes, e, bytes_mid (take i fs) x ys, c.len.ensures)
 
-pub next-spot-requires : goal.next-spot-requires
-next-spot-requires c =
+pub next-place-requires : goal.next-place-requires
+next-place-requires c =
     let rows = c.args.frames.now.rows in
-    let k : rank rows c.loop-n.spot < length (joined rows) = omega (arith, c.loop-n.invariant.next, c.requires.within) in
-    let p = item_place rows c.loop-n.spot c.loop-n.invariant.place k in
+    let k : rank rows c.loop-n.place < length (joined rows) = omega (arith, c.loop-n.invariant.next, c.requires.within) in
+    let p = item_place rows c.loop-n.place c.loop-n.invariant.place k in
     record { block = p.0; index = p.1 }
 
 pub loop-n-preserved : goal.loop-n-preserved
@@ -83,8 +83,8 @@ loop-n-preserved c =
     let u = subst IsAscending e (ascending_without fs i (i + n) (omega arith) c.requires.ascending) in
     let o = c.loop-n.invariant.order ∙ ap ordered e in
     record {
-      place = c.next-spot.ensures.place;
-      next = omega (arith, c.next-spot.ensures.rank, c.loop-n.invariant.next);
+      place = c.next-place.ensures.place;
+      next = omega (arith, c.next-place.ensures.rank, c.loop-n.invariant.next);
       order = c.take_out.ensures.items ∙ ap (filter (λ (p : OrderEntry). not (has_entry_serial x.serial p))) o ∙ order_without (take i fs) x ys u;
       bytes = omega (arith, c.loop-n.invariant.bytes, ap bytes_of e, bytes_mid (take i fs) x ys, c.len.ensures);
       spare = omega (arith, c.loop-n.invariant.spare, c.take_out.ensures.spare);

@@ -2,7 +2,7 @@ use Rattle.std.proofs.Common.{◌≡◌, ◌∙◌, ◌<◌, ◌+◌, ◌+ℤ◌
 use Rattle.mse_base.specs.Time.{IsTick}
 use Rattle.mse_base.specs.declared.span.Span.{Span}
 use Rattle.block_list.specs.Rows.{joined}
-use Rattle.block_list.specs.Spots.{rank}
+use Rattle.block_list.specs.BlockPlaces.{rank}
 use Rattle.track_store.specs.Frames.{intervals, interval, IsTimed}
 use Rattle.track_index.specs.declared.entry.OrderEntry.{OrderEntry}
 use Rattle.track_index.specs.Order.{span_of}
@@ -24,26 +24,26 @@ loop-n-init c = record {
 pub item-requires : goal.item-requires
 item-requires c =
     let rows = c.args.frames.now.rows in
-    let k : rank rows c.loop-n.spot < length (joined rows) = omega (arith, c.loop-n.invariant.next, c.requires.within) in
-    let p = item_place rows c.loop-n.spot c.loop-n.invariant.place k in
+    let k : rank rows c.loop-n.place < length (joined rows) = omega (arith, c.loop-n.invariant.next, c.requires.within) in
+    let p = item_place rows c.loop-n.place c.loop-n.invariant.place k in
     record { block = p.0; index = p.1 }
 
 pub span_of-hole-requires : goal.span_of-hole-requires
 span_of-hole-requires c =
     let rows = c.args.frames.now.rows in
-    let k : rank rows c.loop-n.spot < length (joined rows) = omega (arith, c.loop-n.invariant.next, c.requires.within) in
+    let k : rank rows c.loop-n.place < length (joined rows) = omega (arith, c.loop-n.invariant.next, c.requires.within) in
     let x = c.item.result.now in
-    let t = subst IsTimed (sym c.item.ensures) (each_at IsTimed (joined rows) (rank rows c.loop-n.spot) x k c.requires.frames) in
+    let t = subst IsTimed (sym c.item.ensures) (each_at IsTimed (joined rows) (rank rows c.loop-n.place) x k c.requires.frames) in
     subst (λ (o : OrderEntry). IsTick (o.pts +ℤ o.dur)) (sym c.entry_of.ensures) t.1
 
 pub mend-requires : goal.mend-requires
 mend-requires c = record { gap_from_zero = c.requires.gap_from_zero; ranges = c.loop-n.invariant.ranges; room = omega (arith, c.requires.room, c.loop-n.invariant.room); keyed = c.requires.keyed; timed = c.requires.timed }
 
-pub next-spot-requires : goal.next-spot-requires
-next-spot-requires c =
+pub next-place-requires : goal.next-place-requires
+next-place-requires c =
     let rows = c.args.frames.now.rows in
-    let k : rank rows c.loop-n.spot < length (joined rows) = omega (arith, c.loop-n.invariant.next, c.requires.within) in
-    let p = item_place rows c.loop-n.spot c.loop-n.invariant.place k in
+    let k : rank rows c.loop-n.place < length (joined rows) = omega (arith, c.loop-n.invariant.next, c.requires.within) in
+    let p = item_place rows c.loop-n.place c.loop-n.invariant.place k in
     record { block = p.0; index = p.1 }
 
 pub loop-n-preserved : goal.loop-n-preserved
@@ -60,8 +60,8 @@ loop-n-preserved c =
     let hole : interval x ≡ c.span_of-hole.result = sym (c.span_of-hole.ensures ∙ ap (λ (o : OrderEntry). span_of o) c.entry_of.ensures) in
     let before = subst (λ zs. AreBetween c.args.gap (map span_of (joined c.args.order.now.rows)) zs c.loop-n.ranges.spans) (step ∙ ap (λ (z : Span). z ∷ intervals (drop (n + 1) run)) hole) c.loop-n.invariant.between in
     record {
-      place = c.next-spot.ensures.place;
-      next = omega (arith, c.next-spot.ensures.rank, c.loop-n.invariant.next);
+      place = c.next-place.ensures.place;
+      next = omega (arith, c.next-place.ensures.rank, c.loop-n.invariant.next);
       ranges = c.mend.ensures.ranges;
       room = omega (arith, c.loop-n.invariant.room, c.mend.ensures.room);
       between = c.mend.ensures.between (intervals (drop (n + 1) run)) before;

@@ -1,6 +1,6 @@
 use Rattle.std.proofs.Common.{◌≡◌, ◌+◌, ◌≤◌, length, take, drop, map}
 use Rattle.block_list.specs.Rows.{joined}
-use Rattle.block_list.specs.Spots.{rank, IsPlace}
+use Rattle.block_list.specs.BlockPlaces.{rank, IsPlace}
 use Rattle.mse_base.specs.Bridging.{IsRanges}
 use Rattle.track_store.specs.Frames.{intervals}
 use Rattle.track_index.specs.Order.{span_of}
@@ -9,8 +9,8 @@ use Rattle.track_index.proofs.repair.mend_run.Given as goal
 
 abbrev pub invariant-loop-n : goal.invariant-loop-n
 invariant-loop-n l = record {
-  place : IsPlace l.frames.rows l.spot;
-  next : rank l.frames.rows l.spot ≡ rank l.frames.rows l.fn.run.from + l.n;
+  place : IsPlace l.frames.rows l.place;
+  next : rank l.frames.rows l.place ≡ rank l.frames.rows l.fn.run.from + l.n;
   ranges : IsRanges l.gap l.ranges.spans;
   room : l.fn.ranges.spare + length l.fn.ranges.spans ≤ l.ranges.spare + length l.ranges.spans;
   between : AreBetween l.gap (map span_of (joined l.order.rows)) (intervals (drop l.n (take l.fn.run.count (drop (rank l.frames.rows l.fn.run.from) (joined l.frames.rows))))) l.ranges.spans;

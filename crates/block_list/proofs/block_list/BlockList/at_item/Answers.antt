@@ -6,12 +6,12 @@ use Rattle.block_list.proofs.Cutting.{some_row}
 use Rattle.block_list.proofs.block_list.BlockList.at_item.Goals as goal
 
 pub returns-clause-rank : goal.returns-clause-rank
-returns-clause-rank g c = omega (arith, start_more c.args.self.now.rows c.args.spot.block c.requires.block, ap (λ w. length (row w.rows c.args.spot.block)) c.self.view_is, c.len_at.ensures.value)
+returns-clause-rank g c = omega (arith, start_more c.args.self.now.rows c.args.place.block c.requires.block, ap (λ w. length (row w.rows c.args.place.block)) c.self.view_is, c.len_at.ensures.value)
 
 pub returns-clause-place : goal.returns-clause-place
 returns-clause-place g c =
     let rows = c.args.self.now.rows in
-    let b = c.args.spot.block in
+    let b = c.args.place.block in
     let none = subst (λ w. AreNonEmpty w.rows) c.self.view_is (full_of c.self.inside.half c.self.inside.blocks.items c.self.invariant.0.short) in
     record {
       item = λ l. omega (arith, some_row rows (b + 1) none l);

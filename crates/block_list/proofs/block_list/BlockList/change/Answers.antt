@@ -15,8 +15,8 @@ pub invariant_of-self : goal.invariant_of-self
 invariant_of-self g c =
     let v = c.self.view_is in
     let rows = c.self.inside.blocks.items in
-    let b = c.args.spot.block in
-    let i = c.args.spot.index in
+    let b = c.args.place.block in
+    let i = c.args.place.index in
     let l : b < length rows = omega (arith, ap (λ w. length w.rows) v, c.requires.block) in
     let k : i < length (row rows b) = omega (arith, ap (λ w. length (row w.rows b)) v, c.requires.index) in
     let d = some_item (row rows b) i k in
@@ -29,8 +29,8 @@ pub returns-clause-items : goal.returns-clause-items
 returns-clause-items g c = λ d.
     let v = c.self.view_is in
     let rows = c.self.inside.blocks.items in
-    let b = c.args.spot.block in
-    let i = c.args.spot.index in
+    let b = c.args.place.block in
+    let i = c.args.place.index in
     let l : b < length rows = omega (arith, ap (λ w. length w.rows) v, c.requires.block) in
     let k : i < length (row rows b) = omega (arith, ap (λ w. length (row w.rows b)) v, c.requires.index) in
     ap joined (c.change_in.ensures.rows d) ∙ joined_set_set rows b i (g.C.Change.after c.args.change.now (get_or (row rows b) i d)) l k
@@ -41,8 +41,8 @@ pub returns-clause-starts : goal.returns-clause-starts
 returns-clause-starts g c =
     let v = c.self.view_is in
     let rows = c.self.inside.blocks.items in
-    let b = c.args.spot.block in
-    let i = c.args.spot.index in
+    let b = c.args.place.block in
+    let i = c.args.place.index in
     let k : i < length (row rows b) = omega (arith, ap (λ w. length (row w.rows b)) v, c.requires.index) in
     let d = some_item (row rows b) i k in
     let x = g.C.Change.after c.args.change.now (get_or (row rows b) i d) in

@@ -3,4 +3,4 @@ use Rattle.block_list.proofs.Joining.{get_at}
 use Rattle.block_list.proofs.block_list.BlockList.item.Goals as goal
 
 pub returns : goal.returns
-returns g c = c.index-items-spot.is ∙ ap (λ r. get_or r c.args.spot.index c.index-items-spot.result) c.block-items.ensures.value ∙ sym (get_at c.args.self.now.rows c.args.spot.block c.args.spot.index c.index-items-spot.result c.requires.block c.requires.index)
+returns g c = c.index-items-place.is ∙ ap (λ r. get_or r c.args.place.index c.index-items-place.result) c.block-items.ensures.value ∙ sym (get_at c.args.self.now.rows c.args.place.block c.args.place.index c.index-items-place.result c.requires.block c.requires.index)

@@ -6,14 +6,14 @@ use Rattle.block_list.proofs.block_list.BlockList.push.Goals as goal
 
 pub invariant_of-self : goal.invariant_of-self
 invariant_of-self g c =
-    let s = c.in-Some.spot in
+    let s = c.in-Some.place in
     let h = c.in-Some.ensures.room in
     (listed_put c.self.inside.half _ c.put_in.new.blocks.items c.self.inside.spare s.block s.index (vec_capacity c.put_in.new.blocks) c.args.x c.self.invariant.0 (omega (arith, ap (λ w. w.spare) c.self.view_is, c.requires)) (omega (arith, h.0)) (omega (arith, h.1.0)) (omega (arith, h.1.0, h.1.1)) c.put_in.ensures.rows c.put_in.ensures.capacity, record { count = omega (arith, c.self.invariant.1.count, c.self.invariant.1.fits, ap length (ap joined c.put_in.ensures.rows ∙ joined_set_insert c.self.inside.blocks.items s.block s.index c.args.x (omega (arith, h.0)) (omega (arith, h.1.0))), inserted c.self.inside.blocks.items s.block s.index c.args.x (omega (arith, h.0)) (omega (arith, h.1.0))); fits = omega (arith, c.self.invariant.1.count, c.self.invariant.1.fits, ap (λ w. w.spare) c.self.view_is, c.requires) })
 
 pub returns-in-Some-clause-items : goal.returns-in-Some-clause-items
 returns-in-Some-clause-items g c =
     let rows = c.self.inside.blocks.items in
-    let s = c.in-Some.spot in
+    let s = c.in-Some.place in
     let h = c.in-Some.ensures.room in
     ap joined c.put_in.ensures.rows ∙ joined_set_insert rows s.block s.index c.args.x (omega (arith, h.0)) (omega (arith, h.1.0)) ∙ ap (λ n. insert (joined rows) (start rows s.block + n) c.args.x) h.1.0 ∙ insert_last rows s.block c.args.x h.0 ∙ ap (λ w. joined w.rows ++ c.args.x ∷ []) c.self.view_is
 

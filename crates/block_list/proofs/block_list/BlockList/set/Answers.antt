@@ -9,8 +9,8 @@ pub invariant_of-self : goal.invariant_of-self
 invariant_of-self g c =
     let v = c.self.view_is in
     let rows = c.self.inside.blocks.items in
-    let b = c.args.spot.block in
-    let i = c.args.spot.index in
+    let b = c.args.place.block in
+    let i = c.args.place.index in
     let l : b < length rows = omega (arith, ap (λ w. length w.rows) v, c.requires.block) in
     let k : i < length (row rows b) = omega (arith, ap (λ w. length (row w.rows b)) v, c.requires.index) in (
       listed_set c.self.inside.half _ c.set_in.new.blocks.items c.self.inside.spare b (set (row rows b) i c.args.x) (vec_capacity c.set_in.new.blocks) c.self.invariant.0 l (length-set (row rows b) i c.args.x) c.set_in.ensures.rows c.set_in.ensures.capacity,
@@ -21,6 +21,6 @@ pub returns-clause-items : goal.returns-clause-items
 returns-clause-items g c =
     let v = c.self.view_is in
     let rows = c.self.inside.blocks.items in
-    let b = c.args.spot.block in
-    let i = c.args.spot.index in
+    let b = c.args.place.block in
+    let i = c.args.place.index in
     ap joined c.set_in.ensures.rows ∙ joined_set_set rows b i c.args.x (omega (arith, ap (λ w. length w.rows) v, c.requires.block)) (omega (arith, ap (λ w. length (row w.rows b)) v, c.requires.index)) ∙ ap (λ w. set (joined w.rows) (start w.rows b + i) c.args.x) v

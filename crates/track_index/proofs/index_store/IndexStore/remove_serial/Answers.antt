@@ -1,7 +1,7 @@
-use Rattle.std.proofs.Common.{◌≡◌, ◌∙◌, ◌≤◌, ◌+◌, ◌++◌, ℕ, List, true, false, length, take, drop, map, ap, sym, subst, arith}
+use Rattle.std.proofs.Common.{refl, ◌≡◌, ◌∙◌, ◌≤◌, ◌+◌, ◌++◌, ℕ, List, true, false, length, take, drop, map, ap, sym, subst, arith}
 use Rattle.std.specs.List.{list_any}
 use Rattle.block_list.specs.Rows.{joined, start}
-use Rattle.block_list.specs.Spots.{rank}
+use Rattle.block_list.specs.BlockPlaces.{rank}
 use Rattle.track_store.specs.Frames.{bytes_of, has_serial, frames_left, intervals, IsTimed}
 use Rattle.track_store.proofs.Listing.{are_ranges}
 use Rattle.track_index.specs.declared.entry.OrderEntry.{OrderEntry}
@@ -97,7 +97,7 @@ invariant_of-self c =
     let z : start rows c.run_from-run.result.last.block + (c.run_from-run.result.last.index + 1) ≡ i + n = omega (arith, c.run_from-run.ensures.count) in
     let left = c.remove_range.ensures.items ∙ ap (λ (m : ℕ). take i fs ++ drop m fs) z in
     let gone = serial_gone c.args.serial fs i (i + n) h.kept.ascending held c.place_below-from.ensures.before c.place_below-from.ensures.after c.run_from-run.ensures.rest in
-    indexed_removed (has_serial c.args.serial) fs (joined c.remove_range.new.self.rows) _ _ c.self.inside.gap _ _ h c.mend_run.ensures.room (omega (arith, ap length left, length_without fs i n l)) (left ∙ sym gone) (c.take_run_out-bytes_left.ensures.order ∙ ap ordered (sym left)) c.mend_run.ensures.spans (c.take_run_out-bytes_left.ensures.bytes ∙ ap bytes_of (sym left))
+    indexed_removed (has_serial c.args.serial) fs (joined c.remove_range.new.self.rows) _ _ c.self.inside.gap _ _ h c.mend_run.ensures.room (omega (arith, ap length left, length_without fs i n l)) (left ∙ sym gone) refl (c.take_run_out-bytes_left.ensures.order ∙ ap ordered (sym left)) c.mend_run.ensures.spans (c.take_run_out-bytes_left.ensures.bytes ∙ ap bytes_of (sym left))
 
 pub returns-clause-frames : goal.returns-clause-frames
 returns-clause-frames c =
@@ -137,7 +137,7 @@ returns-clause-spare c =
     let l : i + n ≤ length fs = omega (arith, c.run_from-run.ensures.count, k) in
     let z : start rows c.run_from-run.result.last.block + (c.run_from-run.result.last.index + 1) ≡ i + n = omega (arith, c.run_from-run.ensures.count) in
     let left = c.remove_range.ensures.items ∙ ap (λ (m : ℕ). take i fs ++ drop m fs) z in
-    rw (← c.self.view_is) (room_grown _ _ _ _ _ _ (omega (arith, c.remove_range.ensures.spare)) c.take_run_out-bytes_left.ensures.spare (omega (arith, c.mend_run.ensures.room, ap length left, length_without fs i n l)))
+    rw (← c.self.view_is) (room_grown _ _ _ _ _ _ _ _ (omega (arith, c.remove_range.ensures.spare)) c.take_run_out-bytes_left.ensures.spare (omega arith) (omega (arith, c.mend_run.ensures.room, ap length left, length_without fs i n l)))
 
 pub overflow_add-to : goal.overflow_add-to
 overflow_add-to c = omega (arith, c.run_from-run.ensures.index, ap length c.block-few.ensures.value, c.block-few.ensures.at_most_128)

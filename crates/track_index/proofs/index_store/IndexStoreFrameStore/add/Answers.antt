@@ -13,17 +13,17 @@ use Rattle.track_index.proofs.index_store.IndexStoreFrameStore.add.Goals as goal
 pub add_span-requires-clause-room : goal.add_span-requires-clause-room
 add_span-requires-clause-room c =
     let few = few_ranges c.self.inside.gap (joined c.self.inside.items.rows) c.self.inside.ranges.spans c.self.invariant.joined in
-    let room = room_each _ _ _ _ (rw (← c.self.view_is) at c.requires.room) in
+    let room = room_each _ _ _ _ _ (rw (← c.self.view_is) at c.requires.room) in
     omega (arith, few, room.ranges)
 
 pub add_span-requires-clause-ranges : goal.add_span-requires-clause-ranges
 add_span-requires-clause-ranges c = are_ranges c.self.inside.gap (joined c.self.inside.items.rows) c.self.inside.ranges.spans c.self.invariant.gap_from_zero c.self.invariant.joined
 
 pub put-requires-clause-spare : goal.put-requires-clause-spare
-put-requires-clause-spare c = let room = room_each _ _ _ _ (rw (← c.self.view_is) at c.requires.room) in room.order
+put-requires-clause-spare c = let room = room_each _ _ _ _ _ (rw (← c.self.view_is) at c.requires.room) in room.order
 
 pub push-requires : goal.push-requires
-push-requires c = let room = room_each _ _ _ _ (rw (← c.self.view_is) at c.requires.room) in room.items
+push-requires c = let room = room_each _ _ _ _ _ (rw (← c.self.view_is) at c.requires.room) in room.items
 
 pub put-requires-clause-keyed : goal.put-requires-clause-keyed
 put-requires-clause-keyed c = keyed_of (joined c.self.inside.order.rows) (joined c.self.inside.items.rows) c.self.invariant.in_order c.self.invariant.kept.ascending
@@ -35,10 +35,12 @@ invariant_of-self c =
     let x = c.args.frame in
     let older = rw (← c.self.view_is) at c.requires.later in
     let small = rw (← c.self.view_is) at c.requires.small in
-    let room = room_each _ _ _ _ (rw (← c.self.view_is) at c.requires.room) in
+    let room = room_each _ _ _ _ _ (rw (← c.self.view_is) at c.requires.room) in
     let next : length fs + 1 ≤ c.add_span.new.self.spare + length c.add_span.new.self.spans = omega (arith, room.ranges, c.add_span.ensures.room) in
     let entry = c.entry_of-entry.ensures in
     indexed_added fs _ _ _ c.self.inside.gap _ _ x c.self.invariant next older (c.requires.dur_not_negative, c.requires.in_range) small
+    (rw (← c.self.view_is) at c.requires.predecessor)
+    (c.note.ensures.syncs fs older c.self.invariant.syncs)
     c.push.ensures.items
     (c.put.ensures.items ∙ ap (λ (e : OrderEntry). put e os) entry)
     (c.add_span.ensures.spans ∙ ap (λ (s : Span). ranges_with c.self.inside.gap c.self.inside.ranges.spans s) (c.span_of.ensures ∙ ap (λ (e : OrderEntry). span_of e) entry))
@@ -49,7 +51,8 @@ returns-clause-spare c =
     let fs = joined c.self.inside.items.rows in
     let long = ap length c.push.ensures.items in
     let more = length-append fs (c.args.frame ∷ []) in
-    rw (← c.self.view_is) (room_kept 1 _ _ _ _ _ _
+    rw (← c.self.view_is) (room_kept 1 _ _ _ _ _ _ _ _
     (omega (arith, c.push.ensures.spare))
     c.put.ensures.spare
+    c.note.ensures.room
     (omega (arith, long, more, c.add_span.ensures.room)))

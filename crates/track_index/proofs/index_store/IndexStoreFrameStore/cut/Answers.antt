@@ -21,7 +21,7 @@ end_at-requires c =
     let fs = joined c.self.inside.items.rows in
     let x = c.item.result.now in
     let within : c.args.i < length fs = rw (← c.self.view_is) at c.requires.in_range in
-    let value : x ≡ get_or fs c.args.i x = c.item.ensures ∙ ap (λ (n : ℕ). get_or fs n x) c.place-spot.ensures.place in
+    let value : x ≡ get_or fs c.args.i x = c.item.ensures ∙ ap (λ (n : ℕ). get_or fs n x) c.place-place.ensures.place in
     let at = found_at fs c.args.i x within value in
     let less = rw (← c.self.view_is, at) at c.requires.shorter in
     let tick = cut_tick x.frame.pts c.args.dur x.frame.dur (subst (λ (e : OrderEntry). IsTick e.pts) c.entry_of-entry.ensures c.get-begins.ensures.in_range) less.0 less.1 (subst IsTimed (sym value) (each_at IsTimed fs c.args.i x within c.self.invariant.timed)).1 in
@@ -35,7 +35,7 @@ shorten-requires-clause-own c =
     let fs = joined c.self.inside.items.rows in
     let x = c.item.result.now in
     let within : c.args.i < length fs = rw (← c.self.view_is) at c.requires.in_range in
-    let value : x ≡ get_or fs c.args.i x = c.item.ensures ∙ ap (λ (n : ℕ). get_or fs n x) c.place-spot.ensures.place in
+    let value : x ≡ get_or fs c.args.i x = c.item.ensures ∙ ap (λ (n : ℕ). get_or fs n x) c.place-place.ensures.place in
     let os = joined c.self.inside.order.rows in
     rw c.entry_of-entry.ensures (own_pts x os (own_entry fs os c.args.i x c.self.invariant.kept.ascending c.self.invariant.in_order within value))
 
@@ -44,7 +44,7 @@ shorten-requires-clause-held c =
     let fs = joined c.self.inside.items.rows in
     let x = c.item.result.now in
     let within : c.args.i < length fs = rw (← c.self.view_is) at c.requires.in_range in
-    let value : x ≡ get_or fs c.args.i x = c.item.ensures ∙ ap (λ (n : ℕ). get_or fs n x) c.place-spot.ensures.place in
+    let value : x ≡ get_or fs c.args.i x = c.item.ensures ∙ ap (λ (n : ℕ). get_or fs n x) c.place-place.ensures.place in
     rw c.entry_of-entry.ensures (held_in fs (joined c.self.inside.order.rows) c.args.i x c.self.invariant.in_order within value)
 
 pub mend-requires-clause-ranges : goal.mend-requires-clause-ranges
@@ -61,7 +61,7 @@ mend-requires-clause-keyed c =
     let fs = joined c.self.inside.items.rows in
     let x = c.item.result.now in
     let within : c.args.i < length fs = rw (← c.self.view_is) at c.requires.in_range in
-    let value : x ≡ get_or fs c.args.i x = c.item.ensures ∙ ap (λ (n : ℕ). get_or fs n x) c.place-spot.ensures.place in
+    let value : x ≡ get_or fs c.args.i x = c.item.ensures ∙ ap (λ (n : ℕ). get_or fs n x) c.place-place.ensures.place in
     let at = found_at fs c.args.i x within value in
     let less = rw (← c.self.view_is, at) at c.requires.shorter in
     let os = joined c.self.inside.order.rows in
@@ -75,7 +75,7 @@ mend-requires-clause-timed c =
     let fs = joined c.self.inside.items.rows in
     let x = c.item.result.now in
     let within : c.args.i < length fs = rw (← c.self.view_is) at c.requires.in_range in
-    let value : x ≡ get_or fs c.args.i x = c.item.ensures ∙ ap (λ (n : ℕ). get_or fs n x) c.place-spot.ensures.place in
+    let value : x ≡ get_or fs c.args.i x = c.item.ensures ∙ ap (λ (n : ℕ). get_or fs n x) c.place-place.ensures.place in
     let at = found_at fs c.args.i x within value in
     let less = rw (← c.self.view_is, at) at c.requires.shorter in
     let os = joined c.self.inside.order.rows in
@@ -89,7 +89,7 @@ invariant_of-self c =
     let fs = joined c.self.inside.items.rows in
     let x = c.item.result.now in
     let within : c.args.i < length fs = rw (← c.self.view_is) at c.requires.in_range in
-    let value : x ≡ get_or fs c.args.i x = c.item.ensures ∙ ap (λ (n : ℕ). get_or fs n x) c.place-spot.ensures.place in
+    let value : x ≡ get_or fs c.args.i x = c.item.ensures ∙ ap (λ (n : ℕ). get_or fs n x) c.place-place.ensures.place in
     let at = found_at fs c.args.i x within value in
     let less = rw (← c.self.view_is, at) at c.requires.shorter in
     let os = joined c.self.inside.order.rows in
@@ -102,7 +102,7 @@ invariant_of-self c =
     let own = own_entry fs os c.args.i x c.self.invariant.kept.ascending c.self.invariant.in_order within value in
     let between = between_cut c.self.inside.gap c.args.dur fs os ps c.self.inside.ranges.spans x hole own c.self.invariant.gap_from_zero less.0 less.1 start end c.self.invariant.joined c.self.invariant.in_order p in
     let s = between_none c.self.inside.gap (map span_of ps) c.mend.new.ranges.spans c.self.invariant.gap_from_zero c.mend.ensures.ranges (c.mend.ensures.between [] between) in
-    let new = with_new_at fs (joined c.change.new.self.rows) c.args.i _ x c.args.dur c.self.invariant.kept.ascending c.place-spot.ensures.place within value (c.change.ensures.items x) in
+    let new = with_new_at fs (joined c.change.new.self.rows) c.args.i _ x c.args.dur c.self.invariant.kept.ascending c.place-place.ensures.place within value (c.change.ensures.items x) in
     rw new (indexed_cut fs _ ps c.mend.new.ranges.spans c.self.inside.gap c.args.dur _ _ x c.args.i c.self.invariant c.mend.ensures.room within value less.0 less.1 tick p s)
 
 pub returns-clause-frames : goal.returns-clause-frames
@@ -110,7 +110,7 @@ returns-clause-frames c =
     let fs = joined c.self.inside.items.rows in
     let x = c.item.result.now in
     let within : c.args.i < length fs = rw (← c.self.view_is) at c.requires.in_range in
-    let value : x ≡ get_or fs c.args.i x = c.item.ensures ∙ ap (λ (n : ℕ). get_or fs n x) c.place-spot.ensures.place in
+    let value : x ≡ get_or fs c.args.i x = c.item.ensures ∙ ap (λ (n : ℕ). get_or fs n x) c.place-place.ensures.place in
     let at = found_at fs c.args.i x within value in
     let less = rw (← c.self.view_is, at) at c.requires.shorter in
-    rw (← c.self.view_is, at) (with_new_at fs (joined c.change.new.self.rows) c.args.i _ x c.args.dur c.self.invariant.kept.ascending c.place-spot.ensures.place within value (c.change.ensures.items x))
+    rw (← c.self.view_is, at) (with_new_at fs (joined c.change.new.self.rows) c.args.i _ x c.args.dur c.self.invariant.kept.ascending c.place-place.ensures.place within value (c.change.ensures.items x))

@@ -6,13 +6,13 @@ use Rattle.track_index.proofs.Keys.{cut_keyed}
 use Rattle.track_index.proofs.Blocks.{greatest_before}
 use Rattle.track_index.proofs.order.Order.greatest_end_before.Goals as goal
 
-pub search-spot-requires : goal.search-spot-requires
-search-spot-requires c = cut_keyed c.args.key.now (joined c.self.inside.list.rows) (subst (λ w. IsKeyed (joined w.rows)) (sym c.self.view_is) c.requires.keyed)
+pub search-place-requires : goal.search-place-requires
+search-place-requires c = cut_keyed c.args.key.now (joined c.self.inside.list.rows) (subst (λ w. IsKeyed (joined w.rows)) (sym c.self.view_is) c.requires.keyed)
 
 pub returns : goal.returns
 returns c =
     let rows = c.self.inside.list.rows in
-    let s = c.search-spot.result in
-    let l : s.block < length rows = c.search-spot.ensures.block (omega (arith, c.blocks-2.ensures, c.if-blocks-eq0.false)) in
-    c.later_end.ensures ∙ greatest_before c.args.key.now rows s c.top_before.result c.greatest_end-within.result l c.search-spot.ensures.index c.search-spot.ensures.before c.search-spot.ensures.after c.top_before.ensures (c.greatest_end-within.ensures ∙ ap (λ zs. greatest_end (take s.index zs)) c.block-items.ensures.value)
+    let s = c.search-place.result in
+    let l : s.block < length rows = c.search-place.ensures.block (omega (arith, c.blocks-2.ensures, c.if-blocks-eq0.false)) in
+    c.later_end.ensures ∙ greatest_before c.args.key.now rows s c.top_before.result c.greatest_end-within.result l c.search-place.ensures.index c.search-place.ensures.before c.search-place.ensures.after c.top_before.ensures (c.greatest_end-within.ensures ∙ ap (λ zs. greatest_end (take s.index zs)) c.block-items.ensures.value)
     ∙ ap (λ w. greatest_end (filter (before_key c.args.key.now) (joined w.rows))) c.self.view_is

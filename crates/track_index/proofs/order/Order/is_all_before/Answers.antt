@@ -1,7 +1,7 @@
 use Rattle.std.proofs.Common.{◌≡◌, ◌∙◌, ◌<◌, ◌+◌, ◌-◌, length, sym, subst, ap, arith}
 use Rattle.std.specs.List.{list_all}
 use Rattle.block_list.specs.Rows.{joined, start}
-use Rattle.block_list.specs.Spots.{rank}
+use Rattle.block_list.specs.BlockPlaces.{rank}
 use Rattle.block_list.proofs.Joining.{start_more, start_all}
 use Rattle.block_list.proofs.Cutting.{some_row}
 use Rattle.track_index.specs.Keyed.{before_key, IsKeyed}

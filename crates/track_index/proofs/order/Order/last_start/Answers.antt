@@ -1,6 +1,6 @@
 use Rattle.std.proofs.Common.{◌≡◌, ◌∙◌, ◌<◌, ◌+◌, ◌-◌, ℕ, Some, length, get_or, ap, arith}
 use Rattle.block_list.specs.Rows.{joined, start}
-use Rattle.block_list.specs.Spots.{rank}
+use Rattle.block_list.specs.BlockPlaces.{rank}
 use Rattle.block_list.proofs.Joining.{start_more, start_all}
 use Rattle.block_list.proofs.Cutting.{some_row}
 use Rattle.track_index.specs.declared.entry.OrderEntry.{OrderEntry}

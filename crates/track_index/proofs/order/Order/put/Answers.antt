@@ -1,6 +1,6 @@
 use Rattle.std.proofs.Common.{◌∙◌, ◌<◌, ◌++◌, ◌∷◌, [], length, ap, subst, sym, arith, None, vec_capacity, ◌+ℤ◌, pos, ℤ}
 use Rattle.block_list.specs.Rows.{joined}
-use Rattle.block_list.specs.Spots.{rank}
+use Rattle.block_list.specs.BlockPlaces.{rank}
 use Rattle.track_index.specs.declared.key.Key.{Key}
 use Rattle.track_index.specs.Order.{put}
 use Rattle.track_index.specs.Keyed.{IsKeyed}
@@ -32,19 +32,19 @@ returns-then-blocks-eq0-clause-spare c =
     let few1 = c.push.ensures.one_block_apart.1 in
     omega (arith, ap (λ w. w.spare) c.self.view_is, c.push.ensures.spare, c.refresh.ensures.capacity, n, m, few1, c.refresh.new.tops.ok.0, c.self.inside.tops.ok.0)
 
-pub search-spot-requires : goal.search-spot-requires
-search-spot-requires c = cut_keyed _ (joined c.self.inside.list.rows) (subst (λ w. IsKeyed (joined w.rows)) (sym c.self.view_is) c.requires.keyed)
+pub search-place-requires : goal.search-place-requires
+search-place-requires c = cut_keyed _ (joined c.self.inside.list.rows) (subst (λ w. IsKeyed (joined w.rows)) (sym c.self.view_is) c.requires.keyed)
 
 pub refresh_with-requires : goal.refresh_with-requires
 refresh_with-requires c =
     let ts = c.self.inside.tops.items in
     let old = c.self.inside.list.rows in
     let new = c.insert.new.self.rows in
-    let b = c.search-spot.result.block in
+    let b = c.search-place.result.block in
     let n = ap length c.self.invariant ∙ length_running None old in
     let few0 = c.insert.ensures.one_block_apart.0 in
     let few1 = c.insert.ensures.one_block_apart.1 in
-    let l : b < length old = c.search-spot.ensures.block (omega (arith, c.blocks-2.ensures, c.if-blocks-eq0.false)) in
+    let l : b < length old = c.search-place.ensures.block (omega (arith, c.blocks-2.ensures, c.if-blocks-eq0.false)) in
     let r = ready ts old new b (vec_capacity c.self.inside.tops) c.self.invariant l few1 (omega (arith, few0)) (omega (arith, few1, n, ap (λ w. w.spare) c.self.view_is, c.requires.spare, c.self.inside.tops.ok.0)) c.insert.ensures.front c.insert.ensures.rest in
     record {
       within = r.within;
@@ -54,7 +54,7 @@ refresh_with-requires c =
       room = r.room;
       front = r.front;
       rest = r.rest;
-      last = λ e. top_with ts old new b (rank old c.search-spot.result) c.args.entry c.end_mark-end.result c.self.invariant (omega (arith, e, n)) c.end_mark-end.ensures c.insert.ensures.items;
+      last = λ e. top_with ts old new b (rank old c.search-place.result) c.args.entry c.end_mark-end.result c.self.invariant (omega (arith, e, n)) c.end_mark-end.ensures c.insert.ensures.items;
     }
 
 pub returns-clause-items : goal.returns-clause-items
@@ -62,14 +62,14 @@ returns-clause-items c =
     let os = joined c.self.inside.list.rows in
     let k : Key = record { mark = c.args.entry.pts +ℤ pos 1; serial = 0 } in
     let e = c.at-key.ensures ∙ ap (λ (m : ℤ). record { mark = m; serial = 0 }) c.after.ensures in
-    c.insert.ensures.items ∙ put_with c.args.entry os (rank c.self.inside.list.rows c.search-spot.result) c.at-key.result e c.search-spot.ensures.before c.search-spot.ensures.after ∙ ap (λ w. put c.args.entry (joined w.rows)) c.self.view_is
+    c.insert.ensures.items ∙ put_with c.args.entry os (rank c.self.inside.list.rows c.search-place.result) c.at-key.result e c.search-place.ensures.before c.search-place.ensures.after ∙ ap (λ w. put c.args.entry (joined w.rows)) c.self.view_is
 
 pub returns-clause-spare : goal.returns-clause-spare
 returns-clause-spare c =
     let ts = c.self.inside.tops.items in
     let old = c.self.inside.list.rows in
     let new = c.insert.new.self.rows in
-    let b = c.search-spot.result.block in
+    let b = c.search-place.result.block in
     let n = ap length c.self.invariant ∙ length_running None old in
     let m = ap length c.refresh_with.ensures.items ∙ length_running None new in
     let few1 = c.insert.ensures.one_block_apart.1 in

@@ -1,5 +1,5 @@
 use Rattle.std.proofs.Common.{subst}
-use Rattle.block_list.specs.Spots.{IsPlace}
+use Rattle.block_list.specs.BlockPlaces.{IsPlace}
 use Rattle.track_index.proofs.Blocks.{start_place}
 use Rattle.track_index.proofs.order.Order.start.Goals as goal
 

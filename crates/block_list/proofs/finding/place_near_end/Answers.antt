@@ -4,7 +4,7 @@ use Rattle.std.proofs.lemmas.List.{drop_all}
 use Rattle.block_list.specs.Rows.{joined, start}
 use Rattle.block_list.proofs.Joining.{start_more, start_all}
 use Rattle.block_list.proofs.Cutting.{some_row, passed, failed}
-use Rattle.block_list.proofs.finding.spot_near_end.Goals as goal
+use Rattle.block_list.proofs.finding.place_near_end.Goals as goal
 
 pub overflow_sub-last : goal.overflow_sub-last
 overflow_sub-last g c =

@@ -1,12 +1,12 @@
 use Rattle.std.proofs.Common.{◌≡◌, ◌∙◌, ℤ, true, take, subst, ap}
 use Rattle.std.specs.List.{AllByRecursion}
 use Rattle.block_list.specs.Rows.{joined}
-use Rattle.block_list.specs.Spots.{rank}
+use Rattle.block_list.specs.BlockPlaces.{rank}
 use Rattle.track_index.specs.declared.key.Key.{Key}
 use Rattle.track_index.specs.Keyed.{before_key}
 use Rattle.track_index.proofs.Keys.{cut_keyed, lows}
 use Rattle.track_index.proofs.Lookups.{before_at}
-use Rattle.track_index.proofs.order.spot_from.Goals as goal
+use Rattle.track_index.proofs.order.place_from.Goals as goal
 
 pub search-requires : goal.search-requires
 search-requires c = cut_keyed _ (joined c.args.list.now.rows) c.requires.keyed
