@@ -12,16 +12,16 @@ use Rattle.adts_stream.specs.declared.header.Found.{Found}
 use Rattle.adts_stream.specs.declared.header.Found.TheVariants as found
 use Rattle.adts_stream.specs.declared.position.ParsePoint.TheVariants.{AtHeader, InTag, AtFrame, AtEnd}
 use Rattle.adts_stream.specs.Headers.{found_at}
-use Rattle.adts_stream.specs.Frames.{AdtsItem, AdtsParse, presentation_of, has_rate, coded_frame, waiting, frame_parse, found_parse, parse_at, string_parse, Items, view_before}
-use Rattle.adts_stream.specs.Walk.{State, behind, faulted, found_move, into, initialized, adts, start, state_before, view_of}
+use Rattle.adts_stream.specs.Frames.{AdtsItem, AdtsParse, presentation_of, has_rate, coded_frame, view_waiting, frame_parse, found_parse, parse_at, string_parse, Items, view_before}
+use Rattle.adts_stream.specs.Walk.{WalkState, state_past, state_after_fault, found_move, state_in, state_after_init, adts, start, state_before, view_of}
 use Rattle.adts_stream.proofs.HeaderLaws.{HasRoom, found-room}
 use Rattle.adts_stream.proofs.WalkLaws.{going, is_walk, once-short}
 use Rattle.adts_stream.proofs.Moves.{frame-whole, end-whole}
 
-abbrev walk_parse : State → AdtsParse
+abbrev walk_parse : WalkState → AdtsParse
 walk_parse s = parse_from adts view_of s
 
-by-move : (s : State) (m : Move State AdtsItem) → adts.move s ≡ m → walk_parse s ≡ parse_by view_of s (parse_from adts view_of) m
+by-move : (s : WalkState) (m : Move WalkState AdtsItem) → adts.move s ≡ m → walk_parse s ≡ parse_by view_of s (parse_from adts view_of) m
 by-move s m e = parse-step adts view_of is_walk s ∙ ap (parse_by view_of s (parse_from adts view_of)) e
 
 -- ---- a tag is passed over byte by byte
@@ -35,7 +35,7 @@ tag-there (suc left) last at (x ∷ rest) h =
     let e : at + suc left ≡ at + 1 + left = omega arith in
     by-move (going last (InTag (suc left)) at (x ∷ rest)) _ refl ∙ tag-there left last (at + 1) rest (omega arith) ∙ ap (λ k. walk_parse (going last AtHeader k (drop left rest))) (sym e)
 
-tag-short : (left : ℕ) (last : Option Presentation) (at : ℕ) (rest : List ℕ) → length rest < left → walk_parse (going last (InTag left) at rest) ≡ NoItem (waiting last [])
+tag-short : (left : ℕ) (last : Option Presentation) (at : ℕ) (rest : List ℕ) → length rest < left → walk_parse (going last (InTag left) at rest) ≡ NoItem (view_waiting last [])
 tag-short zero last at rest h = absurd (omega arith)
 tag-short (suc left) last at [] h = by-move (going last (InTag (suc left)) at []) Stop refl
 tag-short (suc left) last at (x ∷ rest) h = by-move (going last (InTag (suc left)) at (x ∷ rest)) _ refl ∙ tag-short left last (at + 1) rest (omega arith)
@@ -46,7 +46,7 @@ tag-short (suc left) last at (x ∷ rest) h = by-move (going last (InTag (suc le
 abbrev GoesOn : (Option Presentation → ℕ → AdtsParse) → List ℕ → ℕ → Type 0
 GoesOn next b at = (last : Option Presentation) (to : ℕ) → at < to → to ≤ length b → next last to ≡ walk_parse (going last AtHeader to (drop to b))
 
-tag-by : (next : Option Presentation → ℕ → AdtsParse) (b : List ℕ) (last : Option Presentation) (at n : ℕ) (c : Bool) → leb (at + n) (length b) ≡ c → at ≤ length b → 0 < n → GoesOn next b at → cond c (next last (at + n)) (NoItem (waiting last [])) ≡ walk_parse (going last (InTag n) at (drop at b))
+tag-by : (next : Option Presentation → ℕ → AdtsParse) (b : List ℕ) (last : Option Presentation) (at n : ℕ) (c : Bool) → leb (at + n) (length b) ≡ c → at ≤ length b → 0 < n → GoesOn next b at → cond c (next last (at + n)) (NoItem (view_waiting last [])) ≡ walk_parse (going last (InTag n) at (drop at b))
 tag-by next b last at n true e h z g =
     let l : at + n ≤ length b = grind (arith, nat_tests) in
     g last (at + n) (omega arith) l ∙ sym (tag-there n last at (drop at b) (omega (arith, length-drop at b)) ∙ ap (λ rest. walk_parse (going last AtHeader (at + n) rest)) (drop-drop n at b))
@@ -62,7 +62,7 @@ frame-by next b last at h true e l z g =
     let now = view_of (going last (AtFrame h) at rest) in
     let s = going last (AtFrame h) at rest in
     let t = going last (AtEnd h) at rest in
-    let f : walk_parse (behind (going last (AtEnd h) at (drop at b)) h.len) ≡ next last (at + h.len) = ap (λ xs. walk_parse (going last AtHeader (at + h.len) xs)) (drop-drop h.len at b) ∙ sym (g last (at + h.len) (omega arith) m) in
+    let f : walk_parse (state_past (going last (AtEnd h) at (drop at b)) h.len) ≡ next last (at + h.len) = ap (λ xs. walk_parse (going last AtHeader (at + h.len) xs)) (drop-drop h.len at b) ∙ sym (g last (at + h.len) (omega arith) m) in
     sym (by-move s _ (frame-whole last at rest h there) ∙ ap (ItemThen now (FrameItem (coded_frame h rest) at)) (by-move t _ (end-whole last at rest h there) ∙ ap (ItemThen now SegmentEnd) f))
 frame-by next b last at h false e l z g =
     let m : length b < at + h.len = grind (arith, nat_tests) in
@@ -72,7 +72,7 @@ frame-by next b last at h false e l z g =
 frame-at : (next : Option Presentation → ℕ → AdtsParse) (b : List ℕ) (last : Option Presentation) (at : ℕ) (h : FrameHeader) → at ≤ length b → 0 < h.len → GoesOn next b at → frame_parse next b last at h ≡ walk_parse (going last (AtFrame h) at (drop at b))
 frame-at next b last at h l z g = frame-by next b last at h (leb (at + h.len) (length b)) refl l z g
 
-rate-by : (next : Option Presentation → ℕ → AdtsParse) (b : List ℕ) (last : Option Presentation) (at : ℕ) (h : FrameHeader) (c : Bool) → at ≤ length b → 0 < h.len → GoesOn next b at → let s = going last AtHeader at (drop at b) in let p = presentation_of h.rate in cond c (frame_parse next b last at h) (ItemThen (view_of s) (InitItem p at) (frame_parse next b (Some p) at h)) ≡ parse_by view_of s (parse_from adts view_of) (cond c (Pass (into s (AtFrame h))) (Give (InitItem p at) (initialized s h)))
+rate-by : (next : Option Presentation → ℕ → AdtsParse) (b : List ℕ) (last : Option Presentation) (at : ℕ) (h : FrameHeader) (c : Bool) → at ≤ length b → 0 < h.len → GoesOn next b at → let s = going last AtHeader at (drop at b) in let p = presentation_of h.rate in cond c (frame_parse next b last at h) (ItemThen (view_of s) (InitItem p at) (frame_parse next b (Some p) at h)) ≡ parse_by view_of s (parse_from adts view_of) (cond c (Pass (state_in s (AtFrame h))) (Give (InitItem p at) (state_after_init s h)))
 rate-by next b last at h true l z g = frame-at next b last at h l z g
 rate-by next b last at h false l z g = ap (ItemThen (view_of (going last AtHeader at (drop at b))) (InitItem (presentation_of h.rate) at)) (frame-at next b (Some (presentation_of h.rate)) at h l z g)
 
@@ -81,7 +81,7 @@ found-by next b last at found.Nothing r l g = refl
 found-by next b last at (found.Tag n) r l g = tag-by next b last at n (leb (at + n) (length b)) refl l (omega (arith, r)) g
 found-by next b last at (found.Fault f) r l g =
     let s = going last AtHeader at (drop at b) in
-    ap (ItemThen (view_of s) (FaultItem f at)) (sym (by-move (faulted s) Stop refl))
+    ap (ItemThen (view_of s) (FaultItem f at)) (sym (by-move (state_after_fault s) Stop refl))
 found-by next b last at (found.Frame h) r l g = rate-by next b last at h (has_rate last h.rate) l (omega (arith, r.0)) g
 
 pub at-offset : (n : ℕ) (b : List ℕ) (last : Option Presentation) (at : ℕ) → at ≤ length b → length b < at + n → parse_at n b last at ≡ walk_parse (going last AtHeader at (drop at b))

@@ -13,20 +13,20 @@ use Rattle.adts_stream.specs.declared.position.ParsePosition.{ParsePosition}
 use Rattle.adts_stream.specs.Headers.{found_at}
 use Rattle.parser_loop.specs.Items.{InitItem, FrameItem, SegmentEnd}
 use Rattle.adts_stream.specs.Frames.{AdtsItem, presentation_of, has_rate, coded_frame}
-use Rattle.adts_stream.specs.Walk.{State, into, initialized, behind, faulted, frame_move, found_move, tag_move, move_unless, size_by, adts}
+use Rattle.adts_stream.specs.Walk.{WalkState, state_in, state_after_init, state_past, state_after_fault, frame_move, found_move, tag_move, move_unless, size_by, adts}
 use Rattle.adts_stream.specs.Values.{IsMoveTo, state_of, state_behind}
 use Rattle.adts_stream.proofs.WalkLaws.{going, is_walk, tag-size, tag-most, once-short, once-there}
 
 -- ---- one move
 
 -- where it only passes on
-pub moved-on : (s t : State) → adts.move s ≡ Pass t → IsMoveTo s t true
+pub moved-on : (s t : WalkState) → adts.move s ≡ Pass t → IsMoveTo s t true
 moved-on s t e =
     let d : Shrinks adts (adts.size s) (Pass t) = subst (Shrinks adts (adts.size s)) e (is_walk.shrinks s) in
     (sym (settle-step adts is_walk s ∙ ap (settle_by s (settle adts)) e), d)
 
 -- where it does not
-pub stays-there : (s : State) (m : Move State AdtsItem) → adts.move s ≡ m → IsSettled m → IsMoveTo s s false
+pub stays-there : (s : WalkState) (m : Move WalkState AdtsItem) → adts.move s ≡ m → IsSettled m → IsMoveTo s s false
 stays-there s m e h = sym (settle-same adts is_walk s (rw e h))
 
 -- the state of a position where no fault was met
@@ -85,11 +85,11 @@ none-passed last offset left rest z l = stays-there (going last (InTag left) off
 header-move : (last : Option Presentation) (offset : ℕ) (rest : List ℕ) (f : Found) → f ≡ found_at rest → adts.move (going last AtHeader offset rest) ≡ found_move (going last AtHeader offset rest) f
 header-move last offset rest f e = ap (found_move (going last AtHeader offset rest)) (sym e)
 
-frame-known : (s : State) (h : FrameHeader) → has_rate s.last h.rate ≡ true → frame_move s h ≡ Pass (into s (AtFrame h))
-frame-known s h e = ap (λ b. cond b (Pass (into s (AtFrame h))) (Give (InitItem (presentation_of h.rate) s.offset) (initialized s h))) e
+frame-known : (s : WalkState) (h : FrameHeader) → has_rate s.last h.rate ≡ true → frame_move s h ≡ Pass (state_in s (AtFrame h))
+frame-known s h e = ap (λ b. cond b (Pass (state_in s (AtFrame h))) (Give (InitItem (presentation_of h.rate) s.offset) (state_after_init s h))) e
 
-frame-new : (s : State) (h : FrameHeader) → has_rate s.last h.rate ≡ false → frame_move s h ≡ Give (InitItem (presentation_of h.rate) s.offset) (initialized s h)
-frame-new s h e = ap (λ b. cond b (Pass (into s (AtFrame h))) (Give (InitItem (presentation_of h.rate) s.offset) (initialized s h))) e
+frame-new : (s : WalkState) (h : FrameHeader) → has_rate s.last h.rate ≡ false → frame_move s h ≡ Give (InitItem (presentation_of h.rate) s.offset) (state_after_init s h)
+frame-new s h e = ap (λ b. cond b (Pass (state_in s (AtFrame h))) (Give (InitItem (presentation_of h.rate) s.offset) (state_after_init s h))) e
 
 pub to-tag : (last : Option Presentation) (offset : ℕ) (rest : List ℕ) (n : ℕ) → found.Tag n ≡ found_at rest → IsMoveTo (going last AtHeader offset rest) (going last (InTag n) offset rest) true
 to-tag last offset rest n e = moved-on (going last AtHeader offset rest) (going last (InTag n) offset rest) (header-move last offset rest (found.Tag n) e)
@@ -99,7 +99,7 @@ to-frame last offset rest h e r =
     let s = going last AtHeader offset rest in
     moved-on s (going last (AtFrame h) offset rest) (header-move last offset rest (found.Frame h) e ∙ frame-known s h r)
 
-pub new-rate : (last : Option Presentation) (offset : ℕ) (rest : List ℕ) (h : FrameHeader) → found.Frame h ≡ found_at rest → has_rate last h.rate ≡ false → adts.move (going last AtHeader offset rest) ≡ Give (InitItem (presentation_of h.rate) offset) (initialized (going last AtHeader offset rest) h)
+pub new-rate : (last : Option Presentation) (offset : ℕ) (rest : List ℕ) (h : FrameHeader) → found.Frame h ≡ found_at rest → has_rate last h.rate ≡ false → adts.move (going last AtHeader offset rest) ≡ Give (InitItem (presentation_of h.rate) offset) (state_after_init (going last AtHeader offset rest) h)
 new-rate last offset rest h e r =
     let s = going last AtHeader offset rest in
     header-move last offset rest (found.Frame h) e ∙ frame-new s h r
@@ -117,7 +117,7 @@ header-front last offset rest f e = header-move last offset rest f e
 
 -- ---- a frame
 
-once-settled : (b : Bool) (item : AdtsItem) (t : State) → IsSettled (cond b Stop (Give item t))
+once-settled : (b : Bool) (item : AdtsItem) (t : WalkState) → IsSettled (cond b Stop (Give item t))
 once-settled true item t = tt
 once-settled false item t = tt
 
@@ -142,12 +142,12 @@ frame-whole last offset rest h l = once-there (going last (AtFrame h) offset res
 pub end-short : (last : Option Presentation) (offset : ℕ) (rest : List ℕ) (h : FrameHeader) → length rest < h.len → item_of (adts.move (going last (AtEnd h) offset rest)) ≡ None
 end-short last offset rest h l = ap item_of (once-short (going last (AtEnd h) offset rest) h _ l)
 
-pub end-whole : (last : Option Presentation) (offset : ℕ) (rest : List ℕ) (h : FrameHeader) → h.len ≤ length rest → adts.move (going last (AtEnd h) offset rest) ≡ Give SegmentEnd (behind (going last (AtEnd h) offset rest) h.len)
+pub end-whole : (last : Option Presentation) (offset : ℕ) (rest : List ℕ) (h : FrameHeader) → h.len ≤ length rest → adts.move (going last (AtEnd h) offset rest) ≡ Give SegmentEnd (state_past (going last (AtEnd h) offset rest) h.len)
 end-whole last offset rest h l = once-there (going last (AtEnd h) offset rest) h _ l
 
 -- ---- in a tag
 
-tag-none : (s : State) (left : ℕ) (rest : List ℕ) → item_of (tag_move s left rest) ≡ None
+tag-none : (s : WalkState) (left : ℕ) (rest : List ℕ) → item_of (tag_move s left rest) ≡ None
 tag-none s left [] = refl
 tag-none s left (x ∷ rest) = refl
 
@@ -157,32 +157,32 @@ tag-dry last offset (suc left) rest = tag-none (going last (InTag (suc left)) of
 
 -- ---- behind an item
 
-behind-by : (s t : State) (m : Move State AdtsItem) (item : AdtsItem) → m ≡ Give item t → IsSettled (adts.move t) → state_behind s m ≡ t
+behind-by : (s t : WalkState) (m : Move WalkState AdtsItem) (item : AdtsItem) → m ≡ Give item t → IsSettled (adts.move t) → state_behind s m ≡ t
 behind-by s t m item e h = ap (state_behind s) e ∙ settle-same adts is_walk t h
 
 -- behind an initialization segment
-pub behind-init : (s : State) (h : FrameHeader) (item : AdtsItem) → adts.move s ≡ Give item (initialized s h) → going (Some (presentation_of h.rate)) (AtFrame h) s.offset s.rest ≡ state_behind s (adts.move s)
-behind-init s h item e = sym (behind-by s (initialized s h) (adts.move s) item e (frame-settled (Some (presentation_of h.rate)) s.offset s.rest h))
+pub behind-init : (s : WalkState) (h : FrameHeader) (item : AdtsItem) → adts.move s ≡ Give item (state_after_init s h) → going (Some (presentation_of h.rate)) (AtFrame h) s.offset s.rest ≡ state_behind s (adts.move s)
+behind-init s h item e = sym (behind-by s (state_after_init s h) (adts.move s) item e (frame-settled (Some (presentation_of h.rate)) s.offset s.rest h))
 
 -- behind a coded frame
-pub behind-frame : (s : State) (h : FrameHeader) (item : AdtsItem) → adts.move s ≡ Give item (into s (AtEnd h)) → going s.last (AtEnd h) s.offset s.rest ≡ state_behind s (adts.move s)
-behind-frame s h item e = sym (behind-by s (into s (AtEnd h)) (adts.move s) item e (end-settled s.last s.offset s.rest h))
+pub behind-frame : (s : WalkState) (h : FrameHeader) (item : AdtsItem) → adts.move s ≡ Give item (state_in s (AtEnd h)) → going s.last (AtEnd h) s.offset s.rest ≡ state_behind s (adts.move s)
+behind-frame s h item e = sym (behind-by s (state_in s (AtEnd h)) (adts.move s) item e (end-settled s.last s.offset s.rest h))
 
 -- behind a fault
-pub behind-fault : (s : State) (item : AdtsItem) → adts.move s ≡ Give item (faulted s) → faulted s ≡ state_behind s (adts.move s)
-behind-fault s item e = sym (behind-by s (faulted s) (adts.move s) item e tt)
+pub behind-fault : (s : WalkState) (item : AdtsItem) → adts.move s ≡ Give item (state_after_fault s) → state_after_fault s ≡ state_behind s (adts.move s)
+behind-fault s item e = sym (behind-by s (state_after_fault s) (adts.move s) item e tt)
 
 -- behind a segment
-pub behind-end : (s : State) (n : ℕ) (item : AdtsItem) → adts.move s ≡ Give item (behind s n) → settle adts (behind s n) ≡ state_behind s (adts.move s)
+pub behind-end : (s : WalkState) (n : ℕ) (item : AdtsItem) → adts.move s ≡ Give item (state_past s n) → settle adts (state_past s n) ≡ state_behind s (adts.move s)
 behind-end s n item e = sym (ap (state_behind s) e)
 
-none-behind : (s : State) (m : Move State AdtsItem) → item_of m ≡ None → s ≡ state_behind s m
+none-behind : (s : WalkState) (m : Move WalkState AdtsItem) → item_of m ≡ None → s ≡ state_behind s m
 none-behind s Stop e = refl
 none-behind s (Pass t) e = refl
 none-behind s (Give item t) e = absurd (cc)
 
 -- where there is no item, what is kept stays
-pub behind-none : (s : State) → item_of (adts.move s) ≡ None → s ≡ state_behind s (adts.move s)
+pub behind-none : (s : WalkState) → item_of (adts.move s) ≡ None → s ≡ state_behind s (adts.move s)
 behind-none s e = none-behind s (adts.move s) e
 
 -- ---- moves of a position
@@ -190,34 +190,34 @@ behind-none s e = none-behind s (adts.move s) e
 pub position-moved : (last : Option Presentation) (position new : ParsePosition) (rest new_rest : List ℕ) (p q : ParsePoint) (b : Bool) → position.point ≡ p → new.point ≡ q → position.failed ≡ false → new.failed ≡ false → IsMoveTo (going last p position.offset rest) (going last q new.offset new_rest) b → IsMoveTo (state_of last position rest) (state_of last new new_rest) b
 position-moved last position new rest new_rest p q b e f g h m = rw (at-position last position rest p e g, at-position last new new_rest q f h) m
 
-pub is-true : (s t : State) (b : Bool) → b ≡ true → IsMoveTo s t b → IsMoveTo s t true
+pub is-true : (s t : WalkState) (b : Bool) → b ≡ true → IsMoveTo s t b → IsMoveTo s t true
 is-true s t b e h = subst (IsMoveTo s t) e h
 
-pub is-false : (s t : State) (b : Bool) → b ≡ false → IsMoveTo s t b → IsMoveTo s t false
+pub is-false : (s t : WalkState) (b : Bool) → b ≡ false → IsMoveTo s t b → IsMoveTo s t false
 is-false s t b e h = subst (IsMoveTo s t) e h
 
 -- ---- what the code keeps behind an item
 
-going-at : (s : State) (item : AdtsItem) (t : State) (b : Bool) → s.failed ≡ b → move_unless s b ≡ Give item t → s.failed ≡ false
+going-at : (s : WalkState) (item : AdtsItem) (t : WalkState) (b : Bool) → s.failed ≡ b → move_unless s b ≡ Give item t → s.failed ≡ false
 going-at s item t true e h = absurd (cc)
 going-at s item t false e h = e
 
 -- where an item comes, no fault was met
-pub going-on : (s : State) (item : AdtsItem) (t : State) → adts.move s ≡ Give item t → s.failed ≡ false
+pub going-on : (s : WalkState) (item : AdtsItem) (t : WalkState) → adts.move s ≡ Give item t → s.failed ≡ false
 going-on s item t h = going-at s item t s.failed refl h
 
-pub kept-init : (last new_last : Option Presentation) (position new : ParsePosition) (rest : List ℕ) (h : FrameHeader) (item : AdtsItem) → let s = state_of last position rest in adts.move s ≡ Give item (initialized s h) → new_last ≡ Some (presentation_of h.rate) → new ≡ record { point = AtFrame h; offset = position.offset; failed = position.failed } → state_of new_last new rest ≡ state_behind s (adts.move s)
+pub kept-init : (last new_last : Option Presentation) (position new : ParsePosition) (rest : List ℕ) (h : FrameHeader) (item : AdtsItem) → let s = state_of last position rest in adts.move s ≡ Give item (state_after_init s h) → new_last ≡ Some (presentation_of h.rate) → new ≡ record { point = AtFrame h; offset = position.offset; failed = position.failed } → state_of new_last new rest ≡ state_behind s (adts.move s)
 kept-init last new_last position new rest h item e l n =
-    let s : State = state_of last position rest in
-    let g : position.failed ≡ false = going-on s item (initialized s h) e in
-    let kept : Option Presentation → ParsePosition → State = λ l x. state_of l x rest in
+    let s : WalkState = state_of last position rest in
+    let g : position.failed ≡ false = going-on s item (state_after_init s h) e in
+    let kept : Option Presentation → ParsePosition → WalkState = λ l x. state_of l x rest in
     let at : Bool → ParsePosition = λ b. record { point = AtFrame h; offset = position.offset; failed = b } in
     ap (λ l. kept l new) l ∙ ap (kept (Some (presentation_of h.rate))) (n ∙ ap at g) ∙ behind-init s h item e
 
-pub kept-frame : (last : Option Presentation) (position new : ParsePosition) (rest : List ℕ) (h : FrameHeader) (item : AdtsItem) → let s = state_of last position rest in adts.move s ≡ Give item (into s (AtEnd h)) → new ≡ record { point = AtEnd h; offset = position.offset; failed = position.failed } → state_of last new rest ≡ state_behind s (adts.move s)
+pub kept-frame : (last : Option Presentation) (position new : ParsePosition) (rest : List ℕ) (h : FrameHeader) (item : AdtsItem) → let s = state_of last position rest in adts.move s ≡ Give item (state_in s (AtEnd h)) → new ≡ record { point = AtEnd h; offset = position.offset; failed = position.failed } → state_of last new rest ≡ state_behind s (adts.move s)
 kept-frame last position new rest h item e n =
-    let s : State = state_of last position rest in
-    let g : position.failed ≡ false = going-on s item (into s (AtEnd h)) e in
+    let s : WalkState = state_of last position rest in
+    let g : position.failed ≡ false = going-on s item (state_in s (AtEnd h)) e in
     let at : Bool → ParsePosition = λ b. record { point = AtEnd h; offset = position.offset; failed = b } in
     ap (λ (x : ParsePosition). state_of last x rest) (n ∙ ap at g) ∙ behind-frame s h item e
 

@@ -11,7 +11,7 @@ use Rattle.adts_stream.specs.declared.header.Found.{Found}
 use Rattle.adts_stream.specs.declared.header.Found.TheVariants as found
 use Rattle.adts_stream.specs.declared.next.AdtsFault.{AdtsFault}
 use Rattle.adts_stream.specs.Headers.{found_at}
-use Rattle.adts_stream.specs.Frames.{AdtsItem, AdtsParse, presentation_of, has_rate, coded_frame, waiting, in_media, frame_parse, found_parse, parse_at, string_parse, Items, view_before}
+use Rattle.adts_stream.specs.Frames.{AdtsItem, AdtsParse, presentation_of, has_rate, coded_frame, view_waiting, view_in_media, frame_parse, found_parse, parse_at, string_parse, Items, view_before}
 use Rattle.adts_stream.specs.Places.{IsInitAt, IsFrameAt}
 
 abbrev pub IsAt : List ℕ → AdtsItem → Type 0
@@ -36,17 +36,17 @@ from at b = record { offset = at; is = refl }
 nothing : (b : List ℕ) → IsSuffix [] b
 nothing b = record { offset = length b; is = sym (drop_all (length b) b (omega arith)) }
 
-tag-by : (c : Bool) (b : List ℕ) (last : Option Presentation) (parse : AdtsParse) → IsOf b parse → IsOf b (cond c parse (NoItem (waiting last [])))
+tag-by : (c : Bool) (b : List ℕ) (last : Option Presentation) (parse : AdtsParse) → IsOf b parse → IsOf b (cond c parse (NoItem (view_waiting last [])))
 tag-by true b last parse h = h
 tag-by false b last parse h = nothing b
 
-frame-by : (c : Bool) (next : Option Presentation → ℕ → AdtsParse) (b : List ℕ) (last : Option Presentation) (at : ℕ) (h : FrameHeader) → leb (at + h.len) (length b) ≡ c → found_at (drop at b) ≡ found.Frame h → IsOf b (next last (at + h.len)) → let now = in_media last (drop at b) in IsOf b (cond c (ItemThen now (FrameItem (coded_frame h (drop at b)) at) (ItemThen now SegmentEnd (next last (at + h.len)))) (NoItem now))
+frame-by : (c : Bool) (next : Option Presentation → ℕ → AdtsParse) (b : List ℕ) (last : Option Presentation) (at : ℕ) (h : FrameHeader) → leb (at + h.len) (length b) ≡ c → found_at (drop at b) ≡ found.Frame h → IsOf b (next last (at + h.len)) → let now = view_in_media last (drop at b) in IsOf b (cond c (ItemThen now (FrameItem (coded_frame h (drop at b)) at) (ItemThen now SegmentEnd (next last (at + h.len)))) (NoItem now))
 frame-by true next b last at h e f q =
     let l : at + h.len ≤ length b = grind (arith, nat_tests) in
     (from at b, record { header = h; found = f; is = refl; there = l }, tt, (from at b, tt, tt, q))
 frame-by false next b last at h e f q = from at b
 
-rate-by : (c : Bool) (next : Option Presentation → ℕ → AdtsParse) (b : List ℕ) (last : Option Presentation) (at : ℕ) (h : FrameHeader) → found_at (drop at b) ≡ found.Frame h → ((last : Option Presentation) (to : ℕ) → IsOf b (next last to)) → IsOf b (cond c (frame_parse next b last at h) (ItemThen (waiting last (drop at b)) (InitItem (presentation_of h.rate) at) (frame_parse next b (Some (presentation_of h.rate)) at h)))
+rate-by : (c : Bool) (next : Option Presentation → ℕ → AdtsParse) (b : List ℕ) (last : Option Presentation) (at : ℕ) (h : FrameHeader) → found_at (drop at b) ≡ found.Frame h → ((last : Option Presentation) (to : ℕ) → IsOf b (next last to)) → IsOf b (cond c (frame_parse next b last at h) (ItemThen (view_waiting last (drop at b)) (InitItem (presentation_of h.rate) at) (frame_parse next b (Some (presentation_of h.rate)) at h)))
 rate-by true next b last at h f q = frame-by (leb (at + h.len) (length b)) next b last at h refl f (q last (at + h.len))
 rate-by false next b last at h f q =
     let p = presentation_of h.rate in

@@ -23,7 +23,7 @@ use Rattle.adts_stream.specs.declared.next.AdtsNext.{AdtsNext}
 use Rattle.adts_stream.specs.Headers.{found_at}
 use Rattle.parser_loop.specs.Items.{InitItem, FrameItem, SegmentEnd, FaultItem, latest_after_all}
 use Rattle.adts_stream.specs.Frames.{AdtsItem, presentation_of, has_rate, coded_frame, Items, phase_before, ready_before, held_before}
-use Rattle.adts_stream.specs.Walk.{State, found_move, tag_move, move_unless, more_unless, into, initialized, behind, adts, start, state_before, phase_of}
+use Rattle.adts_stream.specs.Walk.{WalkState, found_move, tag_move, move_unless, more_unless, state_in, state_after_init, state_past, adts, start, state_before, phase_of}
 use Rattle.adts_stream.specs.Values.{state_of, state_behind, ready_at, ready_unless, ready_of, position_at_start, seen}
 use Rattle.adts_stream.specs.Streams.{AdtsView, Stands, fed, fed_all, adts_view, IsStream}
 use Rattle.adts_stream.proofs.WalkLaws.{going, is_walk, once-short}
@@ -34,60 +34,60 @@ use Rattle.adts_stream.proofs.FrameLaws.{items-frames, view-frames}
 
 -- ---- what is kept, as a walk that takes nothing ahead
 
-rested : (m : Move State AdtsItem) → IsSettled m → IsRested adts m
+rested : (m : Move WalkState AdtsItem) → IsSettled m → IsRested adts m
 rested Stop h = tt
 rested (Pass t) h = h
 rested (Give item t) h = refl
 
-run-is : (t : State) → run adts t ≡ stay_at (settle adts t)
+run-is : (t : WalkState) → run adts t ≡ stay_at (settle adts t)
 run-is t = sym (run-settle adts is_walk t) ∙ run-rested adts is_walk (settle adts t) (rested (adts.move (settle adts t)) (settled adts is_walk t))
 
 run-state : (last : Option Presentation) (b : List ℕ) (n : ℕ) → run adts (state_before last b n) ≡ stay_at (state_before last b n)
 run-state last b n = run-rested adts is_walk (state_before last b n) (rested (adts.move (state_before last b n)) (settled-at-state adts is_walk n (start last b)))
 
 -- it is the state just before the next item
-pub is-state : (kept : State) (last : Option Presentation) (b : List ℕ) (n : ℕ) → Stands kept last b n → kept ≡ state_before last b n
-is-state kept last b n h = ap (λ (r : Lookahead State AdtsItem). r.state) (h.is ∙ run-state last b n)
+pub is-state : (kept : WalkState) (last : Option Presentation) (b : List ℕ) (n : ℕ) → Stands kept last b n → kept ≡ state_before last b n
+is-state kept last b n h = ap (λ (r : Lookahead WalkState AdtsItem). r.state) (h.is ∙ run-state last b n)
 
-pub stands-given : (kept : State) (last : Option Presentation) (b : List ℕ) (n : ℕ) → Stands kept last b n → n ≤ length (Items last b)
+pub stands-given : (kept : WalkState) (last : Option Presentation) (b : List ℕ) (n : ℕ) → Stands kept last b n → n ≤ length (Items last b)
 stands-given kept last b n h = omega (arith, h.taken, ap length (items-frames last b))
 
 -- the next item
-pub stands-item : (kept : State) (last : Option Presentation) (b : List ℕ) (n : ℕ) → Stands kept last b n → item_of (adts.move kept) ≡ slice_get (Items last b) n
+pub stands-item : (kept : WalkState) (last : Option Presentation) (b : List ℕ) (n : ℕ) → Stands kept last b n → item_of (adts.move kept) ≡ slice_get (Items last b) n
 stands-item kept last b n h = stands-first adts is_walk (stay_at kept) (start last b) n h ∙ ap (λ items. slice_get items n) (sym (items-frames last b))
 
-after-is : (kept : State) (m : Move State AdtsItem) → run_after adts kept m ≡ stay_at (state_behind kept m)
+after-is : (kept : WalkState) (m : Move WalkState AdtsItem) → run_after adts kept m ≡ stay_at (state_behind kept m)
 after-is kept Stop = refl
 after-is kept (Pass t) = refl
 after-is kept (Give item t) = run-is t
 
 -- behind it
-pub stands-behind : (kept : State) (last : Option Presentation) (b : List ℕ) (n : ℕ) → Stands kept last b n → Stands (state_behind kept (adts.move kept)) last b (count_after n (item_of (adts.move kept)))
+pub stands-behind : (kept : WalkState) (last : Option Presentation) (b : List ℕ) (n : ℕ) → Stands kept last b n → Stands (state_behind kept (adts.move kept)) last b (count_after n (item_of (adts.move kept)))
 stands-behind kept last b n h = subst (λ r. walk.Stands adts r (start last b) (count_after n (item_of (adts.move kept)))) (after-is kept (adts.move kept)) (stands-after adts is_walk (stay_at kept) (start last b) n h)
 
 -- with more bytes
-pub stands-more : (kept : State) (last : Option Presentation) (b c : List ℕ) (n : ℕ) → Stands kept last b n → Stands (fed kept c) last (b ++ c) n
+pub stands-more : (kept : WalkState) (last : Option Presentation) (b c : List ℕ) (n : ℕ) → Stands kept last b n → Stands (fed kept c) last (b ++ c) n
 stands-more kept last b c n h = subst (λ r. walk.Stands adts r (start last (b ++ c)) n) (run-is (adts.more kept c)) (stands-piece adts is_walk (stay_at kept) (start last b) c n h)
 
-pub stands-pieces : (kept : State) (last : Option Presentation) (b : List ℕ) (n : ℕ) (cs : List (List ℕ)) → Stands kept last b n → Stands (fed_all kept cs) last (b ++ concat cs) n
+pub stands-pieces : (kept : WalkState) (last : Option Presentation) (b : List ℕ) (n : ℕ) (cs : List (List ℕ)) → Stands kept last b n → Stands (fed_all kept cs) last (b ++ concat cs) n
 stands-pieces kept last b n [] h = rw (append-nil b) h
 stands-pieces kept last b n (c ∷ cs) h =
     subst (λ v. Stands (fed_all (fed kept c) cs) last v n) (append_assoc b c (concat cs)) (stands-pieces (fed kept c) last (b ++ c) n cs (stands-more kept last b c n h))
 
 -- the presentation, the phase and the bytes
-pub stands-latest : (kept : State) (last : Option Presentation) (b : List ℕ) (n : ℕ) → Stands kept last b n → kept.last ≡ latest_after_all last (take n (Items last b))
-stands-latest kept last b n h = ap (λ (s : State). s.last) (is-state kept last b n h) ∙ state-latest adts is_walk (λ (s : State). s.last) last-move n (start last b) ∙ ap (λ items. latest_after_all last (take n items)) (sym (items-frames last b))
+pub stands-latest : (kept : WalkState) (last : Option Presentation) (b : List ℕ) (n : ℕ) → Stands kept last b n → kept.last ≡ latest_after_all last (take n (Items last b))
+stands-latest kept last b n h = ap (λ (s : WalkState). s.last) (is-state kept last b n h) ∙ state-latest adts is_walk (λ (s : WalkState). s.last) last-move n (start last b) ∙ ap (λ items. latest_after_all last (take n items)) (sym (items-frames last b))
 
-pub stands-phase : (kept : State) (last : Option Presentation) (b : List ℕ) (n : ℕ) → Stands kept last b n → phase_of kept.point ≡ phase_before last b n
-stands-phase kept last b n h = ap (λ (s : State). phase_of s.point) (is-state kept last b n h) ∙ ap (λ (v : ParserView). v.phase) (sym (view-frames last b n))
+pub stands-phase : (kept : WalkState) (last : Option Presentation) (b : List ℕ) (n : ℕ) → Stands kept last b n → phase_of kept.point ≡ phase_before last b n
+stands-phase kept last b n h = ap (λ (s : WalkState). phase_of s.point) (is-state kept last b n h) ∙ ap (λ (v : ParserView). v.phase) (sym (view-frames last b n))
 
-pub stands-held : (kept : State) (last : Option Presentation) (b : List ℕ) (n : ℕ) → Stands kept last b n → kept.rest ≡ held_before last b n
-stands-held kept last b n h = ap (λ (s : State). s.rest) (is-state kept last b n h) ∙ ap (λ (v : ParserView). v.held) (sym (view-frames last b n))
+pub stands-held : (kept : WalkState) (last : Option Presentation) (b : List ℕ) (n : ℕ) → Stands kept last b n → kept.rest ≡ held_before last b n
+stands-held kept last b n h = ap (λ (s : WalkState). s.rest) (is-state kept last b n h) ∙ ap (λ (v : ParserView). v.held) (sym (view-frames last b n))
 
-pub waits-kept : (r : Bool) (point : ParsePoint) (kept : State) → point ≡ kept.point → (IsTrue r ↔ (phase_of point ≡ Waiting)) → (IsTrue r ↔ (phase_of kept.point ≡ Waiting))
+pub waits-kept : (r : Bool) (point : ParsePoint) (kept : WalkState) → point ≡ kept.point → (IsTrue r ↔ (phase_of point ≡ Waiting)) → (IsTrue r ↔ (phase_of kept.point ≡ Waiting))
 waits-kept r point kept e h = subst (λ p. IsTrue r ↔ (phase_of p ≡ Waiting)) e h
 
-pub waits : (r : Bool) (kept : State) (last : Option Presentation) (b : List ℕ) (n : ℕ) → Stands kept last b n → (IsTrue r ↔ (phase_of kept.point ≡ Waiting)) → (IsTrue r ↔ (phase_before last b n ≡ Waiting))
+pub waits : (r : Bool) (kept : WalkState) (last : Option Presentation) (b : List ℕ) (n : ℕ) → Stands kept last b n → (IsTrue r ↔ (phase_of kept.point ≡ Waiting)) → (IsTrue r ↔ (phase_before last b n ≡ Waiting))
 waits r kept last b n st h = subst (λ p. IsTrue r ↔ (p ≡ Waiting)) (stands-phase kept last b n st) h
 
 -- ---- frames that are ready
@@ -95,10 +95,10 @@ waits r kept last b n st h = subst (λ p. IsTrue r ↔ (p ≡ Waiting)) (stands-
 abbrev frames_first : List AdtsItem → ℕ
 frames_first items = length (leading_frames items)
 
-items-give : (s t : State) (item : AdtsItem) → adts.move s ≡ Give item t → items_from adts s ≡ item ∷ items_from adts t
+items-give : (s t : WalkState) (item : AdtsItem) → adts.move s ≡ Give item t → items_from adts s ≡ item ∷ items_from adts t
 items-give s t item e = items-step adts is_walk s ∙ ap (items_by (items_from adts)) e
 
-items-stop : (s : State) → adts.move s ≡ Stop → items_from adts s ≡ []
+items-stop : (s : WalkState) → adts.move s ≡ Stop → items_from adts s ≡ []
 items-stop s e = items-step adts is_walk s ∙ ap (items_by (items_from adts)) e
 
 -- behind a coded frame its segment ends
@@ -107,11 +107,11 @@ one-frame last offset rest h l =
     let s = going last (AtFrame h) offset rest in
     let t = going last (AtEnd h) offset rest in
     let e = items-give s t (FrameItem (coded_frame h rest) offset) (frame-whole last offset rest h l) in
-    let f = items-give t (behind t h.len) SegmentEnd (end-whole last offset rest h l) in
+    let f = items-give t (state_past t h.len) SegmentEnd (end-whole last offset rest h l) in
     ap frames_first e ∙ ap (λ items. suc (frames_first items)) f
 
 -- whether the item of a move is a coded frame
-abbrev gives_frame : Move State AdtsItem → Bool
+abbrev gives_frame : Move WalkState AdtsItem → Bool
 gives_frame Stop = false
 gives_frame (Pass t) = false
 gives_frame (Give (InitItem p offset) t) = false
@@ -119,7 +119,7 @@ gives_frame (Give (FrameItem frame offset) t) = true
 gives_frame (Give SegmentEnd t) = false
 gives_frame (Give (FaultItem f offset) t) = false
 
-no-frame : (s : State) (m : Move State AdtsItem) → adts.move s ≡ m → IsSettled m → gives_frame m ≡ false → frames_first (items_from adts s) ≡ 0
+no-frame : (s : WalkState) (m : Move WalkState AdtsItem) → adts.move s ≡ m → IsSettled m → gives_frame m ≡ false → frames_first (items_from adts s) ≡ 0
 no-frame s Stop e h f = ap frames_first (items-stop s e)
 no-frame s (Pass t) e h f = absurd h
 no-frame s (Give (InitItem p offset) t) e h f = ap frames_first (items-give s t (InitItem p offset) e)
@@ -127,21 +127,21 @@ no-frame s (Give (FrameItem frame offset) t) e h f = absurd (cc)
 no-frame s (Give SegmentEnd t) e h f = ap frames_first (items-give s t SegmentEnd e)
 no-frame s (Give (FaultItem g offset) t) e h f = ap frames_first (items-give s t (FaultItem g offset) e)
 
-rate-frameless : (b : Bool) (t u : State) (p : Presentation) (offset : ℕ) → gives_frame (cond b (Pass t) (Give (InitItem p offset) u)) ≡ false
+rate-frameless : (b : Bool) (t u : WalkState) (p : Presentation) (offset : ℕ) → gives_frame (cond b (Pass t) (Give (InitItem p offset) u)) ≡ false
 rate-frameless true t u p offset = refl
 rate-frameless false t u p offset = refl
 
-found-frameless : (s : State) (f : Found) → gives_frame (found_move s f) ≡ false
+found-frameless : (s : WalkState) (f : Found) → gives_frame (found_move s f) ≡ false
 found-frameless s found.Nothing = refl
 found-frameless s (found.Tag n) = refl
 found-frameless s (found.Fault f) = refl
-found-frameless s (found.Frame h) = rate-frameless (has_rate s.last h.rate) (into s (AtFrame h)) (initialized s h) (presentation_of h.rate) s.offset
+found-frameless s (found.Frame h) = rate-frameless (has_rate s.last h.rate) (state_in s (AtFrame h)) (state_after_init s h) (presentation_of h.rate) s.offset
 
-tag-frameless : (s : State) (left : ℕ) (rest : List ℕ) → gives_frame (tag_move s left rest) ≡ false
+tag-frameless : (s : WalkState) (left : ℕ) (rest : List ℕ) → gives_frame (tag_move s left rest) ≡ false
 tag-frameless s left [] = refl
 tag-frameless s left (x ∷ rest) = refl
 
-end-frameless : (b : Bool) (t : State) → gives_frame (cond b Stop (Give SegmentEnd t)) ≡ false
+end-frameless : (b : Bool) (t : WalkState) → gives_frame (cond b Stop (Give SegmentEnd t)) ≡ false
 end-frameless true t = refl
 end-frameless false t = refl
 
@@ -154,33 +154,33 @@ ready-place last AtHeader offset rest h = sym (no-frame (going last AtHeader off
 ready-place last (InTag zero) offset rest h = absurd h
 ready-place last (InTag (suc left)) offset rest h = sym (no-frame (going last (InTag (suc left)) offset rest) _ refl h (tag-frameless (going last (InTag (suc left)) offset rest) left rest))
 ready-place last (AtFrame h) offset rest s = frame-there last offset rest h (leb h.len (length rest)) refl
-ready-place last (AtEnd h) offset rest s = sym (no-frame (going last (AtEnd h) offset rest) _ refl s (end-frameless (ltb (length rest) h.len) (behind (going last (AtEnd h) offset rest) h.len)))
+ready-place last (AtEnd h) offset rest s = sym (no-frame (going last (AtEnd h) offset rest) _ refl s (end-frameless (ltb (length rest) h.len) (state_past (going last (AtEnd h) offset rest) h.len)))
 
-ready-unless : (last : Option Presentation) (p : ParsePoint) (offset : ℕ) (rest : List ℕ) (failed : Bool) → let s : State = record { last = last; point = p; offset = offset; rest = rest; failed = failed } in IsSettled (adts.move s) → ready_unless s failed ≡ frames_first (items_from adts s)
-ready-unless last p offset rest true h = let s : State = record { last = last; point = p; offset = offset; rest = rest; failed = true } in sym (ap frames_first (items-stop s refl))
+ready-unless : (last : Option Presentation) (p : ParsePoint) (offset : ℕ) (rest : List ℕ) (failed : Bool) → let s : WalkState = record { last = last; point = p; offset = offset; rest = rest; failed = failed } in IsSettled (adts.move s) → ready_unless s failed ≡ frames_first (items_from adts s)
+ready-unless last p offset rest true h = let s : WalkState = record { last = last; point = p; offset = offset; rest = rest; failed = true } in sym (ap frames_first (items-stop s refl))
 ready-unless last p offset rest false h = ready-place last p offset rest h
 
-pub stands-ready : (kept : State) (last : Option Presentation) (b : List ℕ) (n : ℕ) → Stands kept last b n → ready_of kept ≡ ready_before last b n
+pub stands-ready : (kept : WalkState) (last : Option Presentation) (b : List ℕ) (n : ℕ) → Stands kept last b n → ready_of kept ≡ ready_before last b n
 stands-ready kept last b n h =
-    let s : State = state_before last b n in
+    let s : WalkState = state_before last b n in
     ap ready_of (is-state kept last b n h) ∙ ready-unless s.last s.point s.offset s.rest s.failed (settled-at-state adts is_walk n (start last b)) ∙ ap frames_first (items-at adts is_walk n (start last b) ∙ ap (drop n) (sym (items-frames last b)))
 
 one-or-none : (b : Bool) → cond b 1 0 ≤ 1
 one-or-none true = omega arith
 one-or-none false = omega arith
 
-ready-most : (s : State) (p : ParsePoint) (n : ℕ) → ready_at n p ≤ 1
+ready-most : (s : WalkState) (p : ParsePoint) (n : ℕ) → ready_at n p ≤ 1
 ready-most s AtHeader n = omega arith
 ready-most s (InTag left) n = omega arith
 ready-most s (AtFrame h) n = one-or-none (leb h.len n)
 ready-most s (AtEnd h) n = omega arith
 
-ready-few : (s : State) (failed : Bool) → ready_unless s failed ≤ 1
+ready-few : (s : WalkState) (failed : Bool) → ready_unless s failed ≤ 1
 ready-few s true = omega arith
 ready-few s false = ready-most s s.point (length s.rest)
 
 -- only the next item can be looked at
-pub only-next : (s : State) (i : ℕ) → (i ≡ 0) ⊎ (i < ready_of s) → i ≡ 0
+pub only-next : (s : WalkState) (i : ℕ) → (i ≡ 0) ⊎ (i < ready_of s) → i ≡ 0
 only-next s i (inl e) = e
 only-next s i (inr h) = omega (arith, h, ready-few s s.failed)
 
@@ -201,7 +201,7 @@ empty-found = refl
 
 pub stands-empty : (last : Option Presentation) → Stands (start last []) last [] 0
 stands-empty last =
-    let s : State = start last [] in
+    let s : WalkState = start last [] in
     let e : adts.move s ≡ Stop = ap (found_move s) empty-found in
     subst (λ u. Stands u last [] 0) (settle-same adts is_walk s (rw e tt)) (subst (λ r. walk.Stands adts r s 0) (run-is s) (stands-start adts is_walk s))
 
@@ -243,20 +243,20 @@ offer-holds position old new bytes n len e f h room =
 
 -- ---- the offered bytes are appended
 
-more-still : (s : State) (c : List ℕ) (failed : Bool) → s.failed ≡ failed → failed ≡ true → adts.more s c ≡ s
+more-still : (s : WalkState) (c : List ℕ) (failed : Bool) → s.failed ≡ failed → failed ≡ true → adts.more s c ≡ s
 more-still s c true e f = ap (more_unless s c) e
 more-still s c false e f = absurd (cc)
 
 -- behind a fault nothing is appended
 pub fed-failed : (last : Option Presentation) (position : ParsePosition) (bytes c : List ℕ) → position.failed ≡ true → state_of last position bytes ≡ fed (state_of last position bytes) c
 fed-failed last position bytes c e =
-    let s : State = state_of last position bytes in
+    let s : WalkState = state_of last position bytes in
     let m : adts.move s ≡ Stop = ap (move_unless s) e in
     sym (ap (settle adts) (more-still s c position.failed refl e) ∙ settle-same adts is_walk s (rw m tt))
 
 pub fed-going : (last : Option Presentation) (position : ParsePosition) (bytes : List ℕ) (k : ℕ) → position.failed ≡ false → settle adts (state_of last position bytes) ≡ fed (state_of last position (take k bytes)) (drop k bytes)
 fed-going last position bytes k e =
-    let s : State = state_of last position (take k bytes) in
+    let s : WalkState = state_of last position (take k bytes) in
     let f : adts.more s (drop k bytes) ≡ going last position.point position.offset (take k bytes ++ drop k bytes) = ap (more_unless s (drop k bytes)) e in
     let g : state_of last position bytes ≡ going last position.point position.offset bytes = at-position last position bytes position.point refl e in
     ap (settle adts) (g ∙ ap (going last position.point position.offset) (sym (take-append-drop k bytes)) ∙ sym f)
@@ -264,10 +264,10 @@ fed-going last position bytes k e =
 offered-length : (bytes : List ℕ) (len : ℕ) → len ≤ length bytes → length (drop (length bytes - len) bytes) ≡ len
 offered-length bytes len h = let l = length-drop (length bytes - len) bytes in omega (arith, l)
 
-pub accept-stands : (last : Option Presentation) (position : ParsePosition) (bytes : List ℕ) (n len : ℕ) (new : State) (v : AdtsView) → adts_view last position bytes n (Some len) ≡ v → new ≡ fed (state_of last position (take (length bytes - len) bytes)) (drop (length bytes - len) bytes) → IfSome v.offered (λ c. (before : Option Presentation) (b : List ℕ) (k : ℕ) → Stands v.state before b k → Stands new before (b ++ c) k)
+pub accept-stands : (last : Option Presentation) (position : ParsePosition) (bytes : List ℕ) (n len : ℕ) (new : WalkState) (v : AdtsView) → adts_view last position bytes n (Some len) ≡ v → new ≡ fed (state_of last position (take (length bytes - len) bytes)) (drop (length bytes - len) bytes) → IfSome v.offered (λ c. (before : Option Presentation) (b : List ℕ) (k : ℕ) → Stands v.state before b k → Stands new before (b ++ c) k)
 accept-stands last position bytes n len new v e f =
     let c = drop (length bytes - len) bytes in
-    let kept : State = state_of last position (take (length bytes - len) bytes) in
+    let kept : WalkState = state_of last position (take (length bytes - len) bytes) in
     let g : (before : Option Presentation) (b : List ℕ) (k : ℕ) → Stands kept before b k → Stands new before (b ++ c) k = λ before b k q. subst (λ w. Stands w before (b ++ c) k) (sym f) (stands-more kept before b c k q) in
     subst (λ (v : AdtsView). IfSome v.offered (λ c. (before : Option Presentation) (b : List ℕ) (k : ℕ) → Stands v.state before b k → Stands new before (b ++ c) k)) e g
 
@@ -289,14 +289,14 @@ decline-holds position bytes new n len h f =
 
 -- ---- the next item
 
-pub next-item : {E : Type 0} (result : Result AdtsNext E) (s : State) (last : Option Presentation) (b : List ℕ) (n : ℕ) → Stands s last b n → IfOk result (λ x. seen x ≡ item_of (adts.move s)) → IfOk result (λ x. seen x ≡ slice_get (Items last b) n)
+pub next-item : {E : Type 0} (result : Result AdtsNext E) (s : WalkState) (last : Option Presentation) (b : List ℕ) (n : ℕ) → Stands s last b n → IfOk result (λ x. seen x ≡ item_of (adts.move s)) → IfOk result (λ x. seen x ≡ slice_get (Items last b) n)
 next-item (Ok x) s last b n h g = g ∙ stands-item s last b n h
 next-item (Err e) s last b n h g = tt
 
-pub next-stands : {E : Type 0} (result : Result AdtsNext E) (s new : State) (last : Option Presentation) (b : List ℕ) (n : ℕ) → Stands s last b n → IfOk result (λ x. seen x ≡ item_of (adts.move s)) → OnOk result (new ≡ state_behind s (adts.move s)) → IfOk result (λ x. Stands new last b (count_after n (seen x)))
+pub next-stands : {E : Type 0} (result : Result AdtsNext E) (s new : WalkState) (last : Option Presentation) (b : List ℕ) (n : ℕ) → Stands s last b n → IfOk result (λ x. seen x ≡ item_of (adts.move s)) → OnOk result (new ≡ state_behind s (adts.move s)) → IfOk result (λ x. Stands new last b (count_after n (seen x)))
 next-stands (Ok x) s new last b n h g k = subst (λ w. Stands w last b (count_after n (seen x))) (sym k) (subst (λ o. Stands (state_behind s (adts.move s)) last b (count_after n o)) (sym g) (stands-behind s last b n h))
 next-stands (Err e) s new last b n h g k = tt
 
-pub next-dry : {E : Type 0} (result : Result AdtsNext E) (s new : State) → IfOk result (λ x. seen x ≡ item_of (adts.move s)) → OnOk result (new ≡ state_behind s (adts.move s)) → IfOk result (λ x. seen x ≡ None → new ≡ s)
+pub next-dry : {E : Type 0} (result : Result AdtsNext E) (s new : WalkState) → IfOk result (λ x. seen x ≡ item_of (adts.move s)) → OnOk result (new ≡ state_behind s (adts.move s)) → IfOk result (λ x. seen x ≡ None → new ≡ s)
 next-dry (Ok x) s new g k = λ e. k ∙ sym (behind-none s (sym g ∙ e))
 next-dry (Err x) s new g k = tt

@@ -13,15 +13,15 @@ use Rattle.adts_stream.specs.declared.position.ParsePoint.TheVariants.{AtHeader,
 use Rattle.adts_stream.specs.Headers.{found_at}
 use Rattle.parser_loop.specs.Items.{InitItem, is_fault}
 use Rattle.adts_stream.specs.Frames.{AdtsItem, presentation_of, has_rate}
-use Rattle.adts_stream.specs.Walk.{State, into, initialized, found_move, tag_move, once, point_move, move_unless, size_by, size_unless, more_unless, adts}
+use Rattle.adts_stream.specs.Walk.{WalkState, state_in, state_after_init, found_move, tag_move, once_there, point_move, move_unless, size_by, size_unless, more_unless, adts}
 use Rattle.adts_stream.proofs.HeaderLaws.{is_nothing, HasRoom, found-room, found-longer}
 
-abbrev pub going : Option Presentation → ParsePoint → ℕ → List ℕ → State
+abbrev pub going : Option Presentation → ParsePoint → ℕ → List ℕ → WalkState
 going last point offset rest = record { last = last; point = point; offset = offset; rest = rest; failed = false }
 
 -- ---- a move lowers the size
 
-abbrev Falls : ℕ → Move State AdtsItem → Type 0
+abbrev Falls : ℕ → Move WalkState AdtsItem → Type 0
 Falls n Stop = Unit {0}
 Falls n (Pass t) = size_unless t t.failed < n
 Falls n (Give item t) = size_unless t t.failed < n
@@ -34,7 +34,7 @@ pub tag-most : (n left : ℕ) → size_by n (InTag left) ≤ 3 * n + 2
 tag-most n zero = omega arith
 tag-most n (suc left) = omega arith
 
-falls-frame : (b : Bool) (last : Option Presentation) (offset : ℕ) (rest : List ℕ) (h : FrameHeader) → 7 ≤ h.len → 7 ≤ length rest → let s = going last AtHeader offset rest in Falls (suc (3 * length rest + 1)) (cond b (Pass (into s (AtFrame h))) (Give (InitItem (presentation_of h.rate) s.offset) (initialized s h)))
+falls-frame : (b : Bool) (last : Option Presentation) (offset : ℕ) (rest : List ℕ) (h : FrameHeader) → 7 ≤ h.len → 7 ≤ length rest → let s = going last AtHeader offset rest in Falls (suc (3 * length rest + 1)) (cond b (Pass (state_in s (AtFrame h))) (Give (InitItem (presentation_of h.rate) s.offset) (state_after_init s h)))
 falls-frame true last offset rest h l m = omega arith
 falls-frame false last offset rest h l m = omega arith
 
@@ -44,11 +44,11 @@ falls-found last offset rest (found.Tag n) h = omega (arith, tag-size (length re
 falls-found last offset rest (found.Fault f) h = omega arith
 falls-found last offset rest (found.Frame g) h = falls-frame (has_rate last g.rate) last offset rest g h.0 h.1
 
-falls-tag : (s : State) (left : ℕ) (rest : List ℕ) → Falls (suc (3 * length rest)) (tag_move s left rest)
+falls-tag : (s : WalkState) (left : ℕ) (rest : List ℕ) → Falls (suc (3 * length rest)) (tag_move s left rest)
 falls-tag s left [] = tt
 falls-tag s left (x ∷ rest) = omega (arith, tag-most (length rest) left)
 
-falls-once : (s : State) (h : FrameHeader) (m : Move State AdtsItem) (n : ℕ) (b : Bool) → Falls n m → Falls n (cond b Stop m)
+falls-once : (s : WalkState) (h : FrameHeader) (m : Move WalkState AdtsItem) (n : ℕ) (b : Bool) → Falls n m → Falls n (cond b Stop m)
 falls-once s h m n true f = tt
 falls-once s h m n false f = f
 
@@ -59,13 +59,13 @@ falls-place last (InTag (suc left)) offset rest = falls-tag (going last (InTag (
 falls-place last (AtFrame h) offset rest = falls-once (going last (AtFrame h) offset rest) h _ _ (ltb (length rest) h.len) (omega arith)
 falls-place last (AtEnd h) offset rest = falls-once (going last (AtEnd h) offset rest) h _ _ (ltb (length rest) h.len) (omega (arith, length-drop h.len rest))
 
-falls : (last : Option Presentation) (p : ParsePoint) (offset : ℕ) (rest : List ℕ) (failed : Bool) → let s : State = record { last = last; point = p; offset = offset; rest = rest; failed = failed } in Falls (size_unless s failed) (move_unless s failed)
+falls : (last : Option Presentation) (p : ParsePoint) (offset : ℕ) (rest : List ℕ) (failed : Bool) → let s : WalkState = record { last = last; point = p; offset = offset; rest = rest; failed = failed } in Falls (size_unless s failed) (move_unless s failed)
 falls last p offset rest true = tt
 falls last p offset rest false = falls-place last p offset rest
 
 -- ---- what a move becomes when bytes are added
 
-abbrev Goes : List ℕ → Move State AdtsItem → Move State AdtsItem → Type 0
+abbrev Goes : List ℕ → Move WalkState AdtsItem → Move WalkState AdtsItem → Type 0
 Goes c Stop m = Unit {0}
 Goes c (Pass t) m = m ≡ Pass (more_unless t c t.failed)
 Goes c (Give item t) m = (m ≡ Give item (more_unless t c t.failed)) × (is_fault item ≡ true → more_unless t c t.failed ≡ t)
@@ -73,7 +73,7 @@ Goes c (Give item t) m = (m ≡ Give item (more_unless t c t.failed)) × (is_fau
 not-true : {P : Type 0} → false ≡ true → P
 not-true e = absurd (cc)
 
-goes-frame : (b : Bool) (last : Option Presentation) (offset : ℕ) (rest c : List ℕ) (h : FrameHeader) → let s = going last AtHeader offset rest in let t = going last AtHeader offset (rest ++ c) in Goes c (cond b (Pass (into s (AtFrame h))) (Give (InitItem (presentation_of h.rate) s.offset) (initialized s h))) (cond b (Pass (into t (AtFrame h))) (Give (InitItem (presentation_of h.rate) t.offset) (initialized t h)))
+goes-frame : (b : Bool) (last : Option Presentation) (offset : ℕ) (rest c : List ℕ) (h : FrameHeader) → let s = going last AtHeader offset rest in let t = going last AtHeader offset (rest ++ c) in Goes c (cond b (Pass (state_in s (AtFrame h))) (Give (InitItem (presentation_of h.rate) s.offset) (state_after_init s h))) (cond b (Pass (state_in t (AtFrame h))) (Give (InitItem (presentation_of h.rate) t.offset) (state_after_init t h)))
 goes-frame true last offset rest c h = refl
 goes-frame false last offset rest c h = (refl, λ e. not-true e)
 
@@ -87,15 +87,15 @@ goes-tag : (last : Option Presentation) (p : ParsePoint) (offset left : ℕ) (al
 goes-tag last p offset left all [] c = tt
 goes-tag last p offset left all (x ∷ rest) c = refl
 
-pub once-short : (s : State) (h : FrameHeader) (m : Move State AdtsItem) → length s.rest < h.len → once s h m ≡ Stop
+pub once-short : (s : WalkState) (h : FrameHeader) (m : Move WalkState AdtsItem) → length s.rest < h.len → once_there s h m ≡ Stop
 once-short s h m l = let e : ltb (length s.rest) h.len ≡ true = grind (arith, nat_tests) in ap (λ b. cond b Stop m) e
 
-pub once-there : (s : State) (h : FrameHeader) (m : Move State AdtsItem) → h.len ≤ length s.rest → once s h m ≡ m
+pub once-there : (s : WalkState) (h : FrameHeader) (m : Move WalkState AdtsItem) → h.len ≤ length s.rest → once_there s h m ≡ m
 once-there s h m l = let e : ltb (length s.rest) h.len ≡ false = grind (arith, nat_tests) in ap (λ b. cond b Stop m) e
 
-goes-once : (s t : State) (h : FrameHeader) (c : List ℕ) (m k : Move State AdtsItem) → t.rest ≡ s.rest ++ c → (h.len ≤ length s.rest → Goes c m k) → Goes c (once s h m) (once t h k)
+goes-once : (s t : WalkState) (h : FrameHeader) (c : List ℕ) (m k : Move WalkState AdtsItem) → t.rest ≡ s.rest ++ c → (h.len ≤ length s.rest → Goes c m k) → Goes c (once_there s h m) (once_there t h k)
 goes-once s t h c m k e f =
-    elim (cases_lt (length s.rest) h.len) as (λ _. Goes c (once s h m) (once t h k)) [
+    elim (cases_lt (length s.rest) h.len) as (λ _. Goes c (once_there s h m) (once_there t h k)) [
       | inl l ↦ rw (once-short s h m l) tt
       | inr l ↦ let g : h.len ≤ length t.rest = omega (arith, ap length e, length-append s.rest c) in rw (once-there s h m l, once-there t h k g) (f l)
     ]
@@ -107,7 +107,7 @@ goes-place last (InTag (suc left)) offset rest c = goes-tag last (InTag (suc lef
 goes-place last (AtFrame h) offset rest c = goes-once (going last (AtFrame h) offset rest) (going last (AtFrame h) offset (rest ++ c)) h c _ _ refl (λ l. (rw (take-append-le h.len rest c l) refl, λ e. not-true e))
 goes-place last (AtEnd h) offset rest c = goes-once (going last (AtEnd h) offset rest) (going last (AtEnd h) offset (rest ++ c)) h c _ _ refl (λ l. (rw (drop-append-le h.len rest c l) refl, λ e. not-true e))
 
-goes : (last : Option Presentation) (p : ParsePoint) (offset : ℕ) (rest c : List ℕ) (failed : Bool) → let s : State = record { last = last; point = p; offset = offset; rest = rest; failed = failed } in let t : State = more_unless s c failed in Goes c (move_unless s failed) (move_unless t t.failed)
+goes : (last : Option Presentation) (p : ParsePoint) (offset : ℕ) (rest c : List ℕ) (failed : Bool) → let s : WalkState = record { last = last; point = p; offset = offset; rest = rest; failed = failed } in let t : WalkState = more_unless s c failed in Goes c (move_unless s failed) (move_unless t t.failed)
 goes last p offset rest c true = tt
 goes last p offset rest c false = goes-place last p offset rest c
 

@@ -67,18 +67,18 @@ coded_frame h rest = record {
 
 -- What is seen of the parser: it waits for a media segment, or it is in one, once the header of a frame was accepted;
 -- the bytes are those that it holds.
-abbrev pub waiting : Option Presentation → List ℕ → ParserView
-waiting latest held = record { phase = Waiting; latest = latest; held = held }
+abbrev pub view_waiting : Option Presentation → List ℕ → ParserView
+view_waiting latest held = record { phase = Waiting; latest = latest; held = held }
 
-abbrev pub in_media : Option Presentation → List ℕ → ParserView
-in_media latest held = record { phase = InMedia; latest = latest; held = held }
+abbrev pub view_in_media : Option Presentation → List ℕ → ParserView
+view_in_media latest held = record { phase = InMedia; latest = latest; held = held }
 
 -- The frame at an offset, once all its bytes are there, and then the end of its media segment. Its bytes are held up
 -- to there. `next` goes on with the presentation from the offset behind it.
 abbrev pub frame_parse : (Option Presentation → ℕ → AdtsParse) → List ℕ → Option Presentation → ℕ
     → FrameHeader → AdtsParse
 frame_parse next b latest at h =
-    let now = in_media latest (drop at b) in
+    let now = view_in_media latest (drop at b) in
     if nat_le (at + h.len) (length b)
     then ItemThen now (FrameItem (coded_frame h (drop at b)) at)
     (ItemThen now SegmentEnd (next latest (at + h.len)))
@@ -89,19 +89,19 @@ frame_parse next b latest at h =
 -- the latest presentation does not have gives a presentation first.
 abbrev pub found_parse : (Option Presentation → ℕ → AdtsParse) → List ℕ → Option Presentation → ℕ
     → Found → AdtsParse
-found_parse next b latest at found.Nothing = NoItem (waiting latest (drop at b))
+found_parse next b latest at found.Nothing = NoItem (view_waiting latest (drop at b))
 found_parse next b latest at (found.Tag n) =
-    if nat_le (at + n) (length b) then next latest (at + n) else NoItem (waiting latest [])
+    if nat_le (at + n) (length b) then next latest (at + n) else NoItem (view_waiting latest [])
 found_parse next b latest at (found.Fault f) =
-    ItemThen (waiting latest (drop at b)) (FaultItem f at) (NoItem (waiting latest []))
+    ItemThen (view_waiting latest (drop at b)) (FaultItem f at) (NoItem (view_waiting latest []))
 found_parse next b latest at (found.Frame h) =
     if has_rate latest h.rate then frame_parse next b latest at h
-    else ItemThen (waiting latest (drop at b)) (InitItem (presentation_of h.rate) at)
+    else ItemThen (view_waiting latest (drop at b)) (InitItem (presentation_of h.rate) at)
     (frame_parse next b (Some (presentation_of h.rate)) at h)
 
 -- at most n tags and frames from an offset on
 abbrev pub parse_at : ℕ → List ℕ → Option Presentation → ℕ → AdtsParse
-parse_at zero b latest at = NoItem (waiting latest (drop at b))
+parse_at zero b latest at = NoItem (view_waiting latest (drop at b))
 parse_at (suc n) b latest at = found_parse (parse_at n b) b latest at (found_at (drop at b))
 
 -- The whole string, read from its first byte on, where the presentation `last` was left by what came before: it has no

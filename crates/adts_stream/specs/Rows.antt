@@ -26,9 +26,9 @@ whole_frame payload = record {
 }
 
 -- a frame of 44100 samples in a second at an offset, with the presentation that it gives, and without
-abbrev pub first_frame : ℕ → List AdtsItem
-first_frame at =
+abbrev pub first_frame_items : ℕ → List AdtsItem
+first_frame_items at =
     InitItem (presentation_of 44100) at ∷ FrameItem (whole_frame frame_44100) at ∷ SegmentEnd ∷ []
 
-abbrev pub later_frame : ℕ → List AdtsItem
-later_frame at = FrameItem (whole_frame frame_44100) at ∷ SegmentEnd ∷ []
+abbrev pub next_frame_items : ℕ → List AdtsItem
+next_frame_items at = FrameItem (whole_frame frame_44100) at ∷ SegmentEnd ∷ []

@@ -4,27 +4,27 @@ use Rattle.mse_base.specs.declared.track.Presentation.{Presentation}
 use Rattle.parser_loop.specs.Walk.{settle, stay_at}
 use Rattle.parser_loop.specs.Walk as walk
 use Rattle.adts_stream.specs.declared.position.ParsePosition.{ParsePosition}
-use Rattle.adts_stream.specs.Walk.{State, adts, start}
+use Rattle.adts_stream.specs.Walk.{WalkState, adts, start}
 use Rattle.adts_stream.specs.Values.{state_of}
 
 -- A stream: the state of the walk just before the next item, the length of the string since the last reset, and the
 -- bytes that are offered, if there are any.
 pub record AdtsView : Type 0 where
-  pub state : State
+  pub state : WalkState
   pub fed : ℕ
   pub offered : Option (List ℕ)
 
 -- What is kept stands for the string `b`, read with the presentation `last` from before, of whose items n were given:
 -- it is the walk's state just before item n, since nothing is taken ahead. Many strings may belong to one stream.
-abbrev pub Stands : State → Option Presentation → List ℕ → ℕ → Type 0
+abbrev pub Stands : WalkState → Option Presentation → List ℕ → ℕ → Type 0
 Stands kept last b n = walk.Stands adts (stay_at kept) (start last b) n
 
 -- what is kept where more bytes have come
-abbrev pub fed : State → List ℕ → State
+abbrev pub fed : WalkState → List ℕ → WalkState
 fed kept c = settle adts (adts.more kept c)
 
 -- what is kept where these pieces have come one after the other
-abbrev pub fed_all : State → List (List ℕ) → State
+abbrev pub fed_all : WalkState → List (List ℕ) → WalkState
 fed_all kept [] = kept
 fed_all kept (c ∷ cs) = fed_all (fed kept c) cs
 

@@ -8,10 +8,10 @@ use Rattle.adts_stream.specs.declared.position.ParsePoint.{ParsePoint}
 use Rattle.adts_stream.specs.declared.position.ParsePoint.TheVariants.{AtHeader, InTag, AtFrame, AtEnd}
 use Rattle.adts_stream.specs.declared.position.ParsePosition.{ParsePosition}
 use Rattle.adts_stream.specs.declared.position.NextItem.{NextItem}
-use Rattle.adts_stream.specs.declared.position.NextItem.TheVariants as front
+use Rattle.adts_stream.specs.declared.position.NextItem.TheVariants as next_item
 use Rattle.parser_loop.specs.Items.{InitItem, FrameItem, SegmentEnd, FaultItem}
 use Rattle.adts_stream.specs.Frames.{AdtsItem, presentation_of, coded_frame}
-use Rattle.adts_stream.specs.Walk.{State, into, initialized, behind, faulted, adts}
+use Rattle.adts_stream.specs.Walk.{WalkState, state_in, state_after_init, state_past, state_after_fault, adts}
 
 -- what an answer of the stream shows of the items
 abbrev pub seen : AdtsNext → Option AdtsItem
@@ -21,7 +21,7 @@ seen next.SegmentEnd = Some SegmentEnd
 seen (next.Fault f offset) = Some (FaultItem f offset)
 seen next.Dry = None
 
-abbrev pub state_of : Option Presentation → ParsePosition → List ℕ → State
+abbrev pub state_of : Option Presentation → ParsePosition → List ℕ → WalkState
 state_of last position rest = record {
   last = last;
   point = position.point;
@@ -31,24 +31,25 @@ state_of last position rest = record {
 }
 
 -- one move on the way to the next item, where there is one, or the state just before that item
-abbrev pub IsMoveTo : State → State → Bool → Type 0
+abbrev pub IsMoveTo : WalkState → WalkState → Bool → Type 0
 IsMoveTo s t true = (settle adts t ≡ settle adts s) × (adts.size t < adts.size s)
 IsMoveTo s t false = t ≡ settle adts s
 
 -- the next item, with what the walk comes to behind it
-abbrev pub IsNextItem : State → NextItem → Type 0
-IsNextItem s front.Dry = item_of (adts.move s) ≡ None
-IsNextItem s (front.Init h) =
-    adts.move s ≡ Give (InitItem (presentation_of h.rate) s.offset) (initialized s h)
-IsNextItem s (front.Frame h) =
-    (adts.move s ≡ Give (FrameItem (coded_frame h s.rest) s.offset) (into s (AtEnd h)))
+abbrev pub IsNextItem : WalkState → NextItem → Type 0
+IsNextItem s next_item.Dry = item_of (adts.move s) ≡ None
+IsNextItem s (next_item.Init h) =
+    adts.move s ≡ Give (InitItem (presentation_of h.rate) s.offset) (state_after_init s h)
+IsNextItem s (next_item.Frame h) =
+    (adts.move s ≡ Give (FrameItem (coded_frame h s.rest) s.offset) (state_in s (AtEnd h)))
     × (h.len ≤ length s.rest)
-IsNextItem s (front.End h) =
-    (adts.move s ≡ Give SegmentEnd (behind s h.len)) × (h.len ≤ length s.rest) × (s.failed ≡ false)
-IsNextItem s (front.Fault f) = adts.move s ≡ Give (FaultItem f s.offset) (faulted s)
+IsNextItem s (next_item.End h) =
+    (adts.move s ≡ Give SegmentEnd (state_past s h.len)) × (h.len ≤ length s.rest)
+    × (s.failed ≡ false)
+IsNextItem s (next_item.Fault f) = adts.move s ≡ Give (FaultItem f s.offset) (state_after_fault s)
 
 -- what is kept behind the item of a move
-abbrev pub state_behind : State → Move State AdtsItem → State
+abbrev pub state_behind : WalkState → Move WalkState AdtsItem → WalkState
 state_behind s Stop = s
 state_behind s (Pass t) = s
 state_behind s (Give item t) = settle adts t
@@ -60,11 +61,11 @@ ready_at n (InTag left) = 0
 ready_at n (AtFrame h) = if nat_le h.len n then 1 else 0
 ready_at n (AtEnd h) = 0
 
-abbrev pub ready_unless : State → Bool → ℕ
+abbrev pub ready_unless : WalkState → Bool → ℕ
 ready_unless s true = 0
 ready_unless s false = ready_at (length s.rest) s.point
 
-abbrev pub ready_of : State → ℕ
+abbrev pub ready_of : WalkState → ℕ
 ready_of s = ready_unless s s.failed
 
 abbrev pub position_at_start : ParsePosition

@@ -17,7 +17,7 @@ use Rattle.adts_stream.specs.Frames.{AdtsItem, presentation_of, has_rate, coded_
 
 -- The state of the walk: the presentation of the last initialization segment, which item comes next, the bytes of the
 -- string from `offset` on, and whether a fault was met.
-pub record State : Type 0 where
+pub record WalkState : Type 0 where
   pub last : Option Presentation
   pub point : ParsePoint
   pub offset : ℕ
@@ -26,8 +26,8 @@ pub record State : Type 0 where
 
 -- ---- the moves
 
-abbrev pub into : State → ParsePoint → State
-into s point = record {
+abbrev pub state_in : WalkState → ParsePoint → WalkState
+state_in s point = record {
   last = s.last;
   point = point;
   offset = s.offset;
@@ -36,8 +36,8 @@ into s point = record {
 }
 
 -- behind an initialization segment: its frame comes next
-abbrev pub initialized : State → FrameHeader → State
-initialized s h = record {
+abbrev pub state_after_init : WalkState → FrameHeader → WalkState
+state_after_init s h = record {
   last = Some (presentation_of h.rate);
   point = AtFrame h;
   offset = s.offset;
@@ -46,8 +46,8 @@ initialized s h = record {
 }
 
 -- behind the first n bytes
-abbrev pub behind : State → ℕ → State
-behind s n = record {
+abbrev pub state_past : WalkState → ℕ → WalkState
+state_past s n = record {
   last = s.last;
   point = AtHeader;
   offset = s.offset + n;
@@ -56,23 +56,29 @@ behind s n = record {
 }
 
 -- behind a fault: no byte is looked at any more
-abbrev pub faulted : State → State
-faulted s = record { last = s.last; point = AtHeader; offset = s.offset; rest = []; failed = true }
+abbrev pub state_after_fault : WalkState → WalkState
+state_after_fault s = record {
+  last = s.last;
+  point = AtHeader;
+  offset = s.offset;
+  rest = [];
+  failed = true;
+}
 
 -- a frame of another rate begins with an initialization segment
-abbrev pub frame_move : State → FrameHeader → Move State AdtsItem
+abbrev pub frame_move : WalkState → FrameHeader → Move WalkState AdtsItem
 frame_move s h =
-    if has_rate s.last h.rate then Pass (into s (AtFrame h))
-    else Give (InitItem (presentation_of h.rate) s.offset) (initialized s h)
+    if has_rate s.last h.rate then Pass (state_in s (AtFrame h))
+    else Give (InitItem (presentation_of h.rate) s.offset) (state_after_init s h)
 
-abbrev pub found_move : State → Found → Move State AdtsItem
+abbrev pub found_move : WalkState → Found → Move WalkState AdtsItem
 found_move s found.Nothing = Stop
-found_move s (found.Tag n) = Pass (into s (InTag n))
-found_move s (found.Fault f) = Give (FaultItem f s.offset) (faulted s)
+found_move s (found.Tag n) = Pass (state_in s (InTag n))
+found_move s (found.Fault f) = Give (FaultItem f s.offset) (state_after_fault s)
 found_move s (found.Frame h) = frame_move s h
 
 -- a byte of a tag is let go as soon as it is there
-abbrev pub tag_move : State → ℕ → List ℕ → Move State AdtsItem
+abbrev pub tag_move : WalkState → ℕ → List ℕ → Move WalkState AdtsItem
 tag_move s left [] = Stop
 tag_move s left (x ∷ rest) =
     Pass
@@ -85,20 +91,20 @@ tag_move s left (x ∷ rest) =
     })
 
 -- what waits for the whole frame
-abbrev pub once : State → FrameHeader → Move State AdtsItem → Move State AdtsItem
-once s h m = if nat_lt (length s.rest) h.len then Stop else m
+abbrev pub once_there : WalkState → FrameHeader → Move WalkState AdtsItem → Move WalkState AdtsItem
+once_there s h m = if nat_lt (length s.rest) h.len then Stop else m
 
 -- Before a header; in a tag, with the number of its bytes that are left; before the coded frame of a header, and
 -- before the end of its segment, each of which comes once the frame is whole.
-abbrev pub point_move : State → ParsePoint → Move State AdtsItem
+abbrev pub point_move : WalkState → ParsePoint → Move WalkState AdtsItem
 point_move s AtHeader = found_move s (found_at s.rest)
-point_move s (InTag zero) = Pass (into s AtHeader)
+point_move s (InTag zero) = Pass (state_in s AtHeader)
 point_move s (InTag (suc left)) = tag_move s left s.rest
 point_move s (AtFrame h) =
-    once s h (Give (FrameItem (coded_frame h s.rest) s.offset) (into s (AtEnd h)))
-point_move s (AtEnd h) = once s h (Give SegmentEnd (behind s h.len))
+    once_there s h (Give (FrameItem (coded_frame h s.rest) s.offset) (state_in s (AtEnd h)))
+point_move s (AtEnd h) = once_there s h (Give SegmentEnd (state_past s h.len))
 
-abbrev pub move_unless : State → Bool → Move State AdtsItem
+abbrev pub move_unless : WalkState → Bool → Move WalkState AdtsItem
 move_unless s true = Stop
 move_unless s false = point_move s s.point
 
@@ -112,12 +118,12 @@ size_by n (InTag (suc left)) = 3 * n
 size_by n (AtFrame h) = 3 * (n - h.len) + 3
 size_by n (AtEnd h) = 3 * (n - h.len) + 2
 
-abbrev pub size_unless : State → Bool → ℕ
+abbrev pub size_unless : WalkState → Bool → ℕ
 size_unless s true = 0
 size_unless s false = suc (size_by (length s.rest) s.point)
 
 -- behind a fault more bytes are let go
-abbrev pub more_unless : State → List ℕ → Bool → State
+abbrev pub more_unless : WalkState → List ℕ → Bool → WalkState
 more_unless s c true = s
 more_unless s c false = record {
   last = s.last;
@@ -128,7 +134,7 @@ more_unless s c false = record {
 }
 
 -- a fault ends the walk; nothing is taken ahead
-abbrev pub adts : StreamKind State AdtsItem
+abbrev pub adts : StreamKind WalkState AdtsItem
 adts = record {
   move = λ s. move_unless s s.failed;
   size = λ s. size_unless s s.failed;
@@ -140,11 +146,11 @@ adts = record {
 -- ---- a string
 
 -- the walk before the first byte of a string
-abbrev pub start : Option Presentation → List ℕ → State
+abbrev pub start : Option Presentation → List ℕ → WalkState
 start last b = record { last = last; point = AtHeader; offset = 0; rest = b; failed = false }
 
 -- its state just before item n, counted from 0, or at its end where there is no item n
-abbrev pub state_before : Option Presentation → List ℕ → ℕ → State
+abbrev pub state_before : Option Presentation → List ℕ → ℕ → WalkState
 state_before last b n = state_at adts n (start last b)
 
 abbrev pub phase_of : ParsePoint → Phase
@@ -154,5 +160,5 @@ phase_of (AtFrame h) = InMedia
 phase_of (AtEnd h) = InMedia
 
 -- what is seen of a state
-abbrev pub view_of : State → ParserView
+abbrev pub view_of : WalkState → ParserView
 view_of s = record { phase = phase_of s.point; latest = s.last; held = s.rest }

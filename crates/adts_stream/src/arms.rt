@@ -4,7 +4,7 @@ ghost use Rattle.parser_loop.specs.Walk.{item_of, settle};
 ghost use Rattle.mse_base.specs.declared.track.Presentation.{Presentation};
 ghost use Rattle.adts_stream.specs.declared.header.FrameHeader.{FrameHeader};
 ghost use Rattle.parser_loop.specs.Items.{FrameItem, InitItem, latest_after_any};
-ghost use Rattle.adts_stream.specs.Walk.{adts, behind, faulted};
+ghost use Rattle.adts_stream.specs.Walk.{adts, state_past, state_after_fault};
 ghost use Rattle.adts_stream.specs.Frames.{coded_frame, presentation_of};
 ghost use Rattle.adts_stream.specs.Values.{state_behind, seen, state_of};
 
@@ -133,7 +133,7 @@ fn end_on(last: &Option<Presentation>, position: &mut ParsePosition, input: &mut
     requires unfailed { position.old.failed ≡ false }
     requires bounded { position.old.offset + length (concat input.old) < 2 ^ 62 }
     ensures kept { state_of last.now position.new (concat input.new)
-        ≡ settle adts (behind (state_of last.now position.old (concat input.old)) len) }
+        ≡ settle adts (state_past (state_of last.now position.old (concat input.old)) len) }
     ensures total { position.new.offset + length (concat input.new)
         ≡ position.old.offset + length (concat input.old) }
 {
@@ -146,7 +146,7 @@ fn end_on(last: &Option<Presentation>, position: &mut ParsePosition, input: &mut
 /// Takes a fault: no byte is kept.
 fn fail_on(position: &mut ParsePosition, input: &mut Chunks)
     ensures kept { (last : Option Presentation) → state_of last position.new (concat input.new)
-        ≡ faulted (state_of last position.old (concat input.old)) }
+        ≡ state_after_fault (state_of last position.old (concat input.old)) }
     ensures total { position.new.offset + length (concat input.new) ≡ position.old.offset }
 {
     let all = input.len();

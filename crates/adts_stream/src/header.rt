@@ -1,6 +1,6 @@
 ghost use Rattle.std.specs.Prelude.{◌≡◌, ◌+◌, ◌-◌, ◌*◌, ◌/◌, ◌%◌, ◌^◌, ◌<◌, ◌≤◌, pos, length, slice_get};
 ghost use Rattle.mse_base.specs.Time.{converted};
-ghost use Rattle.adts_stream.specs.Headers.{bits as bits_at, sampling_frequencies, frame_found as frame_in, id3_length as id3_len, found_at};
+ghost use Rattle.adts_stream.specs.Headers.{bits, sampling_frequencies, frame_found, id3_length, found_at};
 
 use crate::next::AdtsFault;
 use byteorder::{BigEndian, ByteOrder};
@@ -41,7 +41,7 @@ const RATES: [u32; 13] = [
 /// The number in the `width` bits from bit `at` on of the 56 of a header, the highest first.
 fn bits(header: u64, at: u32, width: u32) -> u64
     requires { at + width ≤ 56 }
-    ensures { result ≡ bits_at at width header }
+    ensures { result ≡ bits at width header }
 {
     (header >> (56 - (at + width))) % (1 << width)
 }
@@ -64,7 +64,7 @@ fn duration(blocks: u64, rate: u32) -> Ticks
 /// The frame of a header, or what is wrong with it.
 #[tactic(auto, unfolding(crate::specs::Headers::frame_found))]
 fn frame_found(header: u64) -> Found
-    ensures { result ≡ frame_in header }
+    ensures { result ≡ frame_found header }
 {
     if bits(header, 0, 12) != SYNC_WORD || bits(header, 13, 2) != 0 {
         return Found::Fault(AdtsFault::Sync);
@@ -94,7 +94,7 @@ fn frame_found(header: u64) -> Found
 #[tactic(auto, unfolding(crate::specs::Headers::id3_length))]
 fn id3_length(bytes: &[u8]) -> u64
     requires { 10 ≤ length bytes.now }
-    ensures value { result ≡ id3_len bytes.now }
+    ensures value { result ≡ id3_length bytes.now }
     ensures bound { result < 2 ^ 29 }
 {
     let high = u64::from(bytes[6] % 128) * 128 + u64::from(bytes[7] % 128);

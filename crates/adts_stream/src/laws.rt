@@ -12,8 +12,8 @@ ghost use Rattle.adts_stream.specs.declared.next.AdtsFault.TheVariants as fault;
 ghost use Rattle.adts_stream.specs.Headers.{found_at};
 ghost use Rattle.adts_stream.specs.Frames.{Items, held_before, phase_before, parse_at, presentation_of, string_parse, view_before};
 ghost use Rattle.adts_stream.specs.Places.{IsFrameAt, IsInitAt};
-ghost use Rattle.adts_stream.specs.Rows.{first_frame, frame_44100, frame_48000, id3_tag, later_frame};
-ghost use Rattle.adts_stream.specs.Walk.{State, adts, start, state_before, view_of};
+ghost use Rattle.adts_stream.specs.Rows.{first_frame_items, frame_44100, frame_48000, id3_tag, next_frame_items};
+ghost use Rattle.adts_stream.specs.Walk.{WalkState, adts, start, state_before, view_of};
 ghost use Rattle.adts_stream.specs.Streams.{Stands, fed_all};
 
 /// The items of a string are the first items of each longer string, and all of them where one is a fault.
@@ -66,21 +66,22 @@ pub fn held_law()
 /// However a string was cut, what is kept after its pieces stands for the whole string. And its presentation
 /// is that of the last initialization segment that was given.
 pub fn pieces_law()
-    ensures pieces { (kept : State) (last : Option Presentation) (b : List ℕ) (n : ℕ)
+    ensures pieces { (kept : WalkState) (last : Option Presentation) (b : List ℕ) (n : ℕ)
         (pieces : List (List ℕ)) →
         Stands kept last b n → Stands (fed_all kept pieces) last (b ++ concat pieces) n }
-    ensures latest { (kept : State) (last : Option Presentation) (b : List ℕ) (n : ℕ) →
+    ensures latest { (kept : WalkState) (last : Option Presentation) (b : List ℕ) (n : ℕ) →
         Stands kept last b n → kept.last ≡ latest_after_all last (take n (Items last b)) }
 {}
 
 /// What the definitions give for two frames, for the first 17 of their bytes, for a frame behind a tag, for one of
 /// another sampling frequency, and for headers that are refused.
 pub fn row_law()
-    ensures two { Items None (frame_44100 ++ frame_44100) ≡ first_frame 0 ++ later_frame 10 }
-    ensures cut { Items None (take 17 (frame_44100 ++ frame_44100)) ≡ first_frame 0 }
+    ensures two { Items None (frame_44100 ++ frame_44100)
+        ≡ first_frame_items 0 ++ next_frame_items 10 }
+    ensures cut { Items None (take 17 (frame_44100 ++ frame_44100)) ≡ first_frame_items 0 }
     ensures phase { phase_before None (take 17 (frame_44100 ++ frame_44100)) 3 ≡ InMedia }
     ensures held { held_before None (take 17 (frame_44100 ++ frame_44100)) 3 ≡ take 7 frame_44100 }
-    ensures tag { Items None (id3_tag ++ frame_44100) ≡ first_frame 12 }
+    ensures tag { Items None (id3_tag ++ frame_44100) ≡ first_frame_items 12 }
     ensures in_tag { held_before None (take 11 id3_tag) 0 ≡ [] }
     ensures faster { slice_get (Items None (frame_44100 ++ frame_48000)) 3
         ≡ Some (InitItem (presentation_of 48000) 10) }

@@ -6,7 +6,7 @@ ghost use Rattle.parser_loop.specs.Walk.{count_after};
 ghost use Rattle.parser_loop.specs.Items.{latest_after_all, latest_after_any};
 ghost use Rattle.adts_stream.specs.Frames.{Items, phase_before, ready_before, held_before};
 ghost use Rattle.adts_stream.specs.Walk.{phase_of};
-ghost use Rattle.adts_stream.specs.Values.{position_at_start, ready_of as ready_in, state_of};
+ghost use Rattle.adts_stream.specs.Values.{position_at_start, ready_of, state_of};
 
 use crate::arms::{look_on, next_on};
 use crate::next::AdtsNext;
@@ -67,8 +67,9 @@ fn restart(position: &mut ParsePosition, input: &mut Chunks)
 
 /// How many frames are ready, where so many bytes are kept.
 fn ready(position: ParsePosition, there: usize) -> usize
-    ensures { (last : Option Presentation) (rest : List ℕ) → length rest ≡ there → result
-        ≡ ready_in (state_of last position rest) }
+    ensures ready { (last : Option Presentation) (rest : List ℕ) → length rest ≡ there → result
+        ≡ ready_of (state_of last position rest) }
+    ensures few { result ≤ 1 }
 {
     if position.failed {
         return 0;
@@ -102,7 +103,7 @@ impl AdtsStream {
         ensures stands { Stands result.state None [] 0 }
         ensures last { result.state.last ≡ None }
         ensures fed { result.fed ≡ 0 }
-        ensures idle { result.offered ≡ None }
+        ensures none_offered { result.offered ≡ None }
     {
         AdtsStream {
             alloc,
@@ -116,7 +117,7 @@ impl AdtsStream {
 
     /// Takes all memory that a feed of these bytes needs, and leaves the string; also where it finds none.
     pub fn offer(&mut self, bytes: &[u8]) -> Result<(), OutOfMemory>
-        requires idle { self.old.offered ≡ None }
+        requires none_offered { self.old.offered ≡ None }
         requires room { self.old.fed + length bytes.now < 2 ^ 62 }
         ensures ok { OnOk result (self.new
             ≡ record { state = self.old.state; fed = self.old.fed; offered = Some bytes.now }) }
@@ -129,7 +130,7 @@ impl AdtsStream {
 
     /// As `offer` of the same bytes, whose memory the input has where they become a piece of their own.
     pub fn offer_bytes(&mut self, bytes: Bytes) -> Result<(), OutOfMemory>
-        requires idle { self.old.offered ≡ None }
+        requires none_offered { self.old.offered ≡ None }
         requires room { self.old.fed + length bytes < 2 ^ 62 }
         ensures ok { OnOk result (self.new
             ≡ record { state = self.old.state; fed = self.old.fed; offered = Some bytes }) }
@@ -150,7 +151,7 @@ impl AdtsStream {
         ensures last { self.new.state.last ≡ self.old.state.last }
         ensures fed { IfSome self.old.offered
             (λ bytes. self.new.fed ≡ self.old.fed + length bytes) }
-        ensures idle { self.new.offered ≡ None }
+        ensures none_offered { self.new.offered ≡ None }
     {
         let Some(len) = self.offered else {
             return;
@@ -174,13 +175,13 @@ impl AdtsStream {
 
     /// Appends bytes to the string. An `Err` changes nothing.
     pub fn feed(&mut self, bytes: &[u8]) -> Result<(), OutOfMemory>
-        requires idle { self.old.offered ≡ None }
+        requires none_offered { self.old.offered ≡ None }
         requires room { self.old.fed + length bytes.now < 2 ^ 62 }
         ensures stands { OnOk result ((last : Option Presentation) (b : List ℕ) (n : ℕ) →
             Stands self.old.state last b n → Stands self.new.state last (b ++ bytes.now) n) }
         ensures last { OnOk result (self.new.state.last ≡ self.old.state.last) }
         ensures fed { OnOk result (self.new.fed ≡ self.old.fed + length bytes.now) }
-        ensures idle { self.new.offered ≡ None }
+        ensures none_offered { self.new.offered ≡ None }
         ensures err { OnErr result (self.new ≡ self.old) }
     {
         self.offer(bytes)?;
@@ -191,7 +192,7 @@ impl AdtsStream {
     /// The item that stands `i` places after the next one, or `Dry` exactly where the string gives none.
     /// Nothing changes.
     pub fn look(&self, i: usize) -> Result<AdtsNext, OutOfMemory>
-        requires idle { self.now.offered ≡ None }
+        requires none_offered { self.now.offered ≡ None }
         requires ready { (i ≡ 0) ⊎ (i < ready_of self.now.state) }
         ensures { (last : Option Presentation) (b : List ℕ) (n : ℕ) →
             Stands self.now.state last b n → IfOk result
@@ -213,7 +214,7 @@ impl AdtsStream {
         ensures last { IfOk result
             (λ next. self.new.state.last ≡ latest_after_any self.old.state.last (seen next)) }
         ensures fed { self.new.fed ≡ self.old.fed }
-        ensures idle { self.new.offered ≡ None }
+        ensures none_offered { self.new.offered ≡ None }
         ensures dry { IfOk result (λ next. seen next ≡ None → self.new ≡ self.old) }
         ensures err { OnErr result (self.new ≡ self.old) }
     {
@@ -244,6 +245,7 @@ impl AdtsStream {
         ensures kept { result ≡ ready_of self.now.state }
         ensures ready { (last : Option Presentation) (b : List ℕ) (n : ℕ) →
             Stands self.now.state last b n → result ≡ ready_before last b n }
+        ensures few { result ≤ 1 }
     {
         ready(self.position, self.input.len())
     }
@@ -268,7 +270,7 @@ impl AdtsStream {
             Stands self.new.state (latest_after_all last (take n (Items last b))) [] 0 }
         ensures last { self.new.state.last ≡ self.old.state.last }
         ensures fed { self.new.fed ≡ 0 }
-        ensures idle { self.new.offered ≡ None }
+        ensures none_offered { self.new.offered ≡ None }
     {
         restart(&mut self.position, &mut self.input);
         self.fed = 0;
@@ -280,7 +282,7 @@ impl AdtsStream {
         ensures stands { Stands self.new.state None [] 0 }
         ensures last { self.new.state.last ≡ None }
         ensures fed { self.new.fed ≡ 0 }
-        ensures idle { self.new.offered ≡ None }
+        ensures none_offered { self.new.offered ≡ None }
     {
         restart(&mut self.position, &mut self.input);
         self.last = None;

@@ -3,7 +3,7 @@ ghost use Rattle.std.specs.List.{concat};
 ghost use Rattle.parser_loop.specs.Walk.{settle};
 ghost use Rattle.adts_stream.specs.declared.position.ParsePoint.TheVariants.{InTag};
 ghost use Rattle.adts_stream.specs.Headers.{found_at};
-ghost use Rattle.adts_stream.specs.Frames.{has_rate as rated};
+ghost use Rattle.adts_stream.specs.Frames.{has_rate};
 ghost use Rattle.adts_stream.specs.Walk.{adts};
 ghost use Rattle.adts_stream.specs.Values.{IsNextItem, IsMoveTo, state_of};
 ghost use Rattle.adts_stream.specs.Streams.{fed};
@@ -30,7 +30,7 @@ pub(crate) fn found_in(input: &Chunks) -> Found
 
 /// Whether there is a presentation whose track has this many samples in a second.
 fn has_rate(last: &Option<Presentation>, rate: u32) -> bool
-    ensures { result ≡ rated last.now rate }
+    ensures { result ≡ has_rate last.now rate }
 {
     let Some(last) = last else {
         return false;

@@ -6,7 +6,7 @@ use Rattle.std.proofs.lemmas.Bool.Decides.{nat_tests}
 use Rattle.std.proofs.Math.Nat.{suc-mul, mul-le-mul_right}
 use Rattle.bmff_boxes.specs.declared.entries.TrunSample.{TrunSample}
 use Rattle.bmff_boxes.specs.declared.run_samples.RunFields.{RunFields}
-use Rattle.bmff_boxes.specs.Fields.{field, signed, flags_of, room_of, optional_field, ◌>>=◌}
+use Rattle.bmff_boxes.specs.Fields.{field, signed, flags_of, field_room, optional_field, ◌>>=◌}
 use Rattle.bmff_boxes.specs.FragmentFields.{trun_count_of, trun_data_offset_of, trun_first_flags_of, composition_offset, sample_len, samples_place, sample_place, sample_at, trun_sample_of}
 use Rattle.bmff_boxes.specs.RunFields.{places_of, run_fields_of}
 use Rattle.bmff_boxes.proofs.FieldLaws.{field-room}
@@ -44,9 +44,9 @@ ends-by true true true true at l e f g h s = absurd (omega arith)
 sample-room : (p : List ℕ) (flags at : ℕ) (s : TrunSample) → sample_at p flags at ≡ Some s → 0 < sample_len flags → at + sample_len flags ≤ length p
 sample-room p flags at s e some =
     let a = through (optional_field flags 0x100 4 at p) _ s e in
-    let b = through (optional_field flags 0x200 4 (at + room_of flags 0x100 4) p) _ s a.then in
-    let c = through (optional_field flags 0x400 4 (at + room_of flags 0x100 4 + room_of flags 0x200 4) p) _ s b.then in
-    let d = through (optional_field flags 0x800 4 (at + room_of flags 0x100 4 + room_of flags 0x200 4 + room_of flags 0x400 4) p) _ s c.then in
+    let b = through (optional_field flags 0x200 4 (at + field_room flags 0x100 4) p) _ s a.then in
+    let c = through (optional_field flags 0x400 4 (at + field_room flags 0x100 4 + field_room flags 0x200 4) p) _ s b.then in
+    let d = through (optional_field flags 0x800 4 (at + field_room flags 0x100 4 + field_room flags 0x200 4 + field_room flags 0x400 4) p) _ s c.then in
     ends-by (bit_and flags 0x100 == 0) (bit_and flags 0x200 == 0) (bit_and flags 0x400 == 0) (bit_and flags 0x800 == 0) at (length p)
     (optional-room flags 0x100 4 at p a.value a.was) (optional-room flags 0x200 4 _ p b.value b.was) (optional-room flags 0x400 4 _ p c.value c.was) (optional-room flags 0x800 4 _ p d.value d.was) some
 
@@ -98,7 +98,7 @@ unfolding trun_data_offset_of trun_first_flags_of
 has-head p count offset first c o f =
     let a = through (flags_of p) _ offset o in
     let b = mapped (option_map (signed 4)) (optional_field a.value 0x1 4 8 p) offset a.then in
-    let g : optional_field a.value 0x4 4 (8 + room_of a.value 0x1 4) p ≡ Some first = sym (ap (λ o. o >>= λ flags. optional_field flags 0x4 4 (8 + room_of flags 0x1 4) p) a.was) ∙ f in
+    let g : optional_field a.value 0x4 4 (8 + field_room a.value 0x1 4) p ≡ Some first = sym (ap (λ o. o >>= λ flags. optional_field flags 0x4 4 (8 + field_room flags 0x1 4) p) a.was) ∙ f in
     record {
       flags = a.value;
       told = a.was;

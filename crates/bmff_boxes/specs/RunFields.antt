@@ -1,7 +1,7 @@
 -- Where the fields of the samples of a track run lie.
 use Rattle.std.specs.Prelude.{ℕ, ◌+◌, nat_lt, if◌then◌else◌, List, length, Option, Some, None}
 use Rattle.bmff_boxes.specs.declared.run_samples.RunFields.{RunFields}
-use Rattle.bmff_boxes.specs.Fields.{flags_of, is_version, room_of, ◌>>=◌}
+use Rattle.bmff_boxes.specs.Fields.{flags_of, is_version, field_room, ◌>>=◌}
 use Rattle.bmff_boxes.specs.FragmentFields.{sample_len, samples_place, sample_place}
 
 -- the places of the fields that these flags announce
@@ -12,9 +12,9 @@ places_of p flags count = record {
   count = count;
   first = samples_place flags;
   len = sample_len flags;
-  size = room_of flags 0x100 4;
-  sample_flags = room_of flags 0x100 4 + room_of flags 0x200 4;
-  offset = room_of flags 0x100 4 + room_of flags 0x200 4 + room_of flags 0x400 4;
+  size = field_room flags 0x100 4;
+  sample_flags = field_room flags 0x100 4 + field_room flags 0x200 4;
+  offset = field_room flags 0x100 4 + field_room flags 0x200 4 + field_room flags 0x400 4;
 }
 
 -- the places of the fields of `count` samples, none where the payload ends before the last of them does

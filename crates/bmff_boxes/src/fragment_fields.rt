@@ -3,7 +3,7 @@
 ghost use Rattle.std.specs.Prelude.{◌≡◌, ◌+◌, ◌<◌, ◌≤◌, ◌^◌};
 ghost use Rattle.std.specs.Option.{option_map};
 ghost use Rattle.bmff_boxes.specs.Fields.{optional_field, signed};
-ghost use Rattle.bmff_boxes.specs.FragmentFields.{tfdt_time_of, tfhd_track_of, description_place as description_place_of, duration_place as duration_place_of, size_place as size_place_of, flags_place as flags_place_of, tfhd_base_of, tfhd_description_of, tfhd_duration_of, tfhd_size_of, tfhd_flags_of, trun_count_of, trun_data_offset_of, trun_first_flags_of, sample_place as sample_place_of, composition_offset, sample_at as sample_at_of, trun_sample_of};
+ghost use Rattle.bmff_boxes.specs.FragmentFields.{tfdt_time_of, tfhd_track_of, description_place, duration_place, size_place, flags_place, tfhd_base_of, tfhd_description_of, tfhd_duration_of, tfhd_size_of, tfhd_flags_of, trun_count_of, trun_data_offset_of, trun_first_flags_of, sample_place, composition_offset, sample_at, trun_sample_of};
 
 use crate::entries::TrunSample;
 use crate::numbers::{
@@ -53,28 +53,28 @@ pub fn tfhd_track(p: &[u8]) -> Option<u32>
 }
 
 fn description_place(flags: u32) -> usize
-    ensures value { result ≡ description_place_of flags }
+    ensures value { result ≡ description_place flags }
     ensures bound { result ≤ 16 }
 {
     8 + room(flags, BASE_DATA_OFFSET, 8)
 }
 
 fn duration_place(flags: u32) -> usize
-    ensures value { result ≡ duration_place_of flags }
+    ensures value { result ≡ duration_place flags }
     ensures bound { result ≤ 20 }
 {
     description_place(flags) + room(flags, SAMPLE_DESCRIPTION_INDEX, 4)
 }
 
 fn size_place(flags: u32) -> usize
-    ensures value { result ≡ size_place_of flags }
+    ensures value { result ≡ size_place flags }
     ensures bound { result ≤ 24 }
 {
     duration_place(flags) + room(flags, DEFAULT_SAMPLE_DURATION, 4)
 }
 
 fn flags_place(flags: u32) -> usize
-    ensures value { result ≡ flags_place_of flags }
+    ensures value { result ≡ flags_place flags }
     ensures bound { result ≤ 28 }
 {
     size_place(flags) + room(flags, DEFAULT_SAMPLE_SIZE, 4)
@@ -171,7 +171,7 @@ pub fn trun_first_flags(p: &[u8]) -> Option<Option<u32>>
 }
 
 pub(crate) fn sample_place(flags: u32, i: u32) -> usize
-    ensures value { result ≡ sample_place_of flags i }
+    ensures value { result ≡ sample_place flags i }
     ensures bound { result < 2 ^ 40 }
 {
     let len = room(flags, SAMPLE_DURATION, 4)
@@ -202,7 +202,7 @@ fn optional_offset(p: &[u8], flags: u32, at: usize) -> Option<Option<i64>>
 
 fn sample_at(p: &[u8], flags: u32, at: usize) -> Option<TrunSample>
     requires { at < 2 ^ 40 }
-    ensures { result ≡ sample_at_of p.now flags at }
+    ensures { result ≡ sample_at p.now flags at }
 {
     let size_at = at + room(flags, SAMPLE_DURATION, 4);
     let flags_at = size_at + room(flags, SAMPLE_SIZE, 4);

@@ -1,6 +1,6 @@
 ghost use Rattle.std.specs.Prelude.{◌≡◌, ℕ, ◌+◌, ◌<◌, ◌≤◌, ◌^◌, length};
 ghost use Rattle.std.specs.Option.{option_map};
-ghost use Rattle.bmff_boxes.specs.Fields.{field, signed_field, version_of, flags_of, is_version, room_of, optional_field, signed};
+ghost use Rattle.bmff_boxes.specs.Fields.{field, signed_field, version_of, flags_of, is_version, field_room, optional_field, signed};
 
 use byteorder::{BigEndian, ByteOrder};
 
@@ -106,7 +106,7 @@ pub(crate) fn has_version(p: &[u8], version: u8) -> bool
 
 /// How many bytes a field of `len` bytes takes that is there where its flag is set.
 pub(crate) fn room(flags: u32, flag: u32, len: usize) -> usize
-    ensures value { result ≡ room_of flags flag len }
+    ensures value { result ≡ field_room flags flag len }
     ensures at_most { result ≤ len }
 {
     if flags & flag == 0 { 0 } else { len }

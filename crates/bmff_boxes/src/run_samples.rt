@@ -1,7 +1,7 @@
 ghost use Rattle.std.specs.Prelude.{◌≡◌, ◌+◌, ◌<◌, ◌≤◌, length, Some};
 ghost use Rattle.std.specs.Option.{option_map};
-ghost use Rattle.bmff_boxes.specs.Fields.{field, signed_field, signed, is_version, room_of, optional_field};
-ghost use Rattle.bmff_boxes.specs.FragmentFields.{sample_len, composition_offset, sample_at as sample_at_of, trun_sample_of};
+ghost use Rattle.bmff_boxes.specs.Fields.{field, signed_field, signed, is_version, field_room, optional_field};
+ghost use Rattle.bmff_boxes.specs.FragmentFields.{sample_len, composition_offset, sample_at, trun_sample_of};
 ghost use Rattle.bmff_boxes.specs.RunFields.{run_fields_of};
 
 use crate::entries::TrunSample;
@@ -75,7 +75,7 @@ fn read_i32(p: &[u8], at: usize) -> i32
 
 /// A field of four bytes that is there where its flag is set.
 fn read_optional_u32(p: &[u8], flags: u32, flag: u32, at: usize) -> Option<u32>
-    requires { at + room_of flags flag 4 ≤ length p.now }
+    requires { at + field_room flags flag 4 ≤ length p.now }
     ensures { Some result ≡ optional_field flags flag 4 at p.now }
 {
     if flags & flag == 0 {
@@ -87,7 +87,7 @@ fn read_optional_u32(p: &[u8], flags: u32, flag: u32, at: usize) -> Option<u32>
 
 /// A signed field of four bytes that is there where its flag is set.
 fn read_optional_i32(p: &[u8], flags: u32, flag: u32, at: usize) -> Option<i32>
-    requires { at + room_of flags flag 4 ≤ length p.now }
+    requires { at + field_room flags flag 4 ≤ length p.now }
     ensures { Some result ≡ option_map (option_map (signed 4))
         (optional_field flags flag 4 at p.now) }
 {
@@ -100,7 +100,7 @@ fn read_optional_i32(p: &[u8], flags: u32, flag: u32, at: usize) -> Option<i32>
 
 /// The composition offset of a sample, in a run whose version is 0 where `is_unsigned`.
 fn read_optional_offset(p: &[u8], is_unsigned: bool, flags: u32, at: usize) -> Option<i64>
-    requires there { at + room_of flags 0x800 4 ≤ length p.now }
+    requires there { at + field_room flags 0x800 4 ≤ length p.now }
     requires version { is_unsigned ≡ is_version 0 p.now }
     ensures { Some result ≡ option_map (option_map (composition_offset p.now))
         (optional_field flags 0x800 4 at p.now) }
@@ -122,12 +122,12 @@ fn read_optional_offset(p: &[u8], is_unsigned: bool, flags: u32, at: usize) -> O
 fn read_sample(p: &[u8], fields: &RunFields, at: usize) -> TrunSample
     requires there { at + sample_len fields.now.flags ≤ length p.now }
     requires version { fields.now.is_unsigned ≡ is_version 0 p.now }
-    requires size { fields.now.size ≡ room_of fields.now.flags 0x100 4 }
+    requires size { fields.now.size ≡ field_room fields.now.flags 0x100 4 }
     requires sample_flags { fields.now.sample_flags
-        ≡ room_of fields.now.flags 0x100 4 + room_of fields.now.flags 0x200 4 }
-    requires offset { fields.now.offset ≡ room_of fields.now.flags 0x100 4
-        + room_of fields.now.flags 0x200 4 + room_of fields.now.flags 0x400 4 }
-    ensures { Some result ≡ sample_at_of p.now fields.now.flags at }
+        ≡ field_room fields.now.flags 0x100 4 + field_room fields.now.flags 0x200 4 }
+    requires offset { fields.now.offset ≡ field_room fields.now.flags 0x100 4
+        + field_room fields.now.flags 0x200 4 + field_room fields.now.flags 0x400 4 }
+    ensures { Some result ≡ sample_at p.now fields.now.flags at }
 {
     let flags = fields.flags;
     let offset_at = at + fields.offset;

@@ -16,7 +16,8 @@ use Rattle.bmff_fragment.specs.declared.slot.Slot.{Slot}
 use Rattle.bmff_fragment.specs.Headers.{track_fragment_header_of}
 use Rattle.bmff_fragment.specs.Times.{Run, duration_of, slot_of, slot_at, slots_of_run, slots_behind}
 use Rattle.bmff_boxes.specs.Reading.{◌>>=◌, need, check}
-use Rattle.bmff_fragment.specs.Plans.{track_of, is_media, track_fragment_of, runs_of, samples_in, data_end, media_slots, trafs_of}
+use Rattle.mse_base.specs.Moments.{is_media}
+use Rattle.bmff_fragment.specs.Plans.{track_of, track_fragment_of, runs_of, samples_in, data_end, media_slots, trafs_of}
 use Rattle.bmff_fragment.specs.Slots.{IsWellFormed, IsSlotOf}
 use Rattle.bmff_boxes.proofs.ReadingLaws.{through, needed}
 use Rattle.bmff_fragment.proofs.Linking.{trafs_more, trafs_none}

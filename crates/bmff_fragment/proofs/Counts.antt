@@ -19,7 +19,8 @@ use Rattle.bmff_fragment.specs.Samples.{each, sample_of, samples_of}
 use Rattle.bmff_fragment.specs.Times.{Run, run_end, slot_at, slots_of_run, slots_behind, duration_of}
 use Rattle.bmff_boxes.specs.Reading.{◌>>=◌, need, check}
 use Rattle.bmff_boxes.specs.Children.{payload_of}
-use Rattle.bmff_fragment.specs.Plans.{track_fragment_of, run_start, run_of, runs_of, samples_in, data_end, is_media, media_slots, trafs_of, plan_of}
+use Rattle.mse_base.specs.Moments.{is_media}
+use Rattle.bmff_fragment.specs.Plans.{track_fragment_of, run_start, run_of, runs_of, samples_in, data_end, media_slots, trafs_of, plan_of}
 use Rattle.std.specs.Option.{option_map}
 
 -- ---- a run

@@ -15,7 +15,8 @@ use Rattle.bmff_fragment.specs.declared.slot.Slot.{Slot}
 use Rattle.bmff_fragment.specs.Times.{Run, run_end, duration_of, slots_of_run, slots_behind}
 use Rattle.bmff_boxes.specs.Reading.{◌>>=◌, need}
 use Rattle.bmff_boxes.specs.Children.{payload_of}
-use Rattle.bmff_fragment.specs.Plans.{plan_of, is_media, track_fragment_of, run_of, runs_of, samples_in, data_end, media_slots, trafs_of}
+use Rattle.mse_base.specs.Moments.{is_media}
+use Rattle.bmff_fragment.specs.Plans.{plan_of, track_fragment_of, run_of, runs_of, samples_in, data_end, media_slots, trafs_of}
 use Rattle.bmff_fragment.specs.Steps.{progress_after_run, run_step, runs_steps, first_run, progress_after_runs, runs_part, traf_step, trafs_steps}
 
 -- behind all of the runs

@@ -1,10 +1,9 @@
 -- What a movie fragment says of its samples, or the first fault in the order of reading (ISO/IEC 14496-12, 8.8).
-use Rattle.std.specs.Prelude.{ℕ, ◌+◌, ◌^◌, nat_le, ◌==◌, ◌||◌, ℤ, pos, ◌+ℤ◌, int_le, Bool, true, false, if◌then◌else◌, List, [], ◌∷◌, ◌++◌, length, find, Option, Some, None, is_none, Result, Ok}
+use Rattle.std.specs.Prelude.{ℕ, ◌+◌, ◌^◌, nat_le, ◌==◌, ◌||◌, ℤ, pos, ◌+ℤ◌, int_le, if◌then◌else◌, List, [], ◌∷◌, ◌++◌, length, find, Option, Some, None, is_none, Result, Ok}
 use lib.Chars.{codes}
 use Rattle.mse_base.specs.declared.track.TrackInfo.{TrackInfo}
-use Rattle.mse_base.specs.declared.track.Kind.{Kind}
-use Rattle.mse_base.specs.declared.track.Kind.TheVariants.{Video, Audio, Other}
 use Rattle.mse_base.specs.Presentation.{has_id}
+use Rattle.mse_base.specs.Moments.{is_media}
 use Rattle.bmff_boxes.specs.Children.{payload_of}
 use Rattle.bmff_boxes.specs.Reading.{◌>>=◌, need, check}
 use Rattle.bmff_boxes.specs.Rows.{BoxView, row_of, first_of, all_of}
@@ -21,12 +20,6 @@ use Rattle.bmff_fragment.specs.Times.{Run, run_end, slots_behind}
 -- the track of a number
 abbrev pub track_of : List TrackInfo → ℕ → Option TrackInfo
 track_of tracks id = find (has_id id) tracks
-
--- whether a buffer takes frames of a track
-abbrev pub is_media : Kind → Bool
-is_media Video = true
-is_media Audio = true
-is_media Other = false
 
 -- traf, track fragment (8.8.6), before its runs: its track, its defaults, the place from which its data
 -- offsets count and its first decode time. That place is the first byte of the moof box in the first track

@@ -2,7 +2,8 @@
 use Rattle.std.specs.Prelude.{◌≤◌, ◌<◌, ◌^◌, pos, ◌≤ℤ◌, IsTrue, IsSomeAnd, List}
 use Rattle.mse_base.specs.declared.track.TrackInfo.{TrackInfo}
 use Rattle.bmff_fragment.specs.declared.slot.Slot.{Slot}
-use Rattle.bmff_fragment.specs.Plans.{track_of, is_media}
+use Rattle.mse_base.specs.Moments.{is_media}
+use Rattle.bmff_fragment.specs.Plans.{track_of}
 
 -- a slot whose data do not end before their start and are not far away, and which does not last a negative time
 pub record IsWellFormed (s : Slot) : Type 0 where

@@ -3,7 +3,7 @@ ghost use Rattle.std.specs.List.{All, AllByRecursion};
 ghost use lib.Chars.{codes};
 ghost use Rattle.bmff_boxes.specs.Rows.{all_of};
 ghost use Rattle.mse_base.specs.Presentation.{IsReadable};
-ghost use Rattle.bmff_fragment.specs.Plans.{plan_of, run_start as run_start_of};
+ghost use Rattle.bmff_fragment.specs.Plans.{plan_of, run_start};
 ghost use Rattle.bmff_fragment.specs.Steps.{run_step, runs_part, traf_step, trafs_steps};
 ghost use Rattle.bmff_boxes.specs.Reading.{Gives};
 ghost use Rattle.bmff_fragment.specs.Slots.{IsWellFormed, IsSlotOf};
@@ -24,7 +24,7 @@ const MOST_SAMPLES: u32 = 1 << 20;
 /// Where the data of a run begin.
 fn run_start(base: i128, end: i128, data_offset: Option<i32>) -> i128
     requires { unsigned_abs base ≤ 2 ^ 120 }
-    ensures value { result ≡ run_start_of base end data_offset }
+    ensures value { result ≡ run_start base end data_offset }
     ensures bound { (n : ℕ) → unsigned_abs end ≤ unsigned_abs base + 2 ^ 31 + n →
         unsigned_abs result ≤ unsigned_abs base + 2 ^ 31 + n }
 {

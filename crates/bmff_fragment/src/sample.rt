@@ -1,7 +1,7 @@
 ghost use Rattle.std.specs.Prelude.{◌≡◌, ◌*◌, ◌≤◌, ◌^◌, length, vec_len, IfOk, Some};
 ghost use Rattle.bmff_fragment.specs.Headers.{run_header_of};
-ghost use Rattle.bmff_fragment.specs.Samples.{samples_of, sample_with_defaults as sample_with_defaults_of, header_flags as header_flags_of};
-ghost use Rattle.bmff_fragment.specs.Times.{data_len as data_len_of, duration_of};
+ghost use Rattle.bmff_fragment.specs.Samples.{samples_of, sample_with_defaults, header_flags};
+ghost use Rattle.bmff_fragment.specs.Times.{data_len, duration_of};
 ghost use Rattle.bmff_boxes.specs.Reading.{need};
 ghost use Rattle.bmff_boxes.specs.Reading.{Gives};
 
@@ -24,14 +24,14 @@ pub(crate) struct Sample {
 }
 
 fn header_flags(header: &RunHeader, i: u32) -> Option<u32>
-    ensures { result ≡ header_flags_of header.now i }
+    ensures { result ≡ header_flags header.now i }
 {
     if i == 0 { header.first_flags } else { None }
 }
 
 /// A sample as the run tells it, with the defaults for what it does not tell.
 fn sample_with_defaults(defaults: &Defaults, first_flags: Option<u32>, sample: TrunSample) -> Sample
-    ensures { result ≡ sample_with_defaults_of defaults.now first_flags sample }
+    ensures { result ≡ sample_with_defaults defaults.now first_flags sample }
 {
     let flags = sample.flags.unwrap_or(defaults.flags);
     Sample {
@@ -69,7 +69,7 @@ pub(crate) fn read_samples(
 /// The length of the data of samples, in bytes.
 pub(crate) fn data_len(samples: &[Sample]) -> u64
     requires { length samples.now ≤ 2 ^ 20 }
-    ensures value { result ≡ data_len_of samples.now }
+    ensures value { result ≡ data_len samples.now }
     ensures bound { result ≤ length samples.now * 2 ^ 32 }
 {
     let mut len = 0;

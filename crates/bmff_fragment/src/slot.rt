@@ -1,7 +1,4 @@
-ghost use Rattle.std.specs.Prelude.{◌≡◌};
-
-use mse_base::Ticks;
-use std::marker::Model;
+use mse_base::{OwnedList, Ticks};
 
 /// A sample that a movie fragment announces: when it is presented and decoded, and where its data lie.
 #[derive(Clone, Copy, Debug, PartialEq, Eq)]
@@ -23,42 +20,7 @@ pub struct Slot {
 }
 
 /// A list of slots, in the order of the movie fragment.
-#[derive(Debug, Drop)]
-pub struct Slots {
-    slots: Vec<Slot>,
-}
-
-impl Model for Slots {
-    ghost use Rattle.std.specs.Prelude.{List};
-    ghost use Rattle.bmff_fragment.specs.declared.slot.Slot.{Slot};
-
-    ghost Value = { List Slot };
-
-    ghost view = { λ s. s.slots.items };
-}
-
-impl Slots {
-    /// The slots of a vector, which it takes over.
-    pub fn from_vec(slots: Vec<Slot>) -> Slots
-        ensures { result ≡ slots.items }
-    {
-        Slots { slots }
-    }
-
-    /// The vector of the slots.
-    pub fn into_vec(self) -> Vec<Slot>
-        ensures { result.items ≡ self }
-    {
-        self.slots
-    }
-
-    /// The slots as a slice.
-    pub fn as_slice(&self) -> &[Slot]
-        ensures { result.now ≡ self.now }
-    {
-        self.slots.as_slice()
-    }
-}
+pub type Slots = OwnedList<Slot>;
 
 /// What a movie fragment announces.
 #[derive(Debug, Drop)]

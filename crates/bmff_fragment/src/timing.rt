@@ -9,7 +9,6 @@ ghost use Rattle.bmff_fragment.specs.Slots.{IsWellFormed};
 use crate::fault::MoofError;
 use crate::sample::Sample;
 use crate::slot::Slot;
-use crate::track_fragment::is_media;
 use mse_base::{Ticks, TrackInfo, convert};
 
 /// The flag sample_is_non_sync_sample of the sample flags (ISO/IEC 14496-12, 8.8.3.1).
@@ -37,7 +36,7 @@ fn tick_at(track: &TrackInfo, media_time: i128) -> Ticks
 fn make_slot(track: &TrackInfo, time: u128, start: u64, sample: &Sample) -> Slot
     requires readable { IsReadable track.now }
     requires time { time ≤ 2 ^ 66 }
-    requires near { start ≤ 2 ^ 59 + 2 ^ 52 }
+    requires small { start ≤ 2 ^ 59 + 2 ^ 52 }
     ensures value { result ≡ slot_of track.now time start sample.now }
     ensures well_formed { IsWellFormed result }
 {
@@ -67,7 +66,7 @@ fn push_slots(
     requires readable { IsReadable track.now }
     requires few { length samples.now ≤ 2 ^ 20 }
     requires time { time ≤ 2 ^ 65 }
-    requires near { start ≤ 2 ^ 59 }
+    requires small { start ≤ 2 ^ 59 }
     requires well_formed { All IsWellFormed slots.old.items }
     ensures slots { OnOk result (slots.new.items ≡ slots.old.items
         ++ slots_of_run track.now time (record { start = pos start; samples = samples.now })) }
@@ -107,7 +106,7 @@ pub(crate) fn push_run(
     ensures well_formed { OnOk result (All IsWellFormed slots.new.items) }
     ensures memory { IfErr result (λ e. e ≡ OutOfMemory) }
 {
-    if samples.is_empty() || !is_media(track.kind) {
+    if samples.is_empty() || !track.kind.is_media() {
         return Ok(());
     }
     let start = start.unsigned_abs();

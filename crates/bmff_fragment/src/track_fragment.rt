@@ -1,13 +1,13 @@
-ghost use Rattle.std.specs.Prelude.{◌≡◌, ◌≤◌, unsigned_abs, IfOk};
+ghost use Rattle.std.specs.Prelude.{◌≤◌, unsigned_abs, IfOk};
 ghost use Rattle.std.specs.List.{AllByRecursion};
 ghost use Rattle.mse_base.specs.Presentation.{IsReadable};
-ghost use Rattle.bmff_fragment.specs.Plans.{track_fragment_of, is_media as is_media_kind};
+ghost use Rattle.bmff_fragment.specs.Plans.{track_fragment_of};
 ghost use Rattle.bmff_boxes.specs.Reading.{Gives};
 
 use crate::fault::{MoofError, MoofFault};
 use crate::header::{Defaults, sample_defaults, track_fragment_header};
 use bmff_boxes::{Row, tfdt_time};
-use mse_base::{Kind, TrackInfo, TrackList};
+use mse_base::{TrackInfo, TrackList};
 
 /// A track fragment, before its runs.
 #[derive(Clone, Copy, Debug)]
@@ -38,17 +38,6 @@ pub(crate) struct RunProgress {
     pub(crate) data_end: i128,
     /// When the next sample is decoded, in the media's timescale.
     pub(crate) decode_time: u128,
-}
-
-/// Whether a buffer takes frames of a track of this kind.
-pub(crate) fn is_media(kind: Kind) -> bool
-    ensures { result ≡ is_media_kind kind }
-{
-    match kind {
-        Kind::Video => true,
-        Kind::Audio => true,
-        Kind::Other => false,
-    }
 }
 
 /// The track fragment whose boxes these are, where the data before it end at `end`.

@@ -22,7 +22,7 @@ use Rattle.bmff_init.specs.declared.fault.InitFault.TheVariants.{Size, Missing, 
 use Rattle.bmff_boxes.specs.declared.reading.ReadError.{ReadError}
 use Rattle.bmff_init.specs.declared.form.Form.{Form}
 use Rattle.bmff_init.specs.declared.edits.Shifts.{Shifts}
-use Rattle.bmff_init.specs.declared.track.Content.{Content}
+use Rattle.bmff_init.specs.declared.track.TrackContent.{TrackContent}
 use Rattle.bmff_boxes.specs.Children.{payload_of}
 use Rattle.bmff_boxes.specs.Reading.{◌>>=◌, need, check}
 use Rattle.bmff_boxes.specs.Reading.{Gives}
@@ -102,7 +102,7 @@ shifts_in_range scale (Some edts) shifts e =
 
 -- ---- a track
 
-pub record Fits (content : Content) : Type 0 where
+pub record Fits (content : TrackContent) : Type 0 where
   pub scale : 1 ≤ content.scale
   pub media : pos 0 ≤ℤ content.media_shift
   pub low : pos 0 ≤ℤ content.empty_shift
@@ -116,7 +116,7 @@ scale_in_range media scale e =
     let some : 1 ≤ b.value = not_zero b.value (checked ZeroTimescale _ _ c.was) in
     subst (λ n. 1 ≤ n) (same_ok _ _ (Ok b.value) refl c.then) some
 
-media_fits : (form : Form) (scale : ℕ) (track media : List BoxView) (content : Content) → media_content form scale track media ≡ Ok content → Fits content
+media_fits : (form : Form) (scale : ℕ) (track media : List BoxView) (content : TrackContent) → media_content form scale track media ≡ Ok content → Fits content
 unfolding media_content
 media_fits form scale track media content e =
     let a = through (media_scale_of media) (λ s. codec_in form media >>= λ codec. shifts_in scale (first_of (codes "edts") track) >>= λ shifts. Ok (record { codec = codec; scale = s; media_shift = shifts.media; empty_shift = shifts.empty })) content e in
@@ -126,9 +126,9 @@ media_fits form scale track media content e =
     let all : Fits (record { codec = b.value; scale = a.value; media_shift = c.value.media; empty_shift = c.value.empty }) = record { scale = scale_in_range media a.value a.was; media = range.media; low = range.low; high = range.high } in
     subst Fits (same_ok _ _ (Ok (record { codec = b.value; scale = a.value; media_shift = c.value.media; empty_shift = c.value.empty })) refl c.then) all
 
-content_fits : (form : Form) (scale : ℕ) (kind : Kind) (track media : List BoxView) (content : Content) → content_of form scale kind track media ≡ Ok content → Fits content
+content_fits : (form : Form) (scale : ℕ) (kind : Kind) (track media : List BoxView) (content : TrackContent) → content_of form scale kind track media ≡ Ok content → Fits content
 content_fits form scale Other track media content e =
-    let none : Content = record { codec = 0 ∷ 0 ∷ 0 ∷ 0 ∷ []; scale = 1; media_shift = pos 0; empty_shift = pos 0 } in
+    let none : TrackContent = record { codec = 0 ∷ 0 ∷ 0 ∷ 0 ∷ []; scale = 1; media_shift = pos 0; empty_shift = pos 0 } in
     let all : Fits none = record { scale = omega arith; media = omega (arith, ints); low = omega (arith, ints); high = omega (arith, ints) } in
     subst Fits (same_ok _ _ (Ok none) refl e) all
 content_fits form scale Video track media content e = media_fits form scale track media content e

@@ -15,7 +15,7 @@ use Rattle.bmff_boxes.specs.MovieFields.{trex_track_of, trex_duration_of, trex_s
 use Rattle.bmff_boxes.specs.Rows.{BoxView, row_of, first_of}
 use Rattle.bmff_init.specs.declared.fault.InitFault.{InitFault}
 use Rattle.bmff_init.specs.declared.fault.InitFault.TheVariants.{Size, Missing, HasSamples, ZeroTimescale, DuplicateTrack}
-use Rattle.bmff_init.specs.declared.track.Content.{Content}
+use Rattle.bmff_init.specs.declared.track.TrackContent.{TrackContent}
 use Rattle.bmff_init.specs.declared.form.Form.{Form}
 use Rattle.bmff_init.specs.declared.form.Form.TheVariants.{Fragmented, Classic}
 use Rattle.bmff_boxes.specs.Reading.{◌>>=◌, need, check}
@@ -95,7 +95,7 @@ media_scale_of media = do
 -- ---- the track
 
 -- of a track with neither video nor audio nothing is read but its number and kind
-abbrev pub no_content : Content
+abbrev pub no_content : TrackContent
 no_content = record {
   codec = 0 ∷ 0 ∷ 0 ∷ 0 ∷ [];
   scale = 1;
@@ -104,7 +104,8 @@ no_content = record {
 }
 
 -- the boxes of the track and of its media box, in a movie whose timescale is `movie_scale`
-unfoldable pub media_content : Form → ℕ → List BoxView → List BoxView → Result Content InitFault
+unfoldable pub media_content : Form → ℕ → List BoxView → List BoxView
+    → Result TrackContent InitFault
 media_content form movie_scale track media = do
   scale ← media_scale_of media
   codec ← codec_in form media
@@ -117,7 +118,8 @@ media_content form movie_scale track media = do
         empty_shift = shifts.empty;
       })
 
-abbrev pub content_of : Form → ℕ → Kind → List BoxView → List BoxView → Result Content InitFault
+abbrev pub content_of : Form → ℕ → Kind → List BoxView → List BoxView
+    → Result TrackContent InitFault
 content_of form movie_scale Other track media = Ok no_content
 content_of form movie_scale Video track media = media_content form movie_scale track media
 content_of form movie_scale Audio track media = media_content form movie_scale track media
@@ -142,7 +144,7 @@ kind_in media = do
   handler ← need Size (hdlr_handler_of hdlr)
   Ok (kind_of handler)
 
-abbrev pub track_with : List (List ℕ) → ℕ → Kind → Content → TrackInfo
+abbrev pub track_with : List (List ℕ) → ℕ → Kind → TrackContent → TrackInfo
 track_with trexes id kind content = record {
   id = id;
   kind = kind;

@@ -21,7 +21,7 @@ use std::alloc::Global;
 
 /// What is read of a track with video or audio.
 #[derive(Clone, Copy, Debug, PartialEq, Eq)]
-pub struct Content {
+pub struct TrackContent {
     /// The type of its first sample entry.
     pub codec: [u8; 4],
     /// How many units of its media time make a second.
@@ -139,14 +139,14 @@ fn read_media_content(
     movie_scale: u32,
     track: &Row<'_>,
     media: &Row<'_>,
-) -> Result<Content, InitFault>
+) -> Result<TrackContent, InitFault>
     requires { 1 ≤ movie_scale }
     ensures { result ≡ media_content form movie_scale track.now media.now }
 {
     let scale = read_media_scale(media)?;
     let codec = read_codec_in(form, media)?;
     let shifts = read_shifts(movie_scale, track.first(*b"edts"))?;
-    Ok(Content {
+    Ok(TrackContent {
         codec,
         scale,
         media_shift: shifts.media,
@@ -160,14 +160,14 @@ fn read_content(
     kind: Kind,
     track: &Row<'_>,
     media: &Row<'_>,
-) -> Result<Content, InitFault>
+) -> Result<TrackContent, InitFault>
     requires { 1 ≤ movie_scale }
     ensures { result ≡ content_of form movie_scale kind track.now media.now }
 {
     match kind {
         Kind::Video => read_media_content(form, movie_scale, track, media),
         Kind::Audio => read_media_content(form, movie_scale, track, media),
-        Kind::Other => Ok(Content {
+        Kind::Other => Ok(TrackContent {
             codec: [0; 4],
             scale: 1,
             media_shift: 0,
@@ -238,7 +238,7 @@ fn find_trex<'a>(mvex: &'a [u8], track: u32) -> Option<&'a [u8]>
 }
 
 /// The track with what was read of it, and with the defaults of its track extends box.
-fn track_with(mvex: &[u8], id: u32, kind: Kind, content: Content) -> TrackInfo
+fn track_with(mvex: &[u8], id: u32, kind: Kind, content: TrackContent) -> TrackInfo
     requires { IsSome (row_of mvex.now) }
     ensures { result ≡ track_with (all_of (codes "trex") (boxes_in mvex.now)) id kind content }
 {

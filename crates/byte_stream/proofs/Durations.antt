@@ -15,7 +15,8 @@ use Rattle.bmff_fragment.specs.declared.fault.MoofFault.{MoofFault}
 use Rattle.bmff_fragment.specs.declared.fault.MoofFault.TheVariants.{Size, NoTraf}
 use Rattle.bmff_fragment.specs.declared.slot.Slot.{Slot}
 use Rattle.bmff_fragment.specs.Times.{Run, duration_of, tick_at, slot_of, slot_at, slots_of_run, slots_behind}
-use Rattle.bmff_fragment.specs.Plans.{is_media, track_fragment_of, runs_of, samples_in, data_end, media_slots, trafs_of, plan_of}
+use Rattle.mse_base.specs.Moments.{is_media}
+use Rattle.bmff_fragment.specs.Plans.{track_fragment_of, runs_of, samples_in, data_end, media_slots, trafs_of, plan_of}
 use Rattle.bmff_fragment.proofs.Clock.{lasts}
 use Rattle.bmff_fragment.proofs.Linking.{trafs_more, trafs_none}
 

@@ -22,7 +22,7 @@ use Rattle.segment_walk.specs.declared.kinds.BoxStep.TheVariants as step
 use Rattle.segment_walk.specs.Moves as segment
 use Rattle.segment_walk.specs.Tables.{SegmentItem}
 use Rattle.segment_walk.proofs.Boxes.{items-boxes}
-use Rattle.segment_walk.specs.Moves.{ParserMode, Between, Skipping, Within, open_of, initialized, opened, planned, act, step_of, pass_byte, segments}
+use Rattle.segment_walk.specs.Moves.{ParserMode, Between, Skipping, Within, open_of, move_of_init, move_of_slots, move_of_moof, act, step_of, pass_byte, segments}
 use Rattle.segment_walk.specs.Strings as segment_string
 use Rattle.segment_walk.proofs.WalkLaws.{going, Fits, HasSlot, good-step}
 use Rattle.parser_loop.specs.Items.{InitItem, FrameItem, SegmentEnd, FaultItem}
@@ -66,8 +66,8 @@ OpenLasts (Within o) = All Lasts o.slots
 abbrev SegmentLasts : SegmentItem → Type 0
 SegmentLasts item = IsLasting (of_segments item)
 
-abbrev SegmentKeeps : Move segment.State SegmentItem → Type 0
-SegmentKeeps m = Keeps (λ (s : segment.State). OpenLasts s.mode) SegmentLasts m
+abbrev SegmentKeeps : Move segment.WalkState SegmentItem → Type 0
+SegmentKeeps m = Keeps (λ (s : segment.WalkState). OpenLasts s.mode) SegmentLasts m
 
 open-lasts : (m : ParserMode) → OpenLasts m → All Lasts (open_of m).slots
 open-lasts (Between begun) h = All-nil Lasts
@@ -79,19 +79,19 @@ slot-lasts (Between begun) slot h g = absurd g
 slot-lasts (Skipping to left) slot h g = absurd g
 slot-lasts (Within o) slot h g = subst Lasts (get_or_from_slice_get o.slots o.taken slot slot g) (All-get_or Lasts o.slots o.taken slot (slice_get_within o.slots o.taken slot g) h)
 
-keeps-init : (s : segment.State) (len : ℕ) (r : Result Presentation InitFault) → OpenLasts s.mode → SegmentKeeps (initialized s len r)
+keeps-init : (s : segment.WalkState) (len : ℕ) (r : Result Presentation InitFault) → OpenLasts s.mode → SegmentKeeps (move_of_init s len r)
 keeps-init s len (Ok p) h = (tt, tt)
 keeps-init s len (Err f) h = (tt, h)
 
-keeps-opened : (s : segment.State) (len : ℕ) (r : Result (List Slot) MoofFault) → OpenLasts s.mode → ((slots : List Slot) → r ≡ Ok slots → All Lasts slots) → SegmentKeeps (opened s len r)
+keeps-opened : (s : segment.WalkState) (len : ℕ) (r : Result (List Slot) MoofFault) → OpenLasts s.mode → ((slots : List Slot) → r ≡ Ok slots → All Lasts slots) → SegmentKeeps (move_of_slots s len r)
 keeps-opened s len (Ok slots) h f = f slots refl
 keeps-opened s len (Err e) h f = (tt, h)
 
-keeps-planned : (s : segment.State) (len : ℕ) (with : Option Presentation) → OpenLasts s.mode → SegmentKeeps (planned s len with)
+keeps-planned : (s : segment.WalkState) (len : ℕ) (with : Option Presentation) → OpenLasts s.mode → SegmentKeeps (move_of_moof s len with)
 keeps-planned s len None h = (tt, h)
 keeps-planned s len (Some p) h = keeps-opened s len (plan_of p.tracks (take len s.rest)) h (λ slots e. plan-lasts p.tracks (take len s.rest) slots e)
 
-keeps-act : (s : segment.State) (n : ℕ) (st : BoxStep) → OpenLasts s.mode → Fits s.mode n st → SegmentKeeps (act s st)
+keeps-act : (s : segment.WalkState) (n : ℕ) (st : BoxStep) → OpenLasts s.mode → Fits s.mode n st → SegmentKeeps (act s st)
 keeps-act s n (step.Wait w) h f = tt
 keeps-act s n (step.Skip to len) h f = tt
 keeps-act s n (step.ReadInit len) h f = keeps-init s len (init_of (take len s.rest)) h
@@ -102,11 +102,11 @@ keeps-act s n (step.GiveFrame slot) h f = (slot-lasts s.mode slot h f.0, open-la
 keeps-act s n (step.EndSegment end) h f = (tt, tt)
 keeps-act s n (step.Fail g at) h f = (tt, h)
 
-keeps-byte : (s : segment.State) (to : Phase) (left : ℕ) (rest : List ℕ) → SegmentKeeps (pass_byte s to left rest)
+keeps-byte : (s : segment.WalkState) (to : Phase) (left : ℕ) (rest : List ℕ) → SegmentKeeps (pass_byte s to left rest)
 keeps-byte s to left [] = tt
 keeps-byte s to left (x ∷ rest) = tt
 
-keeps-segment : (last : Option Presentation) (m : ParserMode) (offset : ℕ) (rest : List ℕ) (failed : Bool) → let s : segment.State = record { last = last; mode = m; offset = offset; rest = rest; failed = failed } in OpenLasts m → SegmentKeeps (segment.move_unless s failed)
+keeps-segment : (last : Option Presentation) (m : ParserMode) (offset : ℕ) (rest : List ℕ) (failed : Bool) → let s : segment.WalkState = record { last = last; mode = m; offset = offset; rest = rest; failed = failed } in OpenLasts m → SegmentKeeps (segment.move_unless s failed)
 keeps-segment last m offset rest true h = tt
 keeps-segment last (Between begun) offset rest false h = keeps-act (going last (Between begun) offset rest) (length rest) (step_of (is_some last) rest (Between begun)) h (good-step (is_some last) rest [] (Between begun)).0
 keeps-segment last (Skipping to zero) offset rest false h = tt
@@ -114,7 +114,7 @@ keeps-segment last (Skipping to (suc left)) offset rest false h = keeps-byte (go
 keeps-segment last (Within o) offset rest false h = keeps-act (going last (Within o) offset rest) (length rest) (step_of (is_some last) rest (Within o)) h (good-step (is_some last) rest [] (Within o)).0
 
 segments-last : (before : Option Presentation) (whole : List ℕ) → All SegmentLasts (segment_string.walk_items before whole)
-segments-last before whole = kept-from segments (λ (s : segment.State). OpenLasts s.mode) SegmentLasts (λ s h. keeps-segment s.last s.mode s.offset s.rest s.failed h) (segment_string.start before whole) tt
+segments-last before whole = kept-from segments (λ (s : segment.WalkState). OpenLasts s.mode) SegmentLasts (λ s h. keeps-segment s.last s.mode s.offset s.rest s.failed h) (segment_string.start before whole) tt
 
 -- ---- ADTS frames: the frame of a header lasts
 

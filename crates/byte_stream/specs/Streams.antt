@@ -21,8 +21,8 @@ use Rattle.byte_stream.specs.Readings.{Reading, ByteItem}
 
 -- what the parser of either container keeps
 pub data ParserState : Type 0 where
-  OfSegments : Lookahead segment.State SegmentItem → ParserState
-  OfFrames : frame.State → ParserState
+  OfSegments : Lookahead segment.WalkState SegmentItem → ParserState
+  OfFrames : frame.WalkState → ParserState
 
 -- What the parser keeps, the length of the string since the last reset, and the bytes that are offered, if there are
 -- any.
@@ -118,7 +118,7 @@ offered_len None = 0
 offered_len (Some bytes) = length bytes
 
 -- the numbers are the length of the string and of what is offered, if anything is
-pub record IsCounted (s : StreamView) (len more : ℕ) : Type 0 where
+pub record HasLengths (s : StreamView) (len more : ℕ) : Type 0 where
   pub stands : StandsForSome s
   pub fed : len ≡ s.fed
   pub offered : more ≡ offered_len s.offered

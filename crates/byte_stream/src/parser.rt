@@ -1,4 +1,4 @@
-ghost use Rattle.std.specs.Prelude.{◌≡◌, ◌+◌, ◌<◌, ◌^◌, ◌⊎◌, length, Option, None, Some, IsSome, IfSome, IfOk, OnOk, OnErr};
+ghost use Rattle.std.specs.Prelude.{◌≡◌, ◌+◌, ◌<◌, ◌≤◌, ◌^◌, ◌⊎◌, length, Option, None, Some, IsSome, IfSome, IfOk, OnOk, OnErr};
 ghost use Rattle.parser_loop.specs.Items.{FrameItem, latest_after_any};
 ghost use Rattle.adts_stream.specs.Walk.{phase_of as phase_of_point};
 ghost use Rattle.byte_stream.specs.Readings.{new_reading, next_item, item_ahead, with_bytes, after_answer, after_reset};
@@ -24,7 +24,7 @@ impl Parser {
         ensures stands { Stands (stream_view result) (new_reading container) }
         ensures latest { latest_of (stream_view result) ≡ None }
         ensures fed { (stream_view result).fed ≡ 0 }
-        ensures idle { (stream_view result).offered ≡ None }
+        ensures none_offered { (stream_view result).offered ≡ None }
     {
         match container {
             Container::Mp4 => Parser::Segments(Stream::new(alloc)),
@@ -33,7 +33,7 @@ impl Parser {
     }
 
     pub(crate) fn offer(&mut self, bytes: &[u8]) -> Result<(), OutOfMemory>
-        requires idle { (stream_view self.old).offered ≡ None }
+        requires none_offered { (stream_view self.old).offered ≡ None }
         requires room { (stream_view self.old).fed + length bytes.now < 2 ^ 62 }
         ensures ok { OnOk result (stream_view self.new ≡ record {
           parser = (stream_view self.old).parser;
@@ -49,7 +49,7 @@ impl Parser {
     }
 
     pub(crate) fn offer_bytes(&mut self, bytes: Bytes) -> Result<(), OutOfMemory>
-        requires idle { (stream_view self.old).offered ≡ None }
+        requires none_offered { (stream_view self.old).offered ≡ None }
         requires room { (stream_view self.old).fed + length bytes < 2 ^ 62 }
         ensures ok { OnOk result (stream_view self.new ≡ record {
           parser = (stream_view self.old).parser;
@@ -71,7 +71,7 @@ impl Parser {
         ensures latest { latest_of (stream_view self.new) ≡ latest_of (stream_view self.old) }
         ensures fed { IfSome (stream_view self.old).offered
             (λ bytes. (stream_view self.new).fed ≡ (stream_view self.old).fed + length bytes) }
-        ensures idle { (stream_view self.new).offered ≡ None }
+        ensures none_offered { (stream_view self.new).offered ≡ None }
     {
         match self {
             Parser::Segments(stream) => stream.accept(),
@@ -94,7 +94,7 @@ impl Parser {
     }
 
     pub(crate) fn look(&self, i: usize) -> Result<Next, OutOfMemory>
-        requires idle { (stream_view self.now).offered ≡ None }
+        requires none_offered { (stream_view self.now).offered ≡ None }
         requires ready { (i ≡ 0) ⊎ (i < ready_of (stream_view self.now)) }
         ensures { ForEachReading (stream_view self.now) (λ r.
             IfOk result (λ next. seen next ≡ item_ahead r i)) }
@@ -114,7 +114,7 @@ impl Parser {
         ensures latest { IfOk result (λ next. latest_of (stream_view self.new)
             ≡ latest_after_any (latest_of (stream_view self.old)) (seen next)) }
         ensures fed { (stream_view self.new).fed ≡ (stream_view self.old).fed }
-        ensures idle { (stream_view self.new).offered ≡ None }
+        ensures none_offered { (stream_view self.new).offered ≡ None }
         ensures dry { IfOk result
             (λ next. seen next ≡ None → stream_view self.new ≡ stream_view self.old) }
         ensures err { OnErr result (stream_view self.new ≡ stream_view self.old) }
@@ -127,7 +127,7 @@ impl Parser {
 
     /// The coded frame that comes next, with the offset of its first byte.
     pub(crate) fn next_frame(&mut self) -> Result<(CodedFrame, u64), OutOfMemory>
-        requires idle { (stream_view self.old).offered ≡ None }
+        requires none_offered { (stream_view self.old).offered ≡ None }
         requires ready { 0 < ready_of (stream_view self.old) }
         requires stands { StandsForSome (stream_view self.old) }
         ensures item { ForEachReading (stream_view self.old) (λ r.
@@ -137,7 +137,7 @@ impl Parser {
         ensures latest { OnOk result
             (latest_of (stream_view self.new) ≡ latest_of (stream_view self.old)) }
         ensures fed { (stream_view self.new).fed ≡ (stream_view self.old).fed }
-        ensures idle { (stream_view self.new).offered ≡ None }
+        ensures none_offered { (stream_view self.new).offered ≡ None }
         ensures err { OnErr result (stream_view self.new ≡ stream_view self.old) }
     {
         match self {
@@ -164,7 +164,8 @@ impl Parser {
 
     pub(crate) fn ready_frames(&self) -> usize
         requires { (stream_view self.now).offered ≡ None }
-        ensures { result ≡ ready_of (stream_view self.now) }
+        ensures ready { result ≡ ready_of (stream_view self.now) }
+        ensures few { result ≤ 2 ^ 20 }
     {
         match self {
             Parser::Segments(stream) => stream.ready_frames(),
@@ -187,7 +188,7 @@ impl Parser {
         ensures stands { StandsAfter (stream_view self.old) after_reset (stream_view self.new) }
         ensures latest { latest_of (stream_view self.new) ≡ latest_of (stream_view self.old) }
         ensures fed { (stream_view self.new).fed ≡ 0 }
-        ensures idle { (stream_view self.new).offered ≡ None }
+        ensures none_offered { (stream_view self.new).offered ≡ None }
     {
         match self {
             Parser::Segments(stream) => stream.reset(),

@@ -1,4 +1,4 @@
-ghost use Rattle.std.specs.Prelude.{◌≡◌, ◌+◌, ◌<◌, ◌^◌, ◌⊎◌, pos, ◌≤ℤ◌, length, Some, None, IsSome, IfSome, IfOk, OnOk, OnErr};
+ghost use Rattle.std.specs.Prelude.{◌≡◌, ◌+◌, ◌<◌, ◌≤◌, ◌^◌, ◌⊎◌, pos, ◌≤ℤ◌, length, Some, None, IsSome, IfSome, IfOk, OnOk, OnErr};
 ghost use Rattle.parser_loop.specs.Items.{FrameItem, latest_after_any};
 ghost use Rattle.byte_stream.specs.Readings.{new_reading, reading_from, next_item, item_ahead, ready_at, phase_at, held_at, with_bytes, after_answer, after_reset, IsLasting};
 
@@ -26,13 +26,13 @@ pub struct ByteStream {
 }
 
 impl Model for ByteStream {
-    ghost use Rattle.byte_stream.specs.Streams.{StreamView, stream_view, IsCounted};
+    ghost use Rattle.byte_stream.specs.Streams.{StreamView, stream_view, HasLengths};
 
     ghost Value = { StreamView };
 
     ghost view = { λ s. stream_view s.parser };
 
-    ghost invariant = { λ s. IsCounted (stream_view s.parser) s.fed s.offered };
+    ghost invariant = { λ s. HasLengths (stream_view s.parser) s.fed s.offered };
 }
 
 impl ByteStream {
@@ -43,7 +43,7 @@ impl ByteStream {
         ensures stands { Stands result (new_reading container) }
         ensures latest { latest_of result ≡ None }
         ensures fed { result.fed ≡ 0 }
-        ensures idle { result.offered ≡ None }
+        ensures none_offered { result.offered ≡ None }
     {
         ByteStream {
             alloc,
@@ -55,7 +55,7 @@ impl ByteStream {
 
     /// Takes all memory that it needs to append these bytes, and leaves the string; also where it finds none.
     pub fn offer(&mut self, bytes: &[u8]) -> Result<(), OutOfMemory>
-        requires idle { self.old.offered ≡ None }
+        requires none_offered { self.old.offered ≡ None }
         requires room { self.old.fed + length bytes.now < 2 ^ 62 }
         ensures ok { OnOk result (self.new
             ≡ record { parser = self.old.parser; fed = self.old.fed; offered = Some bytes.now }) }
@@ -68,7 +68,7 @@ impl ByteStream {
 
     /// As `offer` of the same bytes, whose memory the input has where they become a piece of their own.
     pub fn offer_bytes(&mut self, bytes: Bytes) -> Result<(), OutOfMemory>
-        requires idle { self.old.offered ≡ None }
+        requires none_offered { self.old.offered ≡ None }
         requires room { self.old.fed + length bytes < 2 ^ 62 }
         ensures ok { OnOk result (self.new
             ≡ record { parser = self.old.parser; fed = self.old.fed; offered = Some bytes }) }
@@ -88,7 +88,7 @@ impl ByteStream {
         ensures latest { latest_of self.new ≡ latest_of self.old }
         ensures fed { IfSome self.old.offered
             (λ bytes. self.new.fed ≡ self.old.fed + length bytes) }
-        ensures idle { self.new.offered ≡ None }
+        ensures none_offered { self.new.offered ≡ None }
     {
         self.parser.accept();
         self.fed += self.offered as u64;
@@ -108,7 +108,7 @@ impl ByteStream {
     /// The item that stands `i` places after the next one, or `Dry` exactly where the string gives none. Nothing
     /// changes.
     pub fn look(&self, i: usize) -> Result<Next, OutOfMemory>
-        requires idle { self.now.offered ≡ None }
+        requires none_offered { self.now.offered ≡ None }
         requires ready { (i ≡ 0) ⊎ (i < ready_of self.now) }
         ensures item { ForEachReading self.now (λ r.
             IfOk result (λ next. seen next ≡ item_ahead r i)) }
@@ -128,7 +128,7 @@ impl ByteStream {
         ensures latest { IfOk result (λ next.
             latest_of self.new ≡ latest_after_any (latest_of self.old) (seen next)) }
         ensures fed { self.new.fed ≡ self.old.fed }
-        ensures idle { self.new.offered ≡ None }
+        ensures none_offered { self.new.offered ≡ None }
         ensures dry { IfOk result (λ next. seen next ≡ None → self.new ≡ self.old) }
         ensures err { OnErr result (self.new ≡ self.old) }
         ensures lasting { IfOk result (λ next. IfSome (seen next) IsLasting) }
@@ -139,7 +139,7 @@ impl ByteStream {
     /// The coded frame that comes next, with the offset of its first byte in the string, where one is ready. An
     /// `Err` changes nothing.
     pub fn next_frame(&mut self) -> Result<(CodedFrame, u64), OutOfMemory>
-        requires idle { self.old.offered ≡ None }
+        requires none_offered { self.old.offered ≡ None }
         requires ready { 0 < ready_of self.old }
         ensures item { ForEachReading self.old (λ r.
             IfOk result (λ x. Some (FrameItem x.0 x.1) ≡ next_item r)) }
@@ -147,7 +147,7 @@ impl ByteStream {
             (λ x. Stands self.new (after_answer (Some (FrameItem x.0 x.1)) r))) }
         ensures latest { OnOk result (latest_of self.new ≡ latest_of self.old) }
         ensures fed { self.new.fed ≡ self.old.fed }
-        ensures idle { self.new.offered ≡ None }
+        ensures none_offered { self.new.offered ≡ None }
         ensures err { OnErr result (self.new ≡ self.old) }
         ensures lasting { IfOk result (λ x. pos 0 ≤ℤ x.0.dur) }
     {
@@ -178,11 +178,13 @@ impl ByteStream {
         self.parser.phase()
     }
 
-    /// How many of the next items are coded frames, up to the first that is none. It takes no memory.
+    /// How many of the next items are coded frames, up to the first that is none: at most `2^20`, since a moof has
+    /// no more samples. It takes no memory.
     pub fn ready_frames(&self) -> usize
         requires { self.now.offered ≡ None }
         ensures kept { result ≡ ready_of self.now }
         ensures ready { ForEachReading self.now (λ r. result ≡ length (ready_at r)) }
+        ensures few { result ≤ 2 ^ 20 }
     {
         self.parser.ready_frames()
     }
@@ -205,7 +207,7 @@ impl ByteStream {
             (λ r. Stands self.new (reading_from r.container (latest_of self.old))) }
         ensures latest { latest_of self.new ≡ latest_of self.old }
         ensures fed { self.new.fed ≡ 0 }
-        ensures idle { self.new.offered ≡ None }
+        ensures none_offered { self.new.offered ≡ None }
     {
         self.parser.reset();
         self.fed = 0;
@@ -217,7 +219,7 @@ impl ByteStream {
         ensures stands { Stands self.new (new_reading container) }
         ensures latest { latest_of self.new ≡ None }
         ensures fed { self.new.fed ≡ 0 }
-        ensures idle { self.new.offered ≡ None }
+        ensures none_offered { self.new.offered ≡ None }
     {
         self.parser = Parser::new(self.alloc, container);
         self.fed = 0;

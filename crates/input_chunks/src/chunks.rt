@@ -125,6 +125,7 @@ impl Chunks {
         requires { from + length into.old ≤ length (concat self.now) }
         ensures { into.new ≡ take (length into.old) (drop from (concat self.now)) }
     {
+        // The proof reads off this what always holds of the fields.
         let _len = self.len;
         if into.is_empty() {
             return;
@@ -139,6 +140,7 @@ impl Chunks {
         requires { from + n ≤ length (concat self.now) }
         ensures { IfOk result (λ b. b ≡ take n (drop from (concat self.now))) }
     {
+        // The proof reads off this what always holds of the fields.
         let _len = self.len;
         if n == 0 {
             return no_bytes(self.alloc, &self.entries);
@@ -251,7 +253,7 @@ fn drop_front_of(entries: &mut VecDeque<PieceWithEnd>, n: usize)
 /// Removes the last `n` bytes; `end` is the end of those that stay.
 fn drop_back_of(entries: &mut VecDeque<PieceWithEnd>, n: usize, end: u64)
     requires inside { n ≤ length (bytes_of entries.old.items) }
-    requires full { HasNoEmptyPiece (pieces_of entries.old.items) }
+    requires none_empty { HasNoEmptyPiece (pieces_of entries.old.items) }
     ensures pieces { pieces_of entries.new.items
         ≡ pieces_without_last n (pieces_of entries.old.items) }
     ensures ended { HasNewEnds end (length (bytes_of entries.old.items) - n)

@@ -5,22 +5,23 @@ ghost use Rattle.mse_base.specs.declared.track.Presentation.{Presentation};
 ghost use Rattle.parser_loop.specs.Items.{Item, InitItem, FrameItem, SegmentEnd, FaultItem, latest_after_all, leading_frames, with_fault};
 ghost use Rattle.parser_loop.specs.Parse.{NoItem, ItemThen, parse_from, seen_before, items_of};
 ghost use Rattle.parser_loop.specs.Walk.{IsWalk, items_from, state_at, run, fed, first_item, after_first};
-ghost use Rattle.parser_loop.specs.Example.{zero_ended, reading};
+ghost use Rattle.parser_loop.specs.Example.{zero_ended, example_state};
 
 /// What the definitions give for a walk over texts that end at a zero byte.
 pub fn example_law()
     ensures is_walk { IsWalk zero_ended }
-    ensures items { items_from zero_ended (reading (codes "a b")) ≡ codes "ab" }
-    ensures ended { items_from zero_ended (reading (97 ∷ 0 ∷ 98 ∷ [])) ≡ 97 ∷ 0 ∷ [] }
-    ensures parse { parse_from zero_ended (λ s. s.rest) (reading (codes "a b")) ≡
+    ensures items { items_from zero_ended (example_state (codes "a b")) ≡ codes "ab" }
+    ensures ended { items_from zero_ended (example_state (97 ∷ 0 ∷ 98 ∷ [])) ≡ 97 ∷ 0 ∷ [] }
+    ensures parse { parse_from zero_ended (λ s. s.rest) (example_state (codes "a b")) ≡
         ItemThen (codes "a b") 97 (ItemThen (codes "b") 98 (NoItem [])) }
-    ensures state { state_at zero_ended 1 (reading (codes "a bc")) ≡ reading (codes "bc") }
-    ensures ahead { run zero_ended (reading (97 ∷ 32 ∷ 0 ∷ 98 ∷ [])) ≡
-        record { items = codes "a"; state = reading (0 ∷ 98 ∷ []) } }
-    ensures pieces { fed zero_ended (run zero_ended (reading (codes "a "))) (codes " b") ≡
-        record { items = codes "ab"; state = reading [] } }
-    ensures first { first_item zero_ended (run zero_ended (reading (codes " ab"))) ≡ Some 97 }
-    ensures after { (after_first zero_ended (run zero_ended (reading (codes " ab")))).items
+    ensures state { state_at zero_ended 1 (example_state (codes "a bc"))
+        ≡ example_state (codes "bc") }
+    ensures ahead { run zero_ended (example_state (97 ∷ 32 ∷ 0 ∷ 98 ∷ [])) ≡
+        record { items = codes "a"; state = example_state (0 ∷ 98 ∷ []) } }
+    ensures pieces { fed zero_ended (run zero_ended (example_state (codes "a "))) (codes " b") ≡
+        record { items = codes "ab"; state = example_state [] } }
+    ensures first { first_item zero_ended (run zero_ended (example_state (codes " ab"))) ≡ Some 97 }
+    ensures after { (after_first zero_ended (run zero_ended (example_state (codes " ab")))).items
         ≡ codes "b" }
 {}
 

@@ -7,7 +7,7 @@ use Rattle.mse_base.specs.declared.track.Kind.{Kind}
 use Rattle.sample_tables.specs.declared.sample.Sample.{Sample}
 use Rattle.sample_tables.specs.declared.media_track.MediaTrack.{MediaTrack}
 use Rattle.sample_tables.specs.Facts.{IsSampleIn, IsFileTrack}
-use Rattle.remux.specs.declared.runs.Run.{Run}
+use Rattle.remux.specs.declared.runs.RunOfTrack.{RunOfTrack}
 use Rattle.remux.proofs.SortLaws.{put, sorted}
 use Rattle.remux.specs.Runs.{begins_run, bytes_of, IsShortRun, is_run_full, ends_before, runs_from, runs_of, SampleRun, run_value, run_view, track_runs, run_put, in_order, runs_in_order}
 
@@ -133,7 +133,7 @@ length_ordered tracks = let few = length_tracks tracks in omega (arith, few, len
 
 -- ---- the runs that the code keeps
 
-abbrev pub earlier : Run → Run → Bool
+abbrev pub earlier : RunOfTrack → RunOfTrack → Bool
 earlier a b = is_lt (int_cmp a.time b.time)
 
 earlier_is : (a b : ℤ) → is_lt (int_cmp a b) ≡ int_lt a b
@@ -144,7 +144,7 @@ earlier_is a b = by (int_lt a b) (int_lt b a)
     by false true = refl
     by false false = refl
 
-put_value : (r : Run) (rs : List Run) → map run_value (put earlier r rs) ≡ run_put (run_value r) (map run_value rs)
+put_value : (r : RunOfTrack) (rs : List RunOfTrack) → map run_value (put earlier r rs) ≡ run_put (run_value r) (map run_value rs)
 put_value r [] = refl
 put_value r (n ∷ ns) = ap (λ t. map run_value (cond t (n ∷ put earlier r ns) (r ∷ n ∷ ns))) (earlier_is n.time r.time) ∙ by (int_lt n.time r.time) (put_value r ns)
   where
@@ -154,6 +154,6 @@ put_value r (n ∷ ns) = ap (λ t. map run_value (cond t (n ∷ put earlier r ns
     by false q = refl
 
 -- sorting them sorts what they are
-pub order_value : (rs : List Run) → map run_value (sorted earlier rs) ≡ in_order (map run_value rs)
+pub order_value : (rs : List RunOfTrack) → map run_value (sorted earlier rs) ≡ in_order (map run_value rs)
 order_value [] = refl
 order_value (r ∷ rs) = put_value r (sorted earlier rs) ∙ ap (run_put (run_value r)) (order_value rs)

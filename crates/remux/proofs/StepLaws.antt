@@ -6,7 +6,7 @@ use Rattle.std.proofs.lemmas.Bool.Decides.{nat_tests}
 use Rattle.mse_base.specs.declared.track.Kind.{Kind}
 use Rattle.sample_tables.specs.declared.sample.Sample.{Sample}
 use Rattle.sample_tables.specs.declared.media_track.MediaTrack.{MediaTrack}
-use Rattle.remux.specs.declared.runs.Run.{Run}
+use Rattle.remux.specs.declared.runs.RunOfTrack.{RunOfTrack}
 use Rattle.remux.specs.Runs.{begins_run, bytes_of, is_run_full, ends_before, runs_from, SampleRun, run_value, run_view}
 use Rattle.remux.proofs.RunLaws.{neither}
 
@@ -53,9 +53,9 @@ fits_one kind i run s e =
     let parts = neither (leb (2 ^ 16) (length run)) (ltb (2 ^ 26) (bytes_of run + s.size)) room in
     grind (arith, nat_tests, parts.1)
 
-pub push_value : (runs next : List Run) (r : Run) (v : SampleRun) → next ≡ runs ++ r ∷ [] → run_value r ≡ v → map run_value next ≡ map run_value runs ++ v ∷ []
+pub push_value : (runs next : List RunOfTrack) (r : RunOfTrack) (v : SampleRun) → next ≡ runs ++ r ∷ [] → run_value r ≡ v → map run_value next ≡ map run_value runs ++ v ∷ []
 push_value runs next r v n e = ap (map run_value) n ∙ (push runs ∙ ap (λ w. map run_value runs ++ w ∷ []) e)
   where
-    push : (rs : List Run) → map run_value (rs ++ r ∷ []) ≡ map run_value rs ++ run_value r ∷ []
+    push : (rs : List RunOfTrack) → map run_value (rs ++ r ∷ []) ≡ map run_value rs ++ run_value r ∷ []
     push [] = refl
     push (q ∷ qs) = ap (λ ws. run_value q ∷ ws) (push qs)

@@ -1,11 +1,9 @@
 -- A classic file as a fragmented one (ISO/IEC 14496-12, 8.8; ISO BMFF byte stream format): an initialization
 -- segment, and a media segment for each run.
-use Rattle.std.specs.Prelude.{◌≡◌, ℕ, ◌+◌, ℤ, pos, if◌then◌else◌, List, [], ◌∷◌, map, Result, Ok, Err}
+use Rattle.std.specs.Prelude.{ℕ, ◌+◌, ℤ, pos, if◌then◌else◌, List, [], ◌∷◌, map, Result, Ok}
 use Rattle.std.specs.List.{slice_range}
 use Rattle.std.specs.Ordering.{int_eq}
 use Rattle.bmff_boxes.specs.Reading.{◌>>=◌}
-use Rattle.bmff_boxes.specs.declared.reading.ReadError.{ReadError}
-use Rattle.bmff_boxes.specs.declared.reading.ReadError.TheVariants as memory
 use Rattle.bmff_write.specs.declared.track_out.TrackOut.{TrackOut}
 use Rattle.bmff_write.specs.declared.traf_out.SampleOut.{SampleOut}
 use Rattle.bmff_write.specs.declared.traf_out.TrafOut.{TrafOut}
@@ -16,8 +14,6 @@ use Rattle.sample_tables.specs.declared.sample.Sample.{Sample}
 use Rattle.sample_tables.specs.declared.media_track.MediaTrack.{MediaTrack}
 use Rattle.sample_tables.specs.Movies.{file_tracks}
 use Rattle.remux.specs.Runs.{SampleRun, runs_in_order}
-use Rattle.remux.specs.declared.error.RemuxError.{RemuxError}
-use Rattle.remux.specs.declared.error.RemuxError.TheVariants.{OutOfMemory, Fault}
 
 -- an edit that begins at the media time at which the presentation does
 abbrev pub edits_of : ℤ → List (ℕ × ℤ)
@@ -33,8 +29,8 @@ track_out t = record {
 }
 
 -- the initialization segment: the tracks with their sample description boxes
-unfoldable pub init_of : List MediaTrack → List ℕ
-init_of tracks = init_bytes_with (map track_out tracks) (map (λ t. t.stsd) tracks)
+unfoldable pub init_segment_of : List MediaTrack → List ℕ
+init_segment_of tracks = init_bytes_with (map track_out tracks) (map (λ t. t.stsd) tracks)
 
 -- a sample with its bytes
 abbrev pub sample_out : List ℕ → Sample → SampleOut
@@ -60,25 +56,10 @@ segments_from file number (run ∷ runs) =
 
 -- the pieces of the fragmented file
 unfoldable pub pieces_of : List ℕ → List MediaTrack → List (List ℕ)
-pieces_of file tracks = init_of tracks ∷ segments_from file 1 (runs_in_order tracks)
+pieces_of file tracks = init_segment_of tracks ∷ segments_from file 1 (runs_in_order tracks)
 
 -- a classic file as pieces of a fragmented one, or the first fault
 unfoldable pub remuxed : List ℕ → Result (List (List ℕ)) PlacedFault
 remuxed file = do
   tracks ← file_tracks file
   Ok (pieces_of file tracks)
-
--- the error of a file that was not read
-abbrev pub remux_error : ReadError PlacedFault → RemuxError
-remux_error memory.OutOfMemory = OutOfMemory
-remux_error (memory.Fault placed) = Fault placed.fault placed.offset
-
--- a call may find no memory; else it gives these pieces, or its error is the fault
-abbrev pub Fails : RemuxError → Result (List (List ℕ)) PlacedFault → Type 0
-Fails OutOfMemory read = Unit {0}
-Fails (Fault fault offset) read = read ≡ Err (record { fault = fault; offset = offset })
-
-abbrev pub Gives : {X : Type 0} → (X → List (List ℕ)) → Result X RemuxError
-    → Result (List (List ℕ)) PlacedFault → Type 0
-Gives view (Ok pieces) read = read ≡ Ok (view pieces)
-Gives view (Err error) read = Fails error read

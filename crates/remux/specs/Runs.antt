@@ -6,7 +6,7 @@ use Rattle.mse_base.specs.declared.track.Kind.{Kind}
 use Rattle.mse_base.specs.declared.track.Kind.TheVariants.{Video, Audio, Other}
 use Rattle.sample_tables.specs.declared.sample.Sample.{Sample}
 use Rattle.sample_tables.specs.Facts.{IsSampleIn}
-use Rattle.remux.specs.declared.runs.Run.{Run}
+use Rattle.remux.specs.declared.runs.RunOfTrack.{RunOfTrack}
 use Rattle.sample_tables.specs.declared.media_track.MediaTrack.{MediaTrack}
 
 -- whether a run begins with a sample, which has this position in its track, the first being 0
@@ -55,7 +55,7 @@ pub record SampleRun : Type 0 where
   pub samples : List Sample
 
 -- the same of what the code keeps
-abbrev pub run_value : Run → SampleRun
+abbrev pub run_value : RunOfTrack → SampleRun
 run_value run = record {
   id = run.id;
   decode = run.decode;
@@ -64,7 +64,7 @@ run_value run = record {
 }
 
 -- the same of a run in code
-abbrev pub IsShortIn : ℕ → Run → Type 0
+abbrev pub IsShortIn : ℕ → RunOfTrack → Type 0
 IsShortIn len run = IsShortRun len run.samples.now
 
 abbrev pub first_decode : List Sample → ℕ

@@ -1,12 +1,13 @@
 ghost use Rattle.std.specs.Prelude.{◌≡◌, ◌++◌, ◌≤◌, ◌^◌, [], ◌∷◌, length, map, IfOk, OnOk};
 ghost use Rattle.std.specs.List.{AllByRecursion};
+ghost use Rattle.bmff_boxes.specs.Reading.{Gives};
 ghost use Rattle.bmff_write.specs.Fragment.{segment_bytes};
 ghost use Rattle.sample_tables.specs.Facts.{IsSampleIn, IsFileTrack, AreFileTracks};
 ghost use Rattle.remux.specs.Runs.{IsShortRun, IsShortIn, run_value};
-ghost use Rattle.remux.specs.Remuxed.{track_out, init_of, sample_out, traf_out, segments_from, pieces_of, Gives, remuxed};
+ghost use Rattle.remux.specs.Remuxed.{track_out, init_segment_of, sample_out, traf_out, segments_from, pieces_of, remuxed};
 
 use crate::error::RemuxError;
-use crate::runs::{Run, runs_in_order};
+use crate::runs::{RunOfTrack, runs_in_order};
 use bmff_write::{SampleOut, TrackOut, TrafOut, write_init_with, write_segment};
 use mse_base::{Bytes, OutOfMemory, OwnedList};
 use sample_tables::{MediaTrack, Sample, read_file};
@@ -33,10 +34,10 @@ fn track_out(alloc: Global, len: usize, track: &MediaTrack) -> Result<TrackOut, 
 }
 
 /// The initialization segment of tracks.
-#[tactic(auto, unfolding(crate::specs::Remuxed::init_of))]
-fn init_of(alloc: Global, len: usize, tracks: &[MediaTrack]) -> Result<Bytes, OutOfMemory>
+#[tactic(auto, unfolding(crate::specs::Remuxed::init_segment_of))]
+fn init_segment_of(alloc: Global, len: usize, tracks: &[MediaTrack]) -> Result<Bytes, OutOfMemory>
     requires { AreFileTracks len tracks.now }
-    ensures { IfOk result (λ b. b ≡ init_of tracks.now) }
+    ensures { IfOk result (λ b. b ≡ init_segment_of tracks.now) }
 {
     let mut outs = Vec::with_capacity(alloc, tracks.len())?;
     let mut stsds = Vec::with_capacity(alloc, tracks.len())?;
@@ -63,7 +64,12 @@ fn sample_out(alloc: Global, file: &[u8], sample: &Sample) -> Result<SampleOut, 
 }
 
 /// The media segment of a run.
-fn segment_of(alloc: Global, file: &[u8], number: u32, run: &Run<'_>) -> Result<Bytes, OutOfMemory>
+fn segment_of(
+    alloc: Global,
+    file: &[u8],
+    number: u32,
+    run: &RunOfTrack<'_>,
+) -> Result<Bytes, OutOfMemory>
     requires { IsShortRun (length file.now) run.now.samples.now }
     ensures { IfOk result (λ b. b
         ≡ segment_bytes number (traf_out file.now (run_value run.now) ∷ [])) }
@@ -84,7 +90,7 @@ fn segment_of(alloc: Global, file: &[u8], number: u32, run: &Run<'_>) -> Result<
 fn push_segments(
     alloc: Global,
     file: &[u8],
-    runs: &[Run<'_>],
+    runs: &[RunOfTrack<'_>],
     pieces: &mut Vec<Bytes>,
 ) -> Result<(), OutOfMemory>
     requires short { AllByRecursion (IsShortIn (length file.now)) runs.now }
@@ -110,7 +116,7 @@ fn pieces_of(alloc: Global, file: &[u8], tracks: &[MediaTrack]) -> Result<Vec<By
     let len = file.len();
     let runs = runs_in_order(alloc, len, tracks)?;
     let mut pieces = Vec::with_capacity(alloc, runs.len() + 1)?;
-    let init = init_of(alloc, len, tracks)?;
+    let init = init_segment_of(alloc, len, tracks)?;
     pieces.push(init)?;
     push_segments(alloc, file, runs.as_slice(), &mut pieces)?;
     Ok(pieces)
@@ -122,11 +128,9 @@ fn pieces_of(alloc: Global, file: &[u8], tracks: &[MediaTrack]) -> Result<Vec<By
 pub fn remux(alloc: Global, file: &[u8]) -> Result<Vec<Bytes>, RemuxError>
     ensures { Gives (λ v. v.items) result (remuxed file.now) }
 {
-    match read_file(alloc, file) {
-        Ok(tracks) => match pieces_of(alloc, file, tracks.as_slice()) {
-            Ok(pieces) => Ok(pieces),
-            Err(_) => Err(RemuxError::OutOfMemory),
-        },
-        Err(error) => Err(RemuxError::from(error)),
+    let tracks = read_file(alloc, file)?;
+    match pieces_of(alloc, file, tracks.as_slice()) {
+        Ok(pieces) => Ok(pieces),
+        Err(_) => Err(RemuxError::OutOfMemory),
     }
 }

@@ -19,7 +19,7 @@ const MOST_BYTES: u64 = 1 << 26;
 
 /// Samples that become a movie fragment.
 #[derive(Clone, Copy, Debug)]
-pub struct Run<'a> {
+pub struct RunOfTrack<'a> {
     /// The number of their track.
     pub id: u32,
     /// When the first of them is decoded, in the track's media time, with its lag.
@@ -55,7 +55,7 @@ fn ends_before(kind: Kind, position: usize, run: &[Sample], bytes: u64, sample: 
 /// A media time of a track, which is shifted by its edit list, in ticks of the presentation.
 fn ticks_of(decode: u64, shift: i64, scale: u32) -> i128
     requires positive { 1 ≤ scale }
-    requires low { pos 0 ≤ℤ shift }
+    requires shift_not_negative { pos 0 ≤ℤ shift }
     ensures { result ≡ converted (pos decode -ℤ shift) scale }
 {
     let media_time = i128::from(decode) - i128::from(shift);
@@ -66,7 +66,7 @@ fn ticks_of(decode: u64, shift: i64, scale: u32) -> i128
 }
 
 /// The run of samples of a track.
-fn run_of<'a>(len: usize, track: &MediaTrack, samples: &'a [Sample]) -> Run<'a>
+fn run_of<'a>(len: usize, track: &MediaTrack, samples: &'a [Sample]) -> RunOfTrack<'a>
     requires track { IsFileTrack len track.now }
     requires samples { AllByRecursion (IsSampleIn len) samples.now }
     ensures { run_value result ≡ run_view track.now samples.now }
@@ -75,7 +75,7 @@ fn run_of<'a>(len: usize, track: &MediaTrack, samples: &'a [Sample]) -> Run<'a>
         [first, ..] => first.decode + track.lag,
         [] => track.lag,
     };
-    Run {
+    RunOfTrack {
         id: track.info.id,
         decode,
         time: ticks_of(decode, track.info.media_shift, track.info.scale),
@@ -86,7 +86,7 @@ fn run_of<'a>(len: usize, track: &MediaTrack, samples: &'a [Sample]) -> Run<'a>
 /// Appends the runs of a track of a file of this length.
 fn push_runs<'a>(
     len: usize,
-    runs: &mut Vec<Run<'a>>,
+    runs: &mut Vec<RunOfTrack<'a>>,
     track: &'a MediaTrack,
 ) -> Result<(), AllocError>
     requires { IsFileTrack len track.now }
@@ -120,7 +120,7 @@ pub(crate) fn runs_in_order<'a>(
     alloc: Global,
     len: usize,
     tracks: &'a [MediaTrack],
-) -> Result<Vec<Run<'a>>, AllocError>
+) -> Result<Vec<RunOfTrack<'a>>, AllocError>
     requires { AllByRecursion (IsFileTrack len) tracks.now }
     ensures { IfOk result (λ v. map run_value v.items ≡ runs_in_order tracks.now) }
 {

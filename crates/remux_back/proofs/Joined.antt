@@ -16,7 +16,7 @@ use Rattle.segment_walk.specs.Tables.{SegmentItem}
 use Rattle.sample_tables.specs.declared.media_track.MediaTrack.{MediaTrack}
 use Rattle.sample_tables.specs.Facts.{IsFileTrack, AreFileTracks}
 use Rattle.remux.specs.Runs.{SampleRun, runs_in_order}
-use Rattle.remux.specs.Remuxed.{edits_of, track_out, init_of, pieces_of}
+use Rattle.remux.specs.Remuxed.{edits_of, track_out, init_segment_of, pieces_of}
 use Rattle.remux.proofs.RunLaws.{ordered_short}
 use Rattle.remux.proofs.PieceLaws.{tracks_out_are, descriptions_are}
 use Rattle.written_back.specs.Tracks.{media_time_of, wait_of, track_read}
@@ -84,12 +84,12 @@ tracks_fit len (t ∷ ts) h k =
 
 -- ---- the string
 
-string_is : (file : List ℕ) (tracks : List MediaTrack) → flat_map (λ (piece : List ℕ). piece) (pieces_of file tracks) ≡ init_of tracks ++ segments_bytes (segments_out file 1 (runs_in_order tracks))
+string_is : (file : List ℕ) (tracks : List MediaTrack) → flat_map (λ (piece : List ℕ). piece) (pieces_of file tracks) ≡ init_segment_of tracks ++ segments_bytes (segments_out file 1 (runs_in_order tracks))
 unfolding pieces_of
-string_is file tracks = ap (λ (xs : List ℕ). init_of tracks ++ xs) (joined file 1 (runs_in_order tracks))
+string_is file tracks = ap (λ (xs : List ℕ). init_segment_of tracks ++ xs) (joined file 1 (runs_in_order tracks))
 
-init_is : (tracks : List MediaTrack) → init_of tracks ≡ init_bytes_with (map track_out tracks) (map (λ t. t.stsd) tracks)
-unfolding init_of
+init_is : (tracks : List MediaTrack) → init_segment_of tracks ≡ init_bytes_with (map track_out tracks) (map (λ t. t.stsd) tracks)
+unfolding init_segment_of
 init_is tracks = refl
 
 items_by : List TrackInfo → ℕ → List SegmentOut → List SegmentItem
@@ -113,4 +113,4 @@ read_back file tracks h k =
     ∙ (read
     ∙ (ap (λ (is : List TrackInfo). items_by is len segments) same
     ∙ (ap (λ (n : ℕ). items_by infos n segments) (sym (ap length (init_is tracks)))
-    ∙ ap (λ (items : List SegmentItem). InitItem (presentation_of_tracks tracks) 24 ∷ items) (segments_are file tracks 1 (length (init_of tracks)) runs each short))))
+    ∙ ap (λ (items : List SegmentItem). InitItem (presentation_of_tracks tracks) 24 ∷ items) (segments_are file tracks 1 (length (init_segment_of tracks)) runs each short))))

@@ -27,7 +27,8 @@ use Rattle.sample_tables.specs.declared.totals.Totals.{Totals}
 use Rattle.sample_tables.specs.BoxPlaces.{first_place}
 use Rattle.sample_tables.specs.Samples.{durations_of, offsets_of, sample_count, columns_of, samples_of}
 use Rattle.sample_tables.specs.Rules.{lag_of, is_short_offset, totals_of}
-use Rattle.sample_tables.specs.Movies.{in_moov, track_tables, media_track_with, media_track_of, is_media, is_empty, media_boxes, tracks_and, media_tracks_of, is_fragmented, track_boxes, tracks_by, movie_tracks, at_place, movie_box_by, file_tracks}
+use Rattle.mse_base.specs.Moments.{is_media}
+use Rattle.sample_tables.specs.Movies.{in_moov, track_tables, media_track_with, media_track_of, is_empty, media_boxes, tracks_and, media_tracks_of, is_fragmented, track_boxes, tracks_by, movie_tracks, at_place, movie_box_by, file_tracks}
 use Rattle.sample_tables.specs.Facts.{IsFileTrack, AreFew, AreFileTracks, IsMediaBox, AreMediaBoxes}
 use Rattle.sample_tables.proofs.ConsistentLaws.{complete}
 use Rattle.sample_tables.proofs.FactLaws.{boxes_are, some_there, file_tracks_are, all_push}
@@ -137,7 +138,7 @@ tracks_known len before (b ∷ bs) tracks good h e =
 both : (infos : List TrackInfo) (traks : List (List ℕ)) → AllByRecursion IsMediaBox (media_boxes infos traks) → AllByRecursion IsScaled infos → AllByRecursion AreBytes traks → AllByRecursion IsGoodBox (media_boxes infos traks)
 both [] traks m s h = tt
 both (i ∷ is) [] m s h = tt
-both (i ∷ is) (t ∷ ts) m s h = by (is_media i) m (λ k. both is ts k s.1 h.1)
+both (i ∷ is) (t ∷ ts) m s h = by (is_media i.kind) m (λ k. both is ts k s.1 h.1)
   where
     by : (b : Bool) → AllByRecursion IsMediaBox (cond b ((i, t) ∷ media_boxes is ts) (media_boxes is ts)) → (AllByRecursion IsMediaBox (media_boxes is ts) → AllByRecursion IsGoodBox (media_boxes is ts))
         → AllByRecursion IsGoodBox (cond b ((i, t) ∷ media_boxes is ts) (media_boxes is ts))

@@ -11,7 +11,7 @@ use Rattle.segment_walk.specs.Tables.{SegmentItem}
 use Rattle.sample_tables.specs.declared.sample.Sample.{Sample}
 use Rattle.sample_tables.specs.declared.media_track.MediaTrack.{MediaTrack}
 use Rattle.remux.specs.Runs.{SampleRun, bytes_of, runs_in_order}
-use Rattle.remux.specs.Remuxed.{init_of}
+use Rattle.remux.specs.Remuxed.{init_segment_of}
 
 -- a track: in place of its empty edits the decode times have its lag, and its samples have no defaults
 abbrev pub track_info : MediaTrack → TrackInfo
@@ -85,4 +85,4 @@ items_of_runs file tracks at (run ∷ runs) =
 abbrev pub items_of_file : List ℕ → List MediaTrack → List SegmentItem
 items_of_file file tracks =
     InitItem (presentation_of_tracks tracks) 24
-    ∷ items_of_runs file tracks (length (init_of tracks)) (runs_in_order tracks)
+    ∷ items_of_runs file tracks (length (init_segment_of tracks)) (runs_in_order tracks)

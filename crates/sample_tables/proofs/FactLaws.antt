@@ -1,18 +1,18 @@
 -- What holds of the tracks that were read.
 use Rattle.std.proofs.Common.{◌≡◌, ◌≢◌, ℕ, suc, ◌≤◌, Bool, true, false, not, cond, List, [], ◌∷◌, ◌++◌, length, map, refl, ap, sym, ◌∙◌, arith, subst}
 use Rattle.std.specs.List.{AllByRecursion}
-use Rattle.mse_base.specs.Moments.{same_kind}
+use Rattle.mse_base.specs.Moments.{is_media}
 use Rattle.mse_base.specs.declared.track.Kind.{Kind}
 use Rattle.mse_base.specs.declared.track.Kind.TheVariants.{Video, Audio, Other}
 use Rattle.mse_base.specs.declared.track.TrackInfo.{TrackInfo}
 use Rattle.mse_base.specs.Presentation.{IsReadable, HasDistinctIds}
 use Rattle.sample_tables.specs.declared.media_track.MediaTrack.{MediaTrack}
-use Rattle.sample_tables.specs.Movies.{is_media, media_boxes, is_empty}
+use Rattle.sample_tables.specs.Movies.{media_boxes, is_empty}
 use Rattle.sample_tables.specs.Facts.{IsMediaBox, AreMediaBoxes, AreFileTracks, AreTracksOf}
 
 -- ---- the track boxes of video and audio
 
-other_kind : (k : Kind) → not (same_kind k Other) ≡ true → k ≢ Other
+other_kind : (k : Kind) → is_media k ≡ true → k ≢ Other
 other_kind Video e = λ h. cc
 other_kind Audio e = λ h. cc
 other_kind Other e = absurd (cc)
@@ -20,16 +20,16 @@ other_kind Other e = absurd (cc)
 boxes_each : (infos : List TrackInfo) (traks : List (List ℕ)) → AllByRecursion IsReadable infos → AllByRecursion IsMediaBox (media_boxes infos traks)
 boxes_each [] traks h = tt
 boxes_each (i ∷ is) [] h = tt
-boxes_each (i ∷ is) (t ∷ ts) h = by (is_media i) refl (boxes_each is ts h.1)
+boxes_each (i ∷ is) (t ∷ ts) h = by (is_media i.kind) refl (boxes_each is ts h.1)
   where
-    by : (b : Bool) → is_media i ≡ b → AllByRecursion IsMediaBox (media_boxes is ts) → AllByRecursion IsMediaBox (cond b ((i, t) ∷ media_boxes is ts) (media_boxes is ts))
+    by : (b : Bool) → is_media i.kind ≡ b → AllByRecursion IsMediaBox (media_boxes is ts) → AllByRecursion IsMediaBox (cond b ((i, t) ∷ media_boxes is ts) (media_boxes is ts))
     by true e r = ((h.0, other_kind i.kind e), r)
     by false e r = r
 
 boxes_few : (infos : List TrackInfo) (traks : List (List ℕ)) → length (media_boxes infos traks) ≤ length infos
 boxes_few [] traks = omega arith
 boxes_few (i ∷ is) [] = omega arith
-boxes_few (i ∷ is) (t ∷ ts) = by (is_media i) (boxes_few is ts)
+boxes_few (i ∷ is) (t ∷ ts) = by (is_media i.kind) (boxes_few is ts)
   where
     by : (b : Bool) → length (media_boxes is ts) ≤ length is → length (cond b ((i, t) ∷ media_boxes is ts) (media_boxes is ts)) ≤ suc (length is)
     by true r = omega arith
@@ -38,7 +38,7 @@ boxes_few (i ∷ is) (t ∷ ts) = by (is_media i) (boxes_few is ts)
 boxes_all : (P : TrackInfo → Type 0) (infos : List TrackInfo) (traks : List (List ℕ)) → AllByRecursion P infos → AllByRecursion P (map (λ b. b.0) (media_boxes infos traks))
 boxes_all P [] traks h = tt
 boxes_all P (i ∷ is) [] h = tt
-boxes_all P (i ∷ is) (t ∷ ts) h = by (is_media i) (boxes_all P is ts h.1)
+boxes_all P (i ∷ is) (t ∷ ts) h = by (is_media i.kind) (boxes_all P is ts h.1)
   where
     by : (b : Bool) → AllByRecursion P (map (λ b. b.0) (media_boxes is ts)) → AllByRecursion P (map (λ b. b.0) (cond b ((i, t) ∷ media_boxes is ts) (media_boxes is ts)))
     by true r = (h.0, r)
@@ -47,7 +47,7 @@ boxes_all P (i ∷ is) (t ∷ ts) h = by (is_media i) (boxes_all P is ts h.1)
 boxes_distinct : (infos : List TrackInfo) (traks : List (List ℕ)) → HasDistinctIds infos → HasDistinctIds (map (λ b. b.0) (media_boxes infos traks))
 boxes_distinct [] traks h = tt
 boxes_distinct (i ∷ is) [] h = tt
-boxes_distinct (i ∷ is) (t ∷ ts) h = by (is_media i) (boxes_distinct is ts h.1)
+boxes_distinct (i ∷ is) (t ∷ ts) h = by (is_media i.kind) (boxes_distinct is ts h.1)
   where
     by : (b : Bool) → HasDistinctIds (map (λ b. b.0) (media_boxes is ts)) → HasDistinctIds (map (λ b. b.0) (cond b ((i, t) ∷ media_boxes is ts) (media_boxes is ts)))
     by true r = (boxes_all (λ (u : TrackInfo). i.id ≢ u.id) is ts h.0, r)

@@ -9,7 +9,8 @@ use Rattle.bmff_boxes.specs.Rows.{BoxView, row_of, boxes_in, all_of}
 use Rattle.bmff_boxes.proofs.RowLaws.{all-here, all-later, row-nil}
 use Rattle.sample_tables.specs.declared.fault.MovieFault.TheVariants.{NoTracks}
 use Rattle.sample_tables.specs.declared.media_track.MediaTrack.{MediaTrack}
-use Rattle.sample_tables.specs.Movies.{is_media, media_boxes, track_boxes, tracks_by}
+use Rattle.mse_base.specs.Moments.{is_media}
+use Rattle.sample_tables.specs.Movies.{media_boxes, track_boxes, tracks_by}
 
 -- a box of another type is passed over
 pub other_box : {Y : Type 0} (F : List (List ℕ) → Y) (kind k payload : List ℕ) (bs all : List BoxView) (y : Y) → bytes_eq k kind ≡ false → all ≡ record { kind = k; payload = payload } ∷ bs → F (all_of kind all) ≡ y → F (all_of kind bs) ≡ y
@@ -20,11 +21,11 @@ pub next_box : {Y : Type 0} (F : List (List ℕ) → Y) (kind k payload : List �
 next_box F kind k payload bs all y e h g = ap F (sym (all-here k kind payload bs all e h)) ∙ g
 
 -- a track of video or audio
-pub media_next : {Y : Type 0} (F : List (TrackInfo × List ℕ) → Y) (info : TrackInfo) (infos : List TrackInfo) (trak : List ℕ) (traks : List (List ℕ)) (y : Y) → is_media info ≡ true → F (media_boxes (info ∷ infos) (trak ∷ traks)) ≡ y → F ((info, trak) ∷ media_boxes infos traks) ≡ y
+pub media_next : {Y : Type 0} (F : List (TrackInfo × List ℕ) → Y) (info : TrackInfo) (infos : List TrackInfo) (trak : List ℕ) (traks : List (List ℕ)) (y : Y) → is_media info.kind ≡ true → F (media_boxes (info ∷ infos) (trak ∷ traks)) ≡ y → F ((info, trak) ∷ media_boxes infos traks) ≡ y
 media_next F info infos trak traks y e h = sym (ap (λ b. F (cond b ((info, trak) ∷ media_boxes infos traks) (media_boxes infos traks))) e) ∙ h
 
 -- a track of another kind
-pub media_pass : {Y : Type 0} (F : List (TrackInfo × List ℕ) → Y) (info : TrackInfo) (infos : List TrackInfo) (trak : List ℕ) (traks : List (List ℕ)) (y : Y) → is_media info ≡ false → F (media_boxes (info ∷ infos) (trak ∷ traks)) ≡ y → F (media_boxes infos traks) ≡ y
+pub media_pass : {Y : Type 0} (F : List (TrackInfo × List ℕ) → Y) (info : TrackInfo) (infos : List TrackInfo) (trak : List ℕ) (traks : List (List ℕ)) (y : Y) → is_media info.kind ≡ false → F (media_boxes (info ∷ infos) (trak ∷ traks)) ≡ y → F (media_boxes infos traks) ≡ y
 media_pass F info infos trak traks y e h = sym (ap (λ b. F (cond b ((info, trak) ∷ media_boxes infos traks) (media_boxes infos traks))) e) ∙ h
 
 pub infos_end : (tracks : List MediaTrack) (boxes : List (TrackInfo × List ℕ)) (all : List TrackInfo) → boxes ≡ [] → map (λ t. t.info) tracks ++ map (λ b. b.0) boxes ≡ all → map (λ t. t.info) tracks ≡ all

@@ -2,8 +2,7 @@
 use Rattle.std.specs.Prelude.{ℕ, not, Bool, true, false, is_some, if◌then◌else◌, List, [], ◌∷◌, ◌++◌, length, option_and_then, unwrap_or, Option, Some, None, Result, Ok, Err}
 use Rattle.std.specs.List.{filter, slice_range, zip}
 use lib.Chars.{codes}
-use Rattle.mse_base.specs.Moments.{same_kind}
-use Rattle.mse_base.specs.declared.track.Kind.TheVariants.{Other}
+use Rattle.mse_base.specs.Moments.{is_media}
 use Rattle.mse_base.specs.declared.track.TrackInfo.{TrackInfo}
 use Rattle.std.specs.Str.{bytes_eq}
 use Rattle.bmff_boxes.specs.Children.{ChildView, Box, NoBytes, NoBox, child_of, payload_of}
@@ -114,12 +113,9 @@ abbrev pub is_empty : {X : Type 0} → List X → Bool
 is_empty [] = true
 is_empty (x ∷ xs) = false
 
-abbrev pub is_media : TrackInfo → Bool
-is_media track = not (same_kind track.kind Other)
-
 -- the track boxes of video and audio, each with what the movie box tells of it
 abbrev pub media_boxes : List TrackInfo → List (List ℕ) → List (TrackInfo × List ℕ)
-media_boxes infos traks = filter (λ b. is_media b.0) (zip infos traks)
+media_boxes infos traks = filter (λ b. is_media b.0.kind) (zip infos traks)
 
 -- the track of such a box behind the tracks `before`, in a file of this length
 abbrev pub tracks_and : ℕ → List MediaTrack → TrackInfo × List ℕ

@@ -8,7 +8,7 @@ ghost use Rattle.bmff_boxes.specs.Reading.{Gives};
 ghost use Rattle.sample_tables.specs.BoxPlaces.{first_place};
 ghost use Rattle.sample_tables.specs.Rules.{totals_of};
 ghost use Rattle.sample_tables.specs.Facts.{IsDescription, IsFileTrack, AreFew, AreTracksOf, AreFileTracks};
-ghost use Rattle.sample_tables.specs.Movies.{moov_error, media_track_with, media_track_of, tracks_and, media_tracks_of, is_media, is_empty, media_boxes, is_fragmented, track_boxes, tracks_by, movie_tracks, movie_box_by, error_at, file_tracks};
+ghost use Rattle.sample_tables.specs.Movies.{moov_error, media_track_with, media_track_of, tracks_and, media_tracks_of, is_empty, media_boxes, is_fragmented, track_boxes, tracks_by, movie_tracks, movie_box_by, error_at, file_tracks};
 
 use crate::box_place::{BoxPlace, first_place};
 use crate::columns::{read_columns, samples_of};
@@ -100,12 +100,6 @@ fn read_media_track(
     }
 }
 
-fn is_media(track: &TrackInfo) -> bool
-    ensures { result ≡ is_media track.now }
-{
-    track.kind != Kind::Other
-}
-
 /// Whether there is a track box of video or audio among the boxes of a movie box.
 fn has_media(infos: &[TrackInfo], movie: Row<'_>) -> bool
     ensures { result
@@ -118,7 +112,7 @@ fn has_media(infos: &[TrackInfo], movie: Row<'_>) -> bool
             let [info, behind @ ..] = rest else {
                 return false;
             };
-            if is_media(info) {
+            if info.kind.is_media() {
                 return true;
             }
             rest = behind;
@@ -199,7 +193,7 @@ fn read_media_tracks(
                 return Ok(tracks);
             };
             rest = behind;
-            if is_media(info) {
+            if info.kind.is_media() {
                 totals = match push_track(alloc, len, &mut tracks, &totals, info, child.payload) {
                     Ok(totals) => totals,
                     Err(error) => return Err(error),

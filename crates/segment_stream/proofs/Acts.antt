@@ -16,26 +16,26 @@ use Rattle.mse_base.specs.declared.frame.Phase.{Phase}
 use Rattle.segment_walk.specs.declared.kinds.DataRange.{DataRange}
 use Rattle.segment_walk.specs.declared.kinds.ParserMode as code
 use Rattle.segment_walk.specs.declared.kinds.ParserMode.TheVariants as codes
-use Rattle.segment_walk.specs.declared.kinds.Place.TheVariants.{AtBox, InData}
+use Rattle.segment_walk.specs.declared.kinds.WalkPlace.TheVariants.{AtBox, InData}
 use Rattle.segment_walk.specs.declared.kinds.BoxStep.{BoxStep}
 use Rattle.segment_walk.specs.declared.kinds.BoxStep.TheVariants as step
 use Rattle.segment_walk.specs.declared.kinds.StreamFault.{StreamFault}
 use Rattle.segment_walk.specs.Tables.{SegmentItem}
-use Rattle.segment_walk.specs.Moves.{State, ParserMode, Between, Skipping, Within, step_of, act, pass_byte, into, initialized, opened, planned, segments, opening, frame_of, size_by}
+use Rattle.segment_walk.specs.Moves.{WalkState, ParserMode, Between, Skipping, Within, step_of, act, pass_byte, state_in, move_of_init, move_of_slots, move_of_moof, segments, open_mode, frame_of, size_by}
 use Rattle.parser_loop.specs.Items.{is_frame}
-use Rattle.segment_walk.specs.Ranges.{IsAscending, SeesAscending, mode_of, open_at}
+use Rattle.segment_walk.specs.Ranges.{AreRangesAscending, SeesAscending, mode_of, open_at}
 use Rattle.segment_walk.proofs.WalkLaws.{going, good-step, Same, Fits, is_walk}
 use Rattle.segment_stream.specs.declared.progress.Progress.{Progress}
 use Rattle.segment_stream.specs.declared.progress.Tables.{Tables}
 use Rattle.segment_stream.specs.Kept
-use Rattle.segment_stream.specs.Kept.{state_of, fragment_in, in_mode, IsConsistent, IsCounted, IsOrdered, GoesOn, IsUnchangedSince, Keeps, Rests, frames, frame_at, IsSlotEndingBy, IsEndingBy, IsPlan, with_tables}
+use Rattle.segment_stream.specs.Kept.{state_of, fragment_in, in_mode, IsConsistent, IsCounted, IsOrdered, GoesOn, IsUnchangedSince, AreTablesKept, Rests, frames, frame_at, IsSlotEndingBy, IsEndingBy, IsPlan, with_tables}
 
 -- ---- where the walk rests
 
-rests-more : (s t : State) (item : SegmentItem) (c : List ℕ) (m : Move State SegmentItem) → segments.move s ≡ Give item t → Follows segments c (segments.move s) m → is_frame item ≡ false → IsRested segments m
+rests-more : (s t : WalkState) (item : SegmentItem) (c : List ℕ) (m : Move WalkState SegmentItem) → segments.move s ≡ Give item t → Follows segments c (segments.move s) m → is_frame item ≡ false → IsRested segments m
 rests-more s t item c m e h f = let g = subst (λ v. Follows segments c v m) e h in rw g.0 f
 
-pub rests-give : (s t : State) (item : SegmentItem) (w : ℕ) → segments.move s ≡ Give item t → is_frame item ≡ false → Rests s w
+pub rests-give : (s t : WalkState) (item : SegmentItem) (w : ℕ) → segments.move s ≡ Give item t → is_frame item ≡ false → Rests s w
 rests-give s t item w e f = record {
   still = run-rested segments is_walk s (rw e f);
   waits = λ c h. run-rested segments is_walk (segments.more s c) (rests-more s t item c (segments.move (segments.more s c)) e (is_walk.follows s c) f);
@@ -44,7 +44,7 @@ rests-give s t item w e f = record {
 -- a state that met a fault
 pub rests-failed : (last : Option Presentation) (mode : ParserMode) (offset : ℕ) (rest : List ℕ) (failed : Bool) (w : ℕ) → failed ≡ true → Rests (record { last = last; mode = mode; offset = offset; rest = rest; failed = failed }) w
 rests-failed last mode offset rest failed w e =
-    let s : State = record { last = last; mode = mode; offset = offset; rest = rest; failed = true } in
+    let s : WalkState = record { last = last; mode = mode; offset = offset; rest = rest; failed = true } in
     rw e (record { still = run-rested segments is_walk s tt; waits = λ c h. run-rested segments is_walk s tt })
 
 -- modes that act by a step
@@ -64,7 +64,7 @@ acts last m offset rest st a e = move-is last m offset rest a ∙ ap (act (going
 -- over the parts of a state that met no fault
 pub rests-wait : (last : Option Presentation) (m : ParserMode) (offset : ℕ) (rest : List ℕ) (failed : Bool) (w : ℕ) → failed ≡ false → IsActive m → step.Wait w ≡ step_of (is_some last) rest m → Rests (record { last = last; mode = m; offset = offset; rest = rest; failed = failed }) w
 rests-wait last m offset rest failed w f a e =
-    let s : State = going last m offset rest in
+    let s : WalkState = going last m offset rest in
     rw f (record {
       still = run-rested segments is_walk s (rw (acts last m offset rest (step.Wait w) a e) tt);
       waits = λ c h.
@@ -72,12 +72,12 @@ rests-wait last m offset rest failed w f a e =
           run-rested segments is_walk (going last m offset (rest ++ c)) (rw (acts last m offset (rest ++ c) (step.Wait w) a (sym (g (omega (arith, length-append rest c))))) tt);
     })
 
-abbrev GivesOther : Move State SegmentItem → Type 0
+abbrev GivesOther : Move WalkState SegmentItem → Type 0
 GivesOther Stop = ⊥
 GivesOther (Pass t) = ⊥
 GivesOther (Give item t) = is_frame item ≡ false
 
-rests-other-at : (s : State) (w : ℕ) (m : Move State SegmentItem) → segments.move s ≡ m → GivesOther m → Rests s w
+rests-other-at : (s : WalkState) (w : ℕ) (m : Move WalkState SegmentItem) → segments.move s ≡ m → GivesOther m → Rests s w
 rests-other-at s w Stop e g = absurd g
 rests-other-at s w (Pass t) e g = absurd g
 rests-other-at s w (Give item t) e g = rests-give s t item w e g
@@ -91,14 +91,14 @@ rests-fail last m offset rest failed w e at f a h = rests-other last m offset re
 pub rests-end : (last : Option Presentation) (m : ParserMode) (offset : ℕ) (rest : List ℕ) (failed : Bool) (w end : ℕ) → failed ≡ false → IsActive m → step.EndSegment end ≡ step_of (is_some last) rest m → Rests (record { last = last; mode = m; offset = offset; rest = rest; failed = failed }) w
 rests-end last m offset rest failed w end f a h = rests-other last m offset rest failed w (step.EndSegment end) f a h refl
 
-other-init : (s : State) (len : ℕ) (r : Result Presentation InitFault) → GivesOther (initialized s len r)
+other-init : (s : WalkState) (len : ℕ) (r : Result Presentation InitFault) → GivesOther (move_of_init s len r)
 other-init s len (Ok p) = refl
 other-init s len (Err f) = refl
 
 pub rests-init : (last : Option Presentation) (m : ParserMode) (offset : ℕ) (rest : List ℕ) (failed : Bool) (w len : ℕ) → failed ≡ false → IsActive m → step.ReadInit len ≡ step_of (is_some last) rest m → Rests (record { last = last; mode = m; offset = offset; rest = rest; failed = failed }) w
 rests-init last m offset rest failed w len f a h = rests-other last m offset rest failed w (step.ReadInit len) f a h (other-init (going last m offset rest) len (init_of (take len rest)))
 
-other-plan : (s : State) (len : ℕ) (with : Option Presentation) → IsPlan with (take len s.rest) None → GivesOther (planned s len with)
+other-plan : (s : WalkState) (len : ℕ) (with : Option Presentation) → IsPlan with (take len s.rest) None → GivesOther (move_of_moof s len with)
 other-plan s len None h = refl
 other-plan s len (Some p) h = rw h.1 refl
 
@@ -107,30 +107,30 @@ rests-plan last m offset rest failed w len f a h p = rests-other last m offset r
 
 -- ---- passes
 
-abbrev Runs : State → State → Type 0
+abbrev Runs : WalkState → WalkState → Type 0
 Runs s t = run segments t ≡ run segments s
 
-passes-at : (s t : State) → segments.move s ≡ Pass t → Runs s t × (segments.size t < segments.size s)
+passes-at : (s t : WalkState) → segments.move s ≡ Pass t → Runs s t × (segments.size t < segments.size s)
 passes-at s t e = (
   sym (run-step segments is_walk s ∙ ap (run_by segments s (run segments)) e),
   subst (Shrinks segments (segments.size s)) e (is_walk.shrinks s),
 )
 
 -- from the parts of a state by a step that passes
-pub passes : (last : Option Presentation) (m : ParserMode) (offset : ℕ) (rest : List ℕ) (failed : Bool) (st : BoxStep) (t : State) → failed ≡ false → IsActive m → st ≡ step_of (is_some last) rest m → act (going last m offset rest) st ≡ Pass t → let s : State = record { last = last; mode = m; offset = offset; rest = rest; failed = failed } in Runs s t × (segments.size t < segments.size s)
+pub passes : (last : Option Presentation) (m : ParserMode) (offset : ℕ) (rest : List ℕ) (failed : Bool) (st : BoxStep) (t : WalkState) → failed ≡ false → IsActive m → st ≡ step_of (is_some last) rest m → act (going last m offset rest) st ≡ Pass t → let s : WalkState = record { last = last; mode = m; offset = offset; rest = rest; failed = failed } in Runs s t × (segments.size t < segments.size s)
 passes last m offset rest failed st t f a e g = rw f (passes-at (going last m offset rest) t (acts last m offset rest st a e ∙ g))
 
 abbrev pub PlanIs : Option Presentation → List ℕ → List Slot → Type 0
 PlanIs None b slots = ⊥
 PlanIs (Some p) b slots = plan_of p.tracks b ≡ Ok slots
 
-pub plan-passes : (s : State) (len : ℕ) (with : Option Presentation) (slots : List Slot) → PlanIs with (take len s.rest) slots → planned s len with ≡ Pass (into s (opening slots len))
+pub plan-passes : (s : WalkState) (len : ℕ) (with : Option Presentation) (slots : List Slot) → PlanIs with (take len s.rest) slots → move_of_moof s len with ≡ Pass (state_in s (open_mode slots len))
 plan-passes s len None slots h = absurd h
-plan-passes s len (Some p) slots h = ap (opened s len) h
+plan-passes s len (Some p) slots h = ap (move_of_slots s len) h
 
 -- ---- frames
 
-frames-give-at : (s t : State) (slot : Slot) → segments.move s ≡ Give (frame_of s.rest s.offset slot) t → (run segments s ≡ with_items (frame_of s.rest s.offset slot ∷ []) (run segments t)) × (segments.size t < segments.size s)
+frames-give-at : (s t : WalkState) (slot : Slot) → segments.move s ≡ Give (frame_of s.rest s.offset slot) t → (run segments s ≡ with_items (frame_of s.rest s.offset slot ∷ []) (run segments t)) × (segments.size t < segments.size s)
 frames-give-at s t slot e = (
   run-step segments is_walk s ∙ ap (run_by segments s (run segments)) e,
   subst (Shrinks segments (segments.size s)) e (is_walk.shrinks s),
@@ -173,30 +173,30 @@ moved-skip last (codes.Between o) offset from first ready want failed tables byt
       same = ap (with_items (frames (drop from bytes) offset tables.slots.items first ready)) p.0;
       consistent = record { inside = fine.inside; counts = fine.counts; ends = fine.ends; small = fine.small };
       since = tt;
-      going = sym f;
+      same_failed = sym f;
       total = refl;
       size = p.1;
     }
 
-none-known : (known : List DataRange) → known ≡ [] → IsAscending (take 0 known)
+none-known : (known : List DataRange) → known ≡ [] → AreRangesAscending (take 0 known)
 none-known known e = record { starts = IsNonDecreasingBy-short (λ k. k.start) [] (omega arith); ends = IsNonDecreasingBy-short (λ k. k.end) [] (omega arith) }
 
-pub moved-plan : (last : Option Presentation) (m : code.ParserMode) (offset from first ready want : ℕ) (failed : Bool) (tables new_tables : Tables) (bytes : List ℕ) (len : ℕ) → let r : Progress = record { position = record { mode = m; offset = offset; failed = failed }; from = from; first = first; ready = ready; want = want } in failed ≡ false → Kept.IsActive m → IsConsistent r tables bytes → step.ReadMoof len ≡ at_step last m tables (drop from bytes) → PlanIs last (take len (drop from bytes)) new_tables.slots.items → new_tables.known.items ≡ [] → All IsOrdered new_tables.slots.items → GoesOn last (with_tables r tables) (with_tables (record { position = record { mode = codes.Within (record { taken = 0; known = 0; end = 0; place = AtBox len }); offset = offset; failed = false }; from = from; first = 0; ready = 0; want = 0 }) new_tables) bytes
-moved-plan last (codes.Skipping y z) offset from first ready want failed tables new_tables bytes len f g fine e h k a = absurd g
-moved-plan last (codes.Within i) offset from first ready want failed tables new_tables bytes len f g fine e h k a = absurd (fits last (Within (open_at tables.slots.items tables.known.items i)) (drop from bytes) (step.ReadMoof len) e).0
-moved-plan last (codes.Between o) offset from first ready want failed tables new_tables bytes len f g fine e h k a =
+pub moved-plan : (last : Option Presentation) (m : code.ParserMode) (offset from first ready want : ℕ) (failed : Bool) (tables new_tables : Tables) (bytes : List ℕ) (len : ℕ) → let r : Progress = record { position = record { mode = m; offset = offset; failed = failed }; from = from; first = first; ready = ready; want = want } in failed ≡ false → Kept.IsActive m → IsConsistent r tables bytes → step.ReadMoof len ≡ at_step last m tables (drop from bytes) → PlanIs last (take len (drop from bytes)) new_tables.slots.items → new_tables.known.items ≡ [] → All IsOrdered new_tables.slots.items → length new_tables.slots.items ≤ 2 ^ 20 → GoesOn last (with_tables r tables) (with_tables (record { position = record { mode = codes.Within (record { taken = 0; known = 0; end = 0; place = AtBox len }); offset = offset; failed = false }; from = from; first = 0; ready = 0; want = 0 }) new_tables) bytes
+moved-plan last (codes.Skipping y z) offset from first ready want failed tables new_tables bytes len f g fine e h k a n = absurd g
+moved-plan last (codes.Within i) offset from first ready want failed tables new_tables bytes len f g fine e h k a n = absurd (fits last (Within (open_at tables.slots.items tables.known.items i)) (drop from bytes) (step.ReadMoof len) e).0
+moved-plan last (codes.Between o) offset from first ready want failed tables new_tables bytes len f g fine e h k a n =
     let p = passes last (Between o) offset (drop from bytes) failed (step.ReadMoof len) _ f tt e (plan-passes (going last (Between o) offset (drop from bytes)) len last new_tables.slots.items h) in
     let z : frames (drop from bytes) offset tables.slots.items first ready ≡ [] = ap (frames (drop from bytes) offset tables.slots.items first) fine.counts in
     record {
       same = ap (with_items []) p.0 ∙ ap (λ xs. with_items xs (run segments (state_of last (record { mode = codes.Between o; offset = offset; failed = failed }) tables (drop from bytes)))) (sym z);
       consistent = record {
         inside = fine.inside;
-        counts = record { taken = refl; slots_there = omega arith; ordered = a; known_there = omega arith; ascending = none-known new_tables.known.items k; ended = λ d q. absurd (omega arith); behind = omega arith; near = omega arith };
+        counts = record { taken = refl; slots_there = omega arith; few = n; ordered = a; known_there = omega arith; ascending = none-known new_tables.known.items k; ended = λ d q. absurd (omega arith); behind = omega arith; small = omega arith };
         ends = tt;
         small = fine.small;
       };
       since = tt;
-      going = sym f;
+      same_failed = sym f;
       total = refl;
       size = p.1;
     }
@@ -214,7 +214,7 @@ get-last (y ∷ xs) x d zero e = absurd (omega arith)
 get-last (y ∷ xs) x d (suc n) e = get-last xs x d n (omega arith)
 
 -- the data range of the next mdat comes behind those that are known
-ascends-more : (ks : List DataRange) (n last_end start end : ℕ) → length ks ≡ n → IsAscending ks → ((d : DataRange) → 0 < n → ((get_or ks (n - 1) d).start ≤ last_end) × ((get_or ks (n - 1) d).end ≤ last_end)) → last_end ≤ start → start ≤ end → IsAscending (ks ++ (record { start = start; end = end }) ∷ [])
+ascends-more : (ks : List DataRange) (n last_end start end : ℕ) → length ks ≡ n → AreRangesAscending ks → ((d : DataRange) → 0 < n → ((get_or ks (n - 1) d).start ≤ last_end) × ((get_or ks (n - 1) d).end ≤ last_end)) → last_end ≤ start → start ≤ end → AreRangesAscending (ks ++ (record { start = start; end = end }) ∷ [])
 ascends-more ks n last_end start end l a h s e =
     let x : DataRange = record { start = start; end = end } in
     record {
@@ -230,7 +230,7 @@ moved-data last (codes.Within i) offset from first ready want failed tables push
     let q = take-known tables.known.items pushed.items i.known x fine.counts.known_there k in
     let w = fits last (Within (open_at tables.slots.items tables.known.items i)) (drop from bytes) (step.EnterData start end) e in
     let p = passes last (Within (open_at tables.slots.items tables.known.items i)) offset (drop from bytes) failed (step.EnterData start end) _ f tt e refl in
-    let t : List DataRange → State = λ ks. going last (Within (record { slots = tables.slots.items; taken = i.taken; known = ks; end = end; place = InData end })) offset (drop from bytes) in
+    let t : List DataRange → WalkState = λ ks. going last (Within (record { slots = tables.slots.items; taken = i.taken; known = ks; end = end; place = InData end })) offset (drop from bytes) in
     let l = length-take-le i.known tables.known.items fine.counts.known_there in
     let z : i.known + 1 - 1 ≡ i.known = omega arith in
     let from_last : (d : DataRange) → get_or (take (i.known + 1) pushed.items) (i.known + 1 - 1) d ≡ x = λ d. ap (λ ks. get_or ks (i.known + 1 - 1) d) q.0 ∙ ap (λ n. get_or (take i.known tables.known.items ++ x ∷ []) n d) z ∙ get-last (take i.known tables.known.items) x d i.known l in
@@ -241,18 +241,19 @@ moved-data last (codes.Within i) offset from first ready want failed tables push
         counts = record {
           taken = fine.counts.taken;
           slots_there = fine.counts.slots_there;
+          few = fine.counts.few;
           ordered = fine.counts.ordered;
           known_there = omega (arith, q.1.1);
-          ascending = subst IsAscending (sym q.0) (ascends-more (take i.known tables.known.items) i.known i.end start end l fine.counts.ascending fine.counts.ended (omega (arith, fine.counts.behind, w.1)) w.2);
+          ascending = subst AreRangesAscending (sym q.0) (ascends-more (take i.known tables.known.items) i.known i.end start end l fine.counts.ascending fine.counts.ended (omega (arith, fine.counts.behind, w.1)) w.2);
           ended = λ d h. (omega (arith, w.2, ap (λ (k : DataRange). k.start) (from_last d)), omega (arith, ap (λ (k : DataRange). k.end) (from_last d)));
           behind = omega arith;
-          near = w.3;
+          small = w.3;
         };
         ends = fine.ends;
         small = fine.small;
       };
       since = (refl, q.1.0, omega arith);
-      going = sym f;
+      same_failed = sym f;
       total = refl;
       size = p.1;
     }
@@ -267,20 +268,20 @@ moved-next last (codes.Within i) offset from first ready want failed tables byte
       same = ap (with_items (frames (drop from bytes) offset tables.slots.items first ready)) p.0;
       consistent = record {
         inside = fine.inside;
-        counts = record { taken = fine.counts.taken; slots_there = fine.counts.slots_there; ordered = fine.counts.ordered; known_there = fine.counts.known_there; ascending = fine.counts.ascending; ended = fine.counts.ended; behind = omega (arith, fine.counts.behind, w.1); near = fine.counts.near };
+        counts = record { taken = fine.counts.taken; slots_there = fine.counts.slots_there; few = fine.counts.few; ordered = fine.counts.ordered; known_there = fine.counts.known_there; ascending = fine.counts.ascending; ended = fine.counts.ended; behind = omega (arith, fine.counts.behind, w.1); small = fine.counts.small };
         ends = fine.ends;
         small = fine.small;
       };
       since = (refl, refl, omega arith);
-      going = sym f;
+      same_failed = sym f;
       total = refl;
       size = p.1;
     }
 
-gives : (last : Option Presentation) (m : ParserMode) (offset : ℕ) (rest : List ℕ) (failed : Bool) (slot : Slot) (t : State) → failed ≡ false → IsActive m → step.GiveFrame slot ≡ step_of (is_some last) rest m → act (going last m offset rest) (step.GiveFrame slot) ≡ Give (frame_of rest offset slot) t → let s : State = record { last = last; mode = m; offset = offset; rest = rest; failed = failed } in (run segments s ≡ with_items (frame_of rest offset slot ∷ []) (run segments t)) × (segments.size t < segments.size s)
+gives : (last : Option Presentation) (m : ParserMode) (offset : ℕ) (rest : List ℕ) (failed : Bool) (slot : Slot) (t : WalkState) → failed ≡ false → IsActive m → step.GiveFrame slot ≡ step_of (is_some last) rest m → act (going last m offset rest) (step.GiveFrame slot) ≡ Give (frame_of rest offset slot) t → let s : WalkState = record { last = last; mode = m; offset = offset; rest = rest; failed = failed } in (run segments s ≡ with_items (frame_of rest offset slot ∷ []) (run segments t)) × (segments.size t < segments.size s)
 gives last m offset rest failed slot t f a e g = rw f (frames-give-at (going last m offset rest) t slot (acts last m offset rest (step.GiveFrame slot) a e ∙ g))
 
-frames-more : (rest : List ℕ) (offset : ℕ) (slots : List Slot) (i n at : ℕ) (slot : Slot) (s t : State) → i + n ≡ at → slice_get slots at ≡ Some slot → run segments s ≡ with_items (frame_of rest offset slot ∷ []) (run segments t) → with_items (frames rest offset slots i (n + 1)) (run segments t) ≡ with_items (frames rest offset slots i n) (run segments s)
+frames-more : (rest : List ℕ) (offset : ℕ) (slots : List Slot) (i n at : ℕ) (slot : Slot) (s t : WalkState) → i + n ≡ at → slice_get slots at ≡ Some slot → run segments s ≡ with_items (frame_of rest offset slot ∷ []) (run segments t) → with_items (frames rest offset slots i (n + 1)) (run segments t) ≡ with_items (frames rest offset slots i n) (run segments s)
 frames-more rest offset slots i n at slot s t e g h =
     let z : n + 1 ≡ suc n = omega arith in
     let xs = frames rest offset slots i n in
@@ -303,18 +304,19 @@ moved-frame last (codes.Within i) offset from first ready want failed tables byt
         counts = record {
           taken = omega (arith, fine.counts.taken);
           slots_there = omega (arith, slice_get_within tables.slots.items i.taken slot q.0);
+          few = fine.counts.few;
           ordered = fine.counts.ordered;
           known_there = fine.counts.known_there;
           ascending = fine.counts.ascending;
           ended = fine.counts.ended;
           behind = fine.counts.behind;
-          near = fine.counts.near;
+          small = fine.counts.small;
         };
         ends = subst (IsEndingBy (length bytes - from) tables.slots.items first) (sym z) (ends-end (length bytes - from) tables.slots.items first ready fine.ends (subst (IsSlotEndingBy (length bytes - from)) (sym at) l));
         small = fine.small;
       };
       since = (refl, refl, omega arith);
-      going = sym f;
+      same_failed = sym f;
       total = refl;
       size = p.1;
     }
@@ -365,7 +367,7 @@ skip-part last m to offset from first ready want left there failed tables bytes 
       same = rw d (ap (with_items []) (skip-run last to offset there left (drop from bytes) (omega arith) (omega arith)));
       consistent = record { inside = omega arith; counts = refl; ends = tt; small = omega arith };
       since = tt;
-      going = refl;
+      same_failed = refl;
       total = omega arith;
       size = rw d (omega (arith, length-drop there (drop from bytes), skip-most (length (drop there (drop from bytes))) (left - there) to, skip-positive (length (drop from bytes)) left to (omega arith)));
     })
@@ -382,7 +384,7 @@ skip-all last m to offset from first ready want left failed tables bytes e f z i
       same = rw d (ap (with_items []) (p.0 ∙ q));
       consistent = record { inside = omega arith; counts = refl; ends = tt; small = omega arith };
       since = tt;
-      going = refl;
+      same_failed = refl;
       total = omega arith;
       size = rw d (skip-falls left (length (drop from bytes)) (length rest) to (omega (arith, length-drop left (drop from bytes))) (omega arith));
     })
@@ -396,9 +398,9 @@ pub plan-none : (last : Option Presentation) (b : List ℕ) (o : Option (Vec Slo
 plan-none last b None h f = h
 plan-none last b (Some w) h f = absurd (f w refl)
 
-pub ordered-is : (o : Option (Vec Slot Global)) (v : Vec Slot Global) → IfSome o (λ slots. All IsOrdered slots.items) → o ≡ Some v → All IsOrdered v.items
-ordered-is None v h e = absurd (cc)
-ordered-is (Some w) v h e = subst (λ (u : Vec Slot Global). All IsOrdered u.items) (let q : w ≡ v = cc in q) h
+pub of-slots : (P : List Slot → Type 0) (o : Option (Vec Slot Global)) (v : Vec Slot Global) → IfSome o (λ slots. P slots.items) → o ≡ Some v → P v.items
+of-slots P None v h e = absurd (cc)
+of-slots P (Some w) v h e = subst (λ (u : Vec Slot Global). P u.items) (let q : w ≡ v = cc in q) h
 
 -- ---- a run of moves
 
@@ -419,7 +421,7 @@ since-trans (codes.Within i) (codes.Within j) (codes.Within k) before between af
 pub since-on : (a b d : code.ParserMode) (before between after : Tables) → IsUnchangedSince a b before between → IsUnchangedSince b d between after → IsUnchangedSince a d before after
 since-on a b d before between after h g = since-trans a b d before between after h g
 
-pub since-back : (a b : code.ParserMode) (before between after : Tables) → IsUnchangedSince a b before between → Keeps b between after → Keeps a before after
+pub since-back : (a b : code.ParserMode) (before between after : Tables) → IsUnchangedSince a b before between → AreTablesKept b between after → AreTablesKept a before after
 since-back (codes.Between o) b before between after h g = tt
 since-back (codes.Skipping y z) b before between after h g = tt
 since-back (codes.Within i) (codes.Between o) before between after h g = absurd h

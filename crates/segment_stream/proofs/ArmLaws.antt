@@ -8,7 +8,7 @@ use Rattle.input_chunks.specs.Pieces.{pieces_without_first, HasNoEmptyPiece}
 use Rattle.input_chunks.proofs.Rows.{bytes-without}
 use Rattle.parser_loop.specs.Walk.{run, stay_at, first_item, after_first, item_of, run_after}
 use Rattle.segment_walk.specs.declared.kinds.ParserMode as code
-use Rattle.segment_walk.specs.Moves.{State, segments}
+use Rattle.segment_walk.specs.Moves.{WalkState, segments}
 use Rattle.segment_walk.specs.Ranges.{mode_of}
 use Rattle.segment_stream.specs.declared.progress.Progress.{Progress}
 use Rattle.segment_stream.specs.declared.progress.Tables.{Tables}
@@ -18,11 +18,11 @@ use Rattle.segment_stream.proofs.Acts.{rests-failed}
 use Rattle.segment_stream.proofs.Found.{failed-more}
 
 -- where no frame is ready, the front is the next item
-pub front-item : (last : Option Presentation) (m : code.ParserMode) (offset from first ready want : ℕ) (failed : Bool) (tables : Tables) (bytes : List ℕ) (f : PendingItem) → let r : Progress = record { position = record { mode = m; offset = offset; failed = failed }; from = from; first = first; ready = ready; want = want } in let s : State = state_of last (record { mode = m; offset = offset; failed = failed }) tables bytes in from ≡ 0 → ready ≡ 0 → segments.move s ≡ move_of_pending s f → (first_item segments (kept_of last r tables bytes) ≡ item_of (move_of_pending s f)) × (after_first segments (kept_of last r tables bytes) ≡ run_after segments s (move_of_pending s f))
+pub front-item : (last : Option Presentation) (m : code.ParserMode) (offset from first ready want : ℕ) (failed : Bool) (tables : Tables) (bytes : List ℕ) (f : PendingItem) → let r : Progress = record { position = record { mode = m; offset = offset; failed = failed }; from = from; first = first; ready = ready; want = want } in let s : WalkState = state_of last (record { mode = m; offset = offset; failed = failed }) tables bytes in from ≡ 0 → ready ≡ 0 → segments.move s ≡ move_of_pending s f → (first_item segments (kept_of last r tables bytes) ≡ item_of (move_of_pending s f)) × (after_first segments (kept_of last r tables bytes) ≡ run_after segments s (move_of_pending s f))
 front-item last m offset (suc from) first ready want failed tables bytes f z i e = absurd (omega arith)
 front-item last m offset zero first (suc ready) want failed tables bytes f z i e = absurd (omega arith)
 front-item last m offset zero first zero want failed tables bytes f z i e =
-    let s : State = state_of last (record { mode = m; offset = offset; failed = failed }) tables bytes in
+    let s : WalkState = state_of last (record { mode = m; offset = offset; failed = failed }) tables bytes in
     (ap item_of e, ap (run_after segments s) e)
 
 -- a place with no frame that is ready is what is kept of its state
@@ -34,7 +34,7 @@ kept-still last m offset zero first zero want failed tables bytes z i = refl
 -- the place behind a fault
 pub kept-failed : (last : Option Presentation) (m : code.ParserMode) (offset first ready want : ℕ) (tables : Tables) (bytes : List ℕ) → bytes ≡ [] → ready ≡ 0 → let r : Progress = record { position = record { mode = m; offset = offset; failed = true }; from = 0; first = first; ready = ready; want = want } in kept_of last r tables bytes ≡ run segments (record { last = last; mode = mode_of tables.slots.items tables.known.items m; offset = offset; rest = []; failed = true })
 kept-failed last m offset first ready want tables bytes e i =
-    let s : State = state_of last (record { mode = m; offset = offset; failed = true }) tables [] in
+    let s : WalkState = state_of last (record { mode = m; offset = offset; failed = true }) tables [] in
     rw e (kept-still last m offset 0 first ready want true tables [] refl i ∙ sym (failed-more last m offset tables []))
 
 pub rest-failed : (last : Option Presentation) (m : code.ParserMode) (offset first ready want : ℕ) (tables : Tables) (bytes : List ℕ) → bytes ≡ [] → ready ≡ 0 → offset < 2 ^ 62 → IsCountedIn m tables first ready → let r : Progress = record { position = record { mode = m; offset = offset; failed = true }; from = 0; first = first; ready = ready; want = want } in IsWaitingForBytes last r tables bytes

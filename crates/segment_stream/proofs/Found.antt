@@ -10,12 +10,12 @@ use Rattle.segment_walk.specs.declared.kinds.DataRange.{DataRange}
 use Rattle.segment_walk.specs.declared.kinds.ParserMode as code
 use Rattle.segment_walk.specs.declared.kinds.ParserMode.TheVariants as codes
 use Rattle.segment_walk.specs.Tables.{SegmentItem}
-use Rattle.segment_walk.specs.Moves.{State, segments}
-use Rattle.segment_walk.specs.Ranges.{IsAscending, mode_of}
+use Rattle.segment_walk.specs.Moves.{WalkState, segments}
+use Rattle.segment_walk.specs.Ranges.{AreRangesAscending, mode_of}
 use Rattle.segment_walk.proofs.WalkLaws.{slice-longer, is_walk}
 use Rattle.segment_stream.specs.declared.progress.Progress.{Progress}
 use Rattle.segment_stream.specs.declared.progress.Tables.{Tables}
-use Rattle.segment_stream.specs.Kept.{frames, frame_at, IsEndingBy, IsSlotEndingBy, IsCountedIn, IsCounted, IsOrdered, IsConsistent, Rests, IsUnchangedSince, Keeps, IsWaitingForBytes, IsFoundWith, IsEmptied, kept_of, state_of, run_on, with_tables}
+use Rattle.segment_stream.specs.Kept.{frames, frame_at, IsEndingBy, IsSlotEndingBy, IsCountedIn, IsCounted, IsOrdered, IsConsistent, Rests, IsUnchangedSince, AreTablesKept, IsWaitingForBytes, IsFoundWith, IsEmptied, kept_of, state_of, kept_run_on, with_tables}
 use Rattle.segment_stream.proofs.Acts.{rests-failed}
 
 frame-longer : (b c : List ℕ) (offset : ℕ) (s : Option Slot) → IsSlotEndingBy (length b) s → frame_at (b ++ c) offset s ≡ frame_at b offset s
@@ -43,7 +43,7 @@ consistent-longer m offset from first ready want failed tables b c z room f = re
   small = omega (arith, length-append b c);
 }
 
-ran : (last : Option Presentation) (m : code.ParserMode) (offset from first ready want : ℕ) (failed : Bool) (tables : Tables) (b c : List ℕ) → let r : Progress = record { position = record { mode = m; offset = offset; failed = failed }; from = from; first = first; ready = ready; want = want } in from ≡ 0 → failed ≡ false → IsConsistent r tables b → run_on (kept_of last r tables (b ++ c)) ≡ fed segments (kept_of last r tables b) c
+ran : (last : Option Presentation) (m : code.ParserMode) (offset from first ready want : ℕ) (failed : Bool) (tables : Tables) (b c : List ℕ) → let r : Progress = record { position = record { mode = m; offset = offset; failed = failed }; from = from; first = first; ready = ready; want = want } in from ≡ 0 → failed ≡ false → IsConsistent r tables b → kept_run_on (kept_of last r tables (b ++ c)) ≡ fed segments (kept_of last r tables b) c
 ran last m offset (suc from) first ready want failed tables b c z g f = absurd (omega arith)
 ran last m offset zero first ready want true tables b c z g f = cc
 ran last m offset zero first ready want false tables b c z g f =
@@ -52,12 +52,12 @@ ran last m offset zero first ready want false tables b c z g f =
 
 -- ---- the place that was left sees what it saw
 
-pub keeps-kept : (last : Option Presentation) (m : code.ParserMode) (offset from first ready want : ℕ) (failed : Bool) (tables new_tables : Tables) (b : List ℕ) → let r : Progress = record { position = record { mode = m; offset = offset; failed = failed }; from = from; first = first; ready = ready; want = want } in IsCountedIn m tables first ready → Keeps m tables new_tables → kept_of last r new_tables b ≡ kept_of last r tables b
+pub keeps-kept : (last : Option Presentation) (m : code.ParserMode) (offset from first ready want : ℕ) (failed : Bool) (tables new_tables : Tables) (b : List ℕ) → let r : Progress = record { position = record { mode = m; offset = offset; failed = failed }; from = from; first = first; ready = ready; want = want } in IsCountedIn m tables first ready → AreTablesKept m tables new_tables → kept_of last r new_tables b ≡ kept_of last r tables b
 keeps-kept last (codes.Between o) offset from first ready want failed tables new_tables b h k = rw h refl
 keeps-kept last (codes.Skipping y l) offset from first ready want failed tables new_tables b h k = rw h refl
 keeps-kept last (codes.Within i) offset from first ready want failed tables new_tables b h k = rw (k.0, k.1) refl
 
-pub since-keeps : (a b : code.ParserMode) (tables new_tables : Tables) → IsUnchangedSince a b tables new_tables → Keeps a tables new_tables
+pub since-keeps : (a b : code.ParserMode) (tables new_tables : Tables) → IsUnchangedSince a b tables new_tables → AreTablesKept a tables new_tables
 since-keeps (codes.Between o) b tables new_tables h = tt
 since-keeps (codes.Skipping y l) b tables new_tables h = tt
 since-keeps (codes.Within i) (codes.Between o) tables new_tables h = absurd h
@@ -72,7 +72,7 @@ length-front (suc n) (x ∷ xs) e = let h = length-front n xs (omega arith) in o
 known-enough : (known new_known : List DataRange) (n : ℕ) → n ≤ length known → take n new_known ≡ take n known → n ≤ length new_known
 known-enough known new_known n h e = let l = ap length e ∙ length-take-le n known h in length-front n new_known l
 
-counts-kept : (m : code.ParserMode) (tables new_tables : Tables) (first ready : ℕ) → IsCountedIn m tables first ready → Keeps m tables new_tables → IsCountedIn m new_tables first ready
+counts-kept : (m : code.ParserMode) (tables new_tables : Tables) (first ready : ℕ) → IsCountedIn m tables first ready → AreTablesKept m tables new_tables → IsCountedIn m new_tables first ready
 counts-kept (codes.Between o) tables new_tables first ready h k = h
 counts-kept (codes.Skipping y l) tables new_tables first ready h k = h
 counts-kept (codes.Within i) tables new_tables first ready h k =
@@ -80,26 +80,27 @@ counts-kept (codes.Within i) tables new_tables first ready h k =
     record {
       taken = f.taken;
       slots_there = omega (arith, f.slots_there, ap length k.0);
+      few = omega (arith, f.few, ap length k.0);
       ordered = subst (All IsOrdered) (sym k.0) f.ordered;
       known_there = known-enough tables.known.items new_tables.known.items i.known f.known_there k.1;
-      ascending = subst IsAscending (sym k.1) f.ascending;
+      ascending = subst AreRangesAscending (sym k.1) f.ascending;
       ended = λ d q. let e = f.ended d q in (omega (arith, e.0, ap (λ ks. (get_or ks (i.known - 1) d).start) k.1), omega (arith, e.1, ap (λ ks. (get_or ks (i.known - 1) d).end) k.1));
       behind = f.behind;
-      near = f.near;
+      small = f.small;
     }
 
-slots-kept : (m : code.ParserMode) (tables new_tables : Tables) (n first ready : ℕ) → IsCountedIn m tables first ready → Keeps m tables new_tables → IsEndingBy n tables.slots.items first ready → IsEndingBy n new_tables.slots.items first ready
+slots-kept : (m : code.ParserMode) (tables new_tables : Tables) (n first ready : ℕ) → IsCountedIn m tables first ready → AreTablesKept m tables new_tables → IsEndingBy n tables.slots.items first ready → IsEndingBy n new_tables.slots.items first ready
 slots-kept (codes.Between o) tables new_tables n first ready h k e = subst (IsEndingBy n new_tables.slots.items first) (sym h) tt
 slots-kept (codes.Skipping y l) tables new_tables n first ready h k e = subst (IsEndingBy n new_tables.slots.items first) (sym h) tt
 slots-kept (codes.Within i) tables new_tables n first ready h k e = subst (λ ss. IsEndingBy n ss first ready) (sym k.0) e
 
-mode-kept : (m : code.ParserMode) (tables new_tables : Tables) → Keeps m tables new_tables → mode_of new_tables.slots.items new_tables.known.items m ≡ mode_of tables.slots.items tables.known.items m
+mode-kept : (m : code.ParserMode) (tables new_tables : Tables) → AreTablesKept m tables new_tables → mode_of new_tables.slots.items new_tables.known.items m ≡ mode_of tables.slots.items tables.known.items m
 mode-kept (codes.Between o) tables new_tables k = refl
 mode-kept (codes.Skipping y l) tables new_tables k = refl
 mode-kept (codes.Within i) tables new_tables k = rw (k.0, k.1) refl
 
 -- and rests where it rested
-pub keeps-rest : (last : Option Presentation) (r : Progress) (tables new_tables : Tables) (b : List ℕ) → Keeps r.position.mode tables new_tables → IsWaitingForBytes last r tables b → IsWaitingForBytes last r new_tables b
+pub keeps-rest : (last : Option Presentation) (r : Progress) (tables new_tables : Tables) (b : List ℕ) → AreTablesKept r.position.mode tables new_tables → IsWaitingForBytes last r tables b → IsWaitingForBytes last r new_tables b
 keeps-rest last r tables new_tables b k h = record {
   front = h.front;
   consistent = record {
@@ -113,7 +114,7 @@ keeps-rest last r tables new_tables b k h = record {
 
 -- ---- what is found
 
-found-run : (last : Option Presentation) (m : code.ParserMode) (offset from first ready want : ℕ) (failed : Bool) (tables new_tables : Tables) (b c : List ℕ) (s : Progress) → let r : Progress = record { position = record { mode = m; offset = offset; failed = failed }; from = from; first = first; ready = ready; want = want } in failed ≡ false → IsWaitingForBytes last r tables b → kept_of last r new_tables b ≡ kept_of last r tables b → kept_of last s new_tables (b ++ c) ≡ run_on (kept_of last r tables (b ++ c)) → IsConsistent s new_tables (b ++ c) → Rests (state_of last s.position new_tables (drop s.from (b ++ c))) s.want → s.position.offset + (length (b ++ c) - s.from) ≡ offset + (length (b ++ c) - from) → IsFoundWith last (kept_of last r new_tables b) (with_tables s new_tables) (b ++ c) c
+found-run : (last : Option Presentation) (m : code.ParserMode) (offset from first ready want : ℕ) (failed : Bool) (tables new_tables : Tables) (b c : List ℕ) (s : Progress) → let r : Progress = record { position = record { mode = m; offset = offset; failed = failed }; from = from; first = first; ready = ready; want = want } in failed ≡ false → IsWaitingForBytes last r tables b → kept_of last r new_tables b ≡ kept_of last r tables b → kept_of last s new_tables (b ++ c) ≡ kept_run_on (kept_of last r tables (b ++ c)) → IsConsistent s new_tables (b ++ c) → Rests (state_of last s.position new_tables (drop s.from (b ++ c))) s.want → s.position.offset + (length (b ++ c) - s.from) ≡ offset + (length (b ++ c) - from) → IsFoundWith last (kept_of last r new_tables b) (with_tables s new_tables) (b ++ c) c
 found-run last m offset from first ready want failed tables new_tables b c s g h q e f w t = record {
   same = e ∙ ran last m offset from first ready want failed tables b c h.front g h.consistent ∙ ap (λ k. fed segments k c) (sym q);
   consistent = f;
@@ -121,18 +122,18 @@ found-run last m offset from first ready want failed tables new_tables b c s g h
   total = omega (arith, t, h.front, length-append b c, length-drop from b);
 }
 
-stays : (k : Lookahead State SegmentItem) → run segments k.state ≡ stay_at k.state → run_on k ≡ k
+stays : (k : Lookahead WalkState SegmentItem) → run segments k.state ≡ stay_at k.state → kept_run_on k ≡ k
 stays k e = ap (with_items k.items) e ∙ ap (λ (xs : List SegmentItem). record { items = xs; state = k.state }) (append-nil k.items)
 
-still-more : (last : Option Presentation) (m : code.ParserMode) (offset : ℕ) (failed : Bool) (want : ℕ) (tables : Tables) (b c : List ℕ) → failed ≡ false → Rests (state_of last (record { mode = m; offset = offset; failed = failed }) tables b) want → length b + length c < want → let t : State = state_of last (record { mode = m; offset = offset; failed = false }) tables (b ++ c) in run segments t ≡ stay_at t
+still-more : (last : Option Presentation) (m : code.ParserMode) (offset : ℕ) (failed : Bool) (want : ℕ) (tables : Tables) (b c : List ℕ) → failed ≡ false → Rests (state_of last (record { mode = m; offset = offset; failed = failed }) tables b) want → length b + length c < want → let t : WalkState = state_of last (record { mode = m; offset = offset; failed = false }) tables (b ++ c) in run segments t ≡ stay_at t
 still-more last m offset failed want tables b c g h l =
     let w = subst (λ (f : Bool). Rests (state_of last (record { mode = m; offset = offset; failed = f }) tables b) want) g h in
     w.waits c l
 
-rests-longer : (last : Option Presentation) (m : code.ParserMode) (offset : ℕ) (failed : Bool) (want : ℕ) (tables : Tables) (b c : List ℕ) → failed ≡ false → let t : State = state_of last (record { mode = m; offset = offset; failed = failed }) tables (b ++ c) in run segments t ≡ stay_at t → Rests (state_of last (record { mode = m; offset = offset; failed = failed }) tables b) want → Rests t want
+rests-longer : (last : Option Presentation) (m : code.ParserMode) (offset : ℕ) (failed : Bool) (want : ℕ) (tables : Tables) (b c : List ℕ) → failed ≡ false → let t : WalkState = state_of last (record { mode = m; offset = offset; failed = failed }) tables (b ++ c) in run segments t ≡ stay_at t → Rests (state_of last (record { mode = m; offset = offset; failed = failed }) tables b) want → Rests t want
 rests-longer last m offset failed want tables b c g x h =
     let w = subst (λ (f : Bool). Rests (state_of last (record { mode = m; offset = offset; failed = f }) tables b) want) g h in
-    let t : List ℕ → State = λ rest. state_of last (record { mode = m; offset = offset; failed = false }) tables rest in
+    let t : List ℕ → WalkState = λ rest. state_of last (record { mode = m; offset = offset; failed = false }) tables rest in
     record {
       still = x;
       waits = λ d l. rw g (ap (λ rest. run segments (t rest)) (append_assoc b c d) ∙ w.waits (c ++ d) (omega (arith, length-append b c, length-append c d)) ∙ ap (λ rest. stay_at (t rest)) (sym (append_assoc b c d)));
@@ -142,11 +143,11 @@ rests-longer last m offset failed want tables b c g x h =
 pub found-same : (last : Option Presentation) (m : code.ParserMode) (offset from first ready want : ℕ) (failed : Bool) (tables : Tables) (b c all : List ℕ) → let r : Progress = record { position = record { mode = m; offset = offset; failed = failed }; from = from; first = first; ready = ready; want = want } in all ≡ b ++ c → failed ≡ false → IsWaitingForBytes last r tables b → length b + length c < want → offset + (length b + length c) < 2 ^ 62 → IsFoundWith last (kept_of last r tables b) (with_tables r tables) all c
 found-same last m offset from first ready want failed tables b c all x' g h l room =
     let r : Progress = record { position = record { mode = m; offset = offset; failed = failed }; from = from; first = first; ready = ready; want = want } in
-    let t : List ℕ → State = λ rest. state_of last (record { mode = m; offset = offset; failed = failed }) tables rest in
-    let u : List ℕ → State = λ rest. state_of last (record { mode = m; offset = offset; failed = false }) tables rest in
+    let t : List ℕ → WalkState = λ rest. state_of last (record { mode = m; offset = offset; failed = failed }) tables rest in
+    let u : List ℕ → WalkState = λ rest. state_of last (record { mode = m; offset = offset; failed = false }) tables rest in
     let y : run segments (u (b ++ c)) ≡ stay_at (u (b ++ c)) = still-more last m offset failed want tables b c g h.rests l in
     let x : run segments (t (b ++ c)) ≡ stay_at (t (b ++ c)) = rw g y in
-    let k : Lookahead State SegmentItem = kept_of last r tables (b ++ c) in
+    let k : Lookahead WalkState SegmentItem = kept_of last r tables (b ++ c) in
     subst (λ v. IsFoundWith last (kept_of last r tables b) (with_tables r tables) v c) (sym x') (record {
       same = sym (stays k (rw h.front x)) ∙ ran last m offset from first ready want failed tables b c h.front g h.consistent;
       consistent = consistent-longer m offset from first ready want failed tables b c h.front room h.consistent;
@@ -154,13 +155,13 @@ found-same last m offset from first ready want failed tables b c all x' g h l ro
       total = omega (arith, h.front, length-append b c, length-drop from b);
     })
 
-pub found-ok : (s : Progress) (last : Option Presentation) (r : Progress) (tables new_tables : Tables) (b c bytes : List ℕ) → bytes ≡ b ++ c → r.position.failed ≡ false → IsWaitingForBytes last r tables b → IsUnchangedSince r.position.mode s.position.mode tables new_tables → kept_of last s new_tables bytes ≡ run_on (kept_of last r tables bytes) → IsConsistent s new_tables bytes → Rests (state_of last s.position new_tables (drop s.from bytes)) s.want → s.position.offset + (length bytes - s.from) ≡ r.position.offset + (length bytes - r.from) → IsFoundWith last (kept_of last r new_tables b) (with_tables s new_tables) bytes c
+pub found-ok : (s : Progress) (last : Option Presentation) (r : Progress) (tables new_tables : Tables) (b c bytes : List ℕ) → bytes ≡ b ++ c → r.position.failed ≡ false → IsWaitingForBytes last r tables b → IsUnchangedSince r.position.mode s.position.mode tables new_tables → kept_of last s new_tables bytes ≡ kept_run_on (kept_of last r tables bytes) → IsConsistent s new_tables bytes → Rests (state_of last s.position new_tables (drop s.from bytes)) s.want → s.position.offset + (length bytes - s.from) ≡ r.position.offset + (length bytes - r.from) → IsFoundWith last (kept_of last r new_tables b) (with_tables s new_tables) bytes c
 found-ok s last r tables new_tables b c bytes d g h q e f w t =
     let k = keeps-kept last r.position.mode r.position.offset r.from r.first r.ready r.want r.position.failed tables new_tables b h.consistent.counts (since-keeps r.position.mode s.position.mode tables new_tables q) in
-    subst (λ v. IsFoundWith last (kept_of last r new_tables b) (with_tables s new_tables) v c) (sym d) (found-run last r.position.mode r.position.offset r.from r.first r.ready r.want r.position.failed tables new_tables b c s g h k (subst (λ v. kept_of last s new_tables v ≡ run_on (kept_of last r tables v)) d e) (subst (λ v. IsConsistent s new_tables v) d f) (subst (λ v. Rests (state_of last s.position new_tables (drop s.from v)) s.want) d w) (subst (λ (v : List ℕ). s.position.offset + (length v - s.from) ≡ r.position.offset + (length v - r.from)) d t))
+    subst (λ v. IsFoundWith last (kept_of last r new_tables b) (with_tables s new_tables) v c) (sym d) (found-run last r.position.mode r.position.offset r.from r.first r.ready r.want r.position.failed tables new_tables b c s g h k (subst (λ v. kept_of last s new_tables v ≡ kept_run_on (kept_of last r tables v)) d e) (subst (λ v. IsConsistent s new_tables v) d f) (subst (λ v. Rests (state_of last s.position new_tables (drop s.from v)) s.want) d w) (subst (λ (v : List ℕ). s.position.offset + (length v - s.from) ≡ r.position.offset + (length v - r.from)) d t))
 
 -- behind a fault all bytes are let go
-pub failed-more : (last : Option Presentation) (m : code.ParserMode) (offset : ℕ) (tables : Tables) (b : List ℕ) → let s : State = state_of last (record { mode = m; offset = offset; failed = true }) tables b in run segments s ≡ stay_at s
+pub failed-more : (last : Option Presentation) (m : code.ParserMode) (offset : ℕ) (tables : Tables) (b : List ℕ) → let s : WalkState = state_of last (record { mode = m; offset = offset; failed = true }) tables b in run segments s ≡ stay_at s
 failed-more last m offset tables b = run-rested segments is_walk (state_of last (record { mode = m; offset = offset; failed = true }) tables b) tt
 
 pub found-failed : (last : Option Presentation) (m : code.ParserMode) (offset from first ready want new_want len : ℕ) (failed : Bool) (tables : Tables) (b c all : List ℕ) → let r : Progress = record { position = record { mode = m; offset = offset; failed = failed }; from = from; first = first; ready = ready; want = want } in all ≡ b ++ c → failed ≡ true → len ≡ length all → IsWaitingForBytes last r tables b → (b ≡ []) × (ready ≡ 0) → IsFoundWith last (kept_of last r tables b) (with_tables (record { position = record { mode = m; offset = offset; failed = failed }; from = len; first = first; ready = ready; want = new_want }) tables) all c
@@ -169,9 +170,9 @@ found-failed last m offset from first ready want new_want len true tables b c al
     let r : Progress = record { position = record { mode = m; offset = offset; failed = true }; from = from; first = first; ready = ready; want = want } in
     let none : drop len all ≡ [] = drop_all len all (omega arith) in
     let empty : drop from b ≡ [] = ap (λ n. drop n b) h.front ∙ z.0 in
-    let k : Lookahead State SegmentItem = kept_of last r tables b in
+    let k : Lookahead WalkState SegmentItem = kept_of last r tables b in
     let still : run segments (segments.more k.state c) ≡ stay_at k.state = failed-more last m offset tables (drop from b) in
-    let mk : List SegmentItem → List ℕ → Lookahead State SegmentItem = λ items rest. record { items = items; state = state_of last (record { mode = m; offset = offset; failed = true }) tables rest } in
+    let mk : List SegmentItem → List ℕ → Lookahead WalkState SegmentItem = λ items rest. record { items = items; state = state_of last (record { mode = m; offset = offset; failed = true }) tables rest } in
     let a : mk (frames (drop len all) offset tables.slots.items first ready) (drop len all) ≡ mk [] [] = ap (λ v. mk (frames v offset tables.slots.items first ready) v) none ∙ ap (λ n. mk (frames [] offset tables.slots.items first n) []) z.1 in
     let d : mk (frames (drop from b) offset tables.slots.items first ready ++ []) (drop from b) ≡ mk [] [] = ap (λ n. mk (frames (drop from b) offset tables.slots.items first n ++ []) (drop from b)) z.1 ∙ ap (mk []) empty in
     record {

@@ -13,7 +13,7 @@ use Rattle.segment_walk.specs.declared.kinds.ParserMode.TheVariants as codes
 use Rattle.segment_walk.specs.declared.kinds.BoxStep.{BoxStep}
 use Rattle.segment_walk.specs.declared.kinds.BoxStep.TheVariants as step
 use Rattle.segment_walk.specs.Tables.{SegmentItem}
-use Rattle.segment_walk.specs.Moves.{State, ParserMode, Skipping, act, pass_byte, opened, open_of, segments, frame_of, step_of}
+use Rattle.segment_walk.specs.Moves.{WalkState, ParserMode, Skipping, act, pass_byte, move_of_slots, open_of, segments, frame_of, step_of}
 use Rattle.segment_walk.specs.Ranges.{mode_of}
 use Rattle.segment_walk.proofs.WalkLaws.{going, is_walk}
 use Rattle.segment_stream.specs.declared.progress.Tables.{Tables}
@@ -80,10 +80,10 @@ frame-there (codes.Within f) tables first ready i h l e =
 
 -- ---- a place that rests
 
-pub rested : (s : State) (want : ℕ) → Rests s want → IsRested segments (segments.move s)
-rested s want r = subst (λ (v : Lookahead State SegmentItem). IsRested segments (segments.move v.state)) r.still (is_run segments is_walk s).rested
+pub rested : (s : WalkState) (want : ℕ) → Rests s want → IsRested segments (segments.move s)
+rested s want r = subst (λ (v : Lookahead WalkState SegmentItem). IsRested segments (segments.move v.state)) r.still (is_run segments is_walk s).rested
 
-abbrev pub Passes : Move State SegmentItem → Type 0
+abbrev pub Passes : Move WalkState SegmentItem → Type 0
 Passes Stop = ⊥
 Passes (Pass t) = Unit {0}
 Passes (Give item t) = segments.runs item ≡ true
@@ -91,7 +91,7 @@ Passes (Give item t) = segments.runs item ≡ true
 both : (b : Bool) → b ≡ false → b ≡ true → ⊥
 both b g e = cc
 
-no-pass-at : (m : Move State SegmentItem) → IsRested segments m → Passes m → ⊥
+no-pass-at : (m : Move WalkState SegmentItem) → IsRested segments m → Passes m → ⊥
 no-pass-at Stop h p = p
 no-pass-at (Pass t) h p = h
 no-pass-at (Give item t) h p = both (segments.runs item) h p
@@ -103,7 +103,7 @@ no-pass last m offset rest false want st g r a e p =
     no-pass-at (act (going last m offset rest) st) (subst (IsRested segments) (acts last m offset rest st a e) (rested (going last m offset rest) want r)) p
 
 -- where a box is passed over there is no item
-skip-byte : (s : State) (to : Phase) (left : ℕ) (rest : List ℕ) → IsRested segments (pass_byte s to left rest) → pass_byte s to left rest ≡ Stop
+skip-byte : (s : WalkState) (to : Phase) (left : ℕ) (rest : List ℕ) → IsRested segments (pass_byte s to left rest) → pass_byte s to left rest ≡ Stop
 skip-byte s to left [] h = refl
 skip-byte s to left (x ∷ rest) h = absurd h
 
@@ -126,7 +126,7 @@ active-by (codes.Within f) e = tt
 pub end-near : (m : code.ParserMode) (tables : Tables) (first ready : ℕ) → IsCountedIn m tables first ready → (open_of (mode_of tables.slots.items tables.known.items m)).end ≤ 2 ^ 27
 end-near (codes.Between o) tables first ready h = omega arith
 end-near (codes.Skipping to left) tables first ready h = omega arith
-end-near (codes.Within f) tables first ready h = h.near
+end-near (codes.Within f) tables first ready h = h.small
 
 -- a step at the front of the bytes
 pub front-step : (last : Option Presentation) (m : ParserMode) (from : ℕ) (bytes : List ℕ) (st : BoxStep) → from ≡ 0 → st ≡ step_of (is_some last) (drop from bytes) m → st ≡ step_of (is_some last) bytes m
@@ -142,12 +142,12 @@ plan-stuck None p m offset want bytes failed tables len found w g a r e h = cc
 plan-stuck (Some q) p m offset want bytes failed tables len found w g a r e h =
     let y : q ≡ p = cc in
     let x : plan_of q.tracks (take len bytes) ≡ Ok found = ap (λ (v : Presentation). plan_of v.tracks (take len bytes)) y ∙ h in
-    let s : State = going (Some q) (mode_of tables.slots.items tables.known.items m) offset bytes in
-    no-pass (Some q) (mode_of tables.slots.items tables.known.items m) offset bytes failed want (step.ReadMoof len) g r (is_active tables m a) e (subst (λ v. Passes (opened s len v)) (sym x) tt)
+    let s : WalkState = going (Some q) (mode_of tables.slots.items tables.known.items m) offset bytes in
+    no-pass (Some q) (mode_of tables.slots.items tables.known.items m) offset bytes failed want (step.ReadMoof len) g r (is_active tables m a) e (subst (λ v. Passes (move_of_slots s len v)) (sym x) tt)
 
 -- ---- an item is taken
 
-first-frame-by : (items : List SegmentItem) (m : Move State SegmentItem) (o : Option SegmentItem) → 0 < length items → o ≡ slice_get items 0 → o ≡ first_by items m
+first-frame-by : (items : List SegmentItem) (m : Move WalkState SegmentItem) (o : Option SegmentItem) → 0 < length items → o ≡ slice_get items 0 → o ≡ first_by items m
 first-frame-by [] m o z e = absurd (omega arith)
 first-frame-by (x ∷ items) m o z e = e
 
@@ -160,10 +160,10 @@ slots-enough (codes.Between o) tables first ready h z = absurd (omega arith)
 slots-enough (codes.Skipping y l) tables first ready h z = absurd (omega arith)
 slots-enough (codes.Within i) tables first ready h z = omega (arith, h.taken, h.slots_there)
 
-pub first-frame : (rest : List ℕ) (offset : ℕ) (slots : List Slot) (first ready : ℕ) (m : Move State SegmentItem) (o : Option SegmentItem) → 0 < ready → first < length slots → o ≡ slice_get (frames rest offset slots first ready) 0 → o ≡ first_by (frames rest offset slots first ready) m
+pub first-frame : (rest : List ℕ) (offset : ℕ) (slots : List Slot) (first ready : ℕ) (m : Move WalkState SegmentItem) (o : Option SegmentItem) → 0 < ready → first < length slots → o ≡ slice_get (frames rest offset slots first ready) 0 → o ≡ first_by (frames rest offset slots first ready) m
 first-frame rest offset slots first ready m o z h e = first-frame-by (frames rest offset slots first ready) m o (frames-there rest offset slots first ready z h) e
 
-pub taken-frame : (s : State) (rest : List ℕ) (offset : ℕ) (slots : List Slot) (first ready : ℕ) → 0 < ready → first < length slots → record { items = frames rest offset slots (first + 1) (ready - 1); state = s } ≡ after_by segments s (frames rest offset slots first ready)
+pub taken-frame : (s : WalkState) (rest : List ℕ) (offset : ℕ) (slots : List Slot) (first ready : ℕ) → 0 < ready → first < length slots → record { items = frames rest offset slots (first + 1) (ready - 1); state = s } ≡ after_by segments s (frames rest offset slots first ready)
 taken-frame s rest offset slots first zero z h = absurd (omega arith)
 taken-frame s rest offset slots first (suc ready) z h =
     let q = some-there slots first h in

@@ -9,7 +9,7 @@ use Rattle.mse_base.specs.declared.track.Presentation.{Presentation}
 use Rattle.bmff_fragment.specs.declared.slot.Slot.{Slot}
 use Rattle.segment_walk.specs.declared.kinds.DataRange.{DataRange}
 use Rattle.segment_walk.specs.declared.kinds.Fragment.{Fragment}
-use Rattle.segment_walk.specs.declared.kinds.Place.{Place}
+use Rattle.segment_walk.specs.declared.kinds.WalkPlace.{WalkPlace}
 use Rattle.segment_walk.specs.declared.kinds.ParserMode as code
 use Rattle.segment_walk.specs.declared.kinds.ParserMode.TheVariants as codes
 use Rattle.segment_walk.specs.declared.kinds.BoxStep.TheVariants as step
@@ -39,7 +39,7 @@ both-true : (a b : Bool) → (a && b) ≡ true → (a ≡ true) × (b ≡ true)
 both-true true b e = (refl, e)
 both-true false b e = cc
 
-gives-ready : (rest : List ℕ) (known : List DataRange) (end : ℕ) (place : Place) (slot : Slot) → is_ready (length rest) known slot ≡ true → step.GiveFrame slot ≡ slot_step rest known end place (Some slot)
+gives-ready : (rest : List ℕ) (known : List DataRange) (end : ℕ) (place : WalkPlace) (slot : Slot) → is_ready (length rest) known slot ≡ true → step.GiveFrame slot ≡ slot_step rest known end place (Some slot)
 gives-ready rest known end place slot r =
     let h = both-true (lies_in known slot) (leb slot.end (length rest)) r in
     let e : leb (suc (length rest)) slot.end ≡ false = grind (arith, nat_tests, h.1) in
@@ -50,7 +50,7 @@ goes-on-trans last a b d bytes h g = record {
   same = g.same ∙ h.same;
   consistent = g.consistent;
   since = since-trans a.progress.position.mode b.progress.position.mode d.progress.position.mode a.tables b.tables d.tables h.since g.since;
-  going = g.going ∙ h.going;
+  same_failed = g.same_failed ∙ h.same_failed;
   total = g.total ∙ h.total;
   size = omega (arith, h.size, g.size);
 }

@@ -25,7 +25,7 @@ use Rattle.segment_walk.specs.declared.kinds.BoxStep.{BoxStep}
 use Rattle.segment_walk.specs.declared.kinds.BoxStep.TheVariants as step
 use Rattle.segment_walk.specs.Tables.{SegmentItem}
 use Rattle.parser_loop.specs.Items.{InitItem, FrameItem, SegmentEnd, FaultItem, latest_after_all, latest_after}
-use Rattle.segment_walk.specs.Moves.{State, ParserMode, Between, Skipping, Within, Open, initialized, opened, planned, pass_byte, act, step_of, segments, move_unless}
+use Rattle.segment_walk.specs.Moves.{WalkState, ParserMode, Between, Skipping, Within, Open, move_of_init, move_of_slots, move_of_moof, pass_byte, act, step_of, segments, move_unless}
 use Rattle.segment_walk.specs.Strings.{start, state_before, phase_of}
 use Rattle.segment_walk.specs.Segments.{Items, held_before, phase_before, ready_before}
 use Rattle.segment_walk.proofs.Boxes.{items-boxes, ready-boxes, seen-boxes}
@@ -50,7 +50,7 @@ IsWithin (Skipping to left) = ⊥
 IsWithin (Within o) = Unit {0}
 
 -- a frame, and what passes in a movie fragment, leave the bytes
-abbrev Keeping : State → Move State SegmentItem → Type 0
+abbrev Keeping : WalkState → Move WalkState SegmentItem → Type 0
 Keeping s Stop = Unit {0}
 Keeping s (Pass t) = IsWithin s.mode → IsWithin t.mode × (t.rest ≡ s.rest)
 Keeping s (Give item t) = segments.runs item ≡ true → IsWithin s.mode × IsWithin t.mode × (t.rest ≡ s.rest)
@@ -58,15 +58,15 @@ Keeping s (Give item t) = segments.runs item ≡ true → IsWithin s.mode × IsW
 not-true : {P : Type 0} → false ≡ true → P
 not-true e = absurd (cc)
 
-keeping-init : (last : Option Presentation) (phase : Phase) (offset : ℕ) (rest : List ℕ) (len : ℕ) (r : Result Presentation InitFault) → let s = going last (Between phase) offset rest in Keeping s (initialized s len r)
+keeping-init : (last : Option Presentation) (phase : Phase) (offset : ℕ) (rest : List ℕ) (len : ℕ) (r : Result Presentation InitFault) → let s = going last (Between phase) offset rest in Keeping s (move_of_init s len r)
 keeping-init last phase offset rest len (Ok p) = λ e. not-true e
 keeping-init last phase offset rest len (Err f) = λ e. not-true e
 
-keeping-opened : (last : Option Presentation) (phase : Phase) (offset : ℕ) (rest : List ℕ) (len : ℕ) (r : Result (List Slot) MoofFault) → let s = going last (Between phase) offset rest in Keeping s (opened s len r)
+keeping-opened : (last : Option Presentation) (phase : Phase) (offset : ℕ) (rest : List ℕ) (len : ℕ) (r : Result (List Slot) MoofFault) → let s = going last (Between phase) offset rest in Keeping s (move_of_slots s len r)
 keeping-opened last phase offset rest len (Ok slots) = λ w. absurd w
 keeping-opened last phase offset rest len (Err f) = λ e. not-true e
 
-keeping-planned : (last with : Option Presentation) (phase : Phase) (offset : ℕ) (rest : List ℕ) (len : ℕ) → let s = going last (Between phase) offset rest in Keeping s (planned s len with)
+keeping-planned : (last with : Option Presentation) (phase : Phase) (offset : ℕ) (rest : List ℕ) (len : ℕ) → let s = going last (Between phase) offset rest in Keeping s (move_of_moof s len with)
 keeping-planned last None phase offset rest len = λ e. not-true e
 keeping-planned last (Some p) phase offset rest len = keeping-opened last phase offset rest len (plan_of p.tracks (take len rest))
 
@@ -96,22 +96,22 @@ keeping-byte : (last : Option Presentation) (to : Phase) (offset left : ℕ) (al
 keeping-byte last to offset left all [] = tt
 keeping-byte last to offset left all (x ∷ rest) = λ w. absurd w
 
-keeping : (last : Option Presentation) (m : ParserMode) (offset : ℕ) (rest : List ℕ) (failed : Bool) → let s : State = record { last = last; mode = m; offset = offset; rest = rest; failed = failed } in Keeping s (move_unless s failed)
+keeping : (last : Option Presentation) (m : ParserMode) (offset : ℕ) (rest : List ℕ) (failed : Bool) → let s : WalkState = record { last = last; mode = m; offset = offset; rest = rest; failed = failed } in Keeping s (move_unless s failed)
 keeping last m offset rest true = tt
 keeping last (Between phase) offset rest false = keeping-between last phase offset rest (step_of (is_some last) rest (Between phase)) (good-step (is_some last) rest [] (Between phase)).0
 keeping last (Skipping to zero) offset rest false = λ w. absurd w
 keeping last (Skipping to (suc left)) offset rest false = keeping-byte last to offset left rest rest
 keeping last (Within o) offset rest false = keeping-within last o offset rest (step_of (is_some last) rest (Within o)) (good-step (is_some last) rest [] (Within o)).0
 
-abbrev Held : List ℕ → State → Type 0
+abbrev Held : List ℕ → WalkState → Type 0
 Held rest s = IsWithin s.mode × (s.rest ≡ rest)
 
-held-by : (rest : List ℕ) (s : State) (m : Move State SegmentItem) → Keeping s m → Held rest s → Keeps segments (Held rest) m
+held-by : (rest : List ℕ) (s : WalkState) (m : Move WalkState SegmentItem) → Keeping s m → Held rest s → Keeps segments (Held rest) m
 held-by rest s Stop f p = tt
 held-by rest s (Pass t) f p = let q = f p.0 in (q.0, q.1 ∙ p.1)
 held-by rest s (Give item t) f p = λ e. let q = f e in (q.1, q.2 ∙ p.1)
 
-held-move : (rest : List ℕ) (s : State) → Held rest s → Keeps segments (Held rest) (segments.move s)
+held-move : (rest : List ℕ) (s : WalkState) → Held rest s → Keeps segments (Held rest) (segments.move s)
 held-move rest s p = held-by rest s (segments.move s) (keeping s.last s.mode s.offset s.rest s.failed) p
 
 phase-within : (m : ParserMode) → IsWithin m → phase_of m ≡ InMedia
@@ -120,46 +120,46 @@ phase-within (Skipping to left) w = absurd w
 phase-within (Within o) w = refl
 
 -- the bytes and the phase
-abbrev Alike : State → State → Type 0
+abbrev Alike : WalkState → WalkState → Type 0
 Alike s t = (t.rest ≡ s.rest) × (phase_of t.mode ≡ phase_of s.mode)
 
-alike-give : (s t : State) (item : SegmentItem) (b : Bool) → segments.runs item ≡ b → run segments s ≡ run_give s item (run segments t) b → Keeping s (Give item t) → Alike s (run segments s).state
-alike-give s t item false e r f = (ap (λ (k : Lookahead State SegmentItem). k.state.rest) r, ap (λ (k : Lookahead State SegmentItem). phase_of k.state.mode) r)
+alike-give : (s t : WalkState) (item : SegmentItem) (b : Bool) → segments.runs item ≡ b → run segments s ≡ run_give s item (run segments t) b → Keeping s (Give item t) → Alike s (run segments s).state
+alike-give s t item false e r f = (ap (λ (k : Lookahead WalkState SegmentItem). k.state.rest) r, ap (λ (k : Lookahead WalkState SegmentItem). phase_of k.state.mode) r)
 alike-give s t item true e r f =
     let q = f e in
     let h = keeps segments is_walk (Held s.rest) (held-move s.rest) t (q.1, q.2) in (
-      ap (λ (k : Lookahead State SegmentItem). k.state.rest) r ∙ h.1,
-      ap (λ (k : Lookahead State SegmentItem). phase_of k.state.mode) r ∙ phase-within (run segments t).state.mode h.0 ∙ sym (phase-within s.mode q.0),
+      ap (λ (k : Lookahead WalkState SegmentItem). k.state.rest) r ∙ h.1,
+      ap (λ (k : Lookahead WalkState SegmentItem). phase_of k.state.mode) r ∙ phase-within (run segments t).state.mode h.0 ∙ sym (phase-within s.mode q.0),
     )
 
-alike-at : (s : State) (m : Move State SegmentItem) → segments.move s ≡ m → IsSettled m → Keeping s m → Alike s (run segments s).state
-alike-at s Stop e d f = let r = run-step segments is_walk s ∙ ap (run_by segments s (run segments)) e in (ap (λ (k : Lookahead State SegmentItem). k.state.rest) r, ap (λ (k : Lookahead State SegmentItem). phase_of k.state.mode) r)
+alike-at : (s : WalkState) (m : Move WalkState SegmentItem) → segments.move s ≡ m → IsSettled m → Keeping s m → Alike s (run segments s).state
+alike-at s Stop e d f = let r = run-step segments is_walk s ∙ ap (run_by segments s (run segments)) e in (ap (λ (k : Lookahead WalkState SegmentItem). k.state.rest) r, ap (λ (k : Lookahead WalkState SegmentItem). phase_of k.state.mode) r)
 alike-at s (Pass t) e d f = absurd d
 alike-at s (Give item t) e d f = alike-give s t item (segments.runs item) refl (run-step segments is_walk s ∙ ap (run_by segments s (run segments)) e) f
 
-alike-run : (s : State) → IsSettled (segments.move s) → Alike s (run segments s).state
+alike-run : (s : WalkState) → IsSettled (segments.move s) → Alike s (run segments s).state
 alike-run s d = alike-at s (segments.move s) refl d (keeping s.last s.mode s.offset s.rest s.failed)
 
-alike-stands : (kept : Lookahead State SegmentItem) (last : Option Presentation) (b : List ℕ) (n : ℕ) → Stands kept last b n → Alike (state_before last b n) kept.state
+alike-stands : (kept : Lookahead WalkState SegmentItem) (last : Option Presentation) (b : List ℕ) (n : ℕ) → Stands kept last b n → Alike (state_before last b n) kept.state
 alike-stands kept last b n h =
-    let s : State = state_before last b n in
+    let s : WalkState = state_before last b n in
     let a = alike-run s (settled-at-state segments is_walk n (start last b)) in
-    (ap (λ (k : Lookahead State SegmentItem). k.state.rest) h.is ∙ a.0, ap (λ (k : Lookahead State SegmentItem). phase_of k.state.mode) h.is ∙ a.1)
+    (ap (λ (k : Lookahead WalkState SegmentItem). k.state.rest) h.is ∙ a.0, ap (λ (k : Lookahead WalkState SegmentItem). phase_of k.state.mode) h.is ∙ a.1)
 
-pub stands-phase : (kept : Lookahead State SegmentItem) (last : Option Presentation) (b : List ℕ) (n : ℕ) → Stands kept last b n → phase_of kept.state.mode ≡ phase_before last b n
+pub stands-phase : (kept : Lookahead WalkState SegmentItem) (last : Option Presentation) (b : List ℕ) (n : ℕ) → Stands kept last b n → phase_of kept.state.mode ≡ phase_before last b n
 stands-phase kept last b n h = (alike-stands kept last b n h).1 ∙ ap (λ (v : ParserView). v.phase) (seen-boxes last b n)
 
-pub stands-held : (kept : Lookahead State SegmentItem) (last : Option Presentation) (b : List ℕ) (n : ℕ) → Stands kept last b n → kept.state.rest ≡ held_before last b n
+pub stands-held : (kept : Lookahead WalkState SegmentItem) (last : Option Presentation) (b : List ℕ) (n : ℕ) → Stands kept last b n → kept.state.rest ≡ held_before last b n
 stands-held kept last b n h = (alike-stands kept last b n h).0 ∙ ap (λ (v : ParserView). v.held) (seen-boxes last b n)
 
 -- the items are those that the boxes tell
-pub stands-item : (kept : Lookahead State SegmentItem) (last : Option Presentation) (b : List ℕ) (n : ℕ) → Stands kept last b n → first_item segments kept ≡ slice_get (Items last b) n
+pub stands-item : (kept : Lookahead WalkState SegmentItem) (last : Option Presentation) (b : List ℕ) (n : ℕ) → Stands kept last b n → first_item segments kept ≡ slice_get (Items last b) n
 stands-item kept last b n h = stands-first segments is_walk kept (start last b) n h ∙ ap (λ items. slice_get items n) (items-boxes last b)
 
-pub stands-ahead : (kept : Lookahead State SegmentItem) (last : Option Presentation) (b : List ℕ) (n i : ℕ) → i < length kept.items → Stands kept last b n → slice_get kept.items i ≡ slice_get (Items last b) (n + i)
+pub stands-ahead : (kept : Lookahead WalkState SegmentItem) (last : Option Presentation) (b : List ℕ) (n i : ℕ) → i < length kept.items → Stands kept last b n → slice_get kept.items i ≡ slice_get (Items last b) (n + i)
 stands-ahead kept last b n i l h = stands-look segments is_walk kept (start last b) n i l h ∙ ap (λ items. slice_get items (n + i)) (items-boxes last b)
 
-pub stands-count : (kept : Lookahead State SegmentItem) (last : Option Presentation) (b : List ℕ) (n : ℕ) → Stands kept last b n → length kept.items ≡ ready_before last b n
+pub stands-count : (kept : Lookahead WalkState SegmentItem) (last : Option Presentation) (b : List ℕ) (n : ℕ) → Stands kept last b n → length kept.items ≡ ready_before last b n
 stands-count kept last b n h = stands-ready segments is_walk kept (start last b) n h ∙ ready-boxes last b n
 
 -- ---- the presentation
@@ -170,23 +170,23 @@ frame-latest last (FrameItem frame offset) e = refl
 frame-latest last SegmentEnd e = refl
 frame-latest last (FaultItem f offset) e = refl
 
-last-by : (last : Option Presentation) (s : State) (m : Move State SegmentItem) → LastAfter s m → s.last ≡ last → Keeps segments (λ t. t.last ≡ last) m
+last-by : (last : Option Presentation) (s : WalkState) (m : Move WalkState SegmentItem) → LastAfter s m → s.last ≡ last → Keeps segments (λ t. t.last ≡ last) m
 last-by last s Stop f p = tt
 last-by last s (Pass t) f p = f ∙ p
 last-by last s (Give item t) f p = λ e. f ∙ frame-latest s.last item e ∙ p
 
-last-run : (s : State) → (run segments s).state.last ≡ s.last
+last-run : (s : WalkState) → (run segments s).state.last ≡ s.last
 last-run s = keeps segments is_walk (λ t. t.last ≡ s.last) (λ t p. last-by s.last t (segments.move t) (last-move t) p) s refl
 
-pub stands-latest : (kept : Lookahead State SegmentItem) (last : Option Presentation) (b : List ℕ) (n : ℕ) → Stands kept last b n → kept.state.last ≡ latest_after_all last (take n (Items last b))
-stands-latest kept last b n h = ap (λ (k : Lookahead State SegmentItem). k.state.last) h.is ∙ last-run (state_before last b n) ∙ state-latest n (start last b) ∙ ap (λ items. latest_after_all last (take n items)) (items-boxes last b)
+pub stands-latest : (kept : Lookahead WalkState SegmentItem) (last : Option Presentation) (b : List ℕ) (n : ℕ) → Stands kept last b n → kept.state.last ≡ latest_after_all last (take n (Items last b))
+stands-latest kept last b n h = ap (λ (k : Lookahead WalkState SegmentItem). k.state.last) h.is ∙ last-run (state_before last b n) ∙ state-latest n (start last b) ∙ ap (λ items. latest_after_all last (take n items)) (items-boxes last b)
 
 -- ---- pieces
 
-pub stands-more : (kept : Lookahead State SegmentItem) (last : Option Presentation) (b c : List ℕ) (n : ℕ) → Stands kept last b n → Stands (fed segments kept c) last (b ++ c) n
+pub stands-more : (kept : Lookahead WalkState SegmentItem) (last : Option Presentation) (b c : List ℕ) (n : ℕ) → Stands kept last b n → Stands (fed segments kept c) last (b ++ c) n
 stands-more kept last b c n h = stands-piece segments is_walk kept (start last b) c n h
 
-pub stands-pieces : (kept : Lookahead State SegmentItem) (last : Option Presentation) (b : List ℕ) (n : ℕ) (cs : List (List ℕ)) → Stands kept last b n → Stands (fed_all segments kept cs) last (b ++ concat cs) n
+pub stands-pieces : (kept : Lookahead WalkState SegmentItem) (last : Option Presentation) (b : List ℕ) (n : ℕ) (cs : List (List ℕ)) → Stands kept last b n → Stands (fed_all segments kept cs) last (b ++ concat cs) n
 stands-pieces kept last b n [] h = rw (append-nil b) h
 stands-pieces kept last b n (c ∷ cs) h =
     subst (λ v. Stands (fed_all segments (fed segments kept c) cs) last v n) (append_assoc b c (concat cs)) (stands-pieces (fed segments kept c) last (b ++ c) n cs (stands-more kept last b c n h))
@@ -211,6 +211,12 @@ pub frames-counted : (m : code.ParserMode) (rest : List ℕ) (offset : ℕ) (tab
 frames-counted (codes.Between o) rest offset tables first ready h = rw h refl
 frames-counted (codes.Skipping to left) rest offset tables first ready h = rw h refl
 frames-counted (codes.Within f) rest offset tables first ready h = frames-length rest offset tables.slots.items first ready (omega (arith, h.taken, h.slots_there))
+
+-- a movie fragment has no more of them
+pub few-ready : (m : code.ParserMode) (tables : Tables) (first ready : ℕ) → IsCountedIn m tables first ready → ready ≤ 2 ^ 20
+few-ready (codes.Between o) tables first ready h = omega (arith, h)
+few-ready (codes.Skipping to left) tables first ready h = omega (arith, h)
+few-ready (codes.Within f) tables first ready h = omega (arith, h.taken, h.slots_there, h.few)
 
 -- ---- the empty string
 
@@ -238,7 +244,7 @@ holds-start last tables h = record {
   };
   emptied = λ e. not-true e;
   readable = h;
-  full = tt;
+  none_empty = tt;
   total = omega arith;
   few = omega arith;
 }
@@ -266,7 +272,7 @@ offer-view last r found tables new_tables old new bytes fed len l b e k =
     let w : pieces_without_last len new ≡ old = ap (λ n. pieces_without_last n new) l ∙ b in
     let p : pushed_last len new ≡ bytes = pushed-is-last bytes old new len l b e in
     let view : List (List ℕ) → List ℕ → SegmentView = λ ps c. record { kept = kept_of last r new_tables (concat ps); pieces = ps; fed = fed; offered = Some c } in
-    let view' : Lookahead State SegmentItem → SegmentView = λ v. record { kept = v; pieces = old; fed = fed; offered = Some bytes } in
+    let view' : Lookahead WalkState SegmentItem → SegmentView = λ v. record { kept = v; pieces = old; fed = fed; offered = Some bytes } in
     ap (λ ps. view ps (pushed_last len new)) w ∙ ap (view old) p ∙ ap view' k
 
 pub offer-holds : (last : Option Presentation) (r found : Progress) (tables new_tables : Tables) (old new : List (List ℕ)) (bytes : List ℕ) (fed len : ℕ) → len ≡ length bytes → pieces_without_last (length bytes) new ≡ old → new ≡ pieces_with bytes old → IsStreamAtRest last (with_tables r tables) old fed → IsWaitingForBytes last r new_tables (concat old) → IsFoundWith last (kept_of last r new_tables (concat old)) (with_tables found new_tables) (concat new) bytes → IsEmptied found (drop found.from (concat new)) → fed + len < 2 ^ 62 → IsStreamWithOffer last (with_tables r new_tables) new fed (record { len = len; progress = found })
@@ -274,7 +280,7 @@ offer-holds last r found tables new_tables old new bytes fed len l b e h rest f 
     let w : pieces_without_last len new ≡ old = ap (λ n. pieces_without_last n new) l ∙ b in
     let p : pushed_last len new ≡ bytes = pushed-is-last bytes old new len l b e in
     record {
-      before = subst (λ ps. IsStreamAtRest last (with_tables r new_tables) ps fed) (sym w) (record { rest = rest; emptied = h.emptied; readable = h.readable; full = h.full; total = h.total; few = h.few });
+      before = subst (λ ps. IsStreamAtRest last (with_tables r new_tables) ps fed) (sym w) (record { rest = rest; emptied = h.emptied; readable = h.readable; none_empty = h.none_empty; total = h.total; few = h.few });
       is_pushed = e ∙ ap (λ c. pieces_with c old) (sym p) ∙ ap (pieces_with (pushed_last len new)) (sym w);
       len = l ∙ ap length (sym p);
       found = subst (λ ps. IsFoundWith last (kept_of last r new_tables (concat ps)) (with_tables found new_tables) (concat new) (pushed_last len new)) (sym w) (subst (λ c. IsFoundWith last (kept_of last r new_tables (concat old)) (with_tables found new_tables) (concat new) c) (sym p) f);
@@ -294,7 +300,7 @@ accept-holds last r s tables input new fed o h rest e f g =
       rest = rest;
       emptied = emptied-as o.progress s (drop o.progress.from (concat input)) (concat new) e f b h.found_emptied;
       readable = h.before.readable;
-      full = subst HasNoEmptyPiece (sym g) (none-without o.progress.from input (subst HasNoEmptyPiece (sym h.is_pushed) (none-pushed (pushed_last o.len input) before h.before.full)));
+      none_empty = subst HasNoEmptyPiece (sym g) (none-without o.progress.from input (subst HasNoEmptyPiece (sym h.is_pushed) (none-pushed (pushed_last o.len input) before h.before.none_empty)));
       total = omega (arith, ap (λ (x : ParserPosition). x.offset) e, ap length b ∙ length-drop o.progress.from (concat input), h.found.total, h.before.total, h.len, ap length z);
       few = h.room;
     }
@@ -302,7 +308,7 @@ accept-holds last r s tables input new fed o h rest e f g =
 pub accept-stands : (last : Option Presentation) (r s : Progress) (tables : Tables) (input new : List (List ℕ)) (fed : ℕ) (o : Offered) (v : SegmentView) → segment_view last (with_tables r tables) input fed (Some o) ≡ v → IsStreamWithOffer last (with_tables r tables) input fed o → kept_of last s tables (concat new) ≡ kept_of last o.progress tables (concat input) → IfSome v.offered (λ bytes. (last' : Option Presentation) (b : List ℕ) (n : ℕ) → Stands v.kept last' b n → Stands (kept_of last s tables (concat new)) last' (b ++ bytes) n)
 accept-stands last r s tables input new fed o v e h k =
     let c = pushed_last o.len input in
-    let kept : Lookahead State SegmentItem = kept_of last r tables (concat (pieces_without_last o.len input)) in
+    let kept : Lookahead WalkState SegmentItem = kept_of last r tables (concat (pieces_without_last o.len input)) in
     let f : (last' : Option Presentation) (b : List ℕ) (n : ℕ) → Stands kept last' b n → Stands (kept_of last s tables (concat new)) last' (b ++ c) n = λ last' b n q. subst (λ v. Stands v last' (b ++ c) n) (sym (k ∙ h.found.same)) (stands-more kept last' b c n q) in
     subst (λ (v : SegmentView). IfSome v.offered (λ bytes. (last' : Option Presentation) (b : List ℕ) (n : ℕ) → Stands v.kept last' b n → Stands (kept_of last s tables (concat new)) last' (b ++ bytes) n)) e f
 
@@ -314,13 +320,13 @@ accept-pieces last r tables input new fed from o v e h z g =
 -- ---- the next item
 
 -- where there is no next item, what is kept stays
-after-none : (items : List SegmentItem) (s : State) (m : Move State SegmentItem) → segments.move s ≡ m → IsRested segments m → first_by items m ≡ None → after_by segments s items ≡ record { items = items; state = s }
+after-none : (items : List SegmentItem) (s : WalkState) (m : Move WalkState SegmentItem) → segments.move s ≡ m → IsRested segments m → first_by items m ≡ None → after_by segments s items ≡ record { items = items; state = s }
 after-none [] s Stop e h q = ap (run_after segments s) e
 after-none [] s (Pass t) e h q = absurd h
 after-none [] s (Give item t) e h q = cc
 after-none (x ∷ items) s m e h q = cc
 
-pub dry-kept : (kept : Lookahead State SegmentItem) (want : ℕ) → Rests kept.state want → first_item segments kept ≡ None → after_first segments kept ≡ kept
+pub dry-kept : (kept : Lookahead WalkState SegmentItem) (want : ℕ) → Rests kept.state want → first_item segments kept ≡ None → after_first segments kept ≡ kept
 dry-kept kept want r q = after-none kept.items kept.state (segments.move kept.state) refl (rested kept.state want r) q
 
 -- and the pieces
@@ -332,7 +338,7 @@ next-holds (Ok x) last new_last r new_r tables new_tables input new fed h rest e
   rest = rest;
   emptied = emptied;
   readable = readable;
-  full = subst HasNoEmptyPiece (sym pieces) (none-without (length (concat input) - length (concat new)) input h.full);
+  none_empty = subst HasNoEmptyPiece (sym pieces) (none-without (length (concat input) - length (concat new)) input h.none_empty);
   total = omega (arith, h.total, total);
   few = h.few;
 }
@@ -353,13 +359,13 @@ next-stands (Err x) last new_last r new_r tables new_tables input new fed v e be
 pub next-dry : {E : Type 0} (result : Result SegmentNext E) (last new_last : Option Presentation) (r new_r : Progress) (tables new_tables : Tables) (input new : List (List ℕ)) (fed : ℕ) (v : SegmentView) → IsStreamAtRest last (with_tables r tables) input fed → segment_view last (with_tables r tables) input fed None ≡ v → IfOk result (λ x. seen x ≡ first_item segments (kept_of last r tables (concat input))) → OnOk result (kept_of new_last new_r new_tables (concat new) ≡ after_first segments (kept_of last r tables (concat input))) → OnOk result (IsWaitingForBytes new_last new_r new_tables (concat new)) → OnOk result (new ≡ last_bytes (length (concat new)) input) → IfOk result (λ x. seen x ≡ None → segment_view new_last (with_tables new_r new_tables) new fed None ≡ v)
 next-dry (Err x) last new_last r new_r tables new_tables input new fed v h e g k rest pieces = tt
 next-dry (Ok x) last new_last r new_r tables new_tables input new fed v h e g k rest pieces = λ z.
-    let old_kept : Lookahead State SegmentItem = kept_of last r tables (concat input) in
-    let new_kept : Lookahead State SegmentItem = kept_of new_last new_r new_tables (concat new) in
+    let old_kept : Lookahead WalkState SegmentItem = kept_of last r tables (concat input) in
+    let new_kept : Lookahead WalkState SegmentItem = kept_of new_last new_r new_tables (concat new) in
     let y : drop r.from (concat input) ≡ concat input = ap (λ i. drop i (concat input)) h.rest.front in
     let y' : drop new_r.from (concat new) ≡ concat new = ap (λ i. drop i (concat new)) rest.front in
     let w : Rests old_kept.state r.want = subst (λ bytes. Rests (state_of last r.position tables bytes) r.want) (sym y) h.rest.rests in
     let same : new_kept ≡ old_kept = k ∙ dry-kept old_kept r.want w (sym g ∙ z) in
-    let bytes : concat new ≡ concat input = sym y' ∙ ap (λ (q : Lookahead State SegmentItem). q.state.rest) same ∙ y in
-    let p : new ≡ input = dry-pieces input new h.full bytes pieces in
-    let view : Lookahead State SegmentItem → List (List ℕ) → SegmentView = λ q ps. record { kept = q; pieces = ps; fed = fed; offered = None } in
+    let bytes : concat new ≡ concat input = sym y' ∙ ap (λ (q : Lookahead WalkState SegmentItem). q.state.rest) same ∙ y in
+    let p : new ≡ input = dry-pieces input new h.none_empty bytes pieces in
+    let view : Lookahead WalkState SegmentItem → List (List ℕ) → SegmentView = λ q ps. record { kept = q; pieces = ps; fed = fed; offered = None } in
     ap (λ q. view q new) same ∙ ap (view old_kept) p ∙ e

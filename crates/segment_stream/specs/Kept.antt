@@ -12,11 +12,11 @@ use Rattle.segment_walk.specs.declared.kinds.DataRange.{DataRange}
 use Rattle.segment_walk.specs.declared.kinds.Fragment.{Fragment}
 use Rattle.segment_walk.specs.declared.kinds.ParserMode.{ParserMode}
 use Rattle.segment_walk.specs.declared.kinds.ParserMode.TheVariants as code
-use Rattle.segment_walk.specs.declared.kinds.Place.TheVariants.{AtBox}
+use Rattle.segment_walk.specs.declared.kinds.WalkPlace.TheVariants.{AtBox}
 use Rattle.segment_walk.specs.Tables.{SegmentItem}
 use Rattle.parser_loop.specs.Items.{InitItem, FrameItem, SegmentEnd, FaultItem}
-use Rattle.segment_walk.specs.Moves.{State, frame_of, is_ready, walked, behind, fail, segments}
-use Rattle.segment_walk.specs.Ranges.{IsAscending, mode_of}
+use Rattle.segment_walk.specs.Moves.{WalkState, frame_of, is_ready, place_offset, state_past, fail, segments}
+use Rattle.segment_walk.specs.Ranges.{AreRangesAscending, mode_of}
 use Rattle.input_chunks.specs.Pieces.{pieces_without_first}
 use Rattle.std.specs.List.{concat, prefix_len}
 use Rattle.segment_stream.specs.declared.progress.ParserPosition.{ParserPosition}
@@ -38,7 +38,7 @@ seen next.SegmentEnd = Some SegmentEnd
 seen (next.Fault f offset) = Some (FaultItem f offset)
 seen next.Dry = None
 
-abbrev pub state_of : Option Presentation → ParserPosition → Tables → List ℕ → State
+abbrev pub state_of : Option Presentation → ParserPosition → Tables → List ℕ → WalkState
 state_of last position tables rest = record {
   last = last;
   mode = mode_of tables.slots.items tables.known.items position.mode;
@@ -58,18 +58,19 @@ frames rest offset slots i (suc n) =
     frame_at rest offset (slice_get slots i) ++ frames rest offset slots (i + 1) n
 
 -- what is kept: the frames that are ready, and the state behind them
-abbrev pub kept_of : Option Presentation → Progress → Tables → List ℕ → Lookahead State SegmentItem
+abbrev pub kept_of : Option Presentation → Progress → Tables → List ℕ
+    → Lookahead WalkState SegmentItem
 kept_of last r tables bytes = record {
   items = frames (drop r.from bytes) r.position.offset tables.slots.items r.first r.ready;
   state = state_of last r.position tables (drop r.from bytes);
 }
 
 -- what is kept once the walk was run on
-abbrev pub run_on : Lookahead State SegmentItem → Lookahead State SegmentItem
-run_on kept = with_items kept.items (run segments kept.state)
+abbrev pub kept_run_on : Lookahead WalkState SegmentItem → Lookahead WalkState SegmentItem
+kept_run_on kept = with_items kept.items (run segments kept.state)
 
 -- the walk stays there until there are `want` bytes
-pub record Rests (s : State) (want : ℕ) : Type 0 where
+pub record Rests (s : WalkState) (want : ℕ) : Type 0 where
   pub still : run segments s ≡ stay_at s
   pub waits : (c : List ℕ) → length s.rest + length c < want
       → run segments (segments.more s c) ≡ stay_at (segments.more s c)
@@ -87,14 +88,15 @@ IsOrdered slot = slot.start ≤ slot.end
 pub record IsCounted (f : Fragment) (tables : Tables) (first ready : ℕ) : Type 0 where
   pub taken : first + ready ≡ f.taken
   pub slots_there : f.taken ≤ length tables.slots.items
+  pub few : length tables.slots.items ≤ 2 ^ 20
   pub ordered : All IsOrdered tables.slots.items
   pub known_there : f.known ≤ length tables.known.items
-  pub ascending : IsAscending (take f.known tables.known.items)
+  pub ascending : AreRangesAscending (take f.known tables.known.items)
   pub ended : (d : DataRange) → 0 < f.known
       → ((slice_index_or (take f.known tables.known.items) (f.known - 1) d).start ≤ f.end)
       × ((slice_index_or (take f.known tables.known.items) (f.known - 1) d).end ≤ f.end)
-  pub behind : f.end ≤ walked f.place
-  pub near : f.end ≤ 2 ^ 27
+  pub behind : f.end ≤ place_offset f.place
+  pub small : f.end ≤ 2 ^ 27
 
 abbrev pub IsCountedIn : ParserMode → Tables → ℕ → ℕ → Type 0
 IsCountedIn (code.Between phase) tables first ready = ready ≡ 0
@@ -128,8 +130,9 @@ IsUnchangedSince (code.Within f) (code.Within g) tables new_tables =
     × (take f.known new_tables.known.items ≡ take f.known tables.known.items)
     × (f.known ≤ g.known)
 
-abbrev pub Keeps : ParserMode → Tables → Tables → Type 0
-Keeps mode tables new_tables = IsUnchangedSince mode mode tables new_tables
+-- the tables stay what a place in this mode sees of them
+abbrev pub AreTablesKept : ParserMode → Tables → Tables → Type 0
+AreTablesKept mode tables new_tables = IsUnchangedSince mode mode tables new_tables
 
 abbrev pub with_tables : Progress → Tables → ProgressWithTables
 with_tables r tables = record { progress = r; tables = tables }
@@ -137,12 +140,13 @@ with_tables r tables = record { progress = r; tables = tables }
 -- from one place to a later one
 pub record GoesOn (last : Option Presentation) (before after : ProgressWithTables)
     (bytes : List ℕ) : Type 0 where
-  pub same : run_on (kept_of last after.progress after.tables bytes)
-      ≡ run_on (kept_of last before.progress before.tables bytes)
+  pub same : kept_run_on (kept_of last after.progress after.tables bytes)
+      ≡ kept_run_on (kept_of last before.progress before.tables bytes)
   pub consistent : IsConsistent after.progress after.tables bytes
-  pub since : IsUnchangedSince before.progress.position.mode after.progress.position.mode before.tables
+  pub since :
+      IsUnchangedSince before.progress.position.mode after.progress.position.mode before.tables
       after.tables
-  pub going : after.progress.position.failed ≡ before.progress.position.failed
+  pub same_failed : after.progress.position.failed ≡ before.progress.position.failed
   pub total : after.progress.position.offset + (length bytes - after.progress.from)
       ≡ before.progress.position.offset + (length bytes - before.progress.from)
   pub size :
@@ -207,7 +211,7 @@ pub record IsWaitingForBytes (last : Option Presentation) (r : Progress) (tables
   pub rests : Rests (state_of last r.position tables bytes) r.want
 
 -- what is found when `more` bytes come, of which `bytes` is the whole input then
-pub record IsFoundWith (last : Option Presentation) (kept : Lookahead State SegmentItem)
+pub record IsFoundWith (last : Option Presentation) (kept : Lookahead WalkState SegmentItem)
     (found : ProgressWithTables) (bytes more : List ℕ) : Type 0 where
   pub same : kept_of last found.progress found.tables bytes ≡ fed segments kept more
   pub consistent : IsConsistent found.progress found.tables bytes
@@ -219,10 +223,10 @@ pub record IsFoundWith (last : Option Presentation) (kept : Lookahead State Segm
       ≤ kept.state.offset + length kept.state.rest + length more
 
 -- the move that gives an item which is no frame
-abbrev pub move_of_pending : State → PendingItem → Move State SegmentItem
+abbrev pub move_of_pending : WalkState → PendingItem → Move WalkState SegmentItem
 move_of_pending s pending.Dry = Stop
-move_of_pending s (pending.Init p len) = Give (InitItem p s.offset) (behind s (Some p) len)
-move_of_pending s (pending.End end) = Give SegmentEnd (behind s s.last end)
+move_of_pending s (pending.Init p len) = Give (InitItem p s.offset) (state_past s (Some p) len)
+move_of_pending s (pending.End end) = Give SegmentEnd (state_past s s.last end)
 move_of_pending s (pending.Fault f at) = fail s f at
 
 -- its bytes are there

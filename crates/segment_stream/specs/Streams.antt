@@ -5,7 +5,7 @@ use Rattle.mse_base.specs.declared.track.Presentation.{Presentation}
 use Rattle.input_chunks.specs.Pieces.{pieces_with, pieces_without_last, HasNoEmptyPiece}
 use Rattle.parser_loop.specs.Walk.{Lookahead}
 use Rattle.parser_loop.specs.Walk as walk
-use Rattle.segment_walk.specs.Moves.{State, segments}
+use Rattle.segment_walk.specs.Moves.{WalkState, segments}
 use Rattle.segment_walk.specs.Tables.{SegmentItem}
 use Rattle.segment_walk.specs.Strings.{start}
 use Rattle.segment_stream.specs.declared.progress.ProgressWithTables.{ProgressWithTables}
@@ -15,14 +15,14 @@ use Rattle.segment_stream.specs.Kept.{IsWaitingForBytes, IsEmptied, IsFoundWith,
 -- A stream: the coded frames that are ready and the state of the walk behind them, the pieces of its input, the
 -- length of the string since the last reset, and the bytes that are offered, if there are any.
 pub record SegmentView : Type 0 where
-  pub kept : Lookahead State SegmentItem
+  pub kept : Lookahead WalkState SegmentItem
   pub pieces : List (List ℕ)
   pub fed : ℕ
   pub offered : Option (List ℕ)
 
 -- What is kept stands for the string `b`, read with the presentation `last` from before, of whose items n were given.
 -- Many strings may belong to one stream.
-abbrev pub Stands : Lookahead State SegmentItem → Option Presentation → List ℕ → ℕ → Type 0
+abbrev pub Stands : Lookahead WalkState SegmentItem → Option Presentation → List ℕ → ℕ → Type 0
 Stands kept last b n = walk.Stands segments kept (start last b) n
 
 -- ---- what the fields are to this
@@ -52,7 +52,7 @@ pub record IsStreamAtRest (last : Option Presentation) (place : ProgressWithTabl
   pub rest : IsWaitingForBytes last place.progress place.tables (concat input)
   pub emptied : IsEmptied place.progress (concat input)
   pub readable : IsLast last
-  pub full : HasNoEmptyPiece input
+  pub none_empty : HasNoEmptyPiece input
   pub total : place.progress.position.offset + length (concat input) ≤ fed
   pub few : fed < 2 ^ 62
 

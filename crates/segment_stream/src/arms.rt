@@ -4,7 +4,7 @@ ghost use Rattle.mse_base.specs.Presentation.{IsPresentation};
 ghost use Rattle.mse_base.specs.declared.track.Presentation.{Presentation};
 ghost use Rattle.parser_loop.specs.Walk.{run, first_item, after_first};
 ghost use Rattle.input_chunks.specs.Pieces.{pieces_without_first, HasNoEmptyPiece};
-ghost use Rattle.segment_walk.specs.Moves.{segments, Between, behind};
+ghost use Rattle.segment_walk.specs.Moves.{segments, Between};
 ghost use Rattle.parser_loop.specs.Items.{FaultItem, InitItem, SegmentEnd};
 ghost use Rattle.mse_base.specs.declared.frame.Phase.TheVariants.{Waiting};
 ghost use Rattle.segment_stream.specs.Kept.{IsConsistent, IsWaitingForBytes, IsEmptied, HasPendingBytes, IsLast, Rests, kept_of, last_bytes, seen, state_of};
@@ -75,7 +75,7 @@ fn leave_on(
         o.progress.from (concat input.now))) o.progress.want) }
     ensures total { IfOk result (λ o. o.progress.position.offset + (length (concat input.now) -
         o.progress.from) ≡ offset + length (concat input.now)) }
-    ensures going { IfOk result (λ o. o.progress.position.failed ≡ false) }
+    ensures unfailed { IfOk result (λ o. o.progress.position.failed ≡ false) }
 {
     let mut tables = Tables {
         slots: Vec::new(alloc),
@@ -147,7 +147,7 @@ fn init_on(
     ensures rest { OnOk result (IsWaitingForBytes (Some presentation) progress.new tables.new
         (concat
         input.new)) }
-    ensures going { OnOk result (progress.new.position.failed ≡ false) }
+    ensures unfailed { OnOk result (progress.new.position.failed ≡ false) }
     ensures total { OnOk result (progress.new.position.offset + length (concat input.new) ≡
         progress.old.position.offset + length (concat input.old)) }
     ensures pieces { OnOk result (input.new ≡ last_bytes (length (concat input.new)) input.old) }
@@ -188,7 +188,7 @@ fn end_on(
         })) }
     ensures rest { OnOk result (IsWaitingForBytes last.now progress.new tables.new
         (concat input.new)) }
-    ensures going { OnOk result (progress.new.position.failed ≡ false) }
+    ensures unfailed { OnOk result (progress.new.position.failed ≡ false) }
     ensures total { OnOk result (progress.new.position.offset + length (concat input.new) ≡
         progress.old.position.offset + length (concat input.old)) }
     ensures pieces { OnOk result (input.new ≡ last_bytes (length (concat input.new)) input.old) }
@@ -238,7 +238,7 @@ pub(crate) fn next_on(
     requires rest { IsWaitingForBytes last.old progress.old tables.old (concat input.old) }
     requires emptied { IsEmptied progress.old (concat input.old) }
     requires readable { IsLast last.old }
-    requires full { HasNoEmptyPiece input.old }
+    requires none_empty { HasNoEmptyPiece input.old }
     ensures item { IfOk result (λ x. seen x ≡ first_item segments (kept_of last.old progress.old
         tables.old (concat input.old))) }
     ensures kept { OnOk result (kept_of last.new progress.new tables.new (concat input.new) ≡

@@ -4,13 +4,13 @@ ghost use Rattle.mse_base.specs.declared.track.Presentation.{Presentation};
 ghost use Rattle.segment_walk.specs.Moves.{step_of, segments};
 ghost use Rattle.segment_walk.specs.Ranges.{mode_of, SeesAscending};
 ghost use Rattle.segment_stream.specs.declared.progress.Tables.{Tables};
-ghost use Rattle.segment_stream.specs.Kept.{kept_of, run_on as runs_on, IsConsistent, IsCounted, IsActive, IsLast, IsMoveResult, IsPlan, Keeps, IsOrdered, Rests, IsUnchangedSince, fragment_in, ready_behind, state_of, in_mode, with_tables, with_taken};
+ghost use Rattle.segment_stream.specs.Kept.{kept_of, kept_run_on, IsConsistent, IsCounted, IsActive, IsLast, IsMoveResult, IsPlan, AreTablesKept, IsOrdered, Rests, IsUnchangedSince, fragment_in, ready_behind, state_of, in_mode, with_tables, with_taken};
 
 use crate::progress::{MoveResult, ParserPosition, Progress, Tables};
 use bmff_fragment::{MoofError, Slot, read_moof};
 use input_chunks::Chunks;
 use mse_base::{OutOfMemory, Phase, Presentation};
-use segment_walk::{BoxStep, DataRange, Fragment, ParserMode, Place, count_ready, step};
+use segment_walk::{BoxStep, DataRange, Fragment, ParserMode, WalkPlace, count_ready, step};
 use std::alloc::Global;
 
 /// More bytes change nothing.
@@ -19,10 +19,10 @@ pub(crate) const NEVER: u64 = u64::MAX;
 /// Passes over the bytes of a box that are there.
 fn pass_over(at: Progress, to: Phase, len_left: u64, input: &Chunks) -> MoveResult
     requires inside { at.from ≤ length (concat input.now) }
-    requires idle { at.ready ≡ 0 }
+    requires none_ready { at.ready ≡ 0 }
     requires small { at.position.offset + (length (concat input.now) - at.from) < 2 ^ 62 }
     requires skipping { at.position.mode ≡ ParserMode.Skipping to len_left }
-    requires going { at.position.failed ≡ false }
+    requires unfailed { at.position.failed ≡ false }
     ensures { (last : Option Presentation) (tables : Tables) → IsMoveResult last (with_tables at
         tables) tables (concat input.now) result }
 {
@@ -71,6 +71,7 @@ fn plan(
     requires readable { IsLast last.now }
     ensures plan { IfOk result (IsPlan last.now (take len (drop from (concat input.now)))) }
     ensures ordered { IfOk result (λ found. IfSome found (λ slots. All IsOrdered slots.items)) }
+    ensures few { IfOk result (λ found. IfSome found (λ slots. length slots.items ≤ 2 ^ 20)) }
 {
     let Some(last) = last else {
         return Ok(None);
@@ -85,13 +86,13 @@ fn plan(
 
 /// A movie fragment whose first box behind the moof stands at a place: none of its slots was taken.
 fn new_fragment(place: u64) -> Fragment
-    ensures { result ≡ record { taken = 0; known = 0; end = 0; place = Place.AtBox place } }
+    ensures { result ≡ record { taken = 0; known = 0; end = 0; place = WalkPlace.AtBox place } }
 {
     Fragment {
         taken: 0,
         known: 0,
         end: 0,
-        place: Place::AtBox(place),
+        place: WalkPlace::AtBox(place),
     }
 }
 
@@ -149,7 +150,7 @@ fn behind_moof(at: Progress, len: u64) -> Progress
       taken = 0;
       known = 0;
       end = 0;
-      place = Place.AtBox len;
+      place = WalkPlace.AtBox len;
     }))) { first = 0; ready = 0 } }
 {
     let next = in_mode(at, ParserMode::Within(new_fragment(len)));
@@ -162,10 +163,11 @@ fn behind_moof(at: Progress, len: u64) -> Progress
 
 /// The same place, where the next box of the open movie fragment stands at `place`.
 fn before_box(at: Progress, fragment: Fragment, place: u64) -> Progress
-    ensures { result ≡ in_mode at (ParserMode.Within (record fragment { place = Place.AtBox place })) }
+    ensures { result ≡ in_mode at
+        (ParserMode.Within (record fragment { place = WalkPlace.AtBox place })) }
 {
     let fragment = Fragment {
-        place: Place::AtBox(place),
+        place: WalkPlace::AtBox(place),
         ..fragment
     };
     in_mode(at, ParserMode::Within(fragment))
@@ -204,11 +206,11 @@ fn act_on(
 ) -> Result<MoveResult, OutOfMemory>
     requires consistent { IsConsistent at tables.old (concat input.now) }
     requires readable { IsLast last.now }
-    requires going { at.position.failed ≡ false }
+    requires unfailed { at.position.failed ≡ false }
     requires active { IsActive at.position.mode }
     ensures ok { IfOk result (IsMoveResult last.now (with_tables at tables.old) tables.new (concat
         input.now)) }
-    ensures err { OnErr result (Keeps at.position.mode tables.old tables.new) }
+    ensures err { OnErr result (AreTablesKept at.position.mode tables.old tables.new) }
 {
     let open = fragment(at.position.mode);
     match next_step(last, at, tables, input) {
@@ -231,7 +233,7 @@ fn act_on(
             let fragment = Fragment {
                 known: open.known + 1,
                 end,
-                place: Place::InData(end),
+                place: WalkPlace::InData(end),
                 ..open
             };
             Ok(MoveResult::Go(in_mode(at, ParserMode::Within(fragment))))
@@ -257,7 +259,7 @@ fn move_on(
     requires readable { IsLast last.now }
     ensures ok { IfOk result (IsMoveResult last.now (with_tables at tables.old) tables.new (concat
         input.now)) }
-    ensures err { OnErr result (Keeps at.position.mode tables.old tables.new) }
+    ensures err { OnErr result (AreTablesKept at.position.mode tables.old tables.new) }
 {
     if at.position.failed {
         return Ok(MoveResult::Rest(NEVER));
@@ -279,7 +281,7 @@ pub(crate) fn run_on(
 ) -> Result<Progress, OutOfMemory>
     requires consistent { IsConsistent start tables.old (concat input.now) }
     requires readable { IsLast last.now }
-    ensures same { IfOk result (λ r. kept_of last.now r tables.new (concat input.now) ≡ runs_on
+    ensures same { IfOk result (λ r. kept_of last.now r tables.new (concat input.now) ≡ kept_run_on
         (kept_of last.now start tables.old (concat input.now))) }
     ensures consistent { IfOk result (λ r. IsConsistent r tables.new (concat input.now)) }
     ensures since { IfOk result (λ r. IsUnchangedSince start.position.mode r.position.mode
@@ -287,10 +289,10 @@ pub(crate) fn run_on(
         tables.new) }
     ensures total { IfOk result (λ r. r.position.offset + (length (concat input.now) - r.from) ≡
         start.position.offset + (length (concat input.now) - start.from)) }
-    ensures going { IfOk result (λ r. r.position.failed ≡ start.position.failed) }
+    ensures same_failed { IfOk result (λ r. r.position.failed ≡ start.position.failed) }
     ensures rests { IfOk result (λ r. Rests (state_of last.now r.position tables.new (drop r.from
         (concat input.now))) r.want) }
-    ensures err { OnErr result (Keeps start.position.mode tables.old tables.new) }
+    ensures err { OnErr result (AreTablesKept start.position.mode tables.old tables.new) }
 {
     let mut at = start;
     'moves: loop {

@@ -3,7 +3,7 @@ ghost use Rattle.std.specs.List.{concat};
 ghost use Rattle.mse_base.specs.declared.track.Presentation.{Presentation};
 ghost use Rattle.input_chunks.specs.Pieces.{pieces_with, pieces_without_last, pieces_without_first};
 ghost use Rattle.segment_stream.specs.declared.progress.Tables.{Tables};
-ghost use Rattle.segment_stream.specs.Kept.{IsConsistent, IsWaitingForBytes, IsEmptied, IsFoundWith, IsLast, Keeps, Rests, kept_of, state_of, with_tables};
+ghost use Rattle.segment_stream.specs.Kept.{IsConsistent, IsWaitingForBytes, IsEmptied, IsFoundWith, IsLast, Rests, kept_of, state_of, with_tables};
 
 use crate::moves::{NEVER, run_on};
 use crate::progress::{Progress, Tables};

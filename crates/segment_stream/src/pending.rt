@@ -2,7 +2,7 @@ ghost use Rattle.std.specs.Prelude.{◌≡◌, ℕ, ◌-◌, is_some, drop, slic
 ghost use Rattle.std.specs.List.{concat};
 ghost use Rattle.mse_base.specs.declared.track.Presentation.{Presentation};
 ghost use Rattle.parser_loop.specs.Walk.{item_of};
-ghost use Rattle.segment_walk.specs.Moves.{State, segments, step_of};
+ghost use Rattle.segment_walk.specs.Moves.{WalkState, segments, step_of};
 ghost use Rattle.segment_walk.specs.Ranges.{mode_of};
 ghost use Rattle.segment_walk.specs.declared.kinds.BoxStep.TheVariants.{ReadInit, ReadMoof};
 ghost use Rattle.segment_stream.specs.Kept.{IsConsistent, IsWaitingForBytes, HasPendingBytes, IsLast, IsActive, move_of_pending, kept_of, seen, skips, state_of};
@@ -74,7 +74,7 @@ fn pending_init(
     len: u64,
 ) -> Result<PendingItem, OutOfMemory>
     requires rest { IsWaitingForBytes last.now progress.now tables.now (concat input.now) }
-    requires going { progress.now.position.failed ≡ false }
+    requires unfailed { progress.now.position.failed ≡ false }
     requires active { IsActive progress.now.position.mode }
     requires step { ReadInit len ≡ step_of (is_some last.now) (concat input.now) (mode_of
         tables.now.slots.items tables.now.known.items progress.now.position.mode) }
@@ -102,7 +102,7 @@ fn pending_moof(
 ) -> Result<PendingItem, OutOfMemory>
     requires rest { IsWaitingForBytes last.now progress.now tables.now (concat input.now) }
     requires readable { IsLast last.now }
-    requires going { progress.now.position.failed ≡ false }
+    requires unfailed { progress.now.position.failed ≡ false }
     requires active { IsActive progress.now.position.mode }
     requires step { ReadMoof len ≡ step_of (is_some last.now) (concat input.now) (mode_of
         tables.now.slots.items tables.now.known.items progress.now.position.mode) }
@@ -166,13 +166,14 @@ pub(crate) fn pending_item(
     }
 }
 
-/// What the stream shows of a front at an offset.
-pub(crate) fn shown(front: PendingItem, offset: u64) -> SegmentNext
-    requires small { (at : ℕ) (f : StreamFault) → front ≡ PendingItem.Fault f at → offset + at < 2 ^
-        64 }
-    ensures { (s : State) → s.offset ≡ offset → seen result ≡ item_of (move_of_pending s front) }
+/// What the stream gives for an item that stands next, at an offset.
+pub(crate) fn next_of(pending: PendingItem, offset: u64) -> SegmentNext
+    requires small { (at : ℕ) (f : StreamFault) → pending ≡ PendingItem.Fault f at
+        → offset + at < 2 ^ 64 }
+    ensures { (s : WalkState) → s.offset ≡ offset
+        → seen result ≡ item_of (move_of_pending s pending) }
 {
-    match front {
+    match pending {
         PendingItem::Dry => SegmentNext::Dry,
         PendingItem::Init(presentation, _) => SegmentNext::Init(presentation, offset),
         PendingItem::End(_) => SegmentNext::SegmentEnd,

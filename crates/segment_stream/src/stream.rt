@@ -14,7 +14,7 @@ ghost use Rattle.segment_stream.specs.Kept.{progress_at_start};
 use crate::arms::next_on;
 use crate::next::SegmentNext;
 use crate::offers::{accept_on, offer_on};
-use crate::pending::{look_frame, pending_item, shown};
+use crate::pending::{look_frame, next_of, pending_item};
 use crate::progress::{ParserPosition, Progress, Tables};
 use input_chunks::Chunks;
 use mse_base::{Bytes, OutOfMemory, Phase, Presentation};
@@ -108,7 +108,7 @@ impl Stream {
         ensures last { result.kept.state.last ≡ None }
         ensures pieces { result.pieces ≡ [] }
         ensures fed { result.fed ≡ 0 }
-        ensures idle { result.offered ≡ None }
+        ensures none_offered { result.offered ≡ None }
     {
         Stream {
             alloc,
@@ -137,7 +137,7 @@ impl Stream {
 
     /// Takes all memory that a feed of these bytes needs, and leaves the string; also where it finds none.
     pub fn offer(&mut self, bytes: &[u8]) -> Result<(), OutOfMemory>
-        requires idle { self.old.offered ≡ None }
+        requires none_offered { self.old.offered ≡ None }
         requires room { self.old.fed + length bytes.now < 2 ^ 62 }
         ensures ok { OnOk result (self.new ≡ record {
           kept = self.old.kept;
@@ -153,7 +153,7 @@ impl Stream {
 
     /// As `offer` of the same bytes, whose memory the input has where they become a piece of their own.
     pub fn offer_bytes(&mut self, bytes: Bytes) -> Result<(), OutOfMemory>
-        requires idle { self.old.offered ≡ None }
+        requires none_offered { self.old.offered ≡ None }
         requires room { self.old.fed + length bytes < 2 ^ 62 }
         ensures ok { OnOk result (self.new ≡ record {
           kept = self.old.kept;
@@ -186,7 +186,7 @@ impl Stream {
             self.new.kept.state.rest) (pieces_with bytes self.old.pieces)) }
         ensures fed { IfSome self.old.offered
             (λ bytes. self.new.fed ≡ self.old.fed + length bytes) }
-        ensures idle { self.new.offered ≡ None }
+        ensures none_offered { self.new.offered ≡ None }
     {
         let Some(offer) = self.offered else {
             return;
@@ -215,7 +215,7 @@ impl Stream {
 
     /// Appends bytes to the string. An `Err` changes nothing.
     pub fn feed(&mut self, bytes: &[u8]) -> Result<(), OutOfMemory>
-        requires idle { self.old.offered ≡ None }
+        requires none_offered { self.old.offered ≡ None }
         requires room { self.old.fed + length bytes.now < 2 ^ 62 }
         ensures stands { OnOk result ((last : Option Presentation) (b : List ℕ) (n : ℕ) → Stands
             self.old.kept last b n → Stands self.new.kept last (b ++ bytes.now) n) }
@@ -223,7 +223,7 @@ impl Stream {
         ensures pieces { OnOk result (self.new.pieces ≡ last_bytes (length self.new.kept.state.rest)
             (pieces_with bytes.now self.old.pieces)) }
         ensures fed { OnOk result (self.new.fed ≡ self.old.fed + length bytes.now) }
-        ensures idle { self.new.offered ≡ None }
+        ensures none_offered { self.new.offered ≡ None }
         ensures err { OnErr result (self.new ≡ self.old) }
     {
         self.offer(bytes)?;
@@ -234,7 +234,7 @@ impl Stream {
     /// The item that stands `i` places after the next one, or `Dry` exactly where the string gives none.
     /// Nothing changes.
     pub fn look(&self, i: usize) -> Result<SegmentNext, OutOfMemory>
-        requires idle { self.now.offered ≡ None }
+        requires none_offered { self.now.offered ≡ None }
         requires ready { (i ≡ 0) ⊎ (i < length self.now.kept.items) }
         ensures { (last : Option Presentation) (b : List ℕ) (n : ℕ) → Stands self.now.kept last b n
             → IfOk result (λ next. seen next ≡ slice_get (Items last b) (n + i)) }
@@ -242,14 +242,14 @@ impl Stream {
         if i < self.progress.ready {
             return look_frame(&self.progress, &self.tables, &self.input, i);
         }
-        let front = pending_item(
+        let pending = pending_item(
             self.alloc,
             &self.last,
             &self.progress,
             &self.tables,
             &self.input,
         )?;
-        Ok(shown(front, self.progress.position.offset))
+        Ok(next_of(pending, self.progress.position.offset))
     }
 
     /// The next item, or `Dry` exactly where the string gives none; then nothing changes. After a fault the
@@ -266,7 +266,7 @@ impl Stream {
         ensures pieces { OnOk result (self.new.pieces ≡ last_bytes (length self.new.kept.state.rest)
             self.old.pieces) }
         ensures fed { OnOk result (self.new.fed ≡ self.old.fed) }
-        ensures idle { self.new.offered ≡ None }
+        ensures none_offered { self.new.offered ≡ None }
         ensures dry { IfOk result (λ next. seen next ≡ None → self.new ≡ self.old) }
         ensures err { OnErr result (self.new ≡ self.old) }
     {
@@ -289,12 +289,14 @@ impl Stream {
         phase_in(self.progress.position.mode)
     }
 
-    /// How many of the next items are coded frames, up to the first that is none.
+    /// How many of the next items are coded frames, up to the first that is none: at most `2^20`, since a moof
+    /// has no more samples.
     pub fn ready_frames(&self) -> usize
         requires { self.now.offered ≡ None }
         ensures kept { result ≡ length self.now.kept.items }
         ensures ready { (last : Option Presentation) (b : List ℕ) (n : ℕ) → Stands self.now.kept
             last b n → result ≡ ready_before last b n }
+        ensures few { result ≤ 2 ^ 20 }
     {
         self.progress.ready
     }
@@ -319,7 +321,7 @@ impl Stream {
         ensures last { self.new.kept.state.last ≡ self.old.kept.state.last }
         ensures pieces { self.new.pieces ≡ [] }
         ensures fed { self.new.fed ≡ 0 }
-        ensures idle { self.new.offered ≡ None }
+        ensures none_offered { self.new.offered ≡ None }
     {
         restart(&mut self.progress, &mut self.input);
         self.fed = 0;
@@ -332,7 +334,7 @@ impl Stream {
         ensures last { self.new.kept.state.last ≡ None }
         ensures pieces { self.new.pieces ≡ [] }
         ensures fed { self.new.fed ≡ 0 }
-        ensures idle { self.new.offered ≡ None }
+        ensures none_offered { self.new.offered ≡ None }
     {
         restart(&mut self.progress, &mut self.input);
         self.last = None;

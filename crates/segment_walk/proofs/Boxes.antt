@@ -19,14 +19,14 @@ use Rattle.segment_walk.specs.declared.kinds.StreamFault.TheVariants as fault
 use Rattle.segment_walk.specs.declared.kinds.TopLevelBox.{TopLevelBox}
 use Rattle.segment_walk.specs.declared.kinds.TopLevelBox.TheVariants.{FileType, SegmentType, Movie, MovieFragment, MediaData, Other}
 use Rattle.mse_base.specs.declared.frame.Phase.{Phase}
-use Rattle.segment_walk.specs.declared.kinds.Place.{Place}
-use Rattle.segment_walk.specs.declared.kinds.Place.TheVariants.{AtBox, InData}
+use Rattle.segment_walk.specs.declared.kinds.WalkPlace.{WalkPlace}
+use Rattle.segment_walk.specs.declared.kinds.WalkPlace.TheVariants.{AtBox, InData}
 use Rattle.segment_walk.specs.declared.kinds.DataRange.{DataRange}
 use Rattle.segment_walk.specs.declared.kinds.BoxStep.{BoxStep}
 use Rattle.segment_walk.specs.declared.kinds.BoxStep.TheVariants as step
 use Rattle.segment_walk.specs.Tables.{BoxUse, PassOver, ReadMovie, ReadFragment, box_use, box_type, size_fault, greatest_size}
 use Rattle.parser_loop.specs.Items.{InitItem, FrameItem, SegmentEnd, FaultItem}
-use Rattle.segment_walk.specs.Moves.{Open, Between, Skipping, Within, State, once, place_fault, judge_between, box_between, judge_within, box_within, place_step, lies_in, slot_step, step_of, fail, initialized, opened, act, frame_of, segments}
+use Rattle.segment_walk.specs.Moves.{Open, Between, Skipping, Within, WalkState, once, place_fault, judge_between, box_between, judge_within, box_within, place_step, lies_in, slot_step, step_of, fail, move_of_init, move_of_slots, act, frame_of, segments}
 use Rattle.segment_walk.specs.Strings.{start, walk_items, walk_ready, phase_of, state_before}
 use Rattle.parser_loop.specs.Items.{IsPrefix, latest_after_all, leading_frames}
 use Rattle.parser_loop.proofs.Walks.{prefix}
@@ -38,13 +38,13 @@ use Rattle.segment_walk.specs.Segments.{SegmentParse, Onwards, OpenFragment, Top
 use Rattle.segment_walk.proofs.WalkLaws.{is_walk, going, once-short, once-there}
 
 -- what is told of a state of the walk
-abbrev pub see : State → ParserView
+abbrev pub see : WalkState → ParserView
 see s = record { phase = phase_of s.mode; latest = s.last; held = s.rest }
 
-abbrev its : State → SegmentParse
+abbrev its : WalkState → SegmentParse
 its s = parse_from segments see s
 
-abbrev done : State → BoxStep → SegmentParse
+abbrev done : WalkState → BoxStep → SegmentParse
 done s st = parse_by see s its (act s st)
 
 -- ---- tests
@@ -70,7 +70,7 @@ leb-shift : (m x y : ℕ) → leb (m + x) (m + y) ≡ leb x y
 leb-shift m x y = leb-by x y (leb x y) refl m
 
 -- bytes that are awaited come in the string
-once-same : (b : List ℕ) (m len end : ℕ) (s : State) (st : BoxStep) (items : SegmentParse) → m ≤ length b → end ≡ m + len → (end ≤ length b → items ≡ done s st) → parse_once_there b end (see s) items ≡ done s (once (length (drop m b)) len st)
+once-same : (b : List ℕ) (m len end : ℕ) (s : WalkState) (st : BoxStep) (items : SegmentParse) → m ≤ length b → end ≡ m + len → (end ≤ length b → items ≡ done s st) → parse_once_there b end (see s) items ≡ done s (once (length (drop m b)) len st)
 once-same b m len end s st items l e f =
     elim (cases_lt (length b) end) as (λ _. parse_once_there b end (see s) items ≡ done s (once (length (drop m b)) len st)) [
       | inl h ↦ let k : length (drop m b) < len = omega (arith, length-drop m b) in missing b end (see s) items h ∙ sym (ap (done s) (once-short (length (drop m b)) len st k))
@@ -79,9 +79,9 @@ once-same b m len end s st items l e f =
 
 -- ---- single moves
 
-fail-items : (s : State) (f : StreamFault) (at k : ℕ) → k ≡ s.offset + at → parse_of_fault (see s) f k ≡ parse_by see s its (fail s f at)
+fail-items : (s : WalkState) (f : StreamFault) (at k : ℕ) → k ≡ s.offset + at → parse_of_fault (see s) f k ≡ parse_by see s its (fail s f at)
 fail-items s f at k e =
-    let t : State = record { last = s.last; mode = s.mode; offset = s.offset; rest = []; failed = true } in
+    let t : WalkState = record { last = s.last; mode = s.mode; offset = s.offset; rest = []; failed = true } in
     sym (ap (λ items. ItemThen (see s) (FaultItem f (s.offset + at)) items) (parse-step segments see is_walk t) ∙ ap (λ i. ItemThen (see s) (FaultItem f i) (NoItem (view_without_bytes (phase_of s.mode) s.last))) (sym e))
 
 skip-there : (last : Option Presentation) (to : Phase) (left offset : ℕ) (rest : List ℕ) → left ≤ length rest → its (going last (Skipping to left) offset rest) ≡ its (going last (Between to) (offset + left) (drop left rest))
@@ -111,7 +111,7 @@ shift m (k ∷ ks) = (record { start = m + k.start; end = m + k.end }) ∷ shift
 abbrev fragment : ℕ → List Slot → List DataRange → ℕ → OpenFragment
 fragment m left known end = record { moof = m; slots = left; payloads = shift m known; end = m + end }
 
-abbrev open_with : List Slot → ℕ → List DataRange → ℕ → Place → Open
+abbrev open_with : List Slot → ℕ → List DataRange → ℕ → WalkPlace → Open
 open_with slots taken known end place = record { slots = slots; taken = taken; known = known; end = end; place = place }
 
 -- the next slot waits for a further mdat
@@ -144,7 +144,7 @@ abbrev behind : BoxPlace → Onwards
 behind w = parse_of_boxes w.boxes w.string
 
 -- before a box where no movie fragment is open
-abbrev before_box : BoxPlace → Option Presentation → Phase → State
+abbrev before_box : BoxPlace → Option Presentation → Phase → WalkState
 before_box w last phase = going last (Between phase) w.at (drop w.at w.string)
 
 out-skip : (w : BoxPlace) (last : Option Presentation) (phase to : Phase) → Here w → parse_once_there w.string (w.at + w.len) (view_without_bytes to last) (behind w last (NoFragment to) (w.at + w.len)) ≡ done (before_box w last phase) (step.Skip to w.len)
@@ -169,7 +169,7 @@ box_of kind at start len = record { kind = kind; at = at; start = at + start; en
 abbrev box_at : BoxPlace → TopLevelBox → TopBox
 box_at w kind = box_of kind w.at w.head w.len
 
-out-init : (w : BoxPlace) (last : Option Presentation) (phase : Phase) (kind : TopLevelBox) (r : Result Presentation InitFault) → Here w → w.at + w.len ≤ length w.string → parse_of_moov (behind w) (see (before_box w last phase)) (box_at w kind) r ≡ parse_by see (before_box w last phase) its (initialized (before_box w last phase) w.len r)
+out-init : (w : BoxPlace) (last : Option Presentation) (phase : Phase) (kind : TopLevelBox) (r : Result Presentation InitFault) → Here w → w.at + w.len ≤ length w.string → parse_of_moov (behind w) (see (before_box w last phase)) (box_at w kind) r ≡ parse_by see (before_box w last phase) its (move_of_init (before_box w last phase) w.len r)
 out-init w last phase kind (Ok p) i h =
     ap (λ items. ItemThen (see (before_box w last phase)) (InitItem p w.at) items) (i.out (Some p) Waiting (w.at + w.len) h (omega (arith, i.size, i.more)) ∙ ap (λ rest. its (going (Some p) (Between Waiting) (w.at + w.len) rest)) (sym (drop-drop w.len w.at w.string)))
 out-init w last phase kind (Err f) i h = fail-items (before_box w last phase) (fault.Init f) 0 w.at (omega arith)
@@ -178,7 +178,7 @@ awaits-none : (slots : List Slot) → Awaits [] 0 slots
 awaits-none [] = tt
 awaits-none (s ∷ slots) = (refl, let h : 0 ≤ s.start = omega arith in grind (arith, nat_tests))
 
-out-opened : (w : BoxPlace) (last : Option Presentation) (phase : Phase) (kind : TopLevelBox) (r : Result (List Slot) MoofFault) → Here w → w.at + w.len ≤ length w.string → parse_of_moof (behind w) (see (before_box w last phase)) (box_at w kind) r ≡ parse_by see (before_box w last phase) its (opened (before_box w last phase) w.len r)
+out-opened : (w : BoxPlace) (last : Option Presentation) (phase : Phase) (kind : TopLevelBox) (r : Result (List Slot) MoofFault) → Here w → w.at + w.len ≤ length w.string → parse_of_moof (behind w) (see (before_box w last phase)) (box_at w kind) r ≡ parse_by see (before_box w last phase) its (move_of_slots (before_box w last phase) w.len r)
 out-opened w last phase kind (Ok slots) i h =
     let at = w.at in
     let e : at ≡ at + 0 = omega arith in
@@ -187,7 +187,7 @@ out-opened w last phase kind (Ok slots) i h =
 out-opened w last phase kind (Err f) i h = fail-items (before_box w last phase) (fault.Moof f) 0 w.at (omega arith)
 
 -- what the use of a box gives, and the step, in a state of the walk
-abbrev Used : BoxPlace → TopLevelBox → State → BoxUse → BoxStep → Type 0
+abbrev Used : BoxPlace → TopLevelBox → WalkState → BoxUse → BoxStep → Type 0
 Used w kind s usage st = parse_of_use (behind w) w.string (see s) (box_at w kind) usage ≡ done s st
 
 out-moov : (w : BoxPlace) (last : Option Presentation) (phase : Phase) (kind : TopLevelBox) → Here w → Used w kind (before_box w last phase) ReadMovie (once (length (drop w.at w.string)) w.len (step.ReadInit w.len))
@@ -200,7 +200,7 @@ out-moof w p phase kind i =
     once-same w.string w.at w.len (w.at + w.len) (before_box w (Some p) phase) (step.ReadMoof w.len) _ i.begins refl
     (λ h. ap (λ moof. parse_of_moof (behind w) (see (before_box w (Some p) phase)) (box_at w kind) (plan_of p.tracks moof)) (sliced w.string w.at w.len) ∙ out-opened w (Some p) phase kind (plan_of p.tracks (take w.len (drop w.at w.string))) i h)
 
-if-same : (c d : Bool) (x y : SegmentParse) (s : State) (st t : BoxStep) → c ≡ d → x ≡ done s st → y ≡ done s t → cond c x y ≡ done s (cond d st t)
+if-same : (c d : Bool) (x y : SegmentParse) (s : WalkState) (st t : BoxStep) → c ≡ d → x ≡ done s st → y ≡ done s t → cond c x y ≡ done s (cond d st t)
 if-same c true x y s st t e p q = ap (λ c. cond c x y) e ∙ p
 if-same c false x y s st t e p q = ap (λ c. cond c x y) e ∙ q
 
@@ -292,7 +292,7 @@ in-step : (last : Option Presentation) (o : Open) (m : ℕ) (rest : List ℕ) �
 unfolding step_of
 in-step last o m rest = parse-step segments see is_walk (going last (Within o) m rest)
 
-when-same : (c d : Bool) (x y : SegmentParse) (s : State) (st t : BoxStep) → c ≡ d → (d ≡ true → x ≡ done s st) → (d ≡ false → y ≡ done s t) → cond c x y ≡ done s (cond d st t)
+when-same : (c d : Bool) (x y : SegmentParse) (s : WalkState) (st t : BoxStep) → c ≡ d → (d ≡ true → x ≡ done s st) → (d ≡ false → y ≡ done s t) → cond c x y ≡ done s (cond d st t)
 when-same c true x y s st t e p q = ap (λ c. cond c x y) e ∙ p refl
 when-same c false x y s st t e p q = ap (λ c. cond c x y) e ∙ q refl
 
@@ -306,12 +306,12 @@ NextItems b n last m f left = parse_once_there b f.end (now_in b last m) (parse_
 -- behind the header of an mdat, with the slots that are left of those that were there
 in-data : (b : List ℕ) (n : ℕ) (last : Option Presentation) (m : ℕ) (slots old : List Slot) (known : List DataRange) (end : ℕ) (left : List Slot) (taken : ℕ) → Out b n → In b n → m ≤ length b → length b < m + end + n → drop taken slots ≡ left → parse_of_slots b (now_in b last m) (fragment m old known end) (NextItems b n last m (fragment m old known end)) left ≡ its (going last (Within (open_with slots taken known end (InData end))) m (drop m b))
 in-data b n last m slots old known end [] taken out inside l k d =
-    let s : State = going last (Within (open_with slots taken known end (InData end))) m (drop m b) in
+    let s : WalkState = going last (Within (open_with slots taken known end (InData end))) m (drop m b) in
     once-same b m end (m + end) s (step.EndSegment end) (ItemThen (now_in b last m) SegmentEnd (parse_of_boxes n b last (NoFragment Waiting) (m + end))) l refl
     (λ h. ap (ItemThen (now_in b last m) SegmentEnd) (out last Waiting (m + end) h k ∙ ap (λ rest. its (going last (Between Waiting) (m + end) rest)) (sym (drop-drop end m b))))
     ∙ sym (in-step last (open_with slots taken known end (InData end)) m (drop m b) ∙ ap (λ slot. done s (slot_step (drop m b) known end (InData end) slot)) (get-none slots taken d))
 in-data b n last m slots old known end (slot ∷ left) taken out inside l k d =
-    let s : State = going last (Within (open_with slots taken known end (InData end))) m (drop m b) in
+    let s : WalkState = going last (Within (open_with slots taken known end (InData end))) m (drop m b) in
     let f : OpenFragment = fragment m old known end in
     when-same (is_inside m (shift m known) slot) (lies_in known slot) _ _ s (once (length (drop m b)) slot.end (step.GiveFrame slot)) (cond (ltb slot.start end) (step.Fail fault.OutsideMdat slot.start) (place_step (drop m b) false (InData end))) (lies-shift m known slot)
     (λ _. once-same b m slot.end (m + slot.end) s (step.GiveFrame slot) (ItemThen (now_in b last m) (frame_at b m slot) (parse_of_slots b (now_in b last m) f (NextItems b n last m f) left)) l refl
@@ -338,14 +338,14 @@ in-box b n last m slots left taken known end p SegmentType begin len out inside 
 in-box b n last m slots left taken known end p Movie begin len out inside d a l k q = fail-items (going last (Within (open_with slots taken known end (AtBox p))) m (drop m b)) fault.InSegment p (m + p) refl
 in-box b n last m slots left taken known end p MovieFragment begin len out inside d a l k q = fail-items (going last (Within (open_with slots taken known end (AtBox p))) m (drop m b)) fault.InSegment p (m + p) refl
 in-box b n last m slots left taken known end p MediaData begin len out inside d a l k q =
-    let s : State = going last (Within (open_with slots taken known end (AtBox p))) m (drop m b) in
+    let s : WalkState = going last (Within (open_with slots taken known end (AtBox p))) m (drop m b) in
     let e : m + p + len ≡ m + (p + len) = omega arith in
     let g : m + p + begin ≡ m + (p + begin) = omega arith in
     when-same (ltb (m + 2 ^ 27) (m + p + len)) (ltb (2 ^ 27) (p + len)) _ _ s (step.Fail fault.TooLarge p) (step.EnterData (p + begin) (p + len)) (ap (ltb (m + 2 ^ 27)) e ∙ ltb-shift m (2 ^ 27) (p + len))
     (λ _. fail-items s fault.TooLarge p (m + p) refl)
     (λ _. in-mdat b n last m slots left taken known (p + begin) (p + len) (m + p + begin) (m + p + len) out inside (omega arith) (omega arith) d g e)
 in-box b n last m slots left taken known end p Other begin len out inside d a l k q =
-    let s : State = going last (Within (open_with slots taken known end (AtBox p))) m (drop m b) in
+    let s : WalkState = going last (Within (open_with slots taken known end (AtBox p))) m (drop m b) in
     let e : m + p + len ≡ m + (p + len) = omega arith in
     when-same (ltb (m + 2 ^ 27) (m + p + len)) (ltb (2 ^ 27) (p + len)) _ _ s (step.Fail fault.TooLarge p) (once (length (drop m b)) (p + len) (step.NextBox (p + len))) (ap (ltb (m + 2 ^ 27)) e ∙ ltb-shift m (2 ^ 27) (p + len))
     (λ _. fail-items s fault.TooLarge p (m + p) refl)
@@ -366,9 +366,9 @@ slot-awaits rest known end p slots (slot ∷ left) taken d a =
     ∙ ap (λ c. cond c (once (length rest) slot.end (step.GiveFrame slot)) (cond (ltb slot.start end) (step.Fail fault.OutsideMdat slot.start) to)) a.0
     ∙ ap (λ c. cond c (step.Fail fault.OutsideMdat slot.start) to) a.1
 
-within-step : (b : List ℕ) (last : Option Presentation) (m : ℕ) (slots left : List Slot) (taken : ℕ) (known : List DataRange) (end p : ℕ) → drop taken slots ≡ left → Awaits known end left → let s : State = going last (Within (open_with slots taken known end (AtBox p))) m (drop m b) in its s ≡ done s (box_within (length (drop m b)) p (header_of (drop (m + p) b)))
+within-step : (b : List ℕ) (last : Option Presentation) (m : ℕ) (slots left : List Slot) (taken : ℕ) (known : List DataRange) (end p : ℕ) → drop taken slots ≡ left → Awaits known end left → let s : WalkState = going last (Within (open_with slots taken known end (AtBox p))) m (drop m b) in its s ≡ done s (box_within (length (drop m b)) p (header_of (drop (m + p) b)))
 within-step b last m slots left taken known end p d a =
-    let s : State = going last (Within (open_with slots taken known end (AtBox p))) m (drop m b) in
+    let s : WalkState = going last (Within (open_with slots taken known end (AtBox p))) m (drop m b) in
     in-step last (open_with slots taken known end (AtBox p)) m (drop m b)
     ∙ ap (done s) (slot-awaits (drop m b) known end p slots left taken d a)
     ∙ ap (λ rest. done s (box_within (length (drop m b)) p (header_of rest))) (drop-drop p m b)

@@ -6,7 +6,7 @@ use Rattle.std.proofs.lemmas.Bool.{cases_lt}
 use Rattle.bmff_fragment.specs.declared.slot.Slot.{Slot}
 use Rattle.segment_walk.specs.declared.kinds.DataRange.{DataRange}
 use Rattle.segment_walk.specs.Moves.{is_ready, lies_in}
-use Rattle.segment_walk.specs.Ranges.{IsAmong, IsAscending}
+use Rattle.segment_walk.specs.Ranges.{IsCoveredRange, AreRangesAscending}
 
 or-true : (a b : Bool) → b ≡ true → (a || b) ≡ true
 or-true true b e = refl
@@ -29,11 +29,12 @@ and-right : (a b : Bool) → b ≡ false → (a && b) ≡ false
 and-right false b e = refl
 and-right true b e = e
 
-abbrev pub Begun : Slot → List DataRange → ℕ → ℕ → Bool → Type 0
-Begun s ks low high b = (i : ℕ) (d : DataRange) → low ≤ i → i < high → leb (get_or ks i d).start s.start ≡ b
+-- whether a range begins by the start of the slot is b for each from place low up to high
+abbrev pub AreStartsBy : Slot → List DataRange → ℕ → ℕ → Bool → Type 0
+AreStartsBy s ks low high b = (i : ℕ) (d : DataRange) → low ≤ i → i < high → leb (get_or ks i d).start s.start ≡ b
 
 -- none has begun before the slot
-pub lies-none : (ks : List DataRange) (s : Slot) → Begun s ks 0 (length ks) false → lies_in ks s ≡ false
+pub lies-none : (ks : List DataRange) (s : Slot) → AreStartsBy s ks 0 (length ks) false → lies_in ks s ≡ false
 lies-none ks s f = lies-not ks s (λ i d h. and-left (leb (get_or ks i d).start s.start) (leb s.end (get_or ks i d).end) (f i d (omega arith) h))
 
 get-any : (ks : List DataRange) (i : ℕ) (c d : DataRange) → i < length ks → get_or ks i c ≡ get_or ks i d
@@ -41,14 +42,14 @@ get-any [] i c d h = absurd (omega arith)
 get-any (k ∷ ks) zero c d h = refl
 get-any (k ∷ ks) (suc i) c d h = get-any ks i c d (omega arith)
 
-below : (ks : List DataRange) (s : Slot) (n i : ℕ) (d c : DataRange) → leb s.end (get_or ks (n - 1) d).end ≡ false → 0 < n → n ≤ length ks → i < length ks → i < n → IsAscending ks → leb s.end (get_or ks i c).end ≡ false
+below : (ks : List DataRange) (s : Slot) (n i : ℕ) (d c : DataRange) → leb s.end (get_or ks (n - 1) d).end ≡ false → 0 < n → n ≤ length ks → i < length ks → i < n → AreRangesAscending ks → leb s.end (get_or ks i c).end ≡ false
 below ks s n i d c e z l h q a =
     let x : (get_or ks i d).end ≤ (get_or ks (n - 1) d).end = a.ends i (n - 1) d (omega arith) (omega arith) in
     let y : get_or ks i c ≡ get_or ks i d = get-any ks i c d h in
     rw y (grind (arith, nat_tests))
 
 -- the last of those that have begun decides
-last-true : (ks : List DataRange) (s : Slot) (n : ℕ) (d : DataRange) (b : Bool) → leb s.end (get_or ks (n - 1) d).end ≡ b → 0 < n → n ≤ length ks → IsAscending ks → Begun s ks 0 n true → Begun s ks n (length ks) false → b ≡ lies_in ks s
+last-true : (ks : List DataRange) (s : Slot) (n : ℕ) (d : DataRange) (b : Bool) → leb s.end (get_or ks (n - 1) d).end ≡ b → 0 < n → n ≤ length ks → AreRangesAscending ks → AreStartsBy s ks 0 n true → AreStartsBy s ks n (length ks) false → b ≡ lies_in ks s
 last-true ks s n d true e z l a f g = sym (lies-at ks s (n - 1) d (omega arith) (f (n - 1) d (omega arith) (omega arith)) e)
 last-true ks s n d false e z l a f g =
     let past : (i : ℕ) (c : DataRange) → i < length ks → (leb (get_or ks i c).start s.start && leb s.end (get_or ks i c).end) ≡ false =
@@ -59,20 +60,20 @@ last-true ks s n d false e z l a f g =
     in
     sym (lies-not ks s past)
 
-pub lies-last : (ks : List DataRange) (s : Slot) (n : ℕ) (d : DataRange) → 0 < n → n ≤ length ks → IsAscending ks → Begun s ks 0 n true → Begun s ks n (length ks) false → leb s.end (get_or ks (n - 1) d).end ≡ lies_in ks s
+pub lies-last : (ks : List DataRange) (s : Slot) (n : ℕ) (d : DataRange) → 0 < n → n ≤ length ks → AreRangesAscending ks → AreStartsBy s ks 0 n true → AreStartsBy s ks n (length ks) false → leb s.end (get_or ks (n - 1) d).end ≡ lies_in ks s
 lies-last ks s n d z l a f g = last-true ks s n d (leb s.end (get_or ks (n - 1) d).end) refl z l a f g
 
-pub lies-in-last : (ks : List DataRange) (s : Slot) (n : ℕ) (d : DataRange) → 0 < n → n ≤ length ks → IsAscending ks → Begun s ks 0 n true → Begun s ks n (length ks) false → s.end ≤ (get_or ks (n - 1) d).end → true ≡ lies_in ks s
+pub lies-in-last : (ks : List DataRange) (s : Slot) (n : ℕ) (d : DataRange) → 0 < n → n ≤ length ks → AreRangesAscending ks → AreStartsBy s ks 0 n true → AreStartsBy s ks n (length ks) false → s.end ≤ (get_or ks (n - 1) d).end → true ≡ lies_in ks s
 lies-in-last ks s n d z l a f g h =
     let e : leb s.end (get_or ks (n - 1) d).end ≡ true = grind (arith, nat_tests) in
     sym e ∙ lies-last ks s n d z l a f g
 
-pub lies-past-last : (ks : List DataRange) (s : Slot) (n : ℕ) (d : DataRange) → 0 < n → n ≤ length ks → IsAscending ks → Begun s ks 0 n true → Begun s ks n (length ks) false → (get_or ks (n - 1) d).end < s.end → false ≡ lies_in ks s
+pub lies-past-last : (ks : List DataRange) (s : Slot) (n : ℕ) (d : DataRange) → 0 < n → n ≤ length ks → AreRangesAscending ks → AreStartsBy s ks 0 n true → AreStartsBy s ks n (length ks) false → (get_or ks (n - 1) d).end < s.end → false ≡ lies_in ks s
 lies-past-last ks s n d z l a f g h =
     let e : leb s.end (get_or ks (n - 1) d).end ≡ false = grind (arith, nat_tests) in
     sym e ∙ lies-last ks s n d z l a f g
 
-pub among-at : (ks : List DataRange) (i : ℕ) (d : DataRange) → i < length ks → IsAmong ks (get_or ks i d)
+pub among-at : (ks : List DataRange) (i : ℕ) (d : DataRange) → i < length ks → IsCoveredRange ks (get_or ks i d)
 among-at ks i d h = λ s a b.
     let e : leb (get_or ks i d).start s.start ≡ true = grind (arith, nat_tests) in
     let f : leb s.end (get_or ks i d).end ≡ true = grind (arith, nat_tests) in

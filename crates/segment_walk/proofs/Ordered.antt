@@ -12,7 +12,8 @@ use Rattle.bmff_fragment.specs.declared.slot.Slot.{Slot}
 use Rattle.bmff_fragment.specs.Times.{Run, duration_of, slot_of, slot_at, slots_of_run, slots_behind}
 use Rattle.bmff_boxes.specs.Reading.{◌>>=◌, need}
 use Rattle.bmff_boxes.proofs.ReadingLaws.{through}
-use Rattle.bmff_fragment.specs.Plans.{is_media, track_fragment_of, runs_of, samples_in, data_end, media_slots, trafs_of, plan_of}
+use Rattle.mse_base.specs.Moments.{is_media}
+use Rattle.bmff_fragment.specs.Plans.{track_fragment_of, runs_of, samples_in, data_end, media_slots, trafs_of, plan_of}
 
 abbrev pub IsOrdered : Slot → Type 0
 IsOrdered s = s.start ≤ s.end

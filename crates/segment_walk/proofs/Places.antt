@@ -17,13 +17,13 @@ use Rattle.segment_walk.specs.declared.kinds.TopLevelBox.{TopLevelBox}
 use Rattle.segment_walk.specs.declared.kinds.TopLevelBox.TheVariants.{FileType, SegmentType, Movie, MovieFragment, MediaData, Other}
 use Rattle.mse_base.specs.declared.frame.Phase.{Phase}
 use Rattle.mse_base.specs.declared.frame.Phase.TheVariants.{Waiting, InInit, InMedia}
-use Rattle.segment_walk.specs.declared.kinds.Place.{Place}
-use Rattle.segment_walk.specs.declared.kinds.Place.TheVariants.{AtBox, InData}
+use Rattle.segment_walk.specs.declared.kinds.WalkPlace.{WalkPlace}
+use Rattle.segment_walk.specs.declared.kinds.WalkPlace.TheVariants.{AtBox, InData}
 use Rattle.segment_walk.specs.declared.kinds.BoxStep.{BoxStep}
 use Rattle.segment_walk.specs.declared.kinds.BoxStep.TheVariants as step
 use Rattle.segment_walk.specs.Tables.{SegmentItem, box_type, greatest_size}
 use Rattle.parser_loop.specs.Items.{InitItem, FrameItem, SegmentEnd, FaultItem, is_fault}
-use Rattle.segment_walk.specs.Moves.{Open, ParserMode, Between, Skipping, Within, State, once, place_fault, take_box, judge_between, box_between, judge_within, box_within, data_end, place_step, lies_in, slot_step, step_of, initialized, opened, planned, open_of, act, pass_byte, mode_move, move_unless, segments}
+use Rattle.segment_walk.specs.Moves.{Open, ParserMode, Between, Skipping, Within, WalkState, once, place_fault, take_box, judge_between, box_between, judge_within, box_within, data_end, place_step, lies_in, slot_step, step_of, move_of_init, move_of_slots, move_of_moof, open_of, act, pass_byte, mode_move, move_unless, segments}
 use Rattle.segment_walk.specs.Strings.{start, walk_items, state_before}
 use Rattle.segment_walk.specs.Segments.{box_by, box_at}
 use Rattle.segment_walk.proofs.WalkLaws.{is_walk, HasSlot, Fits, good-step, going}
@@ -38,7 +38,7 @@ use Rattle.segment_walk.proofs.Boxes.{items-boxes, seen-boxes}
 use Rattle.segment_walk.proofs.Ordered.{IsOrdered, plan-ordered}
 
 -- what the walk holds are the bytes of the string from its offset on, or none behind a fault
-abbrev pub HasSuffix : List ℕ → State → Type 0
+abbrev pub HasSuffix : List ℕ → WalkState → Type 0
 HasSuffix b s = s.rest ≡ cond s.failed [] (drop s.offset b)
 
 -- the slots of the movie fragment that is open end behind their start
@@ -47,7 +47,7 @@ HasOrder (Between phase) = Unit {0}
 HasOrder (Skipping to left) = Unit {0}
 HasOrder (Within o) = All IsOrdered o.slots
 
-record IsFine (b : List ℕ) (s : State) : Type 0 where
+record IsFine (b : List ℕ) (s : WalkState) : Type 0 where
   suffix : HasSuffix b s
   inside : s.offset ≤ length b
   order : HasOrder s.mode
@@ -125,7 +125,7 @@ reads-end : (h : Header) (done : Bool) (end : ℕ) → Reads h (data_end done en
 reads-end h true end = tt
 reads-end h false end = tt
 
-reads-place : (h : Header) (rest : List ℕ) (done : Bool) (p : Place) → Reads h (place_step rest done p)
+reads-place : (h : Header) (rest : List ℕ) (done : Bool) (p : WalkPlace) → Reads h (place_step rest done p)
 reads-place h rest done (AtBox at) = reads-within h (length rest) at (header_of (drop at rest))
 reads-place h rest done (InData end) = reads-once h (length rest) end (data_end done end) (reads-end h done end)
 
@@ -160,28 +160,28 @@ own-there b rest offset i j e o h k =
 behind-there : (b rest : List ℕ) (offset n : ℕ) → rest ≡ drop offset b → offset ≤ length b → n ≤ length rest → offset + n ≤ length b
 behind-there b rest offset n e o k = let m : length rest ≡ length b - offset = ap length e ∙ length-drop offset b in omega arith
 
-abbrev Stays : List ℕ → Move State SegmentItem → Type 0
+abbrev Stays : List ℕ → Move WalkState SegmentItem → Type 0
 Stays b m = Keeps (IsFine b) (IsPlaced b) m
 
 -- the same place, in another mode or behind a fault
-abbrev at_place : Option Presentation → ParserMode → ℕ → List ℕ → Bool → State
+abbrev at_place : Option Presentation → ParserMode → ℕ → List ℕ → Bool → WalkState
 at_place last m offset rest failed = record { last = last; mode = m; offset = offset; rest = rest; failed = failed }
 
 fine : (b : List ℕ) (last : Option Presentation) (m : ParserMode) (offset : ℕ) (rest : List ℕ) (failed : Bool) → rest ≡ cond failed [] (drop offset b) → offset ≤ length b → HasOrder m → IsFine b (at_place last m offset rest failed)
 fine b last m offset rest failed e o g = record { suffix = e; inside = o; order = g }
 
-stays-init : (b : List ℕ) (last : Option Presentation) (m : ParserMode) (offset : ℕ) (rest : List ℕ) (len : ℕ) (r : Result Presentation InitFault) → IsFine b (going last m offset rest) → Reads (header_of rest) (step.ReadInit len) → 8 ≤ len → len ≤ length rest → init_of (take len rest) ≡ r → Stays b (initialized (going last m offset rest) len r)
+stays-init : (b : List ℕ) (last : Option Presentation) (m : ParserMode) (offset : ℕ) (rest : List ℕ) (len : ℕ) (r : Result Presentation InitFault) → IsFine b (going last m offset rest) → Reads (header_of rest) (step.ReadInit len) → 8 ≤ len → len ≤ length rest → init_of (take len rest) ≡ r → Stays b (move_of_init (going last m offset rest) len r)
 stays-init b last m offset rest len (Ok p) e h n k q =
     let whole : offset + len ≤ length b = behind-there b rest offset len e.suffix e.inside k in
     let box : box_at b offset ≡ take len rest = ap (λ xs. box_by b offset (header_of xs)) (sym e.suffix) ∙ h b offset whole ∙ sliced b offset len ∙ ap (take len) (sym e.suffix) in
     (ap init_of box ∙ q, fine b (Some p) (Between Waiting) (offset + len) (drop len rest) false (ap (drop len) e.suffix ∙ drop-drop len offset b) whole tt)
 stays-init b last m offset rest len (Err f) e h n k q = (tt, fine b last m offset [] true refl e.inside e.order)
 
-stays-opened : (b : List ℕ) (last : Option Presentation) (m : ParserMode) (offset : ℕ) (rest : List ℕ) (len : ℕ) (r : Result (List Slot) MoofFault) → IsFine b (going last m offset rest) → ((slots : List Slot) → r ≡ Ok slots → All IsOrdered slots) → Stays b (opened (going last m offset rest) len r)
+stays-opened : (b : List ℕ) (last : Option Presentation) (m : ParserMode) (offset : ℕ) (rest : List ℕ) (len : ℕ) (r : Result (List Slot) MoofFault) → IsFine b (going last m offset rest) → ((slots : List Slot) → r ≡ Ok slots → All IsOrdered slots) → Stays b (move_of_slots (going last m offset rest) len r)
 stays-opened b last m offset rest len (Ok slots) e h = record { suffix = e.suffix; inside = e.inside; order = h slots refl }
 stays-opened b last m offset rest len (Err f) e h = (tt, fine b last m offset [] true refl e.inside e.order)
 
-stays-planned : (b : List ℕ) (last with : Option Presentation) (m : ParserMode) (offset : ℕ) (rest : List ℕ) (len : ℕ) → IsFine b (going last m offset rest) → Stays b (planned (going last m offset rest) len with)
+stays-planned : (b : List ℕ) (last with : Option Presentation) (m : ParserMode) (offset : ℕ) (rest : List ℕ) (len : ℕ) → IsFine b (going last m offset rest) → Stays b (move_of_moof (going last m offset rest) len with)
 stays-planned b last None m offset rest len e = (tt, fine b last m offset [] true refl e.inside e.order)
 stays-planned b last (Some p) m offset rest len e = stays-opened b last m offset rest len (plan_of p.tracks (take len rest)) e (plan-ordered p.tracks (take len rest))
 
@@ -220,7 +220,7 @@ stays-unless : (b : List ℕ) (last : Option Presentation) (m : ParserMode) (off
 stays-unless b last m offset rest true e = tt
 stays-unless b last m offset rest false e = stays-mode b last m offset rest e
 
-stays : (b : List ℕ) (s : State) → IsFine b s → Stays b (segments.move s)
+stays : (b : List ℕ) (s : WalkState) → IsFine b s → Stays b (segments.move s)
 stays b s e = stays-unless b s.last s.mode s.offset s.rest s.failed e
 
 at-start : (b : List ℕ) (last : Option Presentation) → IsFine b (start last b)
@@ -244,7 +244,7 @@ suffix-by b rest offset false e = record { offset = offset; is = e }
 
 pub held-suffix : (last : Option Presentation) (b : List ℕ) (n : ℕ) → IsSuffix (held_before last b n) b
 held-suffix last b n =
-    let s : State = state_before last b n in
+    let s : WalkState = state_before last b n in
     rw (← ap (λ (v : ParserView). v.held) (seen-boxes last b n)) (suffix-by b s.rest s.offset s.failed (state-suffix last b n))
 
 -- ---- a fault is the last item
@@ -252,22 +252,22 @@ held-suffix last b n =
 abbrev IsFault : SegmentItem → Type 0
 IsFault item = is_fault item ≡ true
 
-abbrev Halting : Move State SegmentItem → Type 0
+abbrev Halting : Move WalkState SegmentItem → Type 0
 Halting m = Halts segments IsFault m
 
-halts-init : (s : State) (len : ℕ) (r : Result Presentation InitFault) → Halting (initialized s len r)
+halts-init : (s : WalkState) (len : ℕ) (r : Result Presentation InitFault) → Halting (move_of_init s len r)
 halts-init s len (Ok p) = λ e. cc
 halts-init s len (Err f) = λ e. refl
 
-halts-opened : (s : State) (len : ℕ) (r : Result (List Slot) MoofFault) → Halting (opened s len r)
+halts-opened : (s : WalkState) (len : ℕ) (r : Result (List Slot) MoofFault) → Halting (move_of_slots s len r)
 halts-opened s len (Ok slots) = tt
 halts-opened s len (Err f) = λ e. refl
 
-halts-planned : (s : State) (len : ℕ) (with : Option Presentation) → Halting (planned s len with)
+halts-planned : (s : WalkState) (len : ℕ) (with : Option Presentation) → Halting (move_of_moof s len with)
 halts-planned s len None = λ e. refl
 halts-planned s len (Some p) = halts-opened s len (plan_of p.tracks (take len s.rest))
 
-halts-act : (s : State) (st : BoxStep) → Halting (act s st)
+halts-act : (s : WalkState) (st : BoxStep) → Halting (act s st)
 halts-act s (step.Wait n) = tt
 halts-act s (step.Skip to len) = tt
 halts-act s (step.ReadInit len) = halts-init s len (init_of (take len s.rest))
@@ -278,17 +278,17 @@ halts-act s (step.GiveFrame slot) = λ e. cc
 halts-act s (step.EndSegment end) = λ e. cc
 halts-act s (step.Fail f at) = λ e. refl
 
-halts-byte : (s : State) (to : Phase) (left : ℕ) (rest : List ℕ) → Halting (pass_byte s to left rest)
+halts-byte : (s : WalkState) (to : Phase) (left : ℕ) (rest : List ℕ) → Halting (pass_byte s to left rest)
 halts-byte s to left [] = tt
 halts-byte s to left (x ∷ rest) = tt
 
-halts-mode : (s : State) (m : ParserMode) → Halting (mode_move s m)
+halts-mode : (s : WalkState) (m : ParserMode) → Halting (mode_move s m)
 halts-mode s (Between phase) = halts-act s (step_of (is_some s.last) s.rest (Between phase))
 halts-mode s (Skipping to zero) = tt
 halts-mode s (Skipping to (suc left)) = halts-byte s to left s.rest
 halts-mode s (Within o) = halts-act s (step_of (is_some s.last) s.rest (Within o))
 
-halts-unless : (s : State) (failed : Bool) → Halting (move_unless s failed)
+halts-unless : (s : WalkState) (failed : Bool) → Halting (move_unless s failed)
 halts-unless s true = tt
 halts-unless s false = halts-mode s s.mode
 

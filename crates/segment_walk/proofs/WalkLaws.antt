@@ -22,12 +22,12 @@ use Rattle.segment_walk.specs.declared.kinds.TopLevelBox.{TopLevelBox}
 use Rattle.segment_walk.specs.declared.kinds.TopLevelBox.TheVariants.{FileType, SegmentType, Movie, MovieFragment, MediaData, Other}
 use Rattle.mse_base.specs.declared.frame.Phase.{Phase}
 use Rattle.mse_base.specs.declared.frame.Phase.TheVariants.{Waiting, InInit, InMedia}
-use Rattle.segment_walk.specs.declared.kinds.Place.{Place}
-use Rattle.segment_walk.specs.declared.kinds.Place.TheVariants.{AtBox, InData}
+use Rattle.segment_walk.specs.declared.kinds.WalkPlace.{WalkPlace}
+use Rattle.segment_walk.specs.declared.kinds.WalkPlace.TheVariants.{AtBox, InData}
 use Rattle.segment_walk.specs.declared.kinds.BoxStep.{BoxStep}
 use Rattle.segment_walk.specs.declared.kinds.BoxStep.TheVariants as step
 use Rattle.segment_walk.specs.Tables.{SegmentItem, box_type, greatest_size}
-use Rattle.segment_walk.specs.Moves.{Open, ParserMode, Between, Skipping, Within, State, once, place_fault, take_box, judge_between, box_between, judge_within, box_within, data_end, place_step, lies_in, slot_step, step_of, initialized, opened, planned, open_of, act, pass_byte, mode_move, move_unless, walked, place_size, size_by, size_unless, more_unless, segments}
+use Rattle.segment_walk.specs.Moves.{Open, ParserMode, Between, Skipping, Within, WalkState, once, place_fault, take_box, judge_between, box_between, judge_within, box_within, data_end, place_step, lies_in, slot_step, step_of, move_of_init, move_of_slots, move_of_moof, open_of, act, pass_byte, mode_move, move_unless, place_offset, place_size, size_by, size_unless, more_unless, segments}
 use Rattle.parser_loop.specs.Items.{is_fault}
 
 -- ---- what a step may be, where n bytes are there
@@ -38,10 +38,10 @@ IsBetween (Skipping to left) = ⊥
 IsBetween (Within o) = ⊥
 
 -- how far the place is from n
-abbrev ahead : ℕ → Place → ℕ
-ahead n p = 1048580 * (n - walked p) + place_size p
+abbrev ahead : ℕ → WalkPlace → ℕ
+ahead n p = 1048580 * (n - place_offset p) + place_size p
 
-abbrev pub Nearer : ℕ → ParserMode → Place → Type 0
+abbrev pub Nearer : ℕ → ParserMode → WalkPlace → Type 0
 Nearer n (Between phase) q = ⊥
 Nearer n (Skipping to left) q = ⊥
 Nearer n (Within o) q = ahead n q < ahead n o.place
@@ -52,7 +52,7 @@ HasSlot (Skipping to left) slot = ⊥
 HasSlot (Within o) slot = slice_get o.slots o.taken ≡ Some slot
 
 abbrev pub place_in : ParserMode → ℕ
-place_in m = walked (open_of m).place
+place_in m = place_offset (open_of m).place
 
 abbrev pub Fits : ParserMode → ℕ → BoxStep → Type 0
 Fits m n (step.Wait w) = Unit {0}
@@ -137,10 +137,10 @@ good-between ready phase n k head.Short h' l m e = (tt, λ q. absurd (omega arit
 good-between ready phase n k (head.Bad f) h' l m e = rw (e refl) (omega arith, refl)
 good-between ready phase n k (head.Whole kind start len) h' l m e = rw (e refl) (good-judge phase (box_type kind) n k len (place_fault ready phase (box_type kind)) l (omega (arith, m.0, m.1)))
 
-near : (n at to : ℕ) (o : Open) → o.place ≡ AtBox at → at + 8 ≤ n → at + 8 ≤ to → Nearer n (Within o) (AtBox to) × (walked o.place ≤ to)
+near : (n at to : ℕ) (o : Open) → o.place ≡ AtBox at → at + 8 ≤ n → at + 8 ≤ to → Nearer n (Within o) (AtBox to) × (place_offset o.place ≤ to)
 near n at to o e h g = rw e (omega arith, omega arith)
 
-near-data : (n at start to : ℕ) (o : Open) → o.place ≡ AtBox at → at + 8 ≤ n → at + 8 ≤ to → at ≤ start → start ≤ to → to ≤ 2 ^ 27 → Nearer n (Within o) (InData to) × (walked o.place ≤ start) × (start ≤ to) × (to ≤ 2 ^ 27)
+near-data : (n at start to : ℕ) (o : Open) → o.place ≡ AtBox at → at + 8 ≤ n → at + 8 ≤ to → at ≤ start → start ≤ to → to ≤ 2 ^ 27 → Nearer n (Within o) (InData to) × (place_offset o.place ≤ start) × (start ≤ to) × (to ≤ 2 ^ 27)
 near-data n at start to o e h g a b d = rw e (omega arith, a, b, d)
 
 not-above : (a b : ℕ) → ltb a b ≡ false → b ≤ a
@@ -185,7 +185,7 @@ header-at rest c at e =
 room-at : (rest : List ℕ) (at : ℕ) → IsHeaderWithin (length rest - at) (header_of (drop at rest))
 room-at rest at = rw (← length-drop at rest) (header-room (drop at rest))
 
-good-place : (o : Open) (rest c : List ℕ) (done : Bool) (p : Place) → o.place ≡ p → Good (Within o) (length rest) (length (rest ++ c)) (place_step rest done p) (place_step (rest ++ c) done p)
+good-place : (o : Open) (rest c : List ℕ) (done : Bool) (p : WalkPlace) → o.place ≡ p → Good (Within o) (length rest) (length (rest ++ c)) (place_step rest done p) (place_step (rest ++ c) done p)
 good-place o rest c done (AtBox at) e = good-in o (length rest) (length (rest ++ c)) at (header_of (drop at rest)) (header_of (drop at (rest ++ c))) e (omega (arith, length-append rest c)) (room-at rest at) (header-at rest c at)
 good-place o rest c done (InData end) e = good-once (Within o) (length rest) (length (rest ++ c)) end (data_end done end) (omega (arith, length-append rest c)) (good-end o (length rest) end done e)
 
@@ -208,12 +208,12 @@ good-step ready rest c (Within o) = good-slot o rest c (slice_get o.slots o.take
 
 -- ---- a move lowers the size
 
-abbrev Falls : ℕ → Move State SegmentItem → Type 0
+abbrev Falls : ℕ → Move WalkState SegmentItem → Type 0
 Falls n Stop = Unit {0}
 Falls n (Pass t) = size_unless t t.failed < n
 Falls n (Give item t) = size_unless t t.failed < n
 
-abbrev pub going : Option Presentation → ParserMode → ℕ → List ℕ → State
+abbrev pub going : Option Presentation → ParserMode → ℕ → List ℕ → WalkState
 going last mode offset rest = record { last = last; mode = mode; offset = offset; rest = rest; failed = false }
 
 size-skip : (n len : ℕ) (to : Phase) → 8 ≤ len → size_by n (Skipping to len) ≡ 1048580 * n
@@ -224,15 +224,15 @@ skip-most : (n left : ℕ) (to : Phase) → size_by n (Skipping to left) ≤ 104
 skip-most n zero to = omega arith
 skip-most n (suc left) to = omega arith
 
-falls-init : (last : Option Presentation) (phase : Phase) (offset : ℕ) (rest : List ℕ) (len : ℕ) (r : Result Presentation InitFault) → 8 ≤ len → len ≤ length rest → Falls (suc (size_by (length rest) (Between phase))) (initialized (going last (Between phase) offset rest) len r)
+falls-init : (last : Option Presentation) (phase : Phase) (offset : ℕ) (rest : List ℕ) (len : ℕ) (r : Result Presentation InitFault) → 8 ≤ len → len ≤ length rest → Falls (suc (size_by (length rest) (Between phase))) (move_of_init (going last (Between phase) offset rest) len r)
 falls-init last phase offset rest len (Ok p) h k = omega (arith, length-drop len rest)
 falls-init last phase offset rest len (Err f) h k = omega arith
 
-falls-opened : (last : Option Presentation) (phase : Phase) (offset : ℕ) (rest : List ℕ) (len : ℕ) (r : Result (List Slot) MoofFault) → ((slots : List Slot) → r ≡ Ok slots → length slots ≤ 2 ^ 20) → 8 ≤ len → len ≤ length rest → Falls (suc (size_by (length rest) (Between phase))) (opened (going last (Between phase) offset rest) len r)
+falls-opened : (last : Option Presentation) (phase : Phase) (offset : ℕ) (rest : List ℕ) (len : ℕ) (r : Result (List Slot) MoofFault) → ((slots : List Slot) → r ≡ Ok slots → length slots ≤ 2 ^ 20) → 8 ≤ len → len ≤ length rest → Falls (suc (size_by (length rest) (Between phase))) (move_of_slots (going last (Between phase) offset rest) len r)
 falls-opened last phase offset rest len (Ok slots) f h k = let g : length slots ≤ 2 ^ 20 = f slots refl in omega arith
 falls-opened last phase offset rest len (Err e) f h k = omega arith
 
-falls-planned : (last with : Option Presentation) (phase : Phase) (offset : ℕ) (rest : List ℕ) (len : ℕ) → 8 ≤ len → len ≤ length rest → Falls (suc (size_by (length rest) (Between phase))) (planned (going last (Between phase) offset rest) len with)
+falls-planned : (last with : Option Presentation) (phase : Phase) (offset : ℕ) (rest : List ℕ) (len : ℕ) → 8 ≤ len → len ≤ length rest → Falls (suc (size_by (length rest) (Between phase))) (move_of_moof (going last (Between phase) offset rest) len with)
 falls-planned last None phase offset rest len h k = omega arith
 falls-planned last (Some p) phase offset rest len h k = falls-opened last phase offset rest len (plan_of p.tracks (take len rest)) (plan-length p.tracks (take len rest)) h k
 
@@ -261,7 +261,7 @@ falls-act last (Skipping a l) offset rest (step.EndSegment end) f = absurd f.0
 falls-act last (Within o) offset rest (step.EndSegment end) f = omega (arith, f.0, length-drop end rest)
 falls-act last m offset rest (step.Fail e at) f = omega arith
 
-falls-byte : (s : State) (to : Phase) (left : ℕ) (rest : List ℕ) → Falls (suc (1048580 * length rest)) (pass_byte s to left rest)
+falls-byte : (s : WalkState) (to : Phase) (left : ℕ) (rest : List ℕ) → Falls (suc (1048580 * length rest)) (pass_byte s to left rest)
 falls-byte s to left [] = tt
 falls-byte s to left (x ∷ rest) = omega (arith, skip-most (length rest) left to)
 
@@ -271,26 +271,26 @@ falls-mode last (Skipping to zero) offset rest = omega arith
 falls-mode last (Skipping to (suc left)) offset rest = falls-byte (going last (Skipping to (suc left)) offset rest) to left rest
 falls-mode last (Within o) offset rest = falls-act last (Within o) offset rest (step_of (is_some last) rest (Within o)) (good-step (is_some last) rest [] (Within o)).0
 
-falls : (last : Option Presentation) (mode : ParserMode) (offset : ℕ) (rest : List ℕ) (failed : Bool) → let s : State = record { last = last; mode = mode; offset = offset; rest = rest; failed = failed } in Falls (size_unless s failed) (move_unless s failed)
+falls : (last : Option Presentation) (mode : ParserMode) (offset : ℕ) (rest : List ℕ) (failed : Bool) → let s : WalkState = record { last = last; mode = mode; offset = offset; rest = rest; failed = failed } in Falls (size_unless s failed) (move_unless s failed)
 falls last mode offset rest true = tt
 falls last mode offset rest false = falls-mode last mode offset rest
 
 -- ---- what a move becomes when bytes are added
 
-abbrev Goes : List ℕ → Move State SegmentItem → Move State SegmentItem → Type 0
+abbrev Goes : List ℕ → Move WalkState SegmentItem → Move WalkState SegmentItem → Type 0
 Goes c Stop m = Unit {0}
 Goes c (Pass t) m = m ≡ Pass (more_unless t c t.failed)
 Goes c (Give item t) m = (m ≡ Give item (more_unless t c t.failed)) × (is_fault item ≡ true → more_unless t c t.failed ≡ t)
 
-goes-init : (last : Option Presentation) (mode : ParserMode) (offset len : ℕ) (rest c : List ℕ) (r : Result Presentation InitFault) → len ≤ length rest → Goes c (initialized (going last mode offset rest) len r) (initialized (going last mode offset (rest ++ c)) len r)
+goes-init : (last : Option Presentation) (mode : ParserMode) (offset len : ℕ) (rest c : List ℕ) (r : Result Presentation InitFault) → len ≤ length rest → Goes c (move_of_init (going last mode offset rest) len r) (move_of_init (going last mode offset (rest ++ c)) len r)
 goes-init last mode offset len rest c (Ok p) h = (rw (drop-append-le len rest c h) refl, λ e. cc)
 goes-init last mode offset len rest c (Err f) h = (refl, λ _. refl)
 
-goes-opened : (last : Option Presentation) (mode : ParserMode) (offset len : ℕ) (rest c : List ℕ) (r : Result (List Slot) MoofFault) → Goes c (opened (going last mode offset rest) len r) (opened (going last mode offset (rest ++ c)) len r)
+goes-opened : (last : Option Presentation) (mode : ParserMode) (offset len : ℕ) (rest c : List ℕ) (r : Result (List Slot) MoofFault) → Goes c (move_of_slots (going last mode offset rest) len r) (move_of_slots (going last mode offset (rest ++ c)) len r)
 goes-opened last mode offset len rest c (Ok slots) = refl
 goes-opened last mode offset len rest c (Err f) = (refl, λ _. refl)
 
-goes-planned : (last with : Option Presentation) (mode : ParserMode) (offset len : ℕ) (rest c : List ℕ) → len ≤ length rest → Goes c (planned (going last mode offset rest) len with) (planned (going last mode offset (rest ++ c)) len with)
+goes-planned : (last with : Option Presentation) (mode : ParserMode) (offset len : ℕ) (rest c : List ℕ) → len ≤ length rest → Goes c (move_of_moof (going last mode offset rest) len with) (move_of_moof (going last mode offset (rest ++ c)) len with)
 goes-planned last None mode offset len rest c h = (refl, λ _. refl)
 goes-planned last (Some p) mode offset len rest c h = rw (take-append-le len rest c h) (goes-opened last mode offset len rest c (plan_of p.tracks (take len rest)))
 
@@ -344,7 +344,7 @@ goes-mode last (Skipping to zero) offset rest c = refl
 goes-mode last (Skipping to (suc left)) offset rest c = goes-byte last (Skipping to (suc left)) offset left to rest rest c
 goes-mode last (Within o) offset rest c = goes-step last (Within o) offset rest c
 
-goes : (last : Option Presentation) (mode : ParserMode) (offset : ℕ) (rest c : List ℕ) (failed : Bool) → let s : State = record { last = last; mode = mode; offset = offset; rest = rest; failed = failed } in let t : State = more_unless s c failed in Goes c (move_unless s failed) (move_unless t t.failed)
+goes : (last : Option Presentation) (mode : ParserMode) (offset : ℕ) (rest c : List ℕ) (failed : Bool) → let s : WalkState = record { last = last; mode = mode; offset = offset; rest = rest; failed = failed } in let t : WalkState = more_unless s c failed in Goes c (move_unless s failed) (move_unless t t.failed)
 goes last mode offset rest c true = tt
 goes last mode offset rest c false = goes-mode last mode offset rest c
 

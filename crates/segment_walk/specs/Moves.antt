@@ -20,8 +20,8 @@ use Rattle.segment_walk.specs.declared.kinds.TopLevelBox.{TopLevelBox}
 use Rattle.segment_walk.specs.declared.kinds.TopLevelBox.TheVariants.{FileType, SegmentType, Movie, MovieFragment, MediaData, Other}
 use Rattle.mse_base.specs.declared.frame.Phase.{Phase}
 use Rattle.mse_base.specs.declared.frame.Phase.TheVariants.{Waiting, InInit, InMedia}
-use Rattle.segment_walk.specs.declared.kinds.Place.{Place}
-use Rattle.segment_walk.specs.declared.kinds.Place.TheVariants.{AtBox, InData}
+use Rattle.segment_walk.specs.declared.kinds.WalkPlace.{WalkPlace}
+use Rattle.segment_walk.specs.declared.kinds.WalkPlace.TheVariants.{AtBox, InData}
 use Rattle.segment_walk.specs.declared.kinds.DataRange.{DataRange}
 use Rattle.segment_walk.specs.declared.kinds.BoxStep.{BoxStep}
 use Rattle.segment_walk.specs.declared.kinds.BoxStep.TheVariants as step
@@ -35,7 +35,7 @@ pub record Open : Type 0 where
   pub taken : ℕ
   pub known : List DataRange
   pub end : ℕ
-  pub place : Place
+  pub place : WalkPlace
 
 -- Before a top-level box; in a box that is passed over, with the number of bytes to its end and the append state
 -- behind its header; in a movie fragment.
@@ -46,7 +46,7 @@ pub data ParserMode : Type 0 where
 
 -- The state of the walk: the presentation of the last initialization segment, the bytes of the string from `offset`
 -- on, which in a movie fragment is the first byte of its moof, and whether a fault was met.
-pub record State : Type 0 where
+pub record WalkState : Type 0 where
   pub last : Option Presentation
   pub mode : ParserMode
   pub offset : ℕ
@@ -115,7 +115,7 @@ abbrev pub data_end : Bool → ℕ → BoxStep
 data_end true end = step.EndSegment end
 data_end false end = step.NextBox end
 
-abbrev pub place_step : List ℕ → Bool → Place → BoxStep
+abbrev pub place_step : List ℕ → Bool → WalkPlace → BoxStep
 place_step rest done (AtBox at) = box_within (length rest) at (header_of (drop at rest))
 place_step rest done (InData end) = once (length rest) end (data_end done end)
 
@@ -130,7 +130,7 @@ is_ready n known s = lies_in known s && nat_le s.end n
 
 -- The next slot comes before the next box: its frame is given once its bytes are there. A slot that lies in no mdat
 -- up to the last, and begins before the end of that one, will never lie in one.
-abbrev pub slot_step : List ℕ → List DataRange → ℕ → Place → Option Slot → BoxStep
+abbrev pub slot_step : List ℕ → List DataRange → ℕ → WalkPlace → Option Slot → BoxStep
 slot_step rest known end place None = place_step rest true place
 slot_step rest known end place (Some slot) =
     if lies_in known slot then once (length rest) slot.end (step.GiveFrame slot)
@@ -145,14 +145,14 @@ step_of ready rest (Within o) = slot_step rest o.known o.end o.place (slice_get 
 -- ---- what a step does
 
 -- a fault at a place behind `offset`: no byte is looked at any more
-abbrev pub fail : State → StreamFault → ℕ → Move State SegmentItem
+abbrev pub fail : WalkState → StreamFault → ℕ → Move WalkState SegmentItem
 fail s f at =
     Give (FaultItem f (s.offset + at))
     (record { last = s.last; mode = s.mode; offset = s.offset; rest = []; failed = true })
 
 -- behind the first n bytes, where no segment was begun
-abbrev pub behind : State → Option Presentation → ℕ → State
-behind s last n = record {
+abbrev pub state_past : WalkState → Option Presentation → ℕ → WalkState
+state_past s last n = record {
   last = last;
   mode = Between Waiting;
   offset = s.offset + n;
@@ -160,8 +160,8 @@ behind s last n = record {
   failed = false;
 }
 
-abbrev pub into : State → ParserMode → State
-into s mode = record {
+abbrev pub state_in : WalkState → ParserMode → WalkState
+state_in s mode = record {
   last = s.last;
   mode = mode;
   offset = s.offset;
@@ -169,22 +169,22 @@ into s mode = record {
   failed = false;
 }
 
-abbrev pub initialized : State → ℕ → Result Presentation InitFault → Move State SegmentItem
-initialized s len (Ok p) = Give (InitItem p s.offset) (behind s (Some p) len)
-initialized s len (Err f) = fail s (fault.Init f) 0
+abbrev pub move_of_init : WalkState → ℕ → Result Presentation InitFault → Move WalkState SegmentItem
+move_of_init s len (Ok p) = Give (InitItem p s.offset) (state_past s (Some p) len)
+move_of_init s len (Err f) = fail s (fault.Init f) 0
 
 -- a movie fragment whose moof has `len` bytes
-abbrev pub opening : List Slot → ℕ → ParserMode
-opening slots len =
+abbrev pub open_mode : List Slot → ℕ → ParserMode
+open_mode slots len =
     Within (record { slots = slots; taken = 0; known = []; end = 0; place = AtBox len })
 
-abbrev pub opened : State → ℕ → Result (List Slot) MoofFault → Move State SegmentItem
-opened s len (Ok slots) = Pass (into s (opening slots len))
-opened s len (Err f) = fail s (fault.Moof f) 0
+abbrev pub move_of_slots : WalkState → ℕ → Result (List Slot) MoofFault → Move WalkState SegmentItem
+move_of_slots s len (Ok slots) = Pass (state_in s (open_mode slots len))
+move_of_slots s len (Err f) = fail s (fault.Moof f) 0
 
-abbrev pub planned : State → ℕ → Option Presentation → Move State SegmentItem
-planned s len None = fail s fault.NoInit 0
-planned s len (Some p) = opened s len (plan_of p.tracks (take len s.rest))
+abbrev pub move_of_moof : WalkState → ℕ → Option Presentation → Move WalkState SegmentItem
+move_of_moof s len None = fail s fault.NoInit 0
+move_of_moof s len (Some p) = move_of_slots s len (plan_of p.tracks (take len s.rest))
 
 -- the movie fragment that is open, or an empty one
 abbrev pub open_of : ParserMode → Open
@@ -208,8 +208,8 @@ at_box o at =
     Within
     (record { slots = o.slots; taken = o.taken; known = o.known; end = o.end; place = AtBox at })
 
-abbrev pub one_taken : Open → ParserMode
-one_taken o =
+abbrev pub with_slot_taken : Open → ParserMode
+with_slot_taken o =
     Within
     (record { slots = o.slots; taken = o.taken + 1; known = o.known; end = o.end; place = o.place })
 
@@ -227,43 +227,43 @@ coded_frame rest slot = record {
 abbrev pub frame_of : List ℕ → ℕ → Slot → SegmentItem
 frame_of rest offset slot = FrameItem (coded_frame rest slot) (offset + slot.start)
 
-abbrev pub act : State → BoxStep → Move State SegmentItem
+abbrev pub act : WalkState → BoxStep → Move WalkState SegmentItem
 act s (step.Wait n) = Stop
-act s (step.Skip to len) = Pass (into s (Skipping to len))
-act s (step.ReadInit len) = initialized s len (init_of (take len s.rest))
-act s (step.ReadMoof len) = planned s len s.last
-act s (step.EnterData start end) = Pass (into s (in_data (open_of s.mode) start end))
-act s (step.NextBox at) = Pass (into s (at_box (open_of s.mode) at))
+act s (step.Skip to len) = Pass (state_in s (Skipping to len))
+act s (step.ReadInit len) = move_of_init s len (init_of (take len s.rest))
+act s (step.ReadMoof len) = move_of_moof s len s.last
+act s (step.EnterData start end) = Pass (state_in s (in_data (open_of s.mode) start end))
+act s (step.NextBox at) = Pass (state_in s (at_box (open_of s.mode) at))
 act s (step.GiveFrame slot) =
-    Give (frame_of s.rest s.offset slot) (into s (one_taken (open_of s.mode)))
-act s (step.EndSegment end) = Give SegmentEnd (behind s s.last end)
+    Give (frame_of s.rest s.offset slot) (state_in s (with_slot_taken (open_of s.mode)))
+act s (step.EndSegment end) = Give SegmentEnd (state_past s s.last end)
 act s (step.Fail f at) = fail s f at
 
 -- a byte of a box that is passed over: it is let go as soon as it is there
-abbrev pub pass_byte : State → Phase → ℕ → List ℕ → Move State SegmentItem
+abbrev pub pass_byte : WalkState → Phase → ℕ → List ℕ → Move WalkState SegmentItem
 pass_byte s to left [] = Stop
 pass_byte s to left (x ∷ rest) =
     Pass
     (record
     { last = s.last; mode = Skipping to left; offset = s.offset + 1; rest = rest; failed = false })
 
-abbrev pub mode_move : State → ParserMode → Move State SegmentItem
+abbrev pub mode_move : WalkState → ParserMode → Move WalkState SegmentItem
 mode_move s (Between phase) = act s (step_of (is_some s.last) s.rest (Between phase))
-mode_move s (Skipping to zero) = Pass (into s (Between to))
+mode_move s (Skipping to zero) = Pass (state_in s (Between to))
 mode_move s (Skipping to (suc left)) = pass_byte s to left s.rest
 mode_move s (Within o) = act s (step_of (is_some s.last) s.rest (Within o))
 
-abbrev pub move_unless : State → Bool → Move State SegmentItem
+abbrev pub move_unless : WalkState → Bool → Move WalkState SegmentItem
 move_unless s true = Stop
 move_unless s false = mode_move s s.mode
 
 -- ---- the walk
 
-abbrev pub walked : Place → ℕ
-walked (AtBox at) = at
-walked (InData end) = end
+abbrev pub place_offset : WalkPlace → ℕ
+place_offset (AtBox at) = at
+place_offset (InData end) = end
 
-abbrev pub place_size : Place → ℕ
+abbrev pub place_size : WalkPlace → ℕ
 place_size (AtBox at) = 1
 place_size (InData end) = 2
 
@@ -274,14 +274,14 @@ size_by n (Between phase) = 1048580 * n + 1
 size_by n (Skipping to zero) = 1048580 * n + 2
 size_by n (Skipping to (suc left)) = 1048580 * n
 size_by n (Within o) =
-    1048580 * (n - walked o.place) + (length o.slots - o.taken) + place_size o.place
+    1048580 * (n - place_offset o.place) + (length o.slots - o.taken) + place_size o.place
 
-abbrev pub size_unless : State → Bool → ℕ
+abbrev pub size_unless : WalkState → Bool → ℕ
 size_unless s true = 0
 size_unless s false = suc (size_by (length s.rest) s.mode)
 
 -- behind a fault more bytes are let go
-abbrev pub more_unless : State → List ℕ → Bool → State
+abbrev pub more_unless : WalkState → List ℕ → Bool → WalkState
 more_unless s c true = s
 more_unless s c false = record {
   last = s.last;
@@ -292,7 +292,7 @@ more_unless s c false = record {
 }
 
 -- a fault ends the walk; coded frames may be taken ahead
-abbrev pub segments : StreamKind State SegmentItem
+abbrev pub segments : StreamKind WalkState SegmentItem
 segments = record {
   move = λ s. move_unless s s.failed;
   size = λ s. size_unless s s.failed;

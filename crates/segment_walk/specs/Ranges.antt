@@ -10,20 +10,20 @@ use Rattle.segment_walk.specs.Moves as walk
 use Rattle.bmff_fragment.specs.declared.slot.Slot.{Slot}
 
 -- neither starts nor ends fall
-pub record IsAscending (ks : List DataRange) : Type 0 where
+pub record AreRangesAscending (ks : List DataRange) : Type 0 where
   pub starts : IsNonDecreasingBy (λ k. k.start) ks
   pub ends : IsNonDecreasingBy (λ k. k.end) ks
 
 -- each slot that lies inside this range lies inside one of them
-abbrev pub IsAmong : List DataRange → DataRange → Type 0
-IsAmong known range =
+abbrev pub IsCoveredRange : List DataRange → DataRange → Type 0
+IsCoveredRange known range =
     (s : Slot) → range.start ≤ s.start → s.end ≤ range.end → lies_in known s ≡ true
 
 -- the data ranges that a place of the walk sees come in order
 abbrev pub SeesAscending : code.ParserMode → List DataRange → Type 0
 SeesAscending (codes.Between phase) known = Unit {0}
 SeesAscending (codes.Skipping to left) known = Unit {0}
-SeesAscending (codes.Within f) known = IsAscending (take f.known known)
+SeesAscending (codes.Within f) known = AreRangesAscending (take f.known known)
 
 -- what the code keeps of a movie fragment, with the tables in which its slots and data ranges lie
 abbrev pub open_at : List Slot → List DataRange → Fragment → Open

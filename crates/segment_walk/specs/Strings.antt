@@ -6,10 +6,10 @@ use Rattle.mse_base.specs.declared.frame.Phase.TheVariants.{Waiting, InMedia}
 use Rattle.mse_base.specs.declared.track.Presentation.{Presentation}
 use Rattle.parser_loop.specs.Walk.{items_from, state_at, leading}
 use Rattle.segment_walk.specs.Tables.{SegmentItem}
-use Rattle.segment_walk.specs.Moves.{ParserMode, Between, Skipping, Within, State, segments}
+use Rattle.segment_walk.specs.Moves.{ParserMode, Between, Skipping, Within, WalkState, segments}
 
 -- the walk before the first byte of a string
-abbrev pub start : Option Presentation → List ℕ → State
+abbrev pub start : Option Presentation → List ℕ → WalkState
 start last b = record { last = last; mode = Between Waiting; offset = 0; rest = b; failed = false }
 
 -- all items of the string
@@ -17,7 +17,7 @@ abbrev pub walk_items : Option Presentation → List ℕ → List SegmentItem
 walk_items last b = items_from segments (start last b)
 
 -- the walk's state just before item n, counted from 0, or at its end where there is no item n
-abbrev pub state_before : Option Presentation → List ℕ → ℕ → State
+abbrev pub state_before : Option Presentation → List ℕ → ℕ → WalkState
 state_before last b n = state_at segments n (start last b)
 
 -- Where the segment parser loop is (Media Source Extensions, append state). A box that is passed over counts from

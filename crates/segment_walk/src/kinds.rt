@@ -47,7 +47,7 @@ pub enum TopLevelBox {
 
 /// A place in an open movie fragment, counted from the first byte of its moof.
 #[derive(Clone, Copy, Debug, PartialEq, Eq)]
-pub enum Place {
+pub enum WalkPlace {
     /// Before the header of a box.
     AtBox(u64),
     /// In an mdat that ends there.
@@ -74,7 +74,7 @@ pub struct Fragment {
     /// Where the last of these ends, in bytes from the first byte of the moof.
     pub end: u64,
     /// The place of the parser.
-    pub place: Place,
+    pub place: WalkPlace,
 }
 
 /// What the parser is doing.

@@ -13,7 +13,7 @@ mod next_step;
 mod search;
 
 pub use example::example_law;
-pub use kinds::{BoxStep, DataRange, Fragment, ParserMode, Place, StreamFault, TopLevelBox};
+pub use kinds::{BoxStep, DataRange, Fragment, ParserMode, StreamFault, TopLevelBox, WalkPlace};
 pub use laws::{boxes_law, held_law, latest_law, place_law, prefix_law};
 pub use next_step::step;
 pub use search::count_ready;

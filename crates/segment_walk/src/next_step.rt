@@ -1,12 +1,12 @@
 ghost use Rattle.std.specs.Prelude.{◌≡◌, ℕ, ◌+◌, ◌≤◌, ◌<◌, ◌^◌, List, length, take, drop};
 ghost use Rattle.std.specs.List.{concat};
 ghost use Rattle.bmff_boxes.specs.Headers.{header_of};
-ghost use Rattle.segment_walk.specs.Tables.{size_fault as fault_of, box_type as type_of, greatest_size as greatest};
-ghost use Rattle.segment_walk.specs.Moves.{place_fault as fault_at, judge_between as judged_between, take_box as taken_by, box_between as between_step, judge_within as judged_within, box_within as within_step, place_step as placed_step, lies_in as lying, slot_step as slotted_step, step_of};
-ghost use Rattle.segment_walk.specs.Ranges.{mode_of, IsAscending, SeesAscending};
+ghost use Rattle.segment_walk.specs.Tables.{size_fault, box_type, greatest_size};
+ghost use Rattle.segment_walk.specs.Moves.{place_fault, take_box, box_between, box_within, place_step, lies_in, slot_step, step_of};
+ghost use Rattle.segment_walk.specs.Ranges.{mode_of, AreRangesAscending, SeesAscending};
 ghost use Rattle.segment_walk.specs.Bounds.{IsHead, is_segment_start};
 
-use crate::kinds::{BoxStep, DataRange, ParserMode, Place, StreamFault, TopLevelBox};
+use crate::kinds::{BoxStep, DataRange, ParserMode, StreamFault, TopLevelBox, WalkPlace};
 use crate::search::lies_in;
 use bmff_boxes::{HeadFault, Header, header};
 use bmff_fragment::Slot;
@@ -17,7 +17,7 @@ use mse_base::Phase;
 const LONGEST_FRAGMENT: u128 = 1 << 27;
 
 fn box_type(kind: [u8; 4]) -> TopLevelBox
-    ensures { result ≡ type_of kind }
+    ensures { result ≡ box_type kind }
 {
     if kind == *b"ftyp" {
         TopLevelBox::FileType
@@ -35,7 +35,7 @@ fn box_type(kind: [u8; 4]) -> TopLevelBox
 }
 
 fn size_fault(fault: HeadFault) -> StreamFault
-    ensures { result ≡ fault_of fault }
+    ensures { result ≡ size_fault fault }
 {
     match fault {
         HeadFault::SizeZero => StreamFault::SizeZero,
@@ -45,7 +45,7 @@ fn size_fault(fault: HeadFault) -> StreamFault
 
 /// What is out of place.
 fn place_fault(ready: bool, phase: Phase, kind: TopLevelBox) -> Option<StreamFault>
-    ensures { result ≡ fault_at ready phase kind }
+    ensures { result ≡ place_fault ready phase kind }
 {
     match (phase, kind) {
         (Phase::Waiting, TopLevelBox::Movie) => Some(StreamFault::MoovPlace),
@@ -66,7 +66,7 @@ fn place_fault(ready: bool, phase: Phase, kind: TopLevelBox) -> Option<StreamFau
 }
 
 fn greatest_size(kind: TopLevelBox) -> u64
-    ensures { result ≡ greatest kind }
+    ensures { result ≡ greatest_size kind }
 {
     match kind {
         TopLevelBox::Movie => 1 << 24,
@@ -80,7 +80,7 @@ fn greatest_size(kind: TopLevelBox) -> u64
 
 /// What a box does where no movie fragment is open and `there` bytes of it and of what follows are there.
 fn take_box(phase: Phase, kind: TopLevelBox, there: u64, len: u64) -> BoxStep
-    ensures { result ≡ taken_by phase kind there len }
+    ensures { result ≡ take_box phase kind there len }
 {
     match (phase, kind) {
         (Phase::InInit, TopLevelBox::Movie) => if there < len {
@@ -110,7 +110,7 @@ fn take_box(phase: Phase, kind: TopLevelBox, there: u64, len: u64) -> BoxStep
 }
 
 fn box_between(ready: bool, phase: Phase, there: u64, front: Header) -> BoxStep
-    ensures { result ≡ between_step ready phase there front }
+    ensures { result ≡ box_between ready phase there front }
 {
     match front {
         Header::Short => BoxStep::Wait(0),
@@ -144,7 +144,7 @@ fn begins_segment(kind: TopLevelBox) -> bool
 
 fn box_within(there: u64, at: u64, front: Header) -> BoxStep
     requires { IsHead front }
-    ensures { result ≡ within_step there at front }
+    ensures { result ≡ box_within there at front }
 {
     match front {
         Header::Short => BoxStep::Wait(0),
@@ -195,14 +195,14 @@ fn header_at(input: &Chunks, from: usize, at: u64) -> Header
 }
 
 /// The step at a place of a movie fragment; `is_done` says that no slot is left.
-fn place_step(input: &Chunks, from: usize, is_done: bool, place: Place) -> BoxStep
+fn place_step(input: &Chunks, from: usize, is_done: bool, place: WalkPlace) -> BoxStep
     requires { from ≤ length (concat input.now) }
-    ensures { result ≡ placed_step (drop from (concat input.now)) is_done place }
+    ensures { result ≡ place_step (drop from (concat input.now)) is_done place }
 {
     let there = (input.len() - from) as u64;
     match place {
-        Place::AtBox(at) => box_within(there, at, header_at(input, from, at)),
-        Place::InData(end) => {
+        WalkPlace::AtBox(at) => box_within(there, at, header_at(input, from, at)),
+        WalkPlace::InData(end) => {
             if there < end {
                 BoxStep::Wait(end)
             } else if is_done {
@@ -220,12 +220,12 @@ fn slot_step(
     from: usize,
     known: &[DataRange],
     end: u64,
-    place: Place,
+    place: WalkPlace,
     slot: Option<Slot>,
 ) -> BoxStep
     requires inside { from ≤ length (concat input.now) }
-    requires ascending { IsAscending known.now }
-    ensures { result ≡ slotted_step (drop from (concat input.now)) known.now end place slot }
+    requires ascending { AreRangesAscending known.now }
+    ensures { result ≡ slot_step (drop from (concat input.now)) known.now end place slot }
 {
     let Some(slot) = slot else {
         return place_step(input, from, true, place);

@@ -1,16 +1,16 @@
 ghost use Rattle.std.specs.Prelude.{◌≡◌, is_some, IfSome};
 ghost use Rattle.std.specs.List.{prefix_len};
-ghost use Rattle.segment_walk.specs.Moves.{lies_in as lying, is_ready};
-ghost use Rattle.segment_walk.specs.Ranges.{IsAmong, IsAscending};
+ghost use Rattle.segment_walk.specs.Moves.{lies_in, is_ready};
+ghost use Rattle.segment_walk.specs.Ranges.{IsCoveredRange, AreRangesAscending};
 
 use crate::kinds::DataRange;
 use bmff_fragment::Slot;
 
 /// The data range in which a slot lies, by binary search.
 fn range_of(known: &[DataRange], slot: &Slot) -> Option<DataRange>
-    requires { IsAscending known.now }
-    ensures found { is_some result ≡ lying known.now slot.now }
-    ensures among { IfSome result (IsAmong known.now) }
+    requires { AreRangesAscending known.now }
+    ensures found { is_some result ≡ lies_in known.now slot.now }
+    ensures among { IfSome result (IsCoveredRange known.now) }
 {
     let begun_count = known.partition_point(|range| range.start <= slot.start);
     if begun_count == 0 {
@@ -26,10 +26,10 @@ fn range_of(known: &[DataRange], slot: &Slot) -> Option<DataRange>
 
 /// As `range_of`; the range `near` is looked at first.
 fn range_near(near: DataRange, known: &[DataRange], slot: &Slot) -> Option<DataRange>
-    requires ascending { IsAscending known.now }
-    requires among { IsAmong known.now near }
-    ensures found { is_some result ≡ lying known.now slot.now }
-    ensures among { IfSome result (IsAmong known.now) }
+    requires ascending { AreRangesAscending known.now }
+    requires among { IsCoveredRange known.now near }
+    ensures found { is_some result ≡ lies_in known.now slot.now }
+    ensures among { IfSome result (IsCoveredRange known.now) }
 {
     if near.start <= slot.start && slot.end <= near.end {
         return Some(near);
@@ -39,8 +39,8 @@ fn range_near(near: DataRange, known: &[DataRange], slot: &Slot) -> Option<DataR
 
 /// Whether a slot lies inside one of the data ranges.
 pub(crate) fn lies_in(known: &[DataRange], slot: &Slot) -> bool
-    requires { IsAscending known.now }
-    ensures { result ≡ lying known.now slot.now }
+    requires { AreRangesAscending known.now }
+    ensures { result ≡ lies_in known.now slot.now }
 {
     range_of(known, slot).is_some()
 }
@@ -48,7 +48,7 @@ pub(crate) fn lies_in(known: &[DataRange], slot: &Slot) -> bool
 /// How many of the slots in front lie inside one of the data ranges and end within the first `there` bytes. Mostly
 /// they lie in one range.
 pub fn count_ready(slots: &[Slot], known: &[DataRange], there: u64) -> usize
-    requires { IsAscending known.now }
+    requires { AreRangesAscending known.now }
     ensures { result ≡ prefix_len (is_ready there known.now) slots.now }
 {
     let Some(first) = known.first() else {

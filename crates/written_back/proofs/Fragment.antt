@@ -18,7 +18,8 @@ use Rattle.bmff_fragment.specs.declared.slot.Slot.{Slot}
 use Rattle.bmff_fragment.specs.Headers.{track_fragment_header_of, defaults_of, run_header_of}
 use Rattle.bmff_fragment.specs.Samples.{sample_of, samples_of, sample_with_defaults, header_flags, each}
 use Rattle.bmff_fragment.specs.Times.{Run, data_len, duration_of, slot_of, slot_at, slots_of_run, slots_behind}
-use Rattle.bmff_fragment.specs.Plans.{track_of, is_media, track_fragment_of, run_of, runs_of, samples_in, data_end, media_slots, trafs_of, plan_of}
+use Rattle.mse_base.specs.Moments.{is_media}
+use Rattle.bmff_fragment.specs.Plans.{track_of, track_fragment_of, run_of, runs_of, samples_in, data_end, media_slots, trafs_of, plan_of}
 use Rattle.bmff_write.specs.declared.traf_out.SampleOut.{SampleOut}
 use Rattle.bmff_write.specs.declared.traf_out.TrafOut.{TrafOut}
 use Rattle.bmff_write.specs.Boxes.{fields_bytes, box_bytes}

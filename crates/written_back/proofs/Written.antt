@@ -14,7 +14,7 @@ use Rattle.mse_base.specs.declared.track.TrackInfo.{TrackInfo}
 use Rattle.mse_base.specs.declared.track.Presentation.{Presentation}
 use Rattle.bmff_boxes.specs.declared.box_header.Header.TheVariants as head
 use Rattle.bmff_boxes.specs.Headers.{header_of}
-use Rattle.bmff_fragment.specs.Plans.{is_media}
+use Rattle.mse_base.specs.Moments.{is_media}
 use Rattle.bmff_init.specs.Movies.{init_of}
 use Rattle.parser_loop.specs.Items.{InitItem}
 use Rattle.parser_loop.specs.Parse.{items_of}

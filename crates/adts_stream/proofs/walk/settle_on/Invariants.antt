@@ -9,7 +9,7 @@ abbrev pub invariant-moves : goal.invariant-moves
 invariant-moves l = record {
   same : settle adts (state_of l.last l.position (concat l.input)) ≡ settle adts (state_of l.fn.last l.fn.position (concat l.fn.input));
   total : l.position.offset + length (concat l.input) ≡ l.fn.position.offset + length (concat l.fn.input);
-  going : l.position.failed ≡ false;
+  unfailed : l.position.failed ≡ false;
 }
 
 abbrev pub decreases-moves : goal.decreases-moves

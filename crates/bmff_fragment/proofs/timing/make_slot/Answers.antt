@@ -41,4 +41,4 @@ returns-clause-well_formed c =
     let dur : c.unwrap.result ≡ c.tick_at-end.result -ℤ c.tick_at-pts.result = cc in
     let size : s.size < 2 ^ 32 = search rules in
     is_well_formed t m t.id _ c.args.start c.tick_at-pts.result c.tick_at.result c.tick_at-end.result c.unwrap.result (c.args.start + c.from-3.result) s.size s.duration c.requires.readable.0
-    (c.tick_at-pts.ensures.value ∙ ap (tick_at t) ea) (c.tick_at-end.ensures.value ∙ ap (tick_at t) eb) dur (ap (λ x. c.args.start + x) c.from-3.ensures) c.requires.near size
+    (c.tick_at-pts.ensures.value ∙ ap (tick_at t) ea) (c.tick_at-end.ensures.value ∙ ap (tick_at t) eb) dur (ap (λ x. c.args.start + x) c.from-3.ensures) c.requires.small size

@@ -29,7 +29,7 @@ loop-sample-preserved c =
       decoded = omega (arith, was.decoded, c.from-duration.ensures, times);
       soon = omega (arith, was.soon, c.from-duration.ensures);
       place = omega (arith, was.place, c.from-size.ensures, sizes);
-      near = omega (arith, was.near, c.from-size.ensures);
+      small = omega (arith, was.small, c.from-size.ensures);
       slots = slots_more at samples i none c.make_slot.result c.args.slots.now.items c.loop-sample.slots.items c.push_reserved.new.self.items here
           (c.make_slot.ensures.value ∙ slot_same c.args.track.now c.loop-sample.decode_time (c.args.time + duration_of (take i samples)) c.loop-sample.place (c.args.start + data_len (take i samples)) s was.decoded was.place)
           c.push_reserved.ensures.items was.slots;

@@ -10,7 +10,7 @@ invariant-loop-sample l = record {
   decoded : l.decode_time ≡ l.time + duration_of (take l.sample-index l.samples);
   soon : l.decode_time ≤ l.time + l.sample-index * 2 ^ 32;
   place : l.place ≡ l.start + data_len (take l.sample-index l.samples);
-  near : l.place ≤ l.start + l.sample-index * 2 ^ 32;
+  small : l.place ≤ l.start + l.sample-index * 2 ^ 32;
   slots : l.slots.items ≡ l.fn.slots.items ++ map (slot_at l.track l.time (record { start = pos l.start; samples = l.samples })) (enumerate_from 0 (take l.sample-index l.samples));
   len : vec_len l.slots ≡ vec_len l.fn.slots + l.sample-index;
   room : vec_len l.fn.slots + length l.samples ≤ vec_capacity l.slots;

@@ -38,11 +38,11 @@ entries-preserved c =
     record {
       same = sym (front-less m last.piece (pieces_of front) (omega (arith, l, c.entries.invariant.room, c.len-len.ensures))) ∙ sym (ap (first_pieces m) e) ∙ c.entries.invariant.same;
       room = omega (arith, l, c.entries.invariant.room, c.len-len.ensures);
-      full = none-front (pieces_of front) (last.piece ∷ []) (subst HasNoEmptyPiece e c.entries.invariant.full);
+      none_empty = none-front (pieces_of front) (last.piece ∷ []) (subst HasNoEmptyPiece e c.entries.invariant.none_empty);
       ended = λ at h. ended-front front last at (subst (HasEnds at) c.in-Some.ensures.items (c.entries.invariant.ended at h));
     }
 
 pub returns-clause-pieces : goal.returns-clause-pieces
 returns-clause-pieces c =
     let m = length (concat (pieces_of c.args.entries.now.items)) - c.args.n in
-    sym (front-all m (pieces_of c.entries.entries.items) (omega (arith, c.entries.invariant.room)) c.entries.invariant.full) ∙ c.entries.invariant.same
+    sym (front-all m (pieces_of c.entries.entries.items) (omega (arith, c.entries.invariant.room)) c.entries.invariant.none_empty) ∙ c.entries.invariant.same

@@ -8,7 +8,7 @@ abbrev pub invariant-entries : goal.invariant-entries
 invariant-entries l = record {
   same : first_pieces (length (concat (pieces_of l.fn.entries.items)) - l.fn.n) (pieces_of l.entries.items) ≡ first_pieces (length (concat (pieces_of l.fn.entries.items)) - l.fn.n) (pieces_of l.fn.entries.items);
   room : length (concat (pieces_of l.fn.entries.items)) - l.fn.n + l.len_left ≡ length (concat (pieces_of l.entries.items));
-  full : HasNoEmptyPiece (pieces_of l.entries.items);
+  none_empty : HasNoEmptyPiece (pieces_of l.entries.items);
   ended : (at : ℕ) → HasEnds at l.fn.entries.items → HasEnds at l.entries.items;
 }
 

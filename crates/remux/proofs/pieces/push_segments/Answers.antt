@@ -1,12 +1,12 @@
 use Rattle.std.proofs.Common.{◌++◌, [], ◌∷◌, pos, List, ℕ, length, ap, ◌∙◌, arith}
-use Rattle.remux.specs.declared.runs.Run.{Run}
+use Rattle.remux.specs.declared.runs.RunOfTrack.{RunOfTrack}
 use Rattle.remux.specs.Runs.{IsShortIn}
 use Rattle.remux.proofs.StepLaws.{all_index}
 use Rattle.remux.proofs.SegmentLaws.{segments-next}
 use Rattle.remux.proofs.pieces.push_segments.Goals as goal
 
 -- what stands past the end
-none : Run
+none : RunOfTrack
 none = record { id = 0; decode = 0; time = pos 0; samples = record { ref_ptr = (0, 0); now = [] } }
 
 pub segment_of-requires : goal.segment_of-requires

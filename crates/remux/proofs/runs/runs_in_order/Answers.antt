@@ -2,7 +2,7 @@ use Rattle.std.proofs.Common.{◌≡◌, ℤ, ap, ◌∙◌, map, take_all, rule
 use Rattle.std.specs.List.{flat_map}
 use Rattle.std.proofs.lemmas.Cmp.{int_cmp_total}
 use Rattle.std.proofs.lemmas.List.Sorted.{ranks_by, answers_always}
-use Rattle.remux.specs.declared.runs.Run.{Run}
+use Rattle.remux.specs.declared.runs.RunOfTrack.{RunOfTrack}
 use Rattle.remux.specs.Runs.{run_value, track_runs, in_order, runs_in_order}
 use Rattle.remux.proofs.SortLaws.{sorted, sorted_is}
 use Rattle.remux.proofs.RunLaws.{earlier, order_value}
@@ -11,7 +11,7 @@ use Rattle.remux.proofs.runs.runs_in_order.Goals as goal
 pub returns : goal.returns
 unfolding runs_in_order
 returns c =
-    let key : Run → ℤ = λ r. r.time in
+    let key : RunOfTrack → ℤ = λ r. r.time in
     let old = c.loop-track.runs.items in
     let new = c.sort_by_key.new.self.items in
     let up = c.in_ok-sort_by_key.ensures.sorted key (answers_always _ _ _ (λ f a r g k. search rules)) in

@@ -10,7 +10,7 @@ pub unreachable-requires : goal.unreachable-requires
 unreachable-requires c =
     let moved = to_z w128 (of_z w128 (to_z w128 (of_z w128 c.from.result) -ℤ to_z w128 (of_z w128 c.from-2.result))) in
     let e : moved ≡ pos c.args.decode -ℤ c.args.shift = omega (arith, ints, c.from.ensures, c.from-2.ensures) in
-    let t = time-tick c.args.decode c.args.shift c.args.scale (omega arith) c.requires.low (omega (arith, ints)) in
+    let t = time-tick c.args.decode c.args.shift c.args.scale (omega arith) c.requires.shift_not_negative (omega (arith, ints)) in
     let none = c.in-None.is in
     let given = c.convert.ensures ∙ ap (λ z. tick (converted z c.args.scale)) e in
     absurd (cc)
@@ -19,7 +19,7 @@ pub returns : goal.returns
 returns c =
     let moved = to_z w128 (of_z w128 (to_z w128 (of_z w128 c.from.result) -ℤ to_z w128 (of_z w128 c.from-2.result))) in
     let e : moved ≡ pos c.args.decode -ℤ c.args.shift = omega (arith, ints, c.from.ensures, c.from-2.ensures) in
-    let t = time-tick c.args.decode c.args.shift c.args.scale (omega arith) c.requires.low (omega (arith, ints)) in
+    let t = time-tick c.args.decode c.args.shift c.args.scale (omega arith) c.requires.shift_not_negative (omega (arith, ints)) in
     let some = c.in-Some.is in
     let given = c.convert.ensures ∙ ap (λ z. tick (converted z c.args.scale)) e in
     let same : c.in-Some.time ≡ converted (pos c.args.decode -ℤ c.args.shift) c.args.scale = cc in

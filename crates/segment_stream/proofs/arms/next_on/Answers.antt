@@ -1,6 +1,6 @@
 use Rattle.std.proofs.Common.{Ok, Err, Result, OnOk, length, ap, ◌∙◌, sym, arith}
 use Rattle.std.specs.List.{concat}
-use Rattle.segment_walk.specs.Moves.{State}
+use Rattle.segment_walk.specs.Moves.{WalkState}
 use Rattle.segment_stream.specs.declared.progress.Progress.{Progress}
 use Rattle.segment_stream.specs.declared.progress.PendingItem.TheVariants as pending
 use Rattle.segment_stream.specs.Kept.{state_of, move_of_pending}
@@ -15,10 +15,10 @@ pub returns-then-progress-gt0-clause-last : goal.returns-then-progress-gt0-claus
 returns-then-progress-gt0-clause-last c = c.take_frame.ensures.last c.args.last.now
 
 pub returns-then-progress-gt0-clause-pieces : goal.returns-then-progress-gt0-clause-pieces
-returns-then-progress-gt0-clause-pieces c = on_any c.take_frame.result (all-kept c.args.input.now c.requires.full)
+returns-then-progress-gt0-clause-pieces c = on_any c.take_frame.result (all-kept c.args.input.now c.requires.none_empty)
 
 pub returns-in-Dry-clause-pieces : goal.returns-in-Dry-clause-pieces
-returns-in-Dry-clause-pieces c = all-kept c.args.input.now c.requires.full
+returns-in-Dry-clause-pieces c = all-kept c.args.input.now c.requires.none_empty
 
 pub returns-in-Fault-clause-kept : goal.returns-in-Fault-clause-kept
 returns-in-Fault-clause-kept c =
@@ -26,7 +26,7 @@ returns-in-Fault-clause-kept c =
     let tables = c.args.tables.now in
     let b = concat c.args.input.now in
     let last = c.args.last.now in
-    let s : State = state_of last r.position tables b in
+    let s : WalkState = state_of last r.position tables b in
     let e = c.in_ok-pending_item.ensures.value ∙ ap (move_of_pending s) c.in-Fault.is in
     let q = front-item last r.position.mode r.position.offset r.from r.first r.ready r.want r.position.failed tables b (pending.Fault c.in-Fault.fault c.in-Fault.at) c.requires.rest.front (omega arith) e in
     rw c.fail_on.ensures.progress (kept-failed last r.position.mode r.position.offset r.first r.ready 0 tables _ (bytes-gone c.args.input.now _ c.fail_on.ensures.input) (omega arith) ∙ sym q.1)

@@ -19,6 +19,6 @@ moves-preserved c =
       same = g.same ∙ c.moves.invariant.same;
       consistent = g.consistent;
       total = g.total ∙ c.moves.invariant.total;
-      going = g.going ∙ c.moves.invariant.going;
+      same_failed = g.same_failed ∙ c.moves.invariant.same_failed;
       since = since-on c.args.start.position.mode c.moves.at.position.mode c.in-Go.next.position.mode c.args.tables.now c.moves.tables c.move_on.new.tables c.moves.invariant.since g.since;
     }

@@ -15,4 +15,4 @@ copy-requires c =
 pub returns-in-Ok-clause-value : goal.returns-in-Ok-clause-value
 returns-in-Ok-clause-value c =
     let r = c.args.progress.now in
-    absurd (plan-stuck c.args.last.now c.in-Some.with r.position.mode r.position.offset r.want (concat c.args.input.now) r.position.failed c.args.tables.now c.args.len c.in-Ok.field-0.slots c.in-Some.is c.requires.going c.requires.active c.requires.rest.rests c.requires.step (ap (plan_of c.in-Some.with.tracks) (sym (c.as_slice.ensures ∙ c.in_ok-moof.ensures)) ∙ c.in-Ok.ensures.value))
+    absurd (plan-stuck c.args.last.now c.in-Some.with r.position.mode r.position.offset r.want (concat c.args.input.now) r.position.failed c.args.tables.now c.args.len c.in-Ok.field-0.slots c.in-Some.is c.requires.unfailed c.requires.active c.requires.rest.rests c.requires.step (ap (plan_of c.in-Some.with.tracks) (sym (c.as_slice.ensures ∙ c.in_ok-moof.ensures)) ∙ c.in-Ok.ensures.value))

@@ -8,7 +8,7 @@ use Rattle.adts_stream.proofs.stream.AdtsStream.offer.Goals as goal
 pub invariant_of-self-2 : goal.invariant_of-self-2
 invariant_of-self-2 c =
     let s = c.self.inside in
-    let h = idle s.last s.position (concat s.input) s.fed s.offered c.args.self.now c.self.view_is c.requires.idle in
+    let h = idle s.last s.position (concat s.input) s.fed s.offered c.args.self.now c.self.view_is c.requires.none_offered in
     let e = ap concat c.in_ok-push.ensures.ok ∙ bytes-pushed c.args.bytes.now s.input in
     let i = subst (λ (o : Option ℕ). IsStream s.position (concat s.input) s.fed o) h.1 c.self.invariant in
     offer-holds s.position (concat s.input) _ c.args.bytes.now s.fed (length c.args.bytes.now) e refl i (omega (arith, c.requires.room, ap (λ (v : AdtsView). v.fed) h.0))
@@ -16,6 +16,6 @@ invariant_of-self-2 c =
 pub returns-clause-ok : goal.returns-clause-ok
 returns-clause-ok c =
     let s = c.self.inside in
-    let h = idle s.last s.position (concat s.input) s.fed s.offered c.args.self.now c.self.view_is c.requires.idle in
+    let h = idle s.last s.position (concat s.input) s.fed s.offered c.args.self.now c.self.view_is c.requires.none_offered in
     let e = ap concat c.in_ok-push.ensures.ok ∙ bytes-pushed c.args.bytes.now s.input in
     offer-view s.last s.position (concat s.input) _ c.args.bytes.now s.fed (length c.args.bytes.now) e refl ∙ ap (λ (v : AdtsView). record { state = v.state; fed = v.fed; offered = Some c.args.bytes.now }) h.0

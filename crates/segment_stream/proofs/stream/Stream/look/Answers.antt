@@ -1,7 +1,7 @@
 use Rattle.std.proofs.Common.{◌≡◌, ℕ, ◌+◌, ◌<◌, ◌≤◌, ◌⊎◌, inl, inr, Result, Ok, Err, IfOk, length, drop, slice_get, ap, ◌∙◌, sym, refl, arith}
 use Rattle.std.specs.List.{concat}
 use Rattle.parser_loop.specs.Walk.{first_item}
-use Rattle.segment_walk.specs.Moves.{State, segments}
+use Rattle.segment_walk.specs.Moves.{WalkState, segments}
 use Rattle.segment_walk.specs.Segments.{Items}
 use Rattle.segment_stream.specs.Kept.{state_of}
 use Rattle.segment_stream.specs.Streams.{SegmentView}
@@ -20,7 +20,7 @@ none-ready i ready count l e (inr h) = absurd (omega arith)
 pub returns-then-i-self : goal.returns-then-i-self
 returns-then-i-self c = λ last b n st.
     let s = c.self.inside in
-    let h = idle s.last s.progress s.tables s.input s.fed s.offered c.args.self.now c.self.view_is c.requires.idle c.self.invariant in
+    let h = idle s.last s.progress s.tables s.input s.fed s.offered c.args.self.now c.self.view_is c.requires.none_offered c.self.invariant in
     let r = s.progress in
     let l = frames-counted r.position.mode (drop r.from (concat s.input)) r.position.offset s.tables r.first r.ready h.0.rest.consistent.counts in
     let k = ap (λ (v : SegmentView). v.kept.items) h.1 in
@@ -30,13 +30,13 @@ returns-then-i-self c = λ last b n st.
 pub returns : goal.returns
 returns c = λ last b n st.
     let s = c.self.inside in
-    let h = idle s.last s.progress s.tables s.input s.fed s.offered c.args.self.now c.self.view_is c.requires.idle c.self.invariant in
+    let h = idle s.last s.progress s.tables s.input s.fed s.offered c.args.self.now c.self.view_is c.requires.none_offered c.self.invariant in
     let r = s.progress in
     let tables = s.tables in
     let l = frames-counted r.position.mode (drop r.from (concat s.input)) r.position.offset tables r.first r.ready h.0.rest.consistent.counts in
     let k = ap (λ (v : SegmentView). length v.kept.items) h.1 in
     let z = none-ready c.args.i r.ready (length c.args.self.now.kept.items) (omega arith) (omega arith) c.requires.ready in
-    let t : State = state_of s.last r.position tables (concat s.input) in
-    let q = front-item s.last r.position.mode r.position.offset r.from r.first r.ready r.want r.position.failed tables (concat s.input) c.in_ok-front.front h.0.rest.front z.1 c.in_ok-front.ensures.value in
+    let t : WalkState = state_of s.last r.position tables (concat s.input) in
+    let q = front-item s.last r.position.mode r.position.offset r.from r.first r.ready r.want r.position.failed tables (concat s.input) c.in_ok-pending.pending h.0.rest.front z.1 c.in_ok-pending.ensures.value in
     let y : n ≡ n + c.args.i = omega arith in
-    c.shown.ensures t refl ∙ sym q.0 ∙ ap (λ (v : SegmentView). first_item segments v.kept) h.1 ∙ stands-item c.args.self.now.kept last b n st ∙ ap (slice_get (Items last b)) y
+    c.next_of.ensures t refl ∙ sym q.0 ∙ ap (λ (v : SegmentView). first_item segments v.kept) h.1 ∙ stands-item c.args.self.now.kept last b n st ∙ ap (slice_get (Items last b)) y

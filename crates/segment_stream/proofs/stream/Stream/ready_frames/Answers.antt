@@ -1,7 +1,7 @@
 use Rattle.std.proofs.Common.{length, drop, ap, ◌∙◌, sym}
 use Rattle.std.specs.List.{concat}
 use Rattle.segment_stream.specs.Streams.{SegmentView}
-use Rattle.segment_stream.proofs.StreamLaws.{idle, frames-counted, stands-count}
+use Rattle.segment_stream.proofs.StreamLaws.{idle, few-ready, frames-counted, stands-count}
 use Rattle.segment_stream.proofs.stream.Stream.ready_frames.Goals as goal
 
 pub returns-clause-kept : goal.returns-clause-kept
@@ -17,3 +17,10 @@ returns-clause-ready c = λ last b n st.
     let h = idle s.last s.progress s.tables s.input s.fed s.offered c.args.self.now c.self.view_is c.requires c.self.invariant in
     let r = s.progress in
     sym (frames-counted r.position.mode (drop r.from (concat s.input)) r.position.offset s.tables r.first r.ready h.0.rest.consistent.counts) ∙ ap (λ (v : SegmentView). length v.kept.items) h.1 ∙ stands-count c.args.self.now.kept last b n st
+
+pub returns-clause-few : goal.returns-clause-few
+returns-clause-few c =
+    let s = c.self.inside in
+    let h = idle s.last s.progress s.tables s.input s.fed s.offered c.args.self.now c.self.view_is c.requires c.self.invariant in
+    let r = s.progress in
+    few-ready r.position.mode s.tables r.first r.ready h.0.rest.consistent.counts

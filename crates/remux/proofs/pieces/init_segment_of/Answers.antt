@@ -4,7 +4,7 @@ use Rattle.bmff_write.specs.Tracks.{AreTracksOut, AreSampleDescriptions}
 use Rattle.sample_tables.specs.declared.media_track.MediaTrack.{MediaTrack}
 use Rattle.remux.specs.Remuxed.{track_out}
 use Rattle.remux.proofs.PieceLaws.{tracks_out_are, descriptions_are}
-use Rattle.remux.proofs.pieces.init_of.Goals as goal
+use Rattle.remux.proofs.pieces.init_segment_of.Goals as goal
 
 pub write_init_with-requires-clause-tracks : goal.write_init_with-requires-clause-tracks
 write_init_with-requires-clause-tracks c =
