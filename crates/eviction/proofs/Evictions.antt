@@ -1,27 +1,20 @@
 -- Tracks after ranges were removed.
-use Rattle.std.proofs.Common.{◌≡◌, ◌∙◌, ℕ, ◌<◌, ℤ, pos, ◌+ℤ◌, ◌<ℤ◌, ◌≤ℤ◌, int_lt, int_le, nat_lt, Bool, true, false, not, cond, ◌&&◌, zero, suc, List, [], ◌∷◌, ◌++◌, length, filter, reverse, slice_get, Option, Some, None, refl, sym, ap, arith}
+use Rattle.std.proofs.Common.{◌≡◌, ◌∙◌, ℕ, ◌<◌, ℤ, ◌<ℤ◌, ◌≤ℤ◌, int_lt, int_le, nat_lt, Bool, true, false, not, cond, ◌&&◌, List, [], ◌∷◌, ◌++◌, length, filter, reverse, slice_get, Option, Some, None, refl, sym, ap, arith}
 use Rattle.std.specs.List.{AllByRecursion}
-use Rattle.std.specs.Option.{IfSome}
 use Rattle.std.proofs.lemmas.Int.{ints}
 use Rattle.std.proofs.lemmas.List.{reverse-append, length-append}
 use Rattle.mse_base.specs.declared.ticks.Moment.{Moment}
 use Rattle.mse_base.specs.declared.ticks.Moment.TheVariants.{At}
-use Rattle.mse_base.specs.Time.{IsTick}
-use Rattle.track_store.specs.declared.store.Stored.{Stored}
 use Rattle.track_store.specs.Kept.{AreKept, AreEndedBy, AreStillSound, bytes_in}
-use Rattle.track_store.specs.Sound.{IsSound, IsNotNegative}
-use Rattle.track_store.specs.Frames.{IsTimed}
 use Rattle.track_store.specs.State.{TrackState}
-use Rattle.track_store.proofs.Clearing.{each-cleared}
 use Rattle.mse_base.specs.Moments.{time_or, is_at_or_before}
-use Rattle.track_store.specs.Frames.{is_between}
-use Rattle.range_removal.specs.Removal.{remove_end, track_after_removal, tracks_after_removal}
+use Rattle.range_removal.specs.Removal.{tracks_after_removal}
 use Rattle.range_removal.proofs.Removing.{kept_removed, ends_removed, still_removed}
 use Rattle.track_store.proofs.StillSound.{still_same, still_both}
 use Rattle.eviction.specs.Evicting.{RemovalRange, first_of, lead_of, tracks_after_eviction, sync_times, frames_of, removal_ranges, ends_up_to, starts_after, ranges_in_order, has_room, tracks_while_full}
 use Rattle.eviction.specs.Steps.{times_at, times_from, times_between, ranges_back, left_before, left_after}
 use Rattle.eviction.proofs.Times.{IsRising, first_least, each_of, filter-each, filter_both}
-use Rattle.eviction.proofs.Syncs.{rising_times, times_removed, times-each, is_gone}
+use Rattle.eviction.proofs.Syncs.{rising_times, times_removed, is_gone}
 use Rattle.eviction.proofs.Ranges.{from_is, from_first, from_next, next_stay, after_stay, no_more, ends-step, back_is, stays_of, and_parts, lt_of, le_of}
 
 -- ---- ranges one after another

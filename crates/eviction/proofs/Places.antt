@@ -9,10 +9,10 @@ use Rattle.mse_base.specs.Time.{IsTick, tick}
 use Rattle.mse_base.proofs.TickLemmas.{tick_some, tick_none}
 use Rattle.track_store.specs.declared.store.Stored.{Stored}
 use Rattle.track_store.specs.declared.tracks.Track.{Track}
-use Rattle.mse_base.specs.Moments.{is_before, greatest, greater_of}
+use Rattle.mse_base.specs.Moments.{is_before, greatest, greater_of, is_video}
 use Rattle.track_store.specs.Frames.{starts}
 use Rattle.track_store.specs.State.{TrackState, state_of, states_of}
-use Rattle.eviction.specs.Evicting.{first_of, frames_of, is_video, lead_of, sync_times}
+use Rattle.eviction.specs.Evicting.{first_of, frames_of, lead_of, sync_times}
 use Rattle.eviction.specs.Steps.{IsAmong, times_at}
 use Rattle.eviction.proofs.Times.{each_of, filter_same, filter_none, all_along}
 use Rattle.eviction.proofs.Syncs.{times_under}

@@ -15,7 +15,7 @@ use Rattle.track_store.specs.Kept.{bytes_in}
 use Rattle.track_store.specs.State.{TrackState}
 use Rattle.track_store.proofs.Clearing.{goes, cleared-goes, cleared-stays, cleared-cleared, cleared-nothing}
 use Rattle.range_removal.specs.Removal.{remove_end, track_after_removal, tracks_after_removal}
-use Rattle.eviction.specs.Evicting.{RemovalRange, holds, first_of, frames_of, lead_of, sync_times, removal_ranges, ends_up_to, starts_after, ranges_in_order, has_room, tracks_while_full, tracks_after_eviction}
+use Rattle.eviction.specs.Evicting.{RemovalRange, holds, frames_of, lead_of, sync_times, removal_ranges, ends_up_to, starts_after, ranges_in_order, has_room, tracks_while_full, tracks_after_eviction}
 use Rattle.eviction.specs.Steps.{IsAmong}
 use Rattle.eviction.specs.Spared.{HasRange, IsLeftOf, IsSparedIn}
 use Rattle.eviction.proofs.Times.{IsRising, all_has}

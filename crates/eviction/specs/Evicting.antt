@@ -1,20 +1,13 @@
 -- Coded frame eviction as one function on lists (Media Source Extensions, 3.5.10).
-use Rattle.std.specs.Prelude.{ℕ, ◌+◌, ℤ, int_le, int_lt, nat_le, nat_lt, Bool, true, false, ◌&&◌, List, [], ◌∷◌, ◌++◌, filter, find, fold, reverse, slice_get, Option, Some, None, if◌then◌else◌}
+use Rattle.std.specs.Prelude.{ℕ, ◌+◌, ℤ, int_le, int_lt, nat_le, nat_lt, Bool, ◌&&◌, List, [], ◌∷◌, ◌++◌, filter, find, fold, reverse, slice_get, Option, Some, None, if◌then◌else◌}
 use Rattle.std.specs.Option.{option_or}
 use Rattle.mse_base.specs.declared.ticks.Moment.{Moment}
-use Rattle.mse_base.specs.declared.track.Kind.{Kind}
-use Rattle.mse_base.specs.declared.track.Kind.TheVariants.{Video, Audio, Other}
 use Rattle.track_store.specs.declared.store.Stored.{Stored}
 use Rattle.track_store.specs.Frames.{starts}
 use Rattle.track_store.specs.Kept.{bytes_in}
 use Rattle.track_store.specs.State.{TrackState}
-use Rattle.mse_base.specs.Moments.{is_at_or_before, is_before, time_or}
+use Rattle.mse_base.specs.Moments.{is_at_or_before, is_before, is_video, time_or}
 use Rattle.range_removal.specs.Removal.{tracks_after_removal}
-
-abbrev pub is_video : Kind → Bool
-is_video Video = true
-is_video Audio = false
-is_video Other = false
 
 -- the lead track: the first video track, and the first track where there is no video track
 abbrev pub lead_of : List TrackState → Option TrackState

@@ -5,7 +5,8 @@ use Rattle.mse_base.specs.declared.ticks.Moment.{Moment}
 use Rattle.mse_base.specs.declared.ticks.Moment.TheVariants.{At}
 use Rattle.track_store.specs.State.{TrackState}
 use Rattle.mse_base.specs.Moments.{time_or}
-use Rattle.eviction.specs.Evicting.{RemovalRange, frames_of, sync_times, removal_ranges, ends_up_to}
+use Rattle.eviction.specs.declared.need.Need.{Need}
+use Rattle.eviction.specs.Evicting.{RemovalRange, frames_of, sync_times, removal_ranges, ends_up_to, tracks_while_full}
 
 -- the times of the track at place k
 abbrev pub times_at : ℕ → List TrackState → List ℤ
@@ -39,6 +40,12 @@ left_before position k duration start ts =
 abbrev pub left_after : ℤ → ℕ → Moment → Option ℤ → List TrackState → List RemovalRange
 left_after position k duration next ts =
     ranges_back (time_or next duration) (reverse (times_between position next (times_at k ts)))
+
+-- the tracks, where the ranges that are left to be removed of them go one by one while the new bytes have no room
+abbrev pub tracks_evicted : Need → Moment → (List TrackState → List RemovalRange) → List TrackState
+    → List TrackState
+tracks_evicted need duration left ts =
+    tracks_while_full need.new_bytes need.quota duration (left ts) ts
 
 -- the time is one of the list
 abbrev pub IsAmong : ℤ → List ℤ → Type 0

@@ -1,11 +1,11 @@
-ghost use Rattle.std.specs.Prelude.{◌≡◌, ◌<◌, ◌≤◌, ◌+◌, ℕ, ℤ, Some, None, int_lt, not, filter, length, if◌then◌else◌, MatchOption};
+ghost use Rattle.std.specs.Prelude.{◌≡◌, ◌<◌, ◌≤◌, ◌+◌, ℕ, ℤ, Some, None, int_lt, not, filter, length, if◌then◌else◌, IfSome, MatchOption};
 ghost use Rattle.track_store.specs.Kept.{AreKept, AreEndedBy, AreStillSound, HasSpareRoom, gaps_of};
 ghost use Rattle.track_store.specs.State.{states_of};
 ghost use Rattle.range_removal.specs.Rooms.{IsRoomKept};
 ghost use Rattle.range_removal.specs.Removal.{tracks_after_removal};
 ghost use Rattle.mse_base.specs.Moments.{is_at_or_before, time_or};
 ghost use Rattle.eviction.specs.Evicting.{ends_up_to, tracks_after_eviction, first_of, has_room, ranges_in_order, removal_ranges, tracks_while_full, starts_after};
-ghost use Rattle.eviction.specs.Steps.{left_after, left_before, times_at, times_between, times_from};
+ghost use Rattle.eviction.specs.Steps.{left_after, left_before, tracks_evicted, times_at, times_between, times_from};
 
 use crate::latest::latest_sync;
 use crate::lead::{first_sync, lead_of, sync_after};
@@ -64,11 +64,9 @@ fn evict_before_step<S: FrameStore>(
 ) -> Option<Ticks>
     requires first { first_of (times_from (Some start)
         (times_at lead (states_of S.frames tracks.old.items))) ≡ Some start }
-    ensures states { tracks_while_full need.now.new_bytes need.now.quota duration.now
-        (left_before position lead duration.now result (states_of S.frames tracks.new.items))
-        (states_of S.frames tracks.new.items)
-        ≡ tracks_while_full need.now.new_bytes need.now.quota duration.now
-        (left_before position lead duration.now (Some start) (states_of S.frames tracks.old.items))
+    ensures states { tracks_evicted need.now duration.now
+        (left_before position lead duration.now result) (states_of S.frames tracks.new.items)
+        ≡ tracks_evicted need.now duration.now (left_before position lead duration.now (Some start))
         (states_of S.frames tracks.old.items) }
     ensures first { first_of (times_from result
         (times_at lead (states_of S.frames tracks.new.items))) ≡ result }
@@ -127,20 +125,16 @@ fn evict_after_step<S: FrameStore>(
     duration: &Moment,
 ) -> Option<Ticks>
     ensures states { MatchOption result
-        (states_of S.frames tracks.new.items
-        ≡ tracks_while_full need.now.new_bytes need.now.quota duration.now
-        (left_after position lead duration.now next.now (states_of S.frames tracks.old.items))
-        (states_of S.frames tracks.old.items))
-        (λ start. (tracks_while_full need.now.new_bytes need.now.quota duration.now
-        (left_after position lead duration.now (Some start) (states_of S.frames tracks.new.items))
-        (states_of S.frames tracks.new.items)
-        ≡ tracks_while_full need.now.new_bytes need.now.quota duration.now
-        (left_after position lead duration.now next.now (states_of S.frames tracks.old.items))
-        (states_of S.frames tracks.old.items))
-        × (length (times_between position (Some start)
+        (states_of S.frames tracks.new.items ≡ tracks_evicted need.now duration.now
+        (left_after position lead duration.now next.now) (states_of S.frames tracks.old.items))
+        (λ start. tracks_evicted need.now duration.now
+        (left_after position lead duration.now (Some start)) (states_of S.frames tracks.new.items)
+        ≡ tracks_evicted need.now duration.now
+        (left_after position lead duration.now next.now) (states_of S.frames tracks.old.items)) }
+    ensures fewer { IfSome result (λ start. length (times_between position (Some start)
         (times_at lead (states_of S.frames tracks.new.items)))
         < length (times_between position next.now
-        (times_at lead (states_of S.frames tracks.old.items))))) }
+        (times_at lead (states_of S.frames tracks.old.items)))) }
     ensures spare { IsRoomKept S.spare tracks.old.items tracks.new.items }
     ensures gaps { gaps_of S.gap tracks.new.items ≡ gaps_of S.gap tracks.old.items }
     ensures places { tracks.new.spare ≡ tracks.old.spare }
@@ -166,10 +160,8 @@ fn evict_after<S: FrameStore>(
     need: &Need,
     duration: &Moment,
 )
-    ensures states { states_of S.frames tracks.new.items
-        ≡ tracks_while_full need.now.new_bytes need.now.quota duration.now
-        (left_after position lead duration.now None (states_of S.frames tracks.old.items))
-        (states_of S.frames tracks.old.items) }
+    ensures states { states_of S.frames tracks.new.items ≡ tracks_evicted need.now duration.now
+        (left_after position lead duration.now None) (states_of S.frames tracks.old.items) }
     ensures spare { IsRoomKept S.spare tracks.old.items tracks.new.items }
     ensures gaps { gaps_of S.gap tracks.new.items ≡ gaps_of S.gap tracks.old.items }
     ensures places { tracks.new.spare ≡ tracks.old.spare }

@@ -1,28 +1,19 @@
 ghost use Rattle.std.specs.Prelude.{◌≡◌, ◌+ℤ◌, pos, int_lt, not, filter, slice_get, IfSome};
 ghost use Rattle.mse_base.specs.Time.{IsTick, tick};
-ghost use Rattle.mse_base.specs.Moments.{is_before, greatest};
+ghost use Rattle.mse_base.specs.Moments.{is_before, is_video, greatest};
 ghost use Rattle.track_store.specs.Frames.{starts};
 ghost use Rattle.track_store.specs.State.{states_of};
-ghost use Rattle.eviction.specs.Evicting.{first_of, frames_of, is_video, lead_of};
+ghost use Rattle.eviction.specs.Evicting.{first_of, frames_of, lead_of};
 ghost use Rattle.eviction.specs.Steps.{times_at};
 
-use mse_base::{Kind, Moment, Ticks};
+use mse_base::{Moment, Ticks};
 use track_store::{FrameStore, Tracks};
-
-fn is_video(kind: Kind) -> bool
-    ensures { result ≡ is_video kind }
-{
-    match kind {
-        Kind::Video => true,
-        Kind::Audio | Kind::Other => false,
-    }
-}
 
 fn is_video_at<S: FrameStore>(tracks: &Tracks<S>, i: usize) -> bool
     ensures { IfSome (slice_get tracks.now.items i) (λ t. result ≡ is_video t.kind) }
 {
     match tracks.get(i) {
-        Some(track) => is_video(track.kind),
+        Some(track) => track.kind.is_video(),
         None => false,
     }
 }

@@ -35,18 +35,18 @@ through spare (Some t) None (Some u) none h k = absurd (let no : Some u ≡ None
 through spare (Some t) (Some v) None none h k = tt
 through spare (Some t) (Some v) (Some u) none h k = omega arith
 
-none_past : {X : Type 0} (xs ys : List X) (k : ℕ) → length ys ≡ length xs → slice_get xs k ≡ None → slice_get ys k ≡ None
-none_past xs [] k e h = refl
-none_past [] (y ∷ ys) k e h = absurd (omega arith)
-none_past (x ∷ xs) (y ∷ ys) zero e h = absurd cc
-none_past (x ∷ xs) (y ∷ ys) (suc k) e h = none_past xs ys k (omega arith) h
+pub none_in_both : {X : Type 0} (xs ys : List X) (k : ℕ) → length ys ≡ length xs → slice_get xs k ≡ None → slice_get ys k ≡ None
+none_in_both xs [] k e h = refl
+none_in_both [] (y ∷ ys) k e h = absurd (omega arith)
+none_in_both (x ∷ xs) (y ∷ ys) zero e h = absurd cc
+none_in_both (x ∷ xs) (y ∷ ys) (suc k) e h = none_in_both xs ys k (omega arith) h
 
 -- as many gaps, as many tracks
 pub same_length : {S : Type 0} (gap : S → ℤ) (ts us : List (Track S)) → gaps_of gap us ≡ gaps_of gap ts → length us ≡ length ts
 same_length gap ts us e = sym (length-map us (λ t. gap t.store)) ∙ ap length e ∙ length-map ts (λ t. gap t.store)
 
 pub keeps_both : {S : Type 0} (spare : S → ℕ) (gap : S → ℤ) (ts us vs : List (Track S)) → gaps_of gap vs ≡ gaps_of gap us → IsRoomKept spare ts us → IsRoomKept spare us vs → IsRoomKept spare ts vs
-keeps_both spare gap ts us vs e h g k = through spare (slice_get ts k) (slice_get us k) (slice_get vs k) (none_past us vs k (same_length gap us vs e)) (h k) (g k)
+keeps_both spare gap ts us vs e h g k = through spare (slice_get ts k) (slice_get us k) (slice_get vs k) (none_in_both us vs k (same_length gap us vs e)) (h k) (g k)
 
 pub gaps_set : {S : Type 0} (gap : S → ℤ) (ts : List (Track S)) (i : ℕ) (t u : Track S) → slice_get ts i ≡ Some t → gap u.store ≡ gap t.store → gaps_of gap (set ts i u) ≡ gaps_of gap ts
 gaps_set gap [] i t u e h = refl

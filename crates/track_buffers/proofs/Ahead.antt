@@ -6,15 +6,10 @@ use Rattle.std.proofs.lemmas.Bool.Decides.{Decides-eqb}
 use Rattle.track_store.specs.declared.tracks.Track.{Track}
 use Rattle.track_store.specs.Kept.{HasSpareRoom}
 use Rattle.range_removal.specs.Rooms.{IsRoomKept}
+use Rattle.range_removal.proofs.Rooms.{none_in_both}
 use Rattle.frame_rules.specs.Place.{IsRoomTakenAt}
 use Rattle.track_buffers.specs.declared.rooms.Ahead.{Ahead}
 use Rattle.track_buffers.specs.Ahead.{HasRoomAhead, ahead_after_frame}
-
-none_past : {X : Type 0} (xs ys : List X) (k : ℕ) → length ys ≡ length xs → slice_get xs k ≡ None → slice_get ys k ≡ None
-none_past xs [] k e h = refl
-none_past [] (y ∷ ys) k e h = absurd (omega arith)
-none_past (x ∷ xs) (y ∷ ys) zero e h = absurd cc
-none_past (x ∷ xs) (y ∷ ys) (suc k) e h = none_past xs ys k (omega arith) h
 
 -- ---- nothing is known
 
@@ -63,7 +58,7 @@ kept_at spare n None (Some u) none h k = absurd (let no : Some u ≡ None = none
 kept_at spare n (Some t) (Some u) none h k = omega arith
 
 pub ahead_kept : {S : Type 0} (spare : S → ℕ) (a : Ahead) (ts us : List (Track S)) → length us ≡ length ts → IsRoomKept spare ts us → HasRoomAhead spare a ts → HasRoomAhead spare a us
-ahead_kept spare a ts us long keep h k = kept_at spare (cond (k == a.place) a.own a.others) (slice_get ts k) (slice_get us k) (none_past ts us k long) (h k) (keep k)
+ahead_kept spare a ts us long keep h k = kept_at spare (cond (k == a.place) a.own a.others) (slice_get ts k) (slice_get us k) (none_in_both ts us k long) (h k) (keep k)
 
 -- more room in one store
 
@@ -94,26 +89,34 @@ other_at spare m n other (Some t) (Some u) less is none h k = let same = k.1 is 
 differs : (k i : ℕ) → (k == i) ≡ false → k ≢ i
 differs k i e same = absurd (let yes : (k == i) ≡ true = (Decides-eqb k i).1 same in cc)
 
--- the room known of the store at place k, where it is b whether that is the place
-abbrev Known : {S : Type 0} → (S → ℕ) → ℕ → ℕ → List (Track S) → ℕ → Bool → Type 0
-Known spare own others ts k b = IfSome (slice_get ts k) (λ t. cond b own others ≤ spare t.store)
+-- the room known of the store at place k, where b tells whether that is the place
+abbrev Known : {S : Type 0} → (S → ℕ) → Ahead → List (Track S) → ℕ → Bool → Type 0
+Known spare a ts k b = IfSome (slice_get ts k) (λ t. cond b a.own a.others ≤ spare t.store)
 
-same_place : {S : Type 0} (spare : S → ℕ) (own others i k : ℕ) (ts us : List (Track S)) (b : Bool) → (k == i) ≡ b → length us ≡ length ts → IsRoomTakenAt spare i ts us → Known spare own others ts k b → Known spare (own - 1) others us k b
-same_place spare own others i k ts us true e long taken h = less_at spare own (k ≢ i) (slice_get ts k) (slice_get us k) (none_past ts us k long) h (taken k)
-same_place spare own others i k ts us false e long taken h = other_at spare others others (k ≢ i) (slice_get ts k) (slice_get us k) (omega arith) (differs k i e) (none_past ts us k long) h (taken k)
+-- after a frame of the track at the place
+abbrev less_own : ℕ → Ahead → Ahead
+less_own i a = record { place = i; own = a.own - 1; others = a.others }
 
-other_place : {S : Type 0} (spare : S → ℕ) (own others place i k : ℕ) (ts us : List (Track S)) (b c : Bool) → (i == place) ≡ false → (k == i) ≡ b → (k == place) ≡ c → length us ≡ length ts → IsRoomTakenAt spare i ts us → Known spare own others ts k c → Known spare (others - 1) (min others own) us k b
-other_place spare own others place i k ts us true true apart e f long taken h =
-    absurd (let same : i ≡ place = sym ((Decides-eqb k i).0 e) ∙ (Decides-eqb k place).0 f in differs i place apart same)
-other_place spare own others place i k ts us true false apart e f long taken h = less_at spare others (k ≢ i) (slice_get ts k) (slice_get us k) (none_past ts us k long) h (taken k)
-other_place spare own others place i k ts us false true apart e f long taken h = other_at spare (min others own) own (k ≢ i) (slice_get ts k) (slice_get us k) (omega arith) (differs k i e) (none_past ts us k long) h (taken k)
-other_place spare own others place i k ts us false false apart e f long taken h = other_at spare (min others own) others (k ≢ i) (slice_get ts k) (slice_get us k) (omega arith) (differs k i e) (none_past ts us k long) h (taken k)
+-- after one of the track at another place
+abbrev less_other : ℕ → Ahead → Ahead
+less_other i a = record { place = i; own = a.others - 1; others = min a.others a.own }
 
-after_by : {S : Type 0} (spare : S → ℕ) (a : Ahead) (i : ℕ) (ts us : List (Track S)) (b : Bool) → (i == a.place) ≡ b → length us ≡ length ts → IsRoomTakenAt spare i ts us → HasRoomAhead spare a ts → HasRoomAhead spare (cond b (record { place = i; own = a.own - 1; others = a.others }) (record { place = i; own = a.others - 1; others = min a.others a.own })) us
+same_place : {S : Type 0} (spare : S → ℕ) (a : Ahead) (i k : ℕ) (ts us : List (Track S)) (b : Bool) → (k == i) ≡ b → length us ≡ length ts → IsRoomTakenAt spare i ts us → Known spare a ts k b → Known spare (less_own i a) us k b
+same_place spare a i k ts us true e long taken h = less_at spare a.own (k ≢ i) (slice_get ts k) (slice_get us k) (none_in_both ts us k long) h (taken k)
+same_place spare a i k ts us false e long taken h = other_at spare a.others a.others (k ≢ i) (slice_get ts k) (slice_get us k) (omega arith) (differs k i e) (none_in_both ts us k long) h (taken k)
+
+other_place : {S : Type 0} (spare : S → ℕ) (a : Ahead) (i k : ℕ) (ts us : List (Track S)) (b c : Bool) → (i == a.place) ≡ false → (k == i) ≡ b → (k == a.place) ≡ c → length us ≡ length ts → IsRoomTakenAt spare i ts us → Known spare a ts k c → Known spare (less_other i a) us k b
+other_place spare a i k ts us true true apart e f long taken h =
+    absurd (let same : i ≡ a.place = sym ((Decides-eqb k i).0 e) ∙ (Decides-eqb k a.place).0 f in differs i a.place apart same)
+other_place spare a i k ts us true false apart e f long taken h = less_at spare a.others (k ≢ i) (slice_get ts k) (slice_get us k) (none_in_both ts us k long) h (taken k)
+other_place spare a i k ts us false true apart e f long taken h = other_at spare (min a.others a.own) a.own (k ≢ i) (slice_get ts k) (slice_get us k) (omega arith) (differs k i e) (none_in_both ts us k long) h (taken k)
+other_place spare a i k ts us false false apart e f long taken h = other_at spare (min a.others a.own) a.others (k ≢ i) (slice_get ts k) (slice_get us k) (omega arith) (differs k i e) (none_in_both ts us k long) h (taken k)
+
+after_by : {S : Type 0} (spare : S → ℕ) (a : Ahead) (i : ℕ) (ts us : List (Track S)) (b : Bool) → (i == a.place) ≡ b → length us ≡ length ts → IsRoomTakenAt spare i ts us → HasRoomAhead spare a ts → HasRoomAhead spare (cond b (less_own i a) (less_other i a)) us
 after_by spare a i ts us true e long taken h k =
     let same : a.place ≡ i = sym ((Decides-eqb i a.place).0 e) in
-    same_place spare a.own a.others i k ts us (k == i) refl long taken (subst (λ (p : ℕ). Known spare a.own a.others ts k (k == p)) same (h k))
-after_by spare a i ts us false e long taken h k = other_place spare a.own a.others a.place i k ts us (k == i) (k == a.place) e refl refl long taken (h k)
+    same_place spare a i k ts us (k == i) refl long taken (subst (λ (p : ℕ). Known spare a ts k (k == p)) same (h k))
+after_by spare a i ts us false e long taken h k = other_place spare a i k ts us (k == i) (k == a.place) e refl refl long taken (h k)
 
 pub ahead_after : {S : Type 0} (spare : S → ℕ) (a : Ahead) (i : ℕ) (ts us : List (Track S)) → length us ≡ length ts → IsRoomTakenAt spare i ts us → HasRoomAhead spare a ts → HasRoomAhead spare (ahead_after_frame i a) us
 ahead_after spare a i ts us long taken h = after_by spare a i ts us (i == a.place) refl long taken h

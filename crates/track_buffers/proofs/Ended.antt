@@ -158,7 +158,7 @@ first_none : (r : List Span) (rs : List (List Span)) → last_ends (r ∷ rs) �
 first_none [] rs h = refl
 first_none (s ∷ ss) rs h = absurd (none_last s ss (last_ends rs) h)
 
-none_shared : (rs : List (List Span)) → last_ends rs ≡ [] → meet_of_all (map (with_end None) rs) ≡ []
+pub none_shared : (rs : List (List Span)) → last_ends rs ≡ [] → meet_of_all (map (with_end None) rs) ≡ []
 none_shared [] h = refl
 none_shared (r ∷ rs) h = none_met r (map (with_end None) rs) (first_none r rs h)
 

@@ -230,7 +230,7 @@ pub tracks_made : {S : Type 0} (frames : S → List Stored) (news : List TrackIn
 tracks_made frames news [] e = refl
 tracks_made frames news (t ∷ ts) e = absurd (omega arith)
 
-media_more : (us : List TrackInfo) (i : ℕ) (u : TrackInfo) → i < length us → u ≡ get_or us i u → filter is_media_track (take (i + 1) us) ≡ filter is_media_track (take i us) ++ filter is_media_track (u ∷ [])
+pub media_more : (us : List TrackInfo) (i : ℕ) (u : TrackInfo) → i < length us → u ≡ get_or us i u → filter is_media_track (take (i + 1) us) ≡ filter is_media_track (take i us) ++ filter is_media_track (u ∷ [])
 media_more us i u low e = ap (filter is_media_track) (take_more us i u low ∙ ap (λ x. take i us ++ x ∷ []) (sym e)) ∙ filter-append is_media_track (take i us) (u ∷ [])
 
 pub made_more : (ts ts' ts'' : List TrackState) (us : List TrackInfo) (i : ℕ) (u : TrackInfo) → i < length us → u ≡ get_or us i u → ts' ≡ ts ++ map new_track (filter is_media_track (take i us)) → ts'' ≡ ts' ++ map new_track (filter is_media_track (u ∷ [])) → ts'' ≡ ts ++ map new_track (filter is_media_track (take (i + 1) us))

@@ -2,6 +2,7 @@ pub mod Loops
 pub mod Pairing
 pub mod Editing
 pub mod Keeping
+pub mod Stores
 pub mod Framing
 pub mod Durations
 pub mod Received
@@ -13,10 +14,10 @@ pub mod Sharing
 pub mod Ending
 pub mod Bounding
 pub mod Renewing
-pub mod Highest
 pub mod Ended
 pub mod Steady
 pub mod Placing
 pub mod Watching
 pub mod Ahead
 pub mod Using
+pub mod Narrowing

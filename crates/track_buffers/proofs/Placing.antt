@@ -18,8 +18,7 @@ use Rattle.frame_rules.specs.declared.timing.Timing.{Timing}
 use Rattle.frame_rules.specs.Timing.{timing_of}
 use Rattle.frame_rules.specs.Put.{drop_reason, track_by_reason, track_after_frame}
 use Rattle.frame_rules.specs.Place.{Placement, new_placement, track_after_reset, placement_in_track, placement_by_times, placement_in, placement, is_over_limit}
-use Rattle.track_buffers.specs.Watching.{track_frames, track_ids, AreFramesSetAt}
-use Rattle.track_buffers.specs.Frames.{has_number, place_of}
+use Rattle.track_buffers.specs.Frames.{has_number, place_of, track_frames, track_ids, AreFramesSetAt}
 use Rattle.track_buffers.proofs.Loops.{set_itself}
 use Rattle.track_buffers.proofs.Editing.{get_set}
 

@@ -4,13 +4,13 @@ use Rattle.std.specs.List.{AllByRecursion, flat_map}
 use Rattle.std.specs.Int.{int_max, int_min}
 use Rattle.std.proofs.lemmas.Int.{ints}
 use Rattle.mse_base.specs.declared.span.Span.{Span}
-use Rattle.mse_base.specs.Spans.{IsNormalized, last_from, last_of}
+use Rattle.mse_base.specs.Spans.{IsNormalized, first_of, last_from, last_of}
 use Rattle.mse_base.specs.Bridging.{overlap}
 use Rattle.mse_base.specs.Meets.{meet, meet_of_all, overlap_span, overlap_of_two, overlap_of_all}
 use Rattle.mse_base.specs.Moments.{greatest}
 use Rattle.mse_base.proofs.Holding.{overlap_is}
 use Rattle.track_buffers.specs.Buffered.{last_ends, with_end, with_common_end}
-use Rattle.track_buffers.specs.Extended.{span_up_to, last_up_to_end, first_of}
+use Rattle.track_buffers.specs.Extended.{span_up_to, last_up_to_end}
 use Rattle.track_buffers.proofs.Ranging.{grown_none}
 use Rattle.track_buffers.proofs.Durations.{greatest_bounds, greatest_none}
 use Rattle.track_buffers.proofs.Extending.{last-with_end, last-with_last_end}

@@ -9,7 +9,7 @@ use Rattle.track_store.specs.declared.store.Stored.{Stored}
 use Rattle.track_store.specs.Frames.{bytes_of}
 use Rattle.track_store.specs.Kept.{bytes_in}
 use Rattle.track_store.specs.State.{TrackState}
-use Rattle.track_buffers.specs.Watching.{track_frames, AreFramesSetAt}
+use Rattle.track_buffers.specs.Frames.{track_frames, AreFramesSetAt}
 use Rattle.track_buffers.proofs.Loops.{found_at}
 
 of_frames : (ts : List TrackState) → bytes_in ts ≡ sum_by bytes_of (track_frames ts)

@@ -9,11 +9,12 @@ use Rattle.std.specs.Ordering.{int_eq}
 use Rattle.std.proofs.lemmas.Bool.Decides.{Decides-int_eq}
 use Rattle.std.proofs.lemmas.Bool.{leb-true}
 use Rattle.std.proofs.lemmas.Int.{ints}
-use Rattle.std.proofs.lemmas.List.{length-map, map-set}
+use Rattle.std.proofs.lemmas.List.{length-map, length-set, map-set}
 use Rattle.std.proofs.lemmas.Option.{slice_get-map, slice_get_within, get_or_from_slice_get}
 use Rattle.mse_base.specs.declared.span.Span.{Span}
 use Rattle.mse_base.specs.Spans.{reaches, IsNormalized}
 use Rattle.mse_base.specs.Meets.{overlap_of_two, overlap_of_all}
+use Rattle.mse_base.proofs.AnyOrder.{apart, between}
 use Rattle.mse_base.proofs.Holding.{find-meet_of_all}
 use Rattle.track_store.specs.declared.store.Stored.{Stored}
 use Rattle.track_store.specs.declared.tracks.Track.{Track}
@@ -22,88 +23,18 @@ use Rattle.track_store.specs.Kept.{gaps_of}
 use Rattle.track_store.specs.State.{TrackState, states_of}
 use Rattle.track_buffers.specs.Buffered.{ranges_in}
 use Rattle.track_buffers.specs.declared.watch.Watch.{Watch}
-use Rattle.track_buffers.specs.Watching.{end_or, ends_at, least_with, least_after, least_after_end, HasLeast, IsWatchOf, AreFramesSetAt, track_frames}
+use Rattle.track_buffers.specs.Watching.{end_or, ends_at, least_with, least_after, least_after_end, HasLeast, IsWatchOf}
+use Rattle.track_buffers.specs.Frames.{AreFramesSetAt, track_frames}
 use Rattle.track_buffers.proofs.Ranging.{ranges_same}
 use Rattle.track_buffers.proofs.Loops.{found_at, set_itself}
 use Rattle.track_buffers.proofs.Editing.{get_set}
 
--- ---- what spans share, in any order
-
--- the span between two times, where it is not empty
-abbrev between : ℤ → ℤ → Option Span
-between a b = cond (int_lt a b) (Some (record { start = a; end = b })) None
-
-no_right : (o : Option Span) → overlap_of_two o None ≡ None
-no_right None = refl
-no_right (Some s) = refl
-
-max_swap : (a b c : ℤ) → int_max (int_max a b) c ≡ int_max (int_max a c) b
-max_swap a b c = grind (arith, ints)
-
-min_swap : (a b c : ℤ) → int_min (int_min a b) c ≡ int_min (int_min a c) b
-min_swap a b c = grind (arith, ints)
-
-max_turn : (a b : ℤ) → int_max a b ≡ int_max b a
-max_turn a b = grind (arith, ints)
-
-min_turn : (a b : ℤ) → int_min a b ≡ int_min b a
-min_turn a b = grind (arith, ints)
-
-turn : (o p : Option Span) → overlap_of_two o p ≡ overlap_of_two p o
-turn None None = refl
-turn None (Some y) = refl
-turn (Some x) None = refl
-turn (Some x) (Some y) = ap (λ (a : ℤ). between a (int_min x.end y.end)) (max_turn x.start y.start) ∙ ap (λ (b : ℤ). between (int_max y.start x.start) b) (min_turn x.end y.end)
-
-still_empty : (a b c d : ℤ) → int_lt a b ≡ false → int_lt (int_max a c) (int_min b d) ≡ false
-still_empty a b c d h = grind (arith, ints)
-
-of_three_by : (a b : ℤ) (z : Span) (t : Bool) → int_lt a b ≡ t → overlap_of_two (cond t (Some (record { start = a; end = b })) None) (Some z) ≡ between (int_max a z.start) (int_min b z.end)
-of_three_by a b z true e = refl
-of_three_by a b z false e = sym (ap (λ (c : Bool). cond c (Some (record { start = int_max a z.start; end = int_min b z.end })) None) (still_empty a b z.start z.end e))
-
-of_three : (x y z : Span) → overlap_of_two (overlap_of_two (Some x) (Some y)) (Some z) ≡ between (int_max (int_max x.start y.start) z.start) (int_min (int_min x.end y.end) z.end)
-of_three x y z = of_three_by (int_max x.start y.start) (int_min x.end y.end) z (int_lt (int_max x.start y.start) (int_min x.end y.end)) refl
-
-swap : (o p q : Option Span) → overlap_of_two (overlap_of_two o p) q ≡ overlap_of_two (overlap_of_two o q) p
-swap None p q = refl
-swap (Some x) None q = sym (no_right (overlap_of_two (Some x) q))
-swap (Some x) (Some y) None = no_right (overlap_of_two (Some x) (Some y))
-swap (Some x) (Some y) (Some z) =
-    of_three x y z
-    ∙ ap (λ (a : ℤ). between a (int_min (int_min x.end y.end) z.end)) (max_swap x.start y.start z.start)
-    ∙ ap (λ (b : ℤ). between (int_max (int_max x.start z.start) y.start) b) (min_swap x.end y.end z.end)
-    ∙ sym (of_three x z y)
-
-fold_swap : (o p : Option Span) (os : List (Option Span)) → fold overlap_of_two (overlap_of_two o p) os ≡ overlap_of_two (fold overlap_of_two o os) p
-fold_swap o p [] = refl
-fold_swap o p (q ∷ os) = ap (λ (r : Option Span). fold overlap_of_two r os) (swap o p q) ∙ fold_swap (overlap_of_two o q) p os
-
-fold_apart : (o p : Option Span) (os : List (Option Span)) (i : ℕ) → slice_get os i ≡ Some p → fold overlap_of_two o os ≡ overlap_of_two (fold overlap_of_two o (remove os i)) p
-fold_apart o p [] i e = absurd cc
-fold_apart o p (q ∷ os) zero e =
-    let same : q ≡ p = cc in
-    fold_swap o q os ∙ ap (λ (r : Option Span). overlap_of_two (fold overlap_of_two o os) r) same
-fold_apart o p (q ∷ os) (suc i) e = fold_apart (overlap_of_two o q) p os i e
-
--- one of them apart from the others
-apart : (p : Option Span) (os : List (Option Span)) (i : ℕ) → 2 ≤ length os → slice_get os i ≡ Some p → overlap_of_all os ≡ overlap_of_two (overlap_of_all (remove os i)) p
-apart p [] i some e = absurd (omega arith)
-apart p (o ∷ []) i some e = absurd (omega arith)
-apart p (o ∷ q ∷ os) zero some e =
-    let same : o ≡ p = cc in
-    ap (λ (r : Option Span). fold overlap_of_two r os) (turn o q) ∙ fold_swap q o os ∙ ap (λ (r : Option Span). overlap_of_two (fold overlap_of_two q os) r) same
-apart p (o ∷ q ∷ os) (suc i) some e = fold_apart o p (q ∷ os) i e
+-- ---- one of some spans is set
 
 remove_set : (os : List (Option Span)) (i : ℕ) (p : Option Span) → remove (set os i p) i ≡ remove os i
 remove_set [] i p = refl
 remove_set (o ∷ os) zero p = refl
 remove_set (o ∷ os) (suc i) p = ap (λ (qs : List (Option Span)). o ∷ qs) (remove_set os i p)
-
-length_set : (os : List (Option Span)) (i : ℕ) (p : Option Span) → length (set os i p) ≡ length os
-length_set [] i p = refl
-length_set (o ∷ os) zero p = refl
-length_set (o ∷ os) (suc i) p = ap (λ n. suc n) (length_set os i p)
 
 -- ---- they hold the time
 
@@ -192,7 +123,7 @@ shared_stays t os i x y all here own same h k =
     let more = not_alone t x os i here h in
     let others = overlap_of_all (remove os i) in
     let before : overlap_of_all os ≡ overlap_of_two others (Some x) = apart (Some x) os i more here in
-    let longer : 2 ≤ length (set os i (Some y)) = rw (length_set os i (Some y)) more in
+    let longer : 2 ≤ length (set os i (Some y)) = rw (length-set os i (Some y)) more in
     let after : overlap_of_all (set os i (Some y)) ≡ overlap_of_two others (Some y) =
     apart (Some y) (set os i (Some y)) i longer (get_set os i (Some x) (Some y) here)
     ∙ ap (λ (qs : List (Option Span)). overlap_of_two (overlap_of_all qs) (Some y)) (remove_set os i (Some y)) in
@@ -305,7 +236,7 @@ tie_stays os i x y s here same shared high two =
     let more : 2 ≤ length os = omega arith in
     let others = overlap_of_all (remove os i) in
     let before : overlap_of_all os ≡ overlap_of_two others (Some x) = apart (Some x) os i more here in
-    let longer : 2 ≤ length (set os i (Some y)) = rw (length_set os i (Some y)) more in
+    let longer : 2 ≤ length (set os i (Some y)) = rw (length-set os i (Some y)) more in
     let after : overlap_of_all (set os i (Some y)) ≡ overlap_of_two others (Some y) =
     apart (Some y) (set os i (Some y)) i longer (get_set os i (Some x) (Some y) here)
     ∙ ap (λ (qs : List (Option Span)). overlap_of_two (overlap_of_all qs) (Some y)) (remove_set os i (Some y)) in
@@ -406,15 +337,10 @@ within [] i low e = omega arith
 within (x ∷ xs) zero low e = cc
 within (x ∷ xs) (suc i) low e = within xs i (omega arith) e
 
-length_of_set : (rs : List (List Span)) (i : ℕ) (q : List Span) → length (set rs i q) ≡ length rs
-length_of_set [] i q = refl
-length_of_set (r ∷ rs) zero q = refl
-length_of_set (r ∷ rs) (suc i) q = ap (λ n. suc n) (length_of_set rs i q)
-
 there_by : (rs qs : List (List Span)) (i : ℕ) (o p : Option (List Span)) → slice_get rs i ≡ o → slice_get qs i ≡ p → i < length qs → IfSome p (λ q. qs ≡ set rs i q) → There rs qs i
 there_by rs qs i o None e f low h = absurd (within qs i low f)
 there_by rs qs i None (Some q) e f low h =
-    let long : length qs ≡ length rs = ap length h ∙ length_of_set rs i q in
+    let long : length qs ≡ length rs = ap length h ∙ length-set rs i q in
     absurd (within rs i (omega arith) e)
 there_by rs qs i (Some r) (Some q) e f low h = record { r = r; q = q; here = e; new = f; is = h }
 

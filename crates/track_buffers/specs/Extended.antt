@@ -1,12 +1,10 @@
 -- Look-ups in ranges of which the last one lasts to an end, by look-ups in the ranges themselves. So the buffered
 -- ranges of an ended source are looked up without memory.
-use Rattle.std.specs.Prelude.{ℤ, ◌≤ℤ◌, int_lt, Bool, true, false, List, Option, Some, None, option_map, option_to_list, flat_map, slice_get, if◌then◌else◌}
+use Rattle.std.specs.Prelude.{ℤ, ◌≤ℤ◌, int_lt, Bool, true, false, List, Option, Some, None, option_map, if◌then◌else◌}
 use Rattle.std.specs.Int.{int_max}
 use Rattle.mse_base.specs.declared.span.Span.{Span}
 use Rattle.mse_base.specs.Moments.{greatest}
 use Rattle.mse_base.specs.Spans.{reaches}
-use Rattle.track_buffers.specs.Media.{Media}
-use Rattle.track_buffers.specs.Frames.{highest_end_in}
 use Rattle.track_buffers.specs.Buffered.{last_ends}
 
 -- a range that lasts to an end, if it ends before
@@ -39,14 +37,6 @@ abbrev pub common_end : Bool → List (List Span) → Option ℤ
 common_end false rs = None
 common_end true rs = greatest (last_ends rs)
 
--- the first of some ranges
-abbrev pub first_of : List Span → Option Span
-first_of ss = slice_get ss 0
-
 -- the range begins at or after a time, and ends at or before another
 abbrev pub IsSpanWithin : ℤ → ℤ → Span → Type 0
 IsSpanWithin a b s = (a ≤ℤ s.start) × (s.end ≤ℤ b)
-
--- the greatest frame end timestamp of all frames of some buffers
-abbrev pub highest_end_of_all : List Media → Option ℤ
-highest_end_of_all ms = greatest (flat_map (λ m. option_to_list (highest_end_in m)) ms)

@@ -1,8 +1,9 @@
 -- Coded frames of the byte stream, reset parser state, removal and eviction, by the media.
-use Rattle.std.specs.Prelude.{ℕ, ◌+◌, ◌==◌, ℤ, Bool, ◌||◌, List, [], ◌∷◌, map, flat_map, position, Option, Some, None, if◌then◌else◌}
+use Rattle.std.specs.Prelude.{◌≡◌, ℕ, ◌+◌, ◌==◌, ℤ, Bool, ◌||◌, List, [], ◌∷◌, map, flat_map, position, slice_set, Option, Some, None, if◌then◌else◌}
 use Rattle.mse_base.specs.declared.frame.CodedFrame.{CodedFrame}
 use Rattle.mse_base.specs.declared.ticks.Moment.{Moment}
 use Rattle.mse_base.specs.Moments.{greatest, greater_moment}
+use Rattle.track_store.specs.declared.store.Stored.{Stored}
 use Rattle.track_store.specs.declared.tracks.Settings.{Settings}
 use Rattle.track_store.specs.Frames.{starts, ends}
 use Rattle.track_store.specs.Kept.{bytes_in}
@@ -13,6 +14,7 @@ use Rattle.frame_rules.specs.Place.{Placement, placement}
 use Rattle.range_removal.specs.Removal.{tracks_after_removal}
 use Rattle.eviction.specs.Evicting.{tracks_after_eviction}
 use Rattle.track_buffers.specs.declared.effects.SourceEffect.{SourceEffect}
+use Rattle.track_buffers.specs.declared.frames.TrackPlace.{TrackPlace}
 use Rattle.track_buffers.specs.declared.effects.MediaFault.TheVariants.{TimeRange, Counts}
 use Rattle.track_buffers.specs.Media.{Media, no_effect, with_duration, MediaResult, Done, AppendError}
 
@@ -22,6 +24,22 @@ has_number id t = t.id == id
 -- the place of the track buffer of a number
 abbrev pub place_of : ℕ → List TrackState → Option ℕ
 place_of id ts = position (has_number id) ts
+
+-- the place is that of the track buffer of the number
+abbrev pub IsPlaceOf : TrackPlace → List TrackState → Type 0
+IsPlaceOf l ts = place_of l.id ts ≡ Some l.place
+
+-- the numbers of the tracks
+abbrev pub track_ids : List TrackState → List ℕ
+track_ids ts = map (λ t. t.id) ts
+
+-- the frames of each track
+abbrev pub track_frames : List TrackState → List (List Stored)
+track_frames ts = map (λ t. t.frames) ts
+
+-- only the frames of the track at a place changed, to these
+abbrev pub AreFramesSetAt : ℕ → List TrackState → List TrackState → TrackState → Type 0
+AreFramesSetAt i old new t = track_frames new ≡ slice_set (track_frames old) i t.frames
 
 -- after coded frame processing: a frame that was stored raises the duration to the group end timestamp (Media Source
 -- Extensions, 3.5.8, step 5)

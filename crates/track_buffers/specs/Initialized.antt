@@ -6,11 +6,10 @@ use Rattle.mse_base.specs.declared.ticks.Moment.{Moment}
 use Rattle.mse_base.specs.declared.ticks.Moment.TheVariants.{Nan, At, Infinite}
 use Rattle.mse_base.specs.declared.track.Kind.{Kind}
 use Rattle.mse_base.specs.declared.track.Kind.TheVariants.{Video, Audio}
-use Rattle.mse_base.specs.Moments.{same_kind}
+use Rattle.mse_base.specs.Moments.{same_kind, is_media}
 use Rattle.mse_base.specs.declared.track.Presentation.{Presentation}
 use Rattle.mse_base.specs.declared.track.TrackInfo.{TrackInfo}
 use Rattle.mse_types.specs.Names.{sample_entries, is_among}
-use Rattle.bmff_fragment.specs.Plans.{is_media}
 use Rattle.track_store.specs.State.{TrackState, new_marks, marks_needing_sync}
 use Rattle.track_buffers.specs.declared.effects.SourceEffect.{SourceEffect}
 use Rattle.track_buffers.specs.declared.effects.MediaFault.{MediaFault}

@@ -53,6 +53,10 @@ abbrev pub least_room : List ℕ → ℕ
 least_room [] = 2 ^ 64
 least_room (n ∷ ns) = min n (least_room ns)
 
+-- the stores of tracks
+abbrev pub stores_of : {S : Type 0} → List (Track S) → List S
+stores_of ts = map (λ t. t.store) ts
+
 -- for how many more frames each store has room
 abbrev pub room_of : {S : Type 0} → (S → ℕ) → List (Track S) → ℕ
 room_of spare ts = least_room (map (λ t. spare t.store) ts)

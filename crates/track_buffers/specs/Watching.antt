@@ -1,16 +1,12 @@
 -- A time that is looked up at each step, whose buffered range stays known while frames come, of one track at a time.
-use Rattle.std.specs.Prelude.{◌≡◌, ◌≤◌, ◌+◌, ◌-◌, ℕ, ℤ, int_lt, nat_le, Bool, false, ◌&&◌, List, map, find, slice_set, Option, Some, None, if◌then◌else◌}
+use Rattle.std.specs.Prelude.{◌≡◌, ◌≤◌, ◌+◌, ◌-◌, ℕ, ℤ, int_lt, nat_le, Bool, false, ◌&&◌, List, map, find, Option, Some, None, if◌then◌else◌}
 use Rattle.std.specs.List.{count_by}
 use Rattle.std.specs.Option.{IfSome}
 use Rattle.std.specs.Ordering.{int_eq}
 use Rattle.mse_base.specs.declared.span.Span.{Span}
 use Rattle.mse_base.specs.Meets.{meet_of_all}
 use Rattle.mse_base.specs.Spans.{reaches}
-use Rattle.track_store.specs.declared.store.Stored.{Stored}
-use Rattle.track_store.specs.State.{TrackState}
-use Rattle.track_buffers.specs.declared.frames.TrackPlace.{TrackPlace}
 use Rattle.track_buffers.specs.declared.watch.Watch.{Watch}
-use Rattle.track_buffers.specs.Frames.{place_of}
 
 -- the range of a list that holds a time ends at another time
 abbrev pub ends_at : ℤ → Option Span → Bool
@@ -61,19 +57,3 @@ least_after w (Some old) (Some new) =
 abbrev pub is_watched : ℤ → Option Watch → Bool
 is_watched t None = false
 is_watched t (Some w) = int_eq w.t t
-
--- the frames of each track
-abbrev pub track_frames : List TrackState → List (List Stored)
-track_frames ts = map (λ t. t.frames) ts
-
--- only the frames of the track at a place changed, to these
-abbrev pub AreFramesSetAt : ℕ → List TrackState → List TrackState → TrackState → Type 0
-AreFramesSetAt i old new t = track_frames new ≡ slice_set (track_frames old) i t.frames
-
--- the numbers of the tracks
-abbrev pub track_ids : List TrackState → List ℕ
-track_ids ts = map (λ t. t.id) ts
-
--- the place is that of the track buffer of the number
-abbrev pub IsPlaceOf : TrackPlace → List TrackState → Type 0
-IsPlaceOf l ts = place_of l.id ts ≡ Some l.place

@@ -1,6 +1,6 @@
 //! The buffered ranges of a source buffer (Media Source Extensions, 3.1, buffered).
 
-ghost use Rattle.std.specs.Prelude.{◌≡◌, ◌≤ℤ◌, ℤ, pos, Bool, true, false, map, slice_get, IfSome, IfOk, OnOk};
+ghost use Rattle.std.specs.Prelude.{◌≡◌, ◌≤ℤ◌, ℤ, pos, Bool, true, false, map, slice_get, IfSome, IfOk, OnOk, OnErr};
 ghost use Rattle.std.specs.List.{AllByRecursion};
 ghost use Rattle.mse_base.specs.Bridging.{IsRanges};
 ghost use Rattle.std.specs.Int.{int_max};
@@ -52,10 +52,11 @@ pub fn span_up_to(span: Span, end: Ticks) -> Span
     }
 }
 
-/// The last range lasts to an end, if it ends before.
+/// The last range lasts to an end, if it ends before. An `Err` changes nothing.
 pub fn extend_last(ranges: &mut Ranges, end: Ticks) -> Result<(), OutOfMemory>
     requires { IsNormalized ranges.old.spans }
-    ensures { OnOk result (ranges.new.spans ≡ with_last_end end ranges.old.spans) }
+    ensures ok { OnOk result (ranges.new.spans ≡ with_last_end end ranges.old.spans) }
+    ensures err { OnErr result (ranges.new.spans ≡ ranges.old.spans) }
 {
     match ranges.last() {
         Some(last) => {

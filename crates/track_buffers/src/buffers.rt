@@ -1,7 +1,7 @@
 ghost use Rattle.std.specs.Prelude.{◌≡◌, ◌≢◌, ◌≤◌, ◌<◌, ◌^◌, ◌+◌, ℤ, pos, ◌≤ℤ◌, Bool, true, false, find, length, None, IfOk, OnOk};
 ghost use Rattle.std.specs.List.{AllByRecursion};
 ghost use Rattle.mse_base.specs.declared.ticks.Moment.{Moment};
-ghost use Rattle.mse_base.specs.Spans.{last_of, reaches};
+ghost use Rattle.mse_base.specs.Spans.{first_of, last_of, reaches};
 ghost use Rattle.track_store.specs.Kept.{AreKept};
 ghost use Rattle.track_store.specs.Sound.{IsSound};
 ghost use Rattle.track_store.specs.State.{states_of};
@@ -13,10 +13,10 @@ ghost use Rattle.track_buffers.specs.Frames.{frame_result, FlushResult, flush_re
 ghost use Rattle.track_buffers.specs.Buffered.{buffered_of, IsBuffered};
 ghost use Rattle.track_buffers.specs.Views.{track_views_of};
 
+use crate::bounds::{first_span, last_span};
 use crate::buffered::buffered_of;
 use crate::effects::{MediaEffect, MediaFault, SourceEffect, effect_of_both, no_effect};
 use crate::frames::{TrackPlace, place_from, process_at, unset_all};
-use crate::holding::ended_last_span;
 use crate::incoming::{init_fault, segment_effect, take_tracks};
 use crate::looks::{highest_end, highest_start, track_views, used_at};
 use crate::rooms::{Ahead, reserve_ahead};
@@ -57,7 +57,8 @@ impl<S: FrameStore> Model for TrackBuffers<S> {
     ghost use Rattle.track_buffers.specs.Ahead.{HasRoomAhead};
     ghost use Rattle.track_buffers.specs.Buffered.{ranges_in};
     ghost use Rattle.track_buffers.specs.Media.{MediaView, media_of, room_of, HasMediaInvariants};
-    ghost use Rattle.track_buffers.specs.Watching.{IsPlaceOf, IsWatchOf};
+    ghost use Rattle.track_buffers.specs.Frames.{IsPlaceOf};
+    ghost use Rattle.track_buffers.specs.Watching.{IsWatchOf};
 
     ghost Value = { MediaView };
 
@@ -103,7 +104,8 @@ impl<S: FrameStore> TrackBuffers<S> {
         }
     }
 
-    /// Makes room for `n` more frames in each track buffer.
+    /// Makes room for `n` more frames in each track buffer. An `Err` leaves the media; some track
+    /// buffers may have more room than before, and none has less.
     pub fn reserve_frames(&mut self, n: usize) -> Result<(), OutOfMemory>
         ensures media { self.new.media ≡ self.old.media }
         ensures ok { OnOk result (n ≤ self.new.room) }
@@ -117,7 +119,8 @@ impl<S: FrameStore> TrackBuffers<S> {
         Ok(())
     }
 
-    /// Makes room for `n` more tracks.
+    /// Makes room for `n` more tracks. An `Err` leaves the media, and places for at least as many
+    /// tracks as before.
     pub fn reserve_tracks(&mut self, n: usize) -> Result<(), OutOfMemory>
         ensures media { self.new.media ≡ self.old.media }
         ensures ok { OnOk result (n ≤ self.new.places) }
@@ -143,7 +146,12 @@ impl<S: FrameStore> TrackBuffers<S> {
     }
 
     /// An initialization segment is received (Media Source Extensions, 3.5.7). `duration` is that
-    /// of the media source, NaN where it has none. The first one makes the track buffers.
+    /// of the media source, in ticks, NaN where it has none. One that is refused leaves the track
+    /// buffers, and tells of the duration alone.
+    ///
+    /// The first one that is received makes the track buffers, which takes at most a place for each
+    /// of its media tracks. For how many frames their new stores have room is not said:
+    /// [`reserve_frames`](Self::reserve_frames) makes room. Each other one leaves room and places.
     pub fn receive(&mut self, presentation: &Presentation, duration: Moment) -> MediaEffect
         requires places { init_fault presentation.now self.old.media ≡ None
             → awaits_first self.old.media ≡ true
@@ -154,6 +162,12 @@ impl<S: FrameStore> TrackBuffers<S> {
         ensures within_duration { EndsWithin duration self.old.media.tracks
             → EndsWithin (source_effect result).duration self.new.media.tracks }
         ensures no_fall { IsNotAfter duration (source_effect result).duration }
+        ensures room { (source_effect result).activated ≡ false
+            → self.new.room ≡ self.old.room }
+        ensures places { (source_effect result).activated ≡ false
+            → self.new.places ≡ self.old.places }
+        ensures places_taken { self.old.places
+            ≤ self.new.places + length (media_tracks presentation.now) }
     {
         let effect = segment_effect(presentation, &duration);
         match init_fault(&self.tracks, self.pending, presentation) {
@@ -265,8 +279,10 @@ impl<S: FrameStore> TrackBuffers<S> {
         }
     }
 
-    /// Removes frames (Media Source Extensions, 3.5.9). `duration` is that of the media source, NaN
-    /// where it has none.
+    /// Removes from each track the frames that begin at or after `start` and before its first
+    /// random access point at or after `end`, or before `duration` where it has none, and the
+    /// frames that need them (Media Source Extensions, 3.5.9). Times are in ticks; `duration` is
+    /// that of the media source, NaN where it has none.
     pub fn remove(&mut self, start: Ticks, end: Moment, duration: Moment)
         ensures media { self.new.media ≡ media_after_removal start end duration self.old.media }
         ensures within_duration { (moment : Moment) → EndsWithin moment self.old.media.tracks
@@ -281,8 +297,10 @@ impl<S: FrameStore> TrackBuffers<S> {
         self.used = self.tracks.used();
     }
 
-    /// Makes room for new bytes, where the source buffer is full (Media Source Extensions,
-    /// 3.5.10).
+    /// Makes room for `new_bytes` bytes, where the stored frames have `quota` bytes or more (Media
+    /// Source Extensions, 3.5.10). First go ranges before `position`, then those after it.
+    /// `position` is the playback position and `duration` that of the media source, in ticks, NaN
+    /// where it has none. There may still be no room for the bytes after it.
     pub fn evict(&mut self, position: Ticks, new_bytes: u64, quota: u64, duration: Moment)
         ensures media { self.new.media
             ≡ media_after_eviction position new_bytes quota duration self.old.media }
@@ -307,7 +325,8 @@ impl<S: FrameStore> TrackBuffers<S> {
         self.settings
     }
 
-    /// Sets the mode, "sequence" or "segments".
+    /// Sets the mode, "sequence" or "segments". With "sequence" the group start timestamp becomes
+    /// the group end timestamp.
     pub fn set_mode(&mut self, sequence: bool)
         ensures media { self.new.media ≡ with_mode sequence self.old.media }
         ensures room { self.new.room ≡ self.old.room }
@@ -319,7 +338,8 @@ impl<S: FrameStore> TrackBuffers<S> {
         }
     }
 
-    /// Sets the timestamp offset.
+    /// Sets the timestamp offset, in ticks. In mode "sequence" the group start timestamp becomes it
+    /// too.
     pub fn set_offset(&mut self, t: Ticks)
         ensures media { self.new.media ≡ with_offset t self.old.media }
         ensures room { self.new.room ≡ self.old.room }
@@ -331,7 +351,7 @@ impl<S: FrameStore> TrackBuffers<S> {
         }
     }
 
-    /// Sets the append window start.
+    /// Sets the start of the append window, in ticks: a frame that begins before it is dropped.
     pub fn set_window_start(&mut self, t: Ticks)
         requires { pos 0 ≤ℤ t }
         ensures media { self.new.media ≡ with_window_start t self.old.media }
@@ -341,7 +361,7 @@ impl<S: FrameStore> TrackBuffers<S> {
         self.settings.window_start = t;
     }
 
-    /// Sets the append window end.
+    /// Sets the end of the append window, in ticks: a frame that ends after it is dropped.
     pub fn set_window_end(&mut self, t: Moment)
         requires { t ≢ Moment.Nan }
         ensures media { self.new.media ≡ with_window_end t self.old.media }
@@ -384,14 +404,14 @@ impl<S: FrameStore> TrackBuffers<S> {
         self.used
     }
 
-    /// The greatest presentation timestamp; `None` exactly where there is no frame.
+    /// The greatest presentation timestamp, in ticks; `None` exactly where there is no frame.
     pub fn highest_start(&self) -> Option<Ticks>
         ensures { result ≡ highest_start_in self.now.media }
     {
         highest_start(&self.tracks)
     }
 
-    /// The greatest frame end timestamp; `None` exactly where there is no frame.
+    /// The greatest frame end timestamp, in ticks; `None` exactly where there is no frame.
     pub fn highest_end(&self) -> Option<Ticks>
         ensures { result ≡ highest_end_in self.now.media }
     {
@@ -423,12 +443,18 @@ impl<S: FrameStore> TrackBuffers<S> {
         watched_span(&self.tracks, &self.watch, t, ended)
     }
 
-    /// The last buffered range where the source is ended; `None` exactly where there is none. It
-    /// takes no memory.
-    pub fn ended_last_span(&self) -> Option<Span>
-        ensures { result ≡ last_of (buffered_of true self.now.media) }
+    /// The first buffered range; `None` exactly where there is none. It takes no memory.
+    pub fn first_span(&self, ended: bool) -> Option<Span>
+        ensures { result ≡ first_of (buffered_of ended self.now.media) }
     {
-        ended_last_span(&self.tracks)
+        first_span(&self.tracks, ended)
+    }
+
+    /// The last buffered range; `None` exactly where there is none. It takes no memory.
+    pub fn last_span(&self, ended: bool) -> Option<Span>
+        ensures { result ≡ last_of (buffered_of ended self.now.media) }
+    {
+        last_span(&self.tracks, ended)
     }
 
     /// What the track buffers hold.

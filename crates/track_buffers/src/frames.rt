@@ -8,8 +8,7 @@ ghost use Rattle.range_removal.specs.Rooms.{IsRoomKept};
 ghost use Rattle.track_buffers.specs.Effects.{media_result, source_effect};
 ghost use Rattle.track_buffers.specs.Media.{media_of, EndsWithin, IsNotAfter};
 ghost use Rattle.frame_rules.specs.Place.{IsRoomTakenAt};
-ghost use Rattle.track_buffers.specs.Watching.{AreFramesSetAt, IsPlaceOf, track_ids};
-ghost use Rattle.track_buffers.specs.Frames.{has_number, place_of, frame_result_at, unset_track};
+ghost use Rattle.track_buffers.specs.Frames.{has_number, place_of, frame_result_at, unset_track, AreFramesSetAt, IsPlaceOf, track_ids};
 
 use crate::effects::{MediaEffect, MediaFault, duration_change, no_effect};
 use frame_rules::{Placed, place_with_used};

@@ -1,16 +1,16 @@
 //! Initialization segment received (Media Source Extensions, 3.5.7).
 
-ghost use Rattle.std.specs.Prelude.{◌≡◌, ◌≤◌, ◌+◌, [], ◌∷◌, ◌++◌, ℤ, pos, ◌≤ℤ◌, Bool, true, map, filter, length};
+ghost use Rattle.std.specs.Prelude.{◌≡◌, ◌≤◌, ◌+◌, [], ◌∷◌, ◌++◌, ℤ, pos, ◌≤ℤ◌, Bool, true, false, map, filter, length};
 ghost use Rattle.std.specs.List.{AllByRecursion};
 ghost use Rattle.mse_base.specs.declared.ticks.Moment.{Moment};
 ghost use Rattle.track_store.specs.declared.tracks.Settings.{Settings};
 ghost use Rattle.track_store.specs.Kept.{AreKept, gaps_of};
 ghost use Rattle.track_store.specs.State.{state_of, states_of};
-ghost use Rattle.track_buffers.specs.Media.{media_of, is_empty_list, EndsWithin};
+ghost use Rattle.track_buffers.specs.Media.{media_of, stores_of, is_empty_list, EndsWithin};
 ghost use Rattle.track_buffers.specs.Initialized.{is_media_track, media_tracks, segment_effect, has_same_tracks, init_fault, new_track, tracks_after};
 
 use crate::effects::{MediaFault, SourceEffect, duration_change, no_effect};
-use crate::kinds::{all_known, count_new, is_media, media_track_count};
+use crate::kinds::{all_known, count_new, media_track_count};
 use crate::partners::{all_fit, count_held, renew_all};
 use mse_base::{Kind, Moment, Presentation, Ticks, TrackInfo};
 use std::alloc::Global;
@@ -80,12 +80,12 @@ fn add_one<S: FrameStore>(tracks: &mut Tracks<S>, alloc: Global, gap: Ticks, tra
     requires gap { pos 0 ≤ℤ gap }
     ensures states { states_of S.frames tracks.new.items ≡ states_of S.frames tracks.old.items
         ++ map new_track (filter is_media_track (track.now ∷ [])) }
-    ensures room { tracks.old.spare
+    ensures places { tracks.old.spare
         ≤ tracks.new.spare + length (filter is_media_track (track.now ∷ [])) }
     ensures gaps { AllByRecursion (λ g. g ≡ gap) (gaps_of S.gap tracks.old.items)
         → AllByRecursion (λ g. g ≡ gap) (gaps_of S.gap tracks.new.items) }
 {
-    if is_media(track) {
+    if track.kind.is_media() {
         tracks.add(new_track(alloc, gap, track));
     }
 }
@@ -96,6 +96,8 @@ fn add_all<S: FrameStore>(tracks: &mut Tracks<S>, alloc: Global, gap: Ticks, new
     requires gap { pos 0 ≤ℤ gap }
     ensures states { states_of S.frames tracks.new.items ≡ states_of S.frames tracks.old.items
         ++ map new_track (filter is_media_track news.now) }
+    ensures places { tracks.old.spare
+        ≤ tracks.new.spare + length (filter is_media_track news.now) }
     ensures gaps { AllByRecursion (λ g. g ≡ gap) (gaps_of S.gap tracks.old.items)
         → AllByRecursion (λ g. g ≡ gap) (gaps_of S.gap tracks.new.items) }
 {
@@ -116,6 +118,12 @@ pub(crate) fn take_tracks<S: FrameStore>(
     requires gap { pos 0 ≤ℤ gap }
     ensures states { states_of S.frames tracks.new.items
         ≡ tracks_after (filter is_media_track news.now) (states_of S.frames tracks.old.items) }
+    ensures stores { is_empty_list (states_of S.frames tracks.old.items) ≡ false
+        → stores_of tracks.new.items ≡ stores_of tracks.old.items }
+    ensures places { is_empty_list (states_of S.frames tracks.old.items) ≡ false
+        → tracks.new.spare ≡ tracks.old.spare }
+    ensures places_taken { tracks.old.spare
+        ≤ tracks.new.spare + length (filter is_media_track news.now) }
     ensures kept { AreKept (states_of S.frames tracks.old.items)
         → AreKept (states_of S.frames tracks.new.items) }
     ensures within_duration { (duration : Moment) →

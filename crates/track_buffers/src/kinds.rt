@@ -1,27 +1,16 @@
 ghost use Rattle.std.specs.Prelude.{◌≡◌, length, map, filter};
 ghost use Rattle.std.specs.List.{list_all};
-ghost use Rattle.bmff_fragment.specs.Plans.{is_media as is_media_kind};
 ghost use Rattle.track_buffers.specs.Initialized.{is_media_track, media_tracks, count_of, new_kinds, is_known, is_of_kind};
 
 use mse_base::{Kind, Presentation, TrackInfo};
 use mse_types::codec_known;
-
-/// Whether a buffer takes frames of a track.
-pub(crate) fn is_media(track: &TrackInfo) -> bool
-    ensures { result ≡ is_media_track track.now }
-{
-    match track.kind {
-        Kind::Video | Kind::Audio => true,
-        Kind::Other => false,
-    }
-}
 
 fn count_media(tracks: &[TrackInfo]) -> usize
     ensures { result ≡ length (filter is_media_track tracks.now) }
 {
     let mut count = 0;
     for track in tracks {
-        if is_media(track) {
+        if track.kind.is_media() {
             count += 1;
         }
     }
@@ -42,7 +31,7 @@ pub(crate) fn count_new(tracks: &[TrackInfo], kind: Kind) -> usize
 {
     let mut count = 0;
     for track in tracks {
-        if is_media(track) && kind == track.kind {
+        if track.kind.is_media() && kind == track.kind {
             count += 1;
         }
     }
@@ -60,7 +49,7 @@ pub(crate) fn all_known(tracks: &[TrackInfo]) -> bool
     ensures { result ≡ list_all is_known (filter is_media_track tracks.now) }
 {
     for track in tracks {
-        if is_media(track) && !is_known(track) {
+        if track.kind.is_media() && !is_known(track) {
             return false;
         }
     }

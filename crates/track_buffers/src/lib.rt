@@ -10,6 +10,7 @@
 //! tracks have.
 #![tactic(auto)]
 
+mod bounds;
 mod buffered;
 mod buffers;
 mod effects;

@@ -4,10 +4,9 @@ ghost use Rattle.std.specs.Prelude.{◌≡◌, ◌&&◌, Some, filter, find, if�
 ghost use Rattle.std.specs.List.{list_all};
 ghost use Rattle.mse_base.specs.Moments.{same_kind};
 ghost use Rattle.track_store.specs.State.{state_of, states_of};
-ghost use Rattle.track_store.specs.Kept.{gaps_of};
+ghost use Rattle.track_buffers.specs.Media.{stores_of};
 ghost use Rattle.track_buffers.specs.Initialized.{is_media_track, count_of, kinds_of, is_of_kind, is_numbered, partner_of, is_partner, tracks_with_partners, track_with_partner};
 
-use crate::kinds::is_media;
 use mse_base::{Kind, TrackInfo};
 use track_store::{FrameStore, Track, Tracks};
 
@@ -39,7 +38,7 @@ fn is_partner_of(track: &TrackInfo, kind: Kind, id: u32, alone: bool) -> bool
     ensures { result ≡ (is_media_track track.now
         && (if alone then is_of_kind kind track.now else is_numbered kind id track.now)) }
 {
-    is_media(track) && kind == track.kind && (alone || track.id == id)
+    track.kind.is_media() && kind == track.kind && (alone || track.id == id)
 }
 
 fn find_partner<'a>(
@@ -117,7 +116,7 @@ pub(crate) fn all_fit<S: FrameStore>(tracks: &Tracks<S>, news: &[TrackInfo], pen
 fn renew<S: FrameStore>(track: &mut Track<S>, partner: &TrackInfo)
     ensures state { state_of S.frames track.new
         ≡ track_with_partner (state_of S.frames track.old) (Some partner.now) }
-    ensures gap { S.gap track.new.store ≡ S.gap track.old.store }
+    ensures store { track.new.store ≡ track.old.store }
 {
     track.id = partner.id;
     track.codec = partner.codec;
@@ -129,7 +128,8 @@ fn renew_by<S: FrameStore>(tracks: &mut Tracks<S>, i: usize, partner: &TrackInfo
         (λ t. states_of S.frames tracks.new.items
         ≡ slice_set (states_of S.frames tracks.old.items) i
         (track_with_partner t (Some partner.now))) }
-    ensures gaps { gaps_of S.gap tracks.new.items ≡ gaps_of S.gap tracks.old.items }
+    ensures stores { stores_of tracks.new.items ≡ stores_of tracks.old.items }
+    ensures places { tracks.new.spare ≡ tracks.old.spare }
 {
     match tracks.get_mut(i) {
         Some(track) => renew(track, partner),
@@ -143,7 +143,8 @@ fn renew_at<S: FrameStore>(tracks: &mut Tracks<S>, i: usize, news: &[TrackInfo])
         ≡ slice_set (states_of S.frames tracks.old.items) i
         (track_with_partner t (partner_of (states_of S.frames tracks.old.items)
         (filter is_media_track news.now) t))) }
-    ensures gaps { gaps_of S.gap tracks.new.items ≡ gaps_of S.gap tracks.old.items }
+    ensures stores { stores_of tracks.new.items ≡ stores_of tracks.old.items }
+    ensures places { tracks.new.spare ≡ tracks.old.spare }
 {
     match partner_at(tracks, i, news) {
         Some(partner) => renew_by(tracks, i, partner),
@@ -156,7 +157,8 @@ pub(crate) fn renew_all<S: FrameStore>(tracks: &mut Tracks<S>, news: &[TrackInfo
     ensures states { states_of S.frames tracks.new.items
         ≡ tracks_with_partners (filter is_media_track news.now)
         (states_of S.frames tracks.old.items) }
-    ensures gaps { gaps_of S.gap tracks.new.items ≡ gaps_of S.gap tracks.old.items }
+    ensures stores { stores_of tracks.new.items ≡ stores_of tracks.old.items }
+    ensures places { tracks.new.spare ≡ tracks.old.spare }
 {
     for i in 0..tracks.len() {
         renew_at(tracks, i, news);

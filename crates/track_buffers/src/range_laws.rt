@@ -8,12 +8,12 @@ ghost use Rattle.mse_base.specs.declared.ticks.Moment.{Moment};
 ghost use Rattle.mse_base.specs.declared.track.Presentation.{Presentation};
 ghost use Rattle.mse_base.specs.Meets.{meet_of_all, overlap_of_all};
 ghost use Rattle.mse_base.specs.Moments.{greatest};
-ghost use Rattle.mse_base.specs.Spans.{IsNormalized, reaches, last_of};
+ghost use Rattle.mse_base.specs.Spans.{IsNormalized, first_of, reaches, last_of};
 ghost use Rattle.track_store.specs.Sound.{IsSound};
 ghost use Rattle.track_buffers.specs.declared.effects.MediaFault.{MediaFault};
 ghost use Rattle.track_buffers.specs.declared.effects.SourceEffect.{SourceEffect};
 ghost use Rattle.track_buffers.specs.Buffered.{buffered_of, last_ends, track_ranges, with_common_end, with_last_end};
-ghost use Rattle.track_buffers.specs.Extended.{IsSpanWithin, common_end, first_of, held_up_to, held_with_end, highest_end_of_all, last_up_to_end};
+ghost use Rattle.track_buffers.specs.Extended.{IsSpanWithin, common_end, held_up_to, held_with_end, last_up_to_end};
 ghost use Rattle.track_buffers.specs.Frames.{highest_end_in};
 ghost use Rattle.track_buffers.specs.Initialized.{init_result};
 ghost use Rattle.track_buffers.specs.Media.{AppendError, Done, EndsWithin, Media};
@@ -81,13 +81,4 @@ pub fn after_initialization_segment()
         → init_result p m d ≡ Done n e → highest_end_in n ≡ highest_end_in m }
     ensures refused { (p : Presentation) (m n : Media) (d : Moment) (fault : MediaFault)
         (e : SourceEffect) → init_result p m d ≡ AppendError fault n e → n ≡ m }
-{}
-
-/// The frames of all buffers end at or before the highest end of all; where there is none, no
-/// buffer has a frame (Media Source Extensions, duration change and end of stream).
-pub fn highest_of_all()
-    ensures bound { (ms : List Media) (e : ℤ) → highest_end_of_all ms ≡ Some e
-        → AllByRecursion (λ m. EndsWithin (Moment.At e) m.tracks) ms }
-    ensures none { (ms : List Media) → highest_end_of_all ms ≡ None
-        → AllByRecursion (λ m. AllByRecursion (λ t. t.frames ≡ []) m.tracks) ms }
 {}

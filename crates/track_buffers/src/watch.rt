@@ -1,5 +1,5 @@
 //! The buffered range at a time that is looked up at each step: it stays known while frames come,
-//! so that a frame costs the same in a buffer of many tracks as in one of few.
+//! so that a frame costs about the same in a buffer of many tracks as in one of few.
 
 ghost use Rattle.std.specs.Prelude.{◌≡◌, ◌≤◌, ◌≤ℤ◌, ◌<◌, pos, List, length, find, slice_get, slice_set, IfSome};
 ghost use Rattle.std.specs.List.{AllByRecursion};

@@ -11,7 +11,14 @@ returns-then-remove_while_full-clause-states g c =
     let ts = states_of F c.args.tracks.now.items in
     let us = states_of F c.remove_while_full.new.tracks.items in
     let d = c.args.duration.now in
-    let is = c.if-remove_while_full.ensures.states ∙ ap (λ (e : Moment). tracks_after_removal c.in-Some.start e d ts) c.time_or-end.ensures in (
-      after_removed c.args.need.now.new_bytes c.args.need.now.quota c.args.position c.args.lead d c.args.next.now c.in-Some.start ts us c.in-Some.ensures c.if-remove_while_full.ensures.answer is,
-      fewer_after c.args.lead c.args.position d c.args.next.now c.in-Some.start ts us c.in-Some.ensures is,
-    )
+    let is = c.if-remove_while_full.ensures.states ∙ ap (λ (e : Moment). tracks_after_removal c.in-Some.start e d ts) c.time_or-end.ensures in
+    after_removed c.args.need.now.new_bytes c.args.need.now.quota c.args.position c.args.lead d c.args.next.now c.in-Some.start ts us c.in-Some.ensures c.if-remove_while_full.ensures.answer is
+
+pub returns-then-remove_while_full-clause-fewer : goal.returns-then-remove_while_full-clause-fewer
+returns-then-remove_while_full-clause-fewer g c =
+    let F = g.S.FrameStore.frames in
+    let ts = states_of F c.args.tracks.now.items in
+    let us = states_of F c.remove_while_full.new.tracks.items in
+    let d = c.args.duration.now in
+    let is = c.if-remove_while_full.ensures.states ∙ ap (λ (e : Moment). tracks_after_removal c.in-Some.start e d ts) c.time_or-end.ensures in
+    fewer_after c.args.lead c.args.position d c.args.next.now c.in-Some.start ts us c.in-Some.ensures is

@@ -1,7 +1,7 @@
 use Rattle.std.proofs.Common.{◌<◌, length, true, false, arith}
 use Rattle.std.proofs.lemmas.List.{length-map}
 use Rattle.track_store.specs.State.{TrackState, states_of}
-use Rattle.eviction.specs.Evicting.{is_video}
+use Rattle.mse_base.specs.Moments.{is_video}
 use Rattle.eviction.proofs.Places.{found_here, if_state, lead_here, none_more}
 use Rattle.eviction.proofs.lead.lead_of.Goals as goal
 

@@ -1,6 +1,6 @@
 use Rattle.std.proofs.Common.{◌≡◌, None, find, take}
 use Rattle.track_store.specs.State.{states_of}
-use Rattle.eviction.specs.Evicting.{is_video}
+use Rattle.mse_base.specs.Moments.{is_video}
 use Rattle.eviction.proofs.lead.lead_of.Given as goal
 
 abbrev pub invariant-loop-i : goal.invariant-loop-i

@@ -1,4 +1,4 @@
-use Rattle.std.proofs.Common.{◌≡◌, ◌≤◌, ◌*◌, ◌^◌, length, take}
+use Rattle.std.proofs.Common.{◌≡◌, ◌≤◌, ◌*◌, take}
 use Rattle.track_store.specs.Kept.{bytes_in}
 use Rattle.track_store.specs.State.{states_of}
 use Rattle.eviction.proofs.need.bytes_stored.Given as goal

@@ -1,10 +1,11 @@
-use Rattle.std.proofs.Common.{◌∙◌, sym, subst, filter, arith}
+use Rattle.std.specs.List.{AllByRecursion}
+use Rattle.std.proofs.Common.{◌≡◌, ◌∙◌, ℤ, List, sym, subst, filter, arith}
 use Rattle.track_store.specs.Kept.{AreKept}
 use Rattle.track_store.specs.State.{TrackState, states_of}
-use Rattle.std.proofs.Common.{List}
 use Rattle.track_buffers.specs.Initialized.{is_media_track}
 use Rattle.track_buffers.specs.Media.{EndsWithin}
 use Rattle.track_buffers.proofs.Keeping.{tracks_made, kept_after, ends_after, kept_renewed, ends_renewed}
+use Rattle.track_buffers.proofs.Stores.{gaps_by_stores}
 use Rattle.track_buffers.proofs.incoming.take_tracks.Goals as goal
 
 pub returns-then-len-eq0-clause-states : goal.returns-then-len-eq0-clause-states
@@ -36,3 +37,8 @@ returns-else-len-eq0-clause-within_duration g c = λ d h.
     let ts = states_of g.S.FrameStore.frames c.args.tracks.now.items in
     let news = filter is_media_track c.args.news.now in
     subst (λ (us : List TrackState). EndsWithin d us) (sym c.renew_all.ensures.states) (ends_renewed news d ts h)
+
+pub returns-else-len-eq0-clause-gaps : goal.returns-else-len-eq0-clause-gaps
+returns-else-len-eq0-clause-gaps g c =
+    let same = gaps_by_stores g.S.FrameStore.gap c.args.tracks.now.items c.renew_all.new.tracks.items c.renew_all.ensures.stores in
+    λ h. subst (λ (zs : List ℤ). AllByRecursion (λ z. z ≡ c.args.gap) zs) (sym same) h

@@ -18,7 +18,8 @@ loop-i-preserved g c =
     record {
       states = written_more f old now next c.loop-i.i here c.loop-i.invariant.states (renewed_here old now next news c.loop-i.i c.loop-i.invariant.kinds c.renew_at.ensures.states);
       kinds = kinds_renewed_here now next news c.loop-i.i (rw (same_length now old c.loop-i.invariant.kinds) here) c.renew_at.ensures.states ∙ c.loop-i.invariant.kinds;
-      gaps = c.renew_at.ensures.gaps ∙ c.loop-i.invariant.gaps;
+      stores = c.renew_at.ensures.stores ∙ c.loop-i.invariant.stores;
+      places = c.renew_at.ensures.places ∙ c.loop-i.invariant.places;
       end = c.loop-i.invariant.end;
     }
 

@@ -1,9 +1,9 @@
 use Rattle.std.proofs.Common.{◌≡◌, ◌∙◌, ap, sym, set, slice_get, Some, None}
 use Rattle.std.specs.Option.{option_copied_mut}
-use Rattle.range_removal.proofs.Rooms.{gaps_set}
 use Rattle.track_store.specs.State.{TrackState, states_of}
 use Rattle.track_buffers.specs.Initialized.{track_with_partner}
 use Rattle.track_buffers.proofs.Editing.{edited, not_there}
+use Rattle.track_buffers.proofs.Stores.{stores_set}
 use Rattle.track_buffers.proofs.partners.renew_by.Goals as goal
 
 pub returns-in-Some-clause-states : goal.returns-in-Some-clause-states
@@ -12,11 +12,11 @@ returns-in-Some-clause-states g c =
     let at : slice_get ts c.args.i ≡ Some c.in-Some.track.now = sym c.get_mut.ensures.value ∙ ap option_copied_mut c.in-Some.is in
     edited g.S.FrameStore.frames (λ (t : TrackState). track_with_partner t (Some c.args.partner.now)) ts c.args.i c.in-Some.track.now c.renew.new.track at c.renew.ensures.state
 
-pub returns-in-Some-clause-gaps : goal.returns-in-Some-clause-gaps
-returns-in-Some-clause-gaps g c =
+pub returns-in-Some-clause-stores : goal.returns-in-Some-clause-stores
+returns-in-Some-clause-stores g c =
     let ts = c.args.tracks.now.items in
     let at : slice_get ts c.args.i ≡ Some c.in-Some.track.now = sym c.get_mut.ensures.value ∙ ap option_copied_mut c.in-Some.is in
-    gaps_set g.S.FrameStore.gap ts c.args.i c.in-Some.track.now c.renew.new.track at c.renew.ensures.gap
+    stores_set ts c.args.i c.in-Some.track.now c.renew.new.track at c.renew.ensures.store
 
 pub returns-in-None-clause-states : goal.returns-in-None-clause-states
 returns-in-None-clause-states g c =

@@ -3,7 +3,7 @@ use Rattle.std.specs.Option.{IfSome}
 use Rattle.range_removal.proofs.Rooms.{room_kept, same_length}
 use Rattle.track_store.specs.Kept.{AreKept, bytes_in, gaps_of}
 use Rattle.track_store.specs.State.{TrackState, states_of}
-use Rattle.track_buffers.specs.Watching.{IsPlaceOf}
+use Rattle.track_buffers.specs.Frames.{IsPlaceOf}
 use Rattle.track_buffers.specs.Buffered.{ranges_in}
 use Rattle.track_buffers.proofs.Ahead.{ahead_least, ahead_kept}
 use Rattle.track_buffers.proofs.Keeping.{all_room, room_kept_by}

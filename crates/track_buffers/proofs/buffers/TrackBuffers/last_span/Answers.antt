@@ -1,0 +1,12 @@
+use Rattle.std.proofs.Common.{◌∙◌, List, ap}
+use Rattle.mse_base.specs.declared.span.Span.{Span}
+use Rattle.mse_base.specs.Spans.{last_of}
+use Rattle.mse_base.specs.Meets.{meet_of_all}
+use Rattle.track_buffers.specs.Buffered.{with_common_end}
+use Rattle.track_buffers.proofs.Ranging.{ranges_same}
+use Rattle.track_buffers.proofs.buffers.TrackBuffers.last_span.Goals as goal
+
+pub returns : goal.returns
+returns g c =
+    let b = c.self.inside in
+    rw (← c.self.view_is) (c.last_span.ensures ∙ ap (λ (rs : List (List Span)). last_of (meet_of_all (with_common_end c.args.ended rs))) (ranges_same g.S.FrameStore.frames g.S.FrameStore.gap b.gap b.tracks.items c.self.invariant.0.gaps_are))
