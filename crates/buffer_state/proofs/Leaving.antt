@@ -16,7 +16,7 @@ use Rattle.adts_stream.specs.Walk.{adts}
 use Rattle.adts_stream.specs.Walk as frame_walk
 use Rattle.adts_stream.proofs.WalkLaws as frame_laws
 use Rattle.adts_stream.proofs.FrameLaws.{items-frames}
-use Rattle.byte_stream.specs.Readings.{Reading, ByteItem, items_of, items_in, of_segments, of_frames}
+use Rattle.byte_stream.specs.Readings.{ByteItem, items_of, items_in, of_segments, of_frames}
 use Rattle.byte_stream.specs.Streams.{StreamView, StandsIn, OfSegments, OfFrames, StandsForSome}
 use Rattle.byte_stream.specs.Streams as byte_stream
 use Rattle.track_buffers.specs.Media.{Media}
@@ -24,7 +24,7 @@ use Rattle.buffer_state.specs.declared.running.Running.{Running}
 use Rattle.buffer_state.specs.declared.running.Running.TheVariants.{Append}
 use Rattle.buffer_state.specs.declared.turns.ItemEffect.{ItemEffect}
 use Rattle.buffer_state.specs.declared.turns.ItemEffect.TheVariants as step
-use Rattle.buffer_state.specs.State.{Content, kept}
+use Rattle.buffer_state.specs.State.{Content, kept_buffer}
 use Rattle.buffer_state.specs.Steps.{Leaves, step_result, item_stepped, IsItemRefused}
 use Rattle.buffer_state.specs.StepsLeft.{items_left, steps_left}
 use Rattle.buffer_state.proofs.Stepping.{GoesOn}
@@ -55,7 +55,7 @@ one-less s t item some goes =
     let after : items_left t.parser + (some.reading.taken + 1) ≡ length (items_in some.reading) = left t.parser some.reading.container some.reading.before some.reading.whole (some.reading.taken + 1) (goes some.reading some.stands).parser in
     omega arith
 
-pub fewer : (s0 s1 s2 : StreamView) (m0 m2 : Media) (r2 : Running) (oi : Option ByteItem) (st : ItemEffect) (c d : Content) (duration : Moment) → StandsForSome s0 → GoesOn s0 oi s1 → step_result st d ≡ item_stepped oi c duration → Leaves st s1 Append s2 r2 → steps_left (kept s2 m2 r2) < steps_left (kept s0 m0 Append)
+pub fewer : (s0 s1 s2 : StreamView) (m0 m2 : Media) (r2 : Running) (oi : Option ByteItem) (st : ItemEffect) (c d : Content) (duration : Moment) → StandsForSome s0 → GoesOn s0 oi s1 → step_result st d ≡ item_stepped oi c duration → Leaves st s1 Append s2 r2 → steps_left (kept_buffer s2 m2 r2) < steps_left (kept_buffer s0 m0 Append)
 fewer s0 s1 s2 m0 m2 r2 oi step.NoItem c d duration some goes e leaves = rw leaves (omega arith)
 fewer s0 s1 s2 m0 m2 r2 None (step.Done b) c d duration some goes e leaves = absurd (cc)
 fewer s0 s1 s2 m0 m2 r2 (Some item) (step.Done b) c d duration some goes e leaves =
@@ -64,13 +64,13 @@ fewer s0 s1 s2 m0 m2 r2 (Some item) (step.Done b) c d duration some goes e leave
 fewer s0 s1 s2 m0 m2 r2 oi (step.AppendError fault at b) c d duration some goes e leaves = rw leaves (omega arith)
 
 -- where nothing runs behind it
-pub fewer-error : (s0 s2 : StreamView) (m0 m2 : Media) (r2 : Running) (o : Option ByteItem) (m : Media) (d : Moment) (st : ItemEffect) → IsItemRefused st o m d → Leaves st s0 Append s2 r2 → steps_left (kept s2 m2 r2) < steps_left (kept s0 m0 Append)
+pub fewer-error : (s0 s2 : StreamView) (m0 m2 : Media) (r2 : Running) (o : Option ByteItem) (m : Media) (d : Moment) (st : ItemEffect) → IsItemRefused st o m d → Leaves st s0 Append s2 r2 → steps_left (kept_buffer s2 m2 r2) < steps_left (kept_buffer s0 m0 Append)
 fewer-error s0 s2 m0 m2 r2 o m d step.NoItem h leaves = absurd h
 fewer-error s0 s2 m0 m2 r2 o m d (step.Done b) h leaves = absurd h
 fewer-error s0 s2 m0 m2 r2 o m d (step.AppendError fault at b) h leaves = rw leaves (omega arith)
 
 -- where an item was given, and the append goes on
-pub fewer-given : (s t : StreamView) (m n : Media) (item : ByteItem) → StandsForSome s → GoesOn s (Some item) t → steps_left (kept t n Append) < steps_left (kept s m Append)
+pub fewer-given : (s t : StreamView) (m n : Media) (item : ByteItem) → StandsForSome s → GoesOn s (Some item) t → steps_left (kept_buffer t n Append) < steps_left (kept_buffer s m Append)
 fewer-given s t m n item some goes =
     let one : items_left t.parser + 1 ≡ items_left s.parser = one-less s t item some goes in
     omega arith

@@ -14,7 +14,8 @@ use Rattle.track_buffers.specs.Media.{Media}
 use Rattle.track_buffers.specs.Frames.{flush_result}
 use Rattle.track_buffers.specs.Settings.{with_mode, with_offset, with_window_start, with_window_end}
 use Rattle.buffer_state.specs.State.{Feed, Content, Surroundings, AppendInput, is_updating, feed_running, phase_in, ready_in}
-use Rattle.buffer_state.specs.Replies.{CallResult, refused_result, result_with, event_reply, reopens, TellsRefusals}
+use Rattle.mse_calls.specs.Ready.{is_ended}
+use Rattle.buffer_state.specs.Replies.{CallResult, refused_result, result_with, event_reply, TellsRefusals}
 use Rattle.buffer_state.specs.Calls.{unless_refused, is_sequence, is_in_media, settings_result, settings_result_by_phase, phase_refusal, mode_refusal, mode_result, offset_refusal, offset_result, window_start_refusal, window_start_result, window_end_refusal, window_end_result, remove_refusal, remove_result, append_refusal, append_result, append_result_after_eviction, abort_refusal, abort_result, abort_result_after_flush, change_type_refusal, change_type_refusal_by_answer, change_type_result, change_type_result_by_answer, change_type_result_after_flush}
 
 -- the name of a result
@@ -45,7 +46,7 @@ window_end_told t a f c name = both_ways (window_end_refusal t f c) (settings_re
 
 pub remove_told : (start : ℤ) (end : Moment) → TellsRefusals (λ a f c. remove_refusal start end a f) (remove_result start end)
 remove_told start end a f c name =
-    let done : CallResult = result_with (event_reply (reopens a.ready) a.duration (UpdateStart ∷ [])) (feed_running (Removal start end) f) c in
+    let done : CallResult = result_with (event_reply (is_ended a.ready) a.duration (UpdateStart ∷ [])) (feed_running (Removal start end) f) c in
     both_ways (remove_refusal start end a f) done a f c name refl
 
 pub abort_told : TellsRefusals (λ a f c. abort_refusal a f) abort_result
@@ -71,14 +72,14 @@ mode_told mode a f c name =
     let done : CallResult = settings_result_by_phase m a f c in
     let wrong : Bool = c.media.settings.generate && not (is_sequence mode) in
     let behind : Option Name = cond wrong (Some TypeError) (phase_refusal a f) in
-    (refused_by o done a f c name, told_by o done a f c name (λ none is. no_phase (is_in_media (phase_in f)) (reopens a.ready) m a f c name (none_behind wrong TypeError (phase_refusal a f) (none_behind (is_updating f.running) InvalidState behind none)) is))
+    (refused_by o done a f c name, told_by o done a f c name (λ none is. no_phase (is_in_media (phase_in f)) (is_ended a.ready) m a f c name (none_behind wrong TypeError (phase_refusal a f) (none_behind (is_updating f.running) InvalidState behind none)) is))
 
 pub offset_told : (t : ℤ) → TellsRefusals (λ a f c. offset_refusal a f) (offset_result t)
 offset_told t a f c name =
     let m : Media = with_offset t c.media in
     let o : Option Name = offset_refusal a f in
     let done : CallResult = settings_result_by_phase m a f c in
-    (refused_by o done a f c name, told_by o done a f c name (λ none is. no_phase (is_in_media (phase_in f)) (reopens a.ready) m a f c name (none_behind (is_updating f.running) InvalidState (phase_refusal a f) none) is))
+    (refused_by o done a f c name, told_by o done a f c name (λ none is. no_phase (is_in_media (phase_in f)) (is_ended a.ready) m a f c name (none_behind (is_updating f.running) InvalidState (phase_refusal a f) none) is))
 
 -- ---- appends
 

@@ -1,9 +1,7 @@
 -- One step of an append, put together of its parts.
-use Rattle.std.proofs.Common.{◌≡◌, ◌∙◌, ℕ, List, Bool, true, false, refl, ap, sym, subst}
-use Rattle.std.specs.Prelude.{Option, Some, None, is_some, slice_get}
+use Rattle.std.proofs.Common.{◌≡◌, ◌∙◌, ℕ, true, false, refl, ap, sym, subst}
+use Rattle.std.specs.Prelude.{Option, Some, None, is_some}
 use Rattle.mse_base.specs.declared.track.Presentation.{Presentation}
-use Rattle.mse_types.specs.declared.answer.Container.{Container}
-use Rattle.parser_loop.specs.Walk.{count_after}
 use Rattle.parser_loop.specs.Items.{InitItem, FrameItem, latest_after_any}
 use Rattle.byte_stream.specs.Readings.{Reading, ByteItem, after_answer}
 use Rattle.byte_stream.specs.Readings as reading
@@ -25,23 +23,23 @@ use Rattle.buffer_state.specs.declared.running.Running.{Running}
 use Rattle.buffer_state.specs.declared.reply.Reply.{Reply}
 use Rattle.buffer_state.specs.declared.turns.ItemEffect.{ItemEffect}
 use Rattle.buffer_state.specs.declared.turns.ItemEffect.TheVariants as step
-use Rattle.buffer_state.specs.State.{Feed, Content, Surroundings, kept, Stands, next_item}
+use Rattle.buffer_state.specs.State.{Feed, Content, Surroundings, kept_buffer, Stands, feed_after, next_item}
 use Rattle.buffer_state.specs.Replies.{CallResult, Answers, IsResult}
 use Rattle.buffer_state.specs.Turns.{ItemResult, Done, AppendError, media_item_result, item_result, item_turn_result, append_turn_result}
-use Rattle.buffer_state.specs.Steps.{Took, step_result, item_stepped, after_given, step_turn, content_at, IsItemRefused}
+use Rattle.buffer_state.specs.Steps.{Took, step_result, item_stepped, step_turn, content_at, IsItemRefused}
 use Rattle.buffer_state.proofs.Standing.{answers, feed_at, content_of}
 
 -- a step that did what the item does answers what a turn with the item does
-pub step-turns : (oi : Option ByteItem) (st : ItemEffect) (c d : Content) (a : Surroundings) (f : Feed) → step_result st d ≡ item_stepped oi c a.duration → step_turn st a (after_given oi f) d ≡ append_turn_result oi a f c
+pub step-turns : (oi : Option ByteItem) (st : ItemEffect) (c d : Content) (a : Surroundings) (f : Feed) → step_result st d ≡ item_stepped oi c a.duration → step_turn st a (feed_after oi f) d ≡ append_turn_result oi a f c
 step-turns None step.NoItem c d a f e = let same : d ≡ c = cc in ap (λ (x : Content). append_turn_result None a f x) same
 step-turns None (step.Done b) c d a f e = absurd (cc)
 step-turns None (step.AppendError fault at b) c d a f e = absurd (cc)
 step-turns (Some item) step.NoItem c d a f e = absurd (cc)
-step-turns (Some item) (step.Done b) c d a f e = let same : Done d b ≡ item_result item c a.duration = cc in ap (λ (t : ItemResult). item_turn_result t a f) same
-step-turns (Some item) (step.AppendError fault at b) c d a f e = let same : AppendError fault at d b ≡ item_result item c a.duration = cc in ap (λ (t : ItemResult). item_turn_result t a f) same
+step-turns (Some item) (step.Done b) c d a f e = let same : Done d b ≡ item_result item c a.duration = cc in ap (λ (t : ItemResult). item_turn_result item t a f) same
+step-turns (Some item) (step.AppendError fault at b) c d a f e = let same : AppendError fault at d b ≡ item_result item c a.duration = cc in ap (λ (t : ItemResult). item_turn_result item t a f) same
 
 -- behind the item that was given
-pub stands-given : (oi : Option ByteItem) (stream : StreamView) (media : Media) (running : Running) (f : Feed) (c : Content) → byte_stream.Stands stream (after_answer oi f.reading) → media ≡ c.media → latest_of stream ≡ c.latest → running ≡ f.running → Stands (kept stream media running) (after_given oi f) c
+pub stands-given : (oi : Option ByteItem) (stream : StreamView) (media : Media) (running : Running) (f : Feed) (c : Content) → byte_stream.Stands stream (after_answer oi f.reading) → media ≡ c.media → latest_of stream ≡ c.latest → running ≡ f.running → Stands (kept_buffer stream media running) (feed_after oi f) c
 stands-given None stream media running f c s m l r = record { stream = s; media = m; latest = l; running = r }
 stands-given (Some item) stream media running f c s m l r = record { stream = s; media = m; latest = l; running = r }
 
@@ -53,22 +51,22 @@ GoesOn s oi t = (r : Reading) → byte_stream.Stands s r → byte_stream.Stands 
 
 pub append-turns : (s0 s1 s2 : StreamView) (m0 m1 m2 : Media) (r0 r2 : Running) (oi : Option ByteItem) (st : ItemEffect) (reply : Reply) (a : Surroundings) → GivesItem s0 oi → GoesOn s0 oi s1 → latest_of s1 ≡ latest_after_any (latest_of s0) oi
     → ((latest : Option Presentation) → step_result st (record { media = m1; latest = latest_after_any latest oi }) ≡ item_stepped oi (record { media = m0; latest = latest }) a.duration)
-    → Answers (kept s1 m1 r0) reply (kept s2 m2 r2) (step_turn st a)
-    → Answers (kept s0 m0 r0) reply (kept s2 m2 r2) (λ f c. append_turn_result (next_item f) a f c)
+    → Answers (kept_buffer s1 m1 r0) reply (kept_buffer s2 m2 r2) (step_turn st a)
+    → Answers (kept_buffer s0 m0 r0) reply (kept_buffer s2 m2 r2) (λ f c. append_turn_result (next_item f) a f c)
 append-turns s0 s1 s2 m0 m1 m2 r0 r2 oi st reply a gives goes last does done =
-    answers (kept s0 m0 r0) reply (kept s2 m2 r2) (λ f c. append_turn_result (next_item f) a f c) (λ r s.
+    answers (kept_buffer s0 m0 r0) reply (kept_buffer s2 m2 r2) (λ f c. append_turn_result (next_item f) a f c) (λ r s.
     let f : Feed = feed_at r r0 in
     let c : Content = content_of m0 s0 in
     let d : Content = record { media = m1; latest = latest_after_any (latest_of s0) oi } in
-    let there : Stands (kept s1 m1 r0) (after_given oi f) d = stands-given oi s1 m1 r0 f d (goes r s) refl last refl in
-    let is : step_turn st a (after_given oi f) d ≡ append_turn_result oi a f c = step-turns oi st c d a f (does (latest_of s0)) in
+    let there : Stands (kept_buffer s1 m1 r0) (feed_after oi f) d = stands-given oi s1 m1 r0 f d (goes r s) refl last refl in
+    let is : step_turn st a (feed_after oi f) d ≡ append_turn_result oi a f c = step-turns oi st c d a f (does (latest_of s0)) in
     let read : append_turn_result oi a f c ≡ append_turn_result (next_item f) a f c = ap (λ (o : Option ByteItem). append_turn_result o a f c) (gives r s) in
-    subst (λ (x : CallResult). IsResult reply (kept s2 m2 r2) x) (is ∙ read) (done (after_given oi f) d there))
+    subst (λ (x : CallResult). IsResult reply (kept_buffer s2 m2 r2) x) (is ∙ read) (done (feed_after oi f) d there))
 
 -- ---- an item that is refused
 
 -- what comes of it does not depend on whether it was given
-error-given : (st : ItemEffect) (o : Option ByteItem) (m : Media) (d : Moment) (a : Surroundings) (f : Feed) (c : Content) → IsItemRefused st o m d → step_turn st a f c ≡ step_turn st a (after_given o f) c
+error-given : (st : ItemEffect) (o : Option ByteItem) (m : Media) (d : Moment) (a : Surroundings) (f : Feed) (c : Content) → IsItemRefused st o m d → step_turn st a f c ≡ step_turn st a (feed_after o f) c
 error-given step.NoItem o m d a f c h = absurd h
 error-given (step.Done e) o m d a f c h = absurd h
 error-given (step.AppendError fault at e) None m d a f c h = refl
@@ -81,16 +79,16 @@ refused-stepped (step.AppendError fault at e) o m d latest h = sym (h latest)
 
 pub refusal-turns : (s0 s2 : StreamView) (m0 m2 : Media) (r0 r2 : Running) (st : ItemEffect) (reply : Reply) (a : Surroundings)
     → ((r : Reading) → byte_stream.Stands s0 r → IsItemRefused st (reading.next_item r) m0 a.duration)
-    → Answers (kept s0 m0 r0) reply (kept s2 m2 r2) (step_turn st a)
-    → Answers (kept s0 m0 r0) reply (kept s2 m2 r2) (λ f c. append_turn_result (next_item f) a f c)
+    → Answers (kept_buffer s0 m0 r0) reply (kept_buffer s2 m2 r2) (step_turn st a)
+    → Answers (kept_buffer s0 m0 r0) reply (kept_buffer s2 m2 r2) (λ f c. append_turn_result (next_item f) a f c)
 refusal-turns s0 s2 m0 m2 r0 r2 st reply a refused done =
-    answers (kept s0 m0 r0) reply (kept s2 m2 r2) (λ f c. append_turn_result (next_item f) a f c) (λ r s.
+    answers (kept_buffer s0 m0 r0) reply (kept_buffer s2 m2 r2) (λ f c. append_turn_result (next_item f) a f c) (λ r s.
     let f : Feed = feed_at r r0 in
     let c : Content = content_of m0 s0 in
     let no : IsItemRefused st (next_item f) m0 a.duration = refused r s in
-    let there : Stands (kept s0 m0 r0) f c = record { stream = s; media = refl; latest = refl; running = refl } in
-    let is : step_turn st a (after_given (next_item f) f) c ≡ append_turn_result (next_item f) a f c = step-turns (next_item f) st c c a f (refused-stepped st (next_item f) m0 a.duration (latest_of s0) no) in
-    subst (λ (x : CallResult). IsResult reply (kept s2 m2 r2) x) (error-given st (next_item f) m0 a.duration a f c no ∙ is) (done f c there))
+    let there : Stands (kept_buffer s0 m0 r0) f c = record { stream = s; media = refl; latest = refl; running = refl } in
+    let is : step_turn st a (feed_after (next_item f) f) c ≡ append_turn_result (next_item f) a f c = step-turns (next_item f) st c c a f (refused-stepped st (next_item f) m0 a.duration (latest_of s0) no) in
+    subst (λ (x : CallResult). IsResult reply (kept_buffer s2 m2 r2) x) (error-given st (next_item f) m0 a.duration a f c no ∙ is) (done f c there))
 
 -- ---- what an item does to the media
 
@@ -113,8 +111,8 @@ frame-step st (effects.AppendError fault e) f at m0 m1 latest d is h = h ∙ ap 
 -- a frame that breaks the byte stream
 pub frame-breaks : (s0 s1 s2 : StreamView) (m0 m1 m2 : Media) (r0 r2 : Running) (f : CodedFrame) (at : ℕ) (fault : MediaFault) (e : SourceEffect) (reply : Reply) (a : Surroundings) → GivesItem s0 (Some (FrameItem f at)) → GoesOn s0 (Some (FrameItem f at)) s1 → latest_of s1 ≡ latest_of s0
     → media.AppendError fault m1 e ≡ frame_result f m0 a.duration
-    → Answers (kept s1 m1 r0) reply (kept s2 m2 r2) (step_turn (step.AppendError (Fault.Media fault) at e) a)
-    → Answers (kept s0 m0 r0) reply (kept s2 m2 r2) (λ f c. append_turn_result (next_item f) a f c)
+    → Answers (kept_buffer s1 m1 r0) reply (kept_buffer s2 m2 r2) (step_turn (step.AppendError (Fault.Media fault) at e) a)
+    → Answers (kept_buffer s0 m0 r0) reply (kept_buffer s2 m2 r2) (λ f c. append_turn_result (next_item f) a f c)
 frame-breaks s0 s1 s2 m0 m1 m2 r0 r2 f at fault e reply a gives goes last is done =
     let st : ItemEffect = step.AppendError (Fault.Media fault) at e in
     append-turns s0 s1 s2 m0 m1 m2 r0 r2 (Some (FrameItem f at)) st reply a gives goes last

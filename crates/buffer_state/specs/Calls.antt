@@ -16,6 +16,7 @@ use Rattle.mse_calls.specs.declared.calls.Mode.TheVariants.{Segments, Sequence}
 use Rattle.mse_calls.specs.declared.events.EventKind.{EventKind}
 use Rattle.mse_calls.specs.declared.events.EventKind.TheVariants.{UpdateStart, UpdateEnd, Abort}
 use Rattle.mse_calls.specs.declared.views.BufferView.{BufferView}
+use Rattle.mse_calls.specs.Ready.{is_open, is_ended}
 use Rattle.byte_stream.specs.Readings.{held_at}
 use Rattle.mse_base.specs.Moments.{is_before, is_after, is_nan}
 use Rattle.track_buffers.specs.Media.{Media}
@@ -25,7 +26,7 @@ use Rattle.track_buffers.specs.Buffered.{buffered_of}
 use Rattle.track_buffers.specs.Views.{track_views_of}
 use Rattle.buffer_state.specs.declared.running.Running.TheVariants.{Removal}
 use Rattle.buffer_state.specs.State.{Feed, Content, Surroundings, AppendInput, is_updating, is_appending, is_removing, feed_running, idle_feed, feed_with, new_feed, phase_in, ready_in}
-use Rattle.buffer_state.specs.Replies.{CallResult, is_open, reopens, refused_result, result_with, event_reply, effect_reply, events_first_reply}
+use Rattle.buffer_state.specs.Replies.{CallResult, refused_result, result_with, event_reply, effect_reply, events_first_reply}
 
 abbrev pub is_in_media : Phase → Bool
 is_in_media Waiting = false
@@ -60,13 +61,14 @@ settings_result reopened m a f c =
 -- a media segment has begun; where the source is ended it is opened again before this is looked at
 abbrev pub phase_refusal : Surroundings → Feed → Option Name
 phase_refusal a f =
-    if is_in_media (phase_in f) then (if reopens a.ready then None else Some InvalidState) else None
+    if is_in_media (phase_in f) then (if is_ended a.ready then None else Some InvalidState)
+    else None
 
 -- an ended source is opened again, and in a media segment that is all
 abbrev pub settings_result_by_phase : Media → Surroundings → Feed → Content → CallResult
 settings_result_by_phase m a f c =
-    if is_in_media (phase_in f) then refused_result InvalidState (reopens a.ready) a f c
-    else settings_result (reopens a.ready) m a f c
+    if is_in_media (phase_in f) then refused_result InvalidState (is_ended a.ready) a f c
+    else settings_result (is_ended a.ready) m a f c
 
 -- mode, on setting
 abbrev pub mode_refusal : Mode → Surroundings → Feed → Content → Option Name
@@ -127,7 +129,7 @@ remove_refusal start end a f =
 abbrev pub remove_result : ℤ → Moment → Surroundings → Feed → Content → CallResult
 remove_result start end a f c =
     unless_refused (remove_refusal start end a f)
-    (result_with (event_reply (reopens a.ready) a.duration (UpdateStart ∷ []))
+    (result_with (event_reply (is_ended a.ready) a.duration (UpdateStart ∷ []))
     (feed_running (Removal start end) f) c)
     a f c
 
@@ -140,8 +142,8 @@ is_full bytes quota f m =
 
 abbrev pub append_result_by_room : List ℕ → ℕ → Surroundings → Feed → Content → CallResult
 append_result_by_room bytes quota a f c =
-    if is_full bytes quota f c.media then refused_result QuotaExceeded (reopens a.ready) a f c
-    else result_with (event_reply (reopens a.ready) a.duration (UpdateStart ∷ []))
+    if is_full bytes quota f c.media then refused_result QuotaExceeded (is_ended a.ready) a f c
+    else result_with (event_reply (is_ended a.ready) a.duration (UpdateStart ∷ []))
     (feed_with bytes f) c
 
 -- the prepare append algorithm (3.5.4): coded frame eviction comes before the quota is looked at
@@ -188,7 +190,7 @@ abort_result a f c =
 -- codecs
 abbrev pub change_type_result_after_flush : Container → FlushResult → Surroundings → CallResult
 change_type_result_after_flush container done a =
-    result_with (effect_reply (reopens a.ready) done.effect []) (new_feed container None)
+    result_with (effect_reply (is_ended a.ready) done.effect []) (new_feed container None)
     (record {
       media = with_container (generates_timestamps container) (media_after_reset done.media);
       latest = None;

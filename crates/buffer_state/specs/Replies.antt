@@ -2,8 +2,6 @@
 use Rattle.std.specs.Prelude.{◌≡◌, ℕ, Bool, true, false, List, [], ◌∷◌, Option, Some, None, Result, IfOk, if◌then◌else◌}
 use Rattle.mse_base.specs.declared.ticks.Moment.{Moment}
 use Rattle.mse_calls.specs.declared.answers.Name.{Name}
-use Rattle.mse_calls.specs.declared.answers.Ready.{Ready}
-use Rattle.mse_calls.specs.declared.answers.Ready.TheVariants.{Closed, Opened, Ended}
 use Rattle.mse_calls.specs.declared.events.EventKind.{EventKind}
 use Rattle.mse_calls.specs.declared.events.EventKind.TheVariants.{Error, UpdateEnd}
 use Rattle.mse_calls.specs.declared.views.FaultView.{FaultView}
@@ -13,24 +11,12 @@ use Rattle.track_buffers.specs.Buffered.{buffered_of}
 use Rattle.buffer_state.specs.declared.reply.Reply.{Reply}
 use Rattle.buffer_state.specs.declared.reply.Turned.{Turned}
 use Rattle.buffer_state.specs.declared.reply.Turned.TheVariants.{Did, Idle}
-use Rattle.buffer_state.specs.State.{Feed, Content, Surroundings, Kept, Stands}
+use Rattle.buffer_state.specs.State.{Feed, Content, Surroundings, KeptBuffer, Stands}
 
 pub record CallResult : Type 0 where
   pub reply : Reply
   pub feed : Feed
   pub content : Content
-
--- the source is open (Media Source Extensions, ReadyState)
-abbrev pub is_open : Ready → Bool
-is_open Closed = false
-is_open Opened = true
-is_open Ended = false
-
--- the source is opened again where it was ended
-abbrev pub reopens : Ready → Bool
-reopens Closed = false
-reopens Opened = false
-reopens Ended = true
 
 -- ---- replies
 
@@ -87,17 +73,17 @@ result_with reply f c = record { reply = reply; feed = f; content = c }
 -- ---- the code and this
 
 -- the reply is the one that is meant, and what is kept stands for the state that is meant
-pub record IsResult (reply : Reply) (k : Kept) (result : CallResult) : Type 0 where
+pub record IsResult (reply : Reply) (k : KeptBuffer) (result : CallResult) : Type 0 where
   pub replies : reply ≡ result.reply
   pub stands : Stands k result.feed result.content
 
 -- a call answers a reply and leaves what is kept, for every feed and content that was stood for
-abbrev pub Answers : Kept → Reply → Kept → (Feed → Content → CallResult) → Type 0
+abbrev pub Answers : KeptBuffer → Reply → KeptBuffer → (Feed → Content → CallResult) → Type 0
 Answers old reply new call =
     (f : Feed) (c : Content) → Stands old f c → IsResult reply new (call f c)
 
 -- the same of a call that answers one where there is memory
-abbrev pub AnswersIfOk : {E : Type 0} → Kept → Result Reply E → Kept → (Feed → Content → CallResult)
+abbrev pub AnswersIfOk : {E : Type 0} → KeptBuffer → Result Reply E → KeptBuffer → (Feed → Content → CallResult)
     → Type 0
 AnswersIfOk old result new call =
     (f : Feed) (c : Content) → Stands old f c → IfOk result (λ reply. IsResult reply new (call f c))
@@ -122,11 +108,18 @@ LeavesRanges old reply new =
     → buffered_of ended new ≡ (if reply.activated then [] else buffered_of ended old)
 
 -- something ran, or nothing did
-abbrev pub IsTurnResult : Turned → Kept → Option CallResult → Type 0
+abbrev pub IsTurnResult : Turned → KeptBuffer → Option CallResult → Type 0
 IsTurnResult (Did reply) k None = ⊥
 IsTurnResult (Did reply) k (Some result) = IsResult reply k result
 IsTurnResult Idle k None = Unit {0}
 IsTurnResult Idle k (Some result) = ⊥
+
+-- the same of a turn, for every feed and content that was stood for, where there is memory
+abbrev pub TurnsIfOk : {E : Type 0} → KeptBuffer → Result Turned E → KeptBuffer
+    → (Feed → Content → Option CallResult) → Type 0
+TurnsIfOk old result new turn =
+    (f : Feed) (c : Content) → Stands old f c
+    → IfOk result (λ turned. IsTurnResult turned new (turn f c))
 
 -- what is said of a reply, said of a turn
 abbrev pub OfTurn : Turned → (Reply → Type 0) → Type 0

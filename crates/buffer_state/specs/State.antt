@@ -1,12 +1,12 @@
 -- A source buffer as a state: its feed and its content.
-use Rattle.std.specs.Prelude.{◌≡◌, ℕ, ◌+◌, ℤ, Bool, true, false, List, [], ◌++◌, slice_get, Option}
+use Rattle.std.specs.Prelude.{◌≡◌, ℕ, ℤ, Bool, true, false, List, Option}
 use Rattle.mse_base.specs.declared.frame.CodedFrame.{CodedFrame}
 use Rattle.mse_base.specs.declared.frame.Phase.{Phase}
 use Rattle.mse_base.specs.declared.ticks.Moment.{Moment}
 use Rattle.mse_base.specs.declared.track.Presentation.{Presentation}
 use Rattle.mse_types.specs.declared.answer.Container.{Container}
 use Rattle.mse_calls.specs.declared.answers.Ready.{Ready}
-use Rattle.byte_stream.specs.Readings.{Reading, ByteItem, reading_from, with_bytes, phase_at, ready_at}
+use Rattle.byte_stream.specs.Readings.{Reading, ByteItem, reading_from, after_answer, with_bytes, phase_at, ready_at}
 use Rattle.byte_stream.specs.Readings as reading
 use Rattle.byte_stream.specs.Streams.{StreamView, latest_of}
 use Rattle.byte_stream.specs.Streams as byte_stream
@@ -25,7 +25,8 @@ pub record Content : Type 0 where
   pub media : Media
   pub latest : Option Presentation
 
--- What a buffer is told of what it does not keep. The position and the quota are told to `append` alone.
+-- What a buffer is told of what it does not keep, without the position and the quota: only what an append evicts and
+-- whether it is refused goes by those.
 pub record Surroundings : Type 0 where
   pub number : ℕ
   pub ready : Ready
@@ -51,16 +52,16 @@ append_input bytes a = record { bytes = bytes; position = a.position; quota = a.
 
 -- ---- what the code keeps
 
-pub record Kept : Type 0 where
+pub record KeptBuffer : Type 0 where
   pub stream : StreamView
   pub media : Media
   pub running : Running
 
-abbrev pub kept : StreamView → Media → Running → Kept
-kept stream media running = record { stream = stream; media = media; running = running }
+abbrev pub kept_buffer : StreamView → Media → Running → KeptBuffer
+kept_buffer stream media running = record { stream = stream; media = media; running = running }
 
 -- A buffer stands for a feed and a content. Many strings may belong to one buffer.
-pub record Stands (k : Kept) (f : Feed) (c : Content) : Type 0 where
+pub record Stands (k : KeptBuffer) (f : Feed) (c : Content) : Type 0 where
   pub stream : byte_stream.Stands k.stream f.reading
   pub media : k.media ≡ c.media
   pub latest : latest_of k.stream ≡ c.latest
@@ -94,8 +95,9 @@ idle_feed f = feed_running Nothing f
 abbrev pub feed_with : List ℕ → Feed → Feed
 feed_with bytes f = record { reading = with_bytes bytes f.reading; running = Append }
 
-abbrev pub feed_after_item : Feed → Feed
-feed_after_item f = record f { reading = record f.reading { taken = f.reading.taken + 1 } }
+-- the next item was asked for, and this was given
+abbrev pub feed_after : Option ByteItem → Feed → Feed
+feed_after item f = record f { reading = after_answer item f.reading }
 
 -- an empty string, read with the presentation that is left (Media Source Extensions, 3.5.2, reset parser state)
 abbrev pub new_feed : Container → Option Presentation → Feed

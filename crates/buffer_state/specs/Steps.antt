@@ -14,7 +14,7 @@ use Rattle.buffer_state.specs.declared.running.Running.{Running}
 use Rattle.buffer_state.specs.declared.running.Running.TheVariants.{Nothing}
 use Rattle.buffer_state.specs.declared.turns.ItemEffect.{ItemEffect}
 use Rattle.buffer_state.specs.declared.turns.ItemEffect.TheVariants as step
-use Rattle.buffer_state.specs.State.{Feed, Content, Surroundings, feed_after_item}
+use Rattle.buffer_state.specs.State.{Feed, Content, Surroundings}
 use Rattle.buffer_state.specs.Faults.{fault_view}
 use Rattle.buffer_state.specs.Replies.{CallResult, effect_reply, result_with}
 use Rattle.buffer_state.specs.Turns.{ItemResult, Done, AppendError, item_result, append_error_result, last_turn_result}
@@ -81,11 +81,6 @@ abbrev pub changes_after : ItemEffect → ℕ
 changes_after step.NoItem = 0
 changes_after (step.Done b) = b.duration_changes
 changes_after (step.AppendError fault at b) = b.duration_changes
-
--- the feed where an item was given
-abbrev pub after_given : Option ByteItem → Feed → Feed
-after_given None f = f
-after_given (Some item) f = feed_after_item f
 
 -- what a step answers, where the item was given
 abbrev pub step_turn : ItemEffect → Surroundings → Feed → Content → CallResult

@@ -9,7 +9,7 @@ use Rattle.buffer_state.specs.declared.running.Running.{Running}
 use Rattle.buffer_state.specs.declared.running.Running.TheVariants.{Nothing, Append, Removal}
 use Rattle.buffer_state.specs.declared.reply.Turned.{Turned}
 use Rattle.buffer_state.specs.declared.reply.Turned.TheVariants.{Did, Idle}
-use Rattle.buffer_state.specs.State.{Kept, is_updating}
+use Rattle.buffer_state.specs.State.{KeptBuffer, is_updating}
 
 -- how many items the stream will give of the bytes that it has
 abbrev pub items_left : byte_stream.ParserState → ℕ
@@ -22,15 +22,15 @@ work_left Append k = items_left k + 1
 work_left (Removal start end) k = 1
 
 -- a removal is one step; an append has one for each item, and one for its end
-abbrev pub steps_left : Kept → ℕ
+abbrev pub steps_left : KeptBuffer → ℕ
 steps_left k = work_left k.running k.stream.parser
 
 -- a step lowers them
-abbrev pub IsFewer : Turned → Kept → Kept → Type 0
+abbrev pub IsFewer : Turned → KeptBuffer → KeptBuffer → Type 0
 IsFewer (Did reply) old new = steps_left new < steps_left old
 IsFewer Idle old new = Unit {0}
 
 -- a step finds nothing to do exactly where nothing runs, and then nothing changes
-abbrev pub IsIdle : Turned → Kept → Kept → Type 0
+abbrev pub IsIdle : Turned → KeptBuffer → KeptBuffer → Type 0
 IsIdle (Did reply) old new = is_updating old.running ≡ true
 IsIdle Idle old new = (is_updating old.running ≡ false) × (new ≡ old)

@@ -15,7 +15,7 @@ use Rattle.buffer_state.specs.declared.faults.Fault.{Fault}
 use Rattle.buffer_state.specs.declared.faults.Fault.TheVariants.{Bytes, Media}
 use Rattle.buffer_state.specs.declared.running.Running.{Running}
 use Rattle.buffer_state.specs.declared.running.Running.TheVariants.{Nothing, Append, Removal}
-use Rattle.buffer_state.specs.State.{Feed, Content, Surroundings, idle_feed, feed_after_item, new_feed, next_item}
+use Rattle.buffer_state.specs.State.{Feed, Content, Surroundings, idle_feed, feed_after, new_feed, next_item}
 use Rattle.buffer_state.specs.Faults.{fault_view}
 use Rattle.buffer_state.specs.Replies.{CallResult, effect_reply, event_reply, error_reply, result_with}
 
@@ -55,15 +55,16 @@ abbrev pub last_turn_result : Surroundings → Feed → Content → CallResult
 last_turn_result a f c =
     result_with (event_reply false a.duration (Update ∷ UpdateEnd ∷ [])) (idle_feed f) c
 
-abbrev pub item_turn_result : ItemResult → Surroundings → Feed → CallResult
-item_turn_result (Done c e) a f = result_with (effect_reply false e []) (feed_after_item f) c
-item_turn_result (AppendError fault at c e) a f =
+abbrev pub item_turn_result : ByteItem → ItemResult → Surroundings → Feed → CallResult
+item_turn_result item (Done c e) a f =
+    result_with (effect_reply false e []) (feed_after (Some item) f) c
+item_turn_result item (AppendError fault at c e) a f =
     append_error_result (fault_view fault a.number at) e f c
 
 -- one step of an append (Media Source Extensions, 3.5.5, buffer append): the next item, or the end where there is none
 abbrev pub append_turn_result : Option ByteItem → Surroundings → Feed → Content → CallResult
 append_turn_result None a f c = last_turn_result a f c
-append_turn_result (Some item) a f c = item_turn_result (item_result item c a.duration) a f
+append_turn_result (Some item) a f c = item_turn_result item (item_result item c a.duration) a f
 
 -- a removal, in one step (Media Source Extensions, 3.5.6, range removal, steps 6 to 9)
 abbrev pub removal_turn_result : ℤ → Moment → Surroundings → Feed → Content → CallResult

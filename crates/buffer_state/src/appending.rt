@@ -1,14 +1,15 @@
 //! `SourceBuffer.appendBuffer` (Media Source Extensions, 3.2).
 
 ghost use Rattle.std.specs.Prelude.{◌≡◌, ◌+◌, ◌^◌, nat_le, false, length, Some, None, IfOk, OnErr};
+ghost use Rattle.mse_calls.specs.Ready.{is_ended};
 ghost use Rattle.track_buffers.specs.Media.{EndsWithin};
 ghost use Rattle.track_buffers.specs.Frames.{media_after_eviction, used_in};
-ghost use Rattle.buffer_state.specs.State.{Feed, kept, surroundings, append_input};
-ghost use Rattle.buffer_state.specs.Replies.{Answers, StaysWithin, refusal, reopens};
+ghost use Rattle.buffer_state.specs.State.{Feed, kept_buffer, surroundings, append_input};
+ghost use Rattle.buffer_state.specs.Replies.{Answers, AnswersIfOk, StaysWithin, refusal};
 ghost use Rattle.buffer_state.specs.Calls.{append_result_after_eviction, append_refusal, append_result};
 
 use crate::around::Around;
-use crate::reply::{Reply, event_reply, one, reopens};
+use crate::reply::{Reply, event_reply, one};
 use crate::running::Running;
 use byte_stream::ByteStream;
 use mse_base::{Bytes, OutOfMemory};
@@ -41,9 +42,13 @@ fn evict<S: FrameStore>(media: &mut TrackBuffers<S>, new_bytes: usize, around: &
 }
 
 fn refuse_full(around: &Around) -> Reply
-    ensures { result ≡ refusal Name.QuotaExceeded (reopens around.now.ready) around.now.duration }
+    ensures { result ≡ refusal Name.QuotaExceeded (is_ended around.now.ready) around.now.duration }
 {
-    Reply::refused(Name::QuotaExceeded, reopens(around.ready), &around.duration)
+    Reply::refused(
+        Name::QuotaExceeded,
+        around.ready.is_ended(),
+        &around.duration,
+    )
 }
 
 /// Evicts, and then takes the bytes that are offered or declines them.
@@ -56,8 +61,8 @@ fn accept_or_decline<S: FrameStore>(
 ) -> Reply
     requires offered { stream.old.offered ≡ Some bytes.now }
     requires short { nat_le (2 ^ 62) (stream.old.fed + length bytes.now) ≡ false }
-    ensures answered { Answers (kept stream.old media.old.media running.old) result
-        (kept stream.new media.new.media running.new)
+    ensures answered { Answers (kept_buffer stream.old media.old.media running.old) result
+        (kept_buffer stream.new media.new.media running.new)
         (append_result_after_eviction (append_input bytes.now around.now)
         (surroundings around.now)) }
     ensures within_duration { StaysWithin around.now.duration media.old.media result
@@ -74,7 +79,7 @@ fn accept_or_decline<S: FrameStore>(
     }
     stream.accept();
     *running = Running::Append;
-    let is_reopened = reopens(around.ready);
+    let is_reopened = around.ready.is_ended();
     event_reply(is_reopened, &around.duration, one(EventKind::UpdateStart))
 }
 
@@ -99,18 +104,17 @@ pub(crate) fn append<S: FrameStore>(
     around: &Around,
 ) -> Result<Reply, OutOfMemory>
     requires { stream.old.offered ≡ None }
-    ensures answered { IfOk result (λ reply. Answers
-        (kept stream.old media.old.media running.old) reply
-        (kept stream.new media.new.media running.new)
-        (append_result (append_input bytes.now around.now) (surroundings around.now))) }
+    ensures answered { AnswersIfOk (kept_buffer stream.old media.old.media running.old) result
+        (kept_buffer stream.new media.new.media running.new)
+        (append_result (append_input bytes.now around.now) (surroundings around.now)) }
     ensures within_duration { IfOk result
         (λ reply. StaysWithin around.now.duration media.old.media reply media.new.media) }
     ensures changes { IfOk result (λ reply. reply.duration_changes ≡ 0) }
     ensures duration { IfOk result (λ reply. reply.duration ≡ around.now.duration) }
     ensures no_init { IfOk result (λ reply. reply.received_init ≡ false) }
     ensures none_offered { stream.new.offered ≡ None }
-    ensures err { OnErr result (kept stream.new media.new.media running.new
-        ≡ kept stream.old media.old.media running.old) }
+    ensures err { OnErr result (kept_buffer stream.new media.new.media running.new
+        ≡ kept_buffer stream.old media.old.media running.old) }
 {
     if let Some(name) = append_refusal(running, around) {
         return Ok(Reply::refused(name, false, &around.duration));

@@ -10,11 +10,12 @@ pub struct Around {
     pub ready: Ready,
     /// Whether the element has an error.
     pub error: bool,
-    /// The duration of the source.
+    /// The duration of the source, in ticks; NaN where it has none.
     pub duration: Moment,
-    /// The playback position. Only an append looks at it.
+    /// The playback position, in ticks. An append evicts by it; a turn only looks it up ahead,
+    /// which changes nothing that is told.
     pub position: Ticks,
-    /// An append is refused where, after eviction, the stored coded frames have this many bytes or
-    /// more. Only an append looks at it.
+    /// In bytes: an append is refused where, after eviction, the stored coded frames have as many
+    /// or more. Only an append looks at it.
     pub quota: u64,
 }

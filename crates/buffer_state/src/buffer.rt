@@ -1,7 +1,7 @@
-ghost use Rattle.std.specs.Prelude.{◌≡◌, ◌≢◌, ◌+◌, ◌<◌, ◌≤◌, ◌^◌, ℕ, ℤ, pos, ◌≤ℤ◌, true, false, not, find, [], length, Option, None, Some, IfOk, OnErr};
+ghost use Rattle.std.specs.Prelude.{◌≡◌, ◌≢◌, ◌+◌, ◌<◌, ◌≤◌, ◌^◌, ℕ, ℤ, pos, ◌≤ℤ◌, false, not, find, [], length, Option, None, Some, IfOk, OnErr};
 ghost use Rattle.std.specs.List.{AllByRecursion};
 ghost use Rattle.mse_base.specs.declared.ticks.Moment.{Moment};
-ghost use Rattle.mse_base.specs.Spans.{last_of, reaches};
+ghost use Rattle.mse_base.specs.Spans.{first_of, last_of, reaches};
 ghost use Rattle.track_store.specs.Kept.{AreKept};
 ghost use Rattle.track_store.specs.Sound.{IsSound};
 ghost use Rattle.track_store.specs.State.{states_of};
@@ -9,8 +9,8 @@ ghost use Rattle.track_buffers.specs.Settings.{new_media};
 ghost use Rattle.track_buffers.specs.Media.{awaits_first, IsNotAfter};
 ghost use Rattle.track_buffers.specs.Frames.{used_in, highest_start_in, highest_end_in};
 ghost use Rattle.track_buffers.specs.Buffered.{buffered_of};
-ghost use Rattle.buffer_state.specs.State.{Feed, Content, Kept, Stands, surroundings, append_input, new_feed, phase_in, ready_in, is_updating, is_appending, is_removing};
-ghost use Rattle.buffer_state.specs.Replies.{Answers, AnswersIfOk, StaysWithin, LeavesRanges, IsTurnResult, OfTurn, changes_of};
+ghost use Rattle.buffer_state.specs.State.{Feed, Content, KeptBuffer, Stands, surroundings, append_input, new_feed, phase_in, ready_in, is_updating, is_appending, is_removing};
+ghost use Rattle.buffer_state.specs.Replies.{Answers, AnswersIfOk, StaysWithin, LeavesRanges, TurnsIfOk, OfTurn, changes_of};
 ghost use Rattle.buffer_state.specs.Turns.{turn_result};
 ghost use Rattle.buffer_state.specs.Calls.{generates_timestamps, mode_refusal, mode_result, offset_refusal, offset_result, window_start_refusal, window_start_result, window_end_refusal, window_end_result, remove_refusal, remove_result, append_refusal, append_result, abort_refusal, abort_result, change_type_refusal, change_type_result, end_work_result, buffer_view};
 ghost use Rattle.buffer_state.specs.StepsLeft.{IsFewer, IsIdle};
@@ -40,9 +40,9 @@ pub struct Buffer<S: FrameStore> {
 
 impl<S: FrameStore> Model for Buffer<S> {
     ghost use Rattle.std.specs.Prelude.{◌≡◌, None};
-    ghost use Rattle.buffer_state.specs.State.{Kept};
+    ghost use Rattle.buffer_state.specs.State.{KeptBuffer};
 
-    ghost Value = { Kept };
+    ghost Value = { KeptBuffer };
 
     ghost view = { λ b. record { stream = b.stream; media = b.media.media; running = b.running } };
 
@@ -155,10 +155,10 @@ impl<S: FrameStore> Buffer<S> {
     /// Begins an append of bytes (Media Source Extensions, 3.2, `appendBuffer`). It takes its memory
     /// first; an `Err` changes nothing.
     ///
-    /// InvalidState where an append or a removal runs, or where the element has an error. Else an ended source is opened again and coded frames are evicted
-    /// (3.5.4), also where the append is then refused: QuotaExceeded where, after eviction, the
-    /// stored frames have as many bytes as the quota or more, or where the bytes appended since the
-    /// last reset would be `2^62` or more.
+    /// InvalidState where an append or a removal runs, or where the element has an error. Else an
+    /// ended source is opened again and coded frames are evicted (3.5.4), also where the append is
+    /// then refused: QuotaExceeded where, after eviction, the stored frames have as many bytes as
+    /// the quota or more, or where the bytes appended since the last reset would be `2^62` or more.
     pub fn append(&mut self, bytes: &Bytes, around: &Around) -> Result<Reply, OutOfMemory>
         ensures answered { AnswersIfOk self.old result self.new
             (append_result (append_input bytes.now around.now) (surroundings around.now)) }
@@ -209,7 +209,8 @@ impl<S: FrameStore> Buffer<S> {
     /// the mode becomes "sequence". An ended source is opened again. It takes its memory first; an
     /// `Err` changes nothing.
     ///
-    /// TypeError where the type is empty; InvalidState where an append or a removal runs; NotSupported where the type is not supported.
+    /// TypeError where the type is empty; InvalidState where an append or a removal runs;
+    /// NotSupported where the type is not supported.
     pub fn change_type(&mut self, text: &str, around: &Around) -> Result<Reply, OutOfMemory>
         ensures answered { AnswersIfOk self.old result self.new
             (change_type_result text.now (surroundings around.now)) }
@@ -250,9 +251,8 @@ impl<S: FrameStore> Buffer<S> {
     /// One step of the work that runs: the next item of an append or its end, or the whole of a
     /// removal. It takes its memory first; an `Err` changes nothing.
     pub fn turn(&mut self, around: &Around) -> Result<Turned, OutOfMemory>
-        ensures turned { (f : Feed) (c : Content) → Stands self.old f c
-            → IfOk result (λ turned. IsTurnResult turned self.new
-            (turn_result (surroundings around.now) f c)) }
+        ensures turned { TurnsIfOk self.old result self.new
+            (turn_result (surroundings around.now)) }
         ensures idle { IfOk result (λ turned. IsIdle turned self.old self.new) }
         ensures fewer { IfOk result (λ turned. IsFewer turned self.old self.new) }
         ensures changes { IfOk result (λ turned. changes_of turned ≤ 1) }
@@ -376,12 +376,20 @@ impl<S: FrameStore> Buffer<S> {
         self.media.span_holding(t, ended)
     }
 
-    /// The last buffered range where the source is ended; `None` exactly where there is none. It
-    /// takes no memory.
-    pub fn ended_last_span(&self) -> Option<Span>
-        ensures { result ≡ last_of (buffered_of true self.now.media) }
+    /// The first buffered range, where the source is ended or not; `None` exactly where there is
+    /// none. It takes no memory.
+    pub fn first_span(&self, ended: bool) -> Option<Span>
+        ensures { result ≡ first_of (buffered_of ended self.now.media) }
     {
-        self.media.ended_last_span()
+        self.media.first_span(ended)
+    }
+
+    /// The last buffered range, where the source is ended or not; `None` exactly where there is
+    /// none. It takes no memory.
+    pub fn last_span(&self, ended: bool) -> Option<Span>
+        ensures { result ≡ last_of (buffered_of ended self.now.media) }
+    {
+        self.media.last_span(ended)
     }
 
     /// How frames are placed: the mode, whether timestamps are generated, the offset and the append
@@ -429,11 +437,12 @@ impl<S: FrameStore> Buffer<S> {
         self.stream.phase()
     }
 
-    /// How many of the next items are coded frames, up to the first that is none.
+    /// How many of the next items are coded frames, up to the first that is none: at most `2^20`.
     pub fn ready_frames(&self) -> usize
         ensures kept { result ≡ ready_of self.now.stream }
         ensures ready { (f : Feed) (c : Content) → Stands self.now f c
             → result ≡ length (ready_in f) }
+        ensures few { result ≤ 2 ^ 20 }
     {
         self.stream.ready_frames()
     }
@@ -490,8 +499,8 @@ impl<S: FrameStore> Buffer<S> {
 
     /// What the closing lines show of the buffer, where the source is ended or not.
     pub fn view(&self, number: u32, ended: bool) -> Result<BufferView, OutOfMemory>
-        ensures { IfOk result (λ view. (f : Feed) (c : Content) → Stands self.now f c
-            → view ≡ buffer_view number ended f c) }
+        ensures { (f : Feed) (c : Content) → Stands self.now f c
+            → IfOk result (λ view. view ≡ buffer_view number ended f c) }
     {
         let ranges = self.media.buffered(ended)?;
         let tracks = self.media.track_views()?;

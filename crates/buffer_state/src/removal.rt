@@ -2,14 +2,14 @@
 
 ghost use Rattle.std.specs.Prelude.{◌≡◌, ◌||◌, not, pos, int_lt, false};
 ghost use Rattle.mse_base.specs.Moments.{is_after, is_before, is_nan};
-ghost use Rattle.buffer_state.specs.State.{Feed, kept, surroundings};
+ghost use Rattle.buffer_state.specs.State.{Feed, kept_buffer, surroundings};
 ghost use Rattle.buffer_state.specs.Replies.{Answers};
 ghost use Rattle.buffer_state.specs.Calls.{remove_refusal, remove_result};
 ghost use Rattle.track_buffers.specs.Media.{Media};
 ghost use Rattle.byte_stream.specs.Streams.{StreamView};
 
 use crate::around::Around;
-use crate::reply::{Reply, event_reply, one, reopens};
+use crate::reply::{Reply, event_reply, one};
 use crate::running::Running;
 use mse_base::{Moment, Ticks};
 use mse_calls::{EventKind, Name};
@@ -19,22 +19,14 @@ fn begins_within(start: Ticks, duration: &Moment) -> bool
     ensures { result ≡ not (is_nan duration.now ||
         (int_lt start (pos 0) || is_after start duration.now)) }
 {
-    match duration {
-        Moment::Nan => false,
-        Moment::At(d) => start >= Ticks::zero() && start <= *d,
-        Moment::Infinite => start >= Ticks::zero(),
-    }
+    !duration.is_nan() && start >= Ticks::zero() && !start.is_after(*duration)
 }
 
 /// Whether a moment is a number, and after a time.
 pub(crate) fn ends_after(start: Ticks, end: &Moment) -> bool
     ensures { result ≡ not (is_nan end.now || not (is_before start end.now)) }
 {
-    match end {
-        Moment::Nan => false,
-        Moment::At(t) => start < *t,
-        Moment::Infinite => true,
-    }
+    start.is_before(*end)
 }
 
 /// The refusal of a removal.
@@ -59,7 +51,8 @@ pub(crate) fn remove_refusal(
 /// Begins a removal.
 pub(crate) fn remove(running: &mut Running, start: Ticks, end: Moment, around: &Around) -> Reply
     ensures answered { (stream : StreamView) (media : Media)
-        → Answers (kept stream media running.old) result (kept stream media running.new)
+        → Answers (kept_buffer stream media running.old) result
+        (kept_buffer stream media running.new)
         (remove_result start end (surroundings around.now)) }
     ensures duration { result.duration ≡ around.now.duration }
     ensures changes { result.duration_changes ≡ 0 }
@@ -69,6 +62,6 @@ pub(crate) fn remove(running: &mut Running, start: Ticks, end: Moment, around: &
         return Reply::refused(name, false, &around.duration);
     }
     *running = Running::Removal { start, end };
-    let is_reopened = reopens(around.ready);
+    let is_reopened = around.ready.is_ended();
     event_reply(is_reopened, &around.duration, one(EventKind::UpdateStart))
 }

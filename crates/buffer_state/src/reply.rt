@@ -1,9 +1,9 @@
 ghost use Rattle.std.specs.Prelude.{◌≡◌, [], ◌∷◌, ◌++◌, Some};
 ghost use Rattle.track_buffers.specs.Media.{no_effect};
-ghost use Rattle.buffer_state.specs.Replies.{refusal, effect_reply, event_reply, events_first_reply, error_reply, reopens};
+ghost use Rattle.buffer_state.specs.Replies.{refusal, effect_reply, event_reply, events_first_reply, error_reply};
 
 use mse_base::Moment;
-use mse_calls::{Changes, EventKind, FaultView, Name, Ready};
+use mse_calls::{Changes, EventKind, FaultView, Name};
 use track_buffers::SourceEffect;
 
 /// What comes of a call or a turn at the source, the element and the buffer. The parts come in the
@@ -114,16 +114,6 @@ pub(crate) fn event_reply(reopened: bool, duration: &Moment, events: Changes) ->
     ensures { result ≡ event_reply reopened duration.now events }
 {
     effect_reply(reopened, no_effect(duration), events)
-}
-
-/// Whether the source is opened again: where it was ended.
-pub(crate) fn reopens(ready: Ready) -> bool
-    ensures { result ≡ reopens ready }
-{
-    match ready {
-        Ready::Ended => true,
-        Ready::Closed | Ready::Opened => false,
-    }
 }
 
 /// One event.

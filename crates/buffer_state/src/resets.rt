@@ -8,17 +8,17 @@ ghost use Rattle.byte_stream.specs.Readings.{ready_at};
 ghost use Rattle.byte_stream.specs.Streams.{ForEachReading, ready_of, seen};
 ghost use Rattle.track_buffers.specs.Media.{EndsWithin, IsNotAfter};
 ghost use Rattle.track_buffers.specs.Frames.{flush_result};
-ghost use Rattle.buffer_state.specs.State.{Feed, kept, ready_in, surroundings};
-ghost use Rattle.buffer_state.specs.Replies.{Answers, StaysWithin, is_open};
+ghost use Rattle.buffer_state.specs.State.{Feed, kept_buffer, ready_in, surroundings};
+ghost use Rattle.buffer_state.specs.Replies.{AnswersIfOk, StaysWithin};
 ghost use Rattle.buffer_state.specs.Calls.{abort_refusal, abort_result, abort_events, generates_timestamps, change_type_refusal, change_type_result, change_type_result_after_flush};
 ghost use Rattle.buffer_state.specs.Steps.{frame_in};
 
 use crate::around::Around;
-use crate::reply::{Reply, effect_reply, events_first_reply, reopens, two};
+use crate::reply::{Reply, effect_reply, events_first_reply, two};
 use crate::running::Running;
 use byte_stream::{ByteStream, Container, Next};
 use mse_base::{CodedFrame, Moment, OutOfMemory};
-use mse_calls::{Changes, EventKind, Name, Ready};
+use mse_calls::{Changes, EventKind, Name};
 use mse_types::{TypeAnswer, read_type};
 use std::alloc::Global;
 use track_buffers::{SourceEffect, TrackBuffers};
@@ -37,8 +37,8 @@ fn frame_of(next: Next) -> Option<CodedFrame>
 /// The coded frames that come next, up to the first item that is none.
 fn ready_frames(alloc: Global, stream: &ByteStream) -> Result<Vec<CodedFrame>, OutOfMemory>
     requires { stream.now.offered ≡ None }
-    ensures frames { IfOk result (λ frames.
-        ForEachReading stream.now (λ r. frames.items ≡ ready_at r)) }
+    ensures frames { ForEachReading stream.now (λ r.
+        IfOk result (λ frames. frames.items ≡ ready_at r)) }
     ensures changes { IfOk result (λ frames. length frames.items ≤ ready_of stream.now) }
     ensures lasting { IfOk result (λ frames. AllByRecursion (λ f. pos 0 ≤ℤ f.dur) frames.items) }
 {
@@ -61,9 +61,9 @@ fn flush<S: FrameStore>(
     duration: Moment,
 ) -> Result<SourceEffect, OutOfMemory>
     requires { stream.now.offered ≡ None }
-    ensures flush_result { IfOk result (λ effect. ForEachReading stream.now (λ r.
-        flush_result (ready_at r) media.old.media duration ≡
-        record { media = media.new.media; effect = effect })) }
+    ensures flush_result { ForEachReading stream.now (λ r.
+        IfOk result (λ effect. flush_result (ready_at r) media.old.media duration
+        ≡ record { media = media.new.media; effect = effect })) }
     ensures within_duration { IfOk result (λ effect. EndsWithin duration media.old.media.tracks
         → EndsWithin effect.duration media.new.media.tracks) }
     ensures changes { IfOk result (λ effect. effect.duration_changes ≤ ready_of stream.now) }
@@ -87,21 +87,12 @@ pub(crate) fn abort_events(running: bool) -> Changes
     }
 }
 
-fn is_open(ready: Ready) -> bool
-    ensures { result ≡ is_open ready }
-{
-    match ready {
-        Ready::Opened => true,
-        Ready::Closed | Ready::Ended => false,
-    }
-}
-
 /// The refusal of an abort.
 pub(crate) fn abort_refusal(running: &Running, around: &Around) -> Option<Name>
     ensures { (f : Feed) → running.now ≡ f.running
         → result ≡ abort_refusal (surroundings around.now) f }
 {
-    if !is_open(around.ready) || running.is_removing() {
+    if !around.ready.is_open() || running.is_removing() {
         Some(Name::InvalidState)
     } else {
         None
@@ -117,17 +108,17 @@ pub(crate) fn abort<S: FrameStore>(
     around: &Around,
 ) -> Result<Reply, OutOfMemory>
     requires { stream.old.offered ≡ None }
-    ensures answered { IfOk result (λ reply. Answers
-        (kept stream.old media.old.media running.old) reply
-        (kept stream.new media.new.media running.new) (abort_result (surroundings around.now))) }
+    ensures answered { AnswersIfOk (kept_buffer stream.old media.old.media running.old) result
+        (kept_buffer stream.new media.new.media running.new)
+        (abort_result (surroundings around.now)) }
     ensures within_duration { IfOk result
         (λ reply. StaysWithin around.now.duration media.old.media reply media.new.media) }
     ensures changes { IfOk result (λ reply. reply.duration_changes ≤ ready_of stream.old) }
     ensures no_fall { IfOk result (λ reply. IsNotAfter around.now.duration reply.duration) }
     ensures no_init { IfOk result (λ reply. reply.received_init ≡ false) }
     ensures none_offered { stream.new.offered ≡ None }
-    ensures err { OnErr result (kept stream.new media.new.media running.new
-        ≡ kept stream.old media.old.media running.old) }
+    ensures err { OnErr result (kept_buffer stream.new media.new.media running.new
+        ≡ kept_buffer stream.old media.old.media running.old) }
 {
     if let Some(name) = abort_refusal(running, around) {
         return Ok(Reply::refused(name, false, &around.duration));
@@ -159,11 +150,10 @@ fn take_type<S: FrameStore>(
     around: &Around,
 ) -> Result<Reply, OutOfMemory>
     requires { stream.old.offered ≡ None }
-    ensures answered { IfOk result (λ reply. Answers
-        (kept stream.old media.old.media Running.Nothing) reply
-        (kept stream.new media.new.media Running.Nothing)
+    ensures answered { AnswersIfOk (kept_buffer stream.old media.old.media Running.Nothing) result
+        (kept_buffer stream.new media.new.media Running.Nothing)
         (λ f c. change_type_result_after_flush container
-        (flush_result (ready_in f) c.media around.now.duration) (surroundings around.now))) }
+        (flush_result (ready_in f) c.media around.now.duration) (surroundings around.now)) }
     ensures within_duration { IfOk result
         (λ reply. StaysWithin around.now.duration media.old.media reply media.new.media) }
     ensures changes { IfOk result (λ reply. reply.duration_changes ≤ ready_of stream.old) }
@@ -176,7 +166,7 @@ fn take_type<S: FrameStore>(
     media.reset_parser();
     media.change_container(generates_timestamps(container));
     stream.restart(container);
-    Ok(effect_reply(reopens(around.ready), effect, Changes::new()))
+    Ok(effect_reply(around.ready.is_ended(), effect, Changes::new()))
 }
 
 /// The refusal of a change of type.
@@ -206,18 +196,17 @@ pub(crate) fn change_type<S: FrameStore>(
     around: &Around,
 ) -> Result<Reply, OutOfMemory>
     requires { stream.old.offered ≡ None }
-    ensures answered { IfOk result (λ reply. Answers
-        (kept stream.old media.old.media running.now) reply
-        (kept stream.new media.new.media running.now) (change_type_result text.now
-        (surroundings around.now))) }
+    ensures answered { AnswersIfOk (kept_buffer stream.old media.old.media running.now) result
+        (kept_buffer stream.new media.new.media running.now)
+        (change_type_result text.now (surroundings around.now)) }
     ensures within_duration { IfOk result
         (λ reply. StaysWithin around.now.duration media.old.media reply media.new.media) }
     ensures changes { IfOk result (λ reply. reply.duration_changes ≤ ready_of stream.old) }
     ensures no_fall { IfOk result (λ reply. IsNotAfter around.now.duration reply.duration) }
     ensures no_init { IfOk result (λ reply. reply.received_init ≡ false) }
     ensures none_offered { stream.new.offered ≡ None }
-    ensures err { OnErr result (kept stream.new media.new.media running.now
-        ≡ kept stream.old media.old.media running.now) }
+    ensures err { OnErr result (kept_buffer stream.new media.new.media running.now
+        ≡ kept_buffer stream.old media.old.media running.now) }
 {
     let answer = read_type(text);
     if let TypeAnswer::Empty = answer {

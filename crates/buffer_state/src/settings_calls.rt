@@ -3,20 +3,19 @@
 ghost use Rattle.std.specs.Prelude.{◌≡◌, ◌≢◌, ◌≤ℤ◌, pos, false, None};
 ghost use Rattle.mse_base.specs.declared.ticks.Moment.{Moment};
 ghost use Rattle.byte_stream.specs.Streams as byte_stream;
-ghost use Rattle.buffer_state.specs.State.{Feed, Content, Stands, kept, surroundings};
+ghost use Rattle.buffer_state.specs.State.{Feed, Content, Stands, kept_buffer, surroundings};
 ghost use Rattle.buffer_state.specs.Replies.{Answers, StaysWithin};
 ghost use Rattle.buffer_state.specs.Calls.{is_sequence, phase_refusal, mode_refusal, mode_result, offset_refusal, offset_result, window_start_refusal, window_start_result, window_end_refusal, window_end_result};
 
 use crate::around::Around;
 use crate::removal::ends_after;
-use crate::reply::{Reply, event_reply, reopens};
+use crate::reply::{Reply, event_reply};
 use crate::running::Running;
 use byte_stream::ByteStream;
 use mse_base::{Moment, Phase, Ticks};
 use mse_calls::{Changes, Mode, Name};
 use track_buffers::TrackBuffers;
 use track_store::FrameStore;
-use track_store::named::is_before;
 
 fn is_sequence(mode: Mode) -> bool
     ensures { result ≡ is_sequence mode }
@@ -36,7 +35,7 @@ fn phase_refusal(stream: &ByteStream, around: &Around) -> Option<Name>
     if stream.phase() != Phase::InMedia {
         return None;
     }
-    if reopens(around.ready) {
+    if around.ready.is_ended() {
         None
     } else {
         Some(Name::InvalidState)
@@ -52,7 +51,8 @@ pub(crate) fn mode_refusal<S: FrameStore>(
     around: &Around,
 ) -> Option<Name>
     requires { stream.now.offered ≡ None }
-    ensures { (f : Feed) (c : Content) → Stands (kept stream.now media.now.media running.now) f c
+    ensures { (f : Feed) (c : Content) →
+        Stands (kept_buffer stream.now media.now.media running.now) f c
         → result ≡ mode_refusal mode (surroundings around.now) f c }
 {
     if running.is_updating() {
@@ -72,8 +72,9 @@ pub(crate) fn set_mode<S: FrameStore>(
     around: &Around,
 ) -> Reply
     requires { stream.now.offered ≡ None }
-    ensures answered { Answers (kept stream.now media.old.media running.now) result
-        (kept stream.now media.new.media running.now) (mode_result mode (surroundings around.now)) }
+    ensures answered { Answers (kept_buffer stream.now media.old.media running.now) result
+        (kept_buffer stream.now media.new.media running.now)
+        (mode_result mode (surroundings around.now)) }
     ensures within_duration { StaysWithin around.now.duration media.old.media result
         media.new.media }
     ensures changes { result.duration_changes ≡ 0 }
@@ -83,7 +84,7 @@ pub(crate) fn set_mode<S: FrameStore>(
     if let Some(name) = mode_refusal(stream, media, running, mode, around) {
         return Reply::refused(name, false, &around.duration);
     }
-    let is_reopened = reopens(around.ready);
+    let is_reopened = around.ready.is_ended();
     if stream.phase() == Phase::InMedia {
         return Reply::refused(Name::InvalidState, is_reopened, &around.duration);
     }
@@ -115,8 +116,9 @@ pub(crate) fn set_offset<S: FrameStore>(
     around: &Around,
 ) -> Reply
     requires { stream.now.offered ≡ None }
-    ensures answered { Answers (kept stream.now media.old.media running.now) result
-        (kept stream.now media.new.media running.now) (offset_result t (surroundings around.now)) }
+    ensures answered { Answers (kept_buffer stream.now media.old.media running.now) result
+        (kept_buffer stream.now media.new.media running.now)
+        (offset_result t (surroundings around.now)) }
     ensures within_duration { StaysWithin around.now.duration media.old.media result
         media.new.media }
     ensures changes { result.duration_changes ≡ 0 }
@@ -126,7 +128,7 @@ pub(crate) fn set_offset<S: FrameStore>(
     if let Some(name) = offset_refusal(stream, running, around) {
         return Reply::refused(name, false, &around.duration);
     }
-    let is_reopened = reopens(around.ready);
+    let is_reopened = around.ready.is_ended();
     if stream.phase() == Phase::InMedia {
         return Reply::refused(Name::InvalidState, is_reopened, &around.duration);
     }
@@ -147,7 +149,7 @@ pub(crate) fn window_start_refusal<S: FrameStore>(
     if running.is_updating() {
         return Some(Name::InvalidState);
     }
-    if t < Ticks::zero() || !is_before(t, &media.settings().window_end) {
+    if t < Ticks::zero() || !t.is_before(media.settings().window_end) {
         return Some(Name::TypeError);
     }
     None
@@ -160,8 +162,8 @@ pub(crate) fn set_window_start<S: FrameStore>(
     t: Ticks,
     around: &Around,
 ) -> Reply
-    ensures answered { Answers (kept stream.now media.old.media running.now) result
-        (kept stream.now media.new.media running.now) (window_start_result t
+    ensures answered { Answers (kept_buffer stream.now media.old.media running.now) result
+        (kept_buffer stream.now media.new.media running.now) (window_start_result t
         (surroundings around.now)) }
     ensures within_duration { StaysWithin around.now.duration media.old.media result
         media.new.media }
@@ -202,8 +204,8 @@ pub(crate) fn set_window_end<S: FrameStore>(
     t: Moment,
     around: &Around,
 ) -> Reply
-    ensures answered { Answers (kept stream.now media.old.media running.now) result
-        (kept stream.now media.new.media running.now) (window_end_result t
+    ensures answered { Answers (kept_buffer stream.now media.old.media running.now) result
+        (kept_buffer stream.now media.new.media running.now) (window_end_result t
         (surroundings around.now)) }
     ensures within_duration { StaysWithin around.now.duration media.old.media result
         media.new.media }

@@ -10,8 +10,8 @@ ghost use Rattle.byte_stream.specs.Readings as reading;
 ghost use Rattle.byte_stream.specs.Streams.{ForEachReading, StreamView, ready_of, seen};
 ghost use Rattle.track_buffers.specs.Effects.{media_result, source_effect};
 ghost use Rattle.track_buffers.specs.Media.{Media, EndsWithin, IsNotAfter};
-ghost use Rattle.buffer_state.specs.State.{Content, kept, next_item, surroundings};
-ghost use Rattle.buffer_state.specs.Replies.{Answers, StaysWithin};
+ghost use Rattle.buffer_state.specs.State.{Content, kept_buffer, next_item, surroundings};
+ghost use Rattle.buffer_state.specs.Replies.{Answers, AnswersIfOk, StaysWithin};
 ghost use Rattle.buffer_state.specs.Turns.{append_turn_result, removal_turn_result, media_item_result};
 ghost use Rattle.buffer_state.specs.Steps.{IsReadyFor, IsPrepared, Leaves, Took, content_at, step_result, item_stepped, duration_after, changes_after, step_turn};
 ghost use Rattle.buffer_state.specs.StepsLeft.{steps_left};
@@ -132,8 +132,9 @@ fn answer<S: FrameStore>(
     around: &Around,
 ) -> Reply
     requires { stream.old.offered ≡ None }
-    ensures answered { Answers (kept stream.old media.old.media running.old) result
-        (kept stream.new media.new.media running.new) (step_turn step (surroundings around.now)) }
+    ensures answered { Answers (kept_buffer stream.old media.old.media running.old) result
+        (kept_buffer stream.new media.new.media running.new)
+        (step_turn step (surroundings around.now)) }
     ensures within_duration { (d : Moment) → EndsWithin d media.old.media.tracks
         → EndsWithin d media.new.media.tracks }
     ensures duration { result.duration ≡ duration_after step around.now.duration }
@@ -168,8 +169,8 @@ fn frame_fault<S: FrameStore>(
     around: &Around,
 ) -> Reply
     requires { stream.old.offered ≡ None }
-    ensures answered { Answers (kept stream.old media.old.media running.old) result
-        (kept stream.new media.new.media running.new)
+    ensures answered { Answers (kept_buffer stream.old media.old.media running.old) result
+        (kept_buffer stream.new media.new.media running.new)
         (step_turn (ItemEffect.AppendError (Fault.Media fault) offset effect)
         (surroundings around.now)) }
     ensures within_duration { (d : Moment) → EndsWithin d media.old.media.tracks
@@ -196,26 +197,25 @@ fn frame_turn<S: FrameStore>(
     requires none_offered { stream.old.offered ≡ None }
     requires appending { running.old ≡ Running.Append }
     requires ready { 0 < ready_of stream.old }
-    ensures answered { IfOk result (λ reply. Answers
-        (kept stream.old media.old.media running.old) reply
-        (kept stream.new media.new.media running.new) (λ f c. append_turn_result (next_item f)
-        (surroundings around.now) f c)) }
+    ensures answered { AnswersIfOk (kept_buffer stream.old media.old.media running.old) result
+        (kept_buffer stream.new media.new.media running.new)
+        (λ f c. append_turn_result (next_item f) (surroundings around.now) f c) }
     ensures within_duration { IfOk result
         (λ reply. StaysWithin around.now.duration media.old.media reply media.new.media) }
     ensures no_fall { IfOk result (λ reply. IsNotAfter around.now.duration reply.duration) }
     ensures changes { IfOk result (λ reply. reply.duration_changes ≤ 1) }
     ensures fewer { OnOk result
-        (steps_left (kept stream.new media.new.media running.new) < steps_left
-        (kept stream.old media.old.media running.old)) }
+        (steps_left (kept_buffer stream.new media.new.media running.new) < steps_left
+        (kept_buffer stream.old media.old.media running.old)) }
     ensures none_offered { stream.new.offered ≡ None }
-    ensures err { OnErr result (kept stream.new media.new.media running.new
-        ≡ kept stream.old media.old.media running.old) }
+    ensures err { OnErr result (kept_buffer stream.new media.new.media running.new
+        ≡ kept_buffer stream.old media.old.media running.old) }
 {
     media.reserve_frames(1)?;
     // that the stream stands for some string is used where the frame is taken
     stream.stands();
     let (frame, offset) = stream.next_frame()?;
-    // the end of the step looks up what is buffered at the position
+    // what is buffered at the position is looked up behind the step
     media.watch(around.position);
     match media.process(frame, around.duration) {
         MediaEffect::Done(effect) => Ok(effect_reply(false, effect, Changes::new())),
@@ -235,20 +235,19 @@ fn item_turn<S: FrameStore>(
     requires none_offered { stream.old.offered ≡ None }
     requires appending { running.old ≡ Running.Append }
     requires none_ready { ready_of stream.old ≡ 0 }
-    ensures answered { IfOk result (λ reply. Answers
-        (kept stream.old media.old.media running.old) reply
-        (kept stream.new media.new.media running.new) (λ f c. append_turn_result (next_item f)
-        (surroundings around.now) f c)) }
+    ensures answered { AnswersIfOk (kept_buffer stream.old media.old.media running.old) result
+        (kept_buffer stream.new media.new.media running.new)
+        (λ f c. append_turn_result (next_item f) (surroundings around.now) f c) }
     ensures within_duration { IfOk result
         (λ reply. StaysWithin around.now.duration media.old.media reply media.new.media) }
     ensures no_fall { IfOk result (λ reply. IsNotAfter around.now.duration reply.duration) }
     ensures changes { IfOk result (λ reply. reply.duration_changes ≤ 1) }
     ensures fewer { OnOk result
-        (steps_left (kept stream.new media.new.media running.new) < steps_left
-        (kept stream.old media.old.media running.old)) }
+        (steps_left (kept_buffer stream.new media.new.media running.new) < steps_left
+        (kept_buffer stream.old media.old.media running.old)) }
     ensures none_offered { stream.new.offered ≡ None }
-    ensures err { OnErr result (kept stream.new media.new.media running.new
-        ≡ kept stream.old media.old.media running.old) }
+    ensures err { OnErr result (kept_buffer stream.new media.new.media running.new
+        ≡ kept_buffer stream.old media.old.media running.old) }
 {
     // that the stream stands for some string is used where the item is taken
     stream.stands();
@@ -271,20 +270,19 @@ pub(crate) fn append_turn<S: FrameStore>(
 ) -> Result<Reply, OutOfMemory>
     requires none_offered { stream.old.offered ≡ None }
     requires appending { running.old ≡ Running.Append }
-    ensures answered { IfOk result (λ reply. Answers
-        (kept stream.old media.old.media running.old) reply
-        (kept stream.new media.new.media running.new) (λ f c. append_turn_result (next_item f)
-        (surroundings around.now) f c)) }
+    ensures answered { AnswersIfOk (kept_buffer stream.old media.old.media running.old) result
+        (kept_buffer stream.new media.new.media running.new)
+        (λ f c. append_turn_result (next_item f) (surroundings around.now) f c) }
     ensures within_duration { IfOk result
         (λ reply. StaysWithin around.now.duration media.old.media reply media.new.media) }
     ensures no_fall { IfOk result (λ reply. IsNotAfter around.now.duration reply.duration) }
     ensures changes { IfOk result (λ reply. reply.duration_changes ≤ 1) }
     ensures fewer { OnOk result
-        (steps_left (kept stream.new media.new.media running.new) < steps_left
-        (kept stream.old media.old.media running.old)) }
+        (steps_left (kept_buffer stream.new media.new.media running.new) < steps_left
+        (kept_buffer stream.old media.old.media running.old)) }
     ensures none_offered { stream.new.offered ≡ None }
-    ensures err { OnErr result (kept stream.new media.new.media running.new
-        ≡ kept stream.old media.old.media running.old) }
+    ensures err { OnErr result (kept_buffer stream.new media.new.media running.new
+        ≡ kept_buffer stream.old media.old.media running.old) }
 {
     if stream.ready_frames() > 0 {
         return frame_turn(stream, media, running, around);
@@ -301,8 +299,8 @@ pub(crate) fn removal_turn<S: FrameStore>(
     around: &Around,
 ) -> Reply
     ensures answered { (stream : StreamView)
-        → Answers (kept stream media.old.media running.old) result
-        (kept stream media.new.media running.new) (removal_turn_result start end
+        → Answers (kept_buffer stream media.old.media running.old) result
+        (kept_buffer stream media.new.media running.new) (removal_turn_result start end
         (surroundings around.now)) }
     ensures within_duration { StaysWithin around.now.duration media.old.media result
         media.new.media }

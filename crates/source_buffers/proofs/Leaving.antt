@@ -1,12 +1,12 @@
 -- An initialization segment of one buffer leaves the ranges of all.
 use Rattle.std.proofs.Common.{◌≡◌, ◌∙◌, ℕ, zero, suc, ◌==◌, Bool, true, false, cond, ◌&&◌, List, [], ◌∷◌, refl, sym, ap, subst, arith}
-use Rattle.std.specs.Prelude.{Option, Some, None, slice_get, slice_set, Result, Ok, Err, IfOk}
+use Rattle.std.specs.Prelude.{Option, Some, slice_get, slice_set, Result, Ok, Err, IfOk}
 use Rattle.std.proofs.lemmas.Bool.Decides.{nat_tests}
 use Rattle.mse_base.specs.declared.span.Span.{Span}
 use Rattle.buffer_state.specs.declared.reply.Reply.{Reply}
 use Rattle.buffer_state.specs.declared.reply.Turned.{Turned}
 use Rattle.buffer_state.specs.declared.reply.Turned.TheVariants.{Did, Idle}
-use Rattle.buffer_state.specs.State.{Kept}
+use Rattle.buffer_state.specs.State.{KeptBuffer}
 use Rattle.buffer_state.specs.Replies.{OfTurn}
 use Rattle.source_buffers.specs.State.{KeptBuffers, in_slot, kept_media, all_kept_media}
 use Rattle.source_buffers.specs.Buffered.{SlotLeavesRanges, AllLeaveRanges, slot_ranges}
@@ -32,23 +32,23 @@ chosen true xs ys = refl
 chosen false xs ys = refl
 
 -- the slots of all numbers, where one is written over
-set_ranges : (a ended : Bool) (ks : KeptBuffers) (k j : ℕ) (old new : Option Kept) → slice_get ks k ≡ Some old → slot_ranges ended (kept_media new) ≡ cond a [] (slot_ranges ended (kept_media old)) → slot_ranges ended (in_slot j (all_kept_media (slice_set ks k new))) ≡ cond (a && (j == k)) [] (slot_ranges ended (in_slot j (all_kept_media ks)))
+set_ranges : (a ended : Bool) (ks : KeptBuffers) (k j : ℕ) (old new : Option KeptBuffer) → slice_get ks k ≡ Some old → slot_ranges ended (kept_media new) ≡ cond a [] (slot_ranges ended (kept_media old)) → slot_ranges ended (in_slot j (all_kept_media (slice_set ks k new))) ≡ cond (a && (j == k)) [] (slot_ranges ended (in_slot j (all_kept_media ks)))
 set_ranges a ended [] k j old new e h = absurd cc
 set_ranges a ended (x ∷ ks) zero zero old new e h =
     let same : old ≡ x = cc in
-    let own : slot_ranges ended (kept_media new) ≡ cond (a && true) [] (slot_ranges ended (kept_media x)) = subst (λ (z : Option Kept). slot_ranges ended (kept_media new) ≡ cond (a && true) [] (slot_ranges ended (kept_media z))) same (h ∙ sym (chosen a [] (slot_ranges ended (kept_media old)))) in
+    let own : slot_ranges ended (kept_media new) ≡ cond (a && true) [] (slot_ranges ended (kept_media x)) = subst (λ (z : Option KeptBuffer). slot_ranges ended (kept_media new) ≡ cond (a && true) [] (slot_ranges ended (kept_media z))) same (h ∙ sym (chosen a [] (slot_ranges ended (kept_media old)))) in
     own ∙ sym (ap (λ b. cond (a && b) [] (slot_ranges ended (kept_media x))) same_zero)
 set_ranges a ended (x ∷ ks) zero (suc j) old new e h = sym (ap (λ b. cond b [] (slot_ranges ended (in_slot j (all_kept_media ks)))) (and_false a (suc j == zero) (not_zero j)))
 set_ranges a ended (x ∷ ks) (suc k) zero old new e h = sym (ap (λ b. cond b [] (slot_ranges ended (kept_media x))) (and_false a (zero == suc k) (not_suc k)))
 set_ranges a ended (x ∷ ks) (suc k) (suc j) old new e h = set_ranges a ended ks k j old new e h ∙ sym (ap (λ b. cond (a && b) [] (slot_ranges ended (in_slot j (all_kept_media ks)))) (same_suc j k))
 
-leaves : (ks : KeptBuffers) (k : ℕ) (old new : Option Kept) (reply : Reply) → slice_get ks k ≡ Some old → SlotLeavesRanges old reply new → AllLeaveRanges k ks reply (slice_set ks k new)
+leaves : (ks : KeptBuffers) (k : ℕ) (old new : Option KeptBuffer) (reply : Reply) → slice_get ks k ≡ Some old → SlotLeavesRanges old reply new → AllLeaveRanges k ks reply (slice_set ks k new)
 leaves ks k old new reply e h init ended j = set_ranges reply.activated ended ks k j old new e (h init ended)
 
-turn_leaves : (t : Turned) (ks : KeptBuffers) (k : ℕ) (old new : Option Kept) → slice_get ks k ≡ Some old → OfTurn t (λ reply. SlotLeavesRanges old reply new) → OfTurn t (λ reply. AllLeaveRanges k ks reply (slice_set ks k new))
+turn_leaves : (t : Turned) (ks : KeptBuffers) (k : ℕ) (old new : Option KeptBuffer) → slice_get ks k ≡ Some old → OfTurn t (λ reply. SlotLeavesRanges old reply new) → OfTurn t (λ reply. AllLeaveRanges k ks reply (slice_set ks k new))
 turn_leaves (Did reply) ks k old new e h = leaves ks k old new reply e h
 turn_leaves Idle ks k old new e h = tt
 
-pub turn_leaves_if_ok : {E : Type 0} (ks : KeptBuffers) (k : ℕ) (old new : Option Kept) (r : Result Turned E) → slice_get ks k ≡ Some old → IfOk r (λ t. OfTurn t (λ reply. SlotLeavesRanges old reply new)) → IfOk r (λ t. OfTurn t (λ reply. AllLeaveRanges k ks reply (slice_set ks k new)))
+pub turn_leaves_if_ok : {E : Type 0} (ks : KeptBuffers) (k : ℕ) (old new : Option KeptBuffer) (r : Result Turned E) → slice_get ks k ≡ Some old → IfOk r (λ t. OfTurn t (λ reply. SlotLeavesRanges old reply new)) → IfOk r (λ t. OfTurn t (λ reply. AllLeaveRanges k ks reply (slice_set ks k new)))
 turn_leaves_if_ok ks k old new (Ok t) e h = turn_leaves t ks k old new e h
 turn_leaves_if_ok ks k old new (Err x) e h = tt

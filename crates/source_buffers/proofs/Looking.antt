@@ -1,23 +1,22 @@
 -- What is in the slot of a number, of the media that are kept and of what runs.
-use Rattle.std.proofs.Common.{◌≡◌, ◌∙◌, ◌≢◌, ℕ, ℤ, zero, suc, ◌+◌, ◌<◌, ◌≤◌, Bool, true, false, List, [], ◌∷◌, ◌++◌, map, take, drop, length, slice_get, refl, sym, ap, subst, arith}
-use Rattle.std.specs.Prelude.{Option, Some, None, option_map, unwrap_or}
+use Rattle.std.proofs.Common.{◌≡◌, ◌≢◌, ℕ, ℤ, zero, suc, Bool, true, false, List, [], ◌∷◌, length, slice_get, refl, sym, ap, arith}
+use Rattle.std.specs.Prelude.{Option, Some, None}
 use Rattle.std.specs.List.{AllByRecursion, find}
 use Rattle.std.specs.Option.{IfSome, option_flatten}
 use Rattle.mse_base.specs.declared.span.Span.{Span}
-use Rattle.mse_base.specs.Meets.{meet_of_all}
 use Rattle.mse_base.specs.Moments.{greatest}
-use Rattle.mse_base.specs.Spans.{covers, reaches, IsNormalized}
+use Rattle.mse_base.specs.Spans.{reaches, IsNormalized}
 use Rattle.mse_base.proofs.Meeting.{all_normalized, covers-all}
 use Rattle.track_buffers.specs.Media.{Media}
-use Rattle.track_buffers.specs.Buffered.{buffered_of, last_ends, with_common_end, with_end}
+use Rattle.track_buffers.specs.Buffered.{last_ends, with_common_end, with_end}
 use Rattle.track_buffers.proofs.Ranging.{buffered_is, grown_all}
 use Rattle.buffer_state.specs.declared.running.Running.{Running}
-use Rattle.buffer_state.specs.State.{Kept}
-use Rattle.source_buffers.specs.State.{KeptBuffers, in_slot, kept_media, kept_running, all_kept_media, all_kept_running}
+use Rattle.buffer_state.specs.State.{KeptBuffer}
+use Rattle.source_buffers.specs.State.{KeptBuffers, in_slot, kept_media, all_kept_media}
 use Rattle.source_buffers.specs.All.{AreSound, IsSoundSlot, is_updating_slot}
 use Rattle.source_buffers.specs.Buffered.{IsElementBuffered, active_ranges, element_ranges, shared_ranges, slot_ranges}
 
-pub media_there : (ks : KeptBuffers) (i : ℕ) (k : Option Kept) → slice_get ks i ≡ Some k → in_slot i (all_kept_media ks) ≡ kept_media k
+pub media_there : (ks : KeptBuffers) (i : ℕ) (k : Option KeptBuffer) → slice_get ks i ≡ Some k → in_slot i (all_kept_media ks) ≡ kept_media k
 media_there [] i k e = absurd cc
 media_there (x ∷ ks) zero k e = let same : x ≡ k = cc in ap kept_media same
 media_there (x ∷ ks) (suc i) k e = media_there ks i k e
@@ -28,9 +27,9 @@ media_none (x ∷ ks) zero e = absurd cc
 media_none (x ∷ ks) (suc i) e = media_none ks i e
 
 -- at a place of the list
-pub media_at : (ks : KeptBuffers) (i : ℕ) (k : Option Kept) → slice_get ks i ≡ Some k → slice_get (all_kept_media ks) i ≡ Some (kept_media k)
+pub media_at : (ks : KeptBuffers) (i : ℕ) (k : Option KeptBuffer) → slice_get ks i ≡ Some k → slice_get (all_kept_media ks) i ≡ Some (kept_media k)
 media_at [] i k e = absurd cc
-media_at (x ∷ ks) zero k e = let same : x ≡ k = cc in ap (λ (z : Option Kept). Some (kept_media z)) same
+media_at (x ∷ ks) zero k e = let same : x ≡ k = cc in ap (λ (z : Option KeptBuffer). Some (kept_media z)) same
 media_at (x ∷ ks) (suc i) k e = media_at ks i k e
 
 pub no_media_at : (ks : KeptBuffers) (i : ℕ) → slice_get ks i ≡ None → slice_get (all_kept_media ks) i ≡ None

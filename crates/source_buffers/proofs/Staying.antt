@@ -1,6 +1,5 @@
 -- A call on one slot keeps each frame of all slots within the duration, and lowers the steps that are left.
-use Rattle.std.proofs.Common.{◌≡◌, ◌∙◌, ℕ, zero, suc, ◌+◌, ◌<◌, ◌≤◌, Bool, true, false, List, [], ◌∷◌, ◌++◌, refl, sym, ap, subst, arith, map}
-use Rattle.std.specs.List.{AllByRecursion, sum_by}
+use Rattle.std.proofs.Common.{◌≡◌, ◌∙◌, ℕ, zero, suc, ◌+◌, ◌<◌, ◌≤◌, false, List, [], ◌∷◌, ◌++◌, refl, sym, ap, subst, arith}
 use Rattle.std.specs.Prelude.{Option, Some, None, slice_get, slice_set, Result, Ok, Err, IfOk}
 use Rattle.std.specs.Option.{option_flatten}
 use Rattle.std.proofs.lemmas.List.Sums.{sum_by-cons}
@@ -9,10 +8,9 @@ use Rattle.track_buffers.specs.Media.{Media, EndsWithin, IsNotAfter}
 use Rattle.buffer_state.specs.declared.reply.Reply.{Reply}
 use Rattle.buffer_state.specs.declared.reply.Turned.{Turned}
 use Rattle.buffer_state.specs.declared.reply.Turned.TheVariants.{Did, Idle}
-use Rattle.buffer_state.specs.declared.running.Running.{Running}
-use Rattle.buffer_state.specs.State.{Kept}
+use Rattle.buffer_state.specs.State.{KeptBuffer}
 use Rattle.buffer_state.specs.Replies.{OfTurn}
-use Rattle.source_buffers.specs.State.{KeptBuffers, in_slot, kept_media, kept_running, all_kept_media, all_kept_running}
+use Rattle.source_buffers.specs.State.{KeptBuffers, kept_media, kept_running, all_kept_media, all_kept_running}
 use Rattle.source_buffers.specs.All.{SlotEndsWithin, SlotStaysWithin, AllEndWithin, AllStayWithin, IsFewerSlot, IsIdleSlot, AreFewer, AreIdle, is_updating_slot, is_updating_at, slot_steps_left, all_steps_left, slot_ready, ready_at}
 
 -- ---- within the duration
@@ -25,55 +23,55 @@ pub all_later : (d e : Moment) (ms : List (Option Media)) → IsNotAfter d e →
 all_later d e [] later all = tt
 all_later d e (m ∷ ms) later all = (slot_later d e m later all.0, all_later d e ms later all.1)
 
-slot_within : (d : Moment) (ks : KeptBuffers) (i : ℕ) (k : Option Kept) → AllEndWithin d (all_kept_media ks) → slice_get ks i ≡ Some k → SlotEndsWithin d (kept_media k)
+slot_within : (d : Moment) (ks : KeptBuffers) (i : ℕ) (k : Option KeptBuffer) → AllEndWithin d (all_kept_media ks) → slice_get ks i ≡ Some k → SlotEndsWithin d (kept_media k)
 slot_within d [] i k all e = absurd cc
-slot_within d (x ∷ ks) zero k all e = let same : x ≡ k = cc in subst (λ (z : Option Kept). SlotEndsWithin d (kept_media z)) same all.0
+slot_within d (x ∷ ks) zero k all e = let same : x ≡ k = cc in subst (λ (z : Option KeptBuffer). SlotEndsWithin d (kept_media z)) same all.0
 slot_within d (x ∷ ks) (suc i) k all e = slot_within d ks i k all.1 e
 
-set_within : (d : Moment) (ks : KeptBuffers) (i : ℕ) (k : Option Kept) → AllEndWithin d (all_kept_media ks) → SlotEndsWithin d (kept_media k) → AllEndWithin d (all_kept_media (slice_set ks i k))
+set_within : (d : Moment) (ks : KeptBuffers) (i : ℕ) (k : Option KeptBuffer) → AllEndWithin d (all_kept_media ks) → SlotEndsWithin d (kept_media k) → AllEndWithin d (all_kept_media (slice_set ks i k))
 set_within d [] i k all h = tt
 set_within d (x ∷ ks) zero k all h = (h, all.1)
 set_within d (x ∷ ks) (suc i) k all h = (all.0, set_within d ks i k all.1 h)
 
-pub stays_later : (ks : KeptBuffers) (i : ℕ) (d : Moment) (old new : Option Kept) (reply : Reply) → slice_get ks i ≡ Some old → IsNotAfter d reply.duration → SlotStaysWithin d old reply new → AllStayWithin d ks reply (slice_set ks i new)
+pub stays_later : (ks : KeptBuffers) (i : ℕ) (d : Moment) (old new : Option KeptBuffer) (reply : Reply) → slice_get ks i ≡ Some old → IsNotAfter d reply.duration → SlotStaysWithin d old reply new → AllStayWithin d ks reply (slice_set ks i new)
 stays_later ks i d old new reply e later own all = set_within reply.duration ks i new (all_later d reply.duration (all_kept_media ks) later all) (own (slot_within d ks i old all e))
 
 -- the duration is the same
 pub not_after_same : (d e : Moment) → e ≡ d → IsNotAfter d e
 not_after_same d e same ts h = subst (λ (x : Moment). EndsWithin x ts) (sym same) h
 
-pub stays : (ks : KeptBuffers) (i : ℕ) (d : Moment) (old new : Option Kept) (reply : Reply) → slice_get ks i ≡ Some old → reply.duration ≡ d → SlotStaysWithin d old reply new → AllStayWithin d ks reply (slice_set ks i new)
+pub stays : (ks : KeptBuffers) (i : ℕ) (d : Moment) (old new : Option KeptBuffer) (reply : Reply) → slice_get ks i ≡ Some old → reply.duration ≡ d → SlotStaysWithin d old reply new → AllStayWithin d ks reply (slice_set ks i new)
 stays ks i d old new reply e same own = stays_later ks i d old new reply e (not_after_same d reply.duration same) own
 
 pub none_stays : (ks : KeptBuffers) (d : Moment) (reply : Reply) → reply.duration ≡ d → AllStayWithin d ks reply ks
 none_stays ks d reply same all = subst (λ (x : Moment). AllEndWithin x (all_kept_media ks)) (sym same) all
 
-pub stays_if_ok : {E : Type 0} (ks : KeptBuffers) (i : ℕ) (d : Moment) (old new : Option Kept) (r : Result Reply E) → slice_get ks i ≡ Some old → IfOk r (λ reply. reply.duration ≡ d) → IfOk r (λ reply. SlotStaysWithin d old reply new) → IfOk r (λ reply. AllStayWithin d ks reply (slice_set ks i new))
+pub stays_if_ok : {E : Type 0} (ks : KeptBuffers) (i : ℕ) (d : Moment) (old new : Option KeptBuffer) (r : Result Reply E) → slice_get ks i ≡ Some old → IfOk r (λ reply. reply.duration ≡ d) → IfOk r (λ reply. SlotStaysWithin d old reply new) → IfOk r (λ reply. AllStayWithin d ks reply (slice_set ks i new))
 stays_if_ok ks i d old new (Ok reply) e same own = stays ks i d old new reply e same own
 stays_if_ok ks i d old new (Err x) e same own = tt
 
-pub stays_later_if_ok : {E : Type 0} (ks : KeptBuffers) (i : ℕ) (d : Moment) (old new : Option Kept) (r : Result Reply E) → slice_get ks i ≡ Some old → IfOk r (λ reply. IsNotAfter d reply.duration) → IfOk r (λ reply. SlotStaysWithin d old reply new) → IfOk r (λ reply. AllStayWithin d ks reply (slice_set ks i new))
+pub stays_later_if_ok : {E : Type 0} (ks : KeptBuffers) (i : ℕ) (d : Moment) (old new : Option KeptBuffer) (r : Result Reply E) → slice_get ks i ≡ Some old → IfOk r (λ reply. IsNotAfter d reply.duration) → IfOk r (λ reply. SlotStaysWithin d old reply new) → IfOk r (λ reply. AllStayWithin d ks reply (slice_set ks i new))
 stays_later_if_ok ks i d old new (Ok reply) e later own = stays_later ks i d old new reply e later own
 stays_later_if_ok ks i d old new (Err x) e later own = tt
 
-turn_stays : (t : Turned) (ks : KeptBuffers) (i : ℕ) (d : Moment) (old new : Option Kept) → slice_get ks i ≡ Some old → OfTurn t (λ reply. IsNotAfter d reply.duration) → OfTurn t (λ reply. SlotStaysWithin d old reply new) → OfTurn t (λ reply. AllStayWithin d ks reply (slice_set ks i new))
+turn_stays : (t : Turned) (ks : KeptBuffers) (i : ℕ) (d : Moment) (old new : Option KeptBuffer) → slice_get ks i ≡ Some old → OfTurn t (λ reply. IsNotAfter d reply.duration) → OfTurn t (λ reply. SlotStaysWithin d old reply new) → OfTurn t (λ reply. AllStayWithin d ks reply (slice_set ks i new))
 turn_stays (Did reply) ks i d old new e later own = stays_later ks i d old new reply e later own
 turn_stays Idle ks i d old new e later own = tt
 
-pub turn_stays_if_ok : {E : Type 0} (ks : KeptBuffers) (i : ℕ) (d : Moment) (old new : Option Kept) (r : Result Turned E) → slice_get ks i ≡ Some old → IfOk r (λ t. OfTurn t (λ reply. IsNotAfter d reply.duration)) → IfOk r (λ t. OfTurn t (λ reply. SlotStaysWithin d old reply new)) → IfOk r (λ t. OfTurn t (λ reply. AllStayWithin d ks reply (slice_set ks i new)))
+pub turn_stays_if_ok : {E : Type 0} (ks : KeptBuffers) (i : ℕ) (d : Moment) (old new : Option KeptBuffer) (r : Result Turned E) → slice_get ks i ≡ Some old → IfOk r (λ t. OfTurn t (λ reply. IsNotAfter d reply.duration)) → IfOk r (λ t. OfTurn t (λ reply. SlotStaysWithin d old reply new)) → IfOk r (λ t. OfTurn t (λ reply. AllStayWithin d ks reply (slice_set ks i new)))
 turn_stays_if_ok ks i d old new (Ok t) e later own = turn_stays t ks i d old new e later own
 turn_stays_if_ok ks i d old new (Err x) e later own = tt
 
 -- one more buffer
-pub within_more : (d : Moment) (ks : KeptBuffers) (k : Option Kept) → AllEndWithin d (all_kept_media ks) → SlotEndsWithin d (kept_media k) → AllEndWithin d (all_kept_media (ks ++ k ∷ []))
+pub within_more : (d : Moment) (ks : KeptBuffers) (k : Option KeptBuffer) → AllEndWithin d (all_kept_media ks) → SlotEndsWithin d (kept_media k) → AllEndWithin d (all_kept_media (ks ++ k ∷ []))
 within_more d [] k all h = (h, tt)
 within_more d (x ∷ ks) k all h = (all.0, within_more d ks k all.1 h)
 
 -- ---- what runs
 
-pub updating_there : (ks : KeptBuffers) (i : ℕ) (k : Option Kept) → slice_get ks i ≡ Some k → is_updating_at i (all_kept_running ks) ≡ is_updating_slot (kept_running k)
+pub updating_there : (ks : KeptBuffers) (i : ℕ) (k : Option KeptBuffer) → slice_get ks i ≡ Some k → is_updating_at i (all_kept_running ks) ≡ is_updating_slot (kept_running k)
 updating_there [] i k e = absurd cc
-updating_there (x ∷ ks) zero k e = let same : x ≡ k = cc in ap (λ (z : Option Kept). is_updating_slot (kept_running z)) same
+updating_there (x ∷ ks) zero k e = let same : x ≡ k = cc in ap (λ (z : Option KeptBuffer). is_updating_slot (kept_running z)) same
 updating_there (x ∷ ks) (suc i) k e = updating_there ks i k e
 
 pub updating_none : (ks : KeptBuffers) (i : ℕ) → slice_get ks i ≡ None → is_updating_at i (all_kept_running ks) ≡ false
@@ -81,26 +79,26 @@ updating_none [] i e = refl
 updating_none (x ∷ ks) zero e = absurd cc
 updating_none (x ∷ ks) (suc i) e = updating_none ks i e
 
-set_same : (ks : KeptBuffers) (i : ℕ) (k : Option Kept) → slice_get ks i ≡ Some k → slice_set ks i k ≡ ks
+set_same : (ks : KeptBuffers) (i : ℕ) (k : Option KeptBuffer) → slice_get ks i ≡ Some k → slice_set ks i k ≡ ks
 set_same [] i k e = refl
-set_same (x ∷ ks) zero k e = let same : x ≡ k = cc in ap (λ (z : Option Kept). z ∷ ks) (sym same)
+set_same (x ∷ ks) zero k e = let same : x ≡ k = cc in ap (λ (z : Option KeptBuffer). z ∷ ks) (sym same)
 set_same (x ∷ ks) (suc i) k e = ap (λ (zs : KeptBuffers). x ∷ zs) (set_same ks i k e)
 
-pub turn_idle : (t : Turned) (ks : KeptBuffers) (i : ℕ) (old new : Option Kept) → slice_get ks i ≡ Some old → IsIdleSlot t old new → AreIdle t i ks (slice_set ks i new)
+pub turn_idle : (t : Turned) (ks : KeptBuffers) (i : ℕ) (old new : Option KeptBuffer) → slice_get ks i ≡ Some old → IsIdleSlot t old new → AreIdle t i ks (slice_set ks i new)
 turn_idle (Did reply) ks i old new e h = updating_there ks i old e ∙ h
-turn_idle Idle ks i old new e h = (updating_there ks i old e ∙ h.0, ap (λ (z : Option Kept). slice_set ks i z) h.1 ∙ set_same ks i old e)
+turn_idle Idle ks i old new e h = (updating_there ks i old e ∙ h.0, ap (λ (z : Option KeptBuffer). slice_set ks i z) h.1 ∙ set_same ks i old e)
 
-pub turn_idle_if_ok : {E : Type 0} (ks : KeptBuffers) (i : ℕ) (old new : Option Kept) (r : Result Turned E) → slice_get ks i ≡ Some old → IfOk r (λ t. IsIdleSlot t old new) → IfOk r (λ t. AreIdle t i ks (slice_set ks i new))
+pub turn_idle_if_ok : {E : Type 0} (ks : KeptBuffers) (i : ℕ) (old new : Option KeptBuffer) (r : Result Turned E) → slice_get ks i ≡ Some old → IfOk r (λ t. IsIdleSlot t old new) → IfOk r (λ t. AreIdle t i ks (slice_set ks i new))
 turn_idle_if_ok ks i old new (Ok t) e h = turn_idle t ks i old new e h
 turn_idle_if_ok ks i old new (Err x) e h = tt
 
 -- ---- steps that are left
 
-fewer_at : (ks : KeptBuffers) (i : ℕ) (old new : Option Kept) → slice_get ks i ≡ Some old → slot_steps_left new < slot_steps_left old → all_steps_left (slice_set ks i new) < all_steps_left ks
+fewer_at : (ks : KeptBuffers) (i : ℕ) (old new : Option KeptBuffer) → slice_get ks i ≡ Some old → slot_steps_left new < slot_steps_left old → all_steps_left (slice_set ks i new) < all_steps_left ks
 fewer_at [] i old new e h = absurd cc
 fewer_at (x ∷ ks) zero old new e h =
     let same : x ≡ old = cc in
-    let less : slot_steps_left new < slot_steps_left x = subst (λ (z : Option Kept). slot_steps_left new < slot_steps_left z) (sym same) h in
+    let less : slot_steps_left new < slot_steps_left x = subst (λ (z : Option KeptBuffer). slot_steps_left new < slot_steps_left z) (sym same) h in
     let after : all_steps_left (new ∷ ks) ≡ slot_steps_left new + all_steps_left ks = sum_by-cons slot_steps_left new ks in
     let before : all_steps_left (x ∷ ks) ≡ slot_steps_left x + all_steps_left ks = sum_by-cons slot_steps_left x ks in
     let fewer : all_steps_left (new ∷ ks) < all_steps_left (x ∷ ks) = omega (arith, less, after, before) in
@@ -112,22 +110,22 @@ fewer_at (x ∷ ks) (suc i) old new e h =
     let fewer : all_steps_left (x ∷ slice_set ks i new) < all_steps_left (x ∷ ks) = omega (arith, rest, after, before) in
     fewer
 
-turn_fewer : (t : Turned) (ks : KeptBuffers) (i : ℕ) (old new : Option Kept) → slice_get ks i ≡ Some old → IsFewerSlot t old new → AreFewer t ks (slice_set ks i new)
+turn_fewer : (t : Turned) (ks : KeptBuffers) (i : ℕ) (old new : Option KeptBuffer) → slice_get ks i ≡ Some old → IsFewerSlot t old new → AreFewer t ks (slice_set ks i new)
 turn_fewer (Did reply) ks i old new e h = fewer_at ks i old new e h
 turn_fewer Idle ks i old new e h = tt
 
-pub turn_fewer_if_ok : {E : Type 0} (ks : KeptBuffers) (i : ℕ) (old new : Option Kept) (r : Result Turned E) → slice_get ks i ≡ Some old → IfOk r (λ t. IsFewerSlot t old new) → IfOk r (λ t. AreFewer t ks (slice_set ks i new))
+pub turn_fewer_if_ok : {E : Type 0} (ks : KeptBuffers) (i : ℕ) (old new : Option KeptBuffer) (r : Result Turned E) → slice_get ks i ≡ Some old → IfOk r (λ t. IsFewerSlot t old new) → IfOk r (λ t. AreFewer t ks (slice_set ks i new))
 turn_fewer_if_ok ks i old new (Ok t) e h = turn_fewer t ks i old new e h
 turn_fewer_if_ok ks i old new (Err x) e h = tt
 
 -- how many frames are ready
-pub ready_there : (ks : KeptBuffers) (i : ℕ) (k : Option Kept) → slice_get ks i ≡ Some k → ready_at i ks ≡ slot_ready k
-ready_there ks i k e = ap (λ (o : Option (Option Kept)). slot_ready (option_flatten o)) e
+pub ready_there : (ks : KeptBuffers) (i : ℕ) (k : Option KeptBuffer) → slice_get ks i ≡ Some k → ready_at i ks ≡ slot_ready k
+ready_there ks i k e = ap (λ (o : Option (Option KeptBuffer)). slot_ready (option_flatten o)) e
 
 pub ready_none : (ks : KeptBuffers) (i : ℕ) → slice_get ks i ≡ None → ready_at i ks ≡ 0
-ready_none ks i e = ap (λ (o : Option (Option Kept)). slot_ready (option_flatten o)) e
+ready_none ks i e = ap (λ (o : Option (Option KeptBuffer)). slot_ready (option_flatten o)) e
 
 -- how often the duration changes in a reset of the parser
-pub changes_if_ok : {E : Type 0} (ks : KeptBuffers) (i : ℕ) (k : Option Kept) (r : Result Reply E) → slice_get ks i ≡ Some k → IfOk r (λ reply. reply.duration_changes ≤ slot_ready k) → IfOk r (λ reply. reply.duration_changes ≤ ready_at i ks)
+pub changes_if_ok : {E : Type 0} (ks : KeptBuffers) (i : ℕ) (k : Option KeptBuffer) (r : Result Reply E) → slice_get ks i ≡ Some k → IfOk r (λ reply. reply.duration_changes ≤ slot_ready k) → IfOk r (λ reply. reply.duration_changes ≤ ready_at i ks)
 changes_if_ok ks i k (Ok reply) e h = subst (λ (n : ℕ). reply.duration_changes ≤ n) (sym (ready_there ks i k e)) h
 changes_if_ok ks i k (Err x) e h = tt

@@ -1,5 +1,5 @@
 -- What is told of all source buffers in the list of a media source.
-use Rattle.std.specs.Prelude.{◌≡◌, ℕ, ◌<◌, ℤ, pos, ◌≤ℤ◌, Bool, true, false, not, List, [], map, flat_map, position, sum_by, Option, Some, None, option_to_list}
+use Rattle.std.specs.Prelude.{◌≡◌, ℕ, ◌<◌, ℤ, pos, ◌≤ℤ◌, Bool, true, false, not, List, [], flat_map, position, sum_by, Option, Some, None, option_to_list}
 use Rattle.std.specs.List.{AllByRecursion, list_all, list_any}
 use Rattle.mse_base.specs.declared.ticks.Moment.{Moment}
 use Rattle.mse_base.specs.Moments.{greatest}
@@ -11,7 +11,7 @@ use Rattle.buffer_state.specs.declared.reply.Reply.{Reply}
 use Rattle.buffer_state.specs.declared.reply.Turned.{Turned}
 use Rattle.buffer_state.specs.declared.reply.Turned.TheVariants.{Did, Idle}
 use Rattle.buffer_state.specs.declared.running.Running.{Running}
-use Rattle.buffer_state.specs.State.{Kept, is_updating}
+use Rattle.buffer_state.specs.State.{KeptBuffer, is_updating}
 use Rattle.buffer_state.specs.StepsLeft.{steps_left}
 use Rattle.source_state.specs.declared.answers.AllBuffers.{AllBuffers}
 use Rattle.source_buffers.specs.State.{KeptBuffers, in_slot, kept_media, kept_running, all_kept_media, all_kept_running}
@@ -66,7 +66,7 @@ SlotEndsWithin d None = Unit {0}
 SlotEndsWithin d (Some m) = EndsWithin d m.tracks
 
 -- the same of one slot: where it held within the duration, it does within the duration that is replied
-abbrev pub SlotStaysWithin : Moment → Option Kept → Reply → Option Kept → Type 0
+abbrev pub SlotStaysWithin : Moment → Option KeptBuffer → Reply → Option KeptBuffer → Type 0
 SlotStaysWithin duration old reply new =
     SlotEndsWithin duration (kept_media old) → SlotEndsWithin reply.duration (kept_media new)
 
@@ -92,17 +92,17 @@ AreSound ms = AllByRecursion IsSoundSlot ms
 
 -- ---- steps of running work that are left, by what is kept
 
-abbrev pub slot_steps_left : Option Kept → ℕ
+abbrev pub slot_steps_left : Option KeptBuffer → ℕ
 slot_steps_left None = 0
 slot_steps_left (Some k) = steps_left k
 
 -- a step of the work of one slot lowers them
-abbrev pub IsFewerSlot : Turned → Option Kept → Option Kept → Type 0
+abbrev pub IsFewerSlot : Turned → Option KeptBuffer → Option KeptBuffer → Type 0
 IsFewerSlot (Did reply) old new = slot_steps_left new < slot_steps_left old
 IsFewerSlot Idle old new = Unit {0}
 
 -- a step finds nothing to do exactly where nothing runs in the slot, and then nothing changes
-abbrev pub IsIdleSlot : Turned → Option Kept → Option Kept → Type 0
+abbrev pub IsIdleSlot : Turned → Option KeptBuffer → Option KeptBuffer → Type 0
 IsIdleSlot (Did reply) old new = is_updating_slot (kept_running old) ≡ true
 IsIdleSlot Idle old new = (is_updating_slot (kept_running old) ≡ false) × (new ≡ old)
 
@@ -120,7 +120,7 @@ AreIdle (Did reply) k old new = is_updating_at k (all_kept_running old) ≡ true
 AreIdle Idle k old new = (is_updating_at k (all_kept_running old) ≡ false) × (new ≡ old)
 
 -- how many of the next items of the buffer of a number are coded frames
-abbrev pub slot_ready : Option Kept → ℕ
+abbrev pub slot_ready : Option KeptBuffer → ℕ
 slot_ready None = 0
 slot_ready (Some k) = ready_of k.stream
 

@@ -8,7 +8,7 @@ use Rattle.track_store.specs.State.{TrackState}
 use Rattle.track_buffers.specs.Media.{Media}
 use Rattle.track_buffers.specs.Buffered.{buffered_of, with_common_end, all_cover}
 use Rattle.buffer_state.specs.declared.reply.Reply.{Reply}
-use Rattle.buffer_state.specs.State.{Kept}
+use Rattle.buffer_state.specs.State.{KeptBuffer}
 use Rattle.source_buffers.specs.State.{KeptBuffers, in_slot, kept_media, all_kept_media}
 
 -- the ranges of the buffer of a number, if it is there
@@ -54,7 +54,7 @@ track_at k i ms = slot_track i (in_slot k ms)
 
 -- where an initialization segment was received, the ranges of the buffer are as before; there are none where it was the
 -- first
-abbrev pub SlotLeavesRanges : Option Kept → Reply → Option Kept → Type 0
+abbrev pub SlotLeavesRanges : Option KeptBuffer → Reply → Option KeptBuffer → Type 0
 SlotLeavesRanges old reply new =
     reply.received_init ≡ true → (ended : Bool)
     → slot_ranges ended (kept_media new)

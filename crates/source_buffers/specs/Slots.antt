@@ -1,5 +1,5 @@
 -- A call on the source buffer of a number, or a step of its work: what it answers, and all source buffers behind it.
-use Rattle.std.specs.Prelude.{◌≡◌, ℕ, ◌<◌, Bool, true, false, List, slice_get, slice_set, Option, Some, None, Result, IfOk}
+use Rattle.std.specs.Prelude.{◌≡◌, ℕ, false, List, slice_get, slice_set, Option, Some, None, Result, IfOk}
 use Rattle.mse_base.specs.declared.ticks.Moment.{Moment}
 use Rattle.mse_types.specs.declared.answer.TypeAnswer.{TypeAnswer}
 use Rattle.mse_types.specs.declared.answer.TypeAnswer.TheVariants.{Supported, Empty, Unsupported}
@@ -9,7 +9,7 @@ use Rattle.mse_calls.specs.declared.answers.Name.TheVariants.{InvalidState, Type
 use Rattle.buffer_state.specs.declared.reply.Reply.{Reply}
 use Rattle.buffer_state.specs.declared.reply.Turned.{Turned}
 use Rattle.buffer_state.specs.declared.reply.Turned.TheVariants.{Did, Idle}
-use Rattle.buffer_state.specs.State.{Feed, Content, Kept, Surroundings}
+use Rattle.buffer_state.specs.State.{Feed, Content, KeptBuffer, Surroundings}
 use Rattle.buffer_state.specs.Replies.{CallResult, refusal}
 use Rattle.buffer_state.specs.Turns.{turn_result}
 use Rattle.buffer_state.specs.Calls.{end_work_result}
@@ -132,7 +132,7 @@ buffers_turn k a bs = turn_by_slot (slice_get bs k) k a bs
 -- ---- the code and this
 
 -- the reply is the one that is meant, and what is kept stands for the state that is meant
-pub record IsSlotResult (reply : Reply) (kept : Option Kept) (result : SlotResult) : Type 0 where
+pub record IsSlotResult (reply : Reply) (kept : Option KeptBuffer) (result : SlotResult) : Type 0 where
   pub replies : reply ≡ result.reply
   pub stands : SlotStands kept result.slot
 
@@ -142,12 +142,12 @@ pub record IsBuffersResult (reply : Reply) (kept : KeptBuffers)
   pub stand : AllStand kept result.buffers
 
 -- for whatever the slot stood for
-abbrev pub SlotAnswers : Option Kept → Reply → Option Kept → (Option BufferState → SlotResult)
+abbrev pub SlotAnswers : Option KeptBuffer → Reply → Option KeptBuffer → (Option BufferState → SlotResult)
     → Type 0
 SlotAnswers old reply new call =
     (s : Option BufferState) → SlotStands old s → IsSlotResult reply new (call s)
 
-abbrev pub SlotAnswersIfOk : {E : Type 0} → Option Kept → Result Reply E → Option Kept
+abbrev pub SlotAnswersIfOk : {E : Type 0} → Option KeptBuffer → Result Reply E → Option KeptBuffer
     → (Option BufferState → SlotResult) → Type 0
 SlotAnswersIfOk old result new call =
     (s : Option BufferState) → SlotStands old s
@@ -166,7 +166,7 @@ BuffersAnswerIfOk old result new call =
     → IfOk result (λ reply. IsBuffersResult reply new (call bs))
 
 -- something ran, or nothing did
-abbrev pub IsSlotTurn : Turned → Option Kept → Option SlotResult → Type 0
+abbrev pub IsSlotTurn : Turned → Option KeptBuffer → Option SlotResult → Type 0
 IsSlotTurn (Did reply) kept None = ⊥
 IsSlotTurn (Did reply) kept (Some result) = IsSlotResult reply kept result
 IsSlotTurn Idle kept None = Unit {0}
@@ -185,7 +185,7 @@ BuffersTurnIfOk old result new turn =
     (bs : BufferStates) → AllStand old bs
     → IfOk result (λ turned. IsBuffersTurn turned new (turn bs))
 
-abbrev pub SlotTurnIfOk : {E : Type 0} → Option Kept → Result Turned E → Option Kept
+abbrev pub SlotTurnIfOk : {E : Type 0} → Option KeptBuffer → Result Turned E → Option KeptBuffer
     → (Option BufferState → Option SlotResult) → Type 0
 SlotTurnIfOk old result new turn =
     (s : Option BufferState) → SlotStands old s

@@ -5,7 +5,7 @@ use Rattle.mse_types.specs.declared.answer.Container.{Container}
 use Rattle.track_buffers.specs.Media.{Media}
 use Rattle.track_buffers.specs.Settings.{new_media}
 use Rattle.buffer_state.specs.declared.running.Running.{Running}
-use Rattle.buffer_state.specs.State.{Feed, Content, Kept, Stands, new_feed}
+use Rattle.buffer_state.specs.State.{Feed, Content, KeptBuffer, Stands, new_feed}
 use Rattle.buffer_state.specs.Calls.{generates_timestamps}
 
 -- a source buffer
@@ -31,7 +31,7 @@ new_buffer gap container = record {
 -- ---- what the code keeps
 
 abbrev pub KeptBuffers : Type 0
-KeptBuffers = List (Option Kept)
+KeptBuffers = List (Option KeptBuffer)
 
 -- what contracts see: what is kept of the buffers, and for how many more there is room
 pub record BuffersView : Type 0 where
@@ -39,7 +39,7 @@ pub record BuffersView : Type 0 where
   pub spare : ℕ
 
 -- what is kept stands for the buffers, slot for slot
-abbrev pub SlotStands : Option Kept → Option BufferState → Type 0
+abbrev pub SlotStands : Option KeptBuffer → Option BufferState → Type 0
 SlotStands None None = Unit {0}
 SlotStands None (Some b) = ⊥
 SlotStands (Some k) None = ⊥
@@ -60,7 +60,7 @@ media_of (Some b) = Some b.content.media
 abbrev pub media_of_all : BufferStates → List (Option Media)
 media_of_all bs = map media_of bs
 
-abbrev pub kept_media : Option Kept → Option Media
+abbrev pub kept_media : Option KeptBuffer → Option Media
 kept_media None = None
 kept_media (Some k) = Some k.media
 
@@ -74,7 +74,7 @@ running_of (Some b) = Some b.feed.running
 abbrev pub running_of_all : BufferStates → List (Option Running)
 running_of_all bs = map running_of bs
 
-abbrev pub kept_running : Option Kept → Option Running
+abbrev pub kept_running : Option KeptBuffer → Option Running
 kept_running None = None
 kept_running (Some k) = Some k.running
 

@@ -1,5 +1,5 @@
 -- What views show of the source buffers.
-use Rattle.std.specs.Prelude.{ℕ, suc, Bool, List, [], ◌∷◌, Option, Some, None}
+use Rattle.std.specs.Prelude.{ℕ, suc, Bool, List, [], ◌∷◌, Some, None}
 use Rattle.mse_calls.specs.declared.views.BufferView.{BufferView}
 use Rattle.buffer_state.specs.Calls.{buffer_view}
 use Rattle.source_buffers.specs.State.{BufferStates}

@@ -1,6 +1,6 @@
 //! What is told of all source buffers.
 
-ghost use Rattle.std.specs.Prelude.{◌≡◌, ◌<◌, ◌^◌, length, slice_get, option_copied, option_map, IfSome};
+ghost use Rattle.std.specs.Prelude.{◌≡◌, ◌<◌, ◌≤◌, ◌^◌, length, slice_get, option_copied, option_map, IfSome};
 ghost use Rattle.std.specs.List.{list_any};
 ghost use Rattle.track_buffers.specs.Frames.{highest_start_in, highest_end_in};
 ghost use Rattle.source_buffers.specs.State.{all_kept_media, all_kept_running, kept_media, kept_running};
@@ -68,7 +68,8 @@ pub(crate) fn lowest_running<S: FrameStore>(slots: &Vec<Option<Buffer<S>>>) -> O
 
 /// How many of the next items of the buffer in a slot are coded frames.
 fn slot_ready<S: FrameStore>(slot: &Option<Buffer<S>>) -> usize
-    ensures { result ≡ slot_ready slot.now }
+    ensures ready { result ≡ slot_ready slot.now }
+    ensures few { result ≤ 2 ^ 20 }
 {
     match slot {
         Some(buffer) => buffer.ready_frames(),
@@ -77,7 +78,8 @@ fn slot_ready<S: FrameStore>(slot: &Option<Buffer<S>>) -> usize
 }
 
 pub(crate) fn ready_frames<S: FrameStore>(slots: &Vec<Option<Buffer<S>>>, k: usize) -> usize
-    ensures { result ≡ ready_at k slots.now.items }
+    ensures ready { result ≡ ready_at k slots.now.items }
+    ensures few { result ≤ 2 ^ 20 }
 {
     match slot_at(slots, k) {
         Some(slot) => slot_ready(slot),

@@ -396,10 +396,11 @@ impl<S: FrameStore> SourceBuffers<S> {
     }
 
     /// How many of the next items of the buffer of a number are coded frames, up to the first that
-    /// is none; 0 where no buffer is. An abort and a change of the type change the duration at most
-    /// so many times.
+    /// is none; 0 where no buffer is, and at most `2^20`, since a moof has no more samples. An abort
+    /// and a change of the type change the duration at most so many times.
     pub fn ready_frames(&self, k: u32) -> usize
-        ensures { result ≡ ready_at k self.now.buffers }
+        ensures ready { result ≡ ready_at k self.now.buffers }
+        ensures few { result ≤ 2 ^ 20 }
     {
         all::ready_frames(&self.slots, k as usize)
     }
@@ -462,8 +463,8 @@ impl<S: FrameStore> SourceBuffers<S> {
     /// What views show of the buffers in the list, in order of their numbers, where the source is
     /// ended or not.
     pub fn views(&self, ended: bool) -> Result<Vec<BufferView>, OutOfMemory>
-        ensures { IfOk result (λ views. (bs : BufferStates) → AllStand self.now.buffers bs
-            → views.items ≡ buffer_views ended bs) }
+        ensures { (bs : BufferStates) → AllStand self.now.buffers bs
+            → IfOk result (λ views. views.items ≡ buffer_views ended bs) }
     {
         views::buffer_views(&self.slots, self.alloc, ended)
     }

@@ -53,7 +53,7 @@ fn slot_end<S: FrameStore>(slot: &Option<Buffer<S>>) -> Option<Ticks>
     ensures { result ≡ last_end (slot_ranges true (kept_media slot.now)) }
 {
     match slot {
-        Some(buffer) => match buffer.ended_last_span() {
+        Some(buffer) => match buffer.last_span(true) {
             Some(last) => Some(last.end),
             None => None,
         },
@@ -193,7 +193,7 @@ fn ended_span_holding<S: FrameStore>(buffer: &Buffer<S>, t: Ticks, end: Ticks) -
     ensures { result ≡ find (reaches t) (with_last_end end (buffered_of true buffer.now.media)) }
 {
     buffer.sound();
-    match buffer.ended_last_span() {
+    match buffer.last_span(true) {
         Some(last) => {
             if t < last.start {
                 return buffer.span_holding(t, true);

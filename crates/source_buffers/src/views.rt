@@ -18,8 +18,8 @@ fn push_slot<S: FrameStore>(
     number: u32,
     ended: bool,
 ) -> Result<(), OutOfMemory>
-    ensures { OnOk result ((s : Option BufferState) → SlotStands slot.now s
-        → views.new.items ≡ views.old.items ++ views_from number ended (s ∷ [])) }
+    ensures { (s : Option BufferState) → SlotStands slot.now s
+        → OnOk result (views.new.items ≡ views.old.items ++ views_from number ended (s ∷ [])) }
 {
     match slot {
         Some(buffer) => {
@@ -38,8 +38,8 @@ fn push_at<S: FrameStore>(
     ended: bool,
 ) -> Result<(), OutOfMemory>
     requires { k < 2 ^ 32 }
-    ensures { OnOk result ((bs : BufferStates) → AllStand slots.now.items bs
-        → IfSome (slice_get bs k)
+    ensures { (bs : BufferStates) → AllStand slots.now.items bs
+        → OnOk result (IfSome (slice_get bs k)
         (λ s. views.new.items ≡ views.old.items ++ views_from k ended (s ∷ []))) }
 {
     match slot_at(slots, k) {
@@ -55,8 +55,8 @@ pub(crate) fn buffer_views<S: FrameStore>(
     ended: bool,
 ) -> Result<Vec<BufferView>, OutOfMemory>
     requires { length slots.now.items < 2 ^ 32 }
-    ensures { IfOk result (λ views. (bs : BufferStates) → AllStand slots.now.items bs
-        → views.items ≡ buffer_views ended bs) }
+    ensures { (bs : BufferStates) → AllStand slots.now.items bs
+        → IfOk result (λ views. views.items ≡ buffer_views ended bs) }
 {
     let mut views = Vec::new(alloc);
     for k in 0..slots.len() {

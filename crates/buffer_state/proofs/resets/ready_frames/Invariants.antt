@@ -1,8 +1,5 @@
-use Rattle.std.proofs.Common.{◌≡◌, ◌≤◌, pos, ◌≤ℤ◌, ℕ, List, length, take}
-use Rattle.std.specs.Prelude.{Option}
+use Rattle.std.proofs.Common.{◌≡◌, ◌≤◌, pos, ◌≤ℤ◌, length, take}
 use Rattle.std.specs.List.{AllByRecursion}
-use Rattle.mse_base.specs.declared.track.Presentation.{Presentation}
-use Rattle.mse_types.specs.declared.answer.Container.{Container}
 use Rattle.byte_stream.specs.Readings.{Reading, ready_at}
 use Rattle.byte_stream.specs.Streams.{Stands as StreamStands}
 use Rattle.buffer_state.proofs.resets.ready_frames.Given as goal

@@ -1,4 +1,4 @@
-use Rattle.std.proofs.Common.{◌≡◌, ◌∙◌, ℕ, sym, ap, slice_get, true}
+use Rattle.std.proofs.Common.{◌≡◌, ◌∙◌, ℕ, sym, slice_get, true}
 use Rattle.std.specs.Prelude.{Some, None}
 use Rattle.std.proofs.lemmas.Option.{slice_get-map}
 use Rattle.source_buffers.specs.State.{all_kept_media, in_slot}

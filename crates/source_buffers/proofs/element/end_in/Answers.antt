@@ -1,4 +1,4 @@
-use Rattle.std.proofs.Common.{◌≡◌, ◌∙◌, refl, sym, ap, slice_get, true}
+use Rattle.std.proofs.Common.{◌≡◌, ◌∙◌, sym, ap, slice_get, true}
 use Rattle.std.specs.Prelude.{Option, Some, None}
 use Rattle.std.specs.Option.{option_copied}
 use Rattle.track_buffers.specs.Media.{Media}
