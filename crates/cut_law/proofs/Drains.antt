@@ -11,9 +11,9 @@ use Rattle.source_buffers.specs.All.{is_updating_slot, lowest_running}
 use Rattle.source_buffers.specs.Slots.{slot_turn_of, turn_by_slot, buffers_turn_of}
 use Rattle.mse_engine.specs.State.{CoreSource, Core}
 use Rattle.mse_engine.specs.Replies.{surroundings_in}
-use Rattle.mse_engine.specs.Moved.{Moved}
-use Rattle.mse_engine.specs.BufferCalls.{reply_moved}
-use Rattle.mse_engine.specs.Work.{work_moved}
+use Rattle.mse_engine.specs.CoreEffects.{CoreEffect}
+use Rattle.mse_engine.specs.BufferCalls.{reply_effect}
+use Rattle.mse_engine.specs.Work.{work_effect}
 use Rattle.cut_law.proofs.Halves.{Half, half_by, half_at_end, half_at_end-idle, half_at_end-rests, half_at_end-work, half_after_append, cut-half}
 
 -- what is in a slot, and the source
@@ -147,21 +147,21 @@ set-same (y ∷ ys) zero x e = let same : y ≡ x = cc in ap (λ z. z ∷ ys) (s
 set-same (y ∷ ys) (suc k) x e = ap (λ zs. y ∷ zs) (set-same ys k x e)
 
 -- what a step of work makes of the core
-abbrev pub core_by : Option Moved → Core → Core
+abbrev pub core_by : Option CoreEffect → Core → Core
 core_by None c = c
 core_by (Some m) c = m.core
 
 abbrev pub work_core : ℕ → Core → Core
-work_core k c = core_by (work_moved k c) c
+work_core k c = core_by (work_effect k c) c
 
 turned : (o : Option CallResult) (b : BufferState) (k : ℕ) (c : Core) → slice_get c.buffers k ≡ Some (Some b)
-    → core_by (option_map (λ result. reply_moved k result c) (buffers_turn_of k c.buffers (slot_turn_of o))) c
+    → core_by (option_map (λ result. reply_effect k result c) (buffers_turn_of k c.buffers (slot_turn_of o))) c
     ≡ set_place k c.buffers (place_of (half_by k o (record { buffer = b; source = c.source })))
 turned None b k c e = ap (λ bs. record { source = c.source; buffers = bs }) (sym (set-same c.buffers k (Some b) e))
 turned (Some r) b k c e = refl
 
 turned-slot : (x : Option (Option BufferState)) (slot : Option BufferState) (k : ℕ) (c : Core) → slice_get c.buffers k ≡ Some slot → x ≡ Some slot
-    → core_by (option_map (λ result. reply_moved k result c) (turn_by_slot x k (surroundings_in k c.source) c.buffers)) c ≡ set_place k c.buffers (place_after_step k slot c.source)
+    → core_by (option_map (λ result. reply_effect k result c) (turn_by_slot x k (surroundings_in k c.source) c.buffers)) c ≡ set_place k c.buffers (place_after_step k slot c.source)
 turned-slot None slot k c e h = absurd (cc)
 turned-slot (Some a) None k c e h =
     let same : a ≡ None = cc in

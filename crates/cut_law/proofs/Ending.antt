@@ -15,9 +15,9 @@ use Rattle.mse_engine.specs.State.{Core, State, outer_of, element_in}
 use Rattle.mse_engine.specs.State.{Element as ElementPart}
 use Rattle.mse_engine.specs.Signals.{step}
 use Rattle.mse_engine.specs.Replies.{surroundings_in}
-use Rattle.mse_engine.specs.Moved.{Moved}
-use Rattle.mse_engine.specs.BufferCalls.{reply_moved}
-use Rattle.mse_engine.specs.Work.{work_moved, work_result, after_work, after_element_turn, running_in, due_in, scene_in}
+use Rattle.mse_engine.specs.CoreEffects.{CoreEffect}
+use Rattle.mse_engine.specs.BufferCalls.{reply_effect}
+use Rattle.mse_engine.specs.Work.{work_effect, work_result, after_work, after_element_turn, running_in, due_in, scene_in}
 use Rattle.mse_engine.specs.Run.{step_meaning, after_entries}
 use Rattle.mse_engine.specs.Progress.{steps_left}
 use Rattle.mse_engine.proofs.Progress.{work-fewer, turn-fewer}
@@ -54,19 +54,19 @@ turn-holds st d = turned-holds (due_in st) (step st.core [] (outer_of (queueing.
 
 -- ---- a drain
 
-pub meaning-core : (o : Option Moved) (st : State) → (step_meaning (work_result o st) st).state.core ≡ core_by o st.core
+pub meaning-core : (o : Option CoreEffect) (st : State) → (step_meaning (work_result o st) st).state.core ≡ core_by o st.core
 meaning-core None st = refl
 meaning-core (Some m) st = refl
 
 -- a step of the lowest running work finds something to do
 work-holds-by : (r : Running) (k : ℕ) (b : BufferState) (st : State) → is_updating r ≡ true
-    → (step_meaning (work_result (option_map (λ result. reply_moved k result st.core) (buffers_turn_of k st.core.buffers (slot_turn_of (turn_result_by_work r (surroundings_in k st.core.source) b.feed b.content)))) st) st).holds
+    → (step_meaning (work_result (option_map (λ result. reply_effect k result st.core) (buffers_turn_of k st.core.buffers (slot_turn_of (turn_result_by_work r (surroundings_in k st.core.source) b.feed b.content)))) st) st).holds
 work-holds-by Nothing k b st u = absurd (cc)
 work-holds-by Append k b st u = tt
 work-holds-by (Removal start end) k b st u = tt
 
 slot-holds : (x : Option (Option BufferState)) (slot : Option BufferState) (k : ℕ) (st : State) → x ≡ Some slot → runs_in slot ≡ true
-    → (step_meaning (work_result (option_map (λ result. reply_moved k result st.core) (turn_by_slot x k (surroundings_in k st.core.source) st.core.buffers)) st) st).holds
+    → (step_meaning (work_result (option_map (λ result. reply_effect k result st.core) (turn_by_slot x k (surroundings_in k st.core.source) st.core.buffers)) st) st).holds
 slot-holds None slot k st e u = absurd (cc)
 slot-holds (Some None) slot k st e u = let same : None ≡ slot = cc in absurd (false-runs (ap runs_in same ∙ u))
   where
@@ -105,7 +105,7 @@ then-drains (Some k) t n blobs st r d l f =
     let new : State = after_entry blobs st (Work k) in
     let less : steps_left new < steps_left st = work-falls blobs st k r in
     let fewer : steps_left new < n = omega (arith, less, l) in
-    f new fewer ∙ ap (λ c. drain_core c) (meaning-core (work_moved k st.core) st) ∙ sym (drain-step st.core k low)
+    f new fewer ∙ ap (λ c. drain_core c) (meaning-core (work_effect k st.core) st) ∙ sym (drain-step st.core k low)
 then-drains None true n blobs st r d l f =
     let new : State = after_entry blobs st Element in
     let less : steps_left new < steps_left st = turn-falls blobs st d in

@@ -13,8 +13,9 @@ use Rattle.buffer_state.specs.declared.faults.Fault.{Fault}
 use Rattle.buffer_state.specs.declared.running.Running.{Running}
 use Rattle.buffer_state.specs.declared.running.Running.TheVariants.{Nothing, Append, Removal}
 use Rattle.buffer_state.specs.Faults.{fault_view}
-use Rattle.buffer_state.specs.State.{Feed, Content, is_updating, feed_with, feed_after_item, new_feed, next_item}
-use Rattle.buffer_state.specs.Replies.{CallResult, reopens, effect_reply, event_reply, error_reply}
+use Rattle.buffer_state.specs.State.{Feed, Content, is_updating, feed_with, feed_after, new_feed, next_item}
+use Rattle.mse_calls.specs.Ready.{is_ended}
+use Rattle.buffer_state.specs.Replies.{CallResult, effect_reply, event_reply, error_reply}
 use Rattle.buffer_state.specs.Turns.{ItemResult, Done, AppendError, item_result, content_after_error, item_turn_result, append_turn_result, removal_turn_result, turn_result_by_work, turn_result}
 use Rattle.source_buffers.specs.State.{BufferState}
 use Rattle.mse_engine.specs.State.{CoreSource}
@@ -152,19 +153,19 @@ drop-some (suc n) [] y e = absurd (cc)
 drop-some zero (x ∷ xs) y e = cc
 drop-some (suc n) (x ∷ xs) y e = drop-some n xs y e
 
-half_behind-count : (f : Feed) (count : ℕ) (r : Ran) → half_behind f (suc count) r ≡ half_behind (feed_after_item f) count r
-half_behind-count f count (Whole c s) =
+half_behind-count : (x : ByteItem) (f : Feed) (count : ℕ) (r : Ran) → half_behind f (suc count) r ≡ half_behind (feed_after (Some x) f) count r
+half_behind-count x f count (Whole c s) =
     let more : f.reading.taken + suc count ≡ f.reading.taken + 1 + count = omega arith in
     ap (λ n. record { buffer = record { feed = idle_feed_of f f.reading.whole n; content = c }; source = s }) more
-half_behind-count f count (Stopped c s) = refl
+half_behind-count x f count (Stopped c s) = refl
 
-turn-by : (t : ItemResult) (k : ℕ) (f : Feed) (s : CoreSource) (left : List ByteItem) → f.running ≡ Append → items_left (feed_after_item f) ≡ left
-    → half_behind f (suc (length left)) (ran_by k (λ d u. run k left d u) s t) ≡ half_at_end k (half_with k (item_turn_result t (surroundings_in k s) f) s)
-turn-by (Done c e) k f s left r l =
-    half_behind-count f (length left) (run k left c (effect_source k e s))
-    ∙ ap (λ xs. half_behind (feed_after_item f) (length xs) (run k xs c (effect_source k e s))) (sym l)
-    ∙ sym (ap (λ x. half_at_end_by x k (feed_after_item f) c (effect_source k e s)) r)
-turn-by (AppendError fault at c e) k f s left r l = refl
+turn-by : (x : ByteItem) (t : ItemResult) (k : ℕ) (f : Feed) (s : CoreSource) (left : List ByteItem) → f.running ≡ Append → items_left (feed_after (Some x) f) ≡ left
+    → half_behind f (suc (length left)) (ran_by k (λ d u. run k left d u) s t) ≡ half_at_end k (half_with k (item_turn_result x t (surroundings_in k s) f) s)
+turn-by x (Done c e) k f s left r l =
+    half_behind-count x f (length left) (run k left c (effect_source k e s))
+    ∙ ap (λ xs. half_behind (feed_after (Some x) f) (length xs) (run k xs c (effect_source k e s))) (sym l)
+    ∙ sym (ap (λ w. half_at_end_by w k (feed_after (Some x) f) c (effect_source k e s)) r)
+turn-by x (AppendError fault at c e) k f s left r l = refl
 
 turn-of : (x : Option ByteItem) (k : ℕ) (f : Feed) (c : Content) (s : CoreSource) → f.running ≡ Append → next_item f ≡ x
     → half_at_end_by Append k f c s ≡ half_at_end k (half_with k (append_turn_result x (surroundings_in k s) f c) s)
@@ -177,7 +178,7 @@ turn-of (Some x) k f c s r l =
     let more : items_left f ≡ x ∷ drop (suc f.reading.taken) (items_in f.reading) = drop-some f.reading.taken (items_in f.reading) x l in
     let one : f.reading.taken + 1 ≡ suc f.reading.taken = omega arith in
     ap (λ xs. half_behind f (length xs) (run k xs c s)) more
-    ∙ turn-by (item_result x c s.state.duration) k f s (drop (suc f.reading.taken) (items_in f.reading)) r (ap (λ n. drop n (items_in f.reading)) one)
+    ∙ turn-by x (item_result x c s.state.duration) k f s (drop (suc f.reading.taken) (items_in f.reading)) r (ap (λ n. drop n (items_in f.reading)) one)
 
 -- what one step leaves, and what is there where nothing runs
 abbrev pub half_by : ℕ → Option CallResult → Half → Half
@@ -197,7 +198,7 @@ half_at_end-work k h = work-by h.buffer.feed.running k h.buffer.feed h.buffer.co
 
 -- the source behind an append that begins
 abbrev pub begin_source : ℕ → CoreSource → CoreSource
-begin_source k s = source_after k (event_reply (reopens s.state.ready) s.state.duration (UpdateStart ∷ [])) s
+begin_source k s = source_after k (event_reply (is_ended s.state.ready) s.state.duration (UpdateStart ∷ [])) s
 
 abbrev pub half_after_append_by : Bool → List ℕ → ℕ → Half → Half
 half_after_append_by true bytes k h = h
@@ -215,12 +216,12 @@ IsNotEnded Closed = Unit {0}
 IsNotEnded Opened = Unit {0}
 IsNotEnded Ended = ⊥
 
-again-ready : (r : Ready) → IsNotEnded (ready_again (reopens r) r)
+again-ready : (r : Ready) → IsNotEnded (ready_again (is_ended r) r)
 again-ready Closed = tt
 again-ready Opened = tt
 again-ready Ended = tt
 
-again-same : (r : Ready) → IsNotEnded r → ready_again (reopens r) r ≡ r
+again-same : (r : Ready) → IsNotEnded r → ready_again (is_ended r) r ≡ r
 again-same Closed n = refl
 again-same Opened n = refl
 again-same Ended n = absurd n

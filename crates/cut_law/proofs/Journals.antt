@@ -18,7 +18,8 @@ use Rattle.track_store.specs.Kept.{bytes_in}
 use Rattle.track_buffers.specs.Media.{Media}
 use Rattle.track_buffers.specs.Frames.{media_after_eviction, used_in}
 use Rattle.buffer_state.specs.State.{Feed, Surroundings, is_updating, feed_with}
-use Rattle.buffer_state.specs.Replies.{reopens, event_reply, refused_result, result_with}
+use Rattle.mse_calls.specs.Ready.{is_ended}
+use Rattle.buffer_state.specs.Replies.{event_reply, refused_result, result_with}
 use Rattle.buffer_state.specs.Calls.{is_full, unless_refused, append_result, append_result_by_room, append_result_after_eviction, with_media}
 use Rattle.source_buffers.specs.State.{BufferState, in_slot}
 use Rattle.source_buffers.specs.Slots.{result_by_slot, call_in_slot}
@@ -28,12 +29,12 @@ use Rattle.mse_engine.specs.State.{CoreSource, Core, State, outer_of, element_in
 use Rattle.mse_engine.specs.Signals.{step as step_of}
 use Rattle.media_element.specs.Queueing as queueing
 use Rattle.mse_engine.specs.Replies.{surroundings_in}
-use Rattle.mse_engine.specs.Moved.{Moved, refused_moved, if_made}
-use Rattle.mse_engine.specs.BufferCalls.{reply_moved, append_moved_of}
-use Rattle.mse_engine.specs.Calls.{call_moved}
-use Rattle.mse_engine.specs.Work.{work_moved, work_result, after_element_turn, without_first, fire_result, due_in, scene_in}
-use Rattle.mse_engine.specs.Run.{step_meaning, fire_meaning, after_entries}
-use Rattle.cut_law.specs.Plays.{after_entry, fire_entries, entries_if, line_entries, after_line, play_entries, play_of}
+use Rattle.mse_engine.specs.CoreEffects.{CoreEffect, refused_effect, if_made}
+use Rattle.mse_engine.specs.BufferCalls.{reply_effect, append_effect_of}
+use Rattle.mse_engine.specs.Calls.{core_effect}
+use Rattle.mse_engine.specs.Work.{work_effect, work_result, after_element_turn, without_first, fire_result, due_in, scene_in}
+use Rattle.mse_engine.specs.Run.{step_meaning, fire_meaning, after_entries, fire_entries, entries_if}
+use Rattle.cut_law.specs.Plays.{after_entry, line_entries, after_line, play_entries, play_of}
 use Rattle.cut_law.specs.Room.{HasRoomFor, HasRoomForCall, HasRoomForEntry, HasRoomForLine, IsUnmet}
 use Rattle.cut_law.proofs.Halves.{half_with, half_after_append}
 use Rattle.cut_law.proofs.Halves.{half_after_append_by as free_by}
@@ -49,7 +50,7 @@ append_some (Some bytes) k c = append_core bytes k c
 -- what a call makes of the core where no buffer is full: the position is not looked at
 abbrev pub free_call : List (List ℕ) → Call → Core → Core
 free_call blobs (call.AppendBuffer k piece) c = append_some (bytes_of blobs piece) k c
-free_call blobs other c = (call_moved blobs (pos 0) other c).core
+free_call blobs other c = (core_effect blobs (pos 0) other c).core
 
 not-full : (a b : Bool) → (a || b) ≡ false → a ≡ false
 not-full true b e = absurd (cc)
@@ -74,7 +75,7 @@ append-free true bytes position k b s e = refl
 append-free false bytes position k b s e =
     let a : Surroundings = surroundings_in k s in
     ap (λ m. half_with k (append_result_by_room bytes s.quota a b.feed (with_media m b.content)) s) (evicts-none bytes position s.quota s.state.duration b.feed b.content.media e)
-    ∙ ap (λ t. half_with k (if t then refused_result QuotaExceeded (reopens a.ready) a b.feed b.content else result_with (event_reply (reopens a.ready) a.duration (UpdateStart ∷ [])) (feed_with bytes b.feed) b.content) s) e
+    ∙ ap (λ t. half_with k (if t then refused_result QuotaExceeded (is_ended a.ready) a b.feed b.content else result_with (event_reply (is_ended a.ready) a.duration (UpdateStart ∷ [])) (feed_with bytes b.feed) b.content) s) e
 
 pub set-same : {X : Type 0} (xs : List X) (k : ℕ) (x : X) → slice_get xs k ≡ Some x → slice_set xs k x ≡ xs
 set-same [] k x e = refl
@@ -82,7 +83,7 @@ set-same (y ∷ ys) zero x e = let same : y ≡ x = cc in ap (λ z. z ∷ ys) (s
 set-same (y ∷ ys) (suc k) x e = ap (λ zs. y ∷ zs) (set-same ys k x e)
 
 found-free : (x : Option (Option BufferState)) (bytes : List ℕ) (position : ℤ) (k : ℕ) (c : Core) → slice_get c.buffers k ≡ x → HasRoomFor (Some bytes) c.source.quota (option_flatten x)
-    → (reply_moved k (result_by_slot x (call_in_slot InvalidState c.source.state.duration (append_result (record { bytes = bytes; position = position; quota = c.source.quota }) (surroundings_in k c.source))) c.source.state.duration k c.buffers) c).core
+    → (reply_effect k (result_by_slot x (call_in_slot InvalidState c.source.state.duration (append_result (record { bytes = bytes; position = position; quota = c.source.quota }) (surroundings_in k c.source))) c.source.state.duration k c.buffers) c).core
     ≡ on_slot x k (half_after_append bytes) c
 found-free None bytes position k c e room = refl
 found-free (Some None) bytes position k c e room = ap (λ bs. record { source = c.source; buffers = bs }) (set-same c.buffers k None e)
@@ -90,22 +91,22 @@ found-free (Some (Some b)) bytes position k c e room =
     ap (λ h. set_place k c.buffers (place_of h)) (append-free (is_updating b.feed.running || not (c.source.error == 0)) bytes position k b c.source room)
 
 -- a call on a buffer that was made, or on one that was not
-made-core : (t : Bool) (k : ℕ) (m : Moved) (c d : Core) → nat_lt k (length c.buffers) ≡ t → m.core ≡ d → (t ≡ false → c ≡ d) → (if_made k m c).core ≡ d
-made-core true k m c d e h f = ap (λ t. (if t then m else refused_moved NoSuchBuffer c).core) e ∙ h
-made-core false k m c d e h f = ap (λ t. (if t then m else refused_moved NoSuchBuffer c).core) e ∙ f refl
+made-core : (t : Bool) (k : ℕ) (m : CoreEffect) (c d : Core) → nat_lt k (length c.buffers) ≡ t → m.core ≡ d → (t ≡ false → c ≡ d) → (if_made k m c).core ≡ d
+made-core true k m c d e h f = ap (λ t. (if t then m else refused_effect NoSuchBuffer c).core) e ∙ h
+made-core false k m c d e h f = ap (λ t. (if t then m else refused_effect NoSuchBuffer c).core) e ∙ f refl
 
 past : (k n : ℕ) → nat_lt k n ≡ false → n ≤ k
 past k n e = grind (arith, nat_tests)
 
-append-moved : (x : Option (List ℕ)) (position : ℤ) (k : ℕ) (c : Core) → HasRoomFor x c.source.quota (in_slot k c.buffers)
-    → (if_made k (append_moved_of x k position c) c).core ≡ append_some x k c
-append-moved None position k c room = made-core (nat_lt k (length c.buffers)) k (append_moved_of None k position c) c c refl refl (λ e. refl)
-append-moved (Some bytes) position k c room =
-    made-core (nat_lt k (length c.buffers)) k (append_moved_of (Some bytes) k position c) c (append_core bytes k c) refl
+append-effect : (x : Option (List ℕ)) (position : ℤ) (k : ℕ) (c : Core) → HasRoomFor x c.source.quota (in_slot k c.buffers)
+    → (if_made k (append_effect_of x k position c) c).core ≡ append_some x k c
+append-effect None position k c room = made-core (nat_lt k (length c.buffers)) k (append_effect_of None k position c) c c refl refl (λ e. refl)
+append-effect (Some bytes) position k c room =
+    made-core (nat_lt k (length c.buffers)) k (append_effect_of (Some bytes) k position c) c (append_core bytes k c) refl
     (found-free (slice_get c.buffers k) bytes position k c refl room)
     (λ e. sym (ap (λ x. on_slot x k (half_after_append bytes) c) (slice_get_past c.buffers k (past k (length c.buffers) e))))
 
-pub call-free : (blobs : List (List ℕ)) (position : ℤ) (made : Call) (c : Core) → HasRoomForCall blobs c made → (call_moved blobs position made c).core ≡ free_call blobs made c
+pub call-free : (blobs : List (List ℕ)) (position : ℤ) (made : Call) (c : Core) → HasRoomForCall blobs c made → (core_effect blobs position made c).core ≡ free_call blobs made c
 call-free blobs position call.Attach c room = refl
 call-free blobs position (call.AddSourceBuffer text) c room = refl
 call-free blobs position (call.RemoveSourceBuffer k) c room = refl
@@ -117,7 +118,7 @@ call-free blobs position (call.SetMode k mode) c room = refl
 call-free blobs position (call.SetTimestampOffset k t) c room = refl
 call-free blobs position (call.SetAppendWindowStart k t) c room = refl
 call-free blobs position (call.SetAppendWindowEnd k t) c room = refl
-call-free blobs position (call.AppendBuffer k piece) c room = append-moved (bytes_of blobs piece) position k c room
+call-free blobs position (call.AppendBuffer k piece) c room = append-effect (bytes_of blobs piece) position k c room
 call-free blobs position (call.Abort k) c room = refl
 call-free blobs position (call.Remove k start end) c room = refl
 call-free blobs position (call.ChangeType k text) c room = refl
@@ -153,7 +154,7 @@ fired-core st = fired-by (slice_get st.outer.queue 0) st
     fired-by None st = tt
     fired-by (Some event) st = refl
 
-work-core : (o : Option Moved) (blobs : List (List ℕ)) (st : State) (k : ℕ) → work_moved k st.core ≡ o
+work-core : (o : Option CoreEffect) (blobs : List (List ℕ)) (st : State) (k : ℕ) → work_effect k st.core ≡ o
     → (after_entries blobs st (entries_if (work_result o st) (Work k))).core ≡ core_by o st.core
 work-core None blobs st k e = refl
 work-core (Some m) blobs st k e = ap (λ o. (step_meaning (work_result o st) st).state.core) e
@@ -166,7 +167,7 @@ turn-core (Some new) blobs st e h = ap (λ o. (step_meaning o st).state.core) e 
 pub line-core : (blobs : List (List ℕ)) (st : State) (line : StepLine) → HasRoomForLine blobs st.core line → (after_line blobs st line).core ≡ core_line blobs line st.core
 line-core blobs st (step.Call made) room = call-free blobs st.outer.element.position made st.core room
 line-core blobs st step.Fire room = fire-core (fire_result st) blobs st refl (fired-core st)
-line-core blobs st (step.Work k) room = work-core (work_moved k st.core) blobs st k refl
+line-core blobs st (step.Work k) room = work-core (work_effect k st.core) blobs st k refl
 line-core blobs st step.Element room = turn-core (after_element_turn st) blobs st refl (turned-core st)
 line-core blobs st step.Drain room = drain-core blobs st
 
@@ -225,7 +226,7 @@ entry-core blobs st (Step n) room = refl
 entry-core blobs st (Script made answer) room = call-free blobs st.outer.element.position made st.core room
 entry-core blobs st (Listener w made answer) room = call-free blobs st.outer.element.position made st.core room
 entry-core blobs st (Fired event) room = fired-entry (fire_result st) event st (fired-core st)
-entry-core blobs st (Work k) room = meaning-core (work_moved k st.core) st
+entry-core blobs st (Work k) room = meaning-core (work_effect k st.core) st
 entry-core blobs st Element room = turned-core st
 
 pub same-entry : (blobs : List (List ℕ)) (a b : State) (entry : Entry) → a.core ≡ b.core → HasRoomForEntry blobs a.core entry → (after_entry blobs a entry).core ≡ (after_entry blobs b entry).core

@@ -1,6 +1,5 @@
 -- The play of a script whose listeners make no calls: the state determines the entries of each line.
 use Rattle.std.specs.Prelude.{ℕ, zero, suc, Bool, true, false, List, [], ◌∷◌, ◌++◌, map, Option, Some, None}
-use Rattle.mse_calls.specs.Answered.{Answered}
 use Rattle.mse_calls.specs.declared.events.Event.{Event}
 use Rattle.mse_calls.specs.declared.entry.Entry.{Entry}
 use Rattle.mse_calls.specs.declared.entry.Entry.TheVariants.{Step, Script, Fired, Work, Element}
@@ -10,7 +9,7 @@ use Rattle.mse_engine.specs.State.{State}
 use Rattle.mse_engine.specs.Calls.{after_call}
 use Rattle.mse_engine.specs.Work.{after_work, after_element_turn, fire_result, running_in, due_in}
 use Rattle.mse_engine.specs.Progress.{steps_left}
-use Rattle.mse_engine.specs.Run.{entry_meaning, after_entries}
+use Rattle.mse_engine.specs.Run.{entry_meaning, after_entries, fire_entries, entries_if}
 
 -- the state behind an entry
 abbrev pub after_entry : List (List ℕ) → State → Entry → State
@@ -50,15 +49,6 @@ unfoldable pub drain_entries : List (List ℕ) → State → List Entry
 drain_entries blobs st = drain_in (suc (steps_left st)) blobs st
 
 -- ---- the entries of each line, and of a script
-
-abbrev pub fire_entries : Option (Answered Event State) → List Entry
-fire_entries None = []
-fire_entries (Some fired) = Fired fired.answer ∷ []
-
--- one entry where there is something to do
-abbrev pub entries_if : Option State → Entry → List Entry
-entries_if None entry = []
-entries_if (Some new) entry = entry ∷ []
 
 abbrev pub line_entries : List (List ℕ) → State → StepLine → List Entry
 line_entries blobs st (step.Call call) = Script call (after_call blobs call st).answer ∷ []

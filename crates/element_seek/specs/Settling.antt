@@ -8,7 +8,7 @@ use Rattle.element_ready.specs.declared.facts.Facts.{Facts}
 use Rattle.element_ready.specs.Levels.{level_at}
 use Rattle.element_ready.specs.Events.{change_events, is_first_data}
 use Rattle.element_seek.specs.declared.scene.Scene.{Scene}
-use Rattle.element_seek.specs.State.{PlayerState, Told, telling, has_ended, is_playing}
+use Rattle.element_seek.specs.State.{PlayerState, PlayerChange, telling, has_ended, is_playing}
 
 -- the level of the position; HAVE_NOTHING stays until the metadata is there
 abbrev pub level_in : Scene → PlayerState → Level
@@ -23,7 +23,7 @@ facts_in scene p = record {
 }
 
 -- a new level, with its events; where playback has not ended, its end was not told
-abbrev pub at_level : Level → Scene → PlayerState → Told
+abbrev pub at_level : Level → Scene → PlayerState → PlayerChange
 at_level new scene p =
     telling (change_events p.level new (facts_in scene p))
     (record p {
@@ -32,7 +32,7 @@ at_level new scene p =
       finished = p.finished && has_ended scene p;
     })
 
-abbrev pub after_settle : Scene → PlayerState → Told
+abbrev pub after_settle : Scene → PlayerState → PlayerChange
 after_settle scene p = at_level (level_in scene p) scene p
 
 -- the level is that of the position, by the buffered range there, or stays HAVE_NOTHING

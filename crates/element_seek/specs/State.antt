@@ -35,14 +35,14 @@ new_player = record {
 }
 
 -- the events at the element, in order, and the state that is left
-abbrev pub Told : Type 0
-Told = Answered (List EventKind) PlayerState
+abbrev pub PlayerChange : Type 0
+PlayerChange = Answered (List EventKind) PlayerState
 
-abbrev pub telling : List EventKind → PlayerState → Told
+abbrev pub telling : List EventKind → PlayerState → PlayerChange
 telling events p = record { answer = events; state = p }
 
 -- one thing and then another, which tells its events behind
-abbrev pub then_after : Told → (PlayerState → Told) → Told
+abbrev pub then_after : PlayerChange → (PlayerState → PlayerChange) → PlayerChange
 then_after first next = telling (first.answer ++ (next first.state).answer) (next first.state).state
 
 -- ended playback (HTML, media elements): the metadata is there, the source is ended, and the position is the duration

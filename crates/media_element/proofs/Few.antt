@@ -14,7 +14,7 @@ use Rattle.element_ready.specs.declared.facts.Facts.{Facts}
 use Rattle.element_ready.specs.Events.{data_events, future_events, enough_events, stall_events, change_events}
 use Rattle.element_seek.specs.declared.acted.Acted.{Acted}
 use Rattle.element_seek.specs.declared.scene.Scene.{Scene}
-use Rattle.element_seek.specs.State.{PlayerState, Told, has_ended}
+use Rattle.element_seek.specs.State.{PlayerState, PlayerChange, has_ended}
 use Rattle.element_seek.specs.Seeking.{in_media, after_seek_in, after_seek, after_start, after_load}
 use Rattle.element_seek.specs.Playing.{after_rewind, after_unpause, after_play, after_pause, plays_on, after_move, after_time_in, after_time, after_advance, after_error, after_fail}
 use Rattle.element_seek.specs.Turns.{is_seek_done, is_end_due, is_due, Turn, end_events, seek_turn, end_turn, no_turn, after_turn}
@@ -22,7 +22,7 @@ use Rattle.element_seek.specs.Settling.{level_in, facts_in, after_settle}
 use Rattle.media_element.specs.Queueing.{told_kinds, turn_kinds}
 
 -- what is told by cases, in both of which it is few
-by_case : (n : ℕ) (b : Bool) (x y : Told) → length x.answer ≤ n → length y.answer ≤ n → length (cond b x y).answer ≤ n
+by_case : (n : ℕ) (b : Bool) (x y : PlayerChange) → length x.answer ≤ n → length y.answer ≤ n → length (cond b x y).answer ≤ n
 by_case n true x y h k = h
 by_case n false x y h k = k
 

@@ -1,3 +1,3 @@
 pub mod Few
 pub mod Reach
-pub mod Heard
+pub mod QueuedEvents

@@ -8,10 +8,10 @@ use Rattle.mse_base.specs.declared.ticks.Moment.{Moment}
 use Rattle.mse_base.specs.declared.ticks.Moment.TheVariants.{Nan, At, Infinite}
 use Rattle.mse_calls.specs.Level.{has_metadata}
 use Rattle.element_seek.specs.declared.scene.Scene.{Scene}
-use Rattle.element_seek.specs.State.{PlayerState, Told}
+use Rattle.element_seek.specs.State.{PlayerState, PlayerChange}
 use Rattle.element_seek.specs.Seeking.{in_media, after_seek_in, after_seek}
 use Rattle.element_seek.specs.Inside.{IsInside, LiesInside, HasSpansInside, StaysInside}
-use Rattle.media_element.specs.DurationChange.{after_seek_to, after_fall, IsInReach}
+use Rattle.media_element.specs.DurationChange.{after_seek_to, after_end_seek, IsInReach}
 
 -- where something can be sought inside, 0 is inside
 not_after : (duration : Moment) (start end : ℤ) → pos 0 ≤ℤ start → start ≤ℤ end → is_after end duration ≡ false → is_after (pos 0) duration ≡ false
@@ -24,7 +24,7 @@ start_inside duration None s l = absurd (cc)
 start_inside duration (Some range) s l = (grind (arith, ints), not_after duration range.start range.end l.0 l.1 l.2)
 
 -- where something can be sought, the position before does not matter
-same_place : (range : Option Span) (t : ℤ) (b : Bool) (p q : PlayerState) (x y : Told) → IsSome range → b ≡ true → (cond b (after_seek_in range t p) x).state.position ≡ (cond b (after_seek_in range t q) y).state.position
+same_place : (range : Option Span) (t : ℤ) (b : Bool) (p q : PlayerState) (x y : PlayerChange) → IsSome range → b ≡ true → (cond b (after_seek_in range t p) x).state.position ≡ (cond b (after_seek_in range t q) y).state.position
 same_place None t b p q x y s e = absurd (cc)
 same_place (Some range) t true p q x y s e = refl
 same_place (Some range) t false p q x y s e = absurd (cc)
@@ -49,12 +49,12 @@ sought_by : (d : ℤ) (duration : Moment) (scene : Scene) (b : Bool) (p : Player
 sought_by d duration scene true p h k = h
 sought_by d duration scene false p h k = k
 
-pub reached : SeekStaysInside → (duration : Moment) (scene : Scene) (p : PlayerState) → IsInReach duration scene p → IsInside duration (after_fall duration scene p).state.position
+pub reached : SeekStaysInside → (duration : Moment) (scene : Scene) (p : PlayerState) → IsInReach duration scene p → IsInside duration (after_end_seek duration scene p).state.position
 reached stays Nan scene p r = (r.start, refl)
 reached stays (At d) scene p r = by_time d scene.duration scene (has_metadata p.level) (int_lt d p.position) p r.metadata refl r.start r.same (sought_inside stays d scene p r.spans r.sought r.metadata)
 reached stays Infinite scene p r = (r.start, refl)
 
-pub fall-inside : SeekStaysInside → (duration : Moment) (scene : Scene) (p : PlayerState) → HasSpansInside scene → StaysInside scene p (after_fall duration scene p).state
+pub fall-inside : SeekStaysInside → (duration : Moment) (scene : Scene) (p : PlayerState) → HasSpansInside scene → StaysInside scene p (after_end_seek duration scene p).state
 fall-inside stays Nan scene p spans h = h
 fall-inside stays (At d) scene p spans h = sought_by d scene.duration scene (has_metadata p.level && int_lt d p.position) p (stays d scene p spans h) h
 fall-inside stays Infinite scene p spans h = h

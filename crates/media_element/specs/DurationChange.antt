@@ -6,7 +6,7 @@ use Rattle.mse_base.specs.declared.ticks.Moment.TheVariants.{Nan, At, Infinite}
 use Rattle.mse_calls.specs.Level.{has_metadata}
 use Rattle.mse_calls.specs.declared.events.EventKind.TheVariants.{DurationChange}
 use Rattle.element_seek.specs.declared.scene.Scene.{Scene}
-use Rattle.element_seek.specs.State.{PlayerState, Told, telling, then_after}
+use Rattle.element_seek.specs.State.{PlayerState, PlayerChange, telling, then_after}
 use Rattle.element_seek.specs.Seeking.{after_seek}
 use Rattle.element_seek.specs.Inside.{HasSpansInside}
 use Rattle.media_element.specs.State.{ElementState}
@@ -18,16 +18,16 @@ sought_end Nan p = None
 sought_end (At d) p = if has_metadata p.level && int_lt d p.position then Some d else None
 sought_end Infinite p = None
 
-abbrev pub after_seek_to : Option ℤ → Scene → PlayerState → Told
+abbrev pub after_seek_to : Option ℤ → Scene → PlayerState → PlayerChange
 after_seek_to None scene p = telling [] p
 after_seek_to (Some t) scene p = after_seek t scene p
 
-abbrev pub after_fall : Moment → Scene → PlayerState → Told
-after_fall duration scene p = after_seek_to (sought_end duration p) scene p
+abbrev pub after_end_seek : Moment → Scene → PlayerState → PlayerChange
+after_end_seek duration scene p = after_seek_to (sought_end duration p) scene p
 
-abbrev pub after_change : Moment → Scene → PlayerState → Told
+abbrev pub after_change : Moment → Scene → PlayerState → PlayerChange
 after_change duration scene p =
-    then_after (telling (DurationChange ∷ []) p) (after_fall duration scene)
+    then_after (telling (DurationChange ∷ []) p) (after_end_seek duration scene)
 
 abbrev pub after_duration_change : Moment → Scene → ElementState → ElementState
 after_duration_change duration scene e = after (after_change duration scene) e

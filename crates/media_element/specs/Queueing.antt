@@ -9,7 +9,7 @@ use Rattle.mse_calls.specs.declared.events.Target.TheVariants.{Element}
 use Rattle.element_seek.specs.declared.acted.Acted.{Acted}
 use Rattle.element_seek.specs.declared.acted.Acted.TheVariants.{Done, Refused}
 use Rattle.element_seek.specs.declared.scene.Scene.{Scene}
-use Rattle.element_seek.specs.State.{PlayerState, Told, telling}
+use Rattle.element_seek.specs.State.{PlayerState, PlayerChange, telling}
 use Rattle.element_seek.specs.Turns.{after_turn}
 use Rattle.media_element.specs.State.{ElementState}
 
@@ -32,11 +32,11 @@ abbrev pub after_fire : ElementState → ElementState
 after_fire e = record e { queue = drop 1 e.queue }
 
 -- the state of the element that is told, with the events that are told queued at it
-abbrev pub after_told : Told → ElementState → ElementState
+abbrev pub after_told : PlayerChange → ElementState → ElementState
 after_told told e = record { player = told.state; queue = e.queue ++ element_events told.answer }
 
 -- an action of the element
-abbrev pub after : (PlayerState → Told) → ElementState → ElementState
+abbrev pub after : (PlayerState → PlayerChange) → ElementState → ElementState
 after action e = after_told (action e.player) e
 
 -- ---- a call that may be refused
@@ -51,7 +51,7 @@ refusal (Done kinds) = None
 refusal (Refused name) = Some name
 
 -- the call as an action
-abbrev pub told_by_call : (PlayerState → Answered Acted PlayerState) → PlayerState → Told
+abbrev pub told_by_call : (PlayerState → Answered Acted PlayerState) → PlayerState → PlayerChange
 told_by_call call p = telling (told_kinds (call p).answer) (call p).state
 
 abbrev pub after_call : (PlayerState → Answered Acted PlayerState) → ElementState → ElementState
@@ -65,7 +65,7 @@ turn_kinds None = []
 turn_kinds (Some kinds) = kinds
 
 -- the turn as an action
-abbrev pub told_by_turn : Scene → PlayerState → Told
+abbrev pub told_by_turn : Scene → PlayerState → PlayerChange
 told_by_turn scene p = telling (turn_kinds (after_turn scene p).answer) (after_turn scene p).state
 
 abbrev pub after_own_turn : Scene → ElementState → ElementState

@@ -7,7 +7,7 @@ ghost use Rattle.element_seek.specs.Settling.{after_settle, stays_by};
 ghost use Rattle.element_seek.specs.Inside.{IsInside, HasSpansInside, StaysInside};
 ghost use Rattle.media_element.specs.State.{new_element};
 ghost use Rattle.media_element.specs.Queueing.{events_at, element_events, queued, after_fire, after, told_kinds, refusal, after_call, after_own_turn};
-ghost use Rattle.media_element.specs.DurationChange.{sought_end, after_fall, after_duration_change, IsInReach};
+ghost use Rattle.media_element.specs.DurationChange.{sought_end, after_end_seek, after_duration_change, IsInReach};
 
 use element_seek::laws::position_inside;
 use element_seek::{Acted, Player, Scene};
@@ -141,7 +141,7 @@ impl Element {
     /// Seeks to a duration where the element has metadata and its position is after it.
     fn seek_if_beyond(&mut self, duration: Moment, scene: &Scene)
         requires { 1 ≤ self.old.spare }
-        ensures state { self.new.state ≡ after (after_fall duration scene.now) self.old.state }
+        ensures state { self.new.state ≡ after (after_end_seek duration scene.now) self.old.state }
         ensures spare { self.old.spare ≤ self.new.spare + 1 }
     {
         match self.sought_end(duration) {
@@ -154,7 +154,7 @@ impl Element {
     /// is queued, and where the element has metadata and its position is after the duration, it
     /// seeks to it (Media Source Extensions, 2.4.6, duration change algorithm). It takes at most two
     /// places.
-    pub fn fall(&mut self, duration: Moment, scene: &Scene)
+    pub fn change_duration(&mut self, duration: Moment, scene: &Scene)
         requires { 2 ≤ self.old.spare }
         ensures state { self.new.state ≡ after_duration_change duration scene.now self.old.state }
         ensures spare { self.old.spare ≤ self.new.spare + 2 }
@@ -163,6 +163,7 @@ impl Element {
         ensures reached { IsInReach duration scene.now self.old.state.player
             → IsInside duration self.new.state.player.position }
     {
+        // The proof reads off this that the position stays inside the media.
         position_inside();
         self.tell(Event {
             target: Target::Element,
@@ -181,6 +182,7 @@ impl Element {
         ensures inside { HasSpansInside scene.now
             → StaysInside scene.now self.old.state.player self.new.state.player }
     {
+        // The proof reads off this that the position stays inside the media.
         position_inside();
         let kinds = self.player.load(scene);
         self.tell_at_element(&kinds);
@@ -224,6 +226,7 @@ impl Element {
         ensures inside { HasSpansInside scene.now
             → StaysInside scene.now self.old.state.player self.new.state.player }
     {
+        // The proof reads off this that the position stays inside the media.
         position_inside();
         let kinds = self.player.seek(t, scene);
         self.tell_at_element(&kinds);
@@ -257,6 +260,7 @@ impl Element {
         ensures inside { HasSpansInside scene.now
             → StaysInside scene.now self.old.state.player self.new.state.player }
     {
+        // The proof reads off this that the position stays inside the media.
         position_inside();
         let answer = self.player.play(scene);
         self.answer(&answer)
@@ -284,6 +288,7 @@ impl Element {
         ensures inside { HasSpansInside scene.now
             → StaysInside scene.now self.old.state.player self.new.state.player }
     {
+        // The proof reads off this that the position stays inside the media.
         position_inside();
         let answer = self.player.advance(t, scene);
         self.answer(&answer)

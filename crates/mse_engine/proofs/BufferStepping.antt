@@ -34,27 +34,27 @@ use Rattle.mse_engine.specs.Scenes.{core_view}
 use Rattle.mse_engine.specs.Signals.{after_settling}
 use Rattle.source_state.specs.State.{SourceState, are_in}
 use Rattle.mse_engine.specs.Replies.{active_after, loads, surroundings_in}
-use Rattle.mse_engine.specs.Moved.{Moved, refused_moved, unmoved, if_made, if_finite}
-use Rattle.mse_engine.specs.BufferCalls.{reply_moved, buffer_moved, append_moved_of, append_moved}
-use Rattle.mse_engine.specs.Calls.{after_call, after_call_by, without_action, read_slot_moved}
-use Rattle.mse_engine.specs.Standing.{SourceSide, Kept, Stands, IsStep, IsSteady, core_source, kept, kept_scene, side_after}
+use Rattle.mse_engine.specs.CoreEffects.{CoreEffect, refused_effect, no_core_effect, if_made, if_finite}
+use Rattle.mse_engine.specs.BufferCalls.{reply_effect, buffer_effect, append_effect_of, append_effect}
+use Rattle.mse_engine.specs.Calls.{after_call, after_call_by, no_element_effect, read_slot_effect}
+use Rattle.mse_engine.specs.Standing.{SourceSide, KeptEngine, Stands, IsStep, IsSteady, core_source, kept_engine, kept_scene, side_after}
 use Rattle.mse_engine.proofs.Stepping.{still}
 
 -- ---- a call that reaches the buffers
 
 -- what the end of a step makes of a reply, of what is kept behind the reply
-abbrev pub Concludes : ℕ → Answer → Reply → Kept → Kept → Type 0
-Concludes k a r replied after = (st : State) (meant : BuffersResult) → core_source replied.side replied.element ≡ st.core.source → outer_of replied.element ≡ st.outer → IsBuffersResult r replied.buffers meant → IsStep a after (after_call_by (reply_moved k meant st.core) (without_action st.outer) answer.Done)
+abbrev pub Concludes : ℕ → Answer → Reply → KeptEngine → KeptEngine → Type 0
+Concludes k a r replied after = (st : State) (meant : BuffersResult) → core_source replied.side replied.element ≡ st.core.source → outer_of replied.element ≡ st.outer → IsBuffersResult r replied.buffers meant → IsStep a after (after_call_by (reply_effect k meant st.core) (no_element_effect st.outer) answer.Done)
 
 -- the call as it is at a state
 abbrev pub result_at : ℕ → Name → (Surroundings → Feed → Content → CallResult) → Core → BuffersResult
 result_at k name call c = result_on_buffer k name c.source.state.duration (call (surroundings_in k c.source)) c.buffers
 
-pub call_steps : (k : ℕ) (name : Name) (call : Surroundings → Feed → Content → CallResult) (around : Surroundings) (d : Moment) (r : Reply) (a : Answer) (side : SourceSide) (e e1 : ElementState) (old new : KeptBuffers) (after : Kept)
+pub call_steps : (k : ℕ) (name : Name) (call : Surroundings → Feed → Content → CallResult) (around : Surroundings) (d : Moment) (r : Reply) (a : Answer) (side : SourceSide) (e e1 : ElementState) (old new : KeptBuffers) (after : KeptEngine)
     → e1 ≡ e → around ≡ surroundings_in k (core_source side e1) → d ≡ side.state.duration
     → BuffersAnswer old r new (result_on_buffer k name d (call around))
-    → Concludes k a r (kept side new e1) after
-    → (st : State) → Stands (kept side old e) st → IsStep a after (after_call_by (reply_moved k (result_at k name call st.core) st.core) (without_action st.outer) answer.Done)
+    → Concludes k a r (kept_engine side new e1) after
+    → (st : State) → Stands (kept_engine side old e) st → IsStep a after (after_call_by (reply_effect k (result_at k name call st.core) st.core) (no_element_effect st.outer) answer.Done)
 call_steps k name call around d r a side e e1 old new after same there long answers concludes st h =
     let source : core_source side e1 ≡ st.core.source = ap (core_source side) same ∙ h.source in
     let at : around ≡ surroundings_in k st.core.source = there ∙ ap (surroundings_in k) source in
@@ -72,8 +72,8 @@ never_loads P k r blank s none h =
 
 -- the engine is steady behind it
 pub call_steady : (k : ℕ) (r : Reply) (d : Moment) (side side2 : SourceSide) (old new : KeptBuffers) (e e2 : ElementState)
-    → IsSteady (kept side old e) → d ≡ side.state.duration → AllStayWithin d old r new → length new ≡ length old → side2 ≡ side_after k r side → IsSettled (kept_scene (kept side2 new e2)) e2
-    → IsSteady (kept side2 new e2)
+    → IsSteady (kept_engine side old e) → d ≡ side.state.duration → AllStayWithin d old r new → length new ≡ length old → side2 ≡ side_after k r side → IsSettled (kept_scene (kept_engine side2 new e2)) e2
+    → IsSteady (kept_engine side2 new e2)
 call_steady k r d side side2 old new e e2 steady long stays len is settled = record {
   made = len ∙ (steady.made ∙ sym (ap (λ (s : SourceSide). s.state.made) is));
   within = subst (λ (x : Moment). AllEndWithin x (all_kept_media new)) (sym (ap (λ (s : SourceSide). s.state.duration) is)) (stays (subst (λ (x : Moment). AllEndWithin x (all_kept_media old)) (sym long) steady.within));
@@ -86,25 +86,25 @@ nothing_more : (q : List Event) → ((((q ++ []) ++ []) ++ []) ++ []) ++ [] ≡ 
 nothing_more q = simp append-nil
 
 -- a refusal of which nothing comes tells nothing
-silent : (k : ℕ) (name : Name) (c : Core) (o : Outer) → after_call_by (reply_moved k (refused_buffers name c.source.state.duration c.buffers) c) (without_action o) answer.Done ≡ after_call_by (refused_moved name c) (without_action o) answer.Done
+silent : (k : ℕ) (name : Name) (c : Core) (o : Outer) → after_call_by (reply_effect k (refused_buffers name c.source.state.duration c.buffers) c) (no_element_effect o) answer.Done ≡ after_call_by (refused_effect name c) (no_element_effect o) answer.Done
 silent k name c o = ap (λ (q : List Event). record { answer = answer.Refused name; state = record { core = c; outer = outer_of (after_settling (core_view c) (record { player = (element_in c.source.error o).player; queue = q })) } }) (nothing_more o.queue)
 
-unmade : (k : ℕ) (name : Name) (call : Surroundings → Feed → Content → CallResult) (c : Core) (o : Outer) → slice_get c.buffers k ≡ None → after_call_by (reply_moved k (result_at k name call c) c) (without_action o) answer.Done ≡ after_call_by (refused_moved NoSuchBuffer c) (without_action o) answer.Done
-unmade k name call c o none = ap (λ (x : Option (Option BufferState)). after_call_by (reply_moved k (result_by_slot x (call_in_slot name c.source.state.duration (call (surroundings_in k c.source))) c.source.state.duration k c.buffers) c) (without_action o) answer.Done) none ∙ silent k NoSuchBuffer c o
+unmade : (k : ℕ) (name : Name) (call : Surroundings → Feed → Content → CallResult) (c : Core) (o : Outer) → slice_get c.buffers k ≡ None → after_call_by (reply_effect k (result_at k name call c) c) (no_element_effect o) answer.Done ≡ after_call_by (refused_effect NoSuchBuffer c) (no_element_effect o) answer.Done
+unmade k name call c o none = ap (λ (x : Option (Option BufferState)). after_call_by (reply_effect k (result_by_slot x (call_in_slot name c.source.state.duration (call (surroundings_in k c.source))) c.source.state.duration k c.buffers) c) (no_element_effect o) answer.Done) none ∙ silent k NoSuchBuffer c o
 
 none_at : (k : ℕ) (bs : BufferStates) → nat_lt k (length bs) ≡ false → slice_get bs k ≡ None
 none_at k bs past = let after : length bs ≤ k = grind (arith, nat_tests) in slice_get_past bs k after
 
-made_by : (b : Bool) (k : ℕ) (call : Surroundings → Feed → Content → CallResult) (c : Core) (o : Outer) (a : Answer) (after : Kept) → nat_lt k (length c.buffers) ≡ b
-    → IsStep a after (after_call_by (buffer_moved k call c) (without_action o) answer.Done)
-    → IsStep a after (after_call_by (cond b (buffer_moved k call c) (refused_moved NoSuchBuffer c)) (without_action o) answer.Done)
+made_by : (b : Bool) (k : ℕ) (call : Surroundings → Feed → Content → CallResult) (c : Core) (o : Outer) (a : Answer) (after : KeptEngine) → nat_lt k (length c.buffers) ≡ b
+    → IsStep a after (after_call_by (buffer_effect k call c) (no_element_effect o) answer.Done)
+    → IsStep a after (after_call_by (cond b (buffer_effect k call c) (refused_effect NoSuchBuffer c)) (no_element_effect o) answer.Done)
 made_by true k call c o a after e h = h
 made_by false k call c o a after e h = subst (λ (x : Answered Answer State). IsStep a after x) (unmade k InvalidState call c o (none_at k c.buffers e)) h
 
 -- the test whether it was made changes nothing
-pub made_steps : (k : ℕ) (call : Surroundings → Feed → Content → CallResult) (c : Core) (o : Outer) (a : Answer) (after : Kept)
-    → IsStep a after (after_call_by (buffer_moved k call c) (without_action o) answer.Done)
-    → IsStep a after (after_call_by (if_made k (buffer_moved k call c) c) (without_action o) answer.Done)
+pub made_steps : (k : ℕ) (call : Surroundings → Feed → Content → CallResult) (c : Core) (o : Outer) (a : Answer) (after : KeptEngine)
+    → IsStep a after (after_call_by (buffer_effect k call c) (no_element_effect o) answer.Done)
+    → IsStep a after (after_call_by (if_made k (buffer_effect k call c) c) (no_element_effect o) answer.Done)
 made_steps k call c o a after h = made_by (nat_lt k (length c.buffers)) k call c o a after refl h
 
 -- ---- calls that do not reach the buffers
@@ -113,51 +113,51 @@ made : (k : ℕ) (ks : KeptBuffers) (bs : BufferStates) → AllStand ks bs → n
 made k ks bs all = ap (nat_lt k) (same_length ks bs all)
 
 -- a refusal, whatever else would have been answered
-pub refused_stays : (name : Name) (other : Answer) (x : Kept) (st : State) → IsSettled (kept_scene x) x.element → Stands x st → IsStep (answer.Refused name) x (after_call_by (refused_moved name st.core) (without_action st.outer) other)
+pub refused_stays : (name : Name) (other : Answer) (x : KeptEngine) (st : State) → IsSettled (kept_scene x) x.element → Stands x st → IsStep (answer.Refused name) x (after_call_by (refused_effect name st.core) (no_element_effect st.outer) other)
 refused_stays name other x st settled h = record { answers = refl; stands = still x.side x.buffers x.element st h settled }
 
-refused_by : (b : Bool) (name : Name) (other : Answer) (x : Kept) (st : State) → IsSettled (kept_scene x) x.element → Stands x st
-    → IsStep (cond b (answer.Refused name) (answer.Refused NoSuchBuffer)) x (after_call_by (cond b (refused_moved name st.core) (refused_moved NoSuchBuffer st.core)) (without_action st.outer) other)
+refused_by : (b : Bool) (name : Name) (other : Answer) (x : KeptEngine) (st : State) → IsSettled (kept_scene x) x.element → Stands x st
+    → IsStep (cond b (answer.Refused name) (answer.Refused NoSuchBuffer)) x (after_call_by (cond b (refused_effect name st.core) (refused_effect NoSuchBuffer st.core)) (no_element_effect st.outer) other)
 refused_by true name other x st settled h = refused_stays name other x st settled h
 refused_by false name other x st settled h = refused_stays NoSuchBuffer other x st settled h
 
 -- a call that is refused by a name, and by another where the buffer was never made
-pub refused_steps : (k : ℕ) (name : Name) (m : Moved) (a other : Answer) (x : Kept) (st : State)
-    → a ≡ cond (nat_lt k (length x.buffers)) (answer.Refused name) (answer.Refused NoSuchBuffer) → m ≡ refused_moved name st.core
+pub refused_steps : (k : ℕ) (name : Name) (m : CoreEffect) (a other : Answer) (x : KeptEngine) (st : State)
+    → a ≡ cond (nat_lt k (length x.buffers)) (answer.Refused name) (answer.Refused NoSuchBuffer) → m ≡ refused_effect name st.core
     → IsSettled (kept_scene x) x.element → Stands x st
-    → IsStep a x (after_call_by (if_made k m st.core) (without_action st.outer) other)
-refused_steps k name m a other x st is moved settled h =
+    → IsStep a x (after_call_by (if_made k m st.core) (no_element_effect st.outer) other)
+refused_steps k name m a other x st is effect settled h =
     let b : Bool = nat_lt k (length st.core.buffers) in
     let told : a ≡ cond b (answer.Refused name) (answer.Refused NoSuchBuffer) = is ∙ ap (λ (y : Bool). cond y (answer.Refused name) (answer.Refused NoSuchBuffer)) (made k x.buffers st.core.buffers h.buffers) in
-    let first : IsStep a x (after_call_by (cond b (refused_moved name st.core) (refused_moved NoSuchBuffer st.core)) (without_action st.outer) other) = subst (λ (y : Answer). IsStep y x (after_call_by (cond b (refused_moved name st.core) (refused_moved NoSuchBuffer st.core)) (without_action st.outer) other)) (sym told) (refused_by b name other x st settled h) in
-    subst (λ (y : Moved). IsStep a x (after_call_by (cond b y (refused_moved NoSuchBuffer st.core)) (without_action st.outer) other)) (sym moved) first
+    let first : IsStep a x (after_call_by (cond b (refused_effect name st.core) (refused_effect NoSuchBuffer st.core)) (no_element_effect st.outer) other) = subst (λ (y : Answer). IsStep y x (after_call_by (cond b (refused_effect name st.core) (refused_effect NoSuchBuffer st.core)) (no_element_effect st.outer) other)) (sym told) (refused_by b name other x st settled h) in
+    subst (λ (y : CoreEffect). IsStep a x (after_call_by (cond b y (refused_effect NoSuchBuffer st.core)) (no_element_effect st.outer) other)) (sym effect) first
 
 -- a call on a buffer that was never made
-pub unmade_steps : (k : ℕ) (m : Moved) (other : Answer) (x : Kept) (st : State) → nat_lt k (length x.buffers) ≡ false
+pub unmade_steps : (k : ℕ) (m : CoreEffect) (other : Answer) (x : KeptEngine) (st : State) → nat_lt k (length x.buffers) ≡ false
     → IsSettled (kept_scene x) x.element → Stands x st
-    → IsStep (answer.Refused NoSuchBuffer) x (after_call_by (if_made k m st.core) (without_action st.outer) other)
+    → IsStep (answer.Refused NoSuchBuffer) x (after_call_by (if_made k m st.core) (no_element_effect st.outer) other)
 unmade_steps k m other x st past settled h =
     let there : nat_lt k (length st.core.buffers) ≡ false = sym (made k x.buffers st.core.buffers h.buffers) ∙ past in
-    subst (λ (b : Bool). IsStep (answer.Refused NoSuchBuffer) x (after_call_by (cond b m (refused_moved NoSuchBuffer st.core)) (without_action st.outer) other)) (sym there) (refused_stays NoSuchBuffer other x st settled h)
+    subst (λ (b : Bool). IsStep (answer.Refused NoSuchBuffer) x (after_call_by (cond b m (refused_effect NoSuchBuffer st.core)) (no_element_effect st.outer) other)) (sym there) (refused_stays NoSuchBuffer other x st settled h)
 
 -- where the buffer was made, the test whether it was changes nothing
-pub made_moved : (k : ℕ) (m : Moved) (x : Kept) (st : State) → nat_lt k (length x.buffers) ≡ true → Stands x st → if_made k m st.core ≡ m
-made_moved k m x st is h =
+pub made_effect : (k : ℕ) (m : CoreEffect) (x : KeptEngine) (st : State) → nat_lt k (length x.buffers) ≡ true → Stands x st → if_made k m st.core ≡ m
+made_effect k m x st is h =
     let there : nat_lt k (length st.core.buffers) ≡ true = sym (made k x.buffers st.core.buffers h.buffers) ∙ is in
-    ap (λ (b : Bool). cond b m (refused_moved NoSuchBuffer st.core)) there
+    ap (λ (b : Bool). cond b m (refused_effect NoSuchBuffer st.core)) there
 
 -- a time that is not finite
-pub not_finite : (t : Moment) (call : ℤ → Moved) (c : Core) → ((x : ℤ) → t ≡ At x → ⊥) → if_finite t call c ≡ refused_moved TypeError c
+pub not_finite : (t : Moment) (call : ℤ → CoreEffect) (c : Core) → ((x : ℤ) → t ≡ At x → ⊥) → if_finite t call c ≡ refused_effect TypeError c
 not_finite Nan call c h = refl
 not_finite (At x) call c h = absurd (h x refl)
 not_finite Infinite call c h = refl
 
 -- a call that only reads
-pub read_steps : (m : Moved) (a other : Answer) (x : Kept) (st : State) → m ≡ unmoved st.core → a ≡ other → IsSettled (kept_scene x) x.element → Stands x st
-    → IsStep a x (after_call_by m (without_action st.outer) other)
-read_steps m a other x st moved is settled h =
-    let first : IsStep a x (after_call_by (unmoved st.core) (without_action st.outer) other) = record { answers = is; stands = still x.side x.buffers x.element st h settled } in
-    subst (λ (y : Moved). IsStep a x (after_call_by y (without_action st.outer) other)) (sym moved) first
+pub read_steps : (m : CoreEffect) (a other : Answer) (x : KeptEngine) (st : State) → m ≡ no_core_effect st.core → a ≡ other → IsSettled (kept_scene x) x.element → Stands x st
+    → IsStep a x (after_call_by m (no_element_effect st.outer) other)
+read_steps m a other x st effect is settled h =
+    let first : IsStep a x (after_call_by (no_core_effect st.core) (no_element_effect st.outer) other) = record { answers = is; stands = still x.side x.buffers x.element st h settled } in
+    subst (λ (y : CoreEffect). IsStep a x (after_call_by y (no_element_effect st.outer) other)) (sym effect) first
 
 -- ---- what is buffered at a buffer
 
@@ -166,60 +166,60 @@ slot_media [] k = refl
 slot_media (b ∷ bs) zero = refl
 slot_media (b ∷ bs) (suc k) = slot_media bs k
 
-read_by : (o : Option BufferState) (ended : Bool) (c : Core) (spans : List Span) → option_map (buffered_of ended) (media_of o) ≡ Some spans → read_slot_moved o c ≡ unmoved c
+read_by : (o : Option BufferState) (ended : Bool) (c : Core) (spans : List Span) → option_map (buffered_of ended) (media_of o) ≡ Some spans → read_slot_effect o c ≡ no_core_effect c
 read_by None ended c spans e = absurd (cc)
 read_by (Some b) ended c spans e = refl
 
-unread_by : (o : Option BufferState) (ended : Bool) (c : Core) → option_map (buffered_of ended) (media_of o) ≡ None → read_slot_moved o c ≡ refused_moved InvalidState c
+unread_by : (o : Option BufferState) (ended : Bool) (c : Core) → option_map (buffered_of ended) (media_of o) ≡ None → read_slot_effect o c ≡ refused_effect InvalidState c
 unread_by None ended c e = refl
 unread_by (Some b) ended c e = absurd (cc)
 
 -- what is buffered at the state that is stood for
-buffered_there : (k : ℕ) (x : Kept) (st : State) (o : Option (List Span)) → o ≡ buffered_at (is_ended x.side.state.ready) k (all_kept_media x.buffers) → Stands x st → o ≡ buffered_at (is_ended st.core.source.state.ready) k (media_of_all st.core.buffers)
+buffered_there : (k : ℕ) (x : KeptEngine) (st : State) (o : Option (List Span)) → o ≡ buffered_at (is_ended x.side.state.ready) k (all_kept_media x.buffers) → Stands x st → o ≡ buffered_at (is_ended st.core.source.state.ready) k (media_of_all st.core.buffers)
 buffered_there k x st o is h = is ∙ (λ i. buffered_at (is_ended (h.source i).state.ready) k (same_media x.buffers st.core.buffers h.buffers i))
 
-pub buffered_steps : (k : ℕ) (spans : List Span) (x : Kept) (st : State) → nat_lt k (length x.buffers) ≡ true → Some spans ≡ buffered_at (is_ended x.side.state.ready) k (all_kept_media x.buffers)
+pub buffered_steps : (k : ℕ) (spans : List Span) (x : KeptEngine) (st : State) → nat_lt k (length x.buffers) ≡ true → Some spans ≡ buffered_at (is_ended x.side.state.ready) k (all_kept_media x.buffers)
     → IsSettled (kept_scene x) x.element → Stands x st
     → IsStep (answer.Ranges spans) x (after_call [] (call.Buffered k) st)
 buffered_steps k spans x st is there settled h =
     let ended : Bool = is_ended st.core.source.state.ready in
     let at : Some spans ≡ buffered_at ended k (media_of_all st.core.buffers) = buffered_there k x st (Some spans) there h in
     let slot : option_map (buffered_of ended) (media_of (in_slot k st.core.buffers)) ≡ Some spans = sym (at ∙ ap (option_map (buffered_of ended)) (slot_media st.core.buffers k)) in
-    let moved : if_made k (read_slot_moved (in_slot k st.core.buffers) st.core) st.core ≡ unmoved st.core = made_moved k (read_slot_moved (in_slot k st.core.buffers) st.core) x st is h ∙ read_by (in_slot k st.core.buffers) ended st.core spans slot in
-    read_steps (if_made k (read_slot_moved (in_slot k st.core.buffers) st.core) st.core) (answer.Ranges spans) (answer.Ranges (unwrap_or (buffered_at ended k (media_of_all st.core.buffers)) [])) x st moved (ap (λ (o : Option (List Span)). answer.Ranges (unwrap_or o [])) at) settled h
+    let effect : if_made k (read_slot_effect (in_slot k st.core.buffers) st.core) st.core ≡ no_core_effect st.core = made_effect k (read_slot_effect (in_slot k st.core.buffers) st.core) x st is h ∙ read_by (in_slot k st.core.buffers) ended st.core spans slot in
+    read_steps (if_made k (read_slot_effect (in_slot k st.core.buffers) st.core) st.core) (answer.Ranges spans) (answer.Ranges (unwrap_or (buffered_at ended k (media_of_all st.core.buffers)) [])) x st effect (ap (λ (o : Option (List Span)). answer.Ranges (unwrap_or o [])) at) settled h
 
-pub unbuffered_steps : (k : ℕ) (x : Kept) (st : State) → nat_lt k (length x.buffers) ≡ true → None ≡ buffered_at (is_ended x.side.state.ready) k (all_kept_media x.buffers)
+pub unbuffered_steps : (k : ℕ) (x : KeptEngine) (st : State) → nat_lt k (length x.buffers) ≡ true → None ≡ buffered_at (is_ended x.side.state.ready) k (all_kept_media x.buffers)
     → IsSettled (kept_scene x) x.element → Stands x st
     → IsStep (answer.Refused InvalidState) x (after_call [] (call.Buffered k) st)
 unbuffered_steps k x st is there settled h =
     let ended : Bool = is_ended st.core.source.state.ready in
     let at : None ≡ buffered_at ended k (media_of_all st.core.buffers) = buffered_there k x st None there h in
     let slot : option_map (buffered_of ended) (media_of (in_slot k st.core.buffers)) ≡ None = sym (at ∙ ap (option_map (buffered_of ended)) (slot_media st.core.buffers k)) in
-    let moved : if_made k (read_slot_moved (in_slot k st.core.buffers) st.core) st.core ≡ refused_moved InvalidState st.core = made_moved k (read_slot_moved (in_slot k st.core.buffers) st.core) x st is h ∙ unread_by (in_slot k st.core.buffers) ended st.core slot in
-    subst (λ (y : Moved). IsStep (answer.Refused InvalidState) x (after_call_by y (without_action st.outer) (answer.Ranges (unwrap_or (buffered_at ended k (media_of_all st.core.buffers)) [])))) (sym moved) (refused_stays InvalidState (answer.Ranges (unwrap_or (buffered_at ended k (media_of_all st.core.buffers)) [])) x st settled h)
+    let effect : if_made k (read_slot_effect (in_slot k st.core.buffers) st.core) st.core ≡ refused_effect InvalidState st.core = made_effect k (read_slot_effect (in_slot k st.core.buffers) st.core) x st is h ∙ unread_by (in_slot k st.core.buffers) ended st.core slot in
+    subst (λ (y : CoreEffect). IsStep (answer.Refused InvalidState) x (after_call_by y (no_element_effect st.outer) (answer.Ranges (unwrap_or (buffered_at ended k (media_of_all st.core.buffers)) [])))) (sym effect) (refused_stays InvalidState (answer.Ranges (unwrap_or (buffered_at ended k (media_of_all st.core.buffers)) [])) x st settled h)
 
-pub unread_steps : (k : ℕ) (x : Kept) (st : State) → nat_lt k (length x.buffers) ≡ false → IsSettled (kept_scene x) x.element → Stands x st → IsStep (answer.Refused NoSuchBuffer) x (after_call [] (call.Buffered k) st)
-unread_steps k x st past settled h = unmade_steps k (read_slot_moved (in_slot k st.core.buffers) st.core) (answer.Ranges (unwrap_or (buffered_at (is_ended st.core.source.state.ready) k (media_of_all st.core.buffers)) [])) x st past settled h
+pub unread_steps : (k : ℕ) (x : KeptEngine) (st : State) → nat_lt k (length x.buffers) ≡ false → IsSettled (kept_scene x) x.element → Stands x st → IsStep (answer.Refused NoSuchBuffer) x (after_call [] (call.Buffered k) st)
+unread_steps k x st past settled h = unmade_steps k (read_slot_effect (in_slot k st.core.buffers) st.core) (answer.Ranges (unwrap_or (buffered_at (is_ended st.core.source.state.ready) k (media_of_all st.core.buffers)) [])) x st past settled h
 
 -- ---- an append
 
-pub append_steps : (k : ℕ) (bytes : List ℕ) (piece : Piece) (blobs : List (List ℕ)) (around : Surroundings) (d : Moment) (position : ℤ) (quota : ℕ) (r : Reply) (a : Answer) (side : SourceSide) (e e1 : ElementState) (old new : KeptBuffers) (after : Kept)
+pub append_steps : (k : ℕ) (bytes : List ℕ) (piece : Piece) (blobs : List (List ℕ)) (around : Surroundings) (d : Moment) (position : ℤ) (quota : ℕ) (r : Reply) (a : Answer) (side : SourceSide) (e e1 : ElementState) (old new : KeptBuffers) (after : KeptEngine)
     → nat_lt k (length old) ≡ true → bytes_of blobs piece ≡ Some bytes
     → e1 ≡ e → around ≡ surroundings_in k (core_source side e1) → d ≡ side.state.duration → position ≡ e1.player.position → quota ≡ side.quota
     → BuffersAnswer old r new (result_on_buffer k InvalidState d (append_result (record { bytes = bytes; position = position; quota = quota }) around))
-    → Concludes k a r (kept side new e1) after
-    → (st : State) → Stands (kept side old e) st → IsStep a after (after_call blobs (call.AppendBuffer k piece) st)
+    → Concludes k a r (kept_engine side new e1) after
+    → (st : State) → Stands (kept_engine side old e) st → IsStep a after (after_call blobs (call.AppendBuffer k piece) st)
 append_steps k bytes piece blobs around d position quota r a side e e1 old new after is there same told long at most answers concludes st h =
     let here : position ≡ st.outer.element.position = at ∙ ap (λ (x : ElementState). x.player.position) same ∙ ap (λ (o : Outer). o.element.position) h.outer in
     let room : quota ≡ st.core.source.quota = most ∙ ap (λ (s : CoreSource). s.quota) h.source in
     let first = call_steps k InvalidState (append_result (record { bytes = bytes; position = position; quota = quota })) around d r a side e e1 old new after same told long answers concludes st h in
-    let next : IsStep a after (after_call_by (buffer_moved k (append_result (record { bytes = bytes; position = st.outer.element.position; quota = st.core.source.quota })) st.core) (without_action st.outer) answer.Done) = subst (λ (q : ℕ). IsStep a after (after_call_by (buffer_moved k (append_result (record { bytes = bytes; position = st.outer.element.position; quota = q })) st.core) (without_action st.outer) answer.Done)) room (subst (λ (p : ℤ). IsStep a after (after_call_by (buffer_moved k (append_result (record { bytes = bytes; position = p; quota = quota })) st.core) (without_action st.outer) answer.Done)) here first) in
-    let moved : append_moved blobs piece k st.outer.element.position st.core ≡ buffer_moved k (append_result (record { bytes = bytes; position = st.outer.element.position; quota = st.core.source.quota })) st.core = made_moved k (append_moved_of (bytes_of blobs piece) k st.outer.element.position st.core) (kept side old e) st is h ∙ ap (λ (o : Option (List ℕ)). append_moved_of o k st.outer.element.position st.core) there in
-    subst (λ (m : Moved). IsStep a after (after_call_by m (without_action st.outer) answer.Done)) (sym moved) next
+    let next : IsStep a after (after_call_by (buffer_effect k (append_result (record { bytes = bytes; position = st.outer.element.position; quota = st.core.source.quota })) st.core) (no_element_effect st.outer) answer.Done) = subst (λ (q : ℕ). IsStep a after (after_call_by (buffer_effect k (append_result (record { bytes = bytes; position = st.outer.element.position; quota = q })) st.core) (no_element_effect st.outer) answer.Done)) room (subst (λ (p : ℤ). IsStep a after (after_call_by (buffer_effect k (append_result (record { bytes = bytes; position = p; quota = quota })) st.core) (no_element_effect st.outer) answer.Done)) here first) in
+    let effect : append_effect blobs piece k st.outer.element.position st.core ≡ buffer_effect k (append_result (record { bytes = bytes; position = st.outer.element.position; quota = st.core.source.quota })) st.core = made_effect k (append_effect_of (bytes_of blobs piece) k st.outer.element.position st.core) (kept_engine side old e) st is h ∙ ap (λ (o : Option (List ℕ)). append_effect_of o k st.outer.element.position st.core) there in
+    subst (λ (m : CoreEffect). IsStep a after (after_call_by m (no_element_effect st.outer) answer.Done)) (sym effect) next
 
 -- there are no such bytes
-pub no_bytes_steps : (k : ℕ) (piece : Piece) (blobs : List (List ℕ)) (x : Kept) (st : State) → nat_lt k (length x.buffers) ≡ true → bytes_of blobs piece ≡ None
+pub no_bytes_steps : (k : ℕ) (piece : Piece) (blobs : List (List ℕ)) (x : KeptEngine) (st : State) → nat_lt k (length x.buffers) ≡ true → bytes_of blobs piece ≡ None
     → IsSettled (kept_scene x) x.element → Stands x st → IsStep (answer.Refused NoSuchBytes) x (after_call blobs (call.AppendBuffer k piece) st)
 no_bytes_steps k piece blobs x st is there settled h =
-    let moved : append_moved blobs piece k st.outer.element.position st.core ≡ refused_moved NoSuchBytes st.core = made_moved k (append_moved_of (bytes_of blobs piece) k st.outer.element.position st.core) x st is h ∙ ap (λ (o : Option (List ℕ)). append_moved_of o k st.outer.element.position st.core) there in
-    subst (λ (m : Moved). IsStep (answer.Refused NoSuchBytes) x (after_call_by m (without_action st.outer) answer.Done)) (sym moved) (refused_stays NoSuchBytes answer.Done x st settled h)
+    let effect : append_effect blobs piece k st.outer.element.position st.core ≡ refused_effect NoSuchBytes st.core = made_effect k (append_effect_of (bytes_of blobs piece) k st.outer.element.position st.core) x st is h ∙ ap (λ (o : Option (List ℕ)). append_effect_of o k st.outer.element.position st.core) there in
+    subst (λ (m : CoreEffect). IsStep (answer.Refused NoSuchBytes) x (after_call_by m (no_element_effect st.outer) answer.Done)) (sym effect) (refused_stays NoSuchBytes answer.Done x st settled h)

@@ -34,10 +34,10 @@ use Rattle.media_element.specs.DurationChange.{after_duration_change as after_el
 use Rattle.mse_engine.specs.State.{CoreSource, Core, State}
 use Rattle.mse_engine.specs.Scenes.{CoreView, scene_at}
 use Rattle.mse_engine.specs.Signals.{Signal, after_signals, step}
-use Rattle.mse_engine.specs.Moved.{Moved, refused_moved, moved_to}
-use Rattle.mse_engine.specs.SourceCalls.{all_in, change_signals, changed_moved, changed_moved_by, set_duration_moved}
-use Rattle.mse_engine.specs.Calls.{without_action, after_call_by}
-use Rattle.mse_engine.specs.Standing.{SourceSide, Kept, Stands, IsStep, IsSteady, kept, kept_scene, view_of}
+use Rattle.mse_engine.specs.CoreEffects.{CoreEffect, refused_effect, effect_leaving}
+use Rattle.mse_engine.specs.SourceCalls.{all_in, change_signals, changed_effect, changed_effect_by, set_duration_effect}
+use Rattle.mse_engine.specs.Calls.{no_element_effect, after_call_by}
+use Rattle.mse_engine.specs.Standing.{SourceSide, KeptEngine, Stands, IsStep, IsSteady, kept_engine, kept_scene, view_of}
 use Rattle.mse_engine.proofs.Unchanged.{IsKept, same, in_fall}
 use Rattle.mse_engine.proofs.Stepping.{IsEnd, still}
 use Rattle.mse_engine.proofs.Sourcing.{in_state, source_step}
@@ -136,13 +136,13 @@ change_unheard v (changed.To d) e h = absurd (h d refl)
 
 -- ---- the step
 
-pub changed_done : (first : List Signal) (ch : Changed) (s : SourceState) (c : Core) → ((name : Name) → ch ≡ changed.Refused name → ⊥) → changed_moved first ch s c ≡ moved_to s (first ++ change_signals ch) c
+pub changed_done : (first : List Signal) (ch : Changed) (s : SourceState) (c : Core) → ((name : Name) → ch ≡ changed.Refused name → ⊥) → changed_effect first ch s c ≡ effect_leaving s (first ++ change_signals ch) c
 changed_done first (changed.Refused name) s c h = absurd (h name refl)
 changed_done first changed.Same s c h = refl
 changed_done first (changed.To d) s c h = refl
 
-changed_refused : (first : List Signal) (ch : Changed) (name : Name) (s : SourceState) (c : Core) → ch ≡ changed.Refused name → changed_moved first ch s c ≡ refused_moved name c
-changed_refused first (changed.Refused n) name s c e = let is : n ≡ name = cc in ap (λ (x : Name). refused_moved x c) is
+changed_refused : (first : List Signal) (ch : Changed) (name : Name) (s : SourceState) (c : Core) → ch ≡ changed.Refused name → changed_effect first ch s c ≡ refused_effect name c
+changed_refused first (changed.Refused n) name s c e = let is : n ≡ name = cc in ap (λ (x : Name). refused_effect x c) is
 changed_refused first changed.Same name s c e = absurd cc
 changed_refused first (changed.To d) name s c e = absurd cc
 
@@ -153,36 +153,36 @@ same_all ks c all = let running = same_running ks c.buffers all in let media = s
 module _ (d : Moment) (all : AllBuffers) (side new_side : SourceSide) (buffers : KeptBuffers) (e start : ElementState) (ch : Changed)
     (are : all ≡ all_buffers (all_kept_running buffers) (all_kept_media buffers)) (ready : start ≡ e)
     (answer : ch ≡ (after_set_duration d all side.state).answer) (is : new_side ≡ in_state (after_set_duration d all side.state).state side) where
-  meant : (st : State) → Stands (kept side buffers e) st → changed_moved [] ch (after_set_duration d all side.state).state st.core ≡ set_duration_moved d st.core
+  meant : (st : State) → Stands (kept_engine side buffers e) st → changed_effect [] ch (after_set_duration d all side.state).state st.core ≡ set_duration_effect d st.core
   meant st k =
       let was : side.state ≡ st.core.source.state = ap (λ (s : CoreSource). s.state) k.source in
       let told : all ≡ all_in st.core = are ∙ same_all buffers st.core k.buffers in
-      ap (λ (x : Changed). changed_moved [] x (after_set_duration d all side.state).state st.core) answer ∙ (λ i. changed_moved_by [] (after_set_duration d (told i) (was i)) st.core)
+      ap (λ (x : Changed). changed_effect [] x (after_set_duration d all side.state).state st.core) answer ∙ (λ i. changed_effect_by [] (after_set_duration d (told i) (was i)) st.core)
 
   pub duration_step : (told new : ElementState) (st : State) → ((name : Name) → ch ≡ changed.Refused name → ⊥)
-      → told ≡ after_signals (view_of new_side buffers start) (change_signals ch) start → IsEnd new_side buffers told new → Stands (kept side buffers e) st
-      → IsStep Done (kept new_side buffers new) (after_call_by (set_duration_moved d st.core) (without_action st.outer) Done)
+      → told ≡ after_signals (view_of new_side buffers start) (change_signals ch) start → IsEnd new_side buffers told new → Stands (kept_engine side buffers e) st
+      → IsStep Done (kept_engine new_side buffers new) (after_call_by (set_duration_effect d st.core) (no_element_effect st.outer) Done)
   duration_step told new st done heard end k =
-      let began : Stands (kept side buffers start) st = subst (λ (x : ElementState). Stands (kept side buffers x) st) (sym ready) k in
+      let began : Stands (kept_engine side buffers start) st = subst (λ (x : ElementState). Stands (kept_engine side buffers x) st) (sym ready) k in
       let keeps : IsKept start.player told.player = subst (λ (x : ElementState). IsKept start.player x.player) (sym heard) (change_keeps (view_of new_side buffers start) ch start) in
       let a = after_set_duration d all side.state in
-      let here : IsStep Done (kept new_side buffers new) (after_call_by (moved_to a.state (change_signals ch) st.core) (without_action st.outer) Done) = record { answers = refl; stands = source_step side new_side buffers start told new a.state (change_signals ch) st is began keeps heard end } in
-      subst (λ (m : Moved). IsStep Done (kept new_side buffers new) (after_call_by m (without_action st.outer) Done)) (sym (changed_done [] ch a.state st.core done) ∙ meant st k) here
+      let here : IsStep Done (kept_engine new_side buffers new) (after_call_by (effect_leaving a.state (change_signals ch) st.core) (no_element_effect st.outer) Done) = record { answers = refl; stands = source_step side new_side buffers start told new a.state (change_signals ch) st is began keeps heard end } in
+      subst (λ (m : CoreEffect). IsStep Done (kept_engine new_side buffers new) (after_call_by m (no_element_effect st.outer) Done)) (sym (changed_done [] ch a.state st.core done) ∙ meant st k) here
 
-  pub duration_unchanged : (name : Name) → ch ≡ changed.Refused name → kept new_side buffers start ≡ kept side buffers e
+  pub duration_unchanged : (name : Name) → ch ≡ changed.Refused name → kept_engine new_side buffers start ≡ kept_engine side buffers e
   duration_unchanged name h =
       let state : (after_set_duration d all side.state).state ≡ side.state = (set_duration_change d all side.state).refused name (sym answer ∙ h) in
       let as_before : new_side ≡ side = is ∙ (λ i. in_state (state i) side) in
-      λ i. kept (as_before i) buffers (ready i)
+      λ i. kept_engine (as_before i) buffers (ready i)
 
-  pub duration_refused : (name : Name) (st : State) → ch ≡ changed.Refused name → IsSettled (kept_scene (kept side buffers e)) e → Stands (kept side buffers e) st
-      → IsStep (Refused name) (kept new_side buffers start) (after_call_by (set_duration_moved d st.core) (without_action st.outer) Done)
+  pub duration_refused : (name : Name) (st : State) → ch ≡ changed.Refused name → IsSettled (kept_scene (kept_engine side buffers e)) e → Stands (kept_engine side buffers e) st
+      → IsStep (Refused name) (kept_engine new_side buffers start) (after_call_by (set_duration_effect d st.core) (no_element_effect st.outer) Done)
   duration_refused name st h settled k =
-      let here = subst (λ (x : Kept). Stands x (step st.core [] st.outer)) (sym (duration_unchanged name h)) (still side buffers e st k settled) in
-      let by_name : IsStep (Refused name) (kept new_side buffers start) (after_call_by (refused_moved name st.core) (without_action st.outer) Done) = record { answers = refl; stands = here } in
-      subst (λ (m : Moved). IsStep (Refused name) (kept new_side buffers start) (after_call_by m (without_action st.outer) Done)) (sym (changed_refused [] ch name (after_set_duration d all side.state).state st.core h) ∙ meant st k) by_name
+      let here = subst (λ (x : KeptEngine). Stands x (step st.core [] st.outer)) (sym (duration_unchanged name h)) (still side buffers e st k settled) in
+      let by_name : IsStep (Refused name) (kept_engine new_side buffers start) (after_call_by (refused_effect name st.core) (no_element_effect st.outer) Done) = record { answers = refl; stands = here } in
+      subst (λ (m : CoreEffect). IsStep (Refused name) (kept_engine new_side buffers start) (after_call_by m (no_element_effect st.outer) Done)) (sym (changed_refused [] ch name (after_set_duration d all side.state).state st.core h) ∙ meant st k) by_name
 
-  pub duration_steady : (new : ElementState) → IsSteady (kept side buffers e) → IsSettled (kept_scene (kept new_side buffers new)) new → IsSteady (kept new_side buffers new)
+  pub duration_steady : (new : ElementState) → IsSteady (kept_engine side buffers e) → IsSettled (kept_scene (kept_engine new_side buffers new)) new → IsSteady (kept_engine new_side buffers new)
   duration_steady new k settled =
       let change = set_duration_change d all side.state in
       let made : new_side.state.made ≡ side.state.made = ap (λ (x : SourceSide). x.state.made) is ∙ change.made in

@@ -23,10 +23,10 @@ use Rattle.media_element.specs.Settled.{IsSettled}
 use Rattle.mse_engine.specs.State.{CoreSource, Core, State, element_in}
 use Rattle.mse_engine.specs.Scenes.{core_view}
 use Rattle.mse_engine.specs.Signals.{Signal, Tell, after_signals, step}
-use Rattle.mse_engine.specs.Moved.{Moved, refused_moved, moved_to, with_state}
-use Rattle.mse_engine.specs.SourceCalls.{all_in, change_signals, changed_moved, changed_moved_by, end_error, end_error_events, with_end_error, end_moved_by, end_moved}
-use Rattle.mse_engine.specs.Calls.{without_action, after_call_by}
-use Rattle.mse_engine.specs.Standing.{SourceSide, Stands, IsStep, IsSteady, core_source, kept, kept_scene, view_of}
+use Rattle.mse_engine.specs.CoreEffects.{CoreEffect, refused_effect, effect_leaving, with_state}
+use Rattle.mse_engine.specs.SourceCalls.{all_in, change_signals, changed_effect, changed_effect_by, end_error, end_error_events, with_end_error, end_effect_by, end_effect}
+use Rattle.mse_engine.specs.Calls.{no_element_effect, after_call_by}
+use Rattle.mse_engine.specs.Standing.{SourceSide, Stands, IsStep, IsSteady, core_source, kept_engine, kept_scene, view_of}
 use Rattle.mse_engine.proofs.Unchanged.{IsKept}
 use Rattle.mse_engine.proofs.Stepping.{IsEnd, ended, still, kept_facts, meant_element, meant_view}
 use Rattle.mse_engine.proofs.Sourcing.{in_state}
@@ -61,11 +61,11 @@ module _ (end : EndKind) (side new_side : SourceSide) (buffers : KeptBuffers) (e
     (ready : start ≡ e) (is : new_side ≡ in_state s side)
     (heard : told ≡ after_signals (view_of new_side buffers start) (change_signals ch) (queued (event_at target.Source kind.SourceEnded ∷ []) start))
     (fails : failing ≡ after (after_fail end) told) (ends : IsEnd new_side buffers failing new) where
-  pub end_stands : (st : State) → Stands (kept side buffers e) st
-      → (let m : Moved = with_end_error end (moved_to s ((Tell (event_at target.Source kind.SourceEnded ∷ []) ∷ []) ++ change_signals ch) st.core) in Stands (kept new_side buffers new) (step m.core m.signals st.outer))
+  pub end_stands : (st : State) → Stands (kept_engine side buffers e) st
+      → (let m : CoreEffect = with_end_error end (effect_leaving s ((Tell (event_at target.Source kind.SourceEnded ∷ []) ∷ []) ++ change_signals ch) st.core) in Stands (kept_engine new_side buffers new) (step m.core m.signals st.outer))
   end_stands st k =
       let first : ElementState = queued (event_at target.Source kind.SourceEnded ∷ []) start in
-      let began : Stands (kept side buffers start) st = subst (λ (x : ElementState). Stands (kept side buffers x) st) (sym ready) k in
+      let began : Stands (kept_engine side buffers start) st = subst (λ (x : ElementState). Stands (kept_engine side buffers x) st) (sym ready) k in
       let n : ℕ = end_error end st.core.source.blank st.core.source.error in
       let source : CoreSource = record (with_state s st.core.source) { error = n } in
       let core : Core = record { source = source; buffers = st.core.buffers } in
@@ -74,7 +74,7 @@ module _ (end : EndKind) (side new_side : SourceSide) (buffers : KeptBuffers) (e
       let facts : core_source new_side told ≡ with_state s st.core.source = kept_facts new_side start told keeps ∙ from in
       let broken : failing ≡ with_error n (queued (end_error_events end st.core.source.error) told) = fails ∙ (failed end told ∙ (λ i. with_error (end_error end (facts i).blank (facts i).error) (queued (end_error_events end (facts i).error) told))) in
       let there : core_source new_side failing ≡ source = ap (core_source new_side) broken ∙ (λ i. record (facts i) { error = n }) in
-      let view : view_of new_side buffers start ≡ core_view (moved_to s [] st.core).core = meant_view new_side buffers start (moved_to s [] st.core).core from began.buffers in
+      let view : view_of new_side buffers start ≡ core_view (effect_leaving s [] st.core).core = meant_view new_side buffers start (effect_leaving s [] st.core).core from began.buffers in
       let element : start ≡ element_in st.core.source.error st.outer = meant_element side start st.core.source st.outer began.source began.outer in
       let alike : told ≡ after_signals (core_view core) (change_signals ch) first = heard ∙ (ap (λ v. after_signals v (change_signals ch) first) view ∙ sym (heard_by (with_state s st.core.source) n (core_view core).media ch first)) in
       let told_all : after_signals (core_view core) (end_signals ch end st.core.source.error) start ≡ queued (end_error_events end st.core.source.error) told = signals_join (core_view core) ((Tell (event_at target.Source kind.SourceEnded ∷ []) ∷ []) ++ change_signals ch) (Tell (end_error_events end st.core.source.error) ∷ []) start ∙ ap (queued (end_error_events end st.core.source.error)) (sym alike) in
@@ -83,49 +83,49 @@ module _ (end : EndKind) (side new_side : SourceSide) (buffers : KeptBuffers) (e
 
 -- ---- the call
 
-refused_by : (n : Option Name) (name : Name) (end : EndKind) (c : Core) → n ≡ Some name → end_moved_by n end c ≡ refused_moved name c
+refused_by : (n : Option Name) (name : Name) (end : EndKind) (c : Core) → n ≡ Some name → end_effect_by n end c ≡ refused_effect name c
 refused_by None name end c e = absurd cc
-refused_by (Some m) name end c e = let is : m ≡ name = cc in ap (λ (x : Name). refused_moved x c) is
+refused_by (Some m) name end c e = let is : m ≡ name = cc in ap (λ (x : Name). refused_effect x c) is
 
-done_by : (n : Option Name) (end : EndKind) (c : Core) → n ≡ None → end_moved_by n end c ≡ end_moved_by None end c
+done_by : (n : Option Name) (end : EndKind) (c : Core) → n ≡ None → end_effect_by n end c ≡ end_effect_by None end c
 done_by None end c e = refl
 done_by (Some m) end c e = absurd cc
 
 module _ (end : EndKind) (all : AllBuffers) (side : SourceSide) (buffers : KeptBuffers) (are : all ≡ all_buffers (all_kept_running buffers) (all_kept_media buffers)) where
-  told_same : (e : ElementState) (st : State) → Stands (kept side buffers e) st → end_refusal all.updating side.state ≡ end_refusal (all_in st.core).updating st.core.source.state
+  told_same : (e : ElementState) (st : State) → Stands (kept_engine side buffers e) st → end_refusal all.updating side.state ≡ end_refusal (all_in st.core).updating st.core.source.state
   told_same e st k =
       let was : side.state ≡ st.core.source.state = ap (λ (s : CoreSource). s.state) k.source in
       let told : all ≡ all_in st.core = are ∙ same_all buffers st.core k.buffers in
       λ i. end_refusal (told i).updating (was i)
 
   pub end_refused : (n : Option Name) (name : Name) (e start : ElementState) (st : State) → n ≡ end_refusal all.updating side.state → n ≡ Some name → start ≡ e
-      → IsSettled (kept_scene (kept side buffers e)) e → Stands (kept side buffers e) st
-      → IsStep (Refused name) (kept side buffers start) (after_call_by (end_moved end st.core) (without_action st.outer) Done)
+      → IsSettled (kept_scene (kept_engine side buffers e)) e → Stands (kept_engine side buffers e) st
+      → IsStep (Refused name) (kept_engine side buffers start) (after_call_by (end_effect end st.core) (no_element_effect st.outer) Done)
   end_refused n name e start st answer h ready settled k =
-      let here = subst (λ (x : ElementState). Stands (kept side buffers x) (step st.core [] st.outer)) (sym ready) (still side buffers e st k settled) in
-      let by_name : IsStep (Refused name) (kept side buffers start) (after_call_by (refused_moved name st.core) (without_action st.outer) Done) = record { answers = refl; stands = here } in
-      let moved : end_moved end st.core ≡ refused_moved name st.core = refused_by (end_refusal (all_in st.core).updating st.core.source.state) name end st.core (sym (told_same e st k) ∙ (sym answer ∙ h)) in
-      subst (λ (m : Moved). IsStep (Refused name) (kept side buffers start) (after_call_by m (without_action st.outer) Done)) (sym moved) by_name
+      let here = subst (λ (x : ElementState). Stands (kept_engine side buffers x) (step st.core [] st.outer)) (sym ready) (still side buffers e st k settled) in
+      let by_name : IsStep (Refused name) (kept_engine side buffers start) (after_call_by (refused_effect name st.core) (no_element_effect st.outer) Done) = record { answers = refl; stands = here } in
+      let effect : end_effect end st.core ≡ refused_effect name st.core = refused_by (end_refusal (all_in st.core).updating st.core.source.state) name end st.core (sym (told_same e st k) ∙ (sym answer ∙ h)) in
+      subst (λ (m : CoreEffect). IsStep (Refused name) (kept_engine side buffers start) (after_call_by m (no_element_effect st.outer) Done)) (sym effect) by_name
 
   pub end_step : (n : Option Name) (new_side : SourceSide) (e start told failing new : ElementState) (ch : Changed) (st : State) → n ≡ end_refusal all.updating side.state → n ≡ None → start ≡ e
       → ch ≡ (after_end end all.highest_end side.state).answer → new_side ≡ in_state (after_end end all.highest_end side.state).state side
       → told ≡ after_signals (view_of new_side buffers start) (change_signals ch) (queued (event_at target.Source kind.SourceEnded ∷ []) start)
-      → failing ≡ after (after_fail end) told → IsEnd new_side buffers failing new → Stands (kept side buffers e) st
-      → IsStep Done (kept new_side buffers new) (after_call_by (end_moved end st.core) (without_action st.outer) Done)
+      → failing ≡ after (after_fail end) told → IsEnd new_side buffers failing new → Stands (kept_engine side buffers e) st
+      → IsStep Done (kept_engine new_side buffers new) (after_call_by (end_effect end st.core) (no_element_effect st.outer) Done)
   end_step n new_side e start told failing new ch st answer none ready change is heard fails ends k =
       let a = after_end end all.highest_end side.state in
       let first : List Signal = Tell (event_at target.Source kind.SourceEnded ∷ []) ∷ [] in
       let was : side.state ≡ st.core.source.state = ap (λ (s : CoreSource). s.state) k.source in
       let told_all : all ≡ all_in st.core = are ∙ same_all buffers st.core k.buffers in
-      let here : IsStep Done (kept new_side buffers new) (after_call_by (with_end_error end (moved_to a.state (first ++ change_signals ch) st.core)) (without_action st.outer) Done) = record { answers = refl; stands = end_stands end side new_side buffers e start told failing new ch a.state ready is heard fails ends st k } in
+      let here : IsStep Done (kept_engine new_side buffers new) (after_call_by (with_end_error end (effect_leaving a.state (first ++ change_signals ch) st.core)) (no_element_effect st.outer) Done) = record { answers = refl; stands = end_stands end side new_side buffers e start told failing new ch a.state ready is heard fails ends st k } in
       let done : (name : Name) → ch ≡ changed.Refused name → ⊥ = λ name h. end_done end all.highest_end side.state name (sym change ∙ h) in
-      let moved : with_end_error end (moved_to a.state (first ++ change_signals ch) st.core) ≡ end_moved end st.core =
-      ap (with_end_error end) (sym (changed_done first ch a.state st.core done) ∙ (ap (λ (x : Changed). changed_moved first x a.state st.core) change ∙ (λ i. changed_moved_by first (after_end end (told_all i).highest_end (was i)) st.core)))
+      let effect : with_end_error end (effect_leaving a.state (first ++ change_signals ch) st.core) ≡ end_effect end st.core =
+      ap (with_end_error end) (sym (changed_done first ch a.state st.core done) ∙ (ap (λ (x : Changed). changed_effect first x a.state st.core) change ∙ (λ i. changed_effect_by first (after_end end (told_all i).highest_end (was i)) st.core)))
       ∙ sym (done_by (end_refusal (all_in st.core).updating st.core.source.state) end st.core (sym (told_same e st k) ∙ (sym answer ∙ none))) in
-      subst (λ (m : Moved). IsStep Done (kept new_side buffers new) (after_call_by m (without_action st.outer) Done)) moved here
+      subst (λ (m : CoreEffect). IsStep Done (kept_engine new_side buffers new) (after_call_by m (no_element_effect st.outer) Done)) effect here
 
   pub end_steady : (new_side : SourceSide) (e new : ElementState) → new_side ≡ in_state (after_end end all.highest_end side.state).state side
-      → IsSteady (kept side buffers e) → IsSettled (kept_scene (kept new_side buffers new)) new → IsSteady (kept new_side buffers new)
+      → IsSteady (kept_engine side buffers e) → IsSettled (kept_scene (kept_engine new_side buffers new)) new → IsSteady (kept_engine new_side buffers new)
   end_steady new_side e new is k settled =
       let change = end_change end all.highest_end side.state in
       let made : new_side.state.made ≡ side.state.made = ap (λ (x : SourceSide). x.state.made) is ∙ change.made in

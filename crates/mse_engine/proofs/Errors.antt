@@ -8,11 +8,11 @@ use Rattle.mse_calls.specs.Level.{has_metadata}
 use Rattle.mse_calls.specs.declared.answers.Level.TheVariants.{Metadata}
 use Rattle.mse_calls.specs.declared.events.EventKind.TheVariants.{DurationChange, LoadedMetadata}
 use Rattle.element_seek.specs.declared.scene.Scene.{Scene}
-use Rattle.element_seek.specs.State.{PlayerState, Told, telling}
+use Rattle.element_seek.specs.State.{PlayerState, PlayerChange, telling}
 use Rattle.element_seek.specs.Seeking.{in_media, after_seek_in, after_seek, after_start, after_load}
 use Rattle.media_element.specs.State.{ElementState}
 use Rattle.media_element.specs.Queueing.{after_told, after}
-use Rattle.media_element.specs.DurationChange.{after_seek_to, after_fall, after_change}
+use Rattle.media_element.specs.DurationChange.{after_seek_to, after_end_seek, after_change}
 use Rattle.mse_engine.specs.State.{outer_of, player_of}
 use Rattle.mse_engine.specs.Scenes.{CoreView, scene_at}
 use Rattle.mse_engine.specs.Signals.{Signal, Tell, DurationChanged, Loaded, after_signal, after_signals}
@@ -23,7 +23,7 @@ with_code n p = record p { error = n }
 abbrev pub with_error : ℕ → ElementState → ElementState
 with_error n e = record { player = with_code n e.player; queue = e.queue }
 
-abbrev told_with : ℕ → Told → Told
+abbrev told_with : ℕ → PlayerChange → PlayerChange
 told_with n t = telling t.answer (with_code n t.state)
 
 -- ---- actions
@@ -44,13 +44,13 @@ seek_to_error : (o : Option ℤ) (scene : Scene) (n : ℕ) (p : PlayerState) →
 seek_to_error None scene n p = refl
 seek_to_error (Some t) scene n p = seek_error t scene n p
 
-fall_error : (d : Moment) (scene : Scene) (n : ℕ) (p : PlayerState) → after_fall d scene (with_code n p) ≡ told_with n (after_fall d scene p)
+fall_error : (d : Moment) (scene : Scene) (n : ℕ) (p : PlayerState) → after_end_seek d scene (with_code n p) ≡ told_with n (after_end_seek d scene p)
 fall_error Nan scene n p = refl
 fall_error (At d) scene n p = seek_to_error (cond (has_metadata p.level && int_lt d p.position) (Some d) None) scene n p
 fall_error Infinite scene n p = refl
 
 change_error : (d : Moment) (scene : Scene) (n : ℕ) (p : PlayerState) → after_change d scene (with_code n p) ≡ told_with n (after_change d scene p)
-change_error d scene n p = ap (λ (t : Told). telling ((DurationChange ∷ []) ++ t.answer) t.state) (fall_error d scene n p)
+change_error d scene n p = ap (λ (t : PlayerChange). telling ((DurationChange ∷ []) ++ t.answer) t.state) (fall_error d scene n p)
 
 start_by : (b : Bool) (scene : Scene) (n : ℕ) (p : PlayerState)
     → cond b (after_seek p.default_start scene (record (with_code n p) { default_start = pos 0 })) (telling [] (with_code n p)) ≡ told_with n (cond b (after_seek p.default_start scene (record p { default_start = pos 0 })) (telling [] p))
@@ -61,12 +61,12 @@ start_error : (scene : Scene) (n : ℕ) (p : PlayerState) → after_start scene 
 start_error scene n p = start_by (int_lt (pos 0) p.default_start) scene n p
 
 load_error : (scene : Scene) (n : ℕ) (p : PlayerState) → after_load scene (with_code n p) ≡ told_with n (after_load scene p)
-load_error scene n p = ap (λ (t : Told). telling ((LoadedMetadata ∷ []) ++ t.answer) t.state) (start_error scene n (record p { level = Metadata }))
+load_error scene n p = ap (λ (t : PlayerChange). telling ((LoadedMetadata ∷ []) ++ t.answer) t.state) (start_error scene n (record p { level = Metadata }))
 
 -- ---- signals
 
-heard_error : (action : PlayerState → Told) (n : ℕ) (e : ElementState) → action (with_code n e.player) ≡ told_with n (action e.player) → after action (with_error n e) ≡ with_error n (after action e)
-heard_error action n e h = ap (λ (t : Told). after_told t e) h
+heard_error : (action : PlayerState → PlayerChange) (n : ℕ) (e : ElementState) → action (with_code n e.player) ≡ told_with n (action e.player) → after action (with_error n e) ≡ with_error n (after action e)
+heard_error action n e h = ap (λ (t : PlayerChange). after_told t e) h
 
 signal_error : (v : CoreView) (s : Signal) (n : ℕ) (e : ElementState) → after_signal v s (with_error n e) ≡ with_error n (after_signal v s e)
 signal_error v (Tell events) n e = refl

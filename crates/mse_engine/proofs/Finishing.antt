@@ -20,9 +20,9 @@ use Rattle.mse_engine.specs.State.{Outer, State, outer_of}
 use Rattle.mse_engine.specs.Scenes.{CoreView}
 use Rattle.mse_engine.specs.Signals.{Signal, Tell, after_signals, after_settling, outer_after}
 use Rattle.mse_engine.specs.Replies.{activates, loads, blank_after, error_after, source_after, open_events, middle_signals, fault_events, reply_signals}
-use Rattle.mse_engine.specs.BufferCalls.{reply_moved}
-use Rattle.mse_engine.specs.Calls.{after_call_by, refused_or, without_action}
-use Rattle.mse_engine.specs.Standing.{SourceSide, IsStep, IsReadyToLoad, core_source, kept, kept_scene, side_after, view_of}
+use Rattle.mse_engine.specs.BufferCalls.{reply_effect}
+use Rattle.mse_engine.specs.Calls.{after_call_by, refused_or, no_element_effect}
+use Rattle.mse_engine.specs.Standing.{SourceSide, IsStep, IsReadyToLoad, core_source, kept_engine, kept_scene, side_after, view_of}
 use Rattle.mse_engine.proofs.Errors.{with_error, signals_error, signals_keep, signals_join, whole}
 use Rattle.mse_engine.proofs.Loading.{blank_behind, settled_metadata}
 
@@ -30,9 +30,9 @@ use Rattle.mse_engine.proofs.Loading.{blank_behind, settled_metadata}
 
 -- the scene of the element, but for what can be sought
 abbrev scene_here : SourceSide → KeptBuffers → ElementState → Scene
-scene_here side ks e = kept_scene (kept side ks e)
+scene_here side ks e = kept_scene (kept_engine side ks e)
 
-pub settled_element : (scene : Scene) (side : SourceSide) (ks : KeptBuffers) (e new : ElementState) → scene ≡ kept_scene (kept side ks e) → new ≡ after (after_settle scene) e → new ≡ after_settling (view_of side ks e) e
+pub settled_element : (scene : Scene) (side : SourceSide) (ks : KeptBuffers) (e new : ElementState) → scene ≡ kept_scene (kept_engine side ks e) → new ≡ after (after_settle scene) e → new ≡ after_settling (view_of side ks e) e
 settled_element scene side ks e new is h = h ∙ ap (λ (s : Scene). after (after_settle s) e) is
 
 pub settled_source : (scene : Scene) (side : SourceSide) (e new : ElementState) → new ≡ after (after_settle scene) e → core_source side new ≡ core_source side e
@@ -42,10 +42,10 @@ settled_source scene side e new h = ap (core_source side) h ∙ ap (λ (b : Bool
 abbrev pub SettledOnce : Type 0
 SettledOnce = (s : Scene) (p : PlayerState) → after_settle s (after_settle s p).state ≡ telling [] (after_settle s p).state
 
-pub settled_again : SettledOnce → (scene : Scene) (side : SourceSide) (ks : KeptBuffers) (e new : ElementState) → scene ≡ kept_scene (kept side ks e) → new ≡ after (after_settle scene) e → IsSettled (kept_scene (kept side ks new)) new
+pub settled_again : SettledOnce → (scene : Scene) (side : SourceSide) (ks : KeptBuffers) (e new : ElementState) → scene ≡ kept_scene (kept_engine side ks e) → new ≡ after (after_settle scene) e → IsSettled (kept_scene (kept_engine side ks new)) new
 settled_again once scene side ks e new is h =
     let here : new ≡ after (after_settle (scene_here side ks e)) e = h ∙ ap (λ (s : Scene). after (after_settle s) e) is in
-    subst (λ (x : ElementState). IsSettled (kept_scene (kept side ks x)) x) (sym here) (once (scene_here side ks e) e.player)
+    subst (λ (x : ElementState). IsSettled (kept_scene (kept_engine side ks x)) x) (sym here) (once (scene_here side ks e) e.player)
 
 -- ---- a reply
 
@@ -141,7 +141,7 @@ pub concluded : (k : ℕ) (r : Reply) (a : Answer) (side side2 : SourceSide) (ks
     → core_source side2 e4 ≡ source_after k r (core_source side e)
     → outer_of e4 ≡ outer_after (view_behind k r side (all_kept_media ks) e) (reply_signals k r (core_source side e)) (outer_of e)
     → (st : State) (meant : BuffersResult) → core_source side e ≡ st.core.source → outer_of e ≡ st.outer → IsBuffersResult r ks meant
-    → IsStep a (kept side2 ks e4) (after_call_by (reply_moved k meant st.core) (without_action st.outer) answer.Done)
+    → IsStep a (kept_engine side2 ks e4) (after_call_by (reply_effect k meant st.core) (no_element_effect st.outer) answer.Done)
 concluded k r a side side2 ks e e4 answers source outer st meant from at is = record {
   answers = answers ∙ ap (λ (x : Reply). refused_or x.refused answer.Done) is.replies;
   stands = record {

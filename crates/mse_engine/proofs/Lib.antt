@@ -3,7 +3,7 @@ pub mod Stepping
 pub mod Sourcing
 pub mod Changing
 pub mod Ending
-pub mod Acting
+pub mod ElementEffects
 pub mod Listing
 pub mod Inside
 pub mod Bringing

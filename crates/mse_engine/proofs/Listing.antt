@@ -28,10 +28,10 @@ use Rattle.media_element.specs.Settled.{IsSettled}
 use Rattle.mse_engine.specs.State.{CoreSource, Core, State}
 use Rattle.mse_engine.specs.Signals.{Signal, Tell, after_signals, step}
 use Rattle.mse_engine.specs.Replies.{surroundings_in}
-use Rattle.mse_engine.specs.Moved.{Moved, refused_moved, with_state}
-use Rattle.mse_engine.specs.SourceCalls.{added_moved, add_moved_by, inactive_events, removal_events, removed_moved, remove_moved_by}
-use Rattle.mse_engine.specs.Calls.{without_action, after_call_by}
-use Rattle.mse_engine.specs.Standing.{SourceSide, Kept, Stands, IsStep, IsSteady, core_source, kept, kept_scene, view_of}
+use Rattle.mse_engine.specs.CoreEffects.{CoreEffect, refused_effect, with_state}
+use Rattle.mse_engine.specs.SourceCalls.{added_effect, add_effect_by, inactive_events, removal_events, removed_effect, remove_effect_by}
+use Rattle.mse_engine.specs.Calls.{no_element_effect, after_call_by}
+use Rattle.mse_engine.specs.Standing.{SourceSide, KeptEngine, Stands, IsStep, IsSteady, core_source, kept_engine, kept_scene, view_of}
 use Rattle.mse_engine.proofs.Unchanged.{IsKept, same}
 use Rattle.mse_engine.proofs.Stepping.{IsEnd, stepped, still}
 use Rattle.mse_engine.proofs.Sourcing.{in_state}
@@ -68,8 +68,8 @@ add_few s n e = below s.made (few_by (nat_le 16 (length s.listed)) (nat_le (2 ^ 
 
 -- ---- adding
 
-added_refused : (container : Container) (x : Added) (name : Name) (s : SourceState) (c : Core) → x ≡ added.Refused name → added_moved container x s c ≡ refused_moved name c
-added_refused container (added.Refused n) name s c e = let is : n ≡ name = cc in ap (λ (m : Name). refused_moved m c) is
+added_refused : (container : Container) (x : Added) (name : Name) (s : SourceState) (c : Core) → x ≡ added.Refused name → added_effect container x s c ≡ refused_effect name c
+added_refused container (added.Refused n) name s c e = let is : n ≡ name = cc in ap (λ (m : Name). refused_effect m c) is
 added_refused container (added.Number n) name s c e = absurd cc
 
 abbrev add_signals : List Signal
@@ -78,47 +78,47 @@ add_signals = Tell (event_at target.SourceBuffers kind.AddSourceBuffer ∷ []) �
 abbrev grown : Container → SourceState → Core → Core
 grown container s c = record { source = with_state s c.source; buffers = c.buffers ++ Some (new_buffer c.source.gap container) ∷ [] }
 
-added_done : (container : Container) (x : Added) (n : ℕ) (s : SourceState) (c : Core) → x ≡ added.Number n → added_moved container x s c ≡ record { refused = None; core = grown container s c; signals = add_signals }
+added_done : (container : Container) (x : Added) (n : ℕ) (s : SourceState) (c : Core) → x ≡ added.Number n → added_effect container x s c ≡ record { refused = None; core = grown container s c; signals = add_signals }
 added_done container (added.Refused name) n s c e = absurd cc
 added_done container (added.Number m) n s c e = refl
 
 module _ (container : Container) (side new_side : SourceSide) (buffers : KeptBuffers) (e start : ElementState) (x : Added) (ready : start ≡ e)
     (answer : x ≡ (after_add_buffer side.state).answer) (is : new_side ≡ in_state (after_add_buffer side.state).state side) where
-  add_meant : (st : State) → Stands (kept side buffers e) st → added_moved container x (after_add_buffer side.state).state st.core ≡ add_moved_by (after_add_buffer st.core.source.state) container st.core
+  add_meant : (st : State) → Stands (kept_engine side buffers e) st → added_effect container x (after_add_buffer side.state).state st.core ≡ add_effect_by (after_add_buffer st.core.source.state) container st.core
   add_meant st k =
       let was : side.state ≡ st.core.source.state = ap (λ (s : CoreSource). s.state) k.source in
-      ap (λ (y : Added). added_moved container y (after_add_buffer side.state).state st.core) answer ∙ (λ i. add_moved_by (after_add_buffer (was i)) container st.core)
+      ap (λ (y : Added). added_effect container y (after_add_buffer side.state).state st.core) answer ∙ (λ i. add_effect_by (after_add_buffer (was i)) container st.core)
 
-  pub add_unchanged : (name : Name) → x ≡ added.Refused name → kept new_side buffers start ≡ kept side buffers e
+  pub add_unchanged : (name : Name) → x ≡ added.Refused name → kept_engine new_side buffers start ≡ kept_engine side buffers e
   add_unchanged name h =
       let state : (after_add_buffer side.state).state ≡ side.state = add_leaves side.state name (sym answer ∙ h) in
       let as_before : new_side ≡ side = is ∙ (λ i. in_state (state i) side) in
-      λ i. kept (as_before i) buffers (ready i)
+      λ i. kept_engine (as_before i) buffers (ready i)
 
-  pub add_refused : (name : Name) (st : State) → x ≡ added.Refused name → IsSettled (kept_scene (kept side buffers e)) e → Stands (kept side buffers e) st
-      → IsStep (Refused name) (kept new_side buffers start) (after_call_by (add_moved_by (after_add_buffer st.core.source.state) container st.core) (without_action st.outer) Done)
+  pub add_refused : (name : Name) (st : State) → x ≡ added.Refused name → IsSettled (kept_scene (kept_engine side buffers e)) e → Stands (kept_engine side buffers e) st
+      → IsStep (Refused name) (kept_engine new_side buffers start) (after_call_by (add_effect_by (after_add_buffer st.core.source.state) container st.core) (no_element_effect st.outer) Done)
   add_refused name st h settled k =
-      let here = subst (λ (y : Kept). Stands y (step st.core [] st.outer)) (sym (add_unchanged name h)) (still side buffers e st k settled) in
-      let by_name : IsStep (Refused name) (kept new_side buffers start) (after_call_by (refused_moved name st.core) (without_action st.outer) Done) = record { answers = refl; stands = here } in
-      subst (λ (m : Moved). IsStep (Refused name) (kept new_side buffers start) (after_call_by m (without_action st.outer) Done)) (sym (added_refused container x name (after_add_buffer side.state).state st.core h) ∙ add_meant st k) by_name
+      let here = subst (λ (y : KeptEngine). Stands y (step st.core [] st.outer)) (sym (add_unchanged name h)) (still side buffers e st k settled) in
+      let by_name : IsStep (Refused name) (kept_engine new_side buffers start) (after_call_by (refused_effect name st.core) (no_element_effect st.outer) Done) = record { answers = refl; stands = here } in
+      subst (λ (m : CoreEffect). IsStep (Refused name) (kept_engine new_side buffers start) (after_call_by m (no_element_effect st.outer) Done)) (sym (added_refused container x name (after_add_buffer side.state).state st.core h) ∙ add_meant st k) by_name
 
   pub add_step : (n : ℕ) (grew : KeptBuffers) (told new : ElementState) (st : State) → x ≡ added.Number n
       → ((bs : BufferStates) → AllStand buffers bs → AllStand grew (bs ++ Some (new_buffer side.gap container) ∷ []))
-      → told ≡ queued (event_at target.SourceBuffers kind.AddSourceBuffer ∷ []) start → IsEnd new_side grew told new → Stands (kept side buffers e) st
-      → IsStep Done (kept new_side grew new) (after_call_by (add_moved_by (after_add_buffer st.core.source.state) container st.core) (without_action st.outer) Done)
+      → told ≡ queued (event_at target.SourceBuffers kind.AddSourceBuffer ∷ []) start → IsEnd new_side grew told new → Stands (kept_engine side buffers e) st
+      → IsStep Done (kept_engine new_side grew new) (after_call_by (add_effect_by (after_add_buffer st.core.source.state) container st.core) (no_element_effect st.outer) Done)
   add_step n grew told new st h stand heard ends k =
       let s = (after_add_buffer side.state).state in
-      let began : Stands (kept side buffers start) st = subst (λ (y : ElementState). Stands (kept side buffers y) st) (sym ready) k in
+      let began : Stands (kept_engine side buffers start) st = subst (λ (y : ElementState). Stands (kept_engine side buffers y) st) (sym ready) k in
       let from : core_source new_side start ≡ with_state s st.core.source = ap (λ (y : SourceSide). core_source y start) is ∙ ap (λ (y : CoreSource). with_state s y) began.source in
       let gap : side.gap ≡ st.core.source.gap = ap (λ (y : CoreSource). y.gap) k.source in
       let all : AllStand grew (grown container s st.core).buffers = subst (λ g. AllStand grew (st.core.buffers ++ Some (new_buffer g container) ∷ [])) gap (stand st.core.buffers k.buffers) in
       let keeps = subst (λ (y : ElementState). IsKept start.player y.player) (sym heard) (same start.player) in
-      let here : IsStep Done (kept new_side grew new) (after_call_by (record { refused = None; core = grown container s st.core; signals = add_signals }) (without_action st.outer) Done) = record { answers = refl; stands = stepped new_side grew start told new (grown container s st.core) add_signals st.outer from all began.outer keeps heard ends } in
-      subst (λ (m : Moved). IsStep Done (kept new_side grew new) (after_call_by m (without_action st.outer) Done)) (sym (added_done container x n s st.core h) ∙ add_meant st k) here
+      let here : IsStep Done (kept_engine new_side grew new) (after_call_by (record { refused = None; core = grown container s st.core; signals = add_signals }) (no_element_effect st.outer) Done) = record { answers = refl; stands = stepped new_side grew start told new (grown container s st.core) add_signals st.outer from all began.outer keeps heard ends } in
+      subst (λ (m : CoreEffect). IsStep Done (kept_engine new_side grew new) (after_call_by m (no_element_effect st.outer) Done)) (sym (added_done container x n s st.core h) ∙ add_meant st k) here
 
   pub add_steady : (n : ℕ) (grew : KeptBuffers) (new : ElementState) → x ≡ added.Number n → length grew ≡ length buffers + 1
       → ((d : Moment) → AllEndWithin d (all_kept_media buffers) → AllEndWithin d (all_kept_media grew))
-      → IsSteady (kept side buffers e) → IsSettled (kept_scene (kept new_side grew new)) new → IsSteady (kept new_side grew new)
+      → IsSteady (kept_engine side buffers e) → IsSettled (kept_scene (kept_engine new_side grew new)) new → IsSteady (kept_engine new_side grew new)
   add_steady n grew new h more within k settled =
       let state : new_side.state ≡ with_new side.state = ap (λ (y : SourceSide). y.state) is ∙ add_gives side.state n (sym answer ∙ h) in
       let made : side.state.made + 1 ≡ new_side.state.made = sym (ap (λ (s : SourceState). s.made) state) in
@@ -146,61 +146,61 @@ RemoveLeaves s a = ((name : Name) → a.answer ≡ removed.Refused name → a.st
 remove_leaves : (k : ℕ) (s : SourceState) → RemoveLeaves s (after_remove_buffer k s)
 remove_leaves k s = by_case (RemoveLeaves s) (not (has k s.listed)) _ _ (λ name e. refl, (refl, refl)) (λ name e. absurd cc, (refl, refl))
 
-removed_refused : (k : ℕ) (r : BuffersResult) (x : Removed) (name : Name) (s : SourceState) (c : Core) → x ≡ removed.Refused name → removed_moved k r x s c ≡ refused_moved name c
-removed_refused k r (removed.Refused n) name s c e = let is : n ≡ name = cc in ap (λ (m : Name). refused_moved m c) is
+removed_refused : (k : ℕ) (r : BuffersResult) (x : Removed) (name : Name) (s : SourceState) (c : Core) → x ≡ removed.Refused name → removed_effect k r x s c ≡ refused_effect name c
+removed_refused k r (removed.Refused n) name s c e = let is : n ≡ name = cc in ap (λ (m : Name). refused_effect m c) is
 removed_refused k r (removed.Gone active) name s c e = absurd cc
 
-abbrev removal_moved : ℕ → BuffersResult → Bool → SourceState → Core → Moved
-removal_moved k r active s c = record {
+abbrev removal_effect : ℕ → BuffersResult → Bool → SourceState → Core → CoreEffect
+removal_effect k r active s c = record {
   refused = None;
   core = record { source = with_state s c.source; buffers = r.buffers };
   signals = Tell (events_at (target.Buffer k) r.reply.events) ∷ Tell (removal_events active) ∷ [];
 }
 
-removed_done : (k : ℕ) (r : BuffersResult) (x : Removed) (active : Bool) (s : SourceState) (c : Core) → x ≡ removed.Gone active → removed_moved k r x s c ≡ removal_moved k r active s c
+removed_done : (k : ℕ) (r : BuffersResult) (x : Removed) (active : Bool) (s : SourceState) (c : Core) → x ≡ removed.Gone active → removed_effect k r x s c ≡ removal_effect k r active s c
 removed_done k r (removed.Refused name) active s c e = absurd cc
-removed_done k r (removed.Gone b) active s c e = let is : b ≡ active = cc in ap (λ (y : Bool). removal_moved k r y s c) is
+removed_done k r (removed.Gone b) active s c e = let is : b ≡ active = cc in ap (λ (y : Bool). removal_effect k r y s c) is
 
 module _ (k : ℕ) (side new_side : SourceSide) (buffers : KeptBuffers) (e start : ElementState) (x : Removed) (ready : start ≡ e)
     (answer : x ≡ (after_remove_buffer k side.state).answer) (is : new_side ≡ in_state (after_remove_buffer k side.state).state side) where
-  remove_meant : (st : State) → Stands (kept side buffers e) st → removed_moved k (removal_result k (surroundings_in k st.core.source) st.core.buffers) x (after_remove_buffer k side.state).state st.core ≡ remove_moved_by k (after_remove_buffer k st.core.source.state) st.core
+  remove_meant : (st : State) → Stands (kept_engine side buffers e) st → removed_effect k (removal_result k (surroundings_in k st.core.source) st.core.buffers) x (after_remove_buffer k side.state).state st.core ≡ remove_effect_by k (after_remove_buffer k st.core.source.state) st.core
   remove_meant st h =
       let was : side.state ≡ st.core.source.state = ap (λ (s : CoreSource). s.state) h.source in
       let r = removal_result k (surroundings_in k st.core.source) st.core.buffers in
-      ap (λ (y : Removed). removed_moved k r y (after_remove_buffer k side.state).state st.core) answer ∙ (λ i. remove_moved_by k (after_remove_buffer k (was i)) st.core)
+      ap (λ (y : Removed). removed_effect k r y (after_remove_buffer k side.state).state st.core) answer ∙ (λ i. remove_effect_by k (after_remove_buffer k (was i)) st.core)
 
-  pub remove_unchanged : (name : Name) → x ≡ removed.Refused name → kept new_side buffers start ≡ kept side buffers e
+  pub remove_unchanged : (name : Name) → x ≡ removed.Refused name → kept_engine new_side buffers start ≡ kept_engine side buffers e
   remove_unchanged name h =
       let state : (after_remove_buffer k side.state).state ≡ side.state = (remove_leaves k side.state).0 name (sym answer ∙ h) in
       let as_before : new_side ≡ side = is ∙ (λ i. in_state (state i) side) in
-      λ i. kept (as_before i) buffers (ready i)
+      λ i. kept_engine (as_before i) buffers (ready i)
 
-  pub remove_refused : (name : Name) (st : State) → x ≡ removed.Refused name → IsSettled (kept_scene (kept side buffers e)) e → Stands (kept side buffers e) st
-      → IsStep (Refused name) (kept new_side buffers start) (after_call_by (remove_moved_by k (after_remove_buffer k st.core.source.state) st.core) (without_action st.outer) Done)
+  pub remove_refused : (name : Name) (st : State) → x ≡ removed.Refused name → IsSettled (kept_scene (kept_engine side buffers e)) e → Stands (kept_engine side buffers e) st
+      → IsStep (Refused name) (kept_engine new_side buffers start) (after_call_by (remove_effect_by k (after_remove_buffer k st.core.source.state) st.core) (no_element_effect st.outer) Done)
   remove_refused name st h settled s =
-      let here = subst (λ (y : Kept). Stands y (step st.core [] st.outer)) (sym (remove_unchanged name h)) (still side buffers e st s settled) in
-      let by_name : IsStep (Refused name) (kept new_side buffers start) (after_call_by (refused_moved name st.core) (without_action st.outer) Done) = record { answers = refl; stands = here } in
-      subst (λ (m : Moved). IsStep (Refused name) (kept new_side buffers start) (after_call_by m (without_action st.outer) Done)) (sym (removed_refused k (removal_result k (surroundings_in k st.core.source) st.core.buffers) x name (after_remove_buffer k side.state).state st.core h) ∙ remove_meant st s) by_name
+      let here = subst (λ (y : KeptEngine). Stands y (step st.core [] st.outer)) (sym (remove_unchanged name h)) (still side buffers e st s settled) in
+      let by_name : IsStep (Refused name) (kept_engine new_side buffers start) (after_call_by (refused_effect name st.core) (no_element_effect st.outer) Done) = record { answers = refl; stands = here } in
+      subst (λ (m : CoreEffect). IsStep (Refused name) (kept_engine new_side buffers start) (after_call_by m (no_element_effect st.outer) Done)) (sym (removed_refused k (removal_result k (surroundings_in k st.core.source) st.core.buffers) x name (after_remove_buffer k side.state).state st.core h) ∙ remove_meant st s) by_name
 
   pub remove_step : (active : Bool) (r : Reply) (around : Surroundings) (left : KeptBuffers) (told new : ElementState) (st : State) → x ≡ removed.Gone active
       → around ≡ surroundings_in k (core_source side start) → BuffersAnswer buffers r left (removal_result k around)
-      → told ≡ queued (removal_events active) (queued (events_at (target.Buffer k) r.events) start) → IsEnd new_side left told new → Stands (kept side buffers e) st
-      → IsStep Done (kept new_side left new) (after_call_by (remove_moved_by k (after_remove_buffer k st.core.source.state) st.core) (without_action st.outer) Done)
+      → told ≡ queued (removal_events active) (queued (events_at (target.Buffer k) r.events) start) → IsEnd new_side left told new → Stands (kept_engine side buffers e) st
+      → IsStep Done (kept_engine new_side left new) (after_call_by (remove_effect_by k (after_remove_buffer k st.core.source.state) st.core) (no_element_effect st.outer) Done)
   remove_step active r around left told new st h at answers heard ends stands =
       let s = (after_remove_buffer k side.state).state in
-      let began : Stands (kept side buffers start) st = subst (λ (y : ElementState). Stands (kept side buffers y) st) (sym ready) stands in
+      let began : Stands (kept_engine side buffers start) st = subst (λ (y : ElementState). Stands (kept_engine side buffers y) st) (sym ready) stands in
       let there : around ≡ surroundings_in k st.core.source = at ∙ ap (λ (y : CoreSource). surroundings_in k y) began.source in
       let meant : BuffersResult = removal_result k (surroundings_in k st.core.source) st.core.buffers in
       let found : IsBuffersResult r left meant = subst (λ (y : Surroundings). IsBuffersResult r left (removal_result k y st.core.buffers)) there (answers st.core.buffers stands.buffers) in
-      let m : Moved = removal_moved k meant active s st.core in
+      let m : CoreEffect = removal_effect k meant active s st.core in
       let from : core_source new_side start ≡ with_state s st.core.source = ap (λ (y : SourceSide). core_source y start) is ∙ ap (λ (y : CoreSource). with_state s y) began.source in
       let keeps = subst (λ (y : ElementState). IsKept start.player y.player) (sym heard) (same start.player) in
       let told_all : told ≡ after_signals (view_of new_side left start) m.signals start = heard ∙ (λ i. queued (removal_events active) (queued (events_at (target.Buffer k) (found.replies i).events) start)) in
-      let here : IsStep Done (kept new_side left new) (after_call_by m (without_action st.outer) Done) = record { answers = refl; stands = stepped new_side left start told new m.core m.signals st.outer from found.stand began.outer keeps told_all ends } in
-      subst (λ (y : Moved). IsStep Done (kept new_side left new) (after_call_by y (without_action st.outer) Done)) (sym (removed_done k meant x active s st.core h) ∙ remove_meant st stands) here
+      let here : IsStep Done (kept_engine new_side left new) (after_call_by m (no_element_effect st.outer) Done) = record { answers = refl; stands = stepped new_side left start told new m.core m.signals st.outer from found.stand began.outer keeps told_all ends } in
+      subst (λ (y : CoreEffect). IsStep Done (kept_engine new_side left new) (after_call_by y (no_element_effect st.outer) Done)) (sym (removed_done k meant x active s st.core h) ∙ remove_meant st stands) here
 
   pub remove_steady : (r : Reply) (d : Moment) (left : KeptBuffers) (new : ElementState) → d ≡ side.state.duration → r.duration ≡ d → AllStayWithin d buffers r left → length left ≡ length buffers
-      → IsSteady (kept side buffers e) → IsSettled (kept_scene (kept new_side left new)) new → IsSteady (kept new_side left new)
+      → IsSteady (kept_engine side buffers e) → IsSettled (kept_scene (kept_engine new_side left new)) new → IsSteady (kept_engine new_side left new)
   remove_steady r d left new long lasts stays len h settled =
       let leaves = remove_leaves k side.state in
       let made : new_side.state.made ≡ side.state.made = ap (λ (y : SourceSide). y.state.made) is ∙ leaves.1.0 in

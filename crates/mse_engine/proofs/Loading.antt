@@ -17,7 +17,7 @@ use Rattle.source_buffers.specs.State.{KeptBuffers, all_kept_media}
 use Rattle.source_buffers.specs.Buffered.{element_ranges, element_span}
 use Rattle.element_ready.proofs.Changes.{level-metadata}
 use Rattle.element_seek.specs.declared.scene.Scene.{Scene}
-use Rattle.element_seek.specs.State.{PlayerState, Told, telling}
+use Rattle.element_seek.specs.State.{PlayerState, PlayerChange, telling}
 use Rattle.element_seek.specs.Seeking.{in_media, after_seek_in, after_seek, after_load}
 use Rattle.element_seek.specs.Settling.{level_in}
 use Rattle.media_element.specs.State.{ElementState}
@@ -91,7 +91,7 @@ start_alike false x y position s ms p h = refl
 
 load_alike : (x y : Option Span) (s : SourceState) (ms : List (Option Media)) (e : ElementState) → (int_lt (pos 0) e.player.default_start ≡ true → x ≡ y)
     → after (after_load (scene_of x e.player.position s ms)) e ≡ after (after_load (scene_of y e.player.position s ms)) e
-load_alike x y s ms e h = ap (λ (t : Told). after_told (telling ((LoadedMetadata ∷ []) ++ t.answer) t.state) e) (start_alike (int_lt (pos 0) e.player.default_start) x y e.player.position s ms (record e.player { level = Metadata }) h)
+load_alike x y s ms e h = ap (λ (t : PlayerChange). after_told (telling ((LoadedMetadata ∷ []) ++ t.answer) t.state) e) (start_alike (int_lt (pos 0) e.player.default_start) x y e.player.position s ms (record e.player { level = Metadata }) h)
 
 seekable_alike : (b : Bounds) (s : SourceState) (ms : List (Option Media)) → HasBounds b (element_ranges (is_ended s.ready) s.active ms) → seekable_span s.duration s.live b.first b.last ≡ seekable_by s ms
 seekable_alike b s ms h = λ i. seekable_span s.duration s.live (h.first i) (h.last i)

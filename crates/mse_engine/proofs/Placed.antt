@@ -41,10 +41,10 @@ use Rattle.mse_engine.specs.State.{CoreSource, Core, Outer, State, player_of, el
 use Rattle.mse_engine.specs.Scenes.{CoreView, core_view}
 use Rattle.mse_engine.specs.Signals.{Signal, Tell, DurationChanged, after_signals, outer_after, step}
 use Rattle.mse_engine.specs.Replies.{surroundings_in, active_after, activates, loads, load_signals, effect_signals, middle_signals, reply_signals}
-use Rattle.mse_engine.specs.Moved.{Moved, refused_moved, unmoved, moved_to, if_finite, if_made}
-use Rattle.mse_engine.specs.SourceCalls.{from_source, attach_moved, set_live_moved, clear_live_moved, added_moved, add_moved_by, add_moved_of, remove_moved_by, remove_moved, changed_moved_by, all_in, set_duration_moved, with_end_error, end_moved_by}
-use Rattle.mse_engine.specs.BufferCalls.{reply_moved, buffer_moved, append_moved_of}
-use Rattle.mse_engine.specs.Calls.{seek_acting, advance_acting, read_slot_moved, call_moved, after_call}
+use Rattle.mse_engine.specs.CoreEffects.{CoreEffect, refused_effect, no_core_effect, effect_leaving, if_finite, if_made}
+use Rattle.mse_engine.specs.SourceCalls.{from_source, attach_effect, set_live_effect, clear_live_effect, added_effect, add_effect_by, add_effect_of, remove_effect_by, remove_effect, changed_effect_by, all_in, set_duration_effect, with_end_error, end_effect_by}
+use Rattle.mse_engine.specs.BufferCalls.{reply_effect, buffer_effect, append_effect_of}
+use Rattle.mse_engine.specs.Calls.{seek_effect, advance_effect, read_slot_effect, core_effect, after_call}
 use Rattle.mse_engine.specs.Work.{work_result, after_work, due_in, after_element_turn}
 use Rattle.mse_engine.specs.Positions.{IsPlaced, HasNoTracks, AreUntracked, IsPlacedState}
 use Rattle.mse_engine.proofs.Telling.{ended_event}
@@ -55,11 +55,11 @@ use Rattle.mse_engine.proofs.Replying.{AreTimely, AreTimelyBuffers, mode_timely,
 use Rattle.mse_engine.proofs.Placing.{AreInside, HasFrames, placed_raised, placed_seek, placed_play, placed_advance, placed_pause, placed_turn, placed_settled, CanHear, CanHearAll, placed_signals, IsAbove, placed_fall}
 
 -- what a call does to the source and its buffers, and what the element hears of it, leaves the position inside
-record IsPlacing (c : Core) (m : Moved) : Type 0 where
+record IsPlacing (c : Core) (m : CoreEffect) : Type 0 where
   untracked : AreUntracked m.core.source.state.duration m.core.buffers
   placed : (o : Outer) → IsPlaced c.source.state o.element → HasFrames (core_view m.core) → IsPlaced m.core.source.state (outer_after (core_view m.core) m.signals o).element
 
-placing_by : (c : Core) (b : Bool) (x y : Moved) → IsPlacing c x → IsPlacing c y → IsPlacing c (cond b x y)
+placing_by : (c : Core) (b : Bool) (x y : CoreEffect) → IsPlacing c x → IsPlacing c y → IsPlacing c (cond b x y)
 placing_by c true x y h k = h
 placing_by c false x y h k = k
 
@@ -118,7 +118,7 @@ end_above (Some e) f = not_before e (f e refl)
 
 module _ (law : AreInside) (c : Core) (none : AreUntracked c.source.state.duration c.buffers) where
   -- where the duration does not fall
-  carried : (m : Moved) → AreUntracked m.core.source.state.duration m.core.buffers → IsRaised c.source.state.duration m.core.source.state.duration
+  carried : (m : CoreEffect) → AreUntracked m.core.source.state.duration m.core.buffers → IsRaised c.source.state.duration m.core.source.state.duration
       → (LiesInside Infinite c.source.state.live → LiesInside Infinite m.core.source.state.live) → CanHearAll (core_view m.core) m.signals → IsPlacing c m
   carried m untracked raised live heard = record {
     untracked = untracked;
@@ -129,17 +129,17 @@ module _ (law : AreInside) (c : Core) (none : AreUntracked c.source.state.durati
   }
 
   -- where the source and its buffers stay
-  refused : (name : Name) → IsPlacing c (refused_moved name c)
-  refused name = carried (refused_moved name c) none (raised_same c.source.state.duration) (λ x. x) tt
+  refused : (name : Name) → IsPlacing c (refused_effect name c)
+  refused name = carried (refused_effect name c) none (raised_same c.source.state.duration) (λ x. x) tt
 
-  still : IsPlacing c (unmoved c)
-  still = carried (unmoved c) none (raised_same c.source.state.duration) (λ x. x) tt
+  still : IsPlacing c (no_core_effect c)
+  still = carried (no_core_effect c) none (raised_same c.source.state.duration) (λ x. x) tt
 
   -- where the duration and the live range stay
-  moved : (s : SourceState) (signals : List Signal) → s.duration ≡ c.source.state.duration → (LiesInside Infinite c.source.state.live → LiesInside Infinite s.live)
-      → CanHearAll (core_view (moved_to s signals c).core) signals → IsPlacing c (moved_to s signals c)
-  moved s signals same live heard =
-      carried (moved_to s signals c) (subst (λ (d : Moment). AreUntracked d c.buffers) (sym same) none) (subst (λ (d : Moment). IsRaised c.source.state.duration d) (sym same) (raised_same c.source.state.duration)) live heard
+  effect : (s : SourceState) (signals : List Signal) → s.duration ≡ c.source.state.duration → (LiesInside Infinite c.source.state.live → LiesInside Infinite s.live)
+      → CanHearAll (core_view (effect_leaving s signals c).core) signals → IsPlacing c (effect_leaving s signals c)
+  effect s signals same live heard =
+      carried (effect_leaving s signals c) (subst (λ (d : Moment). AreUntracked d c.buffers) (sym same) none) (subst (λ (d : Moment). IsRaised c.source.state.duration d) (sym same) (raised_same c.source.state.duration)) live heard
 
   -- ---- calls on the source
 
@@ -147,66 +147,66 @@ module _ (law : AreInside) (c : Core) (none : AreUntracked c.source.state.durati
   source_by true x y signals h k = h
   source_by false x y signals h k = k
 
-  attach : IsPlacing c (attach_moved c)
+  attach : IsPlacing c (attach_effect c)
   attach =
       source_by (not (is_closed c.source.state.ready)) (answering (Some InvalidState) c.source.state) (answering None (in_ready Opened c.source.state)) _ (refused InvalidState)
-      (moved (in_ready Opened c.source.state) _ refl (λ x. x) (tt, tt))
+      (effect (in_ready Opened c.source.state) _ refl (λ x. x) (tt, tt))
 
-  clear_live : IsPlacing c (clear_live_moved c)
+  clear_live : IsPlacing c (clear_live_effect c)
   clear_live =
       source_by (not (is_open c.source.state.ready)) (answering (Some InvalidState) c.source.state) (answering None (with_live None c.source.state)) [] (refused InvalidState)
-      (moved (with_live None c.source.state) [] refl (λ x. tt) tt)
+      (effect (with_live None c.source.state) [] refl (λ x. tt) tt)
 
   live_by : (b : Bool) (a e : ℤ) → (int_lt a (pos 0) || int_lt e a) ≡ b
       → IsPlacing c (from_source (cond b (answering (Some TypeError) c.source.state) (answering None (with_live (Some (record { start = a; end = e })) c.source.state))) [] c)
   live_by true a e h = refused TypeError
-  live_by false a e h = let both = live_times a e h in moved (with_live (Some (record { start = a; end = e })) c.source.state) [] refl (λ x. (both.0, both.1, refl)) tt
+  live_by false a e h = let both = live_times a e h in effect (with_live (Some (record { start = a; end = e })) c.source.state) [] refl (λ x. (both.0, both.1, refl)) tt
 
   set_live_at : (a e : ℤ) → IsPlacing c (from_source (after_set_live a e c.source.state) [] c)
   set_live_at a e = source_by (not (is_open c.source.state.ready)) (answering (Some InvalidState) c.source.state) _ [] (refused InvalidState) (live_by (int_lt a (pos 0) || int_lt e a) a e refl)
 
-  finite : (t : Moment) (call : ℤ → Moved) → ((x : ℤ) → IsPlacing c (call x)) → IsPlacing c (if_finite t call c)
+  finite : (t : Moment) (call : ℤ → CoreEffect) → ((x : ℤ) → IsPlacing c (call x)) → IsPlacing c (if_finite t call c)
   finite Nan call f = refused TypeError
   finite (At t) call f = f t
   finite Infinite call f = refused TypeError
 
-  set_live : (start end : Moment) → IsPlacing c (set_live_moved start end c)
+  set_live : (start end : Moment) → IsPlacing c (set_live_effect start end c)
   set_live start end = finite start _ (λ a. finite end _ (λ e. set_live_at a e))
 
-  add_by : (b : Bool) (x y : Answered Added SourceState) (container : Container) → IsPlacing c (add_moved_by x container c) → IsPlacing c (add_moved_by y container c) → IsPlacing c (add_moved_by (cond b x y) container c)
+  add_by : (b : Bool) (x y : Answered Added SourceState) (container : Container) → IsPlacing c (add_effect_by x container c) → IsPlacing c (add_effect_by y container c) → IsPlacing c (add_effect_by (cond b x y) container c)
   add_by true x y container h k = h
   add_by false x y container h k = k
 
-  added_to : (container : Container) → IsPlacing c (added_moved container (added.Number c.source.state.made) (with_new c.source.state) c)
+  added_to : (container : Container) → IsPlacing c (added_effect container (added.Number c.source.state.made) (with_new c.source.state) c)
   added_to container =
-      carried (added_moved container (added.Number c.source.state.made) (with_new c.source.state) c) (λ n. added_all c.buffers (Some (new_buffer c.source.gap container)) (none n) refl)
+      carried (added_effect container (added.Number c.source.state.made) (with_new c.source.state) c) (λ n. added_all c.buffers (Some (new_buffer c.source.gap container)) (none n) refl)
       (raised_same c.source.state.duration) (λ x. x) (tt, tt)
 
-  add_of : (t : TypeAnswer) → IsPlacing c (add_moved_of t c)
+  add_of : (t : TypeAnswer) → IsPlacing c (add_effect_of t c)
   add_of Empty = refused _
   add_of Unsupported = refused _
   add_of (Supported container) =
       add_by (has_most_buffers c.source.state) (answering (added.Refused QuotaExceeded) c.source.state) _ container (refused QuotaExceeded)
       (add_by (not (is_open c.source.state.ready)) (answering (added.Refused InvalidState) c.source.state) (answering (added.Number c.source.state.made) (with_new c.source.state)) container (refused InvalidState) (added_to container))
 
-  made : (k : ℕ) (m : Moved) → IsPlacing c m → IsPlacing c (if_made k m c)
+  made : (k : ℕ) (m : CoreEffect) → IsPlacing c m → IsPlacing c (if_made k m c)
   made k m h = placing_by c (nat_lt k (length c.buffers)) m _ h (refused _)
 
-  remove_by : (b : Bool) (k : ℕ) (x y : Answered Removed SourceState) → IsPlacing c (remove_moved_by k x c) → IsPlacing c (remove_moved_by k y c) → IsPlacing c (remove_moved_by k (cond b x y) c)
+  remove_by : (b : Bool) (k : ℕ) (x y : Answered Removed SourceState) → IsPlacing c (remove_effect_by k x c) → IsPlacing c (remove_effect_by k y c) → IsPlacing c (remove_effect_by k (cond b x y) c)
   remove_by true k x y h j = h
   remove_by false k x y h j = j
 
-  gone : (k : ℕ) → IsPlacing c (remove_moved_by k (answering (removed.Gone (has k c.source.state.active)) (without_buffer k c.source.state)) c)
+  gone : (k : ℕ) → IsPlacing c (remove_effect_by k (answering (removed.Gone (has k c.source.state.active)) (without_buffer k c.source.state)) c)
   gone k =
-      carried (remove_moved_by k (answering (removed.Gone (has k c.source.state.active)) (without_buffer k c.source.state)) c) (removal-timely k (surroundings_in k c.source) c.buffers none)
+      carried (remove_effect_by k (answering (removed.Gone (has k c.source.state.active)) (without_buffer k c.source.state)) c) (removal-timely k (surroundings_in k c.source) c.buffers none)
       (raised_same c.source.state.duration) (λ x. x) (tt, (tt, tt))
 
-  remove : (k : ℕ) → IsPlacing c (remove_moved k c)
+  remove : (k : ℕ) → IsPlacing c (remove_effect k c)
   remove k = made k _ (remove_by (not (has k c.source.state.listed)) k (answering (removed.Refused NotFound) c.source.state) _ (refused NotFound) (gone k))
 
   -- ---- the duration
 
-  change_by : (b : Bool) (x y : Answered Changed SourceState) → IsPlacing c (changed_moved_by [] x c) → IsPlacing c (changed_moved_by [] y c) → IsPlacing c (changed_moved_by [] (cond b x y) c)
+  change_by : (b : Bool) (x y : Answered Changed SourceState) → IsPlacing c (changed_effect_by [] x c) → IsPlacing c (changed_effect_by [] y c) → IsPlacing c (changed_effect_by [] (cond b x y) c)
   change_by true x y h k = h
   change_by false x y h k = k
 
@@ -220,20 +220,20 @@ module _ (law : AreInside) (c : Core) (none : AreUntracked c.source.state.durati
     above = h.inside.0;
   }
 
-  changed_to : (d : Moment) → is_nan d ≡ false → is_after (pos 0) d ≡ false → IsPlacing c (changed_moved_by [] (answering (changed.To d) (record c.source.state { duration = d })) c)
+  changed_to : (d : Moment) → is_nan d ≡ false → is_after (pos 0) d ≡ false → IsPlacing c (changed_effect_by [] (answering (changed.To d) (record c.source.state { duration = d })) c)
   changed_to d named lasting = record {
     untracked = λ n. absurd (cc);
     placed = λ o h f.
-        let v : CoreView = core_view (changed_moved_by [] (answering (changed.To d) (record c.source.state { duration = d })) c).core in
+        let v : CoreView = core_view (changed_effect_by [] (answering (changed.To d) (record c.source.state { duration = d })) c).core in
         placed_settled v (after_signals v (DurationChanged d ∷ []) (element_in v.source.error o))
         (placed_fall law d v (player_of v.source.error o.element) f refl (above (record c.source.state { duration = d }) o h named lasting refl));
   }
 
-  same_duration : IsPlacing c (changed_moved_by [] (answering changed.Same c.source.state) c)
-  same_duration = moved c.source.state [] refl (λ x. x) tt
+  same_duration : IsPlacing c (changed_effect_by [] (answering changed.Same c.source.state) c)
+  same_duration = effect c.source.state [] refl (λ x. x) tt
 
   set_by : (b : Bool) (d : Moment) → (is_nan d || is_after (pos 0) d) ≡ b
-      → IsPlacing c (changed_moved_by [] (cond b (answering (changed.Refused TypeError) c.source.state)
+      → IsPlacing c (changed_effect_by [] (cond b (answering (changed.Refused TypeError) c.source.state)
       (cond (not (is_open c.source.state.ready)) (answering (changed.Refused InvalidState) c.source.state)
       (cond (all_in c).updating (answering (changed.Refused InvalidState) c.source.state)
       (cond (same_moment d c.source.state.duration) (answering changed.Same c.source.state)
@@ -250,32 +250,32 @@ module _ (law : AreInside) (c : Core) (none : AreUntracked c.source.state.durati
       (change_by (has_frame_after (all_in c).highest_start d) (answering (changed.Refused InvalidState) c.source.state) _ (refused InvalidState)
       (change_by (same_moment past c.source.state.duration) (answering changed.Same c.source.state) (answering (changed.To past) (record c.source.state { duration = past })) same_duration (changed_to past fine.0 fine.1)))))
 
-  set_duration : (d : Moment) → IsPlacing c (set_duration_moved d c)
+  set_duration : (d : Moment) → IsPlacing c (set_duration_effect d c)
   set_duration d = set_by (is_nan d || is_after (pos 0) d) d refl
 
   -- ---- the end
 
   -- with an error, or to the duration that there is
-  ended_same : (end : EndKind) → IsPlacing c (with_end_error end (changed_moved_by (Tell (ended_event ∷ []) ∷ []) (answering changed.Same (in_ready Ended c.source.state)) c))
-  ended_same end = carried (with_end_error end (changed_moved_by (Tell (ended_event ∷ []) ∷ []) (answering changed.Same (in_ready Ended c.source.state)) c)) none (raised_same c.source.state.duration) (λ x. x) (tt, (tt, tt))
+  ended_same : (end : EndKind) → IsPlacing c (with_end_error end (changed_effect_by (Tell (ended_event ∷ []) ∷ []) (answering changed.Same (in_ready Ended c.source.state)) c))
+  ended_same end = carried (with_end_error end (changed_effect_by (Tell (ended_event ∷ []) ∷ []) (answering changed.Same (in_ready Ended c.source.state)) c)) none (raised_same c.source.state.duration) (λ x. x) (tt, (tt, tt))
 
-  ended_at : (d : Moment) → is_nan d ≡ false → (HasFrames (core_view (with_end_error Plain (changed_moved_by (Tell (ended_event ∷ []) ∷ []) (answering (changed.To d) (record (in_ready Ended c.source.state) { duration = d })) c)).core) → is_after (pos 0) d ≡ false)
-      → IsPlacing c (with_end_error Plain (changed_moved_by (Tell (ended_event ∷ []) ∷ []) (answering (changed.To d) (record (in_ready Ended c.source.state) { duration = d })) c))
+  ended_at : (d : Moment) → is_nan d ≡ false → (HasFrames (core_view (with_end_error Plain (changed_effect_by (Tell (ended_event ∷ []) ∷ []) (answering (changed.To d) (record (in_ready Ended c.source.state) { duration = d })) c)).core) → is_after (pos 0) d ≡ false)
+      → IsPlacing c (with_end_error Plain (changed_effect_by (Tell (ended_event ∷ []) ∷ []) (answering (changed.To d) (record (in_ready Ended c.source.state) { duration = d })) c))
   ended_at d named lasting = record {
     untracked = λ n. absurd (cc);
     placed = λ o h f.
-        let m : Moved = with_end_error Plain (changed_moved_by (Tell (ended_event ∷ []) ∷ []) (answering (changed.To d) (record (in_ready Ended c.source.state) { duration = d })) c) in
+        let m : CoreEffect = with_end_error Plain (changed_effect_by (Tell (ended_event ∷ []) ∷ []) (answering (changed.To d) (record (in_ready Ended c.source.state) { duration = d })) c) in
         let v : CoreView = core_view m.core in
         placed_settled v (after_signals v m.signals (element_in v.source.error o))
         (placed_fall law d v (player_of v.source.error o.element) f refl (above (record (in_ready Ended c.source.state) { duration = d }) o h named (lasting f) refl));
   }
 
-  end_by : (b : Bool) (x y : Answered Changed SourceState) → IsPlacing c (with_end_error Plain (changed_moved_by (Tell (ended_event ∷ []) ∷ []) x c)) → IsPlacing c (with_end_error Plain (changed_moved_by (Tell (ended_event ∷ []) ∷ []) y c))
-      → IsPlacing c (with_end_error Plain (changed_moved_by (Tell (ended_event ∷ []) ∷ []) (cond b x y) c))
+  end_by : (b : Bool) (x y : Answered Changed SourceState) → IsPlacing c (with_end_error Plain (changed_effect_by (Tell (ended_event ∷ []) ∷ []) x c)) → IsPlacing c (with_end_error Plain (changed_effect_by (Tell (ended_event ∷ []) ∷ []) y c))
+      → IsPlacing c (with_end_error Plain (changed_effect_by (Tell (ended_event ∷ []) ∷ []) (cond b x y) c))
   end_by true x y h k = h
   end_by false x y h k = k
 
-  ended_by : (end : EndKind) → IsPlacing c (end_moved_by None end c)
+  ended_by : (end : EndKind) → IsPlacing c (end_effect_by None end c)
   ended_by Plain =
       let d : Moment = At (unwrap_or (all_in c).highest_end (pos 0)) in
       end_by (same_moment d c.source.state.duration) (answering changed.Same (in_ready Ended c.source.state)) (answering (changed.To d) (record (in_ready Ended c.source.state) { duration = d })) (ended_same Plain)
@@ -283,29 +283,29 @@ module _ (law : AreInside) (c : Core) (none : AreUntracked c.source.state.durati
   ended_by Network = ended_same Network
   ended_by Decode = ended_same Decode
 
-  end_of : (o : Option Name) (end : EndKind) → IsPlacing c (end_moved_by o end c)
+  end_of : (o : Option Name) (end : EndKind) → IsPlacing c (end_effect_by o end c)
   end_of None end = ended_by end
   end_of (Some name) end = refused name
 
   -- ---- calls on a buffer
 
-  replied : (k : ℕ) (r : BuffersResult) → AreTimelyBuffers c.source.state.duration r → IsPlacing c (reply_moved k r c)
-  replied k r t = carried (reply_moved k r c) t.untracked t.raised (λ x. x) (reply_heard (core_view (reply_moved k r c).core) k r.reply c.source t.received)
+  replied : (k : ℕ) (r : BuffersResult) → AreTimelyBuffers c.source.state.duration r → IsPlacing c (reply_effect k r c)
+  replied k r t = carried (reply_effect k r c) t.untracked t.raised (λ x. x) (reply_heard (core_view (reply_effect k r c).core) k r.reply c.source t.received)
 
-  on_buffer : (k : ℕ) (call : Surroundings → Feed → Content → CallResult) → AreTimely (surroundings_in k c.source) call → IsPlacing c (buffer_moved k call c)
+  on_buffer : (k : ℕ) (call : Surroundings → Feed → Content → CallResult) → AreTimely (surroundings_in k c.source) call → IsPlacing c (buffer_effect k call c)
   on_buffer k call t = replied k _ (call-timely k InvalidState (surroundings_in k c.source) call c.buffers t none)
 
-  append_of : (o : Option (List ℕ)) (k : ℕ) (position : ℤ) → IsPlacing c (append_moved_of o k position c)
+  append_of : (o : Option (List ℕ)) (k : ℕ) (position : ℤ) → IsPlacing c (append_effect_of o k position c)
   append_of None k position = refused _
   append_of (Some bytes) k position = on_buffer k (append_result (record { bytes = bytes; position = position; quota = c.source.quota })) (append_timely bytes position c.source.quota (surroundings_in k c.source))
 
-  read_slot : (o : Option BufferState) → IsPlacing c (read_slot_moved o c)
+  read_slot : (o : Option BufferState) → IsPlacing c (read_slot_effect o c)
   read_slot None = refused InvalidState
   read_slot (Some b) = still
 
   -- ---- all calls
 
-  of_call : (blobs : List (List ℕ)) (position : ℤ) (x : Call) → IsPlacing c (call_moved blobs position x c)
+  of_call : (blobs : List (List ℕ)) (position : ℤ) (x : Call) → IsPlacing c (core_effect blobs position x c)
   of_call blobs position call.Attach = attach
   of_call blobs position (call.AddSourceBuffer text) = add_of (type_of text)
   of_call blobs position (call.RemoveSourceBuffer k) = remove k
@@ -336,19 +336,19 @@ module _ (law : AreInside) (st : State) (h : IsPlacedState st) (f : HasFrames (c
   settled : (o : Outer) → IsPlaced st.core.source.state o.element → IsPlacedState (step st.core [] o)
   settled o k = record { placed = placed_settled (core_view st.core) (element_in st.core.source.error o) k; untracked = h.untracked }
 
-  seeks : (t : Moment) → IsPlaced st.core.source.state (seek_acting t (core_view st.core) st.outer).state.element
+  seeks : (t : Moment) → IsPlaced st.core.source.state (seek_effect t (core_view st.core) st.outer).state.element
   seeks Nan = h.placed
   seeks (At t) = placed_seek law (core_view st.core) (player_of st.core.source.error st.outer.element) f h.placed t
   seeks Infinite = h.placed
 
-  advances : (t : Moment) → IsPlaced st.core.source.state (advance_acting t (core_view st.core) st.outer).state.element
+  advances : (t : Moment) → IsPlaced st.core.source.state (advance_effect t (core_view st.core) st.outer).state.element
   advances Nan = h.placed
   advances (At t) = placed_advance law (core_view st.core) (player_of st.core.source.error st.outer.element) f h.placed t
   advances Infinite = h.placed
 
 -- a call that the element does not act by
-behind : AreInside → (blobs : List (List ℕ)) (x : Call) (st : State) → IsPlacedState st → HasFrames (core_view (call_moved blobs st.outer.element.position x st.core).core)
-    → IsPlacedState (step (call_moved blobs st.outer.element.position x st.core).core (call_moved blobs st.outer.element.position x st.core).signals st.outer)
+behind : AreInside → (blobs : List (List ℕ)) (x : Call) (st : State) → IsPlacedState st → HasFrames (core_view (core_effect blobs st.outer.element.position x st.core).core)
+    → IsPlacedState (step (core_effect blobs st.outer.element.position x st.core).core (core_effect blobs st.outer.element.position x st.core).signals st.outer)
 behind law blobs x st h f =
     let all = of_call law st.core h.untracked blobs st.outer.element.position x in
     record { placed = all.placed st.outer h.placed f; untracked = all.untracked }
@@ -380,10 +380,10 @@ call-placed law blobs call.ElementBuffered st h f = behind law blobs call.Elemen
 call-placed law blobs call.Seekable st h f = behind law blobs call.Seekable st h f
 
 work_by : AreInside → (o : Option BuffersResult) (k : ℕ) (st new : State) → ((r : BuffersResult) → o ≡ Some r → AreTimelyBuffers st.core.source.state.duration r) → IsPlacedState st → HasFrames (core_view new.core)
-    → work_result (option_map (λ result. reply_moved k result st.core) o) st ≡ Some new → IsPlacedState new
+    → work_result (option_map (λ result. reply_effect k result st.core) o) st ≡ Some new → IsPlacedState new
 work_by law None k st new t h f e = absurd (cc)
 work_by law (Some r) k st new t h f e =
-    let m : Moved = reply_moved k r st.core in
+    let m : CoreEffect = reply_effect k r st.core in
     let same : step m.core m.signals st.outer ≡ new = cc in
     let all = replied law st.core h.untracked k r (t r refl) in
     let frames : HasFrames (core_view m.core) = subst (λ (s : State). HasFrames (core_view s.core)) (sym same) f in

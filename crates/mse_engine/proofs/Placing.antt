@@ -20,7 +20,7 @@ use Rattle.element_seek.specs.Seeking.{in_media, after_seek_in, after_seek, afte
 use Rattle.element_seek.specs.Playing.{after_rewind, after_unpause, after_play, after_pause, plays_on, after_time_in, after_time, after_advance}
 use Rattle.element_seek.specs.Turns.{is_seek_done, is_end_due, after_turn}
 use Rattle.media_element.specs.State.{ElementState}
-use Rattle.media_element.specs.DurationChange.{after_seek_to, after_fall}
+use Rattle.media_element.specs.DurationChange.{after_seek_to, after_end_seek}
 use Rattle.media_element.proofs.Reach.{SeekStaysInside, reached}
 use Rattle.mse_engine.specs.State.{Element, element_of}
 use Rattle.mse_engine.specs.Scenes.{CoreView, scene_at}
@@ -193,7 +193,7 @@ fall_else : (m b : Bool) (d : ℤ) (scene : Scene) (p : PlayerState) → m ≡ f
 fall_else true b d scene p e = absurd (cc)
 fall_else false b d scene p e = refl
 
-fall_still : (d : Moment) (scene : Scene) (p : PlayerState) → has_metadata p.level ≡ false → (after_fall d scene p).state.position ≡ p.position
+fall_still : (d : Moment) (scene : Scene) (p : PlayerState) → has_metadata p.level ≡ false → (after_end_seek d scene p).state.position ≡ p.position
 fall_still Nan scene p b = refl
 fall_still (At d) scene p b = fall_else (has_metadata p.level) (int_lt d p.position) d scene p b
 fall_still Infinite scene p b = refl
@@ -207,7 +207,7 @@ some_sought (At d) x live first last e = refl
 some_sought Infinite x live first last e = absurd (cc)
 
 fall_inside : AreInside → (b : Bool) (d : Moment) (v : CoreView) (p : PlayerState) → HasFrames v → has_metadata p.level ≡ b → d ≡ v.source.state.duration → IsAbove v.source.state (element_of p)
-    → IsInside v.source.state.duration (after_fall d (scene_at p.position v) p).state.position
+    → IsInside v.source.state.duration (after_end_seek d (scene_at p.position v) p).state.position
 fall_inside law false d v p f b same h =
     let scene = scene_at p.position v in
     let still = fall_still d scene p b in
@@ -217,15 +217,15 @@ fall_inside law true (At d) v p f b same h =
     let scene = scene_at p.position v in
     let spans = spans-inside p.position v f.sound f.within h.lasting h.live in
     let sought : IsSome scene.seekable = some_sought v.source.state.duration d v.source.state.live _ _ (sym same) in
-    subst (λ (m : Moment). IsInside m (after_fall (At d) scene p).state.position) same
+    subst (λ (m : Moment). IsInside m (after_end_seek (At d) scene p).state.position) same
     (reached law.seek (At d) scene p (record { same = same; spans = spans; sought = sought; metadata = b; start = h.above }))
 fall_inside law true Infinite v p f b same h = subst (λ (m : Moment). IsInside m p.position) same (h.above, refl)
 
 pub placed_fall : AreInside → (d : Moment) (v : CoreView) (p : PlayerState) → HasFrames v → d ≡ v.source.state.duration → IsAbove v.source.state (element_of p)
-    → IsPlaced v.source.state (element_of (after_fall d (scene_at p.position v) p).state)
+    → IsPlaced v.source.state (element_of (after_end_seek d (scene_at p.position v) p).state)
 placed_fall law d v p f same h =
     let scene = scene_at p.position v in
-    let level : has_metadata (after_fall d scene p).state.level ≡ has_metadata p.level = ap has_metadata (in_fall d scene p).level in
+    let level : has_metadata (after_end_seek d scene p).state.level ≡ has_metadata p.level = ap has_metadata (in_fall d scene p).level in
     record {
       lasting = h.lasting;
       live = h.live;

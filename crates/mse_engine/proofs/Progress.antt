@@ -7,7 +7,7 @@ use Rattle.mse_calls.specs.declared.events.Event.{Event}
 use Rattle.byte_stream.specs.Readings.{ByteItem, items_in}
 use Rattle.buffer_state.specs.declared.running.Running.{Running}
 use Rattle.buffer_state.specs.declared.running.Running.TheVariants.{Nothing, Append, Removal}
-use Rattle.buffer_state.specs.State.{Feed, Content, Surroundings, feed_after_item, next_item}
+use Rattle.buffer_state.specs.State.{Feed, Content, Surroundings, feed_after, next_item}
 use Rattle.buffer_state.specs.Replies.{CallResult}
 use Rattle.buffer_state.specs.Turns.{ItemResult, Done, AppendError, item_result, item_turn_result, append_turn_result, turn_result_by_work, turn_result}
 use Rattle.source_buffers.specs.State.{BufferState, BufferStates}
@@ -19,7 +19,7 @@ use Rattle.mse_engine.specs.State.{State, outer_of, element_in}
 use Rattle.mse_engine.specs.Scenes.{CoreView, core_view, scene_at}
 use Rattle.mse_engine.specs.Signals.{step}
 use Rattle.mse_engine.specs.Replies.{surroundings_in}
-use Rattle.mse_engine.specs.BufferCalls.{reply_moved}
+use Rattle.mse_engine.specs.BufferCalls.{reply_effect}
 use Rattle.mse_engine.specs.Work.{work_result, after_work, after_element_turn, due_in, player_in, scene_in, without_first, fire_result}
 use Rattle.mse_engine.specs.Progress.{work_left_by, slot_work_left, work_left, turns_left, steps_left, IsOneEventLess}
 
@@ -39,19 +39,19 @@ length-left n xs y e =
 abbrev left_behind : CallResult → ℕ
 left_behind r = work_left_by r.feed.running r.feed
 
-item_fewer : (t : ItemResult) (a : Surroundings) (f : Feed) → f.running ≡ Append
+item_fewer : (x : ByteItem) (t : ItemResult) (a : Surroundings) (f : Feed) → f.running ≡ Append
     → length (drop f.reading.taken (items_in f.reading)) ≡ suc (length (drop (f.reading.taken + 1) (items_in f.reading)))
-    → left_behind (item_turn_result t a f) < suc (length (drop f.reading.taken (items_in f.reading)))
-item_fewer (Done c e) a f r l =
-    let here : work_left_by f.running (feed_after_item f) ≡ suc (length (drop (f.reading.taken + 1) (items_in f.reading))) = ap (λ x. work_left_by x (feed_after_item f)) r in
+    → left_behind (item_turn_result x t a f) < suc (length (drop f.reading.taken (items_in f.reading)))
+item_fewer x (Done c e) a f r l =
+    let here : work_left_by f.running (feed_after (Some x) f) ≡ suc (length (drop (f.reading.taken + 1) (items_in f.reading))) = ap (λ w. work_left_by w (feed_after (Some x) f)) r in
     omega (arith, here, l)
-item_fewer (AppendError fault at c e) a f r l = omega arith
+item_fewer x (AppendError fault at c e) a f r l = omega arith
 
 append_fewer : (x : Option ByteItem) (a : Surroundings) (f : Feed) (c : Content) → f.running ≡ Append → next_item f ≡ x
     → left_behind (append_turn_result x a f c) < suc (length (drop f.reading.taken (items_in f.reading)))
 append_fewer None a f c r e = omega arith
 append_fewer (Some x) a f c r e =
-    item_fewer (item_result x c a.duration) a f r (length-left f.reading.taken (items_in f.reading) x e)
+    item_fewer x (item_result x c a.duration) a f r (length-left f.reading.taken (items_in f.reading) x e)
 
 by_work : (r : Running) (a : Surroundings) (f : Feed) (c : Content) (new : CallResult) → f.running ≡ r → turn_result_by_work r a f c ≡ Some new → left_behind new < work_left_by r f
 by_work Nothing a f c new r e = absurd (cc)
@@ -124,10 +124,10 @@ fewer_by new st less =
     let most = turns-most new.outer.element.seeking new.outer.element.finished in
     omega (arith, less, most)
 
-by_moved : (o : Option BuffersResult) (k : ℕ) (st new : State) → ((r : BuffersResult) → o ≡ Some r → work_left r.buffers < work_left st.core.buffers)
-    → work_result (option_map (λ result. reply_moved k result st.core) o) st ≡ Some new → steps_left new < steps_left st
-by_moved None k st new f e = absurd (cc)
-by_moved (Some r) k st new f e =
+by_effect : (o : Option BuffersResult) (k : ℕ) (st new : State) → ((r : BuffersResult) → o ≡ Some r → work_left r.buffers < work_left st.core.buffers)
+    → work_result (option_map (λ result. reply_effect k result st.core) o) st ≡ Some new → steps_left new < steps_left st
+by_effect None k st new f e = absurd (cc)
+by_effect (Some r) k st new f e =
     let same : r.buffers ≡ new.core.buffers = ap (λ (o : Option State). buffers_in o) e in
     fewer_by new st (subst (λ (x : BufferStates). work_left x < work_left st.core.buffers) same (f r refl))
   where
@@ -136,7 +136,7 @@ by_moved (Some r) k st new f e =
     buffers_in (Some x) = x.core.buffers
 
 pub work-fewer : (k : ℕ) (st new : State) → after_work k st ≡ Some new → steps_left new < steps_left st
-work-fewer k st new e = by_moved (buffers_turn k (surroundings_in k st.core.source) st.core.buffers) k st new (λ r is. buffers-fewer k (surroundings_in k st.core.source) st.core.buffers r is) e
+work-fewer k st new e = by_effect (buffers_turn k (surroundings_in k st.core.source) st.core.buffers) k st new (λ r is. buffers-fewer k (surroundings_in k st.core.source) st.core.buffers r is) e
 
 -- ---- a turn of the element
 

@@ -39,7 +39,8 @@ use Rattle.track_buffers.specs.Settings.{with_window_start, with_window_end}
 use Rattle.track_buffers.specs.Frames.{flush_result}
 use Rattle.buffer_state.specs.declared.running.Running.TheVariants.{Removal}
 use Rattle.buffer_state.specs.State.{Feed, Content, Surroundings, is_updating, feed_running, ready_in}
-use Rattle.buffer_state.specs.Replies.{CallResult, event_reply, refused_result, reopens, result_with}
+use Rattle.mse_calls.specs.Ready.{is_ended}
+use Rattle.buffer_state.specs.Replies.{CallResult, event_reply, refused_result, result_with}
 use Rattle.buffer_state.specs.Calls.{abort_refusal, abort_result, abort_result_after_flush, append_refusal, change_type_refusal, change_type_refusal_by_answer, change_type_result, change_type_result_after_flush, change_type_result_by_answer, offset_refusal, remove_refusal, remove_result, settings_result, unless_refused, window_end_refusal, window_end_result, window_start_refusal, window_start_result}
 use Rattle.source_buffers.specs.State.{BufferState, BufferStates, KeptBuffers, AllStand, in_slot, all_kept_media, all_kept_running}
 use Rattle.source_buffers.specs.All.{all_buffers}
@@ -49,13 +50,13 @@ use Rattle.mse_engine.specs.State.{CoreSource, Core, State}
 use Rattle.mse_engine.specs.Scenes.{core_view}
 use Rattle.mse_engine.specs.Signals.{Signal, Tell}
 use Rattle.mse_engine.specs.Replies.{surroundings_in}
-use Rattle.mse_engine.specs.Moved.{Moved, refused_moved, if_finite, if_made}
-use Rattle.mse_engine.specs.SourceCalls.{add_moved, add_moved_of, added_moved, all_in, answered_by, changed_moved, end_moved, end_moved_by, from_source, remove_moved, remove_moved_by, removed_moved, set_duration_moved, set_live_moved}
-use Rattle.mse_engine.specs.BufferCalls.{abort_moved, buffer_moved, change_type_moved, remove_frames_moved, reply_moved, window_end_moved, window_start_moved}
-use Rattle.mse_engine.specs.Calls.{play_acting, read_moved, read_slot_moved, refused_or}
+use Rattle.mse_engine.specs.CoreEffects.{CoreEffect, refused_effect, if_finite, if_made}
+use Rattle.mse_engine.specs.SourceCalls.{add_effect, add_effect_of, added_effect, all_in, answered_by, changed_effect, end_effect, end_effect_by, from_source, remove_effect, remove_effect_by, removed_effect, set_duration_effect, set_live_effect}
+use Rattle.mse_engine.specs.BufferCalls.{abort_effect, buffer_effect, change_type_effect, remove_frames_effect, reply_effect, window_end_effect, window_start_effect}
+use Rattle.mse_engine.specs.Calls.{play_effect, read_effect, read_slot_effect, refused_or}
 use Rattle.mse_engine.specs.Work.{player_in, scene_in}
 use Rattle.mse_engine.specs.Refusals.{append_call_refusal, offset_call_refusal, refusal_if_finite, refusal_if_there, refused_name}
-use Rattle.mse_engine.specs.Standing.{Kept, Stands, core_source}
+use Rattle.mse_engine.specs.Standing.{KeptEngine, Stands, core_source}
 
 -- ---- the name of an answer
 
@@ -64,19 +65,19 @@ pub named : (o : Option Name) (a : Answer) → refused_name a ≡ None → refus
 named None a none = none
 named (Some name) a none = refl
 
-pub by_moved : (o p : Option Name) → o ≡ p → o ≡ refused_name (refused_or p answer.Done)
-by_moved o p is = is ∙ sym (named p answer.Done refl)
+pub by_effect : (o p : Option Name) → o ≡ p → o ≡ refused_name (refused_or p answer.Done)
+by_effect o p is = is ∙ sym (named p answer.Done refl)
 
-pub made_or : (b : Bool) (m n : Moved) (o p : Option Name) → m.refused ≡ o → n.refused ≡ p → (cond b m n).refused ≡ cond b o p
+pub made_or : (b : Bool) (m n : CoreEffect) (o p : Option Name) → m.refused ≡ o → n.refused ≡ p → (cond b m n).refused ≡ cond b o p
 made_or true m n o p e f = e
 made_or false m n o p e f = f
 
 -- ---- what is stood for
 
-pub same_state : (x : Kept) (st : State) → Stands x st → st.core.source.state ≡ x.side.state
+pub same_state : (x : KeptEngine) (st : State) → Stands x st → st.core.source.state ≡ x.side.state
 same_state x st h = sym (ap (λ (s : CoreSource). s.state) h.source)
 
-pub same_all : (x : Kept) (st : State) → Stands x st → all_buffers (all_kept_running x.buffers) (all_kept_media x.buffers) ≡ all_in st.core
+pub same_all : (x : KeptEngine) (st : State) → Stands x st → all_buffers (all_kept_running x.buffers) (all_kept_media x.buffers) ≡ all_in st.core
 same_all x st h =
     let running = same_running x.buffers st.core.buffers h.buffers in
     let media = same_media x.buffers st.core.buffers h.buffers in
@@ -85,7 +86,7 @@ same_all x st h =
 pub same_made : (k : ℕ) (ks : KeptBuffers) (bs : BufferStates) → AllStand ks bs → nat_lt k (length ks) ≡ nat_lt k (length bs)
 same_made k ks bs all = ap (nat_lt k) (same_length ks bs all)
 
-pub same_surroundings : (k : ℕ) (x : Kept) (st : State) (a : Surroundings) → a ≡ surroundings_in k (core_source x.side x.element) → Stands x st → a ≡ surroundings_in k st.core.source
+pub same_surroundings : (k : ℕ) (x : KeptEngine) (st : State) (a : Surroundings) → a ≡ surroundings_in k (core_source x.side x.element) → Stands x st → a ≡ surroundings_in k st.core.source
 same_surroundings k x st a is h = is ∙ ap (surroundings_in k) h.source
 
 -- ---- calls on the source
@@ -97,34 +98,34 @@ answered_name (Some name) s signals c = refl
 pub plain_name : (call : SourceState → Answered (Option Name) SourceState) (s : SourceState) (signals : List Signal) (c : Core) → c.source.state ≡ s → (call s).answer ≡ (from_source (call c.source.state) signals c).refused
 plain_name call s signals c same = ap (λ (x : SourceState). (call x).answer) (sym same) ∙ sym (answered_name (call c.source.state).answer (call c.source.state).state signals c)
 
-added_name : (container : Container) (a : Added) (s : SourceState) (c : Core) → (added_moved container a s c).refused ≡ add_name a
+added_name : (container : Container) (a : Added) (s : SourceState) (c : Core) → (added_effect container a s c).refused ≡ add_name a
 added_name container (added.Number k) s c = refl
 added_name container (added.Refused name) s c = refl
 
-pub type_name : (text : List ℕ) (t : TypeAnswer) (c : Core) (o : Option Name) → type_of text ≡ t → o ≡ (add_moved_of t c).refused → o ≡ (add_moved text c).refused
-type_name text t c o is told = told ∙ ap (λ (x : TypeAnswer). (add_moved_of x c).refused) (sym is)
+pub type_name : (text : List ℕ) (t : TypeAnswer) (c : Core) (o : Option Name) → type_of text ≡ t → o ≡ (add_effect_of t c).refused → o ≡ (add_effect text c).refused
+type_name text t c o is told = told ∙ ap (λ (x : TypeAnswer). (add_effect_of x c).refused) (sym is)
 
-pub supported_name : (container : Container) (s : SourceState) (c : Core) (o : Option Name) → c.source.state ≡ s → o ≡ add_name (after_add_buffer s).answer → o ≡ (add_moved_of (Supported container) c).refused
+pub supported_name : (container : Container) (s : SourceState) (c : Core) (o : Option Name) → c.source.state ≡ s → o ≡ add_name (after_add_buffer s).answer → o ≡ (add_effect_of (Supported container) c).refused
 supported_name container s c o same told = told ∙ ap (λ (x : SourceState). add_name (after_add_buffer x).answer) (sym same) ∙ sym (added_name container (after_add_buffer c.source.state).answer (after_add_buffer c.source.state).state c)
 
-removed_name : (k : ℕ) (result : BuffersResult) (a : Removed) (s : SourceState) (c : Core) → (removed_moved k result a s c).refused ≡ remove_name a
+removed_name : (k : ℕ) (result : BuffersResult) (a : Removed) (s : SourceState) (c : Core) → (removed_effect k result a s c).refused ≡ remove_name a
 removed_name k result (removed.Gone active) s c = refl
 removed_name k result (removed.Refused name) s c = refl
 
-pub removal_name : (k : ℕ) (x : Kept) (st : State) → Stands x st → cond (nat_lt k (length x.buffers)) (remove_name (after_remove_buffer k x.side.state).answer) (Some NoSuchBuffer) ≡ (remove_moved k st.core).refused
+pub removal_name : (k : ℕ) (x : KeptEngine) (st : State) → Stands x st → cond (nat_lt k (length x.buffers)) (remove_name (after_remove_buffer k x.side.state).answer) (Some NoSuchBuffer) ≡ (remove_effect k st.core).refused
 removal_name k x st h =
     let made = same_made k x.buffers st.core.buffers h.buffers in
     let state = sym (same_state x st h) in
     let a = after_remove_buffer k st.core.source.state in
     let there : cond (nat_lt k (length x.buffers)) (remove_name (after_remove_buffer k x.side.state).answer) (Some NoSuchBuffer) ≡ cond (nat_lt k (length st.core.buffers)) (remove_name a.answer) (Some NoSuchBuffer) = (λ i. cond (made i) (remove_name (after_remove_buffer k (state i)).answer) (Some NoSuchBuffer)) in
-    there ∙ sym (made_or (nat_lt k (length st.core.buffers)) (remove_moved_by k a st.core) (refused_moved NoSuchBuffer st.core) (remove_name a.answer) (Some NoSuchBuffer) (removed_name k (removal_result k (surroundings_in k st.core.source) st.core.buffers) a.answer a.state st.core) refl)
+    there ∙ sym (made_or (nat_lt k (length st.core.buffers)) (remove_effect_by k a st.core) (refused_effect NoSuchBuffer st.core) (remove_name a.answer) (Some NoSuchBuffer) (removed_name k (removal_result k (surroundings_in k st.core.source) st.core.buffers) a.answer a.state st.core) refl)
 
-changed_name : (first : List Signal) (a : Changed) (s : SourceState) (c : Core) → (changed_moved first a s c).refused ≡ duration_name a
+changed_name : (first : List Signal) (a : Changed) (s : SourceState) (c : Core) → (changed_effect first a s c).refused ≡ duration_name a
 changed_name first changed.Same s c = refl
 changed_name first (changed.To d) s c = refl
 changed_name first (changed.Refused name) s c = refl
 
-pub set_duration_name : (d : Moment) (x : Kept) (st : State) → Stands x st → duration_name (after_set_duration d (all_buffers (all_kept_running x.buffers) (all_kept_media x.buffers)) x.side.state).answer ≡ (set_duration_moved d st.core).refused
+pub set_duration_name : (d : Moment) (x : KeptEngine) (st : State) → Stands x st → duration_name (after_set_duration d (all_buffers (all_kept_running x.buffers) (all_kept_media x.buffers)) x.side.state).answer ≡ (set_duration_effect d st.core).refused
 set_duration_name d x st h =
     let all = same_all x st h in
     let state = sym (same_state x st h) in
@@ -145,34 +146,34 @@ never_refused Plain highest s =
 never_refused Network highest s = refl
 never_refused Decode highest s = refl
 
-pub end_name_by : (o : Option Name) (end : EndKind) (c : Core) → (end_moved_by o end c).refused ≡ o
+pub end_name_by : (o : Option Name) (end : EndKind) (c : Core) → (end_effect_by o end c).refused ≡ o
 end_name_by None end c =
     let a = after_end end (all_in c).highest_end c.source.state in
     changed_name (Tell (queueing.event_at target.Source kind.SourceEnded ∷ []) ∷ []) a.answer a.state c ∙ never_refused end (all_in c).highest_end c.source.state
 end_name_by (Some name) end c = refl
 
-pub end_name : (end : EndKind) (x : Kept) (st : State) → Stands x st → end_refusal (all_buffers (all_kept_running x.buffers) (all_kept_media x.buffers)).updating x.side.state ≡ (end_moved end st.core).refused
+pub end_name : (end : EndKind) (x : KeptEngine) (st : State) → Stands x st → end_refusal (all_buffers (all_kept_running x.buffers) (all_kept_media x.buffers)).updating x.side.state ≡ (end_effect end st.core).refused
 end_name end x st h =
     let all = same_all x st h in
     let state = sym (same_state x st h) in
     let there : end_refusal (all_buffers (all_kept_running x.buffers) (all_kept_media x.buffers)).updating x.side.state ≡ end_refusal (all_in st.core).updating st.core.source.state = (λ i. end_refusal (all i).updating (state i)) in
     there ∙ sym (end_name_by (end_refusal (all_in st.core).updating st.core.source.state) end st.core)
 
-pub live_name : (start end : Moment) (a b : ℤ) (s : SourceState) (c : Core) (o : Option Name) → start ≡ At a → end ≡ At b → c.source.state ≡ s → o ≡ (after_set_live a b s).answer → o ≡ (set_live_moved start end c).refused
-live_name start end a b s c o starts ends same told = told ∙ plain_name (after_set_live a b) s [] c same ∙ (λ i. (set_live_moved (sym starts i) (sym ends i) c).refused)
+pub live_name : (start end : Moment) (a b : ℤ) (s : SourceState) (c : Core) (o : Option Name) → start ≡ At a → end ≡ At b → c.source.state ≡ s → o ≡ (after_set_live a b s).answer → o ≡ (set_live_effect start end c).refused
+live_name start end a b s c o starts ends same told = told ∙ plain_name (after_set_live a b) s [] c same ∙ (λ i. (set_live_effect (sym starts i) (sym ends i) c).refused)
 
-moved_unless : (t : Moment) (call : ℤ → Moved) (c : Core) → ((u : ℤ) → t ≡ At u → ⊥) → (if_finite t call c).refused ≡ Some TypeError
-moved_unless Nan call c never = refl
-moved_unless (At u) call c never = absurd (never u refl)
-moved_unless Infinite call c never = refl
+effect_unless : (t : Moment) (call : ℤ → CoreEffect) (c : Core) → ((u : ℤ) → t ≡ At u → ⊥) → (if_finite t call c).refused ≡ Some TypeError
+effect_unless Nan call c never = refl
+effect_unless (At u) call c never = absurd (never u refl)
+effect_unless Infinite call c never = refl
 
 -- a start that is no time
-pub live_unless : (start end : Moment) (c : Core) → ((u : ℤ) → start ≡ At u → ⊥) → Some TypeError ≡ (set_live_moved start end c).refused
-live_unless start end c never = sym (moved_unless start (λ a. if_finite end (λ b. from_source (after_set_live a b c.source.state) [] c) c) c never)
+pub live_unless : (start end : Moment) (c : Core) → ((u : ℤ) → start ≡ At u → ⊥) → Some TypeError ≡ (set_live_effect start end c).refused
+live_unless start end c never = sym (effect_unless start (λ a. if_finite end (λ b. from_source (after_set_live a b c.source.state) [] c) c) c never)
 
 -- an end that is no time
-pub live_endless : (start end : Moment) (a : ℤ) (c : Core) → start ≡ At a → ((u : ℤ) → end ≡ At u → ⊥) → Some TypeError ≡ (set_live_moved start end c).refused
-live_endless start end a c starts never = sym (moved_unless end (λ b. from_source (after_set_live a b c.source.state) [] c) c never) ∙ ap (λ (t : Moment). (set_live_moved t end c).refused) (sym starts)
+pub live_endless : (start end : Moment) (a : ℤ) (c : Core) → start ≡ At a → ((u : ℤ) → end ≡ At u → ⊥) → Some TypeError ≡ (set_live_effect start end c).refused
+live_endless start end a c starts never = sym (effect_unless end (λ b. from_source (after_set_live a b c.source.state) [] c) c never) ∙ ap (λ (t : Moment). (set_live_effect t end c).refused) (sym starts)
 
 -- ---- calls on the buffer of a number
 
@@ -186,7 +187,7 @@ on_buffer_by k name d refusal call bs (Some (Some b)) tells = sym (tells b.feed 
 
 pub on_buffer : (k : ℕ) (name : Name) (refusal : Feed → Content → Option Name) (call : Surroundings → Feed → Content → CallResult) (c : Core)
     → ((f : Feed) (content : Content) → (call (surroundings_in k c.source) f content).reply.refused ≡ refusal f content)
-    → refusal_on_buffer k name refusal c.buffers ≡ (reply_moved k (result_on_buffer k name c.source.state.duration (call (surroundings_in k c.source)) c.buffers) c).refused
+    → refusal_on_buffer k name refusal c.buffers ≡ (reply_effect k (result_on_buffer k name c.source.state.duration (call (surroundings_in k c.source)) c.buffers) c).refused
 on_buffer k name refusal call c tells = on_buffer_by k name c.source.state.duration refusal (call (surroundings_in k c.source)) c.buffers (slice_get c.buffers k) tells
 
 none_at : (k : ℕ) (bs : BufferStates) → nat_lt k (length bs) ≡ false → slice_get bs k ≡ None
@@ -211,20 +212,20 @@ refusal_unless (At u) o never = absurd (never u refl)
 refusal_unless Infinite o never = refl
 
 -- what is told of a time that is none
-pub untimely : (k : ℕ) (t : Moment) (ks : KeptBuffers) (m : ℤ → Moved) (c : Core) (o : Option Name) → o ≡ cond (nat_lt k (length ks)) (Some TypeError) (Some NoSuchBuffer) → ((u : ℤ) → t ≡ At u → ⊥) → AllStand ks c.buffers
+pub untimely : (k : ℕ) (t : Moment) (ks : KeptBuffers) (m : ℤ → CoreEffect) (c : Core) (o : Option Name) → o ≡ cond (nat_lt k (length ks)) (Some TypeError) (Some NoSuchBuffer) → ((u : ℤ) → t ≡ At u → ⊥) → AllStand ks c.buffers
     → o ≡ (if_made k (if_finite t m c) c).refused
 untimely k t ks m c o told never all =
-    told ∙ ap (λ (b : Bool). cond b (Some TypeError) (Some NoSuchBuffer)) (same_made k ks c.buffers all) ∙ sym (made_or (nat_lt k (length c.buffers)) (if_finite t m c) (refused_moved NoSuchBuffer c) (Some TypeError) (Some NoSuchBuffer) (moved_unless t m c never) refl)
+    told ∙ ap (λ (b : Bool). cond b (Some TypeError) (Some NoSuchBuffer)) (same_made k ks c.buffers all) ∙ sym (made_or (nat_lt k (length c.buffers)) (if_finite t m c) (refused_effect NoSuchBuffer c) (Some TypeError) (Some NoSuchBuffer) (effect_unless t m c never) refl)
 
 -- what is told of a call at a time
 pub timely : (k : ℕ) (t : Moment) (u : ℤ) (refusal : Feed → Content → Option Name) (call : ℤ → Surroundings → Feed → Content → CallResult) (c : Core) (o : Option Name)
     → t ≡ At u → o ≡ refusal_on_buffer k InvalidState refusal c.buffers
     → ((f : Feed) (content : Content) → (call u (surroundings_in k c.source) f content).reply.refused ≡ refusal f content)
-    → o ≡ (if_made k (if_finite t (λ v. buffer_moved k (call v) c) c) c).refused
+    → o ≡ (if_made k (if_finite t (λ v. buffer_effect k (call v) c) c) c).refused
 timely k t u refusal call c o is told tells =
     let here : Option Name = refusal_on_buffer k InvalidState refusal c.buffers in
-    let same : (if_finite t (λ v. buffer_moved k (call v) c) c).refused ≡ here = ap (λ (x : Moment). (if_finite x (λ v. buffer_moved k (call v) c) c).refused) is ∙ sym (on_buffer k InvalidState refusal (call u) c tells) in
-    told ∙ made_first k InvalidState refusal c.buffers ∙ sym (made_or (nat_lt k (length c.buffers)) (if_finite t (λ v. buffer_moved k (call v) c) c) (refused_moved NoSuchBuffer c) here (Some NoSuchBuffer) same refl)
+    let same : (if_finite t (λ v. buffer_effect k (call v) c) c).refused ≡ here = ap (λ (x : Moment). (if_finite x (λ v. buffer_effect k (call v) c) c).refused) is ∙ sym (on_buffer k InvalidState refusal (call u) c tells) in
+    told ∙ made_first k InvalidState refusal c.buffers ∙ sym (made_or (nat_lt k (length c.buffers)) (if_finite t (λ v. buffer_effect k (call v) c) c) (refused_effect NoSuchBuffer c) here (Some NoSuchBuffer) same refl)
 
 -- ---- what each call tells
 
@@ -239,7 +240,7 @@ pub window_end_tells : (t : Moment) (a : Surroundings) (f : Feed) (c : Content) 
 window_end_tells t a f c = unless_name (window_end_refusal t f c) (settings_result false (with_window_end t c.media) a f c) a f c refl
 
 pub remove_tells : (start : ℤ) (end : Moment) (a : Surroundings) (f : Feed) (c : Content) → (remove_result start end a f c).reply.refused ≡ remove_refusal start end a f
-remove_tells start end a f c = unless_name (remove_refusal start end a f) (result_with (event_reply (reopens a.ready) a.duration (UpdateStart ∷ [])) (feed_running (Removal start end) f) c) a f c refl
+remove_tells start end a f c = unless_name (remove_refusal start end a f) (result_with (event_reply (is_ended a.ready) a.duration (UpdateStart ∷ [])) (feed_running (Removal start end) f) c) a f c refl
 
 pub abort_tells : (a : Surroundings) (f : Feed) (c : Content) → (abort_result a f c).reply.refused ≡ abort_refusal a f
 abort_tells a f c = unless_name (abort_refusal a f) (abort_result_after_flush (flush_result (ready_in f) c.media a.duration) a f c) a f c refl
@@ -258,12 +259,12 @@ change_type_tells text a f c = type_tells (type_of text) a f c
 
 -- ---- each call, where it is told at what is stood for
 
-pub mode_name : (k : ℕ) (refusal : Surroundings → Feed → Content → Option Name) (a : Surroundings) (x : Kept) (st : State) (o : Option Name)
+pub mode_name : (k : ℕ) (refusal : Surroundings → Feed → Content → Option Name) (a : Surroundings) (x : KeptEngine) (st : State) (o : Option Name)
     → a ≡ surroundings_in k (core_source x.side x.element) → o ≡ refusal_on_buffer k InvalidState (refusal a) st.core.buffers → Stands x st
     → o ≡ refusal_on_buffer k InvalidState (refusal (surroundings_in k st.core.source)) st.core.buffers
 mode_name k refusal a x st o is told h = told ∙ ap (λ (b : Surroundings). refusal_on_buffer k InvalidState (refusal b) st.core.buffers) (same_surroundings k x st a is h)
 
-pub offset_name : (k : ℕ) (t : Moment) (u : ℤ) (a : Surroundings) (x : Kept) (st : State) (o : Option Name) → t ≡ At u
+pub offset_name : (k : ℕ) (t : Moment) (u : ℤ) (a : Surroundings) (x : KeptEngine) (st : State) (o : Option Name) → t ≡ At u
     → a ≡ surroundings_in k (core_source x.side x.element) → o ≡ refusal_on_buffer k InvalidState (λ f c. offset_refusal a f) st.core.buffers → Stands x st
     → o ≡ offset_call_refusal k t st.core
 offset_name k t u a x st o time is told h =
@@ -271,26 +272,26 @@ offset_name k t u a x st o time is told h =
     mode_name k (λ b f c. offset_refusal b f) a x st o is told h ∙ made_first k InvalidState (λ f c. offset_refusal (surroundings_in k st.core.source) f) st.core.buffers
     ∙ ap (λ (p : Option Name). cond (nat_lt k (length st.core.buffers)) p (Some NoSuchBuffer)) (sym (refusal_at t u here time))
 
-pub offset_untimely : (k : ℕ) (t : Moment) (x : Kept) (st : State) (o : Option Name) → o ≡ cond (nat_lt k (length x.buffers)) (Some TypeError) (Some NoSuchBuffer) → ((u : ℤ) → t ≡ At u → ⊥) → Stands x st → o ≡ offset_call_refusal k t st.core
+pub offset_untimely : (k : ℕ) (t : Moment) (x : KeptEngine) (st : State) (o : Option Name) → o ≡ cond (nat_lt k (length x.buffers)) (Some TypeError) (Some NoSuchBuffer) → ((u : ℤ) → t ≡ At u → ⊥) → Stands x st → o ≡ offset_call_refusal k t st.core
 offset_untimely k t x st o told never h =
     let here : Option Name = refusal_on_buffer k InvalidState (λ f c. offset_refusal (surroundings_in k st.core.source) f) st.core.buffers in
     told ∙ ap (λ (b : Bool). cond b (Some TypeError) (Some NoSuchBuffer)) (same_made k x.buffers st.core.buffers h.buffers)
     ∙ ap (λ (p : Option Name). cond (nat_lt k (length st.core.buffers)) p (Some NoSuchBuffer)) (sym (refusal_unless t here never))
 
 -- a buffer that was never made
-pub append_unmade : (k : ℕ) (bytes : Option (List ℕ)) (x : Kept) (st : State) → nat_lt k (length x.buffers) ≡ false → Stands x st → Some NoSuchBuffer ≡ append_call_refusal bytes k st.core
+pub append_unmade : (k : ℕ) (bytes : Option (List ℕ)) (x : KeptEngine) (st : State) → nat_lt k (length x.buffers) ≡ false → Stands x st → Some NoSuchBuffer ≡ append_call_refusal bytes k st.core
 append_unmade k bytes x st past h =
     let none : nat_lt k (length st.core.buffers) ≡ false = sym (same_made k x.buffers st.core.buffers h.buffers) ∙ past in
     ap (λ (b : Bool). cond b (refusal_if_there bytes (refusal_on_buffer k InvalidState (λ f c. append_refusal (surroundings_in k st.core.source) f) st.core.buffers)) (Some NoSuchBuffer)) (sym none)
 
 -- bytes that are not there
-pub append_without : (k : ℕ) (bytes : Option (List ℕ)) (x : Kept) (st : State) → nat_lt k (length x.buffers) ≡ true → bytes ≡ None → Stands x st → Some NoSuchBytes ≡ append_call_refusal bytes k st.core
+pub append_without : (k : ℕ) (bytes : Option (List ℕ)) (x : KeptEngine) (st : State) → nat_lt k (length x.buffers) ≡ true → bytes ≡ None → Stands x st → Some NoSuchBytes ≡ append_call_refusal bytes k st.core
 append_without k bytes x st is none h =
     let made : nat_lt k (length st.core.buffers) ≡ true = sym (same_made k x.buffers st.core.buffers h.buffers) ∙ is in
     let here : Option Name = refusal_on_buffer k InvalidState (λ f c. append_refusal (surroundings_in k st.core.source) f) st.core.buffers in
     (λ i. cond (sym made i) (refusal_if_there (sym none i) here) (Some NoSuchBuffer))
 
-pub append_name : (k : ℕ) (bytes : Option (List ℕ)) (some : List ℕ) (a : Surroundings) (x : Kept) (st : State) (o : Option Name) → bytes ≡ Some some
+pub append_name : (k : ℕ) (bytes : Option (List ℕ)) (some : List ℕ) (a : Surroundings) (x : KeptEngine) (st : State) (o : Option Name) → bytes ≡ Some some
     → a ≡ surroundings_in k (core_source x.side x.element) → o ≡ refusal_on_buffer k InvalidState (λ f c. append_refusal a f) st.core.buffers → Stands x st
     → o ≡ append_call_refusal bytes k st.core
 append_name k bytes some a x st o there is told h =
@@ -298,45 +299,45 @@ append_name k bytes some a x st o there is told h =
     mode_name k (λ b f c. append_refusal b f) a x st o is told h ∙ made_first k InvalidState (λ f c. append_refusal (surroundings_in k st.core.source) f) st.core.buffers
     ∙ ap (λ (p : Option (List ℕ)). cond (nat_lt k (length st.core.buffers)) (refusal_if_there p here) (Some NoSuchBuffer)) (sym there)
 
-pub abort_name : (k : ℕ) (a : Surroundings) (x : Kept) (st : State) (o : Option Name)
+pub abort_name : (k : ℕ) (a : Surroundings) (x : KeptEngine) (st : State) (o : Option Name)
     → a ≡ surroundings_in k (core_source x.side x.element) → o ≡ refusal_on_buffer k InvalidState (λ f c. abort_refusal a f) st.core.buffers → Stands x st
-    → o ≡ (abort_moved k st.core).refused
+    → o ≡ (abort_effect k st.core).refused
 abort_name k a x st o is told h =
     let there : Surroundings = surroundings_in k st.core.source in
     mode_name k (λ b f c. abort_refusal b f) a x st o is told h ∙ on_buffer k InvalidState (λ f c. abort_refusal there f) abort_result st.core (abort_tells there)
 
-pub window_end_name : (k : ℕ) (t : Moment) (c : Core) (o : Option Name) → o ≡ refusal_on_buffer k InvalidState (window_end_refusal t) c.buffers → o ≡ (window_end_moved k t c).refused
+pub window_end_name : (k : ℕ) (t : Moment) (c : Core) (o : Option Name) → o ≡ refusal_on_buffer k InvalidState (window_end_refusal t) c.buffers → o ≡ (window_end_effect k t c).refused
 window_end_name k t c o told = told ∙ on_buffer k InvalidState (window_end_refusal t) (window_end_result t) c (window_end_tells t (surroundings_in k c.source))
 
-pub change_type_name : (k : ℕ) (text : List ℕ) (c : Core) (o : Option Name) → o ≡ refusal_on_buffer k (removed_type_name text) (λ f content. change_type_refusal text f) c.buffers → o ≡ (change_type_moved k text c).refused
+pub change_type_name : (k : ℕ) (text : List ℕ) (c : Core) (o : Option Name) → o ≡ refusal_on_buffer k (removed_type_name text) (λ f content. change_type_refusal text f) c.buffers → o ≡ (change_type_effect k text c).refused
 change_type_name k text c o told = told ∙ on_buffer k (removed_type_name text) (λ f content. change_type_refusal text f) (change_type_result text) c (change_type_tells text (surroundings_in k c.source))
 
-pub window_start_name : (k : ℕ) (t : Moment) (u : ℤ) (c : Core) (o : Option Name) → t ≡ At u → o ≡ refusal_on_buffer k InvalidState (window_start_refusal u) c.buffers → o ≡ (window_start_moved k t c).refused
+pub window_start_name : (k : ℕ) (t : Moment) (u : ℤ) (c : Core) (o : Option Name) → t ≡ At u → o ≡ refusal_on_buffer k InvalidState (window_start_refusal u) c.buffers → o ≡ (window_start_effect k t c).refused
 window_start_name k t u c o is told = timely k t u (window_start_refusal u) window_start_result c o is told (window_start_tells u (surroundings_in k c.source))
 
-pub remove_frames_name : (k : ℕ) (start : Moment) (u : ℤ) (end : Moment) (a : Surroundings) (x : Kept) (st : State) (o : Option Name) → start ≡ At u
+pub remove_frames_name : (k : ℕ) (start : Moment) (u : ℤ) (end : Moment) (a : Surroundings) (x : KeptEngine) (st : State) (o : Option Name) → start ≡ At u
     → a ≡ surroundings_in k (core_source x.side x.element) → o ≡ refusal_on_buffer k InvalidState (λ f c. remove_refusal u end a f) st.core.buffers → Stands x st
-    → o ≡ (remove_frames_moved k start end st.core).refused
+    → o ≡ (remove_frames_effect k start end st.core).refused
 remove_frames_name k start u end a x st o time is told h =
     let there : Surroundings = surroundings_in k st.core.source in
     timely k start u (λ f c. remove_refusal u end there f) (λ v. remove_result v end) st.core o time (mode_name k (λ b f c. remove_refusal u end b f) a x st o is told h) (remove_tells u end there)
 
 -- ---- reads
 
-read_slot_name : (o : Option (Option BufferState)) (b : Bool) (c : Core) → is_some (refusal_by_slot o removal_refusal_in_slot) ≡ b → cond b (Some InvalidState) None ≡ (read_slot_moved (option_flatten o) c).refused
+read_slot_name : (o : Option (Option BufferState)) (b : Bool) (c : Core) → is_some (refusal_by_slot o removal_refusal_in_slot) ≡ b → cond b (Some InvalidState) None ≡ (read_slot_effect (option_flatten o) c).refused
 read_slot_name None b c e = ap (λ (x : Bool). cond x (Some InvalidState) None) (sym e)
 read_slot_name (Some None) b c e = ap (λ (x : Bool). cond x (Some InvalidState) None) (sym e)
 read_slot_name (Some (Some s)) b c e = ap (λ (x : Bool). cond x (Some InvalidState) None) (sym e)
 
-pub read_name : (k : ℕ) (b : Bool) (ks : KeptBuffers) (c : Core) → AllStand ks c.buffers → nat_lt k (length ks) ≡ true → is_some (refusal_on_slot k removal_refusal_in_slot c.buffers) ≡ b → cond b (Some InvalidState) None ≡ (read_moved k c).refused
+pub read_name : (k : ℕ) (b : Bool) (ks : KeptBuffers) (c : Core) → AllStand ks c.buffers → nat_lt k (length ks) ≡ true → is_some (refusal_on_slot k removal_refusal_in_slot c.buffers) ≡ b → cond b (Some InvalidState) None ≡ (read_effect k c).refused
 read_name k b ks c all is gone =
     let made : nat_lt k (length c.buffers) ≡ true = sym (same_made k ks c.buffers all) ∙ is in
-    read_slot_name (slice_get c.buffers k) b c gone ∙ ap (λ (x : Bool). (cond x (read_slot_moved (in_slot k c.buffers) c) (refused_moved NoSuchBuffer c)).refused) (sym made)
+    read_slot_name (slice_get c.buffers k) b c gone ∙ ap (λ (x : Bool). (cond x (read_slot_effect (in_slot k c.buffers) c) (refused_effect NoSuchBuffer c)).refused) (sym made)
 
-pub read_unmade : (k : ℕ) (ks : KeptBuffers) (c : Core) → AllStand ks c.buffers → nat_lt k (length ks) ≡ false → Some NoSuchBuffer ≡ (read_moved k c).refused
+pub read_unmade : (k : ℕ) (ks : KeptBuffers) (c : Core) → AllStand ks c.buffers → nat_lt k (length ks) ≡ false → Some NoSuchBuffer ≡ (read_effect k c).refused
 read_unmade k ks c all past =
     let none : nat_lt k (length c.buffers) ≡ false = sym (same_made k ks c.buffers all) ∙ past in
-    ap (λ (x : Bool). (cond x (read_slot_moved (in_slot k c.buffers) c) (refused_moved NoSuchBuffer c)).refused) (sym none)
+    ap (λ (x : Bool). (cond x (read_slot_effect (in_slot k c.buffers) c) (refused_effect NoSuchBuffer c)).refused) (sym none)
 
 -- ---- calls on the element
 
@@ -344,7 +345,7 @@ acted_name : (b : Bool) (x y : Answered Acted PlayerState) (o p : Option Name) �
 acted_name true x y o p e f = e
 acted_name false x y o p e f = f
 
-pub play_name : (x : Kept) (st : State) → Stands x st → cond (x.element.player.error == 4) (Some NotSupported) None ≡ (play_acting (core_view st.core) st.outer).answer
+pub play_name : (x : KeptEngine) (st : State) → Stands x st → cond (x.element.player.error == 4) (Some NotSupported) None ≡ (play_effect (core_view st.core) st.outer).answer
 play_name x st h =
     let p = player_in st in
     ap (λ (s : CoreSource). cond (s.error == 4) (Some NotSupported) None) h.source

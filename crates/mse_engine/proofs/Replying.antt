@@ -24,7 +24,8 @@ use Rattle.track_buffers.specs.Frames.{FlushResult, frame_result, flush_result, 
 use Rattle.buffer_state.specs.declared.running.Running.{Running}
 use Rattle.buffer_state.specs.declared.running.Running.TheVariants.{Nothing, Append, Removal}
 use Rattle.buffer_state.specs.State.{Feed, Content, Surroundings, is_updating, phase_in, ready_in, next_item}
-use Rattle.buffer_state.specs.Replies.{CallResult, refused_result, reopens}
+use Rattle.mse_calls.specs.Ready.{is_ended}
+use Rattle.buffer_state.specs.Replies.{CallResult, refused_result}
 use Rattle.buffer_state.specs.Calls.{unless_refused, is_sequence, is_in_media, settings_result, settings_result_by_phase, mode_refusal, mode_result, offset_refusal, offset_result, window_start_refusal, window_start_result, window_end_refusal, window_end_result, remove_refusal, remove_result, is_full, append_refusal, append_result, append_result_after_eviction, abort_refusal, abort_result, abort_result_after_flush, change_type_result, change_type_result_by_answer, change_type_result_after_flush}
 use Rattle.buffer_state.specs.Turns.{ItemResult, Done, AppendError, media_item_result, item_result, item_turn_result, append_turn_result, turn_result_by_work, turn_result}
 use Rattle.source_buffers.specs.State.{BufferState, BufferStates, media_of, media_of_all}
@@ -52,7 +53,7 @@ unless None done a f c h k = k
 
 by_phase : (m : Media) (a : Surroundings) (f : Feed) (c : Content) → IsUntracked a.duration c.media → IsUntracked a.duration m → IsTimelyCall a.duration (settings_result_by_phase m a f c)
 by_phase m a f c h k =
-    call_by a.duration (is_in_media (phase_in f)) (refused_result InvalidState (reopens a.ready) a f c) (settings_result (reopens a.ready) m a f c)
+    call_by a.duration (is_in_media (phase_in f)) (refused_result InvalidState (is_ended a.ready) a f c) (settings_result (is_ended a.ready) m a f c)
     (timely_still a.duration c.media.tracks h) (timely_still a.duration m.tracks k)
 
 pub mode_timely : (mode : Mode) (a : Surroundings) → AreTimely a (mode_result mode)
@@ -134,13 +135,13 @@ item_timely (FrameItem f at) c d t h = by_media d (frame_result f c.media d) at 
 item_timely SegmentEnd c d t h = timely_still d c.media.tracks h
 item_timely (FaultItem f at) c d t h = timely_still d c.media.tracks h
 
-by_item : (t : ItemResult) (a : Surroundings) (f : Feed) → IsTimelyItem a.duration t → IsTimelyCall a.duration (item_turn_result t a f)
-by_item (Done c e) a f h = h
-by_item (AppendError fault at c e) a f h = reset a.duration e.duration e.received_init c.media.tracks h
+by_item : (x : ByteItem) (t : ItemResult) (a : Surroundings) (f : Feed) → IsTimelyItem a.duration t → IsTimelyCall a.duration (item_turn_result x t a f)
+by_item x (Done c e) a f h = h
+by_item x (AppendError fault at c e) a f h = reset a.duration e.duration e.received_init c.media.tracks h
 
 by_append : (o : Option ByteItem) (a : Surroundings) (f : Feed) (c : Content) → HasTimeIn o → IsUntracked a.duration c.media → IsTimelyCall a.duration (append_turn_result o a f c)
 by_append None a f c t h = timely_still a.duration c.media.tracks h
-by_append (Some x) a f c t h = by_item (item_result x c a.duration) a f (item_timely x c a.duration t h)
+by_append (Some x) a f c t h = by_item x (item_result x c a.duration) a f (item_timely x c a.duration t h)
 
 abbrev IfTimely : Moment → Option CallResult → Type 0
 IfTimely d None = Unit {0}

@@ -8,13 +8,13 @@ use Rattle.source_buffers.specs.State.{all_kept_media, media_of_all}
 use Rattle.source_buffers.proofs.Standing.{same_media}
 use Rattle.mse_engine.specs.State.{CoreSource, State}
 use Rattle.mse_engine.specs.Sound.{AreSoundWithin, IsSoundEngine, IsSoundState}
-use Rattle.mse_engine.specs.Standing.{Kept, Stands, IsSteady}
+use Rattle.mse_engine.specs.Standing.{KeptEngine, Stands, IsSteady}
 
-pub sound_steady : (k : Kept) → IsSteady k → AreSound (all_kept_media k.buffers) → IsSoundEngine k
+pub sound_steady : (k : KeptEngine) → IsSteady k → AreSound (all_kept_media k.buffers) → IsSoundEngine k
 sound_steady k steady sound = record { sound = sound; within = steady.within }
 
 -- what is kept has the tracks and the duration that the state has
-pub stands_sound : (k : Kept) (st : State) → Stands k st → IsSoundEngine k → IsSoundState st
+pub stands_sound : (k : KeptEngine) (st : State) → Stands k st → IsSoundEngine k → IsSoundState st
 stands_sound k st h sound =
     let media : all_kept_media k.buffers ≡ media_of_all st.core.buffers = same_media k.buffers st.core.buffers h.buffers in
     let duration : k.side.state.duration ≡ st.core.source.state.duration = ap (λ (s : CoreSource). s.state.duration) h.source in

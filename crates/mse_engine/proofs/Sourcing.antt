@@ -15,10 +15,10 @@ use Rattle.media_element.specs.State.{ElementState}
 use Rattle.media_element.specs.Settled.{IsSettled}
 use Rattle.mse_engine.specs.State.{CoreSource, Core, State}
 use Rattle.mse_engine.specs.Signals.{Signal, after_signals, step}
-use Rattle.mse_engine.specs.Moved.{refused_moved, moved_to, with_state}
-use Rattle.mse_engine.specs.SourceCalls.{answered_by, from_source, set_live_moved}
-use Rattle.mse_engine.specs.Calls.{refused_or, without_action, after_call_by}
-use Rattle.mse_engine.specs.Standing.{SourceSide, Kept, Stands, IsStep, IsSteady, core_source, kept, kept_scene, view_of}
+use Rattle.mse_engine.specs.CoreEffects.{refused_effect, effect_leaving, with_state}
+use Rattle.mse_engine.specs.SourceCalls.{answered_by, from_source, set_live_effect}
+use Rattle.mse_engine.specs.Calls.{refused_or, no_element_effect, after_call_by}
+use Rattle.mse_engine.specs.Standing.{SourceSide, KeptEngine, Stands, IsStep, IsSteady, core_source, kept_engine, kept_scene, view_of}
 use Rattle.mse_engine.proofs.Unchanged.{IsKept, same}
 use Rattle.mse_engine.proofs.Stepping.{IsEnd, stepped, still}
 
@@ -60,7 +60,7 @@ pub clear_live_plain : (s : SourceState) → IsPlain after_clear_live s
 clear_live_plain s = let p = plain_clear_live s in record { refused = p.0; made = p.1.0; duration = p.1.1 }
 
 -- a bound that is no time
-pub live_refused : (start end : Moment) (c : Core) → ((a b : ℤ) → start ≡ At a → end ≡ At b → ⊥) → set_live_moved start end c ≡ refused_moved TypeError c
+pub live_refused : (start end : Moment) (c : Core) → ((a b : ℤ) → start ≡ At a → end ≡ At b → ⊥) → set_live_effect start end c ≡ refused_effect TypeError c
 live_refused Nan end c h = refl
 live_refused (At a) Nan c h = refl
 live_refused (At a) (At b) c h = absurd (h a b refl refl)
@@ -70,31 +70,31 @@ live_refused Infinite end c h = refl
 -- ---- a step by which the source comes to a state
 
 pub source_step : (side new_side : SourceSide) (buffers : KeptBuffers) (e told new : ElementState) (s : SourceState) (signals : List Signal) (st : State)
-    → new_side ≡ in_state s side → Stands (kept side buffers e) st
+    → new_side ≡ in_state s side → Stands (kept_engine side buffers e) st
     → IsKept e.player told.player → told ≡ after_signals (view_of new_side buffers e) signals e → IsEnd new_side buffers told new
-    → Stands (kept new_side buffers new) (step (moved_to s signals st.core).core signals st.outer)
+    → Stands (kept_engine new_side buffers new) (step (effect_leaving s signals st.core).core signals st.outer)
 source_step side new_side buffers e told new s signals st is k same heard end =
-    stepped new_side buffers e told new (moved_to s signals st.core).core signals st.outer (ap (λ (x : SourceSide). core_source x e) is ∙ ap (λ (x : CoreSource). with_state s x) k.source) k.buffers k.outer same heard end
+    stepped new_side buffers e told new (effect_leaving s signals st.core).core signals st.outer (ap (λ (x : SourceSide). core_source x e) is ∙ ap (λ (x : CoreSource). with_state s x) k.source) k.buffers k.outer same heard end
 
-done_by : (n : Option Name) (s : SourceState) (signals : List Signal) (k : Kept) (st : State) → n ≡ None → Stands k (step (moved_to s signals st.core).core signals st.outer) → IsStep Done k (after_call_by (answered_by n s signals st.core) (without_action st.outer) Done)
+done_by : (n : Option Name) (s : SourceState) (signals : List Signal) (k : KeptEngine) (st : State) → n ≡ None → Stands k (step (effect_leaving s signals st.core).core signals st.outer) → IsStep Done k (after_call_by (answered_by n s signals st.core) (no_element_effect st.outer) Done)
 done_by None s signals k st e h = record { answers = refl; stands = h }
 done_by (Some name) s signals k st e h = absurd cc
 
-refused_by : (n : Option Name) (name : Name) (s : SourceState) (signals : List Signal) (k : Kept) (st : State) → n ≡ Some name → Stands k (step st.core [] st.outer) → IsStep (Refused name) k (after_call_by (answered_by n s signals st.core) (without_action st.outer) Done)
+refused_by : (n : Option Name) (name : Name) (s : SourceState) (signals : List Signal) (k : KeptEngine) (st : State) → n ≡ Some name → Stands k (step st.core [] st.outer) → IsStep (Refused name) k (after_call_by (answered_by n s signals st.core) (no_element_effect st.outer) Done)
 refused_by None name s signals k st e h = absurd cc
 refused_by (Some m) name s signals k st e h = let is : name ≡ m = cc in record { answers = ap (λ (x : Name). Refused x) is; stands = h }
 
-either_by : (n : Option Name) (s : SourceState) (k : Kept) (st : State) → ((name : Name) → n ≡ Some name → s ≡ st.core.source.state) → Stands k (step (moved_to s [] st.core).core [] st.outer) → IsStep (refused_or n Done) k (after_call_by (answered_by n s [] st.core) (without_action st.outer) Done)
+either_by : (n : Option Name) (s : SourceState) (k : KeptEngine) (st : State) → ((name : Name) → n ≡ Some name → s ≡ st.core.source.state) → Stands k (step (effect_leaving s [] st.core).core [] st.outer) → IsStep (refused_or n Done) k (after_call_by (answered_by n s [] st.core) (no_element_effect st.outer) Done)
 either_by None s k st leaves h = record { answers = refl; stands = h }
-either_by (Some name) s k st leaves h = record { answers = refl; stands = subst (λ (x : SourceState). Stands k (step (moved_to x [] st.core).core [] st.outer)) (leaves name refl) h }
+either_by (Some name) s k st leaves h = record { answers = refl; stands = subst (λ (x : SourceState). Stands k (step (effect_leaving x [] st.core).core [] st.outer)) (leaves name refl) h }
 
 -- ---- a call that tells nothing but what the source answers
 
 module _ (call : SourceCall) (side new_side : SourceSide) (buffers : KeptBuffers) (e start : ElementState) (plain : IsPlain call side.state) (is : new_side ≡ in_state (call side.state).state side) (ready : start ≡ e) where
-  began : (st : State) → Stands (kept side buffers e) st → Stands (kept side buffers start) st
-  began st k = subst (λ (x : ElementState). Stands (kept side buffers x) st) (sym ready) k
+  began : (st : State) → Stands (kept_engine side buffers e) st → Stands (kept_engine side buffers start) st
+  began st k = subst (λ (x : ElementState). Stands (kept_engine side buffers x) st) (sym ready) k
 
-  pub plain_steady : (new : ElementState) → IsSteady (kept side buffers e) → IsSettled (kept_scene (kept new_side buffers new)) new → IsSteady (kept new_side buffers new)
+  pub plain_steady : (new : ElementState) → IsSteady (kept_engine side buffers e) → IsSettled (kept_scene (kept_engine new_side buffers new)) new → IsSteady (kept_engine new_side buffers new)
   plain_steady new k settled =
       let made : new_side.state.made ≡ side.state.made = ap (λ (x : SourceSide). x.state.made) is ∙ plain.made in
       let duration : new_side.state.duration ≡ side.state.duration = ap (λ (x : SourceSide). x.state.duration) is ∙ plain.duration in
@@ -106,34 +106,34 @@ module _ (call : SourceCall) (side new_side : SourceSide) (buffers : KeptBuffers
 
   pub told_step : (told new : ElementState) (signals : List Signal) (st : State)
       → (call side.state).answer ≡ None → IsKept start.player told.player → told ≡ after_signals (view_of new_side buffers start) signals start
-      → IsEnd new_side buffers told new → Stands (kept side buffers e) st
-      → IsStep Done (kept new_side buffers new) (after_call_by (from_source (call st.core.source.state) signals st.core) (without_action st.outer) Done)
+      → IsEnd new_side buffers told new → Stands (kept_engine side buffers e) st
+      → IsStep Done (kept_engine new_side buffers new) (after_call_by (from_source (call st.core.source.state) signals st.core) (no_element_effect st.outer) Done)
   told_step told new signals st none keeps heard end k =
       let was : side.state ≡ st.core.source.state = ap (λ (s : CoreSource). s.state) k.source in
       let here = source_step side new_side buffers start told new (call side.state).state signals st is (began st k) keeps heard end in
-      subst (λ (s : SourceState). IsStep Done (kept new_side buffers new) (after_call_by (from_source (call s) signals st.core) (without_action st.outer) Done)) was (done_by (call side.state).answer (call side.state).state signals (kept new_side buffers new) st none here)
+      subst (λ (s : SourceState). IsStep Done (kept_engine new_side buffers new) (after_call_by (from_source (call s) signals st.core) (no_element_effect st.outer) Done)) was (done_by (call side.state).answer (call side.state).state signals (kept_engine new_side buffers new) st none here)
 
   pub either_step : (n : Option Name) (new : ElementState) (st : State)
-      → n ≡ (call side.state).answer → IsEnd new_side buffers start new → Stands (kept side buffers e) st
-      → IsStep (refused_or n Done) (kept new_side buffers new) (after_call_by (from_source (call st.core.source.state) [] st.core) (without_action st.outer) Done)
+      → n ≡ (call side.state).answer → IsEnd new_side buffers start new → Stands (kept_engine side buffers e) st
+      → IsStep (refused_or n Done) (kept_engine new_side buffers new) (after_call_by (from_source (call st.core.source.state) [] st.core) (no_element_effect st.outer) Done)
   either_step n new st answer end k =
       let was : side.state ≡ st.core.source.state = ap (λ (s : CoreSource). s.state) k.source in
       let here = source_step side new_side buffers start start new (call side.state).state [] st is (began st k) (same start.player) refl end in
-      let by_name = either_by (call side.state).answer (call side.state).state (kept new_side buffers new) st (λ name h. plain.refused name h ∙ was) here in
-      let now = subst (λ (s : SourceState). IsStep (refused_or (call side.state).answer Done) (kept new_side buffers new) (after_call_by (from_source (call s) [] st.core) (without_action st.outer) Done)) was by_name in
-      subst (λ (m : Option Name). IsStep (refused_or m Done) (kept new_side buffers new) (after_call_by (from_source (call st.core.source.state) [] st.core) (without_action st.outer) Done)) (sym answer) now
+      let by_name = either_by (call side.state).answer (call side.state).state (kept_engine new_side buffers new) st (λ name h. plain.refused name h ∙ was) here in
+      let now = subst (λ (s : SourceState). IsStep (refused_or (call side.state).answer Done) (kept_engine new_side buffers new) (after_call_by (from_source (call s) [] st.core) (no_element_effect st.outer) Done)) was by_name in
+      subst (λ (m : Option Name). IsStep (refused_or m Done) (kept_engine new_side buffers new) (after_call_by (from_source (call st.core.source.state) [] st.core) (no_element_effect st.outer) Done)) (sym answer) now
 
   -- where it is refused nothing changes
-  pub unchanged : (name : Name) → (call side.state).answer ≡ Some name → kept new_side buffers start ≡ kept side buffers e
+  pub unchanged : (name : Name) → (call side.state).answer ≡ Some name → kept_engine new_side buffers start ≡ kept_engine side buffers e
   unchanged name h =
       let state = plain.refused name h in
       let as_before : new_side ≡ side = is ∙ (λ i. in_state (state i) side) in
-      λ i. kept (as_before i) buffers (ready i)
+      λ i. kept_engine (as_before i) buffers (ready i)
 
   pub refused_step : (name : Name) (signals : List Signal) (st : State)
-      → (call side.state).answer ≡ Some name → IsSettled (kept_scene (kept side buffers e)) e → Stands (kept side buffers e) st
-      → IsStep (Refused name) (kept new_side buffers start) (after_call_by (from_source (call st.core.source.state) signals st.core) (without_action st.outer) Done)
+      → (call side.state).answer ≡ Some name → IsSettled (kept_scene (kept_engine side buffers e)) e → Stands (kept_engine side buffers e) st
+      → IsStep (Refused name) (kept_engine new_side buffers start) (after_call_by (from_source (call st.core.source.state) signals st.core) (no_element_effect st.outer) Done)
   refused_step name signals st h settled k =
       let was : side.state ≡ st.core.source.state = ap (λ (s : CoreSource). s.state) k.source in
-      let here = subst (λ (x : Kept). Stands x (step st.core [] st.outer)) (sym (unchanged name h)) (still side buffers e st k settled) in
-      subst (λ (s : SourceState). IsStep (Refused name) (kept new_side buffers start) (after_call_by (from_source (call s) signals st.core) (without_action st.outer) Done)) was (refused_by (call side.state).answer name (call side.state).state signals (kept new_side buffers start) st h here)
+      let here = subst (λ (x : KeptEngine). Stands x (step st.core [] st.outer)) (sym (unchanged name h)) (still side buffers e st k settled) in
+      subst (λ (s : SourceState). IsStep (Refused name) (kept_engine new_side buffers start) (after_call_by (from_source (call s) signals st.core) (no_element_effect st.outer) Done)) was (refused_by (call side.state).answer name (call side.state).state signals (kept_engine new_side buffers start) st h here)

@@ -4,13 +4,13 @@ use Rattle.mse_calls.specs.Level.{has_metadata}
 use Rattle.element_seek.specs.Settling.{after_settle}
 use Rattle.media_element.specs.State.{ElementState}
 use Rattle.media_element.specs.Settled.{IsSettled}
-use Rattle.media_element.proofs.Heard.{silent}
+use Rattle.media_element.proofs.QueuedEvents.{silent}
 use Rattle.source_buffers.specs.State.{KeptBuffers, AllStand}
 use Rattle.source_buffers.proofs.Standing.{same_media}
 use Rattle.mse_engine.specs.State.{CoreSource, Core, Outer, State, outer_of, element_in}
 use Rattle.mse_engine.specs.Scenes.{core_view, scene_at}
 use Rattle.mse_engine.specs.Signals.{Signal, after_signals, after_settling, step}
-use Rattle.mse_engine.specs.Standing.{SourceSide, Stands, core_source, kept, kept_scene, view_of}
+use Rattle.mse_engine.specs.Standing.{SourceSide, Stands, core_source, kept_engine, kept_scene, view_of}
 use Rattle.mse_engine.proofs.Unchanged.{IsKept}
 
 -- what the source buffers are told does not change
@@ -33,7 +33,7 @@ pub record IsEnd (side : SourceSide) (buffers : KeptBuffers) (told new : Element
 pub ended : (side : SourceSide) (buffers : KeptBuffers) (told new : ElementState) (c : Core) (signals : List Signal) (o : Outer)
     → core_source side told ≡ c.source → AllStand buffers c.buffers
     → told ≡ after_signals (core_view c) signals (element_in c.source.error o) → IsEnd side buffers told new
-    → Stands (kept side buffers new) (step c signals o)
+    → Stands (kept_engine side buffers new) (step c signals o)
 ended side buffers told new c signals o h all now end =
     let view = meant_view side buffers told c h all in
     record {
@@ -46,7 +46,7 @@ ended side buffers told new c signals o h all now end =
 pub stepped : (side : SourceSide) (buffers : KeptBuffers) (e told new : ElementState) (c : Core) (signals : List Signal) (o : Outer)
     → core_source side e ≡ c.source → AllStand buffers c.buffers → outer_of e ≡ o
     → IsKept e.player told.player → told ≡ after_signals (view_of side buffers e) signals e → IsEnd side buffers told new
-    → Stands (kept side buffers new) (step c signals o)
+    → Stands (kept_engine side buffers new) (step c signals o)
 stepped side buffers e told new c signals o h all k same heard end =
     let seen = meant_view side buffers e c h all in
     let start = meant_element side e c.source o h k in
@@ -54,7 +54,7 @@ stepped side buffers e told new c signals o h all k same heard end =
     ended side buffers told new c signals o (kept_facts side e told same ∙ h) all now end
 
 -- nothing was heard, and the element has the level of its position already
-pub still : (side : SourceSide) (buffers : KeptBuffers) (e : ElementState) (st : State) → Stands (kept side buffers e) st → IsSettled (kept_scene (kept side buffers e)) e → Stands (kept side buffers e) (step st.core [] st.outer)
+pub still : (side : SourceSide) (buffers : KeptBuffers) (e : ElementState) (st : State) → Stands (kept_engine side buffers e) st → IsSettled (kept_scene (kept_engine side buffers e)) e → Stands (kept_engine side buffers e) (step st.core [] st.outer)
 still side buffers e st s settled =
     let seen = meant_view side buffers e st.core s.source s.buffers in
     let start = meant_element side e st.core.source st.outer s.source s.outer in

@@ -7,7 +7,7 @@ use Rattle.mse_calls.specs.declared.entry.Entry.TheVariants.{Script, Listener}
 use Rattle.mse_engine.specs.State.{State}
 use Rattle.mse_engine.specs.Calls.{after_call}
 use Rattle.mse_engine.specs.Run.{entry_meaning, after_entries, Replays}
-use Rattle.mse_engine.specs.Standing.{Kept, Stands, IsStep}
+use Rattle.mse_engine.specs.Standing.{KeptEngine, Stands, IsStep}
 use Rattle.mse_engine.specs.Sound.{IsSoundEngine, AreSoundBehind}
 use Rattle.mse_engine.specs.Transitions.{IsTransition}
 use Rattle.mse_engine.proofs.SoundStates.{stands_sound}
@@ -36,11 +36,11 @@ empty_back [] ys e = e
 empty_back (x ∷ xs) ys e = absurd (cc)
 
 -- without an entry
-pub goes_none : (blobs : List (List ℕ)) (k : Kept) → IsTransition blobs k k []
+pub goes_none : (blobs : List (List ℕ)) (k : KeptEngine) → IsTransition blobs k k []
 goes_none blobs k = record { replays = λ st h. tt; stands = λ st h. h; sound = λ st h. tt; idle = λ e. refl }
 
 -- entries, and then others
-pub goes_then : (blobs : List (List ℕ)) (a b c : Kept) (xs ys : List Entry) → IsTransition blobs a b xs → IsTransition blobs b c ys → IsTransition blobs a c (xs ++ ys)
+pub goes_then : (blobs : List (List ℕ)) (a b c : KeptEngine) (xs ys : List Entry) → IsTransition blobs a b xs → IsTransition blobs b c ys → IsTransition blobs a c (xs ++ ys)
 goes_then blobs a b c xs ys p q = record {
   replays = λ st h. Replays-append blobs st xs ys (p.replays st h) (q.replays (after_entries blobs st xs) (p.stands st h));
   stands = λ st h. rw (after_entries-append blobs st xs ys) (q.stands (after_entries blobs st xs) (p.stands st h));
@@ -49,7 +49,7 @@ goes_then blobs a b c xs ys p q = record {
 }
 
 -- one entry, which tells what its step does, and behind which the engine is sound
-pub goes_one : (blobs : List (List ℕ)) (a b : Kept) (entry : Entry) → ((st : State) → Stands a st → (entry_meaning blobs st entry).holds)
+pub goes_one : (blobs : List (List ℕ)) (a b : KeptEngine) (entry : Entry) → ((st : State) → Stands a st → (entry_meaning blobs st entry).holds)
     → ((st : State) → Stands a st → Stands b (entry_meaning blobs st entry).state) → IsSoundEngine b → IsTransition blobs a b (entry ∷ [])
 goes_one blobs a b entry holds stands sound = record {
   replays = λ st h. (holds st h, tt);
@@ -59,10 +59,10 @@ goes_one blobs a b entry holds stands sound = record {
 }
 
 -- a call of the script, and one of a listener
-pub goes_script : (blobs : List (List ℕ)) (a b : Kept) (call : Call) (answer : Answer) → ((st : State) → Stands a st → IsStep answer b (after_call blobs call st))
+pub goes_script : (blobs : List (List ℕ)) (a b : KeptEngine) (call : Call) (answer : Answer) → ((st : State) → Stands a st → IsStep answer b (after_call blobs call st))
     → IsSoundEngine b → IsTransition blobs a b (Script call answer ∷ [])
 goes_script blobs a b call answer h sound = goes_one blobs a b (Script call answer) (λ st s. (h st s).answers) (λ st s. (h st s).stands) sound
 
-pub goes_listener : (blobs : List (List ℕ)) (a b : Kept) (w : ℕ) (call : Call) (answer : Answer) → ((st : State) → Stands a st → IsStep answer b (after_call blobs call st))
+pub goes_listener : (blobs : List (List ℕ)) (a b : KeptEngine) (w : ℕ) (call : Call) (answer : Answer) → ((st : State) → Stands a st → IsStep answer b (after_call blobs call st))
     → IsSoundEngine b → IsTransition blobs a b (Listener w call answer ∷ [])
 goes_listener blobs a b w call answer h sound = goes_one blobs a b (Listener w call answer) (λ st s. (h st s).answers) (λ st s. (h st s).stands) sound

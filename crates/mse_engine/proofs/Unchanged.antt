@@ -11,7 +11,7 @@ use Rattle.element_seek.specs.State.{PlayerState, has_ended}
 use Rattle.element_seek.specs.Seeking.{in_media, after_seek_in, after_seek}
 use Rattle.element_seek.specs.Playing.{after_rewind, after_unpause, after_play, after_pause, plays_on, after_move, after_time_in, after_time, after_advance}
 use Rattle.element_seek.specs.Turns.{is_seek_done, is_end_due, after_turn}
-use Rattle.media_element.specs.DurationChange.{after_seek_to, after_fall}
+use Rattle.media_element.specs.DurationChange.{after_seek_to, after_end_seek}
 
 pub record IsKept (p q : PlayerState) : Type 0 where
   pub error : q.error ≡ p.error
@@ -68,7 +68,7 @@ fall_by : (d : ℤ) (scene : Scene) (b : Bool) (p : PlayerState) → IsKept p (a
 fall_by d scene true p = in_seek d scene p
 fall_by d scene false p = same p
 
-pub in_fall : (duration : Moment) (scene : Scene) (p : PlayerState) → IsKept p (after_fall duration scene p).state
+pub in_fall : (duration : Moment) (scene : Scene) (p : PlayerState) → IsKept p (after_end_seek duration scene p).state
 in_fall Nan scene p = same p
 in_fall (At d) scene p = fall_by d scene (has_metadata p.level && int_lt d p.position) p
 in_fall Infinite scene p = same p

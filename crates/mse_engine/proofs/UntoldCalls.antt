@@ -19,14 +19,15 @@ use Rattle.track_buffers.specs.Media.{Media}
 use Rattle.track_buffers.specs.Frames.{media_after_eviction}
 use Rattle.track_buffers.specs.Settings.{with_mode, with_offset}
 use Rattle.buffer_state.specs.State.{Feed, Content, Surroundings, feed_with, is_updating, phase_in}
-use Rattle.buffer_state.specs.Replies.{CallResult, event_reply, refused_result, reopens, result_with}
+use Rattle.mse_calls.specs.Ready.{is_ended}
+use Rattle.buffer_state.specs.Replies.{CallResult, event_reply, refused_result, result_with}
 use Rattle.buffer_state.specs.Calls.{append_refusal, append_result, append_result_after_eviction, is_full, is_in_media, is_sequence, mode_refusal, offset_refusal, phase_refusal, settings_result, settings_result_by_phase, unless_refused, with_media}
 use Rattle.source_buffers.specs.State.{BufferState}
 use Rattle.source_buffers.specs.Slots.{call_in_slot, refusal_by_slot, refusal_in_slot, refusal_on_buffer, result_by_slot, result_on_buffer}
 use Rattle.mse_engine.specs.State.{Core, State}
 use Rattle.mse_engine.specs.Replies.{ready_after, surroundings_in}
-use Rattle.mse_engine.specs.Moved.{Moved, refused_moved, if_finite}
-use Rattle.mse_engine.specs.BufferCalls.{append_moved, append_moved_of, mode_moved, offset_moved, reply_moved}
+use Rattle.mse_engine.specs.CoreEffects.{CoreEffect, refused_effect, if_finite}
+use Rattle.mse_engine.specs.BufferCalls.{append_effect, append_effect_of, mode_effect, offset_effect, reply_effect}
 use Rattle.mse_engine.specs.Calls.{after_call, refused_or}
 use Rattle.mse_engine.specs.Refusals.{TellsAllButQuota, call_refusal, refusal_if_finite, refusal_if_there, refused_name}
 use Rattle.mse_engine.proofs.Refusing.{named}
@@ -41,20 +42,20 @@ told_all a name none is =
 
 -- ---- the others
 
-abbrev Untold : Option Name → Moved → State → Name → Type 0
+abbrev Untold : Option Name → CoreEffect → State → Name → Type 0
 Untold o m st name = o ≡ None → m.refused ≡ Some name → m.core ≡ st.core → name ≡ QuotaExceeded
 
-by_made : (b : Bool) (o : Option Name) (m : Moved) (st : State) (name : Name) → Untold o m st name → Untold (cond b o (Some NoSuchBuffer)) (cond b m (refused_moved NoSuchBuffer st.core)) st name
+by_made : (b : Bool) (o : Option Name) (m : CoreEffect) (st : State) (name : Name) → Untold o m st name → Untold (cond b o (Some NoSuchBuffer)) (cond b m (refused_effect NoSuchBuffer st.core)) st name
 by_made true o m st name h = h
 by_made false o m st name h = λ none is same. absurd (cc)
 
-by_finite : (t : Moment) (o : Option Name) (m : ℤ → Moved) (st : State) (name : Name) → ((u : ℤ) → Untold o (m u) st name) → Untold (refusal_if_finite t o) (if_finite t m st.core) st name
+by_finite : (t : Moment) (o : Option Name) (m : ℤ → CoreEffect) (st : State) (name : Name) → ((u : ℤ) → Untold o (m u) st name) → Untold (refusal_if_finite t o) (if_finite t m st.core) st name
 by_finite Nan o m st name h = λ none is same. absurd (cc)
 by_finite (At u) o m st name h = h u
 by_finite Infinite o m st name h = λ none is same. absurd (cc)
 
 -- the answer of the call, of its name
-answered : (m : Moved) (name : Name) → refused_or m.refused answer.Done ≡ answer.Refused name → m.refused ≡ Some name
+answered : (m : CoreEffect) (name : Name) → refused_or m.refused answer.Done ≡ answer.Refused name → m.refused ≡ Some name
 answered m name is = sym (named m.refused answer.Done refl) ∙ ap refused_name is
 
 -- ---- settings
@@ -65,9 +66,9 @@ none_behind false name o none = none
 
 -- in a media segment of an ended source it is opened again
 reopened : (media : Bool) (ready : Ready) (m : Media) (a : Surroundings) (f : Feed) (c : Content) (name : Name)
-    → cond media (cond (reopens ready) None (Some InvalidState)) None ≡ None
-    → (cond media (refused_result InvalidState (reopens ready) a f c) (settings_result (reopens ready) m a f c)).reply.refused ≡ Some name
-    → ready_after (cond media (refused_result InvalidState (reopens ready) a f c) (settings_result (reopens ready) m a f c)).reply ready ≡ ready
+    → cond media (cond (is_ended ready) None (Some InvalidState)) None ≡ None
+    → (cond media (refused_result InvalidState (is_ended ready) a f c) (settings_result (is_ended ready) m a f c)).reply.refused ≡ Some name
+    → ready_after (cond media (refused_result InvalidState (is_ended ready) a f c) (settings_result (is_ended ready) m a f c)).reply ready ≡ ready
     → name ≡ QuotaExceeded
 reopened true Closed m a f c name none is same = absurd (cc)
 reopened true Opened m a f c name none is same = absurd (cc)
@@ -98,7 +99,7 @@ in_slot_phase k refusal media c name (Some (Some b)) phase none is same = in_pha
 
 setting_untold : (k : ℕ) (refusal : Feed → Content → Option Name) (media : Content → Media) (st : State) (name : Name)
     → ((f : Feed) (x : Content) → refusal f x ≡ None → phase_refusal (surroundings_in k st.core.source) f ≡ None)
-    → Untold (refusal_on_buffer k InvalidState refusal st.core.buffers) (reply_moved k (result_on_buffer k InvalidState st.core.source.state.duration (setting refusal media (surroundings_in k st.core.source)) st.core.buffers) st.core) st name
+    → Untold (refusal_on_buffer k InvalidState refusal st.core.buffers) (reply_effect k (result_on_buffer k InvalidState st.core.source.state.duration (setting refusal media (surroundings_in k st.core.source)) st.core.buffers) st.core) st name
 setting_untold k refusal media st name phase none is same = in_slot_phase k refusal media st.core name (slice_get st.core.buffers k) phase none is (ap (λ (c : Core). c.source.state.ready) same)
 
 mode_phase : (mode : Mode) (a : Surroundings) (f : Feed) (c : Content) → mode_refusal mode a f c ≡ None → phase_refusal a f ≡ None
@@ -106,16 +107,16 @@ mode_phase mode a f c none =
     let wrong : Bool = c.media.settings.generate && not (is_sequence mode) in
     none_behind wrong TypeError (phase_refusal a f) (none_behind (is_updating f.running) InvalidState (cond wrong (Some TypeError) (phase_refusal a f)) none)
 
-mode_untold : (k : ℕ) (mode : Mode) (st : State) (name : Name) → Untold (refusal_on_buffer k InvalidState (mode_refusal mode (surroundings_in k st.core.source)) st.core.buffers) (mode_moved k mode st.core) st name
+mode_untold : (k : ℕ) (mode : Mode) (st : State) (name : Name) → Untold (refusal_on_buffer k InvalidState (mode_refusal mode (surroundings_in k st.core.source)) st.core.buffers) (mode_effect k mode st.core) st name
 mode_untold k mode st name = let a = surroundings_in k st.core.source in setting_untold k (mode_refusal mode a) (λ c. with_mode (is_sequence mode) c.media) st name (mode_phase mode a)
 
-offset_untold : (k : ℕ) (t : Moment) (st : State) (name : Name) → Untold (call_refusal [] (call.SetTimestampOffset k t) st) (offset_moved k t st.core) st name
+offset_untold : (k : ℕ) (t : Moment) (st : State) (name : Name) → Untold (call_refusal [] (call.SetTimestampOffset k t) st) (offset_effect k t st.core) st name
 offset_untold k t st name =
     let a = surroundings_in k st.core.source in
     let here : Option Name = refusal_on_buffer k InvalidState (λ f c. offset_refusal a f) st.core.buffers in
-    let moved : ℤ → Moved = λ u. reply_moved k (result_on_buffer k InvalidState st.core.source.state.duration (setting (λ f c. offset_refusal a f) (λ c. with_offset u c.media) a) st.core.buffers) st.core in
-    by_made (nat_lt k (length st.core.buffers)) (refusal_if_finite t here) (if_finite t moved st.core) st name
-    (by_finite t here moved st name (λ u. setting_untold k (λ f c. offset_refusal a f) (λ c. with_offset u c.media) st name (λ f c none. none_behind (is_updating f.running) InvalidState (phase_refusal a f) none)))
+    let effect : ℤ → CoreEffect = λ u. reply_effect k (result_on_buffer k InvalidState st.core.source.state.duration (setting (λ f c. offset_refusal a f) (λ c. with_offset u c.media) a) st.core.buffers) st.core in
+    by_made (nat_lt k (length st.core.buffers)) (refusal_if_finite t here) (if_finite t effect st.core) st name
+    (by_finite t here effect st name (λ u. setting_untold k (λ f c. offset_refusal a f) (λ c. with_offset u c.media) st name (λ f c none. none_behind (is_updating f.running) InvalidState (phase_refusal a f) none)))
 
 -- ---- appends
 
@@ -127,7 +128,7 @@ after_eviction : (bytes : List ℕ) (position : ℤ) (quota : ℕ) (a : Surround
 after_eviction bytes position quota a f c name is =
     let m : Media = media_after_eviction position (length bytes) quota a.duration c.media in
     let x : Content = with_media m c in
-    for_quota (is_full bytes quota f m) (refused_result QuotaExceeded (reopens a.ready) a f x) (result_with (event_reply (reopens a.ready) a.duration (UpdateStart ∷ [])) (feed_with bytes f) x) name refl refl is
+    for_quota (is_full bytes quota f m) (refused_result QuotaExceeded (is_ended a.ready) a f x) (result_with (event_reply (is_ended a.ready) a.duration (UpdateStart ∷ [])) (feed_with bytes f) x) name refl refl is
 
 in_slot_quota : (k : ℕ) (bytes : List ℕ) (position : ℤ) (quota : ℕ) (c : Core) (name : Name) (o : Option (Option BufferState))
     → refusal_by_slot o (refusal_in_slot InvalidState (λ f x. append_refusal (surroundings_in k c.source) f)) ≡ None
@@ -140,21 +141,21 @@ in_slot_quota k bytes position quota c name (Some (Some b)) none is =
     let did : append_result (record { bytes = bytes; position = position; quota = quota }) a b.feed b.content ≡ append_result_after_eviction (record { bytes = bytes; position = position; quota = quota }) a b.feed b.content = ap (λ (o : Option Name). unless_refused o (append_result_after_eviction (record { bytes = bytes; position = position; quota = quota }) a b.feed b.content) a b.feed b.content) none in
     after_eviction bytes position quota a b.feed b.content name (sym (ap (λ (r : CallResult). r.reply.refused) did) ∙ is)
 
-bytes_untold : (bytes : Option (List ℕ)) (k : ℕ) (st : State) (name : Name) → Untold (refusal_if_there bytes (refusal_on_buffer k InvalidState (λ f c. append_refusal (surroundings_in k st.core.source) f) st.core.buffers)) (append_moved_of bytes k st.outer.element.position st.core) st name
+bytes_untold : (bytes : Option (List ℕ)) (k : ℕ) (st : State) (name : Name) → Untold (refusal_if_there bytes (refusal_on_buffer k InvalidState (λ f c. append_refusal (surroundings_in k st.core.source) f) st.core.buffers)) (append_effect_of bytes k st.outer.element.position st.core) st name
 bytes_untold None k st name = λ none is same. absurd (cc)
 bytes_untold (Some bytes) k st name = λ none is same. in_slot_quota k bytes st.outer.element.position st.core.source.quota st.core name (slice_get st.core.buffers k) none is
 
-append_untold : (blobs : List (List ℕ)) (k : ℕ) (piece : Piece) (st : State) (name : Name) → Untold (call_refusal blobs (call.AppendBuffer k piece) st) (append_moved blobs piece k st.outer.element.position st.core) st name
+append_untold : (blobs : List (List ℕ)) (k : ℕ) (piece : Piece) (st : State) (name : Name) → Untold (call_refusal blobs (call.AppendBuffer k piece) st) (append_effect blobs piece k st.outer.element.position st.core) st name
 append_untold blobs k piece st name =
     let here : Option Name = refusal_on_buffer k InvalidState (λ f c. append_refusal (surroundings_in k st.core.source) f) st.core.buffers in
-    by_made (nat_lt k (length st.core.buffers)) (refusal_if_there (bytes_of blobs piece) here) (append_moved_of (bytes_of blobs piece) k st.outer.element.position st.core) st name (bytes_untold (bytes_of blobs piece) k st name)
+    by_made (nat_lt k (length st.core.buffers)) (refusal_if_there (bytes_of blobs piece) here) (append_effect_of (bytes_of blobs piece) k st.outer.element.position st.core) st name (bytes_untold (bytes_of blobs piece) k st name)
 
 -- ---- all calls
 
 pub tells_all_but_quota : (blobs : List (List ℕ)) (c : Call) (st : State) → TellsAllButQuota blobs c st
-tells_all_but_quota blobs (call.SetMode k mode) st = λ name none is same. mode_untold k mode st name none (answered (mode_moved k mode st.core) name is) same
-tells_all_but_quota blobs (call.SetTimestampOffset k t) st = λ name none is same. offset_untold k t st name none (answered (offset_moved k t st.core) name is) same
-tells_all_but_quota blobs (call.AppendBuffer k piece) st = λ name none is same. append_untold blobs k piece st name none (answered (append_moved blobs piece k st.outer.element.position st.core) name is) same
+tells_all_but_quota blobs (call.SetMode k mode) st = λ name none is same. mode_untold k mode st name none (answered (mode_effect k mode st.core) name is) same
+tells_all_but_quota blobs (call.SetTimestampOffset k t) st = λ name none is same. offset_untold k t st name none (answered (offset_effect k t st.core) name is) same
+tells_all_but_quota blobs (call.AppendBuffer k piece) st = λ name none is same. append_untold blobs k piece st name none (answered (append_effect blobs piece k st.outer.element.position st.core) name is) same
 tells_all_but_quota blobs call.Attach st = λ name none is same. told_all (after_call blobs call.Attach st).answer name none is
 tells_all_but_quota blobs (call.AddSourceBuffer text) st = λ name none is same. told_all (after_call blobs (call.AddSourceBuffer text) st).answer name none is
 tells_all_but_quota blobs (call.RemoveSourceBuffer k) st = λ name none is same. told_all (after_call blobs (call.RemoveSourceBuffer k) st).answer name none is

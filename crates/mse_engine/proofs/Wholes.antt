@@ -15,7 +15,7 @@ use Rattle.mse_engine.specs.State.{State, opening_state}
 use Rattle.mse_engine.specs.Calls.{after_call}
 use Rattle.mse_engine.specs.Work.{after_work, after_element_turn, fire_result, without_first}
 use Rattle.mse_engine.specs.Positions.{IsPlacedState}
-use Rattle.mse_engine.specs.Standing.{SourceSide, Kept, Stands, IsStep, IsSteady, IsWork, IsFired, HasEngineInvariants, kept, new_side}
+use Rattle.mse_engine.specs.Standing.{SourceSide, KeptEngine, Stands, IsStep, IsSteady, IsWork, IsFired, HasEngineInvariants, kept_engine, new_side}
 use Rattle.mse_engine.proofs.SoundStates.{sound_steady, stands_sound}
 use Rattle.mse_engine.proofs.Placing.{AreInside}
 use Rattle.mse_engine.proofs.Placed.{call-placed, work-placed, turn-placed}
@@ -26,7 +26,7 @@ opens_placed quota gap = record {
   untracked = λ n. tt;
 }
 
-pub whole_call : AreInside → (blobs : List (List ℕ)) (x : Call) (old new : Kept) (answer : Answer) → (h : HasEngineInvariants old) → IsSteady new → AreSound (all_kept_media new.buffers)
+pub whole_call : AreInside → (blobs : List (List ℕ)) (x : Call) (old new : KeptEngine) (answer : Answer) → (h : HasEngineInvariants old) → IsSteady new → AreSound (all_kept_media new.buffers)
     → IsStep answer new (after_call blobs x h.inside.state) → HasEngineInvariants new
 whole_call law blobs x old new answer h steady sound made = record {
   steady = steady;
@@ -38,20 +38,20 @@ whole_call law blobs x old new answer h steady sound made = record {
 }
 
 -- nothing changed
-pub whole_still : (old new : Kept) → new ≡ old → HasEngineInvariants old → HasEngineInvariants new
-whole_still old new same h = subst (λ (k : Kept). HasEngineInvariants k) (sym same) h
+pub whole_still : (old new : KeptEngine) → new ≡ old → HasEngineInvariants old → HasEngineInvariants new
+whole_still old new same h = subst (λ (k : KeptEngine). HasEngineInvariants k) (sym same) h
 
-worked_by : (w : Worked) (o : Option State) (old new : Kept) → HasEngineInvariants old → IsSteady new → ((st : State) → o ≡ Some st → Stands new st → IsPlacedState st) → IsWork w old new o → HasEngineInvariants new
+worked_by : (w : Worked) (o : Option State) (old new : KeptEngine) → HasEngineInvariants old → IsSteady new → ((st : State) → o ≡ Some st → Stands new st → IsPlacedState st) → IsWork w old new o → HasEngineInvariants new
 worked_by Did None old new h steady f work = absurd work
 worked_by Did (Some st) old new h steady f work = record { steady = steady; inside = record { state = st; stands = work; placed = f st refl work } }
 worked_by Idle None old new h steady f work = whole_still old new work h
 worked_by Idle (Some st) old new h steady f work = absurd work
 
-pub whole_work : AreInside → (k : ℕ) (w : Worked) (old new : Kept) → (h : HasEngineInvariants old) → IsSteady new → AreSound (all_kept_media new.buffers) → IsWork w old new (after_work k h.inside.state) → HasEngineInvariants new
+pub whole_work : AreInside → (k : ℕ) (w : Worked) (old new : KeptEngine) → (h : HasEngineInvariants old) → IsSteady new → AreSound (all_kept_media new.buffers) → IsWork w old new (after_work k h.inside.state) → HasEngineInvariants new
 whole_work law k w old new h steady sound work =
     worked_by w (after_work k h.inside.state) old new h steady (λ st is stands. work-placed law k h.inside.state st is h.inside.placed (stands_sound new st stands (sound_steady new steady sound))) work
 
-pub whole_turn : AreInside → (w : Worked) (old new : Kept) → (h : HasEngineInvariants old) → IsSteady new → AreSound (all_kept_media old.buffers) → IsWork w old new (after_element_turn h.inside.state) → HasEngineInvariants new
+pub whole_turn : AreInside → (w : Worked) (old new : KeptEngine) → (h : HasEngineInvariants old) → IsSteady new → AreSound (all_kept_media old.buffers) → IsWork w old new (after_element_turn h.inside.state) → HasEngineInvariants new
 whole_turn law w old new h steady sound work =
     worked_by w (after_element_turn h.inside.state) old new h steady (λ st is stands. turn-placed law h.inside.state st is h.inside.placed (stands_sound old h.inside.state h.inside.stands (sound_steady old h.steady sound))) work
 
@@ -59,26 +59,26 @@ whole_turn law w old new h steady sound work =
 fired_placed : (st : State) → IsPlacedState st → IsPlacedState (without_first st)
 fired_placed st h = record { placed = h.placed; untracked = h.untracked }
 
-whole_fired_by : (o : Option Event) (st : State) (event : Option Event) (old new : Kept) → HasEngineInvariants old → IsPlacedState st → IsSteady new
+whole_fired_by : (o : Option Event) (st : State) (event : Option Event) (old new : KeptEngine) → HasEngineInvariants old → IsPlacedState st → IsSteady new
     → IsFired event old new (option_map (λ e. record { answer = e; state = without_first st }) o) → HasEngineInvariants new
 whole_fired_by None st None old new h p steady fire = whole_still old new fire h
 whole_fired_by None st (Some event) old new h p steady fire = absurd fire
 whole_fired_by (Some x) st None old new h p steady fire = absurd fire
 whole_fired_by (Some x) st (Some event) old new h p steady fire = record { steady = steady; inside = record { state = without_first st; stands = fire.1; placed = fired_placed st p } }
 
-pub whole_fire : (event : Option Event) (old new : Kept) → (h : HasEngineInvariants old) → IsSteady new → IsFired event old new (fire_result h.inside.state) → HasEngineInvariants new
+pub whole_fire : (event : Option Event) (old new : KeptEngine) → (h : HasEngineInvariants old) → IsSteady new → IsFired event old new (fire_result h.inside.state) → HasEngineInvariants new
 whole_fire event old new h steady fire = whole_fired_by _ h.inside.state event old new h h.inside.placed steady fire
 
-pub fire_steady : (side : SourceSide) (buffers : KeptBuffers) (e new : ElementState) → new ≡ after_fire e → IsSteady (kept side buffers e) → IsSteady (kept side buffers new)
-fire_steady side buffers e new is k = subst (λ (x : ElementState). IsSteady (kept side buffers x)) (sym is) (record { made = k.made; within = k.within; settled = k.settled })
+pub fire_steady : (side : SourceSide) (buffers : KeptBuffers) (e new : ElementState) → new ≡ after_fire e → IsSteady (kept_engine side buffers e) → IsSteady (kept_engine side buffers new)
+fire_steady side buffers e new is k = subst (λ (x : ElementState). IsSteady (kept_engine side buffers x)) (sym is) (record { made = k.made; within = k.within; settled = k.settled })
 
-pub new_steady : (quota : ℕ) (gap : ℤ) → IsSteady (kept (new_side quota gap) [] new_element)
+pub new_steady : (quota : ℕ) (gap : ℤ) → IsSteady (kept_engine (new_side quota gap) [] new_element)
 new_steady quota gap = record { made = refl; within = tt; settled = refl }
 
-pub new_whole : (quota : ℕ) (gap : ℤ) (side : SourceSide) (buffers : KeptBuffers) (e : ElementState) → side ≡ new_side quota gap → buffers ≡ [] → e ≡ new_element → HasEngineInvariants (kept side buffers e)
+pub new_whole : (quota : ℕ) (gap : ℤ) (side : SourceSide) (buffers : KeptBuffers) (e : ElementState) → side ≡ new_side quota gap → buffers ≡ [] → e ≡ new_element → HasEngineInvariants (kept_engine side buffers e)
 new_whole quota gap side buffers e is none new =
-    let same : kept (new_side quota gap) [] new_element ≡ kept side buffers e = λ i. kept ((sym is) i) ((sym none) i) ((sym new) i) in
-    subst (λ (k : Kept). HasEngineInvariants k) same (record {
+    let same : kept_engine (new_side quota gap) [] new_element ≡ kept_engine side buffers e = λ i. kept_engine ((sym is) i) ((sym none) i) ((sym new) i) in
+    subst (λ (k : KeptEngine). HasEngineInvariants k) same (record {
       steady = new_steady quota gap;
       inside = record { state = opening_state quota gap; stands = record { source = refl; buffers = tt; outer = refl }; placed = opens_placed quota gap };
     })

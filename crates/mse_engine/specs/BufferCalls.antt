@@ -11,57 +11,57 @@ use Rattle.buffer_state.specs.Calls.{mode_result, offset_result, window_start_re
 use Rattle.source_buffers.specs.Slots.{BuffersResult, result_on_buffer, removed_type_name}
 use Rattle.mse_engine.specs.State.{Core}
 use Rattle.mse_engine.specs.Replies.{source_after, reply_signals, surroundings_in}
-use Rattle.mse_engine.specs.Moved.{Moved, refused_moved, if_finite, if_made}
+use Rattle.mse_engine.specs.CoreEffects.{CoreEffect, refused_effect, if_finite, if_made}
 
-abbrev pub reply_moved : ℕ → BuffersResult → Core → Moved
-reply_moved k result c = record {
+abbrev pub reply_effect : ℕ → BuffersResult → Core → CoreEffect
+reply_effect k result c = record {
   refused = result.reply.refused;
   core = record { source = source_after k result.reply c.source; buffers = result.buffers };
   signals = reply_signals k result.reply c.source;
 }
 
 -- a call on the buffer of a number
-abbrev pub buffer_moved : ℕ → (Surroundings → Feed → Content → CallResult) → Core → Moved
-buffer_moved k call c =
-    reply_moved k
+abbrev pub buffer_effect : ℕ → (Surroundings → Feed → Content → CallResult) → Core → CoreEffect
+buffer_effect k call c =
+    reply_effect k
     (result_on_buffer k InvalidState c.source.state.duration (call (surroundings_in k c.source))
     c.buffers)
     c
 
-abbrev pub mode_moved : ℕ → Mode → Core → Moved
-mode_moved k mode c = buffer_moved k (mode_result mode) c
+abbrev pub mode_effect : ℕ → Mode → Core → CoreEffect
+mode_effect k mode c = buffer_effect k (mode_result mode) c
 
-abbrev pub offset_moved : ℕ → Moment → Core → Moved
-offset_moved k t c = if_made k (if_finite t (λ offset. buffer_moved k (offset_result offset) c) c) c
+abbrev pub offset_effect : ℕ → Moment → Core → CoreEffect
+offset_effect k t c = if_made k (if_finite t (λ offset. buffer_effect k (offset_result offset) c) c) c
 
-abbrev pub window_start_moved : ℕ → Moment → Core → Moved
-window_start_moved k t c =
-    if_made k (if_finite t (λ start. buffer_moved k (window_start_result start) c) c) c
+abbrev pub window_start_effect : ℕ → Moment → Core → CoreEffect
+window_start_effect k t c =
+    if_made k (if_finite t (λ start. buffer_effect k (window_start_result start) c) c) c
 
-abbrev pub window_end_moved : ℕ → Moment → Core → Moved
-window_end_moved k t c = buffer_moved k (window_end_result t) c
+abbrev pub window_end_effect : ℕ → Moment → Core → CoreEffect
+window_end_effect k t c = buffer_effect k (window_end_result t) c
 
-abbrev pub remove_frames_moved : ℕ → Moment → Moment → Core → Moved
-remove_frames_moved k start end c =
-    if_made k (if_finite start (λ from. buffer_moved k (remove_result from end) c) c) c
+abbrev pub remove_frames_effect : ℕ → Moment → Moment → Core → CoreEffect
+remove_frames_effect k start end c =
+    if_made k (if_finite start (λ from. buffer_effect k (remove_result from end) c) c) c
 
 -- an append at a playback position, of bytes that there must be
-abbrev pub append_moved_of : Option (List ℕ) → ℕ → ℤ → Core → Moved
-append_moved_of None k position c = refused_moved NoSuchBytes c
-append_moved_of (Some bytes) k position c =
-    buffer_moved k
+abbrev pub append_effect_of : Option (List ℕ) → ℕ → ℤ → Core → CoreEffect
+append_effect_of None k position c = refused_effect NoSuchBytes c
+append_effect_of (Some bytes) k position c =
+    buffer_effect k
     (append_result (record { bytes = bytes; position = position; quota = c.source.quota })) c
 
-abbrev pub append_moved : List (List ℕ) → Piece → ℕ → ℤ → Core → Moved
-append_moved blobs piece k position c =
-    if_made k (append_moved_of (bytes_of blobs piece) k position c) c
+abbrev pub append_effect : List (List ℕ) → Piece → ℕ → ℤ → Core → CoreEffect
+append_effect blobs piece k position c =
+    if_made k (append_effect_of (bytes_of blobs piece) k position c) c
 
-abbrev pub abort_moved : ℕ → Core → Moved
-abort_moved k c = buffer_moved k abort_result c
+abbrev pub abort_effect : ℕ → Core → CoreEffect
+abort_effect k c = buffer_effect k abort_result c
 
-abbrev pub change_type_moved : ℕ → List ℕ → Core → Moved
-change_type_moved k text c =
-    reply_moved k
+abbrev pub change_type_effect : ℕ → List ℕ → Core → CoreEffect
+change_type_effect k text c =
+    reply_effect k
     (result_on_buffer k (removed_type_name text) c.source.state.duration
     (change_type_result text (surroundings_in k c.source)) c.buffers)
     c

@@ -22,85 +22,85 @@ use Rattle.source_buffers.specs.Buffered.{buffered_at}
 use Rattle.mse_engine.specs.State.{Core, Outer, State, outer_of, element_in}
 use Rattle.mse_engine.specs.Scenes.{CoreView, core_view, buffered_in, seekable_in, scene_at}
 use Rattle.mse_engine.specs.Signals.{step}
-use Rattle.mse_engine.specs.Moved.{Moved, refused_moved, unmoved, if_made}
-use Rattle.mse_engine.specs.SourceCalls.{attach_moved, add_moved, remove_moved, set_duration_moved, end_moved, set_live_moved, clear_live_moved}
-use Rattle.mse_engine.specs.BufferCalls.{mode_moved, offset_moved, window_start_moved, window_end_moved, append_moved, abort_moved, remove_frames_moved, change_type_moved}
+use Rattle.mse_engine.specs.CoreEffects.{CoreEffect, refused_effect, no_core_effect, if_made}
+use Rattle.mse_engine.specs.SourceCalls.{attach_effect, add_effect, remove_effect, set_duration_effect, end_effect, set_live_effect, clear_live_effect}
+use Rattle.mse_engine.specs.BufferCalls.{mode_effect, offset_effect, window_start_effect, window_end_effect, append_effect, abort_effect, remove_frames_effect, change_type_effect}
 
 -- ---- the element's calls
 
-abbrev pub Acting : Type 0
-Acting = Answered (Option Name) Outer
+abbrev pub ElementEffect : Type 0
+ElementEffect = Answered (Option Name) Outer
 
-abbrev pub without_action : Outer → Acting
-without_action o = record { answer = None; state = o }
+abbrev pub no_element_effect : Outer → ElementEffect
+no_element_effect o = record { answer = None; state = o }
 
 -- what may be refused
-abbrev pub acting_by : (PlayerState → Answered Acted PlayerState) → ElementState → Acting
-acting_by call e = record {
+abbrev pub element_effect_by : (PlayerState → Answered Acted PlayerState) → ElementState → ElementEffect
+element_effect_by call e = record {
   answer = queueing.refusal (call e.player).answer;
   state = outer_of (queueing.after_call call e);
 }
 
 -- currentTime, on setting: to a number (HTML, "seeking")
-abbrev pub seek_acting : Moment → CoreView → Outer → Acting
-seek_acting Nan v o = record { answer = Some TypeError; state = o }
-seek_acting (At t) v o =
-    without_action
+abbrev pub seek_effect : Moment → CoreView → Outer → ElementEffect
+seek_effect Nan v o = record { answer = Some TypeError; state = o }
+seek_effect (At t) v o =
+    no_element_effect
     (outer_of
     (queueing.after (after_seek t (scene_at o.element.position v)) (element_in v.source.error o)))
-seek_acting Infinite v o = record { answer = Some TypeError; state = o }
+seek_effect Infinite v o = record { answer = Some TypeError; state = o }
 
-abbrev pub play_acting : CoreView → Outer → Acting
-play_acting v o =
-    acting_by (after_play (scene_at o.element.position v)) (element_in v.source.error o)
+abbrev pub play_effect : CoreView → Outer → ElementEffect
+play_effect v o =
+    element_effect_by (after_play (scene_at o.element.position v)) (element_in v.source.error o)
 
-abbrev pub pause_acting : CoreView → Outer → Acting
-pause_acting v o =
-    without_action (outer_of (queueing.after after_pause (element_in v.source.error o)))
+abbrev pub pause_effect : CoreView → Outer → ElementEffect
+pause_effect v o =
+    no_element_effect (outer_of (queueing.after after_pause (element_in v.source.error o)))
 
 -- so much time passes
-abbrev pub advance_acting : Moment → CoreView → Outer → Acting
-advance_acting Nan v o = record { answer = Some TypeError; state = o }
-advance_acting (At t) v o =
-    acting_by (after_advance t (scene_at o.element.position v)) (element_in v.source.error o)
-advance_acting Infinite v o = record { answer = Some TypeError; state = o }
+abbrev pub advance_effect : Moment → CoreView → Outer → ElementEffect
+advance_effect Nan v o = record { answer = Some TypeError; state = o }
+advance_effect (At t) v o =
+    element_effect_by (after_advance t (scene_at o.element.position v)) (element_in v.source.error o)
+advance_effect Infinite v o = record { answer = Some TypeError; state = o }
 
-abbrev pub call_acting : Call → CoreView → Outer → Acting
-call_acting (call.Seek t) v o = seek_acting t v o
-call_acting call.Play v o = play_acting v o
-call_acting call.Pause v o = pause_acting v o
-call_acting (call.Advance t) v o = advance_acting t v o
-call_acting other v o = without_action o
+abbrev pub element_effect : Call → CoreView → Outer → ElementEffect
+element_effect (call.Seek t) v o = seek_effect t v o
+element_effect call.Play v o = play_effect v o
+element_effect call.Pause v o = pause_effect v o
+element_effect (call.Advance t) v o = advance_effect t v o
+element_effect other v o = no_element_effect o
 
 -- ---- the calls on the source and on its buffers
 
 -- reading buffered of a buffer that was removed is refused
-abbrev pub read_slot_moved : Option BufferState → Core → Moved
-read_slot_moved None c = refused_moved InvalidState c
-read_slot_moved (Some b) c = unmoved c
+abbrev pub read_slot_effect : Option BufferState → Core → CoreEffect
+read_slot_effect None c = refused_effect InvalidState c
+read_slot_effect (Some b) c = no_core_effect c
 
-abbrev pub read_moved : ℕ → Core → Moved
-read_moved k c = if_made k (read_slot_moved (in_slot k c.buffers) c) c
+abbrev pub read_effect : ℕ → Core → CoreEffect
+read_effect k c = if_made k (read_slot_effect (in_slot k c.buffers) c) c
 
 -- with the blobs and the playback position
-abbrev pub call_moved : List (List ℕ) → ℤ → Call → Core → Moved
-call_moved blobs position call.Attach c = attach_moved c
-call_moved blobs position (call.AddSourceBuffer text) c = add_moved text c
-call_moved blobs position (call.RemoveSourceBuffer k) c = remove_moved k c
-call_moved blobs position (call.SetDuration d) c = set_duration_moved d c
-call_moved blobs position (call.EndOfStream end) c = end_moved end c
-call_moved blobs position (call.SetLiveSeekableRange start end) c = set_live_moved start end c
-call_moved blobs position call.ClearLiveSeekableRange c = clear_live_moved c
-call_moved blobs position (call.SetMode k mode) c = mode_moved k mode c
-call_moved blobs position (call.SetTimestampOffset k t) c = offset_moved k t c
-call_moved blobs position (call.SetAppendWindowStart k t) c = window_start_moved k t c
-call_moved blobs position (call.SetAppendWindowEnd k t) c = window_end_moved k t c
-call_moved blobs position (call.AppendBuffer k piece) c = append_moved blobs piece k position c
-call_moved blobs position (call.Abort k) c = abort_moved k c
-call_moved blobs position (call.Remove k start end) c = remove_frames_moved k start end c
-call_moved blobs position (call.ChangeType k text) c = change_type_moved k text c
-call_moved blobs position (call.Buffered k) c = read_moved k c
-call_moved blobs position other c = unmoved c
+abbrev pub core_effect : List (List ℕ) → ℤ → Call → Core → CoreEffect
+core_effect blobs position call.Attach c = attach_effect c
+core_effect blobs position (call.AddSourceBuffer text) c = add_effect text c
+core_effect blobs position (call.RemoveSourceBuffer k) c = remove_effect k c
+core_effect blobs position (call.SetDuration d) c = set_duration_effect d c
+core_effect blobs position (call.EndOfStream end) c = end_effect end c
+core_effect blobs position (call.SetLiveSeekableRange start end) c = set_live_effect start end c
+core_effect blobs position call.ClearLiveSeekableRange c = clear_live_effect c
+core_effect blobs position (call.SetMode k mode) c = mode_effect k mode c
+core_effect blobs position (call.SetTimestampOffset k t) c = offset_effect k t c
+core_effect blobs position (call.SetAppendWindowStart k t) c = window_start_effect k t c
+core_effect blobs position (call.SetAppendWindowEnd k t) c = window_end_effect k t c
+core_effect blobs position (call.AppendBuffer k piece) c = append_effect blobs piece k position c
+core_effect blobs position (call.Abort k) c = abort_effect k c
+core_effect blobs position (call.Remove k start end) c = remove_frames_effect k start end c
+core_effect blobs position (call.ChangeType k text) c = change_type_effect k text c
+core_effect blobs position (call.Buffered k) c = read_effect k c
+core_effect blobs position other c = no_core_effect c
 
 -- ---- the answer
 
@@ -130,7 +130,7 @@ abbrev pub refused_or : Option Name → Answer → Answer
 refused_or None a = a
 refused_or (Some name) a = answer.Refused name
 
-abbrev pub after_call_by : Moved → Acting → Answer → Answered Answer State
+abbrev pub after_call_by : CoreEffect → ElementEffect → Answer → Answered Answer State
 after_call_by m acts a = record {
   answer = refused_or m.refused (refused_or acts.answer a);
   state = step m.core m.signals acts.state;
@@ -138,5 +138,5 @@ after_call_by m acts a = record {
 
 abbrev pub after_call : List (List ℕ) → Call → State → Answered Answer State
 after_call blobs call st =
-    after_call_by (call_moved blobs st.outer.element.position call st.core)
-    (call_acting call (core_view st.core) st.outer) (read_answer st call)
+    after_call_by (core_effect blobs st.outer.element.position call st.core)
+    (element_effect call (core_view st.core) st.outer) (read_answer st call)

@@ -2,7 +2,7 @@ pub mod State
 pub mod Scenes
 pub mod Signals
 pub mod Replies
-pub mod Moved
+pub mod CoreEffects
 pub mod SourceCalls
 pub mod BufferCalls
 pub mod Calls

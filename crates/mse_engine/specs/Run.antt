@@ -48,6 +48,16 @@ Replays blobs st (entry ∷ entries) =
     (entry_meaning blobs st entry).holds
     × Replays blobs (entry_meaning blobs st entry).state entries
 
+-- the entry of an event that is fired, if one waits
+abbrev pub fire_entries : Option (Answered Event State) → List Entry
+fire_entries None = []
+fire_entries (Some fired) = Fired fired.answer ∷ []
+
+-- one entry where there is something to do
+abbrev pub entries_if : Option State → Entry → List Entry
+entries_if None entry = []
+entries_if (Some new) entry = entry ∷ []
+
 -- the event of an entry, if one was fired
 abbrev pub event_in : Entry → Option Event
 event_in (Step n) = None

@@ -7,7 +7,7 @@ use Rattle.source_buffers.specs.All.{AllEndWithin, AreSound}
 use Rattle.source_buffers.specs.State.{all_kept_media, media_of_all}
 use Rattle.mse_engine.specs.State.{State}
 use Rattle.mse_engine.specs.Run.{entry_meaning}
-use Rattle.mse_engine.specs.Standing.{Kept}
+use Rattle.mse_engine.specs.Standing.{KeptEngine}
 
 -- Each track buffer is sound, and each stored frame ends at or before the duration; without a duration there is none.
 pub record AreSoundWithin (duration : Moment) (media : List (Option Media)) : Type 0 where
@@ -15,7 +15,7 @@ pub record AreSoundWithin (duration : Moment) (media : List (Option Media)) : Ty
   pub within : AllEndWithin duration media
 
 -- of what the engine keeps
-abbrev pub IsSoundEngine : Kept → Type 0
+abbrev pub IsSoundEngine : KeptEngine → Type 0
 IsSoundEngine k = AreSoundWithin k.side.state.duration (all_kept_media k.buffers)
 
 -- of the machine's state

@@ -29,34 +29,34 @@ use Rattle.mse_calls.specs.declared.events.Event.{Event}
 use Rattle.mse_engine.specs.State.{Core}
 use Rattle.mse_engine.specs.Signals.{Signal, Tell, DurationChanged}
 use Rattle.mse_engine.specs.Replies.{buffer_signal, error_events, first_error, surroundings_in}
-use Rattle.mse_engine.specs.Moved.{Moved, refused_moved, moved_to, with_state, if_finite, if_made}
+use Rattle.mse_engine.specs.CoreEffects.{CoreEffect, refused_effect, effect_leaving, with_state, if_finite, if_made}
 
 -- a call that the source refuses, or after which these signals are heard
-abbrev pub answered_by : Option Name → SourceState → List Signal → Core → Moved
-answered_by (Some name) s signals c = refused_moved name c
-answered_by None s signals c = moved_to s signals c
+abbrev pub answered_by : Option Name → SourceState → List Signal → Core → CoreEffect
+answered_by (Some name) s signals c = refused_effect name c
+answered_by None s signals c = effect_leaving s signals c
 
-abbrev pub from_source : Answered (Option Name) SourceState → List Signal → Core → Moved
+abbrev pub from_source : Answered (Option Name) SourceState → List Signal → Core → CoreEffect
 from_source a signals c = answered_by a.answer a.state signals c
 
-abbrev pub attach_moved : Core → Moved
-attach_moved c =
+abbrev pub attach_effect : Core → CoreEffect
+attach_effect c =
     from_source (after_attach c.source.state)
     (Tell (event_at target.Source kind.SourceOpen ∷ []) ∷ []) c
 
-abbrev pub set_live_moved : Moment → Moment → Core → Moved
-set_live_moved start end c =
+abbrev pub set_live_effect : Moment → Moment → Core → CoreEffect
+set_live_effect start end c =
     if_finite start
     (λ a. if_finite end (λ b. from_source (after_set_live a b c.source.state) [] c) c) c
 
-abbrev pub clear_live_moved : Core → Moved
-clear_live_moved c = from_source (after_clear_live c.source.state) [] c
+abbrev pub clear_live_effect : Core → CoreEffect
+clear_live_effect c = from_source (after_clear_live c.source.state) [] c
 
 -- ---- the list of source buffers
 
-abbrev pub added_moved : Container → Added → SourceState → Core → Moved
-added_moved container (added.Refused name) s c = refused_moved name c
-added_moved container (added.Number k) s c = record {
+abbrev pub added_effect : Container → Added → SourceState → Core → CoreEffect
+added_effect container (added.Refused name) s c = refused_effect name c
+added_effect container (added.Number k) s c = record {
   refused = None;
   core =
       record {
@@ -66,17 +66,17 @@ added_moved container (added.Number k) s c = record {
   signals = Tell (event_at target.SourceBuffers kind.AddSourceBuffer ∷ []) ∷ [];
 }
 
-abbrev pub add_moved_by : Answered Added SourceState → Container → Core → Moved
-add_moved_by a container c = added_moved container a.answer a.state c
+abbrev pub add_effect_by : Answered Added SourceState → Container → Core → CoreEffect
+add_effect_by a container c = added_effect container a.answer a.state c
 
-abbrev pub add_moved_of : TypeAnswer → Core → Moved
-add_moved_of Empty c = refused_moved TypeError c
-add_moved_of Unsupported c = refused_moved NotSupported c
-add_moved_of (Supported container) c = add_moved_by (after_add_buffer c.source.state) container c
+abbrev pub add_effect_of : TypeAnswer → Core → CoreEffect
+add_effect_of Empty c = refused_effect TypeError c
+add_effect_of Unsupported c = refused_effect NotSupported c
+add_effect_of (Supported container) c = add_effect_by (after_add_buffer c.source.state) container c
 
 -- addSourceBuffer
-abbrev pub add_moved : List ℕ → Core → Moved
-add_moved text c = add_moved_of (type_of text) c
+abbrev pub add_effect : List ℕ → Core → CoreEffect
+add_effect text c = add_effect_of (type_of text) c
 
 -- it leaves the active list, where it was in it, and then the list of source buffers
 abbrev pub inactive_events : Bool → List Event
@@ -87,21 +87,21 @@ abbrev pub removal_events : Bool → List Event
 removal_events active =
     inactive_events active ++ event_at target.SourceBuffers kind.RemoveSourceBuffer ∷ []
 
-abbrev pub removed_moved : ℕ → BuffersResult → Removed → SourceState → Core → Moved
-removed_moved k result (removed.Refused name) s c = refused_moved name c
-removed_moved k result (removed.Gone active) s c = record {
+abbrev pub removed_effect : ℕ → BuffersResult → Removed → SourceState → Core → CoreEffect
+removed_effect k result (removed.Refused name) s c = refused_effect name c
+removed_effect k result (removed.Gone active) s c = record {
   refused = None;
   core = record { source = with_state s c.source; buffers = result.buffers };
   signals = buffer_signal k result.reply ∷ Tell (removal_events active) ∷ [];
 }
 
-abbrev pub remove_moved_by : ℕ → Answered Removed SourceState → Core → Moved
-remove_moved_by k a c =
-    removed_moved k (removal_result k (surroundings_in k c.source) c.buffers) a.answer a.state c
+abbrev pub remove_effect_by : ℕ → Answered Removed SourceState → Core → CoreEffect
+remove_effect_by k a c =
+    removed_effect k (removal_result k (surroundings_in k c.source) c.buffers) a.answer a.state c
 
 -- removeSourceBuffer: work that runs at the buffer ends
-abbrev pub remove_moved : ℕ → Core → Moved
-remove_moved k c = if_made k (remove_moved_by k (after_remove_buffer k c.source.state) c) c
+abbrev pub remove_effect : ℕ → Core → CoreEffect
+remove_effect k c = if_made k (remove_effect_by k (after_remove_buffer k c.source.state) c) c
 
 -- ---- the duration and the end
 
@@ -111,21 +111,21 @@ change_signals (changed.Refused name) = []
 change_signals changed.Same = []
 change_signals (changed.To d) = DurationChanged d ∷ []
 
-abbrev pub changed_moved : List Signal → Changed → SourceState → Core → Moved
-changed_moved first (changed.Refused name) s c = refused_moved name c
-changed_moved first changed.Same s c = moved_to s (first ++ change_signals changed.Same) c
-changed_moved first (changed.To d) s c = moved_to s (first ++ change_signals (changed.To d)) c
+abbrev pub changed_effect : List Signal → Changed → SourceState → Core → CoreEffect
+changed_effect first (changed.Refused name) s c = refused_effect name c
+changed_effect first changed.Same s c = effect_leaving s (first ++ change_signals changed.Same) c
+changed_effect first (changed.To d) s c = effect_leaving s (first ++ change_signals (changed.To d)) c
 
-abbrev pub changed_moved_by : List Signal → Answered Changed SourceState → Core → Moved
-changed_moved_by first a c = changed_moved first a.answer a.state c
+abbrev pub changed_effect_by : List Signal → Answered Changed SourceState → Core → CoreEffect
+changed_effect_by first a c = changed_effect first a.answer a.state c
 
 -- what the source is told of all its buffers
 abbrev pub all_in : Core → AllBuffers
 all_in c = all_buffers (running_of_all c.buffers) (media_of_all c.buffers)
 
 -- duration, on setting
-abbrev pub set_duration_moved : Moment → Core → Moved
-set_duration_moved d c = changed_moved_by [] (after_set_duration d (all_in c) c.source.state) c
+abbrev pub set_duration_effect : Moment → Core → CoreEffect
+set_duration_effect d c = changed_effect_by [] (after_set_duration d (all_in c) c.source.state) c
 
 -- the element's error code, where the source ends with an error: the first error stays
 abbrev pub end_error : EndKind → Bool → ℕ → ℕ
@@ -138,7 +138,7 @@ end_error_events Plain error = []
 end_error_events Network error = error_events error
 end_error_events Decode error = error_events error
 
-abbrev pub with_end_error : EndKind → Moved → Moved
+abbrev pub with_end_error : EndKind → CoreEffect → CoreEffect
 with_end_error end m = record {
   refused = m.refused;
   core =
@@ -150,13 +150,13 @@ with_end_error end m = record {
   signals = m.signals ++ Tell (end_error_events end m.core.source.error) ∷ [];
 }
 
-abbrev pub end_moved_by : Option Name → EndKind → Core → Moved
-end_moved_by (Some name) end c = refused_moved name c
-end_moved_by None end c =
+abbrev pub end_effect_by : Option Name → EndKind → Core → CoreEffect
+end_effect_by (Some name) end c = refused_effect name c
+end_effect_by None end c =
     with_end_error end
-    (changed_moved_by (Tell (event_at target.Source kind.SourceEnded ∷ []) ∷ [])
+    (changed_effect_by (Tell (event_at target.Source kind.SourceEnded ∷ []) ∷ [])
     (after_end end (all_in c).highest_end c.source.state) c)
 
 -- endOfStream, and the end of stream algorithm (2.4.7)
-abbrev pub end_moved : EndKind → Core → Moved
-end_moved end c = end_moved_by (end_refusal (all_in c).updating c.source.state) end c
+abbrev pub end_effect : EndKind → Core → CoreEffect
+end_effect end c = end_effect_by (end_refusal (all_in c).updating c.source.state) end c

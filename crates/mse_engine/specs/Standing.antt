@@ -1,4 +1,4 @@
--- What the engine keeps, and the states that it stands for. Read first `Kept` and `Stands`, then `IsStep` and
+-- What the engine keeps, and the states that it stands for. Read first `KeptEngine` and `Stands`, then `IsStep` and
 -- `Answers`, which say what a call gives, then `IsSteady` and `HasEngineInvariants`, which say what every step keeps.
 use Rattle.std.specs.Prelude.{◌≡◌, ℕ, ◌<◌, ℤ, pos, int_lt, Bool, true, not, List, if◌then◌else◌, length, Option, Some, None, Result, IfOk}
 use Rattle.buffer_state.specs.declared.reply.Reply.{Reply}
@@ -33,7 +33,7 @@ pub record SourceSide : Type 0 where
   pub gap : ℤ
 
 -- what the code keeps: the element with its error code
-pub record Kept : Type 0 where
+pub record KeptEngine : Type 0 where
   pub side : SourceSide
   pub buffers : KeptBuffers
   pub element : ElementState
@@ -48,8 +48,8 @@ core_source side e = record {
   gap = side.gap;
 }
 
-abbrev pub kept : SourceSide → KeptBuffers → ElementState → Kept
-kept side buffers element = record { side = side; buffers = buffers; element = element }
+abbrev pub kept_engine : SourceSide → KeptBuffers → ElementState → KeptEngine
+kept_engine side buffers element = record { side = side; buffers = buffers; element = element }
 
 abbrev pub view_of : SourceSide → KeptBuffers → ElementState → CoreView
 view_of side buffers e = record { source = core_source side e; media = all_kept_media buffers }
@@ -65,7 +65,7 @@ abbrev pub new_side : ℕ → ℤ → SourceSide
 new_side quota gap = record { state = new_source; fault = None; quota = quota; gap = gap }
 
 -- Many states may be stood for, since many strings may belong to one buffer.
-pub record Stands (k : Kept) (st : State) : Type 0 where
+pub record Stands (k : KeptEngine) (st : State) : Type 0 where
   pub source : core_source k.side k.element ≡ st.core.source
   pub buffers : AllStand k.buffers st.core.buffers
   pub outer : outer_of k.element ≡ st.outer
@@ -73,35 +73,40 @@ pub record Stands (k : Kept) (st : State) : Type 0 where
 -- ---- the code and the machine
 
 -- the answer is the one that is meant, and what is kept stands for the state that is meant
-pub record IsStep (answer : Answer) (k : Kept) (meant : Answered Answer State) : Type 0 where
+pub record IsStep (answer : Answer) (k : KeptEngine) (meant : Answered Answer State) : Type 0 where
   pub answers : answer ≡ meant.answer
   pub stands : Stands k meant.state
 
 -- for every state that was stood for
-abbrev pub Answers : {E : Type 0} → Kept → Result Answer E → Kept → (State → Answered Answer State)
+abbrev pub Answers : {E : Type 0} → KeptEngine → Result Answer E → KeptEngine → (State → Answered Answer State)
     → Type 0
 Answers old result new call =
     (st : State) → Stands old st → IfOk result (λ answer. IsStep answer new (call st))
 
 -- the scene of the element, but for what can be sought
-abbrev pub kept_scene : Kept → Scene
+abbrev pub kept_scene : KeptEngine → Scene
 kept_scene k = scene_with None k.element.player.position (view_of k.side k.buffers k.element)
 
 -- What every step keeps: there is a slot for each buffer that was ever made, each frame ends within the duration, and
 -- the element has the level of its position.
-pub record IsSteady (k : Kept) : Type 0 where
+pub record IsSteady (k : KeptEngine) : Type 0 where
   pub made : length k.buffers ≡ k.side.state.made
   pub within : AllEndWithin k.side.state.duration (all_kept_media k.buffers)
   pub settled : IsSettled (kept_scene k) k.element
 
+-- what is kept stands for some state
+pub record IsStanding (k : KeptEngine) : Type 0 where
+  pub state : State
+  pub stands : Stands k state
+
 -- what is kept stands for a state in which the position lies inside the media
-pub record StandsPlaced (k : Kept) : Type 0 where
+pub record StandsPlaced (k : KeptEngine) : Type 0 where
   pub state : State
   pub stands : Stands k state
   pub placed : IsPlacedState state
 
 -- what every step of the whole engine keeps
-pub record HasEngineInvariants (k : Kept) : Type 0 where
+pub record HasEngineInvariants (k : KeptEngine) : Type 0 where
   pub steady : IsSteady k
   pub inside : StandsPlaced k
 
@@ -139,20 +144,20 @@ IsReadyToLoad bounds v e =
 -- ---- steps that nobody calls for
 
 -- something was done, and what is kept stands for the state that is meant; or there was nothing to do, and nothing changed
-abbrev pub IsWork : Worked → Kept → Kept → Option State → Type 0
+abbrev pub IsWork : Worked → KeptEngine → KeptEngine → Option State → Type 0
 IsWork Did old new None = ⊥
 IsWork Did old new (Some st) = Stands new st
 IsWork Idle old new None = new ≡ old
 IsWork Idle old new (Some st) = ⊥
 
 -- the first event of the queue was fired, or there was none
-abbrev pub IsFired : Option Event → Kept → Kept → Option (Answered Event State) → Type 0
+abbrev pub IsFired : Option Event → KeptEngine → KeptEngine → Option (Answered Event State) → Type 0
 IsFired None old new None = new ≡ old
 IsFired None old new (Some meant) = ⊥
 IsFired (Some event) old new None = ⊥
 IsFired (Some event) old new (Some meant) = (event ≡ meant.answer) × Stands new meant.state
 
 -- a step of work lowers the number of steps that are left
-abbrev pub IsFewerWork : Worked → Kept → Kept → Type 0
+abbrev pub IsFewerWork : Worked → KeptEngine → KeptEngine → Type 0
 IsFewerWork Did old new = all_steps_left new.buffers < all_steps_left old.buffers
 IsFewerWork Idle old new = Unit {0}

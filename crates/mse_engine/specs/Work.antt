@@ -13,23 +13,23 @@ use Rattle.mse_engine.specs.State.{Core, State, outer_of, player_of, element_in}
 use Rattle.mse_engine.specs.Scenes.{core_view, scene_at}
 use Rattle.mse_engine.specs.Signals.{step}
 use Rattle.mse_engine.specs.Replies.{surroundings_in}
-use Rattle.mse_engine.specs.Moved.{Moved}
-use Rattle.mse_engine.specs.BufferCalls.{reply_moved}
+use Rattle.mse_engine.specs.CoreEffects.{CoreEffect}
+use Rattle.mse_engine.specs.BufferCalls.{reply_effect}
 
 -- ---- work
 
 -- none where nothing runs at the buffer, or it was never made
-abbrev pub work_moved : ℕ → Core → Option Moved
-work_moved k c =
-    option_map (λ result. reply_moved k result c)
+abbrev pub work_effect : ℕ → Core → Option CoreEffect
+work_effect k c =
+    option_map (λ result. reply_effect k result c)
     (buffers_turn k (surroundings_in k c.source) c.buffers)
 
-abbrev pub work_result : Option Moved → State → Option State
+abbrev pub work_result : Option CoreEffect → State → Option State
 work_result None st = None
 work_result (Some m) st = Some (step m.core m.signals st.outer)
 
 abbrev pub after_work : ℕ → State → Option State
-after_work k st = work_result (work_moved k st.core) st
+after_work k st = work_result (work_effect k st.core) st
 
 -- the lowest buffer at which something runs
 abbrev pub running_in : State → Option ℕ

@@ -7,7 +7,7 @@ ghost use Rattle.mse_calls.specs.declared.answers.Answer.TheVariants as answer;
 ghost use Rattle.mse_calls.specs.declared.answers.Name.TheVariants as name;
 ghost use Rattle.mse_calls.specs.declared.calls.Call.TheVariants as call;
 ghost use Rattle.mse_engine.specs.Calls.{after_call};
-ghost use Rattle.mse_engine.specs.Standing.{Answers, IsSteady, kept};
+ghost use Rattle.mse_engine.specs.Standing.{Answers, IsSteady, kept_engine};
 
 use crate::finish::{PLACES, conclude};
 use crate::side::{SourceSide, around};
@@ -25,13 +25,13 @@ pub(crate) fn set_mode<S: FrameStore>(
     k: u32,
     mode: Mode,
 ) -> Result<Answer, OutOfMemory>
-    requires steady { IsSteady (kept side.old buffers.old.buffers element.old.state) }
-    ensures answered { Answers (kept side.old buffers.old.buffers element.old.state) result
-        (kept side.new buffers.new.buffers element.new.state)
+    requires steady { IsSteady (kept_engine side.old buffers.old.buffers element.old.state) }
+    ensures answered { Answers (kept_engine side.old buffers.old.buffers element.old.state) result
+        (kept_engine side.new buffers.new.buffers element.new.state)
         (after_call [] (call.SetMode k mode)) }
-    ensures steady { IsSteady (kept side.new buffers.new.buffers element.new.state) }
-    ensures err { OnErr result (kept side.new buffers.new.buffers element.new.state
-        ≡ kept side.old buffers.old.buffers element.old.state) }
+    ensures steady { IsSteady (kept_engine side.new buffers.new.buffers element.new.state) }
+    ensures err { OnErr result (kept_engine side.new buffers.new.buffers element.new.state
+        ≡ kept_engine side.old buffers.old.buffers element.old.state) }
 {
     element.reserve(PLACES)?;
     let around = around(side, element, k);
@@ -60,13 +60,13 @@ pub(crate) fn set_offset<S: FrameStore>(
     k: u32,
     t: Moment,
 ) -> Result<Answer, OutOfMemory>
-    requires steady { IsSteady (kept side.old buffers.old.buffers element.old.state) }
-    ensures answered { Answers (kept side.old buffers.old.buffers element.old.state) result
-        (kept side.new buffers.new.buffers element.new.state)
+    requires steady { IsSteady (kept_engine side.old buffers.old.buffers element.old.state) }
+    ensures answered { Answers (kept_engine side.old buffers.old.buffers element.old.state) result
+        (kept_engine side.new buffers.new.buffers element.new.state)
         (after_call [] (call.SetTimestampOffset k t)) }
-    ensures steady { IsSteady (kept side.new buffers.new.buffers element.new.state) }
-    ensures err { OnErr result (kept side.new buffers.new.buffers element.new.state
-        ≡ kept side.old buffers.old.buffers element.old.state) }
+    ensures steady { IsSteady (kept_engine side.new buffers.new.buffers element.new.state) }
+    ensures err { OnErr result (kept_engine side.new buffers.new.buffers element.new.state
+        ≡ kept_engine side.old buffers.old.buffers element.old.state) }
 {
     let Moment::At(t) = t else {
         return Ok(refused_time(buffers, k));
@@ -85,13 +85,13 @@ pub(crate) fn set_window_start<S: FrameStore>(
     k: u32,
     t: Moment,
 ) -> Result<Answer, OutOfMemory>
-    requires steady { IsSteady (kept side.old buffers.old.buffers element.old.state) }
-    ensures answered { Answers (kept side.old buffers.old.buffers element.old.state) result
-        (kept side.new buffers.new.buffers element.new.state)
+    requires steady { IsSteady (kept_engine side.old buffers.old.buffers element.old.state) }
+    ensures answered { Answers (kept_engine side.old buffers.old.buffers element.old.state) result
+        (kept_engine side.new buffers.new.buffers element.new.state)
         (after_call [] (call.SetAppendWindowStart k t)) }
-    ensures steady { IsSteady (kept side.new buffers.new.buffers element.new.state) }
-    ensures err { OnErr result (kept side.new buffers.new.buffers element.new.state
-        ≡ kept side.old buffers.old.buffers element.old.state) }
+    ensures steady { IsSteady (kept_engine side.new buffers.new.buffers element.new.state) }
+    ensures err { OnErr result (kept_engine side.new buffers.new.buffers element.new.state
+        ≡ kept_engine side.old buffers.old.buffers element.old.state) }
 {
     let Moment::At(t) = t else {
         return Ok(refused_time(buffers, k));
@@ -110,13 +110,13 @@ pub(crate) fn set_window_end<S: FrameStore>(
     k: u32,
     t: Moment,
 ) -> Result<Answer, OutOfMemory>
-    requires steady { IsSteady (kept side.old buffers.old.buffers element.old.state) }
-    ensures answered { Answers (kept side.old buffers.old.buffers element.old.state) result
-        (kept side.new buffers.new.buffers element.new.state)
+    requires steady { IsSteady (kept_engine side.old buffers.old.buffers element.old.state) }
+    ensures answered { Answers (kept_engine side.old buffers.old.buffers element.old.state) result
+        (kept_engine side.new buffers.new.buffers element.new.state)
         (after_call [] (call.SetAppendWindowEnd k t)) }
-    ensures steady { IsSteady (kept side.new buffers.new.buffers element.new.state) }
-    ensures err { OnErr result (kept side.new buffers.new.buffers element.new.state
-        ≡ kept side.old buffers.old.buffers element.old.state) }
+    ensures steady { IsSteady (kept_engine side.new buffers.new.buffers element.new.state) }
+    ensures err { OnErr result (kept_engine side.new buffers.new.buffers element.new.state
+        ≡ kept_engine side.old buffers.old.buffers element.old.state) }
 {
     element.reserve(PLACES)?;
     let around = around(side, element, k);
@@ -133,13 +133,13 @@ pub(crate) fn remove<S: FrameStore>(
     start: Moment,
     end: Moment,
 ) -> Result<Answer, OutOfMemory>
-    requires steady { IsSteady (kept side.old buffers.old.buffers element.old.state) }
-    ensures answered { Answers (kept side.old buffers.old.buffers element.old.state) result
-        (kept side.new buffers.new.buffers element.new.state)
+    requires steady { IsSteady (kept_engine side.old buffers.old.buffers element.old.state) }
+    ensures answered { Answers (kept_engine side.old buffers.old.buffers element.old.state) result
+        (kept_engine side.new buffers.new.buffers element.new.state)
         (after_call [] (call.Remove k start end)) }
-    ensures steady { IsSteady (kept side.new buffers.new.buffers element.new.state) }
-    ensures err { OnErr result (kept side.new buffers.new.buffers element.new.state
-        ≡ kept side.old buffers.old.buffers element.old.state) }
+    ensures steady { IsSteady (kept_engine side.new buffers.new.buffers element.new.state) }
+    ensures err { OnErr result (kept_engine side.new buffers.new.buffers element.new.state
+        ≡ kept_engine side.old buffers.old.buffers element.old.state) }
 {
     let Moment::At(start) = start else {
         return Ok(refused_time(buffers, k));
@@ -159,13 +159,13 @@ pub(crate) fn append<S: FrameStore>(
     piece: &Piece,
     blobs: &Blobs,
 ) -> Result<Answer, OutOfMemory>
-    requires steady { IsSteady (kept side.old buffers.old.buffers element.old.state) }
-    ensures answered { Answers (kept side.old buffers.old.buffers element.old.state) result
-        (kept side.new buffers.new.buffers element.new.state)
+    requires steady { IsSteady (kept_engine side.old buffers.old.buffers element.old.state) }
+    ensures answered { Answers (kept_engine side.old buffers.old.buffers element.old.state) result
+        (kept_engine side.new buffers.new.buffers element.new.state)
         (after_call blobs.now (call.AppendBuffer k piece.now)) }
-    ensures steady { IsSteady (kept side.new buffers.new.buffers element.new.state) }
-    ensures err { OnErr result (kept side.new buffers.new.buffers element.new.state
-        ≡ kept side.old buffers.old.buffers element.old.state) }
+    ensures steady { IsSteady (kept_engine side.new buffers.new.buffers element.new.state) }
+    ensures err { OnErr result (kept_engine side.new buffers.new.buffers element.new.state
+        ≡ kept_engine side.old buffers.old.buffers element.old.state) }
 {
     if !buffers.is_made(k) {
         return Ok(Answer::Refused(Name::NoSuchBuffer));
@@ -188,11 +188,7 @@ fn reserve_reset<S: FrameStore>(
     ensures state { element.new.state ≡ element.old.state }
     ensures spare { OnOk result (ready_at k buffers.now.buffers + 14 ≤ element.new.spare) }
 {
-    let places = buffers
-        .ready_frames(k)
-        .checked_add(PLACES)
-        .ok_or(OutOfMemory)?;
-    element.reserve(places)
+    element.reserve(buffers.ready_frames(k) + PLACES)
 }
 
 /// Aborts an append of a buffer, and resets its parser.
@@ -202,13 +198,13 @@ pub(crate) fn abort<S: FrameStore>(
     element: &mut Element,
     k: u32,
 ) -> Result<Answer, OutOfMemory>
-    requires steady { IsSteady (kept side.old buffers.old.buffers element.old.state) }
-    ensures answered { Answers (kept side.old buffers.old.buffers element.old.state) result
-        (kept side.new buffers.new.buffers element.new.state)
+    requires steady { IsSteady (kept_engine side.old buffers.old.buffers element.old.state) }
+    ensures answered { Answers (kept_engine side.old buffers.old.buffers element.old.state) result
+        (kept_engine side.new buffers.new.buffers element.new.state)
         (after_call [] (call.Abort k)) }
-    ensures steady { IsSteady (kept side.new buffers.new.buffers element.new.state) }
-    ensures err { OnErr result (kept side.new buffers.new.buffers element.new.state
-        ≡ kept side.old buffers.old.buffers element.old.state) }
+    ensures steady { IsSteady (kept_engine side.new buffers.new.buffers element.new.state) }
+    ensures err { OnErr result (kept_engine side.new buffers.new.buffers element.new.state
+        ≡ kept_engine side.old buffers.old.buffers element.old.state) }
 {
     reserve_reset(buffers, element, k)?;
     let around = around(side, element, k);
@@ -224,13 +220,13 @@ pub(crate) fn change_type<S: FrameStore>(
     k: u32,
     text: &str,
 ) -> Result<Answer, OutOfMemory>
-    requires steady { IsSteady (kept side.old buffers.old.buffers element.old.state) }
-    ensures answered { Answers (kept side.old buffers.old.buffers element.old.state) result
-        (kept side.new buffers.new.buffers element.new.state)
+    requires steady { IsSteady (kept_engine side.old buffers.old.buffers element.old.state) }
+    ensures answered { Answers (kept_engine side.old buffers.old.buffers element.old.state) result
+        (kept_engine side.new buffers.new.buffers element.new.state)
         (after_call [] (call.ChangeType k text.now)) }
-    ensures steady { IsSteady (kept side.new buffers.new.buffers element.new.state) }
-    ensures err { OnErr result (kept side.new buffers.new.buffers element.new.state
-        ≡ kept side.old buffers.old.buffers element.old.state) }
+    ensures steady { IsSteady (kept_engine side.new buffers.new.buffers element.new.state) }
+    ensures err { OnErr result (kept_engine side.new buffers.new.buffers element.new.state
+        ≡ kept_engine side.old buffers.old.buffers element.old.state) }
 {
     reserve_reset(buffers, element, k)?;
     let around = around(side, element, k);
@@ -244,9 +240,9 @@ pub(crate) fn buffered<S: FrameStore>(
     buffers: &SourceBuffers<S>,
     k: u32,
 ) -> Result<Answer, OutOfMemory>
-    ensures { (e : ElementState) → IsSteady (kept side.now buffers.now.buffers e)
-        → Answers (kept side.now buffers.now.buffers e) result
-        (kept side.now buffers.now.buffers e) (after_call [] (call.Buffered k)) }
+    ensures { (e : ElementState) → IsSteady (kept_engine side.now buffers.now.buffers e)
+        → Answers (kept_engine side.now buffers.now.buffers e) result
+        (kept_engine side.now buffers.now.buffers e) (after_call [] (call.Buffered k)) }
 {
     if !buffers.is_made(k) {
         return Ok(Answer::Refused(Name::NoSuchBuffer));

@@ -5,7 +5,7 @@ ghost use Rattle.mse_calls.specs.declared.calls.Call.TheVariants as call;
 ghost use Rattle.media_element.specs.State.{ElementState};
 ghost use Rattle.mse_engine.specs.State.{State, outer_of};
 ghost use Rattle.mse_engine.specs.Calls.{after_call, state_view};
-ghost use Rattle.mse_engine.specs.Standing.{Answers, IsSteady, core_source, kept};
+ghost use Rattle.mse_engine.specs.Standing.{Answers, IsSteady, core_source, kept_engine};
 
 use crate::finish::{PLACES, settle};
 use crate::scenes;
@@ -24,13 +24,13 @@ pub(crate) fn seek<S: FrameStore>(
     element: &mut Element,
     t: Moment,
 ) -> Result<Answer, OutOfMemory>
-    requires steady { IsSteady (kept side.now buffers.now.buffers element.old.state) }
-    ensures answered { Answers (kept side.now buffers.now.buffers element.old.state) result
-        (kept side.now buffers.now.buffers element.new.state)
+    requires steady { IsSteady (kept_engine side.now buffers.now.buffers element.old.state) }
+    ensures answered { Answers (kept_engine side.now buffers.now.buffers element.old.state) result
+        (kept_engine side.now buffers.now.buffers element.new.state)
         (after_call [] (call.Seek t)) }
-    ensures steady { IsSteady (kept side.now buffers.now.buffers element.new.state) }
-    ensures err { OnErr result (kept side.now buffers.now.buffers element.new.state
-        ≡ kept side.now buffers.now.buffers element.old.state) }
+    ensures steady { IsSteady (kept_engine side.now buffers.now.buffers element.new.state) }
+    ensures err { OnErr result (kept_engine side.now buffers.now.buffers element.new.state
+        ≡ kept_engine side.now buffers.now.buffers element.old.state) }
 {
     let Moment::At(t) = t else {
         return Ok(Answer::Refused(Name::TypeError));
@@ -49,13 +49,13 @@ pub(crate) fn play<S: FrameStore>(
     buffers: &SourceBuffers<S>,
     element: &mut Element,
 ) -> Result<Answer, OutOfMemory>
-    requires steady { IsSteady (kept side.now buffers.now.buffers element.old.state) }
-    ensures answered { Answers (kept side.now buffers.now.buffers element.old.state) result
-        (kept side.now buffers.now.buffers element.new.state)
+    requires steady { IsSteady (kept_engine side.now buffers.now.buffers element.old.state) }
+    ensures answered { Answers (kept_engine side.now buffers.now.buffers element.old.state) result
+        (kept_engine side.now buffers.now.buffers element.new.state)
         (after_call [] call.Play) }
-    ensures steady { IsSteady (kept side.now buffers.now.buffers element.new.state) }
-    ensures err { OnErr result (kept side.now buffers.now.buffers element.new.state
-        ≡ kept side.now buffers.now.buffers element.old.state) }
+    ensures steady { IsSteady (kept_engine side.now buffers.now.buffers element.new.state) }
+    ensures err { OnErr result (kept_engine side.now buffers.now.buffers element.new.state
+        ≡ kept_engine side.now buffers.now.buffers element.old.state) }
 {
     element.reserve(PLACES)?;
     let seekable = scenes::seekable(side, buffers)?;
@@ -71,13 +71,13 @@ pub(crate) fn pause<S: FrameStore>(
     buffers: &SourceBuffers<S>,
     element: &mut Element,
 ) -> Result<Answer, OutOfMemory>
-    requires steady { IsSteady (kept side.now buffers.now.buffers element.old.state) }
-    ensures answered { Answers (kept side.now buffers.now.buffers element.old.state) result
-        (kept side.now buffers.now.buffers element.new.state)
+    requires steady { IsSteady (kept_engine side.now buffers.now.buffers element.old.state) }
+    ensures answered { Answers (kept_engine side.now buffers.now.buffers element.old.state) result
+        (kept_engine side.now buffers.now.buffers element.new.state)
         (after_call [] call.Pause) }
-    ensures steady { IsSteady (kept side.now buffers.now.buffers element.new.state) }
-    ensures err { OnErr result (kept side.now buffers.now.buffers element.new.state
-        ≡ kept side.now buffers.now.buffers element.old.state) }
+    ensures steady { IsSteady (kept_engine side.now buffers.now.buffers element.new.state) }
+    ensures err { OnErr result (kept_engine side.now buffers.now.buffers element.new.state
+        ≡ kept_engine side.now buffers.now.buffers element.old.state) }
 {
     element.reserve(PLACES)?;
     element.pause();
@@ -92,13 +92,13 @@ pub(crate) fn advance<S: FrameStore>(
     element: &mut Element,
     t: Moment,
 ) -> Result<Answer, OutOfMemory>
-    requires steady { IsSteady (kept side.now buffers.now.buffers element.old.state) }
-    ensures answered { Answers (kept side.now buffers.now.buffers element.old.state) result
-        (kept side.now buffers.now.buffers element.new.state)
+    requires steady { IsSteady (kept_engine side.now buffers.now.buffers element.old.state) }
+    ensures answered { Answers (kept_engine side.now buffers.now.buffers element.old.state) result
+        (kept_engine side.now buffers.now.buffers element.new.state)
         (after_call [] (call.Advance t)) }
-    ensures steady { IsSteady (kept side.now buffers.now.buffers element.new.state) }
-    ensures err { OnErr result (kept side.now buffers.now.buffers element.new.state
-        ≡ kept side.now buffers.now.buffers element.old.state) }
+    ensures steady { IsSteady (kept_engine side.now buffers.now.buffers element.new.state) }
+    ensures err { OnErr result (kept_engine side.now buffers.now.buffers element.new.state
+        ≡ kept_engine side.now buffers.now.buffers element.old.state) }
 {
     let Moment::At(t) = t else {
         return Ok(Answer::Refused(Name::TypeError));
@@ -131,8 +131,9 @@ pub(crate) fn element_buffered<S: FrameStore>(
     side: &SourceSide,
     buffers: &SourceBuffers<S>,
 ) -> Result<Answer, OutOfMemory>
-    ensures { (e : ElementState) → IsSteady (kept side.now buffers.now.buffers e)
-        → Answers (kept side.now buffers.now.buffers e) result (kept side.now buffers.now.buffers e)
+    ensures { (e : ElementState) → IsSteady (kept_engine side.now buffers.now.buffers e)
+        → Answers (kept_engine side.now buffers.now.buffers e) result
+        (kept_engine side.now buffers.now.buffers e)
         (after_call [] call.ElementBuffered) }
 {
     let ranges = scenes::buffered(side, buffers)?;
@@ -144,8 +145,9 @@ pub(crate) fn seekable<S: FrameStore>(
     side: &SourceSide,
     buffers: &SourceBuffers<S>,
 ) -> Result<Answer, OutOfMemory>
-    ensures { (e : ElementState) → IsSteady (kept side.now buffers.now.buffers e)
-        → Answers (kept side.now buffers.now.buffers e) result (kept side.now buffers.now.buffers e)
+    ensures { (e : ElementState) → IsSteady (kept_engine side.now buffers.now.buffers e)
+        → Answers (kept_engine side.now buffers.now.buffers e) result
+        (kept_engine side.now buffers.now.buffers e)
         (after_call [] call.Seekable) }
 {
     Ok(Answer::Range(scenes::seekable(side, buffers)?))

@@ -12,7 +12,7 @@ ghost use Rattle.mse_engine.specs.Refusals.{call_refusal};
 ghost use Rattle.mse_engine.specs.Work.{after_element_turn, after_work, due_in, fire_result, running_in, waits_in};
 ghost use Rattle.mse_engine.specs.Views.{span_in, view_in};
 ghost use Rattle.mse_engine.specs.Sound.{IsSoundEngine};
-ghost use Rattle.mse_engine.specs.Standing.{Answers, IsFewerWork, IsFired, IsWork, Stands};
+ghost use Rattle.mse_engine.specs.Standing.{Answers, IsFewerWork, IsFired, IsStanding, IsWork, Stands};
 
 use crate::calls::make_call;
 use crate::fault::EngineFault;
@@ -47,13 +47,14 @@ pub struct Engine<S: FrameStore> {
 }
 
 impl<S: FrameStore> Model for Engine<S> {
-    ghost use Rattle.mse_engine.specs.Standing.{HasEngineInvariants, Kept, kept};
+    ghost use Rattle.mse_engine.specs.Standing.{HasEngineInvariants, KeptEngine, kept_engine};
 
-    ghost Value = { Kept };
+    ghost Value = { KeptEngine };
 
-    ghost view = { λ e. kept e.side e.buffers.buffers e.element.state };
+    ghost view = { λ e. kept_engine e.side e.buffers.buffers e.element.state };
 
-    ghost invariant = { λ e. HasEngineInvariants (kept e.side e.buffers.buffers e.element.state) };
+    ghost invariant = { λ e. HasEngineInvariants
+        (kept_engine e.side e.buffers.buffers e.element.state) };
 }
 
 impl<S: FrameStore> Engine<S> {
@@ -70,13 +71,17 @@ impl<S: FrameStore> Engine<S> {
         }
     }
 
-    /// One call: it is made at once, and its events are queued. Behind it, as behind each step, the
-    /// tracks are sound and their frames end within the duration.
+    /// One call: it is made at once, and its events are queued. A call that is refused answers the
+    /// name. Behind it, as behind each step, the tracks are sound and their frames end within the
+    /// duration.
+    ///
+    /// An `Err` is want of memory; then nothing changed.
     pub fn call(&mut self, call: &Call, blobs: &Blobs) -> Result<Answer, EngineFault>
         ensures answered { Answers self.old result self.new (after_call blobs.now call.now) }
         ensures sound { OnOk result (IsSoundEngine self.new) }
         ensures err { OnErr result (self.new ≡ self.old) }
     {
+        // The proof reads off this that the position stays inside the media.
         position_inside();
         let answer = make_call(
             &mut self.side,
@@ -85,6 +90,7 @@ impl<S: FrameStore> Engine<S> {
             call,
             blobs,
         )?;
+        // The proof reads off this that the tracks are sound.
         self.buffers.sound();
         Ok(answer)
     }
@@ -106,11 +112,16 @@ impl<S: FrameStore> Engine<S> {
         ensures buffers { self.new.buffers ≡ self.old.buffers }
         ensures sound { IsSoundEngine self.new }
     {
+        // The proof reads off this that the tracks are sound.
         self.buffers.sound();
         self.element.fire()
     }
 
-    /// One step of the running work of a buffer.
+    /// One item of the work that runs at the buffer of a number. It is `Idle` where nothing runs
+    /// there or no such buffer was ever made, and then nothing changed. Work that is done lowers the
+    /// number of steps that are left.
+    ///
+    /// An `Err` is want of memory; then nothing changed.
     pub fn work(&mut self, k: u32) -> Result<Worked, EngineFault>
         ensures worked { (st : State) → Stands self.old st
             → IfOk result (λ worked. IsWork worked self.old self.new (after_work k st)) }
@@ -118,13 +129,18 @@ impl<S: FrameStore> Engine<S> {
         ensures sound { OnOk result (IsSoundEngine self.new) }
         ensures err { OnErr result (self.new ≡ self.old) }
     {
+        // The proof reads off this that the position stays inside the media.
         position_inside();
         let answer = work_on(&mut self.side, &mut self.buffers, &mut self.element, k)?;
+        // The proof reads off this that the tracks are sound.
         self.buffers.sound();
         Ok(answer)
     }
 
-    /// What the element does by itself.
+    /// What the element does by itself, where it is due: a seek is done, or playback has come to its
+    /// end. It is `Idle` where nothing is due, and then nothing changed.
+    ///
+    /// An `Err` is want of memory; then nothing changed.
     pub fn element_turn(&mut self) -> Result<Worked, EngineFault>
         ensures worked { (st : State) → Stands self.old st
             → IfOk result (λ worked. IsWork worked self.old self.new (after_element_turn st)) }
@@ -132,8 +148,10 @@ impl<S: FrameStore> Engine<S> {
         ensures sound { OnOk result (IsSoundEngine self.new) }
         ensures err { OnErr result (self.new ≡ self.old) }
     {
+        // The proof reads off this that the position stays inside the media.
         position_inside();
         let answer = turn_by_itself(&self.side, &self.buffers, &mut self.element)?;
+        // The proof reads off this that the tracks are sound.
         self.buffers.sound();
         Ok(answer)
     }
@@ -175,7 +193,8 @@ impl<S: FrameStore> Engine<S> {
         self.side.fault
     }
 
-    /// What is shown of the whole engine.
+    /// What is shown of the whole engine: the state of source and element, each buffer in order of
+    /// its number, and the first fault. An `Err` is want of memory.
     pub fn view(&self) -> Result<View, EngineFault>
         ensures { (st : State) → Stands self.now st → IfOk result (λ view. view ≡ view_in st) }
     {
@@ -187,8 +206,9 @@ impl<S: FrameStore> Engine<S> {
         })
     }
 
-    /// The track of an id of a buffer; `None` exactly where the buffer is not in the list or has no
-    /// such track.
+    /// The track of the buffer `k` at place `i`, counted from 0 in the order of its first
+    /// initialization segment; `None` exactly where the buffer is not in the list or has no such
+    /// track.
     pub fn track(&self, k: u32, i: usize) -> Option<&Track<S>>
         ensures { option_map (state_of S.frames) (option_copied result)
             ≡ track_at k i (all_kept_media self.now.buffers) }
@@ -199,14 +219,16 @@ impl<S: FrameStore> Engine<S> {
     /// Each track buffer is sound: each frame that it holds is a random access point, or the frame
     /// received just before it is held too. And each frame ends within the duration. The position is
     /// neither negative nor after the duration, and where the element has metadata there is a
-    /// duration. It does nothing when it runs.
+    /// duration. There is a state that it stands for. It does nothing when it runs.
     pub fn sound(&self)
         ensures sound { IsSoundEngine self.now }
         ensures position { IsInside self.now.side.state.duration
             self.now.element.player.position }
         ensures duration { has_metadata self.now.element.player.level ≡ true
             → is_nan self.now.side.state.duration ≡ false }
+        ensures standing { IsStanding self.now }
     {
+        // The proof reads off this that the tracks are sound.
         self.buffers.sound();
     }
 }

@@ -12,9 +12,9 @@ ghost use Rattle.mse_engine.specs.State.{State, outer_of};
 ghost use Rattle.mse_engine.specs.Scenes.{CoreView};
 ghost use Rattle.mse_engine.specs.Signals.{after_signals, after_settling, outer_after};
 ghost use Rattle.mse_engine.specs.Replies.{loads, source_after, open_events, active_events, load_signals, effect_signals, middle_signals, fault_events, error_after, is_quiet, reply_signals};
-ghost use Rattle.mse_engine.specs.BufferCalls.{reply_moved};
-ghost use Rattle.mse_engine.specs.Calls.{after_call_by, refused_or, without_action};
-ghost use Rattle.mse_engine.specs.Standing.{IsReadyToLoad, IsSteady, IsStep, core_source, kept, kept_scene, no_bounds, reply_view, side_after, view_of};
+ghost use Rattle.mse_engine.specs.BufferCalls.{reply_effect};
+ghost use Rattle.mse_engine.specs.Calls.{after_call_by, refused_or, no_element_effect};
+ghost use Rattle.mse_engine.specs.Standing.{IsReadyToLoad, IsSteady, IsStep, core_source, kept_engine, kept_scene, no_bounds, reply_view, side_after, view_of};
 
 use crate::scenes::{self, LoadBounds};
 use crate::side::{Effects, SourceSide};
@@ -43,7 +43,7 @@ fn is_settled<S: FrameStore>(
     element: &Element,
 ) -> bool
     ensures { result ≡ stays_in (kept_scene
-        (kept side.now buffers.now.buffers element.now.state)) element.now.state.player }
+        (kept_engine side.now buffers.now.buffers element.now.state)) element.now.state.player }
 {
     let duration = side.source.duration();
     if is_blank(element) {
@@ -65,25 +65,26 @@ pub(crate) fn settle<S: FrameStore>(
     ensures element { element.new.state ≡ after_settling
         (view_of side.now buffers.now.buffers element.old.state) element.old.state }
     ensures settled { IsSettled (kept_scene
-        (kept side.now buffers.now.buffers element.new.state)) element.new.state }
+        (kept_engine side.now buffers.now.buffers element.new.state)) element.new.state }
 {
     if !is_settled(side, buffers, element) {
-        settle_anew(side, buffers, element);
+        settle_level(side, buffers, element);
     }
 }
 
 /// The same, where the level may change.
 #[cold]
 #[inline(never)]
-fn settle_anew<S: FrameStore>(side: &SourceSide, buffers: &SourceBuffers<S>, element: &mut Element)
+fn settle_level<S: FrameStore>(side: &SourceSide, buffers: &SourceBuffers<S>, element: &mut Element)
     requires { 4 ≤ element.old.spare }
     ensures source { core_source side.now element.new.state
         ≡ core_source side.now element.old.state }
     ensures element { element.new.state ≡ after_settling
         (view_of side.now buffers.now.buffers element.old.state) element.old.state }
     ensures settled { IsSettled (kept_scene
-        (kept side.now buffers.now.buffers element.new.state)) element.new.state }
+        (kept_engine side.now buffers.now.buffers element.new.state)) element.new.state }
 {
+    // The proof reads off this that a settled element stays as it is.
     settled_once();
     let scene = scenes::scene(side, buffers, element, None);
     element.settle(&scene);
@@ -260,19 +261,19 @@ pub(crate) fn finish<S: FrameStore>(
         (reply_signals k reply.now (core_source side.old element.old.state))
         (outer_of element.old.state) }
     ensures settled { IsSettled (kept_scene
-        (kept side.new buffers.now.buffers element.new.state)) element.new.state }
+        (kept_engine side.new buffers.now.buffers element.new.state)) element.new.state }
 {
     if is_quiet(side, reply) {
         settle(side, buffers, element);
     } else {
-        finish_aloud(side, buffers, element, k, reply, bounds);
+        finish_with_events(side, buffers, element, k, reply, bounds);
     }
 }
 
 /// The same, where something comes of the reply.
 #[cold]
 #[inline(never)]
-fn finish_aloud<S: FrameStore>(
+fn finish_with_events<S: FrameStore>(
     side: &mut SourceSide,
     buffers: &SourceBuffers<S>,
     element: &mut Element,
@@ -293,7 +294,7 @@ fn finish_aloud<S: FrameStore>(
         (reply_signals k reply.now (core_source side.old element.old.state))
         (outer_of element.old.state) }
     ensures settled { IsSettled (kept_scene
-        (kept side.new buffers.now.buffers element.new.state)) element.new.state }
+        (kept_engine side.new buffers.now.buffers element.new.state)) element.new.state }
 {
     let blank = is_blank(element);
     let effects = side.apply_reply(k, reply, blank);
@@ -332,10 +333,10 @@ pub(crate) fn conclude<S: FrameStore>(
         → core_source side.old element.old.state ≡ st.core.source
         → outer_of element.old.state ≡ st.outer
         → IsBuffersResult reply.now buffers.now.buffers meant
-        → IsStep result (kept side.new buffers.now.buffers element.new.state)
-        (after_call_by (reply_moved k meant st.core) (without_action st.outer) Done) }
+        → IsStep result (kept_engine side.new buffers.now.buffers element.new.state)
+        (after_call_by (reply_effect k meant st.core) (no_element_effect st.outer) Done) }
     ensures settled { IsSettled (kept_scene
-        (kept side.new buffers.now.buffers element.new.state)) element.new.state }
+        (kept_engine side.new buffers.now.buffers element.new.state)) element.new.state }
 {
     finish(side, buffers, element, k, reply, &LoadBounds::NONE);
     answer_of(reply)

@@ -8,11 +8,11 @@ ghost use Rattle.source_buffers.specs.State.{AllStand, all_kept_media, all_kept_
 ghost use Rattle.source_buffers.specs.All.{all_buffers};
 ghost use Rattle.mse_engine.specs.State.{Core, Outer, State};
 ghost use Rattle.mse_engine.specs.Scenes.{CoreView};
-ghost use Rattle.mse_engine.specs.SourceCalls.{add_moved, set_live_moved};
-ghost use Rattle.mse_engine.specs.BufferCalls.{remove_frames_moved, window_start_moved};
-ghost use Rattle.mse_engine.specs.Calls.{advance_acting, read_moved, seek_acting};
+ghost use Rattle.mse_engine.specs.SourceCalls.{add_effect, set_live_effect};
+ghost use Rattle.mse_engine.specs.BufferCalls.{remove_frames_effect, window_start_effect};
+ghost use Rattle.mse_engine.specs.Calls.{advance_effect, read_effect, seek_effect};
 ghost use Rattle.mse_engine.specs.Refusals.{append_call_refusal, call_refusal, offset_call_refusal};
-ghost use Rattle.mse_engine.specs.Standing.{Stands, kept};
+ghost use Rattle.mse_engine.specs.Standing.{Stands, kept_engine};
 
 use crate::side::{SourceSide, around};
 use media_element::Element;
@@ -34,7 +34,7 @@ fn attach_refusal(side: &SourceSide) -> Option<Name>
 /// That of adding a source buffer of a type.
 fn add_refusal(side: &SourceSide, text: &str) -> Option<Name>
     ensures { (c : Core) → c.source.state ≡ side.now.state
-        → result ≡ (add_moved text.now c).refused }
+        → result ≡ (add_effect text.now c).refused }
 {
     match read_type(text) {
         TypeAnswer::Empty => Some(Name::TypeError),
@@ -85,7 +85,7 @@ fn end_refusal<S: FrameStore>(side: &SourceSide, buffers: &SourceBuffers<S>) -> 
 /// That of setting the live seekable range.
 fn set_live_refusal(side: &SourceSide, start: Moment, end: Moment) -> Option<Name>
     ensures { (c : Core) → c.source.state ≡ side.now.state
-        → result ≡ (set_live_moved start end c).refused }
+        → result ≡ (set_live_effect start end c).refused }
 {
     let Moment::At(start) = start else {
         return Some(Name::TypeError);
@@ -126,7 +126,7 @@ fn offset_refusal<S: FrameStore>(
     k: u32,
     t: Moment,
 ) -> Option<Name>
-    ensures { (st : State) → Stands (kept side.now buffers.now.buffers element.now.state) st
+    ensures { (st : State) → Stands (kept_engine side.now buffers.now.buffers element.now.state) st
         → result ≡ offset_call_refusal k t st.core }
 {
     let Moment::At(_) = t else {
@@ -142,7 +142,7 @@ fn window_start_refusal<S: FrameStore>(
     t: Moment,
 ) -> Option<Name>
     ensures { (c : Core) → AllStand buffers.now.buffers c.buffers
-        → result ≡ (window_start_moved k t c).refused }
+        → result ≡ (window_start_effect k t c).refused }
 {
     let Moment::At(t) = t else {
         return time_refusal(buffers, k);
@@ -159,8 +159,8 @@ fn remove_frames_refusal<S: FrameStore>(
     start: Moment,
     end: Moment,
 ) -> Option<Name>
-    ensures { (st : State) → Stands (kept side.now buffers.now.buffers element.now.state) st
-        → result ≡ (remove_frames_moved k start end st.core).refused }
+    ensures { (st : State) → Stands (kept_engine side.now buffers.now.buffers element.now.state) st
+        → result ≡ (remove_frames_effect k start end st.core).refused }
 {
     let Moment::At(start) = start else {
         return time_refusal(buffers, k);
@@ -178,7 +178,7 @@ fn append_refusal<S: FrameStore>(
     piece: &Piece,
     blobs: &Blobs,
 ) -> Option<Name>
-    ensures { (st : State) → Stands (kept side.now buffers.now.buffers element.now.state) st
+    ensures { (st : State) → Stands (kept_engine side.now buffers.now.buffers element.now.state) st
         → result ≡ append_call_refusal (bytes_of blobs.now piece.now) k st.core }
 {
     if !buffers.is_made(k) {
@@ -193,7 +193,7 @@ fn append_refusal<S: FrameStore>(
 /// That of reading what is buffered: a buffer is gone where it cannot be removed.
 fn read_refusal<S: FrameStore>(buffers: &SourceBuffers<S>, k: u32) -> Option<Name>
     ensures { (c : Core) → AllStand buffers.now.buffers c.buffers
-        → result ≡ (read_moved k c).refused }
+        → result ≡ (read_effect k c).refused }
 {
     if !buffers.is_made(k) {
         return Some(Name::NoSuchBuffer);
@@ -208,7 +208,7 @@ fn read_refusal<S: FrameStore>(buffers: &SourceBuffers<S>, k: u32) -> Option<Nam
 
 /// That of a seek.
 fn seek_refusal(t: Moment) -> Option<Name>
-    ensures { (v : CoreView) (o : Outer) → result ≡ (seek_acting t v o).answer }
+    ensures { (v : CoreView) (o : Outer) → result ≡ (seek_effect t v o).answer }
 {
     match t {
         Moment::At(_) => None,
@@ -230,7 +230,7 @@ fn play_refusal(element: &Element) -> Option<Name>
 
 /// That of letting a length of time pass.
 fn advance_refusal(t: Moment) -> Option<Name>
-    ensures { (v : CoreView) (o : Outer) → result ≡ (advance_acting t v o).answer }
+    ensures { (v : CoreView) (o : Outer) → result ≡ (advance_effect t v o).answer }
 {
     let Moment::At(t) = t else {
         return Some(Name::TypeError);
@@ -252,7 +252,7 @@ pub(crate) fn call_refusal<S: FrameStore>(
     call: &Call,
     blobs: &Blobs,
 ) -> Option<Name>
-    ensures { (st : State) → Stands (kept side.now buffers.now.buffers element.now.state) st
+    ensures { (st : State) → Stands (kept_engine side.now buffers.now.buffers element.now.state) st
         → result ≡ call_refusal blobs.now call.now st }
 {
     match call {

@@ -8,9 +8,9 @@ ghost use Rattle.mse_types.specs.declared.answer.TypeAnswer.TheVariants.{Support
 ghost use Rattle.source_state.specs.declared.answers.Changed.TheVariants.{To};
 ghost use Rattle.media_element.specs.Queueing.{queued};
 ghost use Rattle.mse_engine.specs.Signals.{DurationChanged, after_signal, after_signals};
-ghost use Rattle.mse_engine.specs.SourceCalls.{add_moved_of, change_signals, inactive_events};
-ghost use Rattle.mse_engine.specs.Calls.{after_call, after_call_by, refused_or, without_action};
-ghost use Rattle.mse_engine.specs.Standing.{Answers, IsSteady, kept, view_of};
+ghost use Rattle.mse_engine.specs.SourceCalls.{add_effect_of, change_signals, inactive_events};
+ghost use Rattle.mse_engine.specs.Calls.{after_call, after_call_by, refused_or, no_element_effect};
+ghost use Rattle.mse_engine.specs.Standing.{Answers, IsSteady, kept_engine, view_of};
 
 use crate::finish::{PLACES, event, settle};
 use crate::scenes;
@@ -39,13 +39,13 @@ pub(crate) fn attach<S: FrameStore>(
     buffers: &SourceBuffers<S>,
     element: &mut Element,
 ) -> Result<Answer, OutOfMemory>
-    requires steady { IsSteady (kept side.old buffers.now.buffers element.old.state) }
-    ensures answered { Answers (kept side.old buffers.now.buffers element.old.state) result
-        (kept side.new buffers.now.buffers element.new.state)
+    requires steady { IsSteady (kept_engine side.old buffers.now.buffers element.old.state) }
+    ensures answered { Answers (kept_engine side.old buffers.now.buffers element.old.state) result
+        (kept_engine side.new buffers.now.buffers element.new.state)
         (after_call [] call.Attach) }
-    ensures steady { IsSteady (kept side.new buffers.now.buffers element.new.state) }
-    ensures err { OnErr result (kept side.new buffers.now.buffers element.new.state
-        ≡ kept side.old buffers.now.buffers element.old.state) }
+    ensures steady { IsSteady (kept_engine side.new buffers.now.buffers element.new.state) }
+    ensures err { OnErr result (kept_engine side.new buffers.now.buffers element.new.state
+        ≡ kept_engine side.old buffers.now.buffers element.old.state) }
 {
     element.reserve(PLACES)?;
     if let Some(name) = side.source.attach() {
@@ -63,14 +63,14 @@ fn add<S: FrameStore>(
     element: &mut Element,
     container: Container,
 ) -> Result<Answer, OutOfMemory>
-    requires steady { IsSteady (kept side.old buffers.old.buffers element.old.state) }
-    ensures answered { Answers (kept side.old buffers.old.buffers element.old.state) result
-        (kept side.new buffers.new.buffers element.new.state)
-        (λ st. after_call_by (add_moved_of (Supported container) st.core)
-        (without_action st.outer) Done) }
-    ensures steady { IsSteady (kept side.new buffers.new.buffers element.new.state) }
-    ensures err { OnErr result (kept side.new buffers.new.buffers element.new.state
-        ≡ kept side.old buffers.old.buffers element.old.state) }
+    requires steady { IsSteady (kept_engine side.old buffers.old.buffers element.old.state) }
+    ensures answered { Answers (kept_engine side.old buffers.old.buffers element.old.state) result
+        (kept_engine side.new buffers.new.buffers element.new.state)
+        (λ st. after_call_by (add_effect_of (Supported container) st.core)
+        (no_element_effect st.outer) Done) }
+    ensures steady { IsSteady (kept_engine side.new buffers.new.buffers element.new.state) }
+    ensures err { OnErr result (kept_engine side.new buffers.new.buffers element.new.state
+        ≡ kept_engine side.old buffers.old.buffers element.old.state) }
 {
     element.reserve(PLACES)?;
     buffers.reserve(1)?;
@@ -92,13 +92,13 @@ pub(crate) fn add_source_buffer<S: FrameStore>(
     element: &mut Element,
     text: &str,
 ) -> Result<Answer, OutOfMemory>
-    requires steady { IsSteady (kept side.old buffers.old.buffers element.old.state) }
-    ensures answered { Answers (kept side.old buffers.old.buffers element.old.state) result
-        (kept side.new buffers.new.buffers element.new.state)
+    requires steady { IsSteady (kept_engine side.old buffers.old.buffers element.old.state) }
+    ensures answered { Answers (kept_engine side.old buffers.old.buffers element.old.state) result
+        (kept_engine side.new buffers.new.buffers element.new.state)
         (after_call [] (call.AddSourceBuffer text.now)) }
-    ensures steady { IsSteady (kept side.new buffers.new.buffers element.new.state) }
-    ensures err { OnErr result (kept side.new buffers.new.buffers element.new.state
-        ≡ kept side.old buffers.old.buffers element.old.state) }
+    ensures steady { IsSteady (kept_engine side.new buffers.new.buffers element.new.state) }
+    ensures err { OnErr result (kept_engine side.new buffers.new.buffers element.new.state
+        ≡ kept_engine side.old buffers.old.buffers element.old.state) }
 {
     match read_type(text) {
         TypeAnswer::Empty => Ok(Answer::Refused(Name::TypeError)),
@@ -125,13 +125,13 @@ pub(crate) fn remove_source_buffer<S: FrameStore>(
     element: &mut Element,
     k: u32,
 ) -> Result<Answer, OutOfMemory>
-    requires steady { IsSteady (kept side.old buffers.old.buffers element.old.state) }
-    ensures answered { Answers (kept side.old buffers.old.buffers element.old.state) result
-        (kept side.new buffers.new.buffers element.new.state)
+    requires steady { IsSteady (kept_engine side.old buffers.old.buffers element.old.state) }
+    ensures answered { Answers (kept_engine side.old buffers.old.buffers element.old.state) result
+        (kept_engine side.new buffers.new.buffers element.new.state)
         (after_call [] (call.RemoveSourceBuffer k)) }
-    ensures steady { IsSteady (kept side.new buffers.new.buffers element.new.state) }
-    ensures err { OnErr result (kept side.new buffers.new.buffers element.new.state
-        ≡ kept side.old buffers.old.buffers element.old.state) }
+    ensures steady { IsSteady (kept_engine side.new buffers.new.buffers element.new.state) }
+    ensures err { OnErr result (kept_engine side.new buffers.new.buffers element.new.state
+        ≡ kept_engine side.old buffers.old.buffers element.old.state) }
 {
     if !buffers.is_made(k) {
         return Ok(Answer::Refused(Name::NoSuchBuffer));
@@ -168,7 +168,7 @@ fn tell_duration<S: FrameStore>(
 {
     let seekable = side.source.seekable(None, None);
     let scene = scenes::scene(side, buffers, element, seekable);
-    element.fall(duration, &scene);
+    element.change_duration(duration, &scene);
 }
 
 /// Tells the element what came of the duration.
@@ -197,13 +197,13 @@ pub(crate) fn set_duration<S: FrameStore>(
     element: &mut Element,
     duration: Moment,
 ) -> Result<Answer, OutOfMemory>
-    requires steady { IsSteady (kept side.old buffers.now.buffers element.old.state) }
-    ensures answered { Answers (kept side.old buffers.now.buffers element.old.state) result
-        (kept side.new buffers.now.buffers element.new.state)
+    requires steady { IsSteady (kept_engine side.old buffers.now.buffers element.old.state) }
+    ensures answered { Answers (kept_engine side.old buffers.now.buffers element.old.state) result
+        (kept_engine side.new buffers.now.buffers element.new.state)
         (after_call [] (call.SetDuration duration)) }
-    ensures steady { IsSteady (kept side.new buffers.now.buffers element.new.state) }
-    ensures err { OnErr result (kept side.new buffers.now.buffers element.new.state
-        ≡ kept side.old buffers.now.buffers element.old.state) }
+    ensures steady { IsSteady (kept_engine side.new buffers.now.buffers element.new.state) }
+    ensures err { OnErr result (kept_engine side.new buffers.now.buffers element.new.state
+        ≡ kept_engine side.old buffers.now.buffers element.old.state) }
 {
     element.reserve(PLACES)?;
     let all = buffers.all_buffers();
@@ -223,13 +223,13 @@ pub(crate) fn end_of_stream<S: FrameStore>(
     element: &mut Element,
     kind: EndKind,
 ) -> Result<Answer, OutOfMemory>
-    requires steady { IsSteady (kept side.old buffers.now.buffers element.old.state) }
-    ensures answered { Answers (kept side.old buffers.now.buffers element.old.state) result
-        (kept side.new buffers.now.buffers element.new.state)
+    requires steady { IsSteady (kept_engine side.old buffers.now.buffers element.old.state) }
+    ensures answered { Answers (kept_engine side.old buffers.now.buffers element.old.state) result
+        (kept_engine side.new buffers.now.buffers element.new.state)
         (after_call [] (call.EndOfStream kind)) }
-    ensures steady { IsSteady (kept side.new buffers.now.buffers element.new.state) }
-    ensures err { OnErr result (kept side.new buffers.now.buffers element.new.state
-        ≡ kept side.old buffers.now.buffers element.old.state) }
+    ensures steady { IsSteady (kept_engine side.new buffers.now.buffers element.new.state) }
+    ensures err { OnErr result (kept_engine side.new buffers.now.buffers element.new.state
+        ≡ kept_engine side.old buffers.now.buffers element.old.state) }
 {
     element.reserve(PLACES)?;
     let all = buffers.all_buffers();
@@ -252,13 +252,13 @@ pub(crate) fn set_live<S: FrameStore>(
     start: Moment,
     end: Moment,
 ) -> Result<Answer, OutOfMemory>
-    requires steady { IsSteady (kept side.old buffers.now.buffers element.old.state) }
-    ensures answered { Answers (kept side.old buffers.now.buffers element.old.state) result
-        (kept side.new buffers.now.buffers element.new.state)
+    requires steady { IsSteady (kept_engine side.old buffers.now.buffers element.old.state) }
+    ensures answered { Answers (kept_engine side.old buffers.now.buffers element.old.state) result
+        (kept_engine side.new buffers.now.buffers element.new.state)
         (after_call [] (call.SetLiveSeekableRange start end)) }
-    ensures steady { IsSteady (kept side.new buffers.now.buffers element.new.state) }
-    ensures err { OnErr result (kept side.new buffers.now.buffers element.new.state
-        ≡ kept side.old buffers.now.buffers element.old.state) }
+    ensures steady { IsSteady (kept_engine side.new buffers.now.buffers element.new.state) }
+    ensures err { OnErr result (kept_engine side.new buffers.now.buffers element.new.state
+        ≡ kept_engine side.old buffers.now.buffers element.old.state) }
 {
     let Moment::At(start) = start else {
         return Ok(Answer::Refused(Name::TypeError));
@@ -278,13 +278,13 @@ pub(crate) fn clear_live<S: FrameStore>(
     buffers: &SourceBuffers<S>,
     element: &mut Element,
 ) -> Result<Answer, OutOfMemory>
-    requires steady { IsSteady (kept side.old buffers.now.buffers element.old.state) }
-    ensures answered { Answers (kept side.old buffers.now.buffers element.old.state) result
-        (kept side.new buffers.now.buffers element.new.state)
+    requires steady { IsSteady (kept_engine side.old buffers.now.buffers element.old.state) }
+    ensures answered { Answers (kept_engine side.old buffers.now.buffers element.old.state) result
+        (kept_engine side.new buffers.now.buffers element.new.state)
         (after_call [] call.ClearLiveSeekableRange) }
-    ensures steady { IsSteady (kept side.new buffers.now.buffers element.new.state) }
-    ensures err { OnErr result (kept side.new buffers.now.buffers element.new.state
-        ≡ kept side.old buffers.now.buffers element.old.state) }
+    ensures steady { IsSteady (kept_engine side.new buffers.now.buffers element.new.state) }
+    ensures err { OnErr result (kept_engine side.new buffers.now.buffers element.new.state
+        ≡ kept_engine side.old buffers.now.buffers element.old.state) }
 {
     element.reserve(PLACES)?;
     let refusal = side.source.clear_live();

@@ -4,7 +4,7 @@ ghost use Rattle.std.specs.Prelude.{◌≡◌, ◌&&◌, ◌||◌, if◌then◌e
 ghost use Rattle.source_state.specs.State.{has};
 ghost use Rattle.mse_engine.specs.State.{State};
 ghost use Rattle.mse_engine.specs.Work.{after_element_turn, after_work};
-ghost use Rattle.mse_engine.specs.Standing.{IsFewerWork, IsSteady, IsWork, Stands, kept, no_bounds};
+ghost use Rattle.mse_engine.specs.Standing.{IsFewerWork, IsSteady, IsWork, Stands, kept_engine, no_bounds};
 
 use crate::engine::Worked;
 use crate::finish::{PLACES, finish, settle};
@@ -18,7 +18,7 @@ use track_store::FrameStore;
 
 /// Makes the bounds those behind a reply that brings metadata, of those before it: a buffer that
 /// becomes active has nothing yet, so that then there are none.
-fn bring_behind(side: &SourceSide, k: u32, reply: &Reply, bounds: &mut LoadBounds)
+fn drop_stale_bounds(side: &SourceSide, k: u32, reply: &Reply, bounds: &mut LoadBounds)
     ensures { bounds.new ≡ (if reply.now.activated
         && (has k side.now.state.listed || has k side.now.state.active)
         then no_bounds else bounds.old) }
@@ -35,17 +35,18 @@ pub(crate) fn work_on<S: FrameStore>(
     element: &mut Element,
     k: u32,
 ) -> Result<Worked, OutOfMemory>
-    requires steady { IsSteady (kept side.old buffers.old.buffers element.old.state) }
-    ensures worked { (st : State) → Stands (kept side.old buffers.old.buffers element.old.state) st
+    requires steady { IsSteady (kept_engine side.old buffers.old.buffers element.old.state) }
+    ensures worked { (st : State) →
+        Stands (kept_engine side.old buffers.old.buffers element.old.state) st
         → IfOk result (λ worked. IsWork worked
-        (kept side.old buffers.old.buffers element.old.state)
-        (kept side.new buffers.new.buffers element.new.state) (after_work k st)) }
+        (kept_engine side.old buffers.old.buffers element.old.state)
+        (kept_engine side.new buffers.new.buffers element.new.state) (after_work k st)) }
     ensures fewer { IfOk result (λ worked. IsFewerWork worked
-        (kept side.old buffers.old.buffers element.old.state)
-        (kept side.new buffers.new.buffers element.new.state)) }
-    ensures steady { IsSteady (kept side.new buffers.new.buffers element.new.state) }
-    ensures err { OnErr result (kept side.new buffers.new.buffers element.new.state
-        ≡ kept side.old buffers.old.buffers element.old.state) }
+        (kept_engine side.old buffers.old.buffers element.old.state)
+        (kept_engine side.new buffers.new.buffers element.new.state)) }
+    ensures steady { IsSteady (kept_engine side.new buffers.new.buffers element.new.state) }
+    ensures err { OnErr result (kept_engine side.new buffers.new.buffers element.new.state
+        ≡ kept_engine side.old buffers.old.buffers element.old.state) }
 {
     element.reserve(PLACES + 1)?;
     let around = around(side, element, k);
@@ -53,7 +54,7 @@ pub(crate) fn work_on<S: FrameStore>(
     scenes::find_bounds(side, buffers, element, &mut bounds)?;
     match buffers.turn(k, &around)? {
         Turned::Did(reply) => {
-            bring_behind(side, k, &reply, &mut bounds);
+            drop_stale_bounds(side, k, &reply, &mut bounds);
             finish(side, buffers, element, k, &reply, &bounds);
             Ok(Worked::Did)
         }
@@ -67,14 +68,15 @@ pub(crate) fn turn_by_itself<S: FrameStore>(
     buffers: &SourceBuffers<S>,
     element: &mut Element,
 ) -> Result<Worked, OutOfMemory>
-    requires steady { IsSteady (kept side.now buffers.now.buffers element.old.state) }
-    ensures worked { (st : State) → Stands (kept side.now buffers.now.buffers element.old.state) st
+    requires steady { IsSteady (kept_engine side.now buffers.now.buffers element.old.state) }
+    ensures worked { (st : State) →
+        Stands (kept_engine side.now buffers.now.buffers element.old.state) st
         → IfOk result (λ worked. IsWork worked
-        (kept side.now buffers.now.buffers element.old.state)
-        (kept side.now buffers.now.buffers element.new.state) (after_element_turn st)) }
-    ensures steady { IsSteady (kept side.now buffers.now.buffers element.new.state) }
-    ensures err { OnErr result (kept side.now buffers.now.buffers element.new.state
-        ≡ kept side.now buffers.now.buffers element.old.state) }
+        (kept_engine side.now buffers.now.buffers element.old.state)
+        (kept_engine side.now buffers.now.buffers element.new.state) (after_element_turn st)) }
+    ensures steady { IsSteady (kept_engine side.now buffers.now.buffers element.new.state) }
+    ensures err { OnErr result (kept_engine side.now buffers.now.buffers element.new.state
+        ≡ kept_engine side.now buffers.now.buffers element.old.state) }
 {
     element.reserve(PLACES)?;
     let scene = scenes::scene(side, buffers, element, None);

@@ -212,8 +212,9 @@ impl Source {
         self.active.push_reserved(k);
     }
 
-    /// Sets the duration (Media Source Extensions, 2.1, `duration`, on setting), with what is told
-    /// of all buffers in the list.
+    /// Sets the duration, in ticks (Media Source Extensions, 2.1, `duration`, on setting), with what
+    /// is told of all buffers in the list: where a frame ends after `d`, the duration becomes that
+    /// end. `Changed::To` tells the new duration, `Same` that it stays.
     ///
     /// TypeError where `d` is NaN or negative; InvalidState where the source is not open, where a
     /// buffer is updating, or where `d` is another duration and a frame starts after it.
@@ -259,8 +260,8 @@ impl Source {
         None
     }
 
-    /// Changes the duration (Media Source Extensions, 2.4.6, duration change): true exactly where it
-    /// was another.
+    /// Changes the duration to `d`, in ticks, NaN where there is none (Media Source Extensions, 2.4.6,
+    /// duration change): true exactly where it was another.
     pub fn change_duration(&mut self, d: Moment) -> bool
         ensures answer { result ≡ not (same_moment d self.old.duration) }
         ensures state { self.new ≡ (after_duration_change d self.old).state }
@@ -331,7 +332,7 @@ impl Source {
         self.ready
     }
 
-    /// The duration.
+    /// The duration, in ticks: NaN while there is none, infinite of a stream without an end.
     pub fn duration(&self) -> Moment
         ensures { result ≡ self.now.duration }
     {
@@ -346,7 +347,7 @@ impl Source {
     }
 
     /// How many buffers were ever made. Their numbers are those below it.
-    pub fn made(&self) -> u32
+    pub fn made_count(&self) -> u32
         ensures { result ≡ self.now.made }
     {
         self.made

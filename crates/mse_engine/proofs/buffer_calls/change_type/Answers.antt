@@ -4,7 +4,7 @@ use Rattle.buffer_state.specs.State.{surroundings}
 use Rattle.buffer_state.specs.Calls.{change_type_result}
 use Rattle.source_buffers.specs.Slots.{removed_type_name}
 use Rattle.media_element.specs.State.{ElementState}
-use Rattle.mse_engine.specs.Standing.{IsSteady, kept}
+use Rattle.mse_engine.specs.Standing.{IsSteady, kept_engine}
 use Rattle.mse_engine.proofs.BufferStepping.{call_steps, call_steady, never_loads}
 use Rattle.mse_engine.proofs.buffer_calls.change_type.Goals as goal
 
@@ -12,10 +12,10 @@ pub conclude-requires-clause-bounds : goal.conclude-requires-clause-bounds
 conclude-requires-clause-bounds g c = λ h. never_loads _ c.args.k c.in_ok-reply.reply (not (has_metadata c.reserve_reset.new.element.state.player.level)) c.args.side.now.state c.in_ok-reply.ensures.no_init h
 
 pub returns-clause-answered : goal.returns-clause-answered
-returns-clause-answered g c st h = call_steps c.args.k (removed_type_name c.args.text.now) (change_type_result c.args.text.now) (surroundings c.around-around.result) c.around-around.result.duration c.in_ok-reply.reply c.conclude.result c.args.side.now c.args.element.now.state c.reserve_reset.new.element.state c.args.buffers.now.buffers c.change_type.new.self.buffers (kept c.conclude.new.side c.change_type.new.self.buffers c.conclude.new.element.state) c.reserve_reset.ensures.state c.around-around.ensures.surroundings c.around-around.ensures.duration c.in_ok-reply.ensures.answered c.conclude.ensures.step st h
+returns-clause-answered g c st h = call_steps c.args.k (removed_type_name c.args.text.now) (change_type_result c.args.text.now) (surroundings c.around-around.result) c.around-around.result.duration c.in_ok-reply.reply c.conclude.result c.args.side.now c.args.element.now.state c.reserve_reset.new.element.state c.args.buffers.now.buffers c.change_type.new.self.buffers (kept_engine c.conclude.new.side c.change_type.new.self.buffers c.conclude.new.element.state) c.reserve_reset.ensures.state c.around-around.ensures.surroundings c.around-around.ensures.duration c.in_ok-reply.ensures.answered c.conclude.ensures.step st h
 
 pub returns-clause-steady : goal.returns-clause-steady
 returns-clause-steady g c = call_steady c.args.k c.in_ok-reply.reply c.around-around.result.duration c.args.side.now c.conclude.new.side c.args.buffers.now.buffers c.change_type.new.self.buffers c.args.element.now.state c.conclude.new.element.state c.requires.steady c.around-around.ensures.duration c.in_ok-reply.ensures.within_duration c.change_type.ensures.len c.conclude.ensures.side c.conclude.ensures.settled
 
 pub returns-in_err-reserve_reset-clause-steady : goal.returns-in_err-reserve_reset-clause-steady
-returns-in_err-reserve_reset-clause-steady g c = subst (λ (e : ElementState). IsSteady (kept c.args.side.now c.args.buffers.now.buffers e)) (sym c.reserve_reset.ensures.state) c.requires.steady
+returns-in_err-reserve_reset-clause-steady g c = subst (λ (e : ElementState). IsSteady (kept_engine c.args.side.now c.args.buffers.now.buffers e)) (sym c.reserve_reset.ensures.state) c.requires.steady

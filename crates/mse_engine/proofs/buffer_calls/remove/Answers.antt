@@ -7,10 +7,10 @@ use Rattle.mse_calls.specs.Level.{has_metadata}
 use Rattle.buffer_state.specs.State.{surroundings}
 use Rattle.buffer_state.specs.Calls.{remove_result}
 use Rattle.media_element.specs.State.{ElementState}
-use Rattle.mse_engine.specs.Moved.{if_finite}
-use Rattle.mse_engine.specs.BufferCalls.{buffer_moved}
+use Rattle.mse_engine.specs.CoreEffects.{if_finite}
+use Rattle.mse_engine.specs.BufferCalls.{buffer_effect}
 use Rattle.mse_engine.specs.Calls.{after_call}
-use Rattle.mse_engine.specs.Standing.{IsSteady, kept, IsStep}
+use Rattle.mse_engine.specs.Standing.{IsSteady, kept_engine, IsStep}
 use Rattle.mse_engine.proofs.BufferStepping.{call_steps, call_steady, never_loads, made_steps, refused_steps, not_finite}
 use Rattle.mse_engine.proofs.buffer_calls.remove.Goals as goal
 
@@ -19,13 +19,13 @@ conclude-requires-clause-bounds g c = λ h. never_loads _ c.args.k c.remove_fram
 
 pub returns-clause-answered : goal.returns-clause-answered
 returns-clause-answered g c st h =
-    subst (λ (t : Moment). IsStep c.conclude.result (kept c.conclude.new.side c.remove_frames-reply.new.self.buffers c.conclude.new.element.state) (after_call [] (call.Remove c.args.k t c.args.end) st)) (sym c.in-At.is) (made_steps c.args.k (remove_result c.in-At.start c.args.end) st.core st.outer c.conclude.result (kept c.conclude.new.side c.remove_frames-reply.new.self.buffers c.conclude.new.element.state) (call_steps c.args.k InvalidState (remove_result c.in-At.start c.args.end) (surroundings c.around-around.result) c.around-around.result.duration c.remove_frames-reply.result c.conclude.result c.args.side.now c.args.element.now.state c.reserve.new.self.state c.args.buffers.now.buffers c.remove_frames-reply.new.self.buffers (kept c.conclude.new.side c.remove_frames-reply.new.self.buffers c.conclude.new.element.state) c.reserve.ensures.state c.around-around.ensures.surroundings c.around-around.ensures.duration c.remove_frames-reply.ensures.answered c.conclude.ensures.step st h))
+    subst (λ (t : Moment). IsStep c.conclude.result (kept_engine c.conclude.new.side c.remove_frames-reply.new.self.buffers c.conclude.new.element.state) (after_call [] (call.Remove c.args.k t c.args.end) st)) (sym c.in-At.is) (made_steps c.args.k (remove_result c.in-At.start c.args.end) st.core st.outer c.conclude.result (kept_engine c.conclude.new.side c.remove_frames-reply.new.self.buffers c.conclude.new.element.state) (call_steps c.args.k InvalidState (remove_result c.in-At.start c.args.end) (surroundings c.around-around.result) c.around-around.result.duration c.remove_frames-reply.result c.conclude.result c.args.side.now c.args.element.now.state c.reserve.new.self.state c.args.buffers.now.buffers c.remove_frames-reply.new.self.buffers (kept_engine c.conclude.new.side c.remove_frames-reply.new.self.buffers c.conclude.new.element.state) c.reserve.ensures.state c.around-around.ensures.surroundings c.around-around.ensures.duration c.remove_frames-reply.ensures.answered c.conclude.ensures.step st h))
 
 pub returns-clause-steady : goal.returns-clause-steady
 returns-clause-steady g c = call_steady c.args.k c.remove_frames-reply.result c.around-around.result.duration c.args.side.now c.conclude.new.side c.args.buffers.now.buffers c.remove_frames-reply.new.self.buffers c.args.element.now.state c.conclude.new.element.state c.requires.steady c.around-around.ensures.duration c.remove_frames-reply.ensures.within_duration c.remove_frames-reply.ensures.len c.conclude.ensures.side c.conclude.ensures.settled
 
 pub returns-in_default-clause-answered : goal.returns-in_default-clause-answered
-returns-in_default-clause-answered g c st h = refused_steps c.args.k TypeError (if_finite c.args.start (λ from. buffer_moved c.args.k (remove_result from c.args.end) st.core) st.core) c.refused_time.result answer.Done (kept c.args.side.now c.args.buffers.now.buffers c.args.element.now.state) st c.refused_time.ensures (not_finite c.args.start (λ from. buffer_moved c.args.k (remove_result from c.args.end) st.core) st.core c.in_default.not-At) c.requires.steady.settled h
+returns-in_default-clause-answered g c st h = refused_steps c.args.k TypeError (if_finite c.args.start (λ from. buffer_effect c.args.k (remove_result from c.args.end) st.core) st.core) c.refused_time.result answer.Done (kept_engine c.args.side.now c.args.buffers.now.buffers c.args.element.now.state) st c.refused_time.ensures (not_finite c.args.start (λ from. buffer_effect c.args.k (remove_result from c.args.end) st.core) st.core c.in_default.not-At) c.requires.steady.settled h
 
 pub returns-in_err-reserve-clause-steady : goal.returns-in_err-reserve-clause-steady
-returns-in_err-reserve-clause-steady g c = subst (λ (e : ElementState). IsSteady (kept c.args.side.now c.args.buffers.now.buffers e)) (sym c.reserve.ensures.state) c.requires.steady
+returns-in_err-reserve-clause-steady g c = subst (λ (e : ElementState). IsSteady (kept_engine c.args.side.now c.args.buffers.now.buffers e)) (sym c.reserve.ensures.state) c.requires.steady

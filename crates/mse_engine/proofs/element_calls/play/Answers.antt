@@ -5,7 +5,7 @@ use Rattle.media_element.specs.Queueing.{refusal, told_by_call, after_call}
 use Rattle.mse_engine.specs.Scenes.{scene_with}
 use Rattle.mse_engine.specs.Standing.{view_of}
 use Rattle.mse_engine.proofs.Unchanged.{in_play}
-use Rattle.mse_engine.proofs.Acting.{scene_step, refusal_is, acting_steady, steady_still}
+use Rattle.mse_engine.proofs.ElementEffects.{scene_step, refusal_is, element_effect_steady, steady_still}
 use Rattle.mse_engine.proofs.element_calls.play.Goals as goal
 
 pub returns-clause-answered : goal.returns-clause-answered
@@ -18,7 +18,7 @@ returns-clause-answered g c st h =
     }
 
 pub returns-clause-steady : goal.returns-clause-steady
-returns-clause-steady g c = acting_steady c.args.side.now c.args.buffers.now.buffers c.args.element.now.state c.reserve.new.self.state c.reserve.ensures.state c.settle.new.element.state c.requires.steady c.settle.ensures.settled
+returns-clause-steady g c = element_effect_steady c.args.side.now c.args.buffers.now.buffers c.args.element.now.state c.reserve.new.self.state c.reserve.ensures.state c.settle.new.element.state c.requires.steady c.settle.ensures.settled
 
 pub returns-in_err-reserve-clause-steady : goal.returns-in_err-reserve-clause-steady
 returns-in_err-reserve-clause-steady g c = steady_still c.args.side.now c.args.buffers.now.buffers c.args.element.now.state c.reserve.new.self.state c.reserve.ensures.state c.requires.steady

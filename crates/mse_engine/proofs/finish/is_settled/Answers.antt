@@ -1,14 +1,14 @@
 use Rattle.std.proofs.Common.{◌≡◌, ◌∙◌, ℤ, sym, ap}
 use Rattle.element_seek.specs.Settling.{stays_by}
 use Rattle.mse_engine.specs.Scenes.{span_at}
-use Rattle.mse_engine.specs.Standing.{SourceSide, kept, kept_scene, view_of}
+use Rattle.mse_engine.specs.Standing.{SourceSide, kept_engine, kept_scene, view_of}
 use Rattle.mse_engine.proofs.Quiet.{blank_stays}
 use Rattle.mse_engine.proofs.finish.is_settled.Goals as goal
 
 pub returns-then-is_blank : goal.returns-then-is_blank
 returns-then-is_blank g c =
     let e = c.args.element.now.state in
-    c.stays.ensures ∙ blank_stays (kept_scene (kept c.args.side.now c.args.buffers.now.buffers e)) c.duration-duration.result e.player (sym c.is_blank.ensures ∙ c.if-is_blank.true)
+    c.stays.ensures ∙ blank_stays (kept_scene (kept_engine c.args.side.now c.args.buffers.now.buffers e)) c.duration-duration.result e.player (sym c.is_blank.ensures ∙ c.if-is_blank.true)
 
 pub returns : goal.returns
 returns g c =

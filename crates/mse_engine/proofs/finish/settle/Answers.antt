@@ -1,9 +1,9 @@
 use Rattle.std.proofs.Common.{◌∙◌, sym}
 use Rattle.element_seek.specs.Settling.{after_settle}
 use Rattle.element_seek.proofs.Settled.{settled-still}
-use Rattle.media_element.proofs.Heard.{silent}
+use Rattle.media_element.proofs.QueuedEvents.{silent}
 use Rattle.mse_engine.specs.Scenes.{scene_at}
-use Rattle.mse_engine.specs.Standing.{kept, kept_scene, view_of}
+use Rattle.mse_engine.specs.Standing.{kept_engine, kept_scene, view_of}
 use Rattle.mse_engine.proofs.finish.settle.Goals as goal
 
 pub returns-else-not-is_settled-clause-element : goal.returns-else-not-is_settled-clause-element
@@ -13,4 +13,4 @@ returns-else-not-is_settled-clause-element g c =
     sym (silent (after_settle scene) e (settled-still scene e.player (sym c.is_settled.ensures ∙ c.if-not-is_settled.false)))
 
 pub returns-else-not-is_settled-clause-settled : goal.returns-else-not-is_settled-clause-settled
-returns-else-not-is_settled-clause-settled g c = settled-still (kept_scene (kept c.args.side.now c.args.buffers.now.buffers c.args.element.now.state)) c.args.element.now.state.player (sym c.is_settled.ensures ∙ c.if-not-is_settled.false)
+returns-else-not-is_settled-clause-settled g c = settled-still (kept_scene (kept_engine c.args.side.now c.args.buffers.now.buffers c.args.element.now.state)) c.args.element.now.state.player (sym c.is_settled.ensures ∙ c.if-not-is_settled.false)

@@ -6,10 +6,10 @@ use Rattle.source_state.specs.Calls.{after_attach}
 use Rattle.media_element.specs.State.{ElementState}
 use Rattle.media_element.specs.Queueing.{event_at, queued}
 use Rattle.mse_engine.specs.Signals.{Tell}
-use Rattle.mse_engine.specs.Standing.{Kept, IsSteady}
+use Rattle.mse_engine.specs.Standing.{KeptEngine, IsSteady}
 use Rattle.mse_engine.proofs.Unchanged.{IsKept, same}
 use Rattle.mse_engine.proofs.Sourcing.{attach_plain, plain_steady, told_step, unchanged, refused_step}
-use Rattle.mse_engine.proofs.Acting.{steady_still}
+use Rattle.mse_engine.proofs.ElementEffects.{steady_still}
 use Rattle.mse_engine.proofs.Inside.{side_of, new_state, new_answer}
 use Rattle.mse_engine.proofs.source_calls.attach.Goals as goal
 
@@ -31,7 +31,7 @@ returns-in-Some-clause-answered g c st h =
 pub returns-in-Some-clause-steady : goal.returns-in-Some-clause-steady
 returns-in-Some-clause-steady g c =
     let some = sym (new_answer c.side.inside.source c.side.inside.fault c.side.inside.quota c.side.inside.gap c.args.side.now c.side.view_is (λ s. (after_attach s).answer) c.attach.result c.attach.ensures.answer) ∙ c.in-Some.is in
-    subst (λ (x : Kept). IsSteady x) (sym (unchanged after_attach c.args.side.now (side_of c.attach.new.self c.side.inside.fault c.side.inside.quota c.side.inside.gap) c.args.buffers.now.buffers c.args.element.now.state c.reserve.new.self.state (attach_plain c.args.side.now.state) (new_state c.side.inside.source c.side.inside.fault c.side.inside.quota c.side.inside.gap c.args.side.now c.side.view_is (λ s. (after_attach s).state) c.attach.new.self c.attach.ensures.state) c.reserve.ensures.state c.in-Some.name some)) c.requires.steady
+    subst (λ (x : KeptEngine). IsSteady x) (sym (unchanged after_attach c.args.side.now (side_of c.attach.new.self c.side.inside.fault c.side.inside.quota c.side.inside.gap) c.args.buffers.now.buffers c.args.element.now.state c.reserve.new.self.state (attach_plain c.args.side.now.state) (new_state c.side.inside.source c.side.inside.fault c.side.inside.quota c.side.inside.gap c.args.side.now c.side.view_is (λ s. (after_attach s).state) c.attach.new.self c.attach.ensures.state) c.reserve.ensures.state c.in-Some.name some)) c.requires.steady
 
 pub returns-in_err-reserve-clause-steady : goal.returns-in_err-reserve-clause-steady
 returns-in_err-reserve-clause-steady g c = steady_still c.args.side.now c.args.buffers.now.buffers c.args.element.now.state c.reserve.new.self.state c.reserve.ensures.state c.requires.steady

@@ -11,7 +11,7 @@ use Rattle.mse_engine.specs.SourceCalls.{change_signals}
 use Rattle.mse_engine.specs.Standing.{view_of}
 use Rattle.mse_engine.proofs.Changing.{end_change}
 use Rattle.mse_engine.proofs.Ending.{end_step, end_refused, end_steady}
-use Rattle.mse_engine.proofs.Acting.{steady_still}
+use Rattle.mse_engine.proofs.ElementEffects.{steady_still}
 use Rattle.mse_engine.proofs.Inside.{side_of, new_state, new_answer}
 use Rattle.mse_engine.proofs.source_calls.end_of_stream.Goals as goal
 

@@ -4,26 +4,26 @@ use Rattle.mse_calls.specs.declared.events.Event.{Event}
 use Rattle.buffer_state.specs.State.{surroundings}
 use Rattle.source_state.specs.Calls.{after_remove_buffer}
 use Rattle.media_element.specs.Queueing.{queued}
-use Rattle.mse_engine.specs.Moved.{Moved}
-use Rattle.mse_engine.specs.SourceCalls.{remove_moved_by}
-use Rattle.mse_engine.specs.Calls.{after_call_by, without_action}
-use Rattle.mse_engine.specs.Standing.{Kept, IsStep, IsSteady, kept}
+use Rattle.mse_engine.specs.CoreEffects.{CoreEffect}
+use Rattle.mse_engine.specs.SourceCalls.{remove_effect_by}
+use Rattle.mse_engine.specs.Calls.{after_call_by, no_element_effect}
+use Rattle.mse_engine.specs.Standing.{KeptEngine, IsStep, IsSteady, kept_engine}
 use Rattle.mse_engine.proofs.Listing.{removal_told, remove_unchanged, remove_refused, remove_step, remove_steady}
-use Rattle.mse_engine.proofs.BufferStepping.{unmade_steps, made_moved}
-use Rattle.mse_engine.proofs.Acting.{steady_still}
+use Rattle.mse_engine.proofs.BufferStepping.{unmade_steps, made_effect}
+use Rattle.mse_engine.proofs.ElementEffects.{steady_still}
 use Rattle.mse_engine.proofs.Inside.{side_of, new_state, new_answer}
 use Rattle.mse_engine.proofs.source_calls.remove_source_buffer.Goals as goal
 
 pub returns-then-not-is_made-clause-answered : goal.returns-then-not-is_made-clause-answered
 returns-then-not-is_made-clause-answered g c st h =
     let past : nat_lt c.args.k (length c.args.buffers.now.buffers) ≡ false = cc in
-    unmade_steps c.args.k (remove_moved_by c.args.k (after_remove_buffer c.args.k st.core.source.state) st.core) Done (kept c.args.side.now c.args.buffers.now.buffers c.args.element.now.state) st past c.requires.steady.settled h
+    unmade_steps c.args.k (remove_effect_by c.args.k (after_remove_buffer c.args.k st.core.source.state) st.core) Done (kept_engine c.args.side.now c.args.buffers.now.buffers c.args.element.now.state) st past c.requires.steady.settled h
 
 pub returns-in-Refused-clause-answered : goal.returns-in-Refused-clause-answered
 returns-in-Refused-clause-answered g c st h =
     let is : nat_lt c.args.k (length c.args.buffers.now.buffers) ≡ true = cc in
     let here = remove_refused c.args.k c.args.side.now (side_of c.remove_buffer.new.self c.side.inside.fault c.side.inside.quota c.side.inside.gap) c.args.buffers.now.buffers c.args.element.now.state c.reserve.new.self.state c.remove_buffer.result c.reserve.ensures.state (new_answer c.side.inside.source c.side.inside.fault c.side.inside.quota c.side.inside.gap c.args.side.now c.side.view_is (λ s. (after_remove_buffer c.args.k s).answer) c.remove_buffer.result c.remove_buffer.ensures.answer) (new_state c.side.inside.source c.side.inside.fault c.side.inside.quota c.side.inside.gap c.args.side.now c.side.view_is (λ s. (after_remove_buffer c.args.k s).state) c.remove_buffer.new.self c.remove_buffer.ensures.state) c.in-Refused.name st c.in-Refused.is c.requires.steady.settled h in
-    subst (λ (m : Moved). IsStep (Refused c.in-Refused.name) (kept (side_of c.remove_buffer.new.self c.side.inside.fault c.side.inside.quota c.side.inside.gap) c.args.buffers.now.buffers c.reserve.new.self.state) (after_call_by m (without_action st.outer) Done)) (sym (made_moved c.args.k (remove_moved_by c.args.k (after_remove_buffer c.args.k st.core.source.state) st.core) (kept c.args.side.now c.args.buffers.now.buffers c.args.element.now.state) st is h)) here
+    subst (λ (m : CoreEffect). IsStep (Refused c.in-Refused.name) (kept_engine (side_of c.remove_buffer.new.self c.side.inside.fault c.side.inside.quota c.side.inside.gap) c.args.buffers.now.buffers c.reserve.new.self.state) (after_call_by m (no_element_effect st.outer) Done)) (sym (made_effect c.args.k (remove_effect_by c.args.k (after_remove_buffer c.args.k st.core.source.state) st.core) (kept_engine c.args.side.now c.args.buffers.now.buffers c.args.element.now.state) st is h)) here
 
 pub returns-in-Gone-clause-answered : goal.returns-in-Gone-clause-answered
 returns-in-Gone-clause-answered g c st h =
@@ -31,10 +31,10 @@ returns-in-Gone-clause-answered g c st h =
     let last = c.tell.ensures.state ∙ ap (λ (x : Event). queued (x ∷ []) c.tell_inactive.new.element.state) c.event.ensures in
     let heard = removal_told c.args.k c.remove-reply.result c.in-Gone.active c.reserve.new.self.state c.tell_kinds.new.self.state c.tell_inactive.new.element.state c.tell.new.self.state c.tell_kinds.ensures.state c.tell_inactive.ensures.state last in
     let here = remove_step c.args.k c.args.side.now (side_of c.remove_buffer.new.self c.side.inside.fault c.side.inside.quota c.side.inside.gap) c.args.buffers.now.buffers c.args.element.now.state c.reserve.new.self.state c.remove_buffer.result c.reserve.ensures.state (new_answer c.side.inside.source c.side.inside.fault c.side.inside.quota c.side.inside.gap c.args.side.now c.side.view_is (λ s. (after_remove_buffer c.args.k s).answer) c.remove_buffer.result c.remove_buffer.ensures.answer) (new_state c.side.inside.source c.side.inside.fault c.side.inside.quota c.side.inside.gap c.args.side.now c.side.view_is (λ s. (after_remove_buffer c.args.k s).state) c.remove_buffer.new.self c.remove_buffer.ensures.state) c.in-Gone.active c.remove-reply.result (surroundings c.around-around.result) c.remove-reply.new.self.buffers c.tell.new.self.state c.settle.new.element.state st c.in-Gone.is c.around-around.ensures.surroundings c.remove-reply.ensures.answered heard (record { source = c.settle.ensures.source; element = c.settle.ensures.element }) h in
-    subst (λ (m : Moved). IsStep Done (kept (side_of c.remove_buffer.new.self c.side.inside.fault c.side.inside.quota c.side.inside.gap) c.remove-reply.new.self.buffers c.settle.new.element.state) (after_call_by m (without_action st.outer) Done)) (sym (made_moved c.args.k (remove_moved_by c.args.k (after_remove_buffer c.args.k st.core.source.state) st.core) (kept c.args.side.now c.args.buffers.now.buffers c.args.element.now.state) st is h)) here
+    subst (λ (m : CoreEffect). IsStep Done (kept_engine (side_of c.remove_buffer.new.self c.side.inside.fault c.side.inside.quota c.side.inside.gap) c.remove-reply.new.self.buffers c.settle.new.element.state) (after_call_by m (no_element_effect st.outer) Done)) (sym (made_effect c.args.k (remove_effect_by c.args.k (after_remove_buffer c.args.k st.core.source.state) st.core) (kept_engine c.args.side.now c.args.buffers.now.buffers c.args.element.now.state) st is h)) here
 
 pub returns-in-Refused-clause-steady : goal.returns-in-Refused-clause-steady
-returns-in-Refused-clause-steady g c = subst (λ (x : Kept). IsSteady x) (sym (remove_unchanged c.args.k c.args.side.now (side_of c.remove_buffer.new.self c.side.inside.fault c.side.inside.quota c.side.inside.gap) c.args.buffers.now.buffers c.args.element.now.state c.reserve.new.self.state c.remove_buffer.result c.reserve.ensures.state (new_answer c.side.inside.source c.side.inside.fault c.side.inside.quota c.side.inside.gap c.args.side.now c.side.view_is (λ s. (after_remove_buffer c.args.k s).answer) c.remove_buffer.result c.remove_buffer.ensures.answer) (new_state c.side.inside.source c.side.inside.fault c.side.inside.quota c.side.inside.gap c.args.side.now c.side.view_is (λ s. (after_remove_buffer c.args.k s).state) c.remove_buffer.new.self c.remove_buffer.ensures.state) c.in-Refused.name c.in-Refused.is)) c.requires.steady
+returns-in-Refused-clause-steady g c = subst (λ (x : KeptEngine). IsSteady x) (sym (remove_unchanged c.args.k c.args.side.now (side_of c.remove_buffer.new.self c.side.inside.fault c.side.inside.quota c.side.inside.gap) c.args.buffers.now.buffers c.args.element.now.state c.reserve.new.self.state c.remove_buffer.result c.reserve.ensures.state (new_answer c.side.inside.source c.side.inside.fault c.side.inside.quota c.side.inside.gap c.args.side.now c.side.view_is (λ s. (after_remove_buffer c.args.k s).answer) c.remove_buffer.result c.remove_buffer.ensures.answer) (new_state c.side.inside.source c.side.inside.fault c.side.inside.quota c.side.inside.gap c.args.side.now c.side.view_is (λ s. (after_remove_buffer c.args.k s).state) c.remove_buffer.new.self c.remove_buffer.ensures.state) c.in-Refused.name c.in-Refused.is)) c.requires.steady
 
 pub returns-in-Gone-clause-steady : goal.returns-in-Gone-clause-steady
 returns-in-Gone-clause-steady g c = remove_steady c.args.k c.args.side.now (side_of c.remove_buffer.new.self c.side.inside.fault c.side.inside.quota c.side.inside.gap) c.args.buffers.now.buffers c.args.element.now.state c.reserve.new.self.state c.remove_buffer.result c.reserve.ensures.state (new_answer c.side.inside.source c.side.inside.fault c.side.inside.quota c.side.inside.gap c.args.side.now c.side.view_is (λ s. (after_remove_buffer c.args.k s).answer) c.remove_buffer.result c.remove_buffer.ensures.answer) (new_state c.side.inside.source c.side.inside.fault c.side.inside.quota c.side.inside.gap c.args.side.now c.side.view_is (λ s. (after_remove_buffer c.args.k s).state) c.remove_buffer.new.self c.remove_buffer.ensures.state) c.remove-reply.result c.around-around.result.duration c.remove-reply.new.self.buffers c.settle.new.element.state c.around-around.ensures.duration c.remove-reply.ensures.duration c.remove-reply.ensures.within_duration c.remove-reply.ensures.len c.requires.steady c.settle.ensures.settled

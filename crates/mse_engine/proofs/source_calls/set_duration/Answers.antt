@@ -1,9 +1,9 @@
 use Rattle.std.proofs.Common.{◌∙◌, sym, ap, subst}
 use Rattle.source_state.specs.State.{SourceState}
 use Rattle.source_state.specs.Calls.{after_set_duration}
-use Rattle.mse_engine.specs.Standing.{Kept, IsSteady}
+use Rattle.mse_engine.specs.Standing.{KeptEngine, IsSteady}
 use Rattle.mse_engine.proofs.Changing.{set_duration_change, duration_step, duration_unchanged, duration_refused, duration_steady}
-use Rattle.mse_engine.proofs.Acting.{steady_still}
+use Rattle.mse_engine.proofs.ElementEffects.{steady_still}
 use Rattle.mse_engine.proofs.Inside.{side_of, new_state, new_answer}
 use Rattle.mse_engine.proofs.source_calls.set_duration.Goals as goal
 
@@ -20,7 +20,7 @@ pub returns-in-Refused-clause-answered : goal.returns-in-Refused-clause-answered
 returns-in-Refused-clause-answered g c st h = duration_refused c.args.duration c.all_buffers-all.result c.args.side.now (side_of c.set_duration-change.new.self c.side.inside.fault c.side.inside.quota c.side.inside.gap) c.args.buffers.now.buffers c.args.element.now.state c.reserve.new.self.state c.set_duration-change.result c.all_buffers-all.ensures c.reserve.ensures.state (new_answer c.side.inside.source c.side.inside.fault c.side.inside.quota c.side.inside.gap c.args.side.now c.side.view_is (λ s. (after_set_duration c.args.duration c.all_buffers-all.result s).answer) c.set_duration-change.result c.set_duration-change.ensures.answer) (new_state c.side.inside.source c.side.inside.fault c.side.inside.quota c.side.inside.gap c.args.side.now c.side.view_is (λ s. (after_set_duration c.args.duration c.all_buffers-all.result s).state) c.set_duration-change.new.self c.set_duration-change.ensures.state) c.in-Refused.name st c.in-Refused.is c.requires.steady.settled h
 
 pub returns-in-Refused-clause-steady : goal.returns-in-Refused-clause-steady
-returns-in-Refused-clause-steady g c = subst (λ (x : Kept). IsSteady x) (sym (duration_unchanged c.args.duration c.all_buffers-all.result c.args.side.now (side_of c.set_duration-change.new.self c.side.inside.fault c.side.inside.quota c.side.inside.gap) c.args.buffers.now.buffers c.args.element.now.state c.reserve.new.self.state c.set_duration-change.result c.all_buffers-all.ensures c.reserve.ensures.state (new_answer c.side.inside.source c.side.inside.fault c.side.inside.quota c.side.inside.gap c.args.side.now c.side.view_is (λ s. (after_set_duration c.args.duration c.all_buffers-all.result s).answer) c.set_duration-change.result c.set_duration-change.ensures.answer) (new_state c.side.inside.source c.side.inside.fault c.side.inside.quota c.side.inside.gap c.args.side.now c.side.view_is (λ s. (after_set_duration c.args.duration c.all_buffers-all.result s).state) c.set_duration-change.new.self c.set_duration-change.ensures.state) c.in-Refused.name c.in-Refused.is)) c.requires.steady
+returns-in-Refused-clause-steady g c = subst (λ (x : KeptEngine). IsSteady x) (sym (duration_unchanged c.args.duration c.all_buffers-all.result c.args.side.now (side_of c.set_duration-change.new.self c.side.inside.fault c.side.inside.quota c.side.inside.gap) c.args.buffers.now.buffers c.args.element.now.state c.reserve.new.self.state c.set_duration-change.result c.all_buffers-all.ensures c.reserve.ensures.state (new_answer c.side.inside.source c.side.inside.fault c.side.inside.quota c.side.inside.gap c.args.side.now c.side.view_is (λ s. (after_set_duration c.args.duration c.all_buffers-all.result s).answer) c.set_duration-change.result c.set_duration-change.ensures.answer) (new_state c.side.inside.source c.side.inside.fault c.side.inside.quota c.side.inside.gap c.args.side.now c.side.view_is (λ s. (after_set_duration c.args.duration c.all_buffers-all.result s).state) c.set_duration-change.new.self c.set_duration-change.ensures.state) c.in-Refused.name c.in-Refused.is)) c.requires.steady
 
 pub returns-in_err-reserve-clause-steady : goal.returns-in_err-reserve-clause-steady
 returns-in_err-reserve-clause-steady g c = steady_still c.args.side.now c.args.buffers.now.buffers c.args.element.now.state c.reserve.new.self.state c.reserve.ensures.state c.requires.steady

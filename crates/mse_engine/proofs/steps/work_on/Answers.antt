@@ -7,8 +7,8 @@ use Rattle.source_buffers.specs.All.{AllStayWithin}
 use Rattle.source_buffers.specs.Buffered.{AllLeaveRanges}
 use Rattle.source_buffers.specs.Slots.{IsBuffersTurn, buffers_turn}
 use Rattle.mse_engine.specs.Calls.{refused_or}
-use Rattle.mse_engine.specs.Standing.{kept}
-use Rattle.mse_engine.proofs.Acting.{steady_still}
+use Rattle.mse_engine.specs.Standing.{kept_engine}
+use Rattle.mse_engine.proofs.ElementEffects.{steady_still}
 use Rattle.mse_engine.proofs.Bringing.{brought}
 use Rattle.mse_engine.proofs.BufferStepping.{call_steady}
 use Rattle.mse_engine.proofs.Finishing.{concluded}
@@ -18,14 +18,14 @@ use Rattle.mse_engine.proofs.steps.work_on.Goals as goal
 pub finish-requires-clause-bounds : goal.finish-requires-clause-bounds
 finish-requires-clause-bounds g c loaded =
     let leaves = subst (λ (x : Turned). OfTurn x (λ reply. AllLeaveRanges c.args.k c.args.buffers.now.buffers reply c.turn.new.self.buffers)) c.in-Did.is c.in_ok-reply.ensures.ranges in
-    brought c.args.k c.in-Did.reply c.args.buffers.now.buffers c.turn.new.self.buffers c.args.side.now c.reserve.new.self.state c.find_bounds.new.bounds c.bring_behind.new.bounds leaves c.bring_behind.ensures c.in_ok-find_bounds.ensures loaded
+    brought c.args.k c.in-Did.reply c.args.buffers.now.buffers c.turn.new.self.buffers c.args.side.now c.reserve.new.self.state c.find_bounds.new.bounds c.drop_stale_bounds.new.bounds leaves c.drop_stale_bounds.ensures c.in_ok-find_bounds.ensures loaded
 
 pub returns-in-Did-clause-worked : goal.returns-in-Did-clause-worked
 returns-in-Did-clause-worked g c st h =
     let turned = subst (λ (x : Turned). IsBuffersTurn x c.turn.new.self.buffers (buffers_turn c.args.k (surroundings c.around-around.result) st.core.buffers)) c.in-Did.is (c.in_ok-reply.ensures.turned st.core.buffers h.buffers) in
     let done = refused_or c.in-Did.reply.refused Done in
     let concludes = concluded c.args.k c.in-Did.reply done c.args.side.now c.finish.new.side c.turn.new.self.buffers c.reserve.new.self.state c.finish.new.element.state refl c.finish.ensures.source c.finish.ensures.outer in
-    work_did c.args.k (surroundings c.around-around.result) c.in-Did.reply done c.args.side.now c.args.element.now.state c.reserve.new.self.state c.args.buffers.now.buffers c.turn.new.self.buffers (kept c.finish.new.side c.turn.new.self.buffers c.finish.new.element.state) st c.reserve.ensures.state c.around-around.ensures.surroundings turned concludes h
+    work_did c.args.k (surroundings c.around-around.result) c.in-Did.reply done c.args.side.now c.args.element.now.state c.reserve.new.self.state c.args.buffers.now.buffers c.turn.new.self.buffers (kept_engine c.finish.new.side c.turn.new.self.buffers c.finish.new.element.state) st c.reserve.ensures.state c.around-around.ensures.surroundings turned concludes h
 
 pub returns-in-Did-clause-steady : goal.returns-in-Did-clause-steady
 returns-in-Did-clause-steady g c =

@@ -3,7 +3,7 @@ use Rattle.element_seek.specs.Playing.{after_advance}
 use Rattle.media_element.specs.State.{ElementView}
 use Rattle.media_element.specs.Queueing.{told_kinds, refusal, told_by_call}
 use Rattle.media_element.proofs.Few.{few_in_advance}
-use Rattle.media_element.proofs.Heard.{heard, has_room, room_left, inside}
+use Rattle.media_element.proofs.QueuedEvents.{heard, has_room, room_left, inside}
 use Rattle.media_element.proofs.element.Element.advance.Goals as goal
 
 pub answer-requires : goal.answer-requires

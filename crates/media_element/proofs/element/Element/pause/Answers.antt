@@ -1,6 +1,6 @@
 use Rattle.element_seek.specs.Playing.{after_pause}
 use Rattle.media_element.proofs.Few.{few_in_pause}
-use Rattle.media_element.proofs.Heard.{heard, has_room, room_left}
+use Rattle.media_element.proofs.QueuedEvents.{heard, has_room, room_left}
 use Rattle.media_element.proofs.element.Element.pause.Goals as goal
 
 pub tell_at_element-requires : goal.tell_at_element-requires

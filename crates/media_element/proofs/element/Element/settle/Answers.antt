@@ -1,6 +1,6 @@
 use Rattle.element_seek.specs.Settling.{after_settle}
 use Rattle.media_element.proofs.Few.{few_in_settle}
-use Rattle.media_element.proofs.Heard.{heard, has_room, room_left}
+use Rattle.media_element.proofs.QueuedEvents.{heard, has_room, room_left}
 use Rattle.media_element.proofs.element.Element.settle.Goals as goal
 
 pub tell_at_element-requires : goal.tell_at_element-requires

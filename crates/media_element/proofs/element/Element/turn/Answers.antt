@@ -4,7 +4,7 @@ use Rattle.element_seek.specs.Turns.{is_due}
 use Rattle.media_element.specs.State.{ElementView}
 use Rattle.media_element.specs.Queueing.{turn_kinds, told_by_turn}
 use Rattle.media_element.proofs.Few.{few_in_turn, due}
-use Rattle.media_element.proofs.Heard.{view_of, heard, has_room, room_left}
+use Rattle.media_element.proofs.QueuedEvents.{view_of, heard, has_room, room_left}
 use Rattle.media_element.proofs.element.Element.turn.Goals as goal
 
 pub tell_at_element-requires : goal.tell_at_element-requires

@@ -1,6 +1,6 @@
 use Rattle.source_buffers.specs.State.{all_kept_media}
 use Rattle.mse_engine.proofs.Finishing.{middle_told, outer_finished, source_finished}
-use Rattle.mse_engine.proofs.finish.finish_aloud.Goals as goal
+use Rattle.mse_engine.proofs.finish.finish_with_events.Goals as goal
 
 pub returns-clause-source : goal.returns-clause-source
 returns-clause-source g c =

@@ -1,5 +1,5 @@
 use Rattle.mse_engine.proofs.Finishing.{settled_element, settled_source, settled_again}
-use Rattle.mse_engine.proofs.finish.settle_anew.Goals as goal
+use Rattle.mse_engine.proofs.finish.settle_level.Goals as goal
 
 pub returns-clause-source : goal.returns-clause-source
 returns-clause-source g c = settled_source c.scene-scene.result c.args.side.now c.args.element.now.state c.settle.new.self.state c.settle.ensures.state
