@@ -1,7 +1,7 @@
 //! The lines of a track, each of which is put with one put.
 
 ghost use Rattle.std.specs.Prelude.{◌≡◌, ◌≤◌, IfOk, OnOk, OnErr, IsErrOf, string_bytes};
-ghost use Rattle.mse_outside.specs.Outside.{Rose};
+ghost use Rattle.mse_outside.specs.Outside.{HasRisen};
 ghost use Rattle.script_run.specs.Writes.{IsWritten, IsFrontWritten};
 ghost use Rattle.feed_lines.specs.Lines.{answer_text, end_line, frame_line, none_line, size_text, wanted_line};
 
@@ -65,14 +65,16 @@ fn end_line(alloc: Global, answer: FeedNext) -> Result<String, AllocError>
     format!(in alloc; "end {answer}\n")
 }
 
-/// No frame of the track of that number is shown at a time.
+/// Puts the line that says that no frame of the track `id` is shown at the time `at`, in ticks.
+///
+/// An `Err` is a failed put or want of memory; then a front of the line was written.
 pub fn put_none<K: Sink>(alloc: Global, sink: &mut K, id: u32, at: Ticks) -> Result<(), Halt>
     ensures ok { OnOk result (IsWritten (none_line id at) (K.written sink.old)
         (K.written sink.new)) }
     ensures err { OnErr result (IsFrontWritten (none_line id at) (K.written sink.old)
         (K.written sink.new)) }
-    ensures later { K.faults sink.old ≤ K.faults sink.new }
-    ensures cause { IsErrOf result Halt.Write → Rose (K.faults sink.old) (K.faults sink.new) }
+    ensures no_fewer_faults { K.faults sink.old ≤ K.faults sink.new }
+    ensures cause { IsErrOf result Halt.Write → HasRisen (K.faults sink.old) (K.faults sink.new) }
 {
     match none_line(alloc, id, at) {
         Ok(line) => put_bytes(sink, line.as_bytes()),
@@ -80,7 +82,10 @@ pub fn put_none<K: Sink>(alloc: Global, sink: &mut K, id: u32, at: Ticks) -> Res
     }
 }
 
-/// The frame of a serial is shown.
+/// Puts the line that says that the frame of this serial of the track `id` is shown at the time `at`,
+/// in ticks.
+///
+/// An `Err` is a failed put or want of memory; then a front of the line was written.
 pub fn put_wanted<K: Sink>(
     alloc: Global,
     sink: &mut K,
@@ -92,8 +97,8 @@ pub fn put_wanted<K: Sink>(
         (K.written sink.new)) }
     ensures err { OnErr result (IsFrontWritten (wanted_line id at serial) (K.written sink.old)
         (K.written sink.new)) }
-    ensures later { K.faults sink.old ≤ K.faults sink.new }
-    ensures cause { IsErrOf result Halt.Write → Rose (K.faults sink.old) (K.faults sink.new) }
+    ensures no_fewer_faults { K.faults sink.old ≤ K.faults sink.new }
+    ensures cause { IsErrOf result Halt.Write → HasRisen (K.faults sink.old) (K.faults sink.new) }
 {
     match wanted_line(alloc, id, at, serial) {
         Ok(line) => put_bytes(sink, line.as_bytes()),
@@ -101,14 +106,16 @@ pub fn put_wanted<K: Sink>(
     }
 }
 
-/// A frame is given.
+/// Puts the line of a frame that is given to the decoder.
+///
+/// An `Err` is a failed put or want of memory; then a front of the line was written.
 pub fn put_frame<K: Sink>(alloc: Global, sink: &mut K, stored: &Stored) -> Result<(), Halt>
     ensures ok { OnOk result (IsWritten (frame_line stored.now) (K.written sink.old)
         (K.written sink.new)) }
     ensures err { OnErr result (IsFrontWritten (frame_line stored.now) (K.written sink.old)
         (K.written sink.new)) }
-    ensures later { K.faults sink.old ≤ K.faults sink.new }
-    ensures cause { IsErrOf result Halt.Write → Rose (K.faults sink.old) (K.faults sink.new) }
+    ensures no_fewer_faults { K.faults sink.old ≤ K.faults sink.new }
+    ensures cause { IsErrOf result Halt.Write → HasRisen (K.faults sink.old) (K.faults sink.new) }
 {
     match frame_line(alloc, stored) {
         Ok(line) => put_bytes(sink, line.as_bytes()),
@@ -116,14 +123,16 @@ pub fn put_frame<K: Sink>(alloc: Global, sink: &mut K, stored: &Stored) -> Resul
     }
 }
 
-/// No more frames are given, for this reason.
+/// Puts the line that says why no more frames are given.
+///
+/// An `Err` is a failed put or want of memory; then a front of the line was written.
 pub fn put_end<K: Sink>(alloc: Global, sink: &mut K, answer: FeedNext) -> Result<(), Halt>
     ensures ok { OnOk result (IsWritten (end_line answer) (K.written sink.old)
         (K.written sink.new)) }
     ensures err { OnErr result (IsFrontWritten (end_line answer) (K.written sink.old)
         (K.written sink.new)) }
-    ensures later { K.faults sink.old ≤ K.faults sink.new }
-    ensures cause { IsErrOf result Halt.Write → Rose (K.faults sink.old) (K.faults sink.new) }
+    ensures no_fewer_faults { K.faults sink.old ≤ K.faults sink.new }
+    ensures cause { IsErrOf result Halt.Write → HasRisen (K.faults sink.old) (K.faults sink.new) }
 {
     match end_line(alloc, answer) {
         Ok(line) => put_bytes(sink, line.as_bytes()),

@@ -3,7 +3,7 @@
 ghost use Rattle.std.specs.Prelude.{◌≡◌, ◌≤◌, ◌+ℤ◌, ◌++◌, IfOk, IsSome, OnOk, OnErr, IsErrOf};
 ghost use Rattle.std.specs.List.{flat_map};
 ghost use Rattle.mse_base.specs.Time.{IsTick};
-ghost use Rattle.mse_outside.specs.Outside.{Rose};
+ghost use Rattle.mse_outside.specs.Outside.{HasRisen};
 ghost use Rattle.script_run.specs.Writes.{IsWritten, IsFrontWritten};
 ghost use Rattle.track_store.specs.Frames.{overlapped};
 ghost use Rattle.track_store.specs.Sound.{IsSound};
@@ -49,8 +49,8 @@ fn put_given<S: FrameStore, K: Sink>(
         (K.written sink.old) (K.written sink.new)) }
     ensures err { OnErr result (IsFrontWritten (given_text at (state_of S.frames track.now))
         (K.written sink.old) (K.written sink.new)) }
-    ensures later { K.faults sink.old ≤ K.faults sink.new }
-    ensures cause { IsErrOf result Halt.Write → Rose (K.faults sink.old) (K.faults sink.new) }
+    ensures no_fewer_faults { K.faults sink.old ≤ K.faults sink.new }
+    ensures cause { IsErrOf result Halt.Write → HasRisen (K.faults sink.old) (K.faults sink.new) }
 {
     let mut last = None;
     'giving: loop {
@@ -87,8 +87,8 @@ pub fn put_feeds<S: FrameStore, K: Sink>(
         (K.written sink.old) (K.written sink.new)) }
     ensures err { OnErr result (IsFrontWritten (feed_text from (state_of S.frames track.now))
         (K.written sink.old) (K.written sink.new)) }
-    ensures later { K.faults sink.old ≤ K.faults sink.new }
-    ensures cause { IsErrOf result Halt.Write → Rose (K.faults sink.old) (K.faults sink.new) }
+    ensures no_fewer_faults { K.faults sink.old ≤ K.faults sink.new }
+    ensures cause { IsErrOf result Halt.Write → HasRisen (K.faults sink.old) (K.faults sink.new) }
 {
     let mut feeder = Feeder::new();
     let mut at = from;

@@ -7,7 +7,7 @@ use Rattle.mse_calls.specs.declared.events.Event.{Event}
 use Rattle.mse_calls.specs.declared.rules.Rule.{Rule}
 use Rattle.listeners.specs.declared.index.RuleIndex.{RuleIndex}
 use Rattle.listeners.specs.Events.{is_same}
-use Rattle.listeners.specs.Index.{IsIndexed}
+use Rattle.listeners.specs.Index.{HasIndex}
 use Rattle.listeners.specs.RuleCalls.{times_heard, answers, answering_after, answering_rules}
 
 answering_more : (rules : List Rule) (earlier events : List Event) (event : Event)
@@ -40,5 +40,5 @@ pub record Duties : Type 0 where
 
 -- what hearing an event makes of the index, and of the rules that are due
 pub record Hears (rules : List Rule) (heard : List Event) (event : Event) (before : List Rule) (after : Duties) : Type 0 where
-  pub indexed : IsIndexed rules (heard ++ event ∷ []) after.index
+  pub indexed : HasIndex rules (heard ++ event ∷ []) after.index
   pub due : after.due ≡ before ++ filter (answers heard event) rules

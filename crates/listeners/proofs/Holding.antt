@@ -17,7 +17,7 @@ use Rattle.listeners.specs.declared.listener.Note.{Note}
 use Rattle.listeners.specs.declared.listener.Note.TheVariants.{Heard, Made, Told, Rested}
 use Rattle.listeners.specs.Notes.{told_note, heard_of, made_of}
 use Rattle.listeners.specs.RuleCalls.{answers, answering_rules, once_calls, again_calls, calls_from, rule_calls, next_call}
-use Rattle.listeners.specs.Index.{IsIndexed}
+use Rattle.listeners.specs.Index.{HasIndex}
 use Rattle.listeners.specs.Coming.{no_rule, rule_at, call_at, rules_at, IsLeft, HasNextCall, HaveCalls, Holds}
 use Rattle.listeners.proofs.Noting.{heard_more, heard_made, rested_heard, rested_made, made_heard, made_made}
 use Rattle.listeners.proofs.Hearing.{answering_next, Hears}
@@ -40,7 +40,7 @@ holds_rested rules notes index due call told h =
     holds_same rules notes (notes ++ (told_note told ++ Rested ∷ [])) index due call (rested_heard notes told) (rested_made notes told) h
 
 pub holds_index : (rules : List Rule) (notes : List Note) (index other : Option RuleIndex) (due : List ℕ) (call : ℕ)
-    → IsIndexed rules (heard_of notes) other → Holds rules notes index due call → Holds rules notes other due call
+    → HasIndex rules (heard_of notes) other → Holds rules notes index due call → Holds rules notes other due call
 holds_index rules notes index other due call indexed h = record { left = h.left; ready = h.ready; indexed = indexed }
 
 pub holds_heard : (rules : List Rule) (notes : List Note) (event : Event) (index other : Option RuleIndex) (due after : List ℕ) (call : ℕ)

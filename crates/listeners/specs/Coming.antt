@@ -15,7 +15,7 @@ use Rattle.listeners.specs.declared.history.Remark.TheVariants as remark
 use Rattle.listeners.specs.declared.index.RuleIndex.{RuleIndex}
 use Rattle.listeners.specs.Notes.{heard_of, made_of}
 use Rattle.listeners.specs.RuleCalls.{answering_rules, once_calls, again_calls, calls_from}
-use Rattle.listeners.specs.Index.{IsIndexed}
+use Rattle.listeners.specs.Index.{HasIndex}
 
 -- stands past the end of a list of rules, and answers nothing
 abbrev pub no_rule : Rule
@@ -76,7 +76,7 @@ pub record Holds (rules : List Rule) (notes : List Note) (index : Option RuleInd
     (due : List ℕ) (call : ℕ) : Type 0 where
   pub left : IsLeft (made_of notes) (answering_rules rules (heard_of notes)) call (rules_at rules due)
   pub ready : HasNextCall call (rules_at rules due)
-  pub indexed : IsIndexed rules (heard_of notes) index
+  pub indexed : HasIndex rules (heard_of notes) index
 
 -- the places that are due, where a hearing may have left them as they were
 abbrev pub due_after : List ℕ → Option (Vec ℕ Global) → List ℕ

@@ -162,10 +162,10 @@ pub record EndsAt (event : Event) (end : DispatchEnd) (fault : DispatchFault) : 
   pub behind : AreUnheardFrom (listener + 1) end.entries end.before end.now
   pub ending : IsFault fault event (turn_end_of listener end)
 
-abbrev pub IsOutcome : Event → DispatchEnd → Result (Unit {0}) DispatchFault → Type 0
-IsOutcome event end (Ok u) =
+abbrev pub IsDispatchEnd : Event → DispatchEnd → Result (Unit {0}) DispatchFault → Type 0
+IsDispatchEnd event end (Ok u) =
     AreServedBelow event end.entries (length end.before) end.before end.now
-IsOutcome event end (Err fault) = EndsAt event end fault
+IsDispatchEnd event end (Err fault) = EndsAt event end fault
 
 -- the dispatch of an event, by what was before it and is after it
 pub record IsDispatch (blobs : List (List ℕ)) (event : Event) (old new : DispatchView)
@@ -174,4 +174,4 @@ pub record IsDispatch (blobs : List (List ℕ)) (event : Event) (old new : Dispa
   pub calls : MakesCalls blobs old.run new.run entries
   pub in_turn : CallsInTurn 0 (length old.notes) entries
   pub few : (w : ℕ) → call_count w entries ≤ 1000
-  pub outcome : IsOutcome event (dispatch_end entries new.run.left old.notes new.notes) result
+  pub outcome : IsDispatchEnd event (dispatch_end entries new.run.left old.notes new.notes) result

@@ -54,6 +54,6 @@ pub record Indexes (rules : List Rule) (heard : List Event) (index : RuleIndex) 
   pub counts : (event : Event) → HasCount rules heard index event
 
 -- an index that may not be there yet, where nothing was heard
-abbrev pub IsIndexed : List Rule → List Event → Option RuleIndex → Type 0
-IsIndexed rules heard None = heard ≡ []
-IsIndexed rules heard (Some index) = Indexes rules heard index
+abbrev pub HasIndex : List Rule → List Event → Option RuleIndex → Type 0
+HasIndex rules heard None = heard ≡ []
+HasIndex rules heard (Some index) = Indexes rules heard index

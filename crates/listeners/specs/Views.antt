@@ -1,16 +1,16 @@
 -- What the dispatch of an event changes.
 use Rattle.std.specs.Prelude.{ℕ, List}
 use Rattle.mse_calls.specs.declared.entry.Entry.{Entry}
-use Rattle.mse_engine.specs.Standing.{Kept}
+use Rattle.mse_engine.specs.Standing.{KeptEngine}
 use Rattle.listeners.specs.declared.listener.Note.{Note}
 
 -- what the engine keeps, the journal, and how many calls listeners may still make
 pub record RunView : Type 0 where
-  pub engine : Kept
+  pub engine : KeptEngine
   pub entries : List Entry
   pub left : ℕ
 
-abbrev pub run_view : Kept → List Entry → ℕ → RunView
+abbrev pub run_view : KeptEngine → List Entry → ℕ → RunView
 run_view engine entries left = record { engine = engine; entries = entries; left = left }
 
 -- with the listener whose turn it is: its number and its notes

@@ -51,7 +51,7 @@ fn ask_one(
     listener.next(last)
 }
 
-// Makes a call of a listener, puts it into the journal, tells the answer, and asks for the next.
+/// Makes a call of a listener, puts it into the journal, tells the answer, and asks for the next.
 fn make_one<S: FrameStore>(
     engine: &mut Engine<S>,
     blobs: &Blobs,
@@ -82,7 +82,7 @@ fn make_one<S: FrameStore>(
     next_call
 }
 
-// One listener hears the event, and makes its calls.
+/// One listener hears the event, and makes its calls.
 fn serve<S: FrameStore>(
     engine: &mut Engine<S>,
     blobs: &Blobs,
@@ -127,6 +127,11 @@ fn serve<S: FrameStore>(
 /// no further one, first with no answer and then each time with that of the call just made; each call
 /// is made on the engine at once, and stands in the journal. Only then does the next listener hear
 /// the event. The listeners may make `left` calls more together.
+///
+/// `CallBudget` where a listener answers with a call after 1,000 calls for this event, `TaskBudget`
+/// where one answers with a call and no call is left, and `OutOfMemory`. The dispatch ends there:
+/// what was heard and made by then stays, also in the engine and in the journal, and the listeners
+/// behind do not hear the event.
 pub fn dispatch<S: FrameStore>(
     engine: &mut Engine<S>,
     blobs: &Blobs,

@@ -27,7 +27,7 @@ pub enum Remark {
 pub type History = Log<Remark, Answer>;
 
 /// With one remark more, beside which no answer stands.
-pub fn remarked(history: &History, remark: Remark) -> History
+pub fn with_remark(history: &History, remark: Remark) -> History
     ensures { (rules : List Rule) → notes_of rules result.items
         ≡ notes_of rules history.now.items ++ note_of rules (remark, Done) ∷ [] }
 {
@@ -35,15 +35,15 @@ pub fn remarked(history: &History, remark: Remark) -> History
 }
 
 /// With the answer that was told, if any, and one remark more.
-pub fn told_and_remarked(history: &History, last: Option<&Answer>, remark: Remark) -> History
+pub fn with_answer_and_remark(history: &History, last: Option<&Answer>, remark: Remark) -> History
     ensures { (rules : List Rule) → notes_of rules result.items ≡ notes_of rules history.now.items
         ++ (told_note (option_copied last.entry) ++ note_of rules (remark, Done) ∷ []) }
 {
     match last {
         Some(answer) => {
             let with_answer = history.and(&Remark::Told, answer);
-            remarked(&with_answer, remark)
+            with_remark(&with_answer, remark)
         }
-        None => remarked(history, remark),
+        None => with_remark(history, remark),
     }
 }

@@ -21,7 +21,7 @@ pub struct RuleIndex {
     pub heard: BTreeMap<u64, u32>,
 }
 
-// Puts a place last among those at a number.
+/// Puts a place last among those at a number.
 fn add_place(
     alloc: Global,
     places: &mut BTreeMap<u64, Vec<usize>>,
@@ -38,7 +38,7 @@ fn add_place(
     Ok(())
 }
 
-// Puts the place of a rule last at the number of its event, where it has calls.
+/// Puts the place of a rule last at the number of its event, where it has calls.
 fn add_rule(
     alloc: Global,
     places: &mut BTreeMap<u64, Vec<usize>>,
@@ -94,7 +94,8 @@ impl RuleIndex {
     pub fn count_one(&mut self, number: u64) -> Result<(), OutOfMemory>
         ensures places { self.new.places ≡ self.old.places }
         ensures ok { OnOk result ((m : ℕ) → count_at self.new m
-            ≡ (if m == number then bounded_count (count_at self.old m + 1) else count_at self.old m)) }
+            ≡ (if m == number then bounded_count (count_at self.old m + 1)
+            else count_at self.old m)) }
         ensures err { OnErr result ((m : ℕ) → count_at self.new m ≡ count_at self.old m) }
     {
         let count = self.count(number).saturating_add(1);
@@ -126,7 +127,7 @@ pub fn due_places(
     Ok(due)
 }
 
-// Whether a number of times is above such a count.
+/// Whether a number of times is above such a count.
 fn is_above(times: u32, count: u32) -> bool
     ensures { (heard : ℕ) → count ≡ bounded_count heard → result ≡ nat_lt heard times }
 {

@@ -6,11 +6,11 @@ ghost use Rattle.mse_calls.specs.declared.rules.Rule.{Rule};
 ghost use Rattle.listeners.specs.declared.listener.Note.{Note};
 ghost use Rattle.listeners.specs.Notes.{told_note, asked_note, heard_of, made_of};
 ghost use Rattle.listeners.specs.RuleCalls.{answers, rule_calls, next_call};
-ghost use Rattle.listeners.specs.Index.{Indexes, IsIndexed};
+ghost use Rattle.listeners.specs.Index.{Indexes, HasIndex};
 ghost use Rattle.listeners.specs.Coming.{rules_at, due_after};
 
 use crate::Listener;
-use crate::history::{History, Remark, remarked, told_and_remarked};
+use crate::history::{History, Remark, with_answer_and_remark, with_remark};
 use crate::index::{RuleIndex, due_places};
 use crate::numbers::event_number;
 use mse_base::OutOfMemory;
@@ -49,16 +49,16 @@ impl Model for RuleListener {
         (drop a.at a.due.items) a.call };
 }
 
-// Takes the index of rules, which is made where there is none.
+/// Takes the index of rules, which is made where there is none.
 fn take_index(
     alloc: Global,
     index: &mut Option<RuleIndex>,
     rules: &[Rule],
 ) -> Result<RuleIndex, OutOfMemory>
-    ensures ok { (heard : List Event) → IsIndexed rules.now heard index.old
+    ensures ok { (heard : List Event) → HasIndex rules.now heard index.old
         → IfOk result (λ rule_index. Indexes rules.now heard rule_index) }
-    ensures err { (heard : List Event) → IsIndexed rules.now heard index.old
-        → OnErr result (IsIndexed rules.now heard index.new) }
+    ensures err { (heard : List Event) → HasIndex rules.now heard index.old
+        → OnErr result (HasIndex rules.now heard index.new) }
 {
     match index.take() {
         Some(rule_index) => Ok(rule_index),
@@ -66,7 +66,7 @@ fn take_index(
     }
 }
 
-// Hears an event: the places that are due after it, or none where no rule is on it.
+/// Hears an event: the places that are due after it, or none where no rule is on it.
 fn hear_by_index(
     alloc: Global,
     index: &mut RuleIndex,
@@ -92,7 +92,7 @@ fn hear_by_index(
     Ok(Some(due))
 }
 
-// The same, with an index that may not be there yet.
+/// The same, with an index that may not be there yet.
 fn hear_event(
     alloc: Global,
     index: &mut Option<RuleIndex>,
@@ -100,13 +100,13 @@ fn hear_event(
     places_left: &[usize],
     event: &Event,
 ) -> Result<Option<Vec<usize>>, OutOfMemory>
-    ensures index { (heard : List Event) → IsIndexed rules.now heard index.old
-        → OnOk result (IsIndexed rules.now (heard ++ event.now ∷ []) index.new) }
-    ensures due { (heard : List Event) → IsIndexed rules.now heard index.old
+    ensures index { (heard : List Event) → HasIndex rules.now heard index.old
+        → OnOk result (HasIndex rules.now (heard ++ event.now ∷ []) index.new) }
+    ensures due { (heard : List Event) → HasIndex rules.now heard index.old
         → IfOk result (λ due. rules_at rules.now (due_after places_left.now due)
         ≡ rules_at rules.now places_left.now ++ filter (answers heard event.now) rules.now) }
-    ensures err { (heard : List Event) → IsIndexed rules.now heard index.old
-        → OnErr result (IsIndexed rules.now heard index.new) }
+    ensures err { (heard : List Event) → HasIndex rules.now heard index.old
+        → OnErr result (HasIndex rules.now heard index.new) }
 {
     let mut rule_index = take_index(alloc, index, rules)?;
     let due = hear_by_index(alloc, &mut rule_index, rules, places_left, event);
@@ -114,7 +114,7 @@ fn hear_event(
     due
 }
 
-// Where the listener stands after a call of a rule: the place in what is due, and the next call.
+/// Where the listener stands after a call of a rule: the place in what is due, and the next call.
 fn turn_after(rule: &Rule, at: usize, call: usize) -> (usize, usize)
     requires call { call < length rule.now.calls }
     requires at { at < 2 ^ 64 - 1 }
@@ -177,12 +177,12 @@ impl Listener for RuleListener {
         let places_left = &self.due[self.at..];
         let rules = self.rules.as_slice();
         let Some(due) = hear_event(self.alloc, &mut self.index, rules, places_left, event)? else {
-            self.history = remarked(&self.history, Remark::Heard(*event));
+            self.history = with_remark(&self.history, Remark::Heard(*event));
             return Ok(());
         };
         self.due = due;
         self.at = 0;
-        self.history = remarked(&self.history, Remark::Heard(*event));
+        self.history = with_remark(&self.history, Remark::Heard(*event));
         Ok(())
     }
 
@@ -196,13 +196,13 @@ impl Listener for RuleListener {
         ensures by_rules { IfOk result (λ call. call ≡ next_call self.old.rules self.old.notes) }
     {
         let Some(place) = self.due.get(self.at).copied() else {
-            self.history = told_and_remarked(&self.history, last, Remark::Rested);
+            self.history = with_answer_and_remark(&self.history, last, Remark::Rested);
             return Ok(None);
         };
         let rule = &self.rules[place];
         let call = rule.calls.as_slice()[self.call].copy()?;
         let turn = turn_after(rule, self.at, self.call);
-        self.history = told_and_remarked(&self.history, last, Remark::Made(place, self.call));
+        self.history = with_answer_and_remark(&self.history, last, Remark::Made(place, self.call));
         self.at = turn.0;
         self.call = turn.1;
         Ok(Some(call))

@@ -10,15 +10,14 @@ use Rattle.mse_calls.specs.declared.entry.Entry.{Entry}
 use Rattle.mse_calls.specs.declared.entry.Entry.TheVariants.{Script}
 use Rattle.mse_calls.specs.declared.views.FaultView.{FaultView}
 use Rattle.mse_engine.specs.State.{State}
-use Rattle.mse_engine.specs.Standing.{Kept, Stands}
+use Rattle.mse_engine.specs.Standing.{Stands}
 use Rattle.mse_engine.specs.Run.{after_entries}
 use Rattle.mse_engine.proofs.Transitions.{after_entries-append, goes_none, goes_then}
 use Rattle.cut_law.specs.Plays.{drain_entries}
 use Rattle.play_law.proofs.Singles.{some-drain}
 use Rattle.script_run.specs.DrainSteps.{AreInDrainOrder, IsAtRest}
-use Rattle.script_run.specs.Plays.{Drains, IsOwnStep}
+use Rattle.script_run.specs.PlayedParts.{Drains, IsOwnStep}
 use Rattle.listeners.specs.Views.{RunView}
-use Rattle.script_run.specs.RunStates.{IsStanding}
 use Rattle.script_run.specs.Turns.{calls_in}
 use Rattle.script_run.proofs.Following.{order_then}
 use Rattle.script_run.proofs.Turning.{calls_in-append}
@@ -36,10 +35,6 @@ stepped_then blobs xs ys a b c p q = record {
   goes = goes_then blobs a.engine b.engine c.engine xs ys p.goes q.goes;
   left = q.left ∙ p.left;
 }
-
--- what is kept goes on standing for some state
-pub stands_on : (blobs : List (List ℕ)) (xs : List Entry) (a b : RunView) → IsOwnStep blobs xs a b → IsStanding a.engine → IsStanding b.engine
-stands_on blobs xs a b p s = record { state = after_entries blobs s.state xs; stands = p.goes.stands s.state s.stands }
 
 -- ---- the source is opened
 
@@ -65,9 +60,6 @@ opened_half blobs a b p = record {
   opens = refl;
 }
 
-pub open_stands : (blobs : List (List ℕ)) (a b : RunView) → IsOpened blobs a b → IsStanding a.engine → IsStanding b.engine
-open_stands blobs a b p s = stands_on blobs (open_entries p.attached p.added) a b p.stepped s
-
 -- ---- a file under way
 
 -- Entries came of which nobody heard, and what appends the pieces that are left completes the file.
@@ -85,9 +77,6 @@ under_way bytes pieces a b p = record {
   silent = refl;
   completes = λ st h rest q. record { attached = p.attached; added = p.added; rest = rest; entries_are = refl; appends = q };
 }
-
-pub under_way_stands : (bytes : List ℕ) (pieces left : List Piece) (a b : RunView) → IsUnderWay bytes pieces left a b → IsStanding a.engine → IsStanding b.engine
-under_way_stands bytes pieces left a b p s = stands_on (bytes ∷ []) p.entries a b p.stepped s
 
 -- The same behind a piece, where nothing more comes behind a fault.
 pub record IsBehindPiece (bytes : List ℕ) (pieces left : List Piece) (a b : RunView) : Type 0 where
@@ -129,9 +118,6 @@ piece_done bytes pieces piece left a b c d p call drains end =
           p.completes st h (first ∷ (part ++ rest)) (call.0, part, rest, refl, drain, more) in
           subst (λ (es : List Entry). IsWholeFile blobs st pieces es) (sym (append_assoc p.entries (first ∷ part) rest)) whole;
     }
-
-pub behind_stands : (bytes : List ℕ) (pieces left : List Piece) (a b : RunView) → IsBehindPiece bytes pieces left a b → IsStanding a.engine → IsStanding b.engine
-behind_stands bytes pieces left a b p s = stands_on (bytes ∷ []) p.entries a b p.stepped s
 
 -- without a fault it goes on
 pub goes_on : (bytes : List ℕ) (pieces left : List Piece) (a b : RunView) → IsBehindPiece bytes pieces left a b → ((st : State) → Stands b.engine st → st.core.source.fault ≡ None)

@@ -2,6 +2,7 @@
 use Rattle.std.proofs.Common.{◌≡◌, ℕ, zero, suc, ◌+◌, ◌≤◌, ◌<◌, ◌^◌, ◌-◌, ℤ, pos, Bool, true, false, List, [], ◌∷◌, ◌++◌, length, refl, ap, sym, subst, ◌∙◌, arith, ⊎_elim, inl, inr}
 use Rattle.std.specs.Prelude.{◌⊎◌, min, Option, Some, None, IfSome, IsSome, IsSomeAnd, is_some, Result, Ok, ok_or, bytes_eq, codes, option_map, if◌then◌else◌}
 use Rattle.std.proofs.lemmas.Bool.{cases_lt}
+use Rattle.bmff_boxes.specs.Reading.{◌>>=◌}
 use Rattle.mse_outside.specs.Outside.{Table}
 use Rattle.mse_calls.specs.declared.answers.Answer.{Answer}
 use Rattle.mse_calls.specs.declared.answers.Answer.TheVariants as answer
@@ -29,7 +30,7 @@ use Rattle.mse_commands.specs.declared.words.Command.{Command}
 use Rattle.mse_commands.specs.declared.words.Command.TheVariants.{Ranges, Pieces, Make, Play, Remux, Feed}
 use Rattle.mse_commands.specs.declared.ending.End.{End}
 use Rattle.mse_commands.specs.declared.ending.End.TheVariants.{NoFile}
-use Rattle.mse_commands.specs.Asked.{Request, Task, ByFile, asked, opening_of, request_of, ◌>>=◌}
+use Rattle.mse_commands.specs.Asked.{Request, Task, ByFile, asked, opening_of, request_of}
 use Rattle.mse_commands.specs.Files.{AppendsFile, IsJournalOf, IsThrough, NameOneFile}
 use Rattle.mse_commands.specs.Outcomes.{Ends, EndsBehind, EndsRun, RunOutcome}
 use Rattle.mse_commands.specs.Shown.{IsAppends, IsWholeFile, StopsAtFault, append_entry, last_state, open_entries, pieces_by, pieces_of, text_of}

@@ -1,7 +1,7 @@
 -- A run goes through to its end where nothing stands in its way, and what then is known of cut scripts.
 use Rattle.std.proofs.Common.{◌≡◌, ℕ, List, refl, sym, subst, inl, inr}
 use Rattle.std.specs.Prelude.{Option, Some, None, IfSome, Result, Ok, ◌⊎◌}
-use Rattle.mse_outside.specs.Outside.{Rose, Table}
+use Rattle.mse_outside.specs.Outside.{HasRisen, Table}
 use Rattle.mse_calls.specs.declared.entry.Entry.{Entry}
 use Rattle.call_script.specs.declared.script.Script.{Script as CallScript}
 use Rattle.script_run.specs.Lines.{limits}
@@ -14,14 +14,14 @@ use Rattle.mse_commands.specs.declared.ending.Status.{Status}
 use Rattle.mse_commands.specs.declared.ending.Status.TheVariants as status
 use Rattle.mse_commands.specs.Asked.{OfWords, Request, Task, ByScript, asked, opening_of}
 use Rattle.mse_commands.specs.Loads.{failures}
-use Rattle.mse_commands.specs.Outcomes.{Ends, EndsBehind, EndsRun, RunOutcome, RanWhole}
-use Rattle.mse_commands.specs.Complete.{IsCutAnywhere, IsComplete, IsUnhindered, RanToEnd}
+use Rattle.mse_commands.specs.Outcomes.{Ends, EndsBehind, EndsRun, RunOutcome, IsWholeRun}
+use Rattle.mse_commands.specs.Complete.{IsCutAnywhere, IsComplete, IsUnhindered, IsRunToEnd}
 use Rattle.mse_commands.specs.Shown.{last_state}
 
 -- ---- to the end
 
-run_complete : (count : ℕ) (request : Request) (task : Task) (left : RunOutcome) (a b : ℕ) (s : Status) → EndsRun count request task left s → (s ≡ status.Write → Rose a b) → IsUnhindered task left (failures a b)
-    → RanToEnd count task left s ⊎ (s ≡ status.Memory)
+run_complete : (count : ℕ) (request : Request) (task : Task) (left : RunOutcome) (a b : ℕ) (s : Status) → EndsRun count request task left s → (s ≡ status.Write → HasRisen a b) → IsUnhindered task left (failures a b)
+    → IsRunToEnd count task left s ⊎ (s ≡ status.Memory)
 run_complete count request task left a b status.Ok p w u = inl (record { ran = p.0; done = inl (refl, p.1) })
 run_complete count request task left a b status.Media p w u = inl (record { ran = p.0; done = inr (refl, p.1) })
 run_complete count request task left a b status.Memory p w u = inr refl
@@ -33,11 +33,11 @@ run_complete count request task left a b status.Words p w u = absurd p
 run_complete count request task left a b status.Script p w u = absurd p
 run_complete count request task left a b status.NoFile p w u = absurd p
 
-pub ends_complete : (count : ℕ) (request : Request) (left : RunOutcome) (a b : ℕ) (s : Status) → Ends count request left s → (s ≡ status.Write → Rose a b) → IsComplete count request left (failures a b) s
+pub ends_complete : (count : ℕ) (request : Request) (left : RunOutcome) (a b : ℕ) (s : Status) → Ends count request left s → (s ≡ status.Write → HasRisen a b) → IsComplete count request left (failures a b) s
 ends_complete count request left a b s p w = λ task is u.
     run_complete count request task left a b s (subst (λ (t : Result Task End). EndsBehind count request t left s) is p) w u
 
-pub complete_by : (table : Option Table) (words : List (List ℕ)) (count : ℕ) (left : RunOutcome) (a b : ℕ) (s : Status) → OfWords table words (λ request. Ends count request left s) → (s ≡ status.Write → Rose a b)
+pub complete_by : (table : Option Table) (words : List (List ℕ)) (count : ℕ) (left : RunOutcome) (a b : ℕ) (s : Status) → OfWords table words (λ request. Ends count request left s) → (s ≡ status.Write → HasRisen a b)
     → IfSome table (λ files. IsComplete count (asked files words) left (failures a b) s)
 complete_by None words count left a b s p w = tt
 complete_by (Some files) words count left a b s p w =
@@ -45,7 +45,7 @@ complete_by (Some files) words count left a b s p w =
 
 -- ---- cut anywhere
 
-whole_cuts : (count : ℕ) (script : CallScript) (blobs : List (List ℕ)) (left : RunOutcome) → RanWhole count (ByScript script blobs) left → calls_in left.entries ≡ 0
+whole_cuts : (count : ℕ) (script : CallScript) (blobs : List (List ℕ)) (left : RunOutcome) → IsWholeRun count (ByScript script blobs) left → calls_in left.entries ≡ 0
     → CutsAlike blobs (opening_of (ByScript script blobs)) script.steps (last_state (ByScript script blobs) left.entries).core
 whole_cuts count script blobs left p silent =
     cuts-alike blobs (limits script.drain count) (opening_of (ByScript script blobs)) script.steps left.entries (record { whole = p.all; replays = p.run.replays; silent = silent })

@@ -7,12 +7,11 @@ use Rattle.mse_calls.specs.declared.views.FaultView.{FaultView}
 use Rattle.mse_engine.specs.State.{State}
 use Rattle.mse_engine.specs.Standing.{Stands}
 use Rattle.script_run.specs.DrainSteps.{IsAtRest}
-use Rattle.script_run.specs.Plays.{Drains, IsOwnStep}
+use Rattle.script_run.specs.PlayedParts.{Drains, IsOwnStep}
 use Rattle.listeners.specs.Views.{RunView}
-use Rattle.script_run.specs.RunStates.{IsStanding}
 use Rattle.mse_commands.specs.Shown.{append_entry, pieces_of}
 use Rattle.mse_commands.specs.Works.{IsAppended, IsPartAppended, IsOpened}
-use Rattle.mse_commands.proofs.Appending.{IsBehindPiece, IsUnderWay, appended, appended_to_fault, behind_stands, front_drained, front_under_way, goes_on, open_stands, piece_done, stands_on, under_way}
+use Rattle.mse_commands.proofs.Appending.{IsBehindPiece, IsUnderWay, appended, appended_to_fault, front_drained, front_under_way, goes_on, piece_done, under_way}
 use Rattle.mse_commands.proofs.Pieces.{IsLeft, all_left, next_left, none_left}
 
 -- a place in a file, which has so many bytes, and the size of the pieces that it is appended in
@@ -33,7 +32,6 @@ pub record IsAppending (file : FilePlace) (blobs : List (List ℕ)) (old new : R
   pub within : file.at ≤ file.len
   pub whole : file.len ≡ length file.bytes
   pub bytes_are : file.at < file.len → blobs ≡ file.bytes ∷ []
-  pub standing : IsStanding new.engine
 
 -- the same behind a piece
 pub record HasAppended (file : FilePlace) (old new : RunView) : Type 0 where
@@ -41,16 +39,15 @@ pub record HasAppended (file : FilePlace) (old new : RunView) : Type 0 where
   pub behind : IsBehindPiece file.bytes (pieces_of file.size file.len) left old new
   pub place : IsLeft file.size file.len file.at left
 
-pub begins_filing : (bytes : List ℕ) (size len : ℕ) (blobs : List (List ℕ)) (a b : RunView) → len ≡ length bytes → blobs ≡ bytes ∷ [] → IsOpened blobs a b → IsStanding a.engine
+pub begins_filing : (bytes : List ℕ) (size len : ℕ) (blobs : List (List ℕ)) (a b : RunView) → len ≡ length bytes → blobs ≡ bytes ∷ [] → IsOpened blobs a b
     → IsAppending (file_place bytes size len 0) blobs a b
-begins_filing bytes size len blobs a b whole are p s = record {
+begins_filing bytes size len blobs a b whole are p = record {
   left = pieces_of size len;
   way = under_way bytes (pieces_of size len) a b (subst (λ (x : List (List ℕ)). IsOpened x a b) are p);
   place = all_left size len;
   within = omega arith;
   whole = whole;
   bytes_are = λ h. are;
-  standing = open_stands blobs a b p s;
 }
 
 -- the next piece, and the call that appends it
@@ -82,17 +79,16 @@ next_filed bytes size len at count blobs a b c d some more is p call drains end 
 
 -- after which it goes on
 pub goes_on_filing : (bytes : List ℕ) (size len at : ℕ) (blobs : List (List ℕ)) (a b : RunView) (fault : Option FaultView) → HasAppended (file_place bytes size len at) a b → is_some fault ≡ false
-    → ((st : State) → Stands b.engine st → fault ≡ st.core.source.fault) → at ≤ len → len ≡ length bytes → (at < len → blobs ≡ bytes ∷ []) → IsStanding a.engine
+    → ((st : State) → Stands b.engine st → fault ≡ st.core.source.fault) → at ≤ len → len ≡ length bytes → (at < len → blobs ≡ bytes ∷ [])
     → IsAppending (file_place bytes size len at) blobs a b
-goes_on_filing bytes size len at blobs a b (Some f) p none is within whole are s = absurd (cc)
-goes_on_filing bytes size len at blobs a b None p none is within whole are s = record {
+goes_on_filing bytes size len at blobs a b (Some f) p none is within whole are = absurd (cc)
+goes_on_filing bytes size len at blobs a b None p none is within whole are = record {
   left = p.left;
   way = goes_on bytes (pieces_of size len) p.left a b p.behind (λ st h. sym (is st h));
   place = p.place;
   within = within;
   whole = whole;
   bytes_are = are;
-  standing = behind_stands bytes (pieces_of size len) p.left a b p.behind s;
 }
 
 -- or ends at a fault
@@ -122,8 +118,3 @@ front_cut bytes size len at count blobs a b c d some more is p call drains =
     let piece : Piece = record { blob = 0; part = Some (at, min size (len - at)) } in
     rw (← p.whole) (front_drained bytes (pieces_of size len) next.more piece a b c d (next_way bytes size len at blobs a b some more p)
     (next_call bytes size len at count blobs a b c more is p call) drains)
-
--- what is kept stands for a state behind the piece too
-pub stands_behind : (bytes : List ℕ) (size len at : ℕ) (blobs : List (List ℕ)) (piece : Piece) (a b c : RunView) → IsAppending (file_place bytes size len at) blobs a b
-    → ((answer : Answer) × IsOwnStep blobs (append_entry piece answer ∷ []) b c) → IsStanding c.engine
-stands_behind bytes size len at blobs piece a b c p call = stands_on blobs (append_entry piece call.0 ∷ []) b c call.1 p.standing

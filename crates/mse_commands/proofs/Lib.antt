@@ -4,7 +4,7 @@ pub mod Pieces
 pub mod Appending
 pub mod Filing
 pub mod Working
-pub mod Playing
+pub mod PlayedScripts
 pub mod Showing
 pub mod Saying
 pub mod Scripting

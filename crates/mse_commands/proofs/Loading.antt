@@ -5,8 +5,9 @@ use Rattle.std.proofs.lemmas.Grind.{common_steps}
 use Rattle.std.proofs.lemmas.List.{take-append-drop, drop_more, take_more}
 use Rattle.std.proofs.lemmas.List.Elements.{All-nil, All-cons, All-append, filter_map-append}
 use Rattle.mse_outside.specs.Count.{next_count}
-use Rattle.mse_outside.specs.Outside.{LoadTells, Rose, Table}
+use Rattle.mse_outside.specs.Outside.{LoadTells, HasRisen, Table}
 use Rattle.mse_outside.specs.declared.library.Loaded.TheVariants.{Done as LoadDone, NoFile as LoadNoFile}
+use Rattle.bmff_boxes.specs.Reading.{◌>>=◌}
 use Rattle.call_script.specs.declared.fault.ScriptFault.{ScriptFault}
 use Rattle.call_script.specs.declared.script.BlobText.{BlobText}
 use Rattle.call_script.specs.declared.script.BlobText.TheVariants.{File, Hex}
@@ -14,7 +15,7 @@ use Rattle.call_script.specs.declared.script.Script.{Script as CallScript}
 use Rattle.call_script.specs.Script.{read_of}
 use Rattle.mse_commands.specs.declared.ending.End.{End}
 use Rattle.mse_commands.specs.declared.ending.End.TheVariants.{Memory, Write, Words, NoFile, Read, Script, CallBudget, TaskBudget}
-use Rattle.mse_commands.specs.Asked.{◌>>=◌, blob_bytes, blobs_bytes, file_in, files_in, loaded, script_loaded, script_read}
+use Rattle.mse_commands.specs.Asked.{blob_bytes, blobs_bytes, file_in, files_in, loaded, script_loaded, script_read}
 use Rattle.mse_commands.specs.Loads.{IsReached, IsLoadEnd, IsScriptEnd, failures}
 
 -- ---- names
@@ -53,7 +54,7 @@ reached_more files name names after p = reached_between files name [] names afte
 more_count : (a b : ℕ) → a ≤ b → next_count a ≤ next_count b
 more_count a b h = grind (arith, common_steps)
 
-pub rose_within : (a b c d : ℕ) → a ≤ b → c ≤ d → Rose b c → Rose a d
+pub rose_within : (a b c d : ℕ) → a ≤ b → c ≤ d → HasRisen b c → HasRisen a d
 rose_within a b c d before later rose =
     let more : next_count a ≤ next_count b = more_count a b before in
     omega (arith, more, before, later, rose)
@@ -114,7 +115,7 @@ first_by : (table : Option Table) (name : List ℕ) → IfSome table (λ files. 
 first_by None name = tt
 first_by (Some files) name = reached_first files name []
 
-pub load_failed : (table : Option Table) (a b : ℕ) (name : List ℕ) (end : End) → Rose a b → (end ≡ Memory) ⊎ (end ≡ Read name)
+pub load_failed : (table : Option Table) (a b : ℕ) (name : List ℕ) (end : End) → HasRisen a b → (end ≡ Memory) ⊎ (end ≡ Read name)
     → IsLoadEnd table (failures a b) (name ∷ []) (λ files. loaded files name) end
 load_failed table a b name end rose (inl e) = rw e tt
 load_failed table a b name end rose (inr e) = rw e (rose, first_by table name)

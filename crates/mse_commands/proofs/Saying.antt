@@ -1,7 +1,7 @@
 -- What is said of how a run ended.
 use Rattle.std.proofs.Common.{◌≡◌, ◌≢◌, ◌≤◌, ℕ, List, [], ◌++◌, refl, ap, sym, ◌∙◌, subst, arith, inl, inr}
 use Rattle.std.specs.Prelude.{Bool, true, false, is_some, Option, Some, None, IsSome, Result, Ok, Err, ◌⊎◌}
-use Rattle.mse_outside.specs.Outside.{Rose, Table}
+use Rattle.mse_outside.specs.Outside.{HasRisen, Table}
 use Rattle.mse_calls.specs.declared.entry.Entry.{Entry}
 use Rattle.mse_calls.specs.declared.views.FaultView.{FaultView}
 use Rattle.listeners.specs.declared.listener.Note.{Note}
@@ -9,7 +9,7 @@ use Rattle.script_run.specs.declared.stop.Halt.{Halt}
 use Rattle.script_run.specs.declared.stop.Halt.TheVariants as halt
 use Rattle.script_run.specs.declared.stop.Stop.{Stop}
 use Rattle.script_run.specs.declared.stop.Stop.TheVariants as stop
-use Rattle.script_run.specs.Plays.{IsHeardUpTo, IsOverLimit}
+use Rattle.script_run.specs.PlayedParts.{IsHeardUpTo, IsOverLimit}
 use Rattle.script_run.specs.Turns.{IsSpentInLine}
 use Rattle.script_run.specs.Writes.{IsWritten, IsFrontWritten}
 use Rattle.script_run.proofs.Cutting.{over_as_memory}
@@ -20,10 +20,10 @@ use Rattle.mse_commands.specs.declared.ending.Status.{Status}
 use Rattle.mse_commands.specs.declared.ending.Status.TheVariants as status
 use Rattle.mse_commands.specs.Asked.{OfWords, Request, Task, ByScript, ByFile, ByRemux}
 use Rattle.mse_commands.specs.Endings.{error_line, status_of}
-use Rattle.mse_commands.specs.Outcomes.{Ends, EndsBehind, EndsBy, EndsByRead, EndsRun, EndsShort, EndsWith, FailedRead, HasCause, HaveTheirRules, IsBroken, IsHeardTo, RunOutcome, RanFront, RanNothing, Said, SaidFront, SaidSome, WroteText}
-use Rattle.mse_commands.specs.Says.{SaidHalf, SaidWhole, Says, SaysLine}
+use Rattle.mse_commands.specs.Outcomes.{Ends, EndsBehind, EndsBy, EndsByRead, EndsRun, EndsShort, EndsWith, HasFailedRead, HasCause, HaveTheirRules, IsBroken, IsHeardTo, RunOutcome, IsFrontRun, IsNothingRun, IsSaid, IsFrontSaid, IsSomeSaid, IsTextWritten}
+use Rattle.mse_commands.specs.Says.{IsHalfSaid, IsWholeSaid, IsEndSaid, IsLineSaid}
 use Rattle.mse_commands.specs.Shown.{last_state, shown_lines, text_of}
-use Rattle.mse_commands.specs.Works.{DidNothing, DidSome, DidUpTo, Works, WorksBy, WorksNot, broken_in}
+use Rattle.mse_commands.specs.Works.{IsNothingDone, IsSomeDone, IsDoneUpTo, IsRequestDone, IsRequestDoneBy, IsTaskMissing, broken_in}
 use Rattle.mse_commands.proofs.Loading.{rose_within}
 
 -- ---- the same when more was written
@@ -31,10 +31,10 @@ use Rattle.mse_commands.proofs.Loading.{rose_within}
 abbrev pub with_written : RunOutcome → Option (List ℕ) → RunOutcome
 with_written left new = record left { now = record left.now { written = new } }
 
-nothing_again : (left : RunOutcome) (new : Option (List ℕ)) → RanNothing left → RanNothing (with_written left new)
+nothing_again : (left : RunOutcome) (new : Option (List ℕ)) → IsNothingRun left → IsNothingRun (with_written left new)
 nothing_again left new p = record { entries = p.entries; engine = p.engine; notes = p.notes; rules = p.rules }
 
-abbrev failed_again : (request : Request) (left : RunOutcome) (new : Option (List ℕ)) → FailedRead request left → FailedRead request (with_written left new)
+abbrev failed_again : (request : Request) (left : RunOutcome) (new : Option (List ℕ)) → HasFailedRead request left → HasFailedRead request (with_written left new)
 failed_again request left new p = record { name = p.name; rose = p.rose; reached = p.reached }
 
 rules_again : (task : Task) (left : RunOutcome) (new : Option (List ℕ)) → HaveTheirRules task left → HaveTheirRules task (with_written left new)
@@ -47,7 +47,7 @@ heard_again (ByScript script blobs) h left new p = p
 heard_again (ByFile command bytes) h left new p = p
 heard_again (ByRemux bytes) h left new p = p
 
-front_again : (count : ℕ) (task : Task) (left : RunOutcome) (new : Option (List ℕ)) → RanFront count task left → RanFront count task (with_written left new)
+front_again : (count : ℕ) (task : Task) (left : RunOutcome) (new : Option (List ℕ)) → IsFrontRun count task left → IsFrontRun count task (with_written left new)
 front_again count task left new p = record {
   run = record { replays = p.run.replays; sound = p.run.sound; engine = p.run.engine };
   front = p.front;
@@ -103,17 +103,17 @@ broken_by (ByScript script blobs) entries e = absurd (cc)
 broken_by (ByFile command bytes) entries e = some_true (last_state (ByFile command bytes) entries).core.source.fault e
 broken_by (ByRemux bytes) entries e = sym e
 
-pub ends_whole : (count : ℕ) (request : Request) (task : Result Task End) (left : RunOutcome) → WorksBy count request task left (Ok false) → EndsBehind count request task left status.Ok
+pub ends_whole : (count : ℕ) (request : Request) (task : Result Task End) (left : RunOutcome) → IsRequestDoneBy count request task left (Ok false) → EndsBehind count request task left status.Ok
 ends_whole count request (Ok task) left p = (p.ran, not_broken task left.entries p.broken_is)
 ends_whole count request (Err end) left p = absurd p
 
-pub ends_broken : (count : ℕ) (request : Request) (task : Result Task End) (left : RunOutcome) → WorksBy count request task left (Ok true) → EndsBehind count request task left status.Media
+pub ends_broken : (count : ℕ) (request : Request) (task : Result Task End) (left : RunOutcome) → IsRequestDoneBy count request task left (Ok true) → EndsBehind count request task left status.Media
 ends_broken count request (Ok task) left p = (p.ran, broken_by task left.entries p.broken_is)
 ends_broken count request (Err end) left p = absurd p
 
 -- ---- with one
 
-read_said : (request : Request) (left : RunOutcome) (name : List ℕ) (new : Option (List ℕ)) → DidNothing left → (cause : FailedRead request left) → cause.name ≡ name → IsWritten (error_line (Read name)) left.now.written new
+read_said : (request : Request) (left : RunOutcome) (name : List ℕ) (new : Option (List ℕ)) → IsNothingDone left → (cause : HasFailedRead request left) → cause.name ≡ name → IsWritten (error_line (Read name)) left.now.written new
     → EndsByRead request (with_written left new)
 read_said request left name new n cause is p = record {
   nothing = nothing_again left new n.nothing;
@@ -121,33 +121,33 @@ read_said request left name new n cause is p = record {
   wrote = subst (λ (t : Option (List ℕ)). IsWritten (error_line (Read cause.name)) t new) n.wrote (subst (λ (x : List ℕ). IsWritten (error_line (Read x)) left.now.written new) (sym is) p);
 }
 
-read_half : (request : Request) (left : RunOutcome) (name : List ℕ) (new : Option (List ℕ)) → DidNothing left → (cause : FailedRead request left) → cause.name ≡ name
-    → IsFrontWritten (error_line (Read name)) left.now.written new → SaidSome request (with_written left new)
+read_half : (request : Request) (left : RunOutcome) (name : List ℕ) (new : Option (List ℕ)) → IsNothingDone left → (cause : HasFailedRead request left) → cause.name ≡ name
+    → IsFrontWritten (error_line (Read name)) left.now.written new → IsSomeSaid request (with_written left new)
 read_half request left name new n cause is p = record {
   nothing = nothing_again left new n.nothing;
   wrote = inr (failed_again request left new cause, subst (λ (t : Option (List ℕ)). IsFrontWritten (error_line (Read cause.name)) t new) n.wrote (subst (λ (x : List ℕ). IsFrontWritten (error_line (Read x)) left.now.written new) (sym is) p));
 }
 
-said_none : (request : Request) (left : RunOutcome) (new : Option (List ℕ)) → DidNothing left → new ≡ left.now.written → SaidSome request (with_written left new)
+said_none : (request : Request) (left : RunOutcome) (new : Option (List ℕ)) → IsNothingDone left → new ≡ left.now.written → IsSomeSaid request (with_written left new)
 said_none request left new n same = record { nothing = nothing_again left new n.nothing; wrote = inl (same ∙ n.wrote) }
 
-some_said : (count : ℕ) (h : Halt) (request : Request) (task : Task) (left : RunOutcome) (new : Option (List ℕ)) → DidSome count h task left → new ≡ left.now.written
+some_said : (count : ℕ) (h : Halt) (request : Request) (task : Task) (left : RunOutcome) (new : Option (List ℕ)) → IsSomeDone count h task left → new ≡ left.now.written
     → EndsShort count h request task (with_written left new)
 some_said count h request task left new d same = inl (record {
   ran = front_again count task left new d.ran;
   heard = heard_again task h left new d.heard;
-  wrote = inl (subst (λ (t : Option (List ℕ)). WroteText count task (with_written left t)) (sym same) d.wrote);
+  wrote = inl (subst (λ (t : Option (List ℕ)). IsTextWritten count task (with_written left t)) (sym same) d.wrote);
 })
 
 -- the cause of a budget is said behind the lines
-cause_said : (count : ℕ) (task : Task) (left : RunOutcome) (end : End) (new : Option (List ℕ)) → DidUpTo count task left end → IsWritten (error_line end) left.now.written new → EndsBy count task (with_written left new) end
+cause_said : (count : ℕ) (task : Task) (left : RunOutcome) (end : End) (new : Option (List ℕ)) → IsDoneUpTo count task left end → IsWritten (error_line end) left.now.written new → EndsBy count task (with_written left new) end
 cause_said count task left end new d p = record {
   ran = front_again count task left new d.ran;
   cause = cause_again task left end new d.cause;
   wrote = wrote_more (shown_lines task left.entries) (error_line end) left.before.written left.now.written new d.wrote p;
 }
 
-cause_half : (count : ℕ) (h : Halt) (request : Request) (task : Task) (left : RunOutcome) (end : End) (new : Option (List ℕ)) → DidUpTo count task left end → IsFrontWritten (error_line end) left.now.written new
+cause_half : (count : ℕ) (h : Halt) (request : Request) (task : Task) (left : RunOutcome) (end : End) (new : Option (List ℕ)) → IsDoneUpTo count task left end → IsFrontWritten (error_line end) left.now.written new
     → EndsShort count h request task (with_written left new)
 cause_half count h request task left end new d p = inl (record {
   ran = front_again count task left new d.ran;
@@ -160,7 +160,7 @@ short_by : (count : ℕ) (request : Request) (task : Task) (left : RunOutcome) (
 short_by count request task left s (inl e) p = rw e (p halt.Write)
 short_by count request task left s (inr e) p = rw e (p halt.Memory)
 
-pub ends_run : (count : ℕ) (request : Request) (task : Task) (left : RunOutcome) (end : End) (new : Option (List ℕ)) (s : Status) → WorksBy count request (Ok task) left (Err end) → Says end left.now.written new s
+pub ends_run : (count : ℕ) (request : Request) (task : Task) (left : RunOutcome) (end : End) (new : Option (List ℕ)) (s : Status) → IsRequestDoneBy count request (Ok task) left (Err end) → IsEndSaid end left.now.written new s
     → EndsRun count request task (with_written left new) s
 ends_run count request task left Memory new s (inl n) p = rw p.0 (inr (said_none request left new n p.1))
 ends_run count request task left Memory new s (inr d) p = rw p.0 (some_said count halt.Memory request task left new d p.1)
@@ -177,27 +177,27 @@ ends_run count request task left (Script fault) new s w p = absurd w
 
 -- ---- where there was nothing to run
 
-line_said : (end found : End) (left : RunOutcome) (new : Option (List ℕ)) → DidNothing left → found ≡ end → IsWritten (error_line found) left.now.written new → Said end (with_written left new)
+line_said : (end found : End) (left : RunOutcome) (new : Option (List ℕ)) → IsNothingDone left → found ≡ end → IsWritten (error_line found) left.now.written new → IsSaid end (with_written left new)
 line_said end found left new n is p = record {
   nothing = nothing_again left new n.nothing;
   wrote = subst (λ (t : Option (List ℕ)). IsWritten (error_line end) t new) n.wrote (subst (λ (x : End). IsWritten (error_line x) left.now.written new) is p);
 }
 
-line_half : (end found : End) (left : RunOutcome) (new : Option (List ℕ)) → DidNothing left → found ≡ end → IsFrontWritten (error_line found) left.now.written new → SaidFront end (with_written left new)
+line_half : (end found : End) (left : RunOutcome) (new : Option (List ℕ)) → IsNothingDone left → found ≡ end → IsFrontWritten (error_line found) left.now.written new → IsFrontSaid end (with_written left new)
 line_half end found left new n is p = record {
   nothing = nothing_again left new n.nothing;
   wrote = subst (λ (t : Option (List ℕ)). IsFrontWritten (error_line end) t new) n.wrote (subst (λ (x : End). IsFrontWritten (error_line x) left.now.written new) is p);
 }
 
-half_by : (request : Request) (end : End) (left : RunOutcome) (s : Status) → (s ≡ status.Write) ⊎ (s ≡ status.Memory) → SaidFront end left → EndsWith request end left s
+half_by : (request : Request) (end : End) (left : RunOutcome) (s : Status) → (s ≡ status.Write) ⊎ (s ≡ status.Memory) → IsFrontSaid end left → EndsWith request end left s
 half_by request end left s (inl e) p = rw e (inl p)
 half_by request end left s (inr e) p = rw e (inl p)
 
-some_by : (request : Request) (end : End) (left : RunOutcome) (s : Status) → (s ≡ status.Write) ⊎ (s ≡ status.Memory) → SaidSome request left → EndsWith request end left s
+some_by : (request : Request) (end : End) (left : RunOutcome) (s : Status) → (s ≡ status.Write) ⊎ (s ≡ status.Memory) → IsSomeSaid request left → EndsWith request end left s
 some_by request end left s (inl e) p = rw e (inr p)
 some_by request end left s (inr e) p = rw e (inr p)
 
-pub ends_not : (request : Request) (end found : End) (left : RunOutcome) (new : Option (List ℕ)) (s : Status) → WorksNot request end left (Err found) → Says found left.now.written new s
+pub ends_not : (request : Request) (end found : End) (left : RunOutcome) (new : Option (List ℕ)) (s : Status) → IsTaskMissing request end left (Err found) → IsEndSaid found left.now.written new s
     → EndsWith request end (with_written left new) s
 ends_not request end Memory left new s n p = rw p.0 (inr (said_none request left new n p.1))
 ends_not request end Write left new s w p = rw p.0 (inr (said_none request left new w.0 p.1))
@@ -214,23 +214,23 @@ ends_not request end (CallBudget k) left new s w (inr p) = half_by request end (
 ends_not request end (TaskBudget limit) left new s w (inl p) = rw p.status_is (ap status_of w.1, line_said end (TaskBudget limit) left new w.0 w.1 p.wrote)
 ends_not request end (TaskBudget limit) left new s w (inr p) = half_by request end (with_written left new) s p.wanting (line_half end (TaskBudget limit) left new w.0 w.1 p.wrote)
 
-pub ends_said : (count : ℕ) (request : Request) (task : Result Task End) (left : RunOutcome) (end : End) (new : Option (List ℕ)) (s : Status) → WorksBy count request task left (Err end) → Says end left.now.written new s
+pub ends_said : (count : ℕ) (request : Request) (task : Result Task End) (left : RunOutcome) (end : End) (new : Option (List ℕ)) (s : Status) → IsRequestDoneBy count request task left (Err end) → IsEndSaid end left.now.written new s
     → EndsBehind count request task (with_written left new) s
 ends_said count request (Ok task) left end new s w p = ends_run count request task left end new s w p
 ends_said count request (Err e) left end new s w p = ends_not request e end left new s w p
 
 -- ---- of what the words ask for
 
-pub whole_by : (table : Option Table) (words : List (List ℕ)) (count : ℕ) (left : RunOutcome) → OfWords table words (λ request. Works count request left (Ok false))
+pub whole_by : (table : Option Table) (words : List (List ℕ)) (count : ℕ) (left : RunOutcome) → OfWords table words (λ request. IsRequestDone count request left (Ok false))
     → OfWords table words (λ request. Ends count request left status.Ok)
 whole_by table words count left w = (w.0, w.1, ends_whole count w.0 w.0.task left w.2)
 
-pub broken_at : (table : Option Table) (words : List (List ℕ)) (count : ℕ) (left : RunOutcome) → OfWords table words (λ request. Works count request left (Ok true))
+pub broken_at : (table : Option Table) (words : List (List ℕ)) (count : ℕ) (left : RunOutcome) → OfWords table words (λ request. IsRequestDone count request left (Ok true))
     → OfWords table words (λ request. Ends count request left status.Media)
 broken_at table words count left w = (w.0, w.1, ends_broken count w.0 w.0.task left w.2)
 
 pub said_by : (table : Option Table) (words : List (List ℕ)) (count : ℕ) (left : RunOutcome) (end : End) (new : Option (List ℕ)) (s : Status)
-    → OfWords table words (λ request. Works count request left (Err end)) → Says end left.now.written new s → OfWords table words (λ request. Ends count request (with_written left new) s)
+    → OfWords table words (λ request. IsRequestDone count request left (Err end)) → IsEndSaid end left.now.written new s → OfWords table words (λ request. Ends count request (with_written left new) s)
 said_by table words count left end new s w p = (w.0, w.1, ends_said count w.0 w.0.task left end new s w.2 p)
 
 -- ---- the end by the status
@@ -239,11 +239,11 @@ not_short : (s other : Status) → (s ≡ status.Write) ⊎ (s ≡ status.Memory
 not_short s other (inl e) is write memory = write (sym is ∙ e)
 not_short s other (inr e) is write memory = memory (sym is ∙ e)
 
-line_status : (end : End) (old new : Option (List ℕ)) (s other : Status) → SaysLine end old new s → s ≡ other → other ≢ status.Write → other ≢ status.Memory → status_of end ≡ other
+line_status : (end : End) (old new : Option (List ℕ)) (s other : Status) → IsLineSaid end old new s → s ≡ other → other ≢ status.Write → other ≢ status.Memory → status_of end ≡ other
 line_status end old new s other (inl p) is write memory = sym p.status_is ∙ is
 line_status end old new s other (inr p) is write memory = absurd (not_short s other p.wanting is write memory)
 
-pub end_of_status : (end : End) (old new : Option (List ℕ)) (s other : Status) → Says end old new s → s ≡ other → other ≢ status.Write → other ≢ status.Memory → status_of end ≡ other
+pub end_of_status : (end : End) (old new : Option (List ℕ)) (s other : Status) → IsEndSaid end old new s → s ≡ other → other ≢ status.Write → other ≢ status.Memory → status_of end ≡ other
 end_of_status Memory old new s other p is write memory = sym p.0 ∙ is
 end_of_status Write old new s other p is write memory = sym p.0 ∙ is
 end_of_status Words old new s other p is write memory = line_status Words old new s other p is write memory
@@ -274,10 +274,10 @@ by_read (CallBudget k) e = absurd (cc)
 by_read (TaskBudget limit) e = absurd (cc)
 
 -- a put that failed was counted, be it of the lines or of the last one
-pub put_failed : (end : End) (s : Status) (a b c : ℕ) → (s ≡ status.Write → (end ≡ Write) ⊎ Rose b c) → (◌≡◌ {A = Result Bool End} (Err end) (Err Write) → Rose a b) → a ≤ b → b ≤ c
-    → s ≡ status.Write → Rose a c
+pub put_failed : (end : End) (s : Status) (a b c : ℕ) → (s ≡ status.Write → (end ≡ Write) ⊎ HasRisen b c) → (◌≡◌ {A = Result Bool End} (Err end) (Err Write) → HasRisen a b) → a ≤ b → b ≤ c
+    → s ≡ status.Write → HasRisen a c
 put_failed end s a b c later before one two is = by_cases (later is)
   where
-    by_cases : (end ≡ Write) ⊎ Rose b c → Rose a c
+    by_cases : (end ≡ Write) ⊎ HasRisen b c → HasRisen a c
     by_cases (inl e) = rose_within a a b c (omega arith) two (before (ap (λ (x : End). Err x) e))
     by_cases (inr r) = rose_within a b c c one (omega arith) r

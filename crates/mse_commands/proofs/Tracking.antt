@@ -18,7 +18,7 @@ use Rattle.source_buffers.specs.State.{BufferStates, all_kept_media, in_slot, me
 use Rattle.source_buffers.specs.Views.{views_from}
 use Rattle.source_buffers.proofs.Standing.{same_media}
 use Rattle.mse_engine.specs.State.{State}
-use Rattle.mse_engine.specs.Standing.{Kept, Stands}
+use Rattle.mse_engine.specs.Standing.{KeptEngine, Stands}
 use Rattle.mse_engine.specs.Views.{view_in}
 use Rattle.script_run.specs.declared.stop.Halt.{Halt}
 use Rattle.mse_commands.specs.Feeds.{tracks_in, tracks_of}
@@ -85,7 +85,7 @@ slot_is i None = refl
 slot_is i (Some m) = refl
 
 -- the track of what is kept is that of the state
-pub track_is : (k : Kept) (st : State) (i : ℕ) → Stands k st → track_at 0 i (all_kept_media k.buffers) ≡ slice_get (tracks_in st) i
+pub track_is : (k : KeptEngine) (st : State) (i : ℕ) → Stands k st → track_at 0 i (all_kept_media k.buffers) ≡ slice_get (tracks_in st) i
 track_is k st i stands = ap (λ ms. track_at 0 i ms) (same_media k.buffers st.core.buffers stands.buffers) ∙ slot_is i (in_slot 0 (media_of_all st.core.buffers))
 
 each_sound : (ts : List TrackState) (i : ℕ) (t : TrackState) → AllByRecursion IsSound ts → slice_get ts i ≡ Some t → IsSound t
@@ -102,17 +102,17 @@ sound_track [] i t h e = cc
 sound_track (o ∷ ms) i t h e = sound_slot o i t h.0 e
 
 -- what was put is of that track
-pub there : (k : Kept) (st : State) (i : ℕ) (t : TrackState) (P : TrackState → Type 0) → Stands k st → Some t ≡ track_at 0 i (all_kept_media k.buffers) → P t → IfSome (slice_get (tracks_in st) i) P
+pub there : (k : KeptEngine) (st : State) (i : ℕ) (t : TrackState) (P : TrackState → Type 0) → Stands k st → Some t ≡ track_at 0 i (all_kept_media k.buffers) → P t → IfSome (slice_get (tracks_in st) i) P
 there k st i t P stands is p = subst (λ (o : Option TrackState). IfSome o P) (is ∙ track_is k st i stands) p
 
-pub not_there : (k : Kept) (st : State) (i : ℕ) (P : TrackState → Type 0) → Stands k st → None ≡ track_at 0 i (all_kept_media k.buffers) → IfSome (slice_get (tracks_in st) i) P
+pub not_there : (k : KeptEngine) (st : State) (i : ℕ) (P : TrackState → Type 0) → Stands k st → None ≡ track_at 0 i (all_kept_media k.buffers) → IfSome (slice_get (tracks_in st) i) P
 not_there k st i P stands is = subst (λ (o : Option TrackState). IfSome o P) (is ∙ track_is k st i stands) tt
 
-pub ok_there : (k : Kept) (st : State) (i : ℕ) (t : TrackState) (P : TrackState → Type 0) (r : Result (Unit {0}) Halt) → Stands k st → Some t ≡ track_at 0 i (all_kept_media k.buffers) → OnOk r (P t) → OnOk r (IfSome (slice_get (tracks_in st) i) P)
+pub ok_there : (k : KeptEngine) (st : State) (i : ℕ) (t : TrackState) (P : TrackState → Type 0) (r : Result (Unit {0}) Halt) → Stands k st → Some t ≡ track_at 0 i (all_kept_media k.buffers) → OnOk r (P t) → OnOk r (IfSome (slice_get (tracks_in st) i) P)
 ok_there k st i t P (Ok u) stands is p = there k st i t P stands is p
 ok_there k st i t P (Err e) stands is p = tt
 
-pub err_there : (k : Kept) (st : State) (i : ℕ) (t : TrackState) (P : TrackState → Type 0) (r : Result (Unit {0}) Halt) → Stands k st → Some t ≡ track_at 0 i (all_kept_media k.buffers) → OnErr r (P t) → OnErr r (IfSome (slice_get (tracks_in st) i) P)
+pub err_there : (k : KeptEngine) (st : State) (i : ℕ) (t : TrackState) (P : TrackState → Type 0) (r : Result (Unit {0}) Halt) → Stands k st → Some t ≡ track_at 0 i (all_kept_media k.buffers) → OnErr r (P t) → OnErr r (IfSome (slice_get (tracks_in st) i) P)
 err_there k st i t P (Ok u) stands is p = tt
 err_there k st i t P (Err e) stands is p = there k st i t P stands is p
 

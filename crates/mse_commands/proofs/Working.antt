@@ -2,7 +2,7 @@
 use Rattle.std.proofs.Common.{◌≡◌, ◌^◌, ◌<◌, ◌≤◌, ℕ, suc, List, [], ◌∷◌, ◌++◌, length, refl, ap, sym, ◌∙◌, subst, arith, inl, inr, pos}
 use Rattle.std.specs.Prelude.{Bool, true, false, Option, Some, None, IfSome, Result, Ok, Err, is_err, ◌⊎◌}
 use Rattle.std.proofs.lemmas.List.{append-nil}
-use Rattle.mse_outside.specs.Outside.{Rose, Table}
+use Rattle.mse_outside.specs.Outside.{HasRisen, Table}
 use Rattle.bmff_write.specs.Made.{made_bytes}
 use Rattle.mse_calls.specs.declared.entry.Entry.{Entry}
 use Rattle.mse_calls.specs.declared.rules.Rule.{Rule}
@@ -10,7 +10,7 @@ use Rattle.call_script.specs.declared.script.BlobText.{BlobText}
 use Rattle.call_script.specs.declared.script.Script.{Script as CallScript}
 use Rattle.call_script.specs.declared.script.StepLine.{StepLine}
 use Rattle.mse_engine.specs.State.{State, opening_state}
-use Rattle.mse_engine.specs.Standing.{Kept, Stands}
+use Rattle.mse_engine.specs.Standing.{KeptEngine, Stands}
 use Rattle.mse_engine.specs.Run.{after_entries}
 use Rattle.mse_engine.specs.Transitions.{IsTransition}
 use Rattle.mse_engine.specs.Views.{view_in}
@@ -39,21 +39,21 @@ use Rattle.mse_commands.specs.declared.words.Command.TheVariants.{Ranges, Pieces
 use Rattle.mse_commands.specs.Asked.{IsFileCommand, IsLackOf, IsReadOf, IsTaskOf, OfCommand, Request, Task, ByScript, ByFile, ByRemux, blobs_bytes, file_by, file_request, file_task, files_by, files_in, files_of_script, loaded, opening_of, remux_request, remux_task, request_of, script_loaded, script_request, script_task}
 use Rattle.mse_commands.specs.Loads.{IsMade, IsReached, IsUnmade, IsLoadEnd, IsScriptEnd, failures}
 use Rattle.mse_commands.specs.Endings.{end_of_halt}
-use Rattle.mse_commands.specs.Outcomes.{HaveRules, IsRun, RunOutcome, RanFront, RanWhole, outcome, outside_of}
+use Rattle.mse_commands.specs.Outcomes.{HaveRules, IsRun, RunOutcome, IsFrontRun, IsWholeRun, outcome, outside_of}
 use Rattle.mse_commands.specs.Remuxing.{remux_text}
 use Rattle.mse_commands.specs.Shown.{IsAllOf, IsWholeFile, file_closing, last_state, pieces_by, text_of}
-use Rattle.mse_commands.specs.Works.{IsAppended, IsPartAppended, DidAll, DidNothing, DidSome, DidUpTo, IsFileShown, IsFileFrontShown, PlaysScript, IsScriptHalfPlayed, IsScriptPlayed, IsScriptCutShort, IsScriptStopped, IsScriptUnplayed, IsFrontShown, ShowsFile, Works, WorksBy, WorksOn, script_inputs}
+use Rattle.mse_commands.specs.Works.{IsAppended, IsPartAppended, IsAllDone, IsNothingDone, IsSomeDone, IsDoneUpTo, IsFileShown, IsFileFrontShown, PlaysScript, IsScriptHalfPlayed, IsScriptPlayed, IsScriptCutShort, IsScriptStopped, IsScriptUnplayed, IsFrontShown, ShowsFile, IsRequestDone, IsRequestDoneBy, IsTaskDone, script_inputs}
 use Rattle.mse_commands.proofs.Loading.{end_as, reached_behind, reached_first, reached_more, script_there}
 
 -- ---- what was not loaded
 
-pub did_nothing : (a b : ℕ) (written : Option (List ℕ)) (notes : List (List Note)) (rules : List (List Rule)) → DidNothing (outcome [] None (outside_of a written notes rules) (outside_of b written notes rules))
+pub did_nothing : (a b : ℕ) (written : Option (List ℕ)) (notes : List (List Note)) (rules : List (List Rule)) → IsNothingDone (outcome [] None (outside_of a written notes rules) (outside_of b written notes rules))
 did_nothing a b written notes rules = record { nothing = record { entries = refl; engine = refl; notes = refl; rules = refl }; wrote = refl }
 
 -- what a library says of an end that tells its files
 abbrev ToldEnd : Request → Result Task End → RunOutcome → End → Type 0
 ToldEnd request task after Memory = Unit {0}
-ToldEnd request task after (Read name) = Rose after.before.faults after.now.faults × IsReached request.files request.names name
+ToldEnd request task after (Read name) = HasRisen after.before.faults after.now.faults × IsReached request.files request.names name
 ToldEnd request task after (NoFile name) = task ≡ Err (NoFile name)
 ToldEnd request task after (Script fault) = task ≡ Err (Script fault)
 ToldEnd request task after Write = ⊥
@@ -61,7 +61,7 @@ ToldEnd request task after Words = ⊥
 ToldEnd request task after (CallBudget k) = ⊥
 ToldEnd request task after (TaskBudget limit) = ⊥
 
-not_loaded_by : (count : ℕ) (request : Request) (task : Result Task End) (after : RunOutcome) (end : End) → DidNothing after → ToldEnd request task after end → WorksBy count request task after (Err end)
+not_loaded_by : (count : ℕ) (request : Request) (task : Result Task End) (after : RunOutcome) (end : End) → IsNothingDone after → ToldEnd request task after end → IsRequestDoneBy count request task after (Err end)
 not_loaded_by count request (Ok t) after Memory n p = inl n
 not_loaded_by count request (Ok t) after (Read name) n p = (n, (record { name = name; rose = p.0; reached = p.1 }, refl))
 not_loaded_by count request (Ok t) after (NoFile name) n p = absurd (cc)
@@ -99,8 +99,8 @@ no_request names end = record { files = λ name. None; names = names; task = Err
 
 -- Nothing is run for an end that needs no file: memory was wanting, a file is not there, or the library failed.
 untold_file : {A : Type 0} (count : ℕ) (name : List ℕ) (command : Command) (after : RunOutcome) (names : List (List ℕ)) (told : Table → Result A End) (end : End)
-    → ((other : List ℕ) → IsLackOf command (NoFile other)) → DidNothing after → IsLoadEnd None (failures after.before.faults after.now.faults) names told end
-    → OfCommand None name (Some command) (λ request. Works count request after (Err end))
+    → ((other : List ℕ) → IsLackOf command (NoFile other)) → IsNothingDone after → IsLoadEnd None (failures after.before.faults after.now.faults) names told end
+    → OfCommand None name (Some command) (λ request. IsRequestDone count request after (Err end))
 untold_file count name command after names told Memory lack n p = (no_request [] (NoFile []), lack [], n)
 untold_file count name command after names told (Read other) lack n p =
     (no_request (other ∷ []) (NoFile []), lack [], (n, (record { name = other; rose = p.0; reached = reached_first (λ x. None) other [] }, refl)))
@@ -111,8 +111,8 @@ untold_file count name command after names told Words lack n p = absurd p
 untold_file count name command after names told (CallBudget k) lack n p = absurd p
 untold_file count name command after names told (TaskBudget limit) lack n p = absurd p
 
-untold_script : (count : ℕ) (name : List ℕ) (after : RunOutcome) (end : End) → DidNothing after → IsScriptEnd None (failures after.before.faults after.now.faults) name end
-    → OfCommand None name (Some Play) (λ request. Works count request after (Err end))
+untold_script : (count : ℕ) (name : List ℕ) (after : RunOutcome) (end : End) → IsNothingDone after → IsScriptEnd None (failures after.before.faults after.now.faults) name end
+    → OfCommand None name (Some Play) (λ request. IsRequestDone count request after (Err end))
 untold_script count name after Memory n p = untold_file count name Play after (name ∷ []) (λ files. script_loaded files name) Memory (λ other. tt) n p
 untold_script count name after (Read other) n p = untold_file count name Play after (name ∷ []) (λ files. script_loaded files name) (Read other) (λ x. tt) n p
 untold_script count name after (NoFile other) n p = untold_file count name Play after (name ∷ []) (λ files. script_loaded files name) (NoFile other) (λ x. tt) n p
@@ -137,11 +137,11 @@ file_request_is files name Remux f = absurd f
 file_request_is files name Play f = absurd f
 
 -- a file that was not made, for want of memory
-unmade_file : (count : ℕ) (name : List ℕ) (n : ℕ) (after : RunOutcome) (end : End) → DidNothing after → end ≡ Memory → OfCommand None name (Some (Make n)) (λ request. Works count request after (Err end))
+unmade_file : (count : ℕ) (name : List ℕ) (n : ℕ) (after : RunOutcome) (end : End) → IsNothingDone after → end ≡ Memory → OfCommand None name (Some (Make n)) (λ request. IsRequestDone count request after (Err end))
 unmade_file count name n after end nothing e = (record { files = λ x. None; names = []; task = Ok (ByFile (Make n) (made_bytes n)) }, (refl, refl), rw e (inl nothing))
 
 untold_by : {A : Type 0} (count : ℕ) (name : List ℕ) (command : Command) (after : RunOutcome) (names : List (List ℕ)) (told : Table → Result A End) (end : End) → IsFileCommand command → IsUnmade command end
-    → DidNothing after → IsLoadEnd None (failures after.before.faults after.now.faults) names told end → OfCommand None name (Some command) (λ request. Works count request after (Err end))
+    → IsNothingDone after → IsLoadEnd None (failures after.before.faults after.now.faults) names told end → OfCommand None name (Some command) (λ request. IsRequestDone count request after (Err end))
 untold_by count name Ranges after names told end f u n p = untold_file count name Ranges after names told end (λ other. tt) n p
 untold_by count name (Pieces size) after names told end f u n p = untold_file count name (Pieces size) after names told end (λ other. tt) n p
 untold_by count name (Make made) after names told end f u n p = unmade_file count name made after end n u
@@ -149,10 +149,10 @@ untold_by count name (Feed at) after names told end f u n p = untold_file count 
 untold_by count name Remux after names told end f u n p = absurd f
 untold_by count name Play after names told end f u n p = absurd f
 
-pub file_not_loaded : (table : Option Table) (a b : ℕ) (name : List ℕ) (command : Command) (end : End) (entries : List Entry) (engine : Option Kept) (written : Option (List ℕ))
+pub file_not_loaded : (table : Option Table) (a b : ℕ) (name : List ℕ) (command : Command) (end : End) (entries : List Entry) (engine : Option KeptEngine) (written : Option (List ℕ))
     (count : ℕ) (notes : List (List Note)) (rules : List (List Rule)) → IsFileCommand command → IsUnmade command end → entries ≡ [] → engine ≡ None
     → IsLoadEnd table (failures a b) (files_by name command) (λ files. file_by files name command) end
-    → OfCommand table name (Some command) (λ request. Works count request (outcome entries engine (outside_of a written notes rules) (outside_of b written notes rules)) (Err end))
+    → OfCommand table name (Some command) (λ request. IsRequestDone count request (outcome entries engine (outside_of a written notes rules) (outside_of b written notes rules)) (Err end))
 file_not_loaded None a b name command end entries engine written count notes rules f u none nothing p =
     rw (none, nothing) (untold_by count name command (outcome [] None (outside_of a written notes rules) (outside_of b written notes rules)) (files_by name command) (λ files. file_by files name command) end f u
     (did_nothing a b written notes rules) p)
@@ -168,7 +168,7 @@ file_not_loaded (Some files) a b name command end entries engine written count n
 
 -- ---- a file that was run
 
-file_ran : (command : Command) (bytes : List ℕ) (a b : Kept) (es : List Entry) (after : RunOutcome) → Stands a (opening_of (ByFile command bytes)) → IsTransition (bytes ∷ []) a b es
+file_ran : (command : Command) (bytes : List ℕ) (a b : KeptEngine) (es : List Entry) (after : RunOutcome) → Stands a (opening_of (ByFile command bytes)) → IsTransition (bytes ∷ []) a b es
     → after.entries ≡ es → after.engine ≡ Some b → IsRun (ByFile command bytes) after
 file_ran command bytes a b es after stands goes entries engine = record {
   replays = rw entries (goes.replays (opening_of (ByFile command bytes)) stands);
@@ -179,7 +179,7 @@ file_ran command bytes a b es after stands goes entries engine = record {
 -- a front was appended, and nothing written
 file_begun : (count : ℕ) (h : Halt) (command : Command) (bytes : List ℕ) (a b : RunView) (w0 w1 : Option (List ℕ)) (f0 f1 : ℕ) (notes : List (List Note)) (rules : List (List Rule))
     → Stands a.engine (opening_of (ByFile command bytes)) → a.entries ≡ [] → IsPartAppended bytes (pieces_by command (length bytes)) a b → w1 ≡ w0
-    → DidSome count h (ByFile command bytes) (outcome b.entries (Some b.engine) (outside_of f0 w0 notes rules) (outside_of f1 w1 notes rules))
+    → IsSomeDone count h (ByFile command bytes) (outcome b.entries (Some b.engine) (outside_of f0 w0 notes rules) (outside_of f1 w1 notes rules))
 file_begun count h command bytes a b w0 w1 f0 f1 notes rules stands fresh p same =
     let es : List Entry = p.entries in
     let task : Task = ByFile command bytes in
@@ -198,7 +198,7 @@ file_begun count h command bytes a b w0 w1 f0 f1 notes rules stands fresh p same
 file_half : (count : ℕ) (h : Halt) (command : Command) (bytes : List ℕ) (a b : RunView) (w0 w1 : Option (List ℕ)) (f0 f1 : ℕ) (notes : List (List Note)) (rules : List (List Rule))
     → Stands a.engine (opening_of (ByFile command bytes)) → a.entries ≡ [] → IsAppended bytes (pieces_by command (length bytes)) a b
     → IsFrontShown (file_closing command (length bytes)) b w0 w1
-    → DidSome count h (ByFile command bytes) (outcome b.entries (Some b.engine) (outside_of f0 w0 notes rules) (outside_of f1 w1 notes rules))
+    → IsSomeDone count h (ByFile command bytes) (outcome b.entries (Some b.engine) (outside_of f0 w0 notes rules) (outside_of f1 w1 notes rules))
 file_half count h command bytes a b w0 w1 f0 f1 notes rules stands fresh p shown =
     let es : List Entry = p.entries in
     let task : Task = ByFile command bytes in
@@ -217,13 +217,13 @@ file_half count h command bytes a b w0 w1 f0 f1 notes rules stands fresh p shown
 
 file_front : (count : ℕ) (h : Halt) (command : Command) (bytes : List ℕ) (a b : RunView) (w0 w1 : Option (List ℕ)) (f0 f1 : ℕ) (notes : List (List Note)) (rules : List (List Rule))
     → Stands a.engine (opening_of (ByFile command bytes)) → a.entries ≡ [] → IsFileFrontShown command bytes (printed_run a w0) (printed_run b w1)
-    → DidSome count h (ByFile command bytes) (outcome b.entries (Some b.engine) (outside_of f0 w0 notes rules) (outside_of f1 w1 notes rules))
+    → IsSomeDone count h (ByFile command bytes) (outcome b.entries (Some b.engine) (outside_of f0 w0 notes rules) (outside_of f1 w1 notes rules))
 file_front count h command bytes a b w0 w1 f0 f1 notes rules stands fresh (inl p) = file_begun count h command bytes a b w0 w1 f0 f1 notes rules stands fresh p.0 p.1
 file_front count h command bytes a b w0 w1 f0 f1 notes rules stands fresh (inr p) = file_half count h command bytes a b w0 w1 f0 f1 notes rules stands fresh p.0 p.1
 
 pub file_worked : (count : ℕ) (request : Request) (command : Command) (bytes : List ℕ) (a b : RunView) (w0 w1 : Option (List ℕ)) (f0 f1 : ℕ) (notes : List (List Note)) (rules : List (List Rule))
     (result : Result Bool End) → Stands a.engine (opening_of (ByFile command bytes)) → a.entries ≡ [] → ShowsFile command bytes (printed_run a w0) (printed_run b w1) result
-    → WorksOn count request (ByFile command bytes) (outcome b.entries (Some b.engine) (outside_of f0 w0 notes rules) (outside_of f1 w1 notes rules)) result
+    → IsTaskDone count request (ByFile command bytes) (outcome b.entries (Some b.engine) (outside_of f0 w0 notes rules) (outside_of f1 w1 notes rules)) result
 file_worked count request command bytes a b w0 w1 f0 f1 notes rules (Ok broken) stands fresh p =
     let es : List Entry = p.appended.entries in
     let task : Task = ByFile command bytes in
@@ -250,8 +250,8 @@ file_worked count request command bytes a b w0 w1 f0 f1 notes rules (Err (TaskBu
 file_goes : (files : Table) (name : List ℕ) (command : Command) (bytes : List ℕ) → file_by files name command ≡ Ok bytes → file_task files name command ≡ Ok (ByFile command bytes)
 file_goes files name command bytes e = rw e refl
 
-works_on : (count : ℕ) (request : Request) (task : Task) (after : RunOutcome) (result : Result Bool End) → request.task ≡ Ok task → WorksOn count request task after result → Works count request after result
-works_on count request task after result e p = subst (λ (t : Result Task End). WorksBy count request t after result) (sym e) p
+works_on : (count : ℕ) (request : Request) (task : Task) (after : RunOutcome) (result : Result Bool End) → request.task ≡ Ok task → IsTaskDone count request task after result → IsRequestDone count request after result
+works_on count request task after result e p = subst (λ (t : Result Task End). IsRequestDoneBy count request t after result) (sym e) p
 
 -- a file whose bytes nobody tells is a task of its command
 untold_task : (command : Command) (bytes : List ℕ) → IsFileCommand command → IsMade command bytes → IsTaskOf command (ByFile command bytes)
@@ -265,7 +265,7 @@ untold_task Play bytes f m = absurd f
 pub file_works : (table : Option Table) (f0 f1 : ℕ) (name bytes : List ℕ) (command : Command) (a b : RunView) (w0 w1 : Option (List ℕ)) (count : ℕ) (notes : List (List Note)) (rules : List (List Rule))
     (result : Result Bool End) → IsFileCommand command → IsMade command bytes → IfSome table (λ files. file_by files name command ≡ Ok bytes)
     → Stands a.engine (opening_of (ByFile command bytes)) → a.entries ≡ [] → ShowsFile command bytes (printed_run a w0) (printed_run b w1) result
-    → OfCommand table name (Some command) (λ request. Works count request (outcome b.entries (Some b.engine) (outside_of f0 w0 notes rules) (outside_of f1 w1 notes rules)) result)
+    → OfCommand table name (Some command) (λ request. IsRequestDone count request (outcome b.entries (Some b.engine) (outside_of f0 w0 notes rules) (outside_of f1 w1 notes rules)) result)
 file_works None f0 f1 name bytes command a b w0 w1 count notes rules result f m is stands fresh p =
     let request : Request = record { files = λ x. None; names = []; task = Ok (ByFile command bytes) } in
     (request, untold_task command bytes f m, file_worked count request command bytes a b w0 w1 f0 f1 notes rules result stands fresh p)
@@ -287,7 +287,7 @@ remux_goes files name bytes e = rw e refl
 
 pub remux_not_loaded : (table : Option Table) (a b : ℕ) (name : List ℕ) (end : End) (written : Option (List ℕ)) (count : ℕ) (notes : List (List Note)) (rules : List (List Rule))
     → IsLoadEnd table (failures a b) (name ∷ []) (λ files. loaded files name) end
-    → OfCommand table name (Some Remux) (λ request. Works count request (outcome [] None (outside_of a written notes rules) (outside_of b written notes rules)) (Err end))
+    → OfCommand table name (Some Remux) (λ request. IsRequestDone count request (outcome [] None (outside_of a written notes rules) (outside_of b written notes rules)) (Err end))
 remux_not_loaded None a b name end written count notes rules p =
     untold_file count name Remux (outcome [] None (outside_of a written notes rules) (outside_of b written notes rules)) (name ∷ []) (λ files. loaded files name) end (λ other. tt) (did_nothing a b written notes rules) p
 remux_not_loaded (Some files) a b name end written count notes rules p =
@@ -304,14 +304,14 @@ remux_ran : (bytes : List ℕ) (a b : ℕ) (w0 w1 : Option (List ℕ)) (notes : 
 remux_ran bytes a b w0 w1 notes rules = record { replays = tt; sound = tt; engine = refl }
 
 remux_whole : (count : ℕ) (request : Request) (bytes : List ℕ) (a b : ℕ) (w0 w1 : Option (List ℕ)) (notes : List (List Note)) (rules : List (List Rule)) (broken : Bool)
-    → IsWritten (remux_text bytes) w0 w1 → broken ≡ is_err (remuxed bytes) → WorksOn count request (ByRemux bytes) (outcome [] None (outside_of a w0 notes rules) (outside_of b w1 notes rules)) (Ok broken)
+    → IsWritten (remux_text bytes) w0 w1 → broken ≡ is_err (remuxed bytes) → IsTaskDone count request (ByRemux bytes) (outcome [] None (outside_of a w0 notes rules) (outside_of b w1 notes rules)) (Ok broken)
 remux_whole count request bytes a b w0 w1 notes rules broken wrote is = record {
   ran = record { run = remux_ran bytes a b w0 w1 notes rules; all = refl; wrote = wrote; heard = (refl, refl) };
   broken_is = is;
 }
 
 remux_some : (count : ℕ) (h : Halt) (bytes : List ℕ) (a b : ℕ) (w0 w1 : Option (List ℕ)) (notes : List (List Note)) (rules : List (List Rule)) → IsFrontWritten (remux_text bytes) w0 w1
-    → DidSome count h (ByRemux bytes) (outcome [] None (outside_of a w0 notes rules) (outside_of b w1 notes rules))
+    → IsSomeDone count h (ByRemux bytes) (outcome [] None (outside_of a w0 notes rules) (outside_of b w1 notes rules))
 remux_some count h bytes a b w0 w1 notes rules wrote = record {
   ran = record { run = remux_ran bytes a b w0 w1 notes rules; front = refl; rules = refl };
   heard = refl;
@@ -319,13 +319,13 @@ remux_some count h bytes a b w0 w1 notes rules wrote = record {
 }
 
 remux_half : (count : ℕ) (request : Request) (h : Halt) (bytes : List ℕ) (a b : ℕ) (w0 w1 : Option (List ℕ)) (notes : List (List Note)) (rules : List (List Rule)) → IsFrontWritten (remux_text bytes) w0 w1
-    → WorksOn count request (ByRemux bytes) (outcome [] None (outside_of a w0 notes rules) (outside_of b w1 notes rules)) (Err (end_of_halt h))
+    → IsTaskDone count request (ByRemux bytes) (outcome [] None (outside_of a w0 notes rules) (outside_of b w1 notes rules)) (Err (end_of_halt h))
 remux_half count request halt.Memory bytes a b w0 w1 notes rules wrote = inr (remux_some count halt.Memory bytes a b w0 w1 notes rules wrote)
 remux_half count request halt.Write bytes a b w0 w1 notes rules wrote = remux_some count halt.Write bytes a b w0 w1 notes rules wrote
 
 -- what is asked for where the file is there
 remux_asked : (table : Option Table) (name bytes : List ℕ) (count : ℕ) (after : RunOutcome) (result : Result Bool End) → IfSome table (λ files. loaded files name ≡ Ok bytes)
-    → ((request : Request) → WorksOn count request (ByRemux bytes) after result) → OfCommand table name (Some Remux) (λ request. Works count request after result)
+    → ((request : Request) → IsTaskDone count request (ByRemux bytes) after result) → OfCommand table name (Some Remux) (λ request. IsRequestDone count request after result)
 remux_asked None name bytes count after result is p =
     let request : Request = record { files = λ x. None; names = []; task = Ok (ByRemux bytes) } in
     (request, tt, p request)
@@ -335,13 +335,13 @@ remux_asked (Some files) name bytes count after result is p =
 
 pub remux_works : (table : Option Table) (a b : ℕ) (name bytes : List ℕ) (w0 w1 : Option (List ℕ)) (count : ℕ) (notes : List (List Note)) (rules : List (List Rule)) (broken : Bool)
     → IfSome table (λ files. loaded files name ≡ Ok bytes) → IsWritten (remux_text bytes) w0 w1 → broken ≡ is_err (remuxed bytes)
-    → OfCommand table name (Some Remux) (λ request. Works count request (outcome [] None (outside_of a w0 notes rules) (outside_of b w1 notes rules)) (Ok broken))
+    → OfCommand table name (Some Remux) (λ request. IsRequestDone count request (outcome [] None (outside_of a w0 notes rules) (outside_of b w1 notes rules)) (Ok broken))
 remux_works table a b name bytes w0 w1 count notes rules broken is wrote broken_is =
     remux_asked table name bytes count (outcome [] None (outside_of a w0 notes rules) (outside_of b w1 notes rules)) (Ok broken) is (λ request. remux_whole count request bytes a b w0 w1 notes rules broken wrote broken_is)
 
 pub remux_stops : (table : Option Table) (a b : ℕ) (name bytes : List ℕ) (w0 w1 : Option (List ℕ)) (count : ℕ) (notes : List (List Note)) (rules : List (List Rule)) (h : Halt)
     → IfSome table (λ files. loaded files name ≡ Ok bytes) → IsFrontWritten (remux_text bytes) w0 w1
-    → OfCommand table name (Some Remux) (λ request. Works count request (outcome [] None (outside_of a w0 notes rules) (outside_of b w1 notes rules)) (Err (end_of_halt h)))
+    → OfCommand table name (Some Remux) (λ request. IsRequestDone count request (outcome [] None (outside_of a w0 notes rules) (outside_of b w1 notes rules)) (Err (end_of_halt h)))
 remux_stops table a b name bytes w0 w1 count notes rules h is wrote =
     remux_asked table name bytes count (outcome [] None (outside_of a w0 notes rules) (outside_of b w1 notes rules)) (Err (end_of_halt h)) is (λ request. remux_half count request h bytes a b w0 w1 notes rules wrote)
 
@@ -364,9 +364,9 @@ told_script files name after Words p = absurd p
 told_script files name after (CallBudget k) p = absurd p
 told_script files name after (TaskBudget limit) p = absurd p
 
-pub script_not_loaded : (table : Option Table) (a b : ℕ) (name : List ℕ) (end : End) (entries : List Entry) (engine : Option Kept) (written : Option (List ℕ))
+pub script_not_loaded : (table : Option Table) (a b : ℕ) (name : List ℕ) (end : End) (entries : List Entry) (engine : Option KeptEngine) (written : Option (List ℕ))
     (count : ℕ) (notes : List (List Note)) (rules : List (List Rule)) → entries ≡ [] → engine ≡ None → IsScriptEnd table (failures a b) name end
-    → OfCommand table name (Some Play) (λ request. Works count request (outcome entries engine (outside_of a written notes rules) (outside_of b written notes rules)) (Err end))
+    → OfCommand table name (Some Play) (λ request. IsRequestDone count request (outcome entries engine (outside_of a written notes rules) (outside_of b written notes rules)) (Err end))
 script_not_loaded None a b name end entries engine written count notes rules none nothing p =
     rw (none, nothing) (untold_script count name (outcome [] None (outside_of a written notes rules) (outside_of b written notes rules)) end (did_nothing a b written notes rules) p)
 script_not_loaded (Some files) a b name end entries engine written count notes rules none nothing p =
@@ -378,10 +378,10 @@ script_not_loaded (Some files) a b name end entries engine written count notes r
           (told_script files name after end p),
     )
 
-pub blobs_not_loaded : (table : Option Table) (a b c : ℕ) (name : List ℕ) (script : CallScript) (end : End) (entries : List Entry) (engine : Option Kept) (written : Option (List ℕ))
+pub blobs_not_loaded : (table : Option Table) (a b c : ℕ) (name : List ℕ) (script : CallScript) (end : End) (entries : List Entry) (engine : Option KeptEngine) (written : Option (List ℕ))
     (count : ℕ) (notes : List (List Note)) (rules : List (List Rule)) → entries ≡ [] → engine ≡ None → a ≤ b → IfSome table (λ files. script_loaded files name ≡ Ok script)
     → IsLoadEnd table (failures b c) (files_in script.blobs) (λ files. blobs_bytes files script.blobs) end
-    → OfCommand table name (Some Play) (λ request. Works count request (outcome entries engine (outside_of a written notes rules) (outside_of c written notes rules)) (Err end))
+    → OfCommand table name (Some Play) (λ request. IsRequestDone count request (outcome entries engine (outside_of a written notes rules) (outside_of c written notes rules)) (Err end))
 blobs_not_loaded None a b c name script end entries engine written count notes rules none nothing before is p =
     rw (none, nothing) (untold_file count name Play (outcome [] None (outside_of a written notes rules) (outside_of c written notes rules)) (files_in script.blobs) (λ files. blobs_bytes files script.blobs) end (λ other. tt)
     (did_nothing a c written notes rules)
@@ -416,7 +416,7 @@ pub none_begun : (blobs : List (List ℕ)) (limits : Limits) (n : ℕ) (st : Sta
 none_begun blobs limits n st [] = refl
 none_begun blobs limits n st (line ∷ lines) = inl refl
 
-script_ran : (script : CallScript) (blobs : List (List ℕ)) (a b : Kept) (es : List Entry) (after : RunOutcome) → Stands a (opening_of (ByScript script blobs)) → IsTransition blobs a b es
+script_ran : (script : CallScript) (blobs : List (List ℕ)) (a b : KeptEngine) (es : List Entry) (after : RunOutcome) → Stands a (opening_of (ByScript script blobs)) → IsTransition blobs a b es
     → after.entries ≡ es → after.engine ≡ Some b → IsRun (ByScript script blobs) after
 script_ran script blobs a b es after stands goes entries engine = record {
   replays = rw entries (goes.replays (opening_of (ByScript script blobs)) stands);
@@ -430,7 +430,7 @@ module _ (count : ℕ) (request : Request) (script : CallScript) (blobs : List (
   all_of : (es : List Entry) → b.run.entries ≡ a.run.entries ++ es → b.run.entries ≡ es
   all_of es grew = grew ∙ ap (λ (x : List Entry). x ++ es) fresh
 
-  script_whole : IsScriptPlayed (script_inputs count script blobs) r1 a b → RanWhole count (ByScript script blobs) (outcome b.run.entries (Some b.run.engine) (outside_of f0 a.written a.notes r0) (outside_of f1 b.written b.notes r1))
+  script_whole : IsScriptPlayed (script_inputs count script blobs) r1 a b → IsWholeRun count (ByScript script blobs) (outcome b.run.entries (Some b.run.engine) (outside_of f0 a.written a.notes r0) (outside_of f1 b.written b.notes r1))
   script_whole p =
       let es : List Entry = p.played.entries in
       let all : b.run.entries ≡ es = all_of es p.played.grew.grew in
@@ -442,7 +442,7 @@ module _ (count : ℕ) (request : Request) (script : CallScript) (blobs : List (
         heard = (p.rules_are, rw all p.played.heard);
       }
 
-  script_half : (h : Halt) → IsScriptHalfPlayed (script_inputs count script blobs) r1 a b → DidSome count h (ByScript script blobs) (outcome b.run.entries (Some b.run.engine) (outside_of f0 a.written a.notes r0) (outside_of f1 b.written b.notes r1))
+  script_half : (h : Halt) → IsScriptHalfPlayed (script_inputs count script blobs) r1 a b → IsSomeDone count h (ByScript script blobs) (outcome b.run.entries (Some b.run.engine) (outside_of f0 a.written a.notes r0) (outside_of f1 b.written b.notes r1))
   script_half h p =
       let es : List Entry = p.played.entries in
       let all : b.run.entries ≡ es = all_of es p.played.grew.grew in
@@ -459,7 +459,7 @@ module _ (count : ℕ) (request : Request) (script : CallScript) (blobs : List (
 
   -- it stopped in a line
   script_front : (end : Stop) (p : IsScriptStopped (script_inputs count script blobs) r1 a b end)
-      → RanFront count (ByScript script blobs) (outcome b.run.entries (Some b.run.engine) (outside_of f0 a.written a.notes r0) (outside_of f1 b.written b.notes r1))
+      → IsFrontRun count (ByScript script blobs) (outcome b.run.entries (Some b.run.engine) (outside_of f0 a.written a.notes r0) (outside_of f1 b.written b.notes r1))
   script_front end p =
       let es : List Entry = p.played.entries in
       let all : b.run.entries ≡ es = all_of es p.played.grew.grew in
@@ -470,7 +470,7 @@ module _ (count : ℕ) (request : Request) (script : CallScript) (blobs : List (
       }
 
   script_halted : (h : Halt) → IsScriptStopped (script_inputs count script blobs) r1 a b (stop.Halted h)
-      → DidSome count h (ByScript script blobs) (outcome b.run.entries (Some b.run.engine) (outside_of f0 a.written a.notes r0) (outside_of f1 b.written b.notes r1))
+      → IsSomeDone count h (ByScript script blobs) (outcome b.run.entries (Some b.run.engine) (outside_of f0 a.written a.notes r0) (outside_of f1 b.written b.notes r1))
   script_halted h p =
       let es : List Entry = p.played.entries in
       let all : b.run.entries ≡ es = all_of es p.played.grew.grew in
@@ -480,7 +480,7 @@ module _ (count : ℕ) (request : Request) (script : CallScript) (blobs : List (
         wrote = inl (rw all p.played.stopped.0);
       }
 
-  script_unplayed : (h : Halt) → IsScriptUnplayed a b → DidSome count h (ByScript script blobs) (outcome b.run.entries (Some b.run.engine) (outside_of f0 a.written a.notes r0) (outside_of f1 b.written b.notes r1))
+  script_unplayed : (h : Halt) → IsScriptUnplayed a b → IsSomeDone count h (ByScript script blobs) (outcome b.run.entries (Some b.run.engine) (outside_of f0 a.written a.notes r0) (outside_of f1 b.written b.notes r1))
   script_unplayed h p =
       let all : b.run.entries ≡ [] = ap (λ (r : RunView). r.entries) p.run ∙ fresh in
       let engine : b.run.engine ≡ a.run.engine = ap (λ (r : RunView). r.engine) p.run in
@@ -496,14 +496,14 @@ module _ (count : ℕ) (request : Request) (script : CallScript) (blobs : List (
       }
 
   script_short : (h : Halt) → IsScriptCutShort (script_inputs count script blobs) r1 a b h
-      → DidSome count h (ByScript script blobs) (outcome b.run.entries (Some b.run.engine) (outside_of f0 a.written a.notes r0) (outside_of f1 b.written b.notes r1))
+      → IsSomeDone count h (ByScript script blobs) (outcome b.run.entries (Some b.run.engine) (outside_of f0 a.written a.notes r0) (outside_of f1 b.written b.notes r1))
   script_short h (inl p) = script_unplayed h p
   script_short h (inr (inl p)) = script_halted h p
   script_short h (inr (inr p)) = script_half h p
 
   -- a listener made too many calls
   script_cut : (k : ℕ) (p : IsScriptStopped (script_inputs count script blobs) r1 a b (stop.CallBudget k))
-      → DidUpTo count (ByScript script blobs) (outcome b.run.entries (Some b.run.engine) (outside_of f0 a.written a.notes r0) (outside_of f1 b.written b.notes r1)) (CallBudget k)
+      → IsDoneUpTo count (ByScript script blobs) (outcome b.run.entries (Some b.run.engine) (outside_of f0 a.written a.notes r0) (outside_of f1 b.written b.notes r1)) (CallBudget k)
   script_cut k p =
       let es : List Entry = p.played.entries in
       let all : b.run.entries ≡ es = all_of es p.played.grew.grew in
@@ -514,7 +514,7 @@ module _ (count : ℕ) (request : Request) (script : CallScript) (blobs : List (
       }
 
   script_spent : (p : IsScriptStopped (script_inputs count script blobs) r1 a b stop.TaskBudget)
-      → DidUpTo count (ByScript script blobs) (outcome b.run.entries (Some b.run.engine) (outside_of f0 a.written a.notes r0) (outside_of f1 b.written b.notes r1)) (TaskBudget script.drain)
+      → IsDoneUpTo count (ByScript script blobs) (outcome b.run.entries (Some b.run.engine) (outside_of f0 a.written a.notes r0) (outside_of f1 b.written b.notes r1)) (TaskBudget script.drain)
   script_spent p =
       let es : List Entry = p.played.entries in
       let all : b.run.entries ≡ es = all_of es p.played.grew.grew in
@@ -525,13 +525,13 @@ module _ (count : ℕ) (request : Request) (script : CallScript) (blobs : List (
       }
 
   pub script_worked : (result : Result Bool End) → PlaysScript (script_inputs count script blobs) r1 a b result
-      → WorksOn count request (ByScript script blobs) (outcome b.run.entries (Some b.run.engine) (outside_of f0 a.written a.notes r0) (outside_of f1 b.written b.notes r1)) result
+      → IsTaskDone count request (ByScript script blobs) (outcome b.run.entries (Some b.run.engine) (outside_of f0 a.written a.notes r0) (outside_of f1 b.written b.notes r1)) result
   script_worked (Ok broken) p = record { ran = script_whole p.1; broken_is = p.0 }
   script_worked (Err Memory) p = inr (script_short halt.Memory p)
   script_worked (Err Write) p = script_short halt.Write p
   script_worked (Err (CallBudget k)) p = script_cut k p
   script_worked (Err (TaskBudget limit)) p =
-      subst (λ (x : ℕ). DidUpTo count (ByScript script blobs) (outcome b.run.entries (Some b.run.engine) (outside_of f0 a.written a.notes r0) (outside_of f1 b.written b.notes r1)) (TaskBudget x)) (sym p.0) (script_spent p.1)
+      subst (λ (x : ℕ). IsDoneUpTo count (ByScript script blobs) (outcome b.run.entries (Some b.run.engine) (outside_of f0 a.written a.notes r0) (outside_of f1 b.written b.notes r1)) (TaskBudget x)) (sym p.0) (script_spent p.1)
   script_worked (Err Words) p = absurd p
   script_worked (Err (NoFile name)) p = absurd p
   script_worked (Err (Read name)) p = absurd p
@@ -546,7 +546,7 @@ pub script_works : (table : Option Table) (f0 f1 : ℕ) (name : List ℕ) (scrip
     → IfSome table (λ files. script_loaded files name ≡ Ok script) → IfSome table (λ files. blobs_bytes files script.blobs ≡ Ok blobs)
     → Stands a.run.engine (opening_of (ByScript script blobs)) → a.run.entries ≡ []
     → PlaysScript (script_inputs count script blobs) r1 a b result
-    → OfCommand table name (Some Play) (λ request. Works count request (outcome b.run.entries (Some b.run.engine) (outside_of f0 a.written a.notes r0) (outside_of f1 b.written b.notes r1)) result)
+    → OfCommand table name (Some Play) (λ request. IsRequestDone count request (outcome b.run.entries (Some b.run.engine) (outside_of f0 a.written a.notes r0) (outside_of f1 b.written b.notes r1)) result)
 script_works None f0 f1 name script blobs a b count r0 r1 result read len is are stands fresh p =
     let request : Request = record { files = λ x. None; names = []; task = Ok (ByScript script blobs) } in
     (request, (read, len), script_worked count request script blobs a b f0 f1 r0 r1 stands fresh result p)

@@ -1,6 +1,7 @@
 -- What the words ask for, by the files of a library (docs/SCRIPTS.md, commands).
-use Rattle.std.specs.Prelude.{◌≡◌, ℕ, ◌^◌, pos, List, [], ◌∷◌, length, filter_map, Option, Some, None, ok_or, Result, Ok, Err, ⊤}
+use Rattle.std.specs.Prelude.{◌≡◌, ℕ, ◌^◌, pos, List, [], ◌∷◌, length, filter_map, Option, Some, None, Result, Ok, Err, ⊤}
 use Rattle.mse_outside.specs.Outside.{Table}
+use Rattle.bmff_boxes.specs.Reading.{◌>>=◌, need}
 use Rattle.bmff_write.specs.Made.{made_bytes}
 use Rattle.call_script.specs.declared.fault.ScriptFault.{ScriptFault}
 use Rattle.call_script.specs.declared.script.BlobText.{BlobText}
@@ -14,15 +15,9 @@ use Rattle.mse_commands.specs.declared.words.Command.{Command}
 use Rattle.mse_commands.specs.declared.words.Command.TheVariants.{Ranges, Pieces, Make, Play, Remux, Feed}
 use Rattle.mse_commands.specs.Words.{command_of, file_of}
 
--- what comes of one thing goes on with the next, up to the first end
-infixl 10 ◌>>=◌
-abbrev pub ◌>>=◌ : {A B : Type 0} → Result A End → (A → Result B End) → Result B End
-Ok x >>= f = f x
-Err end >>= f = Err end
-
 -- the bytes of a file
 abbrev pub loaded : Table → List ℕ → Result (List ℕ) End
-loaded files name = ok_or (files name) (NoFile name)
+loaded files name = need (NoFile name) (files name)
 
 -- those of the blobs of a script, up to the first file that is not there
 abbrev pub blob_bytes : Table → BlobText → Result (List ℕ) End

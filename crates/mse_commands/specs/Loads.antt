@@ -1,7 +1,7 @@
 -- Why something of a library was not loaded.
 use Rattle.std.specs.Prelude.{◌≡◌, ℕ, List, [], ◌∷◌, ◌++◌, All, Option, IsSome, IfSome, Result, Err, ⊤}
 use Rattle.bmff_write.specs.Made.{made_bytes}
-use Rattle.mse_outside.specs.Outside.{Table, Rose}
+use Rattle.mse_outside.specs.Outside.{Table, HasRisen}
 use Rattle.mse_commands.specs.declared.ending.End.{End}
 use Rattle.mse_commands.specs.declared.ending.End.TheVariants.{Memory, Write, Words, NoFile, Read, Script, CallBudget, TaskBudget}
 use Rattle.mse_commands.specs.declared.words.Command.{Command}
@@ -29,7 +29,7 @@ abbrev pub IsLoadEnd : {A : Type 0} → Option Table → Failures → List (List
     → (Table → Result A End) → End → Type 0
 IsLoadEnd table faults names told Memory = ⊤
 IsLoadEnd table faults names told (Read name) =
-    Rose faults.before faults.now × IfSome table (λ files. IsReached files names name)
+    HasRisen faults.before faults.now × IfSome table (λ files. IsReached files names name)
 IsLoadEnd table faults names told (NoFile name) = IfSome table (λ files. told files ≡ Err (NoFile name))
 IsLoadEnd table faults names told (Script fault) = ⊥
 IsLoadEnd table faults names told Write = ⊥

@@ -1,18 +1,18 @@
 -- How a run ends, by its words, the library and the sink.
 use Rattle.std.specs.Prelude.{◌≡◌, ◌⊎◌, ◌<◌, ℕ, List, [], ◌∷◌, ◌++◌, length, Option, Some, None, MatchOption, IsSome, IsErr, Result, Ok, Err, ⊤}
 use Rattle.std.specs.List.{filter}
-use Rattle.mse_outside.specs.Outside.{Rose}
+use Rattle.mse_outside.specs.Outside.{HasRisen}
 use Rattle.mse_calls.specs.declared.entry.Entry.{Entry}
 use Rattle.mse_calls.specs.declared.rules.Rule.{Rule}
 use Rattle.mse_engine.specs.Run.{Replays}
 use Rattle.mse_engine.specs.Sound.{AreSoundBehind}
-use Rattle.mse_engine.specs.Standing.{Kept, Stands}
+use Rattle.mse_engine.specs.Standing.{KeptEngine, Stands}
 use Rattle.listeners.specs.declared.listener.Note.{Note}
 use Rattle.remux.specs.Remuxed.{remuxed}
 use Rattle.script_run.specs.declared.stop.Halt.{Halt}
 use Rattle.script_run.specs.declared.stop.Halt.TheVariants as halt
 use Rattle.script_run.specs.declared.stop.Stop.TheVariants as stop
-use Rattle.script_run.specs.Plays.{IsHeardUpTo, IsOverLimit}
+use Rattle.script_run.specs.PlayedParts.{IsHeardUpTo, IsOverLimit}
 use Rattle.script_run.specs.Rules.{rules_at, rules_for}
 use Rattle.script_run.specs.NoteHistory.{IsAllHeard}
 use Rattle.script_run.specs.Turns.{IsSpentInLine}
@@ -41,22 +41,22 @@ outside_of faults written notes rules =
 -- what a run leaves: the journal, the engine, and what stands around the run before it and now
 pub record RunOutcome : Type 0 where
   pub entries : List Entry
-  pub engine : Option Kept
+  pub engine : Option KeptEngine
   pub before : Outside
   pub now : Outside
 
-abbrev pub outcome : List Entry → Option Kept → Outside → Outside → RunOutcome
+abbrev pub outcome : List Entry → Option KeptEngine → Outside → Outside → RunOutcome
 outcome entries engine before now =
     record { entries = entries; engine = engine; before = before; now = now }
 
 -- ---- the journal and the engine
 
 -- the engine stands for the state behind the last entry; where it was not made, there is none
-abbrev pub EngineStands : Task → List Entry → Option Kept → Type 0
+abbrev pub EngineStands : Task → List Entry → Option KeptEngine → Type 0
 EngineStands task entries engine = MatchOption engine (entries ≡ []) (λ kept. Stands kept (last_state task entries))
 
 -- a classic file needs no engine
-abbrev pub HasEngine : Task → List Entry → Option Kept → Type 0
+abbrev pub HasEngine : Task → List Entry → Option KeptEngine → Type 0
 HasEngine (ByRemux bytes) entries engine = engine ≡ None
 HasEngine task entries engine = EngineStands task entries engine
 
@@ -93,20 +93,20 @@ IsHeardTo other halt outcome = outcome.now.notes ≡ outcome.before.notes
 -- ---- what was run
 
 -- all of it, and the whole text was written
-pub record RanWhole (count : ℕ) (task : Task) (outcome : RunOutcome) : Type 0 where
+pub record IsWholeRun (count : ℕ) (task : Task) (outcome : RunOutcome) : Type 0 where
   pub run : IsRun task outcome
   pub all : IsAllOf count task outcome.entries
   pub wrote : IsWritten (text_of task outcome.entries) outcome.before.written outcome.now.written
   pub heard : IsHeard task outcome
 
 -- a front of it
-pub record RanFront (count : ℕ) (task : Task) (outcome : RunOutcome) : Type 0 where
+pub record IsFrontRun (count : ℕ) (task : Task) (outcome : RunOutcome) : Type 0 where
   pub run : IsRun task outcome
   pub front : IsFrontOf count task outcome.entries
   pub rules : HaveTheirRules task outcome
 
 -- nothing
-pub record RanNothing (outcome : RunOutcome) : Type 0 where
+pub record IsNothingRun (outcome : RunOutcome) : Type 0 where
   pub entries : outcome.entries ≡ []
   pub engine : outcome.engine ≡ None
   pub notes : outcome.now.notes ≡ outcome.before.notes
@@ -132,57 +132,57 @@ HasCause task outcome end = ⊥
 
 -- the lines, and the error line whose cause had come
 pub record EndsBy (count : ℕ) (task : Task) (outcome : RunOutcome) (end : End) : Type 0 where
-  pub ran : RanFront count task outcome
+  pub ran : IsFrontRun count task outcome
   pub cause : HasCause task outcome end
   pub wrote : IsWritten (shown_lines task outcome.entries ++ error_line end) outcome.before.written outcome.now.written
 
 -- a front of the lines; or, where all was run, of the whole text
-abbrev pub WroteText : ℕ → Task → RunOutcome → Type 0
-WroteText count task outcome =
+abbrev pub IsTextWritten : ℕ → Task → RunOutcome → Type 0
+IsTextWritten count task outcome =
     IsFrontWritten (shown_lines task outcome.entries) outcome.before.written outcome.now.written
     ⊎ (IsAllOf count task outcome.entries × IsFrontWritten (text_of task outcome.entries) outcome.before.written outcome.now.written)
 
 -- or of the lines and the error line whose cause had come
-abbrev pub WroteSome : ℕ → Task → RunOutcome → Type 0
-WroteSome count task outcome =
-    WroteText count task outcome
+abbrev pub IsSomeWritten : ℕ → Task → RunOutcome → Type 0
+IsSomeWritten count task outcome =
+    IsTextWritten count task outcome
     ⊎ ((end : End) × HasCause task outcome end
     × IsFrontWritten (shown_lines task outcome.entries ++ error_line end) outcome.before.written outcome.now.written)
 
 -- the library failed to read a file of this name, which is one of those that are loaded, behind others that are there
-pub record FailedRead (request : Request) (outcome : RunOutcome) : Type 0 where
+pub record HasFailedRead (request : Request) (outcome : RunOutcome) : Type 0 where
   pub name : List ℕ
-  pub rose : Rose outcome.before.faults outcome.now.faults
+  pub rose : HasRisen outcome.before.faults outcome.now.faults
   pub reached : IsReached request.files request.names name
 
 -- so says the line, and nothing was run
 pub record EndsByRead (request : Request) (outcome : RunOutcome) : Type 0 where
-  pub nothing : RanNothing outcome
-  pub cause : FailedRead request outcome
+  pub nothing : IsNothingRun outcome
+  pub cause : HasFailedRead request outcome
   pub wrote : IsWritten (error_line (Read cause.name)) outcome.before.written outcome.now.written
 
 -- nothing was run, and nothing was written, or a front of the line of a read that failed
-pub record SaidSome (request : Request) (outcome : RunOutcome) : Type 0 where
-  pub nothing : RanNothing outcome
+pub record IsSomeSaid (request : Request) (outcome : RunOutcome) : Type 0 where
+  pub nothing : IsNothingRun outcome
   pub wrote : (outcome.now.written ≡ outcome.before.written)
-      ⊎ ((cause : FailedRead request outcome) × IsFrontWritten (error_line (Read cause.name)) outcome.before.written outcome.now.written)
+      ⊎ ((cause : HasFailedRead request outcome) × IsFrontWritten (error_line (Read cause.name)) outcome.before.written outcome.now.written)
 
 -- a front was run, and memory or the sink was wanting
-pub record RanShort (count : ℕ) (halt : Halt) (task : Task) (outcome : RunOutcome) : Type 0 where
-  pub ran : RanFront count task outcome
+pub record IsRunCutShort (count : ℕ) (halt : Halt) (task : Task) (outcome : RunOutcome) : Type 0 where
+  pub ran : IsFrontRun count task outcome
   pub heard : IsHeardTo task halt outcome
-  pub wrote : WroteSome count task outcome
+  pub wrote : IsSomeWritten count task outcome
 
 -- or nothing was run
 abbrev pub EndsShort : ℕ → Halt → Request → Task → RunOutcome → Type 0
-EndsShort count halt request task outcome = RanShort count halt task outcome ⊎ SaidSome request outcome
+EndsShort count halt request task outcome = IsRunCutShort count halt task outcome ⊎ IsSomeSaid request outcome
 
 -- ---- by the status
 
 -- how a run ends that has something to run
 abbrev pub EndsRun : ℕ → Request → Task → RunOutcome → Status → Type 0
-EndsRun count request task outcome status.Ok = RanWhole count task outcome × ¬ IsBroken task outcome.entries
-EndsRun count request task outcome status.Media = RanWhole count task outcome × IsBroken task outcome.entries
+EndsRun count request task outcome status.Ok = IsWholeRun count task outcome × ¬ IsBroken task outcome.entries
+EndsRun count request task outcome status.Media = IsWholeRun count task outcome × IsBroken task outcome.entries
 EndsRun count request task outcome status.CallBudget = (k : ℕ) × EndsBy count task outcome (CallBudget k)
 EndsRun count request task outcome status.TaskBudget = (limit : ℕ) × EndsBy count task outcome (TaskBudget limit)
 EndsRun count request task outcome status.Read = EndsByRead request outcome
@@ -193,21 +193,21 @@ EndsRun count request task outcome status.Script = ⊥
 EndsRun count request task outcome status.NoFile = ⊥
 
 -- nothing was run, and a front of this line was written
-pub record SaidFront (end : End) (outcome : RunOutcome) : Type 0 where
-  pub nothing : RanNothing outcome
+pub record IsFrontSaid (end : End) (outcome : RunOutcome) : Type 0 where
+  pub nothing : IsNothingRun outcome
   pub wrote : IsFrontWritten (error_line end) outcome.before.written outcome.now.written
 
 -- nothing was run, and this line was written
-pub record Said (end : End) (outcome : RunOutcome) : Type 0 where
-  pub nothing : RanNothing outcome
+pub record IsSaid (end : End) (outcome : RunOutcome) : Type 0 where
+  pub nothing : IsNothingRun outcome
   pub wrote : IsWritten (error_line end) outcome.before.written outcome.now.written
 
 -- how one ends that has nothing to run: it says why, unless the library or the sink fails or memory is wanting
 abbrev pub EndsWith : Request → End → RunOutcome → Status → Type 0
 EndsWith request end outcome status.Read = EndsByRead request outcome
-EndsWith request end outcome status.Write = SaidFront end outcome ⊎ SaidSome request outcome
-EndsWith request end outcome status.Memory = SaidFront end outcome ⊎ SaidSome request outcome
-EndsWith request end outcome other = (other ≡ status_of end) × Said end outcome
+EndsWith request end outcome status.Write = IsFrontSaid end outcome ⊎ IsSomeSaid request outcome
+EndsWith request end outcome status.Memory = IsFrontSaid end outcome ⊎ IsSomeSaid request outcome
+EndsWith request end outcome other = (other ≡ status_of end) × IsSaid end outcome
 
 abbrev pub EndsBehind : ℕ → Request → Result Task End → RunOutcome → Status → Type 0
 EndsBehind count request (Ok task) outcome end = EndsRun count request task outcome end

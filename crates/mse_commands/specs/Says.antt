@@ -8,20 +8,20 @@ use Rattle.mse_commands.specs.declared.ending.Status.TheVariants as status
 use Rattle.mse_commands.specs.Endings.{error_line, status_of}
 
 -- a front of the line was written, for want of memory or of the sink
-pub record SaidHalf (end : End) (old new : Option (List ℕ)) (said : Status) : Type 0 where
+pub record IsHalfSaid (end : End) (old new : Option (List ℕ)) (said : Status) : Type 0 where
   pub wanting : (said ≡ status.Write) ⊎ (said ≡ status.Memory)
   pub wrote : IsFrontWritten (error_line end) old new
 
 -- the status is that of the end, and its line was written
-pub record SaidWhole (end : End) (old new : Option (List ℕ)) (said : Status) : Type 0 where
+pub record IsWholeSaid (end : End) (old new : Option (List ℕ)) (said : Status) : Type 0 where
   pub status_is : said ≡ status_of end
   pub wrote : IsWritten (error_line end) old new
 
-abbrev pub SaysLine : End → Option (List ℕ) → Option (List ℕ) → Status → Type 0
-SaysLine end old new said = SaidWhole end old new said ⊎ SaidHalf end old new said
+abbrev pub IsLineSaid : End → Option (List ℕ) → Option (List ℕ) → Status → Type 0
+IsLineSaid end old new said = IsWholeSaid end old new said ⊎ IsHalfSaid end old new said
 
 -- nothing is put after want of memory and a failed put
-abbrev pub Says : End → Option (List ℕ) → Option (List ℕ) → Status → Type 0
-Says Memory old new said = (said ≡ status.Memory) × (new ≡ old)
-Says Write old new said = (said ≡ status.Write) × (new ≡ old)
-Says other old new said = SaysLine other old new said
+abbrev pub IsEndSaid : End → Option (List ℕ) → Option (List ℕ) → Status → Type 0
+IsEndSaid Memory old new said = (said ≡ status.Memory) × (new ≡ old)
+IsEndSaid Write old new said = (said ≡ status.Write) × (new ≡ old)
+IsEndSaid other old new said = IsLineSaid other old new said

@@ -19,14 +19,14 @@ use Rattle.script_run.specs.declared.stop.Stop.TheVariants.{Halted}
 use Rattle.script_run.specs.Follows.{AreScriptLinesDone, AreScriptLinesBegun}
 use Rattle.script_run.specs.Lines.{Limits, limits}
 use Rattle.listeners.specs.Views.{RunView}
-use Rattle.script_run.specs.Plays.{PartFront, HasGrown, IsPlayed, IsPlayedUpTo, IsOwnStep, part_front}
+use Rattle.script_run.specs.PlayedParts.{PartFront, HasGrown, IsPlayed, IsPlayedUpTo, IsOwnStep, part_front}
 use Rattle.script_run.specs.RunStates.{PrintedRun, RunState}
 use Rattle.script_run.specs.Turns.{IsSpentInLine, calls_in}
 use Rattle.script_run.specs.Writes.{IsWritten, IsFrontWritten}
 use Rattle.mse_commands.specs.declared.ending.End.{End}
 use Rattle.mse_commands.specs.declared.ending.End.TheVariants.{Memory, Write, Words, NoFile, Read, Script, CallBudget, TaskBudget}
 use Rattle.mse_commands.specs.Asked.{Request, Task, ByScript, ByFile, ByRemux}
-use Rattle.mse_commands.specs.Outcomes.{FailedRead, HasCause, HaveRules, IsHeardTo, RunOutcome, RanFront, RanNothing, RanWhole, WroteText}
+use Rattle.mse_commands.specs.Outcomes.{HasFailedRead, HasCause, HaveRules, IsHeardTo, RunOutcome, IsFrontRun, IsNothingRun, IsWholeRun, IsTextWritten}
 use Rattle.mse_commands.specs.Shown.{IsWholeFile, file_closing, last_state, open_entries, pieces_by, shown_lines, text_of}
 use Rattle.mse_commands.specs.declared.words.Command.{Command}
 
@@ -168,48 +168,48 @@ broken_in (ByFile command bytes) entries = is_some (last_state (ByFile command b
 broken_in (ByRemux bytes) entries = is_err (remuxed bytes)
 
 -- nothing was run and nothing was written
-pub record DidNothing (outcome : RunOutcome) : Type 0 where
-  pub nothing : RanNothing outcome
+pub record IsNothingDone (outcome : RunOutcome) : Type 0 where
+  pub nothing : IsNothingRun outcome
   pub wrote : outcome.now.written ≡ outcome.before.written
 
 -- a front was run, and memory or the sink was wanting
-pub record DidSome (count : ℕ) (halt : Halt) (task : Task) (outcome : RunOutcome) : Type 0 where
-  pub ran : RanFront count task outcome
+pub record IsSomeDone (count : ℕ) (halt : Halt) (task : Task) (outcome : RunOutcome) : Type 0 where
+  pub ran : IsFrontRun count task outcome
   pub heard : IsHeardTo task halt outcome
-  pub wrote : WroteText count task outcome
+  pub wrote : IsTextWritten count task outcome
 
 -- it stopped for a cause, behind the lines of all its entries
-pub record DidUpTo (count : ℕ) (task : Task) (outcome : RunOutcome) (end : End) : Type 0 where
-  pub ran : RanFront count task outcome
+pub record IsDoneUpTo (count : ℕ) (task : Task) (outcome : RunOutcome) (end : End) : Type 0 where
+  pub ran : IsFrontRun count task outcome
   pub cause : HasCause task outcome end
   pub wrote : IsWritten (shown_lines task outcome.entries) outcome.before.written outcome.now.written
 
-pub record DidAll (count : ℕ) (task : Task) (outcome : RunOutcome) (broken : Bool) : Type 0 where
-  pub ran : RanWhole count task outcome
+pub record IsAllDone (count : ℕ) (task : Task) (outcome : RunOutcome) (broken : Bool) : Type 0 where
+  pub ran : IsWholeRun count task outcome
   pub broken_is : broken ≡ broken_in task outcome.entries
 
-abbrev pub WorksOn : ℕ → Request → Task → RunOutcome → Result Bool End → Type 0
-WorksOn count request task outcome (Ok broken) = DidAll count task outcome broken
-WorksOn count request task outcome (Err Memory) = DidNothing outcome ⊎ DidSome count halt.Memory task outcome
-WorksOn count request task outcome (Err Write) = DidSome count halt.Write task outcome
-WorksOn count request task outcome (Err (Read name)) = DidNothing outcome × ((cause : FailedRead request outcome) × (cause.name ≡ name))
-WorksOn count request task outcome (Err (CallBudget k)) = DidUpTo count task outcome (CallBudget k)
-WorksOn count request task outcome (Err (TaskBudget limit)) = DidUpTo count task outcome (TaskBudget limit)
-WorksOn count request task outcome (Err Words) = ⊥
-WorksOn count request task outcome (Err (NoFile name)) = ⊥
-WorksOn count request task outcome (Err (Script fault)) = ⊥
+abbrev pub IsTaskDone : ℕ → Request → Task → RunOutcome → Result Bool End → Type 0
+IsTaskDone count request task outcome (Ok broken) = IsAllDone count task outcome broken
+IsTaskDone count request task outcome (Err Memory) = IsNothingDone outcome ⊎ IsSomeDone count halt.Memory task outcome
+IsTaskDone count request task outcome (Err Write) = IsSomeDone count halt.Write task outcome
+IsTaskDone count request task outcome (Err (Read name)) = IsNothingDone outcome × ((cause : HasFailedRead request outcome) × (cause.name ≡ name))
+IsTaskDone count request task outcome (Err (CallBudget k)) = IsDoneUpTo count task outcome (CallBudget k)
+IsTaskDone count request task outcome (Err (TaskBudget limit)) = IsDoneUpTo count task outcome (TaskBudget limit)
+IsTaskDone count request task outcome (Err Words) = ⊥
+IsTaskDone count request task outcome (Err (NoFile name)) = ⊥
+IsTaskDone count request task outcome (Err (Script fault)) = ⊥
 
 -- there is nothing to run, for this end, unless the library failed before or there was no memory
-abbrev pub WorksNot : Request → End → RunOutcome → Result Bool End → Type 0
-WorksNot request end outcome (Ok broken) = ⊥
-WorksNot request end outcome (Err Memory) = DidNothing outcome
-WorksNot request end outcome (Err (Read name)) = DidNothing outcome × ((cause : FailedRead request outcome) × (cause.name ≡ name))
-WorksNot request end outcome (Err other) = DidNothing outcome × (other ≡ end)
+abbrev pub IsTaskMissing : Request → End → RunOutcome → Result Bool End → Type 0
+IsTaskMissing request end outcome (Ok broken) = ⊥
+IsTaskMissing request end outcome (Err Memory) = IsNothingDone outcome
+IsTaskMissing request end outcome (Err (Read name)) = IsNothingDone outcome × ((cause : HasFailedRead request outcome) × (cause.name ≡ name))
+IsTaskMissing request end outcome (Err other) = IsNothingDone outcome × (other ≡ end)
 
-abbrev pub WorksBy : ℕ → Request → Result Task End → RunOutcome → Result Bool End → Type 0
-WorksBy count request (Ok task) outcome result = WorksOn count request task outcome result
-WorksBy count request (Err end) outcome result = WorksNot request end outcome result
+abbrev pub IsRequestDoneBy : ℕ → Request → Result Task End → RunOutcome → Result Bool End → Type 0
+IsRequestDoneBy count request (Ok task) outcome result = IsTaskDone count request task outcome result
+IsRequestDoneBy count request (Err end) outcome result = IsTaskMissing request end outcome result
 
 -- what is done of what was asked for
-abbrev pub Works : ℕ → Request → RunOutcome → Result Bool End → Type 0
-Works count request outcome result = WorksBy count request request.task outcome result
+abbrev pub IsRequestDone : ℕ → Request → RunOutcome → Result Bool End → Type 0
+IsRequestDone count request outcome result = IsRequestDoneBy count request request.task outcome result

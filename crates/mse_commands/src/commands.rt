@@ -8,8 +8,8 @@ ghost use Rattle.mse_calls.specs.declared.rules.Rule.{Rule};
 ghost use Rattle.mse_engine.specs.State.{State};
 ghost use Rattle.mse_engine.specs.Standing.{Stands};
 ghost use Rattle.mse_engine.specs.Views.{view_in};
-ghost use Rattle.mse_outside.specs.Outside.{Rose};
-ghost use Rattle.script_run.specs.RunStates.{IsStanding, printed_run, run_at};
+ghost use Rattle.mse_outside.specs.Outside.{HasRisen};
+ghost use Rattle.script_run.specs.RunStates.{printed_run, run_at};
 ghost use Rattle.script_run.specs.Writes.{IsWritten, IsFrontWritten};
 ghost use Rattle.mse_commands.specs.Asked.{IsFileCommand, OfCommand, OfWords, file_by, files_by};
 ghost use Rattle.mse_commands.specs.Heading.{heading_of};
@@ -17,7 +17,7 @@ ghost use Rattle.mse_commands.specs.Loads.{IsMade, IsUnmade, IsLoadEnd, failures
 ghost use Rattle.mse_commands.specs.Outcomes.{outcome, outside_of};
 ghost use Rattle.mse_commands.specs.Shown.{file_closing, pieces_by};
 ghost use Rattle.mse_commands.specs.Words.{IsInRange, command_of};
-ghost use Rattle.mse_commands.specs.Works.{IsAppended, IsPartAppended, PlaysScript, ShowsFile, Works, script_inputs};
+ghost use Rattle.mse_commands.specs.Works.{IsAppended, IsPartAppended, PlaysScript, ShowsFile, IsRequestDone, script_inputs};
 
 use crate::ending::End;
 use crate::feeds::close_feed;
@@ -46,7 +46,7 @@ const QUOTA: u64 = 1 << 62;
 /// How many bytes each append of a made file has.
 const MADE_PIECE: usize = 1000;
 
-// What closes a run that went through, behind a text.
+/// What closes a run that went through, behind a text.
 fn close<S: FrameStore, K: Sink>(
     alloc: Global,
     engine: &Engine<S>,
@@ -60,8 +60,8 @@ fn close<S: FrameStore, K: Sink>(
     ensures err { (st : State) → Stands engine.now st
         → OnErr result (IsFrontWritten (string_bytes before ++ closing_text (view_in st) whole)
         (K.written sink.old) (K.written sink.new)) }
-    ensures later { K.faults sink.old ≤ K.faults sink.new }
-    ensures cause { IsErrOf result Halt.Write → Rose (K.faults sink.old) (K.faults sink.new) }
+    ensures no_fewer_faults { K.faults sink.old ≤ K.faults sink.new }
+    ensures cause { IsErrOf result Halt.Write → HasRisen (K.faults sink.old) (K.faults sink.new) }
 {
     let Ok(view) = engine.view() else {
         return Err(Halt::Memory);
@@ -76,15 +76,14 @@ fn close<S: FrameStore, K: Sink>(
     put_lines(sink, text.as_str())
 }
 
-// Appends a file as the command says.
+/// Appends a file as the command says.
 fn append_file<S: FrameStore>(
     alloc: Global,
     run: &mut ScriptRun<S>,
     command: &Command,
     file: Vec<u8>,
 ) -> Result<(), OutOfMemory>
-    requires range { IsInRange command.now }
-    requires standing { IsStanding run.old.engine }
+    requires { IsInRange command.now }
     ensures ok { OnOk result
         (IsAppended file.items (pieces_by command.now (length file.items)) run.old run.new) }
     ensures err { OnErr result
@@ -99,7 +98,7 @@ fn append_file<S: FrameStore>(
     }
 }
 
-// The bytes that a command appends: those of the file of that name, or those that it makes.
+/// The bytes that a command appends: those of the file of that name, or those that it makes.
 fn file_for<L: Library>(
     alloc: Global,
     library: &mut L,
@@ -115,7 +114,7 @@ fn file_for<L: Library>(
         (files_by name.now command.now) (λ files. file_by files name.now command.now)) }
     ensures made { IfOk result (λ bytes. IsMade command.now bytes.items) }
     ensures unmade { IfErr result (IsUnmade command.now) }
-    ensures later { L.faults library.old ≤ L.faults library.new }
+    ensures no_fewer_faults { L.faults library.old ≤ L.faults library.new }
 {
     match *command {
         Command::Ranges | Command::Pieces(_) | Command::Feed(_) | Command::Play | Command::Remux =>
@@ -130,7 +129,7 @@ fn file_for<L: Library>(
     }
 }
 
-// The block that closes a run with a file of `len` bytes.
+/// The block that closes a run with a file of `len` bytes.
 fn close_block<S: FrameStore, K: Sink>(
     alloc: Global,
     engine: &Engine<S>,
@@ -145,8 +144,8 @@ fn close_block<S: FrameStore, K: Sink>(
         → OnErr result (IsFrontWritten
         (heading_of command.now len ++ closing_text (view_in st) false)
         (K.written sink.old) (K.written sink.new)) }
-    ensures later { K.faults sink.old ≤ K.faults sink.new }
-    ensures cause { IsErrOf result Halt.Write → Rose (K.faults sink.old) (K.faults sink.new) }
+    ensures no_fewer_faults { K.faults sink.old ≤ K.faults sink.new }
+    ensures cause { IsErrOf result Halt.Write → HasRisen (K.faults sink.old) (K.faults sink.new) }
 {
     match heading(alloc, command, len) {
         Ok(before) => close(alloc, engine, sink, before, false),
@@ -154,7 +153,7 @@ fn close_block<S: FrameStore, K: Sink>(
     }
 }
 
-// What closes a run with a file of `len` bytes.
+/// What closes a run with a file of `len` bytes.
 fn close_file<S: FrameStore, K: Sink>(
     alloc: Global,
     engine: &Engine<S>,
@@ -168,8 +167,8 @@ fn close_file<S: FrameStore, K: Sink>(
     ensures err { (st : State) → Stands engine.now st
         → OnErr result (IsFrontWritten (file_closing command.now len st)
         (K.written sink.old) (K.written sink.new)) }
-    ensures later { K.faults sink.old ≤ K.faults sink.new }
-    ensures cause { IsErrOf result Halt.Write → Rose (K.faults sink.old) (K.faults sink.new) }
+    ensures no_fewer_faults { K.faults sink.old ≤ K.faults sink.new }
+    ensures cause { IsErrOf result Halt.Write → HasRisen (K.faults sink.old) (K.faults sink.new) }
 {
     match *command {
         Command::Feed(at) => close_feed(alloc, engine, sink, at),
@@ -181,8 +180,8 @@ fn close_file<S: FrameStore, K: Sink>(
     }
 }
 
-// Appends a file, and puts what is shown of the engine then. It answers whether the file breaks the
-// byte stream format.
+/// Appends a file, and puts what is shown of the engine then. It answers whether the file breaks the
+/// byte stream format.
 fn show_file<S: FrameStore, K: Sink>(
     alloc: Global,
     run: &mut ScriptRun<S>,
@@ -190,12 +189,12 @@ fn show_file<S: FrameStore, K: Sink>(
     command: &Command,
     file: Vec<u8>,
 ) -> Result<bool, End>
-    requires range { IsInRange command.now }
-    requires standing { IsStanding run.old.engine }
+    requires { IsInRange command.now }
     ensures shows { ShowsFile command.now file.items
-        (printed_run run.old (K.written sink.old)) (printed_run run.new (K.written sink.new)) result }
-    ensures later { K.faults sink.old ≤ K.faults sink.new }
-    ensures write { IsErrOf result End.Write → Rose (K.faults sink.old) (K.faults sink.new) }
+        (printed_run run.old (K.written sink.old)) (printed_run run.new (K.written sink.new))
+        result }
+    ensures no_fewer_faults { K.faults sink.old ≤ K.faults sink.new }
+    ensures write { IsErrOf result End.Write → HasRisen (K.faults sink.old) (K.faults sink.new) }
 {
     let len = file.len();
     let Ok(()) = append_file(alloc, run, command, file) else {
@@ -207,7 +206,7 @@ fn show_file<S: FrameStore, K: Sink>(
     }
 }
 
-// Plays a script over its blobs.
+/// Plays a script over its blobs.
 fn play_script<S: FrameStore, K: Sink>(
     alloc: Global,
     run: &mut ScriptRun<S>,
@@ -219,14 +218,13 @@ fn play_script<S: FrameStore, K: Sink>(
     requires listeners { vec_len listeners.old < 2 ^ 32 }
     requires fresh { (w : ℕ) → notes_at (map (λ b. notes b) listeners.old.items) w ≡ [] }
     requires lines { length script.steps < 2 ^ 32 }
-    requires standing { IsStanding run.old.engine }
     ensures plays { PlaysScript (script_inputs (vec_len listeners.old) script blobs.now)
         (map (λ b. rules b) listeners.new.items)
         (run_at run.old (K.written sink.old) (map (λ b. notes b) listeners.old.items))
         (run_at run.new (K.written sink.new) (map (λ b. notes b) listeners.new.items)) result }
     ensures count { vec_len listeners.new ≡ vec_len listeners.old }
-    ensures later { K.faults sink.old ≤ K.faults sink.new }
-    ensures write { IsErrOf result End.Write → Rose (K.faults sink.old) (K.faults sink.new) }
+    ensures no_fewer_faults { K.faults sink.old ≤ K.faults sink.new }
+    ensures write { IsErrOf result End.Write → HasRisen (K.faults sink.old) (K.faults sink.new) }
 {
     let limit = script.drain;
     let Ok(()) = give_rules(alloc, listeners, script.rules.into_vec()) else {
@@ -242,7 +240,7 @@ fn play_script<S: FrameStore, K: Sink>(
     }
 }
 
-// Hands out the engine and the journal of a run.
+/// Hands out the engine and the journal of a run.
 fn hand_out<S: FrameStore>(run: ScriptRun<S>, engine: &mut Option<Engine<S>>, journal: &mut Journal)
     ensures engine { engine.new ≡ Some run.engine }
     ensures entries { journal.new.entries ≡ run.entries }
@@ -252,7 +250,7 @@ fn hand_out<S: FrameStore>(run: ScriptRun<S>, engine: &mut Option<Engine<S>>, jo
     *journal = entries;
 }
 
-// A file by `ranges`, `pieces`, `make` or `feed`.
+/// A file by `ranges`, `pieces`, `make` or `feed`.
 fn run_file<S: FrameStore, L: Library, K: Sink>(
     alloc: Global,
     command: Command,
@@ -267,17 +265,18 @@ fn run_file<S: FrameStore, L: Library, K: Sink>(
     requires journal { journal.old.entries ≡ [] }
     requires engine { engine.old ≡ None }
     ensures works { (count : ℕ) (told : List (List Note)) (given : List (List Rule))
-        → OfCommand (L.table library.old) name.now (Some command) (λ request. Works count request
+        → OfCommand (L.table library.old) name.now (Some command) (λ request.
+        IsRequestDone count request
         (outcome journal.new.entries engine.new
         (outside_of (L.faults library.old) (K.written sink.old) told given)
         (outside_of (L.faults library.new) (K.written sink.new) told given))
         result) }
     ensures words { ¬ IsErrOf result End.Words }
-    ensures read_later { L.faults library.old ≤ L.faults library.new }
-    ensures later { K.faults sink.old ≤ K.faults sink.new }
-    ensures write { IsErrOf result End.Write → Rose (K.faults sink.old) (K.faults sink.new) }
+    ensures no_fewer_read_faults { L.faults library.old ≤ L.faults library.new }
+    ensures no_fewer_faults { K.faults sink.old ≤ K.faults sink.new }
+    ensures write { IsErrOf result End.Write → HasRisen (K.faults sink.old) (K.faults sink.new) }
     ensures read { (name : List ℕ) → IsErrOf result (End.Read name)
-        → Rose (L.faults library.old) (L.faults library.new) }
+        → HasRisen (L.faults library.old) (L.faults library.new) }
 {
     let file = match file_for(alloc, library, &command, name) {
         Ok(file) => file,
@@ -290,7 +289,7 @@ fn run_file<S: FrameStore, L: Library, K: Sink>(
     result
 }
 
-// The gap of a script, in ticks.
+/// The gap of a script, in ticks.
 fn gap_of(script: &Script) -> Ticks
     ensures { result ≡ pos script.now.gap }
 {
@@ -300,7 +299,7 @@ fn gap_of(script: &Script) -> Ticks
     }
 }
 
-// A script by `play`.
+/// A script by `play`.
 fn run_script<S: FrameStore, L: Library, K: Sink>(
     alloc: Global,
     name: &str,
@@ -315,7 +314,7 @@ fn run_script<S: FrameStore, L: Library, K: Sink>(
     requires journal { journal.old.entries ≡ [] }
     requires engine { engine.old ≡ None }
     ensures works { OfCommand (L.table library.old) name.now (Some Command.Play) (λ request.
-        Works (vec_len listeners.old) request
+        IsRequestDone (vec_len listeners.old) request
         (outcome journal.new.entries engine.new
         (outside_of (L.faults library.old) (K.written sink.old)
         (map (λ b. notes b) listeners.old.items) (map (λ b. rules b) listeners.old.items))
@@ -324,11 +323,11 @@ fn run_script<S: FrameStore, L: Library, K: Sink>(
         result) }
     ensures count { vec_len listeners.new ≡ vec_len listeners.old }
     ensures words { ¬ IsErrOf result End.Words }
-    ensures read_later { L.faults library.old ≤ L.faults library.new }
-    ensures later { K.faults sink.old ≤ K.faults sink.new }
-    ensures write { IsErrOf result End.Write → Rose (K.faults sink.old) (K.faults sink.new) }
+    ensures no_fewer_read_faults { L.faults library.old ≤ L.faults library.new }
+    ensures no_fewer_faults { K.faults sink.old ≤ K.faults sink.new }
+    ensures write { IsErrOf result End.Write → HasRisen (K.faults sink.old) (K.faults sink.new) }
     ensures read { (name : List ℕ) → IsErrOf result (End.Read name)
-        → Rose (L.faults library.old) (L.faults library.new) }
+        → HasRisen (L.faults library.old) (L.faults library.new) }
 {
     let script = match load_script(alloc, library, name) {
         Ok(script) => script,
@@ -345,7 +344,7 @@ fn run_script<S: FrameStore, L: Library, K: Sink>(
     result
 }
 
-// What a command asks for.
+/// What a command asks for.
 fn run_command<S: FrameStore, L: Library, K: Sink>(
     alloc: Global,
     command: Command,
@@ -362,7 +361,7 @@ fn run_command<S: FrameStore, L: Library, K: Sink>(
     requires journal { journal.old.entries ≡ [] }
     requires engine { engine.old ≡ None }
     ensures works { OfCommand (L.table library.old) name.now (Some command) (λ request.
-        Works (vec_len listeners.old) request
+        IsRequestDone (vec_len listeners.old) request
         (outcome journal.new.entries engine.new
         (outside_of (L.faults library.old) (K.written sink.old)
         (map (λ b. notes b) listeners.old.items) (map (λ b. rules b) listeners.old.items))
@@ -371,11 +370,11 @@ fn run_command<S: FrameStore, L: Library, K: Sink>(
         result) }
     ensures count { vec_len listeners.new ≡ vec_len listeners.old }
     ensures words { ¬ IsErrOf result End.Words }
-    ensures read_later { L.faults library.old ≤ L.faults library.new }
-    ensures later { K.faults sink.old ≤ K.faults sink.new }
-    ensures write { IsErrOf result End.Write → Rose (K.faults sink.old) (K.faults sink.new) }
+    ensures no_fewer_read_faults { L.faults library.old ≤ L.faults library.new }
+    ensures no_fewer_faults { K.faults sink.old ≤ K.faults sink.new }
+    ensures write { IsErrOf result End.Write → HasRisen (K.faults sink.old) (K.faults sink.new) }
     ensures read { (name : List ℕ) → IsErrOf result (End.Read name)
-        → Rose (L.faults library.old) (L.faults library.new) }
+        → HasRisen (L.faults library.old) (L.faults library.new) }
 {
     match command {
         Command::Play => run_script(alloc, name, library, sink, listeners, engine, journal),
@@ -402,7 +401,7 @@ pub fn work<S: FrameStore, L: Library, K: Sink>(
     requires journal { journal.old.entries ≡ [] }
     requires engine { engine.old ≡ None }
     ensures works { OfWords (L.table library.old) (map string_bytes words.now) (λ request.
-        Works (vec_len listeners.old) request
+        IsRequestDone (vec_len listeners.old) request
         (outcome journal.new.entries engine.new
         (outside_of (L.faults library.old) (K.written sink.old)
         (map (λ b. notes b) listeners.old.items) (map (λ b. rules b) listeners.old.items))
@@ -411,11 +410,11 @@ pub fn work<S: FrameStore, L: Library, K: Sink>(
         result) }
     ensures count { vec_len listeners.new ≡ vec_len listeners.old }
     ensures words { IsErrOf result End.Words → command_of (map string_bytes words.now) ≡ None }
-    ensures read_later { L.faults library.old ≤ L.faults library.new }
-    ensures later { K.faults sink.old ≤ K.faults sink.new }
-    ensures write { IsErrOf result End.Write → Rose (K.faults sink.old) (K.faults sink.new) }
+    ensures no_fewer_read_faults { L.faults library.old ≤ L.faults library.new }
+    ensures no_fewer_faults { K.faults sink.old ≤ K.faults sink.new }
+    ensures write { IsErrOf result End.Write → HasRisen (K.faults sink.old) (K.faults sink.new) }
     ensures read { (name : List ℕ) → IsErrOf result (End.Read name)
-        → Rose (L.faults library.old) (L.faults library.new) }
+        → HasRisen (L.faults library.old) (L.faults library.new) }
 {
     let name = file_name(words);
     match read_command(words) {

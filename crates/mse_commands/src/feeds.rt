@@ -5,7 +5,7 @@ ghost use Rattle.feed_lines.specs.Lines.{feed_text};
 ghost use Rattle.event_text.specs.Block.{fault_lines};
 ghost use Rattle.mse_engine.specs.State.{State};
 ghost use Rattle.mse_engine.specs.Standing.{Stands};
-ghost use Rattle.mse_outside.specs.Outside.{Rose};
+ghost use Rattle.mse_outside.specs.Outside.{HasRisen};
 ghost use Rattle.script_run.specs.Writes.{IsWritten, IsFrontWritten};
 ghost use Rattle.mse_commands.specs.Feeds.{feed_closing, feeds_in, tracks_in};
 
@@ -19,7 +19,7 @@ use script_run::{Halt, put_bytes};
 use std::alloc::Global;
 use track_store::FrameStore;
 
-// How many tracks the source buffer has.
+/// How many tracks the source buffer has.
 fn track_count<S: FrameStore>(engine: &Engine<S>) -> Result<usize, OutOfMemory>
     ensures { (st : State) → Stands engine.now st
         → IfOk result (λ count. count ≡ length (tracks_in st)) }
@@ -39,7 +39,7 @@ fn track_count<S: FrameStore>(engine: &Engine<S>) -> Result<usize, OutOfMemory>
     }
 }
 
-// Puts the lines of the track at a place from a time on, where there is one.
+/// Puts the lines of the track at a place from a time on, where there is one.
 fn put_track<S: FrameStore, K: Sink>(
     alloc: Global,
     engine: &Engine<S>,
@@ -53,9 +53,10 @@ fn put_track<S: FrameStore, K: Sink>(
     ensures err { (st : State) → Stands engine.now st
         → OnErr result (IfSome (slice_get (tracks_in st) i)
         (λ t. IsFrontWritten (feed_text at t) (K.written sink.old) (K.written sink.new))) }
-    ensures later { K.faults sink.old ≤ K.faults sink.new }
-    ensures cause { IsErrOf result Halt.Write → Rose (K.faults sink.old) (K.faults sink.new) }
+    ensures no_fewer_faults { K.faults sink.old ≤ K.faults sink.new }
+    ensures cause { IsErrOf result Halt.Write → HasRisen (K.faults sink.old) (K.faults sink.new) }
 {
+    // The proof reads off this that the track is sound.
     engine.sound();
     match engine.track(0, i) {
         Some(track) => put_feeds(alloc, sink, track, at),
@@ -63,7 +64,7 @@ fn put_track<S: FrameStore, K: Sink>(
     }
 }
 
-// Puts the lines of each track from a time on.
+/// Puts the lines of each track from a time on.
 fn put_tracks<S: FrameStore, K: Sink>(
     alloc: Global,
     engine: &Engine<S>,
@@ -74,8 +75,8 @@ fn put_tracks<S: FrameStore, K: Sink>(
         → OnOk result (IsWritten (feeds_in at st) (K.written sink.old) (K.written sink.new)) }
     ensures err { (st : State) → Stands engine.now st
         → OnErr result (IsFrontWritten (feeds_in at st) (K.written sink.old) (K.written sink.new)) }
-    ensures later { K.faults sink.old ≤ K.faults sink.new }
-    ensures cause { IsErrOf result Halt.Write → Rose (K.faults sink.old) (K.faults sink.new) }
+    ensures no_fewer_faults { K.faults sink.old ≤ K.faults sink.new }
+    ensures cause { IsErrOf result Halt.Write → HasRisen (K.faults sink.old) (K.faults sink.new) }
 {
     let Ok(count) = track_count(engine) else {
         return Err(Halt::Memory);
@@ -89,14 +90,14 @@ fn put_tracks<S: FrameStore, K: Sink>(
     Ok(())
 }
 
-// Puts the line of the first fault, if there is one.
+/// Puts the line of the first fault, if there is one.
 fn put_fault<K: Sink>(alloc: Global, sink: &mut K, fault: Option<FaultView>) -> Result<(), Halt>
     ensures ok { OnOk result (IsWritten (fault_lines fault) (K.written sink.old)
         (K.written sink.new)) }
     ensures err { OnErr result (IsFrontWritten (fault_lines fault) (K.written sink.old)
         (K.written sink.new)) }
-    ensures later { K.faults sink.old ≤ K.faults sink.new }
-    ensures cause { IsErrOf result Halt.Write → Rose (K.faults sink.old) (K.faults sink.new) }
+    ensures no_fewer_faults { K.faults sink.old ≤ K.faults sink.new }
+    ensures cause { IsErrOf result Halt.Write → HasRisen (K.faults sink.old) (K.faults sink.new) }
 {
     let Some(fault) = fault else {
         return Ok(());
@@ -119,8 +120,8 @@ pub fn close_feed<S: FrameStore, K: Sink>(
     ensures err { (st : State) → Stands engine.now st
         → OnErr result (IsFrontWritten (feed_closing at st) (K.written sink.old)
         (K.written sink.new)) }
-    ensures later { K.faults sink.old ≤ K.faults sink.new }
-    ensures cause { IsErrOf result Halt.Write → Rose (K.faults sink.old) (K.faults sink.new) }
+    ensures no_fewer_faults { K.faults sink.old ≤ K.faults sink.new }
+    ensures cause { IsErrOf result Halt.Write → HasRisen (K.faults sink.old) (K.faults sink.new) }
 {
     match put_tracks(alloc, engine, sink, at) {
         Ok(()) => {}

@@ -2,8 +2,7 @@
 
 ghost use Rattle.std.specs.Prelude.{◌≡◌, ◌≤◌, ◌∷◌, [], Some, length, IfOk, OnOk, OnErr};
 ghost use Rattle.mse_calls.specs.declared.answers.Answer.{Answer};
-ghost use Rattle.script_run.specs.Plays.{IsOwnStep};
-ghost use Rattle.script_run.specs.RunStates.{IsStanding};
+ghost use Rattle.script_run.specs.PlayedParts.{IsOwnStep};
 ghost use Rattle.mse_commands.specs.Shown.{append_entry, pieces_of, whole_piece};
 ghost use Rattle.mse_commands.specs.Works.{IsAppended, IsPartAppended, IsOpened, IsFrontOpened};
 
@@ -13,7 +12,7 @@ use script_run::ScriptRun;
 use std::alloc::Global;
 use track_store::FrameStore;
 
-// Opens the source, and adds a source buffer of ISO BMFF.
+/// Opens the source, and adds a source buffer of ISO BMFF.
 fn open<S: FrameStore>(
     alloc: Global,
     run: &mut ScriptRun<S>,
@@ -34,7 +33,7 @@ fn open<S: FrameStore>(
     Ok(())
 }
 
-// The file as the one blob.
+/// The file as the one blob.
 fn blobs_of(alloc: Global, file: Vec<u8>) -> Result<Blobs, OutOfMemory>
     ensures { IfOk result (λ blobs. blobs ≡ file.items ∷ []) }
 {
@@ -43,7 +42,7 @@ fn blobs_of(alloc: Global, file: Vec<u8>) -> Result<Blobs, OutOfMemory>
     Ok(blobs)
 }
 
-// Appends a piece of the file.
+/// Appends a piece of the file.
 fn append<S: FrameStore>(
     run: &mut ScriptRun<S>,
     blobs: &Blobs,
@@ -65,7 +64,6 @@ pub fn append_whole<S: FrameStore>(
     run: &mut ScriptRun<S>,
     file: Vec<u8>,
 ) -> Result<(), OutOfMemory>
-    requires { IsStanding run.old.engine }
     ensures ok { OnOk result (IsAppended file.items (whole_piece ∷ []) run.old run.new) }
     ensures err { OnErr result (IsPartAppended file.items (whole_piece ∷ []) run.old run.new) }
 {
@@ -93,7 +91,7 @@ pub fn append_whole<S: FrameStore>(
     Ok(())
 }
 
-// The piece of the file at a place.
+/// The piece of the file at a place.
 fn piece_at(at: usize, count: usize) -> Piece
     ensures { result ≡ record { blob = 0; part = Some (at, count) } }
 {
@@ -111,8 +109,7 @@ pub fn append_pieces<S: FrameStore>(
     file: Vec<u8>,
     size: usize,
 ) -> Result<(), OutOfMemory>
-    requires size { 1 ≤ size }
-    requires standing { IsStanding run.old.engine }
+    requires { 1 ≤ size }
     ensures ok { OnOk result
         (IsAppended file.items (pieces_of size (length file.items)) run.old run.new) }
     ensures err { OnErr result

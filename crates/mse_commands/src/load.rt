@@ -1,7 +1,7 @@
 //! Files, scripts and blobs of the library.
 
 ghost use Rattle.std.specs.Prelude.{◌≡◌, ◌≤◌, ◌⊎◌, ◌∷◌, [], ℕ, length, Ok, IfSome, IfOk, IfErr};
-ghost use Rattle.mse_outside.specs.Outside.{Rose};
+ghost use Rattle.mse_outside.specs.Outside.{HasRisen};
 ghost use Rattle.mse_commands.specs.Asked.{IsReadOf, blob_bytes, blobs_bytes, files_in, loaded, script_loaded};
 ghost use Rattle.mse_commands.specs.Loads.{IsLoadEnd, IsScriptEnd, failures};
 
@@ -12,7 +12,7 @@ use mse_calls::Blobs;
 use mse_outside::{Library, Loaded};
 use std::alloc::Global;
 
-// The file of this name is not there.
+/// The file of this name is not there.
 fn no_file(alloc: Global, name: &str) -> End
     ensures { (result ≡ End.Memory) ⊎ (result ≡ End.NoFile name.now) }
 {
@@ -22,7 +22,7 @@ fn no_file(alloc: Global, name: &str) -> End
     }
 }
 
-// The library failed to read the file of this name.
+/// The library failed to read the file of this name.
 fn read_failed(alloc: Global, name: &str) -> End
     ensures { (result ≡ End.Memory) ⊎ (result ≡ End.Read name.now) }
 {
@@ -33,6 +33,9 @@ fn read_failed(alloc: Global, name: &str) -> End
 }
 
 /// The bytes of a file.
+///
+/// `NoFile` where the library has no file of this name, `Read` where it failed to read it, and
+/// `Memory`.
 pub fn load<L: Library>(alloc: Global, library: &mut L, name: &str) -> Result<Vec<u8>, End>
     ensures table { L.table library.new ≡ L.table library.old }
     ensures ok { IfSome (L.table library.old) (λ files.
@@ -40,7 +43,7 @@ pub fn load<L: Library>(alloc: Global, library: &mut L, name: &str) -> Result<Ve
     ensures end { IfErr result (IsLoadEnd (L.table library.old)
         (failures (L.faults library.old) (L.faults library.new))
         (name.now ∷ []) (λ files. loaded files name.now)) }
-    ensures later { L.faults library.old ≤ L.faults library.new }
+    ensures no_fewer_faults { L.faults library.old ≤ L.faults library.new }
 {
     let mut bytes = Vec::new(alloc);
     match library.load(name, &mut bytes) {
@@ -52,6 +55,8 @@ pub fn load<L: Library>(alloc: Global, library: &mut L, name: &str) -> Result<Ve
 }
 
 /// The script of a file.
+///
+/// As `load`; and `Script`, with its fault, where the bytes are no script.
 pub fn load_script<L: Library>(alloc: Global, library: &mut L, name: &str) -> Result<Script, End>
     ensures table { L.table library.new ≡ L.table library.old }
     ensures ok { IfSome (L.table library.old) (λ files.
@@ -59,7 +64,7 @@ pub fn load_script<L: Library>(alloc: Global, library: &mut L, name: &str) -> Re
     ensures read { IfOk result (λ made. IsReadOf (Ok made)) }
     ensures end { IfErr result (IsScriptEnd (L.table library.old)
         (failures (L.faults library.old) (L.faults library.new)) name.now) }
-    ensures later { L.faults library.old ≤ L.faults library.new }
+    ensures no_fewer_faults { L.faults library.old ≤ L.faults library.new }
 {
     let bytes = match load(alloc, library, name) {
         Ok(bytes) => bytes,
@@ -72,7 +77,7 @@ pub fn load_script<L: Library>(alloc: Global, library: &mut L, name: &str) -> Re
     }
 }
 
-// The bytes of a blob.
+/// The bytes of a blob.
 fn load_blob<L: Library>(alloc: Global, library: &mut L, text: &BlobText) -> Result<Bytes, End>
     ensures table { L.table library.new ≡ L.table library.old }
     ensures ok { IfSome (L.table library.old) (λ files.
@@ -80,7 +85,7 @@ fn load_blob<L: Library>(alloc: Global, library: &mut L, text: &BlobText) -> Res
     ensures end { IfErr result (IsLoadEnd (L.table library.old)
         (failures (L.faults library.old) (L.faults library.new))
         (files_in (text.now ∷ [])) (λ files. blob_bytes files text.now)) }
-    ensures later { L.faults library.old ≤ L.faults library.new }
+    ensures no_fewer_faults { L.faults library.old ≤ L.faults library.new }
 {
     match text {
         BlobText::File(name) => match load(alloc, library, name.as_str()) {
@@ -97,7 +102,10 @@ fn load_blob<L: Library>(alloc: Global, library: &mut L, text: &BlobText) -> Res
     }
 }
 
-/// The bytes of the blobs of a script, in their order.
+/// The bytes of the blobs of a script, in their order: those of files, and those that stand in the
+/// script.
+///
+/// As `load`, of the first file that is wanting; the files behind are not read.
 pub fn load_blobs<L: Library>(
     alloc: Global,
     library: &mut L,
@@ -110,7 +118,7 @@ pub fn load_blobs<L: Library>(
     ensures end { IfErr result (IsLoadEnd (L.table library.old)
         (failures (L.faults library.old) (L.faults library.new))
         (files_in texts.now) (λ files. blobs_bytes files texts.now)) }
-    ensures later { L.faults library.old ≤ L.faults library.new }
+    ensures no_fewer_faults { L.faults library.old ≤ L.faults library.new }
 {
     let mut blobs = Blobs::new(alloc);
     for text in texts {

@@ -9,7 +9,7 @@ use mse_base::OutOfMemory;
 use remux::RemuxFault;
 use std::alloc::Global;
 
-// What is wrong with a classic file, by number.
+/// What is wrong with a classic file, by number.
 fn remux_number(fault: RemuxFault) -> u8
     ensures { result ≡ remux_number fault }
 {
@@ -26,7 +26,7 @@ fn remux_number(fault: RemuxFault) -> u8
     }
 }
 
-// Its name.
+/// Its name.
 fn remux_name(fault: RemuxFault) -> &'static str
     ensures { result.now ≡ remux_name fault }
 {
@@ -43,7 +43,7 @@ fn remux_name(fault: RemuxFault) -> &'static str
     }
 }
 
-// After a space, what is wrong in the movie box; nothing for another fault.
+/// After a space, what is wrong in the movie box; nothing for another fault.
 fn moov_text(alloc: Global, fault: RemuxFault) -> Result<String, OutOfMemory>
     ensures { IfOk result (λ text. string_bytes text ≡ moov_text fault) }
 {

@@ -4,13 +4,13 @@ ghost use Rattle.std.specs.Prelude.{◌≡◌, ◌≤◌, ℕ, List, [], None, S
 ghost use Rattle.std.specs.List.{flat_map};
 ghost use Rattle.listeners.specs.declared.listener.Note.{Note};
 ghost use Rattle.mse_calls.specs.declared.rules.Rule.{Rule};
-ghost use Rattle.mse_outside.specs.Outside.{Rose};
+ghost use Rattle.mse_outside.specs.Outside.{HasRisen};
 ghost use Rattle.remux.specs.Remuxed.{remuxed};
 ghost use Rattle.script_run.specs.Writes.{IsWritten, IsFrontWritten};
 ghost use Rattle.mse_commands.specs.Asked.{OfCommand};
 ghost use Rattle.mse_commands.specs.Outcomes.{outcome, outside_of};
 ghost use Rattle.mse_commands.specs.Remuxing.{remux_fault_line, remux_text};
-ghost use Rattle.mse_commands.specs.Works.{Works};
+ghost use Rattle.mse_commands.specs.Works.{IsRequestDone};
 
 use crate::ending::End;
 use crate::load::load;
@@ -22,14 +22,14 @@ use remux::{RemuxError, RemuxFault, remux};
 use script_run::{Halt, put_bytes};
 use std::alloc::Global;
 
-// Puts the pieces of a fragmented file, each with one put.
+/// Puts the pieces of a fragmented file, each with one put.
 fn put_pieces<K: Sink>(sink: &mut K, pieces: &[Bytes]) -> Result<(), Halt>
     ensures ok { OnOk result (IsWritten (flat_map (λ piece. piece) pieces.now)
         (K.written sink.old) (K.written sink.new)) }
     ensures err { OnErr result (IsFrontWritten (flat_map (λ piece. piece) pieces.now)
         (K.written sink.old) (K.written sink.new)) }
-    ensures later { K.faults sink.old ≤ K.faults sink.new }
-    ensures cause { IsErrOf result Halt.Write → Rose (K.faults sink.old) (K.faults sink.new) }
+    ensures no_fewer_faults { K.faults sink.old ≤ K.faults sink.new }
+    ensures cause { IsErrOf result Halt.Write → HasRisen (K.faults sink.old) (K.faults sink.new) }
 {
     for piece in pieces {
         match put_bytes(sink, piece.as_slice()) {
@@ -40,7 +40,7 @@ fn put_pieces<K: Sink>(sink: &mut K, pieces: &[Bytes]) -> Result<(), Halt>
     Ok(())
 }
 
-// Puts the line of a fault.
+/// Puts the line of a fault.
 fn put_fault<K: Sink>(
     alloc: Global,
     sink: &mut K,
@@ -51,8 +51,8 @@ fn put_fault<K: Sink>(
         (K.written sink.old) (K.written sink.new)) }
     ensures err { OnErr result (IsFrontWritten (remux_fault_line fault offset)
         (K.written sink.old) (K.written sink.new)) }
-    ensures later { K.faults sink.old ≤ K.faults sink.new }
-    ensures cause { IsErrOf result Halt.Write → Rose (K.faults sink.old) (K.faults sink.new) }
+    ensures no_fewer_faults { K.faults sink.old ≤ K.faults sink.new }
+    ensures cause { IsErrOf result Halt.Write → HasRisen (K.faults sink.old) (K.faults sink.new) }
 {
     match remux_fault_line(alloc, fault, offset) {
         Ok(line) => put_bytes(sink, line.as_bytes()),
@@ -60,25 +60,27 @@ fn put_fault<K: Sink>(
     }
 }
 
-// Puts a file as fragments, or the line of its fault. It answers whether it has one.
+/// Puts a file as fragments, or the line of its fault. It answers whether it has one.
 fn put_remuxed<K: Sink>(alloc: Global, sink: &mut K, file: &[u8]) -> Result<bool, Halt>
     ensures ok { IfOk result (λ broken. broken ≡ is_err (remuxed file.now)) }
     ensures wrote { OnOk result (IsWritten (remux_text file.now)
         (K.written sink.old) (K.written sink.new)) }
     ensures err { OnErr result (IsFrontWritten (remux_text file.now)
         (K.written sink.old) (K.written sink.new)) }
-    ensures later { K.faults sink.old ≤ K.faults sink.new }
-    ensures cause { IsErrOf result Halt.Write → Rose (K.faults sink.old) (K.faults sink.new) }
+    ensures no_fewer_faults { K.faults sink.old ≤ K.faults sink.new }
+    ensures cause { IsErrOf result Halt.Write → HasRisen (K.faults sink.old) (K.faults sink.new) }
 {
     match remux(alloc, file) {
         Ok(pieces) => match put_pieces(sink, pieces.as_slice()) {
             Ok(()) => Ok(false),
             Err(halt) => Err(halt),
         },
-        Err(RemuxError::Fault { fault, offset }) => match put_fault(alloc, sink, fault, offset) {
-            Ok(()) => Ok(true),
-            Err(halt) => Err(halt),
-        },
+        Err(RemuxError::Fault(placed)) => {
+            match put_fault(alloc, sink, placed.fault, placed.offset) {
+                Ok(()) => Ok(true),
+                Err(halt) => Err(halt),
+            }
+        }
         Err(RemuxError::OutOfMemory) => Err(Halt::Memory),
     }
 }
@@ -93,17 +95,17 @@ pub fn run_remux<L: Library, K: Sink>(
 ) -> Result<bool, End>
     ensures works { (count : ℕ) (told : List (List Note)) (given : List (List Rule))
         → OfCommand (L.table library.old) name.now (Some Command.Remux) (λ request.
-        Works count request
+        IsRequestDone count request
         (outcome [] None
         (outside_of (L.faults library.old) (K.written sink.old) told given)
         (outside_of (L.faults library.new) (K.written sink.new) told given))
         result) }
     ensures words { ¬ IsErrOf result End.Words }
-    ensures read_later { L.faults library.old ≤ L.faults library.new }
-    ensures later { K.faults sink.old ≤ K.faults sink.new }
-    ensures write { IsErrOf result End.Write → Rose (K.faults sink.old) (K.faults sink.new) }
+    ensures no_fewer_read_faults { L.faults library.old ≤ L.faults library.new }
+    ensures no_fewer_faults { K.faults sink.old ≤ K.faults sink.new }
+    ensures write { IsErrOf result End.Write → HasRisen (K.faults sink.old) (K.faults sink.new) }
     ensures read { (name : List ℕ) → IsErrOf result (End.Read name)
-        → Rose (L.faults library.old) (L.faults library.new) }
+        → HasRisen (L.faults library.old) (L.faults library.new) }
 {
     let file = match load(alloc, library, name) {
         Ok(file) => file,

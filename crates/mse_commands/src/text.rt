@@ -13,7 +13,7 @@ use event_text::printable;
 use mse_base::OutOfMemory;
 use std::alloc::Global;
 
-// The line of a file that was made of so many segments, with its length in bytes.
+/// The line of a file that was made of so many segments, with its length in bytes.
 fn made_line(alloc: Global, count: u32, len: usize) -> Result<String, OutOfMemory>
     ensures { IfOk result (λ line. string_bytes line ≡ made_line count len) }
 {
@@ -33,7 +33,7 @@ pub fn heading(alloc: Global, command: &Command, len: usize) -> Result<String, O
     }
 }
 
-// The words, the name as it is printed, and a line feed.
+/// The words, the name as it is printed, and a line feed.
 fn line_naming(alloc: Global, words: &str, name: &str) -> Result<String, OutOfMemory>
     ensures { IfOk result (λ line.
         string_bytes line ≡ words.now ++ (printable_text name.now ++ 10 ∷ [])) }
@@ -44,7 +44,7 @@ fn line_naming(alloc: Global, words: &str, name: &str) -> Result<String, OutOfMe
     Ok(line)
 }
 
-// The line of a script's fault.
+/// The line of a script's fault.
 fn script_line(alloc: Global, fault: &ScriptFault) -> Result<String, OutOfMemory>
     ensures { IfOk result (λ line. string_bytes line ≡ script_line fault.now) }
 {

@@ -2,12 +2,12 @@
 
 ghost use Rattle.std.specs.Prelude.{◌≡◌, ◌≤◌, ◌<◌, ◌⊎◌, ◌^◌, ℕ, [], None, IfSome, map, string_bytes, vec_len};
 ghost use Rattle.listeners.specs.Dispatch.{notes_at};
-ghost use Rattle.mse_outside.specs.Outside.{Rose};
+ghost use Rattle.mse_outside.specs.Outside.{HasRisen};
 ghost use Rattle.mse_commands.specs.Asked.{OfWords, asked};
 ghost use Rattle.mse_commands.specs.Complete.{IsCutAnywhere, IsComplete};
 ghost use Rattle.mse_commands.specs.Loads.{failures};
 ghost use Rattle.mse_commands.specs.Outcomes.{Ends, outcome, outside_of};
-ghost use Rattle.mse_commands.specs.Says.{Says, SaysLine};
+ghost use Rattle.mse_commands.specs.Says.{IsEndSaid, IsLineSaid};
 ghost use Rattle.mse_commands.specs.Words.{command_of};
 
 use crate::commands::work;
@@ -21,12 +21,12 @@ use script_run::put_bytes;
 use std::alloc::Global;
 use track_store::FrameStore;
 
-// Puts the line of an end.
+/// Puts the line of an end.
 fn say_line<K: Sink>(alloc: Global, sink: &mut K, end: &End) -> Status
-    ensures said { SaysLine end.now (K.written sink.old) (K.written sink.new) result }
+    ensures said { IsLineSaid end.now (K.written sink.old) (K.written sink.new) result }
     ensures write { result ≡ Status.Write
-        → (end.now ≡ End.Write) ⊎ Rose (K.faults sink.old) (K.faults sink.new) }
-    ensures later { K.faults sink.old ≤ K.faults sink.new }
+        → (end.now ≡ End.Write) ⊎ HasRisen (K.faults sink.old) (K.faults sink.new) }
+    ensures no_fewer_faults { K.faults sink.old ≤ K.faults sink.new }
 {
     let Ok(line) = error_line_for(alloc, end) else {
         return Status::Memory;
@@ -37,12 +37,12 @@ fn say_line<K: Sink>(alloc: Global, sink: &mut K, end: &End) -> Status
     }
 }
 
-// Says why a run ended early. After want of memory and a failed put nothing is put.
+/// Says why a run ended early. After want of memory and a failed put nothing is put.
 fn say<K: Sink>(alloc: Global, sink: &mut K, end: &End) -> Status
-    ensures says { Says end.now (K.written sink.old) (K.written sink.new) result }
+    ensures says { IsEndSaid end.now (K.written sink.old) (K.written sink.new) result }
     ensures write { result ≡ Status.Write
-        → (end.now ≡ End.Write) ⊎ Rose (K.faults sink.old) (K.faults sink.new) }
-    ensures later { K.faults sink.old ≤ K.faults sink.new }
+        → (end.now ≡ End.Write) ⊎ HasRisen (K.faults sink.old) (K.faults sink.new) }
+    ensures no_fewer_faults { K.faults sink.old ≤ K.faults sink.new }
 {
     match end {
         End::Memory => Status::Memory,
@@ -95,8 +95,8 @@ pub fn run<S: FrameStore, L: Library, K: Sink>(
         IsCutAnywhere (asked files (map string_bytes words.now)) journal.new.entries result) }
     ensures count { vec_len listeners.new ≡ vec_len listeners.old }
     ensures words { result ≡ Status.Words → command_of (map string_bytes words.now) ≡ None }
-    ensures read { result ≡ Status.Read → Rose (L.faults library.old) (L.faults library.new) }
-    ensures write { result ≡ Status.Write → Rose (K.faults sink.old) (K.faults sink.new) }
+    ensures read { result ≡ Status.Read → HasRisen (L.faults library.old) (L.faults library.new) }
+    ensures write { result ≡ Status.Write → HasRisen (K.faults sink.old) (K.faults sink.new) }
 {
     match work(alloc, words, library, sink, listeners, engine, journal) {
         Ok(false) => Status::Ok,

@@ -32,14 +32,14 @@ pub enum Command {
     Feed(Ticks),
 }
 
-// The number where it is not too great.
+/// The number where it is not too great.
 fn within(most: u32, count: u32) -> Option<u32>
     ensures { result ≡ number_within most count }
 {
     if count <= most { Some(count) } else { None }
 }
 
-// The number from 1 to `most` that a word names: decimal digits without leading zeros.
+/// The number from 1 to `most` that a word names: decimal digits without leading zeros.
 fn read_number(most: u32, word: &str) -> Option<u32>
     ensures value { result ≡ number_of most word.now }
     ensures bounds { IfSome result (λ count. (1 ≤ count) × (count ≤ most)) }
@@ -56,7 +56,7 @@ fn read_number(most: u32, word: &str) -> Option<u32>
     }
 }
 
-// The time that a word writes, where it is one of a number of ticks.
+/// The time that a word writes, where it is one of a number of ticks.
 fn finite_time(word: &str) -> Option<Ticks>
     ensures { result ≡ finite_time word.now }
 {
@@ -66,7 +66,7 @@ fn finite_time(word: &str) -> Option<Ticks>
     }
 }
 
-// What two words ask for.
+/// What two words ask for.
 fn command_of_two(name: &str, word: &str) -> Option<Command>
     ensures value { result ≡ command_of_two name.now word.now }
     ensures range { IfSome result IsInRange }
@@ -85,7 +85,7 @@ fn command_of_two(name: &str, word: &str) -> Option<Command>
     }
 }
 
-// What three words ask for, of which the last names a file.
+/// What three words ask for, of which the last names a file.
 fn command_of_three(name: &str, word: &str) -> Option<Command>
     ensures value { result ≡ command_of_three name.now word.now }
     ensures range { IfSome result IsInRange }

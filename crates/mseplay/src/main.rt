@@ -21,7 +21,7 @@ use std::io::ErrorKind;
 use std::process::ExitCode;
 use track_index::IndexStore;
 
-// The arguments after the program's name. Arguments that are no text are no words.
+/// The arguments after the program's name. Arguments that are no text are no words.
 fn arguments(rt: &HostRuntime) -> Result<Vec<String>, OutOfMemory> {
     let mut words = Vec::new(rt.alloc());
     match env::args(rt) {
@@ -39,14 +39,14 @@ fn arguments(rt: &HostRuntime) -> Result<Vec<String>, OutOfMemory> {
     Ok(words)
 }
 
-// A listener by rules that has heard nothing.
+/// A listener by rules that has heard nothing.
 fn listener(alloc: Global) -> Result<Box<RuleListener>, OutOfMemory>
     ensures { IfOk result (λ b. ⟦<RuleListener as Listener>⟧.notes b.value ≡ []) }
 {
     Ok(Box::new(alloc, RuleListener::new(alloc))?)
 }
 
-// Runs the words with sixteen listeners.
+/// Runs the words with sixteen listeners.
 fn start(rt: HostRuntime, words: &[String]) -> Result<Status, OutOfMemory> {
     let alloc = rt.alloc();
     let mut listeners: Vec<Box<dyn Listener>> = Vec::new(alloc);

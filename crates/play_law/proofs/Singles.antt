@@ -13,12 +13,12 @@ use Rattle.call_script.specs.declared.script.StepLine.TheVariants as step
 use Rattle.mse_engine.specs.State.{Core, State}
 use Rattle.mse_engine.specs.State.{Element as ElementPart}
 use Rattle.mse_engine.specs.Work.{after_work, after_element_turn, fire_result, running_in, due_in}
-use Rattle.mse_engine.specs.Run.{entry_meaning, step_meaning, fire_meaning, after_entries, Replays}
+use Rattle.mse_engine.specs.Run.{entry_meaning, step_meaning, fire_meaning, after_entries, Replays, fire_entries, entries_if}
 use Rattle.script_run.specs.DrainSteps.{IsDrain, IsNextStep, IsAtRest, AreInDrainOrder}
 use Rattle.script_run.specs.Turns.{ListenerTurn, first_turn, AreInTurn, calls_in}
-use Rattle.script_run.specs.Lines.{own_of, fired_of, done_of, Does, Limits, IsWithin, PlayInputs, play_inputs}
+use Rattle.script_run.specs.Lines.{own_of, IsLineEntries, Limits, IsWithin, PlayInputs, play_inputs}
 use Rattle.script_run.specs.Follows.{AreLinesDone}
-use Rattle.cut_law.specs.Plays.{after_entry, fired_entries, next_entry_by, next_entry, entries_behind, entries_then, drain_in, drain_entries, fire_entries, entries_if, line_entries, after_line, play_entries, play_of}
+use Rattle.cut_law.specs.Plays.{after_entry, fired_entries, next_entry_by, next_entry, entries_behind, entries_then, drain_in, drain_entries, line_entries, after_line, play_entries, play_of}
 use Rattle.cut_law.specs.Files.{after_piece}
 use Rattle.play_law.specs.Silent.{CutsAlike, IsSilentJournal}
 use Rattle.cut_law.proofs.Cutting.{cutting, recutting}
@@ -175,11 +175,11 @@ within limits xs q = record { few = omega (arith, q); turns = silent-turns limit
 
 -- the entries of a line do what the line says, replay, and have no listener's call
 pub record Done (blobs : List (List ℕ)) (st : State) (line : StepLine) (part : List Entry) : Type 0 where
-  pub does : Does blobs st line part
+  pub does : IsLineEntries blobs st line part
   pub quiet : calls_in part ≡ 0
   pub replays : Replays blobs st part
 
-fired-own : (o : Option (Answered Event State)) → own_of (fire_entries o) ≡ fired_of o
+fired-own : (o : Option (Answered Event State)) → own_of (fire_entries o) ≡ fire_entries o
 fired-own None = refl
 fired-own (Some a) = refl
 
@@ -191,11 +191,11 @@ fired-replays : (o : Option (Answered Event State)) (blobs : List (List ℕ)) (s
 fired-replays None blobs st e = tt
 fired-replays (Some a) blobs st e = (subst (λ o. (fire_meaning o a.answer st).holds) (sym e) refl, tt)
 
-if-work : (o : Option State) (k : ℕ) → (own_of (entries_if o (Work k)) ≡ done_of (Work k) o) × (calls_in (entries_if o (Work k)) ≡ 0)
+if-work : (o : Option State) (k : ℕ) → (own_of (entries_if o (Work k)) ≡ entries_if o (Work k)) × (calls_in (entries_if o (Work k)) ≡ 0)
 if-work None k = (refl, refl)
 if-work (Some new) k = (refl, refl)
 
-if-turn : (o : Option State) → (own_of (entries_if o Element) ≡ done_of Element o) × (calls_in (entries_if o Element) ≡ 0)
+if-turn : (o : Option State) → (own_of (entries_if o Element) ≡ entries_if o Element) × (calls_in (entries_if o Element) ≡ 0)
 if-turn None = (refl, refl)
 if-turn (Some new) = (refl, refl)
 
@@ -220,15 +220,11 @@ line-done blobs st step.Drain =
     let d = drained blobs st in
     record { does = record { order = d.order; end = d.end }; quiet = d.quiet; replays = d.replays }
 
-one-line : (blobs : List (List ℕ)) (st : State) (line : StepLine) (part : List Entry) → Does blobs st line part → Replays blobs st part → calls_in part ≡ 0 → part ≡ line_entries blobs st line
+one-line : (blobs : List (List ℕ)) (st : State) (line : StepLine) (part : List Entry) → IsLineEntries blobs st line part → Replays blobs st part → calls_in part ≡ 0 → part ≡ line_entries blobs st line
 one-line blobs st (step.Call call) part d r q = sym (own-all part q) ∙ d
-one-line blobs st step.Fire part d r q = sym (own-all part q) ∙ d ∙ sym (fired-own (fire_result st)) ∙ own-all (fire_entries (fire_result st)) (fired-quiet (fire_result st))
-one-line blobs st (step.Work k) part d r q =
-    let p = if-work (after_work k st) k in
-    sym (own-all part q) ∙ d ∙ sym p.0 ∙ own-all (entries_if (after_work k st) (Work k)) p.1
-one-line blobs st step.Element part d r q =
-    let p = if-turn (after_element_turn st) in
-    sym (own-all part q) ∙ d ∙ sym p.0 ∙ own-all (entries_if (after_element_turn st) Element) p.1
+one-line blobs st step.Fire part d r q = sym (own-all part q) ∙ d
+one-line blobs st (step.Work k) part d r q = sym (own-all part q) ∙ d
+one-line blobs st step.Element part d r q = sym (own-all part q) ∙ d
 one-line blobs st step.Drain part d r q = quiet-drain blobs st part d q
 
 -- ---- scripts

@@ -12,15 +12,15 @@ use Rattle.listeners.specs.declared.event_dispatch.DispatchFault.{DispatchFault}
 use Rattle.listeners.specs.declared.event_dispatch.DispatchFault.TheVariants as fault
 use Rattle.listeners.specs.Dispatch.{CallsInTurn, EndsAt, IsFault, TurnEnd, dispatch_end, turn_end_of}
 use Rattle.mse_engine.specs.State.{State}
-use Rattle.mse_engine.specs.Run.{entry_meaning}
+use Rattle.mse_engine.specs.Run.{entry_meaning, fire_entries, entries_if}
 use Rattle.mse_engine.specs.Work.{after_element_turn, after_work, fire_result}
 use Rattle.script_run.specs.declared.stop.Halt.{Halt}
 use Rattle.script_run.specs.declared.stop.Halt.TheVariants as halt
 use Rattle.script_run.specs.declared.stop.Stop.{Stop}
 use Rattle.script_run.specs.declared.stop.Stop.TheVariants.{Halted, CallBudget, TaskBudget}
 use Rattle.script_run.specs.DrainSteps.{AreInDrainOrder}
-use Rattle.script_run.specs.Lines.{Begins, done_of, fired_of, own_of}
-use Rattle.script_run.specs.Plays.{IsDispatchCut, IsHeardUpTo, IsOverLimit}
+use Rattle.script_run.specs.Lines.{IsLineFront, own_of}
+use Rattle.script_run.specs.PlayedParts.{IsDispatchCut, IsHeardUpTo, IsOverLimit}
 use Rattle.script_run.specs.NoteHistory.{IsAllHeard}
 use Rattle.script_run.specs.Turns.{AreInTurn, IsSpent, IsSpentInLine, steps_in}
 use Rattle.script_run.proofs.Telling.{cut_then}
@@ -112,15 +112,15 @@ own_steps (entry.Fired event ∷ es) = own_steps es
 own_steps (entry.Work k ∷ es) = own_steps es
 own_steps (entry.Element ∷ es) = own_steps es
 
-no_step_fired : (fired : Option (Answered Event State)) → steps_in (fired_of fired) ≡ 0
+no_step_fired : (fired : Option (Answered Event State)) → steps_in (fire_entries fired) ≡ 0
 no_step_fired None = refl
 no_step_fired (Some f) = refl
 
-no_step_worked : (k : ℕ) (st : Option State) → steps_in (done_of (entry.Work k) st) ≡ 0
+no_step_worked : (k : ℕ) (st : Option State) → steps_in (entries_if st (entry.Work k)) ≡ 0
 no_step_worked k None = refl
 no_step_worked k (Some st) = refl
 
-no_step_turned : (st : Option State) → steps_in (done_of entry.Element st) ≡ 0
+no_step_turned : (st : Option State) → steps_in (entries_if st entry.Element) ≡ 0
 no_step_turned None = refl
 no_step_turned (Some st) = refl
 
@@ -137,7 +137,7 @@ by_own : (es own : List Entry) → own_of es ≡ own → steps_in own ≡ 0 → 
 by_own es own e none = own_steps es ∙ ap steps_in e ∙ none
 
 -- a line has no number of another
-pub no_step_in_line : (blobs : List (List ℕ)) (st : State) (line : StepLine) (es : List Entry) → Begins blobs st line es → steps_in es ≡ 0
+pub no_step_in_line : (blobs : List (List ℕ)) (st : State) (line : StepLine) (es : List Entry) → IsLineFront blobs st line es → steps_in es ≡ 0
 no_step_in_line blobs st (step.Call call) es (inl e) = ap steps_in e
 no_step_in_line blobs st (step.Call call) es (inr e) = by_own es _ e refl
 no_step_in_line blobs st step.Fire es (inl e) = ap steps_in e

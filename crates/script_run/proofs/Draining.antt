@@ -8,50 +8,39 @@ use Rattle.mse_calls.specs.declared.entry.Entry.TheVariants.{Fired, Work, Elemen
 use Rattle.listeners.specs.declared.listener.Note.{Note}
 use Rattle.mse_engine.specs.State.{State}
 use Rattle.mse_engine.specs.declared.engine.Worked.TheVariants.{Did}
-use Rattle.mse_engine.specs.Standing.{IsWork, Kept, Stands}
+use Rattle.mse_engine.specs.Standing.{IsStanding, IsWork, KeptEngine, Stands}
 use Rattle.mse_engine.specs.Run.{after_entries, fire_meaning}
 use Rattle.mse_engine.specs.Work.{after_element_turn, due_in, running_in, without_first}
-use Rattle.mse_engine.specs.Transitions.{IsTransition}
 use Rattle.mse_engine.proofs.Transitions.{goes_none, goes_then}
 use Rattle.call_script.specs.declared.script.StepLine.TheVariants.{Fire, Drain}
 use Rattle.script_run.specs.declared.stop.Stop.{Stop}
 use Rattle.script_run.specs.DrainSteps.{AreInDrainOrder, IsAtRest, IsQuiet, HasNoEvent, element_step, work_step}
 use Rattle.script_run.specs.Progress.{IsCalm, HasFewerTurns}
-use Rattle.script_run.specs.Lines.{Begins, Does}
+use Rattle.script_run.specs.Lines.{IsLineFront, IsLineEntries}
 use Rattle.listeners.specs.Views.{RunView}
 use Rattle.script_run.specs.RunParts.{EntryRelation}
-use Rattle.script_run.specs.Plays.{Drains, IsPlayedInLine, IsPlayedInLineUpTo, IsOwnStep, IsOwnStepIf}
-use Rattle.script_run.specs.RunStates.{IsStanding, RunState, run_at}
+use Rattle.script_run.specs.PlayedParts.{Drains, IsPlayedInLine, IsPlayedInLineUpTo, IsOwnStep, IsOwnStepIf}
+use Rattle.script_run.specs.RunStates.{RunState, run_at}
 use Rattle.script_run.specs.Turns.{AreInTurn}
 use Rattle.script_run.proofs.Writing.{wrote_none}
 use Rattle.script_run.proofs.Turning.{calls_in-append}
 use Rattle.script_run.proofs.Telling.{heard_silence}
 use Rattle.script_run.proofs.Firing.{fire_in_order}
 use Rattle.script_run.proofs.Following.{order_then}
-use Rattle.script_run.proofs.Playing.{Joins, ran_as, stop_as, ran_then, ran_stop, ran_none}
+use Rattle.script_run.proofs.PartsInRow.{Joins, ran_as, stop_as, ran_then, ran_stop, ran_none}
 use Rattle.script_run.proofs.Resting.{due_turns, running_works, same_running, turn_taken}
-
--- what an engine goes to stands too
-pub standing_on : (blobs : List (List ℕ)) (a b : Kept) (es : List Entry) → IsStanding a → IsTransition blobs a b es → IsStanding b
-standing_on blobs a b es s goes = record { state = after_entries blobs s.state es; stands = goes.stands s.state s.stands }
-
-pub standing_ran : (blobs : List (List ℕ)) (does : EntryRelation) (a b : RunState) → IsStanding a.run.engine → IsPlayedInLine blobs does a b → IsStanding b.run.engine
-standing_ran blobs does a b s p = standing_on blobs a.run.engine b.run.engine p.played.entries s p.played.grew.goes
-
-pub standing_drains : (a b : RunView) → IsStanding a.engine → ((blobs : List (List ℕ)) → Drains blobs a b) → IsStanding b.engine
-standing_drains a b s p = let d = p [] in standing_on [] a.engine b.engine d.entries s d.stepped.goes
 
 -- ---- an event
 
-pub fire_ran_order : (blobs : List (List ℕ)) (a b : RunState) → IsPlayedInLine blobs (λ st part. Does blobs st Fire part) a b → IsPlayedInLine blobs (AreInDrainOrder blobs) a b
-fire_ran_order blobs a b p = ran_as blobs (λ st part. Does blobs st Fire part) (AreInDrainOrder blobs) a b p (λ st es h goes turns d. fire_in_order blobs (length a.notes) st es turns d)
+pub fire_ran_order : (blobs : List (List ℕ)) (a b : RunState) → IsPlayedInLine blobs (λ st part. IsLineEntries blobs st Fire part) a b → IsPlayedInLine blobs (AreInDrainOrder blobs) a b
+fire_ran_order blobs a b p = ran_as blobs (λ st part. IsLineEntries blobs st Fire part) (AreInDrainOrder blobs) a b p (λ st es h goes turns d. fire_in_order blobs (length a.notes) st es turns d)
 
-begins_order : (blobs : List (List ℕ)) (count : ℕ) (st : State) (es : List Entry) → AreInTurn count None es → Begins blobs st Fire es → AreInDrainOrder blobs st es
+begins_order : (blobs : List (List ℕ)) (count : ℕ) (st : State) (es : List Entry) → AreInTurn count None es → IsLineFront blobs st Fire es → AreInDrainOrder blobs st es
 begins_order blobs count st es turns (inl e) = rw e tt
 begins_order blobs count st es turns (inr d) = fire_in_order blobs count st es turns d
 
-pub fire_stop_order : (blobs : List (List ℕ)) (stop : Stop) (a b : RunState) → IsPlayedInLineUpTo blobs (λ st part. Begins blobs st Fire part) stop a b → IsPlayedInLineUpTo blobs (AreInDrainOrder blobs) stop a b
-fire_stop_order blobs stop a b p = stop_as blobs (λ st part. Begins blobs st Fire part) (AreInDrainOrder blobs) stop a b p (λ st es h goes turns d. begins_order blobs (length a.notes) st es turns d)
+pub fire_stop_order : (blobs : List (List ℕ)) (stop : Stop) (a b : RunState) → IsPlayedInLineUpTo blobs (λ st part. IsLineFront blobs st Fire part) stop a b → IsPlayedInLineUpTo blobs (AreInDrainOrder blobs) stop a b
+fire_stop_order blobs stop a b p = stop_as blobs (λ st part. IsLineFront blobs st Fire part) (AreInDrainOrder blobs) stop a b p (λ st es h goes turns d. begins_order blobs (length a.notes) st es turns d)
 
 -- ---- one part after another
 
@@ -69,8 +58,8 @@ order_none blobs a = ran_none blobs (AreInDrainOrder blobs) a (λ st h. tt)
 
 -- the whole, where nothing is left
 pub drain_of : (blobs : List (List ℕ)) (a b : RunState) → IsPlayedInLine blobs (AreInDrainOrder blobs) a b → ((st : State) → Stands b.run.engine st → IsAtRest st)
-    → IsPlayedInLine blobs (λ st part. Does blobs st Drain part) a b
-drain_of blobs a b p rest = ran_as blobs (AreInDrainOrder blobs) (λ st part. Does blobs st Drain part) a b p
+    → IsPlayedInLine blobs (λ st part. IsLineEntries blobs st Drain part) a b
+drain_of blobs a b p rest = ran_as blobs (AreInDrainOrder blobs) (λ st part. IsLineEntries blobs st Drain part) a b p
     (λ st es h goes turns d. record { order = d; end = rest (after_entries blobs st es) (goes.stands st h) })
 
 -- ---- a step of work, and a turn
@@ -171,11 +160,11 @@ pub drains_turn : (blobs : List (List ℕ)) (turned : Bool) (a b : RunView) → 
 drains_turn blobs true a b s quiet due p = record { entries = Element ∷ []; stepped = p; order = λ st h. ((quiet st h, due st h), tt); silent = refl }
 drains_turn blobs false a b s quiet due p = absurd (due_turns s.state (due s.state s.stands) (p.1 s.state s.stands))
 
-pub calm_then : (a b c : Kept) → IsCalm a b → IsCalm b c → IsCalm a c
+pub calm_then : (a b c : KeptEngine) → IsCalm a b → IsCalm b c → IsCalm a c
 calm_then a b c p q = record { buffers = q.buffers ∙ p.buffers; turns = q.turns ∙ p.turns }
 
 -- a turn that was taken
-pub turn_did : (a b : Kept) (st : State) → Stands a st → IsWork Did a b (after_element_turn st) → b.buffers ≡ a.buffers → HasFewerTurns a b
+pub turn_did : (a b : KeptEngine) (st : State) → Stands a st → IsWork Did a b (after_element_turn st) → b.buffers ≡ a.buffers → HasFewerTurns a b
 turn_did a b st s w same = by_result (after_element_turn st) refl w
   where
     by_result : (r : Option State) → after_element_turn st ≡ r → IsWork Did a b r → HasFewerTurns a b
@@ -183,5 +172,5 @@ turn_did a b st s w same = by_result (after_element_turn st) refl w
     by_result (Some new) e w = turn_taken a b st new s e w same
 
 -- no buffer works where the buffers stayed
-pub still_idle : (a b : Kept) → IsStanding a → ((st : State) → Stands a st → IsQuiet st) → b.buffers ≡ a.buffers → (st : State) → Stands b st → running_in st ≡ None
+pub still_idle : (a b : KeptEngine) → IsStanding a → ((st : State) → Stands a st → IsQuiet st) → b.buffers ≡ a.buffers → (st : State) → Stands b st → running_in st ≡ None
 still_idle a b s quiet same st h = same_running a b s.state st s.stands h same ∙ (quiet s.state s.stands).running

@@ -18,8 +18,8 @@ use Rattle.listeners.specs.Notes.{call_count, event_notes, is_call_of}
 use Rattle.listeners.specs.Dispatch.{CallsInTurn, IsDispatch, notes_at}
 use Rattle.listeners.specs.Views.{RunView, dispatch_view}
 use Rattle.mse_engine.specs.State.{State}
-use Rattle.mse_engine.specs.Run.{entry_meaning}
-use Rattle.mse_engine.specs.Standing.{Kept, Stands}
+use Rattle.mse_engine.specs.Run.{entry_meaning, fire_entries}
+use Rattle.mse_engine.specs.Standing.{KeptEngine, Stands}
 use Rattle.mse_engine.specs.Work.{fire_result, without_first}
 use Rattle.mse_engine.specs.Transitions.{IsTransition}
 use Rattle.mse_engine.proofs.Transitions.{goes_then}
@@ -28,9 +28,9 @@ use Rattle.script_run.specs.declared.stop.Halt.{Halt}
 use Rattle.script_run.specs.declared.stop.Halt.TheVariants as halt
 use Rattle.script_run.specs.declared.stop.Stop.TheVariants.{Halted}
 use Rattle.script_run.specs.DrainSteps.{AreInDrainOrder, HasNoEvent}
-use Rattle.script_run.specs.Lines.{Begins, Does, fired_of, own_of}
+use Rattle.script_run.specs.Lines.{IsLineFront, IsLineEntries, own_of}
 use Rattle.script_run.specs.RunParts.{EntryRelation}
-use Rattle.script_run.specs.Plays.{IsDispatchCut, HasGrown, IsHeardUpTo, IsOverLimit, IsPlayedInLine, IsPlayedInLineUpTo, IsOwnStep, IsStoppedBy, stop_of}
+use Rattle.script_run.specs.PlayedParts.{IsDispatchCut, HasGrown, IsHeardUpTo, IsOverLimit, IsPlayedInLine, IsPlayedInLineUpTo, IsOwnStep, IsStoppedBy, stop_of}
 use Rattle.script_run.specs.RunStates.{run_at}
 use Rattle.script_run.specs.NoteHistory.{IsAllHeard, note_history, until_fired}
 use Rattle.script_run.specs.Text.{lines_of}
@@ -122,13 +122,13 @@ turns_of_calls count made low (Element ∷ es) h few each = absurd h
 fired_grew : (event : Event) (j0 j1 j2 es : List Entry) → j1 ≡ j0 ++ Fired event ∷ [] → j2 ≡ j1 ++ es → j2 ≡ j0 ++ Fired event ∷ es
 fired_grew event j0 j1 j2 es p q = q ∙ ap (λ (x : List Entry). x ++ es) p ∙ append_assoc j0 (Fired event ∷ []) es
 
-fired_does : (blobs : List (List ℕ)) (event : Event) (high : ℕ) (st : State) (a b : Kept) (es : List Entry) → Stands a st → IsTransition blobs a b (Fired event ∷ [])
-    → CallsInTurn 0 high es → own_of (Fired event ∷ es) ≡ fired_of (fire_result st)
+fired_does : (blobs : List (List ℕ)) (event : Event) (high : ℕ) (st : State) (a b : KeptEngine) (es : List Entry) → Stands a st → IsTransition blobs a b (Fired event ∷ [])
+    → CallsInTurn 0 high es → own_of (Fired event ∷ es) ≡ fire_entries (fire_result st)
 fired_does blobs event high st a b es s goes calls =
     ap (λ (x : List Entry). Fired event ∷ x) (calls_own 0 high es calls) ∙ fired_one (fire_result st) event st (goes.replays st s).0
 
 fired_entries : (blobs : List (List ℕ)) (does : EntryRelation) (event : Event) (a b c : RunView) (n0 n1 : List (List Note)) (result : Result (Unit {0}) DispatchFault)
-    → ((st : State) (part : List Entry) → own_of part ≡ fired_of (fire_result st) → does st part)
+    → ((st : State) (part : List Entry) → own_of part ≡ fire_entries (fire_result st) → does st part)
     → IsOwnStep blobs (Fired event ∷ []) a b → (d : IsDispatch blobs event (dispatch_view b n0) (dispatch_view c n1) result)
     → HasGrown blobs does a c (Fired event ∷ d.entries)
 fired_entries blobs does event a b c n0 n1 result is step d = record {
@@ -166,13 +166,13 @@ heard_at blobs event b c n0 n1 d same =
 
 pub fired_ran : (blobs : List (List ℕ)) (event : Event) (a b c : RunView) (t0 t1 : Option (List ℕ)) (n0 n1 : List (List Note))
     → IsOwnStep blobs (Fired event ∷ []) a b → IsDispatch blobs event (dispatch_view b n0) (dispatch_view c n1) (Ok tt) → length n1 ≡ length n0
-    → IsWritten (lines_of (drop (length a.entries) c.entries)) t0 t1 → IsPlayedInLine blobs (λ st part. Does blobs st Fire part) (run_at a t0 n0) (run_at c t1 n1)
+    → IsWritten (lines_of (drop (length a.entries) c.entries)) t0 t1 → IsPlayedInLine blobs (λ st part. IsLineEntries blobs st Fire part) (run_at a t0 n0) (run_at c t1 n1)
 fired_ran blobs event a b c t0 t1 n0 n1 step d same wrote =
     let lines : drop (length a.entries) c.entries ≡ Fired event ∷ d.entries = fired_lines event a.entries b.entries c.entries d.entries step.grew d.calls.journal in
     record {
       played = record {
         entries = Fired event ∷ d.entries;
-        grew = fired_entries blobs (λ st part. Does blobs st Fire part) event a b c n0 n1 (Ok tt) (λ st part h. h) step d;
+        grew = fired_entries blobs (λ st part. IsLineEntries blobs st Fire part) event a b c n0 n1 (Ok tt) (λ st part h. h) step d;
         turns = fired_turns blobs event b c n0 n1 (Ok tt) d;
         wrote = rw lines at wrote;
         heard = heard_at blobs event b c n0 n1 d same;
@@ -217,13 +217,13 @@ heard_to blobs event halt.Write a b c n0 n1 (Err f) not step d same =
 pub fired_half : (blobs : List (List ℕ)) (event : Event) (h : Halt) (a b c : RunView) (t0 t1 : Option (List ℕ)) (n0 n1 : List (List Note)) (result : Result (Unit {0}) DispatchFault)
     → ¬ (result ≡ Err fault.OutOfMemory) → IsOwnStep blobs (Fired event ∷ []) a b
     → IsDispatch blobs event (dispatch_view b n0) (dispatch_view c n1) result → length n1 ≡ length n0
-    → IsFrontWritten (lines_of (drop (length a.entries) c.entries)) t0 t1 → IsPlayedInLineUpTo blobs (λ st part. Begins blobs st Fire part) (Halted h) (run_at a t0 n0) (run_at c t1 n1)
+    → IsFrontWritten (lines_of (drop (length a.entries) c.entries)) t0 t1 → IsPlayedInLineUpTo blobs (λ st part. IsLineFront blobs st Fire part) (Halted h) (run_at a t0 n0) (run_at c t1 n1)
 fired_half blobs event h a b c t0 t1 n0 n1 result not step d same wrote =
     let lines : drop (length a.entries) c.entries ≡ Fired event ∷ d.entries = fired_lines event a.entries b.entries c.entries d.entries step.grew d.calls.journal in
     record {
       played = record {
         entries = Fired event ∷ d.entries;
-        grew = fired_entries blobs (λ st part. Begins blobs st Fire part) event a b c n0 n1 result (λ st part p. inr p) step d;
+        grew = fired_entries blobs (λ st part. IsLineFront blobs st Fire part) event a b c n0 n1 result (λ st part p. inr p) step d;
         turns = fired_turns blobs event b c n0 n1 result d;
         stopped = (rw lines at wrote, heard_to blobs event h a b c n0 n1 result not step d same);
       };
@@ -233,11 +233,11 @@ fired_half blobs event h a b c t0 t1 n0 n1 result not step d same wrote =
 -- memory was wanting in the dispatch, and none of its lines was written
 pub fired_short : (blobs : List (List ℕ)) (event : Event) (a b c : RunView) (t : Option (List ℕ)) (n0 n1 : List (List Note))
     → IsOwnStep blobs (Fired event ∷ []) a b → IsDispatch blobs event (dispatch_view b n0) (dispatch_view c n1) (Err fault.OutOfMemory)
-    → length n1 ≡ length n0 → IsPlayedInLineUpTo blobs (λ st part. Begins blobs st Fire part) (Halted halt.Memory) (run_at a t n0) (run_at c t n1)
+    → length n1 ≡ length n0 → IsPlayedInLineUpTo blobs (λ st part. IsLineFront blobs st Fire part) (Halted halt.Memory) (run_at a t n0) (run_at c t n1)
 fired_short blobs event a b c t n0 n1 step d same = record {
   played = record {
     entries = Fired event ∷ d.entries;
-    grew = fired_entries blobs (λ st part. Begins blobs st Fire part) event a b c n0 n1 (Err fault.OutOfMemory) (λ st part p. inr p) step d;
+    grew = fired_entries blobs (λ st part. IsLineFront blobs st Fire part) event a b c n0 n1 (Err fault.OutOfMemory) (λ st part p. inr p) step d;
     turns = fired_turns blobs event b c n0 n1 (Err fault.OutOfMemory) d;
     stopped = (front_none t (lines_of (Fired event ∷ d.entries)), inr (cut_at blobs event b c n0 n1 fault.OutOfMemory d same));
   };
@@ -255,13 +255,13 @@ pub fired_stopped : (blobs : List (List ℕ)) (event : Event) (f : DispatchFault
     → ¬ (f ≡ fault.OutOfMemory) → IsOwnStep blobs (Fired event ∷ []) a b
     → IsDispatch blobs event (dispatch_view b n0) (dispatch_view c n1) (Err f) → length n1 ≡ length n0
     → IsWritten (lines_of (drop (length a.entries) c.entries)) t0 t1
-    → IsPlayedInLineUpTo blobs (λ st part. Begins blobs st Fire part) (stop_of f) (run_at a t0 n0) (run_at c t1 n1)
+    → IsPlayedInLineUpTo blobs (λ st part. IsLineFront blobs st Fire part) (stop_of f) (run_at a t0 n0) (run_at c t1 n1)
 fired_stopped blobs event f a b c t0 t1 n0 n1 not step d same wrote =
     let lines : drop (length a.entries) c.entries ≡ Fired event ∷ d.entries = fired_lines event a.entries b.entries c.entries d.entries step.grew d.calls.journal in
     record {
       played = record {
         entries = Fired event ∷ d.entries;
-        grew = fired_entries blobs (λ st part. Begins blobs st Fire part) event a b c n0 n1 (Err f) (λ st part p. inr p) step d;
+        grew = fired_entries blobs (λ st part. IsLineFront blobs st Fire part) event a b c n0 n1 (Err f) (λ st part p. inr p) step d;
         turns = fired_turns blobs event b c n0 n1 (Err f) d;
         stopped = stopped_by (IsSpent a.left) f (Fired event ∷ d.entries) a c t0 t1 n0 n1 (rw lines at wrote) (fired_over blobs event f a b c n0 n1 not step d same);
       };
@@ -290,7 +290,7 @@ silent_order blobs st (Work k ∷ es) own = absurd (cc)
 silent_order blobs st (Element ∷ es) own = absurd (cc)
 
 abbrev fired_by : State → Option Event → List Entry
-fired_by st first = fired_of (option_map (λ event. record { answer = event; state = without_first st }) first)
+fired_by st first = fire_entries (option_map (λ event. record { answer = event; state = without_first st }) first)
 
 first_fired : (st : State) (first : Option Event) (event : Event) (es : List Entry) → Fired event ∷ es ≡ fired_by st first → first ≡ Some event
 first_fired st None event es e = absurd (cc)
@@ -306,7 +306,7 @@ not_fired st None entry es other e = cc
 not_fired st (Some x) entry es other e = other x (cc)
 
 -- it is what a drain does first
-pub fire_in_order : (blobs : List (List ℕ)) (count : ℕ) (st : State) (part : List Entry) → AreInTurn count None part → own_of part ≡ fired_of (fire_result st) → AreInDrainOrder blobs st part
+pub fire_in_order : (blobs : List (List ℕ)) (count : ℕ) (st : State) (part : List Entry) → AreInTurn count None part → own_of part ≡ fire_entries (fire_result st) → AreInDrainOrder blobs st part
 fire_in_order blobs count st [] turns own = tt
 fire_in_order blobs count st (Fired event ∷ es) turns own = (
   first_fired st (slice_get st.outer.queue 0) event (own_of es) own,
@@ -322,5 +322,5 @@ fire_in_order blobs count st (Element ∷ es) turns own = absurd (not_fired st (
 nothing_by : (st : State) (q : List Event) → q ≡ [] → [] ≡ fired_by st (slice_get q 0)
 nothing_by st q e = rw e refl
 
-pub nothing_fired : (st : State) → HasNoEvent st → own_of [] ≡ fired_of (fire_result st)
+pub nothing_fired : (st : State) → HasNoEvent st → own_of [] ≡ fire_entries (fire_result st)
 nothing_fired st e = nothing_by st st.outer.queue e

@@ -2,7 +2,7 @@ pub mod Writing
 pub mod Turning
 pub mod Telling
 pub mod Cutting
-pub mod Playing
+pub mod PartsInRow
 pub mod Following
 pub mod Stepping
 pub mod Firing

@@ -12,7 +12,7 @@ use Rattle.listeners.specs.declared.listener.Note.{Note}
 use Rattle.call_script.specs.declared.script.StepLine.{StepLine}
 use Rattle.call_script.specs.declared.script.StepLine.TheVariants as step
 use Rattle.mse_engine.specs.State.{State}
-use Rattle.mse_engine.specs.Standing.{Kept, Stands}
+use Rattle.mse_engine.specs.Standing.{IsStanding, KeptEngine, Stands}
 use Rattle.mse_engine.specs.Work.{after_element_turn, after_work}
 use Rattle.mse_engine.specs.Sound.{IsSoundEngine}
 use Rattle.mse_engine.specs.Transitions.{IsTransition}
@@ -21,12 +21,12 @@ use Rattle.script_run.specs.declared.stop.Halt.{Halt}
 use Rattle.script_run.specs.declared.stop.Stop.{Stop}
 use Rattle.script_run.specs.declared.stop.Stop.TheVariants.{Halted}
 use Rattle.script_run.specs.Follows.{IsNumberedLineBegun, IsNumberedLineDone}
-use Rattle.script_run.specs.Lines.{Begins, Does, Limits, play_inputs}
+use Rattle.script_run.specs.Lines.{IsLineFront, IsLineEntries, Limits, play_inputs}
 use Rattle.listeners.specs.Views.{RunView}
-use Rattle.script_run.specs.RunParts.{EntryRelation, line_part, numbered_line_part}
+use Rattle.script_run.specs.RunParts.{line_part, numbered_line_part}
 use Rattle.script_run.specs.DrainSteps.{element_step, work_step}
-use Rattle.script_run.specs.Plays.{IsCallHalted, IsCallMade, IsPlayed, IsPlayedUpTo, IsPlayedBy, IsPlayedInLine, IsPlayedInLineBy, IsPlayedInLineUpTo, IsOwnStep, IsOwnStepIf, part_front}
-use Rattle.script_run.specs.RunStates.{IsStanding, RunState, printed_run, run_at}
+use Rattle.script_run.specs.PlayedParts.{IsCallHalted, IsCallMade, IsPlayed, IsPlayedUpTo, IsPlayedBy, IsPlayedInLine, IsPlayedInLineBy, IsPlayedInLineUpTo, IsOwnStep, IsOwnStepIf, part_front}
+use Rattle.script_run.specs.RunStates.{printed_run, run_at}
 use Rattle.script_run.specs.Text.{lines_of}
 use Rattle.script_run.specs.NoteHistory.{IsAllHeard}
 use Rattle.script_run.specs.Turns.{AreInTurn, IsSpent, IsSpentInLine, calls_in, steps_in}
@@ -35,17 +35,17 @@ use Rattle.script_run.proofs.Stepping.{done_one}
 use Rattle.script_run.proofs.Telling.{heard_silence}
 use Rattle.script_run.proofs.Writing.{wrote_none}
 use Rattle.script_run.proofs.Cutting.{heard_to_all, no_step_in_line, spent_line}
-use Rattle.script_run.proofs.Playing.{halt_none, played_none, ran_none, stopped_then}
-use Rattle.script_run.proofs.Draining.{standing_on, turn_ran, work_ran}
+use Rattle.script_run.proofs.PartsInRow.{halt_none, played_none, ran_none, stopped_then}
+use Rattle.script_run.proofs.Draining.{turn_ran, work_ran}
 
 -- ---- a call
 
-call_does : (blobs : List (List ℕ)) (call : Call) (answer : Answer) (a b : Kept) (st : State) → Stands a st → IsTransition blobs a b (entry.Script call answer ∷ [])
-    → Does blobs st (step.Call call) (entry.Script call answer ∷ [])
+call_does : (blobs : List (List ℕ)) (call : Call) (answer : Answer) (a b : KeptEngine) (st : State) → Stands a st → IsTransition blobs a b (entry.Script call answer ∷ [])
+    → IsLineEntries blobs st (step.Call call) (entry.Script call answer ∷ [])
 call_does blobs call answer a b st h goes = ap (λ (x : Answer). entry.Script call x ∷ []) (goes.replays st h).0
 
 pub called_ran : (blobs : List (List ℕ)) (call : Call) (a b : RunView) (t0 t1 : Option (List ℕ)) (n : List (List Note)) → IsCallMade blobs call (printed_run a t0) (printed_run b t1)
-    → IsPlayedInLine blobs (λ st part. Does blobs st (step.Call call) part) (run_at a t0 n) (run_at b t1 n)
+    → IsPlayedInLine blobs (λ st part. IsLineEntries blobs st (step.Call call) part) (run_at a t0 n) (run_at b t1 n)
 called_ran blobs call a b t0 t1 n p =
     let left : b.left ≡ a.left = p.stepped.left in
     record {
@@ -60,11 +60,11 @@ called_ran blobs call a b t0 t1 n p =
     }
 
 pub call_halted : (blobs : List (List ℕ)) (call : Call) (halt : Halt) (a b : RunView) (t0 t1 : Option (List ℕ)) (n : List (List Note)) → IsCallHalted blobs call (printed_run a t0) (printed_run b t1)
-    → IsPlayedInLineUpTo blobs (λ st part. Begins blobs st (step.Call call) part) (Halted halt) (run_at a t0 n) (run_at b t1 n)
+    → IsPlayedInLineUpTo blobs (λ st part. IsLineFront blobs st (step.Call call) part) (Halted halt) (run_at a t0 n) (run_at b t1 n)
 call_halted blobs call halt a b t0 t1 n (inl same) =
     let run : b ≡ a = same.0 in
     let text : t1 ≡ t0 = same.1 in
-    rw (run, text) (halt_none blobs (λ st part. Begins blobs st (step.Call call) part) halt (run_at a t0 n) (λ st h. inl refl))
+    rw (run, text) (halt_none blobs (λ st part. IsLineFront blobs st (step.Call call) part) halt (run_at a t0 n) (λ st h. inl refl))
 call_halted blobs call halt a b t0 t1 n (inr p) =
     let left : b.left ≡ a.left = p.stepped.left in
     record {
@@ -83,14 +83,14 @@ call_halted blobs call halt a b t0 t1 n (inr p) =
 -- ---- a step of work, and a turn
 
 pub work_line_ran : (blobs : List (List ℕ)) (k : ℕ) (worked : Bool) (a b : RunView) (t : Option (List ℕ)) (n : List (List Note)) → IsOwnStepIf blobs (work_step k) a b worked
-    → IsPlayedInLine blobs (λ st part. Does blobs st (step.Work k) part) (run_at a t n) (run_at b t n)
-work_line_ran blobs k true a b t n p = work_ran blobs (λ st part. Does blobs st (step.Work k) part) k a b t n (λ st h. done_one (entry.Work k) (after_work k st) st (p.goes.replays st h).0) p
-work_line_ran blobs k false a b t n p = rw p.0 (ran_none blobs (λ st part. Does blobs st (step.Work k) part) (run_at a t n) (λ st h. rw (p.1 st h) refl))
+    → IsPlayedInLine blobs (λ st part. IsLineEntries blobs st (step.Work k) part) (run_at a t n) (run_at b t n)
+work_line_ran blobs k true a b t n p = work_ran blobs (λ st part. IsLineEntries blobs st (step.Work k) part) k a b t n (λ st h. done_one (entry.Work k) (after_work k st) st (p.goes.replays st h).0) p
+work_line_ran blobs k false a b t n p = rw p.0 (ran_none blobs (λ st part. IsLineEntries blobs st (step.Work k) part) (run_at a t n) (λ st h. rw (p.1 st h) refl))
 
 pub turn_line_ran : (blobs : List (List ℕ)) (turned : Bool) (a b : RunView) (t : Option (List ℕ)) (n : List (List Note)) → IsOwnStepIf blobs element_step a b turned
-    → IsPlayedInLine blobs (λ st part. Does blobs st step.Element part) (run_at a t n) (run_at b t n)
-turn_line_ran blobs true a b t n p = turn_ran blobs (λ st part. Does blobs st step.Element part) a b t n (λ st h. done_one entry.Element (after_element_turn st) st (p.goes.replays st h).0) p
-turn_line_ran blobs false a b t n p = rw p.0 (ran_none blobs (λ st part. Does blobs st step.Element part) (run_at a t n) (λ st h. rw (p.1 st h) refl))
+    → IsPlayedInLine blobs (λ st part. IsLineEntries blobs st step.Element part) (run_at a t n) (run_at b t n)
+turn_line_ran blobs true a b t n p = turn_ran blobs (λ st part. IsLineEntries blobs st step.Element part) a b t n (λ st h. done_one entry.Element (after_element_turn st) st (p.goes.replays st h).0) p
+turn_line_ran blobs false a b t n p = rw p.0 (ran_none blobs (λ st part. IsLineEntries blobs st step.Element part) (run_at a t n) (λ st h. rw (p.1 st h) refl))
 
 -- ---- a line with its number
 
@@ -98,10 +98,10 @@ turn_line_ran blobs false a b t n p = rw p.0 (ran_none blobs (λ st part. Does b
 abbrev pub opened : ℕ → ℕ → RunView → RunView
 opened n limit a = record { engine = a.engine; entries = a.entries ++ entry.Step n ∷ []; left = limit }
 
-step_goes : (blobs : List (List ℕ)) (k : Kept) (n : ℕ) → IsSoundEngine k → IsTransition blobs k k (entry.Step n ∷ [])
+step_goes : (blobs : List (List ℕ)) (k : KeptEngine) (n : ℕ) → IsSoundEngine k → IsTransition blobs k k (entry.Step n ∷ [])
 step_goes blobs k n sound = goes_one blobs k k (entry.Step n) (λ st h. tt) (λ st h. h) sound
 
-step_then : (blobs : List (List ℕ)) (n : ℕ) (a b : Kept) (es : List Entry) → IsSoundEngine a → IsTransition blobs a b es → IsTransition blobs a b (entry.Step n ∷ es)
+step_then : (blobs : List (List ℕ)) (n : ℕ) (a b : KeptEngine) (es : List Entry) → IsSoundEngine a → IsTransition blobs a b es → IsTransition blobs a b (entry.Step n ∷ es)
 step_then blobs n a b es sound p = goes_then blobs a a b (entry.Step n ∷ []) es (step_goes blobs a n sound) p
 
 within_limit : (limit left calls : ℕ) → limit ≡ left + calls → calls ≤ limit
@@ -111,7 +111,7 @@ heard_step : (n : ℕ) (es : List Entry) (n0 n1 : List (List Note)) → IsAllHea
 heard_step n es n0 n1 p = record { count = p.count; notes = p.notes }
 
 pub line_played : (blobs : List (List ℕ)) (limits : Limits) (n : ℕ) (line : StepLine) (a b : RunView) (t0 t1 : Option (List ℕ)) (n0 n1 : List (List Note))
-    → IsSoundEngine a.engine → limits.count ≡ length n0 → IsPlayedInLine blobs (λ st part. Does blobs st line part) (run_at (opened n limits.limit a) t0 n0) (run_at b t1 n1)
+    → IsSoundEngine a.engine → limits.count ≡ length n0 → IsPlayedInLine blobs (λ st part. IsLineEntries blobs st line part) (run_at (opened n limits.limit a) t0 n0) (run_at b t1 n1)
     → IsPlayed blobs (IsNumberedLineDone (play_inputs blobs limits) n line) (run_at a t0 n0) (run_at b t1 n1)
 line_played blobs limits n line a b t0 t1 n0 n1 sound count p =
     let few : calls_in p.played.entries ≤ limits.limit = within_limit limits.limit b.left (calls_in p.played.entries) p.left in
@@ -130,7 +130,7 @@ line_played blobs limits n line a b t0 t1 n0 n1 sound count p =
 
 pub line_stopped : (blobs : List (List ℕ)) (limits : Limits) (n : ℕ) (line : StepLine) (stop : Stop) (a b : RunView) (t0 t1 : Option (List ℕ)) (n0 n1 : List (List Note))
     → IsStanding a.engine → IsSoundEngine a.engine → limits.count ≡ length n0
-    → IsPlayedInLineUpTo blobs (λ st part. Begins blobs st line part) stop (run_at (opened n limits.limit a) t0 n0) (run_at b t1 n1)
+    → IsPlayedInLineUpTo blobs (λ st part. IsLineFront blobs st line part) stop (run_at (opened n limits.limit a) t0 n0) (run_at b t1 n1)
     → IsPlayedUpTo blobs (part_front (IsNumberedLineBegun (play_inputs blobs limits) n line) (IsSpentInLine limits.limit)) stop (run_at a t0 n0) (run_at b t1 n1)
 line_stopped blobs limits n line stop a b t0 t1 n0 n1 standing sound count p =
     let es : List Entry = p.played.entries in
@@ -176,9 +176,6 @@ pub line_by : (blobs : List (List ℕ)) (limits : Limits) (n : ℕ) (line : Step
     → IsPlayedBy (IsSpentInLine limits.limit) (numbered_line_part (play_inputs blobs limits) n line) (run_at a t0 n0) (run_at b t1 n1) result
 line_by blobs limits n line a b t0 t1 n0 n1 (Ok u) standing sound count p = line_played blobs limits n line a b t0 t1 n0 n1 sound count p
 line_by blobs limits n line a b t0 t1 n0 n1 (Err stop) standing sound count p = line_stopped blobs limits n line stop a b t0 t1 n0 n1 standing sound count p
-
-pub standing_played : (blobs : List (List ℕ)) (does : EntryRelation) (a b : RunState) → IsStanding a.run.engine → IsPlayed blobs does a b → IsStanding b.run.engine
-standing_played blobs does a b s p = standing_on blobs a.run.engine b.run.engine p.entries s p.grew.goes
 
 pub halted_call : (blobs : List (List ℕ)) (call : Call) (from : ℕ) (a b : RunView) (t0 t1 : Option (List ℕ)) (result : Result (Unit {0}) Halt) → from ≡ length a.entries
     → ((answer : Answer) × IsOwnStep blobs (entry.Script call answer ∷ []) a b) → OnErr result (IsFrontWritten (lines_of (drop from b.entries)) t0 t1)

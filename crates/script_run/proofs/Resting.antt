@@ -1,5 +1,5 @@
 -- What is left to do at the engine.
-use Rattle.std.proofs.Common.{◌≡◌, ◌<◌, ◌≤◌, ◌+◌, ℕ, zero, suc, List, [], ◌∷◌, length, refl, sym, ◌∙◌, ap, arith, drop, get_or}
+use Rattle.std.proofs.Common.{◌≡◌, ◌<◌, ℕ, zero, suc, List, [], ◌∷◌, length, refl, sym, ◌∙◌, ap, arith, drop, get_or}
 use Rattle.std.specs.Prelude.{Option, Some, None, true, false, Bool, not, ◌&&◌, ◌||◌, ◌==◌, map, option_map, slice_get}
 use Rattle.std.proofs.lemmas.List.Quantifiers.{position-Some}
 use Rattle.mse_calls.specs.declared.events.Event.{Event}
@@ -17,20 +17,21 @@ use Rattle.element_seek.specs.Turns.{after_turn, is_due, is_end_due, is_seek_don
 use Rattle.media_element.specs.Queueing.{after_own_turn}
 use Rattle.mse_engine.specs.Signals.{step}
 use Rattle.mse_engine.specs.State.{State, element_in, outer_of}
-use Rattle.mse_engine.specs.BufferCalls.{reply_moved}
+use Rattle.mse_engine.specs.BufferCalls.{reply_effect}
 use Rattle.mse_engine.specs.Replies.{surroundings_in}
 use Rattle.mse_engine.specs.Work.{after_element_turn, after_work, due_in, fire_result, player_in, running_in, scene_in, without_first, work_result}
-use Rattle.mse_engine.specs.Standing.{IsFired, Kept, Stands}
-use Rattle.script_run.specs.Progress.{HasFewerEvents, HasFewerTurns, events_left, one_unless, turns_left, two_if}
+use Rattle.mse_engine.specs.Progress.{turns_left}
+use Rattle.mse_engine.specs.Standing.{IsFired, KeptEngine, Stands}
+use Rattle.script_run.specs.Progress.{HasFewerEvents, HasFewerTurns, events_left, own_turns_left}
 
 -- ---- an event
 
-fired_some : (q : List Event) (st : State) (a b : Kept) (event : Event)
+fired_some : (q : List Event) (st : State) (a b : KeptEngine) (event : Event)
     → IsFired (Some event) a b (option_map (λ e. record { answer = e; state = without_first st }) (slice_get q 0)) → 0 < length q
 fired_some [] st a b event f = absurd f
 fired_some (e ∷ q) st a b event f = omega arith
 
-fired_state : (q : List Event) (st : State) (a b : Kept) (event : Event)
+fired_state : (q : List Event) (st : State) (a b : KeptEngine) (event : Event)
     → IsFired (Some event) a b (option_map (λ e. record { answer = e; state = without_first st }) (slice_get q 0)) → Stands b (without_first st)
 fired_state [] st a b event f = absurd f
 fired_state (e ∷ q) st a b event f = f.1
@@ -39,42 +40,45 @@ shorter : (q : List Event) → 0 < length q → length (drop 1 q) < length q
 shorter [] some = absurd (omega (arith, some))
 shorter (e ∷ q) some = omega arith
 
-queue_of : (k : Kept) (st : State) → Stands k st → k.element.queue ≡ st.outer.queue
+queue_of : (k : KeptEngine) (st : State) → Stands k st → k.element.queue ≡ st.outer.queue
 queue_of k st s = ap (λ o. o.queue) s.outer
 
-seeking_of : (k : Kept) (st : State) → Stands k st → k.element.player.seeking ≡ st.outer.element.seeking
+seeking_of : (k : KeptEngine) (st : State) → Stands k st → k.element.player.seeking ≡ st.outer.element.seeking
 seeking_of k st s = ap (λ o. o.element.seeking) s.outer
 
-finished_of : (k : Kept) (st : State) → Stands k st → k.element.player.finished ≡ st.outer.element.finished
+finished_of : (k : KeptEngine) (st : State) → Stands k st → k.element.player.finished ≡ st.outer.element.finished
 finished_of k st s = ap (λ o. o.element.finished) s.outer
 
-pub fired_taken : (a b : Kept) (st : State) (event : Event) → Stands a st → IsFired (Some event) a b (fire_result st) → b.buffers ≡ a.buffers → HasFewerEvents a b
+pub fired_taken : (a b : KeptEngine) (st : State) (event : Event) → Stands a st → IsFired (Some event) a b (fire_result st) → b.buffers ≡ a.buffers → HasFewerEvents a b
 fired_taken a b st event s f same =
     let now : Stands b (without_first st) = fired_state st.outer.queue st a b event f in
     let some : 0 < length st.outer.queue = fired_some st.outer.queue st a b event f in
     let fewer : events_left b < events_left a = rw (queue_of b (without_first st) now, queue_of a st s) (shorter st.outer.queue some) in
-    let player : turns_left b ≡ turns_left a =
+    let player : own_turns_left b ≡ own_turns_left a =
     rw (seeking_of b (without_first st) now, finished_of b (without_first st) now, seeking_of a st s, finished_of a st s) refl in
     record { fewer = fewer; calm = record { buffers = same; turns = player } }
 
 -- ---- a turn
 
 turns_of : PlayerState → ℕ
-turns_of p = two_if p.seeking + one_unless p.finished
+turns_of p = turns_left p.seeking p.finished
 
 -- what is left of the end where the level is taken anew
 finished_then : Scene → PlayerState → Bool
 finished_then scene p = p.finished && has_ended scene p
 
-at_most_one : (b : Bool) → one_unless b ≤ 1
-at_most_one true = omega arith
-at_most_one false = omega arith
+after_seek_fewer : (seeking finished later : Bool) → seeking ≡ true → turns_left false later < turns_left seeking finished
+after_seek_fewer true true true e = omega arith
+after_seek_fewer true true false e = omega arith
+after_seek_fewer true false true e = omega arith
+after_seek_fewer true false false e = omega arith
+after_seek_fewer false finished later e = absurd (cc)
 
-after_seek_fewer : (seeking finished later : Bool) → seeking ≡ true → two_if false + one_unless later < two_if seeking + one_unless finished
-after_seek_fewer seeking finished later e = rw e (omega (arith, at_most_one later))
-
-after_end_fewer : (seeking finished ended : Bool) → finished ≡ false → ended ≡ true → two_if seeking + one_unless (true && ended) < two_if seeking + one_unless finished
-after_end_fewer seeking finished ended e f = rw (e, f) (omega arith)
+after_end_fewer : (seeking finished ended : Bool) → finished ≡ false → ended ≡ true → turns_left seeking (true && ended) < turns_left seeking finished
+after_end_fewer seeking true ended e f = absurd (cc)
+after_end_fewer seeking false false e f = absurd (cc)
+after_end_fewer true false true e f = omega arith
+after_end_fewer false false true e f = omega arith
 
 and_first : (a b : Bool) → (a && b) ≡ true → a ≡ true
 and_first true b e = refl
@@ -94,7 +98,7 @@ or_right false b e f = f
 
 -- a turn that is due leaves fewer
 turn_fewer : (done : Bool) (scene : Scene) (p : PlayerState) → is_seek_done p ≡ done → is_due scene p ≡ true
-    → two_if (after_turn scene p).state.seeking + one_unless (finished_then scene (after_turn scene p).state) < turns_of p
+    → turns_left (after_turn scene p).state.seeking (finished_then scene (after_turn scene p).state) < turns_of p
 unfolding finished_then turns_of
 turn_fewer true scene p done due =
     rw done (after_seek_fewer p.seeking p.finished (finished_then scene (seek_turn p).state) (and_first p.seeking _ done))
@@ -119,7 +123,7 @@ turned_finished : (st : State) → (turned st).outer.element.finished ≡ finish
 unfolding turned finished_then
 turned_finished st = refl
 
-pub turn_taken : (a b : Kept) (st new : State) → Stands a st → after_element_turn st ≡ Some new → Stands b new → b.buffers ≡ a.buffers → HasFewerTurns a b
+pub turn_taken : (a b : KeptEngine) (st new : State) → Stands a st → after_element_turn st ≡ Some new → Stands b new → b.buffers ≡ a.buffers → HasFewerTurns a b
 unfolding turns_of
 turn_taken a b st new s e t same =
     let is = turned_is st new (due_in st) refl e in
@@ -156,16 +160,16 @@ turn_at k0 bs0 a [] k updating none = cc
 turn_at k0 bs0 a (b ∷ bs) zero updating none = turn_of_slot a b updating (none_turned k0 bs0 (turn_in_slot a b) none)
 turn_at k0 bs0 a (b ∷ bs) (suc k) updating none = turn_at k0 bs0 a bs k updating none
 
-none_moved : (k : ℕ) (st : State) (r : Option BuffersResult) → work_result (option_map (λ result. reply_moved k result st.core) r) st ≡ None → r ≡ None
-none_moved k st None e = refl
-none_moved k st (Some r) e = absurd (let h : ⊥ = cc in h)
+none_effect : (k : ℕ) (st : State) (r : Option BuffersResult) → work_result (option_map (λ result. reply_effect k result st.core) r) st ≡ None → r ≡ None
+none_effect k st None e = refl
+none_effect k st (Some r) e = absurd (let h : ⊥ = cc in h)
 
 pub running_works : (st : State) (k : ℕ) → running_in st ≡ Some k → after_work k st ≡ None → ⊥
 running_works st k running none =
     turn_at k st.core.buffers (surroundings_in k st.core.source) st.core.buffers k
     (position-Some is_updating_slot (running_of_all st.core.buffers) k None running).1
-    (none_moved k st (buffers_turn k (surroundings_in k st.core.source) st.core.buffers) none)
+    (none_effect k st (buffers_turn k (surroundings_in k st.core.source) st.core.buffers) none)
 
-pub same_running : (a b : Kept) (st new : State) → Stands a st → Stands b new → b.buffers ≡ a.buffers → running_in new ≡ running_in st
+pub same_running : (a b : KeptEngine) (st new : State) → Stands a st → Stands b new → b.buffers ≡ a.buffers → running_in new ≡ running_in st
 same_running a b st new s t same =
     ap lowest_running (sym (kept_are b.buffers new.core.buffers t.buffers) ∙ ap all_kept_running same ∙ kept_are a.buffers st.core.buffers s.buffers)

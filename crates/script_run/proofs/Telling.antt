@@ -11,7 +11,7 @@ use Rattle.listeners.specs.Notes.{call_notes, entry_notes, event_notes}
 use Rattle.listeners.specs.Dispatch.{notes_at}
 use Rattle.script_run.specs.Turns.{AreInTurn}
 use Rattle.script_run.specs.NoteHistory.{until_fired, note_history, IsAllHeard}
-use Rattle.script_run.specs.Plays.{IsDispatchCut}
+use Rattle.script_run.specs.PlayedParts.{IsDispatchCut}
 use Rattle.script_run.proofs.Turning.{turns_front}
 
 -- before the first event no listener calls

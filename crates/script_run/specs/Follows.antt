@@ -5,18 +5,18 @@ use Rattle.mse_calls.specs.declared.entry.Entry.TheVariants.{Step}
 use Rattle.call_script.specs.declared.script.StepLine.{StepLine}
 use Rattle.mse_engine.specs.State.{State}
 use Rattle.mse_engine.specs.Run.{after_entries}
-use Rattle.script_run.specs.Lines.{Does, Begins, Limits, IsWithin, PlayInputs, play_inputs}
+use Rattle.script_run.specs.Lines.{IsLineEntries, IsLineFront, Limits, IsWithin, PlayInputs, play_inputs}
 
 -- the entries of one line
 pub record IsLineDone (inputs : PlayInputs) (st : State) (line : StepLine)
     (part : List Entry) : Type 0 where
-  pub does : Does inputs.blobs st line part
+  pub does : IsLineEntries inputs.blobs st line part
   pub within : IsWithin inputs.limits part
 
 -- those of a line that was cut off
 pub record IsLineBegun (inputs : PlayInputs) (st : State) (line : StepLine)
     (part : List Entry) : Type 0 where
-  pub begins : Begins inputs.blobs st line part
+  pub begins : IsLineFront inputs.blobs st line part
   pub within : IsWithin inputs.limits part
 
 -- from line `n` on, every line is done, one after the other: its number, and then its entries

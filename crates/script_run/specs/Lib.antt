@@ -7,6 +7,6 @@ pub mod Follows
 pub mod NoteHistory
 pub mod RunStates
 pub mod RunParts
-pub mod Plays
+pub mod PlayedParts
 pub mod Progress
 pub mod Rules

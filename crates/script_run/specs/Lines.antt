@@ -1,7 +1,5 @@
 -- What a line of a script brings about (docs/SCRIPTS.md, call lines and step lines).
-use Rattle.std.specs.Prelude.{◌≡◌, ◌⊎◌, ◌≤◌, ℕ, List, [], ◌∷◌, Option, Some, None}
-use Rattle.mse_calls.specs.Answered.{Answered}
-use Rattle.mse_calls.specs.declared.events.Event.{Event}
+use Rattle.std.specs.Prelude.{◌≡◌, ◌⊎◌, ◌≤◌, ℕ, List, [], ◌∷◌, None}
 use Rattle.mse_calls.specs.declared.entry.Entry.{Entry}
 use Rattle.mse_calls.specs.declared.entry.Entry.TheVariants as entry
 use Rattle.call_script.specs.declared.script.StepLine.{StepLine}
@@ -9,6 +7,7 @@ use Rattle.call_script.specs.declared.script.StepLine.TheVariants.{Call, Fire, W
 use Rattle.mse_engine.specs.State.{State}
 use Rattle.mse_engine.specs.Calls.{after_call}
 use Rattle.mse_engine.specs.Work.{after_element_turn, after_work, fire_result}
+use Rattle.mse_engine.specs.Run.{fire_entries, entries_if}
 use Rattle.script_run.specs.DrainSteps.{AreInDrainOrder, IsDrain}
 use Rattle.script_run.specs.Turns.{AreInTurn, calls_in}
 
@@ -22,32 +21,23 @@ own_of (entry.Fired event ∷ entries) = entry.Fired event ∷ own_of entries
 own_of (entry.Work k ∷ entries) = entry.Work k ∷ own_of entries
 own_of (entry.Element ∷ entries) = entry.Element ∷ own_of entries
 
--- one entry where there is something to do, and none otherwise
-abbrev pub fired_of : Option (Answered Event State) → List Entry
-fired_of None = []
-fired_of (Some fired) = entry.Fired fired.answer ∷ []
-
-abbrev pub done_of : Entry → Option State → List Entry
-done_of entry None = []
-done_of entry (Some st) = entry ∷ []
-
 -- the line is done by these entries
-abbrev pub Does : List (List ℕ) → State → StepLine → List Entry → Type 0
-Does blobs st (Call call) part =
+abbrev pub IsLineEntries : List (List ℕ) → State → StepLine → List Entry → Type 0
+IsLineEntries blobs st (Call call) part =
     own_of part ≡ entry.Script call (after_call blobs call st).answer ∷ []
-Does blobs st Fire part = own_of part ≡ fired_of (fire_result st)
-Does blobs st (Work k) part = own_of part ≡ done_of (entry.Work k) (after_work k st)
-Does blobs st Element part = own_of part ≡ done_of entry.Element (after_element_turn st)
-Does blobs st Drain part = IsDrain blobs st part
+IsLineEntries blobs st Fire part = own_of part ≡ fire_entries (fire_result st)
+IsLineEntries blobs st (Work k) part = own_of part ≡ entries_if (after_work k st) (entry.Work k)
+IsLineEntries blobs st Element part = own_of part ≡ entries_if (after_element_turn st) entry.Element
+IsLineEntries blobs st Drain part = IsDrain blobs st part
 
 -- a line that was cut off: it has not begun, or only the calls of listeners are cut, or it is the
 -- front of a drain
-abbrev pub Begins : List (List ℕ) → State → StepLine → List Entry → Type 0
-Begins blobs st (Call call) part = (part ≡ []) ⊎ Does blobs st (Call call) part
-Begins blobs st Fire part = (part ≡ []) ⊎ Does blobs st Fire part
-Begins blobs st (Work k) part = (part ≡ []) ⊎ Does blobs st (Work k) part
-Begins blobs st Element part = (part ≡ []) ⊎ Does blobs st Element part
-Begins blobs st Drain part = AreInDrainOrder blobs st part
+abbrev pub IsLineFront : List (List ℕ) → State → StepLine → List Entry → Type 0
+IsLineFront blobs st (Call call) part = (part ≡ []) ⊎ IsLineEntries blobs st (Call call) part
+IsLineFront blobs st Fire part = (part ≡ []) ⊎ IsLineEntries blobs st Fire part
+IsLineFront blobs st (Work k) part = (part ≡ []) ⊎ IsLineEntries blobs st (Work k) part
+IsLineFront blobs st Element part = (part ≡ []) ⊎ IsLineEntries blobs st Element part
+IsLineFront blobs st Drain part = AreInDrainOrder blobs st part
 
 -- there are `count` listeners, which make at most `limit` calls in one line
 pub record Limits : Type 0 where

@@ -5,7 +5,7 @@ use Rattle.call_script.specs.declared.script.StepLine.{StepLine}
 use Rattle.mse_engine.specs.State.{State}
 use Rattle.script_run.specs.DrainSteps.{AreInDrainOrder}
 use Rattle.script_run.specs.Follows.{IsNumberedLineBegun, IsNumberedLineDone, AreScriptLinesDone, AreScriptLinesBegun}
-use Rattle.script_run.specs.Lines.{Begins, Does, Limits, PlayInputs}
+use Rattle.script_run.specs.Lines.{IsLineFront, IsLineEntries, Limits, PlayInputs}
 
 abbrev pub EntryRelation : Type 1
 EntryRelation = State → List Entry → Type 0
@@ -20,8 +20,8 @@ pub record RunPart : Type 1 where
 abbrev pub line_part : List (List ℕ) → StepLine → RunPart
 line_part blobs line = record {
   blobs = blobs;
-  does = λ st part. Does blobs st line part;
-  begins = λ st part. Begins blobs st line part;
+  does = λ st part. IsLineEntries blobs st line part;
+  begins = λ st part. IsLineFront blobs st line part;
 }
 
 -- a part of a drain

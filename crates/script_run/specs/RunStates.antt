@@ -2,8 +2,6 @@
 use Rattle.std.specs.Prelude.{ℕ, List, Option}
 use Rattle.listeners.specs.Views.{RunView}
 use Rattle.listeners.specs.declared.listener.Note.{Note}
-use Rattle.mse_engine.specs.State.{State}
-use Rattle.mse_engine.specs.Standing.{Kept, Stands}
 
 -- a run, with what was written, where that is told
 pub record PrintedRun : Type 0 where
@@ -21,8 +19,3 @@ pub record RunState : Type 0 where
 
 abbrev pub run_at : RunView → Option (List ℕ) → List (List Note) → RunState
 run_at run written notes = record { run = run; written = written; notes = notes }
-
--- what is kept stands for some state
-pub record IsStanding (k : Kept) : Type 0 where
-  pub state : State
-  pub stands : Stands k state

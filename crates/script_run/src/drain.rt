@@ -4,12 +4,12 @@ ghost use Rattle.std.specs.Prelude.{◌≡◌, ◌≤◌, ◌<◌, ◌^◌, Ok, 
 ghost use Rattle.call_script.specs.declared.script.StepLine.{StepLine};
 ghost use Rattle.mse_engine.specs.State.{State};
 ghost use Rattle.mse_engine.specs.Standing.{Stands};
-ghost use Rattle.mse_outside.specs.Outside.{Rose};
+ghost use Rattle.mse_outside.specs.Outside.{HasRisen};
 ghost use Rattle.script_run.specs.RunParts.{line_part, drain_part};
 ghost use Rattle.script_run.specs.DrainSteps.{IsAtRest, IsQuiet, HasNoEvent};
 ghost use Rattle.script_run.specs.Progress.{IsCalm, HasFewerEvents};
-ghost use Rattle.script_run.specs.Plays.{IsPlayedInLineBy};
-ghost use Rattle.script_run.specs.RunStates.{IsStanding, run_at};
+ghost use Rattle.script_run.specs.PlayedParts.{IsPlayedInLineBy};
+ghost use Rattle.script_run.specs.RunStates.{run_at};
 
 use crate::put::put_entries;
 use crate::run::ScriptRun;
@@ -28,8 +28,7 @@ impl<S: FrameStore> ScriptRun<S> {
         sink: &mut K,
         listeners: &mut Vec<Box<dyn Listener>>,
     ) -> Result<bool, Stop>
-        requires listeners { vec_len listeners.old < 2 ^ 32 }
-        requires standing { IsStanding self.old.engine }
+        requires { vec_len listeners.old < 2 ^ 32 }
         ensures count { vec_len listeners.new ≡ vec_len listeners.old }
         ensures rules { map (λ b. rules b) listeners.new.items
             ≡ map (λ b. rules b) listeners.old.items }
@@ -41,9 +40,9 @@ impl<S: FrameStore> ScriptRun<S> {
         ensures none { result ≡ Ok false → self.new ≡ self.old }
         ensures empty { result ≡ Ok false → (st : State) → Stands self.old.engine st →
             HasNoEvent st }
-        ensures later { K.faults sink.old ≤ K.faults sink.new }
+        ensures no_fewer_faults { K.faults sink.old ≤ K.faults sink.new }
         ensures cause { IsErrOf result (Stop.Halted Halt.Write)
-            → Rose (K.faults sink.old) (K.faults sink.new) }
+            → HasRisen (K.faults sink.old) (K.faults sink.new) }
     {
         let from = self.journal.len();
         let Ok(next_event) = self.take_event() else {
@@ -82,8 +81,7 @@ impl<S: FrameStore> ScriptRun<S> {
         sink: &mut K,
         listeners: &mut Vec<Box<dyn Listener>>,
     ) -> Result<bool, Stop>
-        requires listeners { vec_len listeners.old < 2 ^ 32 }
-        requires standing { IsStanding self.old.engine }
+        requires { vec_len listeners.old < 2 ^ 32 }
         ensures count { vec_len listeners.new ≡ vec_len listeners.old }
         ensures rules { map (λ b. rules b) listeners.new.items
             ≡ map (λ b. rules b) listeners.old.items }
@@ -93,9 +91,9 @@ impl<S: FrameStore> ScriptRun<S> {
         ensures calm { result ≡ Ok true → IsCalm self.old.engine self.new.engine }
         ensures end { result ≡ Ok true → (st : State) → Stands self.new.engine st → HasNoEvent st }
         ensures called { result ≡ Ok false → self.new.left < self.old.left }
-        ensures later { K.faults sink.old ≤ K.faults sink.new }
+        ensures no_fewer_faults { K.faults sink.old ≤ K.faults sink.new }
         ensures cause { IsErrOf result (Stop.Halted Halt.Write)
-            → Rose (K.faults sink.old) (K.faults sink.new) }
+            → HasRisen (K.faults sink.old) (K.faults sink.new) }
     {
         let before = self.left;
         'firing: loop {
@@ -118,8 +116,7 @@ impl<S: FrameStore> ScriptRun<S> {
         sink: &mut K,
         listeners: &mut Vec<Box<dyn Listener>>,
     ) -> Result<bool, Stop>
-        requires listeners { vec_len listeners.old < 2 ^ 32 }
-        requires standing { IsStanding self.old.engine }
+        requires { vec_len listeners.old < 2 ^ 32 }
         ensures count { vec_len listeners.new ≡ vec_len listeners.old }
         ensures rules { map (λ b. rules b) listeners.new.items
             ≡ map (λ b. rules b) listeners.old.items }
@@ -128,9 +125,9 @@ impl<S: FrameStore> ScriptRun<S> {
             (run_at self.new (K.written sink.new) (map (λ b. notes b) listeners.new.items)) result }
         ensures end { result ≡ Ok true → (st : State) → Stands self.new.engine st → IsQuiet st }
         ensures called { result ≡ Ok false → self.new.left < self.old.left }
-        ensures later { K.faults sink.old ≤ K.faults sink.new }
+        ensures no_fewer_faults { K.faults sink.old ≤ K.faults sink.new }
         ensures cause { IsErrOf result (Stop.Halted Halt.Write)
-            → Rose (K.faults sink.old) (K.faults sink.new) }
+            → HasRisen (K.faults sink.old) (K.faults sink.new) }
     {
         'working: loop {
             match self.fire_all(blobs, sink, listeners) {
@@ -138,6 +135,8 @@ impl<S: FrameStore> ScriptRun<S> {
                 Ok(false) => return Ok(false),
                 Ok(true) => {}
             }
+            // The proof reads off this that there is a state that the engine stands for.
+            self.engine.sound();
             let Some(k) = self.engine.running() else {
                 return Ok(true);
             };
@@ -157,7 +156,6 @@ impl<S: FrameStore> ScriptRun<S> {
     ) -> Result<bool, Stop>
         requires quiet { (st : State) → Stands self.old.engine st → IsQuiet st }
         requires listeners { vec_len listeners.old < 2 ^ 32 }
-        requires standing { IsStanding self.old.engine }
         ensures count { vec_len listeners.new ≡ vec_len listeners.old }
         ensures rules { map (λ b. rules b) listeners.new.items
             ≡ map (λ b. rules b) listeners.old.items }
@@ -166,11 +164,13 @@ impl<S: FrameStore> ScriptRun<S> {
             (run_at self.new (K.written sink.new) (map (λ b. notes b) listeners.new.items)) result }
         ensures end { result ≡ Ok true → (st : State) → Stands self.new.engine st → IsAtRest st }
         ensures called { result ≡ Ok false → self.new.left < self.old.left }
-        ensures later { K.faults sink.old ≤ K.faults sink.new }
+        ensures no_fewer_faults { K.faults sink.old ≤ K.faults sink.new }
         ensures cause { IsErrOf result (Stop.Halted Halt.Write)
-            → Rose (K.faults sink.old) (K.faults sink.new) }
+            → HasRisen (K.faults sink.old) (K.faults sink.new) }
     {
         'turning: loop {
+            // The proof reads off this that there is a state that the engine stands for.
+            self.engine.sound();
             if !self.engine.due() {
                 return Ok(true);
             }
@@ -192,8 +192,7 @@ impl<S: FrameStore> ScriptRun<S> {
         sink: &mut K,
         listeners: &mut Vec<Box<dyn Listener>>,
     ) -> Result<bool, Stop>
-        requires listeners { vec_len listeners.old < 2 ^ 32 }
-        requires standing { IsStanding self.old.engine }
+        requires { vec_len listeners.old < 2 ^ 32 }
         ensures count { vec_len listeners.new ≡ vec_len listeners.old }
         ensures rules { map (λ b. rules b) listeners.new.items
             ≡ map (λ b. rules b) listeners.old.items }
@@ -202,9 +201,9 @@ impl<S: FrameStore> ScriptRun<S> {
             (run_at self.new (K.written sink.new) (map (λ b. notes b) listeners.new.items)) result }
         ensures end { result ≡ Ok true → (st : State) → Stands self.new.engine st → IsAtRest st }
         ensures called { result ≡ Ok false → self.new.left < self.old.left }
-        ensures later { K.faults sink.old ≤ K.faults sink.new }
+        ensures no_fewer_faults { K.faults sink.old ≤ K.faults sink.new }
         ensures cause { IsErrOf result (Stop.Halted Halt.Write)
-            → Rose (K.faults sink.old) (K.faults sink.new) }
+            → HasRisen (K.faults sink.old) (K.faults sink.new) }
     {
         match self.work_all(blobs, sink, listeners) {
             Err(stop) => return Err(stop),
@@ -224,17 +223,16 @@ impl<S: FrameStore> ScriptRun<S> {
         sink: &mut K,
         listeners: &mut Vec<Box<dyn Listener>>,
     ) -> Result<(), Stop>
-        requires listeners { vec_len listeners.old < 2 ^ 32 }
-        requires standing { IsStanding self.old.engine }
+        requires { vec_len listeners.old < 2 ^ 32 }
         ensures count { vec_len listeners.new ≡ vec_len listeners.old }
         ensures rules { map (λ b. rules b) listeners.new.items
             ≡ map (λ b. rules b) listeners.old.items }
         ensures ran { IsPlayedInLineBy (line_part blobs.now StepLine.Drain)
             (run_at self.old (K.written sink.old) (map (λ b. notes b) listeners.old.items))
             (run_at self.new (K.written sink.new) (map (λ b. notes b) listeners.new.items)) result }
-        ensures later { K.faults sink.old ≤ K.faults sink.new }
+        ensures no_fewer_faults { K.faults sink.old ≤ K.faults sink.new }
         ensures cause { IsErrOf result (Stop.Halted Halt.Write)
-            → Rose (K.faults sink.old) (K.faults sink.new) }
+            → HasRisen (K.faults sink.old) (K.faults sink.new) }
     {
         'draining: loop {
             match self.finish_work(blobs, sink, listeners) {

@@ -5,7 +5,7 @@
 //! lines of a script), `event_text` (the printed lines) and `mse_outside` (the sink). Its main
 //! contract is that of [`ScriptRun::play`]: the journal grew by entries that the engine goes by and
 //! that follow the script line by line, their lines were written, and each listener heard, made and
-//! was told what they say (`specs/Follows.antt`, `specs/Plays.antt`).
+//! was told what they say (`specs/Follows.antt`, `specs/PlayedParts.antt`).
 #![tactic(auto)]
 
 mod drain;

@@ -2,11 +2,11 @@
 
 ghost use Rattle.std.specs.Prelude.{◌≡◌, ◌≤◌, ◌<◌, ◌^◌, OnOk, OnErr, IsErrOf, length, map, vec_len};
 ghost use Rattle.call_script.specs.declared.script.StepLine.{StepLine};
-ghost use Rattle.mse_outside.specs.Outside.{Rose};
+ghost use Rattle.mse_outside.specs.Outside.{HasRisen};
 ghost use Rattle.script_run.specs.RunParts.{line_part, numbered_line_part, script_part};
 ghost use Rattle.script_run.specs.Lines.{limits, play_inputs};
-ghost use Rattle.script_run.specs.Plays.{IsCallHalted, IsCallMade, IsPlayedBy, IsPlayedInLineBy};
-ghost use Rattle.script_run.specs.RunStates.{IsStanding, printed_run, run_at};
+ghost use Rattle.script_run.specs.PlayedParts.{IsCallHalted, IsCallMade, IsPlayedBy, IsPlayedInLineBy};
+ghost use Rattle.script_run.specs.RunStates.{printed_run, run_at};
 ghost use Rattle.script_run.specs.Turns.{IsSpentInLine};
 
 use crate::put::put_entries;
@@ -20,15 +20,21 @@ use track_store::FrameStore;
 
 impl<S: FrameStore> ScriptRun<S> {
     /// Makes a call of the script, and puts its line.
-    fn call_aloud<K: Sink>(&mut self, blobs: &Blobs, sink: &mut K, call: &Call) -> Result<(), Halt>
+    fn call_and_print<K: Sink>(
+        &mut self,
+        blobs: &Blobs,
+        sink: &mut K,
+        call: &Call,
+    ) -> Result<(), Halt>
         ensures ok { OnOk result (IsCallMade blobs.now call.now
             (printed_run self.old (K.written sink.old))
             (printed_run self.new (K.written sink.new))) }
         ensures err { OnErr result (IsCallHalted blobs.now call.now
             (printed_run self.old (K.written sink.old))
             (printed_run self.new (K.written sink.new))) }
-        ensures later { K.faults sink.old ≤ K.faults sink.new }
-        ensures cause { IsErrOf result Halt.Write → Rose (K.faults sink.old) (K.faults sink.new) }
+        ensures no_fewer_faults { K.faults sink.old ≤ K.faults sink.new }
+        ensures cause { IsErrOf result Halt.Write
+            → HasRisen (K.faults sink.old) (K.faults sink.new) }
     {
         let from = self.journal.len();
         let Ok(()) = self.call(blobs, call) else {
@@ -45,20 +51,19 @@ impl<S: FrameStore> ScriptRun<S> {
         listeners: &mut Vec<Box<dyn Listener>>,
         line: &StepLine,
     ) -> Result<(), Stop>
-        requires listeners { vec_len listeners.old < 2 ^ 32 }
-        requires standing { IsStanding self.old.engine }
+        requires { vec_len listeners.old < 2 ^ 32 }
         ensures count { vec_len listeners.new ≡ vec_len listeners.old }
         ensures rules { map (λ b. rules b) listeners.new.items
             ≡ map (λ b. rules b) listeners.old.items }
         ensures ran { IsPlayedInLineBy (line_part blobs.now line.now)
             (run_at self.old (K.written sink.old) (map (λ b. notes b) listeners.old.items))
             (run_at self.new (K.written sink.new) (map (λ b. notes b) listeners.new.items)) result }
-        ensures later { K.faults sink.old ≤ K.faults sink.new }
+        ensures no_fewer_faults { K.faults sink.old ≤ K.faults sink.new }
         ensures cause { IsErrOf result (Stop.Halted Halt.Write)
-            → Rose (K.faults sink.old) (K.faults sink.new) }
+            → HasRisen (K.faults sink.old) (K.faults sink.new) }
     {
         match line {
-            StepLine::Call(call) => match self.call_aloud(blobs, sink, call) {
+            StepLine::Call(call) => match self.call_and_print(blobs, sink, call) {
                 Ok(()) => Ok(()),
                 Err(halt) => Err(Stop::Halted(halt)),
             },
@@ -88,8 +93,7 @@ impl<S: FrameStore> ScriptRun<S> {
         n: u32,
         line: &StepLine,
     ) -> Result<(), Stop>
-        requires listeners { vec_len listeners.old < 2 ^ 32 }
-        requires standing { IsStanding self.old.engine }
+        requires { vec_len listeners.old < 2 ^ 32 }
         ensures count { vec_len listeners.new ≡ vec_len listeners.old }
         ensures rules { map (λ b. rules b) listeners.new.items
             ≡ map (λ b. rules b) listeners.old.items }
@@ -97,9 +101,9 @@ impl<S: FrameStore> ScriptRun<S> {
             (play_inputs blobs.now (limits limit (vec_len listeners.old))) n line.now)
             (run_at self.old (K.written sink.old) (map (λ b. notes b) listeners.old.items))
             (run_at self.new (K.written sink.new) (map (λ b. notes b) listeners.new.items)) result }
-        ensures later { K.faults sink.old ≤ K.faults sink.new }
+        ensures no_fewer_faults { K.faults sink.old ≤ K.faults sink.new }
         ensures cause { IsErrOf result (Stop.Halted Halt.Write)
-            → Rose (K.faults sink.old) (K.faults sink.new) }
+            → HasRisen (K.faults sink.old) (K.faults sink.new) }
     {
         match self.open_line(n, limit) {
             Ok(()) => self.do_line(blobs, sink, listeners, line),
@@ -123,7 +127,6 @@ impl<S: FrameStore> ScriptRun<S> {
     ) -> Result<(), Stop>
         requires lines { length lines.now < 2 ^ 32 }
         requires listeners { vec_len listeners.old < 2 ^ 32 }
-        requires standing { IsStanding self.old.engine }
         ensures count { vec_len listeners.new ≡ vec_len listeners.old }
         ensures rules { map (λ b. rules b) listeners.new.items
             ≡ map (λ b. rules b) listeners.old.items }
@@ -131,9 +134,9 @@ impl<S: FrameStore> ScriptRun<S> {
             (limits limit (vec_len listeners.old)) lines.now)
             (run_at self.old (K.written sink.old) (map (λ b. notes b) listeners.old.items))
             (run_at self.new (K.written sink.new) (map (λ b. notes b) listeners.new.items)) result }
-        ensures later { K.faults sink.old ≤ K.faults sink.new }
+        ensures no_fewer_faults { K.faults sink.old ≤ K.faults sink.new }
         ensures cause { IsErrOf result (Stop.Halted Halt.Write)
-            → Rose (K.faults sink.old) (K.faults sink.new) }
+            → HasRisen (K.faults sink.old) (K.faults sink.new) }
     {
         for n in 0..lines.len() {
             match self.play_line(blobs, sink, listeners, limit, n as u32, &lines[n]) {

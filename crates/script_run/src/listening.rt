@@ -57,6 +57,9 @@ fn give_to(listener: &mut Box<dyn Listener>, list: Vec<Rule>)
 }
 
 /// Gives each listener the rules of its number, in their order. Rules of other numbers go.
+///
+/// An `Err` is want of memory; then listeners in front may have their rules already, and those
+/// behind have the rules that they had.
 pub fn give_rules(
     alloc: Global,
     listeners: &mut Vec<Box<dyn Listener>>,

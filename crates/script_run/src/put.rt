@@ -1,7 +1,7 @@
 //! Lines for the sink.
 
 ghost use Rattle.std.specs.Prelude.{◌≡◌, ◌≤◌, [], length, drop, unwrap_or, IfOk, OnOk, OnErr, IsErrOf};
-ghost use Rattle.mse_outside.specs.Outside.{Rose};
+ghost use Rattle.mse_outside.specs.Outside.{HasRisen};
 ghost use Rattle.event_text.specs.Lines.{line_text};
 ghost use Rattle.run_journal.specs.EntryRef.{entry_of};
 ghost use Rattle.script_run.specs.Text.{lines_of};
@@ -32,8 +32,8 @@ pub fn put_bytes<K: Sink>(sink: &mut K, bytes: &[u8]) -> Result<(), Halt>
     ensures ok { OnOk result (IsWritten bytes.now (K.written sink.old) (K.written sink.new)) }
     ensures err { OnErr result (IsFrontWritten bytes.now (K.written sink.old)
         (K.written sink.new)) }
-    ensures later { K.faults sink.old ≤ K.faults sink.new }
-    ensures cause { IsErrOf result Halt.Write → Rose (K.faults sink.old) (K.faults sink.new) }
+    ensures no_fewer_faults { K.faults sink.old ≤ K.faults sink.new }
+    ensures cause { IsErrOf result Halt.Write → HasRisen (K.faults sink.old) (K.faults sink.new) }
 {
     halt_of(sink.put(bytes))
 }
@@ -43,8 +43,8 @@ pub fn put_bytes<K: Sink>(sink: &mut K, bytes: &[u8]) -> Result<(), Halt>
 pub fn put_lines<K: Sink>(sink: &mut K, text: &str) -> Result<(), Halt>
     ensures ok { OnOk result (IsWritten text.now (K.written sink.old) (K.written sink.new)) }
     ensures err { OnErr result (IsFrontWritten text.now (K.written sink.old) (K.written sink.new)) }
-    ensures later { K.faults sink.old ≤ K.faults sink.new }
-    ensures cause { IsErrOf result Halt.Write → Rose (K.faults sink.old) (K.faults sink.new) }
+    ensures no_fewer_faults { K.faults sink.old ≤ K.faults sink.new }
+    ensures cause { IsErrOf result Halt.Write → HasRisen (K.faults sink.old) (K.faults sink.new) }
 {
     for line in text.split_inclusive('\n') {
         match put_bytes(sink, line.as_bytes()) {
@@ -77,8 +77,8 @@ fn put_entry<K: Sink>(alloc: Global, sink: &mut K, entry: &EntryRef<'_>) -> Resu
         (K.written sink.new)) }
     ensures err { OnErr result (IsFrontWritten (line_text (entry_of entry.now)) (K.written sink.old)
         (K.written sink.new)) }
-    ensures later { K.faults sink.old ≤ K.faults sink.new }
-    ensures cause { IsErrOf result Halt.Write → Rose (K.faults sink.old) (K.faults sink.new) }
+    ensures no_fewer_faults { K.faults sink.old ≤ K.faults sink.new }
+    ensures cause { IsErrOf result Halt.Write → HasRisen (K.faults sink.old) (K.faults sink.new) }
 {
     match entry_line(alloc, entry) {
         Ok(Some(line)) => put_bytes(sink, line.as_str().as_bytes()),
@@ -99,8 +99,8 @@ pub(crate) fn put_entries<K: Sink>(
         (K.written sink.old) (K.written sink.new)) }
     ensures err { OnErr result (IsFrontWritten (lines_of (drop from journal.now.entries))
         (K.written sink.old) (K.written sink.new)) }
-    ensures later { K.faults sink.old ≤ K.faults sink.new }
-    ensures cause { IsErrOf result Halt.Write → Rose (K.faults sink.old) (K.faults sink.new) }
+    ensures no_fewer_faults { K.faults sink.old ≤ K.faults sink.new }
+    ensures cause { IsErrOf result Halt.Write → HasRisen (K.faults sink.old) (K.faults sink.new) }
 {
     for i in from..journal.len() {
         let Some(entry) = journal.get(i) else {

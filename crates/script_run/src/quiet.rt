@@ -5,8 +5,7 @@ ghost use Rattle.mse_engine.specs.State.{State};
 ghost use Rattle.mse_engine.specs.Standing.{Stands};
 ghost use Rattle.script_run.specs.DrainSteps.{IsAtRest, IsQuiet, HasNoEvent};
 ghost use Rattle.script_run.specs.Progress.{IsCalm};
-ghost use Rattle.script_run.specs.Plays.{Drains};
-ghost use Rattle.script_run.specs.RunStates.{IsStanding};
+ghost use Rattle.script_run.specs.PlayedParts.{Drains};
 
 use crate::run::ScriptRun;
 use mse_base::OutOfMemory;
@@ -15,7 +14,6 @@ use track_store::FrameStore;
 impl<S: FrameStore> ScriptRun<S> {
     /// Fires all events of the queue.
     fn fire_quietly(&mut self) -> Result<(), OutOfMemory>
-        requires { IsStanding self.old.engine }
         ensures drains { (blobs : List (List ℕ)) → Drains blobs self.old self.new }
         ensures calm { IsCalm self.old.engine self.new.engine }
         ensures end { OnOk result ((st : State) → Stands self.new.engine st → HasNoEvent st) }
@@ -32,7 +30,6 @@ impl<S: FrameStore> ScriptRun<S> {
 
     /// Fires, and works on buffers, until no event waits and no buffer works.
     fn work_quietly(&mut self) -> Result<(), OutOfMemory>
-        requires { IsStanding self.old.engine }
         ensures drains { (blobs : List (List ℕ)) → Drains blobs self.old self.new }
         ensures end { OnOk result ((st : State) → Stands self.new.engine st → IsQuiet st) }
     {
@@ -40,6 +37,8 @@ impl<S: FrameStore> ScriptRun<S> {
             let Ok(()) = self.fire_quietly() else {
                 return Err(OutOfMemory);
             };
+            // The proof reads off this that there is a state that the engine stands for.
+            self.engine.sound();
             let Some(k) = self.engine.running() else {
                 return Ok(());
             };
@@ -51,8 +50,10 @@ impl<S: FrameStore> ScriptRun<S> {
 
     /// Fires, works and takes turns until there is nothing left to do. No listener hears of it, and
     /// nothing is written.
+    ///
+    /// An `Err` is want of memory; then it has come part of the way, and what was done stands in the
+    /// engine and in the journal.
     pub fn drain_quietly(&mut self) -> Result<(), OutOfMemory>
-        requires { IsStanding self.old.engine }
         ensures drains { (blobs : List (List ℕ)) → Drains blobs self.old self.new }
         ensures end { OnOk result ((st : State) → Stands self.new.engine st → IsAtRest st) }
     {
@@ -60,6 +61,8 @@ impl<S: FrameStore> ScriptRun<S> {
             return Err(OutOfMemory);
         };
         'turning: loop {
+            // The proof reads off this that there is a state that the engine stands for.
+            self.engine.sound();
             if !self.engine.due() {
                 return Ok(());
             }

@@ -3,13 +3,13 @@
 ghost use Rattle.std.specs.Prelude.{◌≡◌, ◌<◌, ◌≤ℤ◌, ◌++◌, ◌∷◌, [], ℕ, List, pos, Ok, true, IfOk, OnOk, OnErr, IsSome};
 ghost use Rattle.mse_calls.specs.declared.answers.Answer.{Answer};
 ghost use Rattle.mse_calls.specs.declared.entry.Entry.{Entry};
+ghost use Rattle.source_buffers.specs.All.{all_steps_left};
 ghost use Rattle.mse_engine.specs.State.{opening_state};
 ghost use Rattle.mse_engine.specs.Sound.{IsSoundEngine};
-ghost use Rattle.mse_engine.specs.Standing.{Stands};
+ghost use Rattle.mse_engine.specs.Standing.{IsStanding, Stands};
 ghost use Rattle.script_run.specs.DrainSteps.{element_step, work_step};
-ghost use Rattle.script_run.specs.Progress.{HasFewerEvents, HasFewerTurns, works_left};
-ghost use Rattle.script_run.specs.Plays.{IsOwnStep, IsOwnStepIf, IsEventTaken};
-ghost use Rattle.script_run.specs.RunStates.{IsStanding};
+ghost use Rattle.script_run.specs.Progress.{HasFewerEvents, HasFewerTurns};
+ghost use Rattle.script_run.specs.PlayedParts.{IsOwnStep, IsOwnStepIf, IsEventTaken};
 
 use mse_base::{OutOfMemory, Ticks};
 use mse_calls::{Blobs, Call, Entry, Event};
@@ -91,12 +91,14 @@ impl<S: FrameStore> ScriptRun<S> {
     /// One item of the work that runs on the buffer of a number; false where none runs there, and
     /// then nothing changed. An `Err` changes nothing.
     pub fn work(&mut self, k: u32) -> Result<bool, OutOfMemory>
-        requires { IsStanding self.old.engine }
         ensures ok { (blobs : List (List ℕ)) → IfOk result (λ worked.
             IsOwnStepIf blobs (work_step k) self.old self.new worked) }
-        ensures fewer { result ≡ Ok true → works_left self.new.engine < works_left self.old.engine }
+        ensures fewer { result ≡ Ok true
+            → all_steps_left self.new.engine.buffers < all_steps_left self.old.engine.buffers }
         ensures err { OnErr result (self.new ≡ self.old) }
     {
+        // The proof reads off this that there is a state that the engine stands for.
+        self.engine.sound();
         let Ok(()) = self.journal.reserve(1) else {
             return Err(OutOfMemory);
         };
@@ -113,12 +115,13 @@ impl<S: FrameStore> ScriptRun<S> {
     /// One turn of the element; false where none is due, and then nothing changed. An `Err` changes
     /// nothing.
     pub fn turn(&mut self) -> Result<bool, OutOfMemory>
-        requires { IsStanding self.old.engine }
         ensures ok { (blobs : List (List ℕ)) → IfOk result (λ turned.
             IsOwnStepIf blobs element_step self.old self.new turned) }
         ensures fewer { result ≡ Ok true → HasFewerTurns self.old.engine self.new.engine }
         ensures err { OnErr result (self.new ≡ self.old) }
     {
+        // The proof reads off this that there is a state that the engine stands for.
+        self.engine.sound();
         let Ok(()) = self.journal.reserve(1) else {
             return Err(OutOfMemory);
         };
@@ -135,7 +138,6 @@ impl<S: FrameStore> ScriptRun<S> {
     /// Takes the first event off the queue; `None` where it is empty, and then nothing changed. An
     /// `Err` changes nothing.
     pub fn take_event(&mut self) -> Result<Option<Event>, OutOfMemory>
-        requires { IsStanding self.old.engine }
         ensures ok { (blobs : List (List ℕ))
             → IfOk result (λ taken. IsEventTaken blobs self.old self.new taken) }
         ensures fewer { IfOk result (λ taken. IsSome taken
@@ -151,13 +153,14 @@ impl<S: FrameStore> ScriptRun<S> {
     /// The same, with room for its entry.
     #[inline(never)]
     fn fire_first(&mut self) -> Result<Option<Event>, OutOfMemory>
-        requires { IsStanding self.old.engine }
         ensures ok { (blobs : List (List ℕ))
             → IfOk result (λ taken. IsEventTaken blobs self.old self.new taken) }
         ensures fewer { IfOk result (λ taken. IsSome taken
             → HasFewerEvents self.old.engine self.new.engine) }
         ensures err { OnErr result (self.new ≡ self.old) }
     {
+        // The proof reads off this that there is a state that the engine stands for.
+        self.engine.sound();
         let Ok(()) = self.journal.reserve(1) else {
             return Err(OutOfMemory);
         };
@@ -173,8 +176,10 @@ impl<S: FrameStore> ScriptRun<S> {
         ensures ok { OnOk result (self.new
             ≡ record self.old { entries = self.old.entries ++ Entry.Step n ∷ []; left = limit }) }
         ensures sound { IsSoundEngine self.old.engine }
+        ensures standing { IsStanding self.old.engine }
         ensures err { OnErr result (self.new ≡ self.old) }
     {
+        // The proof reads off this that the engine is sound, and that it stands for a state.
         self.engine.sound();
         let Ok(()) = self.journal.reserve(1) else {
             return Err(OutOfMemory);

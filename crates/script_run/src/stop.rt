@@ -1,7 +1,7 @@
 //! Why a run stops.
 
 ghost use Rattle.std.specs.Prelude.{◌≡◌, ◌↔◌, Err, true};
-ghost use Rattle.script_run.specs.Plays.{stop_of};
+ghost use Rattle.script_run.specs.PlayedParts.{stop_of};
 
 use listeners::DispatchFault;
 

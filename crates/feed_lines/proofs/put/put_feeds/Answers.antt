@@ -7,7 +7,7 @@ use Rattle.feed_lines.proofs.put.put_feeds.Goals as goal
 pub feeding-init : goal.feeding-init
 feeding-init g c = record {
   feeding = no_group_yet c.args.from (state_of g.S.FrameStore.frames c.args.track.now) (g.K.Sink.written c.args.sink.now) c.requires;
-  later = omega arith;
+  no_fewer_faults = omega arith;
 }
 
 pub returns-in_default-clause-ok : goal.returns-in_default-clause-ok
@@ -34,7 +34,7 @@ feeding-preserved g c =
     let t = state_of g.S.FrameStore.frames c.args.track.now in
     let wanted = wanted_frame c.in-Some.serial _ c.in-Some.ensures.wanted in record {
       feeding = group_put c.args.from c.feeding.at c.in-Ok-put_given.end t wanted.0 _ _ _ _ c.requires wanted.1 c.feeding.invariant.feeding (rw wanted.2 at c.in-Ok.ensures.ok) c.in-Ok-put_given.ensures.ok c.in-Ok-put_given.ensures.end;
-      later = omega (arith, c.feeding.invariant.later, c.put_wanted.ensures.later, c.put_given.ensures.later);
+      no_fewer_faults = omega (arith, c.feeding.invariant.no_fewer_faults, c.put_wanted.ensures.no_fewer_faults, c.put_given.ensures.no_fewer_faults);
     }
 
 pub returns-in-Err-put_given-clause-err : goal.returns-in-Err-put_given-clause-err

@@ -7,7 +7,7 @@ use Rattle.feed_lines.proofs.put.put_feeds.Given as goal
 abbrev pub invariant-feeding : goal.invariant-feeding
 invariant-feeding g l = record {
   feeding : IsFeeding l.fn.from l.at (state_of g.S.FrameStore.frames l.track) (g.K.Sink.written l.fn.sink) (g.K.Sink.written l.sink);
-  later : g.K.Sink.faults l.fn.sink ≤ g.K.Sink.faults l.sink;
+  no_fewer_faults : g.K.Sink.faults l.fn.sink ≤ g.K.Sink.faults l.sink;
 }
 
 abbrev pub decreases-feeding : goal.decreases-feeding

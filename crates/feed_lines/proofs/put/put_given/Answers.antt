@@ -8,7 +8,7 @@ use Rattle.feed_lines.proofs.put.put_given.Goals as goal
 pub giving-init : goal.giving-init
 giving-init g c = record {
   giving = none_yet c.args.at (state_of g.S.FrameStore.frames c.args.track.now) c.args.feeder.now (g.K.Sink.written c.args.sink.now) c.requires.sought;
-  later = omega arith;
+  no_fewer_faults = omega arith;
 }
 
 pub returns-in-Err-clause-err : goal.returns-in-Err-clause-err
@@ -21,7 +21,7 @@ end_of-requires g c = (each_at IsTimed (g.S.FrameStore.frames c.args.track.now.s
 pub giving-preserved : goal.giving-preserved
 giving-preserved g c = record {
   giving = rw (c.in-Frame.ensures.state, c.greater_of-last.ensures, c.end_of.ensures) (one_more c.args.at (state_of g.S.FrameStore.frames c.args.track.now) c.giving.feeder c.in-Frame.place c.in-Some.stored.now c.giving.last _ _ _ (sym c.in-Frame.ensures.answer) (sym c.in-Some.ensures) c.giving.invariant.giving c.in-Ok.ensures.ok);
-  later = omega (arith, c.giving.invariant.later, c.put_frame.ensures.later);
+  no_fewer_faults = omega (arith, c.giving.invariant.no_fewer_faults, c.put_frame.ensures.no_fewer_faults);
 }
 
 pub returns-in-Ok-put_end-clause-end : goal.returns-in-Ok-put_end-clause-end

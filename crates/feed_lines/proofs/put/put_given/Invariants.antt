@@ -7,7 +7,7 @@ use Rattle.feed_lines.proofs.put.put_given.Given as goal
 abbrev pub invariant-giving : goal.invariant-giving
 invariant-giving g l = record {
   giving : IsGiving (group_place l.at (state_of g.S.FrameStore.frames l.track)) l.feeder l.last (g.K.Sink.written l.fn.sink) (g.K.Sink.written l.sink);
-  later : g.K.Sink.faults l.fn.sink ≤ g.K.Sink.faults l.sink;
+  no_fewer_faults : g.K.Sink.faults l.fn.sink ≤ g.K.Sink.faults l.sink;
 }
 
 abbrev pub decreases-giving : goal.decreases-giving

@@ -3,7 +3,7 @@ use Rattle.event_text.specs.Block.{closing_text}
 use Rattle.mse_calls.specs.declared.views.View.{View}
 use Rattle.mse_engine.specs.Views.{view_in}
 use Rattle.script_run.proofs.Writing.{front_first}
-use Rattle.mse_commands.proofs.Playing.{err_behind}
+use Rattle.mse_commands.proofs.PlayedScripts.{err_behind}
 use Rattle.mse_commands.proofs.commands.close.Goals as goal
 
 pub returns-in-Err-clause-err : goal.returns-in-Err-clause-err

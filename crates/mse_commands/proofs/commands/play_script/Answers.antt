@@ -2,7 +2,7 @@ use Rattle.std.proofs.Common.{◌≡◌, ◌∙◌, ap, string_bytes, arith, Lis
 use Rattle.std.specs.Prelude.{vec_len}
 use Rattle.std.proofs.lemmas.Grind.{common_steps}
 use Rattle.mse_commands.specs.Works.{script_inputs}
-use Rattle.mse_commands.proofs.Playing.{have_rules, plays_half, plays_to_stop, plays_whole}
+use Rattle.mse_commands.proofs.PlayedScripts.{have_rules, plays_half, plays_to_stop, plays_whole}
 use Rattle.mse_commands.proofs.commands.play_script.Goals as goal
 
 pub returns-in-Err-clause-plays : goal.returns-in-Err-clause-plays

@@ -15,7 +15,7 @@ returns-in-Err-load_blobs-clause-works g c =
     let ends = rw (c.in-Ok.ensures.table, c.as_slice.ensures) at c.in-Err-load_blobs.ensures.end in
     blobs_not_loaded (g.L.Library.table c.args.library.now) (g.L.Library.faults c.args.library.now) (g.L.Library.faults c.load_script.new.library) (g.L.Library.faults c.load_blobs.new.library)
     c.args.name.now c.in-Ok.script c.in-Err-load_blobs.end c.args.journal.now.entries c.args.engine.now (g.K.Sink.written c.args.sink.now) (vec_len c.args.listeners.now) _ _
-    c.requires.journal c.requires.engine c.in-Ok.ensures.later c.in-Ok.ensures.ok ends
+    c.requires.journal c.requires.engine c.in-Ok.ensures.no_fewer_faults c.in-Ok.ensures.ok ends
 
 pub play_script-result-requires-clause-lines : goal.play_script-result-requires-clause-lines
 play_script-result-requires-clause-lines g c =

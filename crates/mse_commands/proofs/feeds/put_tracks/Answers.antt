@@ -19,5 +19,5 @@ loop-i-preserved g c = record {
       let low : c.loop-i.i < length (tracks_in st) = omega (arith, c.loop-i-test.true, count) in
       let t = held (tracks_in st) c.loop-i.i low in
       one_put (feed_text c.args.at) (tracks_in st) c.loop-i.i t.0 _ _ _ t.1 (c.loop-i.invariant.put st h) (rw t.1 at (c.in-Ok-put_track.ensures.ok st h));
-  later = omega (arith, c.loop-i.invariant.later, c.put_track.ensures.later);
+  no_fewer_faults = omega (arith, c.loop-i.invariant.no_fewer_faults, c.put_track.ensures.no_fewer_faults);
 }

@@ -9,5 +9,5 @@ use Rattle.mse_commands.proofs.feeds.put_tracks.Given as goal
 abbrev pub invariant-loop-i : goal.invariant-loop-i
 invariant-loop-i g l = record {
   put : (st : State) → Stands l.engine st → IsPut (feed_text l.at) (tracks_in st) l.i (g.K.Sink.written l.fn.sink) (g.K.Sink.written l.sink);
-  later : g.K.Sink.faults l.fn.sink ≤ g.K.Sink.faults l.sink;
+  no_fewer_faults : g.K.Sink.faults l.fn.sink ≤ g.K.Sink.faults l.sink;
 }

@@ -1,11 +1,7 @@
 use Rattle.std.proofs.Common.{[], ◌∷◌}
 use Rattle.mse_commands.specs.Shown.{whole_piece}
-use Rattle.mse_commands.proofs.Appending.{appended_last, front_drained, front_none, front_opened, front_under_way, open_stands, piece_done, stands_on, under_way}
+use Rattle.mse_commands.proofs.Appending.{appended_last, front_drained, front_none, front_opened, front_under_way, piece_done, under_way}
 use Rattle.mse_commands.proofs.file.append_whole.Goals as goal
-
-pub drain_quietly-requires : goal.drain_quietly-requires
-drain_quietly-requires g c =
-    stands_on c.in-Ok.blobs _ c.open.new.run c.append.new.run c.in-Ok-append.ensures.ok.1 (open_stands c.in-Ok.blobs c.args.run.now c.open.new.run c.in-Ok-open.ensures.ok c.requires)
 
 pub returns-in_default-clause-err : goal.returns-in_default-clause-err
 returns-in_default-clause-err g c = front_none c.args.file.items (whole_piece ∷ []) c.args.run.now

@@ -7,15 +7,15 @@ returns-in-Err-clause-end g c =
     let i = c.loop-text.text-index in
     blobs_end (g.L.Library.table c.args.library.now) (g.L.Library.table c.loop-text.library) (g.L.Library.faults c.args.library.now) (g.L.Library.faults c.loop-text.library)
     (g.L.Library.faults c.load_blob.new.library) c.args.texts.now (take i c.args.texts.now) c.text-item.result (drop (i + 1) c.args.texts.now) c.loop-text.blobs c.in-Err.end
-    c.loop-text.invariant.table c.loop-text.invariant.later (parts_at c.args.texts.now i c.text-item.result c.loop-text-test.true c.text-item.is) c.loop-text.invariant.made c.in-Err.ensures.end
+    c.loop-text.invariant.table c.loop-text.invariant.no_fewer_faults (parts_at c.args.texts.now i c.text-item.result c.loop-text-test.true c.text-item.is) c.loop-text.invariant.made c.in-Err.ensures.end
 
 pub loop-text-preserved : goal.loop-text-preserved
 loop-text-preserved g c =
     let i = c.loop-text.text-index in
-    let later : g.L.Library.faults c.args.library.now ≤ g.L.Library.faults c.load_blob.new.library = omega (arith, c.loop-text.invariant.later, c.load_blob.ensures.later) in
+    let no_fewer : g.L.Library.faults c.args.library.now ≤ g.L.Library.faults c.load_blob.new.library = omega (arith, c.loop-text.invariant.no_fewer_faults, c.load_blob.ensures.no_fewer_faults) in
     record {
       table = c.load_blob.ensures.table ∙ c.loop-text.invariant.table;
-      later = later;
+      no_fewer_faults = no_fewer;
       count = rw c.in-Ok-push.ensures.ok (grind (arith, length-append, c.loop-text.invariant.count));
       made = blobs_step (g.L.Library.table c.args.library.now) (g.L.Library.table c.loop-text.library) (take i c.args.texts.now) (take (i + 1) c.args.texts.now) c.text-item.result
           c.loop-text.blobs c.push.new.self c.in-Ok.bytes c.loop-text.invariant.table (more_at c.args.texts.now i c.text-item.result c.loop-text-test.true c.text-item.is)

@@ -7,7 +7,7 @@ use Rattle.mse_commands.proofs.load.load_blobs.Given as goal
 abbrev pub invariant-loop-text : goal.invariant-loop-text
 invariant-loop-text g l = record {
   table : g.L.Library.table l.library ≡ g.L.Library.table l.fn.library;
-  later : g.L.Library.faults l.fn.library ≤ g.L.Library.faults l.library;
+  no_fewer_faults : g.L.Library.faults l.fn.library ≤ g.L.Library.faults l.library;
   count : length l.blobs ≡ l.text-index;
   made : IfSome (g.L.Library.table l.fn.library) (λ files. blobs_bytes files (take l.text-index l.texts) ≡ Ok l.blobs);
 }

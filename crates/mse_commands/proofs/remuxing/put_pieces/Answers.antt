@@ -12,5 +12,5 @@ pub loop-piece-preserved : goal.loop-piece-preserved
 loop-piece-preserved g c =
     let there : slice_get c.args.pieces.now c.loop-piece.piece-index ≡ Some c.piece-item.result = slice_get-get_or c.args.pieces.now c.loop-piece.piece-index c.piece-item.result c.loop-piece-test.true ∙ ap Some (sym c.piece-item.is) in record {
       put = one_put (λ piece. piece) c.args.pieces.now c.loop-piece.piece-index c.piece-item.result _ _ _ there c.loop-piece.invariant.put (rw c.as_slice.ensures at c.in-Ok.ensures.ok);
-      later = omega (arith, c.loop-piece.invariant.later, c.put_bytes.ensures.later);
+      no_fewer_faults = omega (arith, c.loop-piece.invariant.no_fewer_faults, c.put_bytes.ensures.no_fewer_faults);
     }

@@ -38,7 +38,7 @@ returns-in-Err-clause-complete g c =
     said_by (g.L.Library.table c.args.library.now) (map string_bytes c.args.words.now) (vec_len c.args.listeners.now) _ c.in-Err.end
     (g.K.Sink.written c.say.new.sink) c.say.result c.in-Err.ensures.works c.say.ensures.says in
     complete_by (g.L.Library.table c.args.library.now) (map string_bytes c.args.words.now) (vec_len c.args.listeners.now) _ _ _ c.say.result ends
-    (put_failed c.in-Err.end c.say.result _ _ _ c.say.ensures.write c.in-Err.ensures.write c.in-Err.ensures.later c.say.ensures.later)
+    (put_failed c.in-Err.end c.say.result _ _ _ c.say.ensures.write c.in-Err.ensures.write c.in-Err.ensures.no_fewer_faults c.say.ensures.no_fewer_faults)
 
 pub returns-in-Err-clause-cuts : goal.returns-in-Err-clause-cuts
 returns-in-Err-clause-cuts g c =

@@ -8,6 +8,6 @@ returns-in-Err-clause-err g c = entry_failed c.args.journal.now.entries c.loop-i
 
 pub loop-i-preserved : goal.loop-i-preserved
 loop-i-preserved g c = record {
-  later = omega (arith, c.loop-i.invariant.later, c.put_entry.ensures.later);
+  no_fewer_faults = omega (arith, c.loop-i.invariant.no_fewer_faults, c.put_entry.ensures.no_fewer_faults);
   wrote = entry_put c.args.journal.now.entries c.loop-i.i (entry_of c.in-Some.entry) _ _ _ _ c.in-Some.ensures c.loop-i.invariant.wrote c.in-Ok.ensures.ok;
 }

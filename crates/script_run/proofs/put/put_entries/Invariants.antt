@@ -5,7 +5,7 @@ use Rattle.script_run.proofs.put.put_entries.Given as goal
 
 abbrev pub invariant-loop-i : goal.invariant-loop-i
 invariant-loop-i g l = record {
-  later : g.K.Sink.faults l.fn.sink ≤ g.K.Sink.faults l.sink;
+  no_fewer_faults : g.K.Sink.faults l.fn.sink ≤ g.K.Sink.faults l.sink;
   wrote : (front : List ℕ) × IsWritten front (g.K.Sink.written l.fn.sink) (g.K.Sink.written l.sink)
       × (lines_of (drop l.from l.journal.entries) ≡ front ++ lines_of (drop l.i l.journal.entries));
 }

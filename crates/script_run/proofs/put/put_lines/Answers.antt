@@ -10,7 +10,7 @@ returns-in-Err-clause-err g c =
 pub loop-line-preserved : goal.loop-line-preserved
 loop-line-preserved g c =
     let so_far = c.loop-line.invariant.wrote in
-    let later : g.K.Sink.faults c.args.sink.now ≤ g.K.Sink.faults c.put_bytes.new.sink = omega (arith, c.put_bytes.ensures.later) in record {
+    let no_fewer : g.K.Sink.faults c.args.sink.now ≤ g.K.Sink.faults c.put_bytes.new.sink = omega (arith, c.put_bytes.ensures.no_fewer_faults) in record {
       wrote = line_put so_far.0 c.args.text.now _ _ _ _ _ _ c.in-Some.ensures.steps.1.0 so_far.1 so_far.2 (rw c.as_bytes.ensures.value at c.in-Ok.ensures.ok);
-      later = later;
+      no_fewer_faults = no_fewer;
     }

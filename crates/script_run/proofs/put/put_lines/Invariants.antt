@@ -7,5 +7,5 @@ use Rattle.script_run.proofs.put.put_lines.Given as goal
 abbrev pub invariant-loop-line : goal.invariant-loop-line
 invariant-loop-line g l = record {
   wrote : (front : List ℕ) × IsWritten front (g.K.Sink.written l.initial.sink) (g.K.Sink.written l.sink) × (front ++ split_inclusive_text l.line-iterator ≡ l.text);
-  later : g.K.Sink.faults l.initial.sink ≤ g.K.Sink.faults l.sink;
+  no_fewer_faults : g.K.Sink.faults l.initial.sink ≤ g.K.Sink.faults l.sink;
 }

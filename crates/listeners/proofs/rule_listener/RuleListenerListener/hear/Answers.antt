@@ -22,7 +22,7 @@ invariant_of-self-in_default c =
     let due = c.in_ok-due.ensures.due in
     let indexed = rw c.as_slice-rules.ensures.value at index in
     let more = rw (c.as_slice-rules.ensures.value, c.deref.ensures.value, rest_whole c.self.inside.due.items c.self.inside.at, c.in_default.is) at due in
-    rw (c.remarked-self-inside.ensures rules) (c.self.invariant.0, holds_heard rules notes c.args.event.now c.self.inside.index c.hear_event.new.index _ _ c.self.inside.call h (record { indexed = indexed (heard_of notes) h.indexed; due = more (heard_of notes) h.indexed }))
+    rw (c.with_remark-self-inside.ensures rules) (c.self.invariant.0, holds_heard rules notes c.args.event.now c.self.inside.index c.hear_event.new.index _ _ c.self.inside.call h (record { indexed = indexed (heard_of notes) h.indexed; due = more (heard_of notes) h.indexed }))
 
 pub invariant_of-self-2 : goal.invariant_of-self-2
 invariant_of-self-2 c =
@@ -33,4 +33,4 @@ invariant_of-self-2 c =
     let due = c.in_ok-due.ensures.due in
     let indexed = rw c.as_slice-rules.ensures.value at index in
     let more = rw (c.as_slice-rules.ensures.value, c.deref.ensures.value, rest_whole c.self.inside.due.items c.self.inside.at, c.in-Some.is) at due in
-    rw (c.remarked-self-inside-2.ensures rules) (omega arith, holds_heard rules notes c.args.event.now c.self.inside.index c.hear_event.new.index _ _ c.self.inside.call h (record { indexed = indexed (heard_of notes) h.indexed; due = more (heard_of notes) h.indexed }))
+    rw (c.with_remark-self-inside-2.ensures rules) (omega arith, holds_heard rules notes c.args.event.now c.self.inside.index c.hear_event.new.index _ _ c.self.inside.call h (record { indexed = indexed (heard_of notes) h.indexed; due = more (heard_of notes) h.indexed }))

@@ -7,7 +7,7 @@ use Rattle.listeners.proofs.rule_listener.RuleListenerListener.next.Goals as goa
 
 pub invariant_of-self : goal.invariant_of-self
 invariant_of-self c =
-    rw (c.told_and_remarked-self-inside.ensures c.self.inside.rules.items) (c.self.invariant.0, holds_rested _ _ _ _ _ _ c.self.invariant.1)
+    rw (c.with_answer_and_remark-self-inside.ensures c.self.inside.rules.items) (c.self.invariant.0, holds_rested _ _ _ _ _ _ c.self.invariant.1)
 
 pub returns-in_default-clause-by_rules : goal.returns-in_default-clause-by_rules
 returns-in_default-clause-by_rules c =
@@ -26,7 +26,7 @@ invariant_of-self-2 c =
     let is : rule ≡ get_or xs place rule = search rules in
     let room = room_there xs (notes_of xs c.self.inside.history.items) c.self.inside.index due c.self.inside.at c.self.inside.call place within there c.self.invariant.1 in
     let read = rule_read xs place rule (rule_inside xs place c.self.inside.call room) is in
-    rw (c.told_and_remarked-self-inside-2.ensures xs)
+    rw (c.with_answer_and_remark-self-inside-2.ensures xs)
     (holds_after xs (notes_of xs c.self.inside.history.items) c.self.inside.index due c.self.inside.at c.self.inside.call _ place rule c.turn_after-turn.result within there read c.turn_after-turn.ensures c.self.invariant.1)
 
 pub returns-clause-ok : goal.returns-clause-ok
@@ -42,7 +42,7 @@ returns-clause-ok c =
     let read = rule_read xs place rule (rule_inside xs place c.self.inside.call room) is in
     let called : c.in_ok-call.call ≡ get_or rule.calls c.self.inside.call c.in_ok-call.call = search rules in
     let call = call_read xs place c.self.inside.call rule c.in_ok-call.call read (rw read room) called in
-    rw (← c.self.view_is, call) (c.told_and_remarked-self-inside-2.ensures xs)
+    rw (← c.self.view_is, call) (c.with_answer_and_remark-self-inside-2.ensures xs)
 
 pub returns-clause-by_rules : goal.returns-clause-by_rules
 returns-clause-by_rules c =

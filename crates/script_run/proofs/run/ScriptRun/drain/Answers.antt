@@ -1,12 +1,9 @@
 use Rattle.std.proofs.Common.{◌∙◌, refl, arith}
-use Rattle.script_run.proofs.Draining.{drain_of, order_none, order_then_ran, order_then_stop, standing_ran}
+use Rattle.script_run.proofs.Draining.{drain_of, order_none, order_then_ran, order_then_stop}
 use Rattle.script_run.proofs.run.ScriptRun.drain.Goals as goal
 
 pub draining-init : goal.draining-init
-draining-init g c = record { count = refl; rules = refl; ran = order_none _ _; later = omega arith; left = omega arith }
-
-pub finish_work-requires-clause-standing : goal.finish_work-requires-clause-standing
-finish_work-requires-clause-standing g c = standing_ran _ _ _ _ c.requires.standing c.draining.invariant.ran
+draining-init g c = record { count = refl; rules = refl; ran = order_none _ _; no_fewer_faults = omega arith; left = omega arith }
 
 pub returns-in-Err-clause-ran : goal.returns-in-Err-clause-ran
 returns-in-Err-clause-ran g c = order_then_stop _ c.in-Err.stop _ _ _ c.draining.invariant.ran c.in-Err.ensures.ran
@@ -21,6 +18,6 @@ draining-preserved g c =
       count = c.finish_work.ensures.count ∙ c.draining.invariant.count;
       rules = c.finish_work.ensures.rules ∙ c.draining.invariant.rules;
       ran = both;
-      later = omega (arith, c.draining.invariant.later, c.finish_work.ensures.later);
+      no_fewer_faults = omega (arith, c.draining.invariant.no_fewer_faults, c.finish_work.ensures.no_fewer_faults);
       left = omega (arith, both.left);
     }

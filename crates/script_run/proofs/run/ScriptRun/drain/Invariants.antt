@@ -1,6 +1,6 @@
 use Rattle.std.proofs.Common.{◌≡◌, ◌≤◌, map, vec_len}
 use Rattle.script_run.specs.DrainSteps.{AreInDrainOrder}
-use Rattle.script_run.specs.Plays.{IsPlayedInLine}
+use Rattle.script_run.specs.PlayedParts.{IsPlayedInLine}
 use Rattle.script_run.specs.RunStates.{run_at}
 use Rattle.script_run.proofs.run.ScriptRun.drain.Given as goal
 
@@ -11,7 +11,7 @@ invariant-draining g l = record {
   ran : IsPlayedInLine l.blobs (AreInDrainOrder l.blobs)
       (run_at l.fn.self (g.K.Sink.written l.fn.sink) (map (λ b. (goal.Listener-dyn g (b.vtable, b.value)).notes b.value) l.fn.listeners.items))
       (run_at l.self (g.K.Sink.written l.sink) (map (λ b. (goal.Listener-dyn g (b.vtable, b.value)).notes b.value) l.listeners.items));
-  later : g.K.Sink.faults l.fn.sink ≤ g.K.Sink.faults l.sink;
+  no_fewer_faults : g.K.Sink.faults l.fn.sink ≤ g.K.Sink.faults l.sink;
   left : l.self.left ≤ l.fn.self.left;
 }
 

@@ -1,29 +1,17 @@
 use Rattle.std.proofs.Common.{◌≡◌, ◌∙◌, [], List, ℕ, refl, sym, true}
 use Rattle.mse_engine.specs.State.{State}
-use Rattle.mse_engine.specs.Standing.{Stands}
+use Rattle.mse_engine.specs.Standing.{IsStanding, Stands}
 use Rattle.mse_engine.specs.Work.{due_in}
-use Rattle.script_run.specs.Plays.{Drains}
-use Rattle.script_run.specs.RunStates.{IsStanding}
-use Rattle.script_run.proofs.Draining.{did_turn, drains_then, drains_turn, standing_drains, still_idle}
+use Rattle.script_run.specs.PlayedParts.{Drains}
+use Rattle.script_run.proofs.Draining.{did_turn, drains_then, drains_turn, still_idle}
 use Rattle.script_run.proofs.run.ScriptRun.drain_quietly.Goals as goal
 
 pub returns-then-not-due-clause-end : goal.returns-then-not-due-clause-end
 returns-then-not-due-clause-end g c = λ st h. record { quiet = c.turning.invariant.quiet st h; due = sym (c.due.ensures st (rw (← c.self.view_is) at h)) ∙ c.if-not-due.true }
 
-pub turn-requires : goal.turn-requires
-turn-requires g c = standing_drains c.args.self.now c.turning.self c.requires c.turning.invariant.drains
-
-pub fire_quietly-requires : goal.fire_quietly-requires
-fire_quietly-requires g c =
-    let stands : IsStanding c.turning.self.engine = standing_drains c.args.self.now c.turning.self c.requires c.turning.invariant.drains in
-    let due : (st : State) → Stands c.turning.self.engine st → due_in st ≡ true = λ st h. sym (c.due.ensures st (rw (← c.self.view_is) at h)) ∙ c.if-not-due.false in
-    let both : (blobs : List (List ℕ)) → Drains blobs c.args.self.now c.turn.new.self = λ blobs. drains_then blobs _ _ _ (c.turning.invariant.drains blobs)
-    (drains_turn blobs c.in-Ok-turn._has_turned c.turning.self c.turn.new.self stands c.turning.invariant.quiet due (c.in-Ok-turn.ensures.ok blobs)) in
-    standing_drains c.args.self.now c.turn.new.self c.requires both
-
 pub turning-smaller : goal.turning-smaller
 turning-smaller g c =
-    let stands : IsStanding c.turning.self.engine = standing_drains c.args.self.now c.turning.self c.requires c.turning.invariant.drains in
+    let stands : IsStanding c.turning.self.engine = rw (← c.self.view_is) c.sound.ensures.standing in
     let due : (st : State) → Stands c.turning.self.engine st → due_in st ≡ true = λ st h. sym (c.due.ensures st (rw (← c.self.view_is) at h)) ∙ c.if-not-due.false in
     let both : (blobs : List (List ℕ)) → Drains blobs c.args.self.now c.turn.new.self = λ blobs. drains_then blobs _ _ _ (c.turning.invariant.drains blobs)
     (drains_turn blobs c.in-Ok-turn._has_turned c.turning.self c.turn.new.self stands c.turning.invariant.quiet due (c.in-Ok-turn.ensures.ok blobs)) in
@@ -33,7 +21,7 @@ turning-smaller g c =
 
 pub turning-preserved : goal.turning-preserved
 turning-preserved g c =
-    let stands : IsStanding c.turning.self.engine = standing_drains c.args.self.now c.turning.self c.requires c.turning.invariant.drains in
+    let stands : IsStanding c.turning.self.engine = rw (← c.self.view_is) c.sound.ensures.standing in
     let due : (st : State) → Stands c.turning.self.engine st → due_in st ≡ true = λ st h. sym (c.due.ensures st (rw (← c.self.view_is) at h)) ∙ c.if-not-due.false in
     let both : (blobs : List (List ℕ)) → Drains blobs c.args.self.now c.turn.new.self = λ blobs. drains_then blobs _ _ _ (c.turning.invariant.drains blobs)
     (drains_turn blobs c.in-Ok-turn._has_turned c.turning.self c.turn.new.self stands c.turning.invariant.quiet due (c.in-Ok-turn.ensures.ok blobs)) in
@@ -50,7 +38,7 @@ turning-preserved g c =
 
 pub returns-in_default-fire_quietly-clause-drains : goal.returns-in_default-fire_quietly-clause-drains
 returns-in_default-fire_quietly-clause-drains g c =
-    let stands : IsStanding c.turning.self.engine = standing_drains c.args.self.now c.turning.self c.requires c.turning.invariant.drains in
+    let stands : IsStanding c.turning.self.engine = rw (← c.self.view_is) c.sound.ensures.standing in
     let due : (st : State) → Stands c.turning.self.engine st → due_in st ≡ true = λ st h. sym (c.due.ensures st (rw (← c.self.view_is) at h)) ∙ c.if-not-due.false in
     let both : (blobs : List (List ℕ)) → Drains blobs c.args.self.now c.turn.new.self = λ blobs. drains_then blobs _ _ _ (c.turning.invariant.drains blobs)
     (drains_turn blobs c.in-Ok-turn._has_turned c.turning.self c.turn.new.self stands c.turning.invariant.quiet due (c.in-Ok-turn.ensures.ok blobs)) in

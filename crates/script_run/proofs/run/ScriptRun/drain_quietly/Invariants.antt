@@ -2,8 +2,8 @@ use Rattle.std.proofs.Common.{List, ℕ}
 use Rattle.mse_engine.specs.State.{State}
 use Rattle.mse_engine.specs.Standing.{Stands}
 use Rattle.script_run.specs.DrainSteps.{IsQuiet}
-use Rattle.script_run.specs.Progress.{turns_left}
-use Rattle.script_run.specs.Plays.{Drains}
+use Rattle.script_run.specs.Progress.{own_turns_left}
+use Rattle.script_run.specs.PlayedParts.{Drains}
 use Rattle.script_run.proofs.run.ScriptRun.drain_quietly.Given as goal
 
 abbrev pub invariant-turning : goal.invariant-turning
@@ -13,4 +13,4 @@ invariant-turning g l = record {
 }
 
 abbrev pub decreases-turning : goal.decreases-turning
-decreases-turning g l = turns_left l.self.engine
+decreases-turning g l = own_turns_left l.self.engine

@@ -1,13 +1,10 @@
 use Rattle.std.proofs.Common.{◌≡◌, ◌∙◌, refl, ap, arith}
 use Rattle.listeners.specs.Views.{RunView}
-use Rattle.script_run.proofs.Draining.{calm_then, fire_ran_order, fire_stop_order, order_none, order_then_ran, order_then_stop, standing_ran}
+use Rattle.script_run.proofs.Draining.{calm_then, fire_ran_order, fire_stop_order, order_none, order_then_ran, order_then_stop}
 use Rattle.script_run.proofs.run.ScriptRun.fire_all.Goals as goal
 
 pub firing-init : goal.firing-init
-firing-init g c = rw (← c.self.view_is) (record { count = refl; rules = refl; ran = order_none _ _; later = omega arith; left = refl; begun = refl; calm = record { buffers = refl; turns = refl } })
-
-pub fire-requires-clause-standing : goal.fire-requires-clause-standing
-fire-requires-clause-standing g c = standing_ran _ _ _ _ c.requires.standing c.firing.invariant.ran
+firing-init g c = rw (← c.self.view_is) (record { count = refl; rules = refl; ran = order_none _ _; no_fewer_faults = omega arith; left = refl; begun = refl; calm = record { buffers = refl; turns = refl } })
 
 pub returns-in-Err-clause-ran : goal.returns-in-Err-clause-ran
 returns-in-Err-clause-ran g c = order_then_stop _ c.in-Err.stop _ _ _ c.firing.invariant.ran (fire_stop_order _ _ _ _ c.in-Err.ensures.ran)
@@ -32,7 +29,7 @@ firing-preserved g c =
       count = c.fire.ensures.count ∙ c.firing.invariant.count;
       rules = c.fire.ensures.rules ∙ c.firing.invariant.rules;
       ran = order_then_ran _ _ _ _ c.firing.invariant.ran (fire_ran_order _ _ _ c.in-Ok-true.ensures.ran);
-      later = omega (arith, c.firing.invariant.later, c.fire.ensures.later);
+      no_fewer_faults = omega (arith, c.firing.invariant.no_fewer_faults, c.fire.ensures.no_fewer_faults);
       left = left ∙ c.firing.invariant.left;
       begun = c.firing.invariant.begun;
       calm = calm_then _ _ _ c.firing.invariant.calm ((rw c.in-Ok-true.field-0-test at c.in-Ok-true.ensures.fewer) refl left).calm;

@@ -1,7 +1,7 @@
 use Rattle.std.proofs.Common.{◌≡◌, ◌≤◌, map, vec_len}
 use Rattle.script_run.specs.DrainSteps.{AreInDrainOrder}
 use Rattle.script_run.specs.Progress.{IsCalm, events_left}
-use Rattle.script_run.specs.Plays.{IsPlayedInLine}
+use Rattle.script_run.specs.PlayedParts.{IsPlayedInLine}
 use Rattle.script_run.specs.RunStates.{run_at}
 use Rattle.script_run.proofs.run.ScriptRun.fire_all.Given as goal
 
@@ -12,7 +12,7 @@ invariant-firing g l = record {
   ran : IsPlayedInLine l.blobs (AreInDrainOrder l.blobs)
       (run_at l.fn.self (g.K.Sink.written l.fn.sink) (map (λ b. (goal.Listener-dyn g (b.vtable, b.value)).notes b.value) l.fn.listeners.items))
       (run_at l.self (g.K.Sink.written l.sink) (map (λ b. (goal.Listener-dyn g (b.vtable, b.value)).notes b.value) l.listeners.items));
-  later : g.K.Sink.faults l.fn.sink ≤ g.K.Sink.faults l.sink;
+  no_fewer_faults : g.K.Sink.faults l.fn.sink ≤ g.K.Sink.faults l.sink;
   left : l.self.left ≡ l.before;
   begun : l.before ≡ l.fn.self.left;
   calm : IsCalm l.fn.self.engine l.self.engine;

@@ -6,8 +6,7 @@ use Rattle.script_run.proofs.run.ScriptRun.fire_first.Goals as goal
 
 pub returns-in_default-fire-clause-ok : goal.returns-in_default-fire-clause-ok
 returns-in_default-fire-clause-ok g c =
-    let stood = rw (← c.self.view_is) at c.requires.stands in
-    let same : c.fire.new.self ≡ c.self.inside.engine = not_fired (fire_result c.requires.state) _ _ (c.in_default-fire.ensures.fired c.requires.state stood) in
+    let same : c.fire.new.self ≡ c.self.inside.engine = not_fired (fire_result c.sound.ensures.standing.state) _ _ (c.in_default-fire.ensures.fired c.sound.ensures.standing.state c.sound.ensures.standing.stands) in
     λ blobs. (
       rw (same, c.reserve.ensures.entries) c.self.view_is,
       λ st h. no_event st.outer.queue st c.self.inside.engine c.fire.new.self (c.in_default-fire.ensures.fired st (rw (← c.self.view_is) at h)),
@@ -15,8 +14,7 @@ returns-in_default-fire-clause-ok g c =
 
 pub returns-clause-fewer : goal.returns-clause-fewer
 returns-clause-fewer g c = λ e.
-    let stood = rw (← c.self.view_is) at c.requires.stands in
-    rw (← c.self.view_is) (fired_taken c.self.inside.engine c.fire.new.self c.requires.state c.in-Some.event stood (c.in-Some.ensures.fired c.requires.state stood) c.fire.ensures.buffers)
+    rw (← c.self.view_is) (fired_taken c.self.inside.engine c.fire.new.self c.sound.ensures.standing.state c.in-Some.event c.sound.ensures.standing.stands (c.in-Some.ensures.fired c.sound.ensures.standing.state c.sound.ensures.standing.stands) c.fire.ensures.buffers)
 
 pub returns-clause-ok : goal.returns-clause-ok
 returns-clause-ok g c = λ blobs. rw (← c.self.view_is) (record {

@@ -1,12 +1,9 @@
 use Rattle.std.proofs.Common.{[], refl}
-use Rattle.script_run.proofs.Draining.{calm_then, drains_event, drains_none, drains_then, standing_drains}
+use Rattle.script_run.proofs.Draining.{calm_then, drains_event, drains_none, drains_then}
 use Rattle.script_run.proofs.run.ScriptRun.fire_quietly.Goals as goal
 
 pub firing-init : goal.firing-init
 firing-init g c = record { drains = λ blobs. drains_none blobs _; calm = record { buffers = refl; turns = refl } }
-
-pub take_event-requires : goal.take_event-requires
-take_event-requires g c = standing_drains c.args.self.now c.firing.self c.requires c.firing.invariant.drains
 
 pub firing-preserved : goal.firing-preserved
 firing-preserved g c =

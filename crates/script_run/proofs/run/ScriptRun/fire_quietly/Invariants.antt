@@ -1,6 +1,6 @@
 use Rattle.std.proofs.Common.{List, ℕ}
 use Rattle.script_run.specs.Progress.{IsCalm, events_left}
-use Rattle.script_run.specs.Plays.{Drains}
+use Rattle.script_run.specs.PlayedParts.{Drains}
 use Rattle.script_run.proofs.run.ScriptRun.fire_quietly.Given as goal
 
 abbrev pub invariant-firing : goal.invariant-firing

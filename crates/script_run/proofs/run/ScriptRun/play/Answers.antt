@@ -2,15 +2,11 @@ use Rattle.std.proofs.Common.{◌∙◌, refl, sym, arith, vec_len}
 use Rattle.script_run.specs.Lines.{limits}
 use Rattle.script_run.proofs.Cutting.{spent_behind}
 use Rattle.script_run.proofs.Following.{lines_join, lines_stop_join}
-use Rattle.script_run.proofs.Lining.{standing_played}
-use Rattle.script_run.proofs.Playing.{played_stop, played_then, ran_none}
+use Rattle.script_run.proofs.PartsInRow.{played_stop, played_then, ran_none}
 use Rattle.script_run.proofs.run.ScriptRun.play.Goals as goal
 
 pub loop-n-init : goal.loop-n-init
-loop-n-init g c = record { count = refl; rules = refl; played = (ran_none _ _ _ (λ st h. refl)).played; later = omega arith }
-
-pub play_line-requires-clause-standing : goal.play_line-requires-clause-standing
-play_line-requires-clause-standing g c = standing_played _ _ _ _ c.requires.standing c.loop-n.invariant.played
+loop-n-init g c = record { count = refl; rules = refl; played = (ran_none _ _ _ (λ st h. refl)).played; no_fewer_faults = omega arith }
 
 pub returns-in-Err-clause-played : goal.returns-in-Err-clause-played
 returns-in-Err-clause-played g c =
@@ -28,5 +24,5 @@ loop-n-preserved g c =
       played = played_then _ _ _ _ _ _ _
           (λ st xs ys p q. lines_join c.args.blobs.now (limits c.args.limit (vec_len c.args.listeners.now)) c.args.lines.now c.loop-n.n c.index-lines-n.result c.loop-n-test.true (sym c.index-lines-n.is) st xs ys p q)
           c.loop-n.invariant.played played;
-      later = omega (arith, c.loop-n.invariant.later, c.play_line.ensures.later);
+      no_fewer_faults = omega (arith, c.loop-n.invariant.no_fewer_faults, c.play_line.ensures.no_fewer_faults);
     }

@@ -1,5 +1,5 @@
 use Rattle.std.proofs.Common.{◌≡◌, ◌≤◌, map, vec_len}
-use Rattle.script_run.specs.Plays.{IsPlayed}
+use Rattle.script_run.specs.PlayedParts.{IsPlayed}
 use Rattle.script_run.specs.RunStates.{run_at}
 use Rattle.std.proofs.Common.{take}
 use Rattle.script_run.specs.Follows.{AreScriptLinesDone}
@@ -13,5 +13,5 @@ invariant-loop-n g l = record {
   played : IsPlayed l.blobs (AreScriptLinesDone l.blobs (limits l.limit (vec_len l.fn.listeners)) (take l.n l.lines))
       (run_at l.fn.self (g.K.Sink.written l.fn.sink) (map (λ b. (goal.Listener-dyn g (b.vtable, b.value)).notes b.value) l.fn.listeners.items))
       (run_at l.self (g.K.Sink.written l.sink) (map (λ b. (goal.Listener-dyn g (b.vtable, b.value)).notes b.value) l.listeners.items));
-  later : g.K.Sink.faults l.fn.sink ≤ g.K.Sink.faults l.sink;
+  no_fewer_faults : g.K.Sink.faults l.fn.sink ≤ g.K.Sink.faults l.sink;
 }

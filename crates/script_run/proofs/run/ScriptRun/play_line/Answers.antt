@@ -5,13 +5,10 @@ use Rattle.script_run.specs.Lines.{limits}
 use Rattle.script_run.proofs.Lining.{line_by, line_unopened}
 use Rattle.script_run.proofs.run.ScriptRun.play_line.Goals as goal
 
-pub do_line-requires-clause-standing : goal.do_line-requires-clause-standing
-do_line-requires-clause-standing g c = rw c.in-Ok.ensures.ok c.requires.standing
-
 pub returns-in-Ok-clause-played : goal.returns-in-Ok-clause-played
 returns-in-Ok-clause-played g c =
     let ran = rw c.in-Ok.ensures.ok at c.do_line.ensures.ran in
-    line_by c.args.blobs.now (limits c.args.limit (vec_len c.args.listeners.now)) c.args.n c.args.line.now _ _ _ _ _ _ _ c.requires.standing c.open_line.ensures.sound (simp length-map (grind (arith, common_steps))) ran
+    line_by c.args.blobs.now (limits c.args.limit (vec_len c.args.listeners.now)) c.args.n c.args.line.now _ _ _ _ _ _ _ c.open_line.ensures.standing c.open_line.ensures.sound (simp length-map (grind (arith, common_steps))) ran
 
 pub returns-in-Err-clause-played : goal.returns-in-Err-clause-played
 returns-in-Err-clause-played g c = rw c.in-Err.ensures.err (line_unopened _ _ _ _ _ _ _ _)

@@ -1,35 +1,23 @@
 use Rattle.std.proofs.Common.{◌≡◌, ◌∙◌, [], refl, sym, arith, true}
 use Rattle.mse_engine.specs.State.{State}
-use Rattle.mse_engine.specs.Standing.{Stands}
+use Rattle.mse_engine.specs.Standing.{IsStanding, Stands}
 use Rattle.mse_engine.specs.Work.{due_in}
-use Rattle.script_run.specs.RunStates.{IsStanding}
-use Rattle.script_run.proofs.Playing.{halt_none}
-use Rattle.script_run.proofs.Draining.{did_turn, order_none, order_then_ran, order_then_stop, standing_ran, still_idle, turning_ran}
+use Rattle.script_run.proofs.PartsInRow.{halt_none}
+use Rattle.script_run.proofs.Draining.{did_turn, order_none, order_then_ran, order_then_stop, still_idle, turning_ran}
 use Rattle.script_run.proofs.run.ScriptRun.turn_all.Goals as goal
 
 pub turning-init : goal.turning-init
-turning-init g c = record { count = refl; rules = refl; ran = order_none _ _; later = omega arith; left = omega arith; quiet = c.requires.quiet }
+turning-init g c = record { count = refl; rules = refl; ran = order_none _ _; no_fewer_faults = omega arith; left = omega arith; quiet = c.requires.quiet }
 
 pub returns-then-not-due-clause-end : goal.returns-then-not-due-clause-end
 returns-then-not-due-clause-end g c = λ e st h. record { quiet = c.turning.invariant.quiet st h; due = sym (c.due.ensures st (rw (← c.self.view_is) at h)) ∙ c.if-not-due.true }
 
-pub turn-requires : goal.turn-requires
-turn-requires g c = standing_ran _ _ _ _ c.requires.standing c.turning.invariant.ran
-
 pub returns-in_default-clause-ran : goal.returns-in_default-clause-ran
 returns-in_default-clause-ran g c = rw c.in_default.ensures.err (order_then_stop _ _ _ _ _ c.turning.invariant.ran (halt_none _ _ _ _ (λ st h. tt)))
 
-pub fire_all-requires-clause-standing : goal.fire_all-requires-clause-standing
-fire_all-requires-clause-standing g c =
-    let stands : IsStanding c.turning.self.engine = standing_ran _ _ _ _ c.requires.standing c.turning.invariant.ran in
-    let due : (st : State) → Stands c.turning.self.engine st → due_in st ≡ true = λ st h. sym (c.due.ensures st (rw (← c.self.view_is) at h)) ∙ c.if-not-due.false in
-    let turned = turning_ran c.args.blobs.now c.in-Ok._has_turned c.turning.self c.turn.new.self _ _ stands c.turning.invariant.quiet due (c.in-Ok.ensures.ok c.args.blobs.now) in
-    let both = order_then_ran _ _ _ _ c.turning.invariant.ran turned in
-    standing_ran _ _ _ _ c.requires.standing both
-
 pub returns-in-Err-clause-ran : goal.returns-in-Err-clause-ran
 returns-in-Err-clause-ran g c =
-    let stands : IsStanding c.turning.self.engine = standing_ran _ _ _ _ c.requires.standing c.turning.invariant.ran in
+    let stands : IsStanding c.turning.self.engine = rw (← c.self.view_is) c.sound.ensures.standing in
     let due : (st : State) → Stands c.turning.self.engine st → due_in st ≡ true = λ st h. sym (c.due.ensures st (rw (← c.self.view_is) at h)) ∙ c.if-not-due.false in
     let turned = turning_ran c.args.blobs.now c.in-Ok._has_turned c.turning.self c.turn.new.self _ _ stands c.turning.invariant.quiet due (c.in-Ok.ensures.ok c.args.blobs.now) in
     let both = order_then_ran _ _ _ _ c.turning.invariant.ran turned in
@@ -37,7 +25,7 @@ returns-in-Err-clause-ran g c =
 
 pub returns-in-Ok-false-clause-ran : goal.returns-in-Ok-false-clause-ran
 returns-in-Ok-false-clause-ran g c =
-    let stands : IsStanding c.turning.self.engine = standing_ran _ _ _ _ c.requires.standing c.turning.invariant.ran in
+    let stands : IsStanding c.turning.self.engine = rw (← c.self.view_is) c.sound.ensures.standing in
     let due : (st : State) → Stands c.turning.self.engine st → due_in st ≡ true = λ st h. sym (c.due.ensures st (rw (← c.self.view_is) at h)) ∙ c.if-not-due.false in
     let turned = turning_ran c.args.blobs.now c.in-Ok._has_turned c.turning.self c.turn.new.self _ _ stands c.turning.invariant.quiet due (c.in-Ok.ensures.ok c.args.blobs.now) in
     let both = order_then_ran _ _ _ _ c.turning.invariant.ran turned in
@@ -45,7 +33,7 @@ returns-in-Ok-false-clause-ran g c =
 
 pub returns-in-Ok-false-clause-called : goal.returns-in-Ok-false-clause-called
 returns-in-Ok-false-clause-called g c = λ e.
-    let stands : IsStanding c.turning.self.engine = standing_ran _ _ _ _ c.requires.standing c.turning.invariant.ran in
+    let stands : IsStanding c.turning.self.engine = rw (← c.self.view_is) c.sound.ensures.standing in
     let due : (st : State) → Stands c.turning.self.engine st → due_in st ≡ true = λ st h. sym (c.due.ensures st (rw (← c.self.view_is) at h)) ∙ c.if-not-due.false in
     let turned = turning_ran c.args.blobs.now c.in-Ok._has_turned c.turning.self c.turn.new.self _ _ stands c.turning.invariant.quiet due (c.in-Ok.ensures.ok c.args.blobs.now) in
     let both = order_then_ran _ _ _ _ c.turning.invariant.ran turned in
@@ -53,7 +41,7 @@ returns-in-Ok-false-clause-called g c = λ e.
 
 pub turning-preserved : goal.turning-preserved
 turning-preserved g c =
-    let stands : IsStanding c.turning.self.engine = standing_ran _ _ _ _ c.requires.standing c.turning.invariant.ran in
+    let stands : IsStanding c.turning.self.engine = rw (← c.self.view_is) c.sound.ensures.standing in
     let due : (st : State) → Stands c.turning.self.engine st → due_in st ≡ true = λ st h. sym (c.due.ensures st (rw (← c.self.view_is) at h)) ∙ c.if-not-due.false in
     let turned = turning_ran c.args.blobs.now c.in-Ok._has_turned c.turning.self c.turn.new.self _ _ stands c.turning.invariant.quiet due (c.in-Ok.ensures.ok c.args.blobs.now) in
     let both = order_then_ran _ _ _ _ c.turning.invariant.ran turned in
@@ -65,7 +53,7 @@ turning-preserved g c =
       count = c.fire_all.ensures.count ∙ c.turning.invariant.count;
       rules = c.fire_all.ensures.rules ∙ c.turning.invariant.rules;
       ran = all;
-      later = omega (arith, c.turning.invariant.later, c.fire_all.ensures.later);
+      no_fewer_faults = omega (arith, c.turning.invariant.no_fewer_faults, c.fire_all.ensures.no_fewer_faults);
       left = omega (arith, all.left);
       quiet = λ st h. record {
         queue = ((rw c.in-Ok-true.field-0-test at c.in-Ok-true.ensures.end) refl) st h;
@@ -75,7 +63,7 @@ turning-preserved g c =
 
 pub turning-smaller : goal.turning-smaller
 turning-smaller g c =
-    let stands : IsStanding c.turning.self.engine = standing_ran _ _ _ _ c.requires.standing c.turning.invariant.ran in
+    let stands : IsStanding c.turning.self.engine = rw (← c.self.view_is) c.sound.ensures.standing in
     let due : (st : State) → Stands c.turning.self.engine st → due_in st ≡ true = λ st h. sym (c.due.ensures st (rw (← c.self.view_is) at h)) ∙ c.if-not-due.false in
     let did : c.in-Ok._has_turned ≡ true = did_turn [] c.in-Ok._has_turned c.turning.self c.turn.new.self stands due (c.in-Ok.ensures.ok []) in
     let taken = (rw did at c.in-Ok.ensures.fewer) refl in

@@ -2,8 +2,8 @@ use Rattle.std.proofs.Common.{◌≡◌, ◌≤◌, map, vec_len}
 use Rattle.mse_engine.specs.State.{State}
 use Rattle.mse_engine.specs.Standing.{Stands}
 use Rattle.script_run.specs.DrainSteps.{AreInDrainOrder, IsQuiet}
-use Rattle.script_run.specs.Progress.{turns_left}
-use Rattle.script_run.specs.Plays.{IsPlayedInLine}
+use Rattle.script_run.specs.Progress.{own_turns_left}
+use Rattle.script_run.specs.PlayedParts.{IsPlayedInLine}
 use Rattle.script_run.specs.RunStates.{run_at}
 use Rattle.script_run.proofs.run.ScriptRun.turn_all.Given as goal
 
@@ -14,10 +14,10 @@ invariant-turning g l = record {
   ran : IsPlayedInLine l.blobs (AreInDrainOrder l.blobs)
       (run_at l.fn.self (g.K.Sink.written l.fn.sink) (map (λ b. (goal.Listener-dyn g (b.vtable, b.value)).notes b.value) l.fn.listeners.items))
       (run_at l.self (g.K.Sink.written l.sink) (map (λ b. (goal.Listener-dyn g (b.vtable, b.value)).notes b.value) l.listeners.items));
-  later : g.K.Sink.faults l.fn.sink ≤ g.K.Sink.faults l.sink;
+  no_fewer_faults : g.K.Sink.faults l.fn.sink ≤ g.K.Sink.faults l.sink;
   left : l.self.left ≤ l.fn.self.left;
   quiet : (st : State) → Stands l.self.engine st → IsQuiet st;
 }
 
 abbrev pub decreases-turning : goal.decreases-turning
-decreases-turning g l = turns_left l.self.engine
+decreases-turning g l = own_turns_left l.self.engine

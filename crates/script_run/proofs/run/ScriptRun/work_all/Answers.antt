@@ -1,18 +1,14 @@
 use Rattle.std.proofs.Common.{◌≡◌, ◌∙◌, [], refl, sym, arith, true}
 use Rattle.std.specs.Prelude.{Some}
 use Rattle.mse_engine.specs.State.{State}
-use Rattle.mse_engine.specs.Standing.{Stands}
+use Rattle.mse_engine.specs.Standing.{IsStanding, Stands}
 use Rattle.mse_engine.specs.Work.{running_in}
-use Rattle.script_run.specs.RunStates.{IsStanding}
-use Rattle.script_run.proofs.Playing.{halt_none}
-use Rattle.script_run.proofs.Draining.{did_work, order_none, order_then_ran, order_then_stop, standing_ran, working_ran}
+use Rattle.script_run.proofs.PartsInRow.{halt_none}
+use Rattle.script_run.proofs.Draining.{did_work, order_none, order_then_ran, order_then_stop, working_ran}
 use Rattle.script_run.proofs.run.ScriptRun.work_all.Goals as goal
 
 pub working-init : goal.working-init
-working-init g c = record { count = refl; rules = refl; ran = order_none _ _; later = omega arith; left = omega arith }
-
-pub fire_all-requires-clause-standing : goal.fire_all-requires-clause-standing
-fire_all-requires-clause-standing g c = standing_ran _ _ _ _ c.requires.standing c.working.invariant.ran
+working-init g c = record { count = refl; rules = refl; ran = order_none _ _; no_fewer_faults = omega arith; left = omega arith }
 
 pub returns-in-Err-clause-ran : goal.returns-in-Err-clause-ran
 returns-in-Err-clause-ran g c = order_then_stop _ c.in-Err.stop _ _ _ c.working.invariant.ran c.in-Err.ensures.ran
@@ -26,12 +22,6 @@ returns-in_default-clause-ran g c = order_then_ran _ _ _ _ c.working.invariant.r
 pub returns-in_default-clause-end : goal.returns-in_default-clause-end
 returns-in_default-clause-end g c = λ e st h. record { queue = ((rw c.in-Ok-true.field-0-test at c.in-Ok-true.ensures.end) refl) st h; running = sym (c.in_default.ensures st (rw (← c.self.view_is) at h)) }
 
-pub work-requires : goal.work-requires
-work-requires g c =
-    let both = order_then_ran _ _ _ _ c.working.invariant.ran c.in-Ok-true.ensures.ran in
-    let stands : IsStanding c.fire_all.new.self.engine = standing_ran _ _ _ _ c.requires.standing both in
-    stands
-
 pub returns-in_default-work-clause-ran : goal.returns-in_default-work-clause-ran
 returns-in_default-work-clause-ran g c =
     rw c.in_default-work.ensures.err (order_then_stop _ _ _ _ _ (order_then_ran _ _ _ _ c.working.invariant.ran c.in-Ok-true.ensures.ran) (halt_none _ _ _ _ (λ st h. tt)))
@@ -39,21 +29,21 @@ returns-in_default-work-clause-ran g c =
 pub working-preserved : goal.working-preserved
 working-preserved g c =
     let both = order_then_ran _ _ _ _ c.working.invariant.ran c.in-Ok-true.ensures.ran in
-    let stands : IsStanding c.fire_all.new.self.engine = standing_ran _ _ _ _ c.requires.standing both in
+    let stands : IsStanding c.fire_all.new.self.engine = rw (← c.self.view_is) c.sound.ensures.standing in
     let runs : (st : State) → Stands c.fire_all.new.self.engine st → running_in st ≡ Some c.in-Some.k = λ st h. sym (c.in-Some.ensures st (rw (← c.self.view_is) at h)) in
     let step = working_ran c.args.blobs.now c.in-Some.k c.in-Ok._has_worked c.fire_all.new.self c.work.new.self _ _ stands ((rw c.in-Ok-true.field-0-test at c.in-Ok-true.ensures.end) refl) runs (c.in-Ok.ensures.ok c.args.blobs.now) in
     record {
       count = c.fire_all.ensures.count ∙ c.working.invariant.count;
       rules = c.fire_all.ensures.rules ∙ c.working.invariant.rules;
       ran = order_then_ran _ _ _ _ both step;
-      later = omega (arith, c.working.invariant.later, c.fire_all.ensures.later);
+      no_fewer_faults = omega (arith, c.working.invariant.no_fewer_faults, c.fire_all.ensures.no_fewer_faults);
       left = omega (arith, both.left, step.left);
     }
 
 pub working-smaller : goal.working-smaller
 working-smaller g c =
     let both = order_then_ran _ _ _ _ c.working.invariant.ran c.in-Ok-true.ensures.ran in
-    let stands : IsStanding c.fire_all.new.self.engine = standing_ran _ _ _ _ c.requires.standing both in
+    let stands : IsStanding c.fire_all.new.self.engine = rw (← c.self.view_is) c.sound.ensures.standing in
     let runs : (st : State) → Stands c.fire_all.new.self.engine st → running_in st ≡ Some c.in-Some.k = λ st h. sym (c.in-Some.ensures st (rw (← c.self.view_is) at h)) in
     let did : c.in-Ok._has_worked ≡ true = did_work [] c.in-Some.k c.in-Ok._has_worked c.fire_all.new.self c.work.new.self stands runs (c.in-Ok.ensures.ok []) in
     let fewer = (rw did at c.in-Ok.ensures.fewer) refl in

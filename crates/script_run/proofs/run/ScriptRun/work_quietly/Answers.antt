@@ -1,18 +1,14 @@
 use Rattle.std.proofs.Common.{◌≡◌, [], List, ℕ, refl, sym, true}
 use Rattle.std.specs.Prelude.{Some}
 use Rattle.mse_engine.specs.State.{State}
-use Rattle.mse_engine.specs.Standing.{Stands}
+use Rattle.mse_engine.specs.Standing.{IsStanding, Stands}
 use Rattle.mse_engine.specs.Work.{running_in}
-use Rattle.script_run.specs.Plays.{Drains}
-use Rattle.script_run.specs.RunStates.{IsStanding}
-use Rattle.script_run.proofs.Draining.{did_work, drains_none, drains_then, drains_work, standing_drains}
+use Rattle.script_run.specs.PlayedParts.{Drains}
+use Rattle.script_run.proofs.Draining.{did_work, drains_none, drains_then, drains_work}
 use Rattle.script_run.proofs.run.ScriptRun.work_quietly.Goals as goal
 
 pub working-init : goal.working-init
 working-init g c = record { drains = λ blobs. drains_none blobs _ }
-
-pub fire_quietly-requires : goal.fire_quietly-requires
-fire_quietly-requires g c = standing_drains c.args.self.now c.working.self c.requires c.working.invariant.drains
 
 pub returns-in_default-clause-drains : goal.returns-in_default-clause-drains
 returns-in_default-clause-drains g c = λ blobs. drains_then blobs _ _ _ (c.working.invariant.drains blobs) (c.fire_quietly.ensures.drains blobs)
@@ -23,15 +19,10 @@ returns-in_default-running-clause-drains g c = λ blobs. drains_then blobs _ _ _
 pub returns-in_default-running-clause-end : goal.returns-in_default-running-clause-end
 returns-in_default-running-clause-end g c = λ st h. record { queue = c.in-Ok.ensures.end st h; running = sym (c.in_default-running.ensures st (rw (← c.self.view_is) at h)) }
 
-pub work-requires : goal.work-requires
-work-requires g c =
-    let both : (blobs : List (List ℕ)) → Drains blobs c.args.self.now c.fire_quietly.new.self = λ blobs. drains_then blobs _ _ _ (c.working.invariant.drains blobs) (c.fire_quietly.ensures.drains blobs) in
-    standing_drains c.args.self.now c.fire_quietly.new.self c.requires both
-
 pub working-smaller : goal.working-smaller
 working-smaller g c =
     let both : (blobs : List (List ℕ)) → Drains blobs c.args.self.now c.fire_quietly.new.self = λ blobs. drains_then blobs _ _ _ (c.working.invariant.drains blobs) (c.fire_quietly.ensures.drains blobs) in
-    let stands : IsStanding c.fire_quietly.new.self.engine = standing_drains c.args.self.now c.fire_quietly.new.self c.requires both in
+    let stands : IsStanding c.fire_quietly.new.self.engine = rw (← c.self.view_is) c.sound.ensures.standing in
     let runs : (st : State) → Stands c.fire_quietly.new.self.engine st → running_in st ≡ Some c.in-Some.k = λ st h. sym (c.in-Some.ensures st (rw (← c.self.view_is) at h)) in
     let did : c.in-Ok-work._has_worked ≡ true = did_work [] c.in-Some.k c.in-Ok-work._has_worked c.fire_quietly.new.self c.work.new.self stands runs (c.in-Ok-work.ensures.ok []) in
     let fewer = (rw did at c.in-Ok-work.ensures.fewer) refl in
@@ -40,7 +31,7 @@ working-smaller g c =
 pub working-preserved : goal.working-preserved
 working-preserved g c =
     let both : (blobs : List (List ℕ)) → Drains blobs c.args.self.now c.fire_quietly.new.self = λ blobs. drains_then blobs _ _ _ (c.working.invariant.drains blobs) (c.fire_quietly.ensures.drains blobs) in
-    let stands : IsStanding c.fire_quietly.new.self.engine = standing_drains c.args.self.now c.fire_quietly.new.self c.requires both in
+    let stands : IsStanding c.fire_quietly.new.self.engine = rw (← c.self.view_is) c.sound.ensures.standing in
     let runs : (st : State) → Stands c.fire_quietly.new.self.engine st → running_in st ≡ Some c.in-Some.k = λ st h. sym (c.in-Some.ensures st (rw (← c.self.view_is) at h)) in
     record {
       drains = λ blobs. drains_then blobs _ _ _ (both blobs)

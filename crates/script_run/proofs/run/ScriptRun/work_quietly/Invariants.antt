@@ -1,6 +1,6 @@
 use Rattle.std.proofs.Common.{List, ℕ}
-use Rattle.script_run.specs.Progress.{works_left}
-use Rattle.script_run.specs.Plays.{Drains}
+use Rattle.source_buffers.specs.All.{all_steps_left}
+use Rattle.script_run.specs.PlayedParts.{Drains}
 use Rattle.script_run.proofs.run.ScriptRun.work_quietly.Given as goal
 
 abbrev pub invariant-working : goal.invariant-working
@@ -9,4 +9,4 @@ invariant-working g l = record {
 }
 
 abbrev pub decreases-working : goal.decreases-working
-decreases-working g l = works_left l.self.engine
+decreases-working g l = all_steps_left l.self.engine.buffers

@@ -17,7 +17,7 @@ use Rattle.script_run.specs.declared.stop.Stop.{Stop}
 use Rattle.script_run.specs.declared.stop.Stop.TheVariants.{Halted, CallBudget, TaskBudget}
 use Rattle.listeners.specs.Views.{RunView}
 use Rattle.script_run.specs.RunParts.{EntryRelation}
-use Rattle.script_run.specs.Plays.{HasGrown, IsPlayed, IsPlayedUpTo, IsPlayedInLine, IsPlayedInLineUpTo, IsStoppedBy, IsHeardUpTo, part_front}
+use Rattle.script_run.specs.PlayedParts.{HasGrown, IsPlayed, IsPlayedUpTo, IsPlayedInLine, IsPlayedInLineUpTo, IsStoppedBy, IsHeardUpTo, part_front}
 use Rattle.script_run.specs.RunStates.{RunState}
 use Rattle.script_run.specs.NoteHistory.{IsAllHeard}
 use Rattle.script_run.specs.Text.{lines_of}

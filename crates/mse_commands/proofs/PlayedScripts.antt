@@ -13,7 +13,7 @@ use Rattle.script_run.specs.declared.stop.Halt.TheVariants as halt
 use Rattle.script_run.specs.declared.stop.Stop.{Stop}
 use Rattle.script_run.specs.declared.stop.Stop.TheVariants.{Halted, CallBudget, TaskBudget}
 use Rattle.script_run.specs.Follows.{AreScriptLinesDone}
-use Rattle.script_run.specs.Plays.{IsPlayed, IsPlayedUpTo}
+use Rattle.script_run.specs.PlayedParts.{IsPlayed, IsPlayedUpTo}
 use Rattle.script_run.specs.Rules.{rules_at, rules_for}
 use Rattle.listeners.specs.Views.{RunView}
 use Rattle.script_run.specs.RunStates.{RunState, run_at}
