@@ -39,8 +39,8 @@ fn texts(alloc: Global, words: &[&str]) -> Result<Vec<String>, AllocError> {
     Ok(made)
 }
 
-// The bytes of a file that is told in words: `I` with a timescale for an initialization segment, `F` for the file type
-// box in front of it, `Z` for a hundred bytes of 0, and else digits of base 16.
+/// The bytes of a file that is told in words: `I` with a timescale for an initialization segment, `F` for the file type
+/// box in front of it, `Z` for a hundred bytes of 0, and else digits of base 16.
 fn bytes_of(alloc: Global, file: &str) -> Result<Vec<u8>, FromHexError> {
     let mut digits = String::new(alloc);
     for word in file.split_whitespace() {
@@ -67,7 +67,7 @@ fn plain_file(alloc: Global) -> Result<Vec<u8>, FromHexError> {
     Ok(bytes)
 }
 
-// A library of the one file `plain.mp4`. Its first load fails where that is asked for.
+/// A library of the one file `plain.mp4`. Its first load fails where that is asked for.
 fn library(alloc: Global, bytes: Vec<u8>, fails: bool) -> Result<MemoryLibrary, AllocError> {
     let failing = if fails {
         vec![in alloc; 1u64]?
@@ -79,7 +79,7 @@ fn library(alloc: Global, bytes: Vec<u8>, fails: bool) -> Result<MemoryLibrary, 
     Ok(MemoryLibrary::new(alloc, names, contents, failing))
 }
 
-// The status of a run without listeners.
+/// The status of a run without listeners.
 fn status_of<L: Library, K: Sink>(
     alloc: Global,
     words: &[String],
@@ -100,7 +100,7 @@ fn status_of<L: Library, K: Sink>(
     )
 }
 
-// What is printed for the words over the one file, and the status.
+/// What is printed for the words over the one file, and the status.
 fn printed(alloc: Global, words: &[&str], file: &[u8]) -> Result<(Status, MemorySink), Fail> {
     let mut library = library(alloc, file.to_vec(alloc)?, false)?;
     let mut sink = MemorySink::new(alloc, Vec::new(alloc));
@@ -129,7 +129,7 @@ fn prints_blocks(rt: HostRuntime) -> Result<(), Fail> {
     Ok(())
 }
 
-// The block of the first bytes of plain.mp4.
+/// The block of the first bytes of plain.mp4.
 fn front_block(alloc: Global, len: usize) -> Result<String, AllocError> {
     let (phase, held, frames) = match len {
         0..=7 => ("waiting", len, 0u32),
@@ -178,7 +178,7 @@ fn prints_blocks_of_fronts(rt: HostRuntime) -> Result<(), Fail> {
     Ok(())
 }
 
-// Worked from the lengths of boxes and payloads, and from 30 frames a second.
+/// Worked from the lengths of boxes and payloads, and from 30 frames a second.
 const MADE: [(&str, &str); 4] = [
     (
         "1",
@@ -306,7 +306,7 @@ fn tells_causes(rt: HostRuntime) -> Result<(), Fail> {
     Ok(())
 }
 
-// Blobs, the status, and the line: the first file that stops a script is told, and no step is made.
+/// Blobs, the status, and the line: the first file that stops a script is told, and no step is made.
 const BLOBS: [(&str, Status, &str); 5] = [
     ("\"file nofile\"", Status::NoFile, "error: no file nofile\n"),
     (
@@ -367,7 +367,7 @@ fn listener(alloc: Global) -> Result<Box<RuleListener>, AllocError>
     Ok(Box::new(alloc, RuleListener::new(alloc))?)
 }
 
-// What is printed for the words over a library with two listeners, and the status.
+/// What is printed for the words over a library with two listeners, and the status.
 fn ran<S: FrameStore, L: Library>(
     alloc: Global,
     words: &[&str],
@@ -392,7 +392,7 @@ fn ran<S: FrameStore, L: Library>(
     Ok((status, sink))
 }
 
-// What is printed of a script, and the status.
+/// What is printed of a script, and the status.
 fn played<S: FrameStore>(alloc: Global, script: &str) -> Result<(Status, MemorySink), Fail> {
     let tables = [FILES.as_slice()];
     let mut library = TextLibrary {

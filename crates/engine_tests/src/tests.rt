@@ -1,4 +1,9 @@
 //! Scripts of calls on the engine over a plain store, without listeners, and what they print.
+//!
+//! 24 of the thirty scripts stand in `command_tests` too, with the same lines: there `run` plays each from its file,
+//! over both stores. Here nothing but the engine is between a step and what is printed: `drain` is written here, and
+//! before each call its refusal is asked for, which must be what the call answers. A fault of the engine shows here
+//! without the crates above it.
 
 mod buffers;
 mod element;

@@ -4,5 +4,6 @@ mod boxes;
 mod classic_files;
 mod fragments_made;
 mod input_pieces;
+mod made_boxes;
 mod movie_boxes;
 mod type_texts;

@@ -3,6 +3,7 @@
 mod buffers;
 mod evictions;
 mod feeds;
+mod frames;
 mod overlaps;
 mod placing;
 mod removals;

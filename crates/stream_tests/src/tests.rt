@@ -3,5 +3,6 @@
 mod adts;
 mod containers;
 mod fragments;
+mod init;
 mod segments;
 mod writers;

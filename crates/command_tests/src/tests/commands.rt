@@ -52,8 +52,8 @@ const PLAIN_BLOCK: &str = "duration inf\n\
     buffer 0 phase waiting held 0 used 12 buffered [0,14112000000)\n\
     track 0 1 video avc1 frames 3 ranges [0,14112000000)\n";
 
-// The classic file with these digits for the number of samples in its `stts`, and for the place of
-// its chunk.
+/// The classic file with these digits for the number of samples in its `stts`, and for the place of
+/// its chunk.
 fn classic(alloc: Global, count: &str, place: &str) -> Result<Vec<u8>, Fail> {
     let mut digits = String::from_str(alloc, CLASSIC_FRONT)?;
     digits.push_str(count)?;
@@ -103,7 +103,7 @@ fn names_faults_of_classic_files(rt: HostRuntime) -> Result<(), Fail> {
     Ok(())
 }
 
-// The second put fails, so what is written is the initialization segment.
+/// The second put fails, so what is written is the initialization segment.
 #[test]
 fn puts_each_segment_by_itself(rt: HostRuntime) -> Result<(), Fail> {
     let alloc = rt.alloc();

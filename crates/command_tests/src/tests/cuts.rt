@@ -6,7 +6,7 @@ use std::alloc::Global;
 use std::test::Fail;
 use track_index::IndexStore;
 
-// A script is played to its end, and closes with this block.
+/// A script is played to its end, and closes with this block.
 fn closes_with(alloc: Global, script: &str, block: &str) -> Result<bool, Fail> {
     let (status, sink) = played::<IndexStore>(alloc, script)?;
     Ok(status == Status::Ok && sink.written().ends_with(block.as_bytes()))
@@ -44,7 +44,7 @@ fn adts_frames_are_cut(rt: HostRuntime) -> Result<(), Fail> {
     Ok(())
 }
 
-// Two buffers; the second half of the append that is cut breaks its format.
+/// Two buffers; the second half of the append that is cut breaks its format.
 #[test]
 fn broken_appends_are_cut(rt: HostRuntime) -> Result<(), Fail> {
     let alloc = rt.alloc();
@@ -64,8 +64,8 @@ fn broken_appends_are_cut(rt: HostRuntime) -> Result<(), Fail> {
     Ok(())
 }
 
-// Where something is called between the parts, it is no cut: the second frame starts at its offset, which does not come
-// into an append that is whole.
+/// Where something is called between the parts, it is no cut: the second frame starts at its offset, which does not
+/// come into an append that is whole.
 #[test]
 fn offset_between_parts_moves_the_second(rt: HostRuntime) -> Result<(), Fail> {
     let alloc = rt.alloc();

@@ -19,7 +19,7 @@ use std::alloc::Global;
 use std::test::Fail;
 use track_index::IndexStore;
 
-// What is printed over all files and a script, and the status.
+/// What is printed over all files and a script, and the status.
 fn tried(
     alloc: Global,
     words: &[&str],

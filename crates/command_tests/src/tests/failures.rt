@@ -8,7 +8,7 @@ use std::alloc::Global;
 use std::process::Abort;
 use std::test::Fail;
 
-// A script, named `S`, and the files that are loaded before a load fails. The loads of these numbers fail.
+/// A script, named `S`, and the files that are loaded before a load fails. The loads of these numbers fail.
 fn library(alloc: Global, script: &str, failing: &[u64]) -> Result<MemoryLibrary, Fail> {
     let names = vec![in alloc;
         String::from_str(alloc, "S")?,
@@ -23,7 +23,7 @@ fn library(alloc: Global, script: &str, failing: &[u64]) -> Result<MemoryLibrary
     Ok(MemoryLibrary::new(alloc, names, contents, failing.to_vec(alloc)?))
 }
 
-// A script ends with this status and writes this text, where these loads fail, and these puts after no byte.
+/// A script ends with this status and writes this text, where these loads fail, and these puts after no byte.
 fn check(
     rt: &impl Abort,
     alloc: Global,
@@ -40,7 +40,7 @@ fn check(
     Ok(())
 }
 
-// Each line is a put: where it fails, those before it were written.
+/// Each line is a put: where it fails, those before it were written.
 #[test]
 fn puts_fail(rt: HostRuntime) -> Result<(), Fail> {
     let alloc = rt.alloc();
@@ -58,7 +58,7 @@ fn puts_fail(rt: HostRuntime) -> Result<(), Fail> {
     check(&rt, alloc, script, (&[], &[(24, 0)]), (Status::Ok, text))
 }
 
-// The script names video_start, audio_start, video_later and audio_later, in this order.
+/// The script names video_start, audio_start, video_later and audio_later, in this order.
 #[test]
 fn loads_fail(rt: HostRuntime) -> Result<(), Fail> {
     let alloc = rt.alloc();

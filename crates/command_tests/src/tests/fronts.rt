@@ -12,8 +12,8 @@ use tables::{
     TWO_TRACKS_BLOCKS,
 };
 
-// The shortest and the longest of some front parts, the byte from which the bytes are counted that their blocks name as held
-// (none are where there is no such byte), and the block before and behind this count.
+/// The shortest and the longest of some front parts, the byte from which the bytes are counted that their blocks name
+/// as held (none are where there is no such byte), and the block before and behind this count.
 type Row = (usize, usize, Option<usize>, &'static str, &'static str);
 
 fn block(alloc: Global, row: &Row, len: usize) -> Result<String, AllocError> {
@@ -25,7 +25,7 @@ fn block(alloc: Global, row: &Row, len: usize) -> Result<String, AllocError> {
     Ok(format!(in alloc; "{head}{held}{tail}")?)
 }
 
-// `ranges` and `pieces 1` print the block of a file.
+/// `ranges` and `pieces 1` print the block of a file.
 fn check(rt: &impl Abort, alloc: Global, file: &[u8], block: &str) -> Result<(), Fail> {
     for words in [
         ["ranges", "plain.mp4"].as_slice(),
@@ -65,7 +65,7 @@ fn front_parts(rt: HostRuntime) -> Result<(), Fail> {
     Ok(())
 }
 
-// A script that appends so many bytes of the ADTS frames, one or all at a time.
+/// A script that appends so many bytes of the ADTS frames, one or all at a time.
 fn adts_script(alloc: Global, len: usize, is_cut: bool) -> Result<String, AllocError> {
     let mut script = format!(in alloc;
         "blobs = [\"hex {TAGGED}\"]\nsteps = [\"attach\", \"add audio/aac\", "

@@ -1,4 +1,9 @@
 //! Scripts, and all that is printed of them.
+//!
+//! 24 of these and of `more_scripts` stand in `engine_tests` too, with the same lines: there each call is made on an
+//! engine alone, over the plain store, with its refusal asked for before it. Here a script passes through all that
+//! `play` does: its file and its blobs are loaded, two listeners hear its events, and each line is put into a sink,
+//! over both stores.
 
 use mse_commands::Status;
 

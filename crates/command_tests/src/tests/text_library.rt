@@ -16,7 +16,7 @@ pub struct TextLibrary<'a> {
     pub faults: u64,
 }
 
-// What the tables have at a name.
+/// What the tables have at a name.
 fn text_at<'a>(tables: &'a [&'a [(&'a str, &'a str)]], name: &str) -> Option<&'a str> {
     for table in tables {
         for (other, text) in *table {

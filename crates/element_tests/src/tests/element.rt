@@ -143,7 +143,7 @@ fn duration_of_an_element_without_metadata(rt: HostRuntime) -> Result<(), Fail> 
     let mut element = Element::new(rt.alloc());
     element.reserve(3)?;
     element.seek(time(5 * SECOND)?, &scene);
-    element.fall(scene.duration, &scene);
+    element.change_duration(scene.duration, &scene);
     assert!(rt; fires(&mut element, &[EventKind::DurationChange]));
     assert_eq!(rt;
         (element.level(), element.position()),
@@ -162,7 +162,7 @@ fn expect_fall(
     reached: i128,
 ) -> Result<(), Fail> {
     element.reserve(2)?;
-    element.fall(scene.duration, scene);
+    element.change_duration(scene.duration, scene);
     assert!(rt; fires(element, wanted));
     assert_eq!(rt; element.position(), time(reached)?);
     Ok(())

@@ -1,21 +1,8 @@
+use super::made_boxes::boxed;
 use bmff_init::InitFault;
 use sample_tables::*;
 use std::alloc::Global;
 use std::test::*;
-
-/// A box of a type, with these parts behind its header.
-fn boxed(alloc: Global, kind: &[u8; 4], parts: &[&[u8]]) -> Result<Vec<u8>, Fail> {
-    let mut payload = Vec::new(alloc);
-    for part in parts {
-        payload.extend_from_slice(part)?;
-    }
-    let len = u32::try_from(payload.len()).ok().ok_or("a short payload")?;
-    let size = len.checked_add(8).ok_or("a short payload")?;
-    let mut bytes = Vec::from_slice(alloc, &size.to_be_bytes())?;
-    bytes.extend_from_slice(kind)?;
-    bytes.extend_from_slice(payload.as_slice())?;
-    Ok(bytes)
-}
 
 /// A full box: its type, its version, and the numbers of four bytes behind its flags.
 type Table = ([u8; 4], u8, &'static [u32]);

@@ -1,23 +1,11 @@
+use super::made_boxes::{boxed, overwrite};
 use bmff_init::InitFault;
 use md5::{Digest, Md5};
 use mse_base::Bytes;
 use remux::*;
+use sample_tables::PlacedFault;
 use std::alloc::Global;
 use std::test::*;
-
-/// A box of a type, with these parts behind its header.
-fn boxed(alloc: Global, kind: &[u8; 4], parts: &[&[u8]]) -> Result<Vec<u8>, Fail> {
-    let mut payload = Vec::new(alloc);
-    for part in parts {
-        payload.extend_from_slice(part)?;
-    }
-    let len = u32::try_from(payload.len()).ok().ok_or("a short payload")?;
-    let size = len.checked_add(8).ok_or("a short payload")?;
-    let mut bytes = Vec::from_slice(alloc, &size.to_be_bytes())?;
-    bytes.extend_from_slice(kind)?;
-    bytes.extend_from_slice(payload.as_slice())?;
-    Ok(bytes)
-}
 
 /// A sample table box of three samples of four bytes in one chunk at 32, of which the first is a sync sample.
 fn sample_table(alloc: Global) -> Result<Vec<u8>, Fail> {
@@ -75,24 +63,6 @@ fn classic(alloc: Global) -> Result<Vec<u8>, Fail> {
     Ok(file)
 }
 
-/// Writes bytes over those at a place of the first box of a type.
-fn overwrite(bytes: &mut Vec<u8>, kind: &[u8; 4], at: usize, new: &[u8]) -> Result<(), Fail> {
-    let start = bytes
-        .windows(4)
-        .position(|w| w == kind.as_slice())
-        .ok_or("the box is there")?;
-    let from = start
-        .checked_add(at)
-        .ok_or("a small place")?
-        .checked_sub(4)
-        .ok_or("behind a size")?;
-    let rest = bytes.as_mut_slice().get_mut(from..).ok_or("inside")?;
-    for (old, byte) in rest.iter_mut().zip(new.iter()) {
-        *old = *byte;
-    }
-    Ok(())
-}
-
 fn whole(alloc: Global, pieces: &[Bytes]) -> Result<Vec<u8>, Fail> {
     let mut bytes = Vec::new(alloc);
     for piece in pieces {
@@ -114,7 +84,10 @@ fn fragments_of_a_video_track(rt: HostRuntime) -> Result<(), Fail> {
     assert_eq!(rt; digest, 0x71064bb2_ef61b365_34c3a50c_c680d4e3);
     let again = remux(alloc, bytes.as_slice());
     let fault = RemuxFault::Fragmented;
-    assert_eq!(rt; again.err(), Some(RemuxError::Fault { fault, offset: 24 }));
+    assert_eq!(rt;
+        again.err(),
+        Some(RemuxError::Fault(PlacedFault { fault, offset: 24 }))
+    );
     Ok(())
 }
 
@@ -174,17 +147,23 @@ fn faults(rt: HostRuntime) -> Result<(), Fail> {
         let given = remux(alloc, file.as_slice()).err();
         assert_eq!(rt;
             given,
-            Some(RemuxError::Fault { fault, offset: 44 }),
+            Some(RemuxError::Fault(PlacedFault { fault, offset: 44 })),
             "{kind:?} {at}"
         );
     }
     let none = remux(alloc, &[]).err();
     let fault = RemuxFault::NoMoov;
-    assert_eq!(rt; none, Some(RemuxError::Fault { fault, offset: 0 }));
+    assert_eq!(rt;
+        none,
+        Some(RemuxError::Fault(PlacedFault { fault, offset: 0 }))
+    );
     let mut file = classic(alloc)?;
     overwrite(&mut file, b"mdat", 0, &[0xFF])?;
     let fault = RemuxFault::Box;
     let cut = remux(alloc, file.as_slice()).err();
-    assert_eq!(rt; cut, Some(RemuxError::Fault { fault, offset: 24 }));
+    assert_eq!(rt;
+        cut,
+        Some(RemuxError::Fault(PlacedFault { fault, offset: 24 }))
+    );
     Ok(())
 }

@@ -1,25 +1,12 @@
 mod segments;
 
+use super::made_boxes::{boxed, overwrite};
 use bmff_init::*;
 use mse_base::{Kind, Moment, Presentation, Ticks, TrackInfo};
 use segments::{AV1, ONE_VIDEO_TRACK, OPUS, REORDERED, TWO_TRACKS};
 use std::alloc::Global;
 use std::process::Abort;
 use std::test::*;
-
-/// A box of a type, with these parts behind its header.
-fn boxed(alloc: Global, kind: &[u8; 4], parts: &[&[u8]]) -> Result<Vec<u8>, Fail> {
-    let mut payload = Vec::new(alloc);
-    for part in parts {
-        payload.extend_from_slice(part)?;
-    }
-    let len = u32::try_from(payload.len()).ok().ok_or("a short payload")?;
-    let size = len.checked_add(8).ok_or("a short payload")?;
-    let mut bytes = Vec::from_slice(alloc, &size.to_be_bytes())?;
-    bytes.extend_from_slice(kind)?;
-    bytes.extend_from_slice(payload.as_slice())?;
-    Ok(bytes)
-}
 
 /// A track box with the timescale 90000 and one `avc1` sample entry, and with an edit box if it is given one.
 fn track(alloc: Global, number: u8, handler: &[u8; 4], edts: &[u8]) -> Result<Vec<u8>, Fail> {
@@ -70,24 +57,6 @@ fn trex(alloc: Global, number: u8, duration: u8) -> Result<Vec<u8>, Fail> {
         0, 0, 0, number, 0, 0, 0, 1, 0, 0, 0, duration, 0, 0, 0, 7, 0, 1, 0, 0,
     ];
     boxed(alloc, b"trex", &[&[0; 4], &fields])
-}
-
-/// Writes bytes over those at a place of the first box of a type.
-fn overwrite(bytes: &mut Vec<u8>, kind: &[u8; 4], at: usize, new: &[u8]) -> Result<(), Fail> {
-    let start = bytes
-        .windows(4)
-        .position(|w| w == kind.as_slice())
-        .ok_or("the box is there")?;
-    let from = start
-        .checked_add(at)
-        .ok_or("a small place")?
-        .checked_sub(4)
-        .ok_or("behind a size")?;
-    let rest = bytes.as_mut_slice().get_mut(from..).ok_or("inside")?;
-    for (old, byte) in rest.iter_mut().zip(new.iter()) {
-        *old = *byte;
-    }
-    Ok(())
 }
 
 fn fault_of(outcome: Result<Presentation, InitError>) -> Option<InitFault> {

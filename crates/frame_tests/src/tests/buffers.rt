@@ -370,6 +370,17 @@ fn buffers_what_all_tracks_have(rt: HostRuntime) -> Result<(), Fail> {
     expect_buffered(&rt, &none, true, &[])
 }
 
+/// The range from a time on and before another, if there is one.
+fn span_of(bounds: Option<(u32, u32)>) -> Result<Option<Span>, Fail> {
+    match bounds {
+        Some((start, end)) => Ok(Some(Span {
+            start: time(start)?,
+            end: time(end)?,
+        })),
+        None => Ok(None),
+    }
+}
+
 /// Asserts the range of all tracks that has a time, or ends at it.
 fn expect_span(
     rt: &impl Abort,
@@ -378,13 +389,7 @@ fn expect_span(
     ended: bool,
     want: Option<(u32, u32)>,
 ) -> Result<(), Fail> {
-    let want = match want {
-        Some((start, end)) => Some(Span {
-            start: time(start)?,
-            end: time(end)?,
-        }),
-        None => None,
-    };
+    let want = span_of(want)?;
     assert_eq!(rt; buffers.span_holding(time(at)?, ended), want, "at {at}");
     Ok(())
 }
@@ -492,4 +497,90 @@ fn resets_and_sets(rt: HostRuntime) -> Result<(), Fail> {
     let settings = buffers.settings();
     assert!(rt; settings.generate && settings.sequence);
     expect_group_start(&rt, &buffers, Some(3000))
+}
+
+/// Asserts the first and the last buffered range, which are those of the list of all.
+fn expect_bounds(
+    rt: &impl Abort,
+    buffers: &Buffers,
+    ended: bool,
+    first: Option<(u32, u32)>,
+    last: Option<(u32, u32)>,
+) -> Result<(), Fail> {
+    let ranges = buffers.buffered(ended)?;
+    assert_eq!(rt; buffers.first_span(ended), span_of(first)?);
+    assert_eq!(rt; buffers.last_span(ended), span_of(last)?);
+    assert_eq!(rt; buffers.first_span(ended), ranges.get(0));
+    assert_eq!(rt; buffers.last_span(ended), ranges.last());
+    Ok(())
+}
+
+#[test]
+fn finds_the_bounds_of_one_track(rt: HostRuntime) -> Result<(), Fail> {
+    let mut buffers = begun(&rt, &[VIDEO])?;
+    expect_bounds(&rt, &buffers, false, None, None)?;
+    expect_bounds(&rt, &buffers, true, None, None)?;
+    let samples = [
+        (1, 0, 3000, true),
+        (1, 6000, 3000, true),
+        (1, 12000, 3000, true),
+    ];
+    process_all(rt.alloc(), &mut buffers, &samples)?;
+    expect_bounds(&rt, &buffers, false, Some((0, 3000)), Some((12000, 15000)))?;
+    expect_bounds(&rt, &buffers, true, Some((0, 3000)), Some((12000, 15000)))?;
+    let none = Buffers::new(rt.alloc(), Ticks::zero(), true);
+    expect_bounds(&rt, &none, false, None, None)?;
+    expect_bounds(&rt, &none, true, None, None)
+}
+
+/// The first ranges of the two tracks share no tick, and neither do the last ones; where the source
+/// is ended the last ones do.
+#[test]
+fn finds_the_bounds_behind_ranges_of_one_track(rt: HostRuntime) -> Result<(), Fail> {
+    let mut buffers = begun(&rt, &[VIDEO, AUDIO])?;
+    let samples = [
+        (1, 0, 3000, true),
+        (1, 6000, 3000, true),
+        (1, 12000, 3000, true),
+        (2, 4000, 1000, true),
+        (2, 7000, 1000, true),
+        (2, 10000, 1000, true),
+    ];
+    process_all(rt.alloc(), &mut buffers, &samples)?;
+    let both = Some((7000, 8000));
+    expect_bounds(&rt, &buffers, false, both, both)?;
+    expect_bounds(&rt, &buffers, true, both, Some((12000, 15000)))
+}
+
+/// A track without a frame, and one whose range lies between those of the other: nothing is
+/// buffered, but at the end of an ended source.
+#[test]
+fn finds_no_bounds_where_nothing_is_shared(rt: HostRuntime) -> Result<(), Fail> {
+    let mut buffers = begun(&rt, &[VIDEO, AUDIO])?;
+    let samples = [(1, 0, 3000, true), (1, 6000, 3000, true)];
+    process_all(rt.alloc(), &mut buffers, &samples)?;
+    expect_bounds(&rt, &buffers, false, None, None)?;
+    expect_bounds(&rt, &buffers, true, None, None)?;
+    process(rt.alloc(), &mut buffers, &(2, 3000, 3000, true))?;
+    let end = Some((6000, 9000));
+    expect_bounds(&rt, &buffers, false, None, None)?;
+    expect_bounds(&rt, &buffers, true, end, end)
+}
+
+#[test]
+fn finds_the_bounds_of_three_tracks(rt: HostRuntime) -> Result<(), Fail> {
+    let mut buffers = begun(&rt, &[VIDEO, AUDIO, (3, Kind::Audio, *b"mp4a")])?;
+    let samples = [
+        (1, 0, 2000, true),
+        (1, 4000, 2000, true),
+        (1, 8000, 2000, true),
+        (2, 1000, 4000, true),
+        (2, 7000, 2000, true),
+        (3, 3000, 1500, true),
+        (3, 8500, 1000, true),
+    ];
+    process_all(rt.alloc(), &mut buffers, &samples)?;
+    let first = Some((4000, 4500));
+    expect_bounds(&rt, &buffers, false, first, Some((8500, 9000)))?;
+    expect_bounds(&rt, &buffers, true, first, Some((8500, 10000)))
 }

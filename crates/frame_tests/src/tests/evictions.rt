@@ -1,67 +1,15 @@
 //! Worked examples of eviction, on a plain store. Times are in milliseconds, a frame lasts 100 and
 //! has 4 bytes.
 
-ghost use Rattle.std.specs.Prelude.{◌≡◌, ◌≤◌, ◌+ℤ◌, pos, ◌≤ℤ◌, true, length, IfOk, IfSome};
-ghost use Rattle.mse_base.specs.Time.{IsTick};
+ghost use Rattle.std.specs.Prelude.{◌≤◌, length};
 
+use super::frames::{Sample, store_of, time};
 use eviction::evict;
-use mse_base::{Bytes, CodedFrame, Kind, Moment, Ticks, convert};
+use mse_base::{Kind, Moment};
 use std::alloc::Global;
 use std::process::Abort;
 use std::test::Fail;
-use track_store::{FrameStore, ListStore, Marks, Stored, Track, Tracks};
-
-/// Presentation timestamp, and whether it is a random access point.
-type Sample = (u16, bool);
-
-fn time(ms: u16) -> Result<Ticks, Fail> {
-    Ok(convert(i128::from(ms), 1000).ok_or("no time")?)
-}
-
-fn duration_from(pts: Ticks, dur: Ticks) -> Option<Ticks>
-    ensures dur_not_negative { IfSome result (λ d. pos 0 ≤ℤ d) }
-    ensures in_range { IfSome result (λ d. IsTick (pts +ℤ d)) }
-{
-    let end = pts.checked_add(dur)?;
-    let _in_range = end.get();
-    if dur < Ticks::zero() { None } else { Some(dur) }
-}
-
-fn frame_of(alloc: Global, serial: u64, ms: u16, sync: bool) -> Result<Stored, Fail>
-    ensures serial { IfOk result (λ f. f.serial ≡ serial) }
-    ensures sync { IfOk result (λ f. f.frame.sync ≡ sync) }
-    ensures dur_not_negative { IfOk result (λ f. pos 0 ≤ℤ f.frame.dur) }
-    ensures in_range { IfOk result (λ f. IsTick (f.frame.pts +ℤ f.frame.dur)) }
-    ensures small { IfOk result (λ f. length f.frame.payload ≡ 4) }
-{
-    let pts = time(ms)?;
-    let dur = duration_from(pts, time(100)?).ok_or("no duration")?;
-    let payload = Bytes::copy_of(alloc, &[0; 4])?;
-    Ok(Stored {
-        serial,
-        frame: CodedFrame {
-            track_id: 1,
-            pts,
-            dts: pts,
-            dur,
-            sync,
-            payload,
-        },
-    })
-}
-
-/// The frames in order of appending; the first is a random access point.
-fn store_of<S: FrameStore>(alloc: Global, samples: &[Sample]) -> Result<S, Fail>
-    requires { length samples.now ≤ 100 }
-{
-    let mut store = S::new(alloc, Ticks::zero());
-    store.reserve(samples.len())?;
-    for (i, sample) in samples.iter().enumerate() {
-        let frame = frame_of(alloc, i as u64, sample.0, sample.1 || i == 0)?;
-        store.add(frame);
-    }
-    Ok(store)
-}
+use track_store::{FrameStore, ListStore, Marks, Track, Tracks};
 
 fn add_track<S: FrameStore>(
     tracks: &mut Tracks<S>,

@@ -1,9 +1,10 @@
 //! Which frames go for a new frame, and which are cut, tick by tick, on a plain store. All frames
 //! are random access points.
 
-ghost use Rattle.std.specs.Prelude.{◌≡◌, ◌+ℤ◌, pos, ◌≤ℤ◌, true, length, IfOk, IfSome};
+ghost use Rattle.std.specs.Prelude.{◌≡◌, ◌+ℤ◌, pos, ◌≤ℤ◌, true, length, IfOk};
 ghost use Rattle.mse_base.specs.Time.{IsTick};
 
+use super::frames::duration_from;
 use mse_base::{Bytes, CodedFrame, Kind, Ticks};
 use overlap_rules::make_room;
 use std::alloc::Global;
@@ -18,20 +19,11 @@ fn ticks(v: i32) -> Result<Ticks, Fail> {
     Ok(Ticks::new(i128::from(v)).ok_or("no time")?)
 }
 
-fn duration_from(pts: Ticks, dur: Ticks) -> Option<Ticks>
-    ensures forward { IfSome result (λ d. pos 0 ≤ℤ d) }
-    ensures in_range { IfSome result (λ d. IsTick (pts +ℤ d)) }
-{
-    let end = pts.checked_add(dur)?;
-    let _in_range = end.get();
-    if dur < Ticks::zero() { None } else { Some(dur) }
-}
-
 /// A random access point with no bytes.
 fn frame_of(alloc: Global, serial: u64, interval: Interval) -> Result<Stored, Fail>
     ensures serial { IfOk result (λ f. f.serial ≡ serial) }
     ensures sync { IfOk result (λ f. f.frame.sync ≡ true) }
-    ensures forward { IfOk result (λ f. pos 0 ≤ℤ f.frame.dur) }
+    ensures dur_not_negative { IfOk result (λ f. pos 0 ≤ℤ f.frame.dur) }
     ensures in_range { IfOk result (λ f. IsTick (f.frame.pts +ℤ f.frame.dur)) }
     ensures empty { IfOk result (λ f. length f.frame.payload ≡ 0) }
 {

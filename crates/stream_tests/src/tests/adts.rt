@@ -69,7 +69,7 @@ fn shown_of(next: &AdtsNext) -> Shown {
 /// Takes all items that are there.
 fn take_all(stream: &mut AdtsStream, items: &mut Vec<Shown>) -> Result<(), OutOfMemory>
     requires { stream.old.offered ≡ None }
-    ensures idle { stream.new.offered ≡ None }
+    ensures none_offered { stream.new.offered ≡ None }
     ensures fed { OnOk result (stream.new.fed ≡ stream.old.fed) }
 {
     for _ in 0..20 {

@@ -2,6 +2,7 @@ ghost use Rattle.std.specs.Prelude.{◌≡◌, ◌+◌, ◌<◌, ◌^◌, length
 
 mod files;
 
+use super::init::INIT;
 use byte_stream::*;
 use files::*;
 use mse_base::{Bytes, OutOfMemory, Phase};
@@ -43,9 +44,9 @@ fn shown_of(next: &Next) -> Shown {
 
 /// Appends bytes to the string.
 fn feed(stream: &mut ByteStream, bytes: &[u8]) -> Result<(), OutOfMemory>
-    requires idle { stream.old.offered ≡ None }
+    requires none_offered { stream.old.offered ≡ None }
     requires room { stream.old.fed + length bytes.now < 2 ^ 62 }
-    ensures idle { stream.new.offered ≡ None }
+    ensures none_offered { stream.new.offered ≡ None }
     ensures fed { OnOk result (stream.new.fed ≡ stream.old.fed + length bytes.now) }
 {
     stream.offer(bytes)?;
@@ -56,7 +57,7 @@ fn feed(stream: &mut ByteStream, bytes: &[u8]) -> Result<(), OutOfMemory>
 /// Takes all items that are there.
 fn take_all(alloc: Global, stream: &mut ByteStream) -> Result<Vec<Shown>, OutOfMemory>
     requires { stream.old.offered ≡ None }
-    ensures idle { stream.new.offered ≡ None }
+    ensures none_offered { stream.new.offered ≡ None }
     ensures fed { stream.new.fed ≡ stream.old.fed }
 {
     let mut items = Vec::new(alloc);

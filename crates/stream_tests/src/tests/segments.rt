@@ -2,6 +2,7 @@ ghost use Rattle.std.specs.Prelude.{◌≡◌, ◌<◌, ◌≤◌, ◌^◌, leng
 
 mod files;
 
+use super::init::INIT;
 use bmff_fragment::MoofFault;
 use bmff_init::InitFault;
 use files::*;
@@ -35,7 +36,7 @@ fn shown_of(next: &SegmentNext) -> Shown {
 /// Takes all items that are there.
 fn take_all(stream: &mut Stream, items: &mut Vec<Shown>) -> Result<(), OutOfMemory>
     requires { stream.old.offered ≡ None }
-    ensures idle { stream.new.offered ≡ None }
+    ensures none_offered { stream.new.offered ≡ None }
     ensures fed { OnOk result (stream.new.fed ≡ stream.old.fed) }
 {
     'items: for _ in 0..20 {

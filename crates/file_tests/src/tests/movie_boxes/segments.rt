@@ -1,4 +1,4 @@
-// Movie boxes of initialization segments.
+//! Movie boxes of initialization segments.
 
 /// One video track at 90000, `avc1`, without edits.
 pub const ONE_VIDEO_TRACK: [u8; 571] = [

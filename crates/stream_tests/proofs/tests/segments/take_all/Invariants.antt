@@ -3,6 +3,6 @@ use Rattle.stream_tests.proofs.tests.segments.take_all.Given as goal
 
 abbrev pub invariant-items : goal.invariant-items
 invariant-items l = record {
-  idle : l.stream.offered ≡ None;
+  none_offered : l.stream.offered ≡ None;
   fed : l.stream.fed ≡ l.initial.stream.fed;
 }

@@ -1,6 +1,6 @@
 use Rattle.std.proofs.Common.{◌+◌, ◌≤◌, length}
 use Rattle.range_removal.proofs.Fixture.{IsFixture}
-use Rattle.frame_tests.proofs.tests.removals.store_of.Given as goal
+use Rattle.frame_tests.proofs.tests.frames.store_of.Given as goal
 
 abbrev pub invariant-loop-i : goal.invariant-loop-i
 invariant-loop-i g l = record {

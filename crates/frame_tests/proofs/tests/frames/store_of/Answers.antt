@@ -1,6 +1,6 @@
 use Rattle.std.proofs.Common.{arith}
 use Rattle.range_removal.proofs.Fixture.{fixture_push}
-use Rattle.frame_tests.proofs.tests.removals.store_of.Goals as goal
+use Rattle.frame_tests.proofs.tests.frames.store_of.Goals as goal
 
 pub loop-i-preserved : goal.loop-i-preserved
 loop-i-preserved g c = record {
