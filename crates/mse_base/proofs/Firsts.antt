@@ -1,5 +1,4 @@
--- The first range of the ticks that some lists share, and the last, by the first range of each list that ends after a
--- time, and the last that begins before it.
+-- The first range of the ticks that some lists share, by the first range of each list that ends after a time.
 use Rattle.std.proofs.Common.{◌≡◌, ◌∙◌, ℤ, ◌≤◌, ◌≤ℤ◌, ◌<ℤ◌, ◌⊎◌, inl, inr, Bool, true, false, cond, ◌&&◌, ◌||◌, List, [], ◌∷◌, ◌++◌, length, find, fold, map, Option, Some, None, refl, sym, ap, subst, arith}
 use Rattle.std.specs.Int.{int_min, int_max}
 use Rattle.std.specs.List.{AllByRecursion}

@@ -7,21 +7,13 @@ use Rattle.std.proofs.lemmas.Int.{ints}
 use Rattle.std.proofs.lemmas.List.Folds.{find-append}
 use Rattle.std.proofs.lemmas.List.Sums.{fold-append}
 use Rattle.mse_base.specs.declared.span.Span.{Span}
-use Rattle.mse_base.specs.Bridging.{overlap}
 use Rattle.mse_base.specs.Spans.{IsNormalized, reaches}
-use Rattle.mse_base.specs.Meets.{meet, meet_of_all, overlap_span, overlap_of_two, overlap_of_all}
+use Rattle.mse_base.specs.Meets.{overlap, meet, meet_of_all, overlap_span, overlap_of_two, overlap_of_all}
 use Rattle.mse_base.proofs.Looking.{starts_late}
 use Rattle.mse_base.proofs.Meeting.{meet_normalized}
 
 abbrev both : Span → Span → Span
 both x y = record { start = int_max x.start y.start; end = int_min x.end y.end }
-
-by_test : (b : Bool) (s : Span) → option_to_list (cond b (Some s) None) ≡ cond b (s ∷ []) []
-by_test true s = refl
-by_test false s = refl
-
-pub overlap_is : (x y : Span) → option_to_list (overlap_span x y) ≡ overlap x y
-overlap_is x y = by_test (int_lt (int_max x.start y.start) (int_min x.end y.end)) (both x y)
 
 reaches-both : (t : ℤ) (x y : Span) → reaches t (both x y) ≡ (reaches t x && reaches t y)
 reaches-both t x y = grind (arith, ints)
@@ -31,7 +23,7 @@ same_either true o = refl
 same_either false o = refl
 
 -- the time is in a span and in another: then in their overlap, if that has a tick
-find-overlap_by : (t : ℤ) (x y : Span) (b p q : Bool) → reaches t (both x y) ≡ (p && q) → find (reaches t) (cond b (both x y ∷ []) []) ≡ cond (p && q) (cond b (Some (both x y)) None) None
+find-overlap_by : (t : ℤ) (x y : Span) (b p q : Bool) → reaches t (both x y) ≡ (p && q) → find (reaches t) (option_to_list (cond b (Some (both x y)) None)) ≡ cond (p && q) (cond b (Some (both x y)) None) None
 find-overlap_by t x y false p q e = same_either (p && q) None
 find-overlap_by t x y true p q e = ap (λ c. cond c (Some (both x y)) None) e
 

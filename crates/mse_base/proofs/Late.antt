@@ -1,5 +1,6 @@
 -- Joining a span to one of the last two ranges.
-use Rattle.std.proofs.Common.{◌≡◌, ◌∙◌, ℕ, zero, suc, ℤ, pos, ◌+ℤ◌, ◌+◌, ◌<◌, ◌<ℤ◌, ◌≤ℤ◌, true, false, cond, List, [], ◌∷◌, ◌++◌, length, get_or, set, take, drop, remove, add-one, refl, sym, ap, subst, arith, int_le, int_lt, length-append, length-drop}
+use Rattle.std.proofs.Common.{◌≡◌, ◌∙◌, ℕ, zero, suc, ℤ, pos, ◌+ℤ◌, ◌+◌, ◌<◌, ◌<ℤ◌, ◌≤ℤ◌, true, false, List, [], ◌∷◌, ◌++◌, length, get_or, set, take, drop, remove, add-one, refl, sym, ap, subst, arith, int_lt, length-append, length-drop}
+use Rattle.std.specs.Int.{int_min, int_max}
 use Rattle.std.specs.List.{AllByRecursion}
 use Rattle.std.proofs.lemmas.Int.{ints}
 use Rattle.std.proofs.lemmas.List.{drop_all, length-take-le}
@@ -15,14 +16,14 @@ not_lt a b h = grind (arith, ints)
 lasts : (s : Span) → is_empty s ≡ false → s.start <ℤ s.end
 lasts s e = grind (arith, ints)
 
-first_start : (a b : ℤ) → b ≤ℤ a → cond (int_le a b) a b ≡ b
+first_start : (a b : ℤ) → b ≤ℤ a → int_min a b ≡ b
 first_start a b h = grind (arith, ints)
 
 -- the least span round two, of which one begins no later
-pub round_later : (s r : Span) (end : ℤ) → r.start ≤ℤ s.start → end ≡ cond (int_le s.end r.end) r.end s.end → record { start = r.start; end = end } ≡ span_round s r
+pub round_later : (s r : Span) (end : ℤ) → r.start ≤ℤ s.start → end ≡ int_max s.end r.end → record { start = r.start; end = end } ≡ span_round s r
 round_later s r end h e =
     let make : ℤ → ℤ → Span = λ a b. record { start = a; end = b } in
-    ap (make r.start) e ∙ ap (λ a. make a (cond (int_le s.end r.end) r.end s.end)) (sym (first_start s.start r.start h))
+    ap (make r.start) e ∙ ap (λ a. make a (int_max s.end r.end)) (sym (first_start s.start r.start h))
 
 not_ahead : (gap : ℤ) (s r : Span) → pos 0 ≤ℤ gap → s.start <ℤ s.end → r.start ≤ℤ s.start → is_far_before gap s r ≡ false
 not_ahead gap s r g l b = not_lt (s.end +ℤ gap) r.start (omega (arith, ints))

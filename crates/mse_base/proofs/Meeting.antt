@@ -1,13 +1,12 @@
 -- The ticks that lists of ranges share, as one list.
-use Rattle.std.proofs.Common.{◌≡◌, ◌≢◌, ◌∙◌, ℤ, ◌≤◌, ◌≤ℤ◌, ◌<ℤ◌, int_lt, Bool, true, false, cond, ◌&&◌, ◌||◌, List, [], ◌∷◌, ◌++◌, length, fold, flat_map, refl, sym, ap, subst, arith}
+use Rattle.std.proofs.Common.{◌≡◌, ◌≢◌, ◌∙◌, ℤ, ◌≤◌, ◌≤ℤ◌, ◌<ℤ◌, int_lt, Bool, true, false, cond, ◌&&◌, ◌||◌, List, [], ◌∷◌, ◌++◌, Some, None, option_to_list, length, fold, flat_map, refl, sym, ap, subst, arith}
 use Rattle.std.specs.Int.{int_min, int_max}
 use Rattle.std.specs.List.{AllByRecursion, list_all}
 use Rattle.std.proofs.lemmas.Int.{ints}
 use Rattle.std.proofs.lemmas.List.Sums.{fold-append}
 use Rattle.mse_base.specs.declared.span.Span.{Span}
-use Rattle.mse_base.specs.Bridging.{overlap}
 use Rattle.mse_base.specs.Spans.{has_tick, covers, StartsAfter, IsNormalized, IsIntersection}
-use Rattle.mse_base.specs.Meets.{meet, meet_of_all}
+use Rattle.mse_base.specs.Meets.{overlap, meet, meet_of_all}
 use Rattle.mse_base.proofs.Sets.{covers-append}
 use Rattle.mse_base.proofs.Neighbours.{one_met}
 
@@ -38,6 +37,9 @@ normalized-append e (x ∷ xs) ys n m ends starts = (n.0, starts_append x.end xs
 
 abbrev both : Span → Span → Span
 both x y = record { start = int_max x.start y.start; end = int_min x.end y.end }
+
+abbrev share : Span → Span → Bool
+share x y = int_lt (int_max x.start y.start) (int_min x.end y.end)
 
 covers-overlap : (x y : Span) (t : ℤ) → covers (overlap x y) t ≡ (has_tick x t && has_tick y t)
 covers-overlap x y t = grind (arith, ints)
@@ -78,15 +80,15 @@ covers-meet (x ∷ xs) ys t =
     ∙ or_spread (has_tick x t) (covers xs t) (covers ys t)
 
 -- where the spans of a part begin and end
-overlap_normalized : (x y : Span) (b : Bool) → int_lt (int_max x.start y.start) (int_min x.end y.end) ≡ b → IsNormalized (cond b (both x y ∷ []) [])
+overlap_normalized : (x y : Span) (b : Bool) → int_lt (int_max x.start y.start) (int_min x.end y.end) ≡ b → IsNormalized (option_to_list (cond b (Some (both x y)) None))
 overlap_normalized x y true e = (grind (arith, ints), tt, tt)
 overlap_normalized x y false e = tt
 
-overlap_ends : (x y : Span) (e : ℤ) (b : Bool) → int_min x.end y.end ≤ℤ e → AllByRecursion (λ s. s.end ≤ℤ e) (cond b (both x y ∷ []) [])
+overlap_ends : (x y : Span) (e : ℤ) (b : Bool) → int_min x.end y.end ≤ℤ e → AllByRecursion (λ s. s.end ≤ℤ e) (option_to_list (cond b (Some (both x y)) None))
 overlap_ends x y e true h = (h, tt)
 overlap_ends x y e false h = tt
 
-overlap_starts : (x y : Span) (e : ℤ) (b : Bool) → e <ℤ int_max x.start y.start → AllByRecursion (λ s. e <ℤ s.start) (cond b (both x y ∷ []) [])
+overlap_starts : (x y : Span) (e : ℤ) (b : Bool) → e <ℤ int_max x.start y.start → AllByRecursion (λ s. e <ℤ s.start) (option_to_list (cond b (Some (both x y)) None))
 overlap_starts x y e true h = (h, tt)
 overlap_starts x y e false h = tt
 
@@ -108,21 +110,21 @@ all-append P (x ∷ xs) ys h k = (h.0, all-append P xs ys h.1 k)
 
 parts_ends : (x : Span) (ys : List Span) → AllByRecursion (λ s. s.end ≤ℤ x.end) (parts x ys)
 parts_ends x [] = tt
-parts_ends x (y ∷ ys) = all-append (λ s. s.end ≤ℤ x.end) (overlap x y) (parts x ys) (overlap_ends x y x.end _ (lesser_left x.end y.end)) (parts_ends x ys)
+parts_ends x (y ∷ ys) = all-append (λ s. s.end ≤ℤ x.end) (overlap x y) (parts x ys) (overlap_ends x y x.end (share x y) (lesser_left x.end y.end)) (parts_ends x ys)
 
 parts_begin : (x : Span) (e : ℤ) (ys : List Span) → e <ℤ x.start → AllByRecursion (λ s. e <ℤ s.start) (parts x ys)
 parts_begin x e [] h = tt
-parts_begin x e (y ∷ ys) h = all-append (λ s. e <ℤ s.start) (overlap x y) (parts x ys) (overlap_starts x y e _ (greater_left e x.start y.start h)) (parts_begin x e ys h)
+parts_begin x e (y ∷ ys) h = all-append (λ s. e <ℤ s.start) (overlap x y) (parts x ys) (overlap_starts x y e (share x y) (greater_left e x.start y.start h)) (parts_begin x e ys h)
 
 parts_after : (x : Span) (e : ℤ) (ys : List Span) → AllByRecursion (λ q. e <ℤ q.start) ys → AllByRecursion (λ s. e <ℤ s.start) (parts x ys)
 parts_after x e [] h = tt
-parts_after x e (y ∷ ys) h = all-append (λ s. e <ℤ s.start) (overlap x y) (parts x ys) (overlap_starts x y e _ (greater_right e x.start y.start h.0)) (parts_after x e ys h.1)
+parts_after x e (y ∷ ys) h = all-append (λ s. e <ℤ s.start) (overlap x y) (parts x ys) (overlap_starts x y e (share x y) (greater_right e x.start y.start h.0)) (parts_after x e ys h.1)
 
 parts_normalized : (x : Span) (ys : List Span) → IsNormalized ys → IsNormalized (parts x ys)
 parts_normalized x [] n = tt
 parts_normalized x (y ∷ ys) n =
-    normalized-append y.end (overlap x y) (parts x ys) (overlap_normalized x y _ refl) (parts_normalized x ys n.2)
-    (overlap_ends x y y.end _ (lesser_right x.end y.end)) (parts_after x y.end ys (later_than y.end ys n.1 n.2))
+    normalized-append y.end (overlap x y) (parts x ys) (overlap_normalized x y (share x y) refl) (parts_normalized x ys n.2)
+    (overlap_ends x y y.end (share x y) (lesser_right x.end y.end)) (parts_after x y.end ys (later_than y.end ys n.1 n.2))
 
 meet_after : (e : ℤ) (xs ys : List Span) → AllByRecursion (λ q. e <ℤ q.start) xs → AllByRecursion (λ s. e <ℤ s.start) (meet xs ys)
 meet_after e [] ys h = tt

@@ -36,7 +36,7 @@ joined_here gap xs i s r n whole low at before after is last w =
     ∙ ap (λ b. cond b (r ∷ ranges_with_lasting gap s (drop (i + 1) xs)) (ranges_with_lasting gap (span_round s r) (drop (i + 1) xs))) after in
     set_split xs i n low ∙ ap (λ k. take i xs ++ n ∷ drop k xs) (sym (add-one i)) ∙ ap (λ ys. take i xs ++ ys) (sym last ∙ ap (λ z. ranges_with_lasting gap z (drop (i + 1) xs)) is ∙ sym one) ∙ w
 
-hull_cases : (gap t a b c d : ℤ) (u v : Bool) → int_le a c ≡ u → int_le b d ≡ v → a <ℤ b → c <ℤ d → int_lt (b +ℤ gap) c ≡ false → int_lt (d +ℤ gap) a ≡ false → (int_le (cond u a c) t && int_lt t (cond v d b +ℤ gap)) ≡ ((int_le a t && int_lt t (b +ℤ gap)) || (int_le c t && int_lt t (d +ℤ gap)))
+hull_cases : (gap t a b c d : ℤ) (u v : Bool) → int_lt c a ≡ u → int_lt d b ≡ v → a <ℤ b → c <ℤ d → int_lt (b +ℤ gap) c ≡ false → int_lt (d +ℤ gap) a ≡ false → (int_le (cond u c a) t && int_lt t (cond v b d +ℤ gap)) ≡ ((int_le a t && int_lt t (b +ℤ gap)) || (int_le c t && int_lt t (d +ℤ gap)))
 hull_cases gap t a b c d true true e f k l g h = grind (arith, ints)
 hull_cases gap t a b c d true false e f k l g h = grind (arith, ints)
 hull_cases gap t a b c d false true e f k l g h = grind (arith, ints)
@@ -54,7 +54,7 @@ hull_full s r a = grind (arith, ints)
 near_hull : (gap t : ℤ) (s r : Span) → is_empty s ≡ false → is_empty r ≡ false → is_far_before gap s r ≡ false → is_far_before gap r s ≡ false → is_near gap t (span_round s r) ≡ (is_near gap t s || is_near gap t r)
 near_hull gap t s r a b c d =
     near_full gap t (span_round s r) (hull_full s r a)
-    ∙ hull_cases gap t s.start s.end r.start r.end (int_le s.start r.start) (int_le s.end r.end) refl refl (not_empty s a) (not_empty r b) c d
+    ∙ hull_cases gap t s.start s.end r.start r.end (int_lt r.start s.start) (int_lt r.end s.end) refl refl (not_empty s a) (not_empty r b) c d
     ∙ ap (λ x. x || (int_le r.start t && int_lt t (r.end +ℤ gap))) (sym (near_full gap t s a)) ∙ ap (λ x. is_near gap t s || x) (sym (near_full gap t r b))
 
 full : (r : Span) → r.start <ℤ r.end → is_empty r ≡ false

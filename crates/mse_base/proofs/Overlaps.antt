@@ -1,16 +1,19 @@
 -- The ticks that two lists of spans share, taken from the front.
-use Rattle.std.proofs.Common.{◌≡◌, ℤ, ◌≤ℤ◌, ◌<ℤ◌, int_lt, Bool, true, false, cond, ◌&&◌, ◌||◌, List, [], ◌∷◌, ◌++◌, length, get_or, take, drop, ◌-◌, ◌≤◌, ◌⊎◌, inl, inr, refl, ap, sym, subst, ◌∙◌, arith}
+use Rattle.std.proofs.Common.{◌≡◌, ℤ, ◌≤ℤ◌, ◌<ℤ◌, int_lt, Bool, true, false, cond, ◌&&◌, ◌||◌, List, [], ◌∷◌, ◌++◌, Some, None, option_to_list, length, get_or, take, drop, ◌-◌, ◌≤◌, ◌⊎◌, inl, inr, refl, ap, sym, subst, ◌∙◌, arith}
 use Rattle.std.proofs.lemmas.Int.{ints}
 use Rattle.std.proofs.lemmas.List.{same_from_push, append-nil, take_all}
 use Rattle.std.specs.Int.{int_max, int_min}
+use Rattle.mse_base.specs.Meets.{overlap}
 use Rattle.mse_base.specs.declared.span.Span.{Span}
 use Rattle.mse_base.specs.Spans.{has_tick, covers, StartsAfter, IsNormalized}
-use Rattle.mse_base.specs.Bridging.{overlap}
 use Rattle.mse_base.proofs.Sets.{covers-append}
 use Rattle.mse_base.proofs.Unique.{not_yet}
 
 abbrev both : Span → Span → Span
 both x y = record { start = int_max x.start y.start; end = int_min x.end y.end }
+
+abbrev share : Span → Span → Bool
+share x y = int_lt (int_max x.start y.start) (int_min x.end y.end)
 
 abbrev pub EndsBefore : List Span → ℤ → Type 0
 EndsBefore ss t = (front : List Span) (last : Span) → ss ≡ front ++ last ∷ [] → last.end <ℤ t
@@ -75,7 +78,7 @@ normalized-push (x ∷ y ∷ xs) s b n h =
     (h.0, h.1, normalized-push (y ∷ xs) s c n h.2)
 
 -- what stands after the spans found, where their ticks overlap and where they do not
-found : (met : List Span) (x y : Span) (b : Bool) → int_lt (int_max x.start y.start) (int_min x.end y.end) ≡ b → EndsBefore met (int_max x.start y.start) → IsNormalized met → IsNormalized (met ++ cond b (both x y ∷ []) [])
+found : (met : List Span) (x y : Span) (b : Bool) → int_lt (int_max x.start y.start) (int_min x.end y.end) ≡ b → EndsBefore met (int_max x.start y.start) → IsNormalized met → IsNormalized (met ++ option_to_list (cond b (Some (both x y)) None))
 found met x y true q c a =
     let n : int_max x.start y.start <ℤ int_min x.end y.end = grind (arith, ints) in
     normalized-push met (both x y) c n a
@@ -87,16 +90,16 @@ ends-later met t u h e = λ front last q. let k : last.end <ℤ t = e front last
 ends-push : (met : List Span) (s : Span) (u : ℤ) → s.end <ℤ u → EndsBefore (met ++ s ∷ []) u
 ends-push met s u h = λ front last e. let p = same_from_push met front s last e in subst (λ (z : Span). z.end <ℤ u) p.1 h
 
-ends-found : (met : List Span) (x y : Span) (u : ℤ) (b : Bool) → int_min x.end y.end <ℤ u → int_max x.start y.start ≤ℤ u → EndsBefore met (int_max x.start y.start) → EndsBefore (met ++ cond b (both x y ∷ []) []) u
+ends-found : (met : List Span) (x y : Span) (u : ℤ) (b : Bool) → int_min x.end y.end <ℤ u → int_max x.start y.start ≤ℤ u → EndsBefore met (int_max x.start y.start) → EndsBefore (met ++ option_to_list (cond b (Some (both x y)) None)) u
 ends-found met x y u true h g e = ends-push met (both x y) u h
 ends-found met x y u false h g e = rw append-nil (ends-later met (int_max x.start y.start) u g e)
 
-clear-left : (met xs ys : List Span) (x y : Span) (b : Bool) → x.end ≤ℤ y.end → x.start <ℤ x.end → StartsAfter x.end xs → EndsBefore met (int_max x.start y.start) → Clear (met ++ cond b (both x y ∷ []) []) xs (y ∷ ys)
+clear-left : (met xs ys : List Span) (x y : Span) (b : Bool) → x.end ≤ℤ y.end → x.start <ℤ x.end → StartsAfter x.end xs → EndsBefore met (int_max x.start y.start) → Clear (met ++ option_to_list (cond b (Some (both x y)) None)) xs (y ∷ ys)
 clear-left met [] ys x y b h n a e = tt
 clear-left met (z ∷ xs) ys x y b h n a e =
     ends-found met x y (int_max z.start y.start) b (grind (arith, ints)) (grind (arith, ints)) e
 
-clear-right : (met xs ys : List Span) (x y : Span) (b : Bool) → y.end <ℤ x.end → y.start <ℤ y.end → StartsAfter y.end ys → EndsBefore met (int_max x.start y.start) → Clear (met ++ cond b (both x y ∷ []) []) (x ∷ xs) ys
+clear-right : (met xs ys : List Span) (x y : Span) (b : Bool) → y.end <ℤ x.end → y.start <ℤ y.end → StartsAfter y.end ys → EndsBefore met (int_max x.start y.start) → Clear (met ++ option_to_list (cond b (Some (both x y)) None)) (x ∷ xs) ys
 clear-right met xs [] x y b h n a e = tt
 clear-right met xs (z ∷ ys) x y b h n a e =
     ends-found met x y (int_max x.start z.start) b (grind (arith, ints)) (grind (arith, ints)) e
@@ -113,10 +116,10 @@ step-left left right xs ys met new x y h e m =
     in
     rw e (record {
       same = same;
-      normalized = found met x y _ refl m.clear m.normalized;
+      normalized = found met x y (share x y) refl m.clear m.normalized;
       xs_normalized = m.xs_normalized.2;
       ys_normalized = m.ys_normalized;
-      clear = clear-left met xs ys x y _ h m.xs_normalized.0 m.xs_normalized.1 m.clear;
+      clear = clear-left met xs ys x y (share x y) h m.xs_normalized.0 m.xs_normalized.1 m.clear;
     })
 
 pub step-right : (left right xs ys met new : List Span) (x y : Span) → y.end <ℤ x.end → new ≡ met ++ overlap x y → Meeting left right (x ∷ xs) (y ∷ ys) met → Meeting left right (x ∷ xs) ys new
@@ -129,10 +132,10 @@ step-right left right xs ys met new x y h e m =
     in
     rw e (record {
       same = same;
-      normalized = found met x y _ refl m.clear m.normalized;
+      normalized = found met x y (share x y) refl m.clear m.normalized;
       xs_normalized = m.xs_normalized;
       ys_normalized = m.ys_normalized.2;
-      clear = clear-right met xs ys x y _ h m.ys_normalized.0 m.ys_normalized.1 m.clear;
+      clear = clear-right met xs ys x y (share x y) h m.ys_normalized.0 m.ys_normalized.1 m.clear;
     })
 
 -- a list by its head, as a slice pattern gives it

@@ -134,13 +134,13 @@ pub record CarveStep : Type 0 where
   pub whole : List Span
 
 -- the loop's step: what was left of the range stands in its place
-pub record Step (gap a b : ℤ) (s : CarveStep) : Type 0 where
+pub record IsCarveStep (gap a b : ℤ) (s : CarveStep) : Type 0 where
   pub items : take s.next s.after ++ (s.right ++ ranges_without a b (drop s.next s.after)) ≡ s.whole
   pub rest : drop s.next s.after ≡ drop (s.place + 1) s.before
   pub ranges : IsRanges gap (drop s.next s.after)
   pub within : s.next ≤ length s.after
 
-pub carved_step : (gap a b : ℤ) (rs ys whole : List Span) (i : ℕ) (r : Span) (left right : List Span) (j : ℕ) → i < length rs → r ≡ get_or rs i r → IsRanges gap (drop i rs) → take i rs ++ ranges_without a b (drop i rs) ≡ whole → left ≡ span_between r.start (int_min r.end a) → right ≡ span_between (int_max r.start b) r.end → ys ≡ take i rs ++ (left ++ drop (i + 1) rs) → j ≡ i + length left → Step gap a b (record { before = rs; after = ys; place = i; next = j; right = right; whole = whole })
+pub carved_step : (gap a b : ℤ) (rs ys whole : List Span) (i : ℕ) (r : Span) (left right : List Span) (j : ℕ) → i < length rs → r ≡ get_or rs i r → IsRanges gap (drop i rs) → take i rs ++ ranges_without a b (drop i rs) ≡ whole → left ≡ span_between r.start (int_min r.end a) → right ≡ span_between (int_max r.start b) r.end → ys ≡ take i rs ++ (left ++ drop (i + 1) rs) → j ≡ i + length left → IsCarveStep gap a b (record { before = rs; after = ys; place = i; next = j; right = right; whole = whole })
 carved_step gap a b rs ys whole i r left right j l at h inv p q cut place =
     let m : drop i rs ≡ r ∷ drop (i + 1) rs = drop_more rs i r l ∙ ap (λ z. z ∷ drop (i + 1) rs) (sym at) in
     let k = subst (λ (ys : List Span). IsRanges gap ys) m h in

@@ -6,7 +6,7 @@ use Rattle.mse_base.specs.declared.span.Span.{Span}
 use Rattle.mse_base.specs.Rows.{joined, start, row, Blocks, IsSpread}
 use Rattle.mse_base.proofs.InRows.{joined_set_set, joined_set_remove, joined_one, filled_set, filled_less, empty_push, one_more, row_within}
 
-pub spread_set : (old : Blocks) (new : List (List Span)) (len spare b i capacity : ℕ) (x : Span) → IsSpread old len spare → b < length old.rows → i < length (row old.rows b) → new ≡ set old.rows b (set (row old.rows b) i x) → capacity ≡ old.block_capacity → IsSpread (record old { rows = new; block_capacity = capacity }) len spare
+pub spread_set : (old : Blocks Span) (new : List (List Span)) (len spare b i capacity : ℕ) (x : Span) → IsSpread old len spare → b < length old.rows → i < length (row old.rows b) → new ≡ set old.rows b (set (row old.rows b) i x) → capacity ≡ old.block_capacity → IsSpread (record old { rows = new; block_capacity = capacity }) len spare
 spread_set old new len spare b i capacity x k l w f u =
     let rows = old.rows in
     let y = set (row rows b) i x in
@@ -23,7 +23,7 @@ spread_set old new len spare b i capacity x k l w f u =
       enough = λ h. omega (arith, k.enough h, z);
     })
 
-pub spread_take : (old : Blocks) (new : List (List Span)) (len spare b i capacity : ℕ) → IsSpread old len spare → b < length old.rows → i < length (row old.rows b) → 1 < length (row old.rows b) → new ≡ set old.rows b (remove (row old.rows b) i) → capacity ≡ old.block_capacity → IsSpread (record old { rows = new; block_capacity = capacity }) (len - 1) (spare + 1)
+pub spread_take : (old : Blocks Span) (new : List (List Span)) (len spare b i capacity : ℕ) → IsSpread old len spare → b < length old.rows → i < length (row old.rows b) → 1 < length (row old.rows b) → new ≡ set old.rows b (remove (row old.rows b) i) → capacity ≡ old.block_capacity → IsSpread (record old { rows = new; block_capacity = capacity }) (len - 1) (spare + 1)
 spread_take old new len spare b i capacity k l w h f u =
     let rows = old.rows in
     let y = remove (row rows b) i in
@@ -44,7 +44,7 @@ spread_take old new len spare b i capacity k l w h f u =
       enough = λ g. omega (arith, k.enough (omega arith));
     })
 
-pub spread_less : (old new : Blocks) (gone : List Span) (len spare b i : ℕ) → IsSpread old len spare → b < length old.rows → i < length (row old.rows b) → length (row old.rows b) ≤ 1 → new.rows ≡ remove old.rows b → new.pool ≡ old.pool ++ gone ∷ [] → gone ≡ [] → new.block_capacity ≡ old.block_capacity → new.pool_capacity ≡ old.pool_capacity → IsSpread new (len - 1) (spare + 1)
+pub spread_less : (old new : Blocks Span) (gone : List Span) (len spare b i : ℕ) → IsSpread old len spare → b < length old.rows → i < length (row old.rows b) → length (row old.rows b) ≤ 1 → new.rows ≡ remove old.rows b → new.pool ≡ old.pool ++ gone ∷ [] → gone ≡ [] → new.block_capacity ≡ old.block_capacity → new.pool_capacity ≡ old.pool_capacity → IsSpread new (len - 1) (spare + 1)
 spread_less old new gone len spare b i k l w h f g e u v =
     let rows = old.rows in
     let o = one_more old.pool gone in

@@ -14,14 +14,15 @@ is_far_before gap s r = int_lt (s.end +ℤ gap) r.start
 
 -- the least span round both
 abbrev pub span_round : Span → Span → Span
-span_round s r = record { start = if int_le s.start r.start then s.start else r.start; end = if int_le s.end r.end then r.end else s.end }
+span_round s r = record { start = int_min s.start r.start; end = int_max s.end r.end }
 
 -- ranges with a span joined in that is not empty: it becomes one with each that is not more than the gap away
 abbrev pub ranges_with_lasting : ℤ → Span → List Span → List Span
 ranges_with_lasting gap s [] = s ∷ []
 ranges_with_lasting gap s (r ∷ rs) =
     if is_far_before gap s r then (s ∷ r ∷ rs)
-    else (if is_far_before gap r s then (r ∷ ranges_with_lasting gap s rs) else ranges_with_lasting gap (span_round s r) rs)
+    else (if is_far_before gap r s then (r ∷ ranges_with_lasting gap s rs)
+    else ranges_with_lasting gap (span_round s r) rs)
 
 -- ranges with a span joined in
 abbrev pub ranges_with : ℤ → List Span → Span → List Span
@@ -38,20 +39,19 @@ bridged_ranges gap spans = ranges_with_all gap [] spans
 -- ascending, none empty, and each more than the gap apart from the next
 abbrev pub IsRanges : ℤ → List Span → Type 0
 IsRanges gap [] = Unit {0}
-IsRanges gap (r ∷ rs) = (r.start <ℤ r.end) × AllByRecursion (λ q. (r.end +ℤ gap) <ℤ q.start) rs × IsRanges gap rs
+IsRanges gap (r ∷ rs) =
+    (r.start <ℤ r.end) × AllByRecursion (λ q. (r.end +ℤ gap) <ℤ q.start) rs × IsRanges gap rs
 
 -- the span from a to b, if it has a tick
 abbrev pub span_between : ℤ → ℤ → List Span
 span_between a b = if int_lt a b then (record { start = a; end = b } ∷ []) else []
 
--- the ticks that two spans share, if there are any
-abbrev pub overlap : Span → Span → List Span
-overlap x y = span_between (int_max x.start y.start) (int_min x.end y.end)
-
 -- what is left of spans without the ticks from a on and below b
 abbrev pub ranges_without : ℤ → ℤ → List Span → List Span
 ranges_without a b [] = []
-ranges_without a b (s ∷ ss) = span_between s.start (int_min s.end a) ++ (span_between (int_max s.start b) s.end ++ ranges_without a b ss)
+ranges_without a b (s ∷ ss) =
+    span_between s.start (int_min s.end a)
+    ++ (span_between (int_max s.start b) s.end ++ ranges_without a b ss)
 
 -- the span is not empty, and has the tick if it lasts longer by the gap
 abbrev pub is_near : ℤ → ℤ → Span → Bool

@@ -1,8 +1,18 @@
 -- The ticks that lists of ranges share, as a list, and the range among these that has a time.
-use Rattle.std.specs.Prelude.{int_lt, List, [], ◌∷◌, fold, flat_map, Option, Some, None, if◌then◌else◌}
+use Rattle.std.specs.Prelude.{int_lt, List, [], ◌∷◌, fold, flat_map, Option, Some, None, option_to_list, if◌then◌else◌}
 use Rattle.std.specs.Int.{int_min, int_max}
 use Rattle.mse_base.specs.declared.span.Span.{Span}
-use Rattle.mse_base.specs.Bridging.{overlap}
+
+-- the ticks that two spans share, if there are any
+abbrev pub overlap_span : Span → Span → Option Span
+overlap_span x y =
+    if int_lt (int_max x.start y.start) (int_min x.end y.end)
+    then Some (record { start = int_max x.start y.start; end = int_min x.end y.end })
+    else None
+
+-- the same as a list
+abbrev pub overlap : Span → Span → List Span
+overlap x y = option_to_list (overlap_span x y)
 
 -- the ticks that two lists of ranges share
 abbrev pub meet : List Span → List Span → List Span
@@ -13,14 +23,7 @@ abbrev pub meet_of_all : List (List Span) → List Span
 meet_of_all [] = []
 meet_of_all (r ∷ rs) = fold meet r rs
 
--- the ticks that two spans share, if there are any
-abbrev pub overlap_span : Span → Span → Option Span
-overlap_span x y =
-    if int_lt (int_max x.start y.start) (int_min x.end y.end)
-    then Some (record { start = int_max x.start y.start; end = int_min x.end y.end })
-    else None
-
--- the same of two spans that may be missing
+-- the ticks that two spans share, if there are any, where each span may be missing
 abbrev pub overlap_of_two : Option Span → Option Span → Option Span
 overlap_of_two None y = None
 overlap_of_two (Some x) None = None

@@ -33,22 +33,28 @@ is_nan (At t) = false
 is_nan Infinite = false
 
 -- the two are one point of time, or neither is a number
-abbrev pub same_moment : Moment → Moment → Bool
-same_moment Nan Nan = true
-same_moment Nan (At b) = false
-same_moment Nan Infinite = false
-same_moment (At a) Nan = false
-same_moment (At a) (At b) = int_eq a b
-same_moment (At a) Infinite = false
-same_moment Infinite Nan = false
-same_moment Infinite (At b) = false
-same_moment Infinite Infinite = true
+abbrev pub is_same_moment : Moment → Moment → Bool
+is_same_moment Nan Nan = true
+is_same_moment Nan (At b) = false
+is_same_moment Nan Infinite = false
+is_same_moment (At a) Nan = false
+is_same_moment (At a) (At b) = int_eq a b
+is_same_moment (At a) Infinite = false
+is_same_moment Infinite Nan = false
+is_same_moment Infinite (At b) = false
+is_same_moment Infinite Infinite = true
 
 -- the greater of a point of time and a time; the time where the point is not a number
 abbrev pub greater_moment : Moment → ℤ → Moment
 greater_moment Nan t = At t
 greater_moment (At d) t = At (int_max d t)
 greater_moment Infinite t = Infinite
+
+-- the lesser of a time and a point of time; the time where the point is not a number
+abbrev pub lesser_moment : ℤ → Moment → ℤ
+lesser_moment t Nan = t
+lesser_moment t (At d) = int_min t d
+lesser_moment t Infinite = t
 
 -- the time, or another point of time where there is none
 abbrev pub time_or : Option ℤ → Moment → Moment
@@ -78,6 +84,11 @@ abbrev pub greater_with : Option ℤ → ℤ → ℤ
 greater_with None t = t
 greater_with (Some s) t = int_max s t
 
+-- the lesser of a time and another, if there is one
+abbrev pub lesser_with : Option ℤ → ℤ → ℤ
+lesser_with None t = t
+lesser_with (Some s) t = int_min s t
+
 -- the greatest of two times, each of which may be missing
 abbrev pub greatest_of_two : Option ℤ → Option ℤ → Option ℤ
 greatest_of_two None t = t
@@ -85,16 +96,16 @@ greatest_of_two (Some s) None = Some s
 greatest_of_two (Some s) (Some t) = Some (int_max s t)
 
 -- both tracks carry the same
-abbrev pub same_kind : Kind → Kind → Bool
-same_kind Video Video = true
-same_kind Video Audio = false
-same_kind Video Other = false
-same_kind Audio Video = false
-same_kind Audio Audio = true
-same_kind Audio Other = false
-same_kind Other Video = false
-same_kind Other Audio = false
-same_kind Other Other = true
+abbrev pub is_same_kind : Kind → Kind → Bool
+is_same_kind Video Video = true
+is_same_kind Video Audio = false
+is_same_kind Video Other = false
+is_same_kind Audio Video = false
+is_same_kind Audio Audio = true
+is_same_kind Audio Other = false
+is_same_kind Other Video = false
+is_same_kind Other Audio = false
+is_same_kind Other Other = true
 
 -- a buffer takes frames of a track of this kind
 abbrev pub is_media : Kind → Bool

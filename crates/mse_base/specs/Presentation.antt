@@ -11,7 +11,9 @@ has_id id t = t.id == id
 
 -- a track that media segments can be read for
 abbrev pub IsReadable : TrackInfo → Type 0
-IsReadable t = (1 ≤ t.scale) × (pos 0 ≤ℤ t.media_shift) × (pos 0 ≤ℤ t.empty_shift) × (t.empty_shift ≤ℤ pos (2 ^ 109))
+IsReadable t =
+    (1 ≤ t.scale) × (pos 0 ≤ℤ t.media_shift)
+    × (pos 0 ≤ℤ t.empty_shift) × (t.empty_shift ≤ℤ pos (2 ^ 109))
 
 -- no two tracks have one number
 abbrev pub HasDistinctIds : List TrackInfo → Type 0

@@ -1,30 +1,40 @@
--- Spans in rows.
+-- Lists in rows, and spans in rows.
 use Rattle.std.specs.Prelude.{◌≡◌, ℕ, zero, suc, ◌+◌, ◌*◌, ◌^◌, ◌<◌, ◌≤◌, List, [], ◌∷◌, ◌++◌, length, take, drop}
 use Rattle.std.specs.List.{AllByRecursion}
 use Rattle.mse_base.specs.declared.span.Span.{Span}
 
--- the spans in order
-abbrev pub joined : List (List Span) → List Span
+-- the items in order
+abbrev pub joined : {T : Type 0} → List (List T) → List T
 joined [] = []
 joined (r ∷ rows) = r ++ joined rows
 
--- how many spans stand before row b
-abbrev pub start : List (List Span) → ℕ → ℕ
+-- how many items stand before row b
+abbrev pub start : {T : Type 0} → List (List T) → ℕ → ℕ
 start rows zero = 0
 start [] (suc b) = 0
 start (r ∷ rows) (suc b) = length r + start rows b
 
 -- row b; where there is none, the empty one
-abbrev pub row : List (List Span) → ℕ → List Span
+abbrev pub row : {T : Type 0} → List (List T) → ℕ → List T
 row [] b = []
 row (r ∷ rows) zero = r
 row (r ∷ rows) (suc b) = row rows b
 
 -- row b cut in two at s
-abbrev pub split_row : List (List Span) → ℕ → ℕ → List (List Span)
+abbrev pub split_row : {T : Type 0} → List (List T) → ℕ → ℕ → List (List T)
 split_row [] b s = []
 split_row (r ∷ rows) zero s = take s r ∷ drop s r ∷ rows
 split_row (r ∷ rows) (suc b) s = r ∷ split_row rows b s
+
+abbrev pub AreEmpty : {T : Type 0} → List (List T) → Type 0
+AreEmpty rows = AllByRecursion (λ r. r ≡ []) rows
+
+-- rows in blocks, a pool of empty blocks, and for how many blocks each of the two has room
+pub record Blocks (T : Type 0) : Type 0 where
+  pub rows : List (List T)
+  pub pool : List (List T)
+  pub block_capacity : ℕ
+  pub pool_capacity : ℕ
 
 -- row b and the one behind it as one
 abbrev pub merge_rows : List (List Span) → ℕ → List (List Span)
@@ -36,26 +46,16 @@ merge_rows (r ∷ s ∷ rows) (suc b) = r ∷ merge_rows (s ∷ rows) b
 abbrev pub AreFilled : List (List Span) → Type 0
 AreFilled rows = AllByRecursion (λ r. 0 < length r) rows
 
-abbrev pub AreEmpty : List (List Span) → Type 0
-AreEmpty rows = AllByRecursion (λ r. r ≡ []) rows
-
 -- no two neighbours have few enough spans to be one row of at most 1,024
 abbrev pub AreDense : List (List Span) → Type 0
 AreDense [] = Unit {0}
 AreDense (r ∷ []) = Unit {0}
 AreDense (r ∷ s ∷ rows) = (1024 < length r + length s) × AreDense (s ∷ rows)
 
--- blocks of spans, a pool of empty blocks, and for how many blocks each of the two has room
-pub record Blocks : Type 0 where
-  pub rows : List (List Span)
-  pub pool : List (List Span)
-  pub block_capacity : ℕ
-  pub pool_capacity : ℕ
-
 -- what spans in blocks keep: how many there are, and for how many more there is room, and a pool
 -- of empty blocks that is large enough for all of these, however they stand, once no two neighbours
 -- can be one block
-pub record IsSpread (blocks : Blocks) (len spare : ℕ) : Type 0 where
+pub record IsSpread (blocks : Blocks Span) (len spare : ℕ) : Type 0 where
   pub filled : AreFilled blocks.rows
   pub empty : AreEmpty blocks.pool
   pub block_room : length blocks.pool + length blocks.rows ≤ blocks.block_capacity

@@ -15,6 +15,7 @@ pub(crate) struct BlockPlace {
     pub index: usize,
 }
 
+/// How many spans the block at a place holds.
 pub(crate) fn len_at(blocks: &Vec<Block>, b: usize) -> usize
     requires { b < length blocks.now.items }
     ensures value { result ≡ length (row blocks.now.items b) }

@@ -17,8 +17,8 @@ fn span_round(s: &Span, r: &Span) -> Span
     ensures { result ≡ span_round s.now r.now }
 {
     Span {
-        start: if s.start <= r.start { s.start } else { r.start },
-        end: if s.end <= r.end { r.end } else { s.end },
+        start: s.start.min(r.start),
+        end: s.end.max(r.end),
     }
 }
 
@@ -73,7 +73,7 @@ fn extended(r: &Span, s: &Span) -> Span
 {
     Span {
         start: r.start,
-        end: if s.end <= r.end { r.end } else { s.end },
+        end: s.end.max(r.end),
     }
 }
 
@@ -81,11 +81,11 @@ fn extended(r: &Span, s: &Span) -> Span
 /// most the gap behind; whether it does.
 fn join_before_last(ranges: &mut SpanList, gap: Ticks, span: &Span) -> bool
     requires gap_from_zero { pos 0 ≤ℤ gap }
-    requires lasting { is_empty span.now ≡ false }
+    requires not_empty { is_empty span.now ≡ false }
     requires ranges { IsRanges gap ranges.old.spans }
     ensures spans { result ≡ true
         → ranges.new.spans ≡ ranges_with gap ranges.old.spans span.now }
-    ensures kept { result ≡ false → ranges.new.spans ≡ ranges.old.spans }
+    ensures unchanged { result ≡ false → ranges.new.spans ≡ ranges.old.spans }
     ensures room { ranges.old.spare + length ranges.old.spans
         ≡ ranges.new.spare + length ranges.new.spans }
 {
@@ -116,11 +116,11 @@ fn join_before_last(ranges: &mut SpanList, gap: Ticks, span: &Span) -> bool
 fn join_late(ranges: &mut SpanList, gap: Ticks, span: &Span) -> bool
     requires room { 1 ≤ ranges.old.spare }
     requires gap_from_zero { pos 0 ≤ℤ gap }
-    requires lasting { is_empty span.now ≡ false }
+    requires not_empty { is_empty span.now ≡ false }
     requires ranges { IsRanges gap ranges.old.spans }
     ensures spans { result ≡ true
         → ranges.new.spans ≡ ranges_with gap ranges.old.spans span.now }
-    ensures kept { result ≡ false → ranges.new.spans ≡ ranges.old.spans }
+    ensures unchanged { result ≡ false → ranges.new.spans ≡ ranges.old.spans }
     ensures room { ranges.old.spare + length ranges.old.spans
         ≡ ranges.new.spare + length ranges.new.spans }
 {

@@ -1,6 +1,7 @@
 ghost use Rattle.std.specs.Prelude.{◌≡◌, ◌++◌, [], None, IfOk, IfSome, OnOk};
 ghost use Rattle.mse_base.specs.Spans.{IsNormalized, IsUnion, IsIntersection};
-ghost use Rattle.mse_base.specs.Bridging.{overlap, IsHeadOfOne};
+ghost use Rattle.mse_base.specs.Bridging.{IsHeadOfOne};
+ghost use Rattle.mse_base.specs.Meets.{overlap};
 
 use crate::bridge::join_in;
 use crate::span_list::SpanList;

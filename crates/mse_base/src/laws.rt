@@ -1,12 +1,12 @@
 //! What follows from the definitions of this crate: functions that do nothing, with the laws as
 //! their contracts.
 
-ghost use Rattle.std.specs.Prelude.{◌≡◌, ◌≢◌, ◌⊎◌, ◌↔◌, ℤ, ℕ, ◌<◌, ◌≤◌, ◌≤ℤ◌, pos, List, [], ◌∷◌, ◌++◌, length, map, find, Option, option_to_list, true};
+ghost use Rattle.std.specs.Prelude.{◌≡◌, ◌≢◌, ◌⊎◌, ◌↔◌, ℤ, ℕ, ◌<◌, ◌≤◌, ◌≤ℤ◌, pos, List, [], ◌∷◌, ◌++◌, length, map, find, Option, true};
 ghost use Rattle.std.specs.List.{AllByRecursion, list_all};
 ghost use Rattle.mse_base.specs.Time.{floor_div, IsFloor};
 ghost use Rattle.mse_base.specs.Spans.{covers, reaches, IsNormalized, IsUnion, IsIntersection, IsDifference, IsBridging, IsBridged, IsInGap};
-ghost use Rattle.mse_base.specs.Bridging.{bridged_ranges, overlap};
-ghost use Rattle.mse_base.specs.Meets.{meet, meet_of_all, overlap_span, overlap_of_two, overlap_of_all};
+ghost use Rattle.mse_base.specs.Bridging.{bridged_ranges};
+ghost use Rattle.mse_base.specs.Meets.{meet, meet_of_all, overlap_of_two, overlap_of_all};
 ghost use Rattle.mse_base.specs.declared.span.Span.{Span};
 
 /// `convert` rounds to the greatest whole number of ticks that is not above the quotient.
@@ -51,7 +51,6 @@ pub fn meets()
     ensures found { (t : ℤ) (xs ys : List Span) → IsNormalized xs → IsNormalized ys
         → find (reaches t) (meet xs ys)
         ≡ overlap_of_two (find (reaches t) xs) (find (reaches t) ys) }
-    ensures overlap { (x y : Span) → option_to_list (overlap_span x y) ≡ overlap x y }
 {}
 
 /// The same of the meet of some lists. A loop over the lists keeps the overlap so far: with one

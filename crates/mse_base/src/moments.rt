@@ -2,7 +2,7 @@
 //! `min` and `max`, and whether two points of time, or two kinds, are the same is `==`.
 
 ghost use Rattle.std.specs.Prelude.{◌≡◌};
-ghost use Rattle.mse_base.specs.Moments.{is_before, is_after, is_at_or_before, is_nan, greater_moment, time_or, lesser_of, greater_of, greater_with};
+ghost use Rattle.mse_base.specs.Moments.{is_before, is_after, is_at_or_before, is_nan, greater_moment, lesser_moment, time_or, lesser_of, greater_of, greater_with, lesser_with};
 
 use crate::{Moment, Ticks};
 
@@ -57,6 +57,26 @@ impl Ticks {
         match other {
             Some(other) => other.max(self),
             None => self,
+        }
+    }
+
+    /// The lesser of another time, where there is one, and this time.
+    pub fn lesser_with(self, other: Option<Ticks>) -> Ticks
+        ensures { result ≡ lesser_with other self }
+    {
+        match other {
+            Some(other) => other.min(self),
+            None => self,
+        }
+    }
+
+    /// The lesser of this time and a point of time: this time where that is `Moment::Nan`.
+    pub fn at_most(self, moment: Moment) -> Ticks
+        ensures { result ≡ lesser_moment self moment }
+    {
+        match moment {
+            Moment::At(m) => self.min(m),
+            Moment::Nan | Moment::Infinite => self,
         }
     }
 }

@@ -28,6 +28,7 @@ impl Model for Block {
 }
 
 impl Block {
+    /// No spans, with room for 1,024.
     pub fn new(alloc: Global) -> Result<Block, OutOfMemory>
         ensures { IfOk result (λ b. b ≡ []) }
     {
@@ -35,6 +36,7 @@ impl Block {
         Ok(Block { items })
     }
 
+    /// How many spans there are.
     pub fn len(&self) -> usize
         ensures value { result ≡ length self.now }
         ensures bound { length self.now ≤ 1024 }
@@ -42,6 +44,7 @@ impl Block {
         self.items.len()
     }
 
+    /// The span at a place.
     pub fn get(&self, i: usize) -> Span
         requires { i < length self.now }
         ensures { result ≡ slice_index_or self.now i result }
@@ -49,12 +52,14 @@ impl Block {
         self.items[i]
     }
 
+    /// The spans, in order.
     pub fn as_slice(&self) -> &[Span]
         ensures { result.now ≡ self.now }
     {
         self.items.as_slice()
     }
 
+    /// Puts a span behind all.
     pub fn push(&mut self, x: Span)
         requires { length self.old < 1024 }
         ensures { self.new ≡ self.old ++ x ∷ [] }
@@ -62,6 +67,7 @@ impl Block {
         self.items.push_reserved(x);
     }
 
+    /// Puts in a span.
     pub fn insert(&mut self, i: usize, x: Span)
         requires within { i ≤ length self.old }
         requires room { length self.old < 1024 }
@@ -77,6 +83,7 @@ impl Block {
         }
     }
 
+    /// Puts another span in place of one.
     pub fn set(&mut self, i: usize, x: Span)
         requires { i < length self.old }
         ensures { self.new ≡ slice_set self.old i x }
@@ -84,6 +91,7 @@ impl Block {
         self.items[i] = x;
     }
 
+    /// Takes out a span.
     pub fn remove(&mut self, i: usize)
         requires { i < length self.old }
         ensures { self.new ≡ remove self.old i }
@@ -96,6 +104,7 @@ impl Block {
         self.items.remove(i);
     }
 
+    /// Removes all spans.
     pub fn clear(&mut self)
         ensures { self.new ≡ [] }
     {

@@ -1,6 +1,6 @@
 //! Many spans: a list in blocks.
 
-ghost use Rattle.std.specs.Prelude.{◌≡◌, ◌+◌, ◌-◌, ◌*◌, ◌^◌, ◌<◌, ◌≤◌, ◌<ℤ◌, ◌≤ℤ◌, ◌-ℤ◌, [], length, take, drop, IfOk, OnOk, slice_index_or, slice_set, vec_capacity};
+ghost use Rattle.std.specs.Prelude.{◌≡◌, ◌+◌, ◌-◌, ◌*◌, ◌<◌, ◌≤◌, ◌<ℤ◌, ◌≤ℤ◌, ◌-ℤ◌, [], length, take, drop, IfOk, OnOk, slice_index_or, slice_set, vec_capacity};
 ghost use Rattle.std.specs.List.{AllByRecursion, insert, remove};
 ghost use Rattle.mse_base.specs.Spans.{IsNormalized};
 ghost use Rattle.mse_base.specs.Rows.{joined, start, row, AreFilled, AreEmpty};
@@ -193,12 +193,14 @@ impl SpanBlocks {
         }
     }
 
+    /// How many spans there are.
     pub fn len(&self) -> usize
         ensures { result ≡ length self.now.spans }
     {
         self.len
     }
 
+    /// For how many more spans there is room.
     pub fn spare(&self) -> usize
         ensures { result ≡ self.now.spare }
     {
@@ -209,7 +211,7 @@ impl SpanBlocks {
     pub fn reserve(&mut self, n: usize) -> Result<(), OutOfMemory>
         ensures spans { self.new.spans ≡ self.old.spans }
         ensures spare { OnOk result (n ≤ self.new.spare) }
-        ensures kept { self.old.spare ≤ self.new.spare }
+        ensures room_stays { self.old.spare ≤ self.new.spare }
     {
         if n <= self.spare {
             return Ok(());

@@ -72,6 +72,7 @@ impl SpanList {
         }
     }
 
+    /// How many spans there are.
     pub fn len(&self) -> usize
         ensures { result ≡ length self.now.spans }
     {
@@ -159,7 +160,7 @@ impl SpanList {
     pub fn reserve(&mut self, alloc: Global, n: usize) -> Result<(), OutOfMemory>
         ensures spans { self.new.spans ≡ self.old.spans }
         ensures spare { OnOk result (n ≤ self.new.spare) }
-        ensures kept { self.old.spare ≤ self.new.spare }
+        ensures room_stays { self.old.spare ≤ self.new.spare }
     {
         if n <= self.spare() {
             return Ok(());

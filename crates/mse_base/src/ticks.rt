@@ -53,7 +53,7 @@ impl Ticks {
     /// The number of ticks.
     pub fn get(self) -> i128
         ensures value { result ≡ self }
-        ensures in_range { IsTick self }
+        ensures is_tick { IsTick self }
     {
         self.value
     }

@@ -1,5 +1,5 @@
 use Rattle.mse_base.proofs.Meeting.{met_meet}
-use Rattle.mse_base.proofs.Holding.{find-meet, overlap_is}
+use Rattle.mse_base.proofs.Holding.{find-meet}
 use Rattle.mse_base.proofs.laws.meets.Goals as goal
 
 pub returns-clause-met : goal.returns-clause-met
@@ -7,6 +7,3 @@ returns-clause-met c = met_meet
 
 pub returns-clause-found : goal.returns-clause-found
 returns-clause-found c = find-meet
-
-pub returns-clause-overlap : goal.returns-clause-overlap
-returns-clause-overlap c = overlap_is
