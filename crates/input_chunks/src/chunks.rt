@@ -1,6 +1,6 @@
-ghost use Rattle.std.specs.Prelude.{◌≡◌, ℕ, ◌+◌, ◌-◌, ◌<◌, ◌≤◌, ◌^◌, ◌%◌, List, [], ◌++◌, length, take, drop, slice_get, Some, true, false, IfOk, IfSome, OnOk, OnErr};
+ghost use Rattle.std.specs.Prelude.{◌≡◌, ℕ, ◌+◌, ◌-◌, ◌<◌, ◌≤◌, ◌^◌, List, [], ◌++◌, length, take, drop, slice_get, Some, true, false, IfOk, IfSome, OnOk, OnErr};
 ghost use Rattle.std.specs.List.{concat};
-ghost use Rattle.input_chunks.specs.Pieces.{pieces_with_tail, pieces_with, pieces_without_first, pieces_without_last, HasNoEmptyPiece};
+ghost use Rattle.input_chunks.specs.Pieces.{pieces_with, pieces_without_first, pieces_without_last, HasNoEmptyPiece};
 ghost use Rattle.input_chunks.specs.Ends.{pieces_of, bytes_of, bytes_from, HasEnds, HasNewEnds, IsWith, IsApart};
 
 use crate::piece_offset::piece_offset_of;
@@ -60,11 +60,11 @@ impl Chunks {
     }
 
     /// Appends bytes: to the last piece, where the two together have at most 4096 bytes, and else
-    /// as a new piece. No bytes change nothing, and neither does an `Err`.
+    /// as a new piece. What was pushed can be taken back whole. No bytes change nothing, and neither does an
+    /// `Err`.
     pub fn push(&mut self, piece: &[u8]) -> Result<(), OutOfMemory>
         requires { length (concat self.old) + length piece.now < 2 ^ 62 }
         ensures ok { OnOk result (self.new ≡ pieces_with piece.now self.old) }
-        // What was pushed can be taken back whole.
         ensures undone { OnOk result (pieces_without_last (length piece.now) self.new ≡ self.old) }
         ensures err { OnErr result (self.new ≡ self.old) }
     {
@@ -134,8 +134,8 @@ impl Chunks {
         read_of(&self.entries, place.index, place.skip, into);
     }
 
-    /// The `n` bytes from `from` on. Where they lie in one piece that no push can lengthen, they have its memory, and no
-    /// byte is copied.
+    /// The `n` bytes from `from` on. Where they lie in one piece that no push can lengthen, they have its memory,
+    /// and no byte is copied.
     pub fn copy(&self, from: usize, n: usize) -> Result<Bytes, OutOfMemory>
         requires { from + n ≤ length (concat self.now) }
         ensures { IfOk result (λ b. b ≡ take n (drop from (concat self.now))) }

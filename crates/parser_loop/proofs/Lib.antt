@@ -1,5 +1,5 @@
 pub mod Walks
-pub mod Runs
+pub mod Lookaheads
 pub mod Pieces
 pub mod Parses
 pub mod Holding

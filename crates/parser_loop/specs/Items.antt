@@ -4,6 +4,8 @@ use Rattle.std.specs.Prelude.{◌≡◌, ℕ, Bool, true, false, List, [], ◌�
 use Rattle.std.specs.List.{list_any}
 use Rattle.mse_base.specs.declared.frame.CodedFrame.{CodedFrame}
 use Rattle.mse_base.specs.declared.track.Presentation.{Presentation}
+use Rattle.parser_loop.specs.declared.next.Next.{Next}
+use Rattle.parser_loop.specs.declared.next.Next.TheVariants as next
 
 -- An initialization segment that was received and a coded frame, each with its offset in the string, the end of a
 -- media segment, or the fault that ends the string for good, with its offset.
@@ -12,6 +14,14 @@ pub data Item (F : Type 0) : Type 0 where
   FrameItem : CodedFrame → ℕ → Item F
   SegmentEnd : Item F
   FaultItem : F → ℕ → Item F
+
+-- the item that an answer gives, if it gives one
+abbrev pub seen : {F : Type 0} → Next F → Option (Item F)
+seen (next.Init p offset) = Some (InitItem p offset)
+seen (next.Frame frame offset) = Some (FrameItem frame offset)
+seen next.SegmentEnd = Some SegmentEnd
+seen (next.Fault f offset) = Some (FaultItem f offset)
+seen next.Dry = None
 
 abbrev pub is_fault : {F : Type 0} → Item F → Bool
 is_fault (InitItem p offset) = false

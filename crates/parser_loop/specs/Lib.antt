@@ -1,4 +1,5 @@
 pub mod Walk
 pub mod Items
 pub mod Parse
+pub mod StringReadings
 pub mod Example

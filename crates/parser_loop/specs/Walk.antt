@@ -107,42 +107,42 @@ pub record Lookahead (S I : Type 0) : Type 0 where
 abbrev pub stay_at : {S I : Type 0} → S → Lookahead S I
 stay_at s = record { items = []; state = s }
 
--- a run with these items in front
+-- a lookahead with these items in front
 abbrev pub with_items : {S I : Type 0} → List I → Lookahead S I → Lookahead S I
 with_items items r = record { items = items ++ r.items; state = r.state }
 
--- at an item: a run goes on behind it where it may be taken ahead, and else stays before it
-abbrev pub run_give : {S I : Type 0} → S → I → Lookahead S I → Bool → Lookahead S I
-run_give s item r true = with_items (item ∷ []) r
-run_give s item r false = stay_at s
+-- at an item: a lookahead goes on behind it where it may be taken ahead, and else stays before it
+abbrev pub lookahead_give : {S I : Type 0} → S → I → Lookahead S I → Bool → Lookahead S I
+lookahead_give s item r true = with_items (item ∷ []) r
+lookahead_give s item r false = stay_at s
 
-abbrev pub run_by : {S I : Type 0} → StreamKind S I → S → (S → Lookahead S I) → Move S I → Lookahead S I
-run_by k s go Stop = stay_at s
-run_by k s go (Pass t) = go t
-run_by k s go (Give item t) = run_give s item (go t) (k.runs item)
+abbrev pub lookahead_by : {S I : Type 0} → StreamKind S I → S → (S → Lookahead S I) → Move S I → Lookahead S I
+lookahead_by k s go Stop = stay_at s
+lookahead_by k s go (Pass t) = go t
+lookahead_by k s go (Give item t) = lookahead_give s item (go t) (k.runs item)
 
-abbrev pub run_in : {S I : Type 0} → StreamKind S I → ℕ → S → Lookahead S I
-run_in k zero s = stay_at s
-run_in k (suc n) s = run_by k s (run_in k n) (k.move s)
+abbrev pub lookahead_in : {S I : Type 0} → StreamKind S I → ℕ → S → Lookahead S I
+lookahead_in k zero s = stay_at s
+lookahead_in k (suc n) s = lookahead_by k s (lookahead_in k n) (k.move s)
 
 -- all that can be taken ahead from a state on
-unfoldable pub run : {S I : Type 0} → StreamKind S I → S → Lookahead S I
-run k s = run_in k (suc (k.size s)) s
+unfoldable pub lookahead_from : {S I : Type 0} → StreamKind S I → S → Lookahead S I
+lookahead_from k s = lookahead_in k (suc (k.size s)) s
 
 -- What is kept stands for the walk from s on, of whose items n were asked for: it is all that can be taken ahead
 -- from the state at item n on. Many strings may lead to one thing kept; each law holds for all of them.
 pub record Stands {S I : Type 0} (k : StreamKind S I) (kept : Lookahead S I) (s : S) (n : ℕ) : Type 0 where
   pub taken : n ≤ length (items_from k s)
-  pub is : kept ≡ run k (state_at k n s)
+  pub is : kept ≡ lookahead_from k (state_at k n s)
 
 -- what is kept where more bytes have come
-abbrev pub fed : {S I : Type 0} → StreamKind S I → Lookahead S I → List ℕ → Lookahead S I
-fed k kept c = with_items kept.items (run k (k.more kept.state c))
+abbrev pub kept_with : {S I : Type 0} → StreamKind S I → Lookahead S I → List ℕ → Lookahead S I
+kept_with k kept c = with_items kept.items (lookahead_from k (k.more kept.state c))
 
 -- what is kept where these pieces have come one after the other
-abbrev pub fed_all : {S I : Type 0} → StreamKind S I → Lookahead S I → List (List ℕ) → Lookahead S I
-fed_all k kept [] = kept
-fed_all k kept (c ∷ cs) = fed_all k (fed k kept c) cs
+abbrev pub kept_with_all : {S I : Type 0} → StreamKind S I → Lookahead S I → List (List ℕ) → Lookahead S I
+kept_with_all k kept [] = kept
+kept_with_all k kept (c ∷ cs) = kept_with_all k (kept_with k kept c) cs
 
 abbrev pub item_of : {S I : Type 0} → Move S I → Option I
 item_of Stop = None
@@ -157,13 +157,13 @@ first_by (item ∷ items) m = Some item
 abbrev pub first_item : {S I : Type 0} → StreamKind S I → Lookahead S I → Option I
 first_item k kept = first_by kept.items (k.move kept.state)
 
-abbrev pub run_after : {S I : Type 0} → StreamKind S I → S → Move S I → Lookahead S I
-run_after k s Stop = stay_at s
-run_after k s (Pass t) = stay_at s
-run_after k s (Give item t) = run k t
+abbrev pub lookahead_after : {S I : Type 0} → StreamKind S I → S → Move S I → Lookahead S I
+lookahead_after k s Stop = stay_at s
+lookahead_after k s (Pass t) = stay_at s
+lookahead_after k s (Give item t) = lookahead_from k t
 
 abbrev pub after_by : {S I : Type 0} → StreamKind S I → S → List I → Lookahead S I
-after_by k s [] = run_after k s (k.move s)
+after_by k s [] = lookahead_after k s (k.move s)
 after_by k s (item ∷ items) = record { items = items; state = s }
 
 -- what is kept when the next item was given

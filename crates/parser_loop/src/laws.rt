@@ -1,8 +1,8 @@
 ghost use Rattle.std.specs.Prelude.{◌≡◌, suc, ◌+◌, ◌<◌, ◌≤◌, ◌++◌, ℕ, List, Bool, true, Option, Some, length, take, drop, slice_get};
 ghost use Rattle.mse_base.specs.declared.track.Presentation.{Presentation};
 ghost use Rattle.parser_loop.specs.Items.{Item, IsPrefix, latest_after_all, leading_frames, is_fault, is_frame};
-ghost use Rattle.parser_loop.specs.Parse.{Parse, items_of, seen_before, parse_from, IsTrue, Keeps, Halts, Drops, IsSuffix, Remembers};
-ghost use Rattle.parser_loop.specs.Walk.{StreamKind, IsWalk, Extends, Lookahead, Stands, items_from, settle, state_at, more_all, with_items, run, fed, fed_all, first_item, after_first, count_after, leading};
+ghost use Rattle.parser_loop.specs.Parse.{items_of, seen_before, parse_from, IsTrue, Keeps, Halts, Drops, IsSuffix, Remembers};
+ghost use Rattle.parser_loop.specs.Walk.{StreamKind, IsWalk, Extends, Lookahead, Stands, items_from, settle, state_at, more_all, lookahead_from, kept_with, kept_with_all, first_item, after_first, count_after, leading};
 
 /// With more bytes the items begin with those that were there, and none follow one that ends the walk.
 pub fn prefix_law<S, I>()
@@ -26,20 +26,20 @@ pub fn items_law<S, I>()
 
 /// Items that are taken ahead are the next ones (the code parses frames before they are asked for), and to take them
 /// before more bytes come or after is the same.
-pub fn run_law<S, I>()
+pub fn lookahead_law<S, I>()
     ensures items { (k : StreamKind S I) → IsWalk k → (s : S) →
-        items_from k s ≡ (run k s).items ++ items_from k (run k s).state }
+        items_from k s ≡ (lookahead_from k s).items ++ items_from k (lookahead_from k s).state }
     ensures more { (k : StreamKind S I) → IsWalk k → (s : S) (c : List ℕ) →
-        run k (k.more s c) ≡ fed k (run k s) c }
+        lookahead_from k (k.more s c) ≡ kept_with k (lookahead_from k s) c }
 {}
 
 /// What is kept stands for the walk, at the start, after each piece and behind each item that was given, and it
 /// gives the items of the walk.
 pub fn kept_law<S, I>()
-    ensures start { (k : StreamKind S I) → IsWalk k → (s : S) → Stands k (run k s) s 0 }
+    ensures start { (k : StreamKind S I) → IsWalk k → (s : S) → Stands k (lookahead_from k s) s 0 }
     ensures pieces { (k : StreamKind S I) → IsWalk k →
         (kept : Lookahead S I) (s : S) (n : ℕ) (cs : List (List ℕ)) → Stands k kept s n →
-        Stands k (fed_all k kept cs) (more_all k s cs) n }
+        Stands k (kept_with_all k kept cs) (more_all k s cs) n }
     ensures first { (k : StreamKind S I) → IsWalk k → (kept : Lookahead S I) (s : S) (n : ℕ) →
         Stands k kept s n → first_item k kept ≡ slice_get (items_from k s) n }
     ensures after { (k : StreamKind S I) → IsWalk k → (kept : Lookahead S I) (s : S) (n : ℕ) →

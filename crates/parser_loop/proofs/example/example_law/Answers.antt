@@ -1,5 +1,5 @@
 use Rattle.std.proofs.Common.{refl}
-use Rattle.parser_loop.specs.Walk.{items_from, settle, run}
+use Rattle.parser_loop.specs.Walk.{items_from, settle, lookahead_from}
 use Rattle.parser_loop.specs.Parse.{parse_from}
 use Rattle.parser_loop.proofs.example.example_law.Goals as goal
 
@@ -20,17 +20,17 @@ unfolding settle
 returns-clause-state c = refl
 
 pub returns-clause-ahead : goal.returns-clause-ahead
-unfolding run
+unfolding lookahead_from
 returns-clause-ahead c = refl
 
 pub returns-clause-pieces : goal.returns-clause-pieces
-unfolding run
+unfolding lookahead_from
 returns-clause-pieces c = refl
 
 pub returns-clause-first : goal.returns-clause-first
-unfolding run
+unfolding lookahead_from
 returns-clause-first c = refl
 
 pub returns-clause-after : goal.returns-clause-after
-unfolding run
+unfolding lookahead_from
 returns-clause-after c = refl

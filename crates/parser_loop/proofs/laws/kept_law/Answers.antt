@@ -1,4 +1,4 @@
-use Rattle.parser_loop.proofs.Runs.{stands-first, stands-after, stands-look, stands-ready}
+use Rattle.parser_loop.proofs.Lookaheads.{stands-first, stands-after, stands-look, stands-ready}
 use Rattle.parser_loop.proofs.Pieces.{stands-start, stands-pieces}
 use Rattle.parser_loop.proofs.laws.kept_law.Goals as goal
 
