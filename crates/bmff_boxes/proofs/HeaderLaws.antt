@@ -5,7 +5,7 @@ use Rattle.std.proofs.lemmas.List.{get_or_append_left, drop-append-le, length-ap
 use Rattle.std.proofs.lemmas.Bool.Decides.{nat_tests}
 use Rattle.byteorder.specs.Endian.{big_number}
 use Rattle.byteorder.specs.Numbers.{big_from-append}
-use Rattle.bmff_boxes.specs.Headers.{header_of, sized_of, four_at, IsHeaderWithin}
+use Rattle.bmff_boxes.specs.Headers.{header_of, header_of_len, four_at, IsHeaderWithin}
 use Rattle.bmff_boxes.specs.declared.box_header.HeadFault.TheVariants.{SizeZero, BoxSize}
 use Rattle.bmff_boxes.specs.declared.box_header.Header.{Header}
 use Rattle.bmff_boxes.specs.declared.box_header.Header.TheVariants.{Short, Whole, Bad}
@@ -26,7 +26,7 @@ four-longer i b c h =
 
 abbrev header_by : Bool → Bool → Bool → Bool → List ℕ → ℕ → ℕ → Header
 header_by few none long few_long kind n m =
-    cond few Short (cond none (Bad SizeZero) (cond long (cond few_long Short (sized_of kind 16 m)) (sized_of kind 8 n)))
+    cond few Short (cond none (Bad SizeZero) (cond long (cond few_long Short (header_of_len kind 16 m)) (header_of_len kind 8 n)))
 
 is_header_by : (b : List ℕ) → header_of b ≡ header_by (ltb (length b) 8) (eqb (big_number 4 b) 0) (eqb (big_number 4 b) 1) (ltb (length b) 16) (four_at 4 b) (big_number 4 b) (big_number 8 (drop 8 b))
 unfolding header_of

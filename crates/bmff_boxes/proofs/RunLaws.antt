@@ -6,9 +6,9 @@ use Rattle.std.proofs.lemmas.Bool.Decides.{nat_tests}
 use Rattle.std.proofs.Math.Nat.{suc-mul, mul-le-mul_right}
 use Rattle.bmff_boxes.specs.declared.entries.TrunSample.{TrunSample}
 use Rattle.bmff_boxes.specs.declared.run_samples.RunFields.{RunFields}
-use Rattle.bmff_boxes.specs.Fields.{field, signed, flags_of, field_room, optional_field, ◌>>=◌}
-use Rattle.bmff_boxes.specs.FragmentFields.{trun_count_of, trun_data_offset_of, trun_first_flags_of, composition_offset, sample_len, samples_place, sample_place, sample_at, trun_sample_of}
-use Rattle.bmff_boxes.specs.RunFields.{places_of, run_fields_of}
+use Rattle.bmff_boxes.specs.Fields.{field, signed, flags_of, optional_len, optional_field, ◌>>=◌}
+use Rattle.bmff_boxes.specs.FragmentFields.{trun_count_of, trun_data_offset_of, trun_first_flags_of, composition_offset, sample_len, samples_place, sample_place, trun_sample_at, trun_sample_of}
+use Rattle.bmff_boxes.specs.RunFields.{field_places_of, run_fields_of}
 use Rattle.bmff_boxes.proofs.FieldLaws.{field-room}
 
 -- what was read on the way to what came of it
@@ -41,16 +41,16 @@ ends-by a false true true at l e f g h s = omega (arith, f refl)
 ends-by false true true true at l e f g h s = omega (arith, e refl)
 ends-by true true true true at l e f g h s = absurd (omega arith)
 
-sample-room : (p : List ℕ) (flags at : ℕ) (s : TrunSample) → sample_at p flags at ≡ Some s → 0 < sample_len flags → at + sample_len flags ≤ length p
+sample-room : (p : List ℕ) (flags at : ℕ) (s : TrunSample) → trun_sample_at p flags at ≡ Some s → 0 < sample_len flags → at + sample_len flags ≤ length p
 sample-room p flags at s e some =
     let a = through (optional_field flags 0x100 4 at p) _ s e in
-    let b = through (optional_field flags 0x200 4 (at + field_room flags 0x100 4) p) _ s a.then in
-    let c = through (optional_field flags 0x400 4 (at + field_room flags 0x100 4 + field_room flags 0x200 4) p) _ s b.then in
-    let d = through (optional_field flags 0x800 4 (at + field_room flags 0x100 4 + field_room flags 0x200 4 + field_room flags 0x400 4) p) _ s c.then in
+    let b = through (optional_field flags 0x200 4 (at + optional_len flags 0x100 4) p) _ s a.then in
+    let c = through (optional_field flags 0x400 4 (at + optional_len flags 0x100 4 + optional_len flags 0x200 4) p) _ s b.then in
+    let d = through (optional_field flags 0x800 4 (at + optional_len flags 0x100 4 + optional_len flags 0x200 4 + optional_len flags 0x400 4) p) _ s c.then in
     ends-by (bit_and flags 0x100 == 0) (bit_and flags 0x200 == 0) (bit_and flags 0x400 == 0) (bit_and flags 0x800 == 0) at (length p)
     (optional-room flags 0x100 4 at p a.value a.was) (optional-room flags 0x200 4 _ p b.value b.was) (optional-room flags 0x400 4 _ p c.value c.was) (optional-room flags 0x800 4 _ p d.value d.was) some
 
-sample-short : (p : List ℕ) (flags at : ℕ) (o : Option TrunSample) → sample_at p flags at ≡ o → 0 < sample_len flags → length p < at + sample_len flags → o ≡ None
+sample-short : (p : List ℕ) (flags at : ℕ) (o : Option TrunSample) → trun_sample_at p flags at ≡ o → 0 < sample_len flags → length p < at + sample_len flags → o ≡ None
 sample-short p flags at None e some h = refl
 sample-short p flags at (Some s) e some h = absurd (omega (arith, sample-room p flags at s e some))
 
@@ -73,7 +73,7 @@ missing-by p flags (suc n) e h k =
     record {
       index = n;
       within = omega arith;
-      none = ap (λ o. o >>= λ f. sample_at p f (sample_place f n)) e ∙ sample-short p flags (sample_place flags n) (sample_at p flags (sample_place flags n)) refl some short;
+      none = ap (λ o. o >>= λ f. trun_sample_at p f (sample_place f n)) e ∙ sample-short p flags (sample_place flags n) (trun_sample_at p flags (sample_place flags n)) refl some short;
     }
 
 -- ---- the fields before the samples
@@ -98,7 +98,7 @@ unfolding trun_data_offset_of trun_first_flags_of
 has-head p count offset first c o f =
     let a = through (flags_of p) _ offset o in
     let b = mapped (option_map (signed 4)) (optional_field a.value 0x1 4 8 p) offset a.then in
-    let g : optional_field a.value 0x4 4 (8 + field_room a.value 0x1 4) p ≡ Some first = sym (ap (λ o. o >>= λ flags. optional_field flags 0x4 4 (8 + field_room flags 0x1 4) p) a.was) ∙ f in
+    let g : optional_field a.value 0x4 4 (8 + optional_len a.value 0x1 4) p ≡ Some first = sym (ap (λ o. o >>= λ flags. optional_field flags 0x4 4 (8 + optional_len flags 0x1 4) p) a.was) ∙ f in
     record {
       flags = a.value;
       told = a.was;
@@ -107,7 +107,7 @@ has-head p count offset first c o f =
 
 -- ---- where the fields of all samples lie
 
-fields-is : (p : List ℕ) (count : ℕ) → run_fields_of p count ≡ (flags_of p >>= λ flags. cond (ltb (length p) (sample_place flags count)) None (Some (places_of p flags count)))
+fields-is : (p : List ℕ) (count : ℕ) → run_fields_of p count ≡ (flags_of p >>= λ flags. cond (ltb (length p) (sample_place flags count)) None (Some (field_places_of p flags count)))
 unfolding run_fields_of
 fields-is p count = refl
 
@@ -119,40 +119,40 @@ short-by l n false f e h = absurd (cc)
 pub run-short : (p : List ℕ) (count : ℕ) → HasHead p → None ≡ run_fields_of p count → Missing p count
 run-short p count h e =
     let flags = h.flags in
-    let q : cond (ltb (length p) (sample_place flags count)) None (Some (places_of p flags count)) ≡ None =
-    sym (fields-is p count ∙ ap (λ o. o >>= λ flags. cond (ltb (length p) (sample_place flags count)) None (Some (places_of p flags count))) h.told) ∙ sym e
+    let q : cond (ltb (length p) (sample_place flags count)) None (Some (field_places_of p flags count)) ≡ None =
+    sym (fields-is p count ∙ ap (λ o. o >>= λ flags. cond (ltb (length p) (sample_place flags count)) None (Some (field_places_of p flags count))) h.told) ∙ sym e
     in
-    missing-by p flags count h.told h.inside (short-by (length p) (sample_place flags count) _ (places_of p flags count) refl q)
+    missing-by p flags count h.told h.inside (short-by (length p) (sample_place flags count) _ (field_places_of p flags count) refl q)
 
 -- the fields of all samples lie where they should, in the payload
 pub record Lies (p : List ℕ) (f : RunFields) : Type 0 where
   pub told : flags_of p ≡ Some f.flags
-  pub places : f ≡ places_of p f.flags f.count
+  pub places : f ≡ field_places_of p f.flags f.count
   pub inside : sample_place f.flags f.count ≤ length p
 
-lies-by : (p : List ℕ) (f : RunFields) (flags : ℕ) (t : Bool) → flags_of p ≡ Some flags → ltb (length p) (sample_place flags f.count) ≡ t → Some f ≡ cond t None (Some (places_of p flags f.count)) → Lies p f
+lies-by : (p : List ℕ) (f : RunFields) (flags : ℕ) (t : Bool) → flags_of p ≡ Some flags → ltb (length p) (sample_place flags f.count) ≡ t → Some f ≡ cond t None (Some (field_places_of p flags f.count)) → Lies p f
 lies-by p f flags true e h k = absurd (cc)
 lies-by p f flags false e h k =
-    let is : f ≡ places_of p flags f.count = cc in
+    let is : f ≡ field_places_of p flags f.count = cc in
     let same : f.flags ≡ flags = ap (λ (x : RunFields). x.flags) is in
     record {
       told = e ∙ ap Some (sym same);
-      places = is ∙ ap (λ x. places_of p x f.count) (sym same);
+      places = is ∙ ap (λ x. field_places_of p x f.count) (sym same);
       inside = rw same (grind (arith, nat_tests));
     }
 
-lies-at : (p : List ℕ) (f : RunFields) (o : Option ℕ) → flags_of p ≡ o → Some f ≡ (o >>= λ flags. cond (ltb (length p) (sample_place flags f.count)) None (Some (places_of p flags f.count))) → Lies p f
+lies-at : (p : List ℕ) (f : RunFields) (o : Option ℕ) → flags_of p ≡ o → Some f ≡ (o >>= λ flags. cond (ltb (length p) (sample_place flags f.count)) None (Some (field_places_of p flags f.count))) → Lies p f
 lies-at p f None e h = absurd (cc)
 lies-at p f (Some flags) e h = lies-by p f flags _ e refl h
 
 pub run-lies : (p : List ℕ) (f : RunFields) → Some f ≡ run_fields_of p f.count → Lies p f
 run-lies p f e = lies-at p f (flags_of p) refl (e ∙ fields-is p f.count)
 
-count-by : (p : List ℕ) (count flags : ℕ) (f : RunFields) (t : Bool) → Some f ≡ cond t None (Some (places_of p flags count)) → f.count ≡ count
+count-by : (p : List ℕ) (count flags : ℕ) (f : RunFields) (t : Bool) → Some f ≡ cond t None (Some (field_places_of p flags count)) → f.count ≡ count
 count-by p count flags f true e = cc
-count-by p count flags f false e = let is : f ≡ places_of p flags count = cc in ap (λ (x : RunFields). x.count) is
+count-by p count flags f false e = let is : f ≡ field_places_of p flags count = cc in ap (λ (x : RunFields). x.count) is
 
-count-at : (p : List ℕ) (count : ℕ) (f : RunFields) (o : Option ℕ) → Some f ≡ (o >>= λ flags. cond (ltb (length p) (sample_place flags count)) None (Some (places_of p flags count))) → f.count ≡ count
+count-at : (p : List ℕ) (count : ℕ) (f : RunFields) (o : Option ℕ) → Some f ≡ (o >>= λ flags. cond (ltb (length p) (sample_place flags count)) None (Some (field_places_of p flags count))) → f.count ≡ count
 count-at p count f None e = cc
 count-at p count f (Some flags) e = count-by p count flags f _ e
 
@@ -173,11 +173,11 @@ sample-lies p f i e h =
     rw (first, len) (omega (arith, l.inside, more, suc-mul i (sample_len f.flags)))
 
 -- it begins behind those before it
-pub sample-begins : (p : List ℕ) (f : RunFields) (i : ℕ) → Lies p f → sample_at p f.flags (f.first + i * f.len) ≡ trun_sample_of p i
+pub sample-begins : (p : List ℕ) (f : RunFields) (i : ℕ) → Lies p f → trun_sample_at p f.flags (f.first + i * f.len) ≡ trun_sample_of p i
 unfolding trun_sample_of
 sample-begins p f i l =
-    ap (λ (x : RunFields). sample_at p f.flags (x.first + i * x.len)) l.places
-    ∙ sym (ap (λ o. o >>= λ flags. sample_at p flags (sample_place flags i)) l.told)
+    ap (λ (x : RunFields). trun_sample_at p f.flags (x.first + i * x.len)) l.places
+    ∙ sym (ap (λ o. o >>= λ flags. trun_sample_at p flags (sample_place flags i)) l.told)
 
 -- ---- a sample of which each field is there
 

@@ -42,7 +42,7 @@ abbrev pub payload_of : List ℕ → Option (List ℕ)
 payload_of b = payload_in (child_of b)
 
 -- a step over a box takes its payload and at least eight bytes of header, and another step takes none
-abbrev pub Shortens : ℕ → ℕ → Child → Type 0
-Shortens before after (Found kind payload) = length payload.now + 8 + after ≤ before
-Shortens before after End = after ≡ before
-Shortens before after Uneven = after ≡ before
+abbrev pub IsShorter : ℕ → ℕ → Child → Type 0
+IsShorter before after (Found kind payload) = length payload.now + 8 + after ≤ before
+IsShorter before after End = after ≡ before
+IsShorter before after Uneven = after ≡ before

@@ -27,8 +27,8 @@ abbrev pub is_version : ℕ → List ℕ → Bool
 is_version version p = slice_index p 0 == version
 
 -- how many bytes a field of n bytes takes that is there where its flag is set
-abbrev pub field_room : ℕ → ℕ → ℕ → ℕ
-field_room flags flag n = if bit_and flags flag == 0 then 0 else n
+abbrev pub optional_len : ℕ → ℕ → ℕ → ℕ
+optional_len flags flag n = if bit_and flags flag == 0 then 0 else n
 
 -- a field of n bytes at place i that is there where its flag is set; the inner none says that it is not set
 abbrev pub optional_field : ℕ → ℕ → ℕ → ℕ → List ℕ → Option (Option ℕ)

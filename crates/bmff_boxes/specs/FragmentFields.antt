@@ -2,7 +2,7 @@
 use Rattle.std.specs.Prelude.{ℕ, ◌+◌, ◌*◌, ℤ, pos, if◌then◌else◌, List, Option, Some}
 use Rattle.std.specs.Option.{option_map}
 use Rattle.bmff_boxes.specs.declared.entries.TrunSample.{TrunSample}
-use Rattle.bmff_boxes.specs.Fields.{field, signed, flags_of, is_version, field_room, optional_field, ◌>>=◌}
+use Rattle.bmff_boxes.specs.Fields.{field, signed, flags_of, is_version, optional_len, optional_field, ◌>>=◌}
 
 -- tfdt, track fragment decode time (8.8.12): baseMediaDecodeTime, eight bytes in version 1 and four in every other
 abbrev pub tfdt_time_of : List ℕ → Option ℕ
@@ -15,16 +15,16 @@ abbrev pub tfhd_track_of : List ℕ → Option ℕ
 tfhd_track_of p = field 4 4 p
 
 abbrev pub description_place : ℕ → ℕ
-description_place flags = 8 + field_room flags 0x1 8
+description_place flags = 8 + optional_len flags 0x1 8
 
 abbrev pub duration_place : ℕ → ℕ
-duration_place flags = description_place flags + field_room flags 0x2 4
+duration_place flags = description_place flags + optional_len flags 0x2 4
 
 abbrev pub size_place : ℕ → ℕ
-size_place flags = duration_place flags + field_room flags 0x8 4
+size_place flags = duration_place flags + optional_len flags 0x8 4
 
 abbrev pub flags_place : ℕ → ℕ
-flags_place flags = size_place flags + field_room flags 0x10 4
+flags_place flags = size_place flags + optional_len flags 0x10 4
 
 unfoldable pub tfhd_base_of : List ℕ → Option (Option ℕ)
 tfhd_base_of p = do
@@ -64,18 +64,18 @@ trun_data_offset_of p = do
 unfoldable pub trun_first_flags_of : List ℕ → Option (Option ℕ)
 trun_first_flags_of p = do
   flags ← flags_of p
-  optional_field flags 0x4 4 (8 + field_room flags 0x1 4) p
+  optional_field flags 0x4 4 (8 + optional_len flags 0x1 4) p
 
 -- the bytes of one sample: sample_duration (0x100), sample_size (0x200), sample_flags (0x400) and
 -- sample_composition_time_offset (0x800), four each, where their flags are set
 abbrev pub sample_len : ℕ → ℕ
 sample_len flags =
-    field_room flags 0x100 4 + field_room flags 0x200 4 + field_room flags 0x400 4
-    + field_room flags 0x800 4
+    optional_len flags 0x100 4 + optional_len flags 0x200 4 + optional_len flags 0x400 4
+    + optional_len flags 0x800 4
 
 -- where the samples begin
 abbrev pub samples_place : ℕ → ℕ
-samples_place flags = 8 + field_room flags 0x1 4 + field_room flags 0x4 4
+samples_place flags = 8 + optional_len flags 0x1 4 + optional_len flags 0x4 4
 
 -- where sample i begins, the first being 0
 abbrev pub sample_place : ℕ → ℕ → ℕ
@@ -86,13 +86,14 @@ abbrev pub composition_offset : List ℕ → ℕ → ℤ
 composition_offset p bits = if is_version 0 p then pos bits else signed 4 bits
 
 -- the sample that begins at place `at`
-abbrev pub sample_at : List ℕ → ℕ → ℕ → Option TrunSample
-sample_at p flags at = do
+abbrev pub trun_sample_at : List ℕ → ℕ → ℕ → Option TrunSample
+trun_sample_at p flags at = do
   duration ← optional_field flags 0x100 4 at p
-  size ← optional_field flags 0x200 4 (at + field_room flags 0x100 4) p
-  own ← optional_field flags 0x400 4 (at + field_room flags 0x100 4 + field_room flags 0x200 4) p
+  size ← optional_field flags 0x200 4 (at + optional_len flags 0x100 4) p
+  own ← optional_field flags 0x400 4
+      (at + optional_len flags 0x100 4 + optional_len flags 0x200 4) p
   offset ← optional_field flags 0x800 4
-      (at + field_room flags 0x100 4 + field_room flags 0x200 4 + field_room flags 0x400 4) p
+      (at + optional_len flags 0x100 4 + optional_len flags 0x200 4 + optional_len flags 0x400 4) p
   Some
       (record {
         duration = duration;
@@ -104,4 +105,4 @@ sample_at p flags at = do
 unfoldable pub trun_sample_of : List ℕ → ℕ → Option TrunSample
 trun_sample_of p i = do
   flags ← flags_of p
-  sample_at p flags (sample_place flags i)
+  trun_sample_at p flags (sample_place flags i)

@@ -3,11 +3,12 @@
 ghost use Rattle.std.specs.Prelude.{◌≡◌, ◌+◌, ◌<◌, ◌≤◌, ◌^◌};
 ghost use Rattle.std.specs.Option.{option_map};
 ghost use Rattle.bmff_boxes.specs.Fields.{optional_field, signed};
-ghost use Rattle.bmff_boxes.specs.FragmentFields.{tfdt_time_of, tfhd_track_of, description_place, duration_place, size_place, flags_place, tfhd_base_of, tfhd_description_of, tfhd_duration_of, tfhd_size_of, tfhd_flags_of, trun_count_of, trun_data_offset_of, trun_first_flags_of, sample_place, composition_offset, sample_at, trun_sample_of};
+ghost use Rattle.bmff_boxes.specs.FragmentFields.{tfdt_time_of, tfhd_track_of, description_place, duration_place, size_place, flags_place, tfhd_base_of, tfhd_description_of, tfhd_duration_of, tfhd_size_of, tfhd_flags_of, trun_count_of, trun_data_offset_of, trun_first_flags_of, sample_place, composition_offset, trun_sample_at, trun_sample_of};
 
 use crate::entries::TrunSample;
 use crate::numbers::{
-    flags, has_version, i32_at, optional_u32, optional_u64, room, u32_at, u64_at, wide_u32_at,
+    flags, has_version, i32_at, optional_len, optional_u32, optional_u64, u32_at, u64_at,
+    wide_u32_at,
 };
 
 // The flags of a track fragment header (8.8.7).
@@ -56,28 +57,28 @@ fn description_place(flags: u32) -> usize
     ensures value { result ≡ description_place flags }
     ensures bound { result ≤ 16 }
 {
-    8 + room(flags, BASE_DATA_OFFSET, 8)
+    8 + optional_len(flags, BASE_DATA_OFFSET, 8)
 }
 
 fn duration_place(flags: u32) -> usize
     ensures value { result ≡ duration_place flags }
     ensures bound { result ≤ 20 }
 {
-    description_place(flags) + room(flags, SAMPLE_DESCRIPTION_INDEX, 4)
+    description_place(flags) + optional_len(flags, SAMPLE_DESCRIPTION_INDEX, 4)
 }
 
 fn size_place(flags: u32) -> usize
     ensures value { result ≡ size_place flags }
     ensures bound { result ≤ 24 }
 {
-    duration_place(flags) + room(flags, DEFAULT_SAMPLE_DURATION, 4)
+    duration_place(flags) + optional_len(flags, DEFAULT_SAMPLE_DURATION, 4)
 }
 
 fn flags_place(flags: u32) -> usize
     ensures value { result ≡ flags_place flags }
     ensures bound { result ≤ 28 }
 {
-    size_place(flags) + room(flags, DEFAULT_SAMPLE_SIZE, 4)
+    size_place(flags) + optional_len(flags, DEFAULT_SAMPLE_SIZE, 4)
 }
 
 /// The base data offset of a track fragment header (8.8.7). Of this and of the readers below the outer `None`
@@ -166,19 +167,22 @@ pub fn trun_first_flags(p: &[u8]) -> Option<Option<u32>>
         p,
         flags,
         FIRST_SAMPLE_FLAGS,
-        8 + room(flags, DATA_OFFSET, 4),
+        8 + optional_len(flags, DATA_OFFSET, 4),
     )
 }
 
+/// Where sample `i` of a track run with these flags begins, counted from 0.
 pub(crate) fn sample_place(flags: u32, i: u32) -> usize
     ensures value { result ≡ sample_place flags i }
     ensures bound { result < 2 ^ 40 }
 {
-    let len = room(flags, SAMPLE_DURATION, 4)
-        + room(flags, SAMPLE_SIZE, 4)
-        + room(flags, SAMPLE_FLAGS, 4)
-        + room(flags, SAMPLE_COMPOSITION_OFFSET, 4);
-    8 + room(flags, DATA_OFFSET, 4) + room(flags, FIRST_SAMPLE_FLAGS, 4) + i as usize * len
+    let len = optional_len(flags, SAMPLE_DURATION, 4)
+        + optional_len(flags, SAMPLE_SIZE, 4)
+        + optional_len(flags, SAMPLE_FLAGS, 4)
+        + optional_len(flags, SAMPLE_COMPOSITION_OFFSET, 4);
+    8 + optional_len(flags, DATA_OFFSET, 4)
+        + optional_len(flags, FIRST_SAMPLE_FLAGS, 4)
+        + i as usize * len
 }
 
 fn optional_offset(p: &[u8], flags: u32, at: usize) -> Option<Option<i64>>
@@ -200,13 +204,13 @@ fn optional_offset(p: &[u8], flags: u32, at: usize) -> Option<Option<i64>>
     }
 }
 
-fn sample_at(p: &[u8], flags: u32, at: usize) -> Option<TrunSample>
+fn trun_sample_at(p: &[u8], flags: u32, at: usize) -> Option<TrunSample>
     requires { at < 2 ^ 40 }
-    ensures { result ≡ sample_at p.now flags at }
+    ensures { result ≡ trun_sample_at p.now flags at }
 {
-    let size_at = at + room(flags, SAMPLE_DURATION, 4);
-    let flags_at = size_at + room(flags, SAMPLE_SIZE, 4);
-    let offset_at = flags_at + room(flags, SAMPLE_FLAGS, 4);
+    let size_at = at + optional_len(flags, SAMPLE_DURATION, 4);
+    let flags_at = size_at + optional_len(flags, SAMPLE_SIZE, 4);
+    let offset_at = flags_at + optional_len(flags, SAMPLE_FLAGS, 4);
     let duration = optional_u32(p, flags, SAMPLE_DURATION, at)?;
     let size = optional_u32(p, flags, SAMPLE_SIZE, size_at)?;
     let own = optional_u32(p, flags, SAMPLE_FLAGS, flags_at)?;
@@ -226,5 +230,5 @@ pub fn trun_sample(p: &[u8], i: u32) -> Option<TrunSample>
     ensures { result ≡ trun_sample_of p.now i }
 {
     let flags = flags(p)?;
-    sample_at(p, flags, sample_place(flags, i))
+    trun_sample_at(p, flags, sample_place(flags, i))
 }

@@ -1,6 +1,5 @@
-ghost use Rattle.std.specs.Prelude.{◌≡◌, ℕ, ◌+◌, ◌<◌, ◌≤◌, ◌^◌, length};
-ghost use Rattle.std.specs.Option.{option_map};
-ghost use Rattle.bmff_boxes.specs.Fields.{field, signed_field, version_of, flags_of, is_version, field_room, optional_field, signed};
+ghost use Rattle.std.specs.Prelude.{◌≡◌, ◌+◌, ◌<◌, ◌≤◌, ◌^◌};
+ghost use Rattle.bmff_boxes.specs.Fields.{field, signed_field, version_of, flags_of, is_version, optional_len, optional_field};
 
 use byteorder::{BigEndian, ByteOrder};
 
@@ -105,8 +104,8 @@ pub(crate) fn has_version(p: &[u8], version: u8) -> bool
 }
 
 /// How many bytes a field of `len` bytes takes that is there where its flag is set.
-pub(crate) fn room(flags: u32, flag: u32, len: usize) -> usize
-    ensures value { result ≡ field_room flags flag len }
+pub(crate) fn optional_len(flags: u32, flag: u32, len: usize) -> usize
+    ensures value { result ≡ optional_len flags flag len }
     ensures at_most { result ≤ len }
 {
     if flags & flag == 0 { 0 } else { len }

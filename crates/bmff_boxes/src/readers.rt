@@ -1,7 +1,7 @@
 ghost use Rattle.std.specs.Prelude.{◌≡◌, ℕ, length, ◌≤◌, IfSome};
 ghost use Rattle.std.specs.Option.{option_copied};
 ghost use Rattle.bmff_boxes.specs.Children.{payload_of};
-ghost use Rattle.bmff_boxes.specs.Headers.{header_of, sized_of, IsHeaderWithin};
+ghost use Rattle.bmff_boxes.specs.Headers.{header_of, header_of_len, IsHeaderWithin};
 
 use crate::box_header::{HeadFault, Header};
 use crate::child::{Child, Children};
@@ -9,8 +9,8 @@ use byteorder::{BigEndian, ByteOrder};
 
 fn whole_header(kind: [u8; 4], head: u64, len: u64) -> Header
     requires { 8 ≤ head }
-    ensures value { result ≡ sized_of kind head len }
-    ensures room { (n : ℕ) → head ≤ n → IsHeaderWithin n result }
+    ensures value { result ≡ header_of_len kind head len }
+    ensures within { (n : ℕ) → head ≤ n → IsHeaderWithin n result }
 {
     if len < head {
         Header::Bad(HeadFault::BoxSize)
@@ -24,7 +24,7 @@ fn whole_header(kind: [u8; 4], head: u64, len: u64) -> Header
 #[tactic(auto, unfolding(crate::specs::Headers::header_of))]
 pub fn header(bytes: &[u8]) -> Header
     ensures value { result ≡ header_of bytes.now }
-    ensures room { IsHeaderWithin (length bytes.now) result }
+    ensures within { IsHeaderWithin (length bytes.now) result }
 {
     if bytes.len() < 8 {
         return Header::Short;

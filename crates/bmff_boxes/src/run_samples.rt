@@ -1,14 +1,14 @@
 ghost use Rattle.std.specs.Prelude.{◌≡◌, ◌+◌, ◌<◌, ◌≤◌, length, Some};
 ghost use Rattle.std.specs.Option.{option_map};
-ghost use Rattle.bmff_boxes.specs.Fields.{field, signed_field, signed, is_version, field_room, optional_field};
-ghost use Rattle.bmff_boxes.specs.FragmentFields.{sample_len, composition_offset, sample_at, trun_sample_of};
+ghost use Rattle.bmff_boxes.specs.Fields.{field, signed_field, signed, is_version, optional_len, optional_field};
+ghost use Rattle.bmff_boxes.specs.FragmentFields.{sample_len, composition_offset, trun_sample_at, trun_sample_of};
 ghost use Rattle.bmff_boxes.specs.RunFields.{run_fields_of};
 
 use crate::entries::TrunSample;
 use crate::fragment_fields::{
     SAMPLE_COMPOSITION_OFFSET, SAMPLE_DURATION, SAMPLE_FLAGS, SAMPLE_SIZE, sample_place,
 };
-use crate::numbers::{flags, has_version, room};
+use crate::numbers::{flags, has_version, optional_len};
 use byteorder::{BigEndian, ByteOrder};
 
 /// Where the fields of the samples of a track run (8.8.8) lie, found once for all of them.
@@ -40,15 +40,15 @@ pub fn run_fields(p: &[u8], count: u32) -> Option<RunFields>
     if p.len() < sample_place(flags, count) {
         return None;
     }
-    let size = room(flags, SAMPLE_DURATION, 4);
-    let sample_flags = size + room(flags, SAMPLE_SIZE, 4);
-    let offset = sample_flags + room(flags, SAMPLE_FLAGS, 4);
+    let size = optional_len(flags, SAMPLE_DURATION, 4);
+    let sample_flags = size + optional_len(flags, SAMPLE_SIZE, 4);
+    let offset = sample_flags + optional_len(flags, SAMPLE_FLAGS, 4);
     Some(RunFields {
         flags,
         is_unsigned: has_version(p, 0),
         count,
         first: sample_place(flags, 0),
-        len: offset + room(flags, SAMPLE_COMPOSITION_OFFSET, 4),
+        len: offset + optional_len(flags, SAMPLE_COMPOSITION_OFFSET, 4),
         size,
         sample_flags,
         offset,
@@ -75,7 +75,7 @@ fn read_i32(p: &[u8], at: usize) -> i32
 
 /// A field of four bytes that is there where its flag is set.
 fn read_optional_u32(p: &[u8], flags: u32, flag: u32, at: usize) -> Option<u32>
-    requires { at + field_room flags flag 4 ≤ length p.now }
+    requires { at + optional_len flags flag 4 ≤ length p.now }
     ensures { Some result ≡ optional_field flags flag 4 at p.now }
 {
     if flags & flag == 0 {
@@ -87,7 +87,7 @@ fn read_optional_u32(p: &[u8], flags: u32, flag: u32, at: usize) -> Option<u32>
 
 /// A signed field of four bytes that is there where its flag is set.
 fn read_optional_i32(p: &[u8], flags: u32, flag: u32, at: usize) -> Option<i32>
-    requires { at + field_room flags flag 4 ≤ length p.now }
+    requires { at + optional_len flags flag 4 ≤ length p.now }
     ensures { Some result ≡ option_map (option_map (signed 4))
         (optional_field flags flag 4 at p.now) }
 {
@@ -100,7 +100,7 @@ fn read_optional_i32(p: &[u8], flags: u32, flag: u32, at: usize) -> Option<i32>
 
 /// The composition offset of a sample, in a run whose version is 0 where `is_unsigned`.
 fn read_optional_offset(p: &[u8], is_unsigned: bool, flags: u32, at: usize) -> Option<i64>
-    requires there { at + field_room flags 0x800 4 ≤ length p.now }
+    requires there { at + optional_len flags 0x800 4 ≤ length p.now }
     requires version { is_unsigned ≡ is_version 0 p.now }
     ensures { Some result ≡ option_map (option_map (composition_offset p.now))
         (optional_field flags 0x800 4 at p.now) }
@@ -122,12 +122,12 @@ fn read_optional_offset(p: &[u8], is_unsigned: bool, flags: u32, at: usize) -> O
 fn read_sample(p: &[u8], fields: &RunFields, at: usize) -> TrunSample
     requires there { at + sample_len fields.now.flags ≤ length p.now }
     requires version { fields.now.is_unsigned ≡ is_version 0 p.now }
-    requires size { fields.now.size ≡ field_room fields.now.flags 0x100 4 }
+    requires size { fields.now.size ≡ optional_len fields.now.flags 0x100 4 }
     requires sample_flags { fields.now.sample_flags
-        ≡ field_room fields.now.flags 0x100 4 + field_room fields.now.flags 0x200 4 }
-    requires offset { fields.now.offset ≡ field_room fields.now.flags 0x100 4
-        + field_room fields.now.flags 0x200 4 + field_room fields.now.flags 0x400 4 }
-    ensures { Some result ≡ sample_at p.now fields.now.flags at }
+        ≡ optional_len fields.now.flags 0x100 4 + optional_len fields.now.flags 0x200 4 }
+    requires offset { fields.now.offset ≡ optional_len fields.now.flags 0x100 4
+        + optional_len fields.now.flags 0x200 4 + optional_len fields.now.flags 0x400 4 }
+    ensures { Some result ≡ trun_sample_at p.now fields.now.flags at }
 {
     let flags = fields.flags;
     let offset_at = at + fields.offset;

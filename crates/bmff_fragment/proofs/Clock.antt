@@ -8,7 +8,7 @@ use Rattle.mse_base.specs.declared.track.TrackInfo.{TrackInfo}
 use Rattle.mse_base.specs.Time.{SECOND, IsTick, tick, floor_div, converted}
 use Rattle.mse_base.proofs.TickLemmas.{tick_is}
 use Rattle.mse_base.specs.Presentation.{IsReadable}
-use Rattle.bmff_fragment.specs.declared.sample.Sample.{Sample}
+use Rattle.bmff_fragment.specs.declared.sample.FragmentSample.{FragmentSample}
 use Rattle.bmff_fragment.specs.declared.slot.Slot.{Slot}
 use Rattle.bmff_fragment.specs.Times.{tick_at, slot_of}
 use Rattle.bmff_fragment.specs.Slots.{IsWellFormed}
@@ -72,7 +72,7 @@ presents t m x o r e h g s =
 abbrev make : ℕ → Bool → ℕ → ℤ → ℤ → ℤ → ℕ → Slot
 make id sync start pts dts dur end = record { track_id = id; pts = pts; dts = dts; dur = dur; sync = sync; start = start; end = end }
 
-pub slot_is : (t : TrackInfo) (time start : ℕ) (s : Sample) (pts dts last dur : ℤ) (end : ℕ) → pts ≡ tick_at t (pos time +ℤ s.offset) → dts ≡ tick_at t (pos time) → last ≡ tick_at t (pos time +ℤ s.offset +ℤ pos s.duration) → dur ≡ last -ℤ pts → end ≡ start + s.size → make t.id (bit_and s.flags 0x10000 == 0) start pts dts dur end ≡ slot_of t time start s
+pub slot_is : (t : TrackInfo) (time start : ℕ) (s : FragmentSample) (pts dts last dur : ℤ) (end : ℕ) → pts ≡ tick_at t (pos time +ℤ s.offset) → dts ≡ tick_at t (pos time) → last ≡ tick_at t (pos time +ℤ s.offset +ℤ pos s.duration) → dur ≡ last -ℤ pts → end ≡ start + s.size → make t.id (bit_and s.flags 0x10000 == 0) start pts dts dur end ≡ slot_of t time start s
 unfolding slot_of
 slot_is t time start s pts dts last dur end p d l u e =
     let sync = bit_and s.flags 0x10000 == 0 in

@@ -11,11 +11,11 @@ use Rattle.bmff_boxes.specs.Rows.{BoxView, row_of, first_of, all_of}
 use Rattle.bmff_fragment.specs.declared.fault.MoofFault.{MoofFault}
 use Rattle.bmff_fragment.specs.declared.fault.MoofFault.TheVariants.{Size, NoTraf, TooManySamples, Place}
 use Rattle.bmff_fragment.specs.declared.header.RunHeader.{RunHeader}
-use Rattle.bmff_fragment.specs.declared.sample.Sample.{Sample}
+use Rattle.bmff_fragment.specs.declared.sample.FragmentSample.{FragmentSample}
 use Rattle.bmff_fragment.specs.declared.slot.Slot.{Slot}
 use Rattle.bmff_fragment.specs.declared.track_fragment.TrackFragment.{TrackFragment}
 use Rattle.bmff_fragment.specs.Headers.{run_header_of}
-use Rattle.bmff_fragment.specs.Samples.{each, sample_of, samples_of}
+use Rattle.bmff_fragment.specs.Samples.{each, run_sample_of, run_samples_of}
 use Rattle.bmff_fragment.specs.Times.{Run, run_end, slot_at, slots_of_run, slots_behind, duration_of}
 use Rattle.bmff_boxes.specs.Reading.{◌>>=◌, need, check}
 use Rattle.bmff_boxes.specs.Children.{payload_of}
@@ -34,7 +34,7 @@ length-each [] xs e = let q : [] ≡ xs = cc in ap length (sym q)
 length-each (None ∷ os) xs e = cc
 length-each (Some x ∷ os) xs e = each-by x (each os) (length os) xs (length-each os) e
 
-run-checked : (count n : ℕ) (start : ℤ) (few inside : Bool) (samples : Option (List Sample)) (run : Run) → (few ≡ true → count + n ≤ 2 ^ 20) → ((xs : List Sample) → samples ≡ Some xs → length xs ≡ n) → (check TooManySamples few >>= (λ u. need Size samples >>= (λ xs. check Place inside >>= (λ v. Ok (record { start = start; samples = xs }))))) ≡ Ok run → count + length run.samples ≤ 2 ^ 20
+run-checked : (count n : ℕ) (start : ℤ) (few inside : Bool) (samples : Option (List FragmentSample)) (run : Run) → (few ≡ true → count + n ≤ 2 ^ 20) → ((xs : List FragmentSample) → samples ≡ Some xs → length xs ≡ n) → (check TooManySamples few >>= (λ u. need Size samples >>= (λ xs. check Place inside >>= (λ v. Ok (record { start = start; samples = xs }))))) ≡ Ok run → count + length run.samples ≤ 2 ^ 20
 run-checked count n start false inside samples run f g e = cc
 run-checked count n start true inside None run f g e = cc
 run-checked count n start true false (Some xs) run f g e = cc
@@ -43,10 +43,10 @@ run-checked count n start true true (Some xs) run f g e =
     let q : made ≡ run = cc in
     omega (arith, f refl, g xs refl, ap (λ (r : Run). length r.samples) q)
 
-run-by : (fragment : TrackFragment) (count : ℕ) (end : ℤ) (trun : List ℕ) (run : Run) (o : Option RunHeader) → run_header_of trun ≡ o → (need Size o >>= (λ header. check TooManySamples (leb (count + header.count) (2 ^ 20)) >>= (λ u. need Size (samples_of fragment.defaults header trun) >>= (λ xs. check Place (eqb header.count 0 || int_le (pos 0) (run_start fragment.base end header.data_offset)) >>= (λ v. Ok (record { start = run_start fragment.base end header.data_offset; samples = xs })))))) ≡ Ok run → count + length run.samples ≤ 2 ^ 20
+run-by : (fragment : TrackFragment) (count : ℕ) (end : ℤ) (trun : List ℕ) (run : Run) (o : Option RunHeader) → run_header_of trun ≡ o → (need Size o >>= (λ header. check TooManySamples (leb (count + header.count) (2 ^ 20)) >>= (λ u. need Size (run_samples_of fragment.defaults header trun) >>= (λ xs. check Place (eqb header.count 0 || int_le (pos 0) (run_start fragment.base end header.data_offset)) >>= (λ v. Ok (record { start = run_start fragment.base end header.data_offset; samples = xs })))))) ≡ Ok run → count + length run.samples ≤ 2 ^ 20
 run-by fragment count end trun run None h e = cc
 run-by fragment count end trun run (Some header) h e =
-    run-checked count header.count (run_start fragment.base end header.data_offset) (leb (count + header.count) (2 ^ 20)) _ (samples_of fragment.defaults header trun) run (λ q. grind (arith, nat_tests)) (λ xs q. length-each (map (sample_of fragment.defaults header trun) (range_with_len 0 header.count)) xs q ∙ length-map (range_with_len 0 header.count) (sample_of fragment.defaults header trun) ∙ length-range_with_len 0 header.count) e
+    run-checked count header.count (run_start fragment.base end header.data_offset) (leb (count + header.count) (2 ^ 20)) _ (run_samples_of fragment.defaults header trun) run (λ q. grind (arith, nat_tests)) (λ xs q. length-each (map (run_sample_of fragment.defaults header trun) (range_with_len 0 header.count)) xs q ∙ length-map (range_with_len 0 header.count) (run_sample_of fragment.defaults header trun) ∙ length-range_with_len 0 header.count) e
 
 run-few : (fragment : TrackFragment) (count : ℕ) (end : ℤ) (trun : List ℕ) (run : Run) → run_of fragment count end trun ≡ Ok run → count + length run.samples ≤ 2 ^ 20
 unfolding run_of
@@ -73,7 +73,7 @@ runs-few fragment count end (trun ∷ truns) runs h e =
 
 -- ---- slots
 
-length-behind : (track : TrackInfo) (time : ℕ) (before : List Sample) (runs : List Run) → length (slots_behind track time before runs) ≡ length (samples_in runs)
+length-behind : (track : TrackInfo) (time : ℕ) (before : List FragmentSample) (runs : List Run) → length (slots_behind track time before runs) ≡ length (samples_in runs)
 length-behind track time before [] = refl
 length-behind track time before (run ∷ runs) =
     let own = slots_of_run track (time + duration_of before) run in

@@ -10,7 +10,7 @@ use Rattle.bmff_fragment.specs.declared.fault.MoofFault.TheVariants.{Size, NoTra
 use Rattle.bmff_fragment.specs.declared.track_fragment.TrackFragment.{TrackFragment}
 use Rattle.bmff_fragment.specs.declared.track_fragment.MoofProgress.{MoofProgress}
 use Rattle.bmff_fragment.specs.declared.track_fragment.RunProgress.{RunProgress}
-use Rattle.bmff_fragment.specs.declared.sample.Sample.{Sample}
+use Rattle.bmff_fragment.specs.declared.sample.FragmentSample.{FragmentSample}
 use Rattle.bmff_fragment.specs.declared.slot.Slot.{Slot}
 use Rattle.bmff_fragment.specs.Times.{Run, run_end, duration_of, slots_of_run, slots_behind}
 use Rattle.bmff_boxes.specs.Reading.{◌>>=◌, need}
@@ -40,7 +40,7 @@ behind_more : (at : RunProgress) (run : Run) (runs : List Run) → progress_afte
 unfolding progress
 behind_more at run runs =
     let n : (at.samples + length run.samples) + length (samples_in runs) ≡ at.samples + length (run.samples ++ samples_in runs) = omega (arith, length-append run.samples (samples_in runs)) in
-    let t : (at.decode_time + duration_of run.samples) + duration_of (samples_in runs) ≡ at.decode_time + duration_of (run.samples ++ samples_in runs) = omega (arith, sum_by-append (λ (s : Sample). s.duration) run.samples (samples_in runs)) in
+    let t : (at.decode_time + duration_of run.samples) + duration_of (samples_in runs) ≡ at.decode_time + duration_of (run.samples ++ samples_in runs) = omega (arith, sum_by-append (λ (s : FragmentSample). s.duration) run.samples (samples_in runs)) in
     progress_same _ _ _ _ (data_end (run_end run) runs) n t
 
 none_by : (b : Bool) → let none : List Slot = [] in none ≡ cond b [] []
@@ -78,10 +78,10 @@ unfolding run_step
 step_is f at slots t = refl
 
 -- what all runs give, behind the samples `before` of their track fragment
-abbrev pub runs_give : TrackFragment → RunProgress → List Slot → List Sample → List Run → RunProgress × List Slot
+abbrev pub runs_give : TrackFragment → RunProgress → List Slot → List FragmentSample → List Run → RunProgress × List Slot
 runs_give f at slots before runs = (progress_after_all at runs, slots ++ media_slots f.track (slots_behind f.track f.decode_time before runs))
 
-give_more : (f : TrackFragment) (at : RunProgress) (slots : List Slot) (before : List Sample) (run : Run) (runs : List Run) → at.decode_time ≡ f.decode_time + duration_of before → runs_give f (progress_after_run at run) (slots ++ media_slots f.track (slots_of_run f.track at.decode_time run)) (before ++ run.samples) runs ≡ runs_give f at slots before (run ∷ runs)
+give_more : (f : TrackFragment) (at : RunProgress) (slots : List Slot) (before : List FragmentSample) (run : Run) (runs : List Run) → at.decode_time ≡ f.decode_time + duration_of before → runs_give f (progress_after_run at run) (slots ++ media_slots f.track (slots_of_run f.track at.decode_time run)) (before ++ run.samples) runs ≡ runs_give f at slots before (run ∷ runs)
 give_more f at slots before run runs h =
     let one = slots_of_run f.track at.decode_time run in
     let rest = slots_behind f.track f.decode_time (before ++ run.samples) runs in
@@ -101,14 +101,14 @@ run_then f at slots ts r =
     let next : Result (RunProgress × List Slot) MoofFault = r >>= λ run. Ok (progress_after_run at run, slots ++ media_slots f.track (slots_of_run f.track at.decode_time run)) in
     next >>= λ next. runs_steps f next.0 next.1 ts
 
-linked_by : (f : TrackFragment) (at : RunProgress) (slots : List Slot) (before : List Sample) (ts : List (List ℕ)) → at.decode_time ≡ f.decode_time + duration_of before → ((run : Run) → let behind = before ++ run.samples in (progress_after_run at run).decode_time ≡ f.decode_time + duration_of behind → let more = slots ++ media_slots f.track (slots_of_run f.track at.decode_time run) in runs_steps f (progress_after_run at run) more ts ≡ (runs_of f (progress_after_run at run).samples (run_end run) ts >>= λ runs. Ok (runs_give f (progress_after_run at run) more behind runs))) → (r : Result Run MoofFault) → run_then f at slots ts r ≡ ((r >>= λ run. runs_of f (at.samples + length run.samples) (run_end run) ts >>= λ runs. Ok (run ∷ runs)) >>= λ runs. Ok (runs_give f at slots before runs))
+linked_by : (f : TrackFragment) (at : RunProgress) (slots : List Slot) (before : List FragmentSample) (ts : List (List ℕ)) → at.decode_time ≡ f.decode_time + duration_of before → ((run : Run) → let behind = before ++ run.samples in (progress_after_run at run).decode_time ≡ f.decode_time + duration_of behind → let more = slots ++ media_slots f.track (slots_of_run f.track at.decode_time run) in runs_steps f (progress_after_run at run) more ts ≡ (runs_of f (progress_after_run at run).samples (run_end run) ts >>= λ runs. Ok (runs_give f (progress_after_run at run) more behind runs))) → (r : Result Run MoofFault) → run_then f at slots ts r ≡ ((r >>= λ run. runs_of f (at.samples + length run.samples) (run_end run) ts >>= λ runs. Ok (run ∷ runs)) >>= λ runs. Ok (runs_give f at slots before runs))
 linked_by f at slots before ts h go (Err fault) = refl
 linked_by f at slots before ts h go (Ok run) =
-    let t' : at.decode_time + duration_of run.samples ≡ f.decode_time + duration_of (before ++ run.samples) = omega (arith, h, sum_by-append (λ (s : Sample). s.duration) before run.samples) in
+    let t' : at.decode_time + duration_of run.samples ≡ f.decode_time + duration_of (before ++ run.samples) = omega (arith, h, sum_by-append (λ (s : FragmentSample). s.duration) before run.samples) in
     go run t'
     ∙ then_more (runs_of f (at.samples + length run.samples) (run_end run) ts) run (runs_give f (progress_after_run at run) (slots ++ media_slots f.track (slots_of_run f.track at.decode_time run)) (before ++ run.samples)) (runs_give f at slots before) (λ runs. give_more f at slots before run runs h)
 
-pub runs-linked : (f : TrackFragment) (at : RunProgress) (slots : List Slot) (before : List Sample) (truns : List (List ℕ)) → at.decode_time ≡ f.decode_time + duration_of before → runs_steps f at slots truns ≡ (runs_of f at.samples at.data_end truns >>= λ runs. Ok (runs_give f at slots before runs))
+pub runs-linked : (f : TrackFragment) (at : RunProgress) (slots : List Slot) (before : List FragmentSample) (truns : List (List ℕ)) → at.decode_time ≡ f.decode_time + duration_of before → runs_steps f at slots truns ≡ (runs_of f at.samples at.data_end truns >>= λ runs. Ok (runs_give f at slots before runs))
 runs-linked f at slots before [] h =
     let s : slots ≡ slots ++ media_slots f.track [] = sym (append-nil slots) ∙ ap (λ xs. slots ++ xs) (media_slots_none f.track) in
     let give = runs_give f at slots before [] in

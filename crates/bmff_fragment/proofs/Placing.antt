@@ -3,7 +3,7 @@ use Rattle.std.proofs.Common.{◌≡◌, ℕ, ◌+◌, ◌<◌, List, [], ◌∷
 use Rattle.std.specs.List.{enumerate_from}
 use Rattle.std.proofs.lemmas.List.{map_push, take_more, length-take}
 use Rattle.mse_base.specs.declared.track.TrackInfo.{TrackInfo}
-use Rattle.bmff_fragment.specs.declared.sample.Sample.{Sample}
+use Rattle.bmff_fragment.specs.declared.sample.FragmentSample.{FragmentSample}
 use Rattle.bmff_fragment.specs.declared.slot.Slot.{Slot}
 use Rattle.bmff_fragment.specs.Times.{slot_of}
 
@@ -19,12 +19,12 @@ enumerate_more xs i d h =
     ap (enumerate_from 0) (take_more xs i d h) ∙ enumerate_push 0 (take i xs) (get_or xs i d) ∙ ap (λ j. enumerate_from 0 (take i xs) ++ (j, get_or xs i d) ∷ []) k
 
 -- one slot more
-pub slots_more : (f : ℕ × Sample → Slot) (samples : List Sample) (i : ℕ) (d : Sample) (slot : Slot) (old items new : List Slot) → i < length samples → slot ≡ f (i, get_or samples i d) → new ≡ items ++ slot ∷ [] → items ≡ old ++ map f (enumerate_from 0 (take i samples)) → new ≡ old ++ map f (enumerate_from 0 (take (i + 1) samples))
+pub slots_more : (f : ℕ × FragmentSample → Slot) (samples : List FragmentSample) (i : ℕ) (d : FragmentSample) (slot : Slot) (old items new : List Slot) → i < length samples → slot ≡ f (i, get_or samples i d) → new ≡ items ++ slot ∷ [] → items ≡ old ++ map f (enumerate_from 0 (take i samples)) → new ≡ old ++ map f (enumerate_from 0 (take (i + 1) samples))
 slots_more f samples i d slot old items new h v n g =
     let m : map f (enumerate_from 0 (take (i + 1) samples)) ≡ map f (enumerate_from 0 (take i samples)) ++ f (i, get_or samples i d) ∷ [] =
     ap (map f) (enumerate_more samples i d h) ∙ map_push f (enumerate_from 0 (take i samples)) (i, get_or samples i d)
     in
     n ∙ ap (λ xs. xs ++ slot ∷ []) g ∙ append_assoc old (map f (enumerate_from 0 (take i samples))) (slot ∷ []) ∙ ap (λ x. old ++ (map f (enumerate_from 0 (take i samples)) ++ x ∷ [])) v ∙ ap (λ xs. old ++ xs) (sym m)
 
-pub slot_same : (track : TrackInfo) (t t' p p' : ℕ) (s : Sample) → t ≡ t' → p ≡ p' → slot_of track t p s ≡ slot_of track t' p' s
+pub slot_same : (track : TrackInfo) (t t' p p' : ℕ) (s : FragmentSample) → t ≡ t' → p ≡ p' → slot_of track t p s ≡ slot_of track t' p' s
 slot_same track t t' p p' s e f = ap (λ x. slot_of track x p s) e ∙ ap (λ x. slot_of track t' x s) f

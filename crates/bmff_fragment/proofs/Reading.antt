@@ -9,9 +9,9 @@ use Rattle.bmff_boxes.specs.RunFields.{run_fields_of}
 use Rattle.bmff_boxes.proofs.RunLaws.{through, HasHead, has-head, run-short}
 use Rattle.bmff_fragment.specs.declared.header.Defaults.{Defaults}
 use Rattle.bmff_fragment.specs.declared.header.RunHeader.{RunHeader}
-use Rattle.bmff_fragment.specs.declared.sample.Sample.{Sample}
+use Rattle.bmff_fragment.specs.declared.sample.FragmentSample.{FragmentSample}
 use Rattle.bmff_fragment.specs.Headers.{run_header_of}
-use Rattle.bmff_fragment.specs.Samples.{sample_with_defaults, header_flags, sample_of, each, samples_of}
+use Rattle.bmff_fragment.specs.Samples.{sample_with_defaults, header_flags, run_sample_of, each, run_samples_of}
 
 -- what was read, in front of what is to be read
 abbrev pub all_read : {A : Type 0} → List A → Option (List A) → Option (List A)
@@ -46,9 +46,9 @@ ends f len i front all h g =
     sym g ∙ ap (λ n. all_read front (each (map f (range_with_len i n)))) k ∙ ap Some (append-nil front)
 
 -- a sample that is there
-pub sample-is : (defaults : Defaults) (header : RunHeader) (trun : List ℕ) (i : ℕ) (first_flags : Option ℕ) (told : TrunSample) (sample : Sample) → Some told ≡ trun_sample_of trun i → first_flags ≡ header_flags header i
-    → sample ≡ sample_with_defaults defaults first_flags told → Some sample ≡ sample_of defaults header trun i
-unfolding sample_of
+pub sample-is : (defaults : Defaults) (header : RunHeader) (trun : List ℕ) (i : ℕ) (first_flags : Option ℕ) (told : TrunSample) (sample : FragmentSample) → Some told ≡ trun_sample_of trun i → first_flags ≡ header_flags header i
+    → sample ≡ sample_with_defaults defaults first_flags told → Some sample ≡ run_sample_of defaults header trun i
+unfolding run_sample_of
 sample-is defaults header trun i first_flags told sample e f g =
     ap Some (g ∙ ap (λ x. sample_with_defaults defaults x told) f) ∙ ap (option_map (sample_with_defaults defaults (header_flags header i))) e
 
@@ -74,16 +74,16 @@ header-head trun header e =
     let c = through (trun_first_flags_of trun) _ header b.then in
     has-head trun a.value b.value c.value a.was b.was c.was
 
-sample-none : (defaults : Defaults) (header : RunHeader) (trun : List ℕ) (i : ℕ) → trun_sample_of trun i ≡ None → sample_of defaults header trun i ≡ None
-unfolding sample_of
+sample-none : (defaults : Defaults) (header : RunHeader) (trun : List ℕ) (i : ℕ) → trun_sample_of trun i ≡ None → run_sample_of defaults header trun i ≡ None
+unfolding run_sample_of
 sample-none defaults header trun i e = ap (option_map (sample_with_defaults defaults (header_flags header i))) e
 
 -- where their fields do not all lie in the payload the samples are not all there
-pub samples-none : (defaults : Defaults) (header : RunHeader) (trun : List ℕ) → Some header ≡ run_header_of trun → None ≡ run_fields_of trun header.count → samples_of defaults header trun ≡ None
+pub samples-none : (defaults : Defaults) (header : RunHeader) (trun : List ℕ) → Some header ≡ run_header_of trun → None ≡ run_fields_of trun header.count → run_samples_of defaults header trun ≡ None
 samples-none defaults header trun e f =
     let m = run-short trun header.count (header-head trun header (sym e)) f in
     let z : 0 + m.index ≡ m.index = omega arith in
-    each-none (sample_of defaults header trun) header.count 0 m.index m.within (ap (sample_of defaults header trun) z ∙ sample-none defaults header trun m.index m.none)
+    each-none (run_sample_of defaults header trun) header.count 0 m.index m.within (ap (run_sample_of defaults header trun) z ∙ sample-none defaults header trun m.index m.none)
 
 found_by : {X : Type 0} (P : X → Type 0) (x y : X) (b : Bool) (rest : Option X) → cond b (Some y) rest ≡ Some x → P y → (rest ≡ Some x → P x) → P x
 found_by P x y true rest e p f = let h : y ≡ x = cc in subst P h p

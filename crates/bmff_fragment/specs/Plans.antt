@@ -11,15 +11,15 @@ use Rattle.bmff_boxes.specs.FragmentFields.{tfdt_time_of}
 use Rattle.bmff_fragment.specs.declared.fault.MoofFault.{MoofFault}
 use Rattle.bmff_fragment.specs.declared.fault.MoofFault.TheVariants.{Size, NoTraf, NoTfhd, NoTfdt, BaseOffset, UnknownTrack, TooManySamples, Place}
 use Rattle.bmff_fragment.specs.declared.track_fragment.TrackFragment.{TrackFragment}
-use Rattle.bmff_fragment.specs.declared.sample.Sample.{Sample}
+use Rattle.bmff_fragment.specs.declared.sample.FragmentSample.{FragmentSample}
 use Rattle.bmff_fragment.specs.declared.slot.Slot.{Slot}
 use Rattle.bmff_fragment.specs.Headers.{track_fragment_header_of, defaults_of, run_header_of}
-use Rattle.bmff_fragment.specs.Samples.{samples_of}
+use Rattle.bmff_fragment.specs.Samples.{run_samples_of}
 use Rattle.bmff_fragment.specs.Times.{Run, run_end, slots_behind}
 
 -- the track of a number
-abbrev pub track_of : List TrackInfo → ℕ → Option TrackInfo
-track_of tracks id = find (has_id id) tracks
+abbrev pub track_with_id : List TrackInfo → ℕ → Option TrackInfo
+track_with_id tracks id = find (has_id id) tracks
 
 -- traf, track fragment (8.8.6), before its runs: its track, its defaults, the place from which its data
 -- offsets count and its first decode time. That place is the first byte of the moof box in the first track
@@ -31,7 +31,7 @@ track_fragment_of tracks end row = do
   tfhd ← need NoTfhd (first_of (codes "tfhd") row)
   header ← need Size (track_fragment_header_of tfhd)
   relative ← check BaseOffset (is_none header.base_data_offset)
-  track ← need UnknownTrack (track_of tracks header.track_id)
+  track ← need UnknownTrack (track_with_id tracks header.track_id)
   tfdt ← need NoTfdt (first_of (codes "tfdt") row)
   time ← need Size (tfdt_time_of tfdt)
   Ok
@@ -54,7 +54,7 @@ unfoldable pub run_of : TrackFragment → ℕ → ℤ → List ℕ → Result Ru
 run_of fragment count end trun = do
   header ← need Size (run_header_of trun)
   few ← check TooManySamples (nat_le (count + header.count) (2 ^ 20))
-  samples ← need Size (samples_of fragment.defaults header trun)
+  samples ← need Size (run_samples_of fragment.defaults header trun)
   inside ← check Place
       (header.count == 0 || int_le (pos 0) (run_start fragment.base end header.data_offset))
   Ok (record { start = run_start fragment.base end header.data_offset; samples = samples })
@@ -67,7 +67,7 @@ runs_of fragment count end (trun ∷ truns) = do
   Ok (run ∷ runs)
 
 -- the samples of runs
-abbrev pub samples_in : List Run → List Sample
+abbrev pub samples_in : List Run → List FragmentSample
 samples_in [] = []
 samples_in (run ∷ runs) = run.samples ++ samples_in runs
 

@@ -1,6 +1,6 @@
 ghost use Rattle.std.specs.Prelude.{◌≡◌, ◌*◌, ◌≤◌, ◌^◌, length, vec_len, IfOk, Some};
 ghost use Rattle.bmff_fragment.specs.Headers.{run_header_of};
-ghost use Rattle.bmff_fragment.specs.Samples.{samples_of, sample_with_defaults, header_flags};
+ghost use Rattle.bmff_fragment.specs.Samples.{run_samples_of, sample_with_defaults, header_flags};
 ghost use Rattle.bmff_fragment.specs.Times.{data_len, duration_of};
 ghost use Rattle.bmff_boxes.specs.Reading.{need};
 ghost use Rattle.bmff_boxes.specs.Reading.{Gives};
@@ -12,7 +12,7 @@ use std::alloc::Global;
 
 /// A sample of a track fragment run, with what it has by default.
 #[derive(Clone, Copy, Debug)]
-pub(crate) struct Sample {
+pub(crate) struct FragmentSample {
     /// How long it lasts, in the media's timescale.
     pub(crate) duration: u32,
     /// How many bytes it has.
@@ -30,11 +30,15 @@ fn header_flags(header: &RunHeader, i: u32) -> Option<u32>
 }
 
 /// A sample as the run tells it, with the defaults for what it does not tell.
-fn sample_with_defaults(defaults: &Defaults, first_flags: Option<u32>, sample: TrunSample) -> Sample
+fn sample_with_defaults(
+    defaults: &Defaults,
+    first_flags: Option<u32>,
+    sample: TrunSample,
+) -> FragmentSample
     ensures { result ≡ sample_with_defaults defaults.now first_flags sample }
 {
     let flags = sample.flags.unwrap_or(defaults.flags);
-    Sample {
+    FragmentSample {
         duration: sample.duration.unwrap_or(defaults.duration),
         size: sample.size.unwrap_or(defaults.size),
         flags: first_flags.unwrap_or(flags),
@@ -48,10 +52,10 @@ pub(crate) fn read_samples(
     defaults: &Defaults,
     header: &RunHeader,
     trun: &[u8],
-) -> Result<Vec<Sample>, MoofError>
+) -> Result<Vec<FragmentSample>, MoofError>
     requires { Some header.now ≡ run_header_of trun.now }
     ensures value { Gives (λ v. v.items) result
-        (need MoofFault.Size (samples_of defaults.now header.now trun.now)) }
+        (need MoofFault.Size (run_samples_of defaults.now header.now trun.now)) }
     ensures count { IfOk result (λ v. vec_len v ≡ header.now.count) }
 {
     let Some(fields) = run_fields(trun, header.count) else {
@@ -67,7 +71,7 @@ pub(crate) fn read_samples(
 }
 
 /// The length of the data of samples, in bytes.
-pub(crate) fn data_len(samples: &[Sample]) -> u64
+pub(crate) fn data_len(samples: &[FragmentSample]) -> u64
     requires { length samples.now ≤ 2 ^ 20 }
     ensures value { result ≡ data_len samples.now }
     ensures bound { result ≤ length samples.now * 2 ^ 32 }
@@ -80,7 +84,7 @@ pub(crate) fn data_len(samples: &[Sample]) -> u64
 }
 
 /// How long samples last, in the media's timescale.
-pub(crate) fn duration(samples: &[Sample]) -> u64
+pub(crate) fn duration(samples: &[FragmentSample]) -> u64
     requires { length samples.now ≤ 2 ^ 20 }
     ensures value { result ≡ duration_of samples.now }
     ensures bound { result ≤ length samples.now * 2 ^ 32 }

@@ -7,7 +7,7 @@ ghost use Rattle.bmff_fragment.specs.Plans.{media_slots};
 ghost use Rattle.bmff_fragment.specs.Slots.{IsWellFormed};
 
 use crate::fault::MoofError;
-use crate::sample::Sample;
+use crate::sample::FragmentSample;
 use crate::slot::Slot;
 use mse_base::{Ticks, TrackInfo, convert};
 
@@ -33,10 +33,10 @@ fn tick_at(track: &TrackInfo, media_time: i128) -> Ticks
 
 /// The slot of a sample that is decoded at `time` and whose data begin at `start`.
 #[tactic(auto, unfolding(crate::specs::Times::slot_of))]
-fn make_slot(track: &TrackInfo, time: u128, start: u64, sample: &Sample) -> Slot
+fn make_slot(track: &TrackInfo, time: u128, start: u64, sample: &FragmentSample) -> Slot
     requires readable { IsReadable track.now }
-    requires time { time ≤ 2 ^ 66 }
-    requires small { start ≤ 2 ^ 59 + 2 ^ 52 }
+    requires time_small { time ≤ 2 ^ 66 }
+    requires start_small { start ≤ 2 ^ 59 + 2 ^ 52 }
     ensures value { result ≡ slot_of track.now time start sample.now }
     ensures well_formed { IsWellFormed result }
 {
@@ -60,19 +60,19 @@ fn push_slots(
     track: &TrackInfo,
     time: u128,
     start: u64,
-    samples: &[Sample],
+    samples: &[FragmentSample],
     slots: &mut Vec<Slot>,
 ) -> Result<(), MoofError>
     requires readable { IsReadable track.now }
     requires few { length samples.now ≤ 2 ^ 20 }
-    requires time { time ≤ 2 ^ 65 }
-    requires small { start ≤ 2 ^ 59 }
+    requires time_small { time ≤ 2 ^ 65 }
+    requires start_small { start ≤ 2 ^ 59 }
     requires well_formed { All IsWellFormed slots.old.items }
     ensures slots { OnOk result (slots.new.items ≡ slots.old.items
         ++ slots_of_run track.now time (record { start = pos start; samples = samples.now })) }
     ensures len { OnOk result (vec_len slots.new ≡ vec_len slots.old + length samples.now) }
     ensures well_formed { OnOk result (All IsWellFormed slots.new.items) }
-    ensures memory { IfErr result (λ e. e ≡ OutOfMemory) }
+    ensures out_of_memory { IfErr result (λ e. e ≡ OutOfMemory) }
 {
     slots.reserve(samples.len())?;
     let mut decode_time = time;
@@ -92,19 +92,19 @@ pub(crate) fn push_run(
     track: &TrackInfo,
     time: u128,
     start: i128,
-    samples: &[Sample],
+    samples: &[FragmentSample],
     slots: &mut Vec<Slot>,
 ) -> Result<(), MoofError>
     requires readable { IsReadable track.now }
     requires few { length samples.now ≤ 2 ^ 20 }
-    requires time { time ≤ 2 ^ 65 }
+    requires time_small { time ≤ 2 ^ 65 }
     requires well_formed { All IsWellFormed slots.old.items }
     ensures slots { OnOk result (slots.new.items ≡ slots.old.items
         ++ media_slots track.now
         (slots_of_run track.now time (record { start = start; samples = samples.now }))) }
-    ensures len { OnOk result (vec_len slots.new ≤ vec_len slots.old + length samples.now) }
+    ensures few_slots { OnOk result (vec_len slots.new ≤ vec_len slots.old + length samples.now) }
     ensures well_formed { OnOk result (All IsWellFormed slots.new.items) }
-    ensures memory { IfErr result (λ e. e ≡ OutOfMemory) }
+    ensures out_of_memory { IfErr result (λ e. e ≡ OutOfMemory) }
 {
     if samples.is_empty() || !track.kind.is_media() {
         return Ok(());

@@ -12,7 +12,7 @@ use Rattle.bmff_boxes.proofs.FieldLaws.{field-there}
 use Rattle.bmff_init.specs.declared.fault.InitFault.{InitFault}
 use Rattle.bmff_init.specs.declared.fault.InitFault.TheVariants.{Size, EditList}
 use Rattle.bmff_boxes.specs.Reading.{◌>>=◌, need}
-use Rattle.bmff_init.specs.Edits.{edit_len, edits_from, is_empty_edit, presents_media, media_time_of, empty_duration, empty_shift_of, shifts_by, both_shifts, shifts_of, no_shift}
+use Rattle.bmff_init.specs.Edits.{edit_len, edits_from, is_empty_edit, is_media_edit, media_time_of, empty_duration, empty_shift_of, shifts_by, both_shifts, shifts_of, no_shift}
 
 pub from-step : (elst : List ℕ) (i n : ℕ) → edits_from elst i (suc n) ≡ (need Size (elst_entry_of elst i) >>= λ edit. edits_from elst (i + 1) n >>= λ edits. Ok (edit ∷ edits))
 unfolding edits_from
@@ -191,7 +191,7 @@ media-one elst count place edits edit e h o =
     some-same : {a b : EditEntry} → Some b ≡ Some a → a ≡ b
     some-same h = cc
 
-pub media-time : (edit : EditEntry) (rest : List EditEntry) (t : Bool) → rest ≡ edit ∷ [] → presents_media edit ≡ t → media_time_of rest ≡ cond t (Ok edit.media_time) (Err EditList)
+pub media-time : (edit : EditEntry) (rest : List EditEntry) (t : Bool) → rest ≡ edit ∷ [] → is_media_edit edit ≡ t → media_time_of rest ≡ cond t (Ok edit.media_time) (Err EditList)
 media-time edit rest t e h = ap media_time_of e ∙ ap (λ b. cond b (Ok edit.media_time) (Err EditList)) h
 
 -- the shifts of edits that are not none

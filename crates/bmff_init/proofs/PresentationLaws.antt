@@ -26,9 +26,9 @@ use Rattle.bmff_init.specs.declared.track.TrackContent.{TrackContent}
 use Rattle.bmff_boxes.specs.Children.{payload_of}
 use Rattle.bmff_boxes.specs.Reading.{◌>>=◌, need, check}
 use Rattle.bmff_boxes.specs.Reading.{Gives}
-use Rattle.bmff_init.specs.Edits.{edits_of, is_empty_edit, presents_media, media_time_of, empty_duration, empty_shift_of, both_shifts, shifts_by, shifts_in_list, shifts_in}
-use Rattle.bmff_init.specs.Tracks.{media_scale_of, codec_in, media_content, content_of, number_of, media_of, kind_in, track_with, track_of, tracks_of}
-use Rattle.bmff_init.specs.Movies.{moment_of, times_of, extends_of, presentation_in, presentation_of}
+use Rattle.bmff_init.specs.Edits.{elst_edits_of, is_empty_edit, is_media_edit, media_time_of, empty_duration, empty_shift_of, both_shifts, shifts_by, shifts_in_list, shifts_in}
+use Rattle.bmff_init.specs.Tracks.{media_scale_of, codec_in, media_content, content_of, track_number_of, mdia_row_of, kind_in, track_with, track_of_trak, tracks_of_traks}
+use Rattle.bmff_init.specs.Movies.{moment_of, times_of, extends_of, presentation_in, moov_presentation_of}
 use Rattle.bmff_init.proofs.TimeLaws.{converted-is}
 
 -- ---- the parts of a reading that gave a value
@@ -56,7 +56,7 @@ first_of_both false b e = absurd (cc)
 abbrev when : Bool → ℤ → Result ℤ InitFault
 when t z = cond t (Ok z) (Err EditList)
 
-media_by : (edit : EditEntry) (media : ℤ) (t : Bool) → presents_media edit ≡ t → when t edit.media_time ≡ Ok media → pos 0 ≤ℤ media
+media_by : (edit : EditEntry) (media : ℤ) (t : Bool) → is_media_edit edit ≡ t → when t edit.media_time ≡ Ok media → pos 0 ≤ℤ media
 media_by edit media true e h =
     let is : edit.media_time ≡ media = cc in
     let le : int_le (pos 0) edit.media_time ≡ true = first_of_both _ _ e in
@@ -92,7 +92,7 @@ by_in_range scale (edit ∷ edits) shifts e = with_in_range (drop (prefix_len is
 
 list_in_range : (scale : ℕ) (elst : Option (List ℕ)) (shifts : Shifts) → shifts_in_list scale elst ≡ Ok shifts → InRange shifts
 list_in_range scale None shifts e = none_in_range shifts (same_ok _ _ (Ok (record { media = pos 0; empty = pos 0 })) refl e)
-list_in_range scale (Some elst) shifts e = let b = through (edits_of elst) (shifts_by scale) shifts e in by_in_range scale b.value shifts b.then
+list_in_range scale (Some elst) shifts e = let b = through (elst_edits_of elst) (shifts_by scale) shifts e in by_in_range scale b.value shifts b.then
 
 shifts_in_range : (scale : ℕ) (edts : Option (List ℕ)) (shifts : Shifts) → shifts_in scale edts ≡ Ok shifts → InRange shifts
 shifts_in_range scale None shifts e = none_in_range shifts (same_ok _ _ (Ok (record { media = pos 0; empty = pos 0 })) refl e)
@@ -138,7 +138,7 @@ not_taken : (t : Bool) → not t ≡ true → t ≡ false
 not_taken true e = absurd (cc)
 not_taken false e = refl
 
-new_number : (before : List TrackInfo) (track : List BoxView) (id : ℕ) → number_of before track ≡ Ok id → list_any (has_id id) before ≡ false
+new_number : (before : List TrackInfo) (track : List BoxView) (id : ℕ) → track_number_of before track ≡ Ok id → list_any (has_id id) before ≡ false
 new_number before track id e =
     let a = through (need (Missing (codes "tkhd")) (first_of (codes "tkhd") track)) (λ tkhd. need Size (tkhd_track_of tkhd) >>= λ n. check DuplicateTrack (not (list_any (has_id n) before)) >>= λ _. Ok n) id e in
     let b = through (need Size (tkhd_track_of a.value)) (λ n. check DuplicateTrack (not (list_any (has_id n) before)) >>= λ _. Ok n) id a.then in
@@ -151,12 +151,12 @@ pub record Joins (before : List TrackInfo) (track : TrackInfo) : Type 0 where
   pub readable : IsReadable track
   pub fresh : list_any (has_id track.id) before ≡ false
 
-track_joins : (form : Form) (scale : ℕ) (trexes : List (List ℕ)) (before : List TrackInfo) (trak : List ℕ) (track : TrackInfo) → track_of form scale trexes before trak ≡ Ok track → Joins before track
-unfolding track_of
+track_joins : (form : Form) (scale : ℕ) (trexes : List (List ℕ)) (before : List TrackInfo) (trak : List ℕ) (track : TrackInfo) → track_of_trak form scale trexes before trak ≡ Ok track → Joins before track
+unfolding track_of_trak
 track_joins form scale trexes before trak track e =
-    let a = through (need Size (row_of trak)) (λ boxes. number_of before boxes >>= λ id. media_of boxes >>= λ media. kind_in media >>= λ kind. content_of form scale kind boxes media >>= λ content. Ok (track_with trexes id kind content)) track e in
-    let b = through (number_of before a.value) (λ id. media_of a.value >>= λ media. kind_in media >>= λ kind. content_of form scale kind a.value media >>= λ content. Ok (track_with trexes id kind content)) track a.then in
-    let c = through (media_of a.value) (λ media. kind_in media >>= λ kind. content_of form scale kind a.value media >>= λ content. Ok (track_with trexes b.value kind content)) track b.then in
+    let a = through (need Size (row_of trak)) (λ boxes. track_number_of before boxes >>= λ id. mdia_row_of boxes >>= λ media. kind_in media >>= λ kind. content_of form scale kind boxes media >>= λ content. Ok (track_with trexes id kind content)) track e in
+    let b = through (track_number_of before a.value) (λ id. mdia_row_of a.value >>= λ media. kind_in media >>= λ kind. content_of form scale kind a.value media >>= λ content. Ok (track_with trexes id kind content)) track a.then in
+    let c = through (mdia_row_of a.value) (λ media. kind_in media >>= λ kind. content_of form scale kind a.value media >>= λ content. Ok (track_with trexes b.value kind content)) track b.then in
     let d = through (kind_in c.value) (λ kind. content_of form scale kind a.value c.value >>= λ content. Ok (track_with trexes b.value kind content)) track c.then in
     let f = through (content_of form scale d.value a.value c.value) (λ content. Ok (track_with trexes b.value d.value content)) track d.then in
     let fits = content_fits form scale d.value a.value c.value f.value f.was in
@@ -187,15 +187,15 @@ pub record AreTracks (tracks : List TrackInfo) (count : ℕ) : Type 0 where
   pub distinct : HasDistinctIds tracks
   pub counted : length tracks ≡ count
 
-tracks_join : (traks : List (List ℕ)) (form : Form) (scale : ℕ) (trexes : List (List ℕ)) (before tracks : List TrackInfo) (count : ℕ) → AreTracks before count → tracks_of form scale trexes before traks ≡ Ok tracks
+tracks_join : (traks : List (List ℕ)) (form : Form) (scale : ℕ) (trexes : List (List ℕ)) (before tracks : List TrackInfo) (count : ℕ) → AreTracks before count → tracks_of_traks form scale trexes before traks ≡ Ok tracks
     → AreTracks tracks (count + length traks)
-unfolding tracks_of
+unfolding tracks_of_traks
 tracks_join [] form scale trexes before tracks count h e =
     let is : before ≡ tracks = same_ok _ _ (Ok before) refl e in
     let counted = h.counted in
     subst (λ ts. AreTracks ts (count + 0)) is (record { readable = h.readable; distinct = h.distinct; counted = omega arith })
 tracks_join (trak ∷ traks) form scale trexes before tracks count h e =
-    let b = through (track_of form scale trexes before trak) (λ track. tracks_of form scale trexes (before ++ track ∷ []) traks) tracks e in
+    let b = through (track_of_trak form scale trexes before trak) (λ track. tracks_of_traks form scale trexes (before ++ track ∷ []) traks) tracks e in
     let j = track_joins form scale trexes before trak b.value b.was in
     let counted = h.counted in
     let next : AreTracks (before ++ b.value ∷ []) (count + 1) = record {
@@ -217,11 +217,11 @@ presentation_in_is : (form : Form) (movie : List BoxView) (p : Presentation) →
 unfolding presentation_in
 presentation_in_is form movie p e =
     let traks = all_of (codes "trak") movie in
-    let a = through (times_of movie) (λ times. extends_of form movie >>= λ extends. check TooManyTracks (nat_le (length traks) 64) >>= λ _. tracks_of form times.scale extends.trexes [] traks >>= λ tracks. Ok (record { scale = times.scale; duration = moment_of times.scale (if extends.duration == 0 then times.duration else extends.duration); tracks = tracks })) p e in
-    let b = through (extends_of form movie) (λ extends. check TooManyTracks (nat_le (length traks) 64) >>= λ _. tracks_of form a.value.scale extends.trexes [] traks >>= λ tracks. Ok (record { scale = a.value.scale; duration = moment_of a.value.scale (if extends.duration == 0 then a.value.duration else extends.duration); tracks = tracks })) p a.then in
+    let a = through (times_of movie) (λ times. extends_of form movie >>= λ extends. check TooManyTracks (nat_le (length traks) 64) >>= λ _. tracks_of_traks form times.scale extends.trexes [] traks >>= λ tracks. Ok (record { scale = times.scale; duration = moment_of times.scale (if extends.duration == 0 then times.duration else extends.duration); tracks = tracks })) p e in
+    let b = through (extends_of form movie) (λ extends. check TooManyTracks (nat_le (length traks) 64) >>= λ _. tracks_of_traks form a.value.scale extends.trexes [] traks >>= λ tracks. Ok (record { scale = a.value.scale; duration = moment_of a.value.scale (if extends.duration == 0 then a.value.duration else extends.duration); tracks = tracks })) p a.then in
     let duration = if b.value.duration == 0 then a.value.duration else b.value.duration in
-    let c = through (check TooManyTracks (nat_le (length traks) 64)) (λ _. tracks_of form a.value.scale b.value.trexes [] traks >>= λ tracks. Ok (record { scale = a.value.scale; duration = moment_of a.value.scale duration; tracks = tracks })) p b.then in
-    let d = through (tracks_of form a.value.scale b.value.trexes [] traks) (λ tracks. Ok (record { scale = a.value.scale; duration = moment_of a.value.scale duration; tracks = tracks })) p c.then in
+    let c = through (check TooManyTracks (nat_le (length traks) 64)) (λ _. tracks_of_traks form a.value.scale b.value.trexes [] traks >>= λ tracks. Ok (record { scale = a.value.scale; duration = moment_of a.value.scale duration; tracks = tracks })) p b.then in
+    let d = through (tracks_of_traks form a.value.scale b.value.trexes [] traks) (λ tracks. Ok (record { scale = a.value.scale; duration = moment_of a.value.scale duration; tracks = tracks })) p c.then in
     let none : AreTracks [] 0 = record { readable = tt; distinct = tt; counted = refl } in
     let are = tracks_join traks form a.value.scale b.value.trexes [] d.value 0 none d.was in
     let few : length traks ≤ 64 = few_from (length traks) (checked TooManyTracks _ _ c.was) in
@@ -237,12 +237,12 @@ presentation_in_is form movie p e =
     few_from : (n : ℕ) → nat_le n 64 ≡ true → n ≤ 64
     few_from n h = grind (arith, nat_tests)
 
-pub presentation-is : (form : Form) (moov : List ℕ) (p : Presentation) → presentation_of form moov ≡ Ok p → IsPresentation p
+pub presentation-is : (form : Form) (moov : List ℕ) (p : Presentation) → moov_presentation_of form moov ≡ Ok p → IsPresentation p
 presentation-is form moov p e =
     let b = through (need Size (payload_of moov)) (λ payload. need Size (row_of payload) >>= λ boxes. presentation_in form boxes) p e in
     let c = through (need Size (row_of b.value)) (presentation_in form) p b.then in
     presentation_in_is form c.value p c.then
 
-pub gives-presentation : (form : Form) (moov : List ℕ) (r : Result Presentation (ReadError InitFault)) → Gives (λ p. p) r (presentation_of form moov) → IfOk r IsPresentation
+pub gives-presentation : (form : Form) (moov : List ℕ) (r : Result Presentation (ReadError InitFault)) → Gives (λ p. p) r (moov_presentation_of form moov) → IfOk r IsPresentation
 gives-presentation form moov (Ok p) g = presentation-is form moov p g
 gives-presentation form moov (Err e) g = tt

@@ -38,22 +38,22 @@ edit_count_of elst = do
   Ok count
 
 -- the entries of an edit list
-abbrev pub edits_of : List ℕ → Result (List EditEntry) InitFault
-edits_of elst = edit_count_of elst >>= edits_from elst 0
+abbrev pub elst_edits_of : List ℕ → Result (List EditEntry) InitFault
+elst_edits_of elst = edit_count_of elst >>= edits_from elst 0
 
 -- an empty edit: nothing is presented while it lasts
 abbrev pub is_empty_edit : EditEntry → Bool
 is_empty_edit edit = int_eq edit.media_time (negsuc 0)
 
 -- an edit that presents the media at their own rate, from a time on
-abbrev pub presents_media : EditEntry → Bool
-presents_media edit =
+abbrev pub is_media_edit : EditEntry → Bool
+is_media_edit edit =
     int_le (pos 0) edit.media_time && (int_eq edit.rate (pos 1) && int_eq edit.fraction (pos 0))
 
 -- the media time of the one edit that has to follow the empty edits
 abbrev pub media_time_of : List EditEntry → Result ℤ InitFault
 media_time_of [] = Err EditList
-media_time_of (edit ∷ []) = if presents_media edit then Ok edit.media_time else Err EditList
+media_time_of (edit ∷ []) = if is_media_edit edit then Ok edit.media_time else Err EditList
 media_time_of (edit ∷ next ∷ edits) = Err EditList
 
 -- how long the empty edits at the start last, in the movie's timescale
@@ -85,7 +85,7 @@ shifts_of scale read = read >>= shifts_by scale
 -- elst, edit list (8.6.6), if there is one
 abbrev pub shifts_in_list : ℕ → Option (List ℕ) → Result Shifts InitFault
 shifts_in_list scale None = Ok no_shift
-shifts_in_list scale (Some elst) = shifts_of scale (edits_of elst)
+shifts_in_list scale (Some elst) = shifts_of scale (elst_edits_of elst)
 
 -- edts, edit box (8.6.5), if there is one
 abbrev pub shifts_in : ℕ → Option (List ℕ) → Result Shifts InitFault

@@ -15,10 +15,10 @@ use Rattle.bmff_init.specs.declared.fault.InitFault.TheVariants.{Size, Missing, 
 use Rattle.bmff_init.specs.declared.form.Form.{Form}
 use Rattle.bmff_init.specs.declared.form.Form.TheVariants.{Fragmented, Classic}
 use Rattle.bmff_init.specs.declared.movie.MovieTimes.{MovieTimes}
-use Rattle.bmff_init.specs.declared.movie.Extends.{Extends}
+use Rattle.bmff_init.specs.declared.movie.MvexIn.{MvexIn}
 use Rattle.bmff_boxes.specs.Children.{payload_of}
 use Rattle.bmff_boxes.specs.Reading.{◌>>=◌, need, check}
-use Rattle.bmff_init.specs.Tracks.{tracks_of}
+use Rattle.bmff_init.specs.Tracks.{tracks_of_traks}
 
 -- a duration of all ones cannot be determined (8.2.2.3)
 abbrev pub known_duration : List ℕ → ℕ → ℕ
@@ -40,7 +40,7 @@ pub record MovieExtends : Type 0 where
   pub trexes : List (List ℕ)
 
 -- the same of what the code keeps
-abbrev pub extends_view : Extends → MovieExtends
+abbrev pub extends_view : MvexIn → MovieExtends
 extends_view extends = record {
   duration = extends.duration;
   trexes = all_of (codes "trex") (boxes_in extends.mvex.now);
@@ -71,7 +71,7 @@ presentation_in form movie = do
   times ← times_of movie
   extends ← extends_of form movie
   _ ← check TooManyTracks (nat_le (length (all_of (codes "trak") movie)) 64)
-  tracks ← tracks_of form times.scale extends.trexes [] (all_of (codes "trak") movie)
+  tracks ← tracks_of_traks form times.scale extends.trexes [] (all_of (codes "trak") movie)
   Ok
       (record {
         scale = times.scale;
@@ -81,14 +81,14 @@ presentation_in form movie = do
       })
 
 -- the presentation of a whole movie box with its header, or the first fault
-abbrev pub presentation_of : Form → List ℕ → Result Presentation InitFault
-presentation_of form moov = do
+abbrev pub moov_presentation_of : Form → List ℕ → Result Presentation InitFault
+moov_presentation_of form moov = do
   payload ← need Size (payload_of moov)
   boxes ← need Size (row_of payload)
   presentation_in form boxes
 
 abbrev pub init_of : List ℕ → Result Presentation InitFault
-init_of moov = presentation_of Fragmented moov
+init_of moov = moov_presentation_of Fragmented moov
 
 abbrev pub movie_of : List ℕ → Result Presentation InitFault
-movie_of moov = presentation_of Classic moov
+movie_of moov = moov_presentation_of Classic moov

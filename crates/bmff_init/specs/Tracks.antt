@@ -56,21 +56,21 @@ codec_of stsd = do
   entry_type (header_of (drop 8 stsd))
 
 -- a table of samples or chunks, where it is there, has no entry
-abbrev pub is_empty_table : Option (List ℕ) → Result Bool InitFault
-is_empty_table None = Ok true
-is_empty_table (Some table) = do
+abbrev pub empty_table_check : Option (List ℕ) → Result Bool InitFault
+empty_table_check None = Ok true
+empty_table_check (Some table) = do
   count ← need Size (entry_count_of table)
   check HasSamples (count == 0)
 
 -- in an initialization segment the tables of samples and chunks have no entries (ISO BMFF byte stream format,
 -- section 3)
-unfoldable pub are_empty_tables : Form → List BoxView → Result Bool InitFault
-are_empty_tables Classic table = Ok true
-are_empty_tables Fragmented table = do
-  _ ← is_empty_table (first_of (codes "stts") table)
-  _ ← is_empty_table (first_of (codes "stsc") table)
-  _ ← is_empty_table (first_of (codes "stco") table)
-  is_empty_table (first_of (codes "co64") table)
+unfoldable pub empty_tables_check : Form → List BoxView → Result Bool InitFault
+empty_tables_check Classic table = Ok true
+empty_tables_check Fragmented table = do
+  _ ← empty_table_check (first_of (codes "stts") table)
+  _ ← empty_table_check (first_of (codes "stsc") table)
+  _ ← empty_table_check (first_of (codes "stco") table)
+  empty_table_check (first_of (codes "co64") table)
 
 -- stbl, sample table (8.5.1), in minf, media information (8.4.4)
 unfoldable pub codec_in : Form → List BoxView → Result (List ℕ) InitFault
@@ -81,7 +81,7 @@ codec_in form media = do
   table ← need Size (row_of stbl)
   stsd ← need (Missing (codes "stsd")) (first_of (codes "stsd") table)
   codec ← codec_of stsd
-  _ ← are_empty_tables form table
+  _ ← empty_tables_check form table
   Ok codec
 
 -- mdhd, media header (8.4.2)
@@ -125,16 +125,16 @@ content_of form movie_scale Video track media = media_content form movie_scale t
 content_of form movie_scale Audio track media = media_content form movie_scale track media
 
 -- the number of a track box: that of its tkhd, track header (8.3.2), which no track before it has
-abbrev pub number_of : List TrackInfo → List BoxView → Result ℕ InitFault
-number_of before track = do
+abbrev pub track_number_of : List TrackInfo → List BoxView → Result ℕ InitFault
+track_number_of before track = do
   tkhd ← need (Missing (codes "tkhd")) (first_of (codes "tkhd") track)
   id ← need Size (tkhd_track_of tkhd)
   _ ← check DuplicateTrack (not (list_any (has_id id) before))
   Ok id
 
 -- mdia, media box (8.4.1), and the kind that its handler tells
-abbrev pub media_of : List BoxView → Result (List BoxView) InitFault
-media_of track = do
+abbrev pub mdia_row_of : List BoxView → Result (List BoxView) InitFault
+mdia_row_of track = do
   mdia ← need (Missing (codes "mdia")) (first_of (codes "mdia") track)
   need Size (row_of mdia)
 
@@ -158,19 +158,19 @@ track_with trexes id kind content = record {
 }
 
 -- the track of a track box that stands behind those of the tracks `before`
-unfoldable pub track_of : Form → ℕ → List (List ℕ) → List TrackInfo → List ℕ
+unfoldable pub track_of_trak : Form → ℕ → List (List ℕ) → List TrackInfo → List ℕ
     → Result TrackInfo InitFault
-track_of form movie_scale trexes before trak = do
+track_of_trak form movie_scale trexes before trak = do
   track ← need Size (row_of trak)
-  id ← number_of before track
-  media ← media_of track
+  id ← track_number_of before track
+  media ← mdia_row_of track
   kind ← kind_in media
   content ← content_of form movie_scale kind track media
   Ok (track_with trexes id kind content)
 
-unfoldable pub tracks_of : Form → ℕ → List (List ℕ) → List TrackInfo → List (List ℕ)
+unfoldable pub tracks_of_traks : Form → ℕ → List (List ℕ) → List TrackInfo → List (List ℕ)
     → Result (List TrackInfo) InitFault
-tracks_of form movie_scale trexes before [] = Ok before
-tracks_of form movie_scale trexes before (trak ∷ traks) = do
-  track ← track_of form movie_scale trexes before trak
-  tracks_of form movie_scale trexes (before ++ track ∷ []) traks
+tracks_of_traks form movie_scale trexes before [] = Ok before
+tracks_of_traks form movie_scale trexes before (trak ∷ traks) = do
+  track ← track_of_trak form movie_scale trexes before trak
+  tracks_of_traks form movie_scale trexes (before ++ track ∷ []) traks

@@ -2,7 +2,7 @@ ghost use Rattle.std.specs.Prelude.{◌≡◌, ◌≤◌, ◌^◌, ◌+◌, ◌*
 ghost use Rattle.std.specs.Option.{option_copied};
 ghost use Rattle.std.specs.List.{prefix_len};
 ghost use Rattle.bmff_boxes.specs.declared.entries.EditEntry.{EditEntry};
-ghost use Rattle.bmff_init.specs.Edits.{edit_len, edits_from, is_empty_edit, presents_media, media_time_of, empty_duration, empty_shift_of, both_shifts, shifts_of, edit_count_of, shifts_in, shifts_in_list};
+ghost use Rattle.bmff_init.specs.Edits.{edit_len, edits_from, is_empty_edit, is_media_edit, media_time_of, empty_duration, empty_shift_of, both_shifts, shifts_of, edit_count_of, shifts_in, shifts_in_list};
 
 use crate::fault::InitFault;
 use bmff_boxes::{EditEntry, elst_entry, entry_count, open};
@@ -49,8 +49,8 @@ fn is_empty_edit(edit: &EditEntry) -> bool
     edit.media_time == -1
 }
 
-fn presents_media(edit: &EditEntry) -> bool
-    ensures { result ≡ presents_media edit.now }
+fn is_media_edit(edit: &EditEntry) -> bool
+    ensures { result ≡ is_media_edit edit.now }
 {
     edit.media_time >= 0 && edit.rate == 1 && edit.fraction == 0
 }
@@ -61,7 +61,7 @@ fn empty_edits(elst: &[u8], count: u32) -> (u32, u128)
     ensures value { (edits : List EditEntry) → edits_from elst.now 0 count ≡ Ok edits
         → (result.0 ≡ prefix_len is_empty_edit edits) × (result.1 ≡ empty_duration edits) }
     ensures few { result.0 ≤ count }
-    ensures short { result.1 ≤ result.0 * 2 ^ 64 }
+    ensures small { result.1 ≤ result.0 * 2 ^ 64 }
 {
     let mut len = 0;
     let mut duration = 0;
@@ -81,7 +81,7 @@ fn empty_edits(elst: &[u8], count: u32) -> (u32, u128)
 /// How much later than the movie a track begins whose empty edits last so long, in the movie's timescale.
 fn empty_shift(scale: u32, duration: u128) -> Result<Ticks, InitFault>
     requires positive { 1 ≤ scale }
-    requires short { duration ≤ 1000 * 2 ^ 64 }
+    requires small { duration ≤ 1000 * 2 ^ 64 }
     ensures { result ≡ empty_shift_of scale duration }
 {
     match convert(duration as i128, scale) {
@@ -94,7 +94,7 @@ fn empty_shift(scale: u32, duration: u128) -> Result<Ticks, InitFault>
 fn media_time_in(edit: &EditEntry) -> Result<i64, InitFault>
     ensures { result ≡ media_time_of (edit.now ∷ []) }
 {
-    if presents_media(edit) {
+    if is_media_edit(edit) {
         Ok(edit.media_time)
     } else {
         Err(InitFault::EditList)
@@ -133,7 +133,7 @@ fn both_shifts(
 #[tactic(auto, unfolding(crate::specs::Edits::edit_count_of))]
 fn read_edit_count(elst: &[u8]) -> Result<u32, InitFault>
     ensures value { result ≡ edit_count_of elst.now }
-    ensures fits { IfOk result (λ count. 8 + count * edit_len elst.now ≤ length elst.now) }
+    ensures entries_there { IfOk result (λ count. 8 + count * edit_len elst.now ≤ length elst.now) }
     ensures few { IfOk result (λ count. count ≤ 1000) }
 {
     let count = entry_count(elst).ok_or(InitFault::Size)?;
@@ -149,7 +149,7 @@ fn read_edit_count(elst: &[u8]) -> Result<u32, InitFault>
 /// Reads the entries of an edit list.
 fn read_edits(scale: u32, elst: &[u8], count: u32) -> Result<Shifts, InitFault>
     requires positive { 1 ≤ scale }
-    requires fits { 8 + count * edit_len elst.now ≤ length elst.now }
+    requires entries_there { 8 + count * edit_len elst.now ≤ length elst.now }
     requires few { count ≤ 1000 }
     ensures { result ≡ shifts_of scale (edits_from elst.now 0 count) }
 {

@@ -1,10 +1,10 @@
-ghost use Rattle.std.specs.Prelude.{◌≡◌, ◌≤◌, ◌<◌, ◌^◌, length, IfOk, IsSome, nat_le};
+ghost use Rattle.std.specs.Prelude.{◌≡◌, ◌≤◌, ◌<◌, length, IfOk, IsSome, nat_le};
 ghost use Rattle.std.specs.List.{list_all};
 ghost use Rattle.std.specs.Option.{option_copied};
 ghost use Rattle.std.specs.Result.{result_map_both};
 ghost use lib.Chars.{codes};
 ghost use Rattle.bmff_boxes.specs.Rows.{row_of, all_of};
-ghost use Rattle.bmff_init.specs.Movies.{extends_view, known_duration, times_of, fragments_duration_of, extends_of, moment_of, presentation_of, init_of, movie_of};
+ghost use Rattle.bmff_init.specs.Movies.{extends_view, known_duration, times_of, fragments_duration_of, extends_of, moment_of, moov_presentation_of, init_of, movie_of};
 ghost use Rattle.bmff_boxes.specs.Reading.{Gives};
 ghost use Rattle.mse_base.specs.Presentation.{IsPresentation};
 
@@ -32,7 +32,7 @@ pub struct MovieTimes {
 
 /// What a movie extends box (8.8.1) tells.
 #[derive(Clone, Copy, Debug)]
-pub struct Extends<'a> {
+pub struct MvexIn<'a> {
     /// How long the movie lasts with its fragments, in its timescale; 0 where that is not known.
     pub duration: u64,
     /// The payload of the box, which has a `trex` box for each track.
@@ -94,13 +94,13 @@ fn are_whole_trexes(mvex: Row<'_>) -> bool
 
 /// Reads the movie extends box (8.8.1).
 #[tactic(auto, unfolding(crate::specs::Movies::extends_of))]
-fn read_extends<'a>(form: Form, movie: &Row<'a>) -> Result<Extends<'a>, InitFault>
+fn read_extends<'a>(form: Form, movie: &Row<'a>) -> Result<MvexIn<'a>, InitFault>
     ensures value { result_map_both extends_view (λ fault. fault) result
         ≡ extends_of form movie.now }
-    ensures row { IfOk result (λ extends. IsSome (row_of extends.mvex.now)) }
+    ensures whole_boxes { IfOk result (λ extends. IsSome (row_of extends.mvex.now)) }
 {
     match form {
-        Form::Classic => Ok(Extends {
+        Form::Classic => Ok(MvexIn {
             duration: 0,
             mvex: &[],
         }),
@@ -111,7 +111,7 @@ fn read_extends<'a>(form: Form, movie: &Row<'a>) -> Result<Extends<'a>, InitFaul
             if !are_whole_trexes(boxes) {
                 return Err(InitFault::Size);
             }
-            Ok(Extends { duration, mvex })
+            Ok(MvexIn { duration, mvex })
         }
     }
 }
@@ -150,7 +150,7 @@ fn moment(scale: u32, duration: u64) -> Moment
 /// Reads a movie box that is whole, with its header.
 #[tactic(auto, unfolding(crate::specs::Movies::presentation_in))]
 fn read_presentation(alloc: Global, form: Form, moov: &[u8]) -> Result<Presentation, InitError>
-    ensures value { Gives (λ p. p) result (presentation_of form moov.now) }
+    ensures value { Gives (λ p. p) result (moov_presentation_of form moov.now) }
 {
     let payload = payload(moov).ok_or(InitFault::Size)?;
     let movie = open(payload).ok_or(InitFault::Size)?;

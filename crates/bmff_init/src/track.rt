@@ -4,7 +4,7 @@ ghost use Rattle.std.specs.Option.{option_copied};
 ghost use lib.Chars.{codes};
 ghost use Rattle.mse_base.specs.Presentation.{has_id};
 ghost use Rattle.bmff_boxes.specs.Rows.{boxes_in, row_of, all_of};
-ghost use Rattle.bmff_init.specs.Tracks.{kind_of, codec_of, is_empty_table, are_empty_tables, codec_in, media_scale_of, media_content, content_of, number_of, media_of, kind_in, is_trex_of, trex_of, track_with, track_of, tracks_of};
+ghost use Rattle.bmff_init.specs.Tracks.{kind_of, codec_of, empty_table_check, empty_tables_check, codec_in, media_scale_of, media_content, content_of, track_number_of, mdia_row_of, kind_in, is_trex_of, trex_of, track_with, track_of_trak, tracks_of_traks};
 ghost use Rattle.bmff_boxes.specs.MovieFields.{entry_count_of};
 ghost use Rattle.bmff_boxes.specs.Reading.{need};
 ghost use Rattle.bmff_boxes.specs.Reading.{Gives};
@@ -49,7 +49,7 @@ fn kind_of(handler: [u8; 4]) -> Kind
 #[tactic(auto, unfolding(bmff_boxes::specs::Fields::field))]
 fn read_count(table: &[u8]) -> Result<u32, InitFault>
     ensures value { result ≡ need InitFault.Size (entry_count_of table.now) }
-    ensures room { IfOk result (λ _. 8 ≤ length table.now) }
+    ensures head_there { IfOk result (λ _. 8 ≤ length table.now) }
 {
     entry_count(table).ok_or(InitFault::Size)
 }
@@ -73,7 +73,7 @@ fn read_codec(stsd: &[u8]) -> Result<[u8; 4], InitFault>
 
 /// Tests that a table, where it is there, has no entry.
 fn check_table(table: Option<&[u8]>) -> Result<bool, InitFault>
-    ensures { result ≡ is_empty_table (option_copied table.entry) }
+    ensures { result ≡ empty_table_check (option_copied table.entry) }
 {
     let Some(table) = table else {
         return Ok(true);
@@ -87,9 +87,9 @@ fn check_table(table: Option<&[u8]>) -> Result<bool, InitFault>
 }
 
 /// Tests that a sample table box (8.5.1) of a fragmented movie has no samples.
-#[tactic(auto, unfolding(crate::specs::Tracks::are_empty_tables))]
+#[tactic(auto, unfolding(crate::specs::Tracks::empty_tables_check))]
 fn check_tables(form: Form, table: &Row<'_>) -> Result<bool, InitFault>
-    ensures { result ≡ are_empty_tables form table.now }
+    ensures { result ≡ empty_tables_check form table.now }
 {
     match form {
         Form::Classic => Ok(true),
@@ -185,7 +185,7 @@ fn is_taken(id: u32, tracks: &[TrackInfo]) -> bool
 
 /// The number of a track box (8.3.2), which none of the tracks before it has.
 fn read_number(before: &[TrackInfo], track: &Row<'_>) -> Result<u32, InitFault>
-    ensures { result ≡ number_of before.now track.now }
+    ensures { result ≡ track_number_of before.now track.now }
 {
     let tkhd = track.first(*b"tkhd").ok_or(InitFault::Missing(*b"tkhd"))?;
     let id = tkhd_track(tkhd).ok_or(InitFault::Size)?;
@@ -197,7 +197,7 @@ fn read_number(before: &[TrackInfo], track: &Row<'_>) -> Result<u32, InitFault>
 
 /// The boxes of the media box (8.4.1) of a track.
 fn read_media<'a>(track: &Row<'a>) -> Result<Row<'a>, InitFault>
-    ensures { result ≡ media_of track.now }
+    ensures { result ≡ mdia_row_of track.now }
 {
     let mdia = track.first(*b"mdia").ok_or(InitFault::Missing(*b"mdia"))?;
     open(mdia).ok_or(InitFault::Size)
@@ -265,7 +265,7 @@ fn track_with(mvex: &[u8], id: u32, kind: Kind, content: TrackContent) -> TrackI
 }
 
 /// The track of a track box (8.3.1) that stands behind those of the tracks `before`.
-#[tactic(auto, unfolding(crate::specs::Tracks::track_of))]
+#[tactic(auto, unfolding(crate::specs::Tracks::track_of_trak))]
 fn read_track(
     form: Form,
     movie_scale: u32,
@@ -273,9 +273,9 @@ fn read_track(
     before: &[TrackInfo],
     trak: &[u8],
 ) -> Result<TrackInfo, InitFault>
-    requires scale { 1 ≤ movie_scale }
-    requires row { IsSome (row_of mvex.now) }
-    ensures { result ≡ track_of form movie_scale (all_of (codes "trex") (boxes_in mvex.now))
+    requires positive { 1 ≤ movie_scale }
+    requires whole_boxes { IsSome (row_of mvex.now) }
+    ensures { result ≡ track_of_trak form movie_scale (all_of (codes "trex") (boxes_in mvex.now))
         before.now trak.now }
 {
     let track = open(trak).ok_or(InitFault::Size)?;
@@ -294,10 +294,10 @@ pub fn read_tracks(
     mvex: &[u8],
     movie: Row<'_>,
 ) -> Result<Vec<TrackInfo>, InitError>
-    requires scale { 1 ≤ movie_scale }
-    requires row { IsSome (row_of mvex.now) }
+    requires positive { 1 ≤ movie_scale }
+    requires whole_boxes { IsSome (row_of mvex.now) }
     ensures { Gives (λ v. v.items) result
-        (tracks_of form movie_scale (all_of (codes "trex") (boxes_in mvex.now)) []
+        (tracks_of_traks form movie_scale (all_of (codes "trex") (boxes_in mvex.now)) []
         (all_of (codes "trak") movie.entry)) }
 {
     let mut movie = movie;

@@ -15,7 +15,7 @@ use Rattle.bmff_write.specs.declared.boxes.Field.{Field}
 use Rattle.bmff_write.specs.declared.boxes.Field.TheVariants.{Full, U32, Code, Zeros}
 use Rattle.bmff_write.specs.declared.track_out.TrackOut.{TrackOut}
 use Rattle.bmff_write.specs.Boxes.{fields_bytes, fields_len, box_bytes, box_of}
-use Rattle.bmff_write.specs.Fits.{TrackFits}
+use Rattle.bmff_write.specs.Fits.{IsFittingTrack}
 use Rattle.bmff_write.specs.Tracks.{HasType, IsSampleDescription, AreSampleDescriptions}
 use Rattle.bmff_write.specs.Movie.{ftyp_bytes, visual_entry_bytes, audio_entry_bytes, sample_entry_by, stsd_bytes}
 use Rattle.bmff_write.proofs.BoxLaws.{box_size, fields_size}
@@ -72,7 +72,7 @@ plain_description t four =
       entry = subst (λ (xs : List ℕ). HasType t.codec (header_of xs)) (sym behind) (entry_header t.kind t.codec t.scale four);
     }
 
-pub plain_descriptions : (ts : List TrackOut) → AllByRecursion TrackFits ts → AreSampleDescriptions ts (map stsd_bytes ts)
+pub plain_descriptions : (ts : List TrackOut) → AllByRecursion IsFittingTrack ts → AreSampleDescriptions ts (map stsd_bytes ts)
 plain_descriptions [] fits = tt
 plain_descriptions (t ∷ ts) fits = (let one = fits.0 in plain_description t one.codec, plain_descriptions ts fits.1)
 

@@ -10,7 +10,7 @@ use Rattle.bmff_boxes.specs.Rows.{BoxView, row_of}
 use Rattle.bmff_write.specs.declared.boxes.Field.{Field}
 use Rattle.bmff_write.specs.declared.boxes.Field.TheVariants.{Full, U16, U32, I32}
 use Rattle.bmff_write.specs.Boxes.{fields_bytes, field_bytes}
-use Rattle.bmff_write.specs.Fits.{EditFits}
+use Rattle.bmff_write.specs.Fits.{IsFittingEdit}
 use Rattle.bmff_write.specs.Movie.{edit_bytes, elst_bytes, edts_bytes}
 use Rattle.bmff_write.proofs.BoxLaws.{fields_size}
 use Rattle.bmff_write.proofs.MovieSizes.{elst_size}
@@ -37,7 +37,7 @@ pub version_zero : (count : ℕ) (rest : List ℕ) → is_version 1 (fields_byte
 unfolding fields_bytes field_bytes
 version_zero count rest = refl
 
-pub entry_written : (count i : ℕ) (front back : List ℕ) (edit : ℕ × ℤ) → length front ≡ i * 12 → EditFits edit
+pub entry_written : (count i : ℕ) (front back : List ℕ) (edit : ℕ × ℤ) → length front ≡ i * 12 → IsFittingEdit edit
     → elst_entry_of (fields_bytes (elst_fields count) ++ (front ++ (edit_bytes edit ++ back))) i ≡ Some (edit_read edit)
 entry_written count i front back edit size fits =
     let head : List ℕ = fields_bytes (elst_fields count) in

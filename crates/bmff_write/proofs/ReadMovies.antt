@@ -52,14 +52,14 @@ trak_below t stsd few short =
 -- ---- a given sample description: a box alone, and with bytes behind it
 
 -- what stands next, and what stands behind it
-abbrev Step : Type 0
-Step = ChildView × List ℕ
+abbrev BoxAndRest : Type 0
+BoxAndRest = ChildView × List ℕ
 
-first_is : (view other : ChildView) (rest others : List ℕ) → ◌≡◌ {A = Step} (view, rest) (other, others) → (view ≡ other) × (rest ≡ others)
-first_is view other rest others e = (ap (λ (p : Step). p.0) e, ap (λ (p : Step). p.1) e)
+first_is : (view other : ChildView) (rest others : List ℕ) → ◌≡◌ {A = BoxAndRest} (view, rest) (other, others) → (view ≡ other) × (rest ≡ others)
+first_is view other rest others e = (ap (λ (p : BoxAndRest). p.0) e, ap (λ (p : BoxAndRest). p.1) e)
 
 whole_alone : (b kind payload found : List ℕ) (start len : ℕ) (t : Bool) → ltb (length b) len ≡ t
-    → ◌≡◌ {A = Step} (cond t (NoBox, b) (Box found (drop start (take len b)), drop len b)) (Box kind payload, [])
+    → ◌≡◌ {A = BoxAndRest} (cond t (NoBox, b) (Box found (drop start (take len b)), drop len b)) (Box kind payload, [])
     → (found ≡ kind) × (drop start (take len b) ≡ payload) × (len ≡ length b)
 whole_alone b kind payload found start len true e is =
     let view = (first_is NoBox (Box kind payload) b [] is).0 in absurd cc
@@ -71,8 +71,8 @@ whole_alone b kind payload found start len false e is =
     let nothing = ap length parts.1 in
     (cc, cc, omega (arith, few, size, nothing))
 
-child_by : (x : ℕ) (b c kind payload : List ℕ) (h : Header) → header_of (x ∷ b) ≡ h → whole_box (x ∷ b) h ≡ (let step : Step = (Box kind payload, []) in step)
-    → child_of ((x ∷ b) ++ c) ≡ (let step : Step = (Box kind payload, c) in step)
+child_by : (x : ℕ) (b c kind payload : List ℕ) (h : Header) → header_of (x ∷ b) ≡ h → whole_box (x ∷ b) h ≡ (let both : BoxAndRest = (Box kind payload, []) in both)
+    → child_of ((x ∷ b) ++ c) ≡ (let both : BoxAndRest = (Box kind payload, c) in both)
 child_by x b c kind payload head.Short e is =
     let view = (first_is NoBox (Box kind payload) (x ∷ b) [] is).0 in absurd cc
 child_by x b c kind payload (head.Bad f) e is =
@@ -85,10 +85,10 @@ child_by x b c kind payload (head.Whole found start len) e is =
     let front : take len (all ++ c) ≡ take len all = take-append-le len all c (omega (arith, parts.2)) in
     let behind : drop len (all ++ c) ≡ c = drop_at all c len (sym parts.2) in
     child-whole (all ++ c) found start len longer there
-    ∙ ap (λ (k : List ℕ). let step : Step = (Box k (drop start (take len (all ++ c))), drop len (all ++ c)) in step) parts.0
-    ∙ ap (λ (xs : List ℕ). let step : Step = (Box kind (drop start xs), drop len (all ++ c)) in step) front
-    ∙ ap (λ (xs : List ℕ). let step : Step = (Box kind xs, drop len (all ++ c)) in step) parts.1
-    ∙ ap (λ (xs : List ℕ). let step : Step = (Box kind payload, xs) in step) behind
+    ∙ ap (λ (k : List ℕ). let both : BoxAndRest = (Box k (drop start (take len (all ++ c))), drop len (all ++ c)) in both) parts.0
+    ∙ ap (λ (xs : List ℕ). let both : BoxAndRest = (Box kind (drop start xs), drop len (all ++ c)) in both) front
+    ∙ ap (λ (xs : List ℕ). let both : BoxAndRest = (Box kind xs, drop len (all ++ c)) in both) parts.1
+    ∙ ap (λ (xs : List ℕ). let both : BoxAndRest = (Box kind payload, xs) in both) behind
 
 child_longer : (b c kind payload : List ℕ) → child_of b ≡ (Box kind payload, []) → child_of (b ++ c) ≡ (Box kind payload, c)
 unfolding child_of

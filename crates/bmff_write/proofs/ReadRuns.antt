@@ -10,7 +10,7 @@ use Rattle.bmff_write.specs.declared.boxes.Field.{Field}
 use Rattle.bmff_write.specs.declared.boxes.Field.TheVariants.{Full, U32, I32}
 use Rattle.bmff_write.specs.declared.traf_out.SampleOut.{SampleOut}
 use Rattle.bmff_write.specs.Boxes.{fields_bytes, field_bytes}
-use Rattle.bmff_write.specs.Fits.{SampleFits}
+use Rattle.bmff_write.specs.Fits.{IsFittingSample}
 use Rattle.bmff_write.specs.Fragment.{sample_flags, sample_bytes}
 use Rattle.bmff_write.proofs.BoxLaws.{fields_size}
 use Rattle.bmff_write.proofs.ReadFields.{u32_written, bits_written, signed_back, field_behind, flags_written}
@@ -73,7 +73,7 @@ abbrev pub sample_told : SampleOut → TrunSample
 sample_told s = record { duration = Some s.duration; size = Some (length s.payload); flags = Some (sample_flags s.sync); offset = Some s.offset }
 
 -- sample i of a run stands behind i others
-pub told_written : (at count i : ℕ) (front back : List ℕ) (s : SampleOut) → length front ≡ i * 16 → SampleFits s → length s.payload < 2 ^ 32
+pub told_written : (at count i : ℕ) (front back : List ℕ) (s : SampleOut) → length front ≡ i * 16 → IsFittingSample s → length s.payload < 2 ^ 32
     → trun_sample_of (fields_bytes (trun_fields at count) ++ (front ++ (sample_bytes s ++ back))) i ≡ Some (sample_told s)
 told_written at count i front back s size fits small =
     let head : List ℕ = fields_bytes (trun_fields at count) in

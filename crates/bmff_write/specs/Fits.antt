@@ -6,19 +6,19 @@ use Rattle.bmff_write.specs.declared.track_out.TrackOut.{TrackOut}
 use Rattle.bmff_write.specs.declared.traf_out.SampleOut.{SampleOut}
 use Rattle.bmff_write.specs.declared.traf_out.TrafOut.{TrafOut}
 
-pub record EditFits (edit : ℕ × ℤ) : Type 0 where
+pub record IsFittingEdit (edit : ℕ × ℤ) : Type 0 where
   pub duration : edit.0 < 2 ^ 32
   pub media_time : FitsSigned w32 edit.1
 
-pub record TrackFits (t : TrackOut) : Type 0 where
+pub record IsFittingTrack (t : TrackOut) : Type 0 where
   pub scale : t.scale < 2 ^ 32
   pub codec : length t.codec ≡ 4
-  pub edits : AllByRecursion EditFits t.edits
+  pub edits : AllByRecursion IsFittingEdit t.edits
 
-pub record SampleFits (s : SampleOut) : Type 0 where
+pub record IsFittingSample (s : SampleOut) : Type 0 where
   pub duration : s.duration < 2 ^ 32
   pub offset : FitsSigned w32 s.offset
 
-pub record TrafFits (t : TrafOut) : Type 0 where
+pub record IsFittingTraf (t : TrafOut) : Type 0 where
   pub decode : t.decode < 2 ^ 64
-  pub samples : AllByRecursion SampleFits t.samples
+  pub samples : AllByRecursion IsFittingSample t.samples

@@ -13,15 +13,15 @@ use Rattle.bmff_write.specs.declared.traf_out.SampleOut.{SampleOut}
 use Rattle.bmff_write.specs.declared.traf_out.TrafOut.{TrafOut}
 
 -- empty edits, of media time -1, and then one edit from a media time on
-abbrev pub EndsInMedia : List (ℕ × ℤ) → Type 0
-EndsInMedia [] = ⊥
-EndsInMedia (edit ∷ []) = pos 0 ≤ℤ edit.1
-EndsInMedia (edit ∷ next ∷ edits) = (edit.1 ≡ negsuc 0) × EndsInMedia (next ∷ edits)
+abbrev pub AreEmptyThenMedia : List (ℕ × ℤ) → Type 0
+AreEmptyThenMedia [] = ⊥
+AreEmptyThenMedia (edit ∷ []) = pos 0 ≤ℤ edit.1
+AreEmptyThenMedia (edit ∷ next ∷ edits) = (edit.1 ≡ negsuc 0) × AreEmptyThenMedia (next ∷ edits)
 
 -- the edits that a reader of initialization segments accepts
 abbrev pub AreEdits : List (ℕ × ℤ) → Type 0
 AreEdits [] = Unit {0}
-AreEdits (edit ∷ edits) = EndsInMedia (edit ∷ edits) × (length (edit ∷ edits) ≤ 1000)
+AreEdits (edit ∷ edits) = AreEmptyThenMedia (edit ∷ edits) × (length (edit ∷ edits) ≤ 1000)
 
 -- a track of video or audio
 pub record IsTrackOut (t : TrackOut) : Type 0 where

@@ -78,9 +78,9 @@ fn put_samples(out: &mut Vec<u8>, samples: &[SampleOut]) -> Result<(), AllocErro
 
 /// Appends the run of the samples whose bytes begin at the place `at` of the movie fragment.
 fn put_trun(out: &mut Vec<u8>, at: usize, samples: &[SampleOut]) -> Result<(), AllocError>
-    requires place { at < 2 ^ 31 }
-    requires count { length samples.now ≤ 2 ^ 19 }
-    requires payload { payload_len samples.now ≤ 2 ^ 26 }
+    requires small { at < 2 ^ 31 }
+    requires few { length samples.now ≤ 2 ^ 19 }
+    requires payload_small { payload_len samples.now ≤ 2 ^ 26 }
     ensures { OnOk result (out.new.items ≡ out.old.items ++ trun_bytes at samples.now) }
 {
     let count = samples.len();
@@ -104,9 +104,9 @@ fn traf_size(traf: &TrafOut) -> usize
 }
 
 fn put_traf(out: &mut Vec<u8>, at: usize, traf: &TrafOut) -> Result<(), AllocError>
-    requires place { at < 2 ^ 31 }
-    requires count { length traf.now.samples ≤ 2 ^ 19 }
-    requires payload { payload_len traf.now.samples ≤ 2 ^ 26 }
+    requires small { at < 2 ^ 31 }
+    requires few { length traf.now.samples ≤ 2 ^ 19 }
+    requires payload_small { payload_len traf.now.samples ≤ 2 ^ 26 }
     ensures { OnOk result (out.new.items ≡ out.old.items ++ traf_bytes at traf.now) }
 {
     put_header(out, traf_size(traf), b"traf")?;
@@ -129,9 +129,9 @@ fn samples_payload(samples: &[SampleOut]) -> usize
 
 /// Appends the track fragments, whose samples begin at the place `start` of the movie fragment.
 fn put_trafs(out: &mut Vec<u8>, start: usize, trafs: &[TrafOut]) -> Result<(), AllocError>
-    requires place { start ≤ 2 ^ 24 + 8 }
-    requires samples { sum_by (λ t. length t.samples) trafs.now ≤ 2 ^ 19 }
-    requires payload { sum_by (λ t. payload_len t.samples) trafs.now ≤ 2 ^ 26 }
+    requires small { start ≤ 2 ^ 24 + 8 }
+    requires few_samples { sum_by (λ t. length t.samples) trafs.now ≤ 2 ^ 19 }
+    requires payload_small { sum_by (λ t. payload_len t.samples) trafs.now ≤ 2 ^ 26 }
     ensures { OnOk result (out.new.items ≡ out.old.items ++ trafs_bytes start trafs.now) }
 {
     let mut at = start;
@@ -155,6 +155,7 @@ pub(crate) fn moof_size(trafs: &[TrafOut]) -> usize
     len
 }
 
+/// Appends the movie fragment box of these track fragments.
 pub(crate) fn put_moof(
     out: &mut Vec<u8>,
     sequence: u32,
@@ -200,6 +201,7 @@ fn put_all_payloads(out: &mut Vec<u8>, trafs: &[TrafOut]) -> Result<(), AllocErr
     Ok(())
 }
 
+/// Appends the media data box with the bytes of the samples of all track fragments.
 pub(crate) fn put_mdat(out: &mut Vec<u8>, trafs: &[TrafOut]) -> Result<(), AllocError>
     requires { sum_by (λ t. payload_len t.samples) trafs.now ≤ 2 ^ 26 }
     ensures { OnOk result (out.new.items ≡ out.old.items ++ mdat_bytes trafs.now) }

@@ -1,4 +1,4 @@
-ghost use Rattle.std.specs.Prelude.{◌≡◌, ◌++◌, ◌+◌, ◌*◌, ◌%◌, ◌<◌, ◌≤◌, [], ◌∷◌, IfOk, OnOk, replicate};
+ghost use Rattle.std.specs.Prelude.{◌≡◌, ◌++◌, ◌+◌, ◌*◌, ◌%◌, ◌<◌, ◌≤◌, IfOk, OnOk, replicate};
 ghost use Rattle.bmff_write.specs.Made.{made_track, made_sample, made_samples, made_traf, made_segment, made_bytes};
 
 use crate::movie::init;
@@ -19,8 +19,8 @@ fn payload(alloc: Global, len: usize, value: u8) -> Result<Bytes, OutOfMemory>
 /// Sample `i` of segment `j`.
 #[tactic(auto, unfolding(crate::specs::Made::made_sample))]
 fn sample(alloc: Global, j: u32, i: u32) -> Result<SampleOut, OutOfMemory>
-    requires segment { j < 10000 }
-    requires sample { i < 30 }
+    requires segment_in_range { j < 10000 }
+    requires sample_in_range { i < 30 }
     ensures { IfOk result (λ s. s ≡ made_sample j i) }
 {
     let len = 8 + (31 * j + 7 * i) % 25;
@@ -88,7 +88,7 @@ fn put_made_segment(alloc: Global, out: &mut Vec<u8>, j: u32) -> Result<(), OutO
 /// `8 + (31 * j + 7 * i) % 25` bytes of the value `(i + j) % 256`.
 #[tactic(auto, unfolding(crate::specs::Made::made_bytes))]
 pub fn make(alloc: Global, n: u32) -> Result<Bytes, OutOfMemory>
-    requires some { 1 ≤ n }
+    requires positive { 1 ≤ n }
     requires limit { n ≤ 10000 }
     ensures { IfOk result (λ bytes. bytes ≡ made_bytes n) }
 {

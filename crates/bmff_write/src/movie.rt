@@ -1,7 +1,7 @@
-ghost use Rattle.std.specs.Prelude.{◌≡◌, ◌++◌, ◌+◌, ◌*◌, ◌≤◌, ◌^◌, ◌-◌, OnOk, IfOk, length, map};
+ghost use Rattle.std.specs.Prelude.{◌≡◌, ◌++◌, ◌+◌, ◌*◌, ◌≤◌, ◌^◌, ◌-◌, OnOk, IfOk, length};
 ghost use Rattle.std.specs.List.{flat_map, AllByRecursion};
 ghost use Rattle.bmff_write.specs.Tracks.{IsTrackOut, AreTracksOut, AreSampleDescriptions, HasFewEdits, IsShort, AreWritable};
-ghost use Rattle.bmff_write.specs.Movie.{ftyp_bytes, greatest_number, mvhd_bytes, stsd_bytes, traks_bytes, trex_bytes, mvex_bytes, moov_bytes, init_bytes_with, init_bytes};
+ghost use Rattle.bmff_write.specs.Movie.{ftyp_bytes, greatest_number, mvhd_bytes, traks_bytes, trex_bytes, mvex_bytes, moov_bytes, init_bytes_with, init_bytes};
 
 use crate::boxes::{Field, put_box, put_header};
 use crate::sample_entry::sample_descriptions;
@@ -78,10 +78,10 @@ fn greatest(tracks: &[TrackOut]) -> u32
 
 /// How many bytes the track boxes have.
 fn traks_len(tracks: &[TrackOut], stsds: &[Bytes]) -> usize
-    requires count { length tracks.now ≤ 64 }
-    requires edits { AllByRecursion HasFewEdits tracks.now }
-    requires pairs { length stsds.now ≡ length tracks.now }
-    requires stsds { AllByRecursion IsShort stsds.now }
+    requires few { length tracks.now ≤ 64 }
+    requires few_edits { AllByRecursion HasFewEdits tracks.now }
+    requires paired { length stsds.now ≡ length tracks.now }
+    requires stsds_short { AllByRecursion IsShort stsds.now }
     ensures size { result ≡ length (traks_bytes tracks.now stsds.now) }
     ensures limit { result ≤ 2 ^ 23 }
 {
@@ -94,9 +94,9 @@ fn traks_len(tracks: &[TrackOut], stsds: &[Bytes]) -> usize
 
 /// Appends the track boxes.
 fn put_traks(out: &mut Vec<u8>, tracks: &[TrackOut], stsds: &[Bytes]) -> Result<(), AllocError>
-    requires edits { AllByRecursion HasFewEdits tracks.now }
-    requires pairs { length stsds.now ≡ length tracks.now }
-    requires stsds { AllByRecursion IsShort stsds.now }
+    requires few_edits { AllByRecursion HasFewEdits tracks.now }
+    requires paired { length stsds.now ≡ length tracks.now }
+    requires stsds_short { AllByRecursion IsShort stsds.now }
     ensures { OnOk result (out.new.items ≡ out.old.items ++ traks_bytes tracks.now stsds.now) }
 {
     for i in 0..tracks.len() {

@@ -102,7 +102,7 @@ fn put_stsd(out: &mut Vec<u8>, track: &TrackOut) -> Result<(), AllocError>
 #[tactic(auto, using(crate::proofs::MovieSizes::stsd_below))]
 fn sample_description(alloc: Global, track: &TrackOut) -> Result<Bytes, OutOfMemory>
     ensures value { IfOk result (λ b. b ≡ stsd_bytes track.now) }
-    ensures short { IfOk result IsShort }
+    ensures stsd_short { IfOk result IsShort }
 {
     let mut out = Vec::new(alloc);
     put_stsd(&mut out, track)?;
@@ -115,7 +115,7 @@ pub(crate) fn sample_descriptions(
     tracks: &[TrackOut],
 ) -> Result<Vec<Bytes>, OutOfMemory>
     ensures value { IfOk result (λ v. v.items ≡ map stsd_bytes tracks.now) }
-    ensures short { IfOk result (λ v. AllByRecursion IsShort v.items) }
+    ensures stsds_short { IfOk result (λ v. AllByRecursion IsShort v.items) }
 {
     let mut boxes = Vec::new(alloc);
     for track in tracks {

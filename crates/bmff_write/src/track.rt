@@ -304,8 +304,8 @@ fn put_mdia(out: &mut Vec<u8>, track: &TrackOut, stsd: &[u8]) -> Result<(), Allo
 /// How many bytes a track box has.
 #[tactic(auto, using(crate::proofs::MovieSizes::trak_size))]
 pub(crate) fn trak_len(track: &TrackOut, stsd: &[u8]) -> usize
-    requires edits { length track.now.edits ≤ 1000 }
-    requires stsd { length stsd.now ≤ 2 ^ 16 }
+    requires few_edits { length track.now.edits ≤ 1000 }
+    requires stsd_short { length stsd.now ≤ 2 ^ 16 }
     ensures size { result ≡ length (trak_bytes track.now stsd.now) }
     ensures limit { result ≤ 2 ^ 17 }
 {
@@ -314,8 +314,8 @@ pub(crate) fn trak_len(track: &TrackOut, stsd: &[u8]) -> usize
 
 /// Appends a track box.
 pub(crate) fn put_trak(out: &mut Vec<u8>, track: &TrackOut, stsd: &[u8]) -> Result<(), AllocError>
-    requires edits { length track.now.edits ≤ 1000 }
-    requires stsd { length stsd.now ≤ 2 ^ 16 }
+    requires few_edits { length track.now.edits ≤ 1000 }
+    requires stsd_short { length stsd.now ≤ 2 ^ 16 }
     ensures { OnOk result (out.new.items ≡ out.old.items ++ trak_bytes track.now stsd.now) }
 {
     put_header(out, trak_len(track, stsd), b"trak")?;

@@ -39,27 +39,28 @@ abbrev pub table_of : Files → Table
 table_of files = file_at files.names files.contents
 
 -- the state after a load with this answer
-abbrev pub after_load : LibraryState → Loaded → LibraryState
-after_load s LoadDone = record s { calls = next_count s.calls }
-after_load s NoFile = record s { calls = next_count s.calls }
-after_load s LoadFailed = record s { calls = next_count s.calls; faults = next_count s.faults }
-after_load s LoadOutOfMemory = record s { calls = next_count s.calls }
+abbrev pub library_after : LibraryState → Loaded → LibraryState
+library_after s LoadDone = record s { calls = next_count s.calls }
+library_after s NoFile = record s { calls = next_count s.calls }
+library_after s LoadFailed = record s { calls = next_count s.calls; faults = next_count s.faults }
+library_after s LoadOutOfMemory = record s { calls = next_count s.calls }
 
 -- how many bytes the put of this number appends, where it fails: the first pair of that number says it
-abbrev pub cut_at : List (ℕ × ℕ) → ℕ → Option ℕ
-cut_at [] call = None
-cut_at (pair ∷ failing) call = if pair.0 == call then Some pair.1 else cut_at failing call
+abbrev pub failed_len_at : List (ℕ × ℕ) → ℕ → Option ℕ
+failed_len_at [] call = None
+failed_len_at (pair ∷ failing) call =
+    if pair.0 == call then Some pair.1 else failed_len_at failing call
 
 -- the bytes that a put appends: all, or where it fails the first of them
-abbrev pub taken_of : Option ℕ → List ℕ → List ℕ
-taken_of None bytes = bytes
-taken_of (Some count) bytes = take count bytes
+abbrev pub appended_by : Option ℕ → List ℕ → List ℕ
+appended_by None bytes = bytes
+appended_by (Some count) bytes = take count bytes
 
 -- the state after a put with this answer
 abbrev pub after_put : SinkState → List ℕ → Put → SinkState
 after_put s bytes PutDone = record s { written = s.written ++ bytes; calls = next_count s.calls }
 after_put s bytes PutFailed = record s {
-  written = s.written ++ taken_of (cut_at s.failing (next_count s.calls)) bytes;
+  written = s.written ++ appended_by (failed_len_at s.failing (next_count s.calls)) bytes;
   calls = next_count s.calls;
   faults = next_count s.faults;
 }

@@ -24,19 +24,19 @@ AppendsFront bytes old new =
     (front : List ℕ) × (rest : List ℕ) × (bytes ≡ front ++ rest) × (new ≡ old ++ front)
 
 -- what the answer to a load says of the file in a told table, and of the buffer
-abbrev pub LoadTells : Option (List ℕ) → List ℕ → List ℕ → Loaded → Type 0
-LoadTells file old new LoadDone = IsSomeAnd file (λ bytes. new ≡ old ++ bytes)
-LoadTells file old new NoFile = file ≡ None
-LoadTells file old new LoadFailed = Unit {0}
-LoadTells file old new LoadOutOfMemory = Unit {0}
+abbrev pub IsLoadTold : Option (List ℕ) → List ℕ → List ℕ → Loaded → Type 0
+IsLoadTold file old new LoadDone = IsSomeAnd file (λ bytes. new ≡ old ++ bytes)
+IsLoadTold file old new NoFile = file ≡ None
+IsLoadTold file old new LoadFailed = Unit {0}
+IsLoadTold file old new LoadOutOfMemory = Unit {0}
 
 -- what the answer to a put says of the written bytes
-abbrev pub PutTells : List ℕ → List ℕ → List ℕ → Put → Type 0
-PutTells bytes old new PutDone = new ≡ old ++ bytes
-PutTells bytes old new PutFailed = AppendsFront bytes old new
-PutTells bytes old new PutOutOfMemory = AppendsFront bytes old new
+abbrev pub IsPutTold : List ℕ → List ℕ → List ℕ → Put → Type 0
+IsPutTold bytes old new PutDone = new ≡ old ++ bytes
+IsPutTold bytes old new PutFailed = AppendsFront bytes old new
+IsPutTold bytes old new PutOutOfMemory = AppendsFront bytes old new
 
 -- the same where the written bytes are told; a sink that tells them goes on telling them
-abbrev pub PutsOn : List ℕ → Option (List ℕ) → Option (List ℕ) → Put → Type 0
-PutsOn bytes None new answer = Unit {0}
-PutsOn bytes (Some old) new answer = IsSomeAnd new (λ now. PutTells bytes old now answer)
+abbrev pub IsPutToldIfKnown : List ℕ → Option (List ℕ) → Option (List ℕ) → Put → Type 0
+IsPutToldIfKnown bytes None new answer = Unit {0}
+IsPutToldIfKnown bytes (Some old) new answer = IsSomeAnd new (λ now. IsPutTold bytes old now answer)

@@ -15,9 +15,9 @@ abbrev pub IsFrontAppended : Option (List ℕ) → List ℕ → List ℕ → Typ
 IsFrontAppended left old new = IfSome left (λ bytes. AppendsFront bytes old new)
 
 -- a load is done where the file was read to its end; each other stop but want of memory is a failure
-abbrev pub loaded_of : Result (Unit {0}) ReadStop → Loaded
-loaded_of (Ok u) = LoadDone
-loaded_of (Err TooLong) = LoadFailed
-loaded_of (Err (Reader kind)) = LoadFailed
-loaded_of (Err StopOutOfMemory) = LoadOutOfMemory
-loaded_of (Err Endless) = LoadFailed
+abbrev pub answer_to_read : Result (Unit {0}) ReadStop → Loaded
+answer_to_read (Ok u) = LoadDone
+answer_to_read (Err TooLong) = LoadFailed
+answer_to_read (Err (Reader kind)) = LoadFailed
+answer_to_read (Err StopOutOfMemory) = LoadOutOfMemory
+answer_to_read (Err Endless) = LoadFailed

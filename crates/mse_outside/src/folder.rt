@@ -1,11 +1,10 @@
 //! The files of a folder.
 
-ghost use Rattle.std.specs.Prelude.{◌≡◌, ◌≢◌, ◌<◌, ◌≤◌, ◌+◌, ◌^◌, ◌↔◌, ◌++◌, ℕ, List, None, IfSome, OnOk, length, vec_len};
+ghost use Rattle.std.specs.Prelude.{◌≡◌, ◌≢◌, ◌<◌, ◌≤◌, ◌+◌, ◌^◌, ◌↔◌, ℕ, None, IfSome, OnOk, length, vec_len};
 ghost use Rattle.std.specs.IoError.{error_kind};
-ghost use Rattle.mse_outside.specs.Count.{next_count};
-ghost use Rattle.mse_outside.specs.Outside.{Appends, HasRisen};
+ghost use Rattle.mse_outside.specs.Outside.{Appends};
 ghost use Rattle.mse_outside.specs.Folder.{faults_after};
-ghost use Rattle.mse_outside.specs.Reading.{IsReadToEnd, IsFrontAppended, loaded_of};
+ghost use Rattle.mse_outside.specs.Reading.{IsReadToEnd, IsFrontAppended, answer_to_read};
 
 use crate::{Library, Loaded};
 use std::fs::{self, Files};
@@ -43,7 +42,7 @@ impl<R: Files + Drop> FolderLibrary<R> {
 /// What a load answers whose file was not opened.
 fn answer_for_error(error: &io::Error) -> Loaded
     ensures missing { (result ≡ Loaded.NoFile) ↔ (error_kind error.now ≡ ErrorKind.NotFound) }
-    ensures memory { (result ≡ Loaded.OutOfMemory)
+    ensures out_of_memory { (result ≡ Loaded.OutOfMemory)
         ↔ (error_kind error.now ≡ ErrorKind.OutOfMemory) }
     ensures never { result ≢ Loaded.Done }
 {
@@ -107,7 +106,7 @@ pub(crate) fn append_all<F: Read>(
 
 /// What a load answers whose file was opened.
 fn answer_for_read(outcome: &Result<(), ReadStop>) -> Loaded
-    ensures { result ≡ loaded_of outcome.now }
+    ensures { result ≡ answer_to_read outcome.now }
 {
     match outcome {
         Ok(()) => Loaded::Done,
@@ -135,7 +134,7 @@ impl<R: Files + Drop> Library for FolderLibrary<R> {
         ensures faults { self.new ≡ faults_after self.old result }
         ensures appends { Appends into.old.items into.new.items }
         ensures longest { vec_len into.new ≤ vec_len into.old + 2 ^ 30 }
-        ensures kept { result ≢ Loaded.Done → into.new.items ≡ into.old.items }
+        ensures unchanged { result ≢ Loaded.Done → into.new.items ≡ into.old.items }
     {
         let before = into.len();
         let answer = match fs::open(&self.rt, name) {

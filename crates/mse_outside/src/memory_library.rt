@@ -1,9 +1,9 @@
 //! Libraries in memory.
 
-ghost use Rattle.std.specs.Prelude.{◌≡◌, ◌≢◌, ◌≤◌, ◌++◌, ◌↔◌, ℕ, List, Option, Some, None, IfSome, IsSome, IsSomeAnd, AllPairs, Contains, map, vec_len, length, string_bytes, option_map};
+ghost use Rattle.std.specs.Prelude.{◌≡◌, ◌≢◌, ◌++◌, ◌↔◌, Option, Some, None, IsSome, IsSomeAnd, AllPairs, Contains, map, vec_len, length, string_bytes, option_map};
 ghost use Rattle.mse_outside.specs.Count.{next_count};
 ghost use Rattle.mse_outside.specs.Outside.{Appends};
-ghost use Rattle.mse_outside.specs.Memory.{Files, LibraryState, file_at, table_of, after_load};
+ghost use Rattle.mse_outside.specs.Memory.{Files, LibraryState, file_at, table_of, library_after};
 
 use crate::{Library, Loaded};
 use std::alloc::Global;
@@ -58,14 +58,14 @@ impl MemoryLibrary {
         contents: Vec<Vec<u8>>,
         failing: Vec<u64>,
     ) -> MemoryLibrary
-        requires same { vec_len names ≡ vec_len contents }
+        requires same_count { vec_len names ≡ vec_len contents }
         requires distinct { AllPairs (λ a b. a ≢ b) (map string_bytes names.items) }
         ensures files { result.files ≡ record {
           names = map string_bytes names.items;
           contents = map (λ bytes. bytes.items) contents.items;
         } }
         ensures failing { result.failing ≡ failing.items }
-        ensures fresh { (result.calls ≡ 0) × (result.faults ≡ 0) }
+        ensures counts_zero { (result.calls ≡ 0) × (result.faults ≡ 0) }
     {
         MemoryLibrary {
             names,
@@ -83,15 +83,15 @@ impl Library for MemoryLibrary {
     ghost faults = { λ library. library.faults };
 
     fn load(&mut self, name: &str, into: &mut Vec<u8>) -> Loaded
-        ensures state { self.new ≡ after_load self.old result }
+        ensures state { self.new ≡ library_after self.old result }
         ensures failed { (result ≡ Loaded.Failed)
             ↔ Contains self.old.failing (next_count self.old.calls) }
         ensures no_file { result ≡ Loaded.NoFile → table_of self.old.files name.now ≡ None }
         ensures done { result ≡ Loaded.Done →
             IsSomeAnd (table_of self.old.files name.now)
             (λ bytes. into.new.items ≡ into.old.items ++ bytes) }
-        ensures memory { result ≡ Loaded.OutOfMemory → IsSome (table_of self.old.files name.now) }
-        ensures kept { result ≢ Loaded.Done → into.new.items ≡ into.old.items }
+        ensures found { result ≡ Loaded.OutOfMemory → IsSome (table_of self.old.files name.now) }
+        ensures unchanged { result ≢ Loaded.Done → into.new.items ≡ into.old.items }
         ensures appends { Appends into.old.items into.new.items }
     {
         self.calls = self.calls.saturating_add(1);
@@ -130,7 +130,7 @@ impl Model for SureLibrary {
 impl SureLibrary {
     /// The files `contents`, at the same places as their `names`.
     pub fn new(_alloc: Global, names: Vec<String>, contents: Vec<Vec<u8>>) -> SureLibrary
-        requires same { vec_len names ≡ vec_len contents }
+        requires same_count { vec_len names ≡ vec_len contents }
         requires distinct { AllPairs (λ a b. a ≢ b) (map string_bytes names.items) }
         ensures { result ≡ record {
           names = map string_bytes names.items;
@@ -153,8 +153,8 @@ impl Library for SureLibrary {
         ensures done { result ≡ Loaded.Done →
             IsSomeAnd (table_of self.old name.now)
             (λ bytes. into.new.items ≡ into.old.items ++ bytes) }
-        ensures memory { result ≡ Loaded.OutOfMemory → IsSome (table_of self.old name.now) }
-        ensures kept { result ≢ Loaded.Done → into.new.items ≡ into.old.items }
+        ensures found { result ≡ Loaded.OutOfMemory → IsSome (table_of self.old name.now) }
+        ensures unchanged { result ≢ Loaded.Done → into.new.items ≡ into.old.items }
         ensures appends { Appends into.old.items into.new.items }
     {
         match find_file(&self.names, &self.contents, name) {

@@ -1,9 +1,9 @@
 //! Sinks in memory.
 
-ghost use Rattle.std.specs.Prelude.{◌≡◌, ◌≢◌, ◌≤◌, ◌++◌, ◌↔◌, [], ℕ, List, Option, Some, None, IsSome, take};
+ghost use Rattle.std.specs.Prelude.{◌≡◌, ◌≢◌, ◌++◌, [], ℕ, List, Option, Some, None, IsSome, take};
 ghost use Rattle.mse_outside.specs.Count.{next_count};
-ghost use Rattle.mse_outside.specs.Outside.{PutsOn};
-ghost use Rattle.mse_outside.specs.Memory.{SinkState, cut_at, after_put};
+ghost use Rattle.mse_outside.specs.Outside.{IsPutToldIfKnown};
+ghost use Rattle.mse_outside.specs.Memory.{SinkState, failed_len_at, after_put};
 
 use crate::{Put, Sink};
 use std::alloc::Global;
@@ -11,7 +11,7 @@ use std::marker::Model;
 
 /// How many bytes the put of this number appends, where it fails.
 fn find_cut(failing: &[(u64, u64)], call: u64) -> Option<u64>
-    ensures { result ≡ cut_at failing.now call }
+    ensures { result ≡ failed_len_at failing.now call }
 {
     for (number, count) in failing {
         if *number == call {
@@ -56,7 +56,7 @@ impl MemorySink {
     }
 
     /// The bytes that were appended so far.
-    pub fn written(&self) -> &[u8]
+    pub fn written_bytes(&self) -> &[u8]
         ensures { result.now ≡ self.now.written }
     {
         self.written.as_slice()
@@ -70,11 +70,12 @@ impl Sink for MemorySink {
 
     fn put(&mut self, bytes: &[u8]) -> Put
         ensures state { self.new ≡ after_put self.old bytes.now result }
-        ensures told { PutsOn bytes.now (Some self.old.written) (Some self.new.written) result }
+        ensures told { IsPutToldIfKnown bytes.now (Some self.old.written)
+            (Some self.new.written) result }
         ensures done { result ≡ Put.Done →
-            cut_at self.old.failing (next_count self.old.calls) ≡ None }
+            failed_len_at self.old.failing (next_count self.old.calls) ≡ None }
         ensures failed { result ≡ Put.Failed →
-            IsSome (cut_at self.old.failing (next_count self.old.calls)) }
+            IsSome (failed_len_at self.old.failing (next_count self.old.calls)) }
     {
         self.calls = self.calls.saturating_add(1);
         match find_cut(&self.failing, self.calls) {
@@ -119,7 +120,7 @@ impl SureSink {
     }
 
     /// The bytes that were appended so far.
-    pub fn written(&self) -> &[u8]
+    pub fn written_bytes(&self) -> &[u8]
         ensures { result.now ≡ self.now }
     {
         &self.written
@@ -134,7 +135,7 @@ impl Sink for SureSink {
     fn put(&mut self, bytes: &[u8]) -> Put
         ensures sure { result ≢ Put.Failed }
         ensures done { result ≡ Put.Done → self.new ≡ self.old ++ bytes.now }
-        ensures memory { result ≡ Put.OutOfMemory → self.new ≡ self.old }
+        ensures unchanged { result ≡ Put.OutOfMemory → self.new ≡ self.old }
     {
         match self.written.extend_from_slice(bytes) {
             Ok(()) => Put::Done,

@@ -57,7 +57,7 @@ impl<R: Print + Drop> Sink for StdoutSink<R> {
 
     fn put(&mut self, bytes: &[u8]) -> Put
         ensures faults { self.new ≡ faults_after_put self.old result }
-        ensures memory { result ≢ Put.OutOfMemory }
+        ensures enough_memory { result ≢ Put.OutOfMemory }
     {
         if write_whole(&self.rt, bytes) {
             Put::Done

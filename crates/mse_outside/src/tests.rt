@@ -1,6 +1,6 @@
 //! What no clause says: that calls succeed where there is memory, and what the real folder and standard output do.
 
-ghost use Rattle.std.specs.Prelude.{◌≡◌, ◌<◌, IfOk, vec_len, length};
+ghost use Rattle.std.specs.Prelude.{◌≡◌, ◌<◌, IfOk, vec_len};
 
 use crate::folder::{ReadStop, append_all};
 use crate::*;
@@ -52,10 +52,10 @@ fn puts_into_memory(rt: HostRuntime) -> Result<(), Fail> {
     assert_eq!(rt; sink.put(b"cd"), Put::Failed);
     assert_eq!(rt; sink.put(b"ef"), Put::Failed);
     assert_eq!(rt; sink.put(b"gh"), Put::Done);
-    assert_eq!(rt; sink.written(), b"abcefgh".as_slice());
+    assert_eq!(rt; sink.written_bytes(), b"abcefgh".as_slice());
     let mut sure = SureSink::new(alloc);
     assert_eq!(rt; sure.put(b"ab"), Put::Done);
-    assert_eq!(rt; sure.written(), b"ab".as_slice());
+    assert_eq!(rt; sure.written_bytes(), b"ab".as_slice());
     Ok(())
 }
 

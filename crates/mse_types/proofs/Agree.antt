@@ -15,7 +15,7 @@ use Rattle.mse_types.specs.declared.answer.Container.{Container}
 use Rattle.mse_types.specs.declared.answer.Container.TheVariants.{Mp4, Adts}
 use Rattle.mse_types.specs.declared.answer.TypeAnswer.TheVariants.{Supported}
 use Rattle.mse_types.specs.Names.{container_of}
-use Rattle.mse_types.specs.Texts.{is_space, is_quote, is_comma, ends_bare, without_leading_spaces, names_codec, names_codecs, after_text, quoted_list, bare_list, list_in, codecs_in, ends_well, answer_of, type_of}
+use Rattle.mse_types.specs.Texts.{is_space, is_quote, is_comma, is_bare_end, without_leading_spaces, is_codec, are_codecs, after_text, quoted_list, bare_list, list_in, codecs_in, is_type_end, type_answer, type_of}
 use Rattle.mse_types.specs.Grammar.{IsQuoted, IsBare, IsCodecs, IsType}
 
 -- a text of nine bytes or fewer
@@ -120,12 +120,12 @@ quote_by bs codecs true last e =
     not-false false e = cc
 quote_by bs codecs false last e = cc
 
-bare_by : (value codecs : List ℕ) (t : Bool) → list_any ends_bare value ≡ t → (if t then None else Some value) ≡ Some codecs → IsBare value codecs
+bare_by : (value codecs : List ℕ) (t : Bool) → list_any is_bare_end value ≡ t → (if t then None else Some value) ≡ Some codecs → IsBare value codecs
 bare_by value codecs true any e = cc
 bare_by value codecs false any e =
     let same : value ≡ codecs = cc in
-    let none : list_all (λ b. not (ends_bare b)) value ≡ true = none-passes ends_bare value ∙ ap not any in
-    (same, subst (λ (c : List ℕ). AllPass (λ b. not (ends_bare b)) c) same (AllPass-from_list_all (λ b. not (ends_bare b)) value none))
+    let none : list_all (λ b. not (is_bare_end b)) value ≡ true = none-passes is_bare_end value ∙ ap not any in
+    (same, subst (λ (c : List ℕ). AllPass (λ b. not (is_bare_end b)) c) same (AllPass-from_list_all (λ b. not (is_bare_end b)) value none))
 
 list_by : (b : ℕ) (bs codecs : List ℕ) (t : Bool) → (b == 34) ≡ t → (if t then quoted_list bs else bare_list (b ∷ bs)) ≡ Some codecs → IsQuoted (b ∷ bs) codecs ⊎ IsBare (b ∷ bs) codecs
 list_by b bs codecs true quote e =
@@ -144,7 +144,7 @@ list_in-quoted codecs h =
     let last : (length codecs + 1 == length (codecs ++ 34 ∷ [])) ≡ true = (Decides-eqb (length codecs + 1) (length (codecs ++ 34 ∷ []))).1 (sym (length-append codecs (34 ∷ []))) in
     rw (len, last, take-append_seam codecs (34 ∷ []))
 
-bare_head : (b : ℕ) → not (ends_bare b) ≡ true → (b == 34) ≡ false
+bare_head : (b : ℕ) → not (is_bare_end b) ≡ true → (b == 34) ≡ false
 bare_head b e = by (b == 32) (b == 34) (b == 44) e
   where
     by : (x y z : Bool) → not (x || y || z) ≡ true → y ≡ false
@@ -152,13 +152,13 @@ bare_head b e = by (b == 32) (b == 34) (b == 44) e
     by true true z e = cc
     by false true z e = cc
 
-list_in-bare : (value : List ℕ) → AllPass (λ b. not (ends_bare b)) value → list_in value ≡ Some value
+list_in-bare : (value : List ℕ) → AllPass (λ b. not (is_bare_end b)) value → list_in value ≡ Some value
 list_in-bare [] h = refl
 list_in-bare (b ∷ bs) h =
-    let all : list_all (λ b. not (ends_bare b)) (b ∷ bs) ≡ true = list_all-from_AllPass (λ b. not (ends_bare b)) (b ∷ bs) h in
-    let head = bare_head b (both_true (not (ends_bare b)) (list_all (λ b. not (ends_bare b)) bs) all).0 in
-    let none : list_any ends_bare (b ∷ bs) ≡ false = not-true (list_any ends_bare (b ∷ bs)) (sym (none-passes ends_bare (b ∷ bs)) ∙ all) in
-    bare_to (b == 34) (list_any ends_bare (b ∷ bs)) (quoted_list bs) (b ∷ bs) head none
+    let all : list_all (λ b. not (is_bare_end b)) (b ∷ bs) ≡ true = list_all-from_AllPass (λ b. not (is_bare_end b)) (b ∷ bs) h in
+    let head = bare_head b (both_true (not (is_bare_end b)) (list_all (λ b. not (is_bare_end b)) bs) all).0 in
+    let none : list_any is_bare_end (b ∷ bs) ≡ false = not-true (list_any is_bare_end (b ∷ bs)) (sym (none-passes is_bare_end (b ∷ bs)) ∙ all) in
+    bare_to (b == 34) (list_any is_bare_end (b ∷ bs)) (quoted_list bs) (b ∷ bs) head none
   where
     bare_to : (x y : Bool) (q : Option (List ℕ)) (v : List ℕ) → x ≡ false → y ≡ false → (if x then q else (if y then None else Some v)) ≡ Some v
     bare_to false false q v e h = refl
@@ -174,7 +174,7 @@ list_in-to value codecs (inl q) = subst (λ (v : List ℕ). list_in v ≡ Some c
 list_in-to value codecs (inr b) = subst (λ (v : List ℕ). list_in v ≡ Some codecs) (sym b.0) (list_in-bare codecs b.1)
 
 -- the parameter
-named : (rest : List ℕ) (o : Option (List ℕ)) → codecs_in rest ≡ o → option_map_or names_codecs o false ≡ true → (codecs : List ℕ) × (codecs_in rest ≡ Some codecs) × (names_codecs codecs ≡ true)
+named : (rest : List ℕ) (o : Option (List ℕ)) → codecs_in rest ≡ o → option_map_or are_codecs o false ≡ true → (codecs : List ℕ) × (codecs_in rest ≡ Some codecs) × (are_codecs codecs ≡ true)
 named rest (Some codecs) e h = (codecs, e, h)
 named rest None e h = cc
 
@@ -190,7 +190,7 @@ parameter_from rest codecs (Some parameter) e h =
     let v = value_from parameter codecs _ refl h in (parameter, v.0, after_text-from (codes ";") _ parameter e, v.1, v.2)
 parameter_from rest codecs None e h = cc
 
-codecs-from : (rest : List ℕ) → option_map_or names_codecs (codecs_in rest) false ≡ true → IsCodecs rest
+codecs-from : (rest : List ℕ) → option_map_or are_codecs (codecs_in rest) false ≡ true → IsCodecs rest
 codecs-from rest h =
     let list = named rest _ refl h in
     let parts = parameter_from rest list.0 _ refl list.1 in
@@ -202,27 +202,27 @@ codecs-from rest h =
       written = spaces_and_rest rest ∙ (ap (λ xs. replicate (prefix_len is_space rest) 32 ++ xs) parts.2
           ∙ ap (λ xs. replicate (prefix_len is_space rest) 32 ++ (codes ";" ++ xs)) (spaces_and_rest parts.0 ∙ ap (λ xs. replicate (prefix_len is_space parts.0) 32 ++ xs) parts.3));
       holds = list_in-from parts.1 list.0 parts.4;
-      known = AllPass-from_list_all names_codec (slice_split is_comma list.0) list.2;
+      known = AllPass-from_list_all is_codec (slice_split is_comma list.0) list.2;
     }
 
-codecs-to : (rest : List ℕ) → IsCodecs rest → option_map_or names_codecs (codecs_in rest) false ≡ true
+codecs-to : (rest : List ℕ) → IsCodecs rest → option_map_or are_codecs (codecs_in rest) false ≡ true
 codecs-to rest h =
     let inner : without_leading_spaces (replicate h.after 32 ++ (codes "codecs=" ++ h.value)) ≡ codes "codecs=" ++ h.value = rest-after-spaces h.after (codes "codecs=" ++ h.value) refl in
     let outer : without_leading_spaces rest ≡ codes ";" ++ (replicate h.after 32 ++ (codes "codecs=" ++ h.value)) = ap without_leading_spaces h.written ∙ rest-after-spaces h.before (codes ";" ++ (replicate h.after 32 ++ (codes "codecs=" ++ h.value))) refl in
     let list : list_in h.value ≡ Some h.codecs = list_in-to h.value h.codecs h.holds in
-    rw (outer, inner, list) (list_all-from_AllPass names_codec (slice_split is_comma h.codecs) h.known)
+    rw (outer, inner, list) (list_all-from_AllPass is_codec (slice_split is_comma h.codecs) h.known)
 
-ends-from : (rest : List ℕ) → ends_well rest ≡ true → (rest ≡ []) ⊎ IsCodecs rest
+ends-from : (rest : List ℕ) → is_type_end rest ≡ true → (rest ≡ []) ⊎ IsCodecs rest
 ends-from [] h = inl refl
 ends-from (b ∷ bs) h = inr (codecs-from (b ∷ bs) h)
 
-ends-to : (rest : List ℕ) → (rest ≡ []) ⊎ IsCodecs rest → ends_well rest ≡ true
+ends-to : (rest : List ℕ) → (rest ≡ []) ⊎ IsCodecs rest → is_type_end rest ≡ true
 ends-to [] h = refl
 ends-to (b ∷ bs) (inl e) = cc
 ends-to (b ∷ bs) (inr h) = codecs-to (b ∷ bs) h
 
 -- the whole text
-answer_by : (o : Option Container) (t : Bool) (k : Container) → answer_of o t ≡ Supported k → (o ≡ Some k) × (t ≡ true)
+answer_by : (o : Option Container) (t : Bool) (k : Container) → type_answer o t ≡ Supported k → (o ≡ Some k) × (t ≡ true)
 answer_by None t k e = cc
 answer_by (Some x) true k e = (cc, refl)
 answer_by (Some x) false k e = cc
@@ -230,10 +230,10 @@ answer_by (Some x) false k e = cc
 pub type_of-from : (text : List ℕ) (k : Container) → type_of text ≡ Supported k → IsType text k
 type_of-from [] k e = cc
 type_of-from (b ∷ bs) k e =
-    let parts = answer_by (container_of (str_to_ascii_lowercase (take 9 (b ∷ bs)))) (ends_well (drop 9 (b ∷ bs))) k e in
+    let parts = answer_by (container_of (str_to_ascii_lowercase (take 9 (b ∷ bs)))) (is_type_end (drop 9 (b ∷ bs))) k e in
     record { essence = take 9 (b ∷ bs); parameter = drop 9 (b ∷ bs); written = sym (take-append-drop 9 (b ∷ bs)); media = parts.0; ends = ends-from (drop 9 (b ∷ bs)) parts.1 }
 
-pub supported : (text : List ℕ) (k : Container) → container_of (str_to_ascii_lowercase (take 9 text)) ≡ Some k → ends_well (drop 9 text) ≡ true → type_of text ≡ Supported k
+pub supported : (text : List ℕ) (k : Container) → container_of (str_to_ascii_lowercase (take 9 text)) ≡ Some k → is_type_end (drop 9 text) ≡ true → type_of text ≡ Supported k
 supported [] k e h = cc
 supported (b ∷ bs) k e h = rw (e, h)
 
@@ -242,4 +242,4 @@ type_of-to text k h =
     let len : length h.essence ≡ 9 = sym (length-map h.essence to_ascii_lowercase) ∙ nine (str_to_ascii_lowercase h.essence) k h.media in
     let front : take 9 text ≡ h.essence = ap (take 9) h.written ∙ (ap (λ n. take n (h.essence ++ h.parameter)) (sym len) ∙ take-append_seam h.essence h.parameter) in
     let back : drop 9 text ≡ h.parameter = ap (drop 9) h.written ∙ (ap (λ n. drop n (h.essence ++ h.parameter)) (sym len) ∙ drop-append_seam h.essence h.parameter) in
-    supported text k (ap (λ e. container_of (str_to_ascii_lowercase e)) front ∙ h.media) (ap ends_well back ∙ ends-to h.parameter h.ends)
+    supported text k (ap (λ e. container_of (str_to_ascii_lowercase e)) front ∙ h.media) (ap is_type_end back ∙ ends-to h.parameter h.ends)

@@ -6,14 +6,14 @@ use Rattle.std.specs.Str.{str_to_ascii_lowercase}
 use lib.Chars.{codes}
 use Rattle.mse_types.specs.declared.answer.Container.{Container}
 use Rattle.mse_types.specs.Names.{container_of}
-use Rattle.mse_types.specs.Texts.{is_quote, is_comma, ends_bare, names_codec}
+use Rattle.mse_types.specs.Texts.{is_quote, is_comma, is_bare_end, is_codec}
 
 -- a value is a list in double quotes without one inside, or a list with no space, double quote or comma
 abbrev pub IsQuoted : List ℕ → List ℕ → Type 0
 IsQuoted value codecs = (value ≡ 34 ∷ (codecs ++ 34 ∷ [])) × AllPass (λ b. not (is_quote b)) codecs
 
 abbrev pub IsBare : List ℕ → List ℕ → Type 0
-IsBare value codecs = (value ≡ codecs) × AllPass (λ b. not (ends_bare b)) codecs
+IsBare value codecs = (value ≡ codecs) × AllPass (λ b. not (is_bare_end b)) codecs
 
 -- the parameter `codecs`: spaces, a semicolon, spaces, the exact name, and the value, which ends the text
 pub record IsCodecs (parameter : List ℕ) : Type 0 where
@@ -24,7 +24,7 @@ pub record IsCodecs (parameter : List ℕ) : Type 0 where
   pub written : parameter
       ≡ replicate before 32 ++ (codes ";" ++ (replicate after 32 ++ (codes "codecs=" ++ value)))
   pub holds : IsQuoted value codecs ⊎ IsBare value codecs
-  pub known : AllPass names_codec (slice_split is_comma codecs)
+  pub known : AllPass is_codec (slice_split is_comma codecs)
 
 -- a supported type text
 pub record IsType (text : List ℕ) (container : Container) : Type 0 where

@@ -29,14 +29,14 @@ abbrev pub without_trailing_spaces : List ℕ → List ℕ
 without_trailing_spaces bs = take (length bs - suffix_len is_space bs) bs
 
 -- a part of the list of codecs names a codec: up to its first full stop, without the spaces round it
-abbrev pub names_codec : List ℕ → Bool
-names_codec part =
+abbrev pub is_codec : List ℕ → Bool
+is_codec part =
     is_among codec_names
     (before_first is_full_stop (without_trailing_spaces (without_leading_spaces part)))
 
 -- each part between the commas does
-abbrev pub names_codecs : List ℕ → Bool
-names_codecs codecs = list_all names_codec (slice_split is_comma codecs)
+abbrev pub are_codecs : List ℕ → Bool
+are_codecs codecs = list_all is_codec (slice_split is_comma codecs)
 
 -- what stands after a text, where the bytes begin with it
 abbrev pub after_text : List ℕ → List ℕ → Option (List ℕ)
@@ -49,11 +49,11 @@ quoted_list bs =
     if position_or_len is_quote bs + 1 == length bs then Some (before_first is_quote bs) else None
 
 -- a value without quotes
-abbrev pub ends_bare : ℕ → Bool
-ends_bare b = is_space b || is_quote b || is_comma b
+abbrev pub is_bare_end : ℕ → Bool
+is_bare_end b = is_space b || is_quote b || is_comma b
 
 abbrev pub bare_list : List ℕ → Option (List ℕ)
-bare_list value = if list_any ends_bare value then None else Some value
+bare_list value = if list_any is_bare_end value then None else Some value
 
 -- the list of codecs that a value holds
 abbrev pub list_in : List ℕ → Option (List ℕ)
@@ -69,17 +69,17 @@ codecs_in rest =
     (after_text (codes ";") (without_leading_spaces rest))
 
 -- nothing follows the media type, or a list of known codecs does
-abbrev pub ends_well : List ℕ → Bool
-ends_well [] = true
-ends_well (b ∷ bs) = option_map_or names_codecs (codecs_in (b ∷ bs)) false
+abbrev pub is_type_end : List ℕ → Bool
+is_type_end [] = true
+is_type_end (b ∷ bs) = option_map_or are_codecs (codecs_in (b ∷ bs)) false
 
-abbrev pub answer_of : Option Container → Bool → TypeAnswer
-answer_of None well = Unsupported
-answer_of (Some container) well = if well then Supported container else Unsupported
+abbrev pub type_answer : Option Container → Bool → TypeAnswer
+type_answer None well = Unsupported
+type_answer (Some container) well = if well then Supported container else Unsupported
 
 -- each media type has nine letters
 abbrev pub type_of : List ℕ → TypeAnswer
 type_of [] = Empty
 type_of (b ∷ bs) =
-    answer_of (container_of (str_to_ascii_lowercase (take 9 (b ∷ bs))))
-    (ends_well (drop 9 (b ∷ bs)))
+    type_answer (container_of (str_to_ascii_lowercase (take 9 (b ∷ bs))))
+    (is_type_end (drop 9 (b ∷ bs)))

@@ -1,7 +1,7 @@
 ghost use Rattle.std.specs.Prelude.{◌≡◌, ◌↔◌, ◌≤◌, ◌==◌, [], length};
 ghost use Rattle.std.specs.List.{position_or_len};
 ghost use Rattle.std.specs.Option.{option_copied};
-ghost use Rattle.mse_types.specs.Texts.{without_leading_spaces, without_trailing_spaces, names_codec, names_codecs, quoted_list, bare_list, list_in, codecs_in, ends_well, answer_of, type_of};
+ghost use Rattle.mse_types.specs.Texts.{without_leading_spaces, without_trailing_spaces, is_codec, are_codecs, quoted_list, bare_list, list_in, codecs_in, is_type_end, type_of};
 ghost use Rattle.mse_types.specs.Grammar.{IsType};
 
 use crate::answer::{Container, TypeAnswer};
@@ -35,7 +35,7 @@ fn read_bytes(text: &[u8]) -> TypeAnswer
 
 /// Whether the text may end like this after the media type.
 fn is_end(rest: &[u8]) -> bool
-    ensures { result ≡ ends_well rest.now }
+    ensures { result ≡ is_type_end rest.now }
 {
     if rest.is_empty() {
         return true;
@@ -87,13 +87,13 @@ fn bare_value(value: &[u8]) -> Option<&[u8]>
 }
 
 fn are_codecs(list: &[u8]) -> bool
-    ensures { result ≡ names_codecs list.now }
+    ensures { result ≡ are_codecs list.now }
 {
     list.split(|b| *b == b',').all(|part| is_codec(part))
 }
 
 fn is_codec(part: &[u8]) -> bool
-    ensures { result ≡ names_codec part.now }
+    ensures { result ≡ is_codec part.now }
 {
     let codec = trim_end(trim_start(part));
     is_codec_name(&codec[..len_before(codec, b'.')])

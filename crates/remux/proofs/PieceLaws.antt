@@ -24,7 +24,7 @@ use Rattle.sample_tables.specs.declared.sample.Sample.{Sample}
 use Rattle.sample_tables.specs.declared.media_track.MediaTrack.{MediaTrack}
 use Rattle.sample_tables.specs.Facts.{IsDescription, IsSampleIn, IsFileTrack, AreFileTracks}
 use Rattle.remux.specs.Runs.{SampleRun, IsShortRun, bytes_of}
-use Rattle.remux.specs.Remuxed.{edits_of, track_out, sample_out, traf_out}
+use Rattle.remux.specs.Pieces.{edits_of, track_out, sample_out, traf_out}
 
 length_map : {X Y : Type 0} (f : X → Y) (xs : List X) → length (map f xs) ≡ length xs
 length_map f [] = refl

@@ -9,7 +9,7 @@ use Rattle.sample_tables.specs.declared.media_track.MediaTrack.{MediaTrack}
 use Rattle.sample_tables.specs.Facts.{IsSampleIn, IsFileTrack}
 use Rattle.remux.specs.declared.runs.RunOfTrack.{RunOfTrack}
 use Rattle.remux.proofs.SortLaws.{put, sorted}
-use Rattle.remux.specs.Runs.{begins_run, bytes_of, IsShortRun, is_run_full, ends_before, runs_from, runs_of, SampleRun, run_value, run_view, track_runs, run_put, in_order, runs_in_order}
+use Rattle.remux.specs.Runs.{is_run_start, bytes_of, IsShortRun, is_run_full, is_over_before, runs_from, runs_of, SampleRun, run_value, sample_run, track_runs, run_put, in_order, runs_in_order}
 
 one_sample : (len : ℕ) (s : Sample) → IsSampleIn len s → IsShortRun len (s ∷ [])
 one_sample len s h = let short = h.short in record { samples = (h, tt); few = omega arith; short = omega (arith, sum_by-cons (λ (q : Sample). q.size) s []) }
@@ -25,9 +25,9 @@ pub neither : (a b : Bool) → (a || b) ≡ false → (a ≡ false) × (b ≡ fa
 neither true b e = absurd (cc)
 neither false b e = (refl, e)
 
-one_more : (len position : ℕ) (kind : Kind) (run : List Sample) (s : Sample) → IsShortRun len run → IsSampleIn len s → ends_before kind position run s ≡ false → IsShortRun len (run ++ s ∷ [])
+one_more : (len position : ℕ) (kind : Kind) (run : List Sample) (s : Sample) → IsShortRun len run → IsSampleIn len s → is_over_before kind position run s ≡ false → IsShortRun len (run ++ s ∷ [])
 one_more len position kind run s h k e =
-    let room = (neither (begins_run kind position s) (is_run_full run s) e).1 in
+    let room = (neither (is_run_start kind position s) (is_run_full run s) e).1 in
     let parts = neither (leb (2 ^ 16) (length run)) (ltb (2 ^ 26) (bytes_of run + s.size)) room in
     let few : length run < 2 ^ 16 = grind (arith, nat_tests, parts.0) in
     let short : bytes_of run + s.size ≤ 2 ^ 26 = grind (arith, nat_tests, parts.1) in
@@ -40,11 +40,11 @@ one_more len position kind run s h k e =
 short_from : (len position : ℕ) (kind : Kind) (run ss : List Sample) → IsShortRun len run → AllByRecursion (IsSampleIn len) ss → AllByRecursion (IsShortRun len) (runs_from kind position run ss)
 short_from len position kind run [] h k = (h, tt)
 short_from len position kind run (s ∷ ss) h k =
-    by (ends_before kind position run s) refl
+    by (is_over_before kind position run s) refl
     (short_from len (position + 1) kind (s ∷ []) ss (one_sample len s k.0) k.1)
     (λ q. short_from len (position + 1) kind (run ++ s ∷ []) ss q k.1)
   where
-    by : (t : Bool) → ends_before kind position run s ≡ t → AllByRecursion (IsShortRun len) (runs_from kind (position + 1) (s ∷ []) ss) → (IsShortRun len (run ++ s ∷ []) → AllByRecursion (IsShortRun len) (runs_from kind (position + 1) (run ++ s ∷ []) ss))
+    by : (t : Bool) → is_over_before kind position run s ≡ t → AllByRecursion (IsShortRun len) (runs_from kind (position + 1) (s ∷ []) ss) → (IsShortRun len (run ++ s ∷ []) → AllByRecursion (IsShortRun len) (runs_from kind (position + 1) (run ++ s ∷ []) ss))
         → AllByRecursion (IsShortRun len) (cond t (run ∷ runs_from kind (position + 1) (s ∷ []) ss) (runs_from kind (position + 1) (run ++ s ∷ []) ss))
     by true e a b = (h, a)
     by false e a b = b (one_more len position kind run s h k.0 e)
@@ -57,7 +57,7 @@ short_runs len kind (s ∷ ss) h = short_from len 1 kind (s ∷ []) ss (one_samp
 abbrev pub IsShortView : ℕ → SampleRun → Type 0
 IsShortView len run = IsShortRun len run.samples
 
-short_views : (len : ℕ) (track : MediaTrack) (runs : List (List Sample)) → AllByRecursion (IsShortRun len) runs → AllByRecursion (IsShortView len) (map (run_view track) runs)
+short_views : (len : ℕ) (track : MediaTrack) (runs : List (List Sample)) → AllByRecursion (IsShortRun len) runs → AllByRecursion (IsShortView len) (map (sample_run track) runs)
 short_views len track [] h = tt
 short_views len track (r ∷ rs) h = (h.0, short_views len track rs h.1)
 
@@ -92,7 +92,7 @@ ordered_short len tracks h = order_short (IsShortView len) (flat_map track_runs 
 
 length_from : (kind : Kind) (position : ℕ) (run ss : List Sample) → length (runs_from kind position run ss) ≤ 1 + length ss
 length_from kind position run [] = omega arith
-length_from kind position run (s ∷ ss) = by (ends_before kind position run s) (length_from kind (position + 1) (s ∷ []) ss) (length_from kind (position + 1) (run ++ s ∷ []) ss)
+length_from kind position run (s ∷ ss) = by (is_over_before kind position run s) (length_from kind (position + 1) (s ∷ []) ss) (length_from kind (position + 1) (run ++ s ∷ []) ss)
   where
     by : (t : Bool) → length (runs_from kind (position + 1) (s ∷ []) ss) ≤ 1 + length ss → length (runs_from kind (position + 1) (run ++ s ∷ []) ss) ≤ 1 + length ss
         → length (cond t (run ∷ runs_from kind (position + 1) (s ∷ []) ss) (runs_from kind (position + 1) (run ++ s ∷ []) ss)) ≤ 1 + length (s ∷ ss)
@@ -112,7 +112,7 @@ length_tracks [] = omega arith
 length_tracks (t ∷ ts) =
     let rest = length_tracks ts in
     let first = length_runs t.info.kind t.samples in
-    omega (arith, rest, first, length-append (track_runs t) (flat_map track_runs ts), length_map (run_view t) (runs_of t.info.kind t.samples), sum_by-cons (λ (q : MediaTrack). length q.samples) t ts)
+    omega (arith, rest, first, length-append (track_runs t) (flat_map track_runs ts), length_map (sample_run t) (runs_of t.info.kind t.samples), sum_by-cons (λ (q : MediaTrack). length q.samples) t ts)
 
 length_put : (r : SampleRun) (rs : List SampleRun) → length (run_put r rs) ≡ suc (length rs)
 length_put r [] = refl

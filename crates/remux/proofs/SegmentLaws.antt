@@ -7,7 +7,7 @@ use Rattle.sample_tables.specs.declared.media_track.MediaTrack.{MediaTrack}
 use Rattle.sample_tables.specs.Facts.{IsFileTrack, AreFileTracks}
 use Rattle.remux.specs.declared.runs.RunOfTrack.{RunOfTrack}
 use Rattle.remux.specs.Runs.{IsShortIn, run_value, runs_in_order}
-use Rattle.remux.specs.Remuxed.{traf_out, segments_from}
+use Rattle.remux.specs.Pieces.{traf_out, segments_from}
 use Rattle.remux.proofs.RunLaws.{IsShortView, ordered_short, length_ordered}
 
 length_map : {X Y : Type 0} (f : X → Y) (xs : List X) → length (map f xs) ≡ length xs

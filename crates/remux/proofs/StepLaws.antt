@@ -7,7 +7,7 @@ use Rattle.mse_base.specs.declared.track.Kind.{Kind}
 use Rattle.sample_tables.specs.declared.sample.Sample.{Sample}
 use Rattle.sample_tables.specs.declared.media_track.MediaTrack.{MediaTrack}
 use Rattle.remux.specs.declared.runs.RunOfTrack.{RunOfTrack}
-use Rattle.remux.specs.Runs.{begins_run, bytes_of, is_run_full, ends_before, runs_from, SampleRun, run_value, run_view}
+use Rattle.remux.specs.Runs.{is_run_start, bytes_of, is_run_full, is_over_before, runs_from, SampleRun, run_value, sample_run}
 use Rattle.remux.proofs.RunLaws.{neither}
 
 -- the next element of a part of a list
@@ -22,18 +22,18 @@ pub range_one : {X : Type 0} (xs : List X) (b : ℕ) (x : X) → b < length xs �
 range_one xs b x k e = let none : b - b ≡ 0 = omega arith in range_push xs b b x (omega arith) k e ∙ ap (λ n. take n (drop b xs) ++ x ∷ []) none
 
 -- a run that goes on
-pub goes_on : (track : MediaTrack) (kind : Kind) (i : ℕ) (run ss : List Sample) (s : Sample) (before all : List SampleRun) → ends_before kind i run s ≡ false
-    → before ++ map (run_view track) (runs_from kind i run (s ∷ ss)) ≡ all → before ++ map (run_view track) (runs_from kind (i + 1) (run ++ s ∷ []) ss) ≡ all
+pub goes_on : (track : MediaTrack) (kind : Kind) (i : ℕ) (run ss : List Sample) (s : Sample) (before all : List SampleRun) → is_over_before kind i run s ≡ false
+    → before ++ map (sample_run track) (runs_from kind i run (s ∷ ss)) ≡ all → before ++ map (sample_run track) (runs_from kind (i + 1) (run ++ s ∷ []) ss) ≡ all
 goes_on track kind i run ss s before all e h =
-    sym (ap (λ t. before ++ map (run_view track) (cond t (run ∷ runs_from kind (i + 1) (s ∷ []) ss) (runs_from kind (i + 1) (run ++ s ∷ []) ss))) e) ∙ h
+    sym (ap (λ t. before ++ map (sample_run track) (cond t (run ∷ runs_from kind (i + 1) (s ∷ []) ss) (runs_from kind (i + 1) (run ++ s ∷ []) ss))) e) ∙ h
 
 -- a run that ends
-pub ends : (track : MediaTrack) (kind : Kind) (i : ℕ) (run ss : List Sample) (s : Sample) (before next all : List SampleRun) → ends_before kind i run s ≡ true
-    → next ≡ before ++ run_view track run ∷ [] → before ++ map (run_view track) (runs_from kind i run (s ∷ ss)) ≡ all → next ++ map (run_view track) (runs_from kind (i + 1) (s ∷ []) ss) ≡ all
+pub ends : (track : MediaTrack) (kind : Kind) (i : ℕ) (run ss : List Sample) (s : Sample) (before next all : List SampleRun) → is_over_before kind i run s ≡ true
+    → next ≡ before ++ sample_run track run ∷ [] → before ++ map (sample_run track) (runs_from kind i run (s ∷ ss)) ≡ all → next ++ map (sample_run track) (runs_from kind (i + 1) (s ∷ []) ss) ≡ all
 ends track kind i run ss s before next all e n h =
-    ap (λ xs. xs ++ map (run_view track) (runs_from kind (i + 1) (s ∷ []) ss)) n
-    ∙ (append_assoc before (run_view track run ∷ []) (map (run_view track) (runs_from kind (i + 1) (s ∷ []) ss))
-    ∙ (sym (ap (λ t. before ++ map (run_view track) (cond t (run ∷ runs_from kind (i + 1) (s ∷ []) ss) (runs_from kind (i + 1) (run ++ s ∷ []) ss))) e) ∙ h))
+    ap (λ xs. xs ++ map (sample_run track) (runs_from kind (i + 1) (s ∷ []) ss)) n
+    ∙ (append_assoc before (sample_run track run ∷ []) (map (sample_run track) (runs_from kind (i + 1) (s ∷ []) ss))
+    ∙ (sym (ap (λ t. before ++ map (sample_run track) (cond t (run ∷ runs_from kind (i + 1) (s ∷ []) ss) (runs_from kind (i + 1) (run ++ s ∷ []) ss))) e) ∙ h))
 
 -- what stands at a place, whatever would stand past the end
 pub get_any : {X : Type 0} (xs : List X) (i : ℕ) (d e : X) → i < length xs → get_or xs i d ≡ get_or xs i e
@@ -47,9 +47,9 @@ all_index P (x ∷ xs) zero d h k = h.0
 all_index P (x ∷ xs) (suc i) d h k = all_index P xs i d h.1 (omega arith)
 
 -- a run that goes on has room
-pub fits_one : (kind : Kind) (i : ℕ) (run : List Sample) (s : Sample) → ends_before kind i run s ≡ false → bytes_of run + s.size ≤ 2 ^ 26
+pub fits_one : (kind : Kind) (i : ℕ) (run : List Sample) (s : Sample) → is_over_before kind i run s ≡ false → bytes_of run + s.size ≤ 2 ^ 26
 fits_one kind i run s e =
-    let room = (neither (begins_run kind i s) (is_run_full run s) e).1 in
+    let room = (neither (is_run_start kind i s) (is_run_full run s) e).1 in
     let parts = neither (leb (2 ^ 16) (length run)) (ltb (2 ^ 26) (bytes_of run + s.size)) room in
     grind (arith, nat_tests, parts.1)
 

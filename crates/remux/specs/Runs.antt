@@ -10,10 +10,10 @@ use Rattle.remux.specs.declared.runs.RunOfTrack.{RunOfTrack}
 use Rattle.sample_tables.specs.declared.media_track.MediaTrack.{MediaTrack}
 
 -- whether a run begins with a sample, which has this position in its track, the first being 0
-abbrev pub begins_run : Kind → ℕ → Sample → Bool
-begins_run Video position sample = sample.sync
-begins_run Audio position sample = position % 64 == 0
-begins_run Other position sample = false
+abbrev pub is_run_start : Kind → ℕ → Sample → Bool
+is_run_start Video position sample = sample.sync
+is_run_start Audio position sample = position % 64 == 0
+is_run_start Other position sample = false
 
 -- how many bytes samples have
 abbrev pub bytes_of : List Sample → ℕ
@@ -21,17 +21,19 @@ bytes_of samples = sum_by (λ s. s.size) samples
 
 -- whether a run has no room for one more sample
 abbrev pub is_run_full : List Sample → Sample → Bool
-is_run_full run sample = nat_le (2 ^ 16) (length run) || nat_lt (2 ^ 26) (bytes_of run + sample.size)
+is_run_full run sample =
+    nat_le (2 ^ 16) (length run) || nat_lt (2 ^ 26) (bytes_of run + sample.size)
 
 -- whether a run ends before a sample
-abbrev pub ends_before : Kind → ℕ → List Sample → Sample → Bool
-ends_before kind position run sample = begins_run kind position sample || is_run_full run sample
+abbrev pub is_over_before : Kind → ℕ → List Sample → Sample → Bool
+is_over_before kind position run sample =
+    is_run_start kind position sample || is_run_full run sample
 
 -- the runs of samples from a position on, where the samples of `run` stand before them in the first run
 abbrev pub runs_from : Kind → ℕ → List Sample → List Sample → List (List Sample)
 runs_from kind position run [] = run ∷ []
 runs_from kind position run (s ∷ ss) =
-    if ends_before kind position run s
+    if is_over_before kind position run s
     then run ∷ runs_from kind (position + 1) (s ∷ []) ss
     else runs_from kind (position + 1) (run ++ s ∷ []) ss
 
@@ -72,8 +74,8 @@ first_decode [] = 0
 first_decode (s ∷ ss) = s.decode
 
 -- the media of a track begin later by its lag, and are shifted by its edit list
-abbrev pub run_view : MediaTrack → List Sample → SampleRun
-run_view track samples = record {
+abbrev pub sample_run : MediaTrack → List Sample → SampleRun
+sample_run track samples = record {
   id = track.info.id;
   decode = first_decode samples + track.lag;
   time =
@@ -82,7 +84,7 @@ run_view track samples = record {
 }
 
 abbrev pub track_runs : MediaTrack → List SampleRun
-track_runs track = map (run_view track) (runs_of track.info.kind track.samples)
+track_runs track = map (sample_run track) (runs_of track.info.kind track.samples)
 
 -- a run put before the first that is not earlier
 abbrev pub run_put : SampleRun → List SampleRun → List SampleRun

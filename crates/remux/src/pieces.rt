@@ -4,7 +4,7 @@ ghost use Rattle.bmff_boxes.specs.Reading.{Gives};
 ghost use Rattle.bmff_write.specs.Fragment.{segment_bytes};
 ghost use Rattle.sample_tables.specs.Facts.{IsSampleIn, IsFileTrack, AreFileTracks};
 ghost use Rattle.remux.specs.Runs.{IsShortRun, IsShortIn, run_value};
-ghost use Rattle.remux.specs.Remuxed.{track_out, init_segment_of, sample_out, traf_out, segments_from, pieces_of, remuxed};
+ghost use Rattle.remux.specs.Pieces.{track_out, init_segment_of, sample_out, traf_out, segments_from, pieces_of, pieces_of_file};
 
 use crate::error::RemuxError;
 use crate::runs::{RunOfTrack, runs_in_order};
@@ -34,7 +34,7 @@ fn track_out(alloc: Global, len: usize, track: &MediaTrack) -> Result<TrackOut, 
 }
 
 /// The initialization segment of tracks.
-#[tactic(auto, unfolding(crate::specs::Remuxed::init_segment_of))]
+#[tactic(auto, unfolding(crate::specs::Pieces::init_segment_of))]
 fn init_segment_of(alloc: Global, len: usize, tracks: &[MediaTrack]) -> Result<Bytes, OutOfMemory>
     requires { AreFileTracks len tracks.now }
     ensures { IfOk result (λ b. b ≡ init_segment_of tracks.now) }
@@ -108,7 +108,7 @@ fn push_segments(
 }
 
 /// The pieces of the fragmented file, of the tracks of a classic one.
-#[tactic(auto, unfolding(crate::specs::Remuxed::pieces_of))]
+#[tactic(auto, unfolding(crate::specs::Pieces::pieces_of))]
 fn pieces_of(alloc: Global, file: &[u8], tracks: &[MediaTrack]) -> Result<Vec<Bytes>, OutOfMemory>
     requires { AreFileTracks (length file.now) tracks.now }
     ensures { IfOk result (λ v. v.items ≡ pieces_of file.now tracks.now) }
@@ -124,9 +124,9 @@ fn pieces_of(alloc: Global, file: &[u8], tracks: &[MediaTrack]) -> Result<Vec<By
 
 /// A classic file as a fragmented one: the pieces in order, of which the first is the initialization segment and
 /// each other a media segment.
-#[tactic(auto, unfolding(crate::specs::Remuxed::remuxed))]
+#[tactic(auto, unfolding(crate::specs::Pieces::pieces_of_file))]
 pub fn remux(alloc: Global, file: &[u8]) -> Result<Vec<Bytes>, RemuxError>
-    ensures { Gives (λ v. v.items) result (remuxed file.now) }
+    ensures { Gives (λ v. v.items) result (pieces_of_file file.now) }
 {
     let tracks = read_file(alloc, file)?;
     match pieces_of(alloc, file, tracks.as_slice()) {

@@ -1,8 +1,8 @@
-ghost use Rattle.std.specs.Prelude.{◌≡◌, pos, ◌-ℤ◌, ◌≤ℤ◌, ◌++◌, ◌≤◌, ◌^◌, length, map, OnOk, IfOk};
+ghost use Rattle.std.specs.Prelude.{◌≡◌, pos, ◌-ℤ◌, ◌≤ℤ◌, ◌++◌, ◌≤◌, ◌^◌, map, OnOk, IfOk};
 ghost use Rattle.std.specs.List.{AllByRecursion};
 ghost use Rattle.mse_base.specs.Time.{converted};
 ghost use Rattle.sample_tables.specs.Facts.{IsSampleIn, IsFileTrack};
-ghost use Rattle.remux.specs.Runs.{begins_run, bytes_of, ends_before, run_value, run_view, track_runs, runs_in_order};
+ghost use Rattle.remux.specs.Runs.{is_run_start, bytes_of, is_over_before, run_value, sample_run, track_runs, runs_in_order};
 
 use mse_base::{Kind, convert};
 use sample_tables::{MediaTrack, Sample};
@@ -31,8 +31,8 @@ pub struct RunOfTrack<'a> {
 }
 
 /// Whether a run begins with a sample of this position in its track.
-fn begins_run(kind: Kind, position: usize, sample: &Sample) -> bool
-    ensures { result ≡ begins_run kind position sample.now }
+fn is_run_start(kind: Kind, position: usize, sample: &Sample) -> bool
+    ensures { result ≡ is_run_start kind position sample.now }
 {
     match kind {
         Kind::Video => sample.sync,
@@ -42,12 +42,12 @@ fn begins_run(kind: Kind, position: usize, sample: &Sample) -> bool
 }
 
 /// Whether a run of so many bytes ends before a sample of this position.
-fn ends_before(kind: Kind, position: usize, run: &[Sample], bytes: u64, sample: &Sample) -> bool
+fn is_over_before(kind: Kind, position: usize, run: &[Sample], bytes: u64, sample: &Sample) -> bool
     requires bytes { bytes ≡ bytes_of run.now }
     requires few { bytes ≤ 2 ^ 26 }
-    ensures { result ≡ ends_before kind position run.now sample.now }
+    ensures { result ≡ is_over_before kind position run.now sample.now }
 {
-    begins_run(kind, position, sample)
+    is_run_start(kind, position, sample)
         || run.len() >= MOST_SAMPLES
         || bytes + u64::from(sample.size) > MOST_BYTES
 }
@@ -69,7 +69,7 @@ fn ticks_of(decode: u64, shift: i64, scale: u32) -> i128
 fn run_of<'a>(len: usize, track: &MediaTrack, samples: &'a [Sample]) -> RunOfTrack<'a>
     requires track { IsFileTrack len track.now }
     requires samples { AllByRecursion (IsSampleIn len) samples.now }
-    ensures { run_value result ≡ run_view track.now samples.now }
+    ensures { run_value result ≡ sample_run track.now samples.now }
 {
     let decode = match samples {
         [first, ..] => first.decode + track.lag,
@@ -101,7 +101,7 @@ fn push_runs<'a>(
     let mut bytes = u64::from(first.size);
     for i in 1..samples.len() {
         let sample = &samples[i];
-        if ends_before(track.info.kind, i, &samples[start..i], bytes, sample) {
+        if is_over_before(track.info.kind, i, &samples[start..i], bytes, sample) {
             runs.push(run_of(len, track, &samples[start..i]))?;
             start = i;
             bytes = u64::from(sample.size);

@@ -6,7 +6,7 @@ use Rattle.std.specs.Int.{w32}
 use Rattle.std.proofs.lemmas.Int.{ints}
 use Rattle.mse_base.specs.declared.track.Kind.{Kind}
 use Rattle.sample_tables.specs.declared.sample.Sample.{Sample}
-use Rattle.remux.specs.Runs.{ends_before, runs_from, runs_of}
+use Rattle.remux.specs.Runs.{is_over_before, runs_from, runs_of}
 
 -- the first sample is decoded at a time, and each other when the one before it has lasted
 abbrev pub IsChain : ℕ → List Sample → Type 0
@@ -47,7 +47,7 @@ part_first xs ys h = record { time = h.time; chain = chain_first xs ys h.time h.
 parts_from : (kind : Kind) (position : ℕ) (run ss : List Sample) → IsPart (run ++ ss) → AllByRecursion IsPart (runs_from kind position run ss)
 parts_from kind position run [] h = (part_first run [] h, tt)
 parts_from kind position run (s ∷ ss) h =
-    by (ends_before kind position run s)
+    by (is_over_before kind position run s)
     (parts_from kind (position + 1) (s ∷ []) ss (part_last run (s ∷ ss) h.time h.chain h.fits))
     (parts_from kind (position + 1) (run ++ s ∷ []) ss (subst IsPart (sym (append_assoc run (s ∷ []) ss)) h))
   where

@@ -8,18 +8,18 @@ use Rattle.mse_base.specs.Time.{converted}
 use Rattle.mse_base.specs.declared.track.TrackInfo.{TrackInfo}
 use Rattle.mse_base.specs.declared.ticks.Moment.TheVariants.{Infinite}
 use Rattle.bmff_write.specs.declared.track_out.TrackOut.{TrackOut}
-use Rattle.bmff_write.specs.Fits.{EditFits, TrackFits}
+use Rattle.bmff_write.specs.Fits.{IsFittingEdit, IsFittingTrack}
 use Rattle.bmff_write.specs.Movie.{init_bytes_with}
 use Rattle.parser_loop.specs.Items.{InitItem}
-use Rattle.segment_walk.specs.Segments.{Items}
+use Rattle.segment_walk.specs.Segments.{items_of_string}
 use Rattle.segment_walk.specs.Tables.{SegmentItem}
 use Rattle.sample_tables.specs.declared.media_track.MediaTrack.{MediaTrack}
 use Rattle.sample_tables.specs.Facts.{IsFileTrack, AreFileTracks}
 use Rattle.remux.specs.Runs.{SampleRun, runs_in_order}
-use Rattle.remux.specs.Remuxed.{edits_of, track_out, init_segment_of, pieces_of}
+use Rattle.remux.specs.Pieces.{edits_of, track_out, init_segment_of, pieces_of}
 use Rattle.remux.proofs.RunLaws.{ordered_short}
 use Rattle.remux.proofs.PieceLaws.{tracks_out_are, descriptions_are}
-use Rattle.written_back.specs.Tracks.{media_time_of, wait_of, track_read}
+use Rattle.written_back.specs.Tracks.{last_media_time, wait_of, track_read}
 use Rattle.written_back.specs.Segments.{SegmentOut, IsSegmentOf, segments_read, segments_bytes}
 use Rattle.written_back.proofs.Written.{written}
 use Rattle.remux_back.specs.Fragments.{track_info, presentation_of_tracks, items_of_file}
@@ -29,13 +29,13 @@ use Rattle.remux_back.proofs.Segments.{segments_out, joined, segments_are, segme
 
 -- ---- the tracks
 
-shift_is : (shift : ℤ) → media_time_of (edits_of shift) ≡ shift
+shift_is : (shift : ℤ) → last_media_time (edits_of shift) ≡ shift
 shift_is shift = by (int_eq shift (pos 0)) refl
   where
     zero : int_eq shift (pos 0) ≡ true → pos 0 ≡ shift
     zero e = sym ((Decides-int_eq shift (pos 0)).0 e)
 
-    by : (t : Bool) → int_eq shift (pos 0) ≡ t → media_time_of (cond t [] ((0, shift) ∷ [])) ≡ shift
+    by : (t : Bool) → int_eq shift (pos 0) ≡ t → last_media_time (cond t [] ((0, shift) ∷ [])) ≡ shift
     by true e = zero e
     by false e = refl
 
@@ -67,14 +67,14 @@ infos_are : (ts : List MediaTrack) → map track_read (map track_out ts) ≡ map
 infos_are [] = refl
 infos_are (t ∷ ts) = ap (λ (i : TrackInfo). i ∷ map track_read (map track_out ts)) (info_is t) ∙ ap (λ (is : List TrackInfo). track_info t ∷ is) (infos_are ts)
 
-edits_fit : (shift : ℤ) → pos 0 ≤ℤ shift → shift ≤ℤ pos (2 ^ 31 - 1) → AllByRecursion EditFits (edits_of shift)
+edits_fit : (shift : ℤ) → pos 0 ≤ℤ shift → shift ≤ℤ pos (2 ^ 31 - 1) → AllByRecursion IsFittingEdit (edits_of shift)
 edits_fit shift low high = by (int_eq shift (pos 0))
   where
-    by : (t : Bool) → AllByRecursion EditFits (cond t [] ((0, shift) ∷ []))
+    by : (t : Bool) → AllByRecursion IsFittingEdit (cond t [] ((0, shift) ∷ []))
     by true = tt
     by false = (record { duration = omega arith; media_time = fits_short shift (omega (arith, ints, low)) high }, tt)
 
-tracks_fit : (len : ℕ) (ts : List MediaTrack) → AllByRecursion (IsFileTrack len) ts → AllByRecursion IsTold ts → AllByRecursion TrackFits (map track_out ts)
+tracks_fit : (len : ℕ) (ts : List MediaTrack) → AllByRecursion (IsFileTrack len) ts → AllByRecursion IsTold ts → AllByRecursion IsFittingTrack (map track_out ts)
 tracks_fit len [] h k = tt
 tracks_fit len (t ∷ ts) h k =
     let one = h.0 in
@@ -95,7 +95,7 @@ init_is tracks = refl
 items_by : List TrackInfo → ℕ → List SegmentOut → List SegmentItem
 items_by infos len segments = InitItem (record { scale = 1000; duration = Infinite; tracks = infos }) 24 ∷ segments_read infos len segments
 
-pub read_back : (file : List ℕ) (tracks : List MediaTrack) → AreFileTracks (length file) tracks → AllByRecursion IsTold tracks → Items None (flat_map (λ (piece : List ℕ). piece) (pieces_of file tracks)) ≡ items_of_file file tracks
+pub read_back : (file : List ℕ) (tracks : List MediaTrack) → AreFileTracks (length file) tracks → AllByRecursion IsTold tracks → items_of_string None (flat_map (λ (piece : List ℕ). piece) (pieces_of file tracks)) ≡ items_of_file file tracks
 unfolding items_by
 read_back file tracks h k =
     let runs : List SampleRun = runs_in_order tracks in
@@ -109,7 +109,7 @@ read_back file tracks h k =
     let fit : AllByRecursion (IsSegmentOf (map track_read ts)) segments = subst (λ (is : List TrackInfo). AllByRecursion (IsSegmentOf is) segments) (sym same) (segments_fit file tracks 1 runs each short) in
     let read = written ts stsds segments (tracks_out_are (length file) tracks h) (tracks_fit (length file) tracks h.each k) (descriptions_are (length file) tracks h.each) fit in
     let len : ℕ = length (init_bytes_with ts stsds) in
-    ap (Items None) (string_is file tracks ∙ ap (λ (xs : List ℕ). xs ++ segments_bytes segments) (init_is tracks))
+    ap (items_of_string None) (string_is file tracks ∙ ap (λ (xs : List ℕ). xs ++ segments_bytes segments) (init_is tracks))
     ∙ (read
     ∙ (ap (λ (is : List TrackInfo). items_by is len segments) same
     ∙ (ap (λ (n : ℕ). items_by infos n segments) (sym (ap length (init_is tracks)))

@@ -3,19 +3,19 @@ use Rattle.std.proofs.Common.{◌≡◌, ℕ, ◌<◌, ◌^◌, List, Ok, None, 
 use Rattle.std.specs.List.{All, flat_map}
 use Rattle.std.specs.Prelude.{IsOkAnd}
 use Rattle.bmff_boxes.specs.Reading.{◌>>=◌}
-use Rattle.segment_walk.specs.Segments.{Items}
+use Rattle.segment_walk.specs.Segments.{items_of_string}
 use Rattle.sample_tables.specs.declared.media_track.MediaTrack.{MediaTrack}
 use Rattle.sample_tables.specs.Movies.{file_tracks}
-use Rattle.remux.specs.Remuxed.{pieces_of, remuxed}
+use Rattle.remux.specs.Pieces.{pieces_of, pieces_of_file}
 use Rattle.remux_back.specs.Fragments.{items_of_file}
 use Rattle.remux_back.proofs.Joined.{read_back}
 use Rattle.remux_back.proofs.Tracks.{file_told}
 
-pieces_are : (file : List ℕ) (tracks : List MediaTrack) → file_tracks file ≡ Ok tracks → remuxed file ≡ Ok (pieces_of file tracks)
-unfolding remuxed
+pieces_are : (file : List ℕ) (tracks : List MediaTrack) → file_tracks file ≡ Ok tracks → pieces_of_file file ≡ Ok (pieces_of file tracks)
+unfolding pieces_of_file
 pieces_are file tracks e = ap (λ r. r >>= λ ts. Ok (pieces_of file ts)) e
 
-pub remux_reads_back : (file : List ℕ) (tracks : List MediaTrack) → All (λ byte. byte < 2 ^ 8) file → file_tracks file ≡ Ok tracks → IsOkAnd (remuxed file) (λ pieces. Items None (flat_map (λ piece. piece) pieces) ≡ items_of_file file tracks)
+pub remux_reads_back : (file : List ℕ) (tracks : List MediaTrack) → All (λ byte. byte < 2 ^ 8) file → file_tracks file ≡ Ok tracks → IsOkAnd (pieces_of_file file) (λ pieces. items_of_string None (flat_map (λ piece. piece) pieces) ≡ items_of_file file tracks)
 remux_reads_back file tracks h e =
     let t = file_told file tracks h e in
-    subst (λ r. IsOkAnd r (λ pieces. Items None (flat_map (λ piece. piece) pieces) ≡ items_of_file file tracks)) (sym (pieces_are file tracks e)) (read_back file tracks t.file t.told)
+    subst (λ r. IsOkAnd r (λ pieces. items_of_string None (flat_map (λ piece. piece) pieces) ≡ items_of_file file tracks)) (sym (pieces_are file tracks e)) (read_back file tracks t.file t.told)

@@ -7,8 +7,8 @@ use Rattle.mse_base.specs.declared.track.TrackInfo.{TrackInfo}
 use Rattle.mse_base.specs.Presentation.{HasDistinctIds}
 use Rattle.sample_tables.specs.declared.sample.Sample.{Sample}
 use Rattle.sample_tables.specs.declared.media_track.MediaTrack.{MediaTrack}
-use Rattle.remux.specs.Runs.{runs_of, SampleRun, first_decode, run_view, track_runs, run_put, in_order, runs_in_order}
-use Rattle.remux_back.specs.Fragments.{has_number}
+use Rattle.remux.specs.Runs.{runs_of, SampleRun, first_decode, sample_run, track_runs, run_put, in_order, runs_in_order}
+use Rattle.remux_back.specs.Fragments.{has_track_number}
 use Rattle.remux_back.proofs.Chains.{FitsRun, IsChain, IsPart, parts_of}
 
 -- ---- a number names the one track that has it
@@ -28,17 +28,17 @@ number_same a = grind (arith, nat_tests)
 
 -- each of these tracks is the one of its number among `tracks`
 abbrev pub IsNamed : List MediaTrack → MediaTrack → Type 0
-IsNamed tracks t = find (has_number t.info.id) tracks ≡ Some t
+IsNamed tracks t = find (has_track_number t.info.id) tracks ≡ Some t
 
 named_later : (t : MediaTrack) (ts us : List MediaTrack) → AllByRecursion (λ (u : TrackInfo). t.info.id ≢ u.id) (map (λ (m : MediaTrack). m.info) us) → AllByRecursion (IsNamed ts) us → AllByRecursion (IsNamed (t ∷ ts)) us
 named_later t ts [] d h = tt
 named_later t ts (u ∷ us) d h =
-    (ap (λ (b : Bool). cond b (Some t) (find (has_number u.info.id) ts)) (number_other t.info.id u.info.id d.0) ∙ h.0, named_later t ts us d.1 h.1)
+    (ap (λ (b : Bool). cond b (Some t) (find (has_track_number u.info.id) ts)) (number_other t.info.id u.info.id d.0) ∙ h.0, named_later t ts us d.1 h.1)
 
 pub all_named : (tracks : List MediaTrack) → HasDistinctIds (map (λ (m : MediaTrack). m.info) tracks) → AllByRecursion (IsNamed tracks) tracks
 all_named [] d = tt
 all_named (t ∷ ts) d =
-    (ap (λ (b : Bool). cond b (Some t) (find (has_number t.info.id) ts)) (number_same t.info.id), named_later t ts ts d.0 (all_named ts d.1))
+    (ap (λ (b : Bool). cond b (Some t) (find (has_track_number t.info.id) ts)) (number_same t.info.id), named_later t ts ts d.0 (all_named ts d.1))
 
 -- ---- what is known of a track and of a run
 
@@ -53,12 +53,12 @@ pub record IsTold (t : MediaTrack) : Type 0 where
 -- a run of one of the tracks
 pub record IsRunIn (tracks : List MediaTrack) (run : SampleRun) : Type 0 where
   pub track : MediaTrack
-  pub found : find (has_number run.id) tracks ≡ Some track
+  pub found : find (has_track_number run.id) tracks ≡ Some track
   pub lag : track.lag ≤ 2 ^ 62
   pub decode : run.decode ≡ first_decode run.samples + track.lag
   pub part : IsPart run.samples
 
-views_in : (tracks : List MediaTrack) (t : MediaTrack) (runs : List (List Sample)) → IsNamed tracks t → t.lag ≤ 2 ^ 62 → AllByRecursion IsPart runs → AllByRecursion (IsRunIn tracks) (map (run_view t) runs)
+views_in : (tracks : List MediaTrack) (t : MediaTrack) (runs : List (List Sample)) → IsNamed tracks t → t.lag ≤ 2 ^ 62 → AllByRecursion IsPart runs → AllByRecursion (IsRunIn tracks) (map (sample_run t) runs)
 views_in tracks t [] n l h = tt
 views_in tracks t (run ∷ runs) n l h = (record { track = t; found = n; lag = l; decode = refl; part = h.0 }, views_in tracks t runs n l h.1)
 

@@ -15,8 +15,8 @@ use Rattle.bmff_boxes.specs.Rows.{BoxView, row_of, first_of, all_of}
 use Rattle.bmff_boxes.proofs.ReadingLaws.{through, needed}
 use Rattle.bmff_init.specs.declared.fault.InitFault.TheVariants.{Size, Missing, ZeroTimescale, TooManyTracks}
 use Rattle.bmff_init.specs.Edits.{shifts_in}
-use Rattle.bmff_init.specs.Tracks.{media_scale_of, codec_in, no_content, media_content, content_of, number_of, media_of, kind_in, track_with, track_of, tracks_of}
-use Rattle.bmff_init.specs.Movies.{moment_of, times_of, extends_of, presentation_in, presentation_of}
+use Rattle.bmff_init.specs.Tracks.{media_scale_of, codec_in, no_content, media_content, content_of, track_number_of, mdia_row_of, kind_in, track_with, track_of_trak, tracks_of_traks}
+use Rattle.bmff_init.specs.Movies.{moment_of, times_of, extends_of, presentation_in, moov_presentation_of}
 use Rattle.remux_back.proofs.Bytes.{AreBytes, field_below, IsByteBox, payload_bytes, row_bytes, first_bytes, all_bytes}
 
 -- ---- the types of the reader of movie boxes, which has no names for them outside
@@ -28,7 +28,7 @@ abbrev FirstOf : {A B : Type 0} → (A → B) → Type 0
 FirstOf {A = A} {B = B} f = A
 
 abbrev pub Form : Type 0
-Form = FirstOf presentation_of
+Form = FirstOf moov_presentation_of
 
 abbrev pub Content : Type 0
 Content = TypeOf no_content
@@ -69,7 +69,7 @@ content_below form scale Video track media content h e = media_below form scale 
 content_below form scale Audio track media content h e = media_below form scale track media content h e
 
 -- the boxes of a media box
-pub media_bytes : (track media : List BoxView) → AllByRecursion IsByteBox track → media_of track ≡ Ok media → AllByRecursion IsByteBox media
+pub media_bytes : (track media : List BoxView) → AllByRecursion IsByteBox track → mdia_row_of track ≡ Ok media → AllByRecursion IsByteBox media
 media_bytes track media h e =
     let a = through (need (Missing (codes "mdia")) (first_of (codes "mdia") track)) (λ mdia. need Size (row_of mdia)) media e in
     row_bytes a.value media (first_bytes (codes "mdia") track a.value h (needed (Missing (codes "mdia")) _ a.value a.was)) (needed Size _ media a.then)
@@ -77,12 +77,12 @@ media_bytes track media h e =
 abbrev pub IsScaled : TrackInfo → Type 0
 IsScaled track = track.scale < 2 ^ 32
 
-track_below : (form : Form) (scale : ℕ) (trexes : List (List ℕ)) (before : List TrackInfo) (trak : List ℕ) (track : TrackInfo) → AreBytes trak → track_of form scale trexes before trak ≡ Ok track → IsScaled track
-unfolding track_of
+track_below : (form : Form) (scale : ℕ) (trexes : List (List ℕ)) (before : List TrackInfo) (trak : List ℕ) (track : TrackInfo) → AreBytes trak → track_of_trak form scale trexes before trak ≡ Ok track → IsScaled track
+unfolding track_of_trak
 track_below form scale trexes before trak track h e =
-    let a = through (need Size (row_of trak)) (λ boxes. number_of before boxes >>= λ id. media_of boxes >>= λ media. kind_in media >>= λ kind. content_of form scale kind boxes media >>= λ content. Ok (track_with trexes id kind content)) track e in
-    let b = through (number_of before a.value) (λ id. media_of a.value >>= λ media. kind_in media >>= λ kind. content_of form scale kind a.value media >>= λ content. Ok (track_with trexes id kind content)) track a.then in
-    let c = through (media_of a.value) (λ media. kind_in media >>= λ kind. content_of form scale kind a.value media >>= λ content. Ok (track_with trexes b.value kind content)) track b.then in
+    let a = through (need Size (row_of trak)) (λ boxes. track_number_of before boxes >>= λ id. mdia_row_of boxes >>= λ media. kind_in media >>= λ kind. content_of form scale kind boxes media >>= λ content. Ok (track_with trexes id kind content)) track e in
+    let b = through (track_number_of before a.value) (λ id. mdia_row_of a.value >>= λ media. kind_in media >>= λ kind. content_of form scale kind a.value media >>= λ content. Ok (track_with trexes id kind content)) track a.then in
+    let c = through (mdia_row_of a.value) (λ media. kind_in media >>= λ kind. content_of form scale kind a.value media >>= λ content. Ok (track_with trexes b.value kind content)) track b.then in
     let d = through (kind_in c.value) (λ kind. content_of form scale kind a.value c.value >>= λ content. Ok (track_with trexes b.value kind content)) track c.then in
     let f = through (content_of form scale d.value a.value c.value) (λ content. Ok (track_with trexes b.value d.value content)) track d.then in
     let row = row_bytes trak a.value h (needed Size _ a.value a.was) in
@@ -94,11 +94,11 @@ all_push P [] x h p = (p, tt)
 all_push P (y ∷ ys) x h p = (h.0, all_push P ys x h.1 p)
 
 tracks_below : (traks : List (List ℕ)) (form : Form) (scale : ℕ) (trexes : List (List ℕ)) (before tracks : List TrackInfo) → AllByRecursion AreBytes traks → AllByRecursion IsScaled before
-    → tracks_of form scale trexes before traks ≡ Ok tracks → AllByRecursion IsScaled tracks
-unfolding tracks_of
+    → tracks_of_traks form scale trexes before traks ≡ Ok tracks → AllByRecursion IsScaled tracks
+unfolding tracks_of_traks
 tracks_below [] form scale trexes before tracks h k e = subst (AllByRecursion IsScaled) (same_ok before tracks e) k
 tracks_below (trak ∷ traks) form scale trexes before tracks h k e =
-    let b = through (track_of form scale trexes before trak) (λ track. tracks_of form scale trexes (before ++ track ∷ []) traks) tracks e in
+    let b = through (track_of_trak form scale trexes before trak) (λ track. tracks_of_traks form scale trexes (before ++ track ∷ []) traks) tracks e in
     let one = track_below form scale trexes before trak b.value h.0 b.was in
     tracks_below traks form scale trexes (before ++ b.value ∷ []) tracks h.1 (all_push IsScaled before b.value k one) b.then
 
@@ -106,16 +106,16 @@ in_below : (form : Form) (movie : List BoxView) (p : Presentation) → AllByRecu
 unfolding presentation_in
 in_below form movie p h e =
     let traks = all_of (codes "trak") movie in
-    let a = through (times_of movie) (λ times. extends_of form movie >>= λ extends. check TooManyTracks (nat_le (length traks) 64) >>= λ _. tracks_of form times.scale extends.trexes [] traks >>= λ tracks. Ok (record { scale = times.scale; duration = moment_of times.scale (if extends.duration == 0 then times.duration else extends.duration); tracks = tracks })) p e in
-    let b = through (extends_of form movie) (λ extends. check TooManyTracks (nat_le (length traks) 64) >>= λ _. tracks_of form a.value.scale extends.trexes [] traks >>= λ tracks. Ok (record { scale = a.value.scale; duration = moment_of a.value.scale (if extends.duration == 0 then a.value.duration else extends.duration); tracks = tracks })) p a.then in
+    let a = through (times_of movie) (λ times. extends_of form movie >>= λ extends. check TooManyTracks (nat_le (length traks) 64) >>= λ _. tracks_of_traks form times.scale extends.trexes [] traks >>= λ tracks. Ok (record { scale = times.scale; duration = moment_of times.scale (if extends.duration == 0 then times.duration else extends.duration); tracks = tracks })) p e in
+    let b = through (extends_of form movie) (λ extends. check TooManyTracks (nat_le (length traks) 64) >>= λ _. tracks_of_traks form a.value.scale extends.trexes [] traks >>= λ tracks. Ok (record { scale = a.value.scale; duration = moment_of a.value.scale (if extends.duration == 0 then a.value.duration else extends.duration); tracks = tracks })) p a.then in
     let duration = if b.value.duration == 0 then a.value.duration else b.value.duration in
-    let c = through (check TooManyTracks (nat_le (length traks) 64)) (λ _. tracks_of form a.value.scale b.value.trexes [] traks >>= λ tracks. Ok (record { scale = a.value.scale; duration = moment_of a.value.scale duration; tracks = tracks })) p b.then in
-    let d = through (tracks_of form a.value.scale b.value.trexes [] traks) (λ tracks. Ok (record { scale = a.value.scale; duration = moment_of a.value.scale duration; tracks = tracks })) p c.then in
+    let c = through (check TooManyTracks (nat_le (length traks) 64)) (λ _. tracks_of_traks form a.value.scale b.value.trexes [] traks >>= λ tracks. Ok (record { scale = a.value.scale; duration = moment_of a.value.scale duration; tracks = tracks })) p b.then in
+    let d = through (tracks_of_traks form a.value.scale b.value.trexes [] traks) (λ tracks. Ok (record { scale = a.value.scale; duration = moment_of a.value.scale duration; tracks = tracks })) p c.then in
     let all = tracks_below traks form a.value.scale b.value.trexes [] d.value (all_bytes (codes "trak") movie h) tt d.was in
     subst (λ (q : Presentation). AllByRecursion IsScaled q.tracks) (same_ok _ p d.then) all
 
 -- the tracks of a movie box of bytes
-pub presentation_below : (form : Form) (moov : List ℕ) (p : Presentation) → AreBytes moov → presentation_of form moov ≡ Ok p → AllByRecursion IsScaled p.tracks
+pub presentation_below : (form : Form) (moov : List ℕ) (p : Presentation) → AreBytes moov → moov_presentation_of form moov ≡ Ok p → AllByRecursion IsScaled p.tracks
 presentation_below form moov p h e =
     let b = through (need Size (payload_of moov)) (λ payload. need Size (row_of payload) >>= λ boxes. presentation_in form boxes) p e in
     let c = through (need Size (row_of b.value)) (presentation_in form) p b.then in

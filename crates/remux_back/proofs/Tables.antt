@@ -9,14 +9,14 @@ use Rattle.byteorder.specs.Endian.{big_number}
 use Rattle.bmff_boxes.specs.declared.box_header.Header.{Header}
 use Rattle.bmff_boxes.specs.declared.box_header.Header.TheVariants as head
 use Rattle.bmff_boxes.specs.declared.box_header.HeadFault.TheVariants.{SizeZero, BoxSize}
-use Rattle.bmff_boxes.specs.Headers.{four_at, sized_of, header_of}
+use Rattle.bmff_boxes.specs.Headers.{four_at, header_of_len, header_of}
 use Rattle.bmff_boxes.specs.Children.{ChildView, Box, NoBytes, NoBox, child_of}
 use Rattle.bmff_boxes.specs.MovieFields.{entry_count_of}
 use Rattle.bmff_boxes.specs.Reading.{◌>>=◌, need, check}
 use Rattle.bmff_boxes.specs.Rows.{BoxView, row_of, first_of}
 use Rattle.bmff_boxes.proofs.ReadingLaws.{through, needed}
 use Rattle.bmff_init.specs.declared.fault.InitFault.TheVariants.{Size, Missing}
-use Rattle.bmff_init.specs.Tracks.{entry_type, codec_of, media_of}
+use Rattle.bmff_init.specs.Tracks.{entry_type, codec_of, mdia_row_of}
 use Rattle.sample_tables.specs.declared.entries.DurationRun.{DurationRun}
 use Rattle.sample_tables.specs.declared.entries.OffsetRun.{OffsetRun}
 use Rattle.sample_tables.specs.declared.entries.ChunkRun.{ChunkRun}
@@ -99,7 +99,7 @@ four_if : (t : Bool) (x y : Header) → HasFour x → HasFour y → HasFour (con
 four_if true x y h k = h
 four_if false x y h k = k
 
-sized_four : (b : List ℕ) (start len : ℕ) → HasFour (sized_of (four_at 4 b) start len)
+sized_four : (b : List ℕ) (start len : ℕ) → HasFour (header_of_len (four_at 4 b) start len)
 sized_four b start len = four_if (ltb len start) (head.Bad BoxSize) (head.Whole (four_at 4 b) start len) tt refl
 
 header_four : (b : List ℕ) → HasFour (header_of b)
@@ -145,8 +145,8 @@ pub tables_read : (trak : List ℕ) (read : TrackTables) → AreBytes trak → t
 unfolding track_tables
 tables_read trak read h e =
     let made : List ℕ → List ℕ → SampleTables → TrackTables = λ stsd codec tables. record { stsd = stsd; codec = codec; tables = tables } in
-    let a = through (need Size (row_of trak)) (λ track. media_of track >>= λ media. sample_table_in media >>= λ stbl. need Size (row_of stbl) >>= λ boxes. tables_of boxes >>= λ tables. description_in stbl >>= λ stsd. description_codec stsd >>= λ codec. Ok (made stsd codec tables)) read e in
-    let b = through (media_of a.value) (λ media. sample_table_in media >>= λ stbl. need Size (row_of stbl) >>= λ boxes. tables_of boxes >>= λ tables. description_in stbl >>= λ stsd. description_codec stsd >>= λ codec. Ok (made stsd codec tables)) read a.then in
+    let a = through (need Size (row_of trak)) (λ track. mdia_row_of track >>= λ media. sample_table_in media >>= λ stbl. need Size (row_of stbl) >>= λ boxes. tables_of boxes >>= λ tables. description_in stbl >>= λ stsd. description_codec stsd >>= λ codec. Ok (made stsd codec tables)) read e in
+    let b = through (mdia_row_of a.value) (λ media. sample_table_in media >>= λ stbl. need Size (row_of stbl) >>= λ boxes. tables_of boxes >>= λ tables. description_in stbl >>= λ stsd. description_codec stsd >>= λ codec. Ok (made stsd codec tables)) read a.then in
     let c = through (sample_table_in b.value) (λ stbl. need Size (row_of stbl) >>= λ boxes. tables_of boxes >>= λ tables. description_in stbl >>= λ stsd. description_codec stsd >>= λ codec. Ok (made stsd codec tables)) read b.then in
     let d = through (need Size (row_of c.value)) (λ boxes. tables_of boxes >>= λ tables. description_in c.value >>= λ stsd. description_codec stsd >>= λ codec. Ok (made stsd codec tables)) read c.then in
     let f = through (tables_of d.value) (λ tables. description_in c.value >>= λ stsd. description_codec stsd >>= λ codec. Ok (made stsd codec tables)) read d.then in

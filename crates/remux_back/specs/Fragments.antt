@@ -11,7 +11,7 @@ use Rattle.segment_walk.specs.Tables.{SegmentItem}
 use Rattle.sample_tables.specs.declared.sample.Sample.{Sample}
 use Rattle.sample_tables.specs.declared.media_track.MediaTrack.{MediaTrack}
 use Rattle.remux.specs.Runs.{SampleRun, bytes_of, runs_in_order}
-use Rattle.remux.specs.Remuxed.{init_segment_of}
+use Rattle.remux.specs.Pieces.{init_segment_of}
 
 -- a track: in place of its empty edits the decode times have its lag, and its samples have no defaults
 abbrev pub track_info : MediaTrack → TrackInfo
@@ -44,8 +44,8 @@ abbrev pub decode_time : MediaTrack → Sample → ℤ
 decode_time track s = pos (s.decode + track.lag)
 
 -- the coded frame of a sample of a file, with its very bytes
-abbrev pub frame_of : List ℕ → MediaTrack → Sample → CodedFrame
-frame_of file track s = record {
+abbrev pub frame_of_sample : List ℕ → MediaTrack → Sample → CodedFrame
+frame_of_sample file track s = record {
   track_id = track.info.id;
   pts = tick_of track (decode_time track s +ℤ s.offset);
   dts = tick_of track (decode_time track s);
@@ -57,18 +57,18 @@ frame_of file track s = record {
 }
 
 -- samples of a track, the first of which has its bytes at an offset of the string
-abbrev pub frames_of : List ℕ → MediaTrack → ℕ → List Sample → List SegmentItem
-frames_of file track at [] = []
-frames_of file track at (s ∷ samples) =
-    FrameItem (frame_of file track s) at ∷ frames_of file track (at + s.size) samples
+abbrev pub items_of_samples : List ℕ → MediaTrack → ℕ → List Sample → List SegmentItem
+items_of_samples file track at [] = []
+items_of_samples file track at (s ∷ samples) =
+    FrameItem (frame_of_sample file track s) at ∷ items_of_samples file track (at + s.size) samples
 
-abbrev pub has_number : ℕ → MediaTrack → Bool
-has_number id track = track.info.id == id
+abbrev pub has_track_number : ℕ → MediaTrack → Bool
+has_track_number id track = track.info.id == id
 
 -- the samples of a run, which are of the track that it names
-abbrev pub frames_of_run : List ℕ → Option MediaTrack → ℕ → SampleRun → List SegmentItem
-frames_of_run file None at run = []
-frames_of_run file (Some track) at run = frames_of file track at run.samples
+abbrev pub items_of_run : List ℕ → Option MediaTrack → ℕ → SampleRun → List SegmentItem
+items_of_run file None at run = []
+items_of_run file (Some track) at run = items_of_samples file track at run.samples
 
 -- how many bytes stand in a segment before those of its samples: moof and the header of mdat
 abbrev pub head_len : SampleRun → ℕ
@@ -78,7 +78,7 @@ head_len run = 96 + 16 * length run.samples
 abbrev pub items_of_runs : List ℕ → List MediaTrack → ℕ → List SampleRun → List SegmentItem
 items_of_runs file tracks at [] = []
 items_of_runs file tracks at (run ∷ runs) =
-    frames_of_run file (find (has_number run.id) tracks) (at + head_len run) run
+    items_of_run file (find (has_track_number run.id) tracks) (at + head_len run) run
     ++ SegmentEnd ∷ items_of_runs file tracks (at + (head_len run + bytes_of run.samples)) runs
 
 -- the fragments of a file with these tracks, whose moov begins at byte 24

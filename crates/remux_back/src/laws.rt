@@ -4,8 +4,8 @@ ghost use Rattle.std.specs.Prelude.{◌≡◌, ◌<◌, ◌^◌, ℕ, List, None
 ghost use Rattle.std.specs.List.{flat_map};
 ghost use Rattle.sample_tables.specs.declared.media_track.MediaTrack.{MediaTrack};
 ghost use Rattle.sample_tables.specs.Movies.{file_tracks};
-ghost use Rattle.remux.specs.Remuxed.{remuxed};
-ghost use Rattle.segment_walk.specs.Segments.{Items};
+ghost use Rattle.remux.specs.Pieces.{pieces_of_file};
+ghost use Rattle.segment_walk.specs.Segments.{items_of_string};
 ghost use Rattle.remux_back.specs.Fragments.{items_of_file};
 
 /// The pieces of a classic file, one behind the other, read as one initialization segment with the tracks of the file,
@@ -14,6 +14,6 @@ ghost use Rattle.remux_back.specs.Fragments.{items_of_file};
 pub fn remux_law()
     ensures { (file : List ℕ) (tracks : List MediaTrack) → All (λ byte. byte < 2 ^ 8) file
         → file_tracks file ≡ Ok tracks
-        → IsOkAnd (remuxed file) (λ pieces. Items None (flat_map (λ piece. piece) pieces)
-        ≡ items_of_file file tracks) }
+        → IsOkAnd (pieces_of_file file) (λ pieces.
+        items_of_string None (flat_map (λ piece. piece) pieces) ≡ items_of_file file tracks) }
 {}

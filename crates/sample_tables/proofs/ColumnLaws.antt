@@ -14,7 +14,7 @@ use Rattle.bmff_boxes.specs.declared.reading.ReadError.{ReadError}
 use Rattle.bmff_boxes.specs.declared.reading.ReadError.TheVariants.{OutOfMemory, Fault}
 use Rattle.sample_tables.specs.declared.fault.MovieFault.{MovieFault}
 use Rattle.sample_tables.specs.declared.fault.MovieFault.TheVariants.{Place}
-use Rattle.sample_tables.specs.Rules.{are_chunk_runs, begins_at_first, is_offset_table, are_inside, places_inside, Refuses}
+use Rattle.sample_tables.specs.Rules.{are_chunk_runs, has_first_chunk, is_offset_table, are_inside, places_inside, Refuses}
 use Rattle.sample_tables.proofs.RuleLaws.{sum_cons, drop_next, chunk_run_parts, behind_above}
 
 -- ---- lengths
@@ -53,7 +53,7 @@ counts_above chunks r (q ∷ rs) before e =
     omega (arith, p.there, up, rest, length-append (replicate (q.first - r.first) r.samples) (chunk_counts chunks (q ∷ rs)), length_replicate (q.first - r.first) r.samples)
 
 -- each chunk has a count
-pub length_counts : (chunks : ℕ) (runs : List ChunkRun) → begins_at_first chunks runs ≡ true → are_chunk_runs 0 chunks runs ≡ true → length (chunk_counts chunks runs) ≡ chunks
+pub length_counts : (chunks : ℕ) (runs : List ChunkRun) → has_first_chunk chunks runs ≡ true → are_chunk_runs 0 chunks runs ≡ true → length (chunk_counts chunks runs) ≡ chunks
 length_counts chunks [] b e = grind (arith, nat_tests)
 length_counts chunks (r ∷ rs) b e =
     let first : r.first ≡ 1 = grind (arith, nat_tests) in

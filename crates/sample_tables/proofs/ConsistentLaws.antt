@@ -5,7 +5,7 @@ use Rattle.sample_tables.specs.declared.entries.SampleSizes.{SampleSizes}
 use Rattle.sample_tables.specs.declared.entries.SampleSizes.TheVariants.{Same, Each}
 use Rattle.sample_tables.specs.declared.tables.SampleTables.{SampleTables}
 use Rattle.sample_tables.specs.Samples.{sample_count, sizes_of, chunk_counts, columns_of, AreComplete}
-use Rattle.sample_tables.specs.Rules.{is_offset_table, is_sync_table, begins_at_first, are_chunk_runs, is_chunk_table, are_consistent}
+use Rattle.sample_tables.specs.Rules.{is_offset_table, is_sync_table, has_first_chunk, are_chunk_runs, is_chunk_table, are_consistent}
 use Rattle.sample_tables.proofs.RuleLaws.{both_true}
 use Rattle.sample_tables.proofs.ColumnLaws.{length_replicate, length_durations, length_offsets, length_sync, length_counts, length_places}
 
@@ -13,7 +13,7 @@ pub record Agree (t : SampleTables) : Type 0 where
   pub durations : sum_by (λ r. r.count) t.durations ≡ sample_count t.sizes
   pub offsets : is_offset_table (sample_count t.sizes) t.offsets ≡ true
   pub sync : is_sync_table (sample_count t.sizes) t.sync ≡ true
-  pub begins : begins_at_first (length t.chunk_offsets) t.chunk_runs ≡ true
+  pub begins : has_first_chunk (length t.chunk_offsets) t.chunk_runs ≡ true
   pub runs : are_chunk_runs 0 (length t.chunk_offsets) t.chunk_runs ≡ true
   pub total : sum (chunk_counts (length t.chunk_offsets) t.chunk_runs) ≡ sample_count t.sizes
 
@@ -28,7 +28,7 @@ agree t e =
     let a = both_true (eqb (sum_by (λ r. r.count) t.durations) n) (is_offset_table n t.offsets && (is_sync_table n t.sync && is_chunk_table n chunks t.chunk_runs)) e in
     let b = both_true (is_offset_table n t.offsets) (is_sync_table n t.sync && is_chunk_table n chunks t.chunk_runs) a.1 in
     let c = both_true (is_sync_table n t.sync) (is_chunk_table n chunks t.chunk_runs) b.1 in
-    let d = both_true (begins_at_first chunks t.chunk_runs) (are_chunk_runs 0 chunks t.chunk_runs && eqb (sum (chunk_counts chunks t.chunk_runs)) n) c.1 in
+    let d = both_true (has_first_chunk chunks t.chunk_runs) (are_chunk_runs 0 chunks t.chunk_runs && eqb (sum (chunk_counts chunks t.chunk_runs)) n) c.1 in
     let f = both_true (are_chunk_runs 0 chunks t.chunk_runs) (eqb (sum (chunk_counts chunks t.chunk_runs)) n) d.1 in
     record {
       durations = same_of _ _ a.0;

@@ -11,7 +11,7 @@ use Rattle.bmff_boxes.specs.declared.reading.ReadError.{ReadError}
 use Rattle.bmff_boxes.specs.declared.reading.ReadError.TheVariants as memory
 use Rattle.bmff_boxes.specs.Rows.{BoxView, row_of, boxes_in, first_of, all_of}
 use Rattle.bmff_init.specs.Movies.{movie_of}
-use Rattle.bmff_init.specs.Tracks.{codec_of, media_of}
+use Rattle.bmff_init.specs.Tracks.{codec_of, mdia_row_of}
 use Rattle.bmff_init.specs.declared.fault.InitFault.{InitFault}
 use Rattle.bmff_init.specs.declared.fault.InitFault.TheVariants.{Size, Missing}
 use Rattle.sample_tables.specs.declared.box_place.BoxPlace.{BoxPlace}
@@ -63,7 +63,7 @@ description_codec stsd = need Size (description_payload (child_of stsd)) >>= cod
 unfoldable pub track_tables : List ℕ → Result TrackTables InitFault
 track_tables trak = do
   track ← need Size (row_of trak)
-  media ← media_of track
+  media ← mdia_row_of track
   stbl ← sample_table_in media
   boxes ← need Size (row_of stbl)
   tables ← tables_of boxes

@@ -39,13 +39,13 @@ are_chunk_runs before chunks (r ∷ rs) =
     && (nat_le r.first chunks && (nat_le 1 r.samples && are_chunk_runs r.first chunks rs))
 
 -- the first run begins with the first chunk
-abbrev pub begins_at_first : ℕ → List ChunkRun → Bool
-begins_at_first chunks [] = chunks == 0
-begins_at_first chunks (r ∷ rs) = r.first == 1
+abbrev pub has_first_chunk : ℕ → List ChunkRun → Bool
+has_first_chunk chunks [] = chunks == 0
+has_first_chunk chunks (r ∷ rs) = r.first == 1
 
 abbrev pub is_chunk_table : ℕ → ℕ → List ChunkRun → Bool
 is_chunk_table n chunks runs =
-    begins_at_first chunks runs
+    has_first_chunk chunks runs
     && (are_chunk_runs 0 chunks runs && (sum (chunk_counts chunks runs) == n))
 
 -- all tables are of as many samples as the table of sizes
@@ -90,11 +90,11 @@ are_few before t =
     && list_all (λ size. nat_le size (2 ^ 26)) (sizes_of t.sizes))
 
 -- each sample lies inside a file of this length
-abbrev pub lies_inside : ℕ → ℕ × ℕ → Bool
-lies_inside len sample = nat_le (sample.0 + sample.1) len
+abbrev pub is_inside : ℕ → ℕ × ℕ → Bool
+is_inside len sample = nat_le (sample.0 + sample.1) len
 
 abbrev pub are_inside : ℕ → List ℕ → List ℕ → Bool
-are_inside len places sizes = list_all (lies_inside len) (zip places sizes)
+are_inside len places sizes = list_all (is_inside len) (zip places sizes)
 
 -- the places of samples of these sizes, each of which has to lie inside a file of this length
 abbrev pub places_inside : ℕ → List ℕ → List ℕ → Result (List ℕ) MovieFault

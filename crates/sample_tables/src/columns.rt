@@ -2,7 +2,7 @@ ghost use Rattle.std.specs.Prelude.{◌≡◌, ◌++◌, ◌+◌, ◌<◌, ◌�
 ghost use Rattle.std.specs.List.{list_all, AllByRecursion};
 ghost use Rattle.bmff_boxes.specs.Reading.{Gives};
 ghost use Rattle.sample_tables.specs.Samples.{sample_count, sizes_of, durations_of, offsets_by, offsets_of, sync_by, sync_of, chunk_counts, places_from, places_of, sample_at, samples_of, AreComplete};
-ghost use Rattle.sample_tables.specs.Rules.{is_offset_table, are_numbers, is_sync_table, are_consistent, are_chunk_runs, is_short_offset, lies_inside, are_inside, places_inside, Refuses};
+ghost use Rattle.sample_tables.specs.Rules.{is_offset_table, are_numbers, is_sync_table, are_consistent, are_chunk_runs, is_short_offset, is_inside, are_inside, places_inside, Refuses};
 ghost use Rattle.sample_tables.specs.Movies.{columns_inside};
 
 use crate::entries::{ChunkRun, DurationRun, OffsetRun, SampleSizes};
@@ -142,8 +142,8 @@ fn chunk_counts(alloc: Global, chunks: usize, runs: &[ChunkRun]) -> Result<Vec<u
 }
 
 /// Whether a sample lies inside a file of this length.
-fn lies_inside(len: u64, at: u64, size: u64) -> bool
-    ensures value { result ≡ lies_inside len (at, size) }
+fn is_inside(len: u64, at: u64, size: u64) -> bool
+    ensures value { result ≡ is_inside len (at, size) }
     ensures fits { IsTrue result → at + size ≤ len }
 {
     size <= len && at <= len - size
@@ -159,7 +159,7 @@ fn push_places(places: &mut Vec<u64>, len: u64, start: u64, sizes: &[u32]) -> Re
     let mut at = start;
     for size in sizes {
         let size = u64::from(*size);
-        if !lies_inside(len, at, size) {
+        if !is_inside(len, at, size) {
             return Err(MovieError::Fault(MovieFault::Place));
         }
         places.push(at)?;

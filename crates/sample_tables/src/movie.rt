@@ -49,7 +49,7 @@ fn media_track_with(
         (media_track_with len before.now info.now track_tables) }
     ensures facts { info.now.kind ≢ Kind.Other → IfOk result (λ track. IsFileTrack len track) }
     ensures few { IfOk result (λ track. AreFew before.now track) }
-    ensures named { IfOk result (λ track. track.info ≡ info.now) }
+    ensures info { IfOk result (λ track. track.info ≡ info.now) }
 {
     let TrackTables {
         stsd,
@@ -92,7 +92,7 @@ fn read_media_track(
         (media_track_of len before.now info.now trak.now) }
     ensures facts { info.now.kind ≢ Kind.Other → IfOk result (λ track. IsFileTrack len track) }
     ensures few { IfOk result (λ track. AreFew before.now track) }
-    ensures named { IfOk result (λ track. track.info ≡ info.now) }
+    ensures info { IfOk result (λ track. track.info ≡ info.now) }
 {
     match read_track_tables(alloc, trak) {
         Ok(track_tables) => media_track_with(alloc, len, before, info, track_tables),

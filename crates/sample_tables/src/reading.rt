@@ -3,7 +3,7 @@ ghost use Rattle.std.specs.Option.{option_copied};
 ghost use Rattle.std.specs.List.{range_with_len};
 ghost use Rattle.bmff_boxes.specs.FragmentFields.{composition_offset};
 ghost use Rattle.bmff_boxes.specs.Reading.{Gives};
-ghost use Rattle.sample_tables.specs.Tables.{number_at, entry_total, duration_run_at, duration_runs_of, offset_run_at, offset_runs_of, sync_numbers_of, sizes_by, each_size_of, sample_sizes_of, chunk_run_at, chunk_runs_of, chunk_offsets_of, offsets_if_there, sync_if_there, tables_of};
+ghost use Rattle.sample_tables.specs.Tables.{number_at, entry_total, duration_run_at, duration_runs_of, offset_run_at, each_size_of, sample_sizes_of, chunk_run_at, chunk_runs_of, chunk_offsets_of, offsets_if_there, sync_if_there, tables_of};
 
 use crate::entries::{ChunkRun, DurationRun, OffsetRun, SampleSizes};
 use crate::numbers::{i32_at, u32_at, u64_at};

@@ -1,7 +1,7 @@
 ghost use Rattle.std.specs.Prelude.{◌≡◌, ◌*◌, ◌/◌, ◌≤◌, ◌^◌, ◌==◌, ◌||◌, nat_le, length, sum, sum_by, IsTrue};
 ghost use Rattle.std.specs.List.{list_all};
 ghost use Rattle.sample_tables.specs.Samples.{sample_count, sizes_of, offsets_by, offsets_of, chunk_behind, chunk_counts};
-ghost use Rattle.sample_tables.specs.Rules.{are_numbers, are_chunk_runs, begins_at_first, is_chunk_table, is_offset_table, is_sync_table, are_consistent, is_short_offset, lag_of, is_in_range, are_few};
+ghost use Rattle.sample_tables.specs.Rules.{are_numbers, are_chunk_runs, has_first_chunk, is_chunk_table, is_offset_table, is_sync_table, are_consistent, is_short_offset, lag_of, is_in_range, are_few};
 ghost use Rattle.mse_base.specs.Presentation.{IsReadable};
 ghost use Rattle.mse_base.specs.Time.{SECOND as ticks_in_a_second};
 
@@ -117,8 +117,8 @@ fn are_chunk_runs(chunks: usize, runs: &[ChunkRun]) -> bool
 }
 
 /// Whether the first run begins with the first chunk.
-fn begins_at_first(chunks: usize, runs: &[ChunkRun]) -> bool
-    ensures { result ≡ begins_at_first chunks runs.now }
+fn has_first_chunk(chunks: usize, runs: &[ChunkRun]) -> bool
+    ensures { result ≡ has_first_chunk chunks runs.now }
 {
     match runs {
         [] => chunks == 0,
@@ -167,7 +167,7 @@ fn is_chunk_table(n: usize, chunks: usize, runs: &[ChunkRun]) -> bool
     requires { chunks ≤ 2 ^ 32 }
     ensures { result ≡ is_chunk_table n chunks runs.now }
 {
-    begins_at_first(chunks, runs)
+    has_first_chunk(chunks, runs)
         && are_chunk_runs(chunks, runs)
         && chunk_total(chunks, runs) == n as u128
 }

@@ -4,7 +4,7 @@ ghost use Rattle.std.specs.Result.{result_map_both};
 ghost use lib.Chars.{codes};
 ghost use Rattle.bmff_boxes.specs.Children.{Box, child_of};
 ghost use Rattle.bmff_boxes.specs.Reading.{Gives};
-ghost use Rattle.bmff_init.specs.Tracks.{codec_of, media_of};
+ghost use Rattle.bmff_init.specs.Tracks.{codec_of, mdia_row_of};
 ghost use Rattle.sample_tables.specs.Facts.{IsDescription};
 ghost use Rattle.sample_tables.specs.Movies.{sample_table_in, description_in, description_payload, description_codec, track_tables};
 
@@ -17,8 +17,8 @@ use mse_base::Bytes;
 use std::alloc::Global;
 
 /// The boxes of the media box (ISO/IEC 14496-12, 8.4.1) of a track.
-fn media_of<'a>(track: &Row<'a>) -> Result<Row<'a>, InitFault>
-    ensures { result ≡ media_of track.now }
+fn mdia_row_of<'a>(track: &Row<'a>) -> Result<Row<'a>, InitFault>
+    ensures { result ≡ mdia_row_of track.now }
 {
     let mdia = track.first(*b"mdia").ok_or(InitFault::Missing(*b"mdia"))?;
     open(mdia).ok_or(InitFault::Size)
@@ -111,7 +111,7 @@ pub(crate) fn read_track_tables(alloc: Global, trak: &[u8]) -> Result<TrackTable
     ensures described { IfOk result (λ read. IsDescription read.codec read.stsd) }
 {
     let track = open(trak).ok_or(InitFault::Size)?;
-    let media = media_of(&track)?;
+    let media = mdia_row_of(&track)?;
     let stbl = sample_table_in(&media)?;
     let boxes = open(stbl).ok_or(InitFault::Size)?;
     let tables = read_tables(alloc, &boxes)?;

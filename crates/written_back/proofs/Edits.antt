@@ -15,14 +15,14 @@ use Rattle.bmff_boxes.specs.MovieFields.{entry_count_of, elst_entry_of}
 use Rattle.bmff_boxes.specs.Rows.{row_of, first_of}
 use Rattle.bmff_init.specs.declared.fault.InitFault.{InitFault}
 use Rattle.bmff_init.specs.declared.fault.InitFault.TheVariants.{EditList}
-use Rattle.bmff_init.specs.Edits.{no_shift, edits_from, edit_count_of, edits_of, is_empty_edit, media_time_of, empty_duration, empty_shift_of, both_shifts, shifts_by, shifts_in}
+use Rattle.bmff_init.specs.Edits.{no_shift, edits_from, edit_count_of, elst_edits_of, is_empty_edit, media_time_of, empty_duration, empty_shift_of, both_shifts, shifts_by, shifts_in}
 use Rattle.bmff_init.proofs.TimeLaws.{converted-is, duration-tick, shift-ok}
 use Rattle.bmff_write.specs.Boxes.{fields_bytes}
-use Rattle.bmff_write.specs.Fits.{EditFits}
-use Rattle.bmff_write.specs.Tracks.{EndsInMedia, AreEdits}
+use Rattle.bmff_write.specs.Fits.{IsFittingEdit}
+use Rattle.bmff_write.specs.Tracks.{AreEmptyThenMedia, AreEdits}
 use Rattle.bmff_write.specs.Movie.{edit_bytes, elst_bytes}
 use Rattle.bmff_write.proofs.ReadEdits.{edit_read, edit_len_is, elst_fields, elst_payload, version_zero, entry_written, count_written, elst_len, edts_boxes, elst_row}
-use Rattle.written_back.specs.Tracks.{media_time_of as last_media_time, wait_of}
+use Rattle.written_back.specs.Tracks.{last_media_time, wait_of}
 
 -- the type of what an edit list says, which has no name outside its reader
 abbrev TypeOf : {A : Type 0} → A → Type 0
@@ -36,7 +36,7 @@ edits_step : (elst : List ℕ) (i n : ℕ) (edit : EditEntry) (edits : List Edit
 unfolding edits_from
 edits_step elst i n edit edits first others = rw (first, others) refl
 
-entries_from : (count i : ℕ) (edits : List (ℕ × ℤ)) (front : List ℕ) → length front ≡ i * 12 → AllByRecursion EditFits edits
+entries_from : (count i : ℕ) (edits : List (ℕ × ℤ)) (front : List ℕ) → length front ≡ i * 12 → AllByRecursion IsFittingEdit edits
     → edits_from (fields_bytes (elst_fields count) ++ (front ++ flat_map edit_bytes edits)) i (length edits) ≡ Ok (map edit_read edits)
 unfolding edits_from
 entries_from count i [] front size fits = refl
@@ -55,7 +55,7 @@ count_known : (p : List ℕ) (count : ℕ) → entry_count_of p ≡ Some count �
 unfolding edit_count_of
 count_known p count counted version fits few = rw (counted, version, fits, few) refl
 
-edits_written : (edits : List (ℕ × ℤ)) → AllByRecursion EditFits edits → length edits ≤ 1000 → edits_of (elst_payload edits) ≡ Ok (map edit_read edits)
+edits_written : (edits : List (ℕ × ℤ)) → AllByRecursion IsFittingEdit edits → length edits ≤ 1000 → elst_edits_of (elst_payload edits) ≡ Ok (map edit_read edits)
 edits_written edits fits few =
     let p : List ℕ = elst_payload edits in
     let counted : entry_count_of p ≡ Some (length edits) = count_written edits (omega arith) in
@@ -65,7 +65,7 @@ edits_written edits fits few =
     let count = count_known p (length edits) counted (version_zero (length edits) (flat_map edit_bytes edits)) there small in
     begun p (length edits) count ∙ entries_from (length edits) 0 edits [] refl fits
   where
-    begun : (p : List ℕ) (n : ℕ) → edit_count_of p ≡ Ok n → edits_of p ≡ edits_from p 0 n
+    begun : (p : List ℕ) (n : ℕ) → edit_count_of p ≡ Ok n → elst_edits_of p ≡ edits_from p 0 n
     begun p n e = rw e refl
 
 -- ---- what the edits say
@@ -91,7 +91,7 @@ last_edit duration (pos n) low =
     (ap (λ (t : Bool). cond (t && true) (Ok (pos n)) (Err EditList)) from_zero, refl)
 last_edit duration (negsuc n) low = absurd (omega (arith, ints, low))
 
-said : (edits : List (ℕ × ℤ)) → EndsInMedia edits
+said : (edits : List (ℕ × ℤ)) → AreEmptyThenMedia edits
     → (media_time_of (drop (prefix_len is_empty_edit (map edit_read edits)) (map edit_read edits)) ≡ Ok (last_media_time edits)) × (empty_duration (map edit_read edits) ≡ wait_of edits)
 said [] ends = absurd ends
 said (edit ∷ []) ends = last_edit edit.0 edit.1 ends
@@ -104,7 +104,7 @@ said (edit ∷ next ∷ edits) ends =
     ∙ sum_by-cons (λ (e : EditEntry). e.duration) (edit_read edit) (take (prefix_len is_empty_edit others) others) in
     (ap media_time_of (left_empty (edit_read edit) others empty) ∙ ih.0, waits ∙ ap (λ (n : ℕ). edit.0 + n) ih.1)
 
-wait_below : (edits : List (ℕ × ℤ)) → AllByRecursion EditFits edits → wait_of edits ≤ length edits * 2 ^ 32
+wait_below : (edits : List (ℕ × ℤ)) → AllByRecursion IsFittingEdit edits → wait_of edits ≤ length edits * 2 ^ 32
 wait_below [] fits = omega arith
 wait_below (edit ∷ []) fits = omega arith
 wait_below (edit ∷ next ∷ edits) fits =
@@ -127,10 +127,10 @@ abbrev pub shifts_read : List (ℕ × ℤ) → Shifts
 shifts_read edits = record { media = last_media_time edits; empty = converted (pos (wait_of edits)) 1000 }
 
 edts_opened : (elst : List ℕ) (edts : List ℕ) (edits : List EditEntry) (shifts : Shifts) → row_of edts ≡ Some (record { kind = codes "elst"; payload = elst } ∷ [])
-    → edits_of elst ≡ Ok edits → shifts_by 1000 edits ≡ Ok shifts → shifts_in 1000 (Some edts) ≡ Ok shifts
+    → elst_edits_of elst ≡ Ok edits → shifts_by 1000 edits ≡ Ok shifts → shifts_in 1000 (Some edts) ≡ Ok shifts
 edts_opened elst edts edits shifts row read said = rw (row, read, said) refl
 
-pub shifts_written : (edits : List (ℕ × ℤ)) → AreEdits edits → AllByRecursion EditFits edits → shifts_in 1000 (first_of (codes "edts") (edts_boxes edits)) ≡ Ok (shifts_read edits)
+pub shifts_written : (edits : List (ℕ × ℤ)) → AreEdits edits → AllByRecursion IsFittingEdit edits → shifts_in 1000 (first_of (codes "edts") (edts_boxes edits)) ≡ Ok (shifts_read edits)
 shifts_written [] are fits = refl
 shifts_written (edit ∷ edits) are fits =
     let all : List (ℕ × ℤ) = edit ∷ edits in

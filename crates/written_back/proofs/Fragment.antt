@@ -16,14 +16,14 @@ use Rattle.bmff_boxes.specs.Rows.{BoxView, row_of, first_of, all_of}
 use Rattle.bmff_boxes.specs.Children.{payload_of, payload_in}
 use Rattle.bmff_fragment.specs.declared.slot.Slot.{Slot}
 use Rattle.bmff_fragment.specs.Headers.{track_fragment_header_of, defaults_of, run_header_of}
-use Rattle.bmff_fragment.specs.Samples.{sample_of, samples_of, sample_with_defaults, header_flags, each}
+use Rattle.bmff_fragment.specs.Samples.{run_sample_of, run_samples_of, sample_with_defaults, header_flags, each}
 use Rattle.bmff_fragment.specs.Times.{Run, data_len, duration_of, slot_of, slot_at, slots_of_run, slots_behind}
 use Rattle.mse_base.specs.Moments.{is_media}
-use Rattle.bmff_fragment.specs.Plans.{track_of, track_fragment_of, run_of, runs_of, samples_in, data_end, media_slots, trafs_of, plan_of}
+use Rattle.bmff_fragment.specs.Plans.{track_with_id, track_fragment_of, run_of, runs_of, samples_in, data_end, media_slots, trafs_of, plan_of}
 use Rattle.bmff_write.specs.declared.traf_out.SampleOut.{SampleOut}
 use Rattle.bmff_write.specs.declared.traf_out.TrafOut.{TrafOut}
 use Rattle.bmff_write.specs.Boxes.{fields_bytes, box_bytes}
-use Rattle.bmff_write.specs.Fits.{SampleFits, TrafFits}
+use Rattle.bmff_write.specs.Fits.{IsFittingSample, IsFittingTraf}
 use Rattle.bmff_write.specs.Tracks.{AreTrafsOut, payload_len}
 use Rattle.bmff_write.specs.Fragment.{sample_bytes, moof_len, moof_bytes}
 use Rattle.bmff_write.proofs.ReadBoxes.{box_child}
@@ -68,9 +68,9 @@ no_flags : (t : Bool) → ◌≡◌ {A = Option ℕ} (cond t None None) None
 no_flags true = refl
 no_flags false = refl
 
-sample_written : (defaults : Defaults) (at count i : ℕ) (front back : List ℕ) (s : SampleOut) → length front ≡ i * 16 → SampleFits s → length s.payload < 2 ^ 32
-    → sample_of defaults (run_header count at) (fields_bytes (trun_fields at count) ++ (front ++ (sample_bytes s ++ back))) i ≡ Some (sample_read s)
-unfolding sample_of
+sample_written : (defaults : Defaults) (at count i : ℕ) (front back : List ℕ) (s : SampleOut) → length front ≡ i * 16 → IsFittingSample s → length s.payload < 2 ^ 32
+    → run_sample_of defaults (run_header count at) (fields_bytes (trun_fields at count) ++ (front ++ (sample_bytes s ++ back))) i ≡ Some (sample_read s)
+unfolding run_sample_of
 sample_written defaults at count i front back s size fits small =
     ap (option_map (sample_with_defaults defaults (header_flags (run_header count at) i))) (told_written at count i front back s size fits small)
     ∙ ap (λ (o : Option ℕ). Some (sample_with_defaults defaults o (sample_told s))) (no_flags (eqb i 0))
@@ -80,8 +80,8 @@ abbrev IsSmall : SampleOut → Type 0
 IsSmall s = length s.payload < 2 ^ 32
 
 samples_from : (defaults : Defaults) (at count i : ℕ) (samples : List SampleOut) (front : List ℕ) → length front ≡ i * 16
-    → AllByRecursion SampleFits samples → AllByRecursion IsSmall samples
-    → each (map (sample_of defaults (run_header count at) (fields_bytes (trun_fields at count) ++ (front ++ flat_map sample_bytes samples))) (range_with_len i (length samples)))
+    → AllByRecursion IsFittingSample samples → AllByRecursion IsSmall samples
+    → each (map (run_sample_of defaults (run_header count at) (fields_bytes (trun_fields at count) ++ (front ++ flat_map sample_bytes samples))) (range_with_len i (length samples)))
     ≡ Some (map sample_read samples)
 samples_from defaults at count i [] front size fits small = refl
 samples_from defaults at count i (s ∷ samples) front size fits small =
@@ -92,13 +92,13 @@ samples_from defaults at count i (s ∷ samples) front size fits small =
     let longer : length (front ++ sample_bytes s) ≡ (i + 1) * 16 = omega (arith, length-append front (sample_bytes s), sample_len_is s, size) in
     let others = samples_from defaults at count (i + 1) samples (front ++ sample_bytes s) longer fits.1 small.1 in
     let same : head ++ ((front ++ sample_bytes s) ++ back) ≡ p = ap (λ (xs : List ℕ). head ++ xs) (append_assoc front (sample_bytes s) back) in
-    let rest : each (map (sample_of defaults (run_header count at) p) (range_with_len (i + 1) (length samples))) ≡ Some (map sample_read samples) =
-    ap (λ (xs : List ℕ). each (map (sample_of defaults (run_header count at) xs) (range_with_len (i + 1) (length samples)))) (sym same) ∙ others in
-    ap (λ (o : Option SampleRead). each (o ∷ map (sample_of defaults (run_header count at) p) (range_with_len (i + 1) (length samples)))) first
+    let rest : each (map (run_sample_of defaults (run_header count at) p) (range_with_len (i + 1) (length samples))) ≡ Some (map sample_read samples) =
+    ap (λ (xs : List ℕ). each (map (run_sample_of defaults (run_header count at) xs) (range_with_len (i + 1) (length samples)))) (sym same) ∙ others in
+    ap (λ (o : Option SampleRead). each (o ∷ map (run_sample_of defaults (run_header count at) p) (range_with_len (i + 1) (length samples)))) first
     ∙ ap (option_map (λ xs. sample_read s ∷ xs)) rest
 
-samples_written : (defaults : Defaults) (at : ℕ) (samples : List SampleOut) → AllByRecursion SampleFits samples → AllByRecursion IsSmall samples
-    → samples_of defaults (run_header (length samples) at) (trun_payload at samples) ≡ Some (map sample_read samples)
+samples_written : (defaults : Defaults) (at : ℕ) (samples : List SampleOut) → AllByRecursion IsFittingSample samples → AllByRecursion IsSmall samples
+    → run_samples_of defaults (run_header (length samples) at) (trun_payload at samples) ≡ Some (map sample_read samples)
 samples_written defaults at samples fits small = samples_from defaults at (length samples) 0 samples [] refl fits small
 
 -- the sums over the samples before are those that grow sample by sample
@@ -185,7 +185,7 @@ abbrev fragment_read : TrackInfo → TrafOut → TrackFragment
 fragment_read track t = record { track = track; defaults = defaults_of (traf_header t.id) track; base = pos 0; decode_time = t.decode }
 
 fragment_known : (tracks : List TrackInfo) (end : ℤ) (at : ℕ) (t : TrafOut) (track : TrackInfo) → track_fragment_header_of (tfhd_payload t.id) ≡ Some (traf_header t.id)
-    → track_of tracks t.id ≡ Some track → tfdt_time_of (tfdt_payload t.decode) ≡ Some t.decode → track_fragment_of tracks end (traf_row at t) ≡ Ok (fragment_read track t)
+    → track_with_id tracks t.id ≡ Some track → tfdt_time_of (tfdt_payload t.decode) ≡ Some t.decode → track_fragment_of tracks end (traf_row at t) ≡ Ok (fragment_read track t)
 unfolding track_fragment_of
 fragment_known tracks end at t track header found time = rw (header, found, time) refl
 
@@ -198,7 +198,7 @@ from_zero n = grind (arith, ints)
 
 run_known : (fragment : TrackFragment) (count at : ℕ) (end : ℤ) (samples : List SampleOut) → fragment.base ≡ pos 0
     → run_header_of (trun_payload at samples) ≡ Some (run_header (length samples) at) → leb (count + length samples) (2 ^ 20) ≡ true
-    → samples_of fragment.defaults (run_header (length samples) at) (trun_payload at samples) ≡ Some (map sample_read samples)
+    → run_samples_of fragment.defaults (run_header (length samples) at) (trun_payload at samples) ≡ Some (map sample_read samples)
     → run_of fragment count end (trun_payload at samples) ≡ Ok (run_read at samples)
 unfolding run_of
 run_known fragment count at end samples base header few read =
@@ -227,8 +227,8 @@ small_samples (s ∷ samples) small =
 if_media : (track : TrackInfo) (slots : List Slot) → is_media track.kind ≡ true → media_slots track slots ≡ slots
 if_media track slots e = ap (λ (t : Bool). cond t slots []) e
 
-traf_written : (tracks : List TrackInfo) (count at : ℕ) (end : ℤ) (t : TrafOut) (trafs : List (List ℕ)) (slots : List Slot) (found : Option TrackInfo) → AreMedia tracks → track_of tracks t.id ≡ found → IsSome found
-    → TrafFits t → count + length t.samples ≤ 2 ^ 20 → at < 2 ^ 31 → payload_len t.samples < 2 ^ 31
+traf_written : (tracks : List TrackInfo) (count at : ℕ) (end : ℤ) (t : TrafOut) (trafs : List (List ℕ)) (slots : List Slot) (found : Option TrackInfo) → AreMedia tracks → track_with_id tracks t.id ≡ found → IsSome found
+    → IsFittingTraf t → count + length t.samples ≤ 2 ^ 20 → at < 2 ^ 31 → payload_len t.samples < 2 ^ 31
     → ((end : ℤ) → trafs_of tracks (count + length t.samples) end trafs ≡ Ok slots)
     → trafs_of tracks count end (traf_payload at t ∷ trafs) ≡ Ok (traf_slots found at t ++ slots)
 traf_written tracks count at end t trafs slots None media e some fits few small light more = absurd cc
@@ -258,7 +258,7 @@ trafs_written tracks count at end (t ∷ trafs) media each few small =
     let a = sum_by-cons (λ (x : TrafOut). length x.samples) t trafs in
     let b = sum_by-cons (λ (x : TrafOut). payload_len x.samples) t trafs in
     let one = each.0 in
-    traf_written tracks count at end t (traf_payloads (at + payload_len t.samples) trafs) (trafs_slots tracks (at + payload_len t.samples) trafs) (track_of tracks t.id) media refl one.named one.fits
+    traf_written tracks count at end t (traf_payloads (at + payload_len t.samples) trafs) (trafs_slots tracks (at + payload_len t.samples) trafs) (track_with_id tracks t.id) media refl one.named one.fits
     (omega (arith, a)) (omega (arith, b)) (omega (arith, b))
     (λ end. trafs_written tracks (count + length t.samples) (at + payload_len t.samples) end trafs media each.1 (omega (arith, a)) (omega (arith, b)))
 

@@ -1,9 +1,9 @@
 -- A file that is made from a number reads back.
 use Rattle.std.proofs.Common.{◌≡◌, ◌∙◌, ℕ, zero, suc, ◌+◌, ◌<◌, ◌≤◌, List, [], ◌∷◌, ◌++◌, length, map, None, length-append, ap, refl, sym, arith}
 use Rattle.std.specs.List.{flat_map, range_with_len, AllByRecursion}
-use Rattle.segment_walk.specs.Segments.{Items}
+use Rattle.segment_walk.specs.Segments.{items_of_string}
 use Rattle.bmff_write.specs.declared.track_out.TrackOut.{TrackOut}
-use Rattle.bmff_write.specs.Fits.{TrackFits, SampleFits, TrafFits}
+use Rattle.bmff_write.specs.Fits.{IsFittingTrack, IsFittingSample, IsFittingTraf}
 use Rattle.bmff_write.specs.Movie.{edts_bytes, stsd_bytes, trak_bytes, traks_bytes, init_bytes}
 use Rattle.bmff_write.specs.Made.{made_track, made_sample, made_samples, made_traf, made_segment, made_bytes}
 use Rattle.bmff_write.proofs.MadeLaws.{made_writable, made_tracks}
@@ -17,15 +17,15 @@ same_bytes : (js : List ℕ) → segments_bytes (map made_segment_out js) ≡ fl
 same_bytes [] = refl
 same_bytes (j ∷ js) = ap (λ (xs : List ℕ). made_segment j ++ xs) (same_bytes js)
 
-sample_fits : (j i : ℕ) → SampleFits (made_sample j i)
+sample_fits : (j i : ℕ) → IsFittingSample (made_sample j i)
 unfolding made_sample
 sample_fits j i = record { duration = omega arith; offset = record { sfits = omega arith } }
 
-samples_fit : (j : ℕ) (is : List ℕ) → AllByRecursion SampleFits (map (made_sample j) is)
+samples_fit : (j : ℕ) (is : List ℕ) → AllByRecursion IsFittingSample (map (made_sample j) is)
 samples_fit j [] = tt
 samples_fit j (i ∷ is) = (sample_fits j i, samples_fit j is)
 
-traf_fits : (j : ℕ) → j < 10000 → TrafFits (made_traf j)
+traf_fits : (j : ℕ) → j < 10000 → IsFittingTraf (made_traf j)
 unfolding made_traf made_samples
 traf_fits j small = record { decode = omega arith; samples = samples_fit j (range_with_len 0 30) }
 
@@ -38,7 +38,7 @@ segments_of_track from zero few = tt
 segments_of_track from (suc n) few =
     (record { trafs = made_writable from; each = (traf_of_track from (omega arith), tt) }, segments_of_track (from + 1) n (omega arith))
 
-track_fits : TrackFits made_track
+track_fits : IsFittingTrack made_track
 unfolding made_track
 track_fits = record { scale = omega arith; codec = refl; edits = tt }
 
@@ -63,9 +63,9 @@ made_init_size =
       vmhd_size,
     )
 
-pub made_read : (n : ℕ) → n ≤ 10000 → Items None (made_bytes n) ≡ items_read (made_track ∷ []) 595 (made_segments_out n)
+pub made_read : (n : ℕ) → n ≤ 10000 → items_of_string None (made_bytes n) ≡ items_read (made_track ∷ []) 595 (made_segments_out n)
 unfolding made_bytes
 made_read n few =
-    ap (λ (xs : List ℕ). Items None (init_bytes (made_track ∷ []) ++ xs)) (sym (same_bytes (range_with_len 0 n)))
+    ap (λ (xs : List ℕ). items_of_string None (init_bytes (made_track ∷ []) ++ xs)) (sym (same_bytes (range_with_len 0 n)))
     ∙ written_plain (made_track ∷ []) (made_segments_out n) made_tracks (track_fits, tt) (segments_of_track 0 n (omega arith))
     ∙ ap (λ (m : ℕ). items_read (made_track ∷ []) m (made_segments_out n)) made_init_size

@@ -19,16 +19,16 @@ use Rattle.bmff_boxes.specs.Fields.{is_version}
 use Rattle.bmff_boxes.specs.MovieFields.{mvhd_scale_of, mvhd_duration_of, tkhd_track_of, mdhd_scale_of, hdlr_handler_of, entry_count_of, trex_duration_of, trex_size_of, trex_flags_of}
 use Rattle.bmff_boxes.specs.Rows.{BoxView, row_of, first_of, all_of}
 use Rattle.bmff_init.specs.Edits.{shifts_in}
-use Rattle.bmff_init.specs.Tracks.{is_trex_of, default_of, kind_of, entry_type, codec_of, are_empty_tables, codec_in, media_scale_of, media_content, content_of, number_of, media_of, kind_in, track_with, track_of, tracks_of}
-use Rattle.bmff_init.specs.Movies.{times_of, extends_of, presentation_in, presentation_of, init_of}
+use Rattle.bmff_init.specs.Tracks.{is_trex_of, default_of, kind_of, entry_type, codec_of, empty_tables_check, codec_in, media_scale_of, media_content, content_of, track_number_of, mdia_row_of, kind_in, track_with, track_of_trak, tracks_of_traks}
+use Rattle.bmff_init.specs.Movies.{times_of, extends_of, presentation_in, moov_presentation_of, init_of}
 use Rattle.bmff_write.specs.declared.track_out.TrackOut.{TrackOut}
 use Rattle.bmff_write.specs.Boxes.{box_bytes}
-use Rattle.bmff_write.specs.Fits.{TrackFits}
+use Rattle.bmff_write.specs.Fits.{IsFittingTrack}
 use Rattle.bmff_write.specs.Tracks.{IsTrackOut, HaveDistinctNumbers, AreTracksOut, HasType, IsSampleDescription, AreSampleDescriptions}
 use Rattle.bmff_write.specs.Movie.{handler_of, greatest_number, moov_bytes}
 use Rattle.bmff_write.proofs.ReadBoxes.{box_child}
 use Rattle.bmff_write.proofs.ReadMovies.{table_payload, table_row, stbl_payload, table_row_read, no_entries, information_row, minf_payload, information_read, stbl_first, mdhd_payload, hdlr_payload, media_row, mdia_payload, media_row_read, scale_read, handler_written, tkhd_payload, track_row, trak_payload, track_row_read, mdia_first, edts_first, number_read, trex_payload, trex_len, trex_zero, few_edits, trak_payloads, mvhd_payload, trex_boxes, mvex_payload, trexes_row, trexes_all, movie_row, traks_all, mvex_first, mvhd_scale, mvhd_duration, mvhd_version, moov_payload, moov_small, movie_row_read}
-use Rattle.written_back.specs.Tracks.{track_read, presentation_read, media_time_of, wait_of}
+use Rattle.written_back.specs.Tracks.{track_read, presentation_read, last_media_time, wait_of}
 use Rattle.written_back.specs.Slots.{FourthOf}
 use Rattle.written_back.proofs.Edits.{Shifts, shifts_read, shifts_written}
 
@@ -46,7 +46,7 @@ Content = FourthOf track_with
 -- what is asked of a movie box in the form of fragmented files
 record IsFragmented (form : Form) : Type 0 where
   tables : (table : List BoxView) (empty : List ℕ) → entry_count_of empty ≡ Some 0 → first_of (codes "stts") table ≡ Some empty → first_of (codes "stsc") table ≡ Some empty
-      → first_of (codes "stco") table ≡ Some empty → first_of (codes "co64") table ≡ None → are_empty_tables form table ≡ Ok true
+      → first_of (codes "stco") table ≡ Some empty → first_of (codes "co64") table ≡ None → empty_tables_check form table ≡ Ok true
   extends : (movie boxes : List BoxView) (mvex : List ℕ) (trexes : List (List ℕ)) → first_of (codes "mvex") movie ≡ Some mvex → row_of mvex ≡ Some boxes → first_of (codes "mehd") boxes ≡ None
       → all_of (codes "trex") boxes ≡ trexes → list_all (λ trex. leb 24 (length trex)) trexes ≡ true → extends_of form movie ≡ Ok (record { duration = 0; trexes = trexes })
 
@@ -83,7 +83,7 @@ kind_read : (t : TrackOut) (stsd : List ℕ) → t.kind ≢ Other → kind_in (m
 kind_read t stsd is = kind_known (media_row t stsd) (hdlr_payload t.kind) (handler_of t.kind) refl (handler_written t.kind) ∙ ap Ok (handled t.kind is)
 
 codec_in_known : (form : Form) (media information table : List BoxView) (minf stbl stsd codec : List ℕ) → first_of (codes "minf") media ≡ Some minf → row_of minf ≡ Some information
-    → first_of (codes "stbl") information ≡ Some stbl → row_of stbl ≡ Some table → first_of (codes "stsd") table ≡ Some stsd → codec_of stsd ≡ Ok codec → are_empty_tables form table ≡ Ok true
+    → first_of (codes "stbl") information ≡ Some stbl → row_of stbl ≡ Some table → first_of (codes "stsd") table ≡ Some stsd → codec_of stsd ≡ Ok codec → empty_tables_check form table ≡ Ok true
     → codec_in form media ≡ Ok codec
 unfolding codec_in
 codec_in_known form media information table minf stbl stsd codec a b c d e f g = rw (a, b, c, d, e, f, g) refl
@@ -94,10 +94,10 @@ media_codec form fragmented t stsd d =
     refl (information_read t.kind stsd d.short) (stbl_first t.kind stsd) (table_row_read t.codec stsd d) refl (codec_read t.codec stsd d) (fragmented.tables (table_row d.payload) table_payload no_entries refl refl refl refl)
 
 number_known : (before : List TrackInfo) (track : List BoxView) (tkhd : List ℕ) (id : ℕ) → first_of (codes "tkhd") track ≡ Some tkhd → tkhd_track_of tkhd ≡ Some id → list_any (has_id id) before ≡ false
-    → number_of before track ≡ Ok id
+    → track_number_of before track ≡ Ok id
 number_known before track tkhd id first read fresh = rw (first, read, fresh) refl
 
-media_known : (track : List BoxView) (mdia : List ℕ) (media : List BoxView) → first_of (codes "mdia") track ≡ Some mdia → row_of mdia ≡ Some media → media_of track ≡ Ok media
+media_known : (track : List BoxView) (mdia : List ℕ) (media : List BoxView) → first_of (codes "mdia") track ≡ Some mdia → row_of mdia ≡ Some media → mdia_row_of track ≡ Ok media
 media_known track mdia media first row = rw (first, row) refl
 
 content_known : (form : Form) (track media : List BoxView) (scale : ℕ) (codec : List ℕ) (shifts : Shifts) → media_scale_of media ≡ Ok scale → codec_in form media ≡ Ok codec
@@ -129,7 +129,7 @@ trexes_zero (t ∷ ts) =
     ((one.0, ih.0), (one.1, ih.1), (one.2, ih.2))
 
 abbrev content_read : TrackOut → Content
-content_read t = record { codec = t.codec; scale = t.scale; media_shift = media_time_of t.edits; empty_shift = converted (pos (wait_of t.edits)) 1000 }
+content_read t = record { codec = t.codec; scale = t.scale; media_shift = last_media_time t.edits; empty_shift = converted (pos (wait_of t.edits)) 1000 }
 
 with_trexes : (ts : List TrackOut) (t : TrackOut) → track_with (map trex_payload ts) t.id t.kind (content_read t) ≡ track_read t
 with_trexes ts t =
@@ -139,13 +139,13 @@ with_trexes ts t =
     let c = find_zero trex_flags_of (is_trex_of t.id) (map trex_payload ts) zero.2 in
     rw (a, b, c) refl
 
-track_known : (form : Form) (trexes : List (List ℕ)) (before : List TrackInfo) (trak : List ℕ) (track media : List BoxView) (id : ℕ) (kind : Kind) (content : Content) → row_of trak ≡ Some track → number_of before track ≡ Ok id
-    → media_of track ≡ Ok media → kind_in media ≡ Ok kind → content_of form 1000 kind track media ≡ Ok content → track_of form 1000 trexes before trak ≡ Ok (track_with trexes id kind content)
-unfolding track_of
+track_known : (form : Form) (trexes : List (List ℕ)) (before : List TrackInfo) (trak : List ℕ) (track media : List BoxView) (id : ℕ) (kind : Kind) (content : Content) → row_of trak ≡ Some track → track_number_of before track ≡ Ok id
+    → mdia_row_of track ≡ Ok media → kind_in media ≡ Ok kind → content_of form 1000 kind track media ≡ Ok content → track_of_trak form 1000 trexes before trak ≡ Ok (track_with trexes id kind content)
+unfolding track_of_trak
 track_known form trexes before trak track media id kind content a b c d e = rw (a, b, c, d, e) refl
 
-track_written : (form : Form) → IsFragmented form → (ts : List TrackOut) (before : List TrackInfo) (t : TrackOut) (stsd : List ℕ) → IsTrackOut t → TrackFits t → IsSampleDescription t.codec stsd → list_any (has_id t.id) before ≡ false
-    → track_of form 1000 (map trex_payload ts) before (trak_payload t stsd) ≡ Ok (track_read t)
+track_written : (form : Form) → IsFragmented form → (ts : List TrackOut) (before : List TrackInfo) (t : TrackOut) (stsd : List ℕ) → IsTrackOut t → IsFittingTrack t → IsSampleDescription t.codec stsd → list_any (has_id t.id) before ≡ false
+    → track_of_trak form 1000 (map trex_payload ts) before (trak_payload t stsd) ≡ Ok (track_read t)
 track_written form fragmented ts before t stsd is fits d fresh =
     let track : List BoxView = track_row t stsd in
     let media : List BoxView = media_row t stsd in
@@ -178,15 +178,15 @@ fresh_push before t (u ∷ us) fresh apart =
     let other : (t.id == u.id) ≡ false = (let h = apart.0 in grind (arith, nat_tests)) in
     (any_push (has_id u.id) before (track_read t) fresh.0 other, fresh_push before t us fresh.1 apart.1)
 
-tracks_step : (form : Form) (trexes : List (List ℕ)) (before : List TrackInfo) (trak : List ℕ) (traks : List (List ℕ)) (track : TrackInfo) (all : List TrackInfo) → track_of form 1000 trexes before trak ≡ Ok track
-    → tracks_of form 1000 trexes (before ++ track ∷ []) traks ≡ Ok all → tracks_of form 1000 trexes before (trak ∷ traks) ≡ Ok all
-unfolding tracks_of
+tracks_step : (form : Form) (trexes : List (List ℕ)) (before : List TrackInfo) (trak : List ℕ) (traks : List (List ℕ)) (track : TrackInfo) (all : List TrackInfo) → track_of_trak form 1000 trexes before trak ≡ Ok track
+    → tracks_of_traks form 1000 trexes (before ++ track ∷ []) traks ≡ Ok all → tracks_of_traks form 1000 trexes before (trak ∷ traks) ≡ Ok all
+unfolding tracks_of_traks
 tracks_step form trexes before trak traks track all a b = rw (a, b) refl
 
-tracks_written : (form : Form) → IsFragmented form → (all ts : List TrackOut) (stsds : List (List ℕ)) (before : List TrackInfo) → AllByRecursion IsTrackOut ts → AllByRecursion TrackFits ts → AreSampleDescriptions ts stsds
+tracks_written : (form : Form) → IsFragmented form → (all ts : List TrackOut) (stsds : List (List ℕ)) (before : List TrackInfo) → AllByRecursion IsTrackOut ts → AllByRecursion IsFittingTrack ts → AreSampleDescriptions ts stsds
     → HaveDistinctNumbers ts → AreFresh before ts
-    → tracks_of form 1000 (map trex_payload all) before (trak_payloads ts stsds) ≡ Ok (before ++ map track_read ts)
-unfolding tracks_of
+    → tracks_of_traks form 1000 (map trex_payload all) before (trak_payloads ts stsds) ≡ Ok (before ++ map track_read ts)
+unfolding tracks_of_traks
 tracks_written form fragmented all [] stsds before each fits are apart fresh = ap Ok (sym (append-nil before))
 tracks_written form fragmented all (t ∷ ts) [] before each fits are apart fresh = absurd are
 tracks_written form fragmented all (t ∷ ts) (stsd ∷ stsds) before each fits are apart fresh =
@@ -212,7 +212,7 @@ times_known movie mvhd first scale duration version = rw (first, scale, duration
 
 presentation_known : (form : Form) (movie : List BoxView) (trexes traks : List (List ℕ)) (tracks : List TrackInfo) → times_of movie ≡ Ok (record { scale = 1000; duration = 0 })
     → extends_of form movie ≡ Ok (record { duration = 0; trexes = trexes }) → all_of (codes "trak") movie ≡ traks → leb (length traks) 64 ≡ true
-    → tracks_of form 1000 trexes [] traks ≡ Ok tracks → presentation_in form movie ≡ Ok (record { scale = 1000; duration = Infinite; tracks = tracks })
+    → tracks_of_traks form 1000 trexes [] traks ≡ Ok tracks → presentation_in form movie ≡ Ok (record { scale = 1000; duration = Infinite; tracks = tracks })
 unfolding presentation_in
 presentation_known form movie trexes traks tracks a b c d e = rw (a, b, c, d, e) refl
 
@@ -225,7 +225,7 @@ fresh_all : (ts : List TrackOut) → AreFresh [] ts
 fresh_all [] = tt
 fresh_all (t ∷ ts) = (refl, fresh_all ts)
 
-presentation_written : (form : Form) → IsFragmented form → (ts : List TrackOut) (stsds : List (List ℕ)) → AreTracksOut ts → AllByRecursion TrackFits ts → AreSampleDescriptions ts stsds
+presentation_written : (form : Form) → IsFragmented form → (ts : List TrackOut) (stsds : List (List ℕ)) → AreTracksOut ts → AllByRecursion IsFittingTrack ts → AreSampleDescriptions ts stsds
     → presentation_in form (movie_row ts stsds) ≡ Ok (presentation_read ts)
 presentation_written form fragmented ts stsds are fits described =
     let movie : List BoxView = movie_row ts stsds in
@@ -238,12 +238,12 @@ presentation_written form fragmented ts stsds are fits described =
     (tracks_written form fragmented ts ts stsds [] are.each fits described are.distinct (fresh_all ts))
 
 init_known : (form : Form) (moov payload : List ℕ) (boxes : List BoxView) (p : Presentation) → payload_of moov ≡ Some payload → row_of payload ≡ Some boxes → presentation_in form boxes ≡ Ok p
-    → presentation_of form moov ≡ Ok p
+    → moov_presentation_of form moov ≡ Ok p
 init_known form moov payload boxes p a b c = rw (a, b, c) refl
 
 -- what a movie box reads as
-movie_written : (form : Form) → IsFragmented form → (ts : List TrackOut) (stsds : List (List ℕ)) → AreTracksOut ts → AllByRecursion TrackFits ts → AreSampleDescriptions ts stsds
-    → presentation_of form (moov_bytes ts stsds) ≡ Ok (presentation_read ts)
+movie_written : (form : Form) → IsFragmented form → (ts : List TrackOut) (stsds : List (List ℕ)) → AreTracksOut ts → AllByRecursion IsFittingTrack ts → AreSampleDescriptions ts stsds
+    → moov_presentation_of form (moov_bytes ts stsds) ≡ Ok (presentation_read ts)
 unfolding moov_bytes
 movie_written form fragmented ts stsds are fits described =
     let moov : List ℕ = box_bytes (codes "moov") (moov_payload ts stsds) in
@@ -251,8 +251,8 @@ movie_written form fragmented ts stsds are fits described =
     let opened : payload_of moov ≡ Some (moov_payload ts stsds) = ap payload_of (sym (append-nil moov)) ∙ ap payload_in child in
     init_known form moov (moov_payload ts stsds) (movie_row ts stsds) (presentation_read ts) opened (movie_row_read ts stsds are described) (presentation_written form fragmented ts stsds are fits described)
 
-pub init_written : (ts : List TrackOut) (stsds : List (List ℕ)) → AreTracksOut ts → AllByRecursion TrackFits ts → AreSampleDescriptions ts stsds → init_of (moov_bytes ts stsds) ≡ Ok (presentation_read ts)
-unfolding are_empty_tables extends_of
+pub init_written : (ts : List TrackOut) (stsds : List (List ℕ)) → AreTracksOut ts → AllByRecursion IsFittingTrack ts → AreSampleDescriptions ts stsds → init_of (moov_bytes ts stsds) ≡ Ok (presentation_read ts)
+unfolding empty_tables_check extends_of
 init_written ts stsds are fits described =
     movie_written _ (record {
       tables = λ table empty none a b c d. rw (a, b, c, d, none) refl;

@@ -14,12 +14,12 @@ use Rattle.bmff_boxes.specs.declared.box_header.Header.{Header}
 use Rattle.bmff_boxes.specs.declared.box_header.Header.TheVariants as head
 use Rattle.bmff_boxes.specs.Headers.{header_of}
 use Rattle.bmff_fragment.specs.declared.slot.Slot.{Slot}
-use Rattle.bmff_fragment.specs.Plans.{track_of, plan_of}
+use Rattle.bmff_fragment.specs.Plans.{track_with_id, plan_of}
 use Rattle.bmff_fragment.specs.Times.{slot_of}
 use Rattle.parser_loop.specs.Items.{FrameItem, SegmentEnd}
 use Rattle.parser_loop.specs.Parse.{ParserView, items_of}
 use Rattle.segment_walk.specs.Tables.{SegmentItem}
-use Rattle.segment_walk.specs.Segments.{OpenFragment, Context, NoFragment, InFragment, SegmentParse, view_at, is_inside, frame_at, parse_once_there, parse_of_slots, parse_of_boxes, parse_of_box, parse_of_header, parse_of_mdat, parse_of_data_end}
+use Rattle.segment_walk.specs.Segments.{OpenFragment, Context, NoFragment, InFragment, SegmentParse, view_at, is_inside, frame_item_at, parse_once_there, parse_of_slots, parse_of_boxes, parse_of_box, parse_of_header, parse_of_mdat, parse_of_data_end}
 use Rattle.bmff_write.specs.declared.traf_out.SampleOut.{SampleOut}
 use Rattle.bmff_write.specs.declared.traf_out.TrafOut.{TrafOut}
 use Rattle.bmff_write.specs.Boxes.{box_bytes}
@@ -74,7 +74,7 @@ inside moof start end s low high =
 
 -- the slot of a sample gives its frame
 slot_step : (b : List ℕ) (now : ParserView) (moof start end : ℕ) (all slots : List Slot) (next : List Slot → SegmentParse) (s : Slot) (item : SegmentItem)
-    → start ≤ moof + s.start → moof + s.end ≤ end → end ≤ length b → frame_at b moof s ≡ item
+    → start ≤ moof + s.start → moof + s.end ≤ end → end ≤ length b → frame_item_at b moof s ≡ item
     → items_of (parse_of_slots b now (filled moof all start end) next (s ∷ slots)) ≡ item ∷ items_of (parse_of_slots b now (filled moof all start end) next slots)
 slot_step b now moof start end all slots next s item low high there is =
     let lies = inside moof start end s low high in
@@ -82,7 +82,7 @@ slot_step b now moof start end all slots next s item low high there is =
     rw (lies, come, is) refl
 
 frame_is : (b : List ℕ) (moof place at time : ℕ) (track : TrackInfo) (s : SampleOut) (rest : List ℕ) → at ≡ moof + place → drop at b ≡ s.payload ++ rest
-    → frame_at b moof (slot_of track time place (sample_read s)) ≡ FrameItem (frame_read track time s) at
+    → frame_item_at b moof (slot_of track time place (sample_read s)) ≡ FrameItem (frame_read track time s) at
 unfolding slot_of
 frame_is b moof place at time track s rest is stands =
     let bytes : slice_range b (moof + place) (moof + (place + length s.payload)) ≡ s.payload =
@@ -144,12 +144,12 @@ trafs_walked b now moof start end all next tracks place at (t ∷ trafs) rest ea
     let many = payloads_len t.samples in
     let behind : drop (at + payload_len t.samples) b ≡ all_payloads trafs ++ rest =
     ap (λ (n : ℕ). drop (at + n) b) (sym many) ∙ stands_behind b at (payloads_of t.samples) (all_payloads trafs) rest parts in
-    let first = traf_walked b now moof start end all (trafs_slots tracks (place + payload_len t.samples) trafs) next (track_of tracks t.id) place at t (all_payloads trafs ++ rest)
+    let first = traf_walked b now moof start end all (trafs_slots tracks (place + payload_len t.samples) trafs) next (track_with_id tracks t.id) place at t (all_payloads trafs ++ rest)
     one.named is low (omega (arith, high, sum)) there parts in
     let others = trafs_walked b now moof start end all next tracks (place + payload_len t.samples) (at + payload_len t.samples) trafs rest each.1
     (omega (arith, is)) (omega (arith, low)) (omega (arith, high, sum)) there behind in
-    first ∙ ap (λ (xs : List SegmentItem). traf_read (track_of tracks t.id) at t ++ xs) others
-    ∙ sym (append_assoc (traf_read (track_of tracks t.id) at t) (trafs_read tracks (at + payload_len t.samples) trafs) (items_of (next [])))
+    first ∙ ap (λ (xs : List SegmentItem). traf_read (track_with_id tracks t.id) at t ++ xs) others
+    ∙ sym (append_assoc (traf_read (track_with_id tracks t.id) at t) (trafs_read tracks (at + payload_len t.samples) trafs) (items_of (next [])))
 
 -- ---- a media segment
 

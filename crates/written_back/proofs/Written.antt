@@ -19,10 +19,10 @@ use Rattle.bmff_init.specs.Movies.{init_of}
 use Rattle.parser_loop.specs.Items.{InitItem}
 use Rattle.parser_loop.specs.Parse.{items_of}
 use Rattle.segment_walk.specs.Tables.{SegmentItem}
-use Rattle.segment_walk.specs.Segments.{NoFragment, Items, parse_of_boxes}
+use Rattle.segment_walk.specs.Segments.{NoFragment, items_of_string, parse_of_boxes}
 use Rattle.segment_walk.proofs.Boxes.{enough-boxes}
 use Rattle.bmff_write.specs.declared.track_out.TrackOut.{TrackOut}
-use Rattle.bmff_write.specs.Fits.{TrackFits}
+use Rattle.bmff_write.specs.Fits.{IsFittingTrack}
 use Rattle.bmff_write.specs.Tracks.{IsTrackOut, AreTracksOut, AreSampleDescriptions}
 use Rattle.bmff_write.specs.Movie.{ftyp_bytes, stsd_bytes, moov_bytes, init_bytes_with, init_bytes}
 use Rattle.bmff_write.proofs.BoxLaws.{box_size}
@@ -89,9 +89,9 @@ init_size ts stsds = omega (arith, length-append ftyp_bytes (moov_bytes ts stsds
 
 -- ---- the string
 
-pub written : (ts : List TrackOut) (stsds : List (List ℕ)) (segments : List SegmentOut) → AreTracksOut ts → AllByRecursion TrackFits ts → AreSampleDescriptions ts stsds
+pub written : (ts : List TrackOut) (stsds : List (List ℕ)) (segments : List SegmentOut) → AreTracksOut ts → AllByRecursion IsFittingTrack ts → AreSampleDescriptions ts stsds
     → AllByRecursion (IsSegmentOf (map track_read ts)) segments
-    → Items None (init_bytes_with ts stsds ++ segments_bytes segments) ≡ items_read ts (length (init_bytes_with ts stsds)) segments
+    → items_of_string None (init_bytes_with ts stsds ++ segments_bytes segments) ≡ items_read ts (length (init_bytes_with ts stsds)) segments
 written ts stsds segments are fits described each =
     let moov : List ℕ = moov_bytes ts stsds in
     let rest : List ℕ = segments_bytes segments in
@@ -114,6 +114,6 @@ written ts stsds segments are fits described each =
     ∙ ap (λ (xs : List SegmentItem). InitItem p 24 ∷ xs) others
     ∙ ap (λ (n : ℕ). InitItem p 24 ∷ segments_read (map track_read ts) n segments) (sym long)
 
-pub written_plain : (ts : List TrackOut) (segments : List SegmentOut) → AreTracksOut ts → AllByRecursion TrackFits ts → AllByRecursion (IsSegmentOf (map track_read ts)) segments
-    → Items None (init_bytes ts ++ segments_bytes segments) ≡ items_read ts (length (init_bytes ts)) segments
+pub written_plain : (ts : List TrackOut) (segments : List SegmentOut) → AreTracksOut ts → AllByRecursion IsFittingTrack ts → AllByRecursion (IsSegmentOf (map track_read ts)) segments
+    → items_of_string None (init_bytes ts ++ segments_bytes segments) ≡ items_read ts (length (init_bytes ts)) segments
 written_plain ts segments are fits each = written ts (map stsd_bytes ts) segments are fits (plain_descriptions ts fits) each

@@ -4,7 +4,7 @@ use Rattle.std.specs.List.{flat_map, AllByRecursion}
 use Rattle.mse_base.specs.declared.frame.CodedFrame.{CodedFrame}
 use Rattle.mse_base.specs.declared.track.TrackInfo.{TrackInfo}
 use Rattle.bmff_fragment.specs.Times.{tick_at}
-use Rattle.bmff_fragment.specs.Plans.{track_of}
+use Rattle.bmff_fragment.specs.Plans.{track_with_id}
 use Rattle.bmff_write.specs.declared.track_out.TrackOut.{TrackOut}
 use Rattle.bmff_write.specs.declared.traf_out.SampleOut.{SampleOut}
 use Rattle.bmff_write.specs.declared.traf_out.TrafOut.{TrafOut}
@@ -12,7 +12,7 @@ use Rattle.bmff_write.specs.Tracks.{AreTrafsOut, payload_len}
 use Rattle.bmff_write.specs.Fragment.{moof_len, segment_bytes}
 use Rattle.parser_loop.specs.Items.{InitItem, FrameItem, SegmentEnd}
 use Rattle.segment_walk.specs.Tables.{SegmentItem}
-use Rattle.bmff_write.specs.Fits.{TrafFits}
+use Rattle.bmff_write.specs.Fits.{IsFittingTraf}
 use Rattle.written_back.specs.Tracks.{track_read, presentation_read}
 
 -- a media segment that is written: its sequence number and its track fragments
@@ -49,7 +49,8 @@ traf_read (Some track) at t = samples_read track t.decode at t.samples
 abbrev pub trafs_read : List TrackInfo → ℕ → List TrafOut → List SegmentItem
 trafs_read tracks at [] = []
 trafs_read tracks at (t ∷ trafs) =
-    traf_read (track_of tracks t.id) at t ++ trafs_read tracks (at + payload_len t.samples) trafs
+    traf_read (track_with_id tracks t.id) at t
+    ++ trafs_read tracks (at + payload_len t.samples) trafs
 
 -- media segments that begin at an offset: the frames of each, and its end
 abbrev pub segments_read : List TrackInfo → ℕ → List SegmentOut → List SegmentItem
@@ -69,8 +70,8 @@ items_read tracks len segments =
 
 -- a track fragment of one of the tracks, which can be written
 pub record IsTrafOf (tracks : List TrackInfo) (t : TrafOut) : Type 0 where
-  pub named : IsSome (track_of tracks t.id)
-  pub fits : TrafFits t
+  pub named : IsSome (track_with_id tracks t.id)
+  pub fits : IsFittingTraf t
 
 -- a media segment of the tracks
 pub record IsSegmentOf (tracks : List TrackInfo) (g : SegmentOut) : Type 0 where

@@ -4,7 +4,7 @@ use Rattle.mse_base.specs.declared.track.TrackInfo.{TrackInfo}
 use Rattle.bmff_fragment.specs.declared.slot.Slot.{Slot}
 use Rattle.bmff_fragment.specs.Times.{slot_of}
 use Rattle.mse_base.specs.Moments.{is_media}
-use Rattle.bmff_fragment.specs.Plans.{track_of}
+use Rattle.bmff_fragment.specs.Plans.{track_with_id}
 use Rattle.bmff_write.specs.declared.traf_out.SampleOut.{SampleOut}
 use Rattle.bmff_write.specs.declared.traf_out.TrafOut.{TrafOut}
 use Rattle.bmff_write.specs.Tracks.{payload_len}
@@ -43,10 +43,11 @@ traf_slots (Some track) at t = slots_read track t.decode at t.samples
 abbrev pub trafs_slots : List TrackInfo → ℕ → List TrafOut → List Slot
 trafs_slots tracks at [] = []
 trafs_slots tracks at (t ∷ trafs) =
-    traf_slots (track_of tracks t.id) at t ++ trafs_slots tracks (at + payload_len t.samples) trafs
+    traf_slots (track_with_id tracks t.id) at t
+    ++ trafs_slots tracks (at + payload_len t.samples) trafs
 
 -- each number that names a track names one of video or audio, and has 32 bits
 abbrev pub AreMedia : List TrackInfo → Type 0
 AreMedia tracks =
-    (id : ℕ) (track : TrackInfo) → track_of tracks id ≡ Some track
+    (id : ℕ) (track : TrackInfo) → track_with_id tracks id ≡ Some track
     → (is_media track.kind ≡ true) × (id < 2 ^ 32)

@@ -7,10 +7,10 @@ use Rattle.mse_base.specs.declared.track.Presentation.{Presentation}
 use Rattle.bmff_write.specs.declared.track_out.TrackOut.{TrackOut}
 
 -- the media time of the edit behind the empty ones (ISO/IEC 14496-12, 8.6.6); 0 where there are no edits
-abbrev pub media_time_of : List (ℕ × ℤ) → ℤ
-media_time_of [] = pos 0
-media_time_of (edit ∷ []) = edit.1
-media_time_of (edit ∷ next ∷ edits) = media_time_of (next ∷ edits)
+abbrev pub last_media_time : List (ℕ × ℤ) → ℤ
+last_media_time [] = pos 0
+last_media_time (edit ∷ []) = edit.1
+last_media_time (edit ∷ next ∷ edits) = last_media_time (next ∷ edits)
 
 -- how long the empty edits before the last one wait, in thousandths of a second
 abbrev pub wait_of : List (ℕ × ℤ) → ℕ
@@ -25,7 +25,7 @@ track_read t = record {
   kind = t.kind;
   codec = t.codec;
   scale = t.scale;
-  media_shift = media_time_of t.edits;
+  media_shift = last_media_time t.edits;
   empty_shift = converted (pos (wait_of t.edits)) 1000;
   default_duration = 0;
   default_size = 0;

@@ -7,12 +7,12 @@ ghost use Rattle.bmff_fragment.specs.Plans.{plan_of};
 ghost use Rattle.bmff_init.specs.Movies.{init_of};
 ghost use Rattle.bmff_write.specs.declared.track_out.TrackOut.{TrackOut};
 ghost use Rattle.bmff_write.specs.declared.traf_out.TrafOut.{TrafOut};
-ghost use Rattle.bmff_write.specs.Fits.{TrackFits};
+ghost use Rattle.bmff_write.specs.Fits.{IsFittingTrack};
 ghost use Rattle.bmff_write.specs.Tracks.{AreTracksOut, AreSampleDescriptions, AreTrafsOut};
 ghost use Rattle.bmff_write.specs.Movie.{moov_bytes, init_bytes, init_bytes_with};
 ghost use Rattle.bmff_write.specs.Fragment.{moof_bytes, moof_len};
 ghost use Rattle.bmff_write.specs.Made.{made_track, made_bytes};
-ghost use Rattle.segment_walk.specs.Segments.{Items};
+ghost use Rattle.segment_walk.specs.Segments.{items_of_string};
 ghost use Rattle.written_back.specs.Tracks.{track_read, presentation_read};
 ghost use Rattle.written_back.specs.Segments.{SegmentOut, IsTrafOf, IsSegmentOf, segments_bytes, items_read};
 ghost use Rattle.written_back.specs.Made.{made_segments_out};
@@ -21,7 +21,7 @@ ghost use Rattle.written_back.specs.Slots.{AreMedia, trafs_slots};
 /// A movie box that was written tells the tracks that were handed in.
 pub fn movie_law()
     ensures { (tracks : List TrackOut) (stsds : List (List ℕ)) → AreTracksOut tracks →
-        AllByRecursion TrackFits tracks
+        AllByRecursion IsFittingTrack tracks
         → AreSampleDescriptions tracks stsds
         → init_of (moov_bytes tracks stsds) ≡ Ok (presentation_read tracks) }
 {}
@@ -36,26 +36,28 @@ pub fn fragment_law()
         ≡ Ok (trafs_slots tracks (moof_len trafs + 8) trafs) }
 {}
 
-/// What `write_init` wrote, and behind it any number of `write_segment`, whose track fragments name the tracks, reads as
-/// one initialization segment with these tracks, and then for each segment as the coded frames that were handed in, with
-/// their times and their very bytes, and its end. No fault comes. The same of `write_init_with`.
+/// What `write_init` wrote, and behind it any number of `write_segment`, whose track fragments name the tracks, reads
+/// as one initialization segment with these tracks, and then for each segment as the coded frames that were handed in,
+/// with their times and their very bytes, and its end. No fault comes. The same of `write_init_with`.
 pub fn string_law()
     ensures plain { (tracks : List TrackOut) (segments : List SegmentOut) → AreTracksOut tracks
-        → AllByRecursion TrackFits tracks →
+        → AllByRecursion IsFittingTrack tracks →
         AllByRecursion (IsSegmentOf (map track_read tracks)) segments
-        → Items None (init_bytes tracks ++ segments_bytes segments)
+        → items_of_string None (init_bytes tracks ++ segments_bytes segments)
         ≡ items_read tracks (length (init_bytes tracks)) segments }
     ensures with_descriptions { (tracks : List TrackOut) (stsds : List (List ℕ))
         (segments : List SegmentOut)
-        → AreTracksOut tracks → AllByRecursion TrackFits tracks → AreSampleDescriptions tracks stsds
+        → AreTracksOut tracks → AllByRecursion IsFittingTrack tracks
+        → AreSampleDescriptions tracks stsds
         → AllByRecursion (IsSegmentOf (map track_read tracks)) segments
-        → Items None (init_bytes_with tracks stsds ++ segments_bytes segments)
+        → items_of_string None (init_bytes_with tracks stsds ++ segments_bytes segments)
         ≡ items_read tracks (length (init_bytes_with tracks stsds)) segments }
 {}
 
-/// A file that `make` makes from a number reads as the initialization segment of its track, which has 595 bytes, and then
-/// its segments.
+/// A file that `make` makes from a number reads as the initialization segment of its track, which has 595 bytes, and
+/// then its segments.
 pub fn make_law()
     ensures { (n : ℕ) → n ≤ 10000 →
-        Items None (made_bytes n) ≡ items_read (made_track ∷ []) 595 (made_segments_out n) }
+        items_of_string None (made_bytes n)
+        ≡ items_read (made_track ∷ []) 595 (made_segments_out n) }
 {}

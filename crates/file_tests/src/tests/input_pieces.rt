@@ -6,7 +6,7 @@ use std::test::*;
 
 /// What is done with pieces, or asserted of them.
 #[derive(Clone, Copy)]
-enum Step {
+enum PieceCall {
     /// Bytes are copied.
     Push(&'static [u8]),
     /// Bytes are shared.
@@ -71,75 +71,75 @@ fn expect_read(rt: &impl Abort, chunks: &Chunks, want: u8) {
     assert_eq!(rt; one, [want]);
 }
 
-fn take(rt: &(impl Abort + AllocGlobal), chunks: &mut Chunks, step: Step) -> Result<(), Fail> {
-    match step {
-        Step::Push(bytes) => push(rt, chunks, bytes)?,
-        Step::PushBytes(bytes) => push_bytes(rt, chunks, Bytes::copy_of(rt.alloc(), bytes)?)?,
-        Step::DropFront(n) => drop_front(rt, chunks, n),
-        Step::DropBack(n) => drop_back(rt, chunks, n),
-        Step::Len(want) => assert_eq!(rt; chunks.len(), want),
-        Step::Pieces(want) => assert_eq!(rt; chunks.pieces(), want),
-        Step::First(want) => expect_first(rt, chunks, want),
-        Step::Copy(want) => expect_copy(rt, chunks, want)?,
-        Step::Read(want) => expect_read(rt, chunks, want),
+fn take(rt: &(impl Abort + AllocGlobal), chunks: &mut Chunks, call: PieceCall) -> Result<(), Fail> {
+    match call {
+        PieceCall::Push(bytes) => push(rt, chunks, bytes)?,
+        PieceCall::PushBytes(bytes) => push_bytes(rt, chunks, Bytes::copy_of(rt.alloc(), bytes)?)?,
+        PieceCall::DropFront(n) => drop_front(rt, chunks, n),
+        PieceCall::DropBack(n) => drop_back(rt, chunks, n),
+        PieceCall::Len(want) => assert_eq!(rt; chunks.len(), want),
+        PieceCall::Pieces(want) => assert_eq!(rt; chunks.pieces(), want),
+        PieceCall::First(want) => expect_first(rt, chunks, want),
+        PieceCall::Copy(want) => expect_copy(rt, chunks, want)?,
+        PieceCall::Read(want) => expect_read(rt, chunks, want),
     }
     Ok(())
 }
 
 const SEVENS: [u8; 4092] = [7; 4092];
 
-const COPIED: [Step; 19] = [
-    Step::Push(b"abc"),
-    Step::Push(b""),
-    Step::Push(b"de"),
-    Step::Len(5),
-    Step::Pieces(1),
-    Step::First(b"abcde"),
-    Step::Push(&SEVENS),
-    Step::Pieces(2),
-    Step::Len(4097),
-    Step::DropBack(4092),
-    Step::Pieces(1),
-    Step::Len(5),
-    Step::DropFront(4),
-    Step::Len(1),
-    Step::Copy(b"e"),
-    Step::Read(b'e'),
-    Step::DropBack(1),
-    Step::Len(0),
-    Step::Pieces(0),
+const COPIED: [PieceCall; 19] = [
+    PieceCall::Push(b"abc"),
+    PieceCall::Push(b""),
+    PieceCall::Push(b"de"),
+    PieceCall::Len(5),
+    PieceCall::Pieces(1),
+    PieceCall::First(b"abcde"),
+    PieceCall::Push(&SEVENS),
+    PieceCall::Pieces(2),
+    PieceCall::Len(4097),
+    PieceCall::DropBack(4092),
+    PieceCall::Pieces(1),
+    PieceCall::Len(5),
+    PieceCall::DropFront(4),
+    PieceCall::Len(1),
+    PieceCall::Copy(b"e"),
+    PieceCall::Read(b'e'),
+    PieceCall::DropBack(1),
+    PieceCall::Len(0),
+    PieceCall::Pieces(0),
 ];
 
 /// What no clause says: that memory which is there is taken, and the limit of 4096 by numbers.
 #[test]
 fn pieces_join_and_split(rt: HostRuntime) -> Result<(), Fail> {
     let mut chunks = Chunks::new(rt.alloc());
-    for step in COPIED {
-        take(&rt, &mut chunks, step)?;
+    for call in COPIED {
+        take(&rt, &mut chunks, call)?;
     }
     Ok(())
 }
 
-const SHARED: [Step; 11] = [
-    Step::PushBytes(b"abc"),
-    Step::PushBytes(b""),
-    Step::PushBytes(b"de"),
-    Step::Pieces(1),
-    Step::First(b"abcde"),
-    Step::PushBytes(&SEVENS),
-    Step::Pieces(2),
-    Step::DropFront(4),
-    Step::DropBack(4091),
-    Step::Pieces(2),
-    Step::Copy(b"e\x07"),
+const SHARED: [PieceCall; 11] = [
+    PieceCall::PushBytes(b"abc"),
+    PieceCall::PushBytes(b""),
+    PieceCall::PushBytes(b"de"),
+    PieceCall::Pieces(1),
+    PieceCall::First(b"abcde"),
+    PieceCall::PushBytes(&SEVENS),
+    PieceCall::Pieces(2),
+    PieceCall::DropFront(4),
+    PieceCall::DropBack(4091),
+    PieceCall::Pieces(2),
+    PieceCall::Copy(b"e\x07"),
 ];
 
 /// Bytes whose memory is shared make the pieces that they make when they are copied.
 #[test]
 fn owned_pieces_join_and_split(rt: HostRuntime) -> Result<(), Fail> {
     let mut chunks = Chunks::new(rt.alloc());
-    for step in SHARED {
-        take(&rt, &mut chunks, step)?;
+    for call in SHARED {
+        take(&rt, &mut chunks, call)?;
     }
     Ok(())
 }

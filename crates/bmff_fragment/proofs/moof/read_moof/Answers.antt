@@ -12,8 +12,8 @@ use Rattle.bmff_fragment.proofs.Linking.{plan_is, trafs-whole}
 use Rattle.bmff_fragment.proofs.Belonging.{belong}
 use Rattle.bmff_fragment.proofs.moof.read_moof.Goals as goal
 
-pub read_trafs-requires-clause-short : goal.read_trafs-requires-clause-short
-read_trafs-requires-clause-short c = omega (arith, row-length c.in-Some.payload.now c.in-Some-open.row (sym c.in-Some-open.ensures), c.in-Some.ensures.within)
+pub read_trafs-requires-clause-small : goal.read_trafs-requires-clause-small
+read_trafs-requires-clause-small c = omega (arith, row-length c.in-Some.payload.now c.in-Some-open.row (sym c.in-Some-open.ensures), c.in-Some.ensures.within)
 
 pub returns-in_err-slots-clause-value : goal.returns-in_err-slots-clause-value
 returns-in_err-slots-clause-value c =

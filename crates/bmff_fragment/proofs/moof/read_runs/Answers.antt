@@ -33,10 +33,10 @@ boxes-preserved-then-eq c =
     record {
       same = run_goes f s.at c.in_ok-at.at s.slots.items c.read_run.new.slots.items child.payload.now left _ c.in_ok-at.ensures.value same;
       few = c.in_ok-at.ensures.few;
-      end = c.in_ok-at.ensures.end;
-      time = c.in_ok-at.ensures.time;
+      data_end_small = c.in_ok-at.ensures.data_end_small;
+      time_small = c.in_ok-at.ensures.time_small;
       well_formed = c.in_ok-at.ensures.well_formed;
-      len = c.in_ok-at.ensures.len;
+      few_slots = c.in_ok-at.ensures.few_slots;
     }
 
 pub returns-clause-value : goal.returns-clause-value

@@ -11,10 +11,10 @@ abbrev pub invariant-boxes : goal.invariant-boxes
 invariant-boxes l = record {
   same : runs_steps l.fragment l.at l.slots.items (all_of (codes "trun") l.row) ≡ runs_steps l.fragment (first_run l.fragment l.samples) l.fn.slots.items (all_of (codes "trun") l.fn.row);
   few : l.at.samples ≤ 2 ^ 20;
-  end : unsigned_abs l.at.data_end ≤ unsigned_abs l.fragment.base + 2 ^ 31 + l.at.samples * 2 ^ 32;
-  time : l.at.decode_time ≤ 2 ^ 64 + l.at.samples * 2 ^ 32;
+  data_end_small : unsigned_abs l.at.data_end ≤ unsigned_abs l.fragment.base + 2 ^ 31 + l.at.samples * 2 ^ 32;
+  time_small : l.at.decode_time ≤ 2 ^ 64 + l.at.samples * 2 ^ 32;
   well_formed : All IsWellFormed l.slots.items;
-  len : vec_len l.slots ≤ l.at.samples;
+  few_slots : vec_len l.slots ≤ l.at.samples;
 }
 
 abbrev pub decreases-boxes : goal.decreases-boxes

@@ -27,9 +27,9 @@ boxes-preserved-then-eq c =
     record {
       same = traf_goes c.args.tracks.now s.at c.in_ok-at.at s.slots.items _ child.payload.now left _ c.in_ok-at.ensures.value same;
       few = c.in_ok-at.ensures.few;
-      end = omega (arith, s.invariant.end, c.in_ok-at.ensures.end, c.in-Some.ensures.shorter);
+      data_end_small = omega (arith, s.invariant.data_end_small, c.in_ok-at.ensures.data_end_small, c.in-Some.ensures.shorter);
       well_formed = c.in_ok-at.ensures.well_formed;
-      len = c.in_ok-at.ensures.len;
+      few_slots = c.in_ok-at.ensures.few_slots;
     }
 
 pub returns-clause-value : goal.returns-clause-value

@@ -11,9 +11,9 @@ abbrev pub invariant-boxes : goal.invariant-boxes
 invariant-boxes l = record {
   same : trafs_steps l.tracks l.at l.slots.items (all_of (codes "traf") l.row) ≡ trafs_steps l.tracks (record { samples = 0; data_end = pos 0 }) [] (all_of (codes "traf") l.fn.row);
   few : l.at.samples ≤ 2 ^ 20;
-  end : unsigned_abs l.at.data_end + length l.row * 2 ^ 53 ≤ 2 ^ 117;
+  data_end_small : unsigned_abs l.at.data_end + length l.row * 2 ^ 53 ≤ 2 ^ 117;
   well_formed : All IsWellFormed l.slots.items;
-  len : vec_len l.slots ≤ l.at.samples;
+  few_slots : vec_len l.slots ≤ l.at.samples;
 }
 
 abbrev pub decreases-boxes : goal.decreases-boxes

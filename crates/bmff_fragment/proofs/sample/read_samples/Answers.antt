@@ -3,7 +3,7 @@ use Rattle.std.specs.List.{range_with_len}
 use Rattle.bmff_boxes.proofs.RunLaws.{fields-own, fields-count}
 use Rattle.bmff_boxes.specs.Reading.{need}
 use Rattle.bmff_fragment.specs.declared.fault.MoofFault.TheVariants.{Size}
-use Rattle.bmff_fragment.specs.Samples.{sample_of, each, samples_of}
+use Rattle.bmff_fragment.specs.Samples.{run_sample_of, each, run_samples_of}
 use Rattle.bmff_fragment.proofs.Reading.{all_read, goes_on, sample-is, samples-none}
 use Rattle.bmff_fragment.proofs.sample.read_samples.Goals as goal
 
@@ -23,8 +23,8 @@ loop-i-preserved c =
     let header = c.args.header.now in
     let trun = c.args.trun.now in
     let len = header.count in
-    let read = sample_of defaults header trun in
-    let all = samples_of defaults header trun in
+    let read = run_sample_of defaults header trun in
+    let all = run_samples_of defaults header trun in
     let rest = each (map read (range_with_len (i + 1) (len - (i + 1)))) in
     let is = sample-is defaults header trun i c.header_flags-first_flags.result c.run_sample-sample.result c.sample_with_defaults.result c.run_sample-sample.ensures c.header_flags-first_flags.ensures c.sample_with_defaults.ensures in
     record {

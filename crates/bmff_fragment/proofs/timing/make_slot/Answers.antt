@@ -16,10 +16,10 @@ returns-clause-value c =
     let f : SFits w64 s.offset = search rules in
     let m = pos c.args.time +ℤ s.offset in
     let a = to_z w128 (of_z w128 (to_z w128 c.args.time +ℤ to_z w128 (of_z w128 c.from.result))) in
-    let ea : a ≡ m = omega (arith, ints, c.requires.time, c.from.ensures) in
+    let ea : a ≡ m = omega (arith, ints, c.requires.time_small, c.from.ensures) in
     let b = to_z w128 (of_z w128 (a +ℤ to_z w128 (of_z w128 c.from-2.result))) in
-    let eb : b ≡ m +ℤ pos s.duration = omega (arith, ints, c.requires.time, c.from.ensures, c.from-2.ensures) in
-    let ed : to_z w128 c.args.time ≡ pos c.args.time = omega (arith, ints, c.requires.time) in
+    let eb : b ≡ m +ℤ pos s.duration = omega (arith, ints, c.requires.time_small, c.from.ensures, c.from-2.ensures) in
+    let ed : to_z w128 c.args.time ≡ pos c.args.time = omega (arith, ints, c.requires.time_small) in
     let d = difference c.tick_at-end.result c.tick_at-pts.result t.empty_shift c.checked_sub.result c.tick_at-end.ensures.near c.tick_at-pts.ensures.near c.checked_sub.ensures in
     let u = c.unwrap.ensures in
     let dur : c.unwrap.result ≡ c.tick_at-end.result -ℤ c.tick_at-pts.result = cc in
@@ -33,12 +33,12 @@ returns-clause-well_formed c =
     let f : SFits w64 s.offset = search rules in
     let m = pos c.args.time +ℤ s.offset in
     let a = to_z w128 (of_z w128 (to_z w128 c.args.time +ℤ to_z w128 (of_z w128 c.from.result))) in
-    let ea : a ≡ m = omega (arith, ints, c.requires.time, c.from.ensures) in
+    let ea : a ≡ m = omega (arith, ints, c.requires.time_small, c.from.ensures) in
     let b = to_z w128 (of_z w128 (a +ℤ to_z w128 (of_z w128 c.from-2.result))) in
-    let eb : b ≡ m +ℤ pos s.duration = omega (arith, ints, c.requires.time, c.from.ensures, c.from-2.ensures) in
+    let eb : b ≡ m +ℤ pos s.duration = omega (arith, ints, c.requires.time_small, c.from.ensures, c.from-2.ensures) in
     let d = difference c.tick_at-end.result c.tick_at-pts.result t.empty_shift c.checked_sub.result c.tick_at-end.ensures.near c.tick_at-pts.ensures.near c.checked_sub.ensures in
     let u = c.unwrap.ensures in
     let dur : c.unwrap.result ≡ c.tick_at-end.result -ℤ c.tick_at-pts.result = cc in
     let size : s.size < 2 ^ 32 = search rules in
     is_well_formed t m t.id _ c.args.start c.tick_at-pts.result c.tick_at.result c.tick_at-end.result c.unwrap.result (c.args.start + c.from-3.result) s.size s.duration c.requires.readable.0
-    (c.tick_at-pts.ensures.value ∙ ap (tick_at t) ea) (c.tick_at-end.ensures.value ∙ ap (tick_at t) eb) dur (ap (λ x. c.args.start + x) c.from-3.ensures) c.requires.small size
+    (c.tick_at-pts.ensures.value ∙ ap (tick_at t) ea) (c.tick_at-end.ensures.value ∙ ap (tick_at t) eb) dur (ap (λ x. c.args.start + x) c.from-3.ensures) c.requires.start_small size

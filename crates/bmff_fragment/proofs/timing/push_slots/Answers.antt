@@ -1,14 +1,14 @@
 use Rattle.std.proofs.Common.{◌+◌, ◌<◌, ◌^◌, ◌∙◌, pos, take, get_or, length, arith, rules}
 use Rattle.std.proofs.lemmas.List.Elements.{All-push, All-same}
 use Rattle.std.proofs.lemmas.List.Sums.{sum_by_more}
-use Rattle.bmff_fragment.specs.declared.sample.Sample.{Sample}
+use Rattle.bmff_fragment.specs.declared.sample.FragmentSample.{FragmentSample}
 use Rattle.bmff_fragment.specs.Times.{Run, slot_at, data_len, duration_of}
 use Rattle.bmff_fragment.specs.Slots.{IsWellFormed}
 use Rattle.bmff_fragment.proofs.Placing.{slots_more, slot_same}
 use Rattle.bmff_fragment.proofs.timing.push_slots.Goals as goal
 
 -- what stands past the end
-none : Sample
+none : FragmentSample
 none = record { duration = 0; size = 0; flags = 0; offset = pos 0 }
 
 pub loop-sample-preserved : goal.loop-sample-preserved
@@ -23,8 +23,8 @@ loop-sample-preserved c =
     let z : s.size < 2 ^ 32 = search rules in
     let y : s.duration < 2 ^ 32 = search rules in
     let here : i < length samples = c.loop-sample-test.true in
-    let times = sum_by_more (λ (s : Sample). s.duration) samples i none here in
-    let sizes = sum_by_more (λ (s : Sample). s.size) samples i none here in
+    let times = sum_by_more (λ (s : FragmentSample). s.duration) samples i none here in
+    let sizes = sum_by_more (λ (s : FragmentSample). s.size) samples i none here in
     record {
       decoded = omega (arith, was.decoded, c.from-duration.ensures, times);
       soon = omega (arith, was.soon, c.from-duration.ensures);

@@ -9,7 +9,7 @@ returns-then-count-eq0 c = ap Ok c.no_shift.ensures ∙ none-shifts c.args.elst.
 pub returns : goal.returns
 returns c =
     let elst = c.args.elst.now in
-    let fits : 8 + (0 + c.args.count) * edit_len elst ≤ length elst = rw (zero-add c.args.count) c.requires.fits in
+    let fits : 8 + (0 + c.args.count) * edit_len elst ≤ length elst = rw (zero-add c.args.count) c.requires.entries_there in
     let all = all-there c.args.count elst 0 fits in
     let len = length-from c.args.count elst 0 all.0 all.1 in
     let some : 0 < length all.0 = grind (arith, c.if-count-eq0.false) in

@@ -7,4 +7,4 @@ use Rattle.bmff_write.proofs.movie.init.Goals as goal
 pub init_with-requires : goal.init_with-requires
 init_with-requires c =
     let pairs = ap length c.in_ok-stsds.ensures.value ∙ length-map c.args.tracks.now stsd_bytes in
-    rw c.as_slice.ensures.value (writable c.args.tracks.now c.in_ok-stsds.stsds.items c.requires pairs c.in_ok-stsds.ensures.short)
+    rw c.as_slice.ensures.value (writable c.args.tracks.now c.in_ok-stsds.stsds.items c.requires pairs c.in_ok-stsds.ensures.stsds_short)

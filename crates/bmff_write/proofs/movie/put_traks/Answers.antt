@@ -11,7 +11,7 @@ loop-i-preserved c =
     let t = c.index-tracks-i.result in
     let stsd = c.index-stsds-i.result in
     let inside : i < length ts = omega (arith, c.loop-i-test.true) in
-    let there : i < length stsds = omega (arith, c.requires.pairs, inside) in
+    let there : i < length stsds = omega (arith, c.requires.paired, inside) in
     let next = traks_next ts stsds i t stsd inside there c.index-tracks-i.is c.index-stsds-i.is in
     let joined = append_assoc c.loop-i.out.items (trak_bytes t stsd) (traks_bytes (drop (i + 1) ts) (drop (i + 1) stsds)) in
     cc (next, joined, c.as_slice.ensures, c.in_ok-put_trak.ensures, c.loop-i.invariant)

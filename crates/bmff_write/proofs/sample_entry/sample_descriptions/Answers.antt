@@ -14,5 +14,5 @@ loop-track-preserved c =
     let taken : take (i + 1) tracks ≡ take i tracks ++ t ∷ [] = take_more tracks i t c.loop-track-test.true ∙ ap (λ (u : TrackOut). take i tracks ++ u ∷ []) (sym c.track-item.is) in
     record {
       value = cc (ap (map stsd_bytes) taken, map_push stsd_bytes (take i tracks) t, c.in_ok-push.ensures.items, c.in_ok-stsd.ensures.value, c.loop-track.invariant.value);
-      short = rw c.in_ok-push.ensures.items (all_push IsShort c.loop-track.boxes.items c.in_ok-stsd.stsd c.loop-track.invariant.short c.in_ok-stsd.ensures.short);
+      short = rw c.in_ok-push.ensures.items (all_push IsShort c.loop-track.boxes.items c.in_ok-stsd.stsd c.loop-track.invariant.short c.in_ok-stsd.ensures.stsd_short);
     }

@@ -1,8 +1,8 @@
 use Rattle.std.proofs.Common.{rules, tests}
 use Rattle.std.proofs.lemmas.Iterator.Search.{all_from_yields_List}
 use Rattle.std.proofs.lemmas.Iterator.Splits.{YieldsList-from_slice_split}
-use Rattle.mse_types.specs.Texts.{names_codec}
+use Rattle.mse_types.specs.Texts.{is_codec}
 use Rattle.mse_types.proofs.text.are_codecs.Goals as goal
 
 pub returns : goal.returns
-returns c = all_from_yields_List names_codec _ _ _ c.all.ensures.ran (YieldsList-from_slice_split _ _ c.args.list.now c.split.ensures.rest c.split.ensures.done c.split.ensures.closure (λ x b q k. search (rules, tests))) (λ x b q k. search (rules, tests))
+returns c = all_from_yields_List is_codec _ _ _ c.all.ensures.ran (YieldsList-from_slice_split _ _ c.args.list.now c.split.ensures.rest c.split.ensures.done c.split.ensures.closure (λ x b q k. search (rules, tests))) (λ x b q k. search (rules, tests))

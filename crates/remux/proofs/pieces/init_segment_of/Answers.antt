@@ -2,7 +2,7 @@ use Rattle.std.proofs.Common.{ℕ, List, map, ap, sym, ◌∙◌, subst, take_al
 use Rattle.bmff_write.specs.declared.track_out.TrackOut.{TrackOut}
 use Rattle.bmff_write.specs.Tracks.{AreTracksOut, AreSampleDescriptions}
 use Rattle.sample_tables.specs.declared.media_track.MediaTrack.{MediaTrack}
-use Rattle.remux.specs.Remuxed.{track_out}
+use Rattle.remux.specs.Pieces.{track_out}
 use Rattle.remux.proofs.PieceLaws.{tracks_out_are, descriptions_are}
 use Rattle.remux.proofs.pieces.init_segment_of.Goals as goal
 

@@ -1,5 +1,5 @@
 use Rattle.std.proofs.Common.{◌≡◌, map, take}
-use Rattle.remux.specs.Remuxed.{track_out}
+use Rattle.remux.specs.Pieces.{track_out}
 use Rattle.remux.proofs.pieces.init_segment_of.Given as goal
 
 abbrev pub invariant-loop-track : goal.invariant-loop-track

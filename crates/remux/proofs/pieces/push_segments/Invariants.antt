@@ -1,6 +1,6 @@
 use Rattle.std.proofs.Common.{◌≡◌, ◌++◌, ◌+◌, map, drop}
 use Rattle.remux.specs.Runs.{run_value}
-use Rattle.remux.specs.Remuxed.{segments_from}
+use Rattle.remux.specs.Pieces.{segments_from}
 use Rattle.remux.proofs.pieces.push_segments.Given as goal
 
 abbrev pub invariant-loop-run : goal.invariant-loop-run

@@ -2,7 +2,7 @@ use Rattle.std.proofs.Common.{List, [], ◌∷◌, map, ap, sym, ◌∙◌, subs
 use Rattle.bmff_write.specs.declared.traf_out.SampleOut.{SampleOut}
 use Rattle.bmff_write.specs.Tracks.{AreTrafsOut}
 use Rattle.remux.specs.Runs.{run_value}
-use Rattle.remux.specs.Remuxed.{sample_out}
+use Rattle.remux.specs.Pieces.{sample_out}
 use Rattle.remux.proofs.PieceLaws.{trafs_are}
 use Rattle.remux.proofs.pieces.segment_of.Goals as goal
 

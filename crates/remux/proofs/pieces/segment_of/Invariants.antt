@@ -1,6 +1,6 @@
 use Rattle.std.proofs.Common.{◌≡◌, map, take, vec_len, length}
 use Rattle.std.specs.Vec.{vec_capacity}
-use Rattle.remux.specs.Remuxed.{sample_out}
+use Rattle.remux.specs.Pieces.{sample_out}
 use Rattle.remux.proofs.pieces.segment_of.Given as goal
 
 abbrev pub invariant-loop-sample : goal.invariant-loop-sample

@@ -23,5 +23,5 @@ returns c =
     let some = c.in-Some.is in
     let given = c.convert.ensures ∙ ap (λ z. tick (converted z c.args.scale)) e in
     let same : c.in-Some.time ≡ converted (pos c.args.decode -ℤ c.args.shift) c.args.scale = cc in
-    let back : to_z w128 (of_z w128 c.get.result) ≡ c.get.result = omega (arith, ints, c.get.ensures.value, c.get.ensures.in_range.0, c.get.ensures.in_range.1) in
+    let back : to_z w128 (of_z w128 c.get.result) ≡ c.get.result = omega (arith, ints, c.get.ensures.value, c.get.ensures.is_tick.0, c.get.ensures.is_tick.1) in
     back ∙ (c.get.ensures.value ∙ same)

@@ -59,7 +59,7 @@ unfoldable pub pieces_of : List ℕ → List MediaTrack → List (List ℕ)
 pieces_of file tracks = init_segment_of tracks ∷ segments_from file 1 (runs_in_order tracks)
 
 -- a classic file as pieces of a fragmented one, or the first fault
-unfoldable pub remuxed : List ℕ → Result (List (List ℕ)) PlacedFault
-remuxed file = do
+unfoldable pub pieces_of_file : List ℕ → Result (List (List ℕ)) PlacedFault
+pieces_of_file file = do
   tracks ← file_tracks file
   Ok (pieces_of file tracks)
