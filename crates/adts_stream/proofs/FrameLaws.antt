@@ -6,13 +6,14 @@ use Rattle.mse_base.specs.declared.track.Presentation.{Presentation}
 use Rattle.parser_loop.specs.Walk.{Move, Stop, Pass, Give, items_from}
 use Rattle.parser_loop.specs.Items.{InitItem, FrameItem, SegmentEnd, FaultItem}
 use Rattle.parser_loop.specs.Parse.{NoItem, ItemThen, items_of, seen_before, parse_by, parse_from}
+use Rattle.parser_loop.specs.StringReadings.{StringReading}
 use Rattle.parser_loop.proofs.Parses.{parse-step, items-parse, seen-parse}
 use Rattle.adts_stream.specs.declared.header.FrameHeader.{FrameHeader}
 use Rattle.adts_stream.specs.declared.header.Found.{Found}
 use Rattle.adts_stream.specs.declared.header.Found.TheVariants as found
 use Rattle.adts_stream.specs.declared.position.ParsePoint.TheVariants.{AtHeader, InTag, AtFrame, AtEnd}
 use Rattle.adts_stream.specs.Headers.{found_at}
-use Rattle.adts_stream.specs.Frames.{AdtsItem, AdtsParse, presentation_of, has_rate, coded_frame, view_waiting, frame_parse, found_parse, parse_at, string_parse, Items, view_before}
+use Rattle.adts_stream.specs.Frames.{AdtsItem, AdtsParse, presentation_of, has_rate, coded_frame, view_waiting, frame_parse, found_parse, parse_at, string_parse, items_of_string, view_before}
 use Rattle.adts_stream.specs.Walk.{WalkState, state_past, state_after_fault, found_move, state_in, state_after_init, adts, start, state_before, view_of}
 use Rattle.adts_stream.proofs.HeaderLaws.{HasRoom, found-room}
 use Rattle.adts_stream.proofs.WalkLaws.{going, is_walk, once-short}
@@ -96,11 +97,11 @@ string-is : (last : Option Presentation) (b : List ℕ) → string_parse last b 
 unfolding string_parse
 string-is last b = at-offset (suc (length b)) b last 0 (omega arith) (omega arith)
 
-pub items-frames : (last : Option Presentation) (b : List ℕ) → Items last b ≡ items_from adts (start last b)
+pub items-frames : (last : Option Presentation) (b : List ℕ) → items_of_string last b ≡ items_from adts (start last b)
 items-frames last b = ap items_of (string-is last b) ∙ items-parse adts view_of is_walk (start last b)
 
-pub view-frames : (last : Option Presentation) (b : List ℕ) (n : ℕ) → view_before last b n ≡ view_of (state_before last b n)
-view-frames last b n = ap (seen_before n) (string-is last b) ∙ seen-parse adts view_of is_walk (start last b) n
+pub view-frames : (r : StringReading) → view_before r ≡ view_of (state_before r)
+view-frames r = ap (seen_before r.taken) (string-is r.before r.whole) ∙ seen-parse adts view_of is_walk (start r.before r.whole) r.taken
 
 pub enough-frames : (last : Option Presentation) (b : List ℕ) (n : ℕ) → length b < n → parse_at n b last 0 ≡ string_parse last b
 enough-frames last b n h = at-offset n b last 0 (omega arith) (omega arith) ∙ sym (string-is last b)

@@ -1,5 +1,5 @@
 -- No coded frame lasts a negative time.
-use Rattle.std.proofs.Common.{◌≡◌, ℕ, ℤ, pos, ◌≤ℤ◌, ltb, eqb, cond, Bool, true, false, List, length, drop, Option, Some, None, slice_get, sym, subst, arith}
+use Rattle.std.proofs.Common.{◌≡◌, ℕ, pos, ◌≤ℤ◌, ltb, eqb, cond, Bool, true, false, List, length, drop, Option, Some, None, slice_get, sym, subst, arith}
 use Rattle.std.specs.Prelude.{◌&&◌}
 use Rattle.std.specs.Str.{bytes_eq}
 use Rattle.std.proofs.lemmas.Int.{ints}

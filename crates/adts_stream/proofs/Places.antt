@@ -6,12 +6,13 @@ use Rattle.mse_base.specs.declared.frame.CodedFrame.{CodedFrame}
 use Rattle.mse_base.specs.declared.track.Presentation.{Presentation}
 use Rattle.parser_loop.specs.Items.{InitItem, FrameItem, SegmentEnd, FaultItem}
 use Rattle.parser_loop.specs.Parse.{NoItem, ItemThen, IsSuffix, items_of, seen_before}
+use Rattle.parser_loop.specs.StringReadings.{StringReading}
 use Rattle.adts_stream.specs.declared.header.FrameHeader.{FrameHeader}
 use Rattle.adts_stream.specs.declared.header.Found.{Found}
 use Rattle.adts_stream.specs.declared.header.Found.TheVariants as found
 use Rattle.adts_stream.specs.declared.next.AdtsFault.{AdtsFault}
 use Rattle.adts_stream.specs.Headers.{found_at}
-use Rattle.adts_stream.specs.Frames.{AdtsItem, AdtsParse, presentation_of, has_rate, coded_frame, view_waiting, view_in_media, frame_parse, found_parse, parse_at, string_parse, Items, view_before}
+use Rattle.adts_stream.specs.Frames.{AdtsItem, AdtsParse, presentation_of, has_rate, coded_frame, view_waiting, view_in_media, frame_parse, found_parse, parse_at, string_parse, items_of_string, held_before}
 use Rattle.adts_stream.specs.Places.{IsInitAt, IsFrameAt}
 
 abbrev pub IsAt : List ℕ → AdtsItem → Type 0
@@ -76,7 +77,7 @@ item-at b (NoItem v) n item h e = cc
 item-at b (ItemThen v x parse) zero item h e = subst (IsAt b) (some-is x item e) h.1
 item-at b (ItemThen v x parse) (suc n) item h e = item-at b parse n item h.3 e
 
-pub item-place : (last : Option Presentation) (b : List ℕ) (n : ℕ) (item : AdtsItem) → slice_get (Items last b) n ≡ Some item → IsAt b item
+pub item-place : (last : Option Presentation) (b : List ℕ) (n : ℕ) (item : AdtsItem) → slice_get (items_of_string last b) n ≡ Some item → IsAt b item
 item-place last b n item e = item-at b (string_parse last b) n item (string-of last b) e
 
 fault-at : (b : List ℕ) (parse : AdtsParse) (n at : ℕ) (f : AdtsFault) → IsOf b parse → slice_get (items_of parse) n ≡ Some (FaultItem f at) → suc n ≡ length (items_of parse)
@@ -86,7 +87,7 @@ fault-at b (ItemThen v x parse) zero at f h e =
     ap (λ items. suc (length items)) (sym l)
 fault-at b (ItemThen v x parse) (suc n) at f h e = ap suc (fault-at b parse n at f h.3 e)
 
-pub fault-last : (last : Option Presentation) (b : List ℕ) (n at : ℕ) (f : AdtsFault) → slice_get (Items last b) n ≡ Some (FaultItem f at) → suc n ≡ length (Items last b)
+pub fault-last : (last : Option Presentation) (b : List ℕ) (n at : ℕ) (f : AdtsFault) → slice_get (items_of_string last b) n ≡ Some (FaultItem f at) → suc n ≡ length (items_of_string last b)
 fault-last last b n at f e = fault-at b (string_parse last b) n at f (string-of last b) e
 
 held-at : (b : List ℕ) (parse : AdtsParse) (n : ℕ) → IsOf b parse → IsSuffix (seen_before n parse).held b
@@ -94,8 +95,8 @@ held-at b (NoItem v) n h = h
 held-at b (ItemThen v x parse) zero h = h.0
 held-at b (ItemThen v x parse) (suc n) h = held-at b parse n h.3
 
-pub held-suffix : (last : Option Presentation) (b : List ℕ) (n : ℕ) → IsSuffix (view_before last b n).held b
-held-suffix last b n = held-at b (string_parse last b) n (string-of last b)
+pub held-suffix : (r : StringReading) → IsSuffix (held_before r) r.whole
+held-suffix r = held-at r.whole (string_parse r.before r.whole) r.taken (string-of r.before r.whole)
 
 -- ---- the bytes of a frame
 

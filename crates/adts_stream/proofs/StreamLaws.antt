@@ -6,11 +6,12 @@ use Rattle.mse_base.specs.declared.frame.Phase.TheVariants.{Waiting}
 use Rattle.std.proofs.lemmas.List.{length-append, length-drop, length-take-le, append-nil, append_assoc, take-append-drop}
 use Rattle.std.proofs.lemmas.Bool.Decides.{nat_tests}
 use Rattle.mse_base.specs.declared.track.Presentation.{Presentation}
-use Rattle.parser_loop.specs.Walk.{Move, Stop, Pass, Give, Lookahead, run, run_by, stay_at, settle, items_by, items_from, state_at, run_after, first_item, after_first, item_of, count_after}
+use Rattle.parser_loop.specs.Walk.{Move, Stop, Pass, Give, Lookahead, lookahead_from, stay_at, settle, items_by, items_from, lookahead_after, item_of, count_after}
 use Rattle.parser_loop.specs.Walk as walk
 use Rattle.parser_loop.proofs.Walks.{IsSettled, settled, settle-same, settled-at-state, items-at, items-step}
-use Rattle.parser_loop.proofs.Runs.{IsRested, run-rested, run-settle, stands-first, stands-after}
-use Rattle.parser_loop.specs.Items.{leading_frames, latest_after_all}
+use Rattle.parser_loop.proofs.Lookaheads.{IsRested, lookahead-rested, lookahead-settle, stands-first, stands-after}
+use Rattle.parser_loop.specs.Items.{leading_frames, seen}
+use Rattle.parser_loop.specs.StringReadings.{StringReading, after_answer, string_from, with_bytes}
 use Rattle.parser_loop.specs.Parse.{ParserView}
 use Rattle.parser_loop.proofs.Pieces.{stands-piece, stands-start}
 use Rattle.adts_stream.specs.declared.header.FrameHeader.{FrameHeader}
@@ -19,13 +20,14 @@ use Rattle.adts_stream.specs.declared.header.Found.TheVariants as found
 use Rattle.adts_stream.specs.declared.position.ParsePoint.{ParsePoint}
 use Rattle.adts_stream.specs.declared.position.ParsePoint.TheVariants.{AtHeader, InTag, AtFrame, AtEnd}
 use Rattle.adts_stream.specs.declared.position.ParsePosition.{ParsePosition}
-use Rattle.adts_stream.specs.declared.next.AdtsNext.{AdtsNext}
+use Rattle.parser_loop.specs.declared.next.Next.{Next}
+use Rattle.adts_stream.specs.declared.next.AdtsFault.{AdtsFault}
 use Rattle.adts_stream.specs.Headers.{found_at}
 use Rattle.parser_loop.specs.Items.{InitItem, FrameItem, SegmentEnd, FaultItem, latest_after_all}
-use Rattle.adts_stream.specs.Frames.{AdtsItem, presentation_of, has_rate, coded_frame, Items, phase_before, ready_before, held_before}
+use Rattle.adts_stream.specs.Frames.{AdtsItem, presentation_of, has_rate, coded_frame, items_of_string, phase_before, ready_before, held_before}
 use Rattle.adts_stream.specs.Walk.{WalkState, found_move, tag_move, move_unless, more_unless, state_in, state_after_init, state_past, adts, start, state_before, phase_of}
-use Rattle.adts_stream.specs.Values.{state_of, state_behind, ready_at, ready_unless, ready_of, position_at_start, seen}
-use Rattle.adts_stream.specs.Streams.{AdtsView, Stands, fed, fed_all, adts_view, IsStream}
+use Rattle.adts_stream.specs.Values.{state_of, state_behind, ready_at_point, ready_unless, ready_of, position_at_start}
+use Rattle.adts_stream.specs.Streams.{AdtsView, ForEachReading, Stands, StandsAfter, kept_with, kept_with_all, adts_view, IsAdtsStream}
 use Rattle.adts_stream.proofs.WalkLaws.{going, is_walk, once-short}
 use Rattle.adts_stream.proofs.Moves.{at-position, behind-none, end-whole, frame-whole}
 use Rattle.parser_loop.proofs.Latest.{state-latest}
@@ -39,56 +41,57 @@ rested Stop h = tt
 rested (Pass t) h = h
 rested (Give item t) h = refl
 
-run-is : (t : WalkState) → run adts t ≡ stay_at (settle adts t)
-run-is t = sym (run-settle adts is_walk t) ∙ run-rested adts is_walk (settle adts t) (rested (adts.move (settle adts t)) (settled adts is_walk t))
+lookahead-is : (t : WalkState) → lookahead_from adts t ≡ stay_at (settle adts t)
+lookahead-is t = sym (lookahead-settle adts is_walk t) ∙ lookahead-rested adts is_walk (settle adts t) (rested (adts.move (settle adts t)) (settled adts is_walk t))
 
-run-state : (last : Option Presentation) (b : List ℕ) (n : ℕ) → run adts (state_before last b n) ≡ stay_at (state_before last b n)
-run-state last b n = run-rested adts is_walk (state_before last b n) (rested (adts.move (state_before last b n)) (settled-at-state adts is_walk n (start last b)))
+lookahead-state : (r : StringReading) → lookahead_from adts (state_before r) ≡ stay_at (state_before r)
+lookahead-state r = lookahead-rested adts is_walk (state_before r) (rested (adts.move (state_before r)) (settled-at-state adts is_walk r.taken (start r.before r.whole)))
 
 -- it is the state just before the next item
-pub is-state : (kept : WalkState) (last : Option Presentation) (b : List ℕ) (n : ℕ) → Stands kept last b n → kept ≡ state_before last b n
-is-state kept last b n h = ap (λ (r : Lookahead WalkState AdtsItem). r.state) (h.is ∙ run-state last b n)
+pub is-state : (kept : WalkState) (r : StringReading) → Stands kept r → kept ≡ state_before r
+is-state kept r h = ap (λ (r : Lookahead WalkState AdtsItem). r.state) (h.is ∙ lookahead-state r)
 
-pub stands-given : (kept : WalkState) (last : Option Presentation) (b : List ℕ) (n : ℕ) → Stands kept last b n → n ≤ length (Items last b)
-stands-given kept last b n h = omega (arith, h.taken, ap length (items-frames last b))
+pub stands-given : (kept : WalkState) (r : StringReading) → Stands kept r → r.taken ≤ length (items_of_string r.before r.whole)
+stands-given kept r h = omega (arith, h.taken, ap length (items-frames r.before r.whole))
 
 -- the next item
-pub stands-item : (kept : WalkState) (last : Option Presentation) (b : List ℕ) (n : ℕ) → Stands kept last b n → item_of (adts.move kept) ≡ slice_get (Items last b) n
-stands-item kept last b n h = stands-first adts is_walk (stay_at kept) (start last b) n h ∙ ap (λ items. slice_get items n) (sym (items-frames last b))
+pub stands-item : (kept : WalkState) (r : StringReading) → Stands kept r → item_of (adts.move kept) ≡ slice_get (items_of_string r.before r.whole) r.taken
+stands-item kept r h = stands-first adts is_walk (stay_at kept) (start r.before r.whole) r.taken h ∙ ap (λ items. slice_get items r.taken) (sym (items-frames r.before r.whole))
 
-after-is : (kept : WalkState) (m : Move WalkState AdtsItem) → run_after adts kept m ≡ stay_at (state_behind kept m)
+after-is : (kept : WalkState) (m : Move WalkState AdtsItem) → lookahead_after adts kept m ≡ stay_at (state_behind kept m)
 after-is kept Stop = refl
 after-is kept (Pass t) = refl
-after-is kept (Give item t) = run-is t
+after-is kept (Give item t) = lookahead-is t
 
 -- behind it
-pub stands-behind : (kept : WalkState) (last : Option Presentation) (b : List ℕ) (n : ℕ) → Stands kept last b n → Stands (state_behind kept (adts.move kept)) last b (count_after n (item_of (adts.move kept)))
-stands-behind kept last b n h = subst (λ r. walk.Stands adts r (start last b) (count_after n (item_of (adts.move kept)))) (after-is kept (adts.move kept)) (stands-after adts is_walk (stay_at kept) (start last b) n h)
+pub stands-behind : (kept : WalkState) (r : StringReading) → Stands kept r → Stands (state_behind kept (adts.move kept)) (after_answer (item_of (adts.move kept)) r)
+stands-behind kept r h = subst (λ k. walk.Stands adts k (start r.before r.whole) (count_after r.taken (item_of (adts.move kept)))) (after-is kept (adts.move kept)) (stands-after adts is_walk (stay_at kept) (start r.before r.whole) r.taken h)
 
 -- with more bytes
-pub stands-more : (kept : WalkState) (last : Option Presentation) (b c : List ℕ) (n : ℕ) → Stands kept last b n → Stands (fed kept c) last (b ++ c) n
-stands-more kept last b c n h = subst (λ r. walk.Stands adts r (start last (b ++ c)) n) (run-is (adts.more kept c)) (stands-piece adts is_walk (stay_at kept) (start last b) c n h)
+pub stands-more : (kept : WalkState) (c : List ℕ) → StandsAfter kept (with_bytes c) (kept_with kept c)
+stands-more kept c = λ r h. subst (λ k. walk.Stands adts k (start r.before (r.whole ++ c)) r.taken) (lookahead-is (adts.more kept c)) (stands-piece adts is_walk (stay_at kept) (start r.before r.whole) c r.taken h)
 
-pub stands-pieces : (kept : WalkState) (last : Option Presentation) (b : List ℕ) (n : ℕ) (cs : List (List ℕ)) → Stands kept last b n → Stands (fed_all kept cs) last (b ++ concat cs) n
-stands-pieces kept last b n [] h = rw (append-nil b) h
-stands-pieces kept last b n (c ∷ cs) h =
-    subst (λ v. Stands (fed_all (fed kept c) cs) last v n) (append_assoc b c (concat cs)) (stands-pieces (fed kept c) last (b ++ c) n cs (stands-more kept last b c n h))
+pub stands-pieces : (kept : WalkState) (r : StringReading) (cs : List (List ℕ)) → Stands kept r → Stands (kept_with_all kept cs) (with_bytes (concat cs) r)
+stands-pieces kept r [] h = rw (append-nil r.whole) h
+stands-pieces kept r (c ∷ cs) h =
+    let string : List ℕ → StringReading = λ b. record { before = r.before; whole = b; taken = r.taken } in
+    subst (λ b. Stands (kept_with_all (kept_with kept c) cs) (string b)) (append_assoc r.whole c (concat cs)) (stands-pieces (kept_with kept c) (with_bytes c r) cs (stands-more kept c r h))
 
 -- the presentation, the phase and the bytes
-pub stands-latest : (kept : WalkState) (last : Option Presentation) (b : List ℕ) (n : ℕ) → Stands kept last b n → kept.last ≡ latest_after_all last (take n (Items last b))
-stands-latest kept last b n h = ap (λ (s : WalkState). s.last) (is-state kept last b n h) ∙ state-latest adts is_walk (λ (s : WalkState). s.last) last-move n (start last b) ∙ ap (λ items. latest_after_all last (take n items)) (sym (items-frames last b))
+pub stands-latest : (kept : WalkState) (r : StringReading) → Stands kept r → kept.last ≡ latest_after_all r.before (take r.taken (items_of_string r.before r.whole))
+stands-latest kept r h = ap (λ (s : WalkState). s.last) (is-state kept r h) ∙ state-latest adts is_walk (λ (s : WalkState). s.last) last-move r.taken (start r.before r.whole) ∙ ap (λ items. latest_after_all r.before (take r.taken items)) (sym (items-frames r.before r.whole))
 
-pub stands-phase : (kept : WalkState) (last : Option Presentation) (b : List ℕ) (n : ℕ) → Stands kept last b n → phase_of kept.point ≡ phase_before last b n
-stands-phase kept last b n h = ap (λ (s : WalkState). phase_of s.point) (is-state kept last b n h) ∙ ap (λ (v : ParserView). v.phase) (sym (view-frames last b n))
+pub stands-phase : (kept : WalkState) (r : StringReading) → Stands kept r → phase_of kept.point ≡ phase_before r
+stands-phase kept r h = ap (λ (s : WalkState). phase_of s.point) (is-state kept r h) ∙ ap (λ (v : ParserView). v.phase) (sym (view-frames r))
 
-pub stands-held : (kept : WalkState) (last : Option Presentation) (b : List ℕ) (n : ℕ) → Stands kept last b n → kept.rest ≡ held_before last b n
-stands-held kept last b n h = ap (λ (s : WalkState). s.rest) (is-state kept last b n h) ∙ ap (λ (v : ParserView). v.held) (sym (view-frames last b n))
+pub stands-held : (kept : WalkState) (r : StringReading) → Stands kept r → kept.rest ≡ held_before r
+stands-held kept r h = ap (λ (s : WalkState). s.rest) (is-state kept r h) ∙ ap (λ (v : ParserView). v.held) (sym (view-frames r))
 
 pub waits-kept : (r : Bool) (point : ParsePoint) (kept : WalkState) → point ≡ kept.point → (IsTrue r ↔ (phase_of point ≡ Waiting)) → (IsTrue r ↔ (phase_of kept.point ≡ Waiting))
 waits-kept r point kept e h = subst (λ p. IsTrue r ↔ (phase_of p ≡ Waiting)) e h
 
-pub waits : (r : Bool) (kept : WalkState) (last : Option Presentation) (b : List ℕ) (n : ℕ) → Stands kept last b n → (IsTrue r ↔ (phase_of kept.point ≡ Waiting)) → (IsTrue r ↔ (phase_before last b n ≡ Waiting))
-waits r kept last b n st h = subst (λ p. IsTrue r ↔ (p ≡ Waiting)) (stands-phase kept last b n st) h
+pub waits : (waiting : Bool) (kept : WalkState) → (IsTrue waiting ↔ (phase_of kept.point ≡ Waiting)) → ForEachReading kept (λ r. IsTrue waiting ↔ (phase_before r ≡ Waiting))
+waits waiting kept h = λ r st. subst (λ p. IsTrue waiting ↔ (p ≡ Waiting)) (stands-phase kept r st) h
 
 -- ---- frames that are ready
 
@@ -149,7 +152,7 @@ frame-there : (last : Option Presentation) (offset : ℕ) (rest : List ℕ) (h :
 frame-there last offset rest h true e = let l : h.len ≤ length rest = grind (arith, nat_tests) in sym (one-frame last offset rest h l)
 frame-there last offset rest h false e = let l : length rest < h.len = grind (arith, nat_tests) in sym (ap frames_first (items-stop (going last (AtFrame h) offset rest) (once-short (going last (AtFrame h) offset rest) h _ l)))
 
-ready-place : (last : Option Presentation) (p : ParsePoint) (offset : ℕ) (rest : List ℕ) → IsSettled (adts.move (going last p offset rest)) → ready_at (length rest) p ≡ frames_first (items_from adts (going last p offset rest))
+ready-place : (last : Option Presentation) (p : ParsePoint) (offset : ℕ) (rest : List ℕ) → IsSettled (adts.move (going last p offset rest)) → ready_at_point (length rest) p ≡ frames_first (items_from adts (going last p offset rest))
 ready-place last AtHeader offset rest h = sym (no-frame (going last AtHeader offset rest) _ refl h (found-frameless (going last AtHeader offset rest) (found_at rest)))
 ready-place last (InTag zero) offset rest h = absurd h
 ready-place last (InTag (suc left)) offset rest h = sym (no-frame (going last (InTag (suc left)) offset rest) _ refl h (tag-frameless (going last (InTag (suc left)) offset rest) left rest))
@@ -160,16 +163,16 @@ ready-unless : (last : Option Presentation) (p : ParsePoint) (offset : ℕ) (res
 ready-unless last p offset rest true h = let s : WalkState = record { last = last; point = p; offset = offset; rest = rest; failed = true } in sym (ap frames_first (items-stop s refl))
 ready-unless last p offset rest false h = ready-place last p offset rest h
 
-pub stands-ready : (kept : WalkState) (last : Option Presentation) (b : List ℕ) (n : ℕ) → Stands kept last b n → ready_of kept ≡ ready_before last b n
-stands-ready kept last b n h =
-    let s : WalkState = state_before last b n in
-    ap ready_of (is-state kept last b n h) ∙ ready-unless s.last s.point s.offset s.rest s.failed (settled-at-state adts is_walk n (start last b)) ∙ ap frames_first (items-at adts is_walk n (start last b) ∙ ap (drop n) (sym (items-frames last b)))
+pub stands-ready : (kept : WalkState) (r : StringReading) → Stands kept r → ready_of kept ≡ ready_before r
+stands-ready kept r h =
+    let s : WalkState = state_before r in
+    ap ready_of (is-state kept r h) ∙ ready-unless s.last s.point s.offset s.rest s.failed (settled-at-state adts is_walk r.taken (start r.before r.whole)) ∙ ap frames_first (items-at adts is_walk r.taken (start r.before r.whole) ∙ ap (drop r.taken) (sym (items-frames r.before r.whole)))
 
 one-or-none : (b : Bool) → cond b 1 0 ≤ 1
 one-or-none true = omega arith
 one-or-none false = omega arith
 
-ready-most : (s : WalkState) (p : ParsePoint) (n : ℕ) → ready_at n p ≤ 1
+ready-most : (s : WalkState) (p : ParsePoint) (n : ℕ) → ready_at_point n p ≤ 1
 ready-most s AtHeader n = omega arith
 ready-most s (InTag left) n = omega arith
 ready-most s (AtFrame h) n = one-or-none (leb h.len n)
@@ -199,17 +202,17 @@ empty-found : found_at [] ≡ found.Nothing
 unfolding found_at
 empty-found = refl
 
-pub stands-empty : (last : Option Presentation) → Stands (start last []) last [] 0
+pub stands-empty : (last : Option Presentation) → Stands (start last []) (string_from last)
 stands-empty last =
     let s : WalkState = start last [] in
     let e : adts.move s ≡ Stop = ap (found_move s) empty-found in
-    subst (λ u. Stands u last [] 0) (settle-same adts is_walk s (rw e tt)) (subst (λ r. walk.Stands adts r s 0) (run-is s) (stands-start adts is_walk s))
+    subst (λ u. Stands u (string_from last)) (settle-same adts is_walk s (rw e tt)) (subst (λ r. walk.Stands adts r s 0) (lookahead-is s) (stands-start adts is_walk s))
 
 -- what is kept where nothing is
 pub start-is : (last : Option Presentation) (position : ParsePosition) (bytes : List ℕ) → position ≡ position_at_start → bytes ≡ [] → state_of last position bytes ≡ start last []
 start-is last position bytes e f = ap (λ (x : ParsePosition). state_of last x bytes) e ∙ ap (state_of last position_at_start) f
 
-pub holds-start : (position : ParsePosition) (bytes : List ℕ) → position ≡ position_at_start → bytes ≡ [] → IsStream position bytes 0 None
+pub holds-start : (position : ParsePosition) (bytes : List ℕ) → position ≡ position_at_start → bytes ≡ [] → IsAdtsStream position bytes 0 None
 holds-start position bytes e f = rw (e, f) (record { inside = omega arith; total = omega arith; bounded = omega arith })
 
 -- ---- bytes are offered
@@ -236,7 +239,7 @@ offer-view last position old new bytes n len e f =
     ∙ ap (λ rest. view rest (drop (length (old ++ bytes) - len) (old ++ bytes))) (take-front old bytes (length (old ++ bytes) - len) k)
     ∙ ap (view old) (drop-front old bytes (length (old ++ bytes) - len) k)
 
-pub offer-holds : (position : ParsePosition) (old new bytes : List ℕ) (n len : ℕ) → new ≡ old ++ bytes → len ≡ length bytes → IsStream position old n None → n + len < 2 ^ 62 → IsStream position new n (Some len)
+pub offer-holds : (position : ParsePosition) (old new bytes : List ℕ) (n len : ℕ) → new ≡ old ++ bytes → len ≡ length bytes → IsAdtsStream position old n None → n + len < 2 ^ 62 → IsAdtsStream position new n (Some len)
 offer-holds position old new bytes n len e f h room =
     let l : length new ≡ length old + length bytes = ap length e ∙ length-append old bytes in
     record { inside = omega arith; total = omega (arith, h.total); bounded = room }
@@ -248,14 +251,14 @@ more-still s c true e f = ap (more_unless s c) e
 more-still s c false e f = absurd (cc)
 
 -- behind a fault nothing is appended
-pub fed-failed : (last : Option Presentation) (position : ParsePosition) (bytes c : List ℕ) → position.failed ≡ true → state_of last position bytes ≡ fed (state_of last position bytes) c
-fed-failed last position bytes c e =
+pub kept_with-failed : (last : Option Presentation) (position : ParsePosition) (bytes c : List ℕ) → position.failed ≡ true → state_of last position bytes ≡ kept_with (state_of last position bytes) c
+kept_with-failed last position bytes c e =
     let s : WalkState = state_of last position bytes in
     let m : adts.move s ≡ Stop = ap (move_unless s) e in
     sym (ap (settle adts) (more-still s c position.failed refl e) ∙ settle-same adts is_walk s (rw m tt))
 
-pub fed-going : (last : Option Presentation) (position : ParsePosition) (bytes : List ℕ) (k : ℕ) → position.failed ≡ false → settle adts (state_of last position bytes) ≡ fed (state_of last position (take k bytes)) (drop k bytes)
-fed-going last position bytes k e =
+pub kept_with-going : (last : Option Presentation) (position : ParsePosition) (bytes : List ℕ) (k : ℕ) → position.failed ≡ false → settle adts (state_of last position bytes) ≡ kept_with (state_of last position (take k bytes)) (drop k bytes)
+kept_with-going last position bytes k e =
     let s : WalkState = state_of last position (take k bytes) in
     let f : adts.more s (drop k bytes) ≡ going last position.point position.offset (take k bytes ++ drop k bytes) = ap (more_unless s (drop k bytes)) e in
     let g : state_of last position bytes ≡ going last position.point position.offset bytes = at-position last position bytes position.point refl e in
@@ -264,12 +267,12 @@ fed-going last position bytes k e =
 offered-length : (bytes : List ℕ) (len : ℕ) → len ≤ length bytes → length (drop (length bytes - len) bytes) ≡ len
 offered-length bytes len h = let l = length-drop (length bytes - len) bytes in omega (arith, l)
 
-pub accept-stands : (last : Option Presentation) (position : ParsePosition) (bytes : List ℕ) (n len : ℕ) (new : WalkState) (v : AdtsView) → adts_view last position bytes n (Some len) ≡ v → new ≡ fed (state_of last position (take (length bytes - len) bytes)) (drop (length bytes - len) bytes) → IfSome v.offered (λ c. (before : Option Presentation) (b : List ℕ) (k : ℕ) → Stands v.state before b k → Stands new before (b ++ c) k)
+pub accept-stands : (last : Option Presentation) (position : ParsePosition) (bytes : List ℕ) (n len : ℕ) (new : WalkState) (v : AdtsView) → adts_view last position bytes n (Some len) ≡ v → new ≡ kept_with (state_of last position (take (length bytes - len) bytes)) (drop (length bytes - len) bytes) → IfSome v.offered (λ c. StandsAfter v.state (with_bytes c) new)
 accept-stands last position bytes n len new v e f =
     let c = drop (length bytes - len) bytes in
     let kept : WalkState = state_of last position (take (length bytes - len) bytes) in
-    let g : (before : Option Presentation) (b : List ℕ) (k : ℕ) → Stands kept before b k → Stands new before (b ++ c) k = λ before b k q. subst (λ w. Stands w before (b ++ c) k) (sym f) (stands-more kept before b c k q) in
-    subst (λ (v : AdtsView). IfSome v.offered (λ c. (before : Option Presentation) (b : List ℕ) (k : ℕ) → Stands v.state before b k → Stands new before (b ++ c) k)) e g
+    let g : StandsAfter kept (with_bytes c) new = subst (StandsAfter kept (with_bytes c)) (sym f) (stands-more kept c) in
+    subst (λ (v : AdtsView). IfSome v.offered (λ c. StandsAfter v.state (with_bytes c) new)) e g
 
 pub accept-fed : (last : Option Presentation) (position : ParsePosition) (bytes : List ℕ) (n len : ℕ) (v : AdtsView) → adts_view last position bytes n (Some len) ≡ v → len ≤ length bytes → IfSome v.offered (λ c. n + len ≡ v.fed + length c)
 accept-fed last position bytes n len v e h =
@@ -282,21 +285,21 @@ decline-view last position bytes new n len v e f =
     let view' : AdtsView → AdtsView = λ w. record { state = w.state; fed = w.fed; offered = None } in
     ap view f ∙ ap view' e
 
-pub decline-holds : (position : ParsePosition) (bytes new : List ℕ) (n len : ℕ) → IsStream position bytes n (Some len) → new ≡ take (length bytes - len) bytes → IsStream position new n None
+pub decline-holds : (position : ParsePosition) (bytes new : List ℕ) (n len : ℕ) → IsAdtsStream position bytes n (Some len) → new ≡ take (length bytes - len) bytes → IsAdtsStream position new n None
 decline-holds position bytes new n len h f =
     let l : length new ≡ length bytes - len = ap length f ∙ length-take-le (length bytes - len) bytes (omega arith) in
     record { inside = omega arith; total = omega (arith, h.total, h.inside); bounded = omega (arith, h.bounded) }
 
 -- ---- the next item
 
-pub next-item : {E : Type 0} (result : Result AdtsNext E) (s : WalkState) (last : Option Presentation) (b : List ℕ) (n : ℕ) → Stands s last b n → IfOk result (λ x. seen x ≡ item_of (adts.move s)) → IfOk result (λ x. seen x ≡ slice_get (Items last b) n)
-next-item (Ok x) s last b n h g = g ∙ stands-item s last b n h
-next-item (Err e) s last b n h g = tt
+pub next-item : {E : Type 0} (result : Result (Next AdtsFault) E) (s : WalkState) → IfOk result (λ x. seen x ≡ item_of (adts.move s)) → ForEachReading s (λ r. IfOk result (λ x. seen x ≡ slice_get (items_of_string r.before r.whole) r.taken))
+next-item (Ok x) s g = λ r h. g ∙ stands-item s r h
+next-item (Err e) s g = λ r h. tt
 
-pub next-stands : {E : Type 0} (result : Result AdtsNext E) (s new : WalkState) (last : Option Presentation) (b : List ℕ) (n : ℕ) → Stands s last b n → IfOk result (λ x. seen x ≡ item_of (adts.move s)) → OnOk result (new ≡ state_behind s (adts.move s)) → IfOk result (λ x. Stands new last b (count_after n (seen x)))
-next-stands (Ok x) s new last b n h g k = subst (λ w. Stands w last b (count_after n (seen x))) (sym k) (subst (λ o. Stands (state_behind s (adts.move s)) last b (count_after n o)) (sym g) (stands-behind s last b n h))
-next-stands (Err e) s new last b n h g k = tt
+pub next-stands : {E : Type 0} (result : Result (Next AdtsFault) E) (s new : WalkState) → IfOk result (λ x. seen x ≡ item_of (adts.move s)) → OnOk result (new ≡ state_behind s (adts.move s)) → IfOk result (λ x. StandsAfter s (after_answer (seen x)) new)
+next-stands (Ok x) s new g k = λ r h. subst (λ w. Stands w (after_answer (seen x) r)) (sym k) (subst (λ o. Stands (state_behind s (adts.move s)) (after_answer o r)) (sym g) (stands-behind s r h))
+next-stands (Err e) s new g k = tt
 
-pub next-dry : {E : Type 0} (result : Result AdtsNext E) (s new : WalkState) → IfOk result (λ x. seen x ≡ item_of (adts.move s)) → OnOk result (new ≡ state_behind s (adts.move s)) → IfOk result (λ x. seen x ≡ None → new ≡ s)
+pub next-dry : {E : Type 0} (result : Result (Next AdtsFault) E) (s new : WalkState) → IfOk result (λ x. seen x ≡ item_of (adts.move s)) → OnOk result (new ≡ state_behind s (adts.move s)) → IfOk result (λ x. seen x ≡ None → new ≡ s)
 next-dry (Ok x) s new g k = λ e. k ∙ sym (behind-none s (sym g ∙ e))
 next-dry (Err x) s new g k = tt

@@ -11,6 +11,7 @@ use Rattle.mse_base.specs.declared.track.Kind.TheVariants.{Audio}
 use Rattle.mse_base.specs.declared.track.TrackInfo.{TrackInfo}
 use Rattle.mse_base.specs.declared.track.Presentation.{Presentation}
 use Rattle.parser_loop.specs.Items.{Item, InitItem, FrameItem, SegmentEnd, FaultItem, leading_frames}
+use Rattle.parser_loop.specs.StringReadings.{StringReading}
 use Rattle.parser_loop.specs.Parse.{Parse, NoItem, ItemThen, ParserView, items_of, seen_before}
 use Rattle.adts_stream.specs.declared.next.AdtsFault.{AdtsFault}
 use Rattle.adts_stream.specs.declared.header.FrameHeader.{FrameHeader}
@@ -112,19 +113,19 @@ string_parse last b = parse_at (suc (length b)) b last 0
 -- ---- its items, and what is seen before each
 
 -- all items of the string
-abbrev pub Items : Option Presentation → List ℕ → List AdtsItem
-Items last b = items_of (string_parse last b)
+abbrev pub items_of_string : Option Presentation → List ℕ → List AdtsItem
+items_of_string last b = items_of (string_parse last b)
 
--- what is seen of the parser just before item n, counted from 0, or at the end where there is no item n
-abbrev pub view_before : Option Presentation → List ℕ → ℕ → ParserView
-view_before last b n = seen_before n (string_parse last b)
+-- what is seen of the parser just before the next item of a reading, or at the end where there is none
+abbrev pub view_before : StringReading → ParserView
+view_before r = seen_before r.taken (string_parse r.before r.whole)
 
-abbrev pub phase_before : Option Presentation → List ℕ → ℕ → Phase
-phase_before last b n = (view_before last b n).phase
+abbrev pub phase_before : StringReading → Phase
+phase_before r = (view_before r).phase
 
-abbrev pub held_before : Option Presentation → List ℕ → ℕ → List ℕ
-held_before last b n = (view_before last b n).held
+abbrev pub held_before : StringReading → List ℕ
+held_before r = (view_before r).held
 
--- how many of the items from n on are coded frames, up to the first that is none
-abbrev pub ready_before : Option Presentation → List ℕ → ℕ → ℕ
-ready_before last b n = length (leading_frames (drop n (Items last b)))
+-- how many of the items that come next are coded frames, up to the first that is none
+abbrev pub ready_before : StringReading → ℕ
+ready_before r = length (leading_frames (drop r.taken (items_of_string r.before r.whole)))

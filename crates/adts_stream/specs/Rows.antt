@@ -1,7 +1,8 @@
 -- Worked strings of ADTS frames and tags.
-use Rattle.std.specs.Prelude.{ℕ, pos, true, List, [], ◌∷◌}
+use Rattle.std.specs.Prelude.{ℕ, pos, true, List, [], ◌∷◌, None}
 use Rattle.mse_base.specs.declared.frame.CodedFrame.{CodedFrame}
 use Rattle.parser_loop.specs.Items.{InitItem, FrameItem, SegmentEnd}
+use Rattle.parser_loop.specs.StringReadings.{StringReading}
 use Rattle.adts_stream.specs.Frames.{AdtsItem, presentation_of}
 
 -- a frame of ten bytes with one raw data block, of 44100 samples in a second, and one of 48000
@@ -14,6 +15,10 @@ frame_48000 = 255 ∷ 241 ∷ 76 ∷ 128 ∷ 1 ∷ 95 ∷ 252 ∷ 0 ∷ 0 ∷ 0 
 -- an ID3v2 tag of two bytes behind its header
 abbrev pub id3_tag : List ℕ
 id3_tag = 73 ∷ 68 ∷ 51 ∷ 4 ∷ 0 ∷ 0 ∷ 0 ∷ 0 ∷ 0 ∷ 2 ∷ 0 ∷ 0 ∷ []
+
+-- a string with no presentation from before, of which so many items were given
+abbrev pub reading_of : List ℕ → ℕ → StringReading
+reading_of b taken = record { before = None; whole = b; taken = taken }
 
 abbrev pub whole_frame : List ℕ → CodedFrame
 whole_frame payload = record {

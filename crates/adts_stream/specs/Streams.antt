@@ -3,6 +3,7 @@ use Rattle.std.specs.Prelude.{ℕ, ◌+◌, ◌-◌, ◌<◌, ◌≤◌, ◌^◌
 use Rattle.mse_base.specs.declared.track.Presentation.{Presentation}
 use Rattle.parser_loop.specs.Walk.{settle, stay_at}
 use Rattle.parser_loop.specs.Walk as walk
+use Rattle.parser_loop.specs.StringReadings.{StringReading}
 use Rattle.adts_stream.specs.declared.position.ParsePosition.{ParsePosition}
 use Rattle.adts_stream.specs.Walk.{WalkState, adts, start}
 use Rattle.adts_stream.specs.Values.{state_of}
@@ -14,19 +15,27 @@ pub record AdtsView : Type 0 where
   pub fed : ℕ
   pub offered : Option (List ℕ)
 
--- What is kept stands for the string `b`, read with the presentation `last` from before, of whose items n were given:
--- it is the walk's state just before item n, since nothing is taken ahead. Many strings may belong to one stream.
-abbrev pub Stands : WalkState → Option Presentation → List ℕ → ℕ → Type 0
-Stands kept last b n = walk.Stands adts (stay_at kept) (start last b) n
+-- What is kept stands for a reading of a string: it is the walk's state just before the next item, since nothing is
+-- taken ahead. Many strings may belong to one stream.
+abbrev pub Stands : WalkState → StringReading → Type 0
+Stands kept r = walk.Stands adts (stay_at kept) (start r.before r.whole) r.taken
+
+-- for each reading that it stands for
+abbrev pub ForEachReading : WalkState → (StringReading → Type 0) → Type 0
+ForEachReading kept p = (r : StringReading) → Stands kept r → p r
+
+-- what is kept then stands for each reading that this stood for, after a change of it
+abbrev pub StandsAfter : WalkState → (StringReading → StringReading) → WalkState → Type 0
+StandsAfter old change new = ForEachReading old (λ r. Stands new (change r))
 
 -- what is kept where more bytes have come
-abbrev pub fed : WalkState → List ℕ → WalkState
-fed kept c = settle adts (adts.more kept c)
+abbrev pub kept_with : WalkState → List ℕ → WalkState
+kept_with kept c = settle adts (adts.more kept c)
 
 -- what is kept where these pieces have come one after the other
-abbrev pub fed_all : WalkState → List (List ℕ) → WalkState
-fed_all kept [] = kept
-fed_all kept (c ∷ cs) = fed_all (fed kept c) cs
+abbrev pub kept_with_all : WalkState → List (List ℕ) → WalkState
+kept_with_all kept [] = kept
+kept_with_all kept (c ∷ cs) = kept_with_all (kept_with kept c) cs
 
 -- ---- what the fields are to this
 
@@ -47,7 +56,7 @@ abbrev pub offered_len : Option ℕ → ℕ
 offered_len None = 0
 offered_len (Some len) = len
 
-pub record IsStream (position : ParsePosition) (bytes : List ℕ) (fed : ℕ)
+pub record IsAdtsStream (position : ParsePosition) (bytes : List ℕ) (fed : ℕ)
     (offered : Option ℕ) : Type 0 where
   pub inside : offered_len offered ≤ length bytes
   pub total : position.offset + length bytes ≤ fed + offered_len offered

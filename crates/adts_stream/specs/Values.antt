@@ -1,9 +1,7 @@
 -- What the values of the code are to the walk.
-use Rattle.std.specs.Prelude.{◌≡◌, ℕ, ◌<◌, ◌≤◌, nat_le, if◌then◌else◌, Bool, true, false, List, length, Option, Some, None}
+use Rattle.std.specs.Prelude.{◌≡◌, ℕ, ◌<◌, ◌≤◌, nat_le, if◌then◌else◌, Bool, true, false, List, length, Option, None}
 use Rattle.mse_base.specs.declared.track.Presentation.{Presentation}
 use Rattle.parser_loop.specs.Walk.{Move, Stop, Pass, Give, item_of, settle}
-use Rattle.adts_stream.specs.declared.next.AdtsNext.{AdtsNext}
-use Rattle.adts_stream.specs.declared.next.AdtsNext.TheVariants as next
 use Rattle.adts_stream.specs.declared.position.ParsePoint.{ParsePoint}
 use Rattle.adts_stream.specs.declared.position.ParsePoint.TheVariants.{AtHeader, InTag, AtFrame, AtEnd}
 use Rattle.adts_stream.specs.declared.position.ParsePosition.{ParsePosition}
@@ -12,14 +10,6 @@ use Rattle.adts_stream.specs.declared.position.NextItem.TheVariants as next_item
 use Rattle.parser_loop.specs.Items.{InitItem, FrameItem, SegmentEnd, FaultItem}
 use Rattle.adts_stream.specs.Frames.{AdtsItem, presentation_of, coded_frame}
 use Rattle.adts_stream.specs.Walk.{WalkState, state_in, state_after_init, state_past, state_after_fault, adts}
-
--- what an answer of the stream shows of the items
-abbrev pub seen : AdtsNext → Option AdtsItem
-seen (next.Init p offset) = Some (InitItem p offset)
-seen (next.Frame frame offset) = Some (FrameItem frame offset)
-seen next.SegmentEnd = Some SegmentEnd
-seen (next.Fault f offset) = Some (FaultItem f offset)
-seen next.Dry = None
 
 abbrev pub state_of : Option Presentation → ParsePosition → List ℕ → WalkState
 state_of last position rest = record {
@@ -55,15 +45,15 @@ state_behind s (Pass t) = s
 state_behind s (Give item t) = settle adts t
 
 -- whether a frame comes next, of which n bytes are there
-abbrev pub ready_at : ℕ → ParsePoint → ℕ
-ready_at n AtHeader = 0
-ready_at n (InTag left) = 0
-ready_at n (AtFrame h) = if nat_le h.len n then 1 else 0
-ready_at n (AtEnd h) = 0
+abbrev pub ready_at_point : ℕ → ParsePoint → ℕ
+ready_at_point n AtHeader = 0
+ready_at_point n (InTag left) = 0
+ready_at_point n (AtFrame h) = if nat_le h.len n then 1 else 0
+ready_at_point n (AtEnd h) = 0
 
 abbrev pub ready_unless : WalkState → Bool → ℕ
 ready_unless s true = 0
-ready_unless s false = ready_at (length s.rest) s.point
+ready_unless s false = ready_at_point (length s.rest) s.point
 
 abbrev pub ready_of : WalkState → ℕ
 ready_of s = ready_unless s s.failed

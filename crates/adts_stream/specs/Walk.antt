@@ -7,6 +7,7 @@ use Rattle.mse_base.specs.declared.track.Presentation.{Presentation}
 use Rattle.parser_loop.specs.Walk.{Move, Stop, Pass, Give, StreamKind, state_at}
 use Rattle.parser_loop.specs.Items.{InitItem, FrameItem, SegmentEnd, FaultItem, is_fault}
 use Rattle.parser_loop.specs.Parse.{ParserView}
+use Rattle.parser_loop.specs.StringReadings.{StringReading}
 use Rattle.adts_stream.specs.declared.header.FrameHeader.{FrameHeader}
 use Rattle.adts_stream.specs.declared.header.Found.{Found}
 use Rattle.adts_stream.specs.declared.header.Found.TheVariants as found
@@ -149,9 +150,9 @@ adts = record {
 abbrev pub start : Option Presentation → List ℕ → WalkState
 start last b = record { last = last; point = AtHeader; offset = 0; rest = b; failed = false }
 
--- its state just before item n, counted from 0, or at its end where there is no item n
-abbrev pub state_before : Option Presentation → List ℕ → ℕ → WalkState
-state_before last b n = state_at adts n (start last b)
+-- its state just before the next item of a reading, or at the end of the string where there is none
+abbrev pub state_before : StringReading → WalkState
+state_before r = state_at adts r.taken (start r.before r.whole)
 
 abbrev pub phase_of : ParsePoint → Phase
 phase_of AtHeader = Waiting

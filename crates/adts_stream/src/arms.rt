@@ -3,10 +3,10 @@ ghost use Rattle.std.specs.List.{concat};
 ghost use Rattle.parser_loop.specs.Walk.{item_of, settle};
 ghost use Rattle.mse_base.specs.declared.track.Presentation.{Presentation};
 ghost use Rattle.adts_stream.specs.declared.header.FrameHeader.{FrameHeader};
-ghost use Rattle.parser_loop.specs.Items.{FrameItem, InitItem, latest_after_any};
+ghost use Rattle.parser_loop.specs.Items.{FrameItem, InitItem, latest_after_any, seen};
 ghost use Rattle.adts_stream.specs.Walk.{adts, state_past, state_after_fault};
 ghost use Rattle.adts_stream.specs.Frames.{coded_frame, presentation_of};
-ghost use Rattle.adts_stream.specs.Values.{state_behind, seen, state_of};
+ghost use Rattle.adts_stream.specs.Values.{state_behind, state_of};
 
 use crate::header::FrameHeader;
 use crate::next::AdtsNext;

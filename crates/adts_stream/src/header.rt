@@ -46,6 +46,7 @@ fn bits(header: u64, at: u32, width: u32) -> u64
     (header >> (56 - (at + width))) % (1 << width)
 }
 
+/// The sampling frequency of an index.
 fn rate(index: u64) -> Option<u32>
     ensures { result ≡ slice_get sampling_frequencies index }
 {

@@ -1,4 +1,4 @@
-use mse_base::{CodedFrame, Presentation};
+use parser_loop::Next;
 
 /// Why a string cannot be parsed any further.
 #[derive(Clone, Copy, Debug, PartialEq, Eq)]
@@ -11,18 +11,6 @@ pub enum AdtsFault {
     Length,
 }
 
-/// What a stream gives next.
-#[derive(Debug, Drop)]
-pub enum AdtsNext {
-    /// An initialization segment was received: a frame has another sampling frequency than those before it, or
-    /// is the first. With the offset of that frame in the string.
-    Init(Presentation, u64),
-    /// A coded frame, header and all, with the offset of its first byte in the string.
-    Frame(CodedFrame, u64),
-    /// A media segment is at its end: each frame is one.
-    SegmentEnd,
-    /// The string breaks the byte stream format at this offset: nothing follows.
-    Fault { fault: AdtsFault, offset: u64 },
-    /// The string gives no further item.
-    Dry,
-}
+/// What a stream gives next. An initialization segment stands where a frame has another sampling frequency than those
+/// before it, or is the first; a coded frame is there header and all, and is a media segment.
+pub type AdtsNext = Next<AdtsFault>;

@@ -1,10 +1,9 @@
-ghost use Rattle.std.specs.Prelude.{◌≡◌, ◌↔◌, ℕ, ◌+◌, ◌-◌, ◌<◌, ◌≤◌, ◌^◌, ◌⊎◌, List, [], ◌++◌, length, take, slice_get, Option, Some, None, IsSome, IsTrue, IfSome, IfOk, OnOk, OnErr};
+ghost use Rattle.std.specs.Prelude.{◌≡◌, ◌↔◌, ℕ, ◌+◌, ◌-◌, ◌<◌, ◌≤◌, ◌^◌, ◌⊎◌, List, [], length, slice_get, Option, Some, None, IsSome, IsTrue, IfSome, IfOk, OnOk, OnErr};
 ghost use Rattle.std.specs.List.{concat};
 ghost use Rattle.mse_base.specs.declared.frame.Phase.TheVariants.{Waiting};
 ghost use Rattle.mse_base.specs.declared.track.Presentation.{Presentation};
-ghost use Rattle.parser_loop.specs.Walk.{count_after};
-ghost use Rattle.parser_loop.specs.Items.{latest_after_all, latest_after_any};
-ghost use Rattle.adts_stream.specs.Frames.{Items, phase_before, ready_before, held_before};
+ghost use Rattle.parser_loop.specs.Items.{latest_after_any, seen};
+ghost use Rattle.adts_stream.specs.Frames.{items_of_string, phase_before, ready_before, held_before};
 ghost use Rattle.adts_stream.specs.Walk.{phase_of};
 ghost use Rattle.adts_stream.specs.Values.{position_at_start, ready_of, state_of};
 
@@ -35,13 +34,13 @@ pub struct AdtsStream {
 
 impl Model for AdtsStream {
     ghost use Rattle.std.specs.List.{concat};
-    ghost use Rattle.adts_stream.specs.Streams.{AdtsView, adts_view, IsStream};
+    ghost use Rattle.adts_stream.specs.Streams.{AdtsView, adts_view, IsAdtsStream};
 
     ghost Value = { AdtsView };
 
     ghost view = { λ s. adts_view s.last s.position (concat s.input) s.fed s.offered };
 
-    ghost invariant = { λ s. IsStream s.position (concat s.input) s.fed s.offered };
+    ghost invariant = { λ s. IsAdtsStream s.position (concat s.input) s.fed s.offered };
 }
 
 /// The place before a string.
@@ -95,12 +94,13 @@ fn is_waiting(point: ParsePoint) -> bool
 }
 
 impl AdtsStream {
-    ghost use Rattle.adts_stream.specs.Values.{seen, ready_of};
-    ghost use Rattle.adts_stream.specs.Streams.{Stands};
+    ghost use Rattle.parser_loop.specs.StringReadings.{after_answer, after_reset, string_from, with_bytes};
+    ghost use Rattle.adts_stream.specs.Values.{ready_of};
+    ghost use Rattle.adts_stream.specs.Streams.{ForEachReading, Stands, StandsAfter};
 
     /// A stream of the empty string, with no presentation from before.
     pub fn new(alloc: Global) -> AdtsStream
-        ensures stands { Stands result.state None [] 0 }
+        ensures stands { Stands result.state (string_from None) }
         ensures last { result.state.last ≡ None }
         ensures fed { result.fed ≡ 0 }
         ensures none_offered { result.offered ≡ None }
@@ -118,7 +118,7 @@ impl AdtsStream {
     /// Takes all memory that a feed of these bytes needs, and leaves the string; also where it finds none.
     pub fn offer(&mut self, bytes: &[u8]) -> Result<(), OutOfMemory>
         requires none_offered { self.old.offered ≡ None }
-        requires room { self.old.fed + length bytes.now < 2 ^ 62 }
+        requires countable { self.old.fed + length bytes.now < 2 ^ 62 }
         ensures ok { OnOk result (self.new
             ≡ record { state = self.old.state; fed = self.old.fed; offered = Some bytes.now }) }
         ensures err { OnErr result (self.new ≡ self.old) }
@@ -131,7 +131,7 @@ impl AdtsStream {
     /// As `offer` of the same bytes, whose memory the input has where they become a piece of their own.
     pub fn offer_bytes(&mut self, bytes: Bytes) -> Result<(), OutOfMemory>
         requires none_offered { self.old.offered ≡ None }
-        requires room { self.old.fed + length bytes < 2 ^ 62 }
+        requires countable { self.old.fed + length bytes < 2 ^ 62 }
         ensures ok { OnOk result (self.new
             ≡ record { state = self.old.state; fed = self.old.fed; offered = Some bytes }) }
         ensures err { OnErr result (self.new ≡ self.old) }
@@ -146,8 +146,7 @@ impl AdtsStream {
     pub fn accept(&mut self)
         requires { IsSome self.old.offered }
         ensures stands { IfSome self.old.offered
-            (λ bytes. (last : Option Presentation) (b : List ℕ) (n : ℕ) →
-            Stands self.old.state last b n → Stands self.new.state last (b ++ bytes) n) }
+            (λ bytes. StandsAfter self.old.state (with_bytes bytes) self.new.state) }
         ensures last { self.new.state.last ≡ self.old.state.last }
         ensures fed { IfSome self.old.offered
             (λ bytes. self.new.fed ≡ self.old.fed + length bytes) }
@@ -176,9 +175,9 @@ impl AdtsStream {
     /// Appends bytes to the string. An `Err` changes nothing.
     pub fn feed(&mut self, bytes: &[u8]) -> Result<(), OutOfMemory>
         requires none_offered { self.old.offered ≡ None }
-        requires room { self.old.fed + length bytes.now < 2 ^ 62 }
-        ensures stands { OnOk result ((last : Option Presentation) (b : List ℕ) (n : ℕ) →
-            Stands self.old.state last b n → Stands self.new.state last (b ++ bytes.now) n) }
+        requires countable { self.old.fed + length bytes.now < 2 ^ 62 }
+        ensures stands { OnOk result
+            (StandsAfter self.old.state (with_bytes bytes.now) self.new.state) }
         ensures last { OnOk result (self.new.state.last ≡ self.old.state.last) }
         ensures fed { OnOk result (self.new.fed ≡ self.old.fed + length bytes.now) }
         ensures none_offered { self.new.offered ≡ None }
@@ -194,9 +193,8 @@ impl AdtsStream {
     pub fn look(&self, i: usize) -> Result<AdtsNext, OutOfMemory>
         requires none_offered { self.now.offered ≡ None }
         requires ready { (i ≡ 0) ⊎ (i < ready_of self.now.state) }
-        ensures { (last : Option Presentation) (b : List ℕ) (n : ℕ) →
-            Stands self.now.state last b n → IfOk result
-            (λ next. seen next ≡ slice_get (Items last b) (n + i)) }
+        ensures { ForEachReading self.now.state (λ r. IfOk result
+            (λ next. seen next ≡ slice_get (items_of_string r.before r.whole) (r.taken + i))) }
     {
         look_on(self.alloc, &self.last, self.position, &self.input)
     }
@@ -205,12 +203,10 @@ impl AdtsStream {
     /// string gives none until the next reset. An `Err` changes nothing.
     pub fn next(&mut self) -> Result<AdtsNext, OutOfMemory>
         requires { self.old.offered ≡ None }
-        ensures item { (last : Option Presentation) (b : List ℕ) (n : ℕ) →
-            Stands self.old.state last b n → IfOk result
-            (λ next. seen next ≡ slice_get (Items last b) n) }
-        ensures stands { (last : Option Presentation) (b : List ℕ) (n : ℕ) →
-            Stands self.old.state last b n → IfOk result
-            (λ next. Stands self.new.state last b (count_after n (seen next))) }
+        ensures item { ForEachReading self.old.state (λ r. IfOk result
+            (λ next. seen next ≡ slice_get (items_of_string r.before r.whole) r.taken)) }
+        ensures stands { IfOk result (λ next.
+            StandsAfter self.old.state (after_answer (seen next)) self.new.state) }
         ensures last { IfOk result
             (λ next. self.new.state.last ≡ latest_after_any self.old.state.last (seen next)) }
         ensures fed { self.new.fed ≡ self.old.fed }
@@ -231,9 +227,9 @@ impl AdtsStream {
     /// its end.
     pub fn waiting(&self) -> bool
         requires { self.now.offered ≡ None }
-        ensures kept { IsTrue result ↔ (phase_of self.now.state.point ≡ Waiting) }
-        ensures phase { (last : Option Presentation) (b : List ℕ) (n : ℕ) →
-            Stands self.now.state last b n → IsTrue result ↔ (phase_before last b n ≡ Waiting) }
+        ensures value { IsTrue result ↔ (phase_of self.now.state.point ≡ Waiting) }
+        ensures phase { ForEachReading self.now.state (λ r.
+            IsTrue result ↔ (phase_before r ≡ Waiting)) }
     {
         is_waiting(self.position.point)
     }
@@ -242,9 +238,8 @@ impl AdtsStream {
     /// a segment of its own.
     pub fn ready_frames(&self) -> usize
         requires { self.now.offered ≡ None }
-        ensures kept { result ≡ ready_of self.now.state }
-        ensures ready { (last : Option Presentation) (b : List ℕ) (n : ℕ) →
-            Stands self.now.state last b n → result ≡ ready_before last b n }
+        ensures value { result ≡ ready_of self.now.state }
+        ensures ready { ForEachReading self.now.state (λ r. result ≡ ready_before r) }
         ensures few { result ≤ 1 }
     {
         ready(self.position, self.input.len())
@@ -253,9 +248,8 @@ impl AdtsStream {
     /// How many bytes are held in memory.
     pub fn held_len(&self) -> usize
         requires { self.now.offered ≡ None }
-        ensures kept { result ≡ length self.now.state.rest }
-        ensures held { (last : Option Presentation) (b : List ℕ) (n : ℕ) →
-            Stands self.now.state last b n → result ≡ length (held_before last b n) }
+        ensures value { result ≡ length self.now.state.rest }
+        ensures held { ForEachReading self.now.state (λ r. result ≡ length (held_before r)) }
     {
         self.input.len()
     }
@@ -264,10 +258,9 @@ impl AdtsStream {
     /// that was given stays (Media Source Extensions, 3.5.2, reset parser state).
     pub fn reset(&mut self)
         requires { self.old.offered ≡ None }
-        ensures stands { Stands self.new.state self.old.state.last [] 0 }
-        ensures latest { (last : Option Presentation) (b : List ℕ) (n : ℕ) →
-            Stands self.old.state last b n →
-            Stands self.new.state (latest_after_all last (take n (Items last b))) [] 0 }
+        ensures stands { Stands self.new.state (string_from self.old.state.last) }
+        ensures latest { ForEachReading self.old.state
+            (λ r. Stands self.new.state (after_reset (items_of_string r.before r.whole) r)) }
         ensures last { self.new.state.last ≡ self.old.state.last }
         ensures fed { self.new.fed ≡ 0 }
         ensures none_offered { self.new.offered ≡ None }
@@ -279,7 +272,7 @@ impl AdtsStream {
     /// As `reset`, and the presentation is dropped too.
     pub fn forget(&mut self)
         requires { self.old.offered ≡ None }
-        ensures stands { Stands self.new.state None [] 0 }
+        ensures stands { Stands self.new.state (string_from None) }
         ensures last { self.new.state.last ≡ None }
         ensures fed { self.new.fed ≡ 0 }
         ensures none_offered { self.new.offered ≡ None }

@@ -6,7 +6,7 @@ ghost use Rattle.adts_stream.specs.Headers.{found_at};
 ghost use Rattle.adts_stream.specs.Frames.{has_rate};
 ghost use Rattle.adts_stream.specs.Walk.{adts};
 ghost use Rattle.adts_stream.specs.Values.{IsNextItem, IsMoveTo, state_of};
-ghost use Rattle.adts_stream.specs.Streams.{fed};
+ghost use Rattle.adts_stream.specs.Streams.{kept_with};
 
 use crate::header::{Found, MOST, judge};
 use crate::position::{NextItem, ParsePoint, ParsePosition};
@@ -132,7 +132,7 @@ pub(crate) fn accept_on(
     requires inside { len ≤ length (concat input.old) }
     requires bounded { position.old.offset + length (concat input.old) < 2 ^ 62 }
     ensures kept { state_of last.now position.new (concat input.new)
-        ≡ fed (state_of last.now position.old
+        ≡ kept_with (state_of last.now position.old
         (take (length (concat input.old) - len) (concat input.old)))
         (drop (length (concat input.old) - len) (concat input.old)) }
     ensures total { position.new.offset + length (concat input.new)

@@ -1,13 +1,9 @@
 -- No coded frame of a string lasts a negative time.
-use Rattle.std.proofs.Common.{map, ◌≡◌, ℕ, zero, suc, ◌+◌, ◌*◌, ℤ, pos, ◌≤ℤ◌, ltb, eqb, cond, Bool, true, false, List, [], ◌∷◌, length, take, drop, Option, Some, None, is_some, slice_get, Result, Ok, Err, IfOk, IfSome, refl, sym, subst, arith}
-use Rattle.std.specs.Prelude.{All, ◌&&◌}
-use Rattle.std.specs.Str.{bytes_eq}
-use Rattle.std.proofs.lemmas.Int.{ints}
-use lib.Chars.{codes}
+use Rattle.std.proofs.Common.{◌≡◌, ℕ, zero, suc, Bool, true, false, List, [], ◌∷◌, length, take, Option, Some, None, is_some, slice_get, Result, Ok, Err, IfOk, IfSome, refl, sym, subst}
+use Rattle.std.specs.Prelude.{All}
 use Rattle.std.proofs.lemmas.List.Elements.{All-nil, All-cons, All-map, All-get_or}
 use Rattle.std.proofs.lemmas.Option.{slice_get_within, get_or_from_slice_get}
 use Rattle.mse_base.specs.declared.track.Presentation.{Presentation}
-use Rattle.mse_base.specs.Time.{converted}
 use Rattle.mse_types.specs.declared.answer.Container.{Container}
 use Rattle.mse_types.specs.declared.answer.Container.TheVariants.{Mp4, Adts}
 use Rattle.bmff_init.specs.declared.fault.InitFault.{InitFault}
@@ -22,18 +18,18 @@ use Rattle.segment_walk.specs.declared.kinds.BoxStep.TheVariants as step
 use Rattle.segment_walk.specs.Moves as segment
 use Rattle.segment_walk.specs.Tables.{SegmentItem}
 use Rattle.segment_walk.proofs.Boxes.{items-boxes}
-use Rattle.segment_walk.specs.Moves.{ParserMode, Between, Skipping, Within, open_of, move_of_init, move_of_slots, move_of_moof, act, step_of, pass_byte, segments}
+use Rattle.segment_walk.specs.Moves.{WalkMode, Between, Skipping, Within, open_of, move_of_init, move_of_slots, move_of_moof, act, step_of, pass_byte, segments}
 use Rattle.segment_walk.specs.Strings as segment_string
 use Rattle.segment_walk.proofs.WalkLaws.{going, Fits, HasSlot, good-step}
-use Rattle.parser_loop.specs.Items.{InitItem, FrameItem, SegmentEnd, FaultItem}
-use Rattle.mse_base.specs.declared.frame.CodedFrame.{CodedFrame}
+use Rattle.parser_loop.specs.declared.next.Next.{Next}
+use Rattle.parser_loop.specs.Items.{InitItem, FrameItem, SegmentEnd, FaultItem, seen}
 use Rattle.segment_walk.specs.Segments as segment_items
 use Rattle.adts_stream.specs.Frames as frame
 use Rattle.adts_stream.proofs.Places.{IsAt, item-place}
 use Rattle.adts_stream.proofs.Lasting.{coded-lasts}
-use Rattle.byte_stream.specs.declared.next.Next.{Next}
+use Rattle.byte_stream.specs.declared.next.ByteFault.{ByteFault}
 use Rattle.byte_stream.specs.Readings.{Reading, ByteItem, of_segments, of_frames, items_of, items_in as reading_items, IsLasting}
-use Rattle.byte_stream.specs.Streams.{StreamView, ForEachReading, StandsForSome, seen}
+use Rattle.byte_stream.specs.Streams.{StreamView, ForEachReading, StandsForSome}
 use Rattle.byte_stream.proofs.Durations.{Lasts, plan-lasts}
 
 -- ---- a fact that each move keeps, and that makes its item last
@@ -58,7 +54,7 @@ kept-from k P Q f s h = kept-in k P Q f (suc (k.size s)) s h
 
 -- ---- segments: the slots of an open movie fragment last
 
-abbrev OpenLasts : ParserMode → Type 0
+abbrev OpenLasts : WalkMode → Type 0
 OpenLasts (Between begun) = Unit {0}
 OpenLasts (Skipping to left) = Unit {0}
 OpenLasts (Within o) = All Lasts o.slots
@@ -69,12 +65,12 @@ SegmentLasts item = IsLasting (of_segments item)
 abbrev SegmentKeeps : Move segment.WalkState SegmentItem → Type 0
 SegmentKeeps m = Keeps (λ (s : segment.WalkState). OpenLasts s.mode) SegmentLasts m
 
-open-lasts : (m : ParserMode) → OpenLasts m → All Lasts (open_of m).slots
+open-lasts : (m : WalkMode) → OpenLasts m → All Lasts (open_of m).slots
 open-lasts (Between begun) h = All-nil Lasts
 open-lasts (Skipping to left) h = All-nil Lasts
 open-lasts (Within o) h = h
 
-slot-lasts : (m : ParserMode) (slot : Slot) → OpenLasts m → HasSlot m slot → Lasts slot
+slot-lasts : (m : WalkMode) (slot : Slot) → OpenLasts m → HasSlot m slot → Lasts slot
 slot-lasts (Between begun) slot h g = absurd g
 slot-lasts (Skipping to left) slot h g = absurd g
 slot-lasts (Within o) slot h g = subst Lasts (get_or_from_slice_get o.slots o.taken slot slot g) (All-get_or Lasts o.slots o.taken slot (slice_get_within o.slots o.taken slot g) h)
@@ -106,7 +102,7 @@ keeps-byte : (s : segment.WalkState) (to : Phase) (left : ℕ) (rest : List ℕ)
 keeps-byte s to left [] = tt
 keeps-byte s to left (x ∷ rest) = tt
 
-keeps-segment : (last : Option Presentation) (m : ParserMode) (offset : ℕ) (rest : List ℕ) (failed : Bool) → let s : segment.WalkState = record { last = last; mode = m; offset = offset; rest = rest; failed = failed } in OpenLasts m → SegmentKeeps (segment.move_unless s failed)
+keeps-segment : (last : Option Presentation) (m : WalkMode) (offset : ℕ) (rest : List ℕ) (failed : Bool) → let s : segment.WalkState = record { last = last; mode = m; offset = offset; rest = rest; failed = failed } in OpenLasts m → SegmentKeeps (segment.move_unless s failed)
 keeps-segment last m offset rest true h = tt
 keeps-segment last (Between begun) offset rest false h = keeps-act (going last (Between begun) offset rest) (length rest) (step_of (is_some last) rest (Between begun)) h (good-step (is_some last) rest [] (Between begun)).0
 keeps-segment last (Skipping to zero) offset rest false h = tt
@@ -131,14 +127,14 @@ all-of : {A : Type 0} (P : A → Type 0) (items : List A) → ((n : ℕ) (item :
 all-of P [] f = All-nil P
 all-of P (x ∷ items) f = All-cons P x items (f 0 x refl) (all-of P items (λ n item e. f (suc n) item e))
 
-frames-last : (before : Option Presentation) (whole : List ℕ) → All FrameLasts (frame.Items before whole)
-frames-last before whole = all-of FrameLasts (frame.Items before whole) (λ n item e. placed-lasts whole item (item-place before whole n item e))
+frames-last : (before : Option Presentation) (whole : List ℕ) → All FrameLasts (frame.items_of_string before whole)
+frames-last before whole = all-of FrameLasts (frame.items_of_string before whole) (λ n item e. placed-lasts whole item (item-place before whole n item e))
 
 -- ---- either container
 
 pub items-last : (container : Container) (before : Option Presentation) (whole : List ℕ) → All IsLasting (items_of container before whole)
-items-last Mp4 before whole = All-map IsLasting of_segments (segment_items.Items before whole) (subst (λ items. All SegmentLasts items) (items-boxes before whole) (segments-last before whole))
-items-last Adts before whole = All-map IsLasting of_frames (frame.Items before whole) (frames-last before whole)
+items-last Mp4 before whole = All-map IsLasting of_segments (segment_items.items_of_string before whole) (subst (λ items. All SegmentLasts items) (items-boxes before whole) (segments-last before whole))
+items-last Adts before whole = All-map IsLasting of_frames (frame.items_of_string before whole) (frames-last before whole)
 
 -- ---- what a stream shows
 
@@ -147,9 +143,9 @@ lasting-one items k None h e = tt
 lasting-one items k (Some item) h e = subst IsLasting (get_or_from_slice_get items k item item (sym e)) (All-get_or IsLasting items k item (slice_get_within items k item (sym e)) h)
 
 -- the item that is next
-pub lasting-item : (r : Reading) (o : Option ByteItem) → o ≡ slice_get (reading_items r) r.taken → IfSome o IsLasting
-lasting-item r o e = lasting-one (reading_items r) r.taken o (items-last r.container r.before r.whole) e
+pub lasting-item : (r : Reading) (o : Option ByteItem) → o ≡ slice_get (reading_items r) r.string.taken → IfSome o IsLasting
+lasting-item r o e = lasting-one (reading_items r) r.string.taken o (items-last r.container r.string.before r.string.whole) e
 
-pub shows-lasting : {E : Type 0} (result : Result Next E) (s : StreamView) (at : ℕ → ℕ) → StandsForSome s → ForEachReading s (λ r. IfOk result (λ x. seen x ≡ slice_get (reading_items r) (at r.taken))) → IfOk result (λ x. IfSome (seen x) IsLasting)
-shows-lasting (Ok x) s at h f = let r = h.reading in lasting-one (reading_items r) (at r.taken) (seen x) (items-last r.container r.before r.whole) (f r h.stands)
+pub shows-lasting : {E : Type 0} (result : Result (Next ByteFault) E) (s : StreamView) (at : ℕ → ℕ) → StandsForSome s → ForEachReading s (λ r. IfOk result (λ x. seen x ≡ slice_get (reading_items r) (at r.string.taken))) → IfOk result (λ x. IfSome (seen x) IsLasting)
+shows-lasting (Ok x) s at h f = let r = h.reading in lasting-one (reading_items r) (at r.string.taken) (seen x) (items-last r.container r.string.before r.string.whole) (f r h.stands)
 shows-lasting (Err e) s at h f = tt

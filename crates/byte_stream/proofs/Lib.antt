@@ -4,4 +4,4 @@ pub mod Parsing
 pub mod Standing
 pub mod Resetting
 pub mod Placed
-pub mod Fronts
+pub mod ReadyFrames

@@ -1,5 +1,5 @@
 -- What stands in a string at the offset of an item, in either container.
-use Rattle.std.proofs.Common.{◌≡◌, ℕ, suc, ◌+◌, ◌≤◌, List, ◌++◌, length, map, slice_get, slice_range, Option, Some, None, Ok, refl, ap, sym, ◌∙◌}
+use Rattle.std.proofs.Common.{◌≡◌, ℕ, suc, ◌+◌, ◌≤◌, List, ◌++◌, length, map, slice_get, slice_range, Option, Some, None, refl, ap, sym, ◌∙◌}
 use Rattle.std.specs.Option.{option_map}
 use Rattle.std.proofs.lemmas.List.{length-map}
 use Rattle.std.proofs.lemmas.Option.{slice_get-map}
@@ -9,6 +9,7 @@ use Rattle.mse_types.specs.declared.answer.Container.{Container}
 use Rattle.mse_types.specs.declared.answer.Container.TheVariants.{Mp4, Adts}
 use Rattle.parser_loop.specs.Items.{Item, InitItem, FrameItem, SegmentEnd, FaultItem, IsPrefix, with_fault}
 use Rattle.parser_loop.specs.Parse.{IsSuffix}
+use Rattle.parser_loop.specs.StringReadings.{StringReading}
 use Rattle.parser_loop.proofs.ItemLaws.{is-prefix, with-prefix}
 use Rattle.parser_loop.proofs.Walks.{prefix}
 use Rattle.segment_walk.specs.Segments as segment
@@ -69,33 +70,33 @@ frame-of g items n f at e = let b = item-of g items n (FrameItem f at) e in b.wa
 -- ---- in either container
 
 pub init-place : (container : Container) (before : Option Presentation) (whole : List ℕ) (n at : ℕ) (p : Presentation) → slice_get (items_of container before whole) n ≡ Some (InitItem p at) → IsInitIn container whole at p
-init-place Mp4 before whole n at p e = segment_places.item-place before whole n (InitItem p at) (init-of (λ f. Segments f) (segment.Items before whole) n p at e)
-init-place Adts before whole n at p e = frame_places.item-place before whole n (InitItem p at) (init-of (λ f. Frames f) (frame.Items before whole) n p at e)
+init-place Mp4 before whole n at p e = segment_places.item-place before whole n (InitItem p at) (init-of (λ f. Segments f) (segment.items_of_string before whole) n p at e)
+init-place Adts before whole n at p e = frame_places.item-place before whole n (InitItem p at) (init-of (λ f. Frames f) (frame.items_of_string before whole) n p at e)
 
 pub frame-place : (container : Container) (before : Option Presentation) (whole : List ℕ) (n at : ℕ) (f : CodedFrame) → slice_get (items_of container before whole) n ≡ Some (FrameItem f at) → f.payload ≡ slice_range whole at (at + length f.payload)
-frame-place Mp4 before whole n at f e = (segment_places.item-place before whole n (FrameItem f at) (frame-of (λ f. Segments f) (segment.Items before whole) n f at e)).0
-frame-place Adts before whole n at f e = frame_places.payload-is whole at f (frame_places.item-place before whole n (FrameItem f at) (frame-of (λ f. Frames f) (frame.Items before whole) n f at e))
+frame-place Mp4 before whole n at f e = (segment_places.item-place before whole n (FrameItem f at) (frame-of (λ f. Segments f) (segment.items_of_string before whole) n f at e)).0
+frame-place Adts before whole n at f e = frame_places.payload-is whole at f (frame_places.item-place before whole n (FrameItem f at) (frame-of (λ f. Frames f) (frame.items_of_string before whole) n f at e))
 
 pub frame-there : (container : Container) (before : Option Presentation) (whole : List ℕ) (n at : ℕ) (f : CodedFrame) → slice_get (items_of container before whole) n ≡ Some (FrameItem f at) → at + length f.payload ≤ length whole
-frame-there Mp4 before whole n at f e = (segment_places.item-place before whole n (FrameItem f at) (frame-of (λ f. Segments f) (segment.Items before whole) n f at e)).1
-frame-there Adts before whole n at f e = frame_places.payload-there whole at f (frame_places.item-place before whole n (FrameItem f at) (frame-of (λ f. Frames f) (frame.Items before whole) n f at e))
+frame-there Mp4 before whole n at f e = (segment_places.item-place before whole n (FrameItem f at) (frame-of (λ f. Segments f) (segment.items_of_string before whole) n f at e)).1
+frame-there Adts before whole n at f e = frame_places.payload-there whole at f (frame_places.item-place before whole n (FrameItem f at) (frame-of (λ f. Frames f) (frame.items_of_string before whole) n f at e))
 
 pub fault-last : (container : Container) (before : Option Presentation) (whole : List ℕ) (n at : ℕ) (f : ByteFault) → slice_get (items_of container before whole) n ≡ Some (FaultItem f at) → suc n ≡ length (items_of container before whole)
 fault-last Mp4 before whole n at f e =
-    let b = item-of (λ f. Segments f) (segment.Items before whole) n (FaultItem f at) e in
+    let b = item-of (λ f. Segments f) (segment.items_of_string before whole) n (FaultItem f at) e in
     let a = of-fault (λ f. Segments f) b.item f at b.is in
-    segment_places.fault-last before whole n a.fault at (b.was ∙ ap Some a.is) ∙ sym (length-map (segment.Items before whole) of_segments)
+    segment_places.fault-last before whole n a.fault at (b.was ∙ ap Some a.is) ∙ sym (length-map (segment.items_of_string before whole) of_segments)
 fault-last Adts before whole n at f e =
-    let b = item-of (λ f. Frames f) (frame.Items before whole) n (FaultItem f at) e in
+    let b = item-of (λ f. Frames f) (frame.items_of_string before whole) n (FaultItem f at) e in
     let a = of-fault (λ f. Frames f) b.item f at b.is in
-    frame_places.fault-last before whole n at a.fault (b.was ∙ ap Some a.is) ∙ sym (length-map (frame.Items before whole) of_frames)
+    frame_places.fault-last before whole n at a.fault (b.was ∙ ap Some a.is) ∙ sym (length-map (frame.items_of_string before whole) of_frames)
 
-pub held-suffix : (container : Container) (before : Option Presentation) (whole : List ℕ) (n : ℕ) → IsSuffix (view_of container before whole n).held whole
-held-suffix Mp4 before whole n = segment_places.held-suffix before whole n
-held-suffix Adts before whole n = frame_places.held-suffix before whole n
+pub held-suffix : (container : Container) (r : StringReading) → IsSuffix (view_of container r).held r.whole
+held-suffix Mp4 r = segment_places.held-suffix r
+held-suffix Adts r = frame_places.held-suffix r
 
 pub items-begin : (container : Container) (before : Option Presentation) (b c : List ℕ) → IsPrefix (items_of container before b) (items_of container before (b ++ c))
-items-begin Mp4 before b c = with-prefix (λ f. Segments f) (segment.Items before b) (segment.Items before (b ++ c)) (items-prefix before b c)
+items-begin Mp4 before b c = with-prefix (λ f. Segments f) (segment.items_of_string before b) (segment.items_of_string before (b ++ c)) (items-prefix before b c)
 items-begin Adts before b c =
-    let p : IsPrefix (frame.Items before b) (frame.Items before (b ++ c)) = rw (items-frames before b, items-frames before (b ++ c)) (is-prefix adts (λ _. refl) _ _ (prefix adts is_walk (start before b) c)) in
-    with-prefix (λ f. Frames f) (frame.Items before b) (frame.Items before (b ++ c)) p
+    let p : IsPrefix (frame.items_of_string before b) (frame.items_of_string before (b ++ c)) = rw (items-frames before b, items-frames before (b ++ c)) (is-prefix adts (λ _. refl) _ _ (prefix adts is_walk (start before b) c)) in
+    with-prefix (λ f. Frames f) (frame.items_of_string before b) (frame.items_of_string before (b ++ c)) p

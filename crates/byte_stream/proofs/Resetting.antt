@@ -7,4 +7,4 @@ use Rattle.byte_stream.specs.Streams.{StreamView, Stands, StandsAfter, latest_of
 use Rattle.byte_stream.proofs.Standing.{latest-is}
 
 pub from-latest : (s t : StreamView) → StandsAfter s after_reset t → (r : Reading) → Stands s r → Stands t (reading_from r.container (latest_of s))
-from-latest s t go r h = subst (λ (p : Option Presentation). Stands t (reading_from r.container p)) (sym (latest-is s.parser r.container r.before r.whole r.taken h.parser)) (go r h)
+from-latest s t go r h = subst (λ (p : Option Presentation). Stands t (reading_from r.container p)) (sym (latest-is s.parser r.container r.string h.parser)) (go r h)

@@ -1,14 +1,15 @@
 -- A string of a byte stream that is read, whichever its container is: what it gives, and how a reading changes.
-use Rattle.std.specs.Prelude.{◌≡◌, ℕ, pos, ◌+◌, ◌≤ℤ◌, List, [], ◌++◌, take, drop, map, slice_get, Option, Some, None, Ok}
+use Rattle.std.specs.Prelude.{◌≡◌, ℕ, pos, ◌+◌, ◌≤ℤ◌, List, take, drop, map, slice_get, Option, None, Ok}
 use Rattle.mse_base.specs.declared.frame.CodedFrame.{CodedFrame}
 use Rattle.mse_base.specs.declared.frame.Phase.{Phase}
 use Rattle.mse_base.specs.declared.track.Presentation.{Presentation}
 use Rattle.mse_types.specs.declared.answer.Container.{Container}
 use Rattle.mse_types.specs.declared.answer.Container.TheVariants.{Mp4, Adts}
 use Rattle.bmff_init.specs.Movies.{init_of}
-use Rattle.parser_loop.specs.Walk.{count_after}
 use Rattle.parser_loop.specs.Items.{Item, InitItem, FrameItem, SegmentEnd, FaultItem, with_fault, leading_frames, latest_after_all}
 use Rattle.parser_loop.specs.Parse.{ParserView, seen_before}
+use Rattle.parser_loop.specs.StringReadings.{StringReading}
+use Rattle.parser_loop.specs.StringReadings as string
 use Rattle.segment_walk.specs.Segments as segment
 use Rattle.segment_walk.specs.Tables.{SegmentItem}
 use Rattle.adts_stream.specs.Frames as frame
@@ -16,12 +17,11 @@ use Rattle.adts_stream.specs.Places.{IsInitAt}
 use Rattle.byte_stream.specs.declared.next.ByteFault.{ByteFault}
 use Rattle.byte_stream.specs.declared.next.ByteFault.TheVariants.{Segments, Frames}
 
--- The container, the presentation that the last reset left, all bytes since then, and how many items were given.
+-- The container, and the reading of its string: the presentation that the last reset left, all bytes since then, and
+-- how many items were given.
 pub record Reading : Type 0 where
   pub container : Container
-  pub before : Option Presentation
-  pub whole : List ℕ
-  pub taken : ℕ
+  pub string : StringReading
 
 -- ---- what a string gives
 
@@ -37,51 +37,50 @@ of_frames item = with_fault (λ f. Frames f) item
 
 -- all items, told by the top-level boxes or by the ADTS frames of the whole string
 abbrev pub items_of : Container → Option Presentation → List ℕ → List ByteItem
-items_of Mp4 before whole = map of_segments (segment.Items before whole)
-items_of Adts before whole = map of_frames (frame.Items before whole)
+items_of Mp4 before whole = map of_segments (segment.items_of_string before whole)
+items_of Adts before whole = map of_frames (frame.items_of_string before whole)
 
--- what is seen of the parser just before item n, or at the end where there is no item n
-abbrev pub view_of : Container → Option Presentation → List ℕ → ℕ → ParserView
-view_of Mp4 before whole n = seen_before n (segment.segment_parse before whole)
-view_of Adts before whole n = seen_before n (frame.string_parse before whole)
+-- what is seen of the parser just before the next item, or at the end of the string where there is none
+abbrev pub view_of : Container → StringReading → ParserView
+view_of Mp4 r = seen_before r.taken (segment.segment_parse r.before r.whole)
+view_of Adts r = seen_before r.taken (frame.string_parse r.before r.whole)
 
 -- ---- what a reading gives
 
 abbrev pub items_in : Reading → List ByteItem
-items_in r = items_of r.container r.before r.whole
+items_in r = items_of r.container r.string.before r.string.whole
 
 -- the item that comes next, and the one that stands i places after it
 abbrev pub next_item : Reading → Option ByteItem
-next_item r = slice_get (items_in r) r.taken
+next_item r = slice_get (items_in r) r.string.taken
 
 abbrev pub item_ahead : Reading → ℕ → Option ByteItem
-item_ahead r i = slice_get (items_in r) (r.taken + i)
+item_ahead r i = slice_get (items_in r) (r.string.taken + i)
+
+-- the items that were not given yet
+abbrev pub items_ahead : Reading → List ByteItem
+items_ahead r = drop r.string.taken (items_in r)
 
 -- the coded frames that come next, up to the first item that is none
 abbrev pub ready_at : Reading → List CodedFrame
-ready_at r = leading_frames (drop r.taken (items_in r))
+ready_at r = leading_frames (items_ahead r)
 
 -- before the next item: where the segment parser loop is (append state), and the bytes that are held in memory
 abbrev pub phase_at : Reading → Phase
-phase_at r = (view_of r.container r.before r.whole r.taken).phase
+phase_at r = (view_of r.container r.string).phase
 
 abbrev pub held_at : Reading → List ℕ
-held_at r = (view_of r.container r.before r.whole r.taken).held
+held_at r = (view_of r.container r.string).held
 
 -- the presentation of the last initialization segment that was given, or the one that the last reset left
 abbrev pub latest_at : Reading → Option Presentation
-latest_at r = latest_after_all r.before (take r.taken (items_in r))
+latest_at r = latest_after_all r.string.before (take r.string.taken (items_in r))
 
 -- ---- how a reading changes
 
 -- the empty string, with what presentation a reset left
 abbrev pub reading_from : Container → Option Presentation → Reading
-reading_from container before = record {
-  container = container;
-  before = before;
-  whole = [];
-  taken = 0;
-}
+reading_from container before = record { container = container; string = string.string_from before }
 
 -- the empty string, with no presentation from before
 abbrev pub new_reading : Container → Reading
@@ -89,20 +88,18 @@ new_reading container = reading_from container None
 
 -- bytes are appended
 abbrev pub with_bytes : List ℕ → Reading → Reading
-with_bytes bytes r = record { container = r.container; before = r.before; whole = r.whole ++ bytes; taken = r.taken }
+with_bytes bytes r = record { container = r.container; string = string.with_bytes bytes r.string }
 
--- the next item was asked for, and this was given
+-- the next item was asked for, and this was given, or none
 abbrev pub after_answer : Option ByteItem → Reading → Reading
-after_answer item r = record {
-  container = r.container;
-  before = r.before;
-  whole = r.whole;
-  taken = count_after r.taken item;
-}
+after_answer item r = record { container = r.container; string = string.after_answer item r.string }
 
 -- the parser state was reset: the presentation stays
 abbrev pub after_reset : Reading → Reading
-after_reset r = reading_from r.container (latest_at r)
+after_reset r = record {
+  container = r.container;
+  string = string.after_reset (items_in r) r.string;
+}
 
 -- ---- what items say
 

@@ -5,7 +5,7 @@ use Rattle.mse_base.specs.declared.track.Presentation.{Presentation}
 use Rattle.mse_types.specs.declared.answer.Container.{Container}
 use Rattle.mse_types.specs.declared.answer.Container.TheVariants.{Mp4, Adts}
 use Rattle.parser_loop.specs.Walk.{Lookahead}
-use Rattle.parser_loop.specs.Items.{InitItem, FrameItem, SegmentEnd, FaultItem}
+use Rattle.parser_loop.specs.StringReadings.{StringReading}
 use Rattle.segment_walk.specs.Tables.{SegmentItem}
 use Rattle.segment_walk.specs.Moves as segment
 use Rattle.segment_walk.specs.Strings as segment_string
@@ -13,11 +13,9 @@ use Rattle.segment_stream.specs.Streams as segment_stream
 use Rattle.adts_stream.specs.Walk as frame
 use Rattle.adts_stream.specs.Values as frame_values
 use Rattle.adts_stream.specs.Streams as frame_stream
-use Rattle.byte_stream.specs.declared.next.Next.{Next}
-use Rattle.byte_stream.specs.declared.next.Next.TheVariants as next
 use Rattle.byte_stream.specs.declared.parser.Parser.{Parser}
 use Rattle.byte_stream.specs.declared.parser.Parser.TheVariants as parser
-use Rattle.byte_stream.specs.Readings.{Reading, ByteItem}
+use Rattle.byte_stream.specs.Readings.{Reading}
 
 -- what the parser of either container keeps
 pub data ParserState : Type 0 where
@@ -32,16 +30,16 @@ pub record StreamView : Type 0 where
   pub offered : Option (List ℕ)
 
 -- what is kept stands for a string of the container that it is of
-abbrev pub StandsIn : ParserState → Container → Option Presentation → List ℕ → ℕ → Type 0
-StandsIn (OfSegments kept) Mp4 before whole n = segment_stream.Stands kept before whole n
-StandsIn (OfFrames kept) Adts before whole n = frame_stream.Stands kept before whole n
-StandsIn (OfSegments kept) Adts before whole n = ⊥
-StandsIn (OfFrames kept) Mp4 before whole n = ⊥
+abbrev pub StandsIn : ParserState → Container → StringReading → Type 0
+StandsIn (OfSegments kept) Mp4 r = segment_stream.Stands kept r
+StandsIn (OfFrames kept) Adts r = frame_stream.Stands kept r
+StandsIn (OfSegments kept) Adts r = ⊥
+StandsIn (OfFrames kept) Mp4 r = ⊥
 
 -- The stream stands for a reading. Many strings may belong to one stream.
 pub record Stands (s : StreamView) (r : Reading) : Type 0 where
-  pub parser : StandsIn s.parser r.container r.before r.whole r.taken
-  pub fed : s.fed ≡ length r.whole
+  pub parser : StandsIn s.parser r.container r.string
+  pub fed : s.fed ≡ length r.string.whole
 
 -- it stands for some reading
 pub record StandsForSome (s : StreamView) : Type 0 where
@@ -89,14 +87,6 @@ held_kept (OfFrames kept) = kept.rest
 
 abbrev pub held_of : StreamView → List ℕ
 held_of s = held_kept s.parser
-
--- what an answer shows of the items
-abbrev pub seen : Next → Option ByteItem
-seen (next.Init p offset) = Some (InitItem p offset)
-seen (next.Frame coded offset) = Some (FrameItem coded offset)
-seen next.SegmentEnd = Some SegmentEnd
-seen (next.Fault f offset) = Some (FaultItem f offset)
-seen next.Dry = None
 
 -- ---- what the fields are to this
 

@@ -5,7 +5,7 @@ ghost use Rattle.parser_loop.specs.Items.{InitItem, FrameItem, FaultItem, IsPref
 ghost use Rattle.parser_loop.specs.Parse.{IsSuffix};
 ghost use Rattle.byte_stream.specs.declared.next.ByteFault.{ByteFault};
 ghost use Rattle.byte_stream.specs.Readings.{Reading, items_in, ready_at, phase_at, held_at, latest_at, with_bytes, IsInitIn, IsLasting};
-ghost use Rattle.byte_stream.specs.Streams.{StreamView, Stands, latest_of, ready_of, phase_of, held_of};
+ghost use Rattle.byte_stream.specs.Streams.{StreamView, ForEachReading, latest_of, ready_of, phase_of, held_of};
 
 /// No coded frame of a string ends before it begins.
 pub fn lasting_law()
@@ -22,28 +22,31 @@ pub fn prefix_law()
 /// the coded frames that come next, the phase, the bytes that are held, and the presentation of the last
 /// initialization segment that was given.
 pub fn stands_law()
-    ensures given { (s : StreamView) (r : Reading) → Stands s r → r.taken ≤ length (items_in r) }
-    ensures ready { (s : StreamView) (r : Reading) → Stands s r → ready_of s ≡ length (ready_at r) }
-    ensures phase { (s : StreamView) (r : Reading) → Stands s r → phase_of s ≡ phase_at r }
-    ensures held { (s : StreamView) (r : Reading) → Stands s r → held_of s ≡ held_at r }
-    ensures latest { (s : StreamView) (r : Reading) → Stands s r → latest_of s ≡ latest_at r }
+    ensures given { (s : StreamView) →
+        ForEachReading s (λ r. r.string.taken ≤ length (items_in r)) }
+    ensures ready { (s : StreamView) → ForEachReading s (λ r. ready_of s ≡ length (ready_at r)) }
+    ensures phase { (s : StreamView) → ForEachReading s (λ r. phase_of s ≡ phase_at r) }
+    ensures held { (s : StreamView) → ForEachReading s (λ r. held_of s ≡ held_at r) }
+    ensures latest { (s : StreamView) → ForEachReading s (λ r. latest_of s ≡ latest_at r) }
 {}
 
 /// A presentation is what stands in the string at its offset. The payload of a coded frame is the bytes of the string
 /// from its offset on, all of which are there. A fault is the last item.
 pub fn place_law()
-    ensures init { (r : Reading) (n at : ℕ) (p : Presentation) →
-        slice_get (items_in r) n ≡ Some (InitItem p at) → IsInitIn r.container r.whole at p }
-    ensures frame { (r : Reading) (n at : ℕ) (f : CodedFrame) →
-        slice_get (items_in r) n ≡ Some (FrameItem f at) →
-        f.payload ≡ slice_range r.whole at (at + length f.payload) }
-    ensures there { (r : Reading) (n at : ℕ) (f : CodedFrame) →
-        slice_get (items_in r) n ≡ Some (FrameItem f at) → at + length f.payload ≤ length r.whole }
-    ensures fault { (r : Reading) (n at : ℕ) (f : ByteFault) →
-        slice_get (items_in r) n ≡ Some (FaultItem f at) → suc n ≡ length (items_in r) }
+    ensures init { (r : Reading) (i offset : ℕ) (p : Presentation) →
+        slice_get (items_in r) i ≡ Some (InitItem p offset) →
+        IsInitIn r.container r.string.whole offset p }
+    ensures frame { (r : Reading) (i offset : ℕ) (frame : CodedFrame) →
+        slice_get (items_in r) i ≡ Some (FrameItem frame offset) →
+        frame.payload ≡ slice_range r.string.whole offset (offset + length frame.payload) }
+    ensures there { (r : Reading) (i offset : ℕ) (frame : CodedFrame) →
+        slice_get (items_in r) i ≡ Some (FrameItem frame offset) →
+        offset + length frame.payload ≤ length r.string.whole }
+    ensures fault { (r : Reading) (i offset : ℕ) (f : ByteFault) →
+        slice_get (items_in r) i ≡ Some (FaultItem f offset) → suc i ≡ length (items_in r) }
 {}
 
 /// The bytes that are held are the end of the string from some offset on.
 pub fn held_law()
-    ensures { (r : Reading) → IsSuffix (held_at r) r.whole }
+    ensures { (r : Reading) → IsSuffix (held_at r) r.string.whole }
 {}

@@ -1,14 +1,14 @@
-ghost use Rattle.std.specs.Prelude.{◌≡◌, ◌+◌, ◌<◌, ◌≤◌, ◌^◌, ◌⊎◌, length, Option, None, Some, IsSome, IfSome, IfOk, OnOk, OnErr};
-ghost use Rattle.parser_loop.specs.Items.{FrameItem, latest_after_any};
+ghost use Rattle.std.specs.Prelude.{◌≡◌, ◌+◌, ◌<◌, ◌≤◌, ◌^◌, ◌⊎◌, length, None, Some, IsSome, IfSome, IfOk, OnOk, OnErr};
+ghost use Rattle.parser_loop.specs.Items.{FrameItem, latest_after_any, seen};
 ghost use Rattle.adts_stream.specs.Walk.{phase_of as phase_of_point};
 ghost use Rattle.byte_stream.specs.Readings.{new_reading, next_item, item_ahead, with_bytes, after_answer, after_reset};
-ghost use Rattle.byte_stream.specs.Streams.{Stands, StandsForSome, StandsAfter, ForEachReading, StreamView, stream_view, latest_of, ready_of, phase_of, held_of, seen};
+ghost use Rattle.byte_stream.specs.Streams.{Stands, StandsForSome, StandsAfter, ForEachReading, stream_view, latest_of, ready_of, phase_of, held_of};
 
-use crate::next::{Next, frame_next, segment_next};
-use adts_stream::{AdtsNext, AdtsStream};
+use crate::next::{ByteFault, Next};
+use adts_stream::AdtsStream;
 use mse_base::{Bytes, CodedFrame, OutOfMemory, Phase};
 use mse_types::Container;
-use segment_stream::{SegmentNext, Stream};
+use segment_stream::Stream;
 use std::alloc::Global;
 
 /// The parser of a container.
@@ -32,9 +32,10 @@ impl Parser {
         }
     }
 
+    /// Takes all memory that a feed of these bytes needs, and leaves the string.
     pub(crate) fn offer(&mut self, bytes: &[u8]) -> Result<(), OutOfMemory>
         requires none_offered { (stream_view self.old).offered ≡ None }
-        requires room { (stream_view self.old).fed + length bytes.now < 2 ^ 62 }
+        requires countable { (stream_view self.old).fed + length bytes.now < 2 ^ 62 }
         ensures ok { OnOk result (stream_view self.new ≡ record {
           parser = (stream_view self.old).parser;
           fed = (stream_view self.old).fed;
@@ -48,9 +49,10 @@ impl Parser {
         }
     }
 
+    /// As `offer` of the same bytes.
     pub(crate) fn offer_bytes(&mut self, bytes: Bytes) -> Result<(), OutOfMemory>
         requires none_offered { (stream_view self.old).offered ≡ None }
-        requires room { (stream_view self.old).fed + length bytes < 2 ^ 62 }
+        requires countable { (stream_view self.old).fed + length bytes < 2 ^ 62 }
         ensures ok { OnOk result (stream_view self.new ≡ record {
           parser = (stream_view self.old).parser;
           fed = (stream_view self.old).fed;
@@ -64,6 +66,7 @@ impl Parser {
         }
     }
 
+    /// Appends the bytes that are offered to the string.
     pub(crate) fn accept(&mut self)
         requires { IsSome (stream_view self.old).offered }
         ensures stands { IfSome (stream_view self.old).offered (λ bytes.
@@ -79,6 +82,7 @@ impl Parser {
         }
     }
 
+    /// Forgets the bytes that are offered.
     pub(crate) fn decline(&mut self)
         requires { IsSome (stream_view self.old).offered }
         ensures { stream_view self.new ≡ record {
@@ -93,6 +97,7 @@ impl Parser {
         }
     }
 
+    /// The item that stands `i` places after the next one, if the string gives one.
     pub(crate) fn look(&self, i: usize) -> Result<Next, OutOfMemory>
         requires none_offered { (stream_view self.now).offered ≡ None }
         requires ready { (i ≡ 0) ⊎ (i < ready_of (stream_view self.now)) }
@@ -100,17 +105,18 @@ impl Parser {
             IfOk result (λ next. seen next ≡ item_ahead r i)) }
     {
         match self {
-            Parser::Segments(stream) => Ok(segment_next(stream.look(i)?)),
-            Parser::Frames(stream) => Ok(frame_next(stream.look(i)?)),
+            Parser::Segments(stream) => Ok(stream.look(i)?.with_fault(ByteFault::Segments)),
+            Parser::Frames(stream) => Ok(stream.look(i)?.with_fault(ByteFault::Frames)),
         }
     }
 
+    /// The next item, if the string gives one.
     pub(crate) fn next(&mut self) -> Result<Next, OutOfMemory>
         requires { (stream_view self.old).offered ≡ None }
         ensures item { ForEachReading (stream_view self.old) (λ r.
             IfOk result (λ next. seen next ≡ next_item r)) }
-        ensures stands { ForEachReading (stream_view self.old) (λ r.
-            IfOk result (λ next. Stands (stream_view self.new) (after_answer (seen next) r))) }
+        ensures stands { IfOk result (λ next. StandsAfter (stream_view self.old)
+            (after_answer (seen next)) (stream_view self.new)) }
         ensures latest { IfOk result (λ next. latest_of (stream_view self.new)
             ≡ latest_after_any (latest_of (stream_view self.old)) (seen next)) }
         ensures fed { (stream_view self.new).fed ≡ (stream_view self.old).fed }
@@ -120,8 +126,8 @@ impl Parser {
         ensures err { OnErr result (stream_view self.new ≡ stream_view self.old) }
     {
         match self {
-            Parser::Segments(stream) => Ok(segment_next(stream.next()?)),
-            Parser::Frames(stream) => Ok(frame_next(stream.next()?)),
+            Parser::Segments(stream) => Ok(stream.next()?.with_fault(ByteFault::Segments)),
+            Parser::Frames(stream) => Ok(stream.next()?.with_fault(ByteFault::Frames)),
         }
     }
 
@@ -132,26 +138,21 @@ impl Parser {
         requires stands { StandsForSome (stream_view self.old) }
         ensures item { ForEachReading (stream_view self.old) (λ r.
             IfOk result (λ x. Some (FrameItem x.0 x.1) ≡ next_item r)) }
-        ensures stands { ForEachReading (stream_view self.old) (λ r. IfOk result
-            (λ x. Stands (stream_view self.new) (after_answer (Some (FrameItem x.0 x.1)) r))) }
+        ensures stands { IfOk result (λ x. StandsAfter (stream_view self.old)
+            (after_answer (Some (FrameItem x.0 x.1))) (stream_view self.new)) }
         ensures latest { OnOk result
             (latest_of (stream_view self.new) ≡ latest_of (stream_view self.old)) }
         ensures fed { (stream_view self.new).fed ≡ (stream_view self.old).fed }
         ensures none_offered { (stream_view self.new).offered ≡ None }
         ensures err { OnErr result (stream_view self.new ≡ stream_view self.old) }
     {
-        match self {
-            Parser::Segments(stream) => match stream.next()? {
-                SegmentNext::Frame(frame, offset) => Ok((frame, offset)),
-                _ => unreachable!(),
-            },
-            Parser::Frames(stream) => match stream.next()? {
-                AdtsNext::Frame(frame, offset) => Ok((frame, offset)),
-                _ => unreachable!(),
-            },
+        match self.next()? {
+            Next::Frame(frame, offset) => Ok((frame, offset)),
+            _ => unreachable!(),
         }
     }
 
+    /// Where the parser is before the next item.
     pub(crate) fn phase(&self) -> Phase
         requires { (stream_view self.now).offered ≡ None }
         ensures { result ≡ phase_of (stream_view self.now) }
@@ -162,6 +163,7 @@ impl Parser {
         }
     }
 
+    /// How many of the next items are coded frames, up to the first that is none.
     pub(crate) fn ready_frames(&self) -> usize
         requires { (stream_view self.now).offered ≡ None }
         ensures ready { result ≡ ready_of (stream_view self.now) }
@@ -173,6 +175,7 @@ impl Parser {
         }
     }
 
+    /// How many bytes are held in memory.
     pub(crate) fn held_len(&self) -> usize
         requires { (stream_view self.now).offered ≡ None }
         ensures { result ≡ length (held_of (stream_view self.now)) }
@@ -183,6 +186,7 @@ impl Parser {
         }
     }
 
+    /// The string becomes empty; the presentation stays.
     pub(crate) fn reset(&mut self)
         requires { (stream_view self.old).offered ≡ None }
         ensures stands { StandsAfter (stream_view self.old) after_reset (stream_view self.new) }

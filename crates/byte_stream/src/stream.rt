@@ -1,5 +1,5 @@
 ghost use Rattle.std.specs.Prelude.{◌≡◌, ◌+◌, ◌<◌, ◌≤◌, ◌^◌, ◌⊎◌, pos, ◌≤ℤ◌, length, Some, None, IsSome, IfSome, IfOk, OnOk, OnErr};
-ghost use Rattle.parser_loop.specs.Items.{FrameItem, latest_after_any};
+ghost use Rattle.parser_loop.specs.Items.{FrameItem, latest_after_any, seen};
 ghost use Rattle.byte_stream.specs.Readings.{new_reading, reading_from, next_item, item_ahead, ready_at, phase_at, held_at, with_bytes, after_answer, after_reset, IsLasting};
 
 use crate::next::Next;
@@ -12,9 +12,8 @@ use std::marker::Model;
 /// The byte stream of a source buffer: a string of its container that comes in pieces, by its items.
 ///
 /// Bytes come by `offer` and then `accept` or `decline`: between these two no call may be made but `len`, `stands`
-/// and `restart`. Items go by
-/// `next`. The stream parses as far as the bytes go when they come, so that the frames that are ready are known at
-/// once.
+/// and `restart`. Items go by `next`. The stream parses as far as the bytes go when they come, so that the frames
+/// that are ready are known at once.
 #[derive(Debug, Drop)]
 pub struct ByteStream {
     alloc: Global,
@@ -36,7 +35,7 @@ impl Model for ByteStream {
 }
 
 impl ByteStream {
-    ghost use Rattle.byte_stream.specs.Streams.{Stands, StandsForSome, StandsAfter, ForEachReading, latest_of, ready_of, phase_of, held_of, seen};
+    ghost use Rattle.byte_stream.specs.Streams.{Stands, StandsForSome, StandsAfter, ForEachReading, latest_of, ready_of, phase_of, held_of};
 
     /// A stream of the empty string of a container, with no presentation from before. It takes no memory.
     pub fn new(alloc: Global, container: Container) -> ByteStream
@@ -56,7 +55,7 @@ impl ByteStream {
     /// Takes all memory that it needs to append these bytes, and leaves the string; also where it finds none.
     pub fn offer(&mut self, bytes: &[u8]) -> Result<(), OutOfMemory>
         requires none_offered { self.old.offered ≡ None }
-        requires room { self.old.fed + length bytes.now < 2 ^ 62 }
+        requires countable { self.old.fed + length bytes.now < 2 ^ 62 }
         ensures ok { OnOk result (self.new
             ≡ record { parser = self.old.parser; fed = self.old.fed; offered = Some bytes.now }) }
         ensures err { OnErr result (self.new ≡ self.old) }
@@ -69,7 +68,7 @@ impl ByteStream {
     /// As `offer` of the same bytes, whose memory the input has where they become a piece of their own.
     pub fn offer_bytes(&mut self, bytes: Bytes) -> Result<(), OutOfMemory>
         requires none_offered { self.old.offered ≡ None }
-        requires room { self.old.fed + length bytes < 2 ^ 62 }
+        requires countable { self.old.fed + length bytes < 2 ^ 62 }
         ensures ok { OnOk result (self.new
             ≡ record { parser = self.old.parser; fed = self.old.fed; offered = Some bytes }) }
         ensures err { OnErr result (self.new ≡ self.old) }
@@ -112,7 +111,7 @@ impl ByteStream {
         requires ready { (i ≡ 0) ⊎ (i < ready_of self.now) }
         ensures item { ForEachReading self.now (λ r.
             IfOk result (λ next. seen next ≡ item_ahead r i)) }
-        ensures lasting { IfOk result (λ next. IfSome (seen next) IsLasting) }
+        ensures dur_not_negative { IfOk result (λ next. IfSome (seen next) IsLasting) }
     {
         self.parser.look(i)
     }
@@ -123,15 +122,15 @@ impl ByteStream {
         requires { self.old.offered ≡ None }
         ensures item { ForEachReading self.old
             (λ r. IfOk result (λ next. seen next ≡ next_item r)) }
-        ensures stands { ForEachReading self.old (λ r.
-            IfOk result (λ next. Stands self.new (after_answer (seen next) r))) }
+        ensures stands { IfOk result
+            (λ next. StandsAfter self.old (after_answer (seen next)) self.new) }
         ensures latest { IfOk result (λ next.
             latest_of self.new ≡ latest_after_any (latest_of self.old) (seen next)) }
         ensures fed { self.new.fed ≡ self.old.fed }
         ensures none_offered { self.new.offered ≡ None }
         ensures dry { IfOk result (λ next. seen next ≡ None → self.new ≡ self.old) }
         ensures err { OnErr result (self.new ≡ self.old) }
-        ensures lasting { IfOk result (λ next. IfSome (seen next) IsLasting) }
+        ensures dur_not_negative { IfOk result (λ next. IfSome (seen next) IsLasting) }
     {
         self.parser.next()
     }
@@ -143,13 +142,13 @@ impl ByteStream {
         requires ready { 0 < ready_of self.old }
         ensures item { ForEachReading self.old (λ r.
             IfOk result (λ x. Some (FrameItem x.0 x.1) ≡ next_item r)) }
-        ensures stands { ForEachReading self.old (λ r. IfOk result
-            (λ x. Stands self.new (after_answer (Some (FrameItem x.0 x.1)) r))) }
+        ensures stands { IfOk result
+            (λ x. StandsAfter self.old (after_answer (Some (FrameItem x.0 x.1))) self.new) }
         ensures latest { OnOk result (latest_of self.new ≡ latest_of self.old) }
         ensures fed { self.new.fed ≡ self.old.fed }
         ensures none_offered { self.new.offered ≡ None }
         ensures err { OnErr result (self.new ≡ self.old) }
-        ensures lasting { IfOk result (λ x. pos 0 ≤ℤ x.0.dur) }
+        ensures dur_not_negative { IfOk result (λ x. pos 0 ≤ℤ x.0.dur) }
     {
         self.parser.next_frame()
     }
@@ -172,7 +171,7 @@ impl ByteStream {
     /// Where the parser is before the next item, or at the end of the string where there is none.
     pub fn phase(&self) -> Phase
         requires { self.now.offered ≡ None }
-        ensures kept { result ≡ phase_of self.now }
+        ensures value { result ≡ phase_of self.now }
         ensures phase { ForEachReading self.now (λ r. result ≡ phase_at r) }
     {
         self.parser.phase()
@@ -182,7 +181,7 @@ impl ByteStream {
     /// no more samples. It takes no memory.
     pub fn ready_frames(&self) -> usize
         requires { self.now.offered ≡ None }
-        ensures kept { result ≡ ready_of self.now }
+        ensures value { result ≡ ready_of self.now }
         ensures ready { ForEachReading self.now (λ r. result ≡ length (ready_at r)) }
         ensures few { result ≤ 2 ^ 20 }
     {
@@ -192,7 +191,7 @@ impl ByteStream {
     /// How many bytes are held in memory.
     pub fn held_len(&self) -> usize
         requires { self.now.offered ≡ None }
-        ensures kept { result ≡ length (held_of self.now) }
+        ensures value { result ≡ length (held_of self.now) }
         ensures held { ForEachReading self.now (λ r. result ≡ length (held_at r)) }
     {
         self.parser.held_len()

@@ -1,3 +1,4 @@
+pub mod Snapshots
 pub mod Acts
 pub mod Found
 pub mod PendingLaws

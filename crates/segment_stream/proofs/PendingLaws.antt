@@ -1,26 +1,27 @@
 -- The next item.
-use Rattle.std.proofs.Common.{◌≡◌, ℕ, zero, suc, ◌+◌, ◌-◌, ◌<◌, ◌≤◌, ◌^◌, Bool, true, false, List, [], ◌∷◌, length, take, drop, get_or, slice_get, Option, Some, None, is_some, Ok, refl, ap, sym, ◌∙◌, subst, arith}
+use Rattle.std.proofs.Common.{◌≡◌, ℕ, zero, suc, ◌+◌, ◌-◌, ◌<◌, ◌≤◌, ◌^◌, Bool, true, false, List, [], ◌∷◌, length, take, get_or, slice_get, Option, Some, None, is_some, Ok, refl, ap, sym, ◌∙◌, subst, arith}
 use Rattle.std.specs.Prelude.{All}
 use Rattle.std.proofs.lemmas.Option.{slice_get_within}
 use Rattle.mse_base.specs.declared.track.Presentation.{Presentation}
 use Rattle.bmff_fragment.specs.declared.slot.Slot.{Slot}
 use Rattle.bmff_fragment.specs.Plans.{plan_of}
 use Rattle.parser_loop.specs.Walk.{Move, Stop, Pass, Give, Lookahead, first_by, after_by}
-use Rattle.parser_loop.proofs.Runs.{IsRested, is_run}
+use Rattle.parser_loop.proofs.Lookaheads.{IsRested, is_lookahead}
 use Rattle.mse_base.specs.declared.frame.Phase.{Phase}
-use Rattle.segment_walk.specs.declared.kinds.ParserMode as code
+use Rattle.segment_walk.specs.declared.kinds.ParserMode.{ParserMode}
 use Rattle.segment_walk.specs.declared.kinds.ParserMode.TheVariants as codes
 use Rattle.segment_walk.specs.declared.kinds.BoxStep.{BoxStep}
 use Rattle.segment_walk.specs.declared.kinds.BoxStep.TheVariants as step
 use Rattle.segment_walk.specs.Tables.{SegmentItem}
-use Rattle.segment_walk.specs.Moves.{WalkState, ParserMode, Skipping, act, pass_byte, move_of_slots, open_of, segments, frame_of, step_of}
+use Rattle.segment_walk.specs.Moves.{WalkState, WalkMode, Skipping, act, pass_byte, move_of_slots, open_of, segments, frame_of, step_of}
 use Rattle.segment_walk.specs.Ranges.{mode_of}
 use Rattle.segment_walk.proofs.WalkLaws.{going, is_walk}
 use Rattle.segment_stream.specs.declared.progress.Tables.{Tables}
 use Rattle.segment_stream.specs.Kept
-use Rattle.segment_stream.specs.Kept.{frames, frame_at, IsEndingBy, IsSlotEndingBy, IsCountedIn, IsCounted, IsOrdered, Rests, skips, state_of, kept_of}
+use Rattle.segment_stream.specs.Kept.{frames, IsEndingBy, IsSlotEndingBy, IsCountedIn, IsOrdered, Rests, skips}
 use Rattle.segment_stream.proofs.Acts
-use Rattle.segment_stream.proofs.Acts.{acts, is_active, fits}
+use Rattle.segment_stream.proofs.Acts.{acts, is_active}
+use Rattle.segment_stream.proofs.Snapshots.{walk_state}
 
 -- ---- a ready frame
 
@@ -62,7 +63,7 @@ get-or (s ∷ slots) (suc i) slot e = get-or slots i slot e
 slot-ordered : (slots : List Slot) (i : ℕ) (slot : Slot) → All IsOrdered slots → slice_get slots i ≡ Some slot → slot.start ≤ slot.end
 slot-ordered slots i slot a e = subst IsOrdered (get-or slots i slot e) (a i slot (slice_get_within slots i slot e))
 
-pub frame-ordered : (m : code.ParserMode) (tables : Tables) (first ready i : ℕ) (slot : Slot) → IsCountedIn m tables first ready → i < ready → slice_get tables.slots.items (first + i) ≡ Some slot → slot.start ≤ slot.end
+pub frame-ordered : (m : ParserMode) (tables : Tables) (first ready i : ℕ) (slot : Slot) → IsCountedIn m tables first ready → i < ready → slice_get tables.slots.items (first + i) ≡ Some slot → slot.start ≤ slot.end
 frame-ordered (codes.Between o) tables first ready i slot h l e = absurd (omega arith)
 frame-ordered (codes.Skipping y z) tables first ready i slot h l e = absurd (omega arith)
 frame-ordered (codes.Within f) tables first ready i slot h l e = slot-ordered tables.slots.items (first + i) slot h.ordered e
@@ -71,7 +72,7 @@ clash : (slot : Slot) → Some slot ≡ None → ⊥
 clash slot e = cc
 
 -- all slots that are ready are there
-pub frame-there : (m : code.ParserMode) (tables : Tables) (first ready i : ℕ) → IsCountedIn m tables first ready → i < ready → slice_get tables.slots.items (first + i) ≡ None → ⊥
+pub frame-there : (m : ParserMode) (tables : Tables) (first ready i : ℕ) → IsCountedIn m tables first ready → i < ready → slice_get tables.slots.items (first + i) ≡ None → ⊥
 frame-there (codes.Between o) tables first ready i h l e = omega arith
 frame-there (codes.Skipping y z) tables first ready i h l e = omega arith
 frame-there (codes.Within f) tables first ready i h l e =
@@ -81,7 +82,7 @@ frame-there (codes.Within f) tables first ready i h l e =
 -- ---- a place that rests
 
 pub rested : (s : WalkState) (want : ℕ) → Rests s want → IsRested segments (segments.move s)
-rested s want r = subst (λ (v : Lookahead WalkState SegmentItem). IsRested segments (segments.move v.state)) r.still (is_run segments is_walk s).rested
+rested s want r = subst (λ (v : Lookahead WalkState SegmentItem). IsRested segments (segments.move v.state)) r.still (is_lookahead segments is_walk s).rested
 
 abbrev pub Passes : Move WalkState SegmentItem → Type 0
 Passes Stop = ⊥
@@ -97,7 +98,7 @@ no-pass-at (Pass t) h p = h
 no-pass-at (Give item t) h p = both (segments.runs item) h p
 
 -- a step that would go on is not taken where the walk rests
-pub no-pass : (last : Option Presentation) (m : ParserMode) (offset : ℕ) (rest : List ℕ) (failed : Bool) (want : ℕ) (st : BoxStep) → failed ≡ false → Rests (record { last = last; mode = m; offset = offset; rest = rest; failed = failed }) want → Acts.IsActive m → st ≡ step_of (is_some last) rest m → Passes (act (going last m offset rest) st) → ⊥
+pub no-pass : (last : Option Presentation) (m : WalkMode) (offset : ℕ) (rest : List ℕ) (failed : Bool) (want : ℕ) (st : BoxStep) → failed ≡ false → Rests (record { last = last; mode = m; offset = offset; rest = rest; failed = failed }) want → Acts.IsActive m → st ≡ step_of (is_some last) rest m → Passes (act (going last m offset rest) st) → ⊥
 no-pass last m offset rest true want st g r a e p = absurd (both true g refl)
 no-pass last m offset rest false want st g r a e p =
     no-pass-at (act (going last m offset rest) st) (subst (IsRested segments) (acts last m offset rest st a e) (rested (going last m offset rest) want r)) p
@@ -111,33 +112,29 @@ skip-none : (last : Option Presentation) (to : Phase) (left offset : ℕ) (rest 
 skip-none last to zero offset rest h = absurd h
 skip-none last to (suc left) offset rest h = skip-byte (going last (Skipping to (suc left)) offset rest) to left rest h
 
-pub skip-dry : (last : Option Presentation) (m : code.ParserMode) (offset : ℕ) (rest : List ℕ) (failed : Bool) (want : ℕ) (tables : Tables) → failed ≡ false → skips m ≡ true → Rests (state_of last (record { mode = m; offset = offset; failed = failed }) tables rest) want → segments.move (state_of last (record { mode = m; offset = offset; failed = failed }) tables rest) ≡ Stop
+pub skip-dry : (last : Option Presentation) (m : ParserMode) (offset : ℕ) (rest : List ℕ) (failed : Bool) (want : ℕ) (tables : Tables) → failed ≡ false → skips m ≡ true → Rests (walk_state last (record { mode = m; offset = offset; failed = failed }) tables rest) want → segments.move (walk_state last (record { mode = m; offset = offset; failed = failed }) tables rest) ≡ Stop
 skip-dry last m offset rest true want tables g k r = absurd (both true g refl)
 skip-dry last (codes.Between o) offset rest false want tables g k r = cc
 skip-dry last (codes.Within f) offset rest false want tables g k r = cc
 skip-dry last (codes.Skipping to left) offset rest false want tables g k r = skip-none last to left offset rest (rested (going last (Skipping to left) offset rest) want r)
 
-pub active-by : (m : code.ParserMode) → skips m ≡ false → Kept.IsActive m
+pub active-by : (m : ParserMode) → skips m ≡ false → Kept.IsActive m
 active-by (codes.Between o) e = tt
 active-by (codes.Skipping to left) e = absurd (cc)
 active-by (codes.Within f) e = tt
 
 -- the last mdat that is known ends near
-pub end-near : (m : code.ParserMode) (tables : Tables) (first ready : ℕ) → IsCountedIn m tables first ready → (open_of (mode_of tables.slots.items tables.known.items m)).end ≤ 2 ^ 27
+pub end-near : (m : ParserMode) (tables : Tables) (first ready : ℕ) → IsCountedIn m tables first ready → (open_of (mode_of tables.slots.items tables.known.items m)).end ≤ 2 ^ 27
 end-near (codes.Between o) tables first ready h = omega arith
 end-near (codes.Skipping to left) tables first ready h = omega arith
 end-near (codes.Within f) tables first ready h = h.small
 
--- a step at the front of the bytes
-pub front-step : (last : Option Presentation) (m : ParserMode) (from : ℕ) (bytes : List ℕ) (st : BoxStep) → from ≡ 0 → st ≡ step_of (is_some last) (drop from bytes) m → st ≡ step_of (is_some last) bytes m
-front-step last m from bytes st z e = e ∙ ap (λ n. step_of (is_some last) (drop n bytes) m) z
-
-pub stuck : (last : Option Presentation) (m : code.ParserMode) (offset from want : ℕ) (bytes : List ℕ) (failed : Bool) (tables : Tables) (st : BoxStep) → from ≡ 0 → failed ≡ false → skips m ≡ false → Rests (state_of last (record { mode = m; offset = offset; failed = failed }) tables bytes) want → st ≡ step_of (is_some last) (drop from bytes) (mode_of tables.slots.items tables.known.items m) → Passes (act (going last (mode_of tables.slots.items tables.known.items m) offset bytes) st) → ⊥
-stuck last m offset from want bytes failed tables st z g k r e p =
-    no-pass last (mode_of tables.slots.items tables.known.items m) offset bytes failed want st g r (is_active tables m (active-by m k)) (front-step last (mode_of tables.slots.items tables.known.items m) from bytes st z e) p
+-- a step that would go on is not the next one
+pub stuck : (last : Option Presentation) (m : ParserMode) (offset want : ℕ) (rest : List ℕ) (failed : Bool) (tables : Tables) (st : BoxStep) → failed ≡ false → skips m ≡ false → Rests (walk_state last (record { mode = m; offset = offset; failed = failed }) tables rest) want → st ≡ step_of (is_some last) rest (mode_of tables.slots.items tables.known.items m) → Passes (act (going last (mode_of tables.slots.items tables.known.items m) offset rest) st) → ⊥
+stuck last m offset want rest failed tables st g k r e p = no-pass last (mode_of tables.slots.items tables.known.items m) offset rest failed want st g r (is_active tables m (active-by m k)) e p
 
 -- a moof that was read would have been passed
-pub plan-stuck : (last : Option Presentation) (p : Presentation) (m : code.ParserMode) (offset want : ℕ) (bytes : List ℕ) (failed : Bool) (tables : Tables) (len : ℕ) (found : List Slot) → last ≡ Some p → failed ≡ false → Kept.IsActive m → Rests (state_of last (record { mode = m; offset = offset; failed = failed }) tables bytes) want → step.ReadMoof len ≡ step_of (is_some last) bytes (mode_of tables.slots.items tables.known.items m) → plan_of p.tracks (take len bytes) ≡ Ok found → ⊥
+pub plan-stuck : (last : Option Presentation) (p : Presentation) (m : ParserMode) (offset want : ℕ) (bytes : List ℕ) (failed : Bool) (tables : Tables) (len : ℕ) (found : List Slot) → last ≡ Some p → failed ≡ false → Kept.IsActive m → Rests (walk_state last (record { mode = m; offset = offset; failed = failed }) tables bytes) want → step.ReadMoof len ≡ step_of (is_some last) bytes (mode_of tables.slots.items tables.known.items m) → plan_of p.tracks (take len bytes) ≡ Ok found → ⊥
 plan-stuck None p m offset want bytes failed tables len found w g a r e h = cc
 plan-stuck (Some q) p m offset want bytes failed tables len found w g a r e h =
     let y : q ≡ p = cc in
@@ -155,7 +152,7 @@ frames-there : (rest : List ℕ) (offset : ℕ) (slots : List Slot) (first ready
 frames-there rest offset slots first zero z h = absurd (omega arith)
 frames-there rest offset slots first (suc ready) z h = let q = some-there slots first h in rw q.1 (omega arith)
 
-pub slots-enough : (m : code.ParserMode) (tables : Tables) (first ready : ℕ) → IsCountedIn m tables first ready → 0 < ready → first < length tables.slots.items
+pub slots-enough : (m : ParserMode) (tables : Tables) (first ready : ℕ) → IsCountedIn m tables first ready → 0 < ready → first < length tables.slots.items
 slots-enough (codes.Between o) tables first ready h z = absurd (omega arith)
 slots-enough (codes.Skipping y l) tables first ready h z = absurd (omega arith)
 slots-enough (codes.Within i) tables first ready h z = omega (arith, h.taken, h.slots_there)

@@ -10,21 +10,21 @@ use Rattle.bmff_fragment.specs.declared.slot.Slot.{Slot}
 use Rattle.segment_walk.specs.declared.kinds.DataRange.{DataRange}
 use Rattle.segment_walk.specs.declared.kinds.Fragment.{Fragment}
 use Rattle.segment_walk.specs.declared.kinds.WalkPlace.{WalkPlace}
-use Rattle.segment_walk.specs.declared.kinds.ParserMode as code
+use Rattle.segment_walk.specs.declared.kinds.ParserMode.{ParserMode}
 use Rattle.segment_walk.specs.declared.kinds.ParserMode.TheVariants as codes
 use Rattle.segment_walk.specs.declared.kinds.BoxStep.TheVariants as step
 use Rattle.segment_walk.specs.Moves.{Between, Within, is_ready, lies_in, slot_step, step_of}
 use Rattle.segment_walk.specs.Ranges.{open_at}
 use Rattle.segment_stream.specs.declared.progress.Progress.{Progress}
-use Rattle.segment_stream.specs.declared.progress.ProgressWithTables.{ProgressWithTables}
 use Rattle.segment_stream.specs.declared.progress.Tables.{Tables}
 use Rattle.segment_stream.specs.Kept
-use Rattle.segment_stream.specs.Kept.{fragment_in, IsConsistent, IsCounted, IsCountedIn, GoesOn, ready_behind, with_tables, with_taken}
+use Rattle.segment_stream.specs.Kept.{ParserSnapshot, fragment_in, IsConsistent, IsFragmentCounted, IsCountedIn, GoesOn, ready_behind, with_taken}
 use Rattle.segment_stream.proofs.Acts.{at_step, fits, moved-frame, since-trans}
 use Rattle.segment_stream.proofs.PendingLaws.{some-there}
+use Rattle.segment_stream.proofs.Snapshots.{snapshot_of}
 
 -- a frame is given in a movie fragment, one of whose slots it is of
-pub gives-within : (last : Option Presentation) (m : code.ParserMode) (rest : List ℕ) (first ready : ℕ) (tables : Tables) (slot : Slot) → Kept.IsActive m → IsCountedIn m tables first ready → step.GiveFrame slot ≡ at_step last m tables rest → IsCounted (fragment_in m) tables first ready × ((fragment_in m).taken < length tables.slots.items)
+pub gives-within : (last : Option Presentation) (m : ParserMode) (rest : List ℕ) (first ready : ℕ) (tables : Tables) (slot : Slot) → Kept.IsActive m → IsCountedIn m tables first ready → step.GiveFrame slot ≡ at_step last m tables rest → IsFragmentCounted (fragment_in m) tables first ready × ((fragment_in m).taken < length tables.slots.items)
 gives-within last (codes.Skipping y z) rest first ready tables slot g h e = absurd g
 gives-within last (codes.Between o) rest first ready tables slot g h e = absurd (fits last (Between o) rest (step.GiveFrame slot) e).0
 gives-within last (codes.Within i) rest first ready tables slot g h e =
@@ -45,8 +45,8 @@ gives-ready rest known end place slot r =
     let e : leb (suc (length rest)) slot.end ≡ false = grind (arith, nat_tests, h.1) in
     rw (h.0, e) refl
 
-goes-on-trans : (last : Option Presentation) (a b d : ProgressWithTables) (bytes : List ℕ) → GoesOn last a b bytes → GoesOn last b d bytes → GoesOn last a d bytes
-goes-on-trans last a b d bytes h g = record {
+goes-on-trans : (a b d : ParserSnapshot) → GoesOn a b → GoesOn b d → GoesOn a d
+goes-on-trans a b d h g = record {
   same = g.same ∙ h.same;
   consistent = g.consistent;
   since = since-trans a.progress.position.mode b.progress.position.mode d.progress.position.mode a.tables b.tables d.tables h.since g.since;
@@ -61,7 +61,7 @@ within i offset from first ready = record { position = record { mode = codes.Wit
 abbrev taking : Fragment → ℕ → Fragment
 taking i n = record { taken = n; known = i.known; end = i.end; place = i.place }
 
-one-more : (last : Option Presentation) (i : Fragment) (offset from first ready : ℕ) (tables : Tables) (bytes : List ℕ) (o : Option Slot) → o ≡ slice_get tables.slots.items i.taken → IsConsistent (within i offset from first ready) tables bytes → IsReadyAt (length (drop from bytes)) (take i.known tables.known.items) o → GoesOn last (with_tables (within i offset from first ready) tables) (with_tables (within (taking i (i.taken + 1)) offset from first (ready + 1)) tables) bytes
+one-more : (last : Option Presentation) (i : Fragment) (offset from first ready : ℕ) (tables : Tables) (bytes : List ℕ) (o : Option Slot) → o ≡ slice_get tables.slots.items i.taken → IsConsistent (within i offset from first ready) tables bytes → IsReadyAt (length (drop from bytes)) (take i.known tables.known.items) o → GoesOn (snapshot_of last (within i offset from first ready) tables bytes) (snapshot_of last (within (taking i (i.taken + 1)) offset from first (ready + 1)) tables bytes)
 unfolding step_of
 one-more last i offset from first ready tables bytes None q fine r = absurd r
 one-more last i offset from first ready tables bytes (Some slot) q fine r =
@@ -69,7 +69,7 @@ one-more last i offset from first ready tables bytes (Some slot) q fine r =
     moved-frame last (codes.Within i) offset from first ready 0 false tables bytes slot refl tt fine e
 
 -- from a place, n frames more
-more-frames : (last : Option Presentation) (before : ProgressWithTables) (i : Fragment) (t offset from first ready : ℕ) (tables : Tables) (bytes : List ℕ) (n : ℕ) → GoesOn last before (with_tables (within (taking i t) offset from first ready) tables) bytes → ((k : ℕ) → k < n → IsReadyAt (length (drop from bytes)) (take i.known tables.known.items) (slice_get tables.slots.items (t + k))) → GoesOn last before (with_tables (within (taking i (t + n)) offset from first (ready + n)) tables) bytes
+more-frames : (last : Option Presentation) (before : ParserSnapshot) (i : Fragment) (t offset from first ready : ℕ) (tables : Tables) (bytes : List ℕ) (n : ℕ) → GoesOn before (snapshot_of last (within (taking i t) offset from first ready) tables bytes) → ((k : ℕ) → k < n → IsReadyAt (length (drop from bytes)) (take i.known tables.known.items) (slice_get tables.slots.items (t + k))) → GoesOn before (snapshot_of last (within (taking i (t + n)) offset from first (ready + n)) tables bytes)
 more-frames last before i t offset from first ready tables bytes zero h r =
     let y : t + 0 ≡ t = omega arith in
     let z : ready + 0 ≡ ready = omega arith in
@@ -80,7 +80,7 @@ more-frames last before i t offset from first ready tables bytes (suc n) h r =
     let z : ready + suc n ≡ ready + 1 + n = omega arith in
     let g = one-more last (taking i t) offset from first ready tables bytes (slice_get tables.slots.items t) refl h.consistent (subst (λ j. IsReadyAt (length (drop from bytes)) (take i.known tables.known.items) (slice_get tables.slots.items j)) x (r 0 (omega arith))) in
     let q : (k : ℕ) → k < n → IsReadyAt (length (drop from bytes)) (take i.known tables.known.items) (slice_get tables.slots.items (t + 1 + k)) = λ k l. let w : t + suc k ≡ t + 1 + k = omega arith in subst (λ j. IsReadyAt (length (drop from bytes)) (take i.known tables.known.items) (slice_get tables.slots.items j)) w (r (suc k) (omega arith)) in
-    rw (y, z) (more-frames last before i (t + 1) offset from first (ready + 1) tables bytes n (goes-on-trans last before _ _ bytes h g) q)
+    rw (y, z) (more-frames last before i (t + 1) offset from first (ready + 1) tables bytes n (goes-on-trans before _ _ h g) q)
 
 ready-at : (m n : ℕ) (known : List DataRange) (slots : List Slot) (t k : ℕ) → m ≡ n → k < prefix_len (is_ready m known) (drop t slots) → IsReadyAt n known (slice_get slots (t + k))
 ready-at m n known slots t k e h =
@@ -90,11 +90,11 @@ ready-at m n known slots t k e h =
     let j : get_or (drop t slots) k s.0 ≡ s.0 = get_or-drop t slots k s.0 ∙ get_or_from_slice_get slots (t + k) s.0 s.0 s.1 in
     rw s.1 (subst (λ c. is_ready c known s.0 ≡ true) e (subst (λ (v : Slot). is_ready m known v ≡ true) j g))
 
-pub moved-frames : (last : Option Presentation) (m : code.ParserMode) (offset from first ready want : ℕ) (failed : Bool) (tables : Tables) (bytes : List ℕ) (slot : Slot) → let r : Progress = record { position = record { mode = m; offset = offset; failed = failed }; from = from; first = first; ready = ready; want = want } in failed ≡ false → Kept.IsActive m → IsConsistent r tables bytes → step.GiveFrame slot ≡ at_step last m tables (drop from bytes) → GoesOn last (with_tables r tables) (with_tables (with_taken r (fragment_in m) (1 + ready_behind (length bytes - from) (fragment_in m) tables)) tables) bytes
+pub moved-frames : (last : Option Presentation) (m : ParserMode) (offset from first ready want : ℕ) (failed : Bool) (tables : Tables) (bytes : List ℕ) (slot : Slot) → let r : Progress = record { position = record { mode = m; offset = offset; failed = failed }; from = from; first = first; ready = ready; want = want } in failed ≡ false → Kept.IsActive m → IsConsistent r tables bytes → step.GiveFrame slot ≡ at_step last m tables (drop from bytes) → GoesOn (snapshot_of last r tables bytes) (snapshot_of last (with_taken r (fragment_in m) (1 + ready_behind (length bytes - from) (fragment_in m) tables)) tables bytes)
 moved-frames last m offset from first ready want failed tables bytes slot f g fine e =
     let r : Progress = record { position = record { mode = m; offset = offset; failed = failed }; from = from; first = first; ready = ready; want = want } in
     let i = fragment_in m in
     let n = ready_behind (length bytes - from) i tables in
     let x : i.taken + 1 + n ≡ i.taken + (1 + n) = omega arith in
     let y : ready + 1 + n ≡ ready + (1 + n) = omega arith in
-    rw (sym x, sym y) (more-frames last (with_tables r tables) i (i.taken + 1) offset from first (ready + 1) tables bytes n (moved-frame last m offset from first ready want failed tables bytes slot f g fine e) (λ k l. ready-at (length bytes - from) (length (drop from bytes)) (take i.known tables.known.items) tables.slots.items (i.taken + 1) k (sym (length-drop from bytes)) l))
+    rw (sym x, sym y) (more-frames last (snapshot_of last r tables bytes) i (i.taken + 1) offset from first (ready + 1) tables bytes n (moved-frame last m offset from first ready want failed tables bytes slot f g fine e) (λ k l. ready-at (length bytes - from) (length (drop from bytes)) (take i.known tables.known.items) tables.slots.items (i.taken + 1) k (sym (length-drop from bytes)) l))

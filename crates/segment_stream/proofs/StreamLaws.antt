@@ -14,20 +14,20 @@ use Rattle.bmff_fragment.specs.declared.slot.Slot.{Slot}
 use Rattle.bmff_fragment.specs.Plans.{plan_of}
 use Rattle.input_chunks.specs.Pieces.{pieces_with, pieces_without_first, pieces_without_last, HasNoEmptyPiece}
 use Rattle.input_chunks.proofs.Rows.{bytes-pushed, bytes-without, none-added, none-without}
-use Rattle.parser_loop.specs.Walk.{Move, Stop, Pass, Give, Lookahead, run, run_by, run_give, stay_at, fed, fed_all, first_by, after_by, run_after, first_item, after_first, count_after}
+use Rattle.parser_loop.specs.Walk.{Move, Stop, Pass, Give, Lookahead, lookahead_from, lookahead_by, lookahead_give, stay_at, kept_with, kept_with_all, first_by, after_by, lookahead_after, first_item, after_first}
 use Rattle.parser_loop.proofs.Walks.{IsSettled, settled-at-state}
-use Rattle.parser_loop.proofs.Runs.{run-step, run-rested, keeps, Keeps, IsRested, stands-first, stands-after, stands-look, stands-ready}
+use Rattle.parser_loop.proofs.Lookaheads.{lookahead-step, lookahead-rested, keeps, Keeps, IsRested, stands-first, stands-after, stands-look, stands-ready}
 use Rattle.parser_loop.proofs.Pieces.{stands-start, stands-piece}
 use Rattle.mse_base.specs.declared.frame.Phase.{Phase}
-use Rattle.segment_walk.specs.declared.kinds.ParserMode as code
+use Rattle.segment_walk.specs.declared.kinds.ParserMode.{ParserMode}
 use Rattle.segment_walk.specs.declared.kinds.ParserMode.TheVariants as codes
 use Rattle.segment_walk.specs.declared.kinds.BoxStep.{BoxStep}
 use Rattle.segment_walk.specs.declared.kinds.BoxStep.TheVariants as step
 use Rattle.segment_walk.specs.Tables.{SegmentItem}
-use Rattle.parser_loop.specs.Items.{InitItem, FrameItem, SegmentEnd, FaultItem, latest_after_all, latest_after}
-use Rattle.segment_walk.specs.Moves.{WalkState, ParserMode, Between, Skipping, Within, Open, move_of_init, move_of_slots, move_of_moof, pass_byte, act, step_of, segments, move_unless}
+use Rattle.parser_loop.specs.Items.{InitItem, FrameItem, SegmentEnd, FaultItem, latest_after_all, latest_after, seen}
+use Rattle.segment_walk.specs.Moves.{WalkState, WalkMode, Between, Skipping, Within, Open, move_of_init, move_of_slots, move_of_moof, pass_byte, act, step_of, segments, move_unless}
 use Rattle.segment_walk.specs.Strings.{start, state_before, phase_of}
-use Rattle.segment_walk.specs.Segments.{Items, held_before, phase_before, ready_before}
+use Rattle.segment_walk.specs.Segments.{items_of_string, held_before, phase_before, ready_before}
 use Rattle.segment_walk.proofs.Boxes.{items-boxes, ready-boxes, seen-boxes}
 use Rattle.parser_loop.specs.Parse.{ParserView}
 use Rattle.segment_walk.proofs.WalkLaws.{going, is_walk, good-step, Fits}
@@ -35,16 +35,19 @@ use Rattle.segment_walk.proofs.Latest.{last-move, LastAfter, state-latest}
 use Rattle.segment_stream.specs.declared.progress.Progress.{Progress}
 use Rattle.segment_stream.specs.declared.progress.ParserPosition.{ParserPosition}
 use Rattle.segment_stream.specs.declared.progress.Tables.{Tables}
-use Rattle.segment_stream.specs.declared.next.SegmentNext.{SegmentNext}
+use Rattle.parser_loop.specs.declared.next.Next.{Next}
+use Rattle.parser_loop.specs.StringReadings.{after_answer, string_from, with_bytes}
+use Rattle.segment_walk.specs.declared.kinds.StreamFault.{StreamFault}
 use Rattle.segment_stream.specs.declared.stream.Offered.{Offered}
-use Rattle.segment_stream.specs.Kept.{frames, IsCountedIn, Rests, IsWaitingForBytes, IsEmptied, IsFoundWith, IsLast, kept_of, state_of, progress_at_start, last_bytes, seen, with_tables}
-use Rattle.segment_stream.specs.Streams.{Stands, SegmentView, segment_view, pushed_last, IsStreamAtRest, IsStreamWithOffer, IsStream}
+use Rattle.segment_stream.specs.Kept.{frames, IsCountedIn, Rests, IsWaitingForBytes, IsEmptied, IsFoundWith, IsLast, kept_of, progress_at_start, last_bytes, snapshot}
+use Rattle.segment_stream.specs.Streams.{ForEachReading, Stands, StandsAfter, SegmentView, segment_view, pushed_last, IsStreamAtRest, IsStreamWithOffer, IsSegmentStream}
 use Rattle.segment_stream.proofs.PendingLaws.{some-there, rested}
 use Rattle.segment_stream.proofs.ArmLaws.{all-kept, dropped}
+use Rattle.segment_stream.proofs.Snapshots.{snapshot_of}
 
--- ---- the state behind a run is the state before it, but for the frames
+-- ---- the state behind a lookahead is the state before it, but for the frames
 
-abbrev IsWithin : ParserMode → Type 0
+abbrev IsWithin : WalkMode → Type 0
 IsWithin (Between phase) = ⊥
 IsWithin (Skipping to left) = ⊥
 IsWithin (Within o) = Unit {0}
@@ -96,7 +99,7 @@ keeping-byte : (last : Option Presentation) (to : Phase) (offset left : ℕ) (al
 keeping-byte last to offset left all [] = tt
 keeping-byte last to offset left all (x ∷ rest) = λ w. absurd w
 
-keeping : (last : Option Presentation) (m : ParserMode) (offset : ℕ) (rest : List ℕ) (failed : Bool) → let s : WalkState = record { last = last; mode = m; offset = offset; rest = rest; failed = failed } in Keeping s (move_unless s failed)
+keeping : (last : Option Presentation) (m : WalkMode) (offset : ℕ) (rest : List ℕ) (failed : Bool) → let s : WalkState = record { last = last; mode = m; offset = offset; rest = rest; failed = failed } in Keeping s (move_unless s failed)
 keeping last m offset rest true = tt
 keeping last (Between phase) offset rest false = keeping-between last phase offset rest (step_of (is_some last) rest (Between phase)) (good-step (is_some last) rest [] (Between phase)).0
 keeping last (Skipping to zero) offset rest false = λ w. absurd w
@@ -114,7 +117,7 @@ held-by rest s (Give item t) f p = λ e. let q = f e in (q.1, q.2 ∙ p.1)
 held-move : (rest : List ℕ) (s : WalkState) → Held rest s → Keeps segments (Held rest) (segments.move s)
 held-move rest s p = held-by rest s (segments.move s) (keeping s.last s.mode s.offset s.rest s.failed) p
 
-phase-within : (m : ParserMode) → IsWithin m → phase_of m ≡ InMedia
+phase-within : (m : WalkMode) → IsWithin m → phase_of m ≡ InMedia
 phase-within (Between phase) w = absurd w
 phase-within (Skipping to left) w = absurd w
 phase-within (Within o) w = refl
@@ -123,44 +126,44 @@ phase-within (Within o) w = refl
 abbrev Alike : WalkState → WalkState → Type 0
 Alike s t = (t.rest ≡ s.rest) × (phase_of t.mode ≡ phase_of s.mode)
 
-alike-give : (s t : WalkState) (item : SegmentItem) (b : Bool) → segments.runs item ≡ b → run segments s ≡ run_give s item (run segments t) b → Keeping s (Give item t) → Alike s (run segments s).state
+alike-give : (s t : WalkState) (item : SegmentItem) (b : Bool) → segments.runs item ≡ b → lookahead_from segments s ≡ lookahead_give s item (lookahead_from segments t) b → Keeping s (Give item t) → Alike s (lookahead_from segments s).state
 alike-give s t item false e r f = (ap (λ (k : Lookahead WalkState SegmentItem). k.state.rest) r, ap (λ (k : Lookahead WalkState SegmentItem). phase_of k.state.mode) r)
 alike-give s t item true e r f =
     let q = f e in
     let h = keeps segments is_walk (Held s.rest) (held-move s.rest) t (q.1, q.2) in (
       ap (λ (k : Lookahead WalkState SegmentItem). k.state.rest) r ∙ h.1,
-      ap (λ (k : Lookahead WalkState SegmentItem). phase_of k.state.mode) r ∙ phase-within (run segments t).state.mode h.0 ∙ sym (phase-within s.mode q.0),
+      ap (λ (k : Lookahead WalkState SegmentItem). phase_of k.state.mode) r ∙ phase-within (lookahead_from segments t).state.mode h.0 ∙ sym (phase-within s.mode q.0),
     )
 
-alike-at : (s : WalkState) (m : Move WalkState SegmentItem) → segments.move s ≡ m → IsSettled m → Keeping s m → Alike s (run segments s).state
-alike-at s Stop e d f = let r = run-step segments is_walk s ∙ ap (run_by segments s (run segments)) e in (ap (λ (k : Lookahead WalkState SegmentItem). k.state.rest) r, ap (λ (k : Lookahead WalkState SegmentItem). phase_of k.state.mode) r)
+alike-at : (s : WalkState) (m : Move WalkState SegmentItem) → segments.move s ≡ m → IsSettled m → Keeping s m → Alike s (lookahead_from segments s).state
+alike-at s Stop e d f = let r = lookahead-step segments is_walk s ∙ ap (lookahead_by segments s (lookahead_from segments)) e in (ap (λ (k : Lookahead WalkState SegmentItem). k.state.rest) r, ap (λ (k : Lookahead WalkState SegmentItem). phase_of k.state.mode) r)
 alike-at s (Pass t) e d f = absurd d
-alike-at s (Give item t) e d f = alike-give s t item (segments.runs item) refl (run-step segments is_walk s ∙ ap (run_by segments s (run segments)) e) f
+alike-at s (Give item t) e d f = alike-give s t item (segments.runs item) refl (lookahead-step segments is_walk s ∙ ap (lookahead_by segments s (lookahead_from segments)) e) f
 
-alike-run : (s : WalkState) → IsSettled (segments.move s) → Alike s (run segments s).state
-alike-run s d = alike-at s (segments.move s) refl d (keeping s.last s.mode s.offset s.rest s.failed)
+alike-lookahead : (s : WalkState) → IsSettled (segments.move s) → Alike s (lookahead_from segments s).state
+alike-lookahead s d = alike-at s (segments.move s) refl d (keeping s.last s.mode s.offset s.rest s.failed)
 
-alike-stands : (kept : Lookahead WalkState SegmentItem) (last : Option Presentation) (b : List ℕ) (n : ℕ) → Stands kept last b n → Alike (state_before last b n) kept.state
-alike-stands kept last b n h =
-    let s : WalkState = state_before last b n in
-    let a = alike-run s (settled-at-state segments is_walk n (start last b)) in
+alike-stands : (kept : Lookahead WalkState SegmentItem) → ForEachReading kept (λ r. Alike (state_before r) kept.state)
+alike-stands kept r h =
+    let s : WalkState = state_before r in
+    let a = alike-lookahead s (settled-at-state segments is_walk r.taken (start r.before r.whole)) in
     (ap (λ (k : Lookahead WalkState SegmentItem). k.state.rest) h.is ∙ a.0, ap (λ (k : Lookahead WalkState SegmentItem). phase_of k.state.mode) h.is ∙ a.1)
 
-pub stands-phase : (kept : Lookahead WalkState SegmentItem) (last : Option Presentation) (b : List ℕ) (n : ℕ) → Stands kept last b n → phase_of kept.state.mode ≡ phase_before last b n
-stands-phase kept last b n h = (alike-stands kept last b n h).1 ∙ ap (λ (v : ParserView). v.phase) (seen-boxes last b n)
+pub stands-phase : (kept : Lookahead WalkState SegmentItem) → ForEachReading kept (λ r. phase_of kept.state.mode ≡ phase_before r)
+stands-phase kept r h = (alike-stands kept r h).1 ∙ ap (λ (v : ParserView). v.phase) (seen-boxes r)
 
-pub stands-held : (kept : Lookahead WalkState SegmentItem) (last : Option Presentation) (b : List ℕ) (n : ℕ) → Stands kept last b n → kept.state.rest ≡ held_before last b n
-stands-held kept last b n h = (alike-stands kept last b n h).0 ∙ ap (λ (v : ParserView). v.held) (seen-boxes last b n)
+pub stands-held : (kept : Lookahead WalkState SegmentItem) → ForEachReading kept (λ r. kept.state.rest ≡ held_before r)
+stands-held kept r h = (alike-stands kept r h).0 ∙ ap (λ (v : ParserView). v.held) (seen-boxes r)
 
 -- the items are those that the boxes tell
-pub stands-item : (kept : Lookahead WalkState SegmentItem) (last : Option Presentation) (b : List ℕ) (n : ℕ) → Stands kept last b n → first_item segments kept ≡ slice_get (Items last b) n
-stands-item kept last b n h = stands-first segments is_walk kept (start last b) n h ∙ ap (λ items. slice_get items n) (items-boxes last b)
+pub stands-item : (kept : Lookahead WalkState SegmentItem) → ForEachReading kept (λ r. first_item segments kept ≡ slice_get (items_of_string r.before r.whole) r.taken)
+stands-item kept r h = stands-first segments is_walk kept (start r.before r.whole) r.taken h ∙ ap (λ items. slice_get items r.taken) (items-boxes r.before r.whole)
 
-pub stands-ahead : (kept : Lookahead WalkState SegmentItem) (last : Option Presentation) (b : List ℕ) (n i : ℕ) → i < length kept.items → Stands kept last b n → slice_get kept.items i ≡ slice_get (Items last b) (n + i)
-stands-ahead kept last b n i l h = stands-look segments is_walk kept (start last b) n i l h ∙ ap (λ items. slice_get items (n + i)) (items-boxes last b)
+pub stands-ahead : (kept : Lookahead WalkState SegmentItem) (i : ℕ) → i < length kept.items → ForEachReading kept (λ r. slice_get kept.items i ≡ slice_get (items_of_string r.before r.whole) (r.taken + i))
+stands-ahead kept i l r h = stands-look segments is_walk kept (start r.before r.whole) r.taken i l h ∙ ap (λ items. slice_get items (r.taken + i)) (items-boxes r.before r.whole)
 
-pub stands-count : (kept : Lookahead WalkState SegmentItem) (last : Option Presentation) (b : List ℕ) (n : ℕ) → Stands kept last b n → length kept.items ≡ ready_before last b n
-stands-count kept last b n h = stands-ready segments is_walk kept (start last b) n h ∙ ready-boxes last b n
+pub stands-count : (kept : Lookahead WalkState SegmentItem) → ForEachReading kept (λ r. length kept.items ≡ ready_before r)
+stands-count kept r h = stands-ready segments is_walk kept (start r.before r.whole) r.taken h ∙ ready-boxes r
 
 -- ---- the presentation
 
@@ -175,28 +178,28 @@ last-by last s Stop f p = tt
 last-by last s (Pass t) f p = f ∙ p
 last-by last s (Give item t) f p = λ e. f ∙ frame-latest s.last item e ∙ p
 
-last-run : (s : WalkState) → (run segments s).state.last ≡ s.last
-last-run s = keeps segments is_walk (λ t. t.last ≡ s.last) (λ t p. last-by s.last t (segments.move t) (last-move t) p) s refl
+last-lookahead : (s : WalkState) → (lookahead_from segments s).state.last ≡ s.last
+last-lookahead s = keeps segments is_walk (λ t. t.last ≡ s.last) (λ t p. last-by s.last t (segments.move t) (last-move t) p) s refl
 
-pub stands-latest : (kept : Lookahead WalkState SegmentItem) (last : Option Presentation) (b : List ℕ) (n : ℕ) → Stands kept last b n → kept.state.last ≡ latest_after_all last (take n (Items last b))
-stands-latest kept last b n h = ap (λ (k : Lookahead WalkState SegmentItem). k.state.last) h.is ∙ last-run (state_before last b n) ∙ state-latest n (start last b) ∙ ap (λ items. latest_after_all last (take n items)) (items-boxes last b)
+pub stands-latest : (kept : Lookahead WalkState SegmentItem) → ForEachReading kept (λ r. kept.state.last ≡ latest_after_all r.before (take r.taken (items_of_string r.before r.whole)))
+stands-latest kept r h = ap (λ (k : Lookahead WalkState SegmentItem). k.state.last) h.is ∙ last-lookahead (state_before r) ∙ state-latest r.taken (start r.before r.whole) ∙ ap (λ items. latest_after_all r.before (take r.taken items)) (items-boxes r.before r.whole)
 
 -- ---- pieces
 
-pub stands-more : (kept : Lookahead WalkState SegmentItem) (last : Option Presentation) (b c : List ℕ) (n : ℕ) → Stands kept last b n → Stands (fed segments kept c) last (b ++ c) n
-stands-more kept last b c n h = stands-piece segments is_walk kept (start last b) c n h
+pub stands-more : (kept : Lookahead WalkState SegmentItem) (c : List ℕ) → StandsAfter kept (with_bytes c) (kept_with segments kept c)
+stands-more kept c r h = stands-piece segments is_walk kept (start r.before r.whole) c r.taken h
 
-pub stands-pieces : (kept : Lookahead WalkState SegmentItem) (last : Option Presentation) (b : List ℕ) (n : ℕ) (cs : List (List ℕ)) → Stands kept last b n → Stands (fed_all segments kept cs) last (b ++ concat cs) n
-stands-pieces kept last b n [] h = rw (append-nil b) h
-stands-pieces kept last b n (c ∷ cs) h =
-    subst (λ v. Stands (fed_all segments (fed segments kept c) cs) last v n) (append_assoc b c (concat cs)) (stands-pieces (fed segments kept c) last (b ++ c) n cs (stands-more kept last b c n h))
+pub stands-pieces : (kept : Lookahead WalkState SegmentItem) (cs : List (List ℕ)) → StandsAfter kept (with_bytes (concat cs)) (kept_with_all segments kept cs)
+stands-pieces kept [] r h = rw (append-nil r.whole) h
+stands-pieces kept (c ∷ cs) r h =
+    subst (λ v. Stands (kept_with_all segments (kept_with segments kept c) cs) (record { before = r.before; whole = v; taken = r.taken })) (append_assoc r.whole c (concat cs)) (stands-pieces (kept_with segments kept c) cs (with_bytes c r) (stands-more kept c r h))
 
 -- ---- a stream where nothing is offered
 
 some-none : (x : List ℕ) → Some x ≡ None → ⊥
 some-none x e = cc
 
-pub idle : (last : Option Presentation) (r : Progress) (tables : Tables) (input : List (List ℕ)) (fed : ℕ) (o : Option Offered) (v : SegmentView) → segment_view last (with_tables r tables) input fed o ≡ v → v.offered ≡ None → IsStream last (with_tables r tables) input fed o → IsStreamAtRest last (with_tables r tables) input fed × (segment_view last (with_tables r tables) input fed None ≡ v) × (o ≡ None)
+pub idle : (last : Option Presentation) (r : Progress) (tables : Tables) (input : List (List ℕ)) (fed : ℕ) (o : Option Offered) (v : SegmentView) → segment_view (snapshot last r tables input) input fed o ≡ v → v.offered ≡ None → IsSegmentStream (snapshot last r tables input) input fed o → IsStreamAtRest (snapshot last r tables input) input fed × (segment_view (snapshot last r tables input) input fed None ≡ v) × (o ≡ None)
 idle last r tables input fed None v e q h = (h, e, refl)
 idle last r tables input fed (Some o) v e q h = absurd (some-none (pushed_last o.len input) (ap (λ (w : SegmentView). w.offered) e ∙ q))
 
@@ -207,13 +210,13 @@ frames-length rest offset slots first (suc ready) h =
     rw q.1 (ap suc (frames-length rest offset slots (first + 1) ready (omega arith)))
 
 -- as many frames are kept as are counted
-pub frames-counted : (m : code.ParserMode) (rest : List ℕ) (offset : ℕ) (tables : Tables) (first ready : ℕ) → IsCountedIn m tables first ready → length (frames rest offset tables.slots.items first ready) ≡ ready
+pub frames-counted : (m : ParserMode) (rest : List ℕ) (offset : ℕ) (tables : Tables) (first ready : ℕ) → IsCountedIn m tables first ready → length (frames rest offset tables.slots.items first ready) ≡ ready
 frames-counted (codes.Between o) rest offset tables first ready h = rw h refl
 frames-counted (codes.Skipping to left) rest offset tables first ready h = rw h refl
 frames-counted (codes.Within f) rest offset tables first ready h = frames-length rest offset tables.slots.items first ready (omega (arith, h.taken, h.slots_there))
 
 -- a movie fragment has no more of them
-pub few-ready : (m : code.ParserMode) (tables : Tables) (first ready : ℕ) → IsCountedIn m tables first ready → ready ≤ 2 ^ 20
+pub few-ready : (m : ParserMode) (tables : Tables) (first ready : ℕ) → IsCountedIn m tables first ready → ready ≤ 2 ^ 20
 few-ready (codes.Between o) tables first ready h = omega (arith, h)
 few-ready (codes.Skipping to left) tables first ready h = omega (arith, h)
 few-ready (codes.Within f) tables first ready h = omega (arith, h.taken, h.slots_there, h.few)
@@ -232,10 +235,10 @@ empty-step : (ready : Bool) → step_of ready [] (Between Waiting) ≡ step.Wait
 unfolding step_of header_of
 empty-step ready = refl
 
-start-still : (last : Option Presentation) → run segments (start last []) ≡ stay_at (start last [])
-start-still last = run-rested segments is_walk (start last []) (rw (ap (act (start last [])) (empty-step (is_some last))) tt)
+start-still : (last : Option Presentation) → lookahead_from segments (start last []) ≡ stay_at (start last [])
+start-still last = lookahead-rested segments is_walk (start last []) (rw (ap (act (start last [])) (empty-step (is_some last))) tt)
 
-pub holds-start : (last : Option Presentation) (tables : Tables) → IsLast last → IsStreamAtRest last (with_tables progress_at_start tables) [] 0
+pub holds-start : (last : Option Presentation) (tables : Tables) → IsLast last → IsStreamAtRest (snapshot last progress_at_start tables []) [] 0
 holds-start last tables h = record {
   rest = record {
     front = refl;
@@ -249,8 +252,8 @@ holds-start last tables h = record {
   few = omega arith;
 }
 
-pub stands-empty : (last : Option Presentation) (tables : Tables) → Stands (kept_of last progress_at_start tables []) last [] 0
-stands-empty last tables = subst (λ k. Stands k last [] 0) (start-still last) (stands-start segments is_walk (start last []))
+pub stands-empty : (last : Option Presentation) (tables : Tables) → Stands (kept_of (snapshot_of last progress_at_start tables [])) (string_from last)
+stands-empty last tables = subst (λ k. Stands k (string_from last)) (start-still last) (stands-start segments is_walk (start last []))
 
 -- ---- bytes are offered
 
@@ -267,23 +270,23 @@ pushed-is-last bytes old new len l b e =
     let w : pieces_without_last len new ≡ old = ap (λ n. pieces_without_last n new) l ∙ b in
     ap (λ ps. drop (length (concat ps)) (concat new)) w ∙ ap (drop (length (concat old))) (ap concat e ∙ bytes-pushed bytes old) ∙ drop-front (concat old) bytes
 
-pub offer-view : (last : Option Presentation) (r found : Progress) (tables new_tables : Tables) (old new : List (List ℕ)) (bytes : List ℕ) (fed len : ℕ) → len ≡ length bytes → pieces_without_last (length bytes) new ≡ old → new ≡ pieces_with bytes old → kept_of last r new_tables (concat old) ≡ kept_of last r tables (concat old) → segment_view last (with_tables r new_tables) new fed (Some (record { len = len; progress = found })) ≡ record { kept = kept_of last r tables (concat old); pieces = old; fed = fed; offered = Some bytes }
+pub offer-view : (last : Option Presentation) (r found : Progress) (tables new_tables : Tables) (old new : List (List ℕ)) (bytes : List ℕ) (fed len : ℕ) → len ≡ length bytes → pieces_without_last (length bytes) new ≡ old → new ≡ pieces_with bytes old → kept_of (snapshot last r new_tables old) ≡ kept_of (snapshot last r tables old) → segment_view (snapshot last r new_tables new) new fed (Some (record { len = len; progress = found })) ≡ record { kept = kept_of (snapshot last r tables old); pieces = old; fed = fed; offered = Some bytes }
 offer-view last r found tables new_tables old new bytes fed len l b e k =
     let w : pieces_without_last len new ≡ old = ap (λ n. pieces_without_last n new) l ∙ b in
     let p : pushed_last len new ≡ bytes = pushed-is-last bytes old new len l b e in
-    let view : List (List ℕ) → List ℕ → SegmentView = λ ps c. record { kept = kept_of last r new_tables (concat ps); pieces = ps; fed = fed; offered = Some c } in
+    let view : List (List ℕ) → List ℕ → SegmentView = λ ps c. record { kept = kept_of (snapshot last r new_tables ps); pieces = ps; fed = fed; offered = Some c } in
     let view' : Lookahead WalkState SegmentItem → SegmentView = λ v. record { kept = v; pieces = old; fed = fed; offered = Some bytes } in
     ap (λ ps. view ps (pushed_last len new)) w ∙ ap (view old) p ∙ ap view' k
 
-pub offer-holds : (last : Option Presentation) (r found : Progress) (tables new_tables : Tables) (old new : List (List ℕ)) (bytes : List ℕ) (fed len : ℕ) → len ≡ length bytes → pieces_without_last (length bytes) new ≡ old → new ≡ pieces_with bytes old → IsStreamAtRest last (with_tables r tables) old fed → IsWaitingForBytes last r new_tables (concat old) → IsFoundWith last (kept_of last r new_tables (concat old)) (with_tables found new_tables) (concat new) bytes → IsEmptied found (drop found.from (concat new)) → fed + len < 2 ^ 62 → IsStreamWithOffer last (with_tables r new_tables) new fed (record { len = len; progress = found })
+pub offer-holds : (last : Option Presentation) (r found : Progress) (tables new_tables : Tables) (old new : List (List ℕ)) (bytes : List ℕ) (fed len : ℕ) → len ≡ length bytes → pieces_without_last (length bytes) new ≡ old → new ≡ pieces_with bytes old → IsStreamAtRest (snapshot last r tables old) old fed → IsWaitingForBytes (snapshot last r new_tables old) → IsFoundWith (snapshot last r new_tables old) (snapshot last found new_tables new) bytes → IsEmptied found (drop found.from (concat new)) → fed + len < 2 ^ 62 → IsStreamWithOffer (snapshot last r new_tables new) new fed (record { len = len; progress = found })
 offer-holds last r found tables new_tables old new bytes fed len l b e h rest f q room =
     let w : pieces_without_last len new ≡ old = ap (λ n. pieces_without_last n new) l ∙ b in
     let p : pushed_last len new ≡ bytes = pushed-is-last bytes old new len l b e in
     record {
-      before = subst (λ ps. IsStreamAtRest last (with_tables r new_tables) ps fed) (sym w) (record { rest = rest; emptied = h.emptied; readable = h.readable; none_empty = h.none_empty; total = h.total; few = h.few });
+      before = subst (λ ps. IsStreamAtRest (snapshot last r new_tables ps) ps fed) (sym w) (record { rest = rest; emptied = h.emptied; readable = h.readable; none_empty = h.none_empty; total = h.total; few = h.few });
       is_pushed = e ∙ ap (λ c. pieces_with c old) (sym p) ∙ ap (pieces_with (pushed_last len new)) (sym w);
       len = l ∙ ap length (sym p);
-      found = subst (λ ps. IsFoundWith last (kept_of last r new_tables (concat ps)) (with_tables found new_tables) (concat new) (pushed_last len new)) (sym w) (subst (λ c. IsFoundWith last (kept_of last r new_tables (concat old)) (with_tables found new_tables) (concat new) c) (sym p) f);
+      found = subst (λ ps. IsFoundWith (snapshot last r new_tables ps) (snapshot last found new_tables new) (pushed_last len new)) (sym w) (subst (λ c. IsFoundWith (snapshot last r new_tables old) (snapshot last found new_tables new) c) (sym p) f);
       found_emptied = q;
       room = room;
     }
@@ -291,7 +294,7 @@ offer-holds last r found tables new_tables old new bytes fed len l b e h rest f 
 emptied-as : (r s : Progress) (a b : List ℕ) → s.position ≡ r.position → s.ready ≡ r.ready → b ≡ a → IsEmptied r a → IsEmptied s b
 emptied-as r s a b e f g h = λ q. let k = h (ap (λ (x : ParserPosition). x.failed) (sym e) ∙ q) in (g ∙ k.0, f ∙ k.1)
 
-pub accept-holds : (last : Option Presentation) (r s : Progress) (tables : Tables) (input new : List (List ℕ)) (fed : ℕ) (o : Offered) → IsStreamWithOffer last (with_tables r tables) input fed o → IsWaitingForBytes last s tables (concat new) → s.position ≡ o.progress.position → s.ready ≡ o.progress.ready → new ≡ pieces_without_first o.progress.from input → IsStreamAtRest last (with_tables s tables) new (fed + o.len)
+pub accept-holds : (last : Option Presentation) (r s : Progress) (tables : Tables) (input new : List (List ℕ)) (fed : ℕ) (o : Offered) → IsStreamWithOffer (snapshot last r tables input) input fed o → IsWaitingForBytes (snapshot last s tables new) → s.position ≡ o.progress.position → s.ready ≡ o.progress.ready → new ≡ pieces_without_first o.progress.from input → IsStreamAtRest (snapshot last s tables new) new (fed + o.len)
 accept-holds last r s tables input new fed o h rest e f g =
     let b : concat new ≡ drop o.progress.from (concat input) = ap concat g ∙ bytes-without o.progress.from input in
     let before = pieces_without_last o.len input in
@@ -305,14 +308,14 @@ accept-holds last r s tables input new fed o h rest e f g =
       few = h.room;
     }
 
-pub accept-stands : (last : Option Presentation) (r s : Progress) (tables : Tables) (input new : List (List ℕ)) (fed : ℕ) (o : Offered) (v : SegmentView) → segment_view last (with_tables r tables) input fed (Some o) ≡ v → IsStreamWithOffer last (with_tables r tables) input fed o → kept_of last s tables (concat new) ≡ kept_of last o.progress tables (concat input) → IfSome v.offered (λ bytes. (last' : Option Presentation) (b : List ℕ) (n : ℕ) → Stands v.kept last' b n → Stands (kept_of last s tables (concat new)) last' (b ++ bytes) n)
+pub accept-stands : (last : Option Presentation) (r s : Progress) (tables : Tables) (input new : List (List ℕ)) (fed : ℕ) (o : Offered) (v : SegmentView) → segment_view (snapshot last r tables input) input fed (Some o) ≡ v → IsStreamWithOffer (snapshot last r tables input) input fed o → kept_of (snapshot last s tables new) ≡ kept_of (snapshot last o.progress tables input) → IfSome v.offered (λ bytes. StandsAfter v.kept (with_bytes bytes) (kept_of (snapshot last s tables new)))
 accept-stands last r s tables input new fed o v e h k =
     let c = pushed_last o.len input in
-    let kept : Lookahead WalkState SegmentItem = kept_of last r tables (concat (pieces_without_last o.len input)) in
-    let f : (last' : Option Presentation) (b : List ℕ) (n : ℕ) → Stands kept last' b n → Stands (kept_of last s tables (concat new)) last' (b ++ c) n = λ last' b n q. subst (λ v. Stands v last' (b ++ c) n) (sym (k ∙ h.found.same)) (stands-more kept last' b c n q) in
-    subst (λ (v : SegmentView). IfSome v.offered (λ bytes. (last' : Option Presentation) (b : List ℕ) (n : ℕ) → Stands v.kept last' b n → Stands (kept_of last s tables (concat new)) last' (b ++ bytes) n)) e f
+    let kept : Lookahead WalkState SegmentItem = kept_of (snapshot last r tables (pieces_without_last o.len input)) in
+    let f : StandsAfter kept (with_bytes c) (kept_of (snapshot last s tables new)) = λ r' q. subst (λ v. Stands v (with_bytes c r')) (sym (k ∙ h.found.same)) (stands-more kept c r' q) in
+    subst (λ (v : SegmentView). IfSome v.offered (λ bytes. StandsAfter v.kept (with_bytes bytes) (kept_of (snapshot last s tables new)))) e f
 
-pub accept-pieces : (last : Option Presentation) (r : Progress) (tables : Tables) (input new : List (List ℕ)) (fed from : ℕ) (o : Offered) (v : SegmentView) → segment_view last (with_tables r tables) input fed (Some o) ≡ v → IsStreamWithOffer last (with_tables r tables) input fed o → from ≡ 0 → new ≡ pieces_without_first o.progress.from input → IfSome v.offered (λ bytes. new ≡ last_bytes (length (drop from (concat new))) (pieces_with bytes v.pieces))
+pub accept-pieces : (last : Option Presentation) (r : Progress) (tables : Tables) (input new : List (List ℕ)) (fed from : ℕ) (o : Offered) (v : SegmentView) → segment_view (snapshot last r tables input) input fed (Some o) ≡ v → IsStreamWithOffer (snapshot last r tables input) input fed o → from ≡ 0 → new ≡ pieces_without_first o.progress.from input → IfSome v.offered (λ bytes. new ≡ last_bytes (length (drop from (concat new))) (pieces_with bytes v.pieces))
 accept-pieces last r tables input new fed from o v e h z g =
     let f : new ≡ last_bytes (length (drop from (concat new))) (pieces_with (pushed_last o.len input) (pieces_without_last o.len input)) = dropped o.progress.from input new h.found.consistent.inside g ∙ ap (λ n. last_bytes (length (drop n (concat new))) input) (sym z) ∙ ap (last_bytes (length (drop from (concat new)))) h.is_pushed in
     subst (λ (v : SegmentView). IfSome v.offered (λ bytes. new ≡ last_bytes (length (drop from (concat new))) (pieces_with bytes v.pieces))) e f
@@ -321,7 +324,7 @@ accept-pieces last r tables input new fed from o v e h z g =
 
 -- where there is no next item, what is kept stays
 after-none : (items : List SegmentItem) (s : WalkState) (m : Move WalkState SegmentItem) → segments.move s ≡ m → IsRested segments m → first_by items m ≡ None → after_by segments s items ≡ record { items = items; state = s }
-after-none [] s Stop e h q = ap (run_after segments s) e
+after-none [] s Stop e h q = ap (lookahead_after segments s) e
 after-none [] s (Pass t) e h q = absurd h
 after-none [] s (Give item t) e h q = cc
 after-none (x ∷ items) s m e h q = cc
@@ -333,7 +336,7 @@ dry-kept kept want r q = after-none kept.items kept.state (segments.move kept.st
 pub dry-pieces : (old new : List (List ℕ)) → HasNoEmptyPiece old → concat new ≡ concat old → new ≡ last_bytes (length (concat new)) old → new ≡ old
 dry-pieces old new h e p = p ∙ ap (λ (b : List ℕ). last_bytes (length b) old) e ∙ sym (all-kept old h)
 
-pub next-holds : {E : Type 0} (result : Result SegmentNext E) (last new_last : Option Presentation) (r new_r : Progress) (tables new_tables : Tables) (input new : List (List ℕ)) (fed : ℕ) → IsStreamAtRest last (with_tables r tables) input fed → OnOk result (IsWaitingForBytes new_last new_r new_tables (concat new)) → OnOk result (IsEmptied new_r (concat new)) → IsLast new_last → OnOk result (new_r.position.offset + length (concat new) ≤ r.position.offset + length (concat input)) → OnOk result (new ≡ last_bytes (length (concat new)) input) → OnErr result (new_last ≡ last) → OnErr result (new_r ≡ r) → OnErr result (new_tables ≡ tables) → OnErr result (new ≡ input) → IsStreamAtRest new_last (with_tables new_r new_tables) new fed
+pub next-holds : {E : Type 0} (result : Result (Next StreamFault) E) (last new_last : Option Presentation) (r new_r : Progress) (tables new_tables : Tables) (input new : List (List ℕ)) (fed : ℕ) → IsStreamAtRest (snapshot last r tables input) input fed → OnOk result (IsWaitingForBytes (snapshot new_last new_r new_tables new)) → OnOk result (IsEmptied new_r (concat new)) → IsLast new_last → OnOk result (new_r.position.offset + length (concat new) ≤ r.position.offset + length (concat input)) → OnOk result (new ≡ last_bytes (length (concat new)) input) → OnErr result (new_last ≡ last) → OnErr result (new_r ≡ r) → OnErr result (new_tables ≡ tables) → OnErr result (new ≡ input) → IsStreamAtRest (snapshot new_last new_r new_tables new) new fed
 next-holds (Ok x) last new_last r new_r tables new_tables input new fed h rest emptied readable total pieces e_last e_r e_tables e_input = record {
   rest = rest;
   emptied = emptied;
@@ -344,27 +347,26 @@ next-holds (Ok x) last new_last r new_r tables new_tables input new fed h rest e
 }
 next-holds (Err e) last new_last r new_r tables new_tables input new fed h rest emptied readable total pieces e_last e_r e_tables e_input = rw (e_last, e_r, e_tables, e_input) h
 
-pub next-item : {E : Type 0} (result : Result SegmentNext E) (last : Option Presentation) (r : Progress) (tables : Tables) (input : List (List ℕ)) (fed : ℕ) (v : SegmentView) → segment_view last (with_tables r tables) input fed None ≡ v → (before : Option Presentation) (b : List ℕ) (n : ℕ) → Stands v.kept before b n → IfOk result (λ x. seen x ≡ first_item segments (kept_of last r tables (concat input))) → IfOk result (λ x. seen x ≡ slice_get (Items before b) n)
-next-item (Ok x) last r tables input fed v e before b n st g = g ∙ ap (λ (w : SegmentView). first_item segments w.kept) e ∙ stands-item v.kept before b n st
-next-item (Err x) last r tables input fed v e before b n st g = tt
+pub next-item : {E : Type 0} (result : Result (Next StreamFault) E) (last : Option Presentation) (r : Progress) (tables : Tables) (input : List (List ℕ)) (fed : ℕ) (v : SegmentView) → segment_view (snapshot last r tables input) input fed None ≡ v → IfOk result (λ x. seen x ≡ first_item segments (kept_of (snapshot last r tables input))) → ForEachReading v.kept (λ reading. IfOk result (λ x. seen x ≡ slice_get (items_of_string reading.before reading.whole) reading.taken))
+next-item (Ok x) last r tables input fed v e g reading st = g ∙ ap (λ (w : SegmentView). first_item segments w.kept) e ∙ stands-item v.kept reading st
+next-item (Err x) last r tables input fed v e g reading st = tt
 
-pub next-stands : {E : Type 0} (result : Result SegmentNext E) (last new_last : Option Presentation) (r new_r : Progress) (tables new_tables : Tables) (input new : List (List ℕ)) (fed : ℕ) (v : SegmentView) → segment_view last (with_tables r tables) input fed None ≡ v → (before : Option Presentation) (b : List ℕ) (n : ℕ) → Stands v.kept before b n → IfOk result (λ x. seen x ≡ first_item segments (kept_of last r tables (concat input))) → OnOk result (kept_of new_last new_r new_tables (concat new) ≡ after_first segments (kept_of last r tables (concat input))) → IfOk result (λ x. Stands (kept_of new_last new_r new_tables (concat new)) before b (count_after n (seen x)))
-next-stands (Ok x) last new_last r new_r tables new_tables input new fed v e before b n st g k =
+pub next-stands : {E : Type 0} (result : Result (Next StreamFault) E) (last new_last : Option Presentation) (r new_r : Progress) (tables new_tables : Tables) (input new : List (List ℕ)) (fed : ℕ) (v : SegmentView) → segment_view (snapshot last r tables input) input fed None ≡ v → IfOk result (λ x. seen x ≡ first_item segments (kept_of (snapshot last r tables input))) → OnOk result (kept_of (snapshot new_last new_r new_tables new) ≡ after_first segments (kept_of (snapshot last r tables input))) → IfOk result (λ x. StandsAfter v.kept (after_answer (seen x)) (kept_of (snapshot new_last new_r new_tables new)))
+next-stands (Ok x) last new_last r new_r tables new_tables input new fed v e g k = λ reading st.
     let f : seen x ≡ first_item segments v.kept = g ∙ ap (λ (w : SegmentView). first_item segments w.kept) e in
-    let q : kept_of new_last new_r new_tables (concat new) ≡ after_first segments v.kept = k ∙ ap (λ (w : SegmentView). after_first segments w.kept) e in
-    let a : Stands (after_first segments v.kept) before b (count_after n (first_item segments v.kept)) = stands-after segments is_walk v.kept (start before b) n st in
-    subst (λ w. Stands w before b (count_after n (seen x))) (sym q) (subst (λ o. Stands (after_first segments v.kept) before b (count_after n o)) (sym f) a)
-next-stands (Err x) last new_last r new_r tables new_tables input new fed v e before b n st g k = tt
+    let q : kept_of (snapshot new_last new_r new_tables new) ≡ after_first segments v.kept = k ∙ ap (λ (w : SegmentView). after_first segments w.kept) e in
+    let a : Stands (after_first segments v.kept) (after_answer (first_item segments v.kept) reading) = stands-after segments is_walk v.kept (start reading.before reading.whole) reading.taken st in
+    subst (λ w. Stands w (after_answer (seen x) reading)) (sym q) (subst (λ o. Stands (after_first segments v.kept) (after_answer o reading)) (sym f) a)
+next-stands (Err x) last new_last r new_r tables new_tables input new fed v e g k = tt
 
-pub next-dry : {E : Type 0} (result : Result SegmentNext E) (last new_last : Option Presentation) (r new_r : Progress) (tables new_tables : Tables) (input new : List (List ℕ)) (fed : ℕ) (v : SegmentView) → IsStreamAtRest last (with_tables r tables) input fed → segment_view last (with_tables r tables) input fed None ≡ v → IfOk result (λ x. seen x ≡ first_item segments (kept_of last r tables (concat input))) → OnOk result (kept_of new_last new_r new_tables (concat new) ≡ after_first segments (kept_of last r tables (concat input))) → OnOk result (IsWaitingForBytes new_last new_r new_tables (concat new)) → OnOk result (new ≡ last_bytes (length (concat new)) input) → IfOk result (λ x. seen x ≡ None → segment_view new_last (with_tables new_r new_tables) new fed None ≡ v)
+pub next-dry : {E : Type 0} (result : Result (Next StreamFault) E) (last new_last : Option Presentation) (r new_r : Progress) (tables new_tables : Tables) (input new : List (List ℕ)) (fed : ℕ) (v : SegmentView) → IsStreamAtRest (snapshot last r tables input) input fed → segment_view (snapshot last r tables input) input fed None ≡ v → IfOk result (λ x. seen x ≡ first_item segments (kept_of (snapshot last r tables input))) → OnOk result (kept_of (snapshot new_last new_r new_tables new) ≡ after_first segments (kept_of (snapshot last r tables input))) → OnOk result (IsWaitingForBytes (snapshot new_last new_r new_tables new)) → OnOk result (new ≡ last_bytes (length (concat new)) input) → IfOk result (λ x. seen x ≡ None → segment_view (snapshot new_last new_r new_tables new) new fed None ≡ v)
 next-dry (Err x) last new_last r new_r tables new_tables input new fed v h e g k rest pieces = tt
 next-dry (Ok x) last new_last r new_r tables new_tables input new fed v h e g k rest pieces = λ z.
-    let old_kept : Lookahead WalkState SegmentItem = kept_of last r tables (concat input) in
-    let new_kept : Lookahead WalkState SegmentItem = kept_of new_last new_r new_tables (concat new) in
+    let old_kept : Lookahead WalkState SegmentItem = kept_of (snapshot last r tables input) in
+    let new_kept : Lookahead WalkState SegmentItem = kept_of (snapshot new_last new_r new_tables new) in
     let y : drop r.from (concat input) ≡ concat input = ap (λ i. drop i (concat input)) h.rest.front in
     let y' : drop new_r.from (concat new) ≡ concat new = ap (λ i. drop i (concat new)) rest.front in
-    let w : Rests old_kept.state r.want = subst (λ bytes. Rests (state_of last r.position tables bytes) r.want) (sym y) h.rest.rests in
-    let same : new_kept ≡ old_kept = k ∙ dry-kept old_kept r.want w (sym g ∙ z) in
+    let same : new_kept ≡ old_kept = k ∙ dry-kept old_kept r.want h.rest.rests (sym g ∙ z) in
     let bytes : concat new ≡ concat input = sym y' ∙ ap (λ (q : Lookahead WalkState SegmentItem). q.state.rest) same ∙ y in
     let p : new ≡ input = dry-pieces input new h.none_empty bytes pieces in
     let view : Lookahead WalkState SegmentItem → List (List ℕ) → SegmentView = λ q ps. record { kept = q; pieces = ps; fed = fed; offered = None } in

@@ -1,79 +1,113 @@
 -- What the values of the code are to the walk: a device of the proof.
-use Rattle.std.specs.Prelude.{◌≡◌, ℕ, zero, suc, ◌<◌, ◌≤◌, ◌^◌, ◌+◌, ◌-◌, All, List, [], ◌∷◌, ◌++◌, take, drop, length, slice_get, slice_index_or, Option, Some, None, Ok, Err, Bool, true, false, Vec}
+use Rattle.std.specs.Prelude.{◌≡◌, ℕ, zero, suc, ◌<◌, ◌≤◌, ◌^◌, ◌+◌, ◌-◌, All, List, [], ◌∷◌, ◌++◌, take, drop, length, slice_get, slice_index_or, Option, Some, None, is_some, Ok, Err, Bool, true, false, Vec}
 use Rattle.std.specs.Global.{Global}
 use Rattle.mse_base.specs.declared.track.Presentation.{Presentation}
 use Rattle.mse_base.specs.Presentation.{IsPresentation}
 use Rattle.bmff_fragment.specs.declared.slot.Slot.{Slot}
 use Rattle.bmff_fragment.specs.declared.fault.MoofFault.{MoofFault}
 use Rattle.bmff_fragment.specs.Plans.{plan_of}
-use Rattle.parser_loop.specs.Walk.{Move, Stop, Give, Lookahead, run, with_items, stay_at, fed}
+use Rattle.parser_loop.specs.Walk.{Move, Stop, Give, Lookahead, lookahead_from, with_items, stay_at, kept_with}
 use Rattle.mse_base.specs.declared.frame.Phase.TheVariants.{Waiting}
+use Rattle.segment_walk.specs.declared.kinds.BoxStep.{BoxStep}
 use Rattle.segment_walk.specs.declared.kinds.DataRange.{DataRange}
 use Rattle.segment_walk.specs.declared.kinds.Fragment.{Fragment}
 use Rattle.segment_walk.specs.declared.kinds.ParserMode.{ParserMode}
 use Rattle.segment_walk.specs.declared.kinds.ParserMode.TheVariants as code
 use Rattle.segment_walk.specs.declared.kinds.WalkPlace.TheVariants.{AtBox}
 use Rattle.segment_walk.specs.Tables.{SegmentItem}
-use Rattle.parser_loop.specs.Items.{InitItem, FrameItem, SegmentEnd, FaultItem}
-use Rattle.segment_walk.specs.Moves.{WalkState, frame_of, is_ready, place_offset, state_past, fail, segments}
+use Rattle.parser_loop.specs.Items.{InitItem, SegmentEnd}
+use Rattle.segment_walk.specs.Moves.{WalkState, Between, step_of, frame_of, is_ready, place_offset, state_past, fail, segments}
 use Rattle.segment_walk.specs.Ranges.{AreRangesAscending, mode_of}
 use Rattle.input_chunks.specs.Pieces.{pieces_without_first}
 use Rattle.std.specs.List.{concat, prefix_len}
-use Rattle.segment_stream.specs.declared.progress.ParserPosition.{ParserPosition}
 use Rattle.segment_stream.specs.declared.progress.Progress.{Progress}
 use Rattle.segment_stream.specs.declared.progress.Tables.{Tables}
-use Rattle.segment_stream.specs.declared.progress.ProgressWithTables.{ProgressWithTables}
 use Rattle.segment_stream.specs.declared.progress.MoveResult.{MoveResult}
 use Rattle.segment_stream.specs.declared.progress.MoveResult.TheVariants as move_result
 use Rattle.segment_stream.specs.declared.progress.PendingItem.{PendingItem}
 use Rattle.segment_stream.specs.declared.progress.PendingItem.TheVariants as pending
-use Rattle.segment_stream.specs.declared.next.SegmentNext.{SegmentNext}
-use Rattle.segment_stream.specs.declared.next.SegmentNext.TheVariants as next
 
--- what an answer of the stream shows of the items
-abbrev pub seen : SegmentNext → Option SegmentItem
-seen (next.Init p offset) = Some (InitItem p offset)
-seen (next.Frame frame offset) = Some (FrameItem frame offset)
-seen next.SegmentEnd = Some SegmentEnd
-seen (next.Fault f offset) = Some (FaultItem f offset)
-seen next.Dry = None
+-- A snapshot of the parser: the presentation that was read last, where the parser is, its tables, and the bytes of its
+-- input.
+pub record ParserSnapshot : Type 0 where
+  pub last : Option Presentation
+  pub progress : Progress
+  pub tables : Tables
+  pub bytes : List ℕ
 
-abbrev pub state_of : Option Presentation → ParserPosition → Tables → List ℕ → WalkState
-state_of last position tables rest = record {
+-- with these pieces of input
+abbrev pub snapshot : Option Presentation → Progress → Tables → List (List ℕ) → ParserSnapshot
+snapshot last progress tables input = record {
   last = last;
-  mode = mode_of tables.slots.items tables.known.items position.mode;
-  offset = position.offset;
-  rest = rest;
-  failed = position.failed;
+  progress = progress;
+  tables = tables;
+  bytes = concat input;
 }
 
-abbrev pub frame_at : List ℕ → ℕ → Option Slot → List SegmentItem
-frame_at rest offset None = []
-frame_at rest offset (Some slot) = frame_of rest offset slot ∷ []
+-- the bytes from the place of the parser on
+abbrev pub bytes_left : ParserSnapshot → List ℕ
+bytes_left s = drop s.progress.from s.bytes
+
+-- how long the string is, of which the input is the end
+abbrev pub string_len : ParserSnapshot → ℕ
+string_len s = s.progress.position.offset + (length s.bytes - s.progress.from)
+
+-- the state of the walk at the place of the parser
+abbrev pub state_of : ParserSnapshot → WalkState
+state_of s = record {
+  last = s.last;
+  mode = mode_of s.tables.slots.items s.tables.known.items s.progress.position.mode;
+  offset = s.progress.position.offset;
+  rest = bytes_left s;
+  failed = s.progress.position.failed;
+}
+
+-- what the parser does next
+abbrev pub next_step_of : ParserSnapshot → BoxStep
+next_step_of s = step_of (is_some s.last) (state_of s).rest (state_of s).mode
+
+-- the state behind a segment that ends `len` bytes behind this offset, where `bytes` are the bytes from the offset on
+abbrev pub state_behind : Option Presentation → ℕ → ℕ → List ℕ → WalkState
+state_behind last offset len bytes = record {
+  last = last;
+  mode = Between Waiting;
+  offset = offset + len;
+  rest = drop len bytes;
+  failed = false;
+}
+
+abbrev pub frame_items : List ℕ → ℕ → Option Slot → List SegmentItem
+frame_items rest offset None = []
+frame_items rest offset (Some slot) = frame_of rest offset slot ∷ []
 
 -- the frames of n slots from i on
 abbrev pub frames : List ℕ → ℕ → List Slot → ℕ → ℕ → List SegmentItem
 frames rest offset slots i zero = []
 frames rest offset slots i (suc n) =
-    frame_at rest offset (slice_get slots i) ++ frames rest offset slots (i + 1) n
+    frame_items rest offset (slice_get slots i) ++ frames rest offset slots (i + 1) n
 
 -- what is kept: the frames that are ready, and the state behind them
-abbrev pub kept_of : Option Presentation → Progress → Tables → List ℕ
-    → Lookahead WalkState SegmentItem
-kept_of last r tables bytes = record {
-  items = frames (drop r.from bytes) r.position.offset tables.slots.items r.first r.ready;
-  state = state_of last r.position tables (drop r.from bytes);
+abbrev pub kept_of : ParserSnapshot → Lookahead WalkState SegmentItem
+kept_of s = record {
+  items =
+      frames (bytes_left s) s.progress.position.offset s.tables.slots.items s.progress.first
+      s.progress.ready;
+  state = state_of s;
 }
 
--- what is kept once the walk was run on
-abbrev pub kept_run_on : Lookahead WalkState SegmentItem → Lookahead WalkState SegmentItem
-kept_run_on kept = with_items kept.items (run segments kept.state)
+-- what is kept once all was taken ahead that can be
+abbrev pub kept_with_lookahead : Lookahead WalkState SegmentItem → Lookahead WalkState SegmentItem
+kept_with_lookahead kept = with_items kept.items (lookahead_from segments kept.state)
 
 -- the walk stays there until there are `want` bytes
 pub record Rests (s : WalkState) (want : ℕ) : Type 0 where
-  pub still : run segments s ≡ stay_at s
+  pub still : lookahead_from segments s ≡ stay_at s
   pub waits : (c : List ℕ) → length s.rest + length c < want
-      → run segments (segments.more s c) ≡ stay_at (segments.more s c)
+      → lookahead_from segments (segments.more s c) ≡ stay_at (segments.more s c)
+
+-- it stays until there are as many bytes as the parser wants
+abbrev pub IsAtRest : ParserSnapshot → Type 0
+IsAtRest s = Rests (state_of s) s.progress.want
 
 -- the presentation that was read last, if there is one
 abbrev pub IsLast : Option Presentation → Type 0
@@ -85,7 +119,7 @@ abbrev pub IsOrdered : Slot → Type 0
 IsOrdered slot = slot.start ≤ slot.end
 
 -- what is counted of an open movie fragment is in its tables
-pub record IsCounted (f : Fragment) (tables : Tables) (first ready : ℕ) : Type 0 where
+pub record IsFragmentCounted (f : Fragment) (tables : Tables) (first ready : ℕ) : Type 0 where
   pub taken : first + ready ≡ f.taken
   pub slots_there : f.taken ≤ length tables.slots.items
   pub few : length tables.slots.items ≤ 2 ^ 20
@@ -101,7 +135,7 @@ pub record IsCounted (f : Fragment) (tables : Tables) (first ready : ℕ) : Type
 abbrev pub IsCountedIn : ParserMode → Tables → ℕ → ℕ → Type 0
 IsCountedIn (code.Between phase) tables first ready = ready ≡ 0
 IsCountedIn (code.Skipping to left) tables first ready = ready ≡ 0
-IsCountedIn (code.Within f) tables first ready = IsCounted f tables first ready
+IsCountedIn (code.Within f) tables first ready = IsFragmentCounted f tables first ready
 
 -- the slots that are ready end within n bytes
 abbrev pub IsSlotEndingBy : ℕ → Option Slot → Type 0
@@ -134,37 +168,32 @@ IsUnchangedSince (code.Within f) (code.Within g) tables new_tables =
 abbrev pub AreTablesKept : ParserMode → Tables → Tables → Type 0
 AreTablesKept mode tables new_tables = IsUnchangedSince mode mode tables new_tables
 
-abbrev pub with_tables : Progress → Tables → ProgressWithTables
-with_tables r tables = record { progress = r; tables = tables }
-
--- from one place to a later one
-pub record GoesOn (last : Option Presentation) (before after : ProgressWithTables)
-    (bytes : List ℕ) : Type 0 where
-  pub same : kept_run_on (kept_of last after.progress after.tables bytes)
-      ≡ kept_run_on (kept_of last before.progress before.tables bytes)
-  pub consistent : IsConsistent after.progress after.tables bytes
+-- from one place to a later one, with one presentation and one input
+pub record GoesOn (before after : ParserSnapshot) : Type 0 where
+  pub same : kept_with_lookahead (kept_of after) ≡ kept_with_lookahead (kept_of before)
+  pub consistent : IsConsistent after.progress after.tables after.bytes
   pub since :
       IsUnchangedSince before.progress.position.mode after.progress.position.mode before.tables
       after.tables
   pub same_failed : after.progress.position.failed ≡ before.progress.position.failed
-  pub total : after.progress.position.offset + (length bytes - after.progress.from)
-      ≡ before.progress.position.offset + (length bytes - before.progress.from)
-  pub size :
-      segments.size
-      (state_of last after.progress.position after.tables (drop after.progress.from bytes))
-      < segments.size
-      (state_of last before.progress.position before.tables (drop before.progress.from bytes))
+  pub total : string_len after ≡ string_len before
+  pub size : segments.size (state_of after) < segments.size (state_of before)
 
--- of a move from a place, with the tables behind it
-abbrev pub IsMoveResult : Option Presentation → ProgressWithTables → Tables → List ℕ → MoveResult
-    → Type 0
-IsMoveResult last before new_tables bytes (move_result.Rest want) =
-    Rests
-    (state_of last before.progress.position before.tables (drop before.progress.from bytes))
-    want
-    × (new_tables ≡ before.tables)
-IsMoveResult last before new_tables bytes (move_result.Go s) =
-    GoesOn last before (with_tables s new_tables) bytes
+-- the parser has come to another place, with the tables there
+abbrev pub moved_to : Progress → Tables → ParserSnapshot → ParserSnapshot
+moved_to progress tables s = record {
+  last = s.last;
+  progress = progress;
+  tables = tables;
+  bytes = s.bytes;
+}
+
+-- of a move, with the tables behind it
+abbrev pub IsMoveResult : ParserSnapshot → Tables → MoveResult → Type 0
+IsMoveResult before new_tables (move_result.Rest want) =
+    Rests (state_of before) want × (new_tables ≡ before.tables)
+IsMoveResult before new_tables (move_result.Go progress) =
+    GoesOn before (moved_to progress new_tables before)
 
 abbrev pub IsActive : ParserMode → Type 0
 IsActive (code.Between phase) = Unit {0}
@@ -204,23 +233,18 @@ with_taken r f n =
     record (in_mode r (code.Within (record f { taken = f.taken + n }))) { ready = r.ready + n }
 
 -- a place that rests, with nothing of the input before it
-pub record IsWaitingForBytes (last : Option Presentation) (r : Progress) (tables : Tables)
-    (bytes : List ℕ) : Type 0 where
-  pub front : r.from ≡ 0
-  pub consistent : IsConsistent r tables bytes
-  pub rests : Rests (state_of last r.position tables bytes) r.want
+pub record IsWaitingForBytes (s : ParserSnapshot) : Type 0 where
+  pub front : s.progress.from ≡ 0
+  pub consistent : IsConsistent s.progress s.tables s.bytes
+  pub rests : IsAtRest s
 
--- what is found when `more` bytes come, of which `bytes` is the whole input then
-pub record IsFoundWith (last : Option Presentation) (kept : Lookahead WalkState SegmentItem)
-    (found : ProgressWithTables) (bytes more : List ℕ) : Type 0 where
-  pub same : kept_of last found.progress found.tables bytes ≡ fed segments kept more
-  pub consistent : IsConsistent found.progress found.tables bytes
-  pub rests :
-      Rests
-      (state_of last found.progress.position found.tables (drop found.progress.from bytes))
-      found.progress.want
-  pub total : found.progress.position.offset + (length bytes - found.progress.from)
-      ≤ kept.state.offset + length kept.state.rest + length more
+-- what is found when `more` bytes come
+pub record IsFoundWith (before found : ParserSnapshot) (more : List ℕ) : Type 0 where
+  pub same : kept_of found ≡ kept_with segments (kept_of before) more
+  pub consistent : IsConsistent found.progress found.tables found.bytes
+  pub rests : IsAtRest found
+  pub total : string_len found
+      ≤ before.progress.position.offset + length (bytes_left before) + length more
 
 -- the move that gives an item which is no frame
 abbrev pub move_of_pending : WalkState → PendingItem → Move WalkState SegmentItem
@@ -228,6 +252,10 @@ move_of_pending s pending.Dry = Stop
 move_of_pending s (pending.Init p len) = Give (InitItem p s.offset) (state_past s (Some p) len)
 move_of_pending s (pending.End end) = Give SegmentEnd (state_past s s.last end)
 move_of_pending s (pending.Fault f at) = fail s f at
+
+-- this item, which is no frame, stands next
+abbrev pub IsPendingItem : ParserSnapshot → PendingItem → Type 0
+IsPendingItem s item = segments.move (state_of s) ≡ move_of_pending (state_of s) item
 
 -- its bytes are there
 abbrev pub HasPendingBytes : ℕ → PendingItem → Type 0

@@ -1,16 +1,15 @@
 -- What contracts see of a stream.
 use Rattle.std.specs.Prelude.{◌≡◌, ℕ, ◌+◌, ◌<◌, ◌≤◌, ◌^◌, List, drop, length, Option, Some, None}
 use Rattle.std.specs.List.{concat}
-use Rattle.mse_base.specs.declared.track.Presentation.{Presentation}
 use Rattle.input_chunks.specs.Pieces.{pieces_with, pieces_without_last, HasNoEmptyPiece}
+use Rattle.parser_loop.specs.StringReadings.{StringReading}
 use Rattle.parser_loop.specs.Walk.{Lookahead}
 use Rattle.parser_loop.specs.Walk as walk
 use Rattle.segment_walk.specs.Moves.{WalkState, segments}
 use Rattle.segment_walk.specs.Tables.{SegmentItem}
 use Rattle.segment_walk.specs.Strings.{start}
-use Rattle.segment_stream.specs.declared.progress.ProgressWithTables.{ProgressWithTables}
 use Rattle.segment_stream.specs.declared.stream.Offered.{Offered}
-use Rattle.segment_stream.specs.Kept.{IsWaitingForBytes, IsEmptied, IsFoundWith, IsLast, kept_of, with_tables}
+use Rattle.segment_stream.specs.Kept.{IsWaitingForBytes, IsEmptied, IsFoundWith, IsLast, ParserSnapshot, kept_of, moved_to, snapshot}
 
 -- A stream: the coded frames that are ready and the state of the walk behind them, the pieces of its input, the
 -- length of the string since the last reset, and the bytes that are offered, if there are any.
@@ -20,10 +19,18 @@ pub record SegmentView : Type 0 where
   pub fed : ℕ
   pub offered : Option (List ℕ)
 
--- What is kept stands for the string `b`, read with the presentation `last` from before, of whose items n were given.
--- Many strings may belong to one stream.
-abbrev pub Stands : Lookahead WalkState SegmentItem → Option Presentation → List ℕ → ℕ → Type 0
-Stands kept last b n = walk.Stands segments kept (start last b) n
+-- What is kept stands for a reading of a string. Many readings may belong to one stream.
+abbrev pub Stands : Lookahead WalkState SegmentItem → StringReading → Type 0
+Stands kept r = walk.Stands segments kept (start r.before r.whole) r.taken
+
+-- for each reading that it stands for
+abbrev pub ForEachReading : Lookahead WalkState SegmentItem → (StringReading → Type 0) → Type 0
+ForEachReading kept p = (r : StringReading) → Stands kept r → p r
+
+-- what is kept then stands for each reading that this stood for, after a change of it
+abbrev pub StandsAfter : Lookahead WalkState SegmentItem → (StringReading → StringReading)
+    → Lookahead WalkState SegmentItem → Type 0
+StandsAfter old change new = ForEachReading old (λ r. Stands new (change r))
 
 -- ---- what the fields are to this
 
@@ -31,44 +38,48 @@ Stands kept last b n = walk.Stands segments kept (start last b) n
 abbrev pub pushed_last : ℕ → List (List ℕ) → List ℕ
 pushed_last n input = drop (length (concat (pieces_without_last n input))) (concat input)
 
-abbrev pub segment_view : Option Presentation → ProgressWithTables → List (List ℕ) → ℕ
-    → Option Offered → SegmentView
-segment_view last place input fed None = record {
-  kept = kept_of last place.progress place.tables (concat input);
+-- the parser where the input is made of these pieces
+abbrev pub with_input : List (List ℕ) → ParserSnapshot → ParserSnapshot
+with_input input s = snapshot s.last s.progress s.tables input
+
+-- `s` is the parser with the whole input
+abbrev pub segment_view : ParserSnapshot → List (List ℕ) → ℕ → Option Offered → SegmentView
+segment_view s input fed None = record {
+  kept = kept_of s;
   pieces = input;
   fed = fed;
   offered = None;
 }
-segment_view last place input fed (Some o) = record {
-  kept = kept_of last place.progress place.tables (concat (pieces_without_last o.len input));
+segment_view s input fed (Some o) = record {
+  kept = kept_of (with_input (pieces_without_last o.len input) s);
   pieces = pieces_without_last o.len input;
   fed = fed;
   offered = Some (pushed_last o.len input);
 }
 
 -- a place at rest in a string of `fed` bytes
-pub record IsStreamAtRest (last : Option Presentation) (place : ProgressWithTables)
-    (input : List (List ℕ)) (fed : ℕ) : Type 0 where
-  pub rest : IsWaitingForBytes last place.progress place.tables (concat input)
-  pub emptied : IsEmptied place.progress (concat input)
-  pub readable : IsLast last
+pub record IsStreamAtRest (s : ParserSnapshot) (input : List (List ℕ)) (fed : ℕ) : Type 0 where
+  pub rest : IsWaitingForBytes s
+  pub emptied : IsEmptied s.progress s.bytes
+  pub readable : IsLast s.last
   pub none_empty : HasNoEmptyPiece input
-  pub total : place.progress.position.offset + length (concat input) ≤ fed
+  pub total : s.progress.position.offset + length s.bytes ≤ fed
   pub few : fed < 2 ^ 62
 
 -- bytes are offered: they were pushed, and what is behind them was found
-pub record IsStreamWithOffer (last : Option Presentation) (place : ProgressWithTables)
-    (input : List (List ℕ)) (fed : ℕ) (o : Offered) : Type 0 where
-  pub before : IsStreamAtRest last place (pieces_without_last o.len input) fed
+pub record IsStreamWithOffer (s : ParserSnapshot) (input : List (List ℕ)) (fed : ℕ) (o : Offered)
+    : Type 0 where
+  pub before :
+      IsStreamAtRest (with_input (pieces_without_last o.len input) s)
+      (pieces_without_last o.len input) fed
   pub is_pushed : input ≡ pieces_with (pushed_last o.len input) (pieces_without_last o.len input)
   pub len : o.len ≡ length (pushed_last o.len input)
-  pub found : IsFoundWith last
-      (kept_of last place.progress place.tables (concat (pieces_without_last o.len input)))
-      (with_tables o.progress place.tables) (concat input) (pushed_last o.len input)
-  pub found_emptied : IsEmptied o.progress (drop o.progress.from (concat input))
+  pub found :
+      IsFoundWith (with_input (pieces_without_last o.len input) s)
+      (moved_to o.progress s.tables s) (pushed_last o.len input)
+  pub found_emptied : IsEmptied o.progress (drop o.progress.from s.bytes)
   pub room : fed + o.len < 2 ^ 62
 
-abbrev pub IsStream : Option Presentation → ProgressWithTables → List (List ℕ) → ℕ
-    → Option Offered → Type 0
-IsStream last place input fed None = IsStreamAtRest last place input fed
-IsStream last place input fed (Some o) = IsStreamWithOffer last place input fed o
+abbrev pub IsSegmentStream : ParserSnapshot → List (List ℕ) → ℕ → Option Offered → Type 0
+IsSegmentStream s input fed None = IsStreamAtRest s input fed
+IsSegmentStream s input fed (Some o) = IsStreamWithOffer s input fed o

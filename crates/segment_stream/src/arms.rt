@@ -1,14 +1,13 @@
-ghost use Rattle.std.specs.Prelude.{◌≡◌, ℕ, ◌-◌, drop, Option, Some, ◌+◌, ◌≤◌, ◌<◌, ◌^◌, List, length, false, true, IfOk, OnOk, OnErr};
+ghost use Rattle.std.specs.Prelude.{◌≡◌, ◌-◌, Option, Some, ◌+◌, ◌≤◌, ◌<◌, ◌^◌, length, false, true, IfOk, OnOk, OnErr};
 ghost use Rattle.std.specs.List.{concat};
 ghost use Rattle.mse_base.specs.Presentation.{IsPresentation};
 ghost use Rattle.mse_base.specs.declared.track.Presentation.{Presentation};
-ghost use Rattle.parser_loop.specs.Walk.{run, first_item, after_first};
+ghost use Rattle.parser_loop.specs.Walk.{lookahead_from, first_item, after_first};
 ghost use Rattle.input_chunks.specs.Pieces.{pieces_without_first, HasNoEmptyPiece};
-ghost use Rattle.segment_walk.specs.Moves.{segments, Between};
+ghost use Rattle.segment_walk.specs.Moves.{segments};
 ghost use Rattle.parser_loop.specs.Items.{FaultItem, InitItem, SegmentEnd};
-ghost use Rattle.mse_base.specs.declared.frame.Phase.TheVariants.{Waiting};
-ghost use Rattle.segment_stream.specs.Kept.{IsConsistent, IsWaitingForBytes, IsEmptied, HasPendingBytes, IsLast, Rests, kept_of, last_bytes, seen, state_of};
-ghost use Rattle.parser_loop.specs.Items.{latest_after_any};
+ghost use Rattle.segment_stream.specs.Kept.{IsAtRest, IsConsistent, IsWaitingForBytes, IsEmptied, IsLast, kept_of, last_bytes, snapshot, state_behind, string_len};
+ghost use Rattle.parser_loop.specs.Items.{latest_after_any, seen};
 
 use crate::moves::{NEVER, run_on};
 use crate::next::SegmentNext;
@@ -29,13 +28,13 @@ fn take_frame(
     requires ready { 0 < progress.old.ready }
     requires front { progress.old.from ≡ 0 }
     requires consistent { IsConsistent progress.old tables.now (concat input.now) }
-    ensures item { (last : Option Presentation) → IfOk result (λ x. seen x ≡ first_item segments
-        (kept_of last progress.old tables.now (concat input.now))) }
-    ensures ok { (last : Option Presentation) → OnOk result (kept_of last progress.new tables.now
-        (concat input.now) ≡ after_first segments (kept_of last progress.old tables.now (concat
-        input.now))) }
-    ensures last { (last : Option Presentation) → IfOk result (λ x. last ≡ latest_after_any last
-        (seen x)) }
+    ensures item { (last : Option Presentation) → IfOk result (λ x. seen x
+        ≡ first_item segments (kept_of (snapshot last progress.old tables.now input.now))) }
+    ensures ok { (last : Option Presentation) → OnOk result
+        (kept_of (snapshot last progress.new tables.now input.now)
+        ≡ after_first segments (kept_of (snapshot last progress.old tables.now input.now))) }
+    ensures last { (last : Option Presentation) → IfOk result (λ x.
+        last ≡ latest_after_any last (seen x)) }
     ensures progress { OnOk result (progress.new ≡ record {
       position = progress.old.position;
       from = progress.old.from;
@@ -62,19 +61,12 @@ fn leave_on(
     requires inside { len ≤ length (concat input.now) }
     requires readable { IsLast last.now }
     requires small { offset + length (concat input.now) < 2 ^ 62 }
-    ensures same { IfOk result (λ o. kept_of last.now o.progress o.tables (concat input.now) ≡ run
-        segments (record {
-          last = last.now;
-          mode = Between Waiting;
-          offset = offset + len;
-          rest = drop len (concat input.now);
-          failed = false;
-        })) }
+    ensures same { IfOk result (λ o. kept_of (snapshot last.now o.progress o.tables input.now)
+        ≡ lookahead_from segments (state_behind last.now offset len (concat input.now))) }
     ensures consistent { IfOk result (λ o. IsConsistent o.progress o.tables (concat input.now)) }
-    ensures rests { IfOk result (λ o. Rests (state_of last.now o.progress.position o.tables (drop
-        o.progress.from (concat input.now))) o.progress.want) }
-    ensures total { IfOk result (λ o. o.progress.position.offset + (length (concat input.now) -
-        o.progress.from) ≡ offset + length (concat input.now)) }
+    ensures waits { IfOk result (λ o. IsAtRest (snapshot last.now o.progress o.tables input.now)) }
+    ensures total { IfOk result (λ o. string_len (snapshot last.now o.progress o.tables input.now)
+        ≡ offset + length (concat input.now)) }
     ensures unfailed { IfOk result (λ o. o.progress.position.failed ≡ false) }
 {
     let mut tables = Tables {
@@ -105,13 +97,13 @@ fn enter(
     input: &mut Chunks,
 )
     requires { next_state.progress.from ≤ length (concat input.old) }
-    ensures rest { (last : Option Presentation) → IsConsistent next_state.progress next_state.tables
-        (concat input.old) → Rests (state_of last next_state.progress.position next_state.tables
-        (drop next_state.progress.from (concat input.old))) next_state.progress.want →
-        IsWaitingForBytes last
-        progress.new tables.new (concat input.new) }
-    ensures kept { (last : Option Presentation) → kept_of last progress.new tables.new (concat
-        input.new) ≡ kept_of last next_state.progress next_state.tables (concat input.old) }
+    ensures waits { (last : Option Presentation) →
+        IsConsistent next_state.progress next_state.tables (concat input.old) →
+        IsAtRest (snapshot last next_state.progress next_state.tables input.old) →
+        IsWaitingForBytes (snapshot last progress.new tables.new input.new) }
+    ensures kept { (last : Option Presentation) →
+        kept_of (snapshot last progress.new tables.new input.new)
+        ≡ kept_of (snapshot last next_state.progress next_state.tables input.old) }
     ensures position { progress.new.position ≡ next_state.progress.position }
     ensures pieces { input.new ≡ pieces_without_first next_state.progress.from input.old }
 {
@@ -132,24 +124,18 @@ fn init_on(
     requires inside { len ≤ length (concat input.old) }
     requires readable { IsPresentation presentation }
     requires small { progress.old.position.offset + length (concat input.old) < 2 ^ 62 }
-    ensures item { IfOk result (λ x. seen x ≡ Some (InitItem presentation
-        progress.old.position.offset)) }
+    ensures item { IfOk result (λ x.
+        seen x ≡ Some (InitItem presentation progress.old.position.offset)) }
     ensures last { OnOk result (last.new ≡ Some presentation) }
-    ensures kept { OnOk result (kept_of (Some presentation) progress.new tables.new (concat
-        input.new) ≡ run segments (record {
-          last = Some presentation;
-          mode = Between Waiting;
-          offset = progress.old.position.offset + len;
-          rest = drop len (concat
-              input.old);
-          failed = false;
-        })) }
-    ensures rest { OnOk result (IsWaitingForBytes (Some presentation) progress.new tables.new
-        (concat
-        input.new)) }
+    ensures kept { OnOk result
+        (kept_of (snapshot (Some presentation) progress.new tables.new input.new)
+        ≡ lookahead_from segments (state_behind (Some presentation) progress.old.position.offset len
+        (concat input.old))) }
+    ensures waits { OnOk result
+        (IsWaitingForBytes (snapshot (Some presentation) progress.new tables.new input.new)) }
     ensures unfailed { OnOk result (progress.new.position.failed ≡ false) }
-    ensures total { OnOk result (progress.new.position.offset + length (concat input.new) ≡
-        progress.old.position.offset + length (concat input.old)) }
+    ensures total { OnOk result (progress.new.position.offset + length (concat input.new)
+        ≡ progress.old.position.offset + length (concat input.old)) }
     ensures pieces { OnOk result (input.new ≡ last_bytes (length (concat input.new)) input.old) }
     ensures err_last { OnErr result (last.new ≡ last.old) }
     ensures err_progress { OnErr result (progress.new ≡ progress.old) }
@@ -177,20 +163,14 @@ fn end_on(
     requires readable { IsLast last.now }
     requires small { progress.old.position.offset + length (concat input.old) < 2 ^ 62 }
     ensures item { IfOk result (λ x. seen x ≡ Some SegmentEnd) }
-    ensures kept { OnOk result (kept_of last.now progress.new tables.new (concat input.new) ≡ run
-        segments (record {
-          last = last.now;
-          mode = Between Waiting;
-          offset = progress.old.position.offset + end;
-          rest = drop end (concat
-              input.old);
-          failed = false;
-        })) }
-    ensures rest { OnOk result (IsWaitingForBytes last.now progress.new tables.new
-        (concat input.new)) }
+    ensures kept { OnOk result (kept_of (snapshot last.now progress.new tables.new input.new)
+        ≡ lookahead_from segments (state_behind last.now progress.old.position.offset end
+        (concat input.old))) }
+    ensures waits { OnOk result
+        (IsWaitingForBytes (snapshot last.now progress.new tables.new input.new)) }
     ensures unfailed { OnOk result (progress.new.position.failed ≡ false) }
-    ensures total { OnOk result (progress.new.position.offset + length (concat input.new) ≡
-        progress.old.position.offset + length (concat input.old)) }
+    ensures total { OnOk result (progress.new.position.offset + length (concat input.new)
+        ≡ progress.old.position.offset + length (concat input.old)) }
     ensures pieces { OnOk result (input.new ≡ last_bytes (length (concat input.new)) input.old) }
     ensures err_progress { OnErr result (progress.new ≡ progress.old) }
     ensures err_tables { OnErr result (tables.new ≡ tables.old) }
@@ -235,21 +215,21 @@ pub(crate) fn next_on(
     tables: &mut Tables,
     input: &mut Chunks,
 ) -> Result<SegmentNext, OutOfMemory>
-    requires rest { IsWaitingForBytes last.old progress.old tables.old (concat input.old) }
+    requires waits { IsWaitingForBytes (snapshot last.old progress.old tables.old input.old) }
     requires emptied { IsEmptied progress.old (concat input.old) }
     requires readable { IsLast last.old }
     requires none_empty { HasNoEmptyPiece input.old }
-    ensures item { IfOk result (λ x. seen x ≡ first_item segments (kept_of last.old progress.old
-        tables.old (concat input.old))) }
-    ensures kept { OnOk result (kept_of last.new progress.new tables.new (concat input.new) ≡
-        after_first segments (kept_of last.old progress.old tables.old (concat input.old))) }
+    ensures item { IfOk result (λ x. seen x
+        ≡ first_item segments (kept_of (snapshot last.old progress.old tables.old input.old))) }
+    ensures kept { OnOk result (kept_of (snapshot last.new progress.new tables.new input.new)
+        ≡ after_first segments (kept_of (snapshot last.old progress.old tables.old input.old))) }
     ensures last { IfOk result (λ x. last.new ≡ latest_after_any last.old (seen x)) }
     ensures readable { IsLast last.new }
-    ensures rest { OnOk result (IsWaitingForBytes last.new progress.new tables.new
-        (concat input.new)) }
+    ensures waits { OnOk result
+        (IsWaitingForBytes (snapshot last.new progress.new tables.new input.new)) }
     ensures emptied { OnOk result (IsEmptied progress.new (concat input.new)) }
-    ensures total { OnOk result (progress.new.position.offset + length (concat input.new) ≤
-        progress.old.position.offset + length (concat input.old)) }
+    ensures total { OnOk result (progress.new.position.offset + length (concat input.new)
+        ≤ progress.old.position.offset + length (concat input.old)) }
     ensures pieces { OnOk result (input.new ≡ last_bytes (length (concat input.new)) input.old) }
     ensures err_last { OnErr result (last.new ≡ last.old) }
     ensures err_progress { OnErr result (progress.new ≡ progress.old) }

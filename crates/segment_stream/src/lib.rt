@@ -3,7 +3,7 @@
 //! parser loop).
 //!
 //! It stands on segment_walk, whose definitions read a whole string at once, and keeps its bytes in
-//! input_chunks. Its main contract is that of [`Stream`]: for every string that the stream stands for, `next`
+//! input_chunks. Its main contract is that of [`Stream`]: for every reading of a string that it stands for, `next`
 //! gives the next item of the whole string, whatever pieces it came in, and `offer` with `decline` leaves all.
 #![tactic(auto)]
 

@@ -1,10 +1,9 @@
-ghost use Rattle.std.specs.Prelude.{◌≡◌, ℕ, ◌+◌, ◌-◌, ◌≤◌, ◌<◌, ◌^◌, List, All, length, take, drop, is_some, Option, false, IfOk, IfSome, OnErr};
+ghost use Rattle.std.specs.Prelude.{◌≡◌, ◌+◌, ◌-◌, ◌≤◌, ◌<◌, ◌^◌, All, length, take, drop, Option, false, IfOk, IfSome, OnErr};
 ghost use Rattle.std.specs.List.{concat};
 ghost use Rattle.mse_base.specs.declared.track.Presentation.{Presentation};
-ghost use Rattle.segment_walk.specs.Moves.{step_of, segments};
-ghost use Rattle.segment_walk.specs.Ranges.{mode_of, SeesAscending};
+ghost use Rattle.segment_walk.specs.Ranges.{HasAscendingRanges};
 ghost use Rattle.segment_stream.specs.declared.progress.Tables.{Tables};
-ghost use Rattle.segment_stream.specs.Kept.{kept_of, kept_run_on, IsConsistent, IsCounted, IsActive, IsLast, IsMoveResult, IsPlan, AreTablesKept, IsOrdered, Rests, IsUnchangedSince, fragment_in, ready_behind, state_of, in_mode, with_tables, with_taken};
+ghost use Rattle.segment_stream.specs.Kept.{kept_of, kept_with_lookahead, IsAtRest, IsConsistent, IsFragmentCounted, IsActive, IsLast, IsMoveResult, IsPlan, AreTablesKept, IsOrdered, IsUnchangedSince, fragment_in, next_step_of, ready_behind, in_mode, snapshot, string_len, with_taken};
 
 use crate::progress::{MoveResult, ParserPosition, Progress, Tables};
 use bmff_fragment::{MoofError, Slot, read_moof};
@@ -23,8 +22,8 @@ fn pass_over(at: Progress, to: Phase, len_left: u64, input: &Chunks) -> MoveResu
     requires small { at.position.offset + (length (concat input.now) - at.from) < 2 ^ 62 }
     requires skipping { at.position.mode ≡ ParserMode.Skipping to len_left }
     requires unfailed { at.position.failed ≡ false }
-    ensures { (last : Option Presentation) (tables : Tables) → IsMoveResult last (with_tables at
-        tables) tables (concat input.now) result }
+    ensures { (last : Option Presentation) (tables : Tables) →
+        IsMoveResult (snapshot last at tables input.now) tables result }
 {
     let there = (input.len() - at.from) as u64;
     if there == 0 && len_left > 0 {
@@ -114,9 +113,8 @@ pub(crate) fn next_step(
     input: &Chunks,
 ) -> BoxStep
     requires inside { at.from ≤ length (concat input.now) }
-    requires ascending { SeesAscending at.position.mode tables.now.known.items }
-    ensures { result ≡ step_of (is_some last.now) (drop at.from (concat input.now)) (mode_of
-        tables.now.slots.items tables.now.known.items at.position.mode) }
+    requires ascending { HasAscendingRanges at.position.mode tables.now.known.items }
+    ensures { result ≡ next_step_of (snapshot last.now at tables.now input.now) }
 {
     step(
         last.is_some(),
@@ -176,7 +174,7 @@ fn before_box(at: Progress, fragment: Fragment, place: u64) -> Progress
 /// Behind the frame of the next slot, and those of the slots behind it that are ready too.
 fn behind_frames(at: Progress, fragment: Fragment, tables: &Tables, input: &Chunks) -> Progress
     requires inside { at.from ≤ length (concat input.now) }
-    requires counted { IsCounted fragment tables.now at.first at.ready }
+    requires counted { IsFragmentCounted fragment tables.now at.first at.ready }
     requires there { fragment.taken < length tables.now.slots.items }
     ensures { result ≡ with_taken at fragment
         (1 + ready_behind (length (concat input.now) - at.from) fragment tables.now) }
@@ -208,8 +206,7 @@ fn act_on(
     requires readable { IsLast last.now }
     requires unfailed { at.position.failed ≡ false }
     requires active { IsActive at.position.mode }
-    ensures ok { IfOk result (IsMoveResult last.now (with_tables at tables.old) tables.new (concat
-        input.now)) }
+    ensures ok { IfOk result (IsMoveResult (snapshot last.now at tables.old input.now) tables.new) }
     ensures err { OnErr result (AreTablesKept at.position.mode tables.old tables.new) }
 {
     let open = fragment(at.position.mode);
@@ -257,8 +254,7 @@ fn move_on(
 ) -> Result<MoveResult, OutOfMemory>
     requires consistent { IsConsistent at tables.old (concat input.now) }
     requires readable { IsLast last.now }
-    ensures ok { IfOk result (IsMoveResult last.now (with_tables at tables.old) tables.new (concat
-        input.now)) }
+    ensures ok { IfOk result (IsMoveResult (snapshot last.now at tables.old input.now) tables.new) }
     ensures err { OnErr result (AreTablesKept at.position.mode tables.old tables.new) }
 {
     if at.position.failed {
@@ -281,17 +277,15 @@ pub(crate) fn run_on(
 ) -> Result<Progress, OutOfMemory>
     requires consistent { IsConsistent start tables.old (concat input.now) }
     requires readable { IsLast last.now }
-    ensures same { IfOk result (λ r. kept_of last.now r tables.new (concat input.now) ≡ kept_run_on
-        (kept_of last.now start tables.old (concat input.now))) }
+    ensures same { IfOk result (λ r. kept_of (snapshot last.now r tables.new input.now)
+        ≡ kept_with_lookahead (kept_of (snapshot last.now start tables.old input.now))) }
     ensures consistent { IfOk result (λ r. IsConsistent r tables.new (concat input.now)) }
-    ensures since { IfOk result (λ r. IsUnchangedSince start.position.mode r.position.mode
-        tables.old
-        tables.new) }
-    ensures total { IfOk result (λ r. r.position.offset + (length (concat input.now) - r.from) ≡
-        start.position.offset + (length (concat input.now) - start.from)) }
+    ensures since { IfOk result (λ r.
+        IsUnchangedSince start.position.mode r.position.mode tables.old tables.new) }
+    ensures total { IfOk result (λ r. string_len (snapshot last.now r tables.new input.now)
+        ≡ string_len (snapshot last.now start tables.old input.now)) }
     ensures same_failed { IfOk result (λ r. r.position.failed ≡ start.position.failed) }
-    ensures rests { IfOk result (λ r. Rests (state_of last.now r.position tables.new (drop r.from
-        (concat input.now))) r.want) }
+    ensures waits { IfOk result (λ r. IsAtRest (snapshot last.now r tables.new input.now)) }
     ensures err { OnErr result (AreTablesKept start.position.mode tables.old tables.new) }
 {
     let mut at = start;

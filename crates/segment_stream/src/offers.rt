@@ -1,9 +1,9 @@
-ghost use Rattle.std.specs.Prelude.{◌≡◌, ℕ, ◌-◌, drop, ◌+◌, ◌≤◌, ◌<◌, ◌^◌, List, length, Option, IfOk, OnOk, OnErr};
+ghost use Rattle.std.specs.Prelude.{◌≡◌, ◌-◌, drop, ◌+◌, ◌≤◌, ◌<◌, ◌^◌, length, Option, IfOk, OnOk, OnErr};
 ghost use Rattle.std.specs.List.{concat};
 ghost use Rattle.mse_base.specs.declared.track.Presentation.{Presentation};
 ghost use Rattle.input_chunks.specs.Pieces.{pieces_with, pieces_without_last, pieces_without_first};
 ghost use Rattle.segment_stream.specs.declared.progress.Tables.{Tables};
-ghost use Rattle.segment_stream.specs.Kept.{IsConsistent, IsWaitingForBytes, IsEmptied, IsFoundWith, IsLast, Rests, kept_of, state_of, with_tables};
+ghost use Rattle.segment_stream.specs.Kept.{IsAtRest, IsConsistent, IsWaitingForBytes, IsEmptied, IsFoundWith, IsLast, kept_of, snapshot};
 
 use crate::moves::{NEVER, run_on};
 use crate::progress::{Progress, Tables};
@@ -30,8 +30,8 @@ fn past_all(progress: Progress, len: usize) -> Progress
     }
 }
 
-/// Appends bytes to the input, which takes over their memory, and finds how far the parser comes. An `Err` leaves the input; and whatever
-/// comes of it, the old place sees what it saw.
+/// Appends bytes to the input, which takes over their memory, and finds how far the parser comes. An `Err` leaves the
+/// input; and whatever comes of it, the old place sees what it saw.
 pub(crate) fn offer_on(
     alloc: Global,
     last: &Option<Presentation>,
@@ -40,20 +40,20 @@ pub(crate) fn offer_on(
     input: &mut Chunks,
     bytes: Bytes,
 ) -> Result<Progress, OutOfMemory>
-    requires rest { IsWaitingForBytes last.now progress tables.old (concat input.old) }
+    requires waits { IsWaitingForBytes (snapshot last.now progress tables.old input.old) }
     requires emptied { IsEmptied progress (concat input.old) }
     requires readable { IsLast last.now }
-    requires room { progress.position.offset + (length (concat input.old) + length bytes) < 2
-        ^ 62 }
-    ensures found { IfOk result (λ r. IsFoundWith last.now (kept_of last.now progress tables.new
-        (concat input.old)) (with_tables r tables.new) (concat input.new) bytes) }
+    requires countable { progress.position.offset + (length (concat input.old) + length bytes)
+        < 2 ^ 62 }
+    ensures found { IfOk result (λ r. IsFoundWith (snapshot last.now progress tables.new input.old)
+        (snapshot last.now r tables.new input.new) bytes) }
     ensures emptied { IfOk result (λ r. IsEmptied r (drop r.from (concat input.new))) }
     ensures pieces { OnOk result (input.new ≡ pieces_with bytes input.old) }
     ensures back { OnOk result (pieces_without_last (length bytes) input.new ≡ input.old) }
     ensures err { OnErr result (input.new ≡ input.old) }
-    ensures as_before { kept_of last.now progress tables.new (concat input.old) ≡ kept_of last.now
-        progress tables.old (concat input.old) }
-    ensures rest { IsWaitingForBytes last.now progress tables.new (concat input.old) }
+    ensures as_before { kept_of (snapshot last.now progress tables.new input.old)
+        ≡ kept_of (snapshot last.now progress tables.old input.old) }
+    ensures waits { IsWaitingForBytes (snapshot last.now progress tables.new input.old) }
 {
     let len = bytes.len();
     input.push_bytes(bytes)?;
@@ -75,12 +75,13 @@ pub(crate) fn offer_on(
 /// Puts in place what was found. It takes no memory.
 pub(crate) fn accept_on(progress: Progress, input: &mut Chunks) -> Progress
     requires { progress.from ≤ length (concat input.old) }
-    ensures rest { (last : Option Presentation) (tables : Tables) → IsConsistent progress tables
-        (concat input.old) → Rests (state_of last progress.position tables
-        (drop progress.from (concat input.old))) progress.want
-        → IsWaitingForBytes last result tables (concat input.new) }
-    ensures kept { (last : Option Presentation) (tables : Tables) → kept_of last result tables
-        (concat input.new) ≡ kept_of last progress tables (concat input.old) }
+    ensures waits { (last : Option Presentation) (tables : Tables) →
+        IsConsistent progress tables (concat input.old) →
+        IsAtRest (snapshot last progress tables input.old) →
+        IsWaitingForBytes (snapshot last result tables input.new) }
+    ensures kept { (last : Option Presentation) (tables : Tables) →
+        kept_of (snapshot last result tables input.new)
+        ≡ kept_of (snapshot last progress tables input.old) }
     ensures progress { result ≡ record {
       position = progress.position;
       from = 0;

@@ -1,12 +1,11 @@
-ghost use Rattle.std.specs.Prelude.{◌≡◌, ℕ, ◌-◌, is_some, drop, slice_range, slice_get, Option, Some, ◌+◌, ◌≤◌, ◌<◌, ◌^◌, List, All, length, IfOk, take, false};
+ghost use Rattle.std.specs.Prelude.{◌≡◌, ℕ, ◌-◌, slice_range, slice_get, Option, Some, ◌+◌, ◌≤◌, ◌<◌, ◌^◌, length, IfOk, false};
 ghost use Rattle.std.specs.List.{concat};
 ghost use Rattle.mse_base.specs.declared.track.Presentation.{Presentation};
 ghost use Rattle.parser_loop.specs.Walk.{item_of};
-ghost use Rattle.segment_walk.specs.Moves.{WalkState, segments, step_of};
-ghost use Rattle.segment_walk.specs.Ranges.{mode_of};
+ghost use Rattle.segment_walk.specs.Moves.{WalkState};
 ghost use Rattle.segment_walk.specs.declared.kinds.BoxStep.TheVariants.{ReadInit, ReadMoof};
-ghost use Rattle.segment_stream.specs.Kept.{IsConsistent, IsWaitingForBytes, HasPendingBytes, IsLast, IsActive, move_of_pending, kept_of, seen, skips, state_of};
-ghost use Rattle.parser_loop.specs.Items.{latest_after_any};
+ghost use Rattle.segment_stream.specs.Kept.{IsConsistent, IsWaitingForBytes, IsPendingItem, HasPendingBytes, IsLast, IsActive, move_of_pending, kept_of, next_step_of, skips, snapshot};
+ghost use Rattle.parser_loop.specs.Items.{latest_after_any, seen};
 
 use crate::moves::next_step;
 use crate::next::SegmentNext;
@@ -43,10 +42,10 @@ pub(crate) fn look_frame(
     requires ready { i < progress.now.ready }
     requires front { progress.now.from ≡ 0 }
     requires consistent { IsConsistent progress.now tables.now (concat input.now) }
-    ensures item { (last : Option Presentation) → IfOk result (λ x. seen x ≡ slice_get (kept_of last
-        progress.now tables.now (concat input.now)).items i) }
-    ensures last { (last : Option Presentation) → IfOk result (λ x. last ≡ latest_after_any last
-        (seen x)) }
+    ensures item { (last : Option Presentation) → IfOk result (λ x. seen x
+        ≡ slice_get (kept_of (snapshot last progress.now tables.now input.now)).items i) }
+    ensures last { (last : Option Presentation) → IfOk result (λ x.
+        last ≡ latest_after_any last (seen x)) }
 {
     let Some(slot) = slot_at(tables.slots.as_slice(), progress.first + i) else {
         return Ok(SegmentNext::Dry);
@@ -73,14 +72,13 @@ fn pending_init(
     input: &Chunks,
     len: u64,
 ) -> Result<PendingItem, OutOfMemory>
-    requires rest { IsWaitingForBytes last.now progress.now tables.now (concat input.now) }
+    requires waits { IsWaitingForBytes (snapshot last.now progress.now tables.now input.now) }
     requires unfailed { progress.now.position.failed ≡ false }
     requires active { IsActive progress.now.position.mode }
-    requires step { ReadInit len ≡ step_of (is_some last.now) (concat input.now) (mode_of
-        tables.now.slots.items tables.now.known.items progress.now.position.mode) }
-    ensures value { IfOk result (λ f. segments.move (state_of last.now progress.now.position
-        tables.now (concat input.now)) ≡ move_of_pending (state_of last.now progress.now.position
-        tables.now (concat input.now)) f) }
+    requires step { ReadInit len
+        ≡ next_step_of (snapshot last.now progress.now tables.now input.now) }
+    ensures value { IfOk result
+        (IsPendingItem (snapshot last.now progress.now tables.now input.now)) }
     ensures inside { IfOk result (HasPendingBytes (length (concat input.now))) }
 {
     let moov = input.copy(0, len as usize)?;
@@ -100,15 +98,14 @@ fn pending_moof(
     input: &Chunks,
     len: u64,
 ) -> Result<PendingItem, OutOfMemory>
-    requires rest { IsWaitingForBytes last.now progress.now tables.now (concat input.now) }
+    requires waits { IsWaitingForBytes (snapshot last.now progress.now tables.now input.now) }
     requires readable { IsLast last.now }
     requires unfailed { progress.now.position.failed ≡ false }
     requires active { IsActive progress.now.position.mode }
-    requires step { ReadMoof len ≡ step_of (is_some last.now) (concat input.now) (mode_of
-        tables.now.slots.items tables.now.known.items progress.now.position.mode) }
-    ensures value { IfOk result (λ f. segments.move (state_of last.now progress.now.position
-        tables.now (concat input.now)) ≡ move_of_pending (state_of last.now progress.now.position
-        tables.now (concat input.now)) f) }
+    requires step { ReadMoof len
+        ≡ next_step_of (snapshot last.now progress.now tables.now input.now) }
+    ensures value { IfOk result
+        (IsPendingItem (snapshot last.now progress.now tables.now input.now)) }
     ensures inside { IfOk result (HasPendingBytes (length (concat input.now))) }
 {
     let Some(with) = last else {
@@ -140,11 +137,10 @@ pub(crate) fn pending_item(
     tables: &Tables,
     input: &Chunks,
 ) -> Result<PendingItem, OutOfMemory>
-    requires rest { IsWaitingForBytes last.now progress.now tables.now (concat input.now) }
+    requires waits { IsWaitingForBytes (snapshot last.now progress.now tables.now input.now) }
     requires readable { IsLast last.now }
-    ensures value { IfOk result (λ f. segments.move (state_of last.now progress.now.position
-        tables.now (concat input.now)) ≡ move_of_pending (state_of last.now progress.now.position
-        tables.now (concat input.now)) f) }
+    ensures value { IfOk result
+        (IsPendingItem (snapshot last.now progress.now tables.now input.now)) }
     ensures inside { IfOk result (HasPendingBytes (length (concat input.now))) }
 {
     if progress.position.failed {

@@ -46,8 +46,8 @@ pub(crate) struct ProgressWithTables {
     pub(crate) tables: Tables,
 }
 
-/// The next item, where it is no frame and was not given yet: with the number of bytes up to where the parser goes on, or with the
-/// place of a fault.
+/// The next item, where it is no frame and was not given yet: with the number of bytes up to where the parser goes on,
+/// or with the place of a fault.
 #[derive(Debug, Drop)]
 pub(crate) enum PendingItem {
     Dry,

@@ -1,13 +1,12 @@
-ghost use Rattle.std.specs.Prelude.{◌≡◌, ℕ, ◌+◌, ◌-◌, ◌<◌, ◌≤◌, ◌^◌, ◌⊎◌, List, [], ◌++◌, length, take, drop, slice_get, Option, Some, None, IsSome, IfSome, IfOk, OnOk, OnErr};
+ghost use Rattle.std.specs.Prelude.{◌≡◌, ◌+◌, ◌-◌, ◌<◌, ◌≤◌, ◌^◌, ◌⊎◌, List, [], length, slice_get, Option, Some, None, IsSome, IfSome, IfOk, OnOk, OnErr};
 ghost use Rattle.std.specs.List.{concat};
-ghost use Rattle.mse_base.specs.declared.track.Presentation.{Presentation};
-ghost use Rattle.parser_loop.specs.Walk.{count_after};
 ghost use Rattle.input_chunks.specs.Pieces.{pieces_with};
 ghost use Rattle.segment_walk.specs.declared.kinds.DataRange.{DataRange};
 ghost use Rattle.bmff_fragment.specs.declared.slot.Slot.{Slot};
 ghost use Rattle.segment_walk.specs.Ranges.{mode_of};
-ghost use Rattle.segment_walk.specs.Segments.{Items, phase_before, ready_before, held_before};
-ghost use Rattle.parser_loop.specs.Items.{latest_after_all};
+ghost use Rattle.segment_walk.specs.Segments.{items_of_string, phase_before, ready_before, held_before};
+ghost use Rattle.parser_loop.specs.Items.{latest_after_any, seen};
+ghost use Rattle.parser_loop.specs.StringReadings.{after_answer, after_reset, string_from, with_bytes};
 ghost use Rattle.segment_walk.specs.Strings.{phase_of};
 ghost use Rattle.segment_stream.specs.Kept.{progress_at_start};
 
@@ -46,16 +45,16 @@ pub struct Stream {
 }
 
 impl Model for Stream {
-    ghost use Rattle.segment_stream.specs.Streams.{SegmentView, segment_view, IsStream};
-    ghost use Rattle.segment_stream.specs.Kept.{with_tables};
+    ghost use Rattle.segment_stream.specs.Streams.{SegmentView, segment_view, IsSegmentStream};
+    ghost use Rattle.segment_stream.specs.Kept.{snapshot};
 
     ghost Value = { SegmentView };
 
-    ghost view = { λ s. segment_view s.last
-        (with_tables s.progress s.tables) s.input s.fed s.offered };
-
-    ghost invariant = { λ s. IsStream s.last (with_tables s.progress s.tables) s.input s.fed
+    ghost view = { λ s. segment_view (snapshot s.last s.progress s.tables s.input) s.input s.fed
         s.offered };
+
+    ghost invariant = { λ s. IsSegmentStream (snapshot s.last s.progress s.tables s.input) s.input
+        s.fed s.offered };
 }
 
 /// The place before a string.
@@ -87,8 +86,8 @@ fn restart(progress: &mut Progress, input: &mut Chunks)
 }
 
 fn phase_in(mode: ParserMode) -> Phase
-    ensures { (slots : List Slot) (known : List DataRange) → result ≡ phase_of (mode_of slots known
-        mode) }
+    ensures { (slots : List Slot) (known : List DataRange) →
+        result ≡ phase_of (mode_of slots known mode) }
 {
     match mode {
         ParserMode::Between(phase) => phase,
@@ -98,13 +97,12 @@ fn phase_in(mode: ParserMode) -> Phase
 }
 
 impl Stream {
-    ghost use Rattle.segment_stream.specs.Kept.{seen, last_bytes};
-    ghost use Rattle.segment_stream.specs.Streams.{Stands};
-    ghost use Rattle.parser_loop.specs.Items.{latest_after_any};
+    ghost use Rattle.segment_stream.specs.Kept.{last_bytes};
+    ghost use Rattle.segment_stream.specs.Streams.{ForEachReading, Stands, StandsAfter};
 
     /// A stream of the empty string, with no presentation from before.
     pub fn new(alloc: Global) -> Stream
-        ensures stands { Stands result.kept None [] 0 }
+        ensures stands { Stands result.kept (string_from None) }
         ensures last { result.kept.state.last ≡ None }
         ensures pieces { result.pieces ≡ [] }
         ensures fed { result.fed ≡ 0 }
@@ -129,8 +127,7 @@ impl Stream {
     pub fn input(&self) -> &Chunks
         requires { self.now.offered ≡ None }
         ensures pieces { result.now ≡ self.now.pieces }
-        ensures held { (last : Option Presentation) (b : List ℕ) (n : ℕ) → Stands self.now.kept last
-            b n → concat result.now ≡ held_before last b n }
+        ensures held { ForEachReading self.now.kept (λ r. concat result.now ≡ held_before r) }
     {
         &self.input
     }
@@ -138,7 +135,7 @@ impl Stream {
     /// Takes all memory that a feed of these bytes needs, and leaves the string; also where it finds none.
     pub fn offer(&mut self, bytes: &[u8]) -> Result<(), OutOfMemory>
         requires none_offered { self.old.offered ≡ None }
-        requires room { self.old.fed + length bytes.now < 2 ^ 62 }
+        requires countable { self.old.fed + length bytes.now < 2 ^ 62 }
         ensures ok { OnOk result (self.new ≡ record {
           kept = self.old.kept;
           pieces = self.old.pieces;
@@ -154,7 +151,7 @@ impl Stream {
     /// As `offer` of the same bytes, whose memory the input has where they become a piece of their own.
     pub fn offer_bytes(&mut self, bytes: Bytes) -> Result<(), OutOfMemory>
         requires none_offered { self.old.offered ≡ None }
-        requires room { self.old.fed + length bytes < 2 ^ 62 }
+        requires countable { self.old.fed + length bytes < 2 ^ 62 }
         ensures ok { OnOk result (self.new ≡ record {
           kept = self.old.kept;
           pieces = self.old.pieces;
@@ -179,11 +176,11 @@ impl Stream {
     /// Appends the bytes that are offered to the string.
     pub fn accept(&mut self)
         requires { IsSome self.old.offered }
-        ensures stands { IfSome self.old.offered (λ bytes. (last : Option Presentation) (b : List ℕ)
-            (n : ℕ) → Stands self.old.kept last b n → Stands self.new.kept last (b ++ bytes) n) }
+        ensures stands { IfSome self.old.offered
+            (λ bytes. StandsAfter self.old.kept (with_bytes bytes) self.new.kept) }
         ensures last { self.new.kept.state.last ≡ self.old.kept.state.last }
-        ensures pieces { IfSome self.old.offered (λ bytes. self.new.pieces ≡ last_bytes (length
-            self.new.kept.state.rest) (pieces_with bytes self.old.pieces)) }
+        ensures pieces { IfSome self.old.offered (λ bytes. self.new.pieces
+            ≡ last_bytes (length self.new.kept.state.rest) (pieces_with bytes self.old.pieces)) }
         ensures fed { IfSome self.old.offered
             (λ bytes. self.new.fed ≡ self.old.fed + length bytes) }
         ensures none_offered { self.new.offered ≡ None }
@@ -216,11 +213,12 @@ impl Stream {
     /// Appends bytes to the string. An `Err` changes nothing.
     pub fn feed(&mut self, bytes: &[u8]) -> Result<(), OutOfMemory>
         requires none_offered { self.old.offered ≡ None }
-        requires room { self.old.fed + length bytes.now < 2 ^ 62 }
-        ensures stands { OnOk result ((last : Option Presentation) (b : List ℕ) (n : ℕ) → Stands
-            self.old.kept last b n → Stands self.new.kept last (b ++ bytes.now) n) }
+        requires countable { self.old.fed + length bytes.now < 2 ^ 62 }
+        ensures stands { OnOk result
+            (StandsAfter self.old.kept (with_bytes bytes.now) self.new.kept) }
         ensures last { OnOk result (self.new.kept.state.last ≡ self.old.kept.state.last) }
-        ensures pieces { OnOk result (self.new.pieces ≡ last_bytes (length self.new.kept.state.rest)
+        ensures pieces { OnOk result (self.new.pieces
+            ≡ last_bytes (length self.new.kept.state.rest)
             (pieces_with bytes.now self.old.pieces)) }
         ensures fed { OnOk result (self.new.fed ≡ self.old.fed + length bytes.now) }
         ensures none_offered { self.new.offered ≡ None }
@@ -236,8 +234,8 @@ impl Stream {
     pub fn look(&self, i: usize) -> Result<SegmentNext, OutOfMemory>
         requires none_offered { self.now.offered ≡ None }
         requires ready { (i ≡ 0) ⊎ (i < length self.now.kept.items) }
-        ensures { (last : Option Presentation) (b : List ℕ) (n : ℕ) → Stands self.now.kept last b n
-            → IfOk result (λ next. seen next ≡ slice_get (Items last b) (n + i)) }
+        ensures { ForEachReading self.now.kept (λ r. IfOk result
+            (λ next. seen next ≡ slice_get (items_of_string r.before r.whole) (r.taken + i))) }
     {
         if i < self.progress.ready {
             return look_frame(&self.progress, &self.tables, &self.input, i);
@@ -256,15 +254,14 @@ impl Stream {
     /// string gives none until the next reset. An `Err` changes nothing.
     pub fn next(&mut self) -> Result<SegmentNext, OutOfMemory>
         requires { self.old.offered ≡ None }
-        ensures item { (last : Option Presentation) (b : List ℕ) (n : ℕ) → Stands self.old.kept last
-            b n → IfOk result (λ next. seen next ≡ slice_get (Items last b) n) }
-        ensures stands { (last : Option Presentation) (b : List ℕ) (n : ℕ) → Stands self.old.kept
-            last b n → IfOk result (λ next. Stands self.new.kept last b
-            (count_after n (seen next))) }
-        ensures last { IfOk result (λ next. self.new.kept.state.last ≡ latest_after_any
-            self.old.kept.state.last (seen next)) }
-        ensures pieces { OnOk result (self.new.pieces ≡ last_bytes (length self.new.kept.state.rest)
-            self.old.pieces) }
+        ensures item { ForEachReading self.old.kept (λ r. IfOk result
+            (λ next. seen next ≡ slice_get (items_of_string r.before r.whole) r.taken)) }
+        ensures stands { IfOk result
+            (λ next. StandsAfter self.old.kept (after_answer (seen next)) self.new.kept) }
+        ensures last { IfOk result (λ next.
+            self.new.kept.state.last ≡ latest_after_any self.old.kept.state.last (seen next)) }
+        ensures pieces { OnOk result (self.new.pieces
+            ≡ last_bytes (length self.new.kept.state.rest) self.old.pieces) }
         ensures fed { OnOk result (self.new.fed ≡ self.old.fed) }
         ensures none_offered { self.new.offered ≡ None }
         ensures dry { IfOk result (λ next. seen next ≡ None → self.new ≡ self.old) }
@@ -282,9 +279,8 @@ impl Stream {
     /// Where the parser is before the next item, or at the end of the string where there is none.
     pub fn phase(&self) -> Phase
         requires { self.now.offered ≡ None }
-        ensures kept { result ≡ phase_of self.now.kept.state.mode }
-        ensures phase { (last : Option Presentation) (b : List ℕ) (n : ℕ) → Stands self.now.kept
-            last b n → result ≡ phase_before last b n }
+        ensures value { result ≡ phase_of self.now.kept.state.mode }
+        ensures phase { ForEachReading self.now.kept (λ r. result ≡ phase_before r) }
     {
         phase_in(self.progress.position.mode)
     }
@@ -293,9 +289,8 @@ impl Stream {
     /// has no more samples.
     pub fn ready_frames(&self) -> usize
         requires { self.now.offered ≡ None }
-        ensures kept { result ≡ length self.now.kept.items }
-        ensures ready { (last : Option Presentation) (b : List ℕ) (n : ℕ) → Stands self.now.kept
-            last b n → result ≡ ready_before last b n }
+        ensures value { result ≡ length self.now.kept.items }
+        ensures ready { ForEachReading self.now.kept (λ r. result ≡ ready_before r) }
         ensures few { result ≤ 2 ^ 20 }
     {
         self.progress.ready
@@ -304,9 +299,8 @@ impl Stream {
     /// How many bytes are held in memory.
     pub fn held_len(&self) -> usize
         requires { self.now.offered ≡ None }
-        ensures kept { result ≡ length self.now.kept.state.rest }
-        ensures held { (last : Option Presentation) (b : List ℕ) (n : ℕ) → Stands self.now.kept last
-            b n → result ≡ length (held_before last b n) }
+        ensures value { result ≡ length self.now.kept.state.rest }
+        ensures held { ForEachReading self.now.kept (λ r. result ≡ length (held_before r)) }
     {
         self.input.len()
     }
@@ -315,9 +309,9 @@ impl Stream {
     /// that was given stays (Media Source Extensions, 3.5.2, reset parser state).
     pub fn reset(&mut self)
         requires { self.old.offered ≡ None }
-        ensures stands { Stands self.new.kept self.old.kept.state.last [] 0 }
-        ensures latest { (last : Option Presentation) (b : List ℕ) (n : ℕ) → Stands self.old.kept
-            last b n → Stands self.new.kept (latest_after_all last (take n (Items last b))) [] 0 }
+        ensures stands { Stands self.new.kept (string_from self.old.kept.state.last) }
+        ensures latest { ForEachReading self.old.kept
+            (λ r. Stands self.new.kept (after_reset (items_of_string r.before r.whole) r)) }
         ensures last { self.new.kept.state.last ≡ self.old.kept.state.last }
         ensures pieces { self.new.pieces ≡ [] }
         ensures fed { self.new.fed ≡ 0 }
@@ -330,7 +324,7 @@ impl Stream {
     /// As `reset`, and the presentation is dropped too.
     pub fn forget(&mut self)
         requires { self.old.offered ≡ None }
-        ensures stands { Stands self.new.kept None [] 0 }
+        ensures stands { Stands self.new.kept (string_from None) }
         ensures last { self.new.kept.state.last ≡ None }
         ensures pieces { self.new.pieces ≡ [] }
         ensures fed { self.new.fed ≡ 0 }

@@ -27,6 +27,7 @@ use Rattle.segment_walk.specs.declared.kinds.BoxStep.TheVariants as step
 use Rattle.segment_walk.specs.Tables.{BoxUse, PassOver, ReadMovie, ReadFragment, box_use, box_type, size_fault, greatest_size}
 use Rattle.parser_loop.specs.Items.{InitItem, FrameItem, SegmentEnd, FaultItem}
 use Rattle.segment_walk.specs.Moves.{Open, Between, Skipping, Within, WalkState, once, place_fault, judge_between, box_between, judge_within, box_within, place_step, lies_in, slot_step, step_of, fail, move_of_init, move_of_slots, act, frame_of, segments}
+use Rattle.parser_loop.specs.StringReadings.{StringReading}
 use Rattle.segment_walk.specs.Strings.{start, walk_items, walk_ready, phase_of, state_before}
 use Rattle.parser_loop.specs.Items.{IsPrefix, latest_after_all, leading_frames}
 use Rattle.parser_loop.proofs.Walks.{prefix}
@@ -34,7 +35,7 @@ use Rattle.parser_loop.proofs.ItemLaws.{is-prefix, leading-length}
 use Rattle.segment_walk.proofs.Latest.{state-latest}
 use Rattle.parser_loop.specs.Parse.{ParserView, NoItem, ItemThen, items_of, seen_before, parse_by, parse_from}
 use Rattle.parser_loop.proofs.Parses.{parse-step, items-parse, seen-parse}
-use Rattle.segment_walk.specs.Segments.{SegmentParse, Onwards, OpenFragment, TopBox, NoFragment, InFragment, is_inside, frame_at, view_at, view_without_bytes, parse_once_there, parse_of_fault, parse_of_moov, parse_of_moof, parse_of_use, parse_outside, parse_of_slots, parse_of_data_end, parse_of_mdat, parse_inside, parse_of_box, parse_of_header, parse_of_boxes, segment_parse, Items, latest_before, ready_before}
+use Rattle.segment_walk.specs.Segments.{SegmentParse, Onwards, OpenFragment, TopBox, NoFragment, InFragment, is_inside, frame_item_at, view_at, view_without_bytes, parse_once_there, parse_of_fault, parse_of_moov, parse_of_moof, parse_of_use, parse_outside, parse_of_slots, parse_of_data_end, parse_of_mdat, parse_inside, parse_of_box, parse_of_header, parse_of_boxes, segment_parse, items_of_string, latest_before, ready_before}
 use Rattle.segment_walk.proofs.WalkLaws.{is_walk, going, once-short, once-there}
 
 -- what is told of a state of the walk
@@ -271,7 +272,7 @@ lies-shift m (k ∷ ks) s =
 slice-shift : {X : Type 0} (b : List X) (m i j : ℕ) → slice_range (drop m b) i j ≡ slice_range b (m + i) (m + j)
 slice-shift b m i j = let e : j - i ≡ m + j - (m + i) = omega arith in ap (take (j - i)) (drop-drop i m b) ∙ ap (λ n. take n (drop (m + i) b)) e
 
-frame-same : (b : List ℕ) (m : ℕ) (s : Slot) → frame_at b m s ≡ frame_of (drop m b) m s
+frame-same : (b : List ℕ) (m : ℕ) (s : Slot) → frame_item_at b m s ≡ frame_of (drop m b) m s
 frame-same b m s = ap (λ payload. FrameItem (record { track_id = s.track_id; pts = s.pts; dts = s.dts; dur = s.dur; sync = s.sync; payload = payload }) (m + s.start)) (sym (slice-shift b m s.start s.end))
 
 get-none : {X : Type 0} (xs : List X) (n : ℕ) → drop n xs ≡ [] → slice_get xs n ≡ None
@@ -314,7 +315,7 @@ in-data b n last m slots old known end (slot ∷ left) taken out inside l k d =
     let s : WalkState = going last (Within (open_with slots taken known end (InData end))) m (drop m b) in
     let f : OpenFragment = fragment m old known end in
     when-same (is_inside m (shift m known) slot) (lies_in known slot) _ _ s (once (length (drop m b)) slot.end (step.GiveFrame slot)) (cond (ltb slot.start end) (step.Fail fault.OutsideMdat slot.start) (place_step (drop m b) false (InData end))) (lies-shift m known slot)
-    (λ _. once-same b m slot.end (m + slot.end) s (step.GiveFrame slot) (ItemThen (now_in b last m) (frame_at b m slot) (parse_of_slots b (now_in b last m) f (NextItems b n last m f) left)) l refl
+    (λ _. once-same b m slot.end (m + slot.end) s (step.GiveFrame slot) (ItemThen (now_in b last m) (frame_item_at b m slot) (parse_of_slots b (now_in b last m) f (NextItems b n last m f) left)) l refl
     (λ h. ap (λ item. ItemThen (now_in b last m) item (parse_of_slots b (now_in b last m) f (NextItems b n last m f) left)) (frame-same b m slot) ∙ ap (ItemThen (now_in b last m) (frame_of (drop m b) m slot)) (in-data b n last m slots old known end left (taken + 1) out inside l k (get-behind slots taken slot left d))))
     (λ lies. when-same (ltb (m + slot.start) (m + end)) (ltb slot.start end) _ _ s (step.Fail fault.OutsideMdat slot.start) (place_step (drop m b) false (InData end)) (ltb-shift m slot.start end)
     (λ _. fail-items s fault.OutsideMdat slot.start (m + slot.start) refl)
@@ -389,24 +390,24 @@ unfolding segment_parse
 parse-boxes last b = sym ((both b (suc (length b))).0 last Waiting 0 (omega arith) (omega arith))
 
 -- the walk gives the items of the string
-pub items-boxes : (last : Option Presentation) (b : List ℕ) → walk_items last b ≡ Items last b
+pub items-boxes : (last : Option Presentation) (b : List ℕ) → walk_items last b ≡ items_of_string last b
 items-boxes last b = sym (items-parse segments see is_walk (start last b)) ∙ ap items_of (parse-boxes last b)
 
 -- and before each shows what is seen there
-pub seen-boxes : (last : Option Presentation) (b : List ℕ) (n : ℕ) → see (state_before last b n) ≡ seen_before n (segment_parse last b)
-seen-boxes last b n = sym (seen-parse segments see is_walk (start last b) n) ∙ ap (seen_before n) (parse-boxes last b)
+pub seen-boxes : (r : StringReading) → see (state_before r) ≡ seen_before r.taken (segment_parse r.before r.whole)
+seen-boxes r = sym (seen-parse segments see is_walk (start r.before r.whole) r.taken) ∙ ap (seen_before r.taken) (parse-boxes r.before r.whole)
 
 -- as many boxes as the string has bytes are enough
 pub enough-boxes : (last : Option Presentation) (b : List ℕ) (n : ℕ) → length b < n → parse_of_boxes n b last (NoFragment Waiting) 0 ≡ segment_parse last b
 enough-boxes last b n h = (both b n).0 last Waiting 0 (omega arith) (omega arith) ∙ parse-boxes last b
 
-pub latest-boxes : (last : Option Presentation) (b : List ℕ) (n : ℕ) → latest_before last b n ≡ latest_after_all last (take n (Items last b))
-latest-boxes last b n = sym (ap (λ (v : ParserView). v.latest) (seen-boxes last b n)) ∙ state-latest n (start last b) ∙ ap (λ items. latest_after_all last (take n items)) (items-boxes last b)
+pub latest-boxes : (r : StringReading) → latest_before r ≡ latest_after_all r.before (take r.taken (items_of_string r.before r.whole))
+latest-boxes r = sym (ap (λ (v : ParserView). v.latest) (seen-boxes r)) ∙ state-latest r.taken (start r.before r.whole) ∙ ap (λ items. latest_after_all r.before (take r.taken items)) (items-boxes r.before r.whole)
 
-pub ready-boxes : (last : Option Presentation) (b : List ℕ) (n : ℕ) → walk_ready last b n ≡ ready_before last b n
-ready-boxes last b n = leading-length segments (λ item. refl) (drop n (walk_items last b)) ∙ ap (λ items. length (leading_frames (drop n items))) (items-boxes last b)
+pub ready-boxes : (r : StringReading) → walk_ready r ≡ ready_before r
+ready-boxes r = leading-length segments (λ item. refl) (drop r.taken (walk_items r.before r.whole)) ∙ ap (λ items. length (leading_frames (drop r.taken items))) (items-boxes r.before r.whole)
 
-pub items-prefix : (last : Option Presentation) (b c : List ℕ) → IsPrefix (Items last b) (Items last (b ++ c))
+pub items-prefix : (last : Option Presentation) (b c : List ℕ) → IsPrefix (items_of_string last b) (items_of_string last (b ++ c))
 items-prefix last b c =
     let p : IsPrefix (walk_items last b) (walk_items last (b ++ c)) = is-prefix segments (λ item. refl) (walk_items last b) (walk_items last (b ++ c)) (prefix segments is_walk (start last b) c) in
     rw (← items-boxes last b, ← items-boxes last (b ++ c)) p

@@ -11,7 +11,7 @@ use Rattle.mse_base.specs.declared.frame.Phase.{Phase}
 use Rattle.segment_walk.specs.declared.kinds.BoxStep.{BoxStep}
 use Rattle.segment_walk.specs.declared.kinds.BoxStep.TheVariants as step
 use Rattle.segment_walk.specs.Tables.{SegmentItem}
-use Rattle.segment_walk.specs.Moves.{WalkState, ParserMode, Between, Skipping, Within, move_of_init, move_of_slots, move_of_moof, act, step_of, pass_byte, mode_move, move_unless, segments}
+use Rattle.segment_walk.specs.Moves.{WalkState, WalkMode, Between, Skipping, Within, move_of_init, move_of_slots, move_of_moof, act, step_of, pass_byte, mode_move, move_unless, segments}
 use Rattle.parser_loop.specs.Items.{latest_after_all}
 use Rattle.segment_walk.proofs.WalkLaws.{is_walk}
 use Rattle.parser_loop.specs.Parse.{Remembers}
@@ -47,7 +47,7 @@ last-byte : (s : WalkState) (to : Phase) (left : ℕ) (rest : List ℕ) → Last
 last-byte s to left [] = tt
 last-byte s to left (x ∷ rest) = refl
 
-last-mode : (s : WalkState) (m : ParserMode) → LastAfter s (mode_move s m)
+last-mode : (s : WalkState) (m : WalkMode) → LastAfter s (mode_move s m)
 last-mode s (Between phase) = last-act s (step_of (is_some s.last) s.rest (Between phase))
 last-mode s (Skipping to zero) = refl
 last-mode s (Skipping to (suc left)) = last-byte s to left s.rest

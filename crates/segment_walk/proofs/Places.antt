@@ -10,6 +10,7 @@ use Rattle.bmff_init.specs.Movies.{init_of}
 use Rattle.bmff_fragment.specs.declared.fault.MoofFault.{MoofFault}
 use Rattle.bmff_fragment.specs.declared.slot.Slot.{Slot}
 use Rattle.bmff_fragment.specs.Plans.{plan_of}
+use Rattle.parser_loop.specs.StringReadings.{StringReading}
 use Rattle.parser_loop.specs.Walk.{Move}
 use Rattle.segment_walk.specs.declared.kinds.StreamFault.{StreamFault}
 use Rattle.segment_walk.specs.declared.kinds.StreamFault.TheVariants as fault
@@ -23,7 +24,7 @@ use Rattle.segment_walk.specs.declared.kinds.BoxStep.{BoxStep}
 use Rattle.segment_walk.specs.declared.kinds.BoxStep.TheVariants as step
 use Rattle.segment_walk.specs.Tables.{SegmentItem, box_type, greatest_size}
 use Rattle.parser_loop.specs.Items.{InitItem, FrameItem, SegmentEnd, FaultItem, is_fault}
-use Rattle.segment_walk.specs.Moves.{Open, ParserMode, Between, Skipping, Within, WalkState, once, place_fault, take_box, judge_between, box_between, judge_within, box_within, data_end, place_step, lies_in, slot_step, step_of, move_of_init, move_of_slots, move_of_moof, open_of, act, pass_byte, mode_move, move_unless, segments}
+use Rattle.segment_walk.specs.Moves.{Open, WalkMode, Between, Skipping, Within, WalkState, once, place_fault, take_box, judge_between, box_between, judge_within, box_within, step_in_data, place_step, lies_in, slot_step, step_of, move_of_init, move_of_slots, move_of_moof, open_of, act, pass_byte, mode_move, move_unless, segments}
 use Rattle.segment_walk.specs.Strings.{start, walk_items, state_before}
 use Rattle.segment_walk.specs.Segments.{box_by, box_at}
 use Rattle.segment_walk.proofs.WalkLaws.{is_walk, HasSlot, Fits, good-step, going}
@@ -33,7 +34,7 @@ use Rattle.parser_loop.proofs.Holding.{each-item, each-state, last-item}
 use Rattle.std.specs.List.{All}
 use Rattle.std.proofs.lemmas.List.Elements.{All-nil}
 use Rattle.std.proofs.lemmas.Option.{slice_get_within, get_or_from_slice_get}
-use Rattle.segment_walk.specs.Segments.{Items, held_before}
+use Rattle.segment_walk.specs.Segments.{items_of_string, held_before}
 use Rattle.segment_walk.proofs.Boxes.{items-boxes, seen-boxes}
 use Rattle.segment_walk.proofs.Ordered.{IsOrdered, plan-ordered}
 
@@ -42,7 +43,7 @@ abbrev pub HasSuffix : List ℕ → WalkState → Type 0
 HasSuffix b s = s.rest ≡ cond s.failed [] (drop s.offset b)
 
 -- the slots of the movie fragment that is open end behind their start
-abbrev HasOrder : ParserMode → Type 0
+abbrev HasOrder : WalkMode → Type 0
 HasOrder (Between phase) = Unit {0}
 HasOrder (Skipping to left) = Unit {0}
 HasOrder (Within o) = All IsOrdered o.slots
@@ -53,11 +54,11 @@ record IsFine (b : List ℕ) (s : WalkState) : Type 0 where
   order : HasOrder s.mode
 
 -- an item and its place
-abbrev pub IsPlaced : List ℕ → SegmentItem → Type 0
-IsPlaced b (InitItem p at) = init_of (box_at b at) ≡ Ok p
-IsPlaced b (FrameItem f at) = (f.payload ≡ slice_range b at (at + length f.payload)) × (at + length f.payload ≤ length b)
-IsPlaced b SegmentEnd = Unit {0}
-IsPlaced b (FaultItem f at) = Unit {0}
+abbrev pub IsItemOfString : List ℕ → SegmentItem → Type 0
+IsItemOfString b (InitItem p at) = init_of (box_at b at) ≡ Ok p
+IsItemOfString b (FrameItem f at) = (f.payload ≡ slice_range b at (at + length f.payload)) × (at + length f.payload ≤ length b)
+IsItemOfString b SegmentEnd = Unit {0}
+IsItemOfString b (FaultItem f at) = Unit {0}
 
 -- ---- a presentation is read from a whole box
 
@@ -121,19 +122,19 @@ reads-within h n at head.Short = tt
 reads-within h n at (head.Bad f) = tt
 reads-within h n at (head.Whole kind start len) = reads-judge-in h n at (box_type kind) start len
 
-reads-end : (h : Header) (done : Bool) (end : ℕ) → Reads h (data_end done end)
+reads-end : (h : Header) (done : Bool) (end : ℕ) → Reads h (step_in_data done end)
 reads-end h true end = tt
 reads-end h false end = tt
 
 reads-place : (h : Header) (rest : List ℕ) (done : Bool) (p : WalkPlace) → Reads h (place_step rest done p)
 reads-place h rest done (AtBox at) = reads-within h (length rest) at (header_of (drop at rest))
-reads-place h rest done (InData end) = reads-once h (length rest) end (data_end done end) (reads-end h done end)
+reads-place h rest done (InData end) = reads-once h (length rest) end (step_in_data done end) (reads-end h done end)
 
 reads-slot : (h : Header) (rest : List ℕ) (o : Open) (slot : Option Slot) → Reads h (slot_step rest o.known o.end o.place slot)
 reads-slot h rest o None = reads-place h rest true o.place
 reads-slot h rest o (Some slot) = reads-if h (lies_in o.known slot) _ _ (reads-once h (length rest) slot.end (step.GiveFrame slot) tt) (reads-if h (ltb slot.start o.end) _ _ tt (reads-place h rest false o.place))
 
-reads : (ready : Bool) (rest : List ℕ) (m : ParserMode) → Reads (header_of rest) (step_of ready rest m)
+reads : (ready : Bool) (rest : List ℕ) (m : WalkMode) → Reads (header_of rest) (step_of ready rest m)
 unfolding step_of
 reads ready rest (Between phase) = reads-between ready phase (length rest) (header_of rest)
 reads ready rest (Skipping to left) = tt
@@ -161,41 +162,41 @@ behind-there : (b rest : List ℕ) (offset n : ℕ) → rest ≡ drop offset b �
 behind-there b rest offset n e o k = let m : length rest ≡ length b - offset = ap length e ∙ length-drop offset b in omega arith
 
 abbrev Stays : List ℕ → Move WalkState SegmentItem → Type 0
-Stays b m = Keeps (IsFine b) (IsPlaced b) m
+Stays b m = Keeps (IsFine b) (IsItemOfString b) m
 
 -- the same place, in another mode or behind a fault
-abbrev at_place : Option Presentation → ParserMode → ℕ → List ℕ → Bool → WalkState
+abbrev at_place : Option Presentation → WalkMode → ℕ → List ℕ → Bool → WalkState
 at_place last m offset rest failed = record { last = last; mode = m; offset = offset; rest = rest; failed = failed }
 
-fine : (b : List ℕ) (last : Option Presentation) (m : ParserMode) (offset : ℕ) (rest : List ℕ) (failed : Bool) → rest ≡ cond failed [] (drop offset b) → offset ≤ length b → HasOrder m → IsFine b (at_place last m offset rest failed)
+fine : (b : List ℕ) (last : Option Presentation) (m : WalkMode) (offset : ℕ) (rest : List ℕ) (failed : Bool) → rest ≡ cond failed [] (drop offset b) → offset ≤ length b → HasOrder m → IsFine b (at_place last m offset rest failed)
 fine b last m offset rest failed e o g = record { suffix = e; inside = o; order = g }
 
-stays-init : (b : List ℕ) (last : Option Presentation) (m : ParserMode) (offset : ℕ) (rest : List ℕ) (len : ℕ) (r : Result Presentation InitFault) → IsFine b (going last m offset rest) → Reads (header_of rest) (step.ReadInit len) → 8 ≤ len → len ≤ length rest → init_of (take len rest) ≡ r → Stays b (move_of_init (going last m offset rest) len r)
+stays-init : (b : List ℕ) (last : Option Presentation) (m : WalkMode) (offset : ℕ) (rest : List ℕ) (len : ℕ) (r : Result Presentation InitFault) → IsFine b (going last m offset rest) → Reads (header_of rest) (step.ReadInit len) → 8 ≤ len → len ≤ length rest → init_of (take len rest) ≡ r → Stays b (move_of_init (going last m offset rest) len r)
 stays-init b last m offset rest len (Ok p) e h n k q =
     let whole : offset + len ≤ length b = behind-there b rest offset len e.suffix e.inside k in
     let box : box_at b offset ≡ take len rest = ap (λ xs. box_by b offset (header_of xs)) (sym e.suffix) ∙ h b offset whole ∙ sliced b offset len ∙ ap (take len) (sym e.suffix) in
     (ap init_of box ∙ q, fine b (Some p) (Between Waiting) (offset + len) (drop len rest) false (ap (drop len) e.suffix ∙ drop-drop len offset b) whole tt)
 stays-init b last m offset rest len (Err f) e h n k q = (tt, fine b last m offset [] true refl e.inside e.order)
 
-stays-opened : (b : List ℕ) (last : Option Presentation) (m : ParserMode) (offset : ℕ) (rest : List ℕ) (len : ℕ) (r : Result (List Slot) MoofFault) → IsFine b (going last m offset rest) → ((slots : List Slot) → r ≡ Ok slots → All IsOrdered slots) → Stays b (move_of_slots (going last m offset rest) len r)
+stays-opened : (b : List ℕ) (last : Option Presentation) (m : WalkMode) (offset : ℕ) (rest : List ℕ) (len : ℕ) (r : Result (List Slot) MoofFault) → IsFine b (going last m offset rest) → ((slots : List Slot) → r ≡ Ok slots → All IsOrdered slots) → Stays b (move_of_slots (going last m offset rest) len r)
 stays-opened b last m offset rest len (Ok slots) e h = record { suffix = e.suffix; inside = e.inside; order = h slots refl }
 stays-opened b last m offset rest len (Err f) e h = (tt, fine b last m offset [] true refl e.inside e.order)
 
-stays-planned : (b : List ℕ) (last with : Option Presentation) (m : ParserMode) (offset : ℕ) (rest : List ℕ) (len : ℕ) → IsFine b (going last m offset rest) → Stays b (move_of_moof (going last m offset rest) len with)
+stays-planned : (b : List ℕ) (last with : Option Presentation) (m : WalkMode) (offset : ℕ) (rest : List ℕ) (len : ℕ) → IsFine b (going last m offset rest) → Stays b (move_of_moof (going last m offset rest) len with)
 stays-planned b last None m offset rest len e = (tt, fine b last m offset [] true refl e.inside e.order)
 stays-planned b last (Some p) m offset rest len e = stays-opened b last m offset rest len (plan_of p.tracks (take len rest)) e (plan-ordered p.tracks (take len rest))
 
-order-open : (m : ParserMode) → HasOrder m → All IsOrdered (open_of m).slots
+order-open : (m : WalkMode) → HasOrder m → All IsOrdered (open_of m).slots
 order-open (Between phase) g = All-nil IsOrdered
 order-open (Skipping to left) g = All-nil IsOrdered
 order-open (Within o) g = g
 
-slot-order : (m : ParserMode) (slot : Slot) → HasOrder m → HasSlot m slot → slot.start ≤ slot.end
+slot-order : (m : WalkMode) (slot : Slot) → HasOrder m → HasSlot m slot → slot.start ≤ slot.end
 slot-order (Between phase) slot g f = absurd f
 slot-order (Skipping to left) slot g f = absurd f
 slot-order (Within o) slot g f = subst IsOrdered (get_or_from_slice_get o.slots o.taken slot slot f) (g o.taken slot (slice_get_within o.slots o.taken slot f))
 
-stays-act : (b : List ℕ) (last : Option Presentation) (m : ParserMode) (offset : ℕ) (rest : List ℕ) (st : BoxStep) → IsFine b (going last m offset rest) → Reads (header_of rest) st → Fits m (length rest) st → Stays b (act (going last m offset rest) st)
+stays-act : (b : List ℕ) (last : Option Presentation) (m : WalkMode) (offset : ℕ) (rest : List ℕ) (st : BoxStep) → IsFine b (going last m offset rest) → Reads (header_of rest) st → Fits m (length rest) st → Stays b (act (going last m offset rest) st)
 stays-act b last m offset rest (step.Wait n) e h f = tt
 stays-act b last m offset rest (step.Skip to len) e h f = record { suffix = e.suffix; inside = e.inside; order = tt }
 stays-act b last m offset rest (step.ReadInit len) e h f = stays-init b last m offset rest len (init_of (take len rest)) e h f.1 f.2 refl
@@ -206,17 +207,17 @@ stays-act b last m offset rest (step.GiveFrame slot) e h f = ((own-slice b rest 
 stays-act b last m offset rest (step.EndSegment end) e h f = (tt, fine b last (Between Waiting) (offset + end) (drop end rest) false (ap (drop end) e.suffix ∙ drop-drop end offset b) (behind-there b rest offset end e.suffix e.inside f.1) tt)
 stays-act b last m offset rest (step.Fail k at) e h f = (tt, fine b last m offset [] true refl e.inside e.order)
 
-stays-byte : (b : List ℕ) (last : Option Presentation) (m : ParserMode) (offset : ℕ) (to : Phase) (left : ℕ) (all rest : List ℕ) → rest ≡ drop offset b → offset ≤ length b → Stays b (pass_byte (going last m offset all) to left rest)
+stays-byte : (b : List ℕ) (last : Option Presentation) (m : WalkMode) (offset : ℕ) (to : Phase) (left : ℕ) (all rest : List ℕ) → rest ≡ drop offset b → offset ≤ length b → Stays b (pass_byte (going last m offset all) to left rest)
 stays-byte b last m offset to left all [] e o = tt
 stays-byte b last m offset to left all (x ∷ rest) e o = fine b last (Skipping to left) (offset + 1) rest false (ap (drop 1) e ∙ drop-drop 1 offset b) (behind-there b (x ∷ rest) offset 1 e o (omega arith)) tt
 
-stays-mode : (b : List ℕ) (last : Option Presentation) (m : ParserMode) (offset : ℕ) (rest : List ℕ) → IsFine b (going last m offset rest) → Stays b (mode_move (going last m offset rest) m)
+stays-mode : (b : List ℕ) (last : Option Presentation) (m : WalkMode) (offset : ℕ) (rest : List ℕ) → IsFine b (going last m offset rest) → Stays b (mode_move (going last m offset rest) m)
 stays-mode b last (Between phase) offset rest e = stays-act b last (Between phase) offset rest (step_of (is_some last) rest (Between phase)) e (reads (is_some last) rest (Between phase)) (good-step (is_some last) rest [] (Between phase)).0
 stays-mode b last (Skipping to zero) offset rest e = record { suffix = e.suffix; inside = e.inside; order = tt }
 stays-mode b last (Skipping to (suc left)) offset rest e = stays-byte b last (Skipping to (suc left)) offset to left rest rest e.suffix e.inside
 stays-mode b last (Within o) offset rest e = stays-act b last (Within o) offset rest (step_of (is_some last) rest (Within o)) e (reads (is_some last) rest (Within o)) (good-step (is_some last) rest [] (Within o)).0
 
-stays-unless : (b : List ℕ) (last : Option Presentation) (m : ParserMode) (offset : ℕ) (rest : List ℕ) (failed : Bool) → IsFine b (at_place last m offset rest failed) → Stays b (move_unless (at_place last m offset rest failed) failed)
+stays-unless : (b : List ℕ) (last : Option Presentation) (m : WalkMode) (offset : ℕ) (rest : List ℕ) (failed : Bool) → IsFine b (at_place last m offset rest failed) → Stays b (move_unless (at_place last m offset rest failed) failed)
 stays-unless b last m offset rest true e = tt
 stays-unless b last m offset rest false e = stays-mode b last m offset rest e
 
@@ -228,24 +229,24 @@ at-start b last = record { suffix = refl; inside = omega arith; order = tt }
 
 -- ---- the laws
 
-walk-place : (last : Option Presentation) (b : List ℕ) (i : ℕ) (item : SegmentItem) → slice_get (walk_items last b) i ≡ Some item → IsPlaced b item
-walk-place last b i item e = each-item segments is_walk (IsFine b) (IsPlaced b) (stays b) (start last b) (at-start b last) i item e
+walk-place : (last : Option Presentation) (b : List ℕ) (i : ℕ) (item : SegmentItem) → slice_get (walk_items last b) i ≡ Some item → IsItemOfString b item
+walk-place last b i item e = each-item segments is_walk (IsFine b) (IsItemOfString b) (stays b) (start last b) (at-start b last) i item e
 
-pub item-place : (last : Option Presentation) (b : List ℕ) (i : ℕ) (item : SegmentItem) → slice_get (Items last b) i ≡ Some item → IsPlaced b item
+pub item-place : (last : Option Presentation) (b : List ℕ) (i : ℕ) (item : SegmentItem) → slice_get (items_of_string last b) i ≡ Some item → IsItemOfString b item
 item-place last b i item e = walk-place last b i item (ap (λ items. slice_get items i) (items-boxes last b) ∙ e)
 
 -- what a state of the walk holds
-pub state-suffix : (last : Option Presentation) (b : List ℕ) (n : ℕ) → HasSuffix b (state_before last b n)
-state-suffix last b n = (each-state segments is_walk (IsFine b) (IsPlaced b) (stays b) n (start last b) (at-start b last)).suffix
+pub state-suffix : (r : StringReading) → HasSuffix r.whole (state_before r)
+state-suffix r = (each-state segments is_walk (IsFine r.whole) (IsItemOfString r.whole) (stays r.whole) r.taken (start r.before r.whole) (at-start r.whole r.before)).suffix
 
 suffix-by : (b rest : List ℕ) (offset : ℕ) (failed : Bool) → rest ≡ cond failed [] (drop offset b) → IsSuffix rest b
 suffix-by b rest offset true e = record { offset = length b; is = e ∙ sym (drop_all (length b) b (omega arith)) }
 suffix-by b rest offset false e = record { offset = offset; is = e }
 
-pub held-suffix : (last : Option Presentation) (b : List ℕ) (n : ℕ) → IsSuffix (held_before last b n) b
-held-suffix last b n =
-    let s : WalkState = state_before last b n in
-    rw (← ap (λ (v : ParserView). v.held) (seen-boxes last b n)) (suffix-by b s.rest s.offset s.failed (state-suffix last b n))
+pub held-suffix : (r : StringReading) → IsSuffix (held_before r) r.whole
+held-suffix r =
+    let s : WalkState = state_before r in
+    rw (← ap (λ (v : ParserView). v.held) (seen-boxes r)) (suffix-by r.whole s.rest s.offset s.failed (state-suffix r))
 
 -- ---- a fault is the last item
 
@@ -282,7 +283,7 @@ halts-byte : (s : WalkState) (to : Phase) (left : ℕ) (rest : List ℕ) → Hal
 halts-byte s to left [] = tt
 halts-byte s to left (x ∷ rest) = tt
 
-halts-mode : (s : WalkState) (m : ParserMode) → Halting (mode_move s m)
+halts-mode : (s : WalkState) (m : WalkMode) → Halting (mode_move s m)
 halts-mode s (Between phase) = halts-act s (step_of (is_some s.last) s.rest (Between phase))
 halts-mode s (Skipping to zero) = tt
 halts-mode s (Skipping to (suc left)) = halts-byte s to left s.rest
@@ -295,5 +296,5 @@ halts-unless s false = halts-mode s s.mode
 walk-fault : (last : Option Presentation) (b : List ℕ) (i : ℕ) (f : StreamFault) (at : ℕ) → slice_get (walk_items last b) i ≡ Some (FaultItem f at) → suc i ≡ length (walk_items last b)
 walk-fault last b i f at e = last-item segments is_walk IsFault (λ s. halts-unless s s.failed) (start last b) i (FaultItem f at) e refl
 
-pub fault-last : (last : Option Presentation) (b : List ℕ) (i : ℕ) (f : StreamFault) (at : ℕ) → slice_get (Items last b) i ≡ Some (FaultItem f at) → suc i ≡ length (Items last b)
+pub fault-last : (last : Option Presentation) (b : List ℕ) (i : ℕ) (f : StreamFault) (at : ℕ) → slice_get (items_of_string last b) i ≡ Some (FaultItem f at) → suc i ≡ length (items_of_string last b)
 fault-last last b i f at e = walk-fault last b i f at (ap (λ items. slice_get items i) (items-boxes last b) ∙ e) ∙ ap length (items-boxes last b)

@@ -27,12 +27,12 @@ use Rattle.segment_walk.specs.declared.kinds.WalkPlace.TheVariants.{AtBox, InDat
 use Rattle.segment_walk.specs.declared.kinds.BoxStep.{BoxStep}
 use Rattle.segment_walk.specs.declared.kinds.BoxStep.TheVariants as step
 use Rattle.segment_walk.specs.Tables.{SegmentItem, box_type, greatest_size}
-use Rattle.segment_walk.specs.Moves.{Open, ParserMode, Between, Skipping, Within, WalkState, once, place_fault, take_box, judge_between, box_between, judge_within, box_within, data_end, place_step, lies_in, slot_step, step_of, move_of_init, move_of_slots, move_of_moof, open_of, act, pass_byte, mode_move, move_unless, place_offset, place_size, size_by, size_unless, more_unless, segments}
+use Rattle.segment_walk.specs.Moves.{Open, WalkMode, Between, Skipping, Within, WalkState, once, place_fault, take_box, judge_between, box_between, judge_within, box_within, step_in_data, place_step, lies_in, slot_step, step_of, move_of_init, move_of_slots, move_of_moof, open_of, act, pass_byte, mode_move, move_unless, place_offset, place_size, size_by, size_unless, more_unless, segments}
 use Rattle.parser_loop.specs.Items.{is_fault}
 
 -- ---- what a step may be, where n bytes are there
 
-abbrev pub IsBetween : ParserMode → Type 0
+abbrev pub IsBetween : WalkMode → Type 0
 IsBetween (Between phase) = Unit {0}
 IsBetween (Skipping to left) = ⊥
 IsBetween (Within o) = ⊥
@@ -41,20 +41,20 @@ IsBetween (Within o) = ⊥
 abbrev ahead : ℕ → WalkPlace → ℕ
 ahead n p = 1048580 * (n - place_offset p) + place_size p
 
-abbrev pub Nearer : ℕ → ParserMode → WalkPlace → Type 0
+abbrev pub Nearer : ℕ → WalkMode → WalkPlace → Type 0
 Nearer n (Between phase) q = ⊥
 Nearer n (Skipping to left) q = ⊥
 Nearer n (Within o) q = ahead n q < ahead n o.place
 
-abbrev pub HasSlot : ParserMode → Slot → Type 0
+abbrev pub HasSlot : WalkMode → Slot → Type 0
 HasSlot (Between phase) slot = ⊥
 HasSlot (Skipping to left) slot = ⊥
 HasSlot (Within o) slot = slice_get o.slots o.taken ≡ Some slot
 
-abbrev pub place_in : ParserMode → ℕ
+abbrev pub place_in : WalkMode → ℕ
 place_in m = place_offset (open_of m).place
 
-abbrev pub Fits : ParserMode → ℕ → BoxStep → Type 0
+abbrev pub Fits : WalkMode → ℕ → BoxStep → Type 0
 Fits m n (step.Wait w) = Unit {0}
 Fits m n (step.Skip to len) = IsBetween m × (8 ≤ len)
 Fits m n (step.ReadInit len) = IsBetween m × (8 ≤ len) × (len ≤ n)
@@ -77,7 +77,7 @@ Same k (step.GiveFrame slot) t = t ≡ step.GiveFrame slot
 Same k (step.EndSegment end) t = t ≡ step.EndSegment end
 Same k (step.Fail f at) t = t ≡ step.Fail f at
 
-abbrev Good : ParserMode → ℕ → ℕ → BoxStep → BoxStep → Type 0
+abbrev Good : WalkMode → ℕ → ℕ → BoxStep → BoxStep → Type 0
 Good m n k st t = Fits m n st × Same k st t
 
 same-refl : (k : ℕ) (st : BoxStep) → Same k st st
@@ -97,7 +97,7 @@ once-short n len st h = let e : ltb n len ≡ true = grind (arith, nat_tests) in
 pub once-there : (n len : ℕ) (st : BoxStep) → len ≤ n → once n len st ≡ st
 once-there n len st h = let e : ltb n len ≡ false = grind (arith, nat_tests) in ap (λ b. cond b (step.Wait len) st) e
 
-good-once : (m : ParserMode) (n k len : ℕ) (st : BoxStep) → n ≤ k → (len ≤ n → Fits m n st) → Good m n k (once n len st) (once k len st)
+good-once : (m : WalkMode) (n k len : ℕ) (st : BoxStep) → n ≤ k → (len ≤ n → Fits m n st) → Good m n k (once n len st) (once k len st)
 good-once m n k len st l f =
     elim (cases_lt n len) as (λ _. Good m n k (once n len st) (once k len st)) [
       | inl h ↦ rw (once-short n len st h) (tt, λ q. once-short k len st q)
@@ -124,7 +124,7 @@ good-take InMedia MovieFragment n k len l h = good-once (Between InMedia) n k le
 good-take InMedia MediaData n k len l h = ((tt, h), refl)
 good-take InMedia Other n k len l h = ((tt, h), refl)
 
-good-if : (m : ParserMode) (n k : ℕ) (b : Bool) (x y x' y' : BoxStep) → Good m n k x x' → (b ≡ false → Good m n k y y') → Good m n k (cond b x y) (cond b x' y')
+good-if : (m : WalkMode) (n k : ℕ) (b : Bool) (x y x' y' : BoxStep) → Good m n k x x' → (b ≡ false → Good m n k y y') → Good m n k (cond b x y) (cond b x' y')
 good-if m n k true x y x' y' h g = h
 good-if m n k false x y x' y' h g = g refl
 
@@ -159,7 +159,7 @@ good-in o n k at head.Short h' p l m e = (tt, λ q. absurd (omega arith))
 good-in o n k at (head.Bad f) h' p l m e = rw (e refl) (omega (arith, m), refl)
 good-in o n k at (head.Whole kind start len) h' p l m e = rw (e refl) (good-judge-in o n k at (box_type kind) start len p l (omega (arith, m.0, m.1)) m.1 (omega (arith, m.0, m.1, m.2)))
 
-good-end : (o : Open) (n end : ℕ) (done : Bool) → o.place ≡ InData end → end ≤ n → Fits (Within o) n (data_end done end)
+good-end : (o : Open) (n end : ℕ) (done : Bool) → o.place ≡ InData end → end ≤ n → Fits (Within o) n (step_in_data done end)
 good-end o n end true e h = (rw e (omega arith), h)
 good-end o n end false e h = rw e (omega arith, omega arith)
 
@@ -187,7 +187,7 @@ room-at rest at = rw (← length-drop at rest) (header-room (drop at rest))
 
 good-place : (o : Open) (rest c : List ℕ) (done : Bool) (p : WalkPlace) → o.place ≡ p → Good (Within o) (length rest) (length (rest ++ c)) (place_step rest done p) (place_step (rest ++ c) done p)
 good-place o rest c done (AtBox at) e = good-in o (length rest) (length (rest ++ c)) at (header_of (drop at rest)) (header_of (drop at (rest ++ c))) e (omega (arith, length-append rest c)) (room-at rest at) (header-at rest c at)
-good-place o rest c done (InData end) e = good-once (Within o) (length rest) (length (rest ++ c)) end (data_end done end) (omega (arith, length-append rest c)) (good-end o (length rest) end done e)
+good-place o rest c done (InData end) e = good-once (Within o) (length rest) (length (rest ++ c)) end (step_in_data done end) (omega (arith, length-append rest c)) (good-end o (length rest) end done e)
 
 good-past : (o : Open) (rest c : List ℕ) (slot : Slot) (b : Bool) → ltb slot.start o.end ≡ b → Good (Within o) (length rest) (length (rest ++ c)) (cond b (step.Fail fault.OutsideMdat slot.start) (place_step rest false o.place)) (cond b (step.Fail fault.OutsideMdat slot.start) (place_step (rest ++ c) false o.place))
 good-past o rest c slot true e = (let h : slot.start < o.end = grind (arith, nat_tests) in omega arith, refl)
@@ -200,7 +200,7 @@ good-slot o rest c (Some slot) e =
     (good-once (Within o) (length rest) (length (rest ++ c)) slot.end (step.GiveFrame slot) (omega (arith, length-append rest c)) (λ h. (e, h)))
     (λ _. good-past o rest c slot (ltb slot.start o.end) refl)
 
-pub good-step : (ready : Bool) (rest c : List ℕ) (m : ParserMode) → Good m (length rest) (length (rest ++ c)) (step_of ready rest m) (step_of ready (rest ++ c) m)
+pub good-step : (ready : Bool) (rest c : List ℕ) (m : WalkMode) → Good m (length rest) (length (rest ++ c)) (step_of ready rest m) (step_of ready (rest ++ c) m)
 unfolding step_of
 good-step ready rest c (Between phase) = good-between ready phase (length rest) (length (rest ++ c)) (header_of rest) (header_of (rest ++ c)) (omega (arith, length-append rest c)) (header-room rest) (header-longer rest c)
 good-step ready rest c (Skipping to left) = (tt, λ q. absurd (omega arith))
@@ -213,7 +213,7 @@ Falls n Stop = Unit {0}
 Falls n (Pass t) = size_unless t t.failed < n
 Falls n (Give item t) = size_unless t t.failed < n
 
-abbrev pub going : Option Presentation → ParserMode → ℕ → List ℕ → WalkState
+abbrev pub going : Option Presentation → WalkMode → ℕ → List ℕ → WalkState
 going last mode offset rest = record { last = last; mode = mode; offset = offset; rest = rest; failed = false }
 
 size-skip : (n len : ℕ) (to : Phase) → 8 ≤ len → size_by n (Skipping to len) ≡ 1048580 * n
@@ -236,7 +236,7 @@ falls-planned : (last with : Option Presentation) (phase : Phase) (offset : ℕ)
 falls-planned last None phase offset rest len h k = omega arith
 falls-planned last (Some p) phase offset rest len h k = falls-opened last phase offset rest len (plan_of p.tracks (take len rest)) (plan-length p.tracks (take len rest)) h k
 
-falls-act : (last : Option Presentation) (m : ParserMode) (offset : ℕ) (rest : List ℕ) (st : BoxStep) → Fits m (length rest) st → Falls (suc (size_by (length rest) m)) (act (going last m offset rest) st)
+falls-act : (last : Option Presentation) (m : WalkMode) (offset : ℕ) (rest : List ℕ) (st : BoxStep) → Fits m (length rest) st → Falls (suc (size_by (length rest) m)) (act (going last m offset rest) st)
 falls-act last m offset rest (step.Wait w) f = tt
 falls-act last (Between phase) offset rest (step.Skip to len) f = omega (arith, size-skip (length rest) len to f.1)
 falls-act last (Skipping a l) offset rest (step.Skip to len) f = absurd f.0
@@ -265,13 +265,13 @@ falls-byte : (s : WalkState) (to : Phase) (left : ℕ) (rest : List ℕ) → Fal
 falls-byte s to left [] = tt
 falls-byte s to left (x ∷ rest) = omega (arith, skip-most (length rest) left to)
 
-falls-mode : (last : Option Presentation) (m : ParserMode) (offset : ℕ) (rest : List ℕ) → Falls (suc (size_by (length rest) m)) (mode_move (going last m offset rest) m)
+falls-mode : (last : Option Presentation) (m : WalkMode) (offset : ℕ) (rest : List ℕ) → Falls (suc (size_by (length rest) m)) (mode_move (going last m offset rest) m)
 falls-mode last (Between phase) offset rest = falls-act last (Between phase) offset rest (step_of (is_some last) rest (Between phase)) (good-step (is_some last) rest [] (Between phase)).0
 falls-mode last (Skipping to zero) offset rest = omega arith
 falls-mode last (Skipping to (suc left)) offset rest = falls-byte (going last (Skipping to (suc left)) offset rest) to left rest
 falls-mode last (Within o) offset rest = falls-act last (Within o) offset rest (step_of (is_some last) rest (Within o)) (good-step (is_some last) rest [] (Within o)).0
 
-falls : (last : Option Presentation) (mode : ParserMode) (offset : ℕ) (rest : List ℕ) (failed : Bool) → let s : WalkState = record { last = last; mode = mode; offset = offset; rest = rest; failed = failed } in Falls (size_unless s failed) (move_unless s failed)
+falls : (last : Option Presentation) (mode : WalkMode) (offset : ℕ) (rest : List ℕ) (failed : Bool) → let s : WalkState = record { last = last; mode = mode; offset = offset; rest = rest; failed = failed } in Falls (size_unless s failed) (move_unless s failed)
 falls last mode offset rest true = tt
 falls last mode offset rest false = falls-mode last mode offset rest
 
@@ -282,15 +282,15 @@ Goes c Stop m = Unit {0}
 Goes c (Pass t) m = m ≡ Pass (more_unless t c t.failed)
 Goes c (Give item t) m = (m ≡ Give item (more_unless t c t.failed)) × (is_fault item ≡ true → more_unless t c t.failed ≡ t)
 
-goes-init : (last : Option Presentation) (mode : ParserMode) (offset len : ℕ) (rest c : List ℕ) (r : Result Presentation InitFault) → len ≤ length rest → Goes c (move_of_init (going last mode offset rest) len r) (move_of_init (going last mode offset (rest ++ c)) len r)
+goes-init : (last : Option Presentation) (mode : WalkMode) (offset len : ℕ) (rest c : List ℕ) (r : Result Presentation InitFault) → len ≤ length rest → Goes c (move_of_init (going last mode offset rest) len r) (move_of_init (going last mode offset (rest ++ c)) len r)
 goes-init last mode offset len rest c (Ok p) h = (rw (drop-append-le len rest c h) refl, λ e. cc)
 goes-init last mode offset len rest c (Err f) h = (refl, λ _. refl)
 
-goes-opened : (last : Option Presentation) (mode : ParserMode) (offset len : ℕ) (rest c : List ℕ) (r : Result (List Slot) MoofFault) → Goes c (move_of_slots (going last mode offset rest) len r) (move_of_slots (going last mode offset (rest ++ c)) len r)
+goes-opened : (last : Option Presentation) (mode : WalkMode) (offset len : ℕ) (rest c : List ℕ) (r : Result (List Slot) MoofFault) → Goes c (move_of_slots (going last mode offset rest) len r) (move_of_slots (going last mode offset (rest ++ c)) len r)
 goes-opened last mode offset len rest c (Ok slots) = refl
 goes-opened last mode offset len rest c (Err f) = (refl, λ _. refl)
 
-goes-planned : (last with : Option Presentation) (mode : ParserMode) (offset len : ℕ) (rest c : List ℕ) → len ≤ length rest → Goes c (move_of_moof (going last mode offset rest) len with) (move_of_moof (going last mode offset (rest ++ c)) len with)
+goes-planned : (last with : Option Presentation) (mode : WalkMode) (offset len : ℕ) (rest c : List ℕ) → len ≤ length rest → Goes c (move_of_moof (going last mode offset rest) len with) (move_of_moof (going last mode offset (rest ++ c)) len with)
 goes-planned last None mode offset len rest c h = (refl, λ _. refl)
 goes-planned last (Some p) mode offset len rest c h = rw (take-append-le len rest c h) (goes-opened last mode offset len rest c (plan_of p.tracks (take len rest)))
 
@@ -307,7 +307,7 @@ slice-longer b c i j k =
           ap (λ n. take n (drop i (b ++ c))) z ∙ sym (ap (λ n. take n (drop i b)) z)
     ]
 
-goes-act : (last : Option Presentation) (m : ParserMode) (offset : ℕ) (rest c : List ℕ) (st : BoxStep) → Fits m (length rest) st → Goes c (act (going last m offset rest) st) (act (going last m offset (rest ++ c)) st)
+goes-act : (last : Option Presentation) (m : WalkMode) (offset : ℕ) (rest c : List ℕ) (st : BoxStep) → Fits m (length rest) st → Goes c (act (going last m offset rest) st) (act (going last m offset (rest ++ c)) st)
 goes-act last m offset rest c (step.Wait w) f = tt
 goes-act last m offset rest c (step.Skip to len) f = refl
 goes-act last m offset rest c (step.ReadInit len) f = rw (take-append-le len rest c f.2) (goes-init last m offset len rest c (init_of (take len rest)) f.2)
@@ -318,7 +318,7 @@ goes-act last m offset rest c (step.GiveFrame slot) f = rw (slice-longer rest c 
 goes-act last m offset rest c (step.EndSegment end) f = (rw (drop-append-le end rest c f.1) refl, λ e. cc)
 goes-act last m offset rest c (step.Fail e at) f = (refl, λ _. refl)
 
-goes-same : (last : Option Presentation) (m : ParserMode) (offset k : ℕ) (rest c : List ℕ) (st t : BoxStep) → Fits m (length rest) st → Same k st t → Goes c (act (going last m offset rest) st) (act (going last m offset (rest ++ c)) t)
+goes-same : (last : Option Presentation) (m : WalkMode) (offset k : ℕ) (rest c : List ℕ) (st t : BoxStep) → Fits m (length rest) st → Same k st t → Goes c (act (going last m offset rest) st) (act (going last m offset (rest ++ c)) t)
 goes-same last m offset k rest c (step.Wait w) t f e = tt
 goes-same last m offset k rest c (step.Skip to len) t f e = rw e (goes-act last m offset rest c (step.Skip to len) f)
 goes-same last m offset k rest c (step.ReadInit len) t f e = rw e (goes-act last m offset rest c (step.ReadInit len) f)
@@ -329,22 +329,22 @@ goes-same last m offset k rest c (step.GiveFrame slot) t f e = rw e (goes-act la
 goes-same last m offset k rest c (step.EndSegment end) t f e = rw e (goes-act last m offset rest c (step.EndSegment end) f)
 goes-same last m offset k rest c (step.Fail g at) t f e = rw e (goes-act last m offset rest c (step.Fail g at) f)
 
-goes-step : (last : Option Presentation) (m : ParserMode) (offset : ℕ) (rest c : List ℕ) → Goes c (act (going last m offset rest) (step_of (is_some last) rest m)) (act (going last m offset (rest ++ c)) (step_of (is_some last) (rest ++ c) m))
+goes-step : (last : Option Presentation) (m : WalkMode) (offset : ℕ) (rest c : List ℕ) → Goes c (act (going last m offset rest) (step_of (is_some last) rest m)) (act (going last m offset (rest ++ c)) (step_of (is_some last) (rest ++ c) m))
 goes-step last m offset rest c =
     let g = good-step (is_some last) rest c m in
     goes-same last m offset (length (rest ++ c)) rest c (step_of (is_some last) rest m) (step_of (is_some last) (rest ++ c) m) g.0 g.1
 
-goes-byte : (last : Option Presentation) (m : ParserMode) (offset left : ℕ) (to : Phase) (all rest c : List ℕ) → Goes c (pass_byte (going last m offset all) to left rest) (pass_byte (going last m offset (all ++ c)) to left (rest ++ c))
+goes-byte : (last : Option Presentation) (m : WalkMode) (offset left : ℕ) (to : Phase) (all rest c : List ℕ) → Goes c (pass_byte (going last m offset all) to left rest) (pass_byte (going last m offset (all ++ c)) to left (rest ++ c))
 goes-byte last m offset left to all [] c = tt
 goes-byte last m offset left to all (x ∷ rest) c = refl
 
-goes-mode : (last : Option Presentation) (m : ParserMode) (offset : ℕ) (rest c : List ℕ) → Goes c (mode_move (going last m offset rest) m) (mode_move (going last m offset (rest ++ c)) m)
+goes-mode : (last : Option Presentation) (m : WalkMode) (offset : ℕ) (rest c : List ℕ) → Goes c (mode_move (going last m offset rest) m) (mode_move (going last m offset (rest ++ c)) m)
 goes-mode last (Between phase) offset rest c = goes-step last (Between phase) offset rest c
 goes-mode last (Skipping to zero) offset rest c = refl
 goes-mode last (Skipping to (suc left)) offset rest c = goes-byte last (Skipping to (suc left)) offset left to rest rest c
 goes-mode last (Within o) offset rest c = goes-step last (Within o) offset rest c
 
-goes : (last : Option Presentation) (mode : ParserMode) (offset : ℕ) (rest c : List ℕ) (failed : Bool) → let s : WalkState = record { last = last; mode = mode; offset = offset; rest = rest; failed = failed } in let t : WalkState = more_unless s c failed in Goes c (move_unless s failed) (move_unless t t.failed)
+goes : (last : Option Presentation) (mode : WalkMode) (offset : ℕ) (rest c : List ℕ) (failed : Bool) → let s : WalkState = record { last = last; mode = mode; offset = offset; rest = rest; failed = failed } in let t : WalkState = more_unless s c failed in Goes c (move_unless s failed) (move_unless t t.failed)
 goes last mode offset rest c true = tt
 goes last mode offset rest c false = goes-mode last mode offset rest c
 

@@ -1,10 +1,11 @@
 -- A worked string: a media segment of one coded frame.
-use Rattle.std.specs.Prelude.{ℕ, pos, true, List, [], ◌∷◌, ◌++◌}
+use Rattle.std.specs.Prelude.{ℕ, pos, true, List, [], ◌∷◌, ◌++◌, Some}
 use lib.Chars.{codes}
 use Rattle.mse_base.specs.declared.track.Kind.TheVariants.{Video}
 use Rattle.mse_base.specs.declared.track.Presentation.{Presentation}
 use Rattle.mse_base.specs.declared.ticks.Moment.TheVariants.{Infinite}
 use Rattle.parser_loop.specs.Items.{FrameItem, SegmentEnd}
+use Rattle.parser_loop.specs.StringReadings.{StringReading}
 use Rattle.segment_walk.specs.Tables.{SegmentItem}
 
 -- one video track, with frames of 1 second
@@ -40,6 +41,10 @@ segment =
     ++ four 16 ++ codes "tfdt" ++ four 0 ++ four 0
     ++ four 24 ++ codes "trun" ++ (0 ∷ 0 ∷ 2 ∷ 1 ∷ []) ++ four 1 ++ four 80 ++ four 2
     ++ four 10 ++ codes "mdat" ++ (7 ∷ 9 ∷ [])
+
+-- a reading of it behind that track, of whose items so many were given
+abbrev pub segment_reading : ℕ → StringReading
+segment_reading taken = record { before = Some one_track; whole = segment; taken = taken }
 
 abbrev pub segment_items : List SegmentItem
 segment_items =

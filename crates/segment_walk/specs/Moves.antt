@@ -39,16 +39,16 @@ pub record Open : Type 0 where
 
 -- Before a top-level box; in a box that is passed over, with the number of bytes to its end and the append state
 -- behind its header; in a movie fragment.
-pub data ParserMode : Type 0 where
-  Between : Phase → ParserMode
-  Skipping : Phase → ℕ → ParserMode
-  Within : Open → ParserMode
+pub data WalkMode : Type 0 where
+  Between : Phase → WalkMode
+  Skipping : Phase → ℕ → WalkMode
+  Within : Open → WalkMode
 
 -- The state of the walk: the presentation of the last initialization segment, the bytes of the string from `offset`
 -- on, which in a movie fragment is the first byte of its moof, and whether a fault was met.
 pub record WalkState : Type 0 where
   pub last : Option Presentation
-  pub mode : ParserMode
+  pub mode : WalkMode
   pub offset : ℕ
   pub rest : List ℕ
   pub failed : Bool
@@ -111,13 +111,13 @@ box_within n at (head.Bad f) = step.Fail (size_fault f) at
 box_within n at (head.Whole kind start len) = judge_within n at (box_type kind) start len
 
 -- at the end of an mdat: the media segment ends there if no slot is left
-abbrev pub data_end : Bool → ℕ → BoxStep
-data_end true end = step.EndSegment end
-data_end false end = step.NextBox end
+abbrev pub step_in_data : Bool → ℕ → BoxStep
+step_in_data true end = step.EndSegment end
+step_in_data false end = step.NextBox end
 
 abbrev pub place_step : List ℕ → Bool → WalkPlace → BoxStep
 place_step rest done (AtBox at) = box_within (length rest) at (header_of (drop at rest))
-place_step rest done (InData end) = once (length rest) end (data_end done end)
+place_step rest done (InData end) = once (length rest) end (step_in_data done end)
 
 -- the slot lies inside the payload of an mdat
 abbrev pub lies_in : List DataRange → Slot → Bool
@@ -137,7 +137,7 @@ slot_step rest known end place (Some slot) =
     else (if nat_lt slot.start end then step.Fail fault.OutsideMdat slot.start
     else place_step rest false place)
 
-unfoldable pub step_of : Bool → List ℕ → ParserMode → BoxStep
+unfoldable pub step_of : Bool → List ℕ → WalkMode → BoxStep
 step_of ready rest (Between phase) = box_between ready phase (length rest) (header_of rest)
 step_of ready rest (Skipping to left) = step.Wait 0
 step_of ready rest (Within o) = slot_step rest o.known o.end o.place (slice_get o.slots o.taken)
@@ -160,7 +160,7 @@ state_past s last n = record {
   failed = false;
 }
 
-abbrev pub state_in : WalkState → ParserMode → WalkState
+abbrev pub state_in : WalkState → WalkMode → WalkState
 state_in s mode = record {
   last = s.last;
   mode = mode;
@@ -174,7 +174,7 @@ move_of_init s len (Ok p) = Give (InitItem p s.offset) (state_past s (Some p) le
 move_of_init s len (Err f) = fail s (fault.Init f) 0
 
 -- a movie fragment whose moof has `len` bytes
-abbrev pub open_mode : List Slot → ℕ → ParserMode
+abbrev pub open_mode : List Slot → ℕ → WalkMode
 open_mode slots len =
     Within (record { slots = slots; taken = 0; known = []; end = 0; place = AtBox len })
 
@@ -187,12 +187,12 @@ move_of_moof s len None = fail s fault.NoInit 0
 move_of_moof s len (Some p) = move_of_slots s len (plan_of p.tracks (take len s.rest))
 
 -- the movie fragment that is open, or an empty one
-abbrev pub open_of : ParserMode → Open
+abbrev pub open_of : WalkMode → Open
 open_of (Between phase) = record { slots = []; taken = 0; known = []; end = 0; place = AtBox 0 }
 open_of (Skipping to left) = record { slots = []; taken = 0; known = []; end = 0; place = AtBox 0 }
 open_of (Within o) = o
 
-abbrev pub in_data : Open → ℕ → ℕ → ParserMode
+abbrev pub in_data : Open → ℕ → ℕ → WalkMode
 in_data o start end =
     Within
     (record {
@@ -203,12 +203,12 @@ in_data o start end =
       place = InData end;
     })
 
-abbrev pub at_box : Open → ℕ → ParserMode
+abbrev pub at_box : Open → ℕ → WalkMode
 at_box o at =
     Within
     (record { slots = o.slots; taken = o.taken; known = o.known; end = o.end; place = AtBox at })
 
-abbrev pub with_slot_taken : Open → ParserMode
+abbrev pub with_slot_taken : Open → WalkMode
 with_slot_taken o =
     Within
     (record { slots = o.slots; taken = o.taken + 1; known = o.known; end = o.end; place = o.place })
@@ -247,7 +247,7 @@ pass_byte s to left (x ∷ rest) =
     (record
     { last = s.last; mode = Skipping to left; offset = s.offset + 1; rest = rest; failed = false })
 
-abbrev pub mode_move : WalkState → ParserMode → Move WalkState SegmentItem
+abbrev pub mode_move : WalkState → WalkMode → Move WalkState SegmentItem
 mode_move s (Between phase) = act s (step_of (is_some s.last) s.rest (Between phase))
 mode_move s (Skipping to zero) = Pass (state_in s (Between to))
 mode_move s (Skipping to (suc left)) = pass_byte s to left s.rest
@@ -269,7 +269,7 @@ place_size (InData end) = 2
 
 -- What each move lowers: the bytes that are not walked over, each of which stands for more moves than a movie
 -- fragment has slots, which are at most 2^20.
-abbrev pub size_by : ℕ → ParserMode → ℕ
+abbrev pub size_by : ℕ → WalkMode → ℕ
 size_by n (Between phase) = 1048580 * n + 1
 size_by n (Skipping to zero) = 1048580 * n + 2
 size_by n (Skipping to (suc left)) = 1048580 * n

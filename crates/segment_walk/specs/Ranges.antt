@@ -3,9 +3,9 @@ use Rattle.std.specs.Prelude.{◌≡◌, ◌≤◌, true, List, take}
 use Rattle.std.specs.List.Sorted.{IsNonDecreasingBy}
 use Rattle.segment_walk.specs.declared.kinds.DataRange.{DataRange}
 use Rattle.segment_walk.specs.declared.kinds.Fragment.{Fragment}
-use Rattle.segment_walk.specs.declared.kinds.ParserMode as code
+use Rattle.segment_walk.specs.declared.kinds.ParserMode.{ParserMode}
 use Rattle.segment_walk.specs.declared.kinds.ParserMode.TheVariants as codes
-use Rattle.segment_walk.specs.Moves.{Open, open_of, lies_in, Between, Skipping, Within}
+use Rattle.segment_walk.specs.Moves.{Open, lies_in, Between, Skipping, Within}
 use Rattle.segment_walk.specs.Moves as walk
 use Rattle.bmff_fragment.specs.declared.slot.Slot.{Slot}
 
@@ -20,10 +20,10 @@ IsCoveredRange known range =
     (s : Slot) → range.start ≤ s.start → s.end ≤ range.end → lies_in known s ≡ true
 
 -- the data ranges that a place of the walk sees come in order
-abbrev pub SeesAscending : code.ParserMode → List DataRange → Type 0
-SeesAscending (codes.Between phase) known = Unit {0}
-SeesAscending (codes.Skipping to left) known = Unit {0}
-SeesAscending (codes.Within f) known = AreRangesAscending (take f.known known)
+abbrev pub HasAscendingRanges : ParserMode → List DataRange → Type 0
+HasAscendingRanges (codes.Between phase) known = Unit {0}
+HasAscendingRanges (codes.Skipping to left) known = Unit {0}
+HasAscendingRanges (codes.Within f) known = AreRangesAscending (take f.known known)
 
 -- what the code keeps of a movie fragment, with the tables in which its slots and data ranges lie
 abbrev pub open_at : List Slot → List DataRange → Fragment → Open
@@ -35,7 +35,7 @@ open_at slots known f = record {
   place = f.place;
 }
 
-abbrev pub mode_of : List Slot → List DataRange → code.ParserMode → walk.ParserMode
+abbrev pub mode_of : List Slot → List DataRange → ParserMode → walk.WalkMode
 mode_of slots known (codes.Between phase) = Between phase
 mode_of slots known (codes.Skipping to left) = Skipping to left
 mode_of slots known (codes.Within f) = Within (open_at slots known f)

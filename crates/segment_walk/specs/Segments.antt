@@ -15,6 +15,7 @@ use Rattle.bmff_fragment.specs.declared.slot.Slot.{Slot}
 use Rattle.bmff_fragment.specs.Plans.{plan_of}
 use Rattle.parser_loop.specs.Items.{InitItem, FrameItem, SegmentEnd, FaultItem, leading_frames}
 use Rattle.parser_loop.specs.Parse.{Parse, NoItem, ItemThen, ParserView, items_of, seen_before}
+use Rattle.parser_loop.specs.StringReadings.{StringReading}
 use Rattle.segment_walk.specs.declared.kinds.StreamFault.{StreamFault}
 use Rattle.segment_walk.specs.declared.kinds.StreamFault.TheVariants as fault
 use Rattle.segment_walk.specs.declared.kinds.TopLevelBox.{TopLevelBox}
@@ -22,8 +23,8 @@ use Rattle.segment_walk.specs.declared.kinds.TopLevelBox.TheVariants.{FileType, 
 use Rattle.segment_walk.specs.declared.kinds.DataRange.{DataRange}
 use Rattle.segment_walk.specs.Tables.{SegmentItem, BoxUse, PassOver, ReadMovie, ReadFragment, box_type, size_fault, greatest_size, box_use}
 
--- A movie fragment whose coded frames have not all come: the offset of its moof, the slots of these frames, the payloads
--- of the mdats behind it up to here, and the end of the last of these, or the offset of the moof.
+-- A movie fragment whose coded frames have not all come: the offset of its moof, the slots of these frames, the
+-- payloads of the mdats behind it up to here, and the end of the last of these, or the offset of the moof.
 pub record OpenFragment : Type 0 where
   pub moof : ℕ
   pub slots : List Slot
@@ -114,8 +115,8 @@ is_inside moof (k ∷ ks) s =
     (nat_le k.start (moof + s.start) && nat_le (moof + s.end) k.end) || is_inside moof ks s
 
 -- the coded frame of a slot is the part of the string at its place
-abbrev pub frame_at : List ℕ → ℕ → Slot → SegmentItem
-frame_at b moof s = FrameItem (record {
+abbrev pub frame_item_at : List ℕ → ℕ → Slot → SegmentItem
+frame_item_at b moof s = FrameItem (record {
   track_id = s.track_id;
   pts = s.pts;
   dts = s.dts;
@@ -132,7 +133,7 @@ parse_of_slots b now f next [] = next []
 parse_of_slots b now f next (s ∷ slots) =
     if is_inside f.moof f.payloads s then
     parse_once_there b (f.moof + s.end) now
-    (ItemThen now (frame_at b f.moof s) (parse_of_slots b now f next slots))
+    (ItemThen now (frame_item_at b f.moof s) (parse_of_slots b now f next slots))
     else (if nat_lt (f.moof + s.start) f.end
     then parse_of_fault now fault.OutsideMdat (f.moof + s.start)
     else next (s ∷ slots))
@@ -216,23 +217,24 @@ unfoldable pub segment_parse : Option Presentation → List ℕ → SegmentParse
 segment_parse last b = parse_of_boxes (suc (length b)) b last (NoFragment Waiting) 0
 
 -- all items of the string
-abbrev pub Items : Option Presentation → List ℕ → List SegmentItem
-Items last b = items_of (segment_parse last b)
+abbrev pub items_of_string : Option Presentation → List ℕ → List SegmentItem
+items_of_string last b = items_of (segment_parse last b)
 
--- Just before item n, counted from 0, or at the end where there is no item n: where the segment parser loop is (Media
--- Source Extensions, append state), the latest presentation, and the bytes of the string that are held in memory.
-abbrev pub phase_before : Option Presentation → List ℕ → ℕ → Phase
-phase_before last b n = (seen_before n (segment_parse last b)).phase
+-- Just before the next item of a reading, or at the end of its string where there is none: where the segment parser
+-- loop is (Media Source Extensions, append state), the latest presentation, and the bytes of the string that are held
+-- in memory.
+abbrev pub phase_before : StringReading → Phase
+phase_before r = (seen_before r.taken (segment_parse r.before r.whole)).phase
 
-abbrev pub latest_before : Option Presentation → List ℕ → ℕ → Option Presentation
-latest_before last b n = (seen_before n (segment_parse last b)).latest
+abbrev pub latest_before : StringReading → Option Presentation
+latest_before r = (seen_before r.taken (segment_parse r.before r.whole)).latest
 
-abbrev pub held_before : Option Presentation → List ℕ → ℕ → List ℕ
-held_before last b n = (seen_before n (segment_parse last b)).held
+abbrev pub held_before : StringReading → List ℕ
+held_before r = (seen_before r.taken (segment_parse r.before r.whole)).held
 
--- how many of the items from n on are coded frames, up to the first that is none
-abbrev pub ready_before : Option Presentation → List ℕ → ℕ → ℕ
-ready_before last b n = length (leading_frames (drop n (Items last b)))
+-- how many of the next items are coded frames, up to the first that is none
+abbrev pub ready_before : StringReading → ℕ
+ready_before r = length (leading_frames (drop r.taken (items_of_string r.before r.whole)))
 
 -- ---- the box at an offset
 

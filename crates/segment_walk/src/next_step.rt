@@ -1,9 +1,9 @@
-ghost use Rattle.std.specs.Prelude.{◌≡◌, ℕ, ◌+◌, ◌≤◌, ◌<◌, ◌^◌, List, length, take, drop};
+ghost use Rattle.std.specs.Prelude.{◌≡◌, ◌+◌, ◌≤◌, ◌<◌, length, take, drop};
 ghost use Rattle.std.specs.List.{concat};
 ghost use Rattle.bmff_boxes.specs.Headers.{header_of};
 ghost use Rattle.segment_walk.specs.Tables.{size_fault, box_type, greatest_size};
 ghost use Rattle.segment_walk.specs.Moves.{place_fault, take_box, box_between, box_within, place_step, lies_in, slot_step, step_of};
-ghost use Rattle.segment_walk.specs.Ranges.{mode_of, AreRangesAscending, SeesAscending};
+ghost use Rattle.segment_walk.specs.Ranges.{mode_of, AreRangesAscending, HasAscendingRanges};
 ghost use Rattle.segment_walk.specs.Bounds.{IsHead, is_segment_start};
 
 use crate::kinds::{BoxStep, DataRange, ParserMode, StreamFault, TopLevelBox, WalkPlace};
@@ -265,7 +265,7 @@ pub fn step(
     from: usize,
 ) -> BoxStep
     requires inside { from ≤ length (concat input.now) }
-    requires ascending { SeesAscending mode known.now }
+    requires ascending { HasAscendingRanges mode known.now }
     ensures { result ≡ step_of ready (drop from (concat input.now))
         (mode_of slots.now known.now mode) }
 {

@@ -45,7 +45,7 @@ fn shown_of(next: &Next) -> Shown {
 /// Appends bytes to the string.
 fn feed(stream: &mut ByteStream, bytes: &[u8]) -> Result<(), OutOfMemory>
     requires none_offered { stream.old.offered ≡ None }
-    requires room { stream.old.fed + length bytes.now < 2 ^ 62 }
+    requires countable { stream.old.fed + length bytes.now < 2 ^ 62 }
     ensures none_offered { stream.new.offered ≡ None }
     ensures fed { OnOk result (stream.new.fed ≡ stream.old.fed + length bytes.now) }
 {
@@ -74,7 +74,7 @@ fn take_all(alloc: Global, stream: &mut ByteStream) -> Result<Vec<Shown>, OutOfM
 
 /// What is done with a stream, or asserted of it.
 #[derive(Clone, Copy)]
-enum Step {
+enum StreamCall {
     /// Appends bytes.
     Feed(&'static [u8]),
     /// Appends so many bytes that are told in hex.
@@ -167,36 +167,44 @@ fn expect_all(
     Ok(())
 }
 
-fn take(rt: &(impl Abort + AllocGlobal), stream: &mut ByteStream, step: Step) -> Result<(), Fail>
+fn take(
+    rt: &(impl Abort + AllocGlobal),
+    stream: &mut ByteStream,
+    step: StreamCall,
+) -> Result<(), Fail>
     requires { stream.old.offered ≡ None }
     ensures { stream.new.offered ≡ None }
 {
     match step {
-        Step::Feed(bytes) => append(rt, stream, bytes)?,
-        Step::Hex(text, len) => append(rt, stream, decoded(rt, text, len)?.as_slice())?,
-        Step::Share(bytes) => share(rt, stream, Bytes::copy_of(rt.alloc(), bytes)?)?,
-        Step::ShareHex(text, len) => {
+        StreamCall::Feed(bytes) => append(rt, stream, bytes)?,
+        StreamCall::Hex(text, len) => append(rt, stream, decoded(rt, text, len)?.as_slice())?,
+        StreamCall::Share(bytes) => share(rt, stream, Bytes::copy_of(rt.alloc(), bytes)?)?,
+        StreamCall::ShareHex(text, len) => {
             let bytes = decoded(rt, text, len)?;
             share(rt, stream, Bytes::from_vec(rt.alloc(), bytes)?)?;
         }
-        Step::Decline(bytes) => decline(rt, stream, bytes)?,
-        Step::Reset => stream.reset(),
-        Step::Restart(container) => stream.restart(container),
-        Step::Look(i, want) => assert_eq!(rt; shown_of(&look(rt, stream, i)?), want),
-        Step::LookFault(want, at) => expect_fault(rt, &look(rt, stream, 0)?, want, at),
-        Step::Next(want) => assert_eq!(rt; shown_of(&stream.next()?), want),
-        Step::NextFault(want, at) => expect_fault(rt, &stream.next()?, want, at),
-        Step::All(want) => expect_all(rt, stream, want)?,
-        Step::Phase(want) => assert_eq!(rt; stream.phase(), want),
-        Step::Ready(want) => assert_eq!(rt; stream.ready_frames(), want),
-        Step::Held(want) => assert_eq!(rt; stream.held_len(), want),
-        Step::Len(want) => assert_eq!(rt; stream.len(), want),
+        StreamCall::Decline(bytes) => decline(rt, stream, bytes)?,
+        StreamCall::Reset => stream.reset(),
+        StreamCall::Restart(container) => stream.restart(container),
+        StreamCall::Look(i, want) => assert_eq!(rt; shown_of(&look(rt, stream, i)?), want),
+        StreamCall::LookFault(want, at) => expect_fault(rt, &look(rt, stream, 0)?, want, at),
+        StreamCall::Next(want) => assert_eq!(rt; shown_of(&stream.next()?), want),
+        StreamCall::NextFault(want, at) => expect_fault(rt, &stream.next()?, want, at),
+        StreamCall::All(want) => expect_all(rt, stream, want)?,
+        StreamCall::Phase(want) => assert_eq!(rt; stream.phase(), want),
+        StreamCall::Ready(want) => assert_eq!(rt; stream.ready_frames(), want),
+        StreamCall::Held(want) => assert_eq!(rt; stream.held_len(), want),
+        StreamCall::Len(want) => assert_eq!(rt; stream.len(), want),
     }
     Ok(())
 }
 
 /// Takes steps from a new stream on.
-fn play(rt: &(impl Abort + AllocGlobal), container: Container, steps: &[Step]) -> Result<(), Fail> {
+fn play(
+    rt: &(impl Abort + AllocGlobal),
+    container: Container,
+    steps: &[StreamCall],
+) -> Result<(), Fail> {
     let mut stream = ByteStream::new(rt.alloc(), container);
     'steps: for step in steps {
         take(rt, &mut stream, *step)?;
@@ -208,25 +216,25 @@ const INIT_SHOWN: Shown = (1, 24, 90_000, 1);
 
 const LAST_SHOWN: Shown = (2, 747, 4_704_000_000, 4);
 
-const SEGMENTS: [Step; 13] = [
-    Step::Hex(INIT, 595),
-    Step::Phase(Phase::InInit),
-    Step::Look(0, INIT_SHOWN),
-    Step::Next(INIT_SHOWN),
-    Step::Hex(THREE_FRAMES, 156),
-    Step::Ready(3),
-    Step::Look(2, LAST_SHOWN),
-    Step::Phase(Phase::InMedia),
-    Step::Held(156),
-    Step::All(&[
+const SEGMENTS: [StreamCall; 13] = [
+    StreamCall::Hex(INIT, 595),
+    StreamCall::Phase(Phase::InInit),
+    StreamCall::Look(0, INIT_SHOWN),
+    StreamCall::Next(INIT_SHOWN),
+    StreamCall::Hex(THREE_FRAMES, 156),
+    StreamCall::Ready(3),
+    StreamCall::Look(2, LAST_SHOWN),
+    StreamCall::Phase(Phase::InMedia),
+    StreamCall::Held(156),
+    StreamCall::All(&[
         (2, 739, 4_704_000_000, 4),
         (2, 743, 4_704_000_000, 4),
         LAST_SHOWN,
         (3, 0, 0, 0),
     ]),
-    Step::Phase(Phase::Waiting),
-    Step::Held(0),
-    Step::Len(751),
+    StreamCall::Phase(Phase::Waiting),
+    StreamCall::Held(0),
+    StreamCall::Len(751),
 ];
 
 /// A file of one track and three frames of 3000 units at 90000.
@@ -249,18 +257,18 @@ const TWO: [Shown; 5] = [
     (3, 0, 0, 0),
 ];
 
-const TWO_FRAMES: [Step; 11] = [
-    Step::Feed(&FRONT),
-    Step::Phase(Phase::Waiting),
-    Step::All(&ONE_FRAME),
-    Step::Phase(Phase::InMedia),
-    Step::Held(7),
-    Step::Ready(0),
-    Step::Feed(&[0; 3]),
-    Step::Ready(1),
-    Step::All(&[(2, 10, 3_276_800_000, 10), (3, 0, 0, 0)]),
-    Step::Held(0),
-    Step::Len(20),
+const TWO_FRAMES: [StreamCall; 11] = [
+    StreamCall::Feed(&FRONT),
+    StreamCall::Phase(Phase::Waiting),
+    StreamCall::All(&ONE_FRAME),
+    StreamCall::Phase(Phase::InMedia),
+    StreamCall::Held(7),
+    StreamCall::Ready(0),
+    StreamCall::Feed(&[0; 3]),
+    StreamCall::Ready(1),
+    StreamCall::All(&[(2, 10, 3_276_800_000, 10), (3, 0, 0, 0)]),
+    StreamCall::Held(0),
+    StreamCall::Len(20),
 ];
 
 /// Two ADTS frames of 1024 samples, the second of which comes in two pieces.
@@ -269,22 +277,22 @@ fn two_frames(rt: HostRuntime) -> Result<(), Fail> {
     play(&rt, Container::Adts, &TWO_FRAMES)
 }
 
-const BEGUN_ANEW: [Step; 15] = [
-    Step::Feed(b"\0\0\0\0free"),
-    Step::LookFault(ByteFault::Segments(StreamFault::SizeZero), 0),
-    Step::Restart(Container::Adts),
-    Step::Feed(&FRAME),
-    Step::Next(ADTS_INIT),
-    Step::Reset,
-    Step::Len(0),
-    Step::Held(0),
-    Step::Feed(&FRAME),
-    Step::Next(ADTS_FRAME),
-    Step::Restart(Container::Adts),
-    Step::Feed(&FRAME),
-    Step::Next(ADTS_INIT),
-    Step::Restart(Container::Mp4),
-    Step::Phase(Phase::Waiting),
+const BEGUN_ANEW: [StreamCall; 15] = [
+    StreamCall::Feed(b"\0\0\0\0free"),
+    StreamCall::LookFault(ByteFault::Segments(StreamFault::SizeZero), 0),
+    StreamCall::Restart(Container::Adts),
+    StreamCall::Feed(&FRAME),
+    StreamCall::Next(ADTS_INIT),
+    StreamCall::Reset,
+    StreamCall::Len(0),
+    StreamCall::Held(0),
+    StreamCall::Feed(&FRAME),
+    StreamCall::Next(ADTS_FRAME),
+    StreamCall::Restart(Container::Adts),
+    StreamCall::Feed(&FRAME),
+    StreamCall::Next(ADTS_INIT),
+    StreamCall::Restart(Container::Mp4),
+    StreamCall::Phase(Phase::Waiting),
 ];
 
 /// The presentation stays with `reset`, and goes with `restart`, which takes another container.
@@ -293,14 +301,14 @@ fn begun_anew(rt: HostRuntime) -> Result<(), Fail> {
     play(&rt, Container::Mp4, &BEGUN_ANEW)
 }
 
-const OFFERS: [Step; 7] = [
-    Step::Decline(&[0; 7]),
-    Step::Len(0),
-    Step::Held(0),
-    Step::Feed(&FRAME),
-    Step::All(&ONE_FRAME),
-    Step::Feed(&[0; 7]),
-    Step::NextFault(ByteFault::Frames(AdtsFault::Sync), 10),
+const OFFERS: [StreamCall; 7] = [
+    StreamCall::Decline(&[0; 7]),
+    StreamCall::Len(0),
+    StreamCall::Held(0),
+    StreamCall::Feed(&FRAME),
+    StreamCall::All(&ONE_FRAME),
+    StreamCall::Feed(&[0; 7]),
+    StreamCall::NextFault(ByteFault::Frames(AdtsFault::Sync), 10),
 ];
 
 /// What is offered and declined is gone.
@@ -312,9 +320,12 @@ fn offers(rt: HostRuntime) -> Result<(), Fail> {
 /// Bytes whose memory is shared give what they give when they are copied.
 #[test]
 fn shared_bytes(rt: HostRuntime) -> Result<(), Fail> {
-    let frames = [Step::Share(&FRAMES), Step::All(&TWO)];
+    let frames = [StreamCall::Share(&FRAMES), StreamCall::All(&TWO)];
     play(&rt, Container::Adts, &frames)?;
-    let segments = [Step::ShareHex(INIT, 595), Step::Next(INIT_SHOWN)];
+    let segments = [
+        StreamCall::ShareHex(INIT, 595),
+        StreamCall::Next(INIT_SHOWN),
+    ];
     play(&rt, Container::Mp4, &segments)
 }
 

@@ -9,6 +9,7 @@ use files::*;
 use mse_base::{OutOfMemory, Phase};
 use segment_stream::*;
 use std::alloc::Global;
+use std::process::Abort;
 use std::test::*;
 
 /// What a test looks at: 1 for an initialization segment, 2 for a frame, 3 for the end of a segment, 4 for a
@@ -297,9 +298,22 @@ fn several_mdats(rt: HostRuntime) -> Result<(), Fail> {
     Ok(())
 }
 
+/// A file of a video and an audio track: `INIT` up to its `mvex`, with the size of the larger `moov` and the number of
+/// the next track, and `SECOND_TRACK`.
+fn two_track_file(rt: &(impl Abort + AllocGlobal)) -> Result<Vec<u8>, Fail> {
+    let mut file = hex::decode(rt.alloc(), INIT)?;
+    assert_eq!(rt; file.len(), 595);
+    file.truncate(555);
+    file[26] = 0x03;
+    file[27] = 0xc4;
+    file[139] = 3;
+    file.extend_from_slice(hex::decode(rt.alloc(), SECOND_TRACK)?.as_slice())?;
+    Ok(file)
+}
+
 #[test]
 fn two_tracks(rt: HostRuntime) -> Result<(), Fail> {
-    let file = hex::decode(rt.alloc(), TWO_TRACKS)?;
+    let file = two_track_file(&rt)?;
     assert_eq!(rt; file.len(), 1311);
     let items = items_of(rt.alloc(), file.as_slice(), 0)?;
     assert_eq!(rt; items.len(), 10);

@@ -6,6 +6,6 @@ pub returns : goal.returns
 returns c = record {
   walk = is_walk;
   items = λ last b. items-frames last b;
-  view = λ last b n. view-frames last b n;
+  view = λ r. view-frames r;
   enough = λ last b n h. enough-frames last b n h;
 }

@@ -2,4 +2,4 @@ use Rattle.adts_stream.proofs.Places.{held-suffix}
 use Rattle.adts_stream.proofs.laws.held_law.Goals as goal
 
 pub returns : goal.returns
-returns c = λ last b n. held-suffix last b n
+returns c = λ r. held-suffix r

@@ -3,6 +3,6 @@ use Rattle.adts_stream.proofs.laws.pieces_law.Goals as goal
 
 pub returns : goal.returns
 returns c = record {
-  pieces = λ kept last b n cs h. stands-pieces kept last b n cs h;
-  latest = λ kept last b n h. stands-latest kept last b n h;
+  pieces = λ kept cs r h. stands-pieces kept r cs h;
+  latest = λ kept r h. stands-latest kept r h;
 }

@@ -1,11 +1,12 @@
-use Rattle.std.proofs.Common.{Ok, Err, Result, OnOk, length, ap, ◌∙◌, sym, arith}
+use Rattle.std.proofs.Common.{Ok, Err, Result, OnOk, drop, length, ap, ◌∙◌, sym, arith}
 use Rattle.std.specs.List.{concat}
 use Rattle.segment_walk.specs.Moves.{WalkState}
 use Rattle.segment_stream.specs.declared.progress.Progress.{Progress}
 use Rattle.segment_stream.specs.declared.progress.PendingItem.TheVariants as pending
-use Rattle.segment_stream.specs.Kept.{state_of, move_of_pending}
+use Rattle.segment_stream.specs.Kept.{move_of_pending}
 use Rattle.segment_stream.proofs.ArmLaws.{all-kept, bytes-gone, dropped, front-item, kept-failed, rest-failed}
 use Rattle.segment_stream.proofs.arms.next_on.Goals as goal
+use Rattle.segment_stream.proofs.Snapshots.{walk_state}
 
 on_any : {T E P : Type 0} (r : Result T E) → P → OnOk r P
 on_any (Ok x) p = p
@@ -26,15 +27,15 @@ returns-in-Fault-clause-kept c =
     let tables = c.args.tables.now in
     let b = concat c.args.input.now in
     let last = c.args.last.now in
-    let s : WalkState = state_of last r.position tables b in
+    let s : WalkState = walk_state last r.position tables (drop r.from b) in
     let e = c.in_ok-pending_item.ensures.value ∙ ap (move_of_pending s) c.in-Fault.is in
-    let q = front-item last r.position.mode r.position.offset r.from r.first r.ready r.want r.position.failed tables b (pending.Fault c.in-Fault.fault c.in-Fault.at) c.requires.rest.front (omega arith) e in
+    let q = front-item last r.position.mode r.position.offset r.from r.first r.ready r.want r.position.failed tables b (pending.Fault c.in-Fault.fault c.in-Fault.at) c.requires.waits.front (omega arith) e in
     rw c.fail_on.ensures.progress (kept-failed last r.position.mode r.position.offset r.first r.ready 0 tables _ (bytes-gone c.args.input.now _ c.fail_on.ensures.input) (omega arith) ∙ sym q.1)
 
-pub returns-in-Fault-clause-rest : goal.returns-in-Fault-clause-rest
-returns-in-Fault-clause-rest c =
+pub returns-in-Fault-clause-waits : goal.returns-in-Fault-clause-waits
+returns-in-Fault-clause-waits c =
     let r = c.args.progress.now in
-    rw c.fail_on.ensures.progress (rest-failed c.args.last.now r.position.mode r.position.offset r.first r.ready _ c.args.tables.now _ (bytes-gone c.args.input.now _ c.fail_on.ensures.input) (omega arith) (omega (arith, c.requires.rest.consistent.small)) c.requires.rest.consistent.counts)
+    rw c.fail_on.ensures.progress (rest-failed c.args.last.now r.position.mode r.position.offset r.first r.ready _ c.args.tables.now _ (bytes-gone c.args.input.now _ c.fail_on.ensures.input) (omega arith) (omega (arith, c.requires.waits.consistent.small)) c.requires.waits.consistent.counts)
 
 pub returns-in-Fault-clause-emptied : goal.returns-in-Fault-clause-emptied
 returns-in-Fault-clause-emptied c = λ e. (bytes-gone c.args.input.now _ c.fail_on.ensures.input, omega (arith, ap (λ (r : Progress). r.ready) c.fail_on.ensures.progress))

@@ -1,7 +1,6 @@
 use Rattle.std.proofs.Common.{◌∙◌, subst, Result, Ok, Err, OnErr}
-use Rattle.std.specs.List.{concat}
 use Rattle.segment_stream.specs.declared.progress.MoveResult.{MoveResult}
-use Rattle.segment_stream.specs.Kept.{IsMoveResult, with_tables}
+use Rattle.segment_stream.specs.Kept.{IsMoveResult, snapshot}
 use Rattle.segment_stream.proofs.Acts.{since-on, since-back}
 use Rattle.segment_stream.proofs.moves.run_on.Goals as goal
 
@@ -14,7 +13,7 @@ returns-in_err-move_result-clause-err c = on_err c.from_residual.result (since-b
 
 pub moves-preserved : goal.moves-preserved
 moves-preserved c =
-    let g = subst (λ (m : MoveResult). IsMoveResult c.args.last.now (with_tables c.moves.at c.moves.tables) c.move_on.new.tables (concat c.args.input.now) m) c.in-Go.is c.in_ok-move_result.ensures.ok in
+    let g = subst (λ (m : MoveResult). IsMoveResult (snapshot c.args.last.now c.moves.at c.moves.tables c.args.input.now) c.move_on.new.tables m) c.in-Go.is c.in_ok-move_result.ensures.ok in
     record {
       same = g.same ∙ c.moves.invariant.same;
       consistent = g.consistent;

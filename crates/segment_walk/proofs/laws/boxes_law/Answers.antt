@@ -8,9 +8,9 @@ pub returns : goal.returns
 returns c = record {
   walk = is_walk;
   items = λ last b. items-boxes last b;
-  phase = λ last b n. ap (λ (s : ParserView). s.phase) (seen-boxes last b n);
-  held = λ last b n. ap (λ (s : ParserView). s.held) (seen-boxes last b n);
-  latest = λ last b n. ap (λ (s : ParserView). s.latest) (seen-boxes last b n);
-  ready = λ last b n. ready-boxes last b n;
+  phase = λ r. ap (λ (v : ParserView). v.phase) (seen-boxes r);
+  held = λ r. ap (λ (v : ParserView). v.held) (seen-boxes r);
+  latest = λ r. ap (λ (v : ParserView). v.latest) (seen-boxes r);
+  ready = λ r. ready-boxes r;
   enough = λ last b n h. enough-boxes last b n h;
 }

@@ -1,6 +1,6 @@
 //! Tracks and track fragments to be written.
 
-ghost use Rattle.std.specs.Prelude.{◌≡◌, ◌≢◌, ◌*◌, ◌≤◌, ◌-◌, ◌^◌, [], IfOk, length};
+ghost use Rattle.std.specs.Prelude.{◌≡◌, ◌≢◌, ◌*◌, ◌≤◌, ◌-◌, ◌^◌, IfOk, length};
 ghost use Rattle.mse_base.specs.declared.track.Kind.TheVariants.{Other};
 ghost use Rattle.bmff_write.specs.Tracks.{IsTrackOut, AreTracksOut, AreEdits, payload_len};
 
@@ -27,7 +27,7 @@ pub(super) fn plain_track(
 ) -> TrackOut
     requires numbered { 1 ≤ id }
     requires below { id ≤ 2 ^ 32 - 2 }
-    requires timed { 1 ≤ scale }
+    requires positive { 1 ≤ scale }
     requires media { kind ≢ Other }
     ensures number { result.id ≡ id }
     ensures codec { result.codec ≡ codec }
@@ -52,7 +52,7 @@ pub(super) fn edited_track(
 ) -> Result<TrackOut, OutOfMemory>
     requires numbered { 1 ≤ id }
     requires below { id ≤ 2 ^ 32 - 2 }
-    requires timed { 1 ≤ scale }
+    requires positive { 1 ≤ scale }
     requires media { kind ≢ Other }
     requires edits { AreEdits edits.now }
     ensures { IfOk result IsTrackOut }

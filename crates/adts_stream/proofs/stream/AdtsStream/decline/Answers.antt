@@ -1,7 +1,7 @@
 use Rattle.std.proofs.Common.{◌-◌, Option, ℕ, length, ap, ◌∙◌, sym, subst}
 use Rattle.std.specs.List.{concat}
 use Rattle.input_chunks.proofs.Rows.{bytes-front}
-use Rattle.adts_stream.specs.Streams.{adts_view, IsStream}
+use Rattle.adts_stream.specs.Streams.{adts_view, IsAdtsStream}
 use Rattle.adts_stream.proofs.StreamLaws.{decline-holds, decline-view}
 use Rattle.adts_stream.proofs.stream.AdtsStream.decline.Goals as goal
 
@@ -10,7 +10,7 @@ invariant_of-self c =
     let s = c.self.inside in
     let len = c.in-Some.len in
     let e = ap concat c.drop_back.ensures ∙ bytes-front (length (concat s.input) - len) s.input in
-    decline-holds s.position (concat s.input) _ s.fed len (subst (λ (o : Option ℕ). IsStream s.position (concat s.input) s.fed o) c.in-Some.is c.self.invariant) e
+    decline-holds s.position (concat s.input) _ s.fed len (subst (λ (o : Option ℕ). IsAdtsStream s.position (concat s.input) s.fed o) c.in-Some.is c.self.invariant) e
 
 pub returns : goal.returns
 returns c =

@@ -1,5 +1,6 @@
-use Rattle.std.proofs.Common.{ℕ, [], None, Option, sym, subst}
+use Rattle.std.proofs.Common.{ℕ, None, Option, sym, subst}
 use Rattle.std.specs.List.{concat}
+use Rattle.parser_loop.specs.StringReadings.{string_from}
 use Rattle.adts_stream.specs.Values.{state_of}
 use Rattle.adts_stream.specs.Streams.{Stands, adts_view}
 use Rattle.adts_stream.proofs.StreamLaws.{idle, start-is, stands-empty}
@@ -10,5 +11,5 @@ returns-clause-stands c =
     let s = c.self.inside in
     let h = idle s.last s.position (concat s.input) s.fed s.offered c.args.self.now c.self.view_is c.requires in
     let new = c.restart.new in
-    let q : Stands (state_of None new.position (concat new.input)) None [] 0 = subst (λ k. Stands k None [] 0) (sym (start-is None new.position (concat new.input) c.restart.ensures.position c.restart.ensures.input)) (stands-empty None) in
-    subst (λ (o : Option ℕ). Stands (adts_view None new.position (concat new.input) 0 o).state None [] 0) (sym h.1) q
+    let q : Stands (state_of None new.position (concat new.input)) (string_from None) = subst (λ k. Stands k (string_from None)) (sym (start-is None new.position (concat new.input) c.restart.ensures.position c.restart.ensures.input)) (stands-empty None) in
+    subst (λ (o : Option ℕ). Stands (adts_view None new.position (concat new.input) 0 o).state (string_from None)) (sym h.1) q

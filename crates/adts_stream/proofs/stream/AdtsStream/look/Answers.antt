@@ -1,18 +1,19 @@
 use Rattle.std.proofs.Common.{◌≡◌, ◌+◌, IfOk, slice_get, ap, sym, subst, arith}
 use Rattle.std.specs.List.{concat}
+use Rattle.parser_loop.specs.Items.{seen}
 use Rattle.adts_stream.specs.Walk.{WalkState}
-use Rattle.adts_stream.specs.Frames.{Items}
-use Rattle.adts_stream.specs.Values.{seen, state_of}
+use Rattle.adts_stream.specs.Frames.{items_of_string}
+use Rattle.adts_stream.specs.Values.{state_of}
 use Rattle.adts_stream.specs.Streams.{Stands, AdtsView}
 use Rattle.adts_stream.proofs.StreamLaws.{idle, next-item, only-next}
 use Rattle.adts_stream.proofs.stream.AdtsStream.look.Goals as goal
 
 pub returns : goal.returns
-returns c = λ last b n st.
+returns c = λ r st.
     let s = c.self.inside in
     let h = idle s.last s.position (concat s.input) s.fed s.offered c.args.self.now c.self.view_is c.requires.none_offered in
     let kept : WalkState = state_of s.last s.position (concat s.input) in
-    let q : Stands kept last b n = subst (λ (k : WalkState). Stands k last b n) (sym (ap (λ (v : AdtsView). v.state) h.0)) st in
+    let q : Stands kept r = subst (λ (k : WalkState). Stands k r) (sym (ap (λ (v : AdtsView). v.state) h.0)) st in
     let z : c.args.i ≡ 0 = only-next c.args.self.now.state c.args.i c.requires.ready in
-    let y : n ≡ n + c.args.i = omega arith in
-    subst (λ k. IfOk c.look_on.result (λ next. seen next ≡ slice_get (Items last b) k)) y (next-item c.look_on.result kept last b n q c.look_on.ensures)
+    let y : r.taken ≡ r.taken + c.args.i = omega arith in
+    subst (λ k. IfOk c.look_on.result (λ next. seen next ≡ slice_get (items_of_string r.before r.whole) k)) y (next-item c.look_on.result kept c.look_on.ensures r q)

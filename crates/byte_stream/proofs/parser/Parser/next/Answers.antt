@@ -1,25 +1,44 @@
-use Rattle.segment_stream.specs.Kept as segment_kept
-use Rattle.adts_stream.specs.Values as frame_kept
-use Rattle.byte_stream.specs.Streams.{seen}
-use Rattle.byte_stream.proofs.Parsing.{seen-segments, seen-frames, behind-segments, behind-frames}
+use Rattle.parser_loop.specs.Items.{seen}
+use Rattle.byte_stream.specs.declared.next.ByteFault.TheVariants.{Segments, Frames}
+use Rattle.byte_stream.proofs.Parsing.{seen-segments, seen-frames, behind-segments, behind-frames, dry-segments, dry-frames, latest-segments-next, latest-frames-next}
 use Rattle.byte_stream.proofs.parser.Parser.next.Goals as goal
 
 pub returns-in_ok-next-in-Segments-clause-item : goal.returns-in_ok-next-in-Segments-clause-item
 returns-in_ok-next-in-Segments-clause-item c =
     let next = c.in_ok-next-in-Segments in
-    rw c.in-Segments.is (seen-segments c.in-Segments.stream (segment_kept.seen next.field-0) (seen c.segment_next.result) (λ n. n) c.segment_next.ensures next.ensures.item)
+    rw c.in-Segments.is (seen-segments c.in-Segments.stream (seen next.field-0) (seen c.with_fault.result) (λ n. n) (c.with_fault.ensures (λ f. Segments f) (λ f y p. p)) next.ensures.item)
 
 pub returns-in_ok-next-in-Segments-clause-stands : goal.returns-in_ok-next-in-Segments-clause-stands
 returns-in_ok-next-in-Segments-clause-stands c =
     let next = c.in_ok-next-in-Segments in
-    rw c.in-Segments.is (behind-segments c.in-Segments.stream c.next.new.self (segment_kept.seen next.field-0) (seen c.segment_next.result) c.segment_next.ensures next.ensures.fed next.ensures.stands)
+    rw c.in-Segments.is (behind-segments c.in-Segments.stream c.next.new.self (seen next.field-0) (seen c.with_fault.result) (c.with_fault.ensures (λ f. Segments f) (λ f y p. p)) next.ensures.fed next.ensures.stands)
 
 pub returns-in_ok-next-in-Frames-clause-item : goal.returns-in_ok-next-in-Frames-clause-item
 returns-in_ok-next-in-Frames-clause-item c =
     let next = c.in_ok-next-in-Frames in
-    rw c.in-Frames.is (seen-frames c.in-Frames.stream (frame_kept.seen next.field-0) (seen c.frame_next.result) (λ n. n) c.frame_next.ensures next.ensures.item)
+    rw c.in-Frames.is (seen-frames c.in-Frames.stream (seen next.field-0) (seen c.with_fault-in-Frames.result) (λ n. n) (c.with_fault-in-Frames.ensures (λ f. Frames f) (λ f y p. p)) next.ensures.item)
 
 pub returns-in_ok-next-in-Frames-clause-stands : goal.returns-in_ok-next-in-Frames-clause-stands
 returns-in_ok-next-in-Frames-clause-stands c =
     let next = c.in_ok-next-in-Frames in
-    rw c.in-Frames.is (behind-frames c.in-Frames.stream c.next-in-Frames.new.self (frame_kept.seen next.field-0) (seen c.frame_next.result) c.frame_next.ensures next.ensures.fed next.ensures.stands)
+    rw c.in-Frames.is (behind-frames c.in-Frames.stream c.next-in-Frames.new.self (seen next.field-0) (seen c.with_fault-in-Frames.result) (c.with_fault-in-Frames.ensures (λ f. Frames f) (λ f y p. p)) next.ensures.fed next.ensures.stands)
+
+pub returns-in_ok-next-in-Segments-clause-latest : goal.returns-in_ok-next-in-Segments-clause-latest
+returns-in_ok-next-in-Segments-clause-latest c =
+    let next = c.in_ok-next-in-Segments in
+    rw c.in-Segments.is (latest-segments-next c.in-Segments.stream c.next.new.self (seen next.field-0) (seen c.with_fault.result) (c.with_fault.ensures (λ f. Segments f) (λ f y p. p)) next.ensures.last)
+
+pub returns-in_ok-next-in-Segments-clause-dry : goal.returns-in_ok-next-in-Segments-clause-dry
+returns-in_ok-next-in-Segments-clause-dry c =
+    let next = c.in_ok-next-in-Segments in
+    rw c.in-Segments.is (dry-segments c.in-Segments.stream c.next.new.self (seen next.field-0) (seen c.with_fault.result) (c.with_fault.ensures (λ f. Segments f) (λ f y p. p)) next.ensures.dry)
+
+pub returns-in_ok-next-in-Frames-clause-latest : goal.returns-in_ok-next-in-Frames-clause-latest
+returns-in_ok-next-in-Frames-clause-latest c =
+    let next = c.in_ok-next-in-Frames in
+    rw c.in-Frames.is (latest-frames-next c.in-Frames.stream c.next-in-Frames.new.self (seen next.field-0) (seen c.with_fault-in-Frames.result) (c.with_fault-in-Frames.ensures (λ f. Frames f) (λ f y p. p)) next.ensures.last)
+
+pub returns-in_ok-next-in-Frames-clause-dry : goal.returns-in_ok-next-in-Frames-clause-dry
+returns-in_ok-next-in-Frames-clause-dry c =
+    let next = c.in_ok-next-in-Frames in
+    rw c.in-Frames.is (dry-frames c.in-Frames.stream c.next-in-Frames.new.self (seen next.field-0) (seen c.with_fault-in-Frames.result) (c.with_fault-in-Frames.ensures (λ f. Frames f) (λ f y p. p)) next.ensures.dry)

@@ -4,4 +4,4 @@ use Rattle.byte_stream.proofs.Standing.{phase-is}
 use Rattle.byte_stream.proofs.stream.ByteStream.phase.Goals as goal
 
 pub returns-clause-phase : goal.returns-clause-phase
-returns-clause-phase c = λ r h. c.phase.ensures ∙ ap (λ (s : StreamView). phase_of s) c.self.view_is ∙ phase-is c.args.self.now.parser r.container r.before r.whole r.taken h.parser
+returns-clause-phase c = λ r h. c.phase.ensures ∙ ap (λ (s : StreamView). phase_of s) c.self.view_is ∙ phase-is c.args.self.now.parser r.container r.string h.parser

@@ -1,7 +1,7 @@
 use Rattle.std.proofs.Common.{Option, ap, ◌∙◌, sym, subst}
 use Rattle.segment_stream.specs.declared.stream.Offered.{Offered}
-use Rattle.segment_stream.specs.Kept.{with_tables}
-use Rattle.segment_stream.specs.Streams.{segment_view, IsStreamWithOffer, IsStream}
+use Rattle.segment_stream.specs.Kept.{snapshot}
+use Rattle.segment_stream.specs.Streams.{segment_view, IsStreamWithOffer, IsSegmentStream}
 use Rattle.segment_stream.proofs.StreamLaws.{accept-holds, accept-stands, accept-pieces}
 use Rattle.segment_stream.proofs.stream.Stream.accept.Goals as goal
 
@@ -12,8 +12,8 @@ invariant_of-self c =
     let tables = s.tables in
     let new = c.accept_on-self-inside.new.input in
     let q = c.accept_on-self-inside.ensures in
-    let h : IsStreamWithOffer s.last (with_tables s.progress tables) s.input s.fed o = subst (λ (x : Option Offered). IsStream s.last (with_tables s.progress tables) s.input s.fed x) c.in-Some.is c.self.invariant in
-    accept-holds s.last s.progress c.accept_on-self-inside.result tables s.input new s.fed o h (q.rest s.last tables h.found.consistent h.found.rests) q.position q.ready q.pieces
+    let h : IsStreamWithOffer (snapshot s.last s.progress tables s.input) s.input s.fed o = subst (λ (x : Option Offered). IsSegmentStream (snapshot s.last s.progress tables s.input) s.input s.fed x) c.in-Some.is c.self.invariant in
+    accept-holds s.last s.progress c.accept_on-self-inside.result tables s.input new s.fed o h (q.waits s.last tables h.found.consistent h.found.rests) q.position q.ready q.pieces
 
 pub returns-clause-stands : goal.returns-clause-stands
 returns-clause-stands c =
@@ -22,8 +22,8 @@ returns-clause-stands c =
     let tables = s.tables in
     let new = c.accept_on-self-inside.new.input in
     let q = c.accept_on-self-inside.ensures in
-    let h : IsStreamWithOffer s.last (with_tables s.progress tables) s.input s.fed o = subst (λ (x : Option Offered). IsStream s.last (with_tables s.progress tables) s.input s.fed x) c.in-Some.is c.self.invariant in
-    let e = ap (λ (x : Option Offered). segment_view s.last (with_tables s.progress tables) s.input s.fed x) (sym c.in-Some.is) ∙ c.self.view_is in
+    let h : IsStreamWithOffer (snapshot s.last s.progress tables s.input) s.input s.fed o = subst (λ (x : Option Offered). IsSegmentStream (snapshot s.last s.progress tables s.input) s.input s.fed x) c.in-Some.is c.self.invariant in
+    let e = ap (λ (x : Option Offered). segment_view (snapshot s.last s.progress tables s.input) s.input s.fed x) (sym c.in-Some.is) ∙ c.self.view_is in
     accept-stands s.last s.progress c.accept_on-self-inside.result tables s.input new s.fed o c.args.self.now e h (q.kept s.last tables)
 
 pub returns-clause-pieces : goal.returns-clause-pieces
@@ -33,6 +33,6 @@ returns-clause-pieces c =
     let tables = s.tables in
     let new = c.accept_on-self-inside.new.input in
     let q = c.accept_on-self-inside.ensures in
-    let h : IsStreamWithOffer s.last (with_tables s.progress tables) s.input s.fed o = subst (λ (x : Option Offered). IsStream s.last (with_tables s.progress tables) s.input s.fed x) c.in-Some.is c.self.invariant in
-    let e = ap (λ (x : Option Offered). segment_view s.last (with_tables s.progress tables) s.input s.fed x) (sym c.in-Some.is) ∙ c.self.view_is in
-    accept-pieces s.last s.progress tables s.input new s.fed c.accept_on-self-inside.result.from o c.args.self.now e h (q.rest s.last tables h.found.consistent h.found.rests).front q.pieces
+    let h : IsStreamWithOffer (snapshot s.last s.progress tables s.input) s.input s.fed o = subst (λ (x : Option Offered). IsSegmentStream (snapshot s.last s.progress tables s.input) s.input s.fed x) c.in-Some.is c.self.invariant in
+    let e = ap (λ (x : Option Offered). segment_view (snapshot s.last s.progress tables s.input) s.input s.fed x) (sym c.in-Some.is) ∙ c.self.view_is in
+    accept-pieces s.last s.progress tables s.input new s.fed c.accept_on-self-inside.result.from o c.args.self.now e h (q.waits s.last tables h.found.consistent h.found.rests).front q.pieces

@@ -2,12 +2,12 @@ use Rattle.std.proofs.Common.{◌≡◌, ℕ, ◌+◌, ◌<◌, ◌≤◌, ◌�
 use Rattle.std.specs.List.{concat}
 use Rattle.parser_loop.specs.Walk.{first_item}
 use Rattle.segment_walk.specs.Moves.{WalkState, segments}
-use Rattle.segment_walk.specs.Segments.{Items}
-use Rattle.segment_stream.specs.Kept.{state_of}
+use Rattle.segment_walk.specs.Segments.{items_of_string}
 use Rattle.segment_stream.specs.Streams.{SegmentView}
 use Rattle.segment_stream.proofs.ArmLaws.{front-item}
 use Rattle.segment_stream.proofs.StreamLaws.{idle, frames-counted, stands-item, stands-ahead}
 use Rattle.segment_stream.proofs.stream.Stream.look.Goals as goal
+use Rattle.segment_stream.proofs.Snapshots.{walk_state}
 
 if_ok : {T E : Type 0} (r : Result T E) (P R : T → Type 0) → IfOk r P → ((x : T) → P x → R x) → IfOk r R
 if_ok (Ok x) P R h f = f x h
@@ -18,17 +18,17 @@ none-ready i ready count l e (inl z) = (z, omega arith)
 none-ready i ready count l e (inr h) = absurd (omega arith)
 
 pub returns-then-i-self : goal.returns-then-i-self
-returns-then-i-self c = λ last b n st.
+returns-then-i-self c = λ reading st.
     let s = c.self.inside in
     let h = idle s.last s.progress s.tables s.input s.fed s.offered c.args.self.now c.self.view_is c.requires.none_offered c.self.invariant in
     let r = s.progress in
     let l = frames-counted r.position.mode (drop r.from (concat s.input)) r.position.offset s.tables r.first r.ready h.0.rest.consistent.counts in
     let k = ap (λ (v : SegmentView). v.kept.items) h.1 in
-    let e = ap (λ items. slice_get items c.args.i) k ∙ stands-ahead c.args.self.now.kept last b n c.args.i (omega (arith, l, ap length k)) st in
+    let e = ap (λ items. slice_get items c.args.i) k ∙ stands-ahead c.args.self.now.kept c.args.i (omega (arith, l, ap length k)) reading st in
     if_ok c.look_frame.result _ _ (c.look_frame.ensures.item s.last) (λ x g. g ∙ e)
 
 pub returns : goal.returns
-returns c = λ last b n st.
+returns c = λ reading st.
     let s = c.self.inside in
     let h = idle s.last s.progress s.tables s.input s.fed s.offered c.args.self.now c.self.view_is c.requires.none_offered c.self.invariant in
     let r = s.progress in
@@ -36,7 +36,7 @@ returns c = λ last b n st.
     let l = frames-counted r.position.mode (drop r.from (concat s.input)) r.position.offset tables r.first r.ready h.0.rest.consistent.counts in
     let k = ap (λ (v : SegmentView). length v.kept.items) h.1 in
     let z = none-ready c.args.i r.ready (length c.args.self.now.kept.items) (omega arith) (omega arith) c.requires.ready in
-    let t : WalkState = state_of s.last r.position tables (concat s.input) in
+    let t : WalkState = walk_state s.last r.position tables (drop r.from (concat s.input)) in
     let q = front-item s.last r.position.mode r.position.offset r.from r.first r.ready r.want r.position.failed tables (concat s.input) c.in_ok-pending.pending h.0.rest.front z.1 c.in_ok-pending.ensures.value in
-    let y : n ≡ n + c.args.i = omega arith in
-    c.next_of.ensures t refl ∙ sym q.0 ∙ ap (λ (v : SegmentView). first_item segments v.kept) h.1 ∙ stands-item c.args.self.now.kept last b n st ∙ ap (slice_get (Items last b)) y
+    let y : reading.taken ≡ reading.taken + c.args.i = omega arith in
+    c.next_of.ensures t refl ∙ sym q.0 ∙ ap (λ (v : SegmentView). first_item segments v.kept) h.1 ∙ stands-item c.args.self.now.kept reading st ∙ ap (slice_get (items_of_string reading.before reading.whole)) y

@@ -1,8 +1,9 @@
 use Rattle.std.proofs.Common.{◌≡◌, Option, None, IfOk, sym, subst}
-use Rattle.parser_loop.specs.Walk.{count_after}
+use Rattle.parser_loop.specs.Items.{seen}
+use Rattle.parser_loop.specs.StringReadings.{after_answer}
 use Rattle.segment_stream.specs.declared.stream.Offered.{Offered}
-use Rattle.segment_stream.specs.Kept.{seen, with_tables}
-use Rattle.segment_stream.specs.Streams.{Stands, segment_view, IsStreamAtRest, IsStream}
+use Rattle.segment_stream.specs.Kept.{snapshot}
+use Rattle.segment_stream.specs.Streams.{StandsAfter, segment_view, IsStreamAtRest, IsSegmentStream}
 use Rattle.segment_stream.proofs.StreamLaws.{idle, next-holds, next-item, next-stands, next-dry}
 use Rattle.segment_stream.proofs.stream.Stream.next.Goals as goal
 
@@ -13,27 +14,27 @@ invariant_of-self c =
     let h = idle s.last s.progress tables s.input s.fed s.offered c.args.self.now c.self.view_is c.requires c.self.invariant in
     let new = c.next_on.new in
     let q = c.next_on.ensures in
-    let p : IsStreamAtRest new.last (with_tables new.progress new.tables) new.input s.fed = next-holds c.next_on.result s.last new.last s.progress new.progress tables new.tables s.input new.input s.fed h.0 q.rest q.emptied q.readable q.total q.pieces q.err_last q.err_progress q.err_tables q.err_input in
-    subst (λ (o : Option Offered). IsStream new.last (with_tables new.progress new.tables) new.input s.fed o) (sym h.2) p
+    let p : IsStreamAtRest (snapshot new.last new.progress new.tables new.input) new.input s.fed = next-holds c.next_on.result s.last new.last s.progress new.progress tables new.tables s.input new.input s.fed h.0 q.waits q.emptied q.readable q.total q.pieces q.err_last q.err_progress q.err_tables q.err_input in
+    subst (λ (o : Option Offered). IsSegmentStream (snapshot new.last new.progress new.tables new.input) new.input s.fed o) (sym h.2) p
 
 pub returns-clause-item : goal.returns-clause-item
-returns-clause-item c = λ last b n st.
+returns-clause-item c =
     let s = c.self.inside in
     let tables = s.tables in
     let h = idle s.last s.progress tables s.input s.fed s.offered c.args.self.now c.self.view_is c.requires c.self.invariant in
     let new = c.next_on.new in
     let q = c.next_on.ensures in
-    next-item c.next_on.result s.last s.progress tables s.input s.fed c.args.self.now h.1 last b n st q.item
+    next-item c.next_on.result s.last s.progress tables s.input s.fed c.args.self.now h.1 q.item
 
 pub returns-clause-stands : goal.returns-clause-stands
-returns-clause-stands c = λ last b n st.
+returns-clause-stands c =
     let s = c.self.inside in
     let tables = s.tables in
     let h = idle s.last s.progress tables s.input s.fed s.offered c.args.self.now c.self.view_is c.requires c.self.invariant in
     let new = c.next_on.new in
     let q = c.next_on.ensures in
-    let p = next-stands c.next_on.result s.last new.last s.progress new.progress tables new.tables s.input new.input s.fed c.args.self.now h.1 last b n st q.item q.kept in
-    subst (λ (o : Option Offered). IfOk c.next_on.result (λ next. Stands (segment_view new.last (with_tables new.progress new.tables) new.input s.fed o).kept last b (count_after n (seen next)))) (sym h.2) p
+    let p = next-stands c.next_on.result s.last new.last s.progress new.progress tables new.tables s.input new.input s.fed c.args.self.now h.1 q.item q.kept in
+    subst (λ (o : Option Offered). IfOk c.next_on.result (λ next. StandsAfter c.args.self.now.kept (after_answer (seen next)) (segment_view (snapshot new.last new.progress new.tables new.input) new.input s.fed o).kept)) (sym h.2) p
 
 pub returns-clause-dry : goal.returns-clause-dry
 returns-clause-dry c =
@@ -42,5 +43,5 @@ returns-clause-dry c =
     let h = idle s.last s.progress tables s.input s.fed s.offered c.args.self.now c.self.view_is c.requires c.self.invariant in
     let new = c.next_on.new in
     let q = c.next_on.ensures in
-    let p = next-dry c.next_on.result s.last new.last s.progress new.progress tables new.tables s.input new.input s.fed c.args.self.now h.0 h.1 q.item q.kept q.rest q.pieces in
-    subst (λ (o : Option Offered). IfOk c.next_on.result (λ next. seen next ≡ None → segment_view new.last (with_tables new.progress new.tables) new.input s.fed o ≡ c.args.self.now)) (sym h.2) p
+    let p = next-dry c.next_on.result s.last new.last s.progress new.progress tables new.tables s.input new.input s.fed c.args.self.now h.0 h.1 q.item q.kept q.waits q.pieces in
+    subst (λ (o : Option Offered). IfOk c.next_on.result (λ next. seen next ≡ None → segment_view (snapshot new.last new.progress new.tables new.input) new.input s.fed o ≡ c.args.self.now)) (sym h.2) p

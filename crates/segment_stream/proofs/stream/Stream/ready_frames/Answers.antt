@@ -4,19 +4,19 @@ use Rattle.segment_stream.specs.Streams.{SegmentView}
 use Rattle.segment_stream.proofs.StreamLaws.{idle, few-ready, frames-counted, stands-count}
 use Rattle.segment_stream.proofs.stream.Stream.ready_frames.Goals as goal
 
-pub returns-clause-kept : goal.returns-clause-kept
-returns-clause-kept c =
+pub returns-clause-value : goal.returns-clause-value
+returns-clause-value c =
     let s = c.self.inside in
     let h = idle s.last s.progress s.tables s.input s.fed s.offered c.args.self.now c.self.view_is c.requires c.self.invariant in
     let r = s.progress in
     sym (frames-counted r.position.mode (drop r.from (concat s.input)) r.position.offset s.tables r.first r.ready h.0.rest.consistent.counts) ∙ ap (λ (v : SegmentView). length v.kept.items) h.1
 
 pub returns-clause-ready : goal.returns-clause-ready
-returns-clause-ready c = λ last b n st.
+returns-clause-ready c = λ r st.
     let s = c.self.inside in
     let h = idle s.last s.progress s.tables s.input s.fed s.offered c.args.self.now c.self.view_is c.requires c.self.invariant in
-    let r = s.progress in
-    sym (frames-counted r.position.mode (drop r.from (concat s.input)) r.position.offset s.tables r.first r.ready h.0.rest.consistent.counts) ∙ ap (λ (v : SegmentView). length v.kept.items) h.1 ∙ stands-count c.args.self.now.kept last b n st
+    let at = s.progress in
+    sym (frames-counted at.position.mode (drop at.from (concat s.input)) at.position.offset s.tables at.first at.ready h.0.rest.consistent.counts) ∙ ap (λ (v : SegmentView). length v.kept.items) h.1 ∙ stands-count c.args.self.now.kept r st
 
 pub returns-clause-few : goal.returns-clause-few
 returns-clause-few c =
