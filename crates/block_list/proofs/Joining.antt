@@ -3,7 +3,8 @@ use Rattle.std.proofs.Common.{◌≡◌, ◌∙◌, ℕ, zero, suc, ◌+◌, ◌
 use Rattle.std.proofs.lemmas.List.{get_or_append_left, get_or-append-add, set-append_left, set-append_right, length-set, take-set-le, drop-set-lt, drop_all, length-take-le, take-append-drop}
 use Rattle.std.proofs.lemmas.List.Edits.{insert-append_left, insert-append_right, remove-append_left, remove-append_right, length-insert, length-remove, insert_end}
 use Rattle.std.proofs.lemmas.Bool.Decides.{nat_tests}
-use Rattle.block_list.specs.Rows.{joined, start, row, split_row, held, AreShort, AreEmpty}
+use Rattle.mse_base.specs.Rows.{joined, start, row, split_row, AreEmpty}
+use Rattle.block_list.specs.Rows.{used_room, AreShort}
 
 pub row_is : {T : Type 0} (rows : List (List T)) (b : ℕ) (r : List T) → b < length rows → r ≡ get_or rows b r → r ≡ row rows b
 row_is [] b r l e = absurd (omega arith)
@@ -84,35 +85,35 @@ short_right half (r ∷ rows) (suc b) s y a l z k p q = (a.0, short_right half r
 
 -- ---- what is held of the pool
 
-held_cons : {T : Type 0} (half : ℕ) (r : List T) (rows : List (List T)) → 0 < length rows → held half (r ∷ rows) ≡ (length r - half) + held half rows
-held_cons half r [] l = absurd (omega arith)
-held_cons half r (q ∷ rows) l = refl
+used_cons : {T : Type 0} (half : ℕ) (r : List T) (rows : List (List T)) → 0 < length rows → used_room half (r ∷ rows) ≡ (length r - half) + used_room half rows
+used_cons half r [] l = absurd (omega arith)
+used_cons half r (q ∷ rows) l = refl
 
-pub held_set : {T : Type 0} (half : ℕ) (rows : List (List T)) (b k : ℕ) (y : List T) → b < length rows → length y ≤ length (row rows b) + k → held half (set rows b y) ≤ held half rows + k
-held_set half [] b k y l h = absurd (omega arith)
-held_set half (r ∷ []) zero k y l h = h
-held_set half (r ∷ q ∷ rows) zero k y l h = omega arith
-held_set half (r ∷ []) (suc b) k y l h = absurd (omega arith)
-held_set half (r ∷ q ∷ rows) (suc b) k y l h = omega (arith, held_cons half r (set (q ∷ rows) b y) (omega (arith, length-set (q ∷ rows) b y)), held_set half (q ∷ rows) b k y (omega arith) h)
+pub used_set : {T : Type 0} (half : ℕ) (rows : List (List T)) (b k : ℕ) (y : List T) → b < length rows → length y ≤ length (row rows b) + k → used_room half (set rows b y) ≤ used_room half rows + k
+used_set half [] b k y l h = absurd (omega arith)
+used_set half (r ∷ []) zero k y l h = h
+used_set half (r ∷ q ∷ rows) zero k y l h = omega arith
+used_set half (r ∷ []) (suc b) k y l h = absurd (omega arith)
+used_set half (r ∷ q ∷ rows) (suc b) k y l h = omega (arith, used_cons half r (set (q ∷ rows) b y) (omega (arith, length-set (q ∷ rows) b y)), used_set half (q ∷ rows) b k y (omega arith) h)
 
 -- a full row cut at 64, or the last one at 64 or more, and one item more in the left part
-pub held_left : {T : Type 0} (half : ℕ) (rows : List (List T)) (b s : ℕ) (y : List T) → b < length rows → length (row rows b) ≡ 2 * half → half ≤ s → s ≤ 2 * half → (suc b < length rows → s ≡ half) → length y ≡ s + 1 → held half (set (split_row rows b s) b y) + half ≤ held half rows + 1
-held_left half [] b s y l f m n e h = absurd (omega arith)
-held_left half (r ∷ []) zero s y l f m n e h = omega (arith, length-drop s r)
-held_left half (r ∷ q ∷ rows) zero s y l f m n e h = let z : s ≡ half = e (omega arith) in omega (arith, length-drop s r, z)
-held_left half (r ∷ []) (suc b) s y l f m n e h = absurd (omega arith)
-held_left half (r ∷ q ∷ rows) (suc b) s y l f m n e h =
+pub used_left : {T : Type 0} (half : ℕ) (rows : List (List T)) (b s : ℕ) (y : List T) → b < length rows → length (row rows b) ≡ 2 * half → half ≤ s → s ≤ 2 * half → (suc b < length rows → s ≡ half) → length y ≡ s + 1 → used_room half (set (split_row rows b s) b y) + half ≤ used_room half rows + 1
+used_left half [] b s y l f m n e h = absurd (omega arith)
+used_left half (r ∷ []) zero s y l f m n e h = omega (arith, length-drop s r)
+used_left half (r ∷ q ∷ rows) zero s y l f m n e h = let z : s ≡ half = e (omega arith) in omega (arith, length-drop s r, z)
+used_left half (r ∷ []) (suc b) s y l f m n e h = absurd (omega arith)
+used_left half (r ∷ q ∷ rows) (suc b) s y l f m n e h =
     let long = length_split (q ∷ rows) b s (omega arith) in
-    omega (arith, held_cons half r (set (split_row (q ∷ rows) b s) b y) (omega (arith, length-set (split_row (q ∷ rows) b s) b y)), held_left half (q ∷ rows) b s y (omega arith) f m n (λ k. e (omega arith)) h)
+    omega (arith, used_cons half r (set (split_row (q ∷ rows) b s) b y) (omega (arith, length-set (split_row (q ∷ rows) b s) b y)), used_left half (q ∷ rows) b s y (omega arith) f m n (λ k. e (omega arith)) h)
 
-pub held_right : {T : Type 0} (half : ℕ) (rows : List (List T)) (b s : ℕ) (y : List T) → b < length rows → length (row rows b) ≡ 2 * half → half ≤ s → s ≤ 2 * half → (suc b < length rows → s ≡ half) → length y + s ≡ 2 * half + 1 → held half (set (split_row rows b s) (suc b) y) + half ≤ held half rows + 1
-held_right half [] b s y l f m n e h = absurd (omega arith)
-held_right half (r ∷ []) zero s y l f m n e h = omega (arith, length-take-le s r (omega arith))
-held_right half (r ∷ q ∷ rows) zero s y l f m n e h = let z : s ≡ half = e (omega arith) in omega (arith, length-take-le s r (omega arith), z)
-held_right half (r ∷ []) (suc b) s y l f m n e h = absurd (omega arith)
-held_right half (r ∷ q ∷ rows) (suc b) s y l f m n e h =
+pub used_right : {T : Type 0} (half : ℕ) (rows : List (List T)) (b s : ℕ) (y : List T) → b < length rows → length (row rows b) ≡ 2 * half → half ≤ s → s ≤ 2 * half → (suc b < length rows → s ≡ half) → length y + s ≡ 2 * half + 1 → used_room half (set (split_row rows b s) (suc b) y) + half ≤ used_room half rows + 1
+used_right half [] b s y l f m n e h = absurd (omega arith)
+used_right half (r ∷ []) zero s y l f m n e h = omega (arith, length-take-le s r (omega arith))
+used_right half (r ∷ q ∷ rows) zero s y l f m n e h = let z : s ≡ half = e (omega arith) in omega (arith, length-take-le s r (omega arith), z)
+used_right half (r ∷ []) (suc b) s y l f m n e h = absurd (omega arith)
+used_right half (r ∷ q ∷ rows) (suc b) s y l f m n e h =
     let long = length_split (q ∷ rows) b s (omega arith) in
-    omega (arith, held_cons half r (set (split_row (q ∷ rows) b s) (suc b) y) (omega (arith, length-set (split_row (q ∷ rows) b s) (suc b) y)), held_right half (q ∷ rows) b s y (omega arith) f m n (λ k. e (omega arith)) h)
+    omega (arith, used_cons half r (set (split_row (q ∷ rows) b s) (suc b) y) (omega (arith, length-set (split_row (q ∷ rows) b s) (suc b) y)), used_right half (q ∷ rows) b s y (omega arith) f m n (λ k. e (omega arith)) h)
 
 -- ---- the rest
 
@@ -150,29 +151,29 @@ pub short_push : {T : Type 0} (half : ℕ) (rows : List (List T)) (y : List T) �
 short_push half [] y a p q = ((p, q), a)
 short_push half (r ∷ rows) y a p q = (a.0, short_push half rows y a.1 p q)
 
-pub held_bound : {T : Type 0} (half : ℕ) (rows : List (List T)) → AreShort half rows → held half rows ≤ half * length rows + half
-held_bound half [] a = omega arith
-held_bound half (r ∷ []) a = omega (arith, a.0.1)
-held_bound half (r ∷ q ∷ rows) a = omega (arith, a.0.1, held_bound half (q ∷ rows) a.1)
+pub used_bound : {T : Type 0} (half : ℕ) (rows : List (List T)) → AreShort half rows → used_room half rows ≤ half * length rows + half
+used_bound half [] a = omega arith
+used_bound half (r ∷ []) a = omega (arith, a.0.1)
+used_bound half (r ∷ q ∷ rows) a = omega (arith, a.0.1, used_bound half (q ∷ rows) a.1)
 
-held_first : {T : Type 0} (half : ℕ) (q : List T) (rows : List (List T)) → length q ≤ 2 * half → held half (q ∷ rows) ≤ held half rows + half
-held_first half q [] l = omega arith
-held_first half q (r ∷ rows) l = omega arith
+used_first : {T : Type 0} (half : ℕ) (q : List T) (rows : List (List T)) → length q ≤ 2 * half → used_room half (q ∷ rows) ≤ used_room half rows + half
+used_first half q [] l = omega arith
+used_first half q (r ∷ rows) l = omega arith
 
-pub held_less : {T : Type 0} (half : ℕ) (rows : List (List T)) (b : ℕ) → AreShort half rows → b < length rows → held half (remove rows b) ≤ held half rows + half
-held_less half [] b a l = absurd (omega arith)
-held_less half (r ∷ []) zero a l = omega arith
-held_less half (r ∷ q ∷ rows) zero a l = omega arith
-held_less half (r ∷ []) (suc b) a l = absurd (omega arith)
-held_less half (r ∷ q ∷ []) (suc zero) a l = omega (arith, a.0.1)
-held_less half (r ∷ q ∷ []) (suc (suc b)) a l = absurd (omega arith)
-held_less half (r ∷ q ∷ s ∷ rows) (suc b) a l = omega (arith, held_cons half r (remove (q ∷ s ∷ rows) b) (omega (arith, length-remove (q ∷ s ∷ rows) b (omega arith))), held_less half (q ∷ s ∷ rows) b a.1 (omega arith))
+pub used_less : {T : Type 0} (half : ℕ) (rows : List (List T)) (b : ℕ) → AreShort half rows → b < length rows → used_room half (remove rows b) ≤ used_room half rows + half
+used_less half [] b a l = absurd (omega arith)
+used_less half (r ∷ []) zero a l = omega arith
+used_less half (r ∷ q ∷ rows) zero a l = omega arith
+used_less half (r ∷ []) (suc b) a l = absurd (omega arith)
+used_less half (r ∷ q ∷ []) (suc zero) a l = omega (arith, a.0.1)
+used_less half (r ∷ q ∷ []) (suc (suc b)) a l = absurd (omega arith)
+used_less half (r ∷ q ∷ s ∷ rows) (suc b) a l = omega (arith, used_cons half r (remove (q ∷ s ∷ rows) b) (omega (arith, length-remove (q ∷ s ∷ rows) b (omega arith))), used_less half (q ∷ s ∷ rows) b a.1 (omega arith))
 
 -- a new last row behind a full one
-pub held_push : {T : Type 0} (half : ℕ) (rows : List (List T)) (y : List T) → length y ≡ 1 → ((b : ℕ) → suc b ≡ length rows → length (row rows b) ≡ 2 * half) → held half (rows ++ y ∷ []) + half ≤ held half rows + 1
-held_push half [] y e f = omega arith
-held_push half (r ∷ []) y e f = omega (arith, f 0 (omega arith))
-held_push half (r ∷ q ∷ rows) y e f = omega (arith, held_push half (q ∷ rows) y e (λ b h. f (suc b) (omega arith)))
+pub used_push : {T : Type 0} (half : ℕ) (rows : List (List T)) (y : List T) → length y ≡ 1 → ((b : ℕ) → suc b ≡ length rows → length (row rows b) ≡ 2 * half) → used_room half (rows ++ y ∷ []) + half ≤ used_room half rows + 1
+used_push half [] y e f = omega arith
+used_push half (r ∷ []) y e f = omega (arith, f 0 (omega arith))
+used_push half (r ∷ q ∷ rows) y e f = omega (arith, used_push half (q ∷ rows) y e (λ b h. f (suc b) (omega arith)))
 
 pub empty_push : {T : Type 0} (pool : List (List T)) (y : List T) → AreEmpty pool → y ≡ [] → AreEmpty (pool ++ y ∷ [])
 empty_push [] y a e = (e, a)
@@ -212,7 +213,7 @@ pub record Apart {T : Type 0} (half : ℕ) (rows new : List (List T)) (added : A
   pub rest : drop (added.row + 2) new ≡ drop (added.row + 1) rows
   pub items : joined new ≡ insert (joined rows) added.place added.item
   pub short : AreShort half new
-  pub held : held half new + half ≤ held half rows + 1
+  pub used_room : used_room half new + half ≤ used_room half rows + 1
   pub len : length new ≡ length rows + 1
 
 pub apart_left : {T : Type 0} (half : ℕ) (rows : List (List T)) (b i s : ℕ) (x : T) → b < length rows → length (row rows b) ≡ 2 * half → AreShort half rows → i < s → s ≡ half → Apart half rows (set (split_row rows b s) b (insert (row (split_row rows b s) b) i x)) (record { row = b; place = start rows b + i; item = x })
@@ -225,7 +226,7 @@ apart_left half rows b i s x l h a k m =
     record {
       items = joined_set_insert mid b i x (omega arith) (rw e (omega arith)) ∙ ap (λ xs. insert xs (start mid b + i) x) (joined_split rows b s) ∙ ap (λ n. insert (joined rows) (n + i) x) (left_start rows b s);
       short = short_left half rows b s (insert (row mid b) i x) a l (omega arith) (omega arith) (omega arith);
-      held = held_left half rows b s (insert (row mid b) i x) l h (omega arith) (omega arith) (λ _. m) y;
+      used_room = used_left half rows b s (insert (row mid b) i x) l h (omega arith) (omega arith) (λ _. m) y;
       len = length-set mid b (insert (row mid b) i x) ∙ long;
       front = take-set-le b mid b (insert (row mid b) i x) (omega arith) ∙ take_split rows b s;
       rest = drop-set-lt (b + 2) mid b (insert (row mid b) i x) (omega arith) ∙ drop_split rows b s;
@@ -243,7 +244,7 @@ apart_right half rows b i s x l h a k w o m n u =
     rw z (record {
       items = joined_set_insert mid (suc b) (i - s) x (omega arith) (rw e (omega arith)) ∙ ap (λ xs. insert xs (start mid (suc b) + (i - s)) x) (joined_split rows b s) ∙ ap (λ n. insert (joined rows) n x) v;
       short = short_right half rows b s (insert (row mid (suc b)) (i - s) x) a l (omega arith) (omega arith) (omega arith) (omega arith);
-      held = held_right half rows b s (insert (row mid (suc b)) (i - s) x) l h m n u y;
+      used_room = used_right half rows b s (insert (row mid (suc b)) (i - s) x) l h m n u y;
       len = length-set mid (suc b) (insert (row mid (suc b)) (i - s) x) ∙ long;
       front = take-set-le b mid (suc b) (insert (row mid (suc b)) (i - s) x) (omega arith) ∙ take_split rows b s;
       rest = drop-set-lt (b + 2) mid (suc b) (insert (row mid (suc b)) (i - s) x) (omega arith) ∙ drop_split rows b s;

@@ -3,8 +3,9 @@ use Rattle.std.proofs.Common.{◌≡◌, ◌∙◌, ℕ, suc, ◌+◌, ◌-◌, 
 use Rattle.std.proofs.lemmas.List.{length-set, length-take-le}
 use Rattle.std.proofs.lemmas.List.Edits.{length-insert, length-remove}
 use Rattle.std.proofs.Math.Nat.{mul-le-mul_left}
-use Rattle.block_list.specs.Rows.{row, AreShort, AreEmpty, AreNonEmpty, Blocks, IsListed}
-use Rattle.block_list.proofs.Joining.{Addition, Apart, short_set, short_row, short_less, short_push, held_set, held_less, held_push, held_bound, empty_push, empty_last}
+use Rattle.mse_base.specs.Rows.{row, AreEmpty, Blocks}
+use Rattle.block_list.specs.Rows.{AreShort, AreNonEmpty, IsListed}
+use Rattle.block_list.proofs.Joining.{Addition, Apart, short_set, short_row, short_less, short_push, used_set, used_less, used_push, used_bound, empty_push, empty_last}
 
 pub one_more : {T : Type 0} (xs : List T) (x : T) → length (xs ++ x ∷ []) ≡ length xs + 1
 one_more xs x = omega (arith, length-append xs (x ∷ []))
@@ -15,7 +16,7 @@ listed_put half old new e b i capacity x k p l w h f u =
     let y = insert (row rows b) i x in
     let n = length-insert (row rows b) i x w in
     let z = length-set rows b y in
-    let d = held_set half rows b 1 y l (omega arith) in
+    let d = used_set half rows b 1 y l (omega arith) in
     rw (f, u) (record {
       some = k.some;
       small = k.small;
@@ -37,7 +38,7 @@ listed_apart half old new right e added k p f a u v =
       empty = (empty_last new.pool right (subst AreEmpty f k.empty)).0;
       block_room = rw u (omega (arith, k.block_room, a.len));
       pool_room = rw v (omega (arith, k.pool_room, a.len));
-      spared = omega (arith, k.spared, a.held);
+      spared = omega (arith, k.spared, a.used_room);
     }
 
 pub listed_push : {T : Type 0} (half : ℕ) (old new : Blocks T) (right y : List T) (e : ℕ) → IsListed old half e → 1 ≤ e → old.pool ≡ new.pool ++ right ∷ [] → new.rows ≡ old.rows ++ y ∷ [] → length y ≡ 1 → ((b : ℕ) → suc b ≡ length old.rows → 2 * half ≤ length (row old.rows b)) → new.block_capacity ≡ old.block_capacity → new.pool_capacity ≡ old.pool_capacity → IsListed new half (e - 1)
@@ -46,7 +47,7 @@ listed_push half old new right y e k p f g h full u v =
     let n = ap length f ∙ one_more new.pool right in
     let w : half * length old.pool ≡ half * (length new.pool + 1) = ap (λ z. half * z) n in
     let m = one_more rows y in
-    let d = held_push half rows y h (λ b q. let s = short_row half rows b k.short (omega arith) in omega (arith, full b q, s.1)) in
+    let d = used_push half rows y h (λ b q. let s = short_row half rows b k.short (omega arith) in omega (arith, full b q, s.1)) in
     record {
       some = k.some;
       small = k.small;
@@ -64,7 +65,7 @@ listed_take half old new e b i capacity k l w h f u =
     let n = length-remove (row rows b) i w in
     let z = length-set rows b y in
     let s = short_row half rows b k.short l in
-    let d = held_set half rows b 0 y l (omega arith) in
+    let d = used_set half rows b 0 y l (omega arith) in
     rw (f, u) (record {
       some = k.some;
       small = k.small;
@@ -81,7 +82,7 @@ listed_less half old new gone e b k l f g h u v =
     let n = one_more old.pool gone in
     let w : half * length (old.pool ++ gone ∷ []) ≡ half * (length old.pool + 1) = ap (λ z. half * z) n in
     let m = length-remove rows b l in
-    let d = held_less half rows b k.short l in
+    let d = used_less half rows b k.short l in
     record {
       some = k.some;
       small = k.small;
@@ -94,7 +95,7 @@ listed_less half old new gone e b k l f g h u v =
 
 pub listed_fill : {T : Type 0} (half : ℕ) (old new : Blocks T) (e n m : ℕ) → IsListed old half e → new.rows ≡ old.rows → AreEmpty new.pool → length new.pool + length new.rows ≤ new.block_capacity → length new.pool + length new.rows ≤ new.pool_capacity → n ≤ max m (half * m - (half * length old.rows + half)) → m ≤ length new.pool → IsListed new half n
 listed_fill half old new e n m k f g a b s l =
-    let h = held_bound half old.rows k.short in
+    let h = used_bound half old.rows k.short in
     let w : half * m ≤ half * length new.pool = mul-le-mul_left half l in
     record {
       some = k.some;
@@ -117,7 +118,7 @@ listed_cut half old new e b from to capacity k l o w h f u =
     let n : length y ≡ from + (length (row rows b) - to) = omega (arith, length-append (take from (row rows b)) (drop to (row rows b)), length-take-le from (row rows b) (omega arith), length-drop to (row rows b)) in
     let z = length-set rows b y in
     let s = short_row half rows b k.short l in
-    let d = held_set half rows b 0 y l (omega arith) in
+    let d = used_set half rows b 0 y l (omega arith) in
     rw (f, u) (record {
       some = k.some;
       small = k.small;
@@ -133,7 +134,7 @@ listed_set half old new e b y capacity k l n f u =
     let rows = old.rows in
     let z = length-set rows b y in
     let s = short_row half rows b k.short l in
-    let d = held_set half rows b 0 y l (omega arith) in
+    let d = used_set half rows b 0 y l (omega arith) in
     rw (f, u) (record {
       some = k.some;
       small = k.small;

@@ -1,8 +1,8 @@
 -- Where rows start, after items came or went.
 use Rattle.std.proofs.Common.{◌≡◌, ◌∙◌, ◌⊎◌, inl, inr, ℕ, zero, suc, ◌+◌, ◌-◌, ◌<◌, ◌≤◌, List, [], ◌∷◌, ◌++◌, length, get_or, set, take, drop, refl, sym, ap, arith, length-append}
 use Rattle.std.proofs.lemmas.List.{take-append-le, drop-append-le, take-take, drop_more, take_more, take_more_set, drop-set-lt, drop_all}
-use Rattle.block_list.specs.Rows.{joined, start, row}
-use Rattle.block_list.specs.Starts.{starts_from, starts_of, raised, IsKeptAs}
+use Rattle.mse_base.specs.Rows.{joined, start, row}
+use Rattle.block_list.specs.Starts.{starts_from, starts_of, plus_each, AreStartsUpTo}
 use Rattle.block_list.proofs.Joining.{start_more, start_all}
 use Rattle.block_list.proofs.Ranging.{gone_front, gone_back, gone_count, row_count}
 
@@ -99,14 +99,14 @@ item_in rows b k l all h = elim (one_more b (length rows)) as (λ _. k < start r
 
 -- ---- starts as they are kept
 
-raised_get : (x : ℕ) (us : List ℕ) (b d : ℕ) → b < length us → get_or (raised x us) b d ≡ get_or us b d + x
-raised_get x [] b d l = absurd (omega arith)
-raised_get x (u ∷ us) zero d l = refl
-raised_get x (u ∷ us) (suc b) d l = raised_get x us b d (omega arith)
+plus_get : (x : ℕ) (us : List ℕ) (b d : ℕ) → b < length us → get_or (plus_each x us) b d ≡ get_or us b d + x
+plus_get x [] b d l = absurd (omega arith)
+plus_get x (u ∷ us) zero d l = refl
+plus_get x (u ∷ us) (suc b) d l = plus_get x us b d (omega arith)
 
 -- a start that is kept too great
-pub kept_high : (ks us : List ℕ) (s x b d : ℕ) → s ≤ b → b < length ks → b < length us → drop s ks ≡ raised x (drop s us) → get_or ks b d ≡ get_or us b d + x
-kept_high ks us zero x b d o k l e = ap (λ ns. get_or ns b d) e ∙ raised_get x us b d l
+pub kept_high : (ks us : List ℕ) (s x b d : ℕ) → s ≤ b → b < length ks → b < length us → drop s ks ≡ plus_each x (drop s us) → get_or ks b d ≡ get_or us b d + x
+kept_high ks us zero x b d o k l e = ap (λ ns. get_or ns b d) e ∙ plus_get x us b d l
 kept_high [] us (suc s) x b d o k l e = absurd (omega arith)
 kept_high (k ∷ ks) [] (suc s) x b d o m l e = absurd (omega arith)
 kept_high (k ∷ ks) (u ∷ us) (suc s) x zero d o m l e = absurd (omega arith)
@@ -124,10 +124,10 @@ pub written_front : (ks us : List ℕ) (b x : ℕ) → b < length ks → b < len
 written_front ks us b x k l at f =
     take_more_set ks b x k ∙ ap (λ ns. ns ++ x ∷ []) f ∙ ap (λ m. take b us ++ m ∷ []) at ∙ sym (take_more us b x l)
 
-lower_split : (ks us : List ℕ) (b x d : ℕ) → b < length ks → b < length us → drop b ks ≡ raised x (drop b us) → get_or ks b d ∷ drop (b + 1) ks ≡ (get_or us b d + x) ∷ raised x (drop (b + 1) us)
-lower_split ks us b x d k l e = sym (drop_more ks b d k) ∙ e ∙ ap (raised x) (drop_more us b d l)
+lower_split : (ks us : List ℕ) (b x d : ℕ) → b < length ks → b < length us → drop b ks ≡ plus_each x (drop b us) → get_or ks b d ∷ drop (b + 1) ks ≡ (get_or us b d + x) ∷ plus_each x (drop (b + 1) us)
+lower_split ks us b x d k l e = sym (drop_more ks b d k) ∙ e ∙ ap (plus_each x) (drop_more us b d l)
 
-pub lower_rest : (ks us : List ℕ) (b x y : ℕ) → b < length ks → b < length us → drop b ks ≡ raised x (drop b us) → drop (b + 1) (set ks b y) ≡ raised x (drop (b + 1) us)
+pub lower_rest : (ks us : List ℕ) (b x y : ℕ) → b < length ks → b < length us → drop b ks ≡ plus_each x (drop b us) → drop (b + 1) (set ks b y) ≡ plus_each x (drop (b + 1) us)
 lower_rest ks us b x y k l e = drop-set-lt (b + 1) ks b y (omega arith) ∙ tail_of _ _ _ _ (lower_split ks us b x y k l e)
 
 set_here : (ks : List ℕ) (i y : ℕ) → i < length ks → drop i (set ks i y) ≡ y ∷ drop (i + 1) ks
@@ -143,33 +143,33 @@ set_before (k ∷ ks) (suc i) y = ap (λ ns. k ∷ ns) (set_before ks i y)
 pub raise_front : (ks us : List ℕ) (b m y : ℕ) → b ≤ m → take m ks ≡ take m us → take b (set ks b y) ≡ take b us
 raise_front ks us b m y l e = set_before ks b y ∙ sym (take-take b m ks l) ∙ ap (take b) e ∙ take-take b m us l
 
-pub raise_rest : (ks us : List ℕ) (b m x y : ℕ) → m ≡ b + 1 → b < length ks → b < length us → y ≡ get_or us b y + x → drop m ks ≡ raised x (drop m us) → drop b (set ks b y) ≡ raised x (drop b us)
+pub raise_rest : (ks us : List ℕ) (b m x y : ℕ) → m ≡ b + 1 → b < length ks → b < length us → y ≡ get_or us b y + x → drop m ks ≡ plus_each x (drop m us) → drop b (set ks b y) ≡ plus_each x (drop b us)
 raise_rest ks us b m x y z k l at e =
-    set_here ks b y k ∙ ap (λ n. y ∷ drop n ks) (sym z) ∙ ap (λ ns. y ∷ ns) e ∙ ap (λ n. y ∷ raised x (drop n us)) z ∙ ap (λ h. h ∷ raised x (drop (b + 1) us)) at ∙ sym (ap (raised x) (drop_more us b y l))
+    set_here ks b y k ∙ ap (λ n. y ∷ drop n ks) (sym z) ∙ ap (λ ns. y ∷ ns) e ∙ ap (λ n. y ∷ plus_each x (drop n us)) z ∙ ap (λ h. h ∷ plus_each x (drop (b + 1) us)) at ∙ sym (ap (plus_each x) (drop_more us b y l))
 
-pub none_behind : (ks us : List ℕ) (b x : ℕ) → length ks ≤ b → length us ≤ b → drop b ks ≡ raised x (drop b us)
-none_behind ks us b x l m = drop_all b ks l ∙ sym (ap (raised x) (drop_all b us m))
+pub none_behind : (ks us : List ℕ) (b x : ℕ) → length ks ≤ b → length us ≤ b → drop b ks ≡ plus_each x (drop b us)
+none_behind ks us b x l m = drop_all b ks l ∙ sym (ap (plus_each x) (drop_all b us m))
 
-raised_append : (x : ℕ) (us vs : List ℕ) → raised x (us ++ vs) ≡ raised x us ++ raised x vs
-raised_append x [] vs = refl
-raised_append x (u ∷ us) vs = ap (λ ns. (u + x) ∷ ns) (raised_append x us vs)
+plus_append : (x : ℕ) (us vs : List ℕ) → plus_each x (us ++ vs) ≡ plus_each x us ++ plus_each x vs
+plus_append x [] vs = refl
+plus_append x (u ∷ us) vs = ap (λ ns. (u + x) ∷ ns) (plus_append x us vs)
 
-pub kept_more : (ks us vs : List ℕ) (s x n : ℕ) → IsKeptAs ks s x us → vs ≡ us ++ n ∷ [] → IsKeptAs (ks ++ (n + x) ∷ []) s x vs
+pub kept_more : (ks us vs : List ℕ) (s x n : ℕ) → AreStartsUpTo ks s x us → vs ≡ us ++ n ∷ [] → AreStartsUpTo (ks ++ (n + x) ∷ []) s x vs
 kept_more ks us vs s x n h e = rw e (record {
   long = omega (arith, length-append ks ((n + x) ∷ []), length-append us (n ∷ []), h.long);
   within = omega (arith, length-append us (n ∷ []), h.within);
   front = take-append-le s ks ((n + x) ∷ []) (omega (arith, h.long, h.within)) ∙ h.front ∙ sym (take-append-le s us (n ∷ []) h.within);
-  rest = drop-append-le s ks ((n + x) ∷ []) (omega (arith, h.long, h.within)) ∙ ap (λ ns. ns ++ (n + x) ∷ []) h.rest ∙ sym (raised_append x (drop s us) (n ∷ [])) ∙ ap (raised x) (sym (drop-append-le s us (n ∷ []) h.within));
+  rest = drop-append-le s ks ((n + x) ∷ []) (omega (arith, h.long, h.within)) ∙ ap (λ ns. ns ++ (n + x) ∷ []) h.rest ∙ sym (plus_append x (drop s us) (n ∷ [])) ∙ ap (plus_each x) (sym (drop-append-le s us (n ∷ []) h.within));
   none = λ z. absurd (omega (arith, length-append us (n ∷ []), h.within));
 })
 
-raised_twice : (x y : ℕ) (us : List ℕ) → raised x (raised y us) ≡ raised (y + x) us
-raised_twice x y [] = refl
-raised_twice x y (u ∷ us) =
+plus_twice : (x y : ℕ) (us : List ℕ) → plus_each x (plus_each y us) ≡ plus_each (y + x) us
+plus_twice x y [] = refl
+plus_twice x y (u ∷ us) =
     let z : (u + y) + x ≡ u + (y + x) = omega arith in
-    ap (λ n. n ∷ raised x (raised y us)) z ∙ ap (λ ns. (u + (y + x)) ∷ ns) (raised_twice x y us)
+    ap (λ n. n ∷ plus_each x (plus_each y us)) z ∙ ap (λ ns. (u + (y + x)) ∷ ns) (plus_twice x y us)
 
-shifted : {T : Type 0} (n x : ℕ) (rows : List (List T)) → starts_from (n + x) rows ≡ raised x (starts_from n rows)
+shifted : {T : Type 0} (n x : ℕ) (rows : List (List T)) → starts_from (n + x) rows ≡ plus_each x (starts_from n rows)
 shifted n x [] = refl
 shifted n x (r ∷ rows) =
     let z : (n + x) + length r ≡ (n + length r) + x = omega arith in
@@ -193,19 +193,19 @@ front_left ks one old new b rest behind n e f o p l h =
     gone_front ks one b rest behind o (omega arith) f ∙ sym (take-take b behind ks (omega arith)) ∙ ap (take b) e ∙ take-take b behind (starts_of old) (omega arith) ∙ take_starts 0 old b ∙ ap (starts_from 0) (sym h) ∙ sym (take_starts 0 new b)
 
 -- what is kept behind a removal is too great by what went, and by what it was
-pub rest_left : {T : Type 0} (ks one two : List ℕ) (old new : List (List T)) (rest behind x gone : ℕ) → length ks ≡ length old → drop behind ks ≡ raised x (drop behind (starts_of old)) → one ≡ take rest ks ++ drop behind ks → drop rest two ≡ drop rest one → rest ≤ length new → rest ≤ length old → behind ≤ length old → drop rest new ≡ drop behind old → length (joined old) ≡ length (joined new) + gone → drop rest two ≡ raised (gone + x) (drop rest (starts_of new))
+pub rest_left : {T : Type 0} (ks one two : List ℕ) (old new : List (List T)) (rest behind x gone : ℕ) → length ks ≡ length old → drop behind ks ≡ plus_each x (drop behind (starts_of old)) → one ≡ take rest ks ++ drop behind ks → drop rest two ≡ drop rest one → rest ≤ length new → rest ≤ length old → behind ≤ length old → drop rest new ≡ drop behind old → length (joined old) ≡ length (joined new) + gone → drop rest two ≡ plus_each (gone + x) (drop rest (starts_of new))
 rest_left ks one two old new rest behind x gone n e f h l m k r t =
     let same = ap (λ rows. length (joined rows)) r in
     let z : 0 + start old behind ≡ (0 + start new rest) + gone = omega (arith, start_rest old behind k, start_rest new rest l) in
-    let there = drop_starts 0 old behind k ∙ ap (λ j. starts_from j (drop behind old)) z ∙ ap (starts_from ((0 + start new rest) + gone)) (sym r) ∙ shifted (0 + start new rest) gone (drop rest new) ∙ ap (raised gone) (sym (drop_starts 0 new rest l)) in
-    h ∙ gone_back ks one rest behind rest behind (omega arith) (omega arith) (omega arith) f ∙ e ∙ ap (raised x) there ∙ raised_twice x gone (drop rest (starts_of new))
+    let there = drop_starts 0 old behind k ∙ ap (λ j. starts_from j (drop behind old)) z ∙ ap (starts_from ((0 + start new rest) + gone)) (sym r) ∙ shifted (0 + start new rest) gone (drop rest new) ∙ ap (plus_each gone) (sym (drop_starts 0 new rest l)) in
+    h ∙ gone_back ks one rest behind rest behind (omega arith) (omega arith) (omega arith) f ∙ e ∙ ap (plus_each x) there ∙ plus_twice x gone (drop rest (starts_of new))
 
 here_or_none : (b n : ℕ) → (b < n) ⊎ (n ≤ b)
 here_or_none b n = grind arith
 
 -- the excess is what the first start that is not settled has beyond the true one
-pub kept_rest : (ks us : List ℕ) (b x y count : ℕ) → length ks ≡ length us → drop b ks ≡ raised x (drop b us) → (b < length us → get_or us b 0 ≡ count) → (b < length ks → get_or ks b 0 ≡ count + y) → drop b ks ≡ raised y (drop b us)
-kept_rest ks us b x y count n e c h = elim (here_or_none b (length us)) as (λ _. drop b ks ≡ raised y (drop b us)) [
-  | inl here ↦ let same : x ≡ y = omega (arith, kept_high ks us b x b 0 (omega arith) (omega arith) here e, c here, h (omega arith)) in e ∙ ap (λ k. raised k (drop b us)) same
+pub kept_rest : (ks us : List ℕ) (b x y count : ℕ) → length ks ≡ length us → drop b ks ≡ plus_each x (drop b us) → (b < length us → get_or us b 0 ≡ count) → (b < length ks → get_or ks b 0 ≡ count + y) → drop b ks ≡ plus_each y (drop b us)
+kept_rest ks us b x y count n e c h = elim (here_or_none b (length us)) as (λ _. drop b ks ≡ plus_each y (drop b us)) [
+  | inl here ↦ let same : x ≡ y = omega (arith, kept_high ks us b x b 0 (omega arith) (omega arith) here e, c here, h (omega arith)) in e ∙ ap (λ k. plus_each k (drop b us)) same
   | inr none ↦ none_behind ks us b y (omega arith) none
 ]

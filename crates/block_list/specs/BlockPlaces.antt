@@ -1,7 +1,7 @@
 -- Places in rows.
 use Rattle.std.specs.Prelude.{◌≡◌, ℕ, ◌+◌, ◌<◌, ◌≤◌, List, length}
 use Rattle.block_list.specs.declared.block_list.BlockPlace.{BlockPlace}
-use Rattle.block_list.specs.Rows.{joined, start, row}
+use Rattle.mse_base.specs.Rows.{joined, start, row}
 
 -- how many items stand before a place
 abbrev pub rank : {T : Type 0} → List (List T) → BlockPlace → ℕ

@@ -11,14 +11,14 @@ abbrev pub starts_of : {T : Type 0} → List (List T) → List ℕ
 starts_of rows = starts_from 0 rows
 
 -- numbers, each greater by x
-abbrev pub raised : ℕ → List ℕ → List ℕ
-raised x [] = []
-raised x (n ∷ ns) = (n + x) ∷ raised x ns
+abbrev pub plus_each : ℕ → List ℕ → List ℕ
+plus_each x [] = []
+plus_each x (n ∷ ns) = (n + x) ∷ plus_each x ns
 
 -- starts as they are kept: those from a place on are too great, all by the same
-pub record IsKeptAs (kept : List ℕ) (settled excess : ℕ) (starts : List ℕ) : Type 0 where
+pub record AreStartsUpTo (kept : List ℕ) (settled excess : ℕ) (starts : List ℕ) : Type 0 where
   pub long : length kept ≡ length starts
   pub within : settled ≤ length starts
   pub front : take settled kept ≡ take settled starts
-  pub rest : drop settled kept ≡ raised excess (drop settled starts)
+  pub rest : drop settled kept ≡ plus_each excess (drop settled starts)
   pub none : settled ≡ length starts → excess ≡ 0

@@ -31,6 +31,7 @@ pub trait Change<T>: Sized {
     /// What becomes of an item.
     ghost after: { Self → T → T };
 
+    /// Changes the item.
     fn apply(&self, x: &mut T)
         ensures { x.new ≡ after self.now x.old };
 }
@@ -53,6 +54,7 @@ impl<T, F: Fact<T>> Model for Block<T, F> {
 }
 
 impl<T, F: Fact<T>> Block<T, F> {
+    /// No items, with room for 128.
     pub fn new(alloc: Global) -> Result<Block<T, F>, OutOfMemory>
         ensures { IfOk result (λ b. b ≡ []) }
     {
@@ -61,6 +63,7 @@ impl<T, F: Fact<T>> Block<T, F> {
         Ok(Block { items, fact })
     }
 
+    /// How many items there are.
     pub fn len(&self) -> usize
         ensures value { result ≡ length self.now }
         ensures bound { length self.now ≤ 128 }
@@ -68,6 +71,7 @@ impl<T, F: Fact<T>> Block<T, F> {
         self.items.len()
     }
 
+    /// The item at a place.
     pub fn get(&self, i: usize) -> &T
         requires { i < length self.now }
         ensures { result.now ≡ slice_index_or self.now i result.now }
@@ -75,12 +79,14 @@ impl<T, F: Fact<T>> Block<T, F> {
         &self.items[i]
     }
 
+    /// What is known of the items.
     pub fn fact(&self) -> &F
         ensures { result.now ≡ F.of self.now }
     {
         &self.fact
     }
 
+    /// The items, in order.
     pub fn as_slice(&self) -> &[T]
         ensures value { result.now ≡ self.now }
         ensures bound { length result.now ≤ 128 }
@@ -88,6 +94,7 @@ impl<T, F: Fact<T>> Block<T, F> {
         self.items.as_slice()
     }
 
+    /// Puts an item behind all.
     pub fn push(&mut self, x: T)
         requires { length self.old < 128 }
         ensures { self.new ≡ self.old ++ x ∷ [] }
@@ -106,6 +113,7 @@ impl<T, F: Fact<T>> Block<T, F> {
         self.fact = F::of(self.items.as_slice());
     }
 
+    /// Takes out an item.
     pub fn remove(&mut self, i: usize) -> T
         requires { i < length self.old }
         ensures value { result ≡ slice_index_or self.old i result }
@@ -158,6 +166,7 @@ impl<T: Drop, F: Fact<T>> Block<T, F> {
         self.fact = F::of(self.items.as_slice());
     }
 
+    /// Puts in an item.
     pub fn insert(&mut self, i: usize, x: T)
         requires within { i ≤ length self.old }
         requires room { length self.old < 128 }
@@ -167,6 +176,7 @@ impl<T: Drop, F: Fact<T>> Block<T, F> {
         put_at(&mut self.items, i, x);
     }
 
+    /// Removes all items.
     pub fn clear(&mut self)
         ensures { self.new ≡ [] }
     {

@@ -1,8 +1,9 @@
 //! A list in blocks, with a pool of empty ones.
 
-ghost use Rattle.std.specs.Prelude.{◌≡◌, ℕ, ◌+◌, ◌-◌, ◌*◌, ◌^◌, ◌<◌, ◌≤◌, List, [], ◌∷◌, ◌++◌, length, take, drop, IfOk, OnOk, IfSome, IfNone, suc, slice_index_or, slice_set, vec_len, vec_capacity, max, false};
+ghost use Rattle.std.specs.Prelude.{◌≡◌, ℕ, ◌+◌, ◌-◌, ◌*◌, ◌^◌, ◌<◌, ◌≤◌, [], ◌∷◌, ◌++◌, length, take, drop, OnOk, IfSome, IfNone, suc, slice_index_or, slice_set, vec_capacity, max, false};
 ghost use Rattle.std.specs.List.{insert, remove};
-ghost use Rattle.block_list.specs.Rows.{ListView, joined, start, row, split_row, held, AreShort, AreEmpty, AreNonEmpty, IsListed, IsCounted};
+ghost use Rattle.mse_base.specs.Rows.{joined, start, row, split_row, AreEmpty};
+ghost use Rattle.block_list.specs.Rows.{ListView, used_room, AreShort, AreNonEmpty, IsListed, IsCounted};
 ghost use Rattle.block_list.specs.BlockPlaces.{rank, IsPlace};
 ghost use Rattle.block_list.specs.Starts.{starts_of};
 
@@ -143,7 +144,8 @@ fn put_apart<T: Copy + Drop, F: Fact<T>>(
     ensures items { joined blocks.new.items
         ≡ insert (joined blocks.old.items) (start blocks.old.items b + i) x }
     ensures short { AreShort half blocks.new.items }
-    ensures held { held half blocks.new.items + half ≤ held half blocks.old.items + 1 }
+    ensures used_room { used_room half blocks.new.items + half
+        ≤ used_room half blocks.old.items + 1 }
     ensures len { length blocks.new.items ≡ length blocks.old.items + 1 }
     ensures front { take b blocks.new.items ≡ take b blocks.old.items }
     ensures rest { drop (b + 2) blocks.new.items ≡ drop (b + 1) blocks.old.items }
@@ -370,7 +372,7 @@ impl<T, F: Fact<T>> BlockList<T, F> {
     /// Makes room for `n` more items. An `Err` leaves the list.
     pub fn reserve(&mut self, n: usize) -> Result<(), OutOfMemory>
         ensures rows { self.new.rows ≡ self.old.rows }
-        ensures kept { self.old.spare ≤ self.new.spare }
+        ensures room_stays { self.old.spare ≤ self.new.spare }
         ensures ok { OnOk result (n ≤ self.new.spare) }
     {
         if n <= self.spare {
@@ -419,6 +421,7 @@ impl<T, F: Fact<T>> BlockList<T, F> {
         ensures rank { rank self.now.rows result ≡ rank self.now.rows place }
         ensures place { IsPlace self.now.rows result }
     {
+        // The proof reads off this what always holds of the fields.
         let _len = self.len;
         if place.index < len_at(&self.blocks, place.block) {
             return place;
@@ -440,6 +443,7 @@ impl<T, F: Fact<T>> BlockList<T, F> {
         ensures starts { starts_of self.new.rows ≡ starts_of self.old.rows }
         ensures spare { self.new.spare ≡ self.old.spare }
     {
+        // The proof reads off this what always holds of the fields.
         let _len = self.len;
         change_in(&mut self.blocks, place.block, place.index, change);
     }
@@ -460,6 +464,7 @@ impl<T, F: Fact<T>> BlockList<T, F> {
             × (length self.old.rows ≤ length self.new.rows + 1) }
         ensures spare { self.new.spare ≡ self.old.spare }
     {
+        // The proof reads off this what always holds of the fields.
         let _len = self.len;
         self.len -= 1;
         if len_at(&self.blocks, place.block) > 1 {
@@ -484,6 +489,7 @@ impl<T: Drop, F: Fact<T>> BlockList<T, F> {
         ensures len { length self.new.rows ≡ length self.old.rows }
         ensures spare { self.new.spare ≡ self.old.spare }
     {
+        // The proof reads off this what always holds of the fields.
         let _len = self.len;
         set_in(&mut self.blocks, place.block, place.index, x);
     }
@@ -499,6 +505,7 @@ impl<T: Drop, F: Fact<T>> BlockList<T, F> {
             (take from (row self.old.rows b) ++ drop to (row self.old.rows b)) }
         ensures spare { self.new.spare ≡ self.old.spare }
     {
+        // The proof reads off this what always holds of the fields.
         let _len = self.len;
         self.len -= to - from;
         cut_in(&mut self.blocks, b, from, to);
@@ -511,6 +518,7 @@ impl<T: Drop, F: Fact<T>> BlockList<T, F> {
         ensures rows { self.new.rows ≡ take from self.old.rows ++ drop to self.old.rows }
         ensures spare { self.new.spare ≡ self.old.spare }
     {
+        // The proof reads off this what always holds of the fields.
         let _len = self.len;
         let removed_count = drop_blocks(&mut self.blocks, &mut self.pool, from, to);
         self.len -= removed_count;

@@ -1,8 +1,9 @@
 //! The place up to which a test passes, by binary search.
 
-ghost use Rattle.std.specs.Prelude.{◌≡◌, ◌+◌, ◌-◌, ◌^◌, ◌<◌, ◌≤◌, length, take, drop, true, false, IfSome, IfNone};
+ghost use Rattle.std.specs.Prelude.{◌≡◌, ◌+◌, ◌-◌, ◌^◌, ◌<◌, ◌≤◌, length, take, drop, true, false, IfSome};
 ghost use Rattle.std.specs.List.{AllByRecursion};
-ghost use Rattle.block_list.specs.Rows.{joined, row, IsCut, AreNonEmpty};
+ghost use Rattle.mse_base.specs.Rows.{joined, row};
+ghost use Rattle.block_list.specs.Rows.{IsCut, AreNonEmpty};
 ghost use Rattle.block_list.specs.BlockPlaces.{rank};
 
 use crate::block::Fact;
@@ -129,6 +130,7 @@ pub fn search<T, F: Fact<T>, P: Test<T>>(list: &BlockList<T, F>, test: &P) -> Bl
     ensures after { AllByRecursion (λ x. P.passes test.now x ≡ false)
         (drop (rank list.now.rows result) (joined list.now.rows)) }
 {
+    // The proof reads off this that no block is empty.
     let _spare = list.spare();
     // Most items are put behind all others, or before few.
     if let Some(place) = place_near_end(list, test) {

@@ -1,10 +1,11 @@
 //! A list in blocks that knows how many items stand before each block.
 
-ghost use Rattle.std.specs.Prelude.{◌≡◌, ◌+◌, ◌<◌, ◌≤◌, ◌^◌, List, [], ◌∷◌, ◌++◌, length, take, drop, true, false, OnOk, slice_index_or, slice_set, vec_capacity};
+ghost use Rattle.std.specs.Prelude.{◌≡◌, ◌+◌, ◌<◌, ◌≤◌, ◌^◌, [], ◌∷◌, ◌++◌, length, take, drop, true, false, OnOk, slice_index_or, slice_set, vec_capacity};
 ghost use Rattle.std.specs.List.{AllByRecursion};
-ghost use Rattle.block_list.specs.Rows.{joined, start, row, IsCut};
+ghost use Rattle.mse_base.specs.Rows.{joined, start, row};
+ghost use Rattle.block_list.specs.Rows.{IsCut};
 ghost use Rattle.block_list.specs.BlockPlaces.{rank, IsPlace};
-ghost use Rattle.block_list.specs.Starts.{starts_of, raised, IsKeptAs};
+ghost use Rattle.block_list.specs.Starts.{starts_of, plus_each, AreStartsUpTo};
 
 use crate::block::{Change, Fact};
 use crate::block_list::{BlockList, BlockPlace};
@@ -30,7 +31,7 @@ pub struct RankedList<T, F: Fact<T>> {
 impl<T, F: Fact<T>> Model for RankedList<T, F> {
     ghost use Rattle.std.specs.Prelude.{◌-◌, min, vec_capacity, vec_len};
     ghost use Rattle.block_list.specs.Rows.{ListView};
-    ghost use Rattle.block_list.specs.Starts.{starts_of, IsKeptAs};
+    ghost use Rattle.block_list.specs.Starts.{starts_of, AreStartsUpTo};
 
     ghost Value = { ListView T };
 
@@ -40,7 +41,7 @@ impl<T, F: Fact<T>> Model for RankedList<T, F> {
           (vec_capacity l.starts - vec_len l.starts);
     } };
 
-    ghost invariant = { λ l. IsKeptAs l.starts.items l.settled l.excess
+    ghost invariant = { λ l. AreStartsUpTo l.starts.items l.settled l.excess
         (starts_of l.list.rows) };
 }
 
@@ -103,11 +104,11 @@ fn lower<T, F: Fact<T>>(
     requires within { to ≤ length list.now.rows }
     requires front { take from starts.old.items ≡ take from (starts_of list.now.rows) }
     requires rest { drop from starts.old.items
-        ≡ raised excess (drop from (starts_of list.now.rows)) }
+        ≡ plus_each excess (drop from (starts_of list.now.rows)) }
     ensures len { length starts.new.items ≡ length list.now.rows }
     ensures front { take to starts.new.items ≡ take to (starts_of list.now.rows) }
     ensures rest { drop to starts.new.items
-        ≡ raised excess (drop to (starts_of list.now.rows)) }
+        ≡ plus_each excess (drop to (starts_of list.now.rows)) }
     ensures capacity { vec_capacity starts.new ≡ vec_capacity starts.old }
 {
     let mut b = from;
@@ -131,11 +132,11 @@ fn raise<T, F: Fact<T>>(
     requires fits { start list.now.rows from + excess < 2 ^ 64 }
     requires front { take from starts.old.items ≡ take from (starts_of list.now.rows) }
     requires rest { drop from starts.old.items
-        ≡ raised excess (drop from (starts_of list.now.rows)) }
+        ≡ plus_each excess (drop from (starts_of list.now.rows)) }
     ensures len { length starts.new.items ≡ length list.now.rows }
     ensures front { take to starts.new.items ≡ take to (starts_of list.now.rows) }
     ensures rest { drop to starts.new.items
-        ≡ raised excess (drop to (starts_of list.now.rows)) }
+        ≡ plus_each excess (drop to (starts_of list.now.rows)) }
     ensures capacity { vec_capacity starts.new ≡ vec_capacity starts.old }
 {
     let mut b = from;
@@ -153,24 +154,26 @@ fn settle<T, F: Fact<T>>(
     to: usize,
     excess: usize,
 )
-    requires kept { IsKeptAs starts.old.items settled excess (starts_of list.now.rows) }
+    requires starts { AreStartsUpTo starts.old.items settled excess (starts_of list.now.rows) }
     requires within { to ≤ length list.now.rows }
     ensures len { length starts.new.items ≡ length list.now.rows }
     ensures front { take to starts.new.items ≡ take to (starts_of list.now.rows) }
     ensures rest { drop to starts.new.items
-        ≡ raised excess (drop to (starts_of list.now.rows)) }
+        ≡ plus_each excess (drop to (starts_of list.now.rows)) }
     ensures capacity { vec_capacity starts.new ≡ vec_capacity starts.old }
 {
     if settled <= to {
         lower(starts, list, settled, to, excess);
         return;
     }
-    // A start that is too great is a number, and where there is none the excess is 0.
+    // Where no start is too great the excess is 0.
     if settled < starts.len() {
+        // The proof reads off this that a start with the excess is a number.
         let _first = starts[settled];
         raise(starts, list, settled, to, excess);
         return;
     }
+    // The proof reads off this that the number of all items is one.
     let _len = list.len();
     raise(starts, list, settled, to, excess);
 }
@@ -183,8 +186,9 @@ fn fit<T, F: Fact<T>>(
     excess: &mut usize,
     len: usize,
 )
-    requires { IsKeptAs starts.old.items settled.old excess.old (starts_of list.now.rows) }
-    ensures kept { IsKeptAs starts.new.items settled.new excess.new (starts_of list.now.rows) }
+    requires { AreStartsUpTo starts.old.items settled.old excess.old (starts_of list.now.rows) }
+    ensures starts { AreStartsUpTo starts.new.items settled.new excess.new
+        (starts_of list.now.rows) }
     ensures fits { len + excess.new < 2 ^ 64 }
     ensures capacity { vec_capacity starts.new ≡ vec_capacity starts.old }
 {
@@ -260,7 +264,7 @@ impl<T, F: Fact<T>> RankedList<T, F> {
     /// Makes room for `n` more items. An `Err` leaves the list.
     pub fn reserve(&mut self, n: usize) -> Result<(), OutOfMemory>
         ensures rows { self.new.rows ≡ self.old.rows }
-        ensures kept { self.old.spare ≤ self.new.spare }
+        ensures room_stays { self.old.spare ≤ self.new.spare }
         ensures ok { OnOk result (n ≤ self.new.spare) }
     {
         self.list.reserve(n)?;
@@ -308,6 +312,7 @@ impl<T, F: Fact<T>> RankedList<T, F> {
         requires index { place.index ≤ length (row self.now.rows place.block) }
         ensures { result ≡ rank self.now.rows place }
     {
+        // The proof reads off this that the number of all items is one.
         let _len = self.len();
         self.start(place.block) + place.index
     }

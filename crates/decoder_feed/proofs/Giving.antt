@@ -14,9 +14,9 @@ use Rattle.track_store.proofs.Clearing.{each_at}
 use Rattle.decoder_feed.specs.declared.steps.FeedNext.{FeedNext}
 use Rattle.decoder_feed.specs.declared.steps.FeedNext.TheVariants.{Frame, Wait}
 use Rattle.decoder_feed.specs.Feed.{IsInOrder, group_serial, group_up_to, feed_of}
-use Rattle.decoder_feed.specs.Steps.{FeederState, idle, state_after_seek_to, state_after_seek, answer_with, answer_of, answer_at, answer_to, next_answer, state_after}
+use Rattle.decoder_feed.specs.Steps.{FeederState, idle, feeder_after_seek_to, feeder_after_seek, answer_with, answer_of, answer_at, answer_to, next_answer, feeder_after}
 use Rattle.decoder_feed.specs.Runs.{frame_given, with_first, frames_given, IsAfterGiven, IsFeeding, AreGiven}
-use Rattle.decoder_feed.proofs.Groups.{IsPlaced, each_placed, shown_placed, all_take, le_no, has_group, group_at, group_in_order}
+use Rattle.decoder_feed.proofs.Groups.{HasPlaceIn, each_placed, shown_placed, all_take, le_no, has_group, group_at, group_in_order}
 
 -- ---- a frame by its serial
 
@@ -57,50 +57,50 @@ IsLinked (Some before) f = f.frame.sync ≡ false
 -- nothing is given, and nothing changes
 pub record IsStill (s : FeederState) (fs : List Stored) (a : FeedNext) : Type 0 where
   pub none : frame_given fs a ≡ None
-  pub same : state_after a s ≡ s
+  pub same : feeder_after a s ≡ s
 
 -- the next frame is given
 pub record IsGiven (s : FeederState) (fs : List Stored) (a : FeedNext) (f : Stored) : Type 0 where
   pub given : frame_given fs a ≡ Some f
   pub next : s.next ≡ Some f.serial
-  pub after : state_after a s ≡ record { next = Some (f.serial + 1); given = Some f.serial }
+  pub after : feeder_after a s ≡ record { next = Some (f.serial + 1); given = Some f.serial }
   pub linked : IsLinked s.given f
 
-abbrev pub Outcome : FeederState → List Stored → FeedNext → Type 0
-Outcome s fs a = IsStill s fs a ⊎ ((f : Stored) × IsGiven s fs a f)
+abbrev pub IsStillOrGiven : FeederState → List Stored → FeedNext → Type 0
+IsStillOrGiven s fs a = IsStill s fs a ⊎ ((f : Stored) × IsGiven s fs a f)
 
-sync_case : (fs : List Stored) (n i : ℕ) (given : Option ℕ) (f : Stored) (b : Bool) → slice_get fs i ≡ Some f → n ≡ f.serial → f.frame.sync ≡ b → Outcome (record { next = Some n; given = given }) fs (answer_with given i b)
+sync_case : (fs : List Stored) (n i : ℕ) (given : Option ℕ) (f : Stored) (b : Bool) → slice_get fs i ≡ Some f → n ≡ f.serial → f.frame.sync ≡ b → IsStillOrGiven (record { next = Some n; given = given }) fs (answer_with given i b)
 sync_case fs n i None f true at same e = inr (f, record { given = at; next = ap Some same; after = ap (λ m. record { next = Some (m + 1); given = Some m }) same; linked = e })
 sync_case fs n i None f false at same e = inl (record { none = refl; same = refl })
 sync_case fs n i (Some before) f true at same e = inl (record { none = refl; same = refl })
 sync_case fs n i (Some before) f false at same e = inr (f, record { given = at; next = ap Some same; after = ap (λ m. record { next = Some (m + 1); given = Some m }) same; linked = e })
 
-frame_case : (fs : List Stored) (n i : ℕ) (given : Option ℕ) (r : Option Stored) → position (has_serial n) fs ≡ Some i → slice_get fs i ≡ r → Outcome (record { next = Some n; given = given }) fs (answer_of given i r)
+frame_case : (fs : List Stored) (n i : ℕ) (given : Option ℕ) (r : Option Stored) → position (has_serial n) fs ≡ Some i → slice_get fs i ≡ r → IsStillOrGiven (record { next = Some n; given = given }) fs (answer_of given i r)
 frame_case fs n i given None place at = inl (record { none = refl; same = refl })
 frame_case fs n i given (Some f) place at = sync_case fs n i given f f.frame.sync at (serial_at fs n i f place at) refl
 
-place_case : (fs : List Stored) (n : ℕ) (given : Option ℕ) (r : Option ℕ) → position (has_serial n) fs ≡ r → Outcome (record { next = Some n; given = given }) fs (answer_at given fs r)
+place_case : (fs : List Stored) (n : ℕ) (given : Option ℕ) (r : Option ℕ) → position (has_serial n) fs ≡ r → IsStillOrGiven (record { next = Some n; given = given }) fs (answer_at given fs r)
 place_case fs n given None place = inl (record { none = refl; same = refl })
 place_case fs n given (Some i) place = frame_case fs n i given (slice_get fs i) place refl
 
-wait_case : (fs : List Stored) (s : FeederState) (b : Bool) (a : FeedNext) → Outcome s fs a → Outcome s fs (cond b Wait a)
+wait_case : (fs : List Stored) (s : FeederState) (b : Bool) (a : FeedNext) → IsStillOrGiven s fs a → IsStillOrGiven s fs (cond b Wait a)
 wait_case fs s true a h = inl (record { none = refl; same = refl })
 wait_case fs s false a h = h
 
-outcome_of : (t : TrackState) (next given : Option ℕ) → Outcome (record { next = next; given = given }) t.frames (answer_to t given next)
-outcome_of t None given = inl (record { none = refl; same = refl })
-outcome_of t (Some n) given = wait_case t.frames (record { next = Some n; given = given }) (nat_le t.marks.received n) _ (place_case t.frames n given (position (has_serial n) t.frames) refl)
+still_or_given_of : (t : TrackState) (next given : Option ℕ) → IsStillOrGiven (record { next = next; given = given }) t.frames (answer_to t given next)
+still_or_given_of t None given = inl (record { none = refl; same = refl })
+still_or_given_of t (Some n) given = wait_case t.frames (record { next = Some n; given = given }) (nat_le t.marks.received n) _ (place_case t.frames n given (position (has_serial n) t.frames) refl)
 
-pub outcome : (s : FeederState) (t : TrackState) → Outcome s t.frames (next_answer s t)
-outcome s t = outcome_of t s.next s.given
+pub still_or_given : (s : FeederState) (t : TrackState) → IsStillOrGiven s t.frames (next_answer s t)
+still_or_given s t = still_or_given_of t s.next s.given
 
 -- what is kept stays
-still_feeding : (s : FeederState) (fs : List Stored) (a : FeedNext) → IsFeeding s → Outcome s fs a → IsFeeding (state_after a s)
+still_feeding : (s : FeederState) (fs : List Stored) (a : FeedNext) → IsFeeding s → IsStillOrGiven s fs a → IsFeeding (feeder_after a s)
 still_feeding s fs a h (inl still) = subst IsFeeding (sym still.same) h
 still_feeding s fs a h (inr gives) = subst IsFeeding (sym gives.1.after) refl
 
-pub keeps_feeding : (s : FeederState) (t : TrackState) → IsFeeding s → IsFeeding (state_after (next_answer s t) s)
-keeps_feeding s t h = still_feeding s t.frames (next_answer s t) h (outcome s t)
+pub keeps_feeding : (s : FeederState) (t : TrackState) → IsFeeding s → IsFeeding (feeder_after (next_answer s t) s)
+keeps_feeding s t h = still_feeding s t.frames (next_answer s t) h (still_or_given s t)
 
 -- ---- many calls
 
@@ -108,7 +108,7 @@ goes_on : (given : Option ℕ) (f : Stored) (rest : List Stored) → IsAfterGive
 goes_on None f rest after linked h = (linked, h)
 goes_on (Some before) f rest after linked h = (let next : before + 1 ≡ f.serial = cc in (linked, next, h))
 
-call_in_order : (s : FeederState) (fs rest : List Stored) (a : FeedNext) → IsFeeding s → Outcome s fs a → IsInOrder (state_after a s).given rest → IsInOrder s.given (with_first (frame_given fs a) rest)
+call_in_order : (s : FeederState) (fs rest : List Stored) (a : FeedNext) → IsFeeding s → IsStillOrGiven s fs a → IsInOrder (feeder_after a s).given rest → IsInOrder s.given (with_first (frame_given fs a) rest)
 call_in_order s fs rest a h (inl still) k =
     subst (λ o. IsInOrder s.given (with_first o rest)) (sym still.none) (subst (λ (u : FeederState). IsInOrder u.given rest) still.same k)
 call_in_order s fs rest a h (inr gives) k =
@@ -120,7 +120,7 @@ empty_in_order : (given : Option ℕ) → IsInOrder given []
 empty_in_order given = tt
 
 pub one_in_order : (s : FeederState) (t : TrackState) → IsFeeding s → IsInOrder s.given (with_first (frame_given t.frames (next_answer s t)) [])
-one_in_order s t h = call_in_order s t.frames [] (next_answer s t) h (outcome s t) (empty_in_order (state_after (next_answer s t) s).given)
+one_in_order s t h = call_in_order s t.frames [] (next_answer s t) h (still_or_given s t) (empty_in_order (feeder_after (next_answer s t) s).given)
 
 -- the same of a frame that was looked up
 pub frame_in_order : (fs : List Stored) (n place : ℕ) (s : FeederState) → IsFeeding s → s.next ≡ Some n → Frame place ≡ answer_at s.given fs (position (has_serial n) fs) → IsInOrder s.given (with_first (slice_get fs place) [])
@@ -129,19 +129,19 @@ frame_in_order fs n place s h next e =
     let u : FeederState = record { next = Some n; given = s.given } in
     let out = place_case fs n s.given (position (has_serial n) fs) refl in
     subst (λ b. IsInOrder s.given (with_first (frame_given fs b) [])) (sym e)
-    (call_in_order u fs [] a (subst (λ o. IsAfterGiven o s.given) next h) out (empty_in_order (state_after a u).given))
+    (call_in_order u fs [] a (subst (λ o. IsAfterGiven o s.given) next h) out (empty_in_order (feeder_after a u).given))
 
 pub run_in_order : (s : FeederState) (ts : List TrackState) → IsFeeding s → IsInOrder s.given (frames_given s ts)
 run_in_order s [] h = empty_in_order s.given
 run_in_order s (t ∷ ts) h =
     let a = next_answer s t in
-    call_in_order s t.frames (frames_given (state_after a s) ts) a h (outcome s t) (run_in_order (state_after a s) ts (keeps_feeding s t h))
+    call_in_order s t.frames (frames_given (feeder_after a s) ts) a h (still_or_given s t) (run_in_order (feeder_after a s) ts (keeps_feeding s t h))
 
-from_seek : (o : Option Stored) (fs : List Stored) (ts : List TrackState) → IsInOrder None (frames_given (state_after_seek_to o fs) ts)
+from_seek : (o : Option Stored) (fs : List Stored) (ts : List TrackState) → IsInOrder None (frames_given (feeder_after_seek_to o fs) ts)
 from_seek None fs ts = run_in_order idle ts tt
-from_seek (Some wanted) fs ts = run_in_order (state_after_seek_to (Some wanted) fs) ts tt
+from_seek (Some wanted) fs ts = run_in_order (feeder_after_seek_to (Some wanted) fs) ts tt
 
-pub seek_in_order : (time : ℤ) (fs : List Stored) (ts : List TrackState) → IsInOrder None (frames_given (state_after_seek time fs) ts)
+pub seek_in_order : (time : ℤ) (fs : List Stored) (ts : List TrackState) → IsInOrder None (frames_given (feeder_after_seek time fs) ts)
 seek_in_order time fs ts = from_seek (overlapped time fs) fs ts
 
 -- ---- over a track that does not change
@@ -181,11 +181,11 @@ all_given t (x ∷ xs) next given held order comes =
     let parts = link_of given x xs order in
     let ts = replicate (length xs) t in
     ap (λ (o : Option ℕ). frames_given (record { next = o; given = given }) (t ∷ ts)) comes
-    ∙ ap (λ a. with_first (frame_given t.frames a) (frames_given (state_after a (record { next = Some x.serial; given = given })) ts)) (answer_is t given x held.0 parts.0)
+    ∙ ap (λ a. with_first (frame_given t.frames a) (frames_given (feeder_after a (record { next = Some x.serial; given = given })) ts)) (answer_is t given x held.0 parts.0)
     ∙ ap (λ o. with_first o (frames_given (record { next = Some (x.serial + 1); given = Some x.serial }) ts)) held.0.at
     ∙ ap (λ ys. x ∷ ys) (all_given t xs (Some (x.serial + 1)) (Some x.serial) held.1 parts.1 (comes_after x.serial xs parts.1))
 
-each_held : (t : TrackState) (gs : List Stored) → IsAscending t.frames → AllByRecursion (IsPlaced t.frames) gs → AllByRecursion (λ f. f.serial < t.marks.received) gs → AllByRecursion (IsHeld t) gs
+each_held : (t : TrackState) (gs : List Stored) → IsAscending t.frames → AllByRecursion (HasPlaceIn t.frames) gs → AllByRecursion (λ f. f.serial < t.marks.received) gs → AllByRecursion (IsHeld t) gs
 each_held t [] up h low = tt
 each_held t (g ∷ gs) up h low =
     (record { received = low.0; place = h.0.0; named = place_is t.frames h.0.0 g up h.0.1; at = h.0.1 }, each_held t gs up h.1 low.1)
@@ -200,7 +200,7 @@ comes_first next [] i x at e = cc
 comes_first next (f ∷ fs) zero x at e = (let own : f ≡ x = cc in e ∙ ap (λ (y : Stored). Some y.serial) (sym own))
 comes_first next (f ∷ fs) (suc i) x at e = comes_first next fs i x at e
 
-group_given : (t : TrackState) (o : Option Stored) → IsSound t → IfSome o (IsPlaced t.frames) → AreGiven (state_after_seek_to o t.frames) t (group_up_to o t.frames)
+group_given : (t : TrackState) (o : Option Stored) → IsSound t → IfSome o (HasPlaceIn t.frames) → AreGiven (feeder_after_seek_to o t.frames) t (group_up_to o t.frames)
 group_given t None sound h = tt
 group_given t (Some wanted) sound h =
     let fs = t.frames in
@@ -208,8 +208,8 @@ group_given t (Some wanted) sound h =
     let start = has_group fs i wanted sound.chained h.1 in
     let g = group_at fs i start.0 wanted sound.ascending h.1 start.1 in
     let held = all_drop (IsHeld t) start.0 (take (i + 1) fs) (all_take (IsHeld t) (i + 1) fs (each_held t fs sound.ascending (each_placed fs) sound.below)) in
-    subst (λ feed. AreGiven (state_after_seek_to (Some wanted) fs) t feed) (sym g.1.frames)
+    subst (λ feed. AreGiven (feeder_after_seek_to (Some wanted) fs) t feed) (sym g.1.frames)
     (all_given t (drop start.0 (take (i + 1) fs)) (group_serial wanted.serial fs) None held (group_in_order fs wanted g.0 i start.0 sound.chained g.1 start.1) (comes_first (group_serial wanted.serial fs) (take (i + 1) fs) start.0 g.0 g.1.begins g.1.serial))
 
-pub feed_given : (time : ℤ) (t : TrackState) → IsSound t → AreGiven (state_after_seek time t.frames) t (feed_of time t.frames)
+pub feed_given : (time : ℤ) (t : TrackState) → IsSound t → AreGiven (feeder_after_seek time t.frames) t (feed_of time t.frames)
 feed_given time t sound = group_given t (overlapped time t.frames) sound (shown_placed time t.frames)

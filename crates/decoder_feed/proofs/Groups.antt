@@ -252,14 +252,14 @@ has_group (f ∷ fs) i x h e =
 
 -- ---- the frame that is shown is held
 
-abbrev pub IsPlaced : List Stored → Stored → Type 0
-IsPlaced fs x = (i : ℕ) × (slice_get fs i ≡ Some x)
+abbrev pub HasPlaceIn : List Stored → Stored → Type 0
+HasPlaceIn fs x = (i : ℕ) × (slice_get fs i ≡ Some x)
 
-each_further : (f : Stored) (fs gs : List Stored) → AllByRecursion (IsPlaced fs) gs → AllByRecursion (IsPlaced (f ∷ fs)) gs
+each_further : (f : Stored) (fs gs : List Stored) → AllByRecursion (HasPlaceIn fs) gs → AllByRecursion (HasPlaceIn (f ∷ fs)) gs
 each_further f fs [] h = tt
 each_further f fs (g ∷ gs) h = ((suc h.0.0, h.0.1), each_further f fs gs h.1)
 
-pub each_placed : (fs : List Stored) → AllByRecursion (IsPlaced fs) fs
+pub each_placed : (fs : List Stored) → AllByRecursion (HasPlaceIn fs) fs
 each_placed [] = tt
 each_placed (f ∷ fs) = ((zero, refl), each_further f fs fs (each_placed fs))
 
@@ -271,10 +271,10 @@ pub filter_all : (P : Stored → Type 0) (p : Stored → Bool) (fs : List Stored
 filter_all P p [] h = tt
 filter_all P p (f ∷ fs) h = pick_all P (p f) f (filter p fs) h.0 (filter_all P p fs h.1)
 
-pub shown_placed : (t : ℤ) (fs : List Stored) → IfSome (overlapped t fs) (IsPlaced fs)
-shown_placed t fs = fold-each (IsPlaced fs) None (filter (is_in_frame t) fs) tt (filter_all (IsPlaced fs) (is_in_frame t) fs (each_placed fs))
+pub shown_placed : (t : ℤ) (fs : List Stored) → IfSome (overlapped t fs) (HasPlaceIn fs)
+shown_placed t fs = fold-each (HasPlaceIn fs) None (filter (is_in_frame t) fs) tt (filter_all (HasPlaceIn fs) (is_in_frame t) fs (each_placed fs))
 
-group_of : (fs : List Stored) (o : Option Stored) → IsAscending fs → IsChained None fs → IfSome o (IsPlaced fs) → IsGroupUpTo o (group_up_to o fs)
+group_of : (fs : List Stored) (o : Option Stored) → IsAscending fs → IsChained None fs → IfSome o (HasPlaceIn fs) → IsGroupUpTo o (group_up_to o fs)
 group_of fs None up chain h = refl
 group_of fs (Some wanted) up chain h =
     let start = has_group fs h.0 wanted chain h.1 in

@@ -4,7 +4,7 @@ use Rattle.track_store.specs.declared.store.Stored.{Stored}
 use Rattle.track_store.specs.State.{TrackState}
 use Rattle.decoder_feed.specs.declared.steps.FeedNext.{FeedNext}
 use Rattle.decoder_feed.specs.declared.steps.FeedNext.TheVariants.{Frame, Idle, Wait, Lost, GroupEnd}
-use Rattle.decoder_feed.specs.Steps.{FeederState, next_answer, state_after}
+use Rattle.decoder_feed.specs.Steps.{FeederState, next_answer, feeder_after}
 
 -- the frame that an answer gives, if it gives one
 abbrev pub frame_given : List Stored → FeedNext → Option Stored
@@ -23,7 +23,7 @@ abbrev pub frames_given : FeederState → List TrackState → List Stored
 frames_given s [] = []
 frames_given s (t ∷ ts) =
     with_first (frame_given t.frames (next_answer s t))
-    (frames_given (state_after (next_answer s t) s) ts)
+    (frames_given (feeder_after (next_answer s t) s) ts)
 
 -- the frame that comes next is the one after the last given
 abbrev pub IsAfterGiven : Option ℕ → Option ℕ → Type 0

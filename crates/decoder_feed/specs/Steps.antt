@@ -19,12 +19,15 @@ idle = record { next = None; given = None }
 
 -- what a feeder keeps after a seek to a frame: its group comes next, from its random access point on, and no
 -- frame was given
-abbrev pub state_after_seek_to : Option Stored → List Stored → FeederState
-state_after_seek_to None fs = idle
-state_after_seek_to (Some wanted) fs = record { next = group_serial wanted.serial fs; given = None }
+abbrev pub feeder_after_seek_to : Option Stored → List Stored → FeederState
+feeder_after_seek_to None fs = idle
+feeder_after_seek_to (Some wanted) fs = record {
+  next = group_serial wanted.serial fs;
+  given = None;
+}
 
-abbrev pub state_after_seek : ℤ → List Stored → FeederState
-state_after_seek t fs = state_after_seek_to (overlapped t fs) fs
+abbrev pub feeder_after_seek : ℤ → List Stored → FeederState
+feeder_after_seek t fs = feeder_after_seek_to (overlapped t fs) fs
 
 -- what the frame at a place is answered with: the first since the seek must be a random access point, and
 -- after it the next random access point begins another group
@@ -55,12 +58,12 @@ abbrev pub next_answer : FeederState → TrackState → FeedNext
 next_answer s t = answer_to t s.given s.next
 
 -- what a feeder keeps after an answer: only a frame that was given changes it
-abbrev pub state_after : FeedNext → FeederState → FeederState
-state_after (Frame place) s = record {
+abbrev pub feeder_after : FeedNext → FeederState → FeederState
+feeder_after (Frame place) s = record {
   next = option_map (λ serial. serial + 1) s.next;
   given = s.next;
 }
-state_after Idle s = s
-state_after Wait s = s
-state_after Lost s = s
-state_after GroupEnd s = s
+feeder_after Idle s = s
+feeder_after Wait s = s
+feeder_after Lost s = s
+feeder_after GroupEnd s = s

@@ -8,7 +8,7 @@ ghost use Rattle.track_store.specs.State.{TrackState};
 ghost use Rattle.track_store.specs.declared.store.Stored.{Stored};
 ghost use Rattle.decoder_feed.specs.Feed.{feed_of, IsGroupUpTo, IsInOrder};
 ghost use Rattle.decoder_feed.specs.Runs.{frames_given, AreGiven, IsFeeding};
-ghost use Rattle.decoder_feed.specs.Steps.{FeederState, state_after_seek};
+ghost use Rattle.decoder_feed.specs.Steps.{FeederState, feeder_after_seek};
 
 /// In a track that is sound, the feed for a time is a group from its random access point up to the
 /// frame that is shown then, and there is none exactly where no frame is.
@@ -22,7 +22,7 @@ pub fn feed_is_a_group()
 /// it. The same holds from the midst of a run on.
 pub fn frames_come_in_order()
     ensures seek { (time : ℤ) (fs : List Stored) (ts : List TrackState)
-        → IsInOrder None (frames_given (state_after_seek time fs) ts) }
+        → IsInOrder None (frames_given (feeder_after_seek time fs) ts) }
     ensures midst { (s : FeederState) (ts : List TrackState) → IsFeeding s
         → IsInOrder s.given (frames_given s ts) }
 {}
@@ -31,5 +31,5 @@ pub fn frames_come_in_order()
 /// at its time is the feed for it, a frame a call.
 pub fn feed_is_given()
     ensures { (t : TrackState) (time : ℤ) → IsSound t
-        → AreGiven (state_after_seek time t.frames) t (feed_of time t.frames) }
+        → AreGiven (feeder_after_seek time t.frames) t (feed_of time t.frames) }
 {}

@@ -5,7 +5,7 @@ ghost use Rattle.track_store.specs.Sound.{IsSound};
 ghost use Rattle.track_store.specs.State.{state_of};
 ghost use Rattle.decoder_feed.specs.Feed.{group_serial, IsInOrder};
 ghost use Rattle.decoder_feed.specs.Runs.{frame_given, with_first};
-ghost use Rattle.decoder_feed.specs.Steps.{answer_at, answer_with, idle, next_answer, state_after, state_after_seek};
+ghost use Rattle.decoder_feed.specs.Steps.{answer_at, answer_with, idle, next_answer, feeder_after, feeder_after_seek};
 
 use mse_base::Ticks;
 use std::marker::Model;
@@ -54,6 +54,7 @@ fn group_serial<S: FrameStore>(store: &S, place: usize) -> Option<u64>
     ensures { IfSome (slice_get (S.frames store.now) place)
         (λ f. result ≡ group_serial f.serial (S.frames store.now)) }
 {
+    // The proof reads off this that the serials ascend.
     store.serials_ascend();
     let first = store.group_start(place)?;
     Some(store.get(first)?.serial)
@@ -113,7 +114,7 @@ impl Feeder {
         requires { IsSound (state_of S.frames track.now) }
         ensures wanted { result
             ≡ option_map (λ f. f.serial) (overlapped t (S.frames track.now.store)) }
-        ensures state { self.new ≡ state_after_seek t (S.frames track.now.store) }
+        ensures state { self.new ≡ feeder_after_seek t (S.frames track.now.store) }
     {
         *self = Feeder::new();
         let last = track.store.overlapped(t)?;
@@ -127,7 +128,7 @@ impl Feeder {
     pub fn next<S: FrameStore>(&mut self, track: &Track<S>) -> FeedNext
         requires { IsSound (state_of S.frames track.now) }
         ensures answer { result ≡ next_answer self.old (state_of S.frames track.now) }
-        ensures state { self.new ≡ state_after result self.old }
+        ensures state { self.new ≡ feeder_after result self.old }
         ensures in_order { IsInOrder self.old.given
             (with_first (frame_given (S.frames track.now.store) result) []) }
     {

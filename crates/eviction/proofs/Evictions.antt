@@ -5,7 +5,7 @@ use Rattle.std.proofs.lemmas.Int.{ints}
 use Rattle.std.proofs.lemmas.List.{reverse-append, length-append}
 use Rattle.mse_base.specs.declared.ticks.Moment.{Moment}
 use Rattle.mse_base.specs.declared.ticks.Moment.TheVariants.{At}
-use Rattle.track_store.specs.Kept.{AreKept, AreEndedBy, AreStillSound, bytes_in}
+use Rattle.track_store.specs.Kept.{AreTracksSound, AreEndedBy, AreStillSound, bytes_in}
 use Rattle.track_store.specs.State.{TrackState}
 use Rattle.mse_base.specs.Moments.{time_or, is_at_or_before}
 use Rattle.range_removal.specs.Removal.{tracks_after_removal}
@@ -183,8 +183,8 @@ evicted_keeps P p new quota d ts keep h = kept_pick P (nat_lt (bytes_in ts) quot
 pub still_evicted : (p : ℤ) (new quota : ℕ) (d : Moment) (ts : List TrackState) → AreStillSound ts (tracks_after_eviction p new quota d ts)
 still_evicted p new quota d ts = evicted_keeps (AreStillSound ts) p new quota d ts (λ start end us k. still_both ts us (tracks_after_removal start end d us) k (still_removed start end d us)) (still_same ts)
 
-pub kept_evicted : (p : ℤ) (new quota : ℕ) (d : Moment) (ts : List TrackState) → AreKept ts → AreKept (tracks_after_eviction p new quota d ts)
-kept_evicted p new quota d ts h = evicted_keeps AreKept p new quota d ts (λ start end us k. kept_removed start end d us k) h
+pub kept_evicted : (p : ℤ) (new quota : ℕ) (d : Moment) (ts : List TrackState) → AreTracksSound ts → AreTracksSound (tracks_after_eviction p new quota d ts)
+kept_evicted p new quota d ts h = evicted_keeps AreTracksSound p new quota d ts (λ start end us k. kept_removed start end d us k) h
 
 pub ends_evicted : (p : ℤ) (new quota : ℕ) (d : Moment) (limit : ℤ) (ts : List TrackState) → AreEndedBy limit ts → AreEndedBy limit (tracks_after_eviction p new quota d ts)
 ends_evicted p new quota d limit ts h = evicted_keeps (AreEndedBy limit) p new quota d ts (λ start end us k. ends_removed start end d limit us k) h

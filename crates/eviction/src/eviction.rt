@@ -1,10 +1,10 @@
-ghost use Rattle.std.specs.Prelude.{◌≡◌, ◌<◌, ◌≤◌, ◌+◌, ℕ, ℤ, Some, None, int_lt, not, filter, length, if◌then◌else◌, IfSome, MatchOption};
-ghost use Rattle.track_store.specs.Kept.{AreKept, AreEndedBy, AreStillSound, HasSpareRoom, gaps_of};
+ghost use Rattle.std.specs.Prelude.{◌≡◌, ◌<◌, ℕ, ℤ, Some, None, int_lt, not, filter, length, if◌then◌else◌, IfSome, MatchOption};
+ghost use Rattle.track_store.specs.Kept.{AreTracksSound, AreEndedBy, AreStillSound, HasSpareRoom, gaps_of};
 ghost use Rattle.track_store.specs.State.{states_of};
 ghost use Rattle.range_removal.specs.Rooms.{IsRoomKept};
 ghost use Rattle.range_removal.specs.Removal.{tracks_after_removal};
 ghost use Rattle.mse_base.specs.Moments.{is_at_or_before, time_or};
-ghost use Rattle.eviction.specs.Evicting.{ends_up_to, tracks_after_eviction, first_of, has_room, ranges_in_order, removal_ranges, tracks_while_full, starts_after};
+ghost use Rattle.eviction.specs.Evicting.{ends_up_to, tracks_after_eviction, first_of, has_room, removal_ranges, tracks_while_full};
 ghost use Rattle.eviction.specs.Steps.{left_after, left_before, tracks_evicted, times_at, times_between, times_from};
 
 use crate::latest::latest_sync;
@@ -14,33 +14,30 @@ use mse_base::{Moment, Ticks};
 use range_removal::remove_frames;
 use track_store::{FrameStore, Tracks};
 
-/// The time, or where there is none the duration.
-fn time_or(time: &Option<Ticks>, duration: &Moment) -> Moment
-    ensures { result ≡ time_or time.now duration.now }
+/// Whether the range up to the next random access point, or to the duration where there is none,
+/// ends at or before the position.
+fn is_range_past(position: Ticks, next: &Option<Ticks>, duration: &Moment) -> bool
+    ensures { result ≡ is_at_or_before (time_or next.now duration.now) position }
 {
-    Moment::time_or(*time, *duration)
+    Moment::time_or(*next, *duration).is_at_or_before(position)
 }
 
-/// Whether a moment is a time that is not after the position.
-fn is_up_to(position: Ticks, moment: &Moment) -> bool
-    ensures { result ≡ is_at_or_before moment.now position }
-{
-    moment.is_at_or_before(position)
-}
-
-/// Removes a range, unless the new bytes have room. Tells whether it was removed.
+/// Removes the range up to the next random access point, or to the duration where there is none,
+/// unless the new bytes have room. Tells whether it was removed.
 fn remove_while_full<S: FrameStore>(
     tracks: &mut Tracks<S>,
     start: Ticks,
-    end: &Moment,
+    next: &Option<Ticks>,
     need: &Need,
     duration: &Moment,
 ) -> bool
     ensures answer { has_room need.now.new_bytes need.now.quota
         (states_of S.frames tracks.old.items) ≡ not result }
     ensures states { states_of S.frames tracks.new.items
-        ≡ (if result then tracks_after_removal start end.now duration.now
-        (states_of S.frames tracks.old.items) else states_of S.frames tracks.old.items) }
+        ≡ (if result
+        then tracks_after_removal start (time_or next.now duration.now) duration.now
+        (states_of S.frames tracks.old.items)
+        else states_of S.frames tracks.old.items) }
     ensures spare { IsRoomKept S.spare tracks.old.items tracks.new.items }
     ensures gaps { gaps_of S.gap tracks.new.items ≡ gaps_of S.gap tracks.old.items }
     ensures places { tracks.new.spare ≡ tracks.old.spare }
@@ -48,7 +45,7 @@ fn remove_while_full<S: FrameStore>(
     if has_room(tracks, need) {
         return false;
     }
-    remove_frames(tracks, start, *end, *duration);
+    remove_frames(tracks, start, Moment::time_or(*next, *duration), *duration);
     true
 }
 
@@ -78,12 +75,13 @@ fn evict_before_step<S: FrameStore>(
     ensures gaps { gaps_of S.gap tracks.new.items ≡ gaps_of S.gap tracks.old.items }
     ensures places { tracks.new.spare ≡ tracks.old.spare }
 {
-    if position <= start && !is_up_to(position, duration) {
+    if position <= start && !duration.is_at_or_before(position) {
         return None;
     }
     let next = sync_after(tracks, lead, start);
-    let end = time_or(&next, duration);
-    if is_up_to(position, &end) && !remove_while_full(tracks, start, &end, need, duration) {
+    if is_range_past(position, &next, duration)
+        && !remove_while_full(tracks, start, &next, need, duration)
+    {
         return None;
     }
     next
@@ -141,8 +139,7 @@ fn evict_after_step<S: FrameStore>(
 {
     match latest_sync(tracks, lead, position, next) {
         Some(start) => {
-            let end = time_or(next, duration);
-            if remove_while_full(tracks, start, &end, need, duration) {
+            if remove_while_full(tracks, start, next, need, duration) {
                 Some(start)
             } else {
                 None
@@ -193,8 +190,8 @@ pub fn evict<S: FrameStore>(
         (states_of S.frames tracks.old.items) }
     ensures sound { AreStillSound (states_of S.frames tracks.old.items)
         (states_of S.frames tracks.new.items) }
-    ensures kept { AreKept (states_of S.frames tracks.old.items)
-        → AreKept (states_of S.frames tracks.new.items) }
+    ensures tracks_sound { AreTracksSound (states_of S.frames tracks.old.items)
+        → AreTracksSound (states_of S.frames tracks.new.items) }
     ensures ends { (limit : ℤ) → AreEndedBy limit (states_of S.frames tracks.old.items)
         → AreEndedBy limit (states_of S.frames tracks.new.items) }
     ensures spare { IsRoomKept S.spare tracks.old.items tracks.new.items }

@@ -72,7 +72,7 @@ fn next_tick(t: Ticks) -> Option<Ticks>
 fn highest_in_range<S: FrameStore>(tracks: &Tracks<S>, lead: usize) -> Option<Ticks>
     ensures value { result
         ≡ greatest (starts (frames_of (slice_get (states_of S.frames tracks.now.items) lead))) }
-    ensures in_range { IfSome result IsTick }
+    ensures is_tick { IfSome result IsTick }
 {
     let highest = highest_start(tracks, lead);
     if let Some(t) = highest {

@@ -15,7 +15,7 @@ use Rattle.frame_rules.specs.declared.timing.Timing.{Timing}
 use Rattle.frame_rules.specs.Timing.{raw_time, settings_at_group_start, offset_to, timing_in_pass, is_discontinuous, settings_after_discontinuity, timing_of, IsTimingOf}
 use Rattle.frame_rules.specs.Put.{track_after_frame, answer_by_reason, drop_reason}
 use Rattle.frame_rules.specs.declared.answer.Placed.{Placed}
-use Rattle.track_store.specs.Kept.{bytes_in, AreKept, AreEndedBy, AreStillSound}
+use Rattle.track_store.specs.Kept.{bytes_in, AreTracksSound, AreEndedBy, AreStillSound}
 use Rattle.frame_rules.specs.Place.{Placement, track_after_reset, placement_in_track, placement_at_times, placement_by_times, placement_in, placement, is_over_limit, new_placement, settings_after_frame, limit_after}
 use Rattle.frame_rules.specs.declared.answer.Placed.TheVariants as placed_as
 use Rattle.std.proofs.lemmas.List.Sums.{sum_by-cons}
@@ -151,7 +151,7 @@ firm_of (Some t) ts s i f e own small low lasts = firm_cond (is_over_limit t.mar
 pub firm_left : (news : List TrackState) (o : Placement) (ts : List TrackState) (s : Settings) (i : ℕ) (f : CodedFrame) → o.tracks ≡ news → o ≡ placement ts s i f → IfSome (slice_get ts i) IsSound → bytes_in ts < 2 ^ 62 → pos 0 ≤ℤ s.window_start → pos 0 ≤ℤ f.dur → IsFirm ts news
 firm_left news o ts s i f own is sound small low lasts = subst (λ (us : List TrackState). IsFirm ts us) (sym (ap (λ p. p.tracks) is) ∙ own) (firm_of (slice_get ts i) ts s i f refl sound small low lasts)
 
-pub kept_of : (ts us : List TrackState) → IsFirm ts us → AreKept ts → AreKept us
+pub kept_of : (ts us : List TrackState) → IsFirm ts us → AreTracksSound ts → AreTracksSound us
 kept_of ts us firm h = record { sound = all_still ts us firm.sound h.sound; small = firm.small }
 
 -- the window stays

@@ -60,7 +60,7 @@ pub fn put<S: FrameStore>(
 ) -> Placed
     requires sound { IsSound (state_of S.frames track.old) }
     requires room { 1 ≤ S.spare track.old.store }
-    requires count { track.old.marks.received < 2 ^ 62 }
+    requires few { track.old.marks.received < 2 ^ 62 }
     requires small { bytes_of (S.frames track.old.store) + length frame.payload < 2 ^ 62 }
     requires dur_not_negative { pos 0 ≤ℤ frame.dur }
     requires timed { IsTimingOf frame (timing_by settings.now times.now) }

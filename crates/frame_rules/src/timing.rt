@@ -1,4 +1,4 @@
-ghost use Rattle.std.specs.Prelude.{◌≡◌, ◌||◌, ◌&&◌, ◌+ℤ◌, ◌-ℤ◌, ◌*ℤ◌, pos, false, Some, None, is_some, IfSome, OnSome};
+ghost use Rattle.std.specs.Prelude.{◌≡◌, ◌||◌, ◌&&◌, ◌-ℤ◌, ◌*ℤ◌, pos, false, Some, None, is_some, IfSome, OnSome};
 ghost use Rattle.frame_rules.specs.Plain.{timing_by};
 ghost use Rattle.frame_rules.specs.Timing.{raw_time, settings_at_group_start, has_group_start, timing_in_pass, is_discontinuous, settings_after_discontinuity, timing_of};
 

@@ -4,6 +4,7 @@ mod buffers;
 mod evictions;
 mod feeds;
 mod frames;
+mod media;
 mod overlaps;
 mod placing;
 mod removals;

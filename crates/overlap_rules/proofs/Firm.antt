@@ -16,7 +16,7 @@ use Rattle.track_store.proofs.Soundness.{chained-cleared, chained-shortened, las
 use Rattle.track_store.proofs.Overlapping.{overlapped-covers, fold-each}
 use Rattle.overlap_rules.specs.declared.room.OverlapRule.{OverlapRule}
 use Rattle.overlap_rules.specs.declared.room.OverlapRule.TheVariants.{Remove, Shorten, Keep}
-use Rattle.overlap_rules.specs.Overlap.{rule_for, overlapped_after, removed_from, is_removed_from, is_removed, frames_left_by_rule, frames_left_by_overlap, track_with_room}
+use Rattle.overlap_rules.specs.Overlap.{rule_for, overlapped_after, removal_start, is_removed_from, is_removed, frames_left_by_rule, frames_left_by_overlap, track_with_room}
 
 -- what removals and cuts keep of a track's frames
 pub record Firm (received : ℕ) (first : Option ℕ) (fs : List Stored) : Type 0 where
@@ -202,10 +202,10 @@ next_of None received h = absurd h
 next_of (Some m) received h = (m, refl, h)
 
 -- while no random access point is needed the last frame stays
-last-left : (kind : Kind) (p e : ℤ) (decode duration end : Option ℤ) (first : Option ℕ) (need : Bool) (received : ℕ) (fs : List Stored) → AreTogether decode duration end first need → need ≡ false → Firm received first fs → IfSome first (λ n. n < received) → IsSuccessor (last_serial None fs) received → IsSuccessor (last_serial None (frames_left_by_overlap kind p (overlapped_after decode p fs) (is_removed_from (removed_from end p) e first) fs)) received
+last-left : (kind : Kind) (p e : ℤ) (decode duration end : Option ℤ) (first : Option ℕ) (need : Bool) (received : ℕ) (fs : List Stored) → AreTogether decode duration end first need → need ≡ false → Firm received first fs → IfSome first (λ n. n < received) → IsSuccessor (last_serial None fs) received → IsSuccessor (last_serial None (frames_left_by_overlap kind p (overlapped_after decode p fs) (is_removed_from (removal_start end p) e first) fs)) received
 last-left kind p e (Some decode) (Some duration) (Some end) (Some n) need received fs together none h low next =
     let m = next_of (last_serial None fs) received next in
-    let stays = last-cleared (is_removed_from (removed_from (Some end) p) e (Some n)) false None None n m.0 fs (spared (removed_from (Some end) p) e n fs) h.group_sync h.ascending h.chained tt m.1 (omega arith) in
+    let stays = last-cleared (is_removed_from (removal_start (Some end) p) e (Some n)) false None None n m.0 fs (spared (removal_start (Some end) p) e n fs) h.group_sync h.ascending h.chained tt m.1 (omega arith) in
     subst (λ o. IsSuccessor o received) (sym stays) m.2
 last-left kind p e None None None None need received fs together none h low next = cc
 last-left kind p e decode duration end first need received fs together none h low next = absurd together

@@ -1,7 +1,6 @@
 -- What becomes of an overlapped frame, and of those that are removed.
-use Rattle.std.proofs.Common.{◌≡◌, ◌<◌, ◌^◌, ℕ, ◌-◌, ℤ, pos, ◌+ℤ◌, ◌-ℤ◌, ◌≤ℤ◌, Bool, true, false, cond, ◌&&◌, List, [], ◌∷◌, refl, sym, ap, arith, Option, Some, None, unwrap_or, nat_lt, int_le, int_lt}
+use Rattle.std.proofs.Common.{◌≡◌, ℕ, ◌-◌, ℤ, pos, ◌+ℤ◌, ◌-ℤ◌, ◌≤ℤ◌, Bool, true, false, cond, ◌&&◌, List, [], ◌∷◌, refl, sym, ap, arith, Option, Some, None, int_le, int_lt}
 use Rattle.std.proofs.lemmas.Int.{ints}
-use Rattle.std.proofs.lemmas.Bool.Decides.{nat_tests}
 use Rattle.std.specs.Ordering.{int_eq}
 use Rattle.std.specs.List.{AllByRecursion}
 use Rattle.mse_base.specs.Time.{IsTick}
@@ -10,14 +9,14 @@ use Rattle.mse_base.specs.declared.track.Kind.TheVariants.{Video, Audio, Other}
 use Rattle.mse_base.specs.declared.ticks.Moment.TheVariants.{At}
 use Rattle.track_store.specs.declared.store.Stored.{Stored}
 use Rattle.track_store.specs.Frames.{frames_without, is_in_frame, has_serial, is_between}
-use Rattle.track_store.proofs.Clearing.{cleared-cleared, cleared-same, each-cleared, serials-shortened}
-use Rattle.overlap_rules.specs.Overlap.{rule_for, frames_left_by_rule, frames_left_by_overlap, is_before_group, is_removed_from, is_removed, overlapped_after, track_with_room}
-use Rattle.overlap_rules.specs.Steps.{CanApply, frames_after_rule, frames_after_overlap, track_after_overlap, track_without_older}
+use Rattle.track_store.proofs.Clearing.{cleared-cleared, cleared-same}
+use Rattle.overlap_rules.specs.Overlap.{rule_for, frames_left_by_rule, frames_left_by_overlap, is_removed_from, is_removed, overlapped_after, track_with_room}
+use Rattle.overlap_rules.specs.Steps.{IsApplicable, frames_after_rule, frames_after_overlap, track_after_overlap, track_without_older}
 use Rattle.track_store.specs.State.{TrackState}
 use Rattle.overlap_rules.specs.declared.room.OverlapRule.{OverlapRule}
 use Rattle.overlap_rules.specs.declared.room.OverlapRule.TheVariants.{Remove, Shorten, Keep}
 
-can_either : (b : Bool) (x y : OverlapRule) (f : Stored) → CanApply x f → CanApply y f → CanApply (cond b x y) f
+can_either : (b : Bool) (x y : OverlapRule) (f : Stored) → IsApplicable x f → IsApplicable y f → IsApplicable (cond b x y) f
 can_either true x y f p q = p
 can_either false x y f p q = q
 
@@ -28,10 +27,10 @@ part_fits p s d h = grind (arith, ints)
 pub part_is_tick : (p s d : ℤ) → (int_le s p && int_lt p (s +ℤ d)) ≡ true → IsTick d → IsTick (p -ℤ s)
 part_is_tick p s d h t = let both = part_fits p s d h in let low = both.0 in let less = both.1 in let high = t.1 in (omega (arith, ints), omega (arith, ints))
 
-pub can_apply : (kind : Kind) (p : ℤ) (f : Stored) → is_in_frame p f ≡ true → CanApply (rule_for kind p f) f
-can_apply Video p f h = can_either (int_lt p (f.frame.pts +ℤ pos 141120)) Remove Keep f tt tt
-can_apply Audio p f h = can_either (int_eq f.frame.pts p) Remove (Shorten (p -ℤ f.frame.pts)) f tt (part_fits p f.frame.pts f.frame.dur h)
-can_apply Other p f h = tt
+pub applicable : (kind : Kind) (p : ℤ) (f : Stored) → is_in_frame p f ≡ true → IsApplicable (rule_for kind p f) f
+applicable Video p f h = can_either (int_lt p (f.frame.pts +ℤ pos 141120)) Remove Keep f tt tt
+applicable Audio p f h = can_either (int_eq f.frame.pts p) Remove (Shorten (p -ℤ f.frame.pts)) f tt (part_fits p f.frame.pts f.frame.dur h)
+applicable Other p f h = tt
 
 left_ruled : (rule : OverlapRule) (serial : ℕ) (removed : Stored → Bool) (fs : List Stored) → frames_without removed (frames_after_rule rule serial fs) ≡ frames_left_by_rule rule serial removed fs
 left_ruled Remove serial removed fs = cleared-cleared false false (has_serial serial) removed fs

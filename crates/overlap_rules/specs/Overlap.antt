@@ -26,9 +26,9 @@ overlapped_after None p fs = overlapped p fs
 
 -- step 1.14: from where on frames are removed. It is the new frame's presentation timestamp while the highest
 -- end timestamp is unset, and that timestamp where it is not above the presentation timestamp.
-abbrev pub removed_from : Option ℤ → ℤ → Option ℤ
-removed_from None p = Some p
-removed_from (Some h) p = if int_le h p then Some h else None
+abbrev pub removal_start : Option ℤ → ℤ → Option ℤ
+removal_start None p = Some p
+removal_start (Some h) p = if int_le h p then Some h else None
 
 -- the frame is older than the group of frames since the last discontinuity, whose frames never remove each
 -- other
@@ -43,7 +43,7 @@ is_removed_from (Some from) e first f =
     int_le from f.frame.pts && int_lt f.frame.pts e && is_before_group first f
 
 abbrev pub is_removed : Marks → ℤ → ℤ → Stored → Bool
-is_removed m p e f = is_removed_from (removed_from m.highest_end p) e m.group_first f
+is_removed m p e f = is_removed_from (removal_start m.highest_end p) e m.group_first f
 
 -- step 1.15: the frames that are left where some are removed, and the overlapped frame, which its serial
 -- names, has this rule

@@ -9,10 +9,10 @@ use Rattle.overlap_rules.specs.declared.room.OverlapRule.{OverlapRule}
 use Rattle.overlap_rules.specs.declared.room.OverlapRule.TheVariants.{Remove, Shorten, Keep}
 
 -- a frame can only get shorter
-abbrev pub CanApply : OverlapRule → Stored → Type 0
-CanApply Remove f = Unit {0}
-CanApply (Shorten dur) f = (pos 0 ≤ℤ dur) × (dur ≤ℤ f.frame.dur)
-CanApply Keep f = Unit {0}
+abbrev pub IsApplicable : OverlapRule → Stored → Type 0
+IsApplicable Remove f = Unit {0}
+IsApplicable (Shorten dur) f = (pos 0 ≤ℤ dur) × (dur ≤ℤ f.frame.dur)
+IsApplicable Keep f = Unit {0}
 
 -- the frames after a rule was applied to the frame of a serial
 abbrev pub frames_after_rule : OverlapRule → ℕ → List Stored → List Stored

@@ -2,8 +2,8 @@ ghost use Rattle.std.specs.Prelude.{◌≡◌, ◌<◌, ◌≤◌, true, Some, i
 ghost use Rattle.track_store.specs.Frames.{frames_without, is_in_frame, overlapped};
 ghost use Rattle.track_store.specs.Sound.{IsSound};
 ghost use Rattle.track_store.specs.State.{state_of};
-ghost use Rattle.overlap_rules.specs.Overlap.{rule_for, removed_from, is_removed_from, track_with_room};
-ghost use Rattle.overlap_rules.specs.Steps.{CanApply, frames_after_rule, frames_after_overlap, track_after_overlap, track_without_older};
+ghost use Rattle.overlap_rules.specs.Overlap.{rule_for, removal_start, is_removed_from, track_with_room};
+ghost use Rattle.overlap_rules.specs.Steps.{IsApplicable, frames_after_rule, frames_after_overlap, track_after_overlap, track_without_older};
 
 use mse_base::{Kind, Moment, Ticks};
 use track_store::{FrameStore, Marks, Stored, Track, remove_between};
@@ -69,7 +69,7 @@ fn shortened_to(stored: &Stored, pts: Ticks) -> OverlapRule
 /// Does with the overlapped frame what its rule says.
 fn apply<S: FrameStore>(store: &mut S, i: usize, rule: OverlapRule)
     requires in_range { i < length (S.frames store.old) }
-    requires shorter { IfSome (slice_get (S.frames store.old) i) (λ f. CanApply rule f) }
+    requires applicable { IfSome (slice_get (S.frames store.old) i) (λ f. IsApplicable rule f) }
     ensures frames { IfSome (slice_get (S.frames store.old) i)
         (λ f. S.frames store.new ≡ frames_after_rule rule f.serial (S.frames store.old)) }
     ensures spare { S.spare store.old ≤ S.spare store.new }
@@ -110,8 +110,8 @@ fn resolve_overlap_of_first<S: FrameStore>(track: &mut Track<S>, pts: Ticks)
 }
 
 /// From which time on step 1.14 removes frames, if it does.
-fn removed_from(marks: &Marks, pts: Ticks) -> Option<Ticks>
-    ensures { result ≡ removed_from marks.now.highest_end pts }
+fn removal_start(marks: &Marks, pts: Ticks) -> Option<Ticks>
+    ensures { result ≡ removal_start marks.now.highest_end pts }
 {
     match marks.highest_end {
         None => Some(pts),
@@ -142,7 +142,7 @@ fn remove_existing<S: FrameStore>(track: &mut Track<S>, pts: Ticks, end: Ticks)
     ensures spare { S.spare track.old.store ≤ S.spare track.new.store }
     ensures gap { S.gap track.new.store ≡ S.gap track.old.store }
 {
-    match removed_from(&track.marks, pts) {
+    match removal_start(&track.marks, pts) {
         Some(from) => remove_older(&mut track.store, track.marks.group_first, from, end),
         None => {}
     }

@@ -1,18 +1,16 @@
 -- What a removal keeps of a track buffer, and of all of a source buffer.
-use Rattle.std.proofs.Common.{◌≡◌, ◌≢◌, ℕ, ℤ, ◌<◌, ◌≤◌, ◌^◌, ◌-◌, ◌+ℤ◌, ◌≤ℤ◌, Bool, true, false, not, cond, ◌&&◌, ◌||◌, List, [], ◌∷◌, map, Option, Some, None, refl, sym, ap, ◌∙◌, subst, arith, nat_lt, int_le}
+use Rattle.std.proofs.Common.{◌≡◌, ◌≢◌, ℕ, ℤ, ◌<◌, ◌≤◌, ◌^◌, ◌-◌, ◌+ℤ◌, ◌≤ℤ◌, Bool, true, false, not, cond, ◌&&◌, ◌||◌, List, [], ◌∷◌, map, Option, Some, None, refl, sym, ap, ◌∙◌, subst, arith}
 use Rattle.std.specs.Option.{IfSome}
 use Rattle.std.specs.List.{AllByRecursion}
-use Rattle.std.proofs.lemmas.Bool.Decides.{nat_tests}
 use Rattle.std.proofs.lemmas.List.Sums.{sum_by-cons}
 use Rattle.mse_base.specs.declared.ticks.Moment.{Moment}
 use Rattle.track_store.specs.declared.store.Stored.{Stored}
 use Rattle.track_store.specs.declared.tracks.Marks.{Marks}
-use Rattle.mse_base.specs.Moments.{is_before}
-use Rattle.track_store.specs.Frames.{IsAscending, frames_without, frames_left, is_within, bytes_of}
-use Rattle.track_store.specs.Kept.{bytes_in, AreKept, AreEndedBy, AreStillSound}
+use Rattle.track_store.specs.Frames.{IsAscending, frames_without, frames_left, bytes_of}
+use Rattle.track_store.specs.Kept.{bytes_in, AreTracksSound, AreEndedBy, AreStillSound}
 use Rattle.track_store.specs.Sound.{IsSound, IsSuccessor, AreTogether, last_serial}
 use Rattle.track_store.specs.State.{TrackState, unset_marks}
-use Rattle.track_store.proofs.Clearing.{goes, each-cleared, ascending-cleared, used-cleared, cleared-same}
+use Rattle.track_store.proofs.Clearing.{goes, each-cleared, ascending-cleared, used-cleared}
 use Rattle.track_store.proofs.Soundness.{chained-cleared}
 use Rattle.track_store.proofs.StillSound.{still_map}
 use Rattle.track_store.specs.Frames.{is_between}
@@ -89,7 +87,7 @@ bytes_removed start end duration (t ∷ ts) =
     let after = sum_by-cons (λ (u : TrackState). bytes_of u.frames) (track_after_removal start end duration t) (tracks_after_removal start end duration ts) in
     omega arith
 
-pub kept_removed : (start : ℤ) (end duration : Moment) (ts : List TrackState) → AreKept ts → AreKept (tracks_after_removal start end duration ts)
+pub kept_removed : (start : ℤ) (end duration : Moment) (ts : List TrackState) → AreTracksSound ts → AreTracksSound (tracks_after_removal start end duration ts)
 kept_removed start end duration ts h = record {
   sound = each-map IsSound IsSound (track_after_removal start end duration) ts (λ t s. sound_without (is_between start (remove_end end duration t.frames)) t s) h.sound;
   small = let less = bytes_removed start end duration ts in let most = h.small in omega arith;

@@ -1,5 +1,5 @@
 -- Coded frame removal as one function on lists (Media Source Extensions, 3.5.9).
-use Rattle.std.specs.Prelude.{ℤ, Bool, false, int_le, not, ◌&&◌, ◌||◌, List, [], ◌∷◌, map, Option, Some, None, if◌then◌else◌}
+use Rattle.std.specs.Prelude.{ℤ, Bool, false, not, ◌&&◌, ◌||◌, List, [], ◌∷◌, map, if◌then◌else◌}
 use Rattle.mse_base.specs.declared.ticks.Moment.{Moment}
 use Rattle.track_store.specs.declared.store.Stored.{Stored}
 use Rattle.mse_base.specs.Moments.{least, time_or}

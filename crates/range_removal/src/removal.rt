@@ -1,5 +1,5 @@
 ghost use Rattle.std.specs.Prelude.{◌≡◌, ◌≤◌, ℕ, ℤ, None, length, slice_get, slice_set, IfSome};
-ghost use Rattle.track_store.specs.Kept.{AreKept, AreEndedBy, AreStillSound, HasSpareRoom, gaps_of};
+ghost use Rattle.track_store.specs.Kept.{AreTracksSound, AreEndedBy, AreStillSound, HasSpareRoom, gaps_of};
 ghost use Rattle.track_store.specs.Sound.{last_serial};
 ghost use Rattle.track_store.specs.State.{state_of, states_of};
 ghost use Rattle.range_removal.specs.Removal.{remove_end, track_after_removal, tracks_after_removal};
@@ -36,6 +36,7 @@ fn remove_from<S: FrameStore>(track: &mut Track<S>, start: Ticks, end: &Moment, 
     ensures spare { S.spare track.old.store ≤ S.spare track.new.store }
     ensures gap { S.gap track.new.store ≡ S.gap track.old.store }
 {
+    // The proof reads off this that the serials ascend.
     track.store.serials_ascend();
     let to = remove_end(&track.store, end, duration);
     let last = last_serial(&track.store);
@@ -86,8 +87,8 @@ pub fn remove_frames<S: FrameStore>(
         ≡ tracks_after_removal start end duration (states_of S.frames tracks.old.items) }
     ensures sound { AreStillSound (states_of S.frames tracks.old.items)
         (states_of S.frames tracks.new.items) }
-    ensures kept { AreKept (states_of S.frames tracks.old.items)
-        → AreKept (states_of S.frames tracks.new.items) }
+    ensures tracks_sound { AreTracksSound (states_of S.frames tracks.old.items)
+        → AreTracksSound (states_of S.frames tracks.new.items) }
     ensures ends { (limit : ℤ) → AreEndedBy limit (states_of S.frames tracks.old.items)
         → AreEndedBy limit (states_of S.frames tracks.new.items) }
     ensures spare { IsRoomKept S.spare tracks.old.items tracks.new.items }

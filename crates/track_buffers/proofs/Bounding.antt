@@ -1,13 +1,13 @@
 -- Within which times the buffered ranges lie.
-use Rattle.std.proofs.Common.{◌≡◌, ◌∙◌, ℤ, pos, ◌+ℤ◌, ◌≤ℤ◌, int_lt, int_le, Bool, true, false, cond, List, [], ◌∷◌, ◌++◌, map, fold, Option, Some, None, option_map, option_to_list, refl, sym, ap, subst, arith}
+use Rattle.std.proofs.Common.{◌≡◌, ◌∙◌, ℤ, pos, ◌+ℤ◌, ◌≤ℤ◌, int_lt, Bool, true, false, cond, List, [], ◌∷◌, ◌++◌, map, fold, Option, Some, None, option_map, option_to_list, refl, sym, ap, subst, arith}
 use Rattle.std.specs.List.{AllByRecursion, flat_map}
 use Rattle.std.specs.Int.{int_max, int_min}
 use Rattle.std.proofs.lemmas.Int.{ints}
 use Rattle.mse_base.specs.declared.span.Span.{Span}
 use Rattle.mse_base.specs.declared.ticks.Moment.TheVariants.{At}
 use Rattle.mse_base.specs.Spans.{last_from, last_of}
-use Rattle.mse_base.specs.Bridging.{overlap, is_empty, is_far_before, span_round, ranges_with_lasting, ranges_with, ranges_with_all}
-use Rattle.mse_base.specs.Meets.{meet, meet_of_all}
+use Rattle.mse_base.specs.Bridging.{is_empty, is_far_before, span_round, ranges_with_lasting, ranges_with, ranges_with_all}
+use Rattle.mse_base.specs.Meets.{overlap, meet, meet_of_all}
 use Rattle.mse_base.specs.Moments.{greater_of, greatest}
 use Rattle.track_store.specs.declared.store.Stored.{Stored}
 use Rattle.track_store.specs.Frames.{interval, intervals, ranges_of}
@@ -24,10 +24,10 @@ use Rattle.track_buffers.proofs.Sharing.{IsEndedBy}
 
 -- ---- ranges of frames
 
-least_stays : (a x y : ℤ) → a ≤ℤ x → a ≤ℤ y → a ≤ℤ cond (int_le x y) x y
+least_stays : (a x y : ℤ) → a ≤ℤ x → a ≤ℤ y → a ≤ℤ int_min x y
 least_stays a x y h k = grind (arith, ints)
 
-most_stays : (b x y : ℤ) → x ≤ℤ b → y ≤ℤ b → cond (int_le x y) y x ≤ℤ b
+most_stays : (b x y : ℤ) → x ≤ℤ b → y ≤ℤ b → int_max x y ≤ℤ b
 most_stays b x y h k = grind (arith, ints)
 
 round_inside : (a b : ℤ) (s r : Span) → IsSpanWithin a b s → IsSpanWithin a b r → IsSpanWithin a b (span_round s r)
@@ -123,8 +123,12 @@ append_inside : (a b : ℤ) (xs ys : List Span) → AllByRecursion (IsSpanWithin
 append_inside a b [] ys h k = k
 append_inside a b (x ∷ xs) ys h k = (h.0, append_inside a b xs ys h.1 k)
 
+shared_one : (a b : ℤ) (c : Bool) (s : Span) → IsSpanWithin a b s → AllByRecursion (IsSpanWithin a b) (option_to_list (cond c (Some s) None))
+shared_one a b true s h = (h, tt)
+shared_one a b false s h = tt
+
 overlap_inside : (a b : ℤ) (x y : Span) → IsSpanWithin a b x → AllByRecursion (IsSpanWithin a b) (overlap x y)
-overlap_inside a b x y h = one_inside a b (int_lt (int_max x.start y.start) (int_min x.end y.end)) _ [] ((least_left a x.start y.start h.0, most_left b x.end y.end h.1), tt) tt
+overlap_inside a b x y h = shared_one a b (int_lt (int_max x.start y.start) (int_min x.end y.end)) _ (least_left a x.start y.start h.0, most_left b x.end y.end h.1)
 
 parts_inside : (a b : ℤ) (x : Span) (ys : List Span) → IsSpanWithin a b x → AllByRecursion (IsSpanWithin a b) (flat_map (λ y. overlap x y) ys)
 parts_inside a b x [] h = tt

@@ -6,8 +6,7 @@ use Rattle.std.specs.Int.{int_min, int_max}
 use Rattle.std.proofs.lemmas.Int.{ints}
 use Rattle.std.proofs.lemmas.List.{append-nil}
 use Rattle.mse_base.specs.declared.span.Span.{Span}
-use Rattle.mse_base.specs.Bridging.{overlap}
-use Rattle.mse_base.specs.Meets.{meet, meet_of_all}
+use Rattle.mse_base.specs.Meets.{overlap, meet, meet_of_all}
 use Rattle.mse_base.specs.Moments.{greatest}
 use Rattle.mse_base.specs.Spans.{reaches, IsNormalized, last_from, last_of}
 use Rattle.mse_base.proofs.Meeting.{all_normalized, meet_normalized}
@@ -52,7 +51,7 @@ least_same x y e a b = grind (arith, ints)
 
 overlap_ends : (x y : Span) (e : ℤ) → x.start <ℤ x.end → y.start <ℤ y.end → x.end ≡ e → y.end ≡ e → LastEnds e (overlap x y ++ [])
 overlap_ends x y e h k a b =
-    let one : cond (int_lt (int_max x.start y.start) (int_min x.end y.end)) (both x y ∷ []) [] ≡ both x y ∷ [] = ap (λ c. cond c (both x y ∷ []) []) (shares_end x y e h k a b) in
+    let one : option_to_list (cond (int_lt (int_max x.start y.start) (int_min x.end y.end)) (Some (both x y)) None) ≡ both x y ∷ [] = ap (λ c. option_to_list (cond c (Some (both x y)) None)) (shares_end x y e h k a b) in
     subst (λ (rs : List Span). LastEnds e (rs ++ [])) (sym one) (least_same x y e a b)
 
 parts_end : (x : Span) (e : ℤ) (ys : List Span) → x.start <ℤ x.end → x.end ≡ e → IsNormalized ys → LastEnds e ys → LastEnds e (parts x ys)

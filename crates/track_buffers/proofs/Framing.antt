@@ -8,7 +8,7 @@ use Rattle.std.proofs.lemmas.Bool.Decides.{Decides-int_eq}
 use Rattle.std.proofs.lemmas.Int.{ints}
 use Rattle.std.proofs.lemmas.List.{length-map}
 use Rattle.mse_base.specs.Time.{tick}
-use Rattle.mse_base.specs.Moments.{same_moment, greater_moment}
+use Rattle.mse_base.specs.Moments.{is_same_moment, greater_moment}
 use Rattle.mse_base.specs.declared.frame.CodedFrame.{CodedFrame}
 use Rattle.mse_base.specs.declared.ticks.Moment.{Moment}
 use Rattle.mse_base.specs.declared.ticks.Moment.TheVariants.{Nan, At, Infinite}
@@ -151,7 +151,7 @@ window_end_stays answer news ts t s i f is = ap (λ (o : Placement). o.settings.
 same_by : (a b : ℤ) → int_eq a b ≡ true → At a ≡ At b
 same_by a b h = ap At ((Decides-int_eq a b).0 h)
 
-same_is : (a b : Moment) → same_moment a b ≡ true → a ≡ b
+same_is : (a b : Moment) → is_same_moment a b ≡ true → a ≡ b
 same_is Nan Nan h = refl
 same_is Nan (At b) h = absurd cc
 same_is Nan Infinite h = absurd cc
@@ -162,19 +162,19 @@ same_is Infinite Nan h = absurd cc
 same_is Infinite (At b) h = absurd cc
 same_is Infinite Infinite h = refl
 
-changed_by : (to : Moment) (b : SourceEffect) (same : Bool) → same_moment to b.duration ≡ same → (cond same b (record { duration_changes = b.duration_changes + 1; duration = to; activated = b.activated; received_init = b.received_init })).duration ≡ to
+changed_by : (to : Moment) (b : SourceEffect) (same : Bool) → is_same_moment to b.duration ≡ same → (cond same b (record { duration_changes = b.duration_changes + 1; duration = to; activated = b.activated; received_init = b.received_init })).duration ≡ to
 changed_by to b true e = sym (same_is to b.duration e)
 changed_by to b false e = refl
 
 pub changed_is : (to : Moment) (b : SourceEffect) → (with_duration to b).duration ≡ to
-changed_is to b = changed_by to b (same_moment to b.duration) refl
+changed_is to b = changed_by to b (is_same_moment to b.duration) refl
 
 few_by : (to : Moment) (b : SourceEffect) (same : Bool) → (cond same b (record { duration_changes = b.duration_changes + 1; duration = to; activated = b.activated; received_init = b.received_init })).duration_changes ≤ b.duration_changes + 1
 few_by to b true = omega arith
 few_by to b false = omega arith
 
 pub changed_few : (to : Moment) (b : SourceEffect) → (with_duration to b).duration_changes ≤ b.duration_changes + 1
-changed_few to b = few_by to b (same_moment to b.duration)
+changed_few to b = few_by to b (is_same_moment to b.duration)
 
 pub max_self : (a : ℤ) → int_max a a ≡ a
 max_self a = grind (arith, ints)

@@ -17,7 +17,7 @@ use Rattle.mse_base.specs.declared.track.Presentation.{Presentation}
 use Rattle.track_store.specs.declared.store.Stored.{Stored}
 use Rattle.track_store.specs.declared.tracks.Track.{Track}
 use Rattle.track_store.specs.Frames.{bytes_of}
-use Rattle.track_store.specs.Kept.{bytes_in, AreKept, AreEndedBy, HasSpareRoom, gaps_of}
+use Rattle.track_store.specs.Kept.{bytes_in, AreTracksSound, AreEndedBy, HasSpareRoom, gaps_of}
 use Rattle.track_store.specs.Sound.{IsSound, AreTogether}
 use Rattle.track_store.specs.State.{TrackState, state_of, states_of}
 use Rattle.range_removal.specs.Rooms.{IsRoomKept}
@@ -57,7 +57,7 @@ module _ (f : TrackState → TrackState) (frames : (t : TrackState) → (f t).fr
   sound-map sound [] h = tt
   sound-map sound (t ∷ ts) h = (sound t h.0, sound-map sound ts h.1)
 
-  kept-map : ((t : TrackState) → IsSound t → IsSound (f t)) → (ts : List TrackState) → AreKept ts → AreKept (map f ts)
+  kept-map : ((t : TrackState) → IsSound t → IsSound (f t)) → (ts : List TrackState) → AreTracksSound ts → AreTracksSound (map f ts)
   kept-map sound ts h = record { sound = sound-map sound ts h.sound; small = subst (λ (n : ℕ). n < 2 ^ 62) (sym (bytes-map ts)) h.small }
 
   endby-map : (limit : ℤ) (ts : List TrackState) → AreEndedBy limit ts → AreEndedBy limit (map f ts)
@@ -73,7 +73,7 @@ module _ (f : TrackState → TrackState) (frames : (t : TrackState) → (f t).fr
   ends-map (At d) ts h = endby-map d ts h
   ends-map Infinite ts h = h
 
-pub kept_unset : (ts : List TrackState) → AreKept ts → AreKept (map unset_track ts)
+pub kept_unset : (ts : List TrackState) → AreTracksSound ts → AreTracksSound (map unset_track ts)
 kept_unset ts h = kept-map unset_track (λ t. refl) unset_sound ts h
 
 pub ends_unset : (d : Moment) (ts : List TrackState) → EndsWithin d ts → EndsWithin d (map unset_track ts)
@@ -83,7 +83,7 @@ frames_renewed : (t : TrackState) (o : Option TrackInfo) → (track_with_partner
 frames_renewed t None = refl
 frames_renewed t (Some u) = refl
 
-pub kept_renewed : (news : List TrackInfo) (ts : List TrackState) → AreKept ts → AreKept (tracks_with_partners news ts)
+pub kept_renewed : (news : List TrackInfo) (ts : List TrackState) → AreTracksSound ts → AreTracksSound (tracks_with_partners news ts)
 kept_renewed news ts h = kept-map (λ t. track_with_partner t (partner_of ts news t)) (λ t. frames_renewed t (partner_of ts news t)) (λ t s. renewed_sound t (partner_of ts news t) s) ts h
 
 pub ends_renewed : (news : List TrackInfo) (d : Moment) (ts : List TrackState) → EndsWithin d ts → EndsWithin d (tracks_with_partners news ts)
@@ -97,7 +97,7 @@ bytes_new : (news : List TrackInfo) → bytes_in (map new_track news) ≡ 0
 bytes_new [] = refl
 bytes_new (u ∷ news) = sum_by-cons (λ (t : TrackState). bytes_of t.frames) (new_track u) (map new_track news) ∙ ap (λ (n : ℕ). 0 + n) (bytes_new news)
 
-pub kept_new : (news : List TrackInfo) → AreKept (map new_track news)
+pub kept_new : (news : List TrackInfo) → AreTracksSound (map new_track news)
 kept_new news = record { sound = sound_new news; small = let none = bytes_new news in omega arith }
 
 empty_new : (news : List TrackInfo) → AllByRecursion (λ t. t.frames ≡ []) (map new_track news)
@@ -139,7 +139,7 @@ ends_kept ts us keep Infinite h = h
 
 -- ---- the tracks after an initialization segment
 
-pub kept_after : (news : List TrackInfo) (ts : List TrackState) → AreKept ts → AreKept (tracks_after news ts)
+pub kept_after : (news : List TrackInfo) (ts : List TrackState) → AreTracksSound ts → AreTracksSound (tracks_after news ts)
 kept_after news [] h = kept_new news
 kept_after news (t ∷ ts) h = kept_renewed news (t ∷ ts) h
 

@@ -1,7 +1,8 @@
 -- Steps of loops over lists, by the place.
 use Rattle.std.proofs.Common.{◌≡◌, ℕ, ℤ, zero, suc, ◌+◌, ◌<◌, ◌≤◌, Bool, true, false, not, cond, ◌&&◌, ◌||◌, List, [], ◌∷◌, ◌++◌, length, map, take, set, filter, fold, slice_get, Option, Some, None, refl, sym, ap, ◌∙◌, subst, arith, add-one, add-zero}
 use Rattle.std.specs.List.{list_all, find, flat_map, position, position_or_len, count_by}
-use Rattle.std.specs.Option.{IfSome}
+use Rattle.std.specs.Option.{IfSome, option_cmp}
+use Rattle.std.specs.Ordering.{int_cmp, is_lt, ord_max}
 use Rattle.std.specs.Int.{int_max}
 use Rattle.std.proofs.lemmas.Bool.Decides.{nat_tests}
 use Rattle.std.proofs.lemmas.Int.{ints}
@@ -9,6 +10,7 @@ use Rattle.std.proofs.lemmas.List.{append-nil, map-append}
 use Rattle.std.proofs.lemmas.List.Folds.{list_all-append}
 use Rattle.std.proofs.lemmas.Grind.{flat_map-append}
 use Rattle.std.proofs.lemmas.List.Sums.{fold-append, sum_by-cons, sum_by_push}
+use Rattle.mse_base.proofs.Compared.{max_is}
 use Rattle.mse_base.specs.Moments.{greatest, greater_of, greatest_of_two}
 
 -- the element at a place, and what is known of it
@@ -175,10 +177,21 @@ later_none : (o : Option ℤ) → greatest_of_two o None ≡ o
 later_none None = refl
 later_none (Some s) = refl
 
-pub highest_more : {X : Type 0} (f : X → List ℤ) (xs : List X) (i : ℕ) (best o : Option ℤ) → i < length xs → best ≡ greatest (flat_map f (take i xs)) → IfSome (slice_get xs i) (λ x. o ≡ greatest (f x)) → greatest_of_two best o ≡ greatest (flat_map f (take (i + 1) xs))
+-- std's maximum of two times, each of which may be missing
+max_by : (c : Bool) (s t : ℤ) → cond c (Some s) (Some t) ≡ Some (cond c s t)
+max_by true s t = refl
+max_by false s t = refl
+
+max_of_two : (a b : Option ℤ) → ord_max (option_cmp int_cmp) a b ≡ greatest_of_two a b
+max_of_two None None = refl
+max_of_two None (Some t) = refl
+max_of_two (Some s) None = refl
+max_of_two (Some s) (Some t) = max_by (is_lt (int_cmp t s)) s t ∙ ap Some (max_is s t)
+
+pub highest_more : {X : Type 0} (f : X → List ℤ) (xs : List X) (i : ℕ) (best o : Option ℤ) → i < length xs → best ≡ greatest (flat_map f (take i xs)) → IfSome (slice_get xs i) (λ x. o ≡ greatest (f x)) → ord_max (option_cmp int_cmp) best o ≡ greatest (flat_map f (take (i + 1) xs))
 highest_more f xs i best o low so_far h =
     let at = found_at (λ x. o ≡ greatest (f x)) xs i low h in
-    ap (greatest_of_two best) at.holds ∙ later-fold best None (f at.x) ∙ ap (λ s. fold greater_of s (f at.x)) (later_none best ∙ so_far)
+    max_of_two best o ∙ ap (greatest_of_two best) at.holds ∙ later-fold best None (f at.x) ∙ ap (λ s. fold greater_of s (f at.x)) (later_none best ∙ so_far)
     ∙ sym (ap greatest (ap (flat_map f) at.more ∙ flat_map-append f (take i xs) (at.x ∷ []) ∙ ap (λ ys. flat_map f (take i xs) ++ ys) (append-nil (f at.x))) ∙ fold-append greater_of None (flat_map f (take i xs)) (f at.x))
 
 -- ---- one element is written over

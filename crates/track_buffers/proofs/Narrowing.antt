@@ -15,7 +15,7 @@ use Rattle.mse_base.proofs.Lasts as lasts
 use Rattle.track_store.specs.declared.store.Stored.{Stored}
 use Rattle.track_store.specs.declared.tracks.Track.{Track}
 use Rattle.track_store.specs.Frames.{IsTimed, interval}
-use Rattle.track_store.specs.Kept.{AreKept}
+use Rattle.track_store.specs.Kept.{AreTracksSound}
 use Rattle.track_store.specs.Sound.{IsNotNegative, IsSound}
 use Rattle.track_store.specs.State.{states_of}
 use Rattle.track_buffers.specs.Buffered.{last_ends, with_last_end, with_common_end, ranges_in}
@@ -34,14 +34,6 @@ narrowed_more f rs i held own next low some so_far h is =
     let long : 1 ≤ length (map f (take i rs)) = rw length-map some in
     is ∙ ap (λ (o : Option Span). narrowed_of_two o own) so_far ∙ ap (narrowed_of_two (narrowed_of_all (map f (take i rs)))) at.holds
     ∙ sym (ap (λ (qs : List (List Span)). narrowed_of_all (map f qs)) at.more ∙ ap narrowed_of_all (map-append f (take i rs) (at.x ∷ [])) ∙ narrowed_push (map f (take i rs)) (f at.x) long)
-
-pub narrowed_first : (f : List Span → Option Span) (rs : List (List Span)) (own : Option Span) → 1 ≤ length rs → IfSome (slice_get rs 0) (λ r. own ≡ f r) → own ≡ narrowed_of_all (map f (take 1 rs))
-narrowed_first f [] own low h = absurd (omega arith)
-narrowed_first f (r ∷ rs) own low h = h
-
-pub narrowed_none : (f : List Span → Option Span) (rs : List (List Span)) → length rs ≡ 0 → None ≡ narrowed_of_all (map f rs)
-narrowed_none f [] e = refl
-narrowed_none f (r ∷ rs) e = absurd (omega arith)
 
 -- ---- a last range that lasts to an end
 
@@ -120,7 +112,7 @@ starts_within a b [] h = tt
 starts_within a b (s ∷ ss) h = ((h.0).0, starts_within a b ss h.1)
 
 -- nothing that sound tracks share is before 0
-pub none_before_zero : {S : Type 0} (frames : S → List Stored) (gap : S → ℤ) (ended : Bool) (ts : List (Track S)) → AreKept (states_of frames ts) → HasNoneBefore (pos 0) (meet_of_all (with_common_end ended (ranges_in frames gap ts)))
+pub none_before_zero : {S : Type 0} (frames : S → List Stored) (gap : S → ℤ) (ended : Bool) (ts : List (Track S)) → AreTracksSound (states_of frames ts) → HasNoneBefore (pos 0) (meet_of_all (with_common_end ended (ranges_in frames gap ts)))
 none_before_zero frames gap ended ts h =
     let within = common_inside (pos 0) (pos (2 ^ 110)) ended (ranges_in frames gap ts) (ranges_within frames gap ts h.sound) in
     let shared = shared_inside (pos 0) (pos (2 ^ 110)) (with_common_end ended (ranges_in frames gap ts)) within in

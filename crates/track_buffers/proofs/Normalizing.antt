@@ -26,7 +26,7 @@ buffered_normalized ended m low = (buffered_is ended m low).normalized
 
 -- so are those of what a source buffer keeps
 pub steady_normalized : (ended : Bool) (m : Media) (gaps : List ℤ) → HasMediaInvariants m.tracks gaps m.settings m.gap → IsNormalized (buffered_of ended m)
-steady_normalized ended m gaps h = buffered_normalized ended m h.gap_not_negative
+steady_normalized ended m gaps h = buffered_normalized ended m h.gap_from_zero
 
 -- so are those that some normalized lists share, of which the last range may last to a common end: also those of the
 -- media element (Media Source Extensions, section on HTMLMediaElement.buffered)

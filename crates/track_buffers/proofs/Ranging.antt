@@ -1,9 +1,9 @@
 -- Ranges that tracks share, and last ranges that grow.
-use Rattle.std.proofs.Common.{◌≡◌, ◌≢◌, ℕ, ℤ, zero, suc, ◌+◌, ◌<◌, ◌≤◌, Bool, true, false, cond, ◌||◌, List, [], ◌∷◌, ◌++◌, length, map, take, slice_get, Option, Some, None, Result, Ok, Err, refl, sym, ap, ◌∙◌, subst, arith, pos, ◌+ℤ◌, ◌≤ℤ◌, ◌<ℤ◌, int_le}
+use Rattle.std.proofs.Common.{◌≡◌, ◌≢◌, ℕ, ℤ, zero, suc, ◌+◌, ◌<◌, ◌≤◌, Bool, true, false, cond, ◌||◌, List, [], ◌∷◌, ◌++◌, length, map, take, slice_get, Option, Some, None, Result, Ok, Err, refl, sym, ap, ◌∙◌, subst, arith, pos, ◌+ℤ◌, ◌≤ℤ◌, ◌<ℤ◌}
 use Rattle.std.specs.List.{AllByRecursion}
 use Rattle.std.specs.Option.{IfSome, option_to_list}
 use Rattle.std.specs.Result.{IfOk}
-use Rattle.std.specs.Int.{int_max}
+use Rattle.std.specs.Int.{int_min, int_max}
 use Rattle.std.proofs.lemmas.Int.{ints}
 use Rattle.mse_base.specs.declared.span.Span.{Span}
 use Rattle.mse_base.specs.Bridging.{is_empty, is_far_before, span_round, ranges_with_lasting, ranges_with, IsRanges}
@@ -112,10 +112,10 @@ lasting_to r e = record { start = r.start; end = int_max r.end e }
 
 same_hull : (r : Span) (e : ℤ) → span_round (lasting_to r e) r ≡ lasting_to r e
 same_hull r e =
-    let begins : cond (int_le r.start r.start) r.start r.start ≡ r.start = grind (arith, ints) in
-    let ends : cond (int_le (int_max r.end e) r.end) r.end (int_max r.end e) ≡ int_max r.end e = grind (arith, ints) in
+    let begins : int_min r.start r.start ≡ r.start = grind (arith, ints) in
+    let ends : int_max (int_max r.end e) r.end ≡ int_max r.end e = grind (arith, ints) in
     let make : ℤ → ℤ → Span = λ a b. record { start = a; end = b } in
-    ap (λ a. make a (cond (int_le (int_max r.end e) r.end) r.end (int_max r.end e))) begins ∙ ap (make r.start) ends
+    ap (λ a. make a (int_max (int_max r.end e) r.end)) begins ∙ ap (make r.start) ends
 
 starts_in : (r : Span) (e : ℤ) → r.start <ℤ r.end → r.start <ℤ int_max r.end e
 starts_in r e h = grind (arith, ints)

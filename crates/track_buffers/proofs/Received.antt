@@ -8,7 +8,7 @@ use Rattle.mse_base.specs.declared.ticks.Moment.TheVariants.{Nan, At, Infinite}
 use Rattle.mse_base.specs.declared.track.Presentation.{Presentation}
 use Rattle.mse_base.specs.declared.track.TrackInfo.{TrackInfo}
 use Rattle.mse_base.specs.Meets.{meet, meet_of_all}
-use Rattle.mse_base.specs.Moments.{greatest, greater_moment, same_moment}
+use Rattle.mse_base.specs.Moments.{greatest, greater_moment, is_same_moment}
 use Rattle.track_store.specs.declared.tracks.Settings.{Settings}
 use Rattle.track_store.specs.Frames.{ranges_of}
 use Rattle.track_store.specs.State.{TrackState}
@@ -100,7 +100,7 @@ told_by to b true = refl
 told_by to b false = refl
 
 told_before : (to : Moment) (b : SourceEffect) → (with_duration to b).received_init ≡ b.received_init
-told_before to b = told_by to b (same_moment to b.duration)
+told_before to b = told_by to b (is_same_moment to b.duration)
 
 segment_none : (p : Presentation) (d : Moment) → (segment_effect p d).received_init ≡ false
 segment_none p Nan = told_before p.duration (no_effect Nan)

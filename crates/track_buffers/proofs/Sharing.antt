@@ -5,10 +5,8 @@ use Rattle.std.specs.Int.{int_max, int_min}
 use Rattle.std.proofs.lemmas.Int.{ints}
 use Rattle.mse_base.specs.declared.span.Span.{Span}
 use Rattle.mse_base.specs.Spans.{IsNormalized, first_of, last_from, last_of}
-use Rattle.mse_base.specs.Bridging.{overlap}
-use Rattle.mse_base.specs.Meets.{meet, meet_of_all, overlap_span, overlap_of_two, overlap_of_all}
+use Rattle.mse_base.specs.Meets.{overlap, meet, meet_of_all, overlap_span, overlap_of_two, overlap_of_all}
 use Rattle.mse_base.specs.Moments.{greatest}
-use Rattle.mse_base.proofs.Holding.{overlap_is}
 use Rattle.track_buffers.specs.Buffered.{last_ends, with_end, with_common_end}
 use Rattle.track_buffers.specs.Extended.{span_up_to, last_up_to_end}
 use Rattle.track_buffers.proofs.Ranging.{grown_none}
@@ -30,7 +28,7 @@ abbrev parts : Span → List Span → List Span
 parts x ys = flat_map (λ y. overlap x y) ys
 
 overlap_last : (x y s : Span) (rest : List Span) → overlap_span x y ≡ Some s → rest ≡ [] → last_of (overlap x y ++ rest) ≡ Some s
-overlap_last x y s rest h none = ap (λ (zs : List Span). last_of (overlap x y ++ zs)) none ∙ ap (λ (zs : List Span). last_of (zs ++ [])) (sym (overlap_is x y) ∙ ap option_to_list h)
+overlap_last x y s rest h none = ap (λ (zs : List Span). last_of (overlap x y ++ zs)) none ∙ ap (λ (zs : List Span). last_of (zs ++ [])) (ap option_to_list h)
 
 last-parts : (x y s : Span) (ys : List Span) → last_of ys ≡ Some y → overlap_span x y ≡ Some s → last_of (parts x ys) ≡ Some s
 last-parts x y s [] l h = absurd cc
@@ -73,7 +71,7 @@ last-meet_of_all (r ∷ rs) s e = fold_shared r rs (last_of r) s (λ x h. h) e
 
 first-parts : (x y s : Span) (ys : List Span) → first_of ys ≡ Some y → overlap_span x y ≡ Some s → first_of (parts x ys) ≡ Some s
 first-parts x y s [] l h = absurd cc
-first-parts x y s (z ∷ ys) l h = let same : z ≡ y = cc in ap (λ (zs : List Span). first_of (zs ++ parts x ys)) (sym (overlap_is x z) ∙ ap option_to_list (ap (overlap_span x) same ∙ h))
+first-parts x y s (z ∷ ys) l h = let same : z ≡ y = cc in ap (λ (zs : List Span). first_of (zs ++ parts x ys)) (ap option_to_list (ap (overlap_span x) same ∙ h))
 
 first-append : (xs ys : List Span) (s : Span) → first_of xs ≡ Some s → first_of (xs ++ ys) ≡ Some s
 first-append [] ys s h = absurd cc

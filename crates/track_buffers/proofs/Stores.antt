@@ -6,8 +6,8 @@ use Rattle.mse_base.specs.declared.track.TrackInfo.{TrackInfo}
 use Rattle.track_store.specs.declared.store.Stored.{Stored}
 use Rattle.track_store.specs.declared.tracks.Track.{Track}
 use Rattle.track_store.specs.Kept.{gaps_of}
-use Rattle.track_store.specs.State.{states_of}
-use Rattle.track_buffers.specs.Media.{is_empty_list, least_room, room_of, stores_of}
+use Rattle.track_store.specs.State.{states_of, stores_of}
+use Rattle.track_buffers.specs.Media.{is_empty_list, least_room, room_of}
 use Rattle.track_buffers.specs.Initialized.{is_media_track}
 use Rattle.track_buffers.proofs.Keeping.{media_more}
 

@@ -48,12 +48,12 @@ abbrev pub buffered_of : Bool → Media → List Span
 buffered_of ended m = meet_of_all (with_common_end ended (track_ranges m))
 
 -- the statement about sets of ticks that stands above it
-abbrev pub all_cover : List (List Span) → ℤ → Bool
-all_cover rs t = list_all (λ r. covers r t) rs
+abbrev pub is_covered_by_all : List (List Span) → ℤ → Bool
+is_covered_by_all rs t = list_all (λ r. covers r t) rs
 
 pub record IsBuffered (ended : Bool) (m : Media) (spans : List Span) : Type 0 where
   pub same : (t : ℤ) → m.tracks ≢ []
-      → covers spans t ≡ all_cover (with_common_end ended (track_ranges m)) t
+      → covers spans t ≡ is_covered_by_all (with_common_end ended (track_ranges m)) t
   pub none : m.tracks ≡ [] → spans ≡ []
   pub normalized : IsNormalized spans
 

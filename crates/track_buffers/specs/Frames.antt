@@ -26,8 +26,8 @@ abbrev pub place_of : ℕ → List TrackState → Option ℕ
 place_of id ts = position (has_number id) ts
 
 -- the place is that of the track buffer of the number
-abbrev pub IsPlaceOf : TrackPlace → List TrackState → Type 0
-IsPlaceOf l ts = place_of l.id ts ≡ Some l.place
+abbrev pub IsTrackPlace : TrackPlace → List TrackState → Type 0
+IsTrackPlace l ts = place_of l.id ts ≡ Some l.place
 
 -- the numbers of the tracks
 abbrev pub track_ids : List TrackState → List ℕ

@@ -6,7 +6,7 @@ use Rattle.mse_base.specs.declared.ticks.Moment.{Moment}
 use Rattle.mse_base.specs.declared.ticks.Moment.TheVariants.{Nan, At, Infinite}
 use Rattle.mse_base.specs.declared.track.Kind.{Kind}
 use Rattle.mse_base.specs.declared.track.Kind.TheVariants.{Video, Audio}
-use Rattle.mse_base.specs.Moments.{same_kind, is_media}
+use Rattle.mse_base.specs.Moments.{is_same_kind, is_media}
 use Rattle.mse_base.specs.declared.track.Presentation.{Presentation}
 use Rattle.mse_base.specs.declared.track.TrackInfo.{TrackInfo}
 use Rattle.mse_types.specs.Names.{sample_entries, is_among}
@@ -31,7 +31,7 @@ segment_effect p Infinite = no_effect Infinite
 
 -- how many are of the kind
 abbrev pub count_of : Kind → List Kind → ℕ
-count_of kind kinds = count_by (same_kind kind) kinds
+count_of kind kinds = count_by (is_same_kind kind) kinds
 
 -- what the tracks of a segment carry, and what those of a buffer carry
 abbrev pub new_kinds : List TrackInfo → List Kind
@@ -42,10 +42,10 @@ kinds_of ts = map (λ t. t.kind) ts
 
 -- the track of a kind, or the one of a kind and number
 abbrev pub is_of_kind : Kind → TrackInfo → Bool
-is_of_kind kind u = same_kind kind u.kind
+is_of_kind kind u = is_same_kind kind u.kind
 
 abbrev pub is_numbered : Kind → ℕ → TrackInfo → Bool
-is_numbered kind id u = same_kind kind u.kind && (u.id == id)
+is_numbered kind id u = is_same_kind kind u.kind && (u.id == id)
 
 -- The track of the segment that a track buffer goes on with: the one of its kind where the buffer has one track of that
 -- kind, and else the one of its kind and number.

@@ -3,11 +3,11 @@ use Rattle.std.specs.Prelude.{◌≡◌, ◌≢◌, ℕ, ◌+◌, ◌^◌, min, 
 use Rattle.std.specs.List.{AllByRecursion}
 use Rattle.mse_base.specs.declared.ticks.Moment.{Moment}
 use Rattle.mse_base.specs.declared.ticks.Moment.TheVariants.{Nan, At, Infinite}
-use Rattle.mse_base.specs.Moments.{same_moment}
+use Rattle.mse_base.specs.Moments.{is_same_moment}
 use Rattle.track_store.specs.declared.store.Stored.{Stored}
 use Rattle.track_store.specs.declared.tracks.Settings.{Settings}
 use Rattle.track_store.specs.declared.tracks.Track.{Track}
-use Rattle.track_store.specs.Kept.{AreKept, AreEndedBy}
+use Rattle.track_store.specs.Kept.{AreTracksSound, AreEndedBy}
 use Rattle.track_store.specs.State.{TrackState, states_of}
 use Rattle.track_buffers.specs.declared.effects.SourceEffect.{SourceEffect}
 use Rattle.track_buffers.specs.declared.effects.MediaFault.{MediaFault}
@@ -53,10 +53,6 @@ abbrev pub least_room : List ℕ → ℕ
 least_room [] = 2 ^ 64
 least_room (n ∷ ns) = min n (least_room ns)
 
--- the stores of tracks
-abbrev pub stores_of : {S : Type 0} → List (Track S) → List S
-stores_of ts = map (λ t. t.store) ts
-
 -- for how many more frames each store has room
 abbrev pub room_of : {S : Type 0} → (S → ℕ) → List (Track S) → ℕ
 room_of spare ts = least_room (map (λ t. spare t.store) ts)
@@ -65,11 +61,11 @@ room_of spare ts = least_room (map (λ t. spare t.store) ts)
 -- across the same gap
 pub record HasMediaInvariants (tracks : List TrackState) (gaps : List ℤ) (settings : Settings)
     (gap : ℤ) : Type 0 where
-  pub kept : AreKept tracks
+  pub sound : AreTracksSound tracks
   pub window_start : pos 0 ≤ℤ settings.window_start
   pub window_end : settings.window_end ≢ Nan
   pub gaps_are : AllByRecursion (λ g. g ≡ gap) gaps
-  pub gap_not_negative : pos 0 ≤ℤ gap
+  pub gap_from_zero : pos 0 ≤ℤ gap
 
 -- each stored frame ends at or before the duration; without a duration there is none
 abbrev pub EndsWithin : Moment → List TrackState → Type 0
@@ -95,7 +91,7 @@ no_effect d = record {
 -- duration change (Media Source Extensions, 2.4.6): to the duration that it has already, nothing
 abbrev pub with_duration : Moment → SourceEffect → SourceEffect
 with_duration d b =
-    if same_moment d b.duration then b
+    if is_same_moment d b.duration then b
     else record {
       duration_changes = b.duration_changes + 1;
       duration = d;

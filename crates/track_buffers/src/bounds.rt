@@ -6,7 +6,7 @@ ghost use Rattle.std.specs.List.{AllByRecursion, filter};
 ghost use Rattle.mse_base.specs.Meets.{meet_of_all, narrowed_of_two, narrowed_of_all};
 ghost use Rattle.mse_base.specs.Spans.{ends_after, first_of, last_of, starts_before};
 ghost use Rattle.track_store.specs.Frames.{ranges_of};
-ghost use Rattle.track_store.specs.Kept.{AreKept, gaps_of};
+ghost use Rattle.track_store.specs.Kept.{AreTracksSound, gaps_of};
 ghost use Rattle.track_store.specs.State.{states_of};
 ghost use Rattle.track_buffers.specs.Buffered.{with_common_end, with_end, with_last_end, ranges_in};
 
@@ -101,7 +101,7 @@ fn narrowed_after<S: FrameStore>(tracks: &Tracks<S>, t: Ticks, end: &Option<Tick
 /// next round looks from there on.
 pub(crate) fn first_span<S: FrameStore>(tracks: &Tracks<S>, ended: bool) -> Option<Span>
     requires gaps { AllByRecursion (λ g. pos 0 ≤ℤ g) (gaps_of S.gap tracks.now.items) }
-    requires kept { AreKept (states_of S.frames tracks.now.items) }
+    requires sound { AreTracksSound (states_of S.frames tracks.now.items) }
     ensures { result ≡ first_of
         (meet_of_all (with_common_end ended (ranges_in S.frames S.gap tracks.now.items))) }
 {

@@ -1,18 +1,15 @@
 //! The buffered ranges of a source buffer (Media Source Extensions, 3.1, buffered).
 
-ghost use Rattle.std.specs.Prelude.{◌≡◌, ◌≤ℤ◌, ℤ, pos, Bool, true, false, map, slice_get, IfSome, IfOk, OnOk, OnErr};
+ghost use Rattle.std.specs.Prelude.{◌≡◌, ◌≤ℤ◌, ℤ, pos, map, slice_get, IfSome, IfOk, OnOk, OnErr};
 ghost use Rattle.std.specs.List.{AllByRecursion};
-ghost use Rattle.mse_base.specs.Bridging.{IsRanges};
 ghost use Rattle.std.specs.Int.{int_max};
 ghost use Rattle.mse_base.specs.Spans.{IsNormalized};
 ghost use Rattle.mse_base.specs.Meets.{meet_of_all};
 ghost use Rattle.mse_base.specs.Moments.{greatest};
 ghost use Rattle.track_store.specs.Frames.{ranges_of};
 ghost use Rattle.track_store.specs.Kept.{gaps_of};
-ghost use Rattle.track_store.specs.State.{state_of};
 ghost use Rattle.track_buffers.specs.Buffered.{last_end, last_ends, with_last_end, with_end, with_common_end, ranges_in};
 
-use crate::looks::greatest_of_two;
 use mse_base::{OutOfMemory, Ranges, Span, Ticks};
 use std::alloc::Global;
 use track_store::{FrameStore, Track, Tracks};
@@ -37,7 +34,7 @@ pub(crate) fn highest_range_end<S: FrameStore>(tracks: &Tracks<S>) -> Option<Tic
 {
     let mut best = None;
     for i in 0..tracks.len() {
-        best = greatest_of_two(best, last_end_at(tracks, i));
+        best = best.max(last_end_at(tracks, i));
     }
     best
 }

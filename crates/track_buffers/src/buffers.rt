@@ -1,15 +1,15 @@
-ghost use Rattle.std.specs.Prelude.{◌≡◌, ◌≢◌, ◌≤◌, ◌<◌, ◌^◌, ◌+◌, ℤ, pos, ◌≤ℤ◌, Bool, true, false, find, length, None, IfOk, OnOk};
+ghost use Rattle.std.specs.Prelude.{◌≡◌, ◌≢◌, ◌≤◌, ◌<◌, ◌^◌, ◌+◌, ℤ, pos, ◌≤ℤ◌, true, false, find, length, None, IfOk, OnOk};
 ghost use Rattle.std.specs.List.{AllByRecursion};
 ghost use Rattle.mse_base.specs.declared.ticks.Moment.{Moment};
 ghost use Rattle.mse_base.specs.Spans.{first_of, last_of, reaches};
-ghost use Rattle.track_store.specs.Kept.{AreKept};
+ghost use Rattle.track_store.specs.Kept.{AreTracksSound};
 ghost use Rattle.track_store.specs.Sound.{IsSound};
 ghost use Rattle.track_store.specs.State.{states_of};
 ghost use Rattle.track_buffers.specs.Effects.{media_result, source_effect};
 ghost use Rattle.track_buffers.specs.Media.{awaits_first, EndsWithin, IsNotAfter};
 ghost use Rattle.track_buffers.specs.Settings.{new_media, with_mode, with_offset, with_window_start, with_window_end, with_whole_window, with_container};
 ghost use Rattle.track_buffers.specs.Initialized.{media_tracks, init_fault, init_result};
-ghost use Rattle.track_buffers.specs.Frames.{frame_result, FlushResult, flush_result, media_after_reset, media_after_removal, media_after_eviction, used_in, highest_start_in, highest_end_in};
+ghost use Rattle.track_buffers.specs.Frames.{frame_result, flush_result, media_after_reset, media_after_removal, media_after_eviction, used_in, highest_start_in, highest_end_in};
 ghost use Rattle.track_buffers.specs.Buffered.{buffered_of, IsBuffered};
 ghost use Rattle.track_buffers.specs.Views.{track_views_of};
 
@@ -57,7 +57,7 @@ impl<S: FrameStore> Model for TrackBuffers<S> {
     ghost use Rattle.track_buffers.specs.Ahead.{HasRoomAhead};
     ghost use Rattle.track_buffers.specs.Buffered.{ranges_in};
     ghost use Rattle.track_buffers.specs.Media.{MediaView, media_of, room_of, HasMediaInvariants};
-    ghost use Rattle.track_buffers.specs.Frames.{IsPlaceOf};
+    ghost use Rattle.track_buffers.specs.Frames.{IsTrackPlace};
     ghost use Rattle.track_buffers.specs.Watching.{IsWatchOf};
 
     ghost Value = { MediaView };
@@ -72,7 +72,7 @@ impl<S: FrameStore> Model for TrackBuffers<S> {
         (gaps_of S.gap b.tracks.items) b.settings b.gap
         × HasRoomAhead S.spare b.ahead b.tracks.items
         × IfSome b.watch (λ w. IsWatchOf w (ranges_in S.frames S.gap b.tracks.items))
-        × IfSome b.last (λ l. IsPlaceOf l (states_of S.frames b.tracks.items))
+        × IfSome b.last (λ l. IsTrackPlace l (states_of S.frames b.tracks.items))
         × (b.used ≡ bytes_in (states_of S.frames b.tracks.items)) };
 }
 
@@ -196,7 +196,7 @@ impl<S: FrameStore> TrackBuffers<S> {
     /// over.
     pub fn process(&mut self, frame: CodedFrame, duration: Moment) -> MediaEffect
         requires room { 1 ≤ self.old.room }
-        requires dur { pos 0 ≤ℤ frame.dur }
+        requires dur_not_negative { pos 0 ≤ℤ frame.dur }
         ensures result { media_result result self.new.media
             ≡ frame_result frame self.old.media duration }
         ensures changes { (source_effect result).duration_changes ≤ 1 }
@@ -421,7 +421,7 @@ impl<S: FrameStore> TrackBuffers<S> {
     /// The track buffers, in order of the first initialization segment.
     pub fn tracks(&self) -> &Tracks<S>
         ensures states { states_of S.frames result.now.items ≡ self.now.media.tracks }
-        ensures kept { AreKept self.now.media.tracks }
+        ensures sound { AreTracksSound self.now.media.tracks }
     {
         &self.tracks
     }
@@ -468,11 +468,11 @@ impl<S: FrameStore> TrackBuffers<S> {
     /// can be counted, the append window has a start that is not negative and an end, and the gap
     /// is not negative.
     pub fn sound(&self)
-        ensures kept { AreKept self.now.media.tracks }
+        ensures tracks_sound { AreTracksSound self.now.media.tracks }
         ensures sound { AllByRecursion IsSound self.now.media.tracks }
         ensures window_start { pos 0 ≤ℤ self.now.media.settings.window_start }
         ensures window_end { self.now.media.settings.window_end ≢ Moment.Nan }
-        ensures gap { pos 0 ≤ℤ self.now.media.gap }
+        ensures gap_from_zero { pos 0 ≤ℤ self.now.media.gap }
     {
         // The proof reads off this what always holds of the fields.
         let _tracks = &self.tracks;

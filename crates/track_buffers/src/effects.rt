@@ -41,8 +41,8 @@ pub enum MediaEffect {
     AppendError(MediaFault, SourceEffect),
 }
 
-/// Nothing, where this is the duration.
-pub(crate) fn no_effect(duration: &Moment) -> SourceEffect
+/// Nothing at the source, where this is the duration.
+pub fn no_effect(duration: &Moment) -> SourceEffect
     ensures { result ≡ no_effect duration.now }
 {
     SourceEffect {

@@ -2,13 +2,13 @@
 
 ghost use Rattle.std.specs.Prelude.{◌≡◌, ◌≤◌, ◌<◌, ◌+◌, ℕ, ℤ, pos, ◌≤ℤ◌, ◌==◌, Bool, false, Some, map, length, slice_get, slice_set, IfSome};
 ghost use Rattle.mse_base.specs.declared.ticks.Moment.{Moment};
-ghost use Rattle.track_store.specs.Kept.{AreKept, HasSpareRoom, bytes_in, gaps_of};
+ghost use Rattle.track_store.specs.Kept.{AreTracksSound, HasSpareRoom, bytes_in, gaps_of};
 ghost use Rattle.track_store.specs.State.{state_of, states_of};
 ghost use Rattle.range_removal.specs.Rooms.{IsRoomKept};
 ghost use Rattle.track_buffers.specs.Effects.{media_result, source_effect};
 ghost use Rattle.track_buffers.specs.Media.{media_of, EndsWithin, IsNotAfter};
 ghost use Rattle.frame_rules.specs.Place.{IsRoomTakenAt};
-ghost use Rattle.track_buffers.specs.Frames.{has_number, place_of, frame_result_at, unset_track, AreFramesSetAt, IsPlaceOf, track_ids};
+ghost use Rattle.track_buffers.specs.Frames.{has_number, place_of, frame_result_at, unset_track, AreFramesSetAt, IsTrackPlace, track_ids};
 
 use crate::effects::{MediaEffect, MediaFault, duration_change, no_effect};
 use frame_rules::{Placed, place_with_used};
@@ -51,7 +51,7 @@ pub(crate) fn place_from<S: FrameStore>(
     last: &Option<TrackPlace>,
     id: u32,
 ) -> Option<usize>
-    requires { IfSome last.now (λ l. IsPlaceOf l (states_of S.frames tracks.now.items)) }
+    requires { IfSome last.now (λ l. IsTrackPlace l (states_of S.frames tracks.now.items)) }
     ensures place { result ≡ place_of id (states_of S.frames tracks.now.items) }
     ensures in_range { IfSome result (λ i. i < length tracks.now.items) }
 {
@@ -73,15 +73,15 @@ pub(crate) fn process_at<S: FrameStore>(
     requires used { used ≡ bytes_in (states_of S.frames tracks.old.items) }
     requires in_range { i < length tracks.old.items }
     requires room { HasSpareRoom S.spare 1 tracks.old.items }
-    requires kept { AreKept (states_of S.frames tracks.old.items) }
+    requires sound { AreTracksSound (states_of S.frames tracks.old.items) }
     requires window_start { pos 0 ≤ℤ settings.old.window_start }
-    requires dur { pos 0 ≤ℤ frame.dur }
+    requires dur_not_negative { pos 0 ≤ℤ frame.dur }
     ensures result { (pending : Bool) (gap : ℤ)
         → media_result result (media_of S.frames tracks.new.items settings.new pending gap)
         ≡ frame_result_at (Some i) frame
         (media_of S.frames tracks.old.items settings.old pending gap) duration.now }
     ensures changes { (source_effect result).duration_changes ≤ 1 }
-    ensures kept { AreKept (states_of S.frames tracks.new.items) }
+    ensures sound { AreTracksSound (states_of S.frames tracks.new.items) }
     ensures window_start { pos 0 ≤ℤ settings.new.window_start }
     ensures window_end { settings.new.window_end ≡ settings.old.window_end }
     ensures within_duration { EndsWithin duration.now (states_of S.frames tracks.old.items)
@@ -136,8 +136,8 @@ fn unset_at<S: FrameStore>(tracks: &mut Tracks<S>, i: usize)
 pub(crate) fn unset_all<S: FrameStore>(tracks: &mut Tracks<S>)
     ensures states { states_of S.frames tracks.new.items
         ≡ map unset_track (states_of S.frames tracks.old.items) }
-    ensures kept { AreKept (states_of S.frames tracks.old.items)
-        → AreKept (states_of S.frames tracks.new.items) }
+    ensures sound { AreTracksSound (states_of S.frames tracks.old.items)
+        → AreTracksSound (states_of S.frames tracks.new.items) }
     ensures room { (n : ℕ) → HasSpareRoom S.spare n tracks.old.items
         → HasSpareRoom S.spare n tracks.new.items }
     ensures gaps { gaps_of S.gap tracks.new.items ≡ gaps_of S.gap tracks.old.items }

@@ -1,17 +1,17 @@
 //! Initialization segment received (Media Source Extensions, 3.5.7).
 
-ghost use Rattle.std.specs.Prelude.{◌≡◌, ◌≤◌, ◌+◌, [], ◌∷◌, ◌++◌, ℤ, pos, ◌≤ℤ◌, Bool, true, false, map, filter, length};
+ghost use Rattle.std.specs.Prelude.{◌≡◌, ◌≤◌, ◌+◌, [], ◌∷◌, ◌++◌, ℤ, pos, ◌≤ℤ◌, true, false, map, filter, length};
 ghost use Rattle.std.specs.List.{AllByRecursion};
 ghost use Rattle.mse_base.specs.declared.ticks.Moment.{Moment};
 ghost use Rattle.track_store.specs.declared.tracks.Settings.{Settings};
-ghost use Rattle.track_store.specs.Kept.{AreKept, gaps_of};
-ghost use Rattle.track_store.specs.State.{state_of, states_of};
-ghost use Rattle.track_buffers.specs.Media.{media_of, stores_of, is_empty_list, EndsWithin};
-ghost use Rattle.track_buffers.specs.Initialized.{is_media_track, media_tracks, segment_effect, has_same_tracks, init_fault, new_track, tracks_after};
+ghost use Rattle.track_store.specs.Kept.{AreTracksSound, gaps_of};
+ghost use Rattle.track_store.specs.State.{state_of, states_of, stores_of};
+ghost use Rattle.track_buffers.specs.Media.{media_of, is_empty_list, EndsWithin};
+ghost use Rattle.track_buffers.specs.Initialized.{is_media_track, segment_effect, has_same_tracks, init_fault, new_track, tracks_after};
 
 use crate::effects::{MediaFault, SourceEffect, duration_change, no_effect};
-use crate::kinds::{all_known, count_new, media_track_count};
-use crate::partners::{all_fit, count_held, renew_all};
+use crate::kinds::{are_known, count_new, media_track_count};
+use crate::partners::{count_held, has_all_partners, renew_all};
 use mse_base::{Kind, Moment, Presentation, Ticks, TrackInfo};
 use std::alloc::Global;
 use track_store::{FrameStore, Marks, Track, Tracks};
@@ -34,7 +34,7 @@ fn has_same_tracks<S: FrameStore>(tracks: &Tracks<S>, pending: bool, news: &[Tra
 {
     count_new(news, Kind::Video) == count_held(tracks, Kind::Video)
         && count_new(news, Kind::Audio) == count_held(tracks, Kind::Audio)
-        && all_fit(tracks, news, pending)
+        && has_all_partners(tracks, news, pending)
 }
 
 /// The first thing that is wrong with a segment.
@@ -50,7 +50,7 @@ pub(crate) fn init_fault<S: FrameStore>(
     if media_track_count(presentation) == 0 {
         return Some(MediaFault::NoTracks);
     }
-    if !all_known(news) {
+    if !are_known(news) {
         return Some(MediaFault::UnknownCodec);
     }
     if tracks.len() == 0 || has_same_tracks(tracks, pending, news) {
@@ -77,7 +77,7 @@ fn new_track<S: FrameStore>(alloc: Global, gap: Ticks, track: &TrackInfo) -> Tra
 /// A track buffer is made for a video or audio track.
 fn add_one<S: FrameStore>(tracks: &mut Tracks<S>, alloc: Global, gap: Ticks, track: &TrackInfo)
     requires room { length (filter is_media_track (track.now ∷ [])) ≤ tracks.old.spare }
-    requires gap { pos 0 ≤ℤ gap }
+    requires gap_from_zero { pos 0 ≤ℤ gap }
     ensures states { states_of S.frames tracks.new.items ≡ states_of S.frames tracks.old.items
         ++ map new_track (filter is_media_track (track.now ∷ [])) }
     ensures places { tracks.old.spare
@@ -93,7 +93,7 @@ fn add_one<S: FrameStore>(tracks: &mut Tracks<S>, alloc: Global, gap: Ticks, tra
 /// Step 5: a track buffer for each video or audio track.
 fn add_all<S: FrameStore>(tracks: &mut Tracks<S>, alloc: Global, gap: Ticks, news: &[TrackInfo])
     requires room { length (filter is_media_track news.now) ≤ tracks.old.spare }
-    requires gap { pos 0 ≤ℤ gap }
+    requires gap_from_zero { pos 0 ≤ℤ gap }
     ensures states { states_of S.frames tracks.new.items ≡ states_of S.frames tracks.old.items
         ++ map new_track (filter is_media_track news.now) }
     ensures places { tracks.old.spare
@@ -115,7 +115,7 @@ pub(crate) fn take_tracks<S: FrameStore>(
 )
     requires room { is_empty_list (states_of S.frames tracks.old.items) ≡ true
         → length (filter is_media_track news.now) ≤ tracks.old.spare }
-    requires gap { pos 0 ≤ℤ gap }
+    requires gap_from_zero { pos 0 ≤ℤ gap }
     ensures states { states_of S.frames tracks.new.items
         ≡ tracks_after (filter is_media_track news.now) (states_of S.frames tracks.old.items) }
     ensures stores { is_empty_list (states_of S.frames tracks.old.items) ≡ false
@@ -124,8 +124,8 @@ pub(crate) fn take_tracks<S: FrameStore>(
         → tracks.new.spare ≡ tracks.old.spare }
     ensures places_taken { tracks.old.spare
         ≤ tracks.new.spare + length (filter is_media_track news.now) }
-    ensures kept { AreKept (states_of S.frames tracks.old.items)
-        → AreKept (states_of S.frames tracks.new.items) }
+    ensures sound { AreTracksSound (states_of S.frames tracks.old.items)
+        → AreTracksSound (states_of S.frames tracks.new.items) }
     ensures within_duration { (duration : Moment) →
         EndsWithin duration (states_of S.frames tracks.old.items)
         → EndsWithin duration (states_of S.frames tracks.new.items) }

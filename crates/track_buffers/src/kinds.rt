@@ -1,6 +1,6 @@
-ghost use Rattle.std.specs.Prelude.{◌≡◌, length, map, filter};
+ghost use Rattle.std.specs.Prelude.{◌≡◌, length, filter};
 ghost use Rattle.std.specs.List.{list_all};
-ghost use Rattle.track_buffers.specs.Initialized.{is_media_track, media_tracks, count_of, new_kinds, is_known, is_of_kind};
+ghost use Rattle.track_buffers.specs.Initialized.{is_media_track, media_tracks, count_of, new_kinds, is_known};
 
 use mse_base::{Kind, Presentation, TrackInfo};
 use mse_types::codec_known;
@@ -45,7 +45,7 @@ fn is_known(track: &TrackInfo) -> bool
 }
 
 /// Whether each video or audio track has a codec that is known.
-pub(crate) fn all_known(tracks: &[TrackInfo]) -> bool
+pub(crate) fn are_known(tracks: &[TrackInfo]) -> bool
     ensures { result ≡ list_all is_known (filter is_media_track tracks.now) }
 {
     for track in tracks {

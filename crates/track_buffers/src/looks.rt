@@ -1,7 +1,7 @@
 //! What is stored in all track buffers.
 
-ghost use Rattle.std.specs.Prelude.{◌≡◌, ◌≤◌, ◌<◌, ◌^◌, map, slice_get, IfSome, IfOk, OnOk, flat_map, [], ◌∷◌, ◌++◌};
-ghost use Rattle.mse_base.specs.Moments.{greatest, greatest_of_two};
+ghost use Rattle.std.specs.Prelude.{◌≡◌, ◌<◌, ◌^◌, map, slice_get, IfSome, IfOk, OnOk, flat_map, [], ◌∷◌, ◌++◌};
+ghost use Rattle.mse_base.specs.Moments.{greatest};
 ghost use Rattle.track_store.specs.Frames.{bytes_of, starts, ends};
 ghost use Rattle.track_store.specs.State.{state_of, states_of};
 ghost use Rattle.track_buffers.specs.Views.{track_view};
@@ -23,13 +23,6 @@ pub(crate) fn used_at<S: FrameStore>(tracks: &Tracks<S>, i: usize) -> u64
     }
 }
 
-/// The greater of two times, each of which may be missing.
-pub fn greatest_of_two(a: Option<Ticks>, b: Option<Ticks>) -> Option<Ticks>
-    ensures { result ≡ greatest_of_two a b }
-{
-    a.max(b)
-}
-
 fn highest_start_at<S: FrameStore>(tracks: &Tracks<S>, i: usize) -> Option<Ticks>
     ensures { IfSome (slice_get (states_of S.frames tracks.now.items) i)
         (λ t. result ≡ greatest (starts t.frames)) }
@@ -47,7 +40,7 @@ pub(crate) fn highest_start<S: FrameStore>(tracks: &Tracks<S>) -> Option<Ticks>
 {
     let mut best = None;
     for i in 0..tracks.len() {
-        best = greatest_of_two(best, highest_start_at(tracks, i));
+        best = best.max(highest_start_at(tracks, i));
     }
     best
 }
@@ -69,7 +62,7 @@ pub(crate) fn highest_end<S: FrameStore>(tracks: &Tracks<S>) -> Option<Ticks>
 {
     let mut best = None;
     for i in 0..tracks.len() {
-        best = greatest_of_two(best, highest_end_at(tracks, i));
+        best = best.max(highest_end_at(tracks, i));
     }
     best
 }

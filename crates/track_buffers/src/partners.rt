@@ -2,16 +2,15 @@
 
 ghost use Rattle.std.specs.Prelude.{◌≡◌, ◌&&◌, Some, filter, find, if◌then◌else◌, slice_get, slice_set, IfSome, option_copied};
 ghost use Rattle.std.specs.List.{list_all};
-ghost use Rattle.mse_base.specs.Moments.{same_kind};
-ghost use Rattle.track_store.specs.State.{state_of, states_of};
-ghost use Rattle.track_buffers.specs.Media.{stores_of};
+ghost use Rattle.mse_base.specs.Moments.{is_same_kind};
+ghost use Rattle.track_store.specs.State.{state_of, states_of, stores_of};
 ghost use Rattle.track_buffers.specs.Initialized.{is_media_track, count_of, kinds_of, is_of_kind, is_numbered, partner_of, is_partner, tracks_with_partners, track_with_partner};
 
 use mse_base::{Kind, TrackInfo};
 use track_store::{FrameStore, Track, Tracks};
 
 fn is_kind_at<S: FrameStore>(tracks: &Tracks<S>, i: usize, kind: Kind) -> bool
-    ensures { IfSome (slice_get tracks.now.items i) (λ t. result ≡ same_kind kind t.kind) }
+    ensures { IfSome (slice_get tracks.now.items i) (λ t. result ≡ is_same_kind kind t.kind) }
 {
     match tracks.get(i) {
         Some(track) => kind == track.kind,
@@ -87,7 +86,12 @@ fn is_partner<S: FrameStore>(track: &Track<S>, partner: Option<&TrackInfo>, pend
     }
 }
 
-fn fits_at<S: FrameStore>(tracks: &Tracks<S>, i: usize, news: &[TrackInfo], pending: bool) -> bool
+fn has_partner_at<S: FrameStore>(
+    tracks: &Tracks<S>,
+    i: usize,
+    news: &[TrackInfo],
+    pending: bool,
+) -> bool
     ensures { IfSome (slice_get (states_of S.frames tracks.now.items) i)
         (λ t. result ≡ is_partner pending t
         (partner_of (states_of S.frames tracks.now.items) (filter is_media_track news.now) t)) }
@@ -99,13 +103,17 @@ fn fits_at<S: FrameStore>(tracks: &Tracks<S>, i: usize, news: &[TrackInfo], pend
 }
 
 /// Whether each track buffer has a track of the segment that it goes on with.
-pub(crate) fn all_fit<S: FrameStore>(tracks: &Tracks<S>, news: &[TrackInfo], pending: bool) -> bool
+pub(crate) fn has_all_partners<S: FrameStore>(
+    tracks: &Tracks<S>,
+    news: &[TrackInfo],
+    pending: bool,
+) -> bool
     ensures { result ≡ list_all (λ t. is_partner pending t
         (partner_of (states_of S.frames tracks.now.items) (filter is_media_track news.now) t))
         (states_of S.frames tracks.now.items) }
 {
     for i in 0..tracks.len() {
-        if !fits_at(tracks, i, news, pending) {
+        if !has_partner_at(tracks, i, news, pending) {
             return false;
         }
     }

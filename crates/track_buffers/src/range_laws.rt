@@ -1,7 +1,7 @@
 //! What follows from the definition of the buffered ranges: functions that do nothing, with the
 //! laws as their contracts.
 
-ghost use Rattle.std.specs.Prelude.{◌≡◌, ℤ, pos, ◌≤ℤ◌, Bool, true, false, List, [], map, find, None, Some};
+ghost use Rattle.std.specs.Prelude.{◌≡◌, ℤ, pos, ◌≤ℤ◌, Bool, true, List, [], map, find, None, Some};
 ghost use Rattle.std.specs.List.{AllByRecursion};
 ghost use Rattle.mse_base.specs.declared.span.Span.{Span};
 ghost use Rattle.mse_base.specs.declared.ticks.Moment.{Moment};

@@ -2,7 +2,7 @@
 
 ghost use Rattle.std.specs.Prelude.{◌≡◌, ◌≤◌, min, slice_get, IfSome, IfOk, OnOk};
 ghost use Rattle.track_store.specs.Kept.{HasSpareRoom, gaps_of};
-ghost use Rattle.track_store.specs.State.{state_of, states_of};
+ghost use Rattle.track_store.specs.State.{states_of};
 ghost use Rattle.range_removal.specs.Rooms.{IsRoomKept};
 ghost use Rattle.track_buffers.specs.Ahead.{HasRoomAhead, ahead_after_frame};
 

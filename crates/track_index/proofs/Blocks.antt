@@ -4,20 +4,21 @@ use Rattle.std.specs.List.{AllByRecursion, list_any}
 use Rattle.std.proofs.lemmas.Int.{ints}
 use Rattle.std.proofs.lemmas.List.{drop_all, take-append-drop, append_assoc, append-nil}
 use Rattle.mse_base.specs.declared.ticks.Moment.{Moment}
-use Rattle.block_list.specs.Rows.{joined, row, start, AreNonEmpty}
+use Rattle.mse_base.specs.Rows.{joined, row, start}
+use Rattle.block_list.specs.Rows.{AreNonEmpty}
 use Rattle.block_list.specs.BlockPlaces.{rank, IsPlace}
 use Rattle.block_list.specs.declared.block_list.BlockPlace.{BlockPlace}
 use Rattle.block_list.proofs.Joining.{start_more}
 use Rattle.block_list.proofs.Ranging.{take_at, row_count}
-use Rattle.mse_base.specs.Moments.{is_before}
+use Rattle.mse_base.specs.Moments.{is_before, greatest_of_two}
 use Rattle.track_index.specs.declared.entry.OrderEntry.{OrderEntry}
 use Rattle.track_index.specs.declared.key.Key.{Key}
 use Rattle.track_index.specs.Order.{end_of, entry_covers, or_else, last_that, first_start, is_sync_from, is_ended}
-use Rattle.track_index.specs.Keyed.{before_key}
-use Rattle.track_index.specs.Known.{is_sync, greatest_end, later_end}
-use Rattle.track_index.specs.Tops.{running, tops_of, RunsFrom}
+use Rattle.track_index.specs.Keyed.{is_before_key}
+use Rattle.track_index.specs.Known.{is_sync, greatest_end}
+use Rattle.track_index.specs.Tops.{running_ends, tops_of, AreTopsFrom}
 use Rattle.track_index.proofs.Ordering.{last-append, last_none, each_take, begin_later}
-use Rattle.track_index.proofs.Ending.{length_running, runs_kept, front_kept, greatest-append, greatest_with, top_at, none_covers}
+use Rattle.track_index.proofs.Ending.{length_running_ends, runs_kept, front_kept, greatest-append, greatest_with, top_at, none_covers}
 use Rattle.track_index.proofs.Keys.{highs, lows, filter_front}
 
 less_cases : (m n : ℕ) → (m < n) ⊎ (n ≤ m)
@@ -58,11 +59,11 @@ pub record Ready (ts : List (Option ℤ)) (rows : List (List OrderEntry)) (b cap
   pub gone : length rows < length ts → b < length ts
   pub room : length rows ≤ cap
   pub front : take b ts ≡ take b (tops_of rows)
-  pub rest : RunsFrom (b + 1) ts ((b + 1 + length rows) - length ts) rows
+  pub rest : AreTopsFrom (b + 1) ts ((b + 1 + length rows) - length ts) rows
 
 pub ready : (ts : List (Option ℤ)) (old new : List (List OrderEntry)) (b cap : ℕ) → ts ≡ tops_of old → b < length old → length new ≤ length old + 1 → length old ≤ length new + 1 → length new ≤ cap → take b new ≡ take b old → drop ((b + 1 + length new) - length old) new ≡ drop (b + 1) old → Ready ts new b cap
 ready ts old new b cap e l m f c front rest =
-    let n : length ts ≡ length old = ap length e ∙ length_running None old in
+    let n : length ts ≡ length old = ap length e ∙ length_running_ends None old in
     record {
       within = omega arith;
       more = omega arith;
@@ -70,16 +71,16 @@ ready ts old new b cap e l m f c front rest =
       gone = λ _. omega arith;
       room = c;
       front = front_kept ts old new b e front;
-      rest = subst (λ (k : ℕ). RunsFrom (b + 1) ts ((b + 1 + length new) - k) new) (sym n) (runs_kept ts ts old new b ((b + 1 + length new) - length old) e l rest);
+      rest = subst (λ (k : ℕ). AreTopsFrom (b + 1) ts ((b + 1 + length new) - k) new) (sym n) (runs_kept ts ts old new b ((b + 1 + length new) - length old) e l rest);
     }
 
 -- the last end, made later by that of an entry that came
-pub top_with : (ts : List (Option ℤ)) (old new : List (List OrderEntry)) (b k : ℕ) (x : OrderEntry) (end : ℤ) → ts ≡ tops_of old → b + 1 ≡ length old → end ≡ end_of x → joined new ≡ insert (joined old) k x → later_end (get_or ts b None) (Some end) ≡ greatest_end (joined new)
+pub top_with : (ts : List (Option ℤ)) (old new : List (List OrderEntry)) (b k : ℕ) (x : OrderEntry) (end : ℤ) → ts ≡ tops_of old → b + 1 ≡ length old → end ≡ end_of x → joined new ≡ insert (joined old) k x → greatest_of_two (get_or ts b None) (Some end) ≡ greatest_end (joined new)
 top_with ts old new b k x end e l z j =
     let os = joined old in
     let n : b + 1 - 1 ≡ b = omega arith in
     let top : get_or ts b None ≡ greatest_end os = ap (λ i. get_or ts i None) (sym n) ∙ top_at ts old (b + 1) None e (omega arith) (omega arith) ∙ ap (λ rows. greatest_end (joined rows)) (rows_all old (b + 1) l) in
-    ap (λ t. later_end t (Some end)) top ∙ ap (λ t. later_end (greatest_end os) (Some t)) z ∙ ap (λ zs. later_end (greatest_end zs) (Some (end_of x))) (sym (take-append-drop k os)) ∙ greatest_with (take k os) (drop k os) x ∙ ap greatest_end (sym j)
+    ap (λ t. greatest_of_two t (Some end)) top ∙ ap (λ t. greatest_of_two (greatest_end os) (Some t)) z ∙ ap (λ zs. greatest_of_two (greatest_end zs) (Some (end_of x))) (sym (take-append-drop k os)) ∙ greatest_with (take k os) (drop k os) x ∙ ap greatest_end (sym j)
 
 pub first_ready : (ts : List (Option ℤ)) (old new : List (List OrderEntry)) (cap : ℕ) → ts ≡ tops_of old → length old ≡ 0 → length new ≤ 1 → length new ≤ cap → Ready ts new 0 cap
 first_ready ts old new cap e l m c =
@@ -92,7 +93,7 @@ first_ready ts old new cap e l m c =
       gone = λ h. absurd (omega arith);
       room = c;
       front = refl;
-      rest = (None, ap (drop (0 + 1)) none ∙ sym (ap (running None) (drop_all ((0 + 1 + length new) - length ts) new (omega arith))));
+      rest = (None, ap (drop (0 + 1)) none ∙ sym (ap (running_ends None) (drop_all ((0 + 1 + length new) - length ts) new (omega arith))));
     }
 
 -- ---- the last that holds a time
@@ -105,7 +106,7 @@ pub passed_over : (t : ℤ) (os : List OrderEntry) (n : ℕ) → is_ended t (gre
 passed_over t os n e = last_none (entry_covers t) (take n os) (each_take (λ o. entry_covers t o ≡ false) os n (none_covers t os e))
 
 -- in the place's own block and before it
-pub last_at_place : (t m : ℤ) (rows : List (List OrderEntry)) (s : BlockPlace) → m ≡ (t +ℤ pos 1) → s.block < length rows → s.index ≤ length (row rows s.block) → AllByRecursion (λ o. before_key (record { mark = m; serial = 0 }) o ≡ false) (drop (rank rows s) (joined rows)) → last_that (entry_covers t) (joined rows) ≡ or_else (last_that (entry_covers t) (take s.index (row rows s.block))) (last_that (entry_covers t) (joined (take s.block rows)))
+pub last_at_place : (t m : ℤ) (rows : List (List OrderEntry)) (s : BlockPlace) → m ≡ (t +ℤ pos 1) → s.block < length rows → s.index ≤ length (row rows s.block) → AllByRecursion (λ o. is_before_key (record { mark = m; serial = 0 }) o ≡ false) (drop (rank rows s) (joined rows)) → last_that (entry_covers t) (joined rows) ≡ or_else (last_that (entry_covers t) (take s.index (row rows s.block))) (last_that (entry_covers t) (joined (take s.block rows)))
 last_at_place t m rows s e l k h =
     let late = begin_later t (drop (rank rows s) (joined rows)) (subst (λ (n : ℤ). AllByRecursion (λ o. n ≤ℤ o.pts) (drop (rank rows s) (joined rows))) e (highs m (drop (rank rows s) (joined rows)) h)) in
     sym (last_front (entry_covers t) (joined rows) (rank rows s) late) ∙ ap (last_that (entry_covers t)) (take_at rows s.block s.index l k) ∙ last-append (entry_covers t) (joined (take s.block rows)) (take s.index (row rows s.block))
@@ -155,10 +156,10 @@ no_sync t (o ∷ os) e =
 
 -- ---- the greatest end before a key
 
-pub greatest_before : (key : Key) (rows : List (List OrderEntry)) (s : BlockPlace) (a b : Option ℤ) → s.block < length rows → s.index ≤ length (row rows s.block) → AllByRecursion (λ o. before_key key o ≡ true) (take (rank rows s) (joined rows)) → AllByRecursion (λ o. before_key key o ≡ false) (drop (rank rows s) (joined rows)) → a ≡ greatest_end (joined (take s.block rows)) → b ≡ greatest_end (take s.index (row rows s.block)) → later_end a b ≡ greatest_end (filter (before_key key) (joined rows))
+pub greatest_before : (key : Key) (rows : List (List OrderEntry)) (s : BlockPlace) (a b : Option ℤ) → s.block < length rows → s.index ≤ length (row rows s.block) → AllByRecursion (λ o. is_before_key key o ≡ true) (take (rank rows s) (joined rows)) → AllByRecursion (λ o. is_before_key key o ≡ false) (drop (rank rows s) (joined rows)) → a ≡ greatest_end (joined (take s.block rows)) → b ≡ greatest_end (take s.index (row rows s.block)) → greatest_of_two a b ≡ greatest_end (filter (is_before_key key) (joined rows))
 greatest_before key rows s a b l k before after x y =
-    ap (λ z. later_end z b) x ∙ ap (later_end (greatest_end (joined (take s.block rows)))) y ∙ sym (greatest-append (joined (take s.block rows)) (take s.index (row rows s.block)))
-    ∙ ap greatest_end (sym (take_at rows s.block s.index l k)) ∙ ap greatest_end (sym (filter_front (before_key key) (joined rows) (rank rows s) before after))
+    ap (λ z. greatest_of_two z b) x ∙ ap (greatest_of_two (greatest_end (joined (take s.block rows)))) y ∙ sym (greatest-append (joined (take s.block rows)) (take s.index (row rows s.block)))
+    ∙ ap greatest_end (sym (take_at rows s.block s.index l k)) ∙ ap greatest_end (sym (filter_front (is_before_key key) (joined rows) (rank rows s) before after))
 
 -- ---- places
 
@@ -249,7 +250,7 @@ begun_all t m [] e h = tt
 begun_all t m (o ∷ os) e h = (begun_by t m o e h.0, begun_all t m os e h.1)
 
 -- the blocks before a place before which all begin by a time
-pub begun_before : (t m : ℤ) (rows : List (List OrderEntry)) (s : BlockPlace) → m ≡ (t +ℤ pos 1) → s.block < length rows → s.index ≤ length (row rows s.block) → AllByRecursion (λ o. before_key (record { mark = m; serial = 0 }) o ≡ true) (take (rank rows s) (joined rows)) → AllByRecursion (λ o. o.pts ≤ℤ t) (joined (take s.block rows))
+pub begun_before : (t m : ℤ) (rows : List (List OrderEntry)) (s : BlockPlace) → m ≡ (t +ℤ pos 1) → s.block < length rows → s.index ≤ length (row rows s.block) → AllByRecursion (λ o. is_before_key (record { mark = m; serial = 0 }) o ≡ true) (take (rank rows s) (joined rows)) → AllByRecursion (λ o. o.pts ≤ℤ t) (joined (take s.block rows))
 begun_before t m rows s e l k h =
     let each = begun_all t m (take (rank rows s) (joined rows)) e (lows m (take (rank rows s) (joined rows)) h) in
     each_left (λ o. o.pts ≤ℤ t) (joined (take s.block rows)) (take s.index (row rows s.block)) (subst (AllByRecursion (λ o. o.pts ≤ℤ t)) (take_at rows s.block s.index l k) each)

@@ -15,7 +15,7 @@ use Rattle.track_store.proofs.Soundness.{chained-shortened}
 use Rattle.track_store.proofs.Clearing.{kept-shortened, used-shortened, shortened_at}
 use Rattle.std.proofs.lemmas.Option.{slice_get_read}
 use Rattle.track_index.specs.declared.entry.OrderEntry.{OrderEntry}
-use Rattle.track_index.specs.Order.{put, put_all, entry_of, span_of, ordered, shorter}
+use Rattle.track_index.specs.Order.{put, put_all, entry_of, span_of, presentation_order, with_entry_dur}
 use Rattle.track_index.specs.Repair.{AreBetween}
 use Rattle.track_index.specs.Indexed.{FrameIndex, IsIndexed}
 use Rattle.track_index.proofs.Noting.{syncs-shortened}
@@ -25,7 +25,7 @@ use Rattle.track_index.proofs.Keeping.{near_ordered, ranges_by_order}
 other_dur : (o : OrderEntry) (b : Bool) (d : ℤ) → b ≡ false → record o { dur = cond b d o.dur } ≡ o
 other_dur o b d e = ap (λ c. record o { dur = cond c d o.dur }) e
 
-other : (serial : ℕ) (dur : ℤ) (o : OrderEntry) → (o.serial ≡ serial → ⊥) → shorter serial dur o ≡ o
+other : (serial : ℕ) (dur : ℤ) (o : OrderEntry) → (o.serial ≡ serial → ⊥) → with_entry_dur serial dur o ≡ o
 other serial dur o h = let e : nat_eq o.serial serial ≡ false = grind (arith, nat_tests) in other_dur o (nat_eq o.serial serial) dur e
 
 -- ---- the order of frames one of which has another duration
@@ -34,23 +34,23 @@ map_cond : (f : OrderEntry → OrderEntry) (b : Bool) (xs ys : List OrderEntry) 
 map_cond f true xs ys = refl
 map_cond f false xs ys = refl
 
-map_put : (serial : ℕ) (dur : ℤ) (e : OrderEntry) (os : List OrderEntry) → map (shorter serial dur) (put e os) ≡ put (shorter serial dur e) (map (shorter serial dur) os)
+map_put : (serial : ℕ) (dur : ℤ) (e : OrderEntry) (os : List OrderEntry) → map (with_entry_dur serial dur) (put e os) ≡ put (with_entry_dur serial dur e) (map (with_entry_dur serial dur) os)
 map_put serial dur e [] = refl
 map_put serial dur e (o ∷ os) =
-    map_cond (shorter serial dur) (int_lt e.pts o.pts) (e ∷ o ∷ os) (o ∷ put e os)
-    ∙ ap (λ zs. cond (int_lt e.pts o.pts) (shorter serial dur e ∷ shorter serial dur o ∷ map (shorter serial dur) os) (shorter serial dur o ∷ zs)) (map_put serial dur e os)
+    map_cond (with_entry_dur serial dur) (int_lt e.pts o.pts) (e ∷ o ∷ os) (o ∷ put e os)
+    ∙ ap (λ zs. cond (int_lt e.pts o.pts) (with_entry_dur serial dur e ∷ with_entry_dur serial dur o ∷ map (with_entry_dur serial dur) os) (with_entry_dur serial dur o ∷ zs)) (map_put serial dur e os)
 
 entry_cond : (b : Bool) (dur : ℤ) (f : Stored) → entry_of (cond b (with_dur dur f) f) ≡ record (entry_of f) { dur = cond b dur f.frame.dur }
 entry_cond true dur f = refl
 entry_cond false dur f = refl
 
-map_all : (serial : ℕ) (dur : ℤ) (os : List OrderEntry) (fs : List Stored) → map (shorter serial dur) (put_all os fs) ≡ put_all (map (shorter serial dur) os) (frames_with_dur serial dur fs)
+map_all : (serial : ℕ) (dur : ℤ) (os : List OrderEntry) (fs : List Stored) → map (with_entry_dur serial dur) (put_all os fs) ≡ put_all (map (with_entry_dur serial dur) os) (frames_with_dur serial dur fs)
 map_all serial dur os [] = refl
 map_all serial dur os (f ∷ fs) =
     map_all serial dur (put (entry_of f) os) fs
-    ∙ ap (λ ps. put_all ps (frames_with_dur serial dur fs)) (map_put serial dur (entry_of f) os ∙ ap (λ e. put e (map (shorter serial dur) os)) (sym (entry_cond (has_serial serial f) dur f)))
+    ∙ ap (λ ps. put_all ps (frames_with_dur serial dur fs)) (map_put serial dur (entry_of f) os ∙ ap (λ e. put e (map (with_entry_dur serial dur) os)) (sym (entry_cond (has_serial serial f) dur f)))
 
-pub ordered_shortened : (serial : ℕ) (dur : ℤ) (fs : List Stored) → map (shorter serial dur) (ordered fs) ≡ ordered (frames_with_dur serial dur fs)
+pub ordered_shortened : (serial : ℕ) (dur : ℤ) (fs : List Stored) → map (with_entry_dur serial dur) (presentation_order fs) ≡ presentation_order (frames_with_dur serial dur fs)
 ordered_shortened serial dur fs = map_all serial dur [] fs
 
 -- ---- the entry of a serial
@@ -75,7 +75,7 @@ each_frame : (x : Stored) (fs : List Stored) → AllByRecursion (λ g. g.serial 
 each_frame x [] h = tt
 each_frame x (f ∷ fs) h = (λ e. ap entry_of (h.0 e), each_frame x fs h.1)
 
-pub own_entry : (fs : List Stored) (os : List OrderEntry) (i : ℕ) (x : Stored) → IsAscending fs → os ≡ ordered fs → i < length fs → x ≡ get_or fs i x → AllByRecursion (λ o. o.serial ≡ x.serial → o ≡ entry_of x) os
+pub own_entry : (fs : List Stored) (os : List OrderEntry) (i : ℕ) (x : Stored) → IsAscending fs → os ≡ presentation_order fs → i < length fs → x ≡ get_or fs i x → AllByRecursion (λ o. o.serial ≡ x.serial → o ≡ entry_of x) os
 own_entry fs os i x up o l at =
     let own = subst (λ (z : Stored). AllByRecursion (λ g. g.serial ≡ z.serial → g ≡ z) fs) (sym at) (own_at fs i x up l) in
     subst (λ (ps : List OrderEntry). AllByRecursion (λ o. o.serial ≡ x.serial → o ≡ entry_of x) ps) (sym o) (each_to_ordered (λ o. o.serial ≡ x.serial → o ≡ entry_of x) fs (each_frame x fs own))
@@ -121,11 +121,11 @@ near_one gap t dur x hole o true e own g d l s h far =
     subst (λ (z : OrderEntry). is_near gap t (span_of z) ≡ is_near gap t (record { start = z.pts; end = z.pts +ℤ dur })) (sym (own n)) (near_cut gap t x.frame.pts x.frame.dur dur hole g d l s h far)
 near_one gap t dur x hole o false e own g d l s h far = refl
 
-nears_cut : (gap t dur : ℤ) (x : Stored) (hole : Span) (os : List OrderEntry) → AllByRecursion (λ o. o.serial ≡ x.serial → o ≡ entry_of x) os → pos 0 ≤ℤ gap → pos 0 ≤ℤ dur → dur ≤ℤ x.frame.dur → hole.start ≡ (x.frame.pts +ℤ dur) → hole.end ≡ (x.frame.pts +ℤ x.frame.dur) → is_near gap t hole ≡ false → is_near_any gap t (map span_of os) ≡ is_near_any gap t (map span_of (map (shorter x.serial dur) os))
+nears_cut : (gap t dur : ℤ) (x : Stored) (hole : Span) (os : List OrderEntry) → AllByRecursion (λ o. o.serial ≡ x.serial → o ≡ entry_of x) os → pos 0 ≤ℤ gap → pos 0 ≤ℤ dur → dur ≤ℤ x.frame.dur → hole.start ≡ (x.frame.pts +ℤ dur) → hole.end ≡ (x.frame.pts +ℤ x.frame.dur) → is_near gap t hole ≡ false → is_near_any gap t (map span_of os) ≡ is_near_any gap t (map span_of (map (with_entry_dur x.serial dur) os))
 nears_cut gap t dur x hole [] own g d l s h far = refl
 nears_cut gap t dur x hole (o ∷ os) own g d l s h far =
     ap (λ b. b || is_near_any gap t (map span_of os)) (near_one gap t dur x hole o (nat_eq o.serial x.serial) refl own.0 g d l s h far)
-    ∙ ap (λ b. is_near gap t (span_of (shorter x.serial dur o)) || b) (nears_cut gap t dur x hole os own.1 g d l s h far)
+    ∙ ap (λ b. is_near gap t (span_of (with_entry_dur x.serial dur o)) || b) (nears_cut gap t dur x hole os own.1 g d l s h far)
 
 or_false : (a b : Bool) → b ≡ false → (a || b) ≡ a
 or_false true b e = refl
@@ -145,9 +145,9 @@ or_both true b c d f g e = ap (λ z. z || d) (f refl)
 or_both false b true d f g e = refl
 or_both false b false d f g e = g e
 
-less_nears : (gap t dur : ℤ) (x : Stored) (os : List OrderEntry) → AllByRecursion (λ o. o.serial ≡ x.serial → o ≡ entry_of x) os → dur ≤ℤ x.frame.dur → is_near_any gap t (map span_of (map (shorter x.serial dur) os)) ≡ true → is_near_any gap t (map span_of os) ≡ true
+less_nears : (gap t dur : ℤ) (x : Stored) (os : List OrderEntry) → AllByRecursion (λ o. o.serial ≡ x.serial → o ≡ entry_of x) os → dur ≤ℤ x.frame.dur → is_near_any gap t (map span_of (map (with_entry_dur x.serial dur) os)) ≡ true → is_near_any gap t (map span_of os) ≡ true
 less_nears gap t dur x [] own l k = k
-less_nears gap t dur x (o ∷ os) own l k = or_both (is_near gap t (span_of (shorter x.serial dur o))) (is_near_any gap t (map span_of (map (shorter x.serial dur) os))) (is_near gap t (span_of o)) (is_near_any gap t (map span_of os)) (less_near gap t dur x o (nat_eq o.serial x.serial) refl own.0 l) (less_nears gap t dur x os own.1 l) k
+less_nears gap t dur x (o ∷ os) own l k = or_both (is_near gap t (span_of (with_entry_dur x.serial dur o))) (is_near_any gap t (map span_of (map (with_entry_dur x.serial dur) os))) (is_near gap t (span_of o)) (is_near_any gap t (map span_of os)) (less_near gap t dur x o (nat_eq o.serial x.serial) refl own.0 l) (less_nears gap t dur x os own.1 l) k
 
 near_cases : (b : Bool) → (b ≡ true) ⊎ (b ≡ false)
 near_cases true = inl refl
@@ -158,7 +158,7 @@ or_last true b e = refl
 or_last false b e = ap (λ z. z || false) e
 
 -- the ranges before the cut lie between those after it and those with what the frame lost
-pub between_cut : (gap dur : ℤ) (fs : List Stored) (os ps : List OrderEntry) (rs : List Span) (x : Stored) (hole : Span) → AllByRecursion (λ o. o.serial ≡ x.serial → o ≡ entry_of x) os → pos 0 ≤ℤ gap → pos 0 ≤ℤ dur → dur ≤ℤ x.frame.dur → hole.start ≡ (x.frame.pts +ℤ dur) → hole.end ≡ (x.frame.pts +ℤ x.frame.dur) → rs ≡ ranges_of gap fs → os ≡ ordered fs → ps ≡ map (shorter x.serial dur) os → AreBetween gap (map span_of ps) (hole ∷ []) rs
+pub between_cut : (gap dur : ℤ) (fs : List Stored) (os ps : List OrderEntry) (rs : List Span) (x : Stored) (hole : Span) → AllByRecursion (λ o. o.serial ≡ x.serial → o ≡ entry_of x) os → pos 0 ≤ℤ gap → pos 0 ≤ℤ dur → dur ≤ℤ x.frame.dur → hole.start ≡ (x.frame.pts +ℤ dur) → hole.end ≡ (x.frame.pts +ℤ x.frame.dur) → rs ≡ ranges_of gap fs → os ≡ presentation_order fs → ps ≡ map (with_entry_dur x.serial dur) os → AreBetween gap (map span_of ps) (hole ∷ []) rs
 between_cut gap dur fs os ps rs x hole own g d l s h e o q = λ t.
     let before : is_near_any gap t rs ≡ is_near_any gap t (map span_of os) = ap (is_near_any gap t) e ∙ times_bridged gap t (intervals fs) g ∙ sym (near_ordered gap t fs) ∙ sym (ap (λ zs. is_near_any gap t (map span_of zs)) o) in
     let after = ap (λ zs. is_near_any gap t (map span_of zs)) q in (
@@ -182,13 +182,13 @@ timed_all dur x (f ∷ fs) own d t h = (timed_cond (has_serial x.serial f) dur f
 pub timed_cut : (dur : ℤ) (x : Stored) (fs : List Stored) (i : ℕ) → IsAscending fs → i < length fs → x ≡ get_or fs i x → pos 0 ≤ℤ dur → IsTick (x.frame.pts +ℤ dur) → AllByRecursion IsTimed fs → AllByRecursion IsTimed (frames_with_dur x.serial dur fs)
 timed_cut dur x fs i up l at d t h = timed_all dur x fs (subst (λ (z : Stored). AllByRecursion (λ g. g.serial ≡ z.serial → g ≡ z) fs) (sym at) (own_at fs i x up l)) d t h
 
-pub order_cut : (dur : ℤ) (n : ℕ) (fs : List Stored) (os ps : List OrderEntry) → os ≡ ordered fs → ps ≡ map (shorter n dur) os → ps ≡ ordered (frames_with_dur n dur fs)
-order_cut dur n fs os ps o q = q ∙ ap (map (shorter n dur)) o ∙ ordered_shortened n dur fs
+pub order_cut : (dur : ℤ) (n : ℕ) (fs : List Stored) (os ps : List OrderEntry) → os ≡ presentation_order fs → ps ≡ map (with_entry_dur n dur) os → ps ≡ presentation_order (frames_with_dur n dur fs)
+order_cut dur n fs os ps o q = q ∙ ap (map (with_entry_dur n dur)) o ∙ ordered_shortened n dur fs
 
 pub length_shortened : (n : ℕ) (dur : ℤ) (fs : List Stored) → length (frames_with_dur n dur fs) ≡ length fs
 length_shortened n dur fs = length-map fs _
 
-pub indexed_cut : (fs : List Stored) (old : FrameIndex) (ps : List OrderEntry) (ss : List Span) (gap dur : ℤ) (room next : ℕ) (x : Stored) (i : ℕ) → IsIndexed fs old gap room → room ≤ next → i < length fs → x ≡ get_or fs i x → pos 0 ≤ℤ dur → dur ≤ℤ x.frame.dur → IsTick (x.frame.pts +ℤ dur) → ps ≡ map (shorter x.serial dur) old.order → ss ≡ bridged_ranges gap (map span_of ps) → IsIndexed (frames_with_dur x.serial dur fs) (record old { order = ps; ranges = ss }) gap next
+pub indexed_cut : (fs : List Stored) (old : FrameIndex) (ps : List OrderEntry) (ss : List Span) (gap dur : ℤ) (room next : ℕ) (x : Stored) (i : ℕ) → IsIndexed fs old gap room → room ≤ next → i < length fs → x ≡ get_or fs i x → pos 0 ≤ℤ dur → dur ≤ℤ x.frame.dur → IsTick (x.frame.pts +ℤ dur) → ps ≡ map (with_entry_dur x.serial dur) old.order → ss ≡ bridged_ranges gap (map span_of ps) → IsIndexed (frames_with_dur x.serial dur fs) (record old { order = ps; ranges = ss }) gap next
 indexed_cut fs old ps ss gap dur room next x i h n l at d less t p s =
     let order = order_cut dur x.serial fs old.order ps h.in_order p in
     record {

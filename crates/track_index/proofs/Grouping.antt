@@ -28,7 +28,7 @@ any_position p fs = some_cond (nat_lt (position_or_len p fs) (length fs)) (posit
 
 -- ---- the place of a serial
 
-pub record IsPlaceOf (p : Stored → Bool) (fs : List Stored) (i : ℕ) : Type 0 where
+pub record IsFirstMatch (p : Stored → Bool) (fs : List Stored) (i : ℕ) : Type 0 where
   pub place : position_or_len p fs ≡ i
   pub within : i < length fs
 
@@ -36,7 +36,7 @@ place_cond : (n k i : ℕ) (b : Bool) → nat_lt n k ≡ b → cond b (Some n) N
 place_cond n k i true e h = (cc, grind (arith, nat_tests))
 place_cond n k i false e h = absurd cc
 
-place_of : (p : Stored → Bool) (fs : List Stored) (i : ℕ) → position p fs ≡ Some i → IsPlaceOf p fs i
+place_of : (p : Stored → Bool) (fs : List Stored) (i : ℕ) → position p fs ≡ Some i → IsFirstMatch p fs i
 place_of p fs i e =
     let both = place_cond (position_or_len p fs) (length fs) i (nat_lt (position_or_len p fs) (length fs)) refl e in
     let same = both.0 in

@@ -10,7 +10,7 @@ use Rattle.track_store.specs.declared.store.Stored.{Stored}
 use Rattle.mse_base.specs.Moments.{is_before, greater_of, lesser_of, greatest, least}
 use Rattle.track_store.specs.Frames.{starts, sync_times_from}
 use Rattle.track_index.specs.declared.entry.OrderEntry.{OrderEntry}
-use Rattle.track_index.specs.Order.{put, put_all, entry_of, ordered, IsSorted, start_from, last_start, is_sync_from, first_start}
+use Rattle.track_index.specs.Order.{put, put_all, entry_of, presentation_order, IsSorted, start_from, last_start, is_sync_from, first_start}
 use Rattle.track_index.proofs.Ordering.{sorted_put, lt_true, is_lt, each_weaker}
 
 not_lt : (a b : ℤ) → b ≤ℤ a → int_lt a b ≡ false
@@ -53,7 +53,7 @@ last_all : (os : List OrderEntry) (fs : List Stored) → IsSorted os → last_st
 last_all os [] h = refl
 last_all os (f ∷ fs) h = last_all (put (entry_of f) os) fs (sorted_put (entry_of f) os h) ∙ ap (λ b. fold greater_of b (starts fs)) (last_put (entry_of f) os h)
 
-pub highest_of : (fs : List Stored) (os : List OrderEntry) → os ≡ ordered fs → last_start os ≡ greatest (starts fs)
+pub highest_of : (fs : List Stored) (os : List OrderEntry) → os ≡ presentation_order fs → last_start os ≡ greatest (starts fs)
 highest_of fs os e = ap last_start e ∙ last_all [] fs tt
 
 -- ---- the first sync frame from a moment on
@@ -98,7 +98,7 @@ first_all c os (f ∷ fs) h =
     first_all c (put (entry_of f) os) fs (sorted_put (entry_of f) os h) ∙ ap (λ b. fold lesser_of b (starts (filter (λ g. c (entry_of g)) fs))) (first_put c (entry_of f) os h)
     ∙ fold_cond (c (entry_of f)) (first_start c os) f (filter (λ g. c (entry_of g)) fs)
 
-pub first_sync : (t : Moment) (fs : List Stored) (os : List OrderEntry) → os ≡ ordered fs → first_start (is_sync_from t) os ≡ least (sync_times_from t fs)
+pub first_sync : (t : Moment) (fs : List Stored) (os : List OrderEntry) → os ≡ presentation_order fs → first_start (is_sync_from t) os ≡ least (sync_times_from t fs)
 first_sync t fs os e = ap (first_start (is_sync_from t)) e ∙ first_all (is_sync_from t) [] fs tt
 
 and_false : (b : Bool) → (b && false) ≡ false

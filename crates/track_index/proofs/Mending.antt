@@ -14,8 +14,9 @@ use Rattle.mse_base.proofs.Carving.{left_holds, right_holds, carved_less, hole_e
 use Rattle.track_index.specs.declared.entry.OrderEntry.{OrderEntry}
 use Rattle.track_index.specs.declared.key.Key.{Key}
 use Rattle.track_index.specs.Order.{span_of, end_of}
-use Rattle.track_index.specs.Keyed.{before_key, IsKeyed}
-use Rattle.track_index.specs.Known.{greatest_end, later_end}
+use Rattle.track_index.specs.Keyed.{is_before_key, IsKeyed}
+use Rattle.mse_base.specs.Moments.{greatest_of_two}
+use Rattle.track_index.specs.Known.{greatest_end}
 use Rattle.track_index.specs.Repair.{AreTimed, AreBetween, HasEndAt, IsPast, AreGrownBy, HasTicksBetween, HasTicksPast}
 use Rattle.track_index.proofs.Ordering.{each_weaker, each_both, each_whole, each_more, each_at}
 use Rattle.track_index.proofs.Ending.{greatest-append}
@@ -80,7 +81,7 @@ abbrev Greatest : (OrderEntry → Bool) → Option ℤ → List OrderEntry → T
 Greatest q None os = AllByRecursion (λ o. q o ≡ true → ⊥) os
 Greatest q (Some e) os = AllByRecursion (λ o. q o ≡ true → (end_of o) ≤ℤ e) os × HasEndAt q e os
 
-grows : (q : OrderEntry → Bool) (o : OrderEntry) (os : List OrderEntry) (r : Option ℤ) → q o ≡ true → Greatest q r os → Greatest q (later_end (Some (end_of o)) r) (o ∷ os)
+grows : (q : OrderEntry → Bool) (o : OrderEntry) (os : List OrderEntry) (r : Option ℤ) → q o ≡ true → Greatest q r os → Greatest q (greatest_of_two (Some (end_of o)) r) (o ∷ os)
 grows q o os None y h = ((λ _. omega (arith, ints), each_weaker (λ p. q p ≡ true → ⊥) (λ p. q p ≡ true → (end_of p) ≤ℤ end_of o) os (λ p f e. absurd (f e)) h), inl (y, refl))
 grows q o os (Some s) y h =
     let m = max_first (end_of o) s in
@@ -104,24 +105,24 @@ greatest_is : (q : OrderEntry → Bool) (os : List OrderEntry) → Greatest q (g
 greatest_is q [] = tt
 greatest_is q (o ∷ os) = greatest_step q o os (q o) refl (greatest_is q os)
 
-pub past_none : (key : Key) (os : List OrderEntry) → None ≡ greatest_end (filter (before_key key) os) → IsPast key None os
-past_none key os e = each_weaker (λ o. before_key key o ≡ true → ⊥) (λ o. before_key key o ≡ true → (end_of o) ≤ℤ key.mark) os (λ o f y. absurd (f y)) (subst (λ (r : Option ℤ). Greatest (before_key key) r os) (sym e) (greatest_is (before_key key) os))
+pub past_none : (key : Key) (os : List OrderEntry) → None ≡ greatest_end (filter (is_before_key key) os) → IsPast key None os
+past_none key os e = each_weaker (λ o. is_before_key key o ≡ true → ⊥) (λ o. is_before_key key o ≡ true → (end_of o) ≤ℤ key.mark) os (λ o f y. absurd (f y)) (subst (λ (r : Option ℤ). Greatest (is_before_key key) r os) (sym e) (greatest_is (is_before_key key) os))
 
-pub past_early : (key : Key) (os : List OrderEntry) (e : ℤ) → Some e ≡ greatest_end (filter (before_key key) os) → e ≤ℤ key.mark → IsPast key None os
+pub past_early : (key : Key) (os : List OrderEntry) (e : ℤ) → Some e ≡ greatest_end (filter (is_before_key key) os) → e ≤ℤ key.mark → IsPast key None os
 past_early key os e h l =
-    let g = subst (λ (r : Option ℤ). Greatest (before_key key) r os) (sym h) (greatest_is (before_key key) os) in
-    each_weaker (λ o. before_key key o ≡ true → (end_of o) ≤ℤ e) (λ o. before_key key o ≡ true → (end_of o) ≤ℤ key.mark) os (λ o f y. let k = f y in omega (arith, ints)) g.0
+    let g = subst (λ (r : Option ℤ). Greatest (is_before_key key) r os) (sym h) (greatest_is (is_before_key key) os) in
+    each_weaker (λ o. is_before_key key o ≡ true → (end_of o) ≤ℤ e) (λ o. is_before_key key o ≡ true → (end_of o) ≤ℤ key.mark) os (λ o f y. let k = f y in omega (arith, ints)) g.0
 
-pub past_some : (key : Key) (os : List OrderEntry) (e : ℤ) (s : Span) → Some e ≡ greatest_end (filter (before_key key) os) → key.mark <ℤ e → s.start ≡ key.mark → s.end ≡ e → IsPast key (Some s) os
+pub past_some : (key : Key) (os : List OrderEntry) (e : ℤ) (s : Span) → Some e ≡ greatest_end (filter (is_before_key key) os) → key.mark <ℤ e → s.start ≡ key.mark → s.end ≡ e → IsPast key (Some s) os
 past_some key os e s h l a b =
-    let g = subst (λ (r : Option ℤ). Greatest (before_key key) r os) (sym h) (greatest_is (before_key key) os) in
-    let k = subst (λ (z : ℤ). AllByRecursion (λ o. before_key key o ≡ true → (end_of o) ≤ℤ z) os × HasEndAt (before_key key) z os) (sym b) g in
+    let g = subst (λ (r : Option ℤ). Greatest (is_before_key key) r os) (sym h) (greatest_is (is_before_key key) os) in
+    let k = subst (λ (z : ℤ). AllByRecursion (λ o. is_before_key key o ≡ true → (end_of o) ≤ℤ z) os × HasEndAt (is_before_key key) z os) (sym b) g in
     (a, omega (arith, ints), k.0, k.1)
 
 -- ---- the ranges after a hole was taken out and filled
 
 -- the ticks that some entry before the key has past it
-past_ticks : (gap t : ℤ) (key : Key) (end : ℤ) (os : List OrderEntry) → HasEndAt (before_key key) end os → ((o : OrderEntry) → before_key key o ≡ true → o.pts ≤ℤ key.mark) → key.mark <ℤ end → key.mark ≤ℤ t → t <ℤ (end +ℤ gap) → is_near_any gap t (map span_of os) ≡ true
+past_ticks : (gap t : ℤ) (key : Key) (end : ℤ) (os : List OrderEntry) → HasEndAt (is_before_key key) end os → ((o : OrderEntry) → is_before_key key o ≡ true → o.pts ≤ℤ key.mark) → key.mark <ℤ end → key.mark ≤ℤ t → t <ℤ (end +ℤ gap) → is_near_any gap t (map span_of os) ≡ true
 past_ticks gap t key end [] h f l a b = absurd h
 past_ticks gap t key end (o ∷ os) (inl p) f l a b =
     let low = f o p.0 in
@@ -184,22 +185,22 @@ grown_both gap os rs mid new p h = record {
   only = λ t k. or_cases (is_near_any gap t mid) (is_near_any gap t (map span_of os)) (h.only t k) (p.only t) (λ m. or_right (is_near_any gap t rs) _ m);
 }
 
-pub between_init : (gap : ℤ) (key : Key) (high : ℤ) (os : List OrderEntry) (rs : List Span) (i : ℕ) → AllByRecursion (λ o. before_key key o ≡ true) (take i os) → HasTicksBetween gap key high (take i os) rs
-between_init gap key high os rs i h = each_weaker (λ o. before_key key o ≡ true) (λ o. before_key key o ≡ false → o.pts <ℤ high → (t : ℤ) → is_near gap t (span_of o) ≡ true → is_near_any gap t rs ≡ true) (take i os) (λ o b f. absurd (true_false _ b f)) h
+pub between_init : (gap : ℤ) (key : Key) (high : ℤ) (os : List OrderEntry) (rs : List Span) (i : ℕ) → AllByRecursion (λ o. is_before_key key o ≡ true) (take i os) → HasTicksBetween gap key high (take i os) rs
+between_init gap key high os rs i h = each_weaker (λ o. is_before_key key o ≡ true) (λ o. is_before_key key o ≡ false → o.pts <ℤ high → (t : ℤ) → is_near gap t (span_of o) ≡ true → is_near_any gap t rs ≡ true) (take i os) (λ o b f. absurd (true_false _ b f)) h
 
 pub between_more : (gap : ℤ) (key : Key) (high : ℤ) (os : List OrderEntry) (now next : List Span) (i : ℕ) (x : OrderEntry) → i < length os → x ≡ get_or os i x → ((t : ℤ) → is_near_any gap t next ≡ (is_near gap t (span_of x) || is_near_any gap t now)) → HasTicksBetween gap key high (take i os) now → HasTicksBetween gap key high (take (i + 1) os) next
-between_more gap key high os now next i x l at e h = each_more (λ o. before_key key o ≡ false → o.pts <ℤ high → (t : ℤ) → is_near gap t (span_of o) ≡ true → is_near_any gap t next ≡ true) os i x l at (each_weaker (λ o. before_key key o ≡ false → o.pts <ℤ high → (t : ℤ) → is_near gap t (span_of o) ≡ true → is_near_any gap t now ≡ true) (λ o. before_key key o ≡ false → o.pts <ℤ high → (t : ℤ) → is_near gap t (span_of o) ≡ true → is_near_any gap t next ≡ true) (take i os) (λ o f b c t k. e t ∙ or_right _ _ (f b c t k)) h) (λ b c t k. e t ∙ or_left _ _ k)
+between_more gap key high os now next i x l at e h = each_more (λ o. is_before_key key o ≡ false → o.pts <ℤ high → (t : ℤ) → is_near gap t (span_of o) ≡ true → is_near_any gap t next ≡ true) os i x l at (each_weaker (λ o. is_before_key key o ≡ false → o.pts <ℤ high → (t : ℤ) → is_near gap t (span_of o) ≡ true → is_near_any gap t now ≡ true) (λ o. is_before_key key o ≡ false → o.pts <ℤ high → (t : ℤ) → is_near gap t (span_of o) ≡ true → is_near_any gap t next ≡ true) (take i os) (λ o f b c t k. e t ∙ or_right _ _ (f b c t k)) h) (λ b c t k. e t ∙ or_left _ _ k)
 
 -- the walk ended at an entry that does not begin before `high`, or past the last
 pub between_high : (gap : ℤ) (key : Key) (high : ℤ) (os : List OrderEntry) (now : List Span) (i : ℕ) (x : OrderEntry) → IsKeyed os → i < length os → x ≡ get_or os i x → high ≤ℤ x.pts → HasTicksBetween gap key high (take i os) now → HasTicksBetween gap key high os now
-between_high gap key high os now i x keyed l at b h = each_whole (λ o. before_key key o ≡ false → o.pts <ℤ high → (t : ℤ) → is_near gap t (span_of o) ≡ true → is_near_any gap t now ≡ true) os i h (each_weaker (λ o. x.pts ≤ℤ o.pts) (λ o. before_key key o ≡ false → o.pts <ℤ high → (t : ℤ) → is_near gap t (span_of o) ≡ true → is_near_any gap t now ≡ true) (drop i os) (λ o k _ c. absurd (omega (arith, ints))) (later_starts os i x keyed l at))
+between_high gap key high os now i x keyed l at b h = each_whole (λ o. is_before_key key o ≡ false → o.pts <ℤ high → (t : ℤ) → is_near gap t (span_of o) ≡ true → is_near_any gap t now ≡ true) os i h (each_weaker (λ o. x.pts ≤ℤ o.pts) (λ o. is_before_key key o ≡ false → o.pts <ℤ high → (t : ℤ) → is_near gap t (span_of o) ≡ true → is_near_any gap t now ≡ true) (drop i os) (λ o k _ c. absurd (omega (arith, ints))) (later_starts os i x keyed l at))
 
 pub between_end : (gap : ℤ) (key : Key) (high : ℤ) (os : List OrderEntry) (now : List Span) (i : ℕ) → length os ≤ i → HasTicksBetween gap key high (take i os) now → HasTicksBetween gap key high os now
-between_end gap key high os now i l h = each_whole (λ o. before_key key o ≡ false → o.pts <ℤ high → (t : ℤ) → is_near gap t (span_of o) ≡ true → is_near_any gap t now ≡ true) os i h (rw (drop_all i os l) tt)
+between_end gap key high os now i l h = each_whole (λ o. is_before_key key o ≡ false → o.pts <ℤ high → (t : ℤ) → is_near gap t (span_of o) ≡ true → is_near_any gap t now ≡ true) os i h (rw (drop_all i os l) tt)
 
 -- ---- what is past the key
 
-key_low : (key : Key) (o : OrderEntry) → before_key key o ≡ true → o.pts ≤ℤ key.mark
+key_low : (key : Key) (o : OrderEntry) → is_before_key key o ≡ true → o.pts ≤ℤ key.mark
 key_low key o e = elim (before_parts key o e) as (λ _. o.pts ≤ℤ key.mark) [ inl early ↦ omega (arith, ints) | inr tie ↦ tie.0 ]
 
 -- the ranges after the end past the key was joined in
@@ -220,16 +221,16 @@ past_some_held gap key os rs mid s p e =
     let start = p.0 in
     let lasts = p.1 in
     let long = p.2 in
-    λ t l. each_weaker (λ o. before_key key o ≡ true → (end_of o) ≤ℤ s.end) (λ o. before_key key o ≡ true → key.mark <ℤ end_of o → is_near gap t (span_of o) ≡ true → is_near_any gap t mid ≡ true) os
+    λ t l. each_weaker (λ o. is_before_key key o ≡ true → (end_of o) ≤ℤ s.end) (λ o. is_before_key key o ≡ true → key.mark <ℤ end_of o → is_near gap t (span_of o) ≡ true → is_near_any gap t mid ≡ true) os
     (λ o f y _ k. e t ∙ or_left _ _ (let q = near_parts gap t (span_of o) k in let q2 = q.2 in let g = f y in near_is gap t s lasts (omega (arith, ints)) (omega (arith, ints)))) long
 
 -- where nothing is past the key
 pub past_none_held : (gap : ℤ) (key : Key) (os : List OrderEntry) (rs : List Span) → IsPast key None os → HasTicksPast gap key os rs
-past_none_held gap key os rs p = λ t l. each_weaker (λ o. before_key key o ≡ true → (end_of o) ≤ℤ key.mark) (λ o. before_key key o ≡ true → key.mark <ℤ end_of o → is_near gap t (span_of o) ≡ true → is_near_any gap t rs ≡ true) os (λ o f y m k. let g = f y in absurd (omega (arith, ints))) p
+past_none_held gap key os rs p = λ t l. each_weaker (λ o. is_before_key key o ≡ true → (end_of o) ≤ℤ key.mark) (λ o. is_before_key key o ≡ true → key.mark <ℤ end_of o → is_near gap t (span_of o) ≡ true → is_near_any gap t rs ≡ true) os (λ o f y m k. let g = f y in absurd (omega (arith, ints))) p
 
 -- and then what follows the key
 pub past_grown : (gap : ℤ) (key : Key) (os : List OrderEntry) (mid new : List Span) → HasTicksPast gap key os mid → AreGrownBy gap os mid new → HasTicksPast gap key os new
-past_grown gap key os mid new p h = λ t l. each_weaker (λ o. before_key key o ≡ true → key.mark <ℤ end_of o → is_near gap t (span_of o) ≡ true → is_near_any gap t mid ≡ true) (λ o. before_key key o ≡ true → key.mark <ℤ end_of o → is_near gap t (span_of o) ≡ true → is_near_any gap t new ≡ true) os (λ o f y m k. h.kept t (f y m k)) (p t l)
+past_grown gap key os mid new p h = λ t l. each_weaker (λ o. is_before_key key o ≡ true → key.mark <ℤ end_of o → is_near gap t (span_of o) ≡ true → is_near_any gap t mid ≡ true) (λ o. is_before_key key o ≡ true → key.mark <ℤ end_of o → is_near gap t (span_of o) ≡ true → is_near_any gap t new ≡ true) os (λ o f y m k. h.kept t (f y m k)) (p t l)
 
 -- ---- the repair
 
@@ -238,11 +239,11 @@ all_given P a t [] f = tt
 all_given P a t (o ∷ os) f = ((λ l. (f l).0), all_given P a t os (λ l. (f l).1))
 
 -- an entry's ticks near the time are there after the repair
-one_mended : (gap a b t : ℤ) (rs new : List Span) (o : OrderEntry) → pos 0 ≤ℤ gap → (a +ℤ gap) <ℤ b → IsRanges gap rs → ((u : ℤ) → is_near gap u (span_of o) ≡ true → is_near_any gap u rs ≡ true) → (is_near_any gap t (ranges_without a b rs) ≡ true → is_near_any gap t new ≡ true) → (before_key (record { mark = a; serial = 0 }) o ≡ false → o.pts <ℤ b → is_near_any gap t new ≡ true) → (a ≤ℤ t → before_key (record { mark = a; serial = 0 }) o ≡ true → a <ℤ end_of o → is_near_any gap t new ≡ true) → is_near gap t (span_of o) ≡ true → is_near_any gap t new ≡ true
+one_mended : (gap a b t : ℤ) (rs new : List Span) (o : OrderEntry) → pos 0 ≤ℤ gap → (a +ℤ gap) <ℤ b → IsRanges gap rs → ((u : ℤ) → is_near gap u (span_of o) ≡ true → is_near_any gap u rs ≡ true) → (is_near_any gap t (ranges_without a b rs) ≡ true → is_near_any gap t new ≡ true) → (is_before_key (record { mark = a; serial = 0 }) o ≡ false → o.pts <ℤ b → is_near_any gap t new ≡ true) → (a ≤ℤ t → is_before_key (record { mark = a; serial = 0 }) o ≡ true → a <ℤ end_of o → is_near_any gap t new ≡ true) → is_near gap t (span_of o) ≡ true → is_near_any gap t new ≡ true
 one_mended gap a b t rs new o g w r sub kept mid past e =
     let p = near_parts gap t (span_of o) e in
     let p0 = p.0 in let p1 = p.1 in let p2 = p.2 in
-    elim (bool_cases (before_key (record { mark = a; serial = 0 }) o)) as (λ _. is_near_any gap t new ≡ true) [
+    elim (bool_cases (is_before_key (record { mark = a; serial = 0 }) o)) as (λ _. is_near_any gap t new ≡ true) [
       | inr behind ↦ elim (between o.pts b) as (λ _. is_near_any gap t new ≡ true) [
         | inl early ↦ mid behind early
         | inr late ↦ kept (kept_right gap t a b rs o g w r sub late e)
@@ -258,13 +259,13 @@ mended gap a b hole os rs new holes g w ea eb r h past mid same = λ t.
     let key : Key = record { mark = a; serial = 0 } in
     let wide : (a +ℤ gap) <ℤ b = omega (arith, ints) in
     let P1 = each_near gap os in
-    let P3 = all_given (λ o. before_key (record { mark = a; serial = 0 }) o ≡ true → a <ℤ end_of o → is_near gap t (span_of o) ≡ true → is_near_any gap t new ≡ true) a t os (past t) in
+    let P3 = all_given (λ o. is_before_key (record { mark = a; serial = 0 }) o ≡ true → a <ℤ end_of o → is_near gap t (span_of o) ≡ true → is_near_any gap t new ≡ true) a t os (past t) in
     let each = each_weaker
-    (λ o. ((u : ℤ) → is_near gap u (span_of o) ≡ true → is_near_any gap u (map span_of os) ≡ true) × ((before_key (record { mark = a; serial = 0 }) o ≡ false → o.pts <ℤ b → (u : ℤ) → is_near gap u (span_of o) ≡ true → is_near_any gap u new ≡ true) × (a ≤ℤ t → before_key (record { mark = a; serial = 0 }) o ≡ true → a <ℤ end_of o → is_near gap t (span_of o) ≡ true → is_near_any gap t new ≡ true)))
+    (λ o. ((u : ℤ) → is_near gap u (span_of o) ≡ true → is_near_any gap u (map span_of os) ≡ true) × ((is_before_key (record { mark = a; serial = 0 }) o ≡ false → o.pts <ℤ b → (u : ℤ) → is_near gap u (span_of o) ≡ true → is_near_any gap u new ≡ true) × (a ≤ℤ t → is_before_key (record { mark = a; serial = 0 }) o ≡ true → a <ℤ end_of o → is_near gap t (span_of o) ≡ true → is_near_any gap t new ≡ true)))
     (λ o. is_near gap t (span_of o) ≡ true → is_near_any gap t new ≡ true) os
     (λ o p e. one_mended gap a b t rs new o g wide r (λ u k. (same u).0 (p.0 u k)) (λ n. h.kept t n) (λ x y. p.1.0 x y t e) (λ l y m. p.1.1 l y m e) e)
-    (each_both (λ o. (u : ℤ) → is_near gap u (span_of o) ≡ true → is_near_any gap u (map span_of os) ≡ true) (λ o. (before_key (record { mark = a; serial = 0 }) o ≡ false → o.pts <ℤ b → (u : ℤ) → is_near gap u (span_of o) ≡ true → is_near_any gap u new ≡ true) × (a ≤ℤ t → before_key (record { mark = a; serial = 0 }) o ≡ true → a <ℤ end_of o → is_near gap t (span_of o) ≡ true → is_near_any gap t new ≡ true)) os P1
-    (each_both (λ o. before_key (record { mark = a; serial = 0 }) o ≡ false → o.pts <ℤ b → (u : ℤ) → is_near gap u (span_of o) ≡ true → is_near_any gap u new ≡ true) (λ o. a ≤ℤ t → before_key (record { mark = a; serial = 0 }) o ≡ true → a <ℤ end_of o → is_near gap t (span_of o) ≡ true → is_near_any gap t new ≡ true) os mid P3)) in (
+    (each_both (λ o. (u : ℤ) → is_near gap u (span_of o) ≡ true → is_near_any gap u (map span_of os) ≡ true) (λ o. (is_before_key (record { mark = a; serial = 0 }) o ≡ false → o.pts <ℤ b → (u : ℤ) → is_near gap u (span_of o) ≡ true → is_near_any gap u new ≡ true) × (a ≤ℤ t → is_before_key (record { mark = a; serial = 0 }) o ≡ true → a <ℤ end_of o → is_near gap t (span_of o) ≡ true → is_near_any gap t new ≡ true)) os P1
+    (each_both (λ o. is_before_key (record { mark = a; serial = 0 }) o ≡ false → o.pts <ℤ b → (u : ℤ) → is_near gap u (span_of o) ≡ true → is_near_any gap u new ≡ true) (λ o. a ≤ℤ t → is_before_key (record { mark = a; serial = 0 }) o ≡ true → a <ℤ end_of o → is_near gap t (span_of o) ≡ true → is_near_any gap t new ≡ true) os mid P3)) in (
       (λ e. nears_each gap t os each e),
       (λ e. or_cases (is_near_any gap t (ranges_without a b rs)) (is_near_any gap t (map span_of os)) (h.only t e)
           (λ k. or_cases (is_near_any gap t (map span_of os)) (is_near gap t hole || is_near_any gap t holes) ((same t).1 (carved_less gap t a b rs k))
@@ -299,9 +300,6 @@ between_none gap spans rs g r same = same_near gap rs (bridged_ranges gap spans)
 
 pub le_of : (a b : ℤ) → int_le a b ≡ true → a ≤ℤ b
 le_of a b e = grind (arith, ints)
-
-pub gt_of : (a b : ℤ) → int_le a b ≡ false → b <ℤ a
-gt_of a b e = grind (arith, ints)
 
 pub timed_at : (os : List OrderEntry) (i : ℕ) (d : OrderEntry) → i < length os → AreTimed os → IsTick ((get_or os i d).pts +ℤ (get_or os i d).dur)
 timed_at os i d l h = each_at (λ e. IsTick (e.pts +ℤ e.dur)) os i d l h

@@ -12,7 +12,7 @@ use Rattle.track_store.specs.declared.store.Stored.{Stored}
 use Rattle.mse_base.specs.Moments.{is_before}
 use Rattle.track_store.specs.Frames.{is_in_frame, later_frame, overlapped}
 use Rattle.track_index.specs.declared.entry.OrderEntry.{OrderEntry}
-use Rattle.track_index.specs.Order.{put, put_all, entry_of, entry_covers, ordered, IsSorted, or_else, last_that}
+use Rattle.track_index.specs.Order.{put, put_all, entry_of, entry_covers, presentation_order, IsSorted, or_else, last_that}
 
 pub lt_true : (a b : ℤ) → int_lt a b ≡ true → a <ℤ b
 lt_true a b e = grind (arith, ints)
@@ -109,10 +109,10 @@ sorted_all : (os : List OrderEntry) (fs : List Stored) → IsSorted os → IsSor
 sorted_all os [] h = h
 sorted_all os (f ∷ fs) h = sorted_all (put (entry_of f) os) fs (sorted_put (entry_of f) os h)
 
-pub sorted_ordered : (fs : List Stored) → IsSorted (ordered fs)
+pub sorted_ordered : (fs : List Stored) → IsSorted (presentation_order fs)
 sorted_ordered fs = sorted_all [] fs tt
 
-pub sorted_of : (os : List OrderEntry) (fs : List Stored) → os ≡ ordered fs → IsSorted os
+pub sorted_of : (os : List OrderEntry) (fs : List Stored) → os ≡ presentation_order fs → IsSorted os
 sorted_of os fs e = subst (λ (ps : List OrderEntry). IsSorted ps) (sym e) (sorted_ordered fs)
 
 put_here : (e : OrderEntry) (os : List OrderEntry) → AllByRecursion (λ o. (e.pts +ℤ pos 1) ≤ℤ o.pts) os → put e os ≡ e ∷ os
@@ -126,7 +126,7 @@ put_at e [] (suc i) h k = refl
 put_at e (o ∷ os) (suc i) h k = let first = h.0 in ap (λ ps. o ∷ ps) (put_at e os i h.1 k) ∙ ap (λ b. cond b (e ∷ o ∷ os) (o ∷ put e os)) (sym (not_lt e.pts o.pts (omega (arith, ints))))
 
 -- one more frame
-pub ordered_push : (fs : List Stored) (x : Stored) → ordered (fs ++ x ∷ []) ≡ put (entry_of x) (ordered fs)
+pub ordered_push : (fs : List Stored) (x : Stored) → presentation_order (fs ++ x ∷ []) ≡ put (entry_of x) (presentation_order fs)
 ordered_push fs x = fold-append (λ os f. put (entry_of f) os) [] fs (x ∷ [])
 
 length_cond : (b : Bool) (e o : OrderEntry) (os : List OrderEntry) → length (put e os) ≡ length os + 1 → length (cond b (e ∷ o ∷ os) (o ∷ put e os)) ≡ length (o ∷ os) + 1
@@ -141,7 +141,7 @@ length_all : (fs : List Stored) (os : List OrderEntry) → length (put_all os fs
 length_all [] os = omega arith
 length_all (f ∷ fs) os = let rest = length_all fs (put (entry_of f) os) in let one = length_put (entry_of f) os in omega arith
 
-pub length_ordered : (fs : List Stored) → length (ordered fs) ≡ length fs
+pub length_ordered : (fs : List Stored) → length (presentation_order fs) ≡ length fs
 length_ordered fs = let h = length_all fs [] in omega arith
 
 -- what holds of each entry holds of each frame
@@ -160,14 +160,14 @@ each_of_all P os (f ∷ fs) h =
     let one = each_of_put P (entry_of f) os k.0 in
     (one.1, (one.0, k.1))
 
-pub each_of_ordered : (P : OrderEntry → Type 0) (fs : List Stored) → AllByRecursion P (ordered fs) → AllByRecursion (λ f. P (entry_of f)) fs
+pub each_of_ordered : (P : OrderEntry → Type 0) (fs : List Stored) → AllByRecursion P (presentation_order fs) → AllByRecursion (λ f. P (entry_of f)) fs
 each_of_ordered P fs h = (each_of_all P [] fs h).1
 
 each_to_all : (P : OrderEntry → Type 0) (os : List OrderEntry) (fs : List Stored) → AllByRecursion P os → AllByRecursion (λ f. P (entry_of f)) fs → AllByRecursion P (put_all os fs)
 each_to_all P os [] h k = h
 each_to_all P os (f ∷ fs) h k = each_to_all P (put (entry_of f) os) fs (each_put P (entry_of f) os k.0 h) k.1
 
-pub each_to_ordered : (P : OrderEntry → Type 0) (fs : List Stored) → AllByRecursion (λ f. P (entry_of f)) fs → AllByRecursion P (ordered fs)
+pub each_to_ordered : (P : OrderEntry → Type 0) (fs : List Stored) → AllByRecursion (λ f. P (entry_of f)) fs → AllByRecursion P (presentation_order fs)
 each_to_ordered P fs k = each_to_all P [] fs tt k
 
 -- ---- the entry that begins last of those that hold a time
@@ -243,7 +243,7 @@ found_from t (f ∷ fs) os b up h =
     ∙ ap (option_map entry_of) (sym (fold_cond b (is_in_frame t f) f (filter (is_in_frame t) fs)))
 
 -- the order's last entry that holds the time is that of the overlapped frame
-pub found_ordered : (t : ℤ) (fs : List Stored) → last_that (entry_covers t) (ordered fs) ≡ option_map entry_of (overlapped t fs)
+pub found_ordered : (t : ℤ) (fs : List Stored) → last_that (entry_covers t) (presentation_order fs) ≡ option_map entry_of (overlapped t fs)
 found_ordered t fs = found_from t fs [] None tt refl
 
 -- ---- the walk back from a time

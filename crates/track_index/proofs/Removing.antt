@@ -8,7 +8,8 @@ use Rattle.mse_base.specs.declared.span.Span.{Span}
 use Rattle.mse_base.specs.Bridging.{is_near_any}
 use Rattle.mse_base.proofs.Carving.{nears-append}
 use Rattle.mse_base.proofs.Merging.{times_bridged}
-use Rattle.block_list.specs.Rows.{row, IsCut}
+use Rattle.mse_base.specs.Rows.{row}
+use Rattle.block_list.specs.Rows.{IsCut}
 use Rattle.block_list.specs.BlockPlaces.{IsPlace}
 use Rattle.block_list.specs.declared.block_list.BlockPlace.{BlockPlace}
 use Rattle.track_store.specs.declared.store.Stored.{Stored}
@@ -17,9 +18,9 @@ use Rattle.track_store.proofs.Clearing.{cleared-goes}
 use Rattle.track_store.proofs.Soundness.{cleared-unnamed, cleared-from_sync, cleared-append}
 use Rattle.track_index.specs.declared.entry.OrderEntry.{OrderEntry}
 use Rattle.track_index.specs.declared.frames.SerialBelow.{SerialBelow}
-use Rattle.track_index.specs.Order.{put, put_all, entry_of, span_of, ordered}
+use Rattle.track_index.specs.Order.{put, put_all, entry_of, span_of, presentation_order}
 use Rattle.track_index.specs.Keyed.{has_entry_serial}
-use Rattle.track_index.specs.Frames.{serial_below}
+use Rattle.track_index.specs.Frames.{is_serial_below}
 use Rattle.track_index.specs.Repair.{AreBetween}
 use Rattle.track_index.proofs.Ordering.{each_to_ordered}
 use Rattle.track_index.proofs.Serials.{filter_ordered}
@@ -93,14 +94,14 @@ filter_mid (f ∷ xs) x ys u =
     ap (λ b. cond (not b) (f ∷ filter (λ g. not (has_serial x.serial g)) (xs ++ x ∷ ys)) (filter (λ g. not (has_serial x.serial g)) (xs ++ x ∷ ys))) (other f.serial x.serial low) ∙ ap (λ zs. f ∷ zs) (filter_mid xs x ys u.1)
 
 -- the order without one frame
-pub order_without : (xs : List Stored) (x : Stored) (ys : List Stored) → IsAscending (xs ++ x ∷ ys) → filter (λ o. not (has_entry_serial x.serial o)) (ordered (xs ++ x ∷ ys)) ≡ ordered (xs ++ ys)
-order_without xs x ys u = filter_ordered (λ o. not (has_entry_serial x.serial o)) (xs ++ x ∷ ys) ∙ ap ordered (filter_mid xs x ys u)
+pub order_without : (xs : List Stored) (x : Stored) (ys : List Stored) → IsAscending (xs ++ x ∷ ys) → filter (λ o. not (has_entry_serial x.serial o)) (presentation_order (xs ++ x ∷ ys)) ≡ presentation_order (xs ++ ys)
+order_without xs x ys u = filter_ordered (λ o. not (has_entry_serial x.serial o)) (xs ++ x ∷ ys) ∙ ap presentation_order (filter_mid xs x ys u)
 
 same_low : (xs : List Stored) (x : Stored) (ys : List Stored) → IsAscending (xs ++ x ∷ ys) → AllByRecursion (λ f. f.serial ≡ x.serial → f ≡ x) (xs ++ x ∷ ys)
 same_low [] x ys u = (λ e. refl, each_frame (λ f. x.serial < f.serial) (λ f. f.serial ≡ x.serial → f ≡ x) ys (λ f l e. absurd (omega arith)) u.0)
 same_low (f ∷ xs) x ys u = let low = each_mid (λ g. f.serial < g.serial) xs x ys u.0 in (λ e. absurd (omega arith), same_low xs x ys u.1)
 
-pub own_pts : (xs : List Stored) (x : Stored) (ys : List Stored) → IsAscending (xs ++ x ∷ ys) → AllByRecursion (λ o. o.serial ≡ x.serial → o.pts ≡ x.frame.pts) (ordered (xs ++ x ∷ ys))
+pub own_pts : (xs : List Stored) (x : Stored) (ys : List Stored) → IsAscending (xs ++ x ∷ ys) → AllByRecursion (λ o. o.serial ≡ x.serial → o.pts ≡ x.frame.pts) (presentation_order (xs ++ x ∷ ys))
 own_pts xs x ys u = each_to_ordered (λ o. o.serial ≡ x.serial → o.pts ≡ x.frame.pts) (xs ++ x ∷ ys) (each_frame (λ f. f.serial ≡ x.serial → f ≡ x) (λ f. f.serial ≡ x.serial → f.frame.pts ≡ x.frame.pts) (xs ++ x ∷ ys) (λ f h e. ap (λ (z : Stored). z.frame.pts) (h e)) (same_low xs x ys u))
 
 -- a test of entries and of frames
@@ -130,7 +131,7 @@ any_all : (p : OrderEntry → Bool) (os : List OrderEntry) (fs : List Stored) �
 any_all p os [] = or_none (list_any p os)
 any_all p os (f ∷ fs) = any_all p (put (entry_of f) os) fs ∙ ap (λ b. b || list_any (λ g. p (entry_of g)) fs) (any_put p (entry_of f) os) ∙ sym (or_turn (p (entry_of f)) (list_any p os) (list_any (λ g. p (entry_of g)) fs))
 
-pub any_ordered : (p : OrderEntry → Bool) (fs : List Stored) → list_any p (ordered fs) ≡ list_any (λ f. p (entry_of f)) fs
+pub any_ordered : (p : OrderEntry → Bool) (fs : List Stored) → list_any p (presentation_order fs) ≡ list_any (λ f. p (entry_of f)) fs
 any_ordered p fs = any_all p [] fs
 
 or_right : (a b : Bool) → b ≡ true → (a || b) ≡ true
@@ -141,7 +142,7 @@ any_mid : (p : Stored → Bool) (xs : List Stored) (x : Stored) (ys : List Store
 any_mid p [] x ys e = ap (λ b. b || list_any p ys) e
 any_mid p (f ∷ xs) x ys e = or_right (p f) (list_any p (xs ++ x ∷ ys)) (any_mid p xs x ys e)
 
-pub held_mid : (xs : List Stored) (x : Stored) (ys : List Stored) → list_any (has_entry_serial x.serial) (ordered (xs ++ x ∷ ys)) ≡ true
+pub held_mid : (xs : List Stored) (x : Stored) (ys : List Stored) → list_any (has_entry_serial x.serial) (presentation_order (xs ++ x ∷ ys)) ≡ true
 held_mid xs x ys = any_ordered (has_entry_serial x.serial) (xs ++ x ∷ ys) ∙ any_mid (has_serial x.serial) xs x ys (own x.serial)
 
 pub bytes_mid : (xs : List Stored) (x : Stored) (ys : List Stored) → bytes_of (xs ++ x ∷ ys) ≡ length x.frame.payload + bytes_of (xs ++ ys)
@@ -220,15 +221,15 @@ held_at n (f ∷ fs) (suc i) d e h k u =
     let r0 = r.0 in
     (omega arith, r.1)
 
-pub cut_below : (s : SerialBelow) (fs : List Stored) → IsAscending fs → IsCut (serial_below s) fs
+pub cut_below : (s : SerialBelow) (fs : List Stored) → IsAscending fs → IsCut (is_serial_below s) fs
 cut_below s [] u = tt
-cut_below s (f ∷ fs) u = (λ e. let low = more_of f.serial s.serial e in each_frame (λ g. f.serial < g.serial) (λ g. serial_below s g ≡ false) fs (λ g l. not_less g.serial s.serial (omega arith)) u.0, cut_below s fs u.1)
+cut_below s (f ∷ fs) u = (λ e. let low = more_of f.serial s.serial e in each_frame (λ g. f.serial < g.serial) (λ g. is_serial_below s g ≡ false) fs (λ g l. not_less g.serial s.serial (omega arith)) u.0, cut_below s fs u.1)
 
-pub lows_of : (s : SerialBelow) (fs : List Stored) → AllByRecursion (λ f. serial_below s f ≡ true) fs → AllByRecursion (λ f. f.serial < s.serial) fs
-lows_of s fs h = each_frame (λ f. serial_below s f ≡ true) (λ f. f.serial < s.serial) fs (λ f e. less_of f.serial s.serial e) h
+pub lows_of : (s : SerialBelow) (fs : List Stored) → AllByRecursion (λ f. is_serial_below s f ≡ true) fs → AllByRecursion (λ f. f.serial < s.serial) fs
+lows_of s fs h = each_frame (λ f. is_serial_below s f ≡ true) (λ f. f.serial < s.serial) fs (λ f e. less_of f.serial s.serial e) h
 
-pub highs_of : (s : SerialBelow) (fs : List Stored) → AllByRecursion (λ f. serial_below s f ≡ false) fs → AllByRecursion (λ f. s.serial ≤ f.serial) fs
-highs_of s fs h = each_frame (λ f. serial_below s f ≡ false) (λ f. s.serial ≤ f.serial) fs (λ f e. more_of f.serial s.serial e) h
+pub highs_of : (s : SerialBelow) (fs : List Stored) → AllByRecursion (λ f. is_serial_below s f ≡ false) fs → AllByRecursion (λ f. s.serial ≤ f.serial) fs
+highs_of s fs h = each_frame (λ f. is_serial_below s f ≡ false) (λ f. s.serial ≤ f.serial) fs (λ f e. more_of f.serial s.serial e) h
 
 -- ---- the ranges before the repair
 
@@ -254,10 +255,10 @@ parts3 : (gap t : ℤ) (xs ms ys : List Stored) → is_near_any gap t (intervals
 parts3 gap t xs ms ys = parts2 gap t xs (ms ++ ys) ∙ ap (λ b. is_near_any gap t (intervals xs) || b) (parts2 gap t ms ys)
 
 -- the ranges of all frames lie between those of what stays and those of what goes too
-pub between_run : (gap : ℤ) (fs : List Stored) (i n : ℕ) (rs : List Span) → pos 0 ≤ℤ gap → rs ≡ ranges_of gap fs → AreBetween gap (map span_of (ordered (take i fs ++ drop (i + n) fs))) (intervals (take n (drop i fs))) rs
+pub between_run : (gap : ℤ) (fs : List Stored) (i n : ℕ) (rs : List Span) → pos 0 ≤ℤ gap → rs ≡ ranges_of gap fs → AreBetween gap (map span_of (presentation_order (take i fs ++ drop (i + n) fs))) (intervals (take n (drop i fs))) rs
 between_run gap fs i n rs g e = λ t.
     let xs = take i fs in let ms = take n (drop i fs) in let ys = drop (i + n) fs in
-    let all : is_near_any gap t rs ≡ (is_near_any gap t (map span_of (ordered (take i fs ++ drop (i + n) fs))) || is_near_any gap t (intervals (take n (drop i fs)))) =
+    let all : is_near_any gap t rs ≡ (is_near_any gap t (map span_of (presentation_order (take i fs ++ drop (i + n) fs))) || is_near_any gap t (intervals (take n (drop i fs)))) =
     ap (is_near_any gap t) e ∙ times_bridged gap t (intervals fs) g ∙ ap (λ zs. is_near_any gap t (intervals zs)) (three_parts fs i n) ∙ parts3 gap t xs ms ys
     ∙ or_mid (is_near_any gap t (intervals (take i fs))) (is_near_any gap t (intervals (take n (drop i fs)))) (is_near_any gap t (intervals (drop (i + n) fs)))
     ∙ ap (λ b. b || is_near_any gap t (intervals (take n (drop i fs)))) (sym (parts2 gap t xs ys) ∙ sym (near_ordered gap t (take i fs ++ drop (i + n) fs))) in
@@ -312,5 +313,5 @@ any_at [] i x l e = absurd (omega arith)
 any_at (f ∷ fs) zero x l e = ap (λ (g : Stored). has_serial x.serial g || list_any (has_serial x.serial) fs) (sym e) ∙ ap (λ b. b || list_any (has_serial x.serial) fs) (own x.serial)
 any_at (f ∷ fs) (suc i) x l e = or_right (has_serial x.serial f) (list_any (has_serial x.serial) fs) (any_at fs i x (omega arith) e)
 
-pub held_in : (fs : List Stored) (os : List OrderEntry) (i : ℕ) (x : Stored) → os ≡ ordered fs → i < length fs → x ≡ get_or fs i x → list_any (has_entry_serial x.serial) os ≡ true
+pub held_in : (fs : List Stored) (os : List OrderEntry) (i : ℕ) (x : Stored) → os ≡ presentation_order fs → i < length fs → x ≡ get_or fs i x → list_any (has_entry_serial x.serial) os ≡ true
 held_in fs os i x o l e = ap (list_any (has_entry_serial x.serial)) o ∙ any_ordered (has_entry_serial x.serial) fs ∙ any_at fs i x l e

@@ -6,8 +6,8 @@ use Rattle.track_index.specs.declared.frames.SerialBelow.{SerialBelow}
 use Rattle.track_index.specs.declared.frames.NewDuration.{NewDuration}
 
 -- the frame's serial is lower
-abbrev pub serial_below : SerialBelow → Stored → Bool
-serial_below s f = nat_lt f.serial s.serial
+abbrev pub is_serial_below : SerialBelow → Stored → Bool
+is_serial_below s f = nat_lt f.serial s.serial
 
 -- the frame with another duration
 abbrev pub with_new_dur : NewDuration → Stored → Stored

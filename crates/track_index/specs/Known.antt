@@ -1,6 +1,5 @@
 -- What is known of some entries.
-use Rattle.std.specs.Prelude.{ℤ, Bool, List, map, Option, Some, None}
-use Rattle.std.specs.Int.{int_max}
+use Rattle.std.specs.Prelude.{ℤ, Bool, List, map, Option}
 use Rattle.std.specs.List.{list_any}
 use Rattle.mse_base.specs.Moments.{greatest}
 use Rattle.track_index.specs.declared.entry.OrderEntry.{OrderEntry}
@@ -13,12 +12,6 @@ is_sync e = e.sync
 -- the greatest end of some entries
 abbrev pub greatest_end : List OrderEntry → Option ℤ
 greatest_end os = greatest (map end_of os)
-
--- the later of two ends, of which each may be absent
-abbrev pub later_end : Option ℤ → Option ℤ → Option ℤ
-later_end None t = t
-later_end (Some s) None = Some s
-later_end (Some s) (Some t) = Some (int_max s t)
 
 -- what is known of some entries
 abbrev pub known_of : List OrderEntry → Known

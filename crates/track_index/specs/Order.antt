@@ -33,8 +33,8 @@ abbrev pub put_all : List OrderEntry → List Stored → List OrderEntry
 put_all os fs = fold (λ ps f. put (entry_of f) ps) os fs
 
 -- the frames by presentation timestamp, at a tie in order of appending
-abbrev pub ordered : List Stored → List OrderEntry
-ordered fs = put_all [] fs
+abbrev pub presentation_order : List Stored → List OrderEntry
+presentation_order fs = put_all [] fs
 
 -- no entry begins after a later one
 abbrev pub IsSorted : List OrderEntry → Type 0
@@ -71,8 +71,8 @@ first_start c [] = None
 first_start c (o ∷ os) = if c o then Some o.pts else first_start c os
 
 -- the entry with another duration, where it has the serial
-abbrev pub shorter : ℕ → ℤ → OrderEntry → OrderEntry
-shorter serial dur o = record o { dur = if nat_eq o.serial serial then dur else o.dur }
+abbrev pub with_entry_dur : ℕ → ℤ → OrderEntry → OrderEntry
+with_entry_dur serial dur o = record o { dur = if nat_eq o.serial serial then dur else o.dur }
 
 -- an end, if there is one, is not after a time
 abbrev pub is_ended : ℤ → Option ℤ → Bool

@@ -7,7 +7,7 @@ use Rattle.mse_base.specs.Bridging.{is_near, is_near_any}
 use Rattle.track_index.specs.declared.entry.OrderEntry.{OrderEntry}
 use Rattle.track_index.specs.declared.key.Key.{Key}
 use Rattle.track_index.specs.Order.{span_of, end_of}
-use Rattle.track_index.specs.Keyed.{before_key}
+use Rattle.track_index.specs.Keyed.{is_before_key}
 
 -- the ends of the entries are times in range
 abbrev pub AreTimed : List OrderEntry → Type 0
@@ -15,7 +15,10 @@ AreTimed os = AllByRecursion (λ e. IsTick (e.pts +ℤ e.dur)) os
 
 -- the ranges have all ticks of the spans, and no others but near some holes
 abbrev pub AreBetween : ℤ → List Span → List Span → List Span → Type 0
-AreBetween gap spans holes rs = (t : ℤ) → (is_near_any gap t spans ≡ true → is_near_any gap t rs ≡ true) × (is_near_any gap t rs ≡ true → (is_near_any gap t spans || is_near_any gap t holes) ≡ true)
+AreBetween gap spans holes rs =
+    (t : ℤ) → (is_near_any gap t spans ≡ true → is_near_any gap t rs ≡ true)
+    × (is_near_any gap t rs ≡ true
+    → (is_near_any gap t spans || is_near_any gap t holes) ≡ true)
 
 -- an entry that passes the test ends at a time
 abbrev pub HasEndAt : (OrderEntry → Bool) → ℤ → List OrderEntry → Type 0
@@ -25,8 +28,11 @@ HasEndAt q end (o ∷ os) = ((q o ≡ true) × (end_of o ≡ end)) ⊎ HasEndAt 
 -- what the entries that stand before a key have past its time: where it begins at that time, and the
 -- greatest of their ends
 abbrev pub IsPast : Key → Option Span → List OrderEntry → Type 0
-IsPast key None os = AllByRecursion (λ o. before_key key o ≡ true → (end_of o) ≤ℤ key.mark) os
-IsPast key (Some s) os = (s.start ≡ key.mark) × (s.start <ℤ s.end) × AllByRecursion (λ o. before_key key o ≡ true → (end_of o) ≤ℤ s.end) os × HasEndAt (before_key key) s.end os
+IsPast key None os = AllByRecursion (λ o. is_before_key key o ≡ true → (end_of o) ≤ℤ key.mark) os
+IsPast key (Some s) os =
+    (s.start ≡ key.mark) × (s.start <ℤ s.end)
+    × AllByRecursion (λ o. is_before_key key o ≡ true → (end_of o) ≤ℤ s.end) os
+    × HasEndAt (is_before_key key) s.end os
 
 -- ranges that have what was there, and no tick beside it that no entry has
 pub record AreGrownBy (gap : ℤ) (os : List OrderEntry) (rs new : List Span) : Type 0 where
@@ -37,12 +43,12 @@ pub record AreGrownBy (gap : ℤ) (os : List OrderEntry) (rs new : List Span) : 
 -- the ranges have the ticks of the entries that stand at or behind the key and begin before `high`
 abbrev pub HasTicksBetween : ℤ → Key → ℤ → List OrderEntry → List Span → Type 0
 HasTicksBetween gap key high os rs =
-    AllByRecursion (λ o. before_key key o ≡ false → o.pts <ℤ high
+    AllByRecursion (λ o. is_before_key key o ≡ false → o.pts <ℤ high
     → (t : ℤ) → is_near gap t (span_of o) ≡ true → is_near_any gap t rs ≡ true) os
 
 -- the ranges have what the entries that stand before the key have past its time
 abbrev pub HasTicksPast : ℤ → Key → List OrderEntry → List Span → Type 0
 HasTicksPast gap key os rs =
     (t : ℤ) → key.mark ≤ℤ t
-    → AllByRecursion (λ o. before_key key o ≡ true → key.mark <ℤ end_of o
+    → AllByRecursion (λ o. is_before_key key o ≡ true → key.mark <ℤ end_of o
     → is_near gap t (span_of o) ≡ true → is_near_any gap t rs ≡ true) os

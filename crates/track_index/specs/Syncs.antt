@@ -15,7 +15,9 @@ is_among serial ns = list_any (λ n. nat_eq n serial) ns
 -- the greatest of the serials that are at most another, or none where there is none
 abbrev pub IsLastUpTo : ℕ → List ℕ → Option ℕ → Type 0
 IsLastUpTo serial ns None = AllByRecursion (λ n. serial < n) ns
-IsLastUpTo serial ns (Some last) = (is_among last ns ≡ true) × (last ≤ serial) × AllByRecursion (λ n. n ≤ serial → n ≤ last) ns
+IsLastUpTo serial ns (Some last) =
+    (is_among last ns ≡ true) × (last ≤ serial)
+    × AllByRecursion (λ n. n ≤ serial → n ≤ last) ns
 
 -- the frame is a random access point exactly where its serial is among these
 abbrev pub IsToldBy : List ℕ → Stored → Type 0

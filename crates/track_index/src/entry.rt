@@ -1,6 +1,6 @@
 //! What the order knows of a frame.
 
-ghost use Rattle.std.specs.Prelude.{◌≡◌, ℤ, pos, ◌+◌, ◌<◌, ◌≤◌, ◌≤ℤ◌, ◌+ℤ◌};
+ghost use Rattle.std.specs.Prelude.{◌≡◌, ℤ, ◌+◌, ◌<◌, ◌+ℤ◌};
 ghost use Rattle.mse_base.specs.Time.{IsTick};
 ghost use Rattle.track_index.specs.Order.{entry_of, entry_covers, span_of, end_of, is_sync_from};
 
@@ -16,6 +16,7 @@ pub(crate) struct OrderEntry {
     pub(crate) sync: bool,
 }
 
+/// What the order of presentation keeps of a frame.
 pub(crate) fn entry_of(stored: &Stored) -> OrderEntry
     ensures { result ≡ entry_of stored.now }
 {
@@ -42,6 +43,7 @@ pub(crate) fn is_sync_from(entry: &OrderEntry, t: &Moment) -> bool
     entry.sync && !before
 }
 
+/// When a frame ends that begins at a time and lasts so long.
 pub(crate) fn end_at(pts: Ticks, dur: Ticks) -> Ticks
     requires { IsTick (pts +ℤ dur) }
     ensures { result ≡ pts +ℤ dur }

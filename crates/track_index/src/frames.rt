@@ -4,7 +4,7 @@ ghost use Rattle.std.specs.Prelude.{◌≡◌, ◌+◌, ◌<◌, ◌≤◌, leng
 ghost use Rattle.std.specs.List.{AllByRecursion, list_any, position};
 ghost use Rattle.track_store.specs.Frames.{IsAscending, has_serial, from_sync, group_start_of};
 ghost use Rattle.track_store.specs.Sound.{IsChained};
-ghost use Rattle.block_list.specs.Rows.{joined, row};
+ghost use Rattle.mse_base.specs.Rows.{joined, row};
 ghost use Rattle.block_list.specs.BlockPlaces.{rank, IsPlace};
 ghost use Rattle.track_index.specs.Syncs.{AreSyncsOf};
 
@@ -39,9 +39,9 @@ pub(crate) struct SerialBelow {
 }
 
 impl Test<Stored> for SerialBelow {
-    ghost use Rattle.track_index.specs.Frames.{serial_below};
+    ghost use Rattle.track_index.specs.Frames.{is_serial_below};
 
-    ghost passes = { serial_below };
+    ghost passes = { is_serial_below };
 
     fn passes(&self, x: &Stored) -> bool {
         x.serial < self.serial
@@ -145,6 +145,7 @@ pub(crate) fn run_from(frames: &Frames, from: BlockPlace) -> RemovedRun
     ensures rest { drop (rank frames.now.rows from + result.count) (joined frames.now.rows)
         ≡ from_sync (drop (rank frames.now.rows from + 1) (joined frames.now.rows)) }
 {
+    // The proof reads off this that the number of all frames is one.
     let _len = frames.len();
     let mut last = from;
     let mut count = 1;

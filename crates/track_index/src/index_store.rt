@@ -1,10 +1,10 @@
-ghost use Rattle.std.specs.Prelude.{◌≡◌, ◌+◌, ◌<◌, ◌≤◌, ◌≤ℤ◌, ◌++◌, pos, true, [], length, take, drop, map, IfSome};
-ghost use Rattle.std.specs.List.{AllByRecursion, list_any};
+ghost use Rattle.std.specs.Prelude.{◌≡◌, ◌+◌, ◌<◌, ◌≤◌, ◌≤ℤ◌, ◌++◌, pos, true, [], length, take, drop};
+ghost use Rattle.std.specs.List.{list_any};
 ghost use Rattle.mse_base.specs.Spans.{IsBridging};
-ghost use Rattle.block_list.specs.Rows.{joined, row};
+ghost use Rattle.mse_base.specs.Rows.{joined, row};
 ghost use Rattle.block_list.specs.BlockPlaces.{rank};
 ghost use Rattle.track_store.specs.Frames.{frames_without, IsAscending, has_serial, intervals, ranges_of, bytes_of};
-ghost use Rattle.track_index.specs.Order.{ordered};
+ghost use Rattle.track_index.specs.Order.{presentation_order};
 ghost use Rattle.track_index.specs.Indexed.{IsNextKey};
 
 use crate::entry::{end_at, end_of, entry_of, span_of};
@@ -50,16 +50,16 @@ pub struct IndexStore {
 
 impl Model for IndexStore {
     ghost use Rattle.std.specs.Prelude.{◌-◌, ◌+◌, length, vec_len, vec_capacity};
-    ghost use Rattle.block_list.specs.Rows.{joined};
+    ghost use Rattle.mse_base.specs.Rows.{joined};
     ghost use Rattle.track_store.specs.Frames.{StoreState};
-    ghost use Rattle.track_index.specs.Indexed.{IsIndexed, least_room};
+    ghost use Rattle.track_index.specs.Indexed.{IsIndexed, index_room};
 
     ghost Value = { StoreState };
 
     ghost view = { λ s. record {
       frames = joined s.items.rows;
       gap = s.gap;
-      spare = least_room s.items.spare s.order.spare
+      spare = index_room s.items.spare s.order.spare
           (vec_capacity s.syncs - vec_len s.syncs)
           ((s.ranges.spare + length s.ranges.spans) - length (joined s.items.rows));
     } };
@@ -75,13 +75,13 @@ impl Model for IndexStore {
 /// Takes some frames out of the order; the bytes that are left.
 fn take_run_out(order: &mut Order, frames: &Frames, run: Stretch, total: u64) -> u64
     requires ascending { IsAscending (joined frames.now.rows) }
-    requires in_order { joined order.old.rows ≡ ordered (joined frames.now.rows) }
+    requires in_order { joined order.old.rows ≡ presentation_order (joined frames.now.rows) }
     requires bytes { total ≡ bytes_of (joined frames.now.rows) }
     requires block { run.from.block < length frames.now.rows }
     requires index { run.from.index < length (row frames.now.rows run.from.block) }
     requires within { rank frames.now.rows run.from + run.count ≤ length (joined frames.now.rows) }
     ensures order { joined order.new.rows
-        ≡ ordered
+        ≡ presentation_order
         (take (rank frames.now.rows run.from) (joined frames.now.rows)
         ++ drop (rank frames.now.rows run.from + run.count) (joined frames.now.rows)) }
     ensures bytes { result

@@ -1,10 +1,10 @@
 //! What is known of a block of entries.
 
-ghost use Rattle.std.specs.Prelude.{◌≡◌, ◌||◌, ◌+ℤ◌, map, List, take};
+ghost use Rattle.std.specs.Prelude.{◌≡◌, ◌||◌};
 ghost use Rattle.std.specs.List.{list_any};
-ghost use Rattle.mse_base.specs.Moments.{greatest};
+ghost use Rattle.mse_base.specs.Moments.{greatest_of_two};
 ghost use Rattle.track_index.specs.Order.{end_of};
-ghost use Rattle.track_index.specs.Known.{is_sync, greatest_end, later_end, known_of};
+ghost use Rattle.track_index.specs.Known.{is_sync, greatest_end, known_of};
 
 use crate::entry::OrderEntry;
 use crate::mark::TimeMark;
@@ -25,18 +25,13 @@ pub(crate) struct Known {
 }
 
 /// The later of two ends, of which each may be absent.
-pub(crate) fn later_end(a: Option<TimeMark>, b: Option<TimeMark>) -> Option<TimeMark>
-    ensures { result ≡ later_end a b }
+pub(crate) fn greatest_of_two(a: Option<TimeMark>, b: Option<TimeMark>) -> Option<TimeMark>
+    ensures { result ≡ greatest_of_two a b }
 {
-    match a {
-        None => b,
-        Some(s) => match b {
-            None => Some(s),
-            Some(t) => Some(if s.is_up_to(t) { t } else { s }),
-        },
-    }
+    a.max(b)
 }
 
+/// When the entry's frame ends.
 pub(crate) fn end_mark(entry: &OrderEntry) -> TimeMark
     ensures { result ≡ end_of entry.now }
 {
@@ -49,7 +44,7 @@ pub(crate) fn greatest_end(items: &[OrderEntry]) -> Option<TimeMark>
 {
     let mut best = None;
     for entry in items {
-        best = later_end(best, Some(end_mark(entry)));
+        best = greatest_of_two(best, Some(end_mark(entry)));
     }
     best
 }
@@ -79,7 +74,7 @@ impl Fact<OrderEntry> for Known {
 
     fn with(&self, x: &OrderEntry) -> Known {
         Known {
-            end: later_end(self.end, Some(end_mark(x))),
+            end: greatest_of_two(self.end, Some(end_mark(x))),
             sync: either(self.sync, x.sync),
         }
     }

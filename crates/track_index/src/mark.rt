@@ -1,13 +1,13 @@
 //! Times, and numbers of ticks a little beyond them.
 
-ghost use Rattle.std.specs.Prelude.{◌≡◌, ℤ, pos, ◌+ℤ◌, ◌-ℤ◌, int_le, int_lt, true};
+ghost use Rattle.std.specs.Prelude.{◌≡◌, ℤ, pos, ◌+ℤ◌, ◌-ℤ◌, int_le, int_lt};
 ghost use Rattle.mse_base.specs.Time.{tick};
 
 use mse_base::Ticks;
 use std::marker::Model;
 
 /// A time, or one a little beyond the ticks.
-#[derive(Clone, Copy, Drop)]
+#[derive(Clone, Copy, Drop, PartialEq, Eq, PartialOrd, Ord)]
 pub(crate) struct TimeMark {
     value: i128,
 }
@@ -74,20 +74,6 @@ impl TimeMark {
         ensures { result ≡ int_le self t }
     {
         self.value <= t.get()
-    }
-
-    /// Whether it is not after another.
-    pub(crate) fn is_up_to(self, other: TimeMark) -> bool
-        ensures { result ≡ int_le self other }
-    {
-        self.value <= other.value
-    }
-
-    /// Whether it is another.
-    pub(crate) fn is_same(self, other: TimeMark) -> bool
-        ensures { result ≡ true → self ≡ other }
-    {
-        self.value == other.value
     }
 
     /// As a time; `None` exactly where it is out of range.

@@ -1,19 +1,18 @@
 //! The frames of a store in order of presentation, in blocks.
 
-ghost use Rattle.std.specs.Prelude.{◌≡◌, ◌+◌, ◌<◌, ◌≤◌, ◌<ℤ◌, ◌≤ℤ◌, pos, ◌^◌, ◌+ℤ◌, false, true, length, take, drop, map, filter, not, nat_eq, min, vec_len, vec_capacity, OnOk, IfSome, IfNone, [], slice_index_or};
+ghost use Rattle.std.specs.Prelude.{◌≡◌, ◌+◌, ◌<◌, ◌≤◌, ◌≤ℤ◌, false, true, length, take, drop, map, filter, not, min, vec_len, vec_capacity, OnOk, IfSome, IfNone, [], slice_index_or};
 ghost use Rattle.std.specs.List.{AllByRecursion, list_all, list_any};
-ghost use Rattle.mse_base.specs.Time.{IsTick};
 ghost use Rattle.mse_base.specs.Moments.{is_before};
-ghost use Rattle.block_list.specs.Rows.{joined, row, start};
+ghost use Rattle.mse_base.specs.Rows.{joined, row, start};
 ghost use Rattle.block_list.specs.BlockPlaces.{rank, IsPlace};
-ghost use Rattle.track_index.specs.Order.{put, entry_covers, end_of, span_of, last_that, first_start, is_sync_from, last_start, shorter, is_ended};
-ghost use Rattle.track_index.specs.Keyed.{before_key, IsKeyed, IsFound, entry_named, has_entry_serial, Names};
+ghost use Rattle.track_index.specs.Order.{put, entry_covers, last_that, first_start, is_sync_from, last_start, with_entry_dur, is_ended};
+ghost use Rattle.track_index.specs.Keyed.{is_before_key, IsKeyed, IsFound, is_entry_named, has_entry_serial, IsNamedAt};
 ghost use Rattle.track_index.specs.Known.{greatest_end};
 ghost use Rattle.track_index.specs.Tops.{tops_of};
 
 use crate::entry::{OrderEntry, covers, is_sync_from};
 use crate::key::Key;
-use crate::known::{Known, end_mark, greatest_end, later_end};
+use crate::known::{Known, end_mark, greatest_end, greatest_of_two};
 use crate::mark::TimeMark;
 use crate::tops::{refresh, refresh_with, top_before};
 use block_list::{BlockList, BlockPlace, Test, search};
@@ -51,7 +50,7 @@ fn place_of(list: &BlockList<OrderEntry, Known>, pts: Ticks, serial: u64) -> Blo
     requires held { list_any (has_entry_serial serial) (joined list.now.rows) ≡ true }
     ensures block { result.block < length list.now.rows }
     ensures index { result.index < length (row list.now.rows result.block) }
-    ensures names { Names serial (joined list.now.rows) (rank list.now.rows result) }
+    ensures names { IsNamedAt serial (joined list.now.rows) (rank list.now.rows result) }
 {
     let key = Key {
         mark: TimeMark::at(pts),
@@ -212,7 +211,7 @@ impl Order {
     /// Makes room for `n` more entries.
     pub(crate) fn reserve(&mut self, n: usize) -> Result<(), OutOfMemory>
         ensures rows { self.new.rows ≡ self.old.rows }
-        ensures kept { self.old.spare ≤ self.new.spare }
+        ensures room_stays { self.old.spare ≤ self.new.spare }
         ensures ok { OnOk result (n ≤ self.new.spare) }
     {
         self.list.reserve(n)?;
@@ -260,7 +259,8 @@ impl Order {
         requires own { AllByRecursion (λ o. o.serial ≡ serial → o.pts ≡ pts)
             (joined self.old.rows) }
         requires held { list_any (has_entry_serial serial) (joined self.old.rows) ≡ true }
-        ensures items { joined self.new.rows ≡ map (shorter serial dur) (joined self.old.rows) }
+        ensures items { joined self.new.rows
+            ≡ map (with_entry_dur serial dur) (joined self.old.rows) }
         ensures spare { self.old.spare ≤ self.new.spare }
     {
         let place = place_of(&self.list, pts, serial);
@@ -337,7 +337,7 @@ impl Order {
     /// The greatest end of the entries that stand before a key.
     pub(crate) fn greatest_end_before(&self, key: &Key) -> Option<TimeMark>
         requires keyed { IsKeyed (joined self.now.rows) }
-        ensures { result ≡ greatest_end (filter (before_key key.now) (joined self.now.rows)) }
+        ensures { result ≡ greatest_end (filter (is_before_key key.now) (joined self.now.rows)) }
     {
         if self.list.blocks() == 0 {
             return None;
@@ -345,16 +345,16 @@ impl Order {
         let place = search(&self.list, key);
         let items = self.list.block(place.block);
         let within = greatest_end(&items[..place.index]);
-        later_end(top_before(&self.tops, &self.list, place.block), within)
+        greatest_of_two(top_before(&self.tops, &self.list, place.block), within)
     }
 
     /// The place of the first entry that does not stand before a key.
     pub(crate) fn place_at(&self, key: &Key) -> BlockPlace
         requires keyed { IsKeyed (joined self.now.rows) }
         ensures place { IsPlace self.now.rows result }
-        ensures before { AllByRecursion (λ o. before_key key.now o ≡ true)
+        ensures before { AllByRecursion (λ o. is_before_key key.now o ≡ true)
             (take (rank self.now.rows result) (joined self.now.rows)) }
-        ensures after { AllByRecursion (λ o. before_key key.now o ≡ false)
+        ensures after { AllByRecursion (λ o. is_before_key key.now o ≡ false)
             (drop (rank self.now.rows result) (joined self.now.rows)) }
     {
         if self.list.blocks() == 0 {
@@ -403,7 +403,7 @@ impl Order {
     /// Whether all entries stand before a key, as they do where the last one does.
     fn is_all_before(&self, key: &Key) -> bool
         requires keyed { IsKeyed (joined self.now.rows) }
-        ensures { result ≡ list_all (before_key key.now) (joined self.now.rows) }
+        ensures { result ≡ list_all (is_before_key key.now) (joined self.now.rows) }
     {
         let n = self.list.blocks();
         if n == 0 {
@@ -424,8 +424,8 @@ impl Order {
     pub(crate) fn first_named(&self, key: &Key, to: &Moment, below: u64) -> Option<OrderEntry>
         requires keyed { IsKeyed (joined self.now.rows) }
         ensures found { IfSome result (λ e. IsFound key.now to.now below e (joined self.now.rows)) }
-        ensures none { IfNone result
-            (AllByRecursion (λ o. before_key key.now o ≡ false → entry_named to.now below o ≡ false)
+        ensures none { IfNone result (AllByRecursion
+            (λ o. is_before_key key.now o ≡ false → is_entry_named to.now below o ≡ false)
             (joined self.now.rows)) }
     {
         if self.is_all_before(key) {

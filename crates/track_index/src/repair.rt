@@ -1,14 +1,13 @@
 //! The ranges of a store, repaired where its frames changed.
 
-ghost use Rattle.std.specs.Prelude.{◌≡◌, ◌+◌, ◌<◌, ◌≤◌, ◌≤ℤ◌, ◌<ℤ◌, ◌+ℤ◌, ◌-ℤ◌, ◌*◌, pos, true, ◌||◌, List, ◌∷◌, [], length, map, take, drop, IfSome, ℤ};
+ghost use Rattle.std.specs.Prelude.{◌≡◌, ◌+◌, ◌<◌, ◌≤◌, ◌≤ℤ◌, pos, true, ◌||◌, List, ◌∷◌, length, map, take, drop, IfSome, ℤ};
 ghost use Rattle.std.specs.List.{AllByRecursion};
-ghost use Rattle.mse_base.specs.Time.{IsTick};
 ghost use Rattle.mse_base.specs.Bridging.{IsRanges, bridged_ranges, is_near_any, is_near};
-ghost use Rattle.block_list.specs.Rows.{joined, row};
+ghost use Rattle.mse_base.specs.Rows.{joined, row};
 ghost use Rattle.block_list.specs.BlockPlaces.{rank};
 ghost use Rattle.track_store.specs.Frames.{intervals, IsTimed};
 ghost use Rattle.track_index.specs.Order.{span_of};
-ghost use Rattle.track_index.specs.Keyed.{before_key, IsKeyed};
+ghost use Rattle.track_index.specs.Keyed.{IsKeyed};
 ghost use Rattle.track_index.specs.Repair.{AreTimed, AreGrownBy, HasTicksBetween, HasTicksPast, AreBetween};
 
 use crate::entry::{entry_of, span_of};
@@ -83,7 +82,7 @@ fn join_past(ranges: &mut Ranges, order: &Order, key: &Key, gap: Ticks) -> bool
     match order.greatest_end_before(key) {
         None => true,
         Some(end) => {
-            if end.is_up_to(key.mark) {
+            if end <= key.mark {
                 return true;
             }
             match span_between(key.mark, end) {

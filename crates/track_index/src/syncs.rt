@@ -6,7 +6,7 @@ ghost use Rattle.std.specs.Prelude.{◌≡◌, ◌+◌, ◌-◌, ◌<◌, ◌≤
 ghost use Rattle.std.specs.List.{AllByRecursion, list_any};
 ghost use Rattle.track_store.specs.declared.store.Stored.{Stored};
 ghost use Rattle.track_store.specs.Frames.{IsAscending, has_serial};
-ghost use Rattle.block_list.specs.Rows.{joined};
+ghost use Rattle.mse_base.specs.Rows.{joined};
 ghost use Rattle.track_index.specs.Syncs.{AreAscending, IsLastUpTo, AreSyncsOf};
 
 use crate::frames::{Frames, is_held};
@@ -78,7 +78,7 @@ pub(crate) fn make_room(syncs: &mut Vec<u64>, frames: &Frames, n: usize) -> Resu
     ensures syncs { AreSyncsOf (joined frames.now.rows) syncs.old.items
         → AreSyncsOf (joined frames.now.rows) syncs.new.items }
     ensures ok { OnOk result (n ≤ vec_capacity syncs.new - vec_len syncs.new) }
-    ensures kept { vec_capacity syncs.old - vec_len syncs.old
+    ensures room_stays { vec_capacity syncs.old - vec_len syncs.old
         ≤ vec_capacity syncs.new - vec_len syncs.new }
 {
     if syncs.len() / 2 >= frames.len().saturating_add(HALF_KEPT) {

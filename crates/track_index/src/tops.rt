@@ -1,13 +1,14 @@
 //! The running ends of an order in blocks: for each block the greatest end of its entries and of
 //! all before them.
 
-ghost use Rattle.std.specs.Prelude.{◌≡◌, ◌+◌, ◌-◌, ◌<◌, ◌≤◌, length, take, vec_len, vec_capacity, drop, slice_index_or, Some, None, true};
-ghost use Rattle.block_list.specs.Rows.{joined, row};
-ghost use Rattle.track_index.specs.Known.{greatest_end, later_end};
-ghost use Rattle.track_index.specs.Tops.{tops_of, RunsFrom};
+ghost use Rattle.std.specs.Prelude.{◌≡◌, ◌+◌, ◌-◌, ◌<◌, ◌≤◌, length, take, vec_capacity, drop, slice_index_or, Some, None};
+ghost use Rattle.mse_base.specs.Rows.{joined};
+ghost use Rattle.mse_base.specs.Moments.{greatest_of_two};
+ghost use Rattle.track_index.specs.Known.{greatest_end};
+ghost use Rattle.track_index.specs.Tops.{tops_of, AreTopsFrom};
 
 use crate::entry::OrderEntry;
-use crate::known::{Known, later_end};
+use crate::known::{Known, greatest_of_two};
 use crate::mark::TimeMark;
 use block_list::BlockList;
 
@@ -33,18 +34,6 @@ fn end_before(tops: &[Option<TimeMark>], b: usize) -> Option<TimeMark>
     if b == 0 { None } else { tops[b - 1] }
 }
 
-fn is_same(a: &Option<TimeMark>, b: &Option<TimeMark>) -> bool
-    ensures { result ≡ true → a.now ≡ b.now }
-{
-    match a {
-        None => b.is_none(),
-        Some(s) => match b {
-            None => false,
-            Some(t) => s.is_same(*t),
-        },
-    }
-}
-
 /// Makes the running ends anew from a block on; from `to` on only until one stays as it is.
 fn follow(
     tops: &mut Vec<Option<TimeMark>>,
@@ -56,15 +45,15 @@ fn follow(
     requires in_order { from ≤ to }
     requires within { from ≤ length list.now.rows }
     requires front { take from tops.old.items ≡ take from (tops_of list.now.rows) }
-    requires rest { RunsFrom to tops.old.items to list.now.rows }
+    requires rest { AreTopsFrom to tops.old.items to list.now.rows }
     ensures items { tops.new.items ≡ tops_of list.now.rows }
     ensures capacity { vec_capacity tops.new ≡ vec_capacity tops.old }
 {
     let mut best = end_before(tops, from);
     let mut i = from;
     while i < tops.len() {
-        let top = later_end(best, list.fact(i).end);
-        if to <= i && is_same(&tops[i], &top) {
+        let top = greatest_of_two(best, list.fact(i).end);
+        if to <= i && tops[i] == top {
             return;
         }
         tops[i] = top;
@@ -113,10 +102,10 @@ pub(crate) fn refresh_with(
     requires gone { length list.now.rows < length tops.old.items → b < length tops.old.items }
     requires room { length list.now.rows ≤ vec_capacity tops.old }
     requires front { take b tops.old.items ≡ take b (tops_of list.now.rows) }
-    requires rest { RunsFrom (b + 1) tops.old.items
+    requires rest { AreTopsFrom (b + 1) tops.old.items
         ((b + 1 + length list.now.rows) - length tops.old.items) list.now.rows }
     requires last { b + 1 ≡ length tops.old.items
-        → later_end (slice_index_or tops.old.items b None) (Some end)
+        → greatest_of_two (slice_index_or tops.old.items b None) (Some end)
         ≡ greatest_end (joined list.now.rows) }
     ensures items { tops.new.items ≡ tops_of list.now.rows }
     ensures capacity { vec_capacity tops.new ≡ vec_capacity tops.old }
@@ -124,7 +113,7 @@ pub(crate) fn refresh_with(
     let before = tops.len();
     let after = list.blocks();
     if after == before && b + 1 == after {
-        tops[b] = later_end(tops[b], Some(end));
+        tops[b] = greatest_of_two(tops[b], Some(end));
         return;
     }
     refresh(tops, list, b);
@@ -143,7 +132,7 @@ pub(crate) fn refresh(
     requires gone { length list.now.rows < length tops.old.items → b < length tops.old.items }
     requires room { length list.now.rows ≤ vec_capacity tops.old }
     requires front { take b tops.old.items ≡ take b (tops_of list.now.rows) }
-    requires rest { RunsFrom (b + 1) tops.old.items
+    requires rest { AreTopsFrom (b + 1) tops.old.items
         ((b + 1 + length list.now.rows) - length tops.old.items) list.now.rows }
     ensures items { tops.new.items ≡ tops_of list.now.rows }
     ensures capacity { vec_capacity tops.new ≡ vec_capacity tops.old }

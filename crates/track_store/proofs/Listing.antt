@@ -10,7 +10,7 @@ use Rattle.mse_base.specs.Bridging.{IsRanges, ranges_with, bridged_ranges}
 use Rattle.mse_base.proofs.Merging.{ranges_bridged, length_bridged}
 use Rattle.track_store.specs.declared.store.Stored.{Stored}
 use Rattle.track_store.specs.Frames.{IsTimed, bytes_of, interval, intervals, ranges_of, frames_left, with_dur}
-use Rattle.track_store.specs.Listed.{IsListed}
+use Rattle.track_store.specs.Listed.{IsPlainStore}
 use Rattle.track_store.proofs.Clearing.{kept_push, kept-cleared, kept-shortened, each-cleared, each-push, shortened_at}
 
 join_push : (gap : ℤ) (fs : List Stored) (x : Stored) → ranges_of gap (fs ++ x ∷ []) ≡ ranges_with gap (ranges_of gap fs) (interval x)
@@ -29,21 +29,21 @@ pub are_ranges : (gap : ℤ) (fs : List Stored) (rs : List Span) → pos 0 ≤�
 are_ranges gap fs rs g e = subst (λ (ps : List Span). IsRanges gap ps) (sym e) (ranges_bridged gap (intervals fs) g)
 
 -- one more frame
-pub listed_push : (fs gs : List Stored) (rs ps : List Span) (gap : ℤ) (room next : ℕ) (x : Stored) → IsListed fs rs gap room → gs ≡ fs ++ x ∷ [] → ps ≡ ranges_with gap rs (interval x) → length fs + 1 ≤ next → AllByRecursion (λ f. f.serial < x.serial) fs → IsTimed x → bytes_of fs + length x.frame.payload < 2 ^ 62 → IsListed gs ps gap next
+pub listed_push : (fs gs : List Stored) (rs ps : List Span) (gap : ℤ) (room next : ℕ) (x : Stored) → IsPlainStore fs rs gap room → gs ≡ fs ++ x ∷ [] → ps ≡ ranges_with gap rs (interval x) → length fs + 1 ≤ next → AllByRecursion (λ f. f.serial < x.serial) fs → IsTimed x → bytes_of fs + length x.frame.payload < 2 ^ 62 → IsPlainStore gs ps gap next
 listed_push fs gs rs ps gap room next x h e joined r l t s = record {
   kept = rw e (kept_push fs x h.kept l s);
   timed = rw e (each-push IsTimed fs x h.timed t);
-  gap_not_negative = h.gap_not_negative;
+  gap_from_zero = h.gap_from_zero;
   joined = joined ∙ ap (λ qs. ranges_with gap qs (interval x)) h.joined ∙ sym (join_push gap fs x) ∙ ap (ranges_of gap) (sym e);
   roomy = let a = length-append fs (x ∷ []) in let b : length (x ∷ []) ≡ 1 = refl in let c = ap length e in omega arith;
 }
 
 -- fewer frames
-pub listed_cleared : (named : Stored → Bool) (fs gs : List Stored) (rs ps : List Span) (gap : ℤ) (room next : ℕ) → IsListed fs rs gap room → gs ≡ frames_left false named fs → length gs ≤ length fs → ps ≡ ranges_of gap gs → room ≤ next → IsListed gs ps gap next
+pub listed_cleared : (named : Stored → Bool) (fs gs : List Stored) (rs ps : List Span) (gap : ℤ) (room next : ℕ) → IsPlainStore fs rs gap room → gs ≡ frames_left false named fs → length gs ≤ length fs → ps ≡ ranges_of gap gs → room ≤ next → IsPlainStore gs ps gap next
 listed_cleared named fs gs rs ps gap room next h e few joined more = record {
   kept = rw e (kept-cleared false named fs h.kept);
   timed = rw e (each-cleared IsTimed false named fs h.timed);
-  gap_not_negative = h.gap_not_negative;
+  gap_from_zero = h.gap_from_zero;
   joined = joined;
   roomy = let low = h.roomy in omega arith;
 }
@@ -71,11 +71,11 @@ pub timed_cut : (fs : List Stored) (i : ℕ) (x : Stored) (dur : ℤ) → AllByR
 timed_cut fs i x dur h at begins low less = let own = each_at IsTimed fs i x h at in each-set IsTimed fs i (with_dur dur x) h (low, still_ticks x.frame.pts x.frame.dur dur begins own.1 low less)
 
 -- a frame that is cut
-pub listed_cut : (fs : List Stored) (rs ps : List Span) (gap dur : ℤ) (room next : ℕ) (i : ℕ) (x : Stored) → IsListed fs rs gap room → slice_get fs i ≡ Some x → AllByRecursion IsTimed (set fs i (with_dur dur x)) → ps ≡ ranges_of gap (set fs i (with_dur dur x)) → room ≤ next → IsListed (set fs i (with_dur dur x)) ps gap next
+pub listed_cut : (fs : List Stored) (rs ps : List Span) (gap dur : ℤ) (room next : ℕ) (i : ℕ) (x : Stored) → IsPlainStore fs rs gap room → slice_get fs i ≡ Some x → AllByRecursion IsTimed (set fs i (with_dur dur x)) → ps ≡ ranges_of gap (set fs i (with_dur dur x)) → room ≤ next → IsPlainStore (set fs i (with_dur dur x)) ps gap next
 listed_cut fs rs ps gap dur room next i x h at timed joined more = record {
   kept = rw (shortened_at fs i x dur h.kept.ascending at) (kept-shortened x.serial dur fs h.kept);
   timed = timed;
-  gap_not_negative = h.gap_not_negative;
+  gap_from_zero = h.gap_from_zero;
   joined = joined;
   roomy = let low = h.roomy in let same = length-set_at fs i (with_dur dur x) in omega arith;
 }

@@ -22,22 +22,22 @@ use Rattle.track_store.specs.Sound.{HasPredecessor}
 -- ---- changes
 
 -- a frame can be added to a list for which there is room
-pub record CanAdd (spare : ℕ) (f : Stored) (fs : List Stored) : Type 0 where
+pub record IsAddable (spare : ℕ) (f : Stored) (fs : List Stored) : Type 0 where
   pub room : 1 ≤ spare
   pub later : AllByRecursion (λ g. g.serial < f.serial) fs
   pub predecessor : f.frame.sync ≡ false → HasPredecessor f.serial fs
   pub dur_not_negative : pos 0 ≤ℤ f.frame.dur
-  pub in_range : IsTick (f.frame.pts +ℤ f.frame.dur)
+  pub is_tick : IsTick (f.frame.pts +ℤ f.frame.dur)
   pub small : bytes_of fs + length f.frame.payload < 2 ^ 62
 
 -- what the contract asks of a change
-abbrev pub CanChange : ℕ → StoreChange → List Stored → Type 0
-CanChange spare (Reserve n) fs = ⊤
-CanChange spare (Add f) fs = CanAdd spare f fs
-CanChange spare (Cut i dur) fs =
+abbrev pub IsAllowedChange : ℕ → StoreChange → List Stored → Type 0
+IsAllowedChange spare (Reserve n) fs = ⊤
+IsAllowedChange spare (Add f) fs = IsAddable spare f fs
+IsAllowedChange spare (Cut i dur) fs =
     (i < length fs) × IfSome (slice_get fs i) (λ f. (pos 0 ≤ℤ dur) × (dur ≤ℤ f.frame.dur))
-CanChange spare (RemoveAt i) fs = i < length fs
-CanChange spare (RemoveWhereTime from to below) fs = ⊤
+IsAllowedChange spare (RemoveAt i) fs = i < length fs
+IsAllowedChange spare (RemoveWhereTime from to below) fs = ⊤
 
 -- the frames before a change and after it; room that is made, or for which there is no memory, leaves them
 abbrev pub IsChange : StoreChange → List Stored → List Stored → Type 0

@@ -128,6 +128,6 @@ abbrev pub IsTimed : Stored → Type 0
 IsTimed f = (pos 0 ≤ℤ f.frame.dur) × IsTick (f.frame.pts +ℤ f.frame.dur)
 
 -- what a store keeps of its frames: serials ascend, and the bytes can be counted
-pub record IsKept (fs : List Stored) : Type 0 where
+pub record HasFrameInvariants (fs : List Stored) : Type 0 where
   pub ascending : IsAscending fs
   pub small : bytes_of fs < 2 ^ 62

@@ -52,7 +52,8 @@ pub record IsSound (t : TrackState) : Type 0 where
   pub not_negative : AllByRecursion IsNotNegative t.frames
   pub timed : AllByRecursion IsTimed t.frames
   -- while no random access point is needed, the frame that was received last is held, and last
-  pub last_held : t.marks.need_sync ≡ false → IsSuccessor (last_serial None t.frames) t.marks.received
+  pub last_held : t.marks.need_sync ≡ false
+      → IsSuccessor (last_serial None t.frames) t.marks.received
   pub together : AreTogether t.marks.last_decode t.marks.last_duration t.marks.highest_end
       t.marks.group_first t.marks.need_sync
   -- the group of frames since the last discontinuity begins with a random access point

@@ -25,6 +25,10 @@ state_of frames t = record {
 abbrev pub states_of : {S : Type 0} → (S → List Stored) → List (Track S) → List TrackState
 states_of frames ts = map (state_of frames) ts
 
+-- the stores of tracks
+abbrev pub stores_of : {S : Type 0} → List (Track S) → List S
+stores_of ts = map (λ t. t.store) ts
+
 -- the marks of a track that has received nothing
 abbrev pub new_marks : Marks
 new_marks = record {

@@ -1,7 +1,7 @@
 //! Calls of a store as values, so that laws can speak of lists of them.
 
-ghost use Rattle.std.specs.Prelude.{◌≡◌, ◌≤◌};
-ghost use Rattle.track_store.specs.Calls.{CanChange, IsLookAnswer, IsChange, LeavesRoom, answer_view};
+ghost use Rattle.std.specs.Prelude.{◌≡◌};
+ghost use Rattle.track_store.specs.Calls.{IsAllowedChange, IsLookAnswer, IsChange, LeavesRoom, answer_view};
 ghost use Rattle.track_store.specs.Frames.{IsAscending};
 
 use crate::{FrameStore, Stored};
@@ -58,7 +58,7 @@ pub enum StoreCall {
 /// Changes a store by a call. Only `Reserve` takes memory, and where it finds none the frames are
 /// as before.
 pub fn change<S: FrameStore>(store: &mut S, change: StoreChange) -> Result<(), OutOfMemory>
-    requires { CanChange (S.spare store.old) change (S.frames store.old) }
+    requires { IsAllowedChange (S.spare store.old) change (S.frames store.old) }
     ensures frames { IsChange change (S.frames store.old) (S.frames store.new) }
     ensures room { LeavesRoom change (S.spare store.old) result (S.spare store.new) }
     ensures gap { S.gap store.new ≡ S.gap store.old }
@@ -79,6 +79,7 @@ pub fn look_up<'a, S: FrameStore>(store: &'a S, look: &StoreLook) -> StoreAnswer
     ensures answer { IsLookAnswer (S.gap store.now) look.now (S.frames store.now)
         (answer_view result) }
 {
+    // The proof reads off this that the serials ascend.
     store.serials_ascend();
     match *look {
         StoreLook::Len => StoreAnswer::Frames(store.len()),

@@ -5,7 +5,7 @@
 //! It stands on `mse_base`. Its main contract is that of the trait [`FrameStore`]: each call is an
 //! equation on the list of frames, and a removal takes the decoding dependencies with it, the
 //! frames up to the next random access point. [`ListStore`] meets it as a plain list. What a
-//! buffer keeps of each track is `Sound` of `specs/Sound.antt`: each frame held is a random access
+//! buffer keeps of each track is `IsSound` of `specs/Sound.antt`: each frame held is a random access
 //! point, or the frame received just before it is held too.
 #![tactic(auto)]
 

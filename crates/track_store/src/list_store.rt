@@ -1,4 +1,4 @@
-ghost use Rattle.std.specs.Prelude.{◌≡◌, ◌||◌, ◌&&◌, not, ◌+◌, ◌<◌, ◌^◌, ◌≤◌, ◌≤ℤ◌, ◌+ℤ◌, pos, false, slice_get, vec_capacity, vec_len, IfSome, length, if◌then◌else◌, Some};
+ghost use Rattle.std.specs.Prelude.{◌≡◌, ◌&&◌, not, ◌+◌, ◌<◌, ◌^◌, ◌≤◌, ◌≤ℤ◌, ◌+ℤ◌, pos, false, slice_get, vec_capacity, vec_len, IfSome, length, if◌then◌else◌, Some};
 ghost use Rattle.std.specs.List.{AllByRecursion};
 ghost use Rattle.mse_base.specs.Time.{IsTick};
 ghost use Rattle.mse_base.specs.Moments.{is_before, least, greatest};
@@ -103,23 +103,13 @@ fn highest_start(frames: &[Stored]) -> Option<Ticks>
     best
 }
 
-fn end_of(stored: &Stored) -> Ticks
-    requires { IsTick (stored.now.frame.pts +ℤ stored.now.frame.dur) }
-    ensures { result ≡ stored.now.frame.pts +ℤ stored.now.frame.dur }
-{
-    match stored.frame.pts.checked_add(stored.frame.dur) {
-        Some(end) => end,
-        None => unreachable!(),
-    }
-}
-
 fn highest_end(frames: &[Stored]) -> Option<Ticks>
     requires { AllByRecursion IsTimed frames.now }
     ensures { result ≡ greatest (ends frames.now) }
 {
     let mut best = None;
     for stored in frames {
-        best = end_of(stored).greater_of(best);
+        best = stored.end().greater_of(best);
     }
     best
 }
@@ -141,13 +131,13 @@ fn interval(stored: &Stored) -> Span
 {
     Span {
         start: stored.frame.pts,
-        end: end_of(stored),
+        end: stored.end(),
     }
 }
 
 /// Makes the ranges anew from all frames.
 fn rejoin(ranges: &mut Ranges, frames: &[Stored], gap: Ticks)
-    requires gap_not_negative { pos 0 ≤ℤ gap }
+    requires gap_from_zero { pos 0 ≤ℤ gap }
     requires timed { AllByRecursion IsTimed frames.now }
     requires room { length frames.now ≤ ranges.old.spare + length ranges.old.spans }
     ensures spans { ranges.new.spans ≡ ranges_of gap frames.now }
@@ -172,7 +162,7 @@ pub struct ListStore {
 impl Model for ListStore {
     ghost use Rattle.std.specs.Prelude.{◌-◌, ◌+◌, length, min, vec_capacity, vec_len};
     ghost use Rattle.track_store.specs.Frames.{StoreState};
-    ghost use Rattle.track_store.specs.Listed.{IsListed};
+    ghost use Rattle.track_store.specs.Listed.{IsPlainStore};
 
     ghost Value = { StoreState };
 
@@ -183,7 +173,7 @@ impl Model for ListStore {
           ((s.ranges.spare + length s.ranges.spans) - vec_len s.items);
     } };
 
-    ghost invariant = { λ s. IsListed s.items.items s.ranges.spans s.gap
+    ghost invariant = { λ s. IsPlainStore s.items.items s.ranges.spans s.gap
         (s.ranges.spare + length s.ranges.spans) };
 }
 

@@ -30,6 +30,7 @@ fn greatest_serial_between<S: FrameStore>(store: &S, from: Ticks, to: &Moment) -
         (λ i. (i < length (S.frames store.now)) × IfSome (slice_get (S.frames store.now) i)
         (λ x. AreNamedWith x from to.now (S.frames store.now))) }
 {
+    // The proof reads off this that the serials ascend.
     store.serials_ascend();
     let len = store.len();
     if len == 0 {

@@ -3,7 +3,7 @@ ghost use Rattle.std.specs.List.{AllByRecursion, filter, position};
 ghost use Rattle.mse_base.specs.Time.{IsTick};
 ghost use Rattle.mse_base.specs.Spans.{reaches, last_of, ends_after, starts_before};
 ghost use Rattle.mse_base.specs.Moments.{least, greatest};
-ghost use Rattle.track_store.specs.Frames.{bytes_of, ends, ranges_of, has_serial, is_within, frames_without, frames_with_dur, group_start_of, overlapped, frame_at, sync_times_from, starts, IsKept};
+ghost use Rattle.track_store.specs.Frames.{bytes_of, ends, ranges_of, has_serial, is_within, frames_without, frames_with_dur, group_start_of, overlapped, frame_at, sync_times_from, starts, HasFrameInvariants};
 ghost use Rattle.track_store.specs.Sound.{HasPredecessor};
 ghost use Rattle.track_store.specs.declared.store.Stored.{Stored};
 
@@ -16,6 +16,19 @@ pub struct Stored {
     pub frame: CodedFrame,
     /// How many frames of the track were processed before it, dropped ones included.
     pub serial: u64,
+}
+
+impl Stored {
+    /// When the frame ends.
+    pub fn end(&self) -> Ticks
+        requires { IsTick (self.now.frame.pts +ℤ self.now.frame.dur) }
+        ensures { result ≡ self.now.frame.pts +ℤ self.now.frame.dur }
+    {
+        match self.frame.pts.checked_add(self.frame.dur) {
+            Some(end) => end,
+            None => unreachable!(),
+        }
+    }
 }
 
 /// The coded frames of one track, in the order in which they were appended.
@@ -41,13 +54,13 @@ pub trait FrameStore: Sized + Drop {
     /// What is true of every store, for proofs: it does nothing. Serials ascend, and the bytes
     /// stored can be counted.
     fn serials_ascend(&self)
-        ensures { IsKept (frames self.now) };
+        ensures { HasFrameInvariants (frames self.now) };
 
     /// Makes room for `n` more frames.
     fn reserve(&mut self, n: usize) -> Result<(), OutOfMemory>
         ensures frames { frames self.new ≡ frames self.old }
         ensures ok { OnOk result (n ≤ spare self.new) }
-        ensures kept { spare self.old ≤ spare self.new }
+        ensures room_stays { spare self.old ≤ spare self.new }
         ensures gap { gap self.new ≡ gap self.old };
 
     /// Appends a frame.
@@ -57,7 +70,7 @@ pub trait FrameStore: Sized + Drop {
         requires predecessor { frame.frame.sync ≡ false
             → HasPredecessor frame.serial (frames self.old) }
         requires dur_not_negative { pos 0 ≤ℤ frame.frame.dur }
-        requires in_range { IsTick (frame.frame.pts +ℤ frame.frame.dur) }
+        requires is_tick { IsTick (frame.frame.pts +ℤ frame.frame.dur) }
         requires small { bytes_of (frames self.old) + length frame.frame.payload < 2 ^ 62 }
         ensures frames { frames self.new ≡ frames self.old ++ frame ∷ [] }
         ensures spare { spare self.old ≤ spare self.new + 1 }

@@ -137,7 +137,7 @@ impl<S: FrameStore> Tracks<S> {
     pub fn reserve(&mut self, n: usize) -> Result<(), OutOfMemory>
         ensures items { self.new.items ≡ self.old.items }
         ensures ok { OnOk result (n ≤ self.new.spare) }
-        ensures kept { self.old.spare ≤ self.new.spare }
+        ensures room_stays { self.old.spare ≤ self.new.spare }
     {
         self.items.reserve(n)?;
         Ok(())
@@ -166,7 +166,7 @@ impl<S: FrameStore> Tracks<S> {
         self.items.get(i)
     }
 
-    // The bytes that are stored in the track buffer at a place, where there is one.
+    /// The bytes that are stored in the track buffer at a place, where there is one.
     fn used_at(&self, i: usize) -> u64
         ensures value { IfSome (slice_get (states_of S.frames self.now.items) i) (λ t. result
             ≡ bytes_of t.frames) }

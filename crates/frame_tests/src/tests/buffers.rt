@@ -1,8 +1,8 @@
 //! Worked examples on a plain store.
 
-ghost use Rattle.std.specs.Prelude.{◌≡◌, ◌≤◌, pos, ◌≤ℤ◌, length, IfOk, IfSome, OnOk};
-ghost use Rattle.std.specs.List.{AllByRecursion};
+ghost use Rattle.std.specs.Prelude.{◌≤◌, pos, ◌≤ℤ◌, IfOk};
 
+use super::media::not_negative;
 use mse_base::{
     Bytes, CodedFrame, Kind, Moment, Presentation, Ranges, Span, Ticks, TrackInfo, TrackList,
     convert,
@@ -28,12 +28,6 @@ const AUDIO: Told = (2, Kind::Audio, *b"mp4a");
 
 fn time(m: u32) -> Result<Ticks, Fail> {
     Ok(convert(i128::from(m), 90_000).ok_or("no time")?)
-}
-
-fn not_negative(t: Ticks) -> Option<Ticks>
-    ensures { IfSome result (λ u. pos 0 ≤ℤ u) }
-{
-    if t < Ticks::zero() { None } else { Some(t) }
 }
 
 fn frame_of(alloc: Global, sample: &Sample) -> Result<CodedFrame, Fail>

@@ -1,35 +1,12 @@
 //! Worked examples of eviction, on a plain store. Times are in milliseconds, a frame lasts 100 and
 //! has 4 bytes.
 
-ghost use Rattle.std.specs.Prelude.{◌≤◌, length};
-
-use super::frames::{Sample, store_of, time};
+use super::frames::{Sample, add_track, time};
 use eviction::evict;
 use mse_base::{Kind, Moment};
-use std::alloc::Global;
 use std::process::Abort;
 use std::test::Fail;
-use track_store::{FrameStore, ListStore, Marks, Track, Tracks};
-
-fn add_track<S: FrameStore>(
-    tracks: &mut Tracks<S>,
-    alloc: Global,
-    kind: Kind,
-    samples: &[Sample],
-) -> Result<(), Fail>
-    requires { length samples.now ≤ 100 }
-{
-    let store = store_of(alloc, samples)?;
-    tracks.reserve(1)?;
-    tracks.add(Track {
-        id: 1,
-        kind,
-        codec: *b"avc1",
-        store,
-        marks: Marks::new(),
-    });
-    Ok(())
-}
+use track_store::{FrameStore, ListStore, Marks, Tracks};
 
 fn assert_left<S: FrameStore>(
     rt: &impl Abort,
@@ -71,7 +48,7 @@ fn evicts_until_the_new_bytes_fit(rt: HostRuntime) -> Result<(), Fail> {
     ];
     for (position, new_bytes, quota, left) in cases {
         let mut tracks = Tracks::<ListStore>::new(rt.alloc());
-        add_track(&mut tracks, rt.alloc(), Kind::Audio, &SECONDS)?;
+        add_track(&mut tracks, rt.alloc(), Kind::Audio, &SECONDS, Marks::new())?;
         evict(
             &mut tracks,
             time(position)?,
@@ -88,7 +65,7 @@ fn evicts_until_the_new_bytes_fit(rt: HostRuntime) -> Result<(), Fail> {
 #[test]
 fn evicts_up_to_the_duration(rt: HostRuntime) -> Result<(), Fail> {
     let mut tracks = Tracks::<ListStore>::new(rt.alloc());
-    add_track(&mut tracks, rt.alloc(), Kind::Audio, &SECONDS)?;
+    add_track(&mut tracks, rt.alloc(), Kind::Audio, &SECONDS, Marks::new())?;
     let end = time(2100)?;
     evict(&mut tracks, end, 4, 0, Moment::At(end));
     assert_left(&rt, &tracks, 0, &[])?;
@@ -106,8 +83,9 @@ fn evicts_by_the_first_video_track(rt: HostRuntime) -> Result<(), Fail> {
         rt.alloc(),
         Kind::Audio,
         &[(0, true), (500, true), (1000, true)],
+        Marks::new(),
     )?;
-    add_track(&mut tracks, rt.alloc(), Kind::Video, &video)?;
+    add_track(&mut tracks, rt.alloc(), Kind::Video, &video, Marks::new())?;
     evict(&mut tracks, time(0)?, 4, 20, Moment::Infinite);
     assert_left(&rt, &tracks, 0, &[0, 500])?;
     assert_left(&rt, &tracks, 1, &[0, 500])
@@ -117,7 +95,7 @@ fn evicts_by_the_first_video_track(rt: HostRuntime) -> Result<(), Fail> {
 #[test]
 fn evicts_without_a_duration(rt: HostRuntime) -> Result<(), Fail> {
     let mut tracks = Tracks::<ListStore>::new(rt.alloc());
-    add_track(&mut tracks, rt.alloc(), Kind::Audio, &SECONDS)?;
+    add_track(&mut tracks, rt.alloc(), Kind::Audio, &SECONDS, Marks::new())?;
     evict(&mut tracks, time(3000)?, 100, 1, Moment::Nan);
     assert_left(&rt, &tracks, 0, &[2000])
 }
@@ -128,9 +106,9 @@ fn evicts_without_a_duration(rt: HostRuntime) -> Result<(), Fail> {
 fn evicts_around_the_position(rt: HostRuntime) -> Result<(), Fail> {
     let mut tracks = Tracks::<ListStore>::new(rt.alloc());
     let video = [(0, true), (1200, false), (1000, true)];
-    add_track(&mut tracks, rt.alloc(), Kind::Video, &video)?;
+    add_track(&mut tracks, rt.alloc(), Kind::Video, &video, Marks::new())?;
     let audio = [(0, true), (1100, false), (1500, true)];
-    add_track(&mut tracks, rt.alloc(), Kind::Audio, &audio)?;
+    add_track(&mut tracks, rt.alloc(), Kind::Audio, &audio, Marks::new())?;
     evict(&mut tracks, time(1300)?, 4, 24, Moment::Infinite);
     assert_left(&rt, &tracks, 0, &[1000])?;
     assert_left(&rt, &tracks, 1, &[1500])

@@ -1,12 +1,12 @@
 //! Coded frames in a plain store, worked by hand: of 100 ms and 4 bytes, and how long any frame lasts.
 
-ghost use Rattle.std.specs.Prelude.{◌≡◌, ◌≤◌, ◌+ℤ◌, pos, ◌≤ℤ◌, true, length, IfOk, IfSome};
+ghost use Rattle.std.specs.Prelude.{◌≡◌, ◌≤◌, ◌+ℤ◌, pos, ◌≤ℤ◌, length, IfOk, IfSome};
 ghost use Rattle.mse_base.specs.Time.{IsTick};
 
-use mse_base::{Bytes, CodedFrame, Ticks, convert};
+use mse_base::{Bytes, CodedFrame, Kind, Ticks, convert};
 use std::alloc::Global;
 use std::test::Fail;
-use track_store::{FrameStore, Stored};
+use track_store::{FrameStore, Marks, Stored, Track, Tracks};
 
 /// Presentation timestamp, and whether it is a random access point.
 pub(super) type Sample = (u16, bool);
@@ -19,7 +19,7 @@ pub(super) fn time(ms: u16) -> Result<Ticks, Fail> {
 /// The duration of a frame from `pts`; none where it is negative, or where the end is no tick.
 pub(super) fn duration_from(pts: Ticks, dur: Ticks) -> Option<Ticks>
     ensures dur_not_negative { IfSome result (λ d. pos 0 ≤ℤ d) }
-    ensures in_range { IfSome result (λ d. IsTick (pts +ℤ d)) }
+    ensures is_tick { IfSome result (λ d. IsTick (pts +ℤ d)) }
 {
     let end = pts.checked_add(dur)?;
     let _in_range = end.get();
@@ -31,8 +31,8 @@ pub(super) fn frame_of(alloc: Global, serial: u64, ms: u16, sync: bool) -> Resul
     ensures serial { IfOk result (λ f. f.serial ≡ serial) }
     ensures sync { IfOk result (λ f. f.frame.sync ≡ sync) }
     ensures dur_not_negative { IfOk result (λ f. pos 0 ≤ℤ f.frame.dur) }
-    ensures in_range { IfOk result (λ f. IsTick (f.frame.pts +ℤ f.frame.dur)) }
-    ensures small { IfOk result (λ f. length f.frame.payload ≡ 4) }
+    ensures is_tick { IfOk result (λ f. IsTick (f.frame.pts +ℤ f.frame.dur)) }
+    ensures four_bytes { IfOk result (λ f. length f.frame.payload ≡ 4) }
 {
     let pts = time(ms)?;
     let dur = duration_from(pts, time(100)?).ok_or("no duration")?;
@@ -61,4 +61,26 @@ pub(super) fn store_of<S: FrameStore>(alloc: Global, samples: &[Sample]) -> Resu
         store.add(frame);
     }
     Ok(store)
+}
+
+/// A track with these marks that holds the frames of samples.
+pub(super) fn add_track<S: FrameStore>(
+    tracks: &mut Tracks<S>,
+    alloc: Global,
+    kind: Kind,
+    samples: &[Sample],
+    marks: Marks,
+) -> Result<(), Fail>
+    requires { length samples.now ≤ 100 }
+{
+    let store = store_of(alloc, samples)?;
+    tracks.reserve(1)?;
+    tracks.add(Track {
+        id: 1,
+        kind,
+        codec: *b"avc1",
+        store,
+        marks,
+    });
+    Ok(())
 }

@@ -1,163 +1,32 @@
 //! Worked examples of coded frame processing, on a plain store. Times are told in media time, and
 //! ranges in ticks.
 
-ghost use Rattle.std.specs.Prelude.{◌≡◌, ◌<◌, ◌≤◌, ◌^◌, [], ℤ, pos, ◌≤ℤ◌, length, IfOk, IfSome, slice_get, OnOk};
-ghost use Rattle.track_store.specs.State.{state_of, states_of};
+ghost use Rattle.std.specs.Prelude.{◌≡◌, ◌<◌, ◌≤◌, ◌^◌, pos, ◌≤ℤ◌, length, IfOk, IfSome, slice_get};
+ghost use Rattle.track_store.specs.State.{states_of};
 ghost use Rattle.track_store.specs.Sound.{IsSound};
-ghost use Rattle.track_store.specs.Kept.{bytes_in, AreKept};
+ghost use Rattle.track_store.specs.Kept.{bytes_in, AreTracksSound};
 
+use super::media::{
+    Sample, empty_track, feed, feed_all, frame_of, not_negative, one_track, reserve_at, segments,
+    time,
+};
 use frame_rules::{Placed, Why, place};
-use mse_base::{Bytes, CodedFrame, Kind, Moment, OutOfMemory, Ticks, convert};
+use mse_base::{Bytes, CodedFrame, Kind, OutOfMemory, Ticks};
 use std::alloc::Global;
 use std::process::Abort;
 use std::test::Fail;
-use track_store::{FrameStore, ListStore, Marks, Settings, Track, Tracks};
-
-/// Decode time, duration, composition offset, and whether it is a random access point.
-type Sample = (u32, u32, i32, bool);
-
-fn not_negative(t: Ticks) -> Option<Ticks>
-    ensures { IfSome result (λ u. pos 0 ≤ℤ u) }
-{
-    if t < Ticks::zero() { None } else { Some(t) }
-}
-
-fn time(m: i128, scale: u32) -> Result<Ticks, Fail> {
-    if m.unsigned_abs() > 1 << 80 || scale == 0 {
-        return Err("no media time".into());
-    }
-    Ok(convert(m, scale).ok_or("no time")?)
-}
-
-fn frame_of(alloc: Global, scale: u32, sample: &Sample) -> Result<CodedFrame, Fail>
-    ensures { IfOk result (λ f. pos 0 ≤ℤ f.dur) }
-{
-    let (decode, duration, offset, sync) = *sample;
-    let begin = i128::from(decode) + i128::from(offset);
-    let pts = time(begin, scale)?;
-    let dts = time(i128::from(decode), scale)?;
-    let end = time(begin + i128::from(duration), scale)?;
-    let length = end.checked_sub(pts).ok_or("no duration")?;
-    let dur = not_negative(length).ok_or("no duration")?;
-    let payload = Bytes::copy_of(alloc, &[0; 4])?;
-    Ok(CodedFrame {
-        track_id: 1,
-        pts,
-        dts,
-        dur,
-        sync,
-        payload,
-    })
-}
-
-/// The settings of a new source buffer.
-fn segments() -> Settings
-    ensures { pos 0 ≤ℤ result.window_start }
-{
-    Settings {
-        sequence: false,
-        generate: false,
-        offset: Ticks::zero(),
-        window_start: Ticks::zero(),
-        window_end: Moment::Infinite,
-        group_start: None,
-        group_end: Ticks::zero(),
-    }
-}
-
-fn empty_track<S: FrameStore>(alloc: Global, kind: Kind, received: u64) -> Track<S>
-    requires { received ≤ 2 ^ 62 }
-    ensures empty { S.frames result.store ≡ [] }
-    ensures sound { IsSound (state_of S.frames result) }
-{
-    let mut marks = Marks::new();
-    marks.received = received;
-    Track {
-        id: 1,
-        kind,
-        codec: *b"avc1",
-        store: S::new(alloc, Ticks::zero()),
-        marks,
-    }
-}
-
-/// One track with no frames.
-fn one_track<S: FrameStore>(
-    alloc: Global,
-    kind: Kind,
-    received: u64,
-) -> Result<Tracks<S>, OutOfMemory>
-    requires { received ≤ 2 ^ 62 }
-    ensures one { IfOk result (λ ts. length ts.items ≡ 1) }
-    ensures kept { IfOk result (λ ts. AreKept (states_of S.frames ts.items)) }
-{
-    let mut tracks = Tracks::new(alloc);
-    tracks.reserve(1)?;
-    tracks.add(empty_track(alloc, kind, received));
-    Ok(tracks)
-}
+use track_store::{FrameStore, ListStore, Marks, Settings, Tracks};
 
 /// Two tracks with no frames.
 fn two_tracks<S: FrameStore>(alloc: Global) -> Result<Tracks<S>, OutOfMemory>
     ensures two { IfOk result (λ ts. length ts.items ≡ 2) }
-    ensures kept { IfOk result (λ ts. AreKept (states_of S.frames ts.items)) }
+    ensures sound { IfOk result (λ ts. AreTracksSound (states_of S.frames ts.items)) }
 {
     let mut tracks = Tracks::new(alloc);
     tracks.reserve(2)?;
     tracks.add(empty_track(alloc, Kind::Video, 0));
     tracks.add(empty_track(alloc, Kind::Audio, 0));
     Ok(tracks)
-}
-
-fn reserve_at<S: FrameStore>(tracks: &mut Tracks<S>, index: usize) -> Result<(), OutOfMemory>
-    ensures ok { OnOk result (IfSome (slice_get tracks.new.items index)
-        (λ t. 1 ≤ S.spare t.store)) }
-    ensures states { states_of S.frames tracks.new.items ≡ states_of S.frames tracks.old.items }
-    ensures len { length tracks.new.items ≡ length tracks.old.items }
-{
-    match tracks.get_mut(index) {
-        Some(track) => track.store.reserve(1),
-        None => Ok(()),
-    }
-}
-
-fn feed<S: FrameStore>(
-    tracks: &mut Tracks<S>,
-    settings: &mut Settings,
-    index: usize,
-    frame: CodedFrame,
-) -> Result<Placed, OutOfMemory>
-    requires in_range { index < length tracks.old.items }
-    requires kept { AreKept (states_of S.frames tracks.old.items) }
-    requires window_start { pos 0 ≤ℤ settings.old.window_start }
-    requires dur_not_negative { pos 0 ≤ℤ frame.dur }
-    ensures len { length tracks.new.items ≡ length tracks.old.items }
-    ensures kept { AreKept (states_of S.frames tracks.new.items) }
-    ensures window_start { pos 0 ≤ℤ settings.new.window_start }
-{
-    reserve_at(tracks, index)?;
-    Ok(place(tracks, settings, index, frame))
-}
-
-fn feed_all<S: FrameStore>(
-    alloc: Global,
-    tracks: &mut Tracks<S>,
-    settings: &mut Settings,
-    scale: u32,
-    samples: &[Sample],
-) -> Result<(), Fail>
-    requires one { length tracks.old.items ≡ 1 }
-    requires kept { AreKept (states_of S.frames tracks.old.items) }
-    requires window_start { pos 0 ≤ℤ settings.old.window_start }
-    ensures one { length tracks.new.items ≡ 1 }
-    ensures kept { AreKept (states_of S.frames tracks.new.items) }
-    ensures window_start { pos 0 ≤ℤ settings.new.window_start }
-{
-    for sample in samples {
-        let frame = frame_of(alloc, scale, sample)?;
-        let _placed = feed(tracks, settings, 0, frame)?;
-    }
-    Ok(())
 }
 
 /// Two tracks with no frames, of which the second claims to hold the frame it received last.
@@ -185,10 +54,10 @@ fn feed_at<S: FrameStore>(
     want: Placed,
 ) -> Result<(), Fail>
     requires in_range { index < length tracks.old.items }
-    requires kept { AreKept (states_of S.frames tracks.old.items) }
+    requires sound { AreTracksSound (states_of S.frames tracks.old.items) }
     requires window_start { pos 0 ≤ℤ settings.old.window_start }
     ensures len { length tracks.new.items ≡ length tracks.old.items }
-    ensures kept { AreKept (states_of S.frames tracks.new.items) }
+    ensures sound { AreTracksSound (states_of S.frames tracks.new.items) }
     ensures window_start { pos 0 ≤ℤ settings.new.window_start }
 {
     let frame = frame_of(rt.alloc(), 1000, sample)?;
@@ -250,7 +119,7 @@ fn first_call(
     sync: bool,
 ) -> Result<(Placed, Marks, usize), Fail>
     requires window_start { pos 0 ≤ℤ settings.old.window_start }
-    requires count { received ≤ 2 ^ 62 }
+    requires few { received ≤ 2 ^ 62 }
 {
     let mut tracks = one_track::<ListStore>(alloc, Kind::Video, received)?;
     let begin = Ticks::new(i128::from(pts)).ok_or("no time")?;

@@ -1,12 +1,9 @@
 //! Worked examples of coded frame removal, on a plain store. Times are in milliseconds, and a
 //! frame lasts 100.
 
-ghost use Rattle.std.specs.Prelude.{◌≤◌, length};
-
-use super::frames::{Sample, frame_of, store_of, time};
+use super::frames::{Sample, add_track, frame_of, time};
 use mse_base::{Kind, Moment, Ticks};
 use range_removal::remove_frames;
-use std::alloc::Global;
 use std::process::Abort;
 use std::test::Fail;
 use track_store::{FrameStore, ListStore, Marks, Track, Tracks};
@@ -21,25 +18,6 @@ fn marked(received: usize) -> Marks {
         need_sync: false,
         received: received as u64,
     }
-}
-
-fn add_track<S: FrameStore>(
-    tracks: &mut Tracks<S>,
-    alloc: Global,
-    samples: &[Sample],
-) -> Result<(), Fail>
-    requires { length samples.now ≤ 100 }
-{
-    let store = store_of(alloc, samples)?;
-    tracks.reserve(1)?;
-    tracks.add(Track {
-        id: 1,
-        kind: Kind::Video,
-        codec: *b"avc1",
-        store,
-        marks: marked(samples.len()),
-    });
-    Ok(())
 }
 
 /// What a removal leaves of a track: the presentation timestamps, and whether the marks are kept.
@@ -71,7 +49,13 @@ fn removes_to_the_end(rt: HostRuntime) -> Result<(), Fail> {
     let cases: [(u16, &[u16]); 3] = [(200, &[0]), (0, &[]), (301, &[0, 300, 100, 200])];
     for (start, left) in cases {
         let mut tracks = Tracks::<ListStore>::new(rt.alloc());
-        add_track(&mut tracks, rt.alloc(), &REORDERED)?;
+        add_track(
+            &mut tracks,
+            rt.alloc(),
+            Kind::Video,
+            &REORDERED,
+            marked(REORDERED.len()),
+        )?;
         remove_frames(
             &mut tracks,
             time(start)?,
@@ -94,7 +78,13 @@ fn removes_up_to_the_next_random_access_point(rt: HostRuntime) -> Result<(), Fai
         (300, false),
     ];
     let mut tracks = Tracks::<ListStore>::new(rt.alloc());
-    add_track(&mut tracks, rt.alloc(), &samples)?;
+    add_track(
+        &mut tracks,
+        rt.alloc(),
+        Kind::Video,
+        &samples,
+        marked(samples.len()),
+    )?;
     let end = Moment::At(time(160)?);
     remove_frames(&mut tracks, time(150)?, end, Moment::Infinite);
     assert_left(&rt, &tracks, 0, &[0, 200, 300], true)
@@ -104,7 +94,13 @@ fn removes_up_to_the_next_random_access_point(rt: HostRuntime) -> Result<(), Fai
 #[test]
 fn removes_up_to_the_duration(rt: HostRuntime) -> Result<(), Fail> {
     let mut tracks = Tracks::<ListStore>::new(rt.alloc());
-    add_track(&mut tracks, rt.alloc(), &REORDERED)?;
+    add_track(
+        &mut tracks,
+        rt.alloc(),
+        Kind::Video,
+        &REORDERED,
+        marked(REORDERED.len()),
+    )?;
     let (end, duration) = (Moment::At(time(10)?), Moment::At(time(250)?));
     remove_frames(&mut tracks, time(200)?, end, duration);
     assert_left(&rt, &tracks, 0, &[0, 300, 100], false)
@@ -114,12 +110,10 @@ fn removes_up_to_the_duration(rt: HostRuntime) -> Result<(), Fail> {
 #[test]
 fn removes_from_two_tracks(rt: HostRuntime) -> Result<(), Fail> {
     let mut tracks = Tracks::<ListStore>::new(rt.alloc());
-    add_track(&mut tracks, rt.alloc(), &[(0, true), (100, false)])?;
-    add_track(
-        &mut tracks,
-        rt.alloc(),
-        &[(0, true), (100, true), (200, true)],
-    )?;
+    let short = [(0, true), (100, false)];
+    add_track(&mut tracks, rt.alloc(), Kind::Video, &short, marked(2))?;
+    let long = [(0, true), (100, true), (200, true)];
+    add_track(&mut tracks, rt.alloc(), Kind::Video, &long, marked(3))?;
     let end = Moment::At(time(150)?);
     remove_frames(&mut tracks, time(100)?, end, Moment::Infinite);
     assert_left(&rt, &tracks, 0, &[0], false)?;

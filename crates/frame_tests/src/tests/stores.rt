@@ -15,7 +15,7 @@ use track_store::{FrameStore, ListStore, Marks, Stored, Track, Tracks};
 fn first_frame(alloc: Global) -> Result<Stored, Fail>
     ensures sync { IfOk result (λ f. f.frame.sync ≡ true) }
     ensures timed { IfOk result (λ f. IsTimed f) }
-    ensures small { IfOk result (λ f. length f.frame.payload ≡ 4) }
+    ensures four_bytes { IfOk result (λ f. length f.frame.payload ≡ 4) }
 {
     let dur = Ticks::new(10).ok_or("no time")?;
     let payload = Bytes::copy_of(alloc, b"1234")?;

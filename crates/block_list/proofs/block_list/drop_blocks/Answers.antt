@@ -1,6 +1,6 @@
 use Rattle.std.proofs.Common.{◌≡◌, ◌∙◌, ◌≤◌, ◌-◌, ◌++◌, ℕ, suc, List, length, take, drop, remove, vec_capacity, ap, sym, arith, take-append-drop}
 use Rattle.std.proofs.lemmas.List.{length-take-le, length-append}
-use Rattle.block_list.specs.Rows.{joined}
+use Rattle.mse_base.specs.Rows.{joined}
 use Rattle.block_list.proofs.Joining.{less_rows, less_items}
 use Rattle.block_list.proofs.Keeping.{listed_less, one_more}
 use Rattle.block_list.proofs.block_list.drop_blocks.Goals as goal

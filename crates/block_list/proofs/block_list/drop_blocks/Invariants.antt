@@ -1,5 +1,6 @@
 use Rattle.std.proofs.Common.{◌≡◌, ◌≤◌, ◌+◌, ◌-◌, ◌++◌, ℕ, length, take, drop, vec_capacity}
-use Rattle.block_list.specs.Rows.{IsListed, joined}
+use Rattle.mse_base.specs.Rows.{joined}
+use Rattle.block_list.specs.Rows.{IsListed}
 use Rattle.block_list.proofs.block_list.drop_blocks.Given as goal
 
 abbrev pub invariant-dropping : goal.invariant-dropping

@@ -1,6 +1,7 @@
 use Rattle.std.proofs.Common.{◌≡◌, ◌∙◌, ◌+◌, ◌-◌, ◌*◌, ◌<◌, ◌≤◌, ℕ, suc, List, length, set, insert, ap, sym, subst, arith, length-drop, false, eqb, Bool}
 use Rattle.std.proofs.lemmas.List.{length-take-le}
-use Rattle.block_list.specs.Rows.{row, start, split_row, AreShort}
+use Rattle.mse_base.specs.Rows.{row, start, split_row}
+use Rattle.block_list.specs.Rows.{AreShort}
 use Rattle.block_list.proofs.Joining.{apart_left, apart_right, Apart, left_row, right_row, length_split, split_last}
 use Rattle.block_list.proofs.block_list.put_apart.Goals as goal
 
@@ -35,9 +36,9 @@ the_right half rows mid new b i s x last e f l h a k w o m n v u = subst (λ q. 
 pub returns-then-i-s : goal.returns-then-i-s
 returns-then-i-s g c =
     let p = the_left c.args.half c.args.blocks.now.items c.split_at.new.blocks.items c.put_in.new.blocks.items c.args.b c.args.i c.cut_place-s.result c.args.x false c.split_at.ensures.rows c.put_in.ensures.rows c.requires.block c.requires.full c.requires.short c.if-i-s.true c.cut_place-s.ensures.left in
-    record { items = p.items; short = p.short; held = p.held; len = p.len; front = p.front; rest = p.rest; capacity = c.put_in.ensures.capacity ∙ c.split_at.ensures.capacity }
+    record { items = p.items; short = p.short; used_room = p.used_room; len = p.len; front = p.front; rest = p.rest; capacity = c.put_in.ensures.capacity ∙ c.split_at.ensures.capacity }
 
 pub returns-else-i-s : goal.returns-else-i-s
 returns-else-i-s g c =
     let p = the_right c.args.half c.args.blocks.now.items c.split_at.new.blocks.items c.put_in-else-i-s.new.blocks.items c.args.b c.args.i c.cut_place-s.result c.args.x (eqb (c.args.b + 1) c.len.result) c.split_at.ensures.rows c.put_in-else-i-s.ensures.rows c.requires.block c.requires.full c.requires.short c.if-i-s.false c.requires.within c.requires.some c.cut_place-s.ensures.at_least_half c.cut_place-s.ensures.at_most_full (ap (eqb (c.args.b + 1)) (c.len.ensures ∙ c.args.blocks.now.ok.0)) c.cut_place-s.ensures.middle in
-    record { items = p.items; short = p.short; held = p.held; len = p.len; front = p.front; rest = p.rest; capacity = c.put_in-else-i-s.ensures.capacity ∙ c.split_at.ensures.capacity }
+    record { items = p.items; short = p.short; used_room = p.used_room; len = p.len; front = p.front; rest = p.rest; capacity = c.put_in-else-i-s.ensures.capacity ∙ c.split_at.ensures.capacity }

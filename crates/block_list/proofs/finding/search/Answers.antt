@@ -1,6 +1,6 @@
 use Rattle.std.proofs.Common.{◌≡◌, ◌+◌, ◌-◌, ◌∷◌, ◌<◌, ◌++◌, ℕ, List, [], true, false, take, drop, length, subst, ap, arith}
 use Rattle.std.specs.List.{AllByRecursion}
-use Rattle.block_list.specs.Rows.{joined, row}
+use Rattle.mse_base.specs.Rows.{joined, row}
 use Rattle.block_list.proofs.Cutting.{cut_row}
 use Rattle.block_list.proofs.Ranging.{take_at, drop_at}
 use Rattle.block_list.proofs.finding.search.Goals as goal

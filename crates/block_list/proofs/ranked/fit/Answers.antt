@@ -9,8 +9,8 @@ lower-requires-clause-len g c = c.requires.long ∙ length_starts 0 c.args.list.
 pub lower-requires-clause-in_order : goal.lower-requires-clause-in_order
 lower-requires-clause-in_order g c = omega (arith, c.requires.within, length_starts 0 c.args.list.now.rows, c.blocks-blocks.ensures)
 
-pub returns-clause-kept : goal.returns-clause-kept
-returns-clause-kept g c =
+pub returns-clause-starts : goal.returns-clause-starts
+returns-clause-starts g c =
     let rows = c.args.list.now.rows in
     let n = length_starts 0 rows in
     record {

@@ -1,5 +1,5 @@
 use Rattle.std.proofs.Common.{◌≡◌, ◌≤◌, ◌-◌, length, take, drop, vec_capacity}
-use Rattle.block_list.specs.Starts.{starts_of, raised}
+use Rattle.block_list.specs.Starts.{starts_of, plus_each}
 use Rattle.block_list.proofs.ranked.lower.Given as goal
 
 abbrev pub invariant-loop-b : goal.invariant-loop-b
@@ -7,7 +7,7 @@ invariant-loop-b g l = record {
   long : length l.starts.items ≡ length l.list.rows;
   within : l.b ≤ l.to;
   front : take l.b l.starts.items ≡ take l.b (starts_of l.list.rows);
-  rest : drop l.b l.starts.items ≡ raised l.excess (drop l.b (starts_of l.list.rows));
+  rest : drop l.b l.starts.items ≡ plus_each l.excess (drop l.b (starts_of l.list.rows));
   room : vec_capacity l.starts ≡ vec_capacity l.fn.starts;
 }
 

@@ -1,5 +1,5 @@
 use Rattle.std.proofs.Common.{◌≡◌, ◌≤◌, ◌-◌, length, take, drop, vec_capacity}
-use Rattle.block_list.specs.Rows.{start}
+use Rattle.mse_base.specs.Rows.{start}
 use Rattle.block_list.specs.Starts.{starts_of}
 use Rattle.block_list.proofs.ranked.restart.Given as goal
 

@@ -5,19 +5,19 @@ use Rattle.block_list.proofs.Starting.{length_starts, start_at, kept_high}
 use Rattle.block_list.proofs.ranked.settle.Goals as goal
 
 pub lower-requires-clause-len : goal.lower-requires-clause-len
-lower-requires-clause-len g c = c.requires.kept.long ∙ length_starts 0 c.args.list.now.rows
+lower-requires-clause-len g c = c.requires.starts.long ∙ length_starts 0 c.args.list.now.rows
 
 pub raise-requires-clause-len : goal.raise-requires-clause-len
-raise-requires-clause-len g c = c.requires.kept.long ∙ length_starts 0 c.args.list.now.rows
+raise-requires-clause-len g c = c.requires.starts.long ∙ length_starts 0 c.args.list.now.rows
 
 pub raise-requires-clause-within : goal.raise-requires-clause-within
-raise-requires-clause-within g c = omega (arith, c.requires.kept.within, length_starts 0 c.args.list.now.rows)
+raise-requires-clause-within g c = omega (arith, c.requires.starts.within, length_starts 0 c.args.list.now.rows)
 
 pub raise-requires-clause-fits : goal.raise-requires-clause-fits
 raise-requires-clause-fits g c =
     let ks = c.args.starts.now.items in
     let rows = c.args.list.now.rows in
-    let h = c.requires.kept in
+    let h = c.requires.starts in
     let v = c.index-first.result.now in
     let n = length_starts 0 rows in
     let k : c.args.settled < length ks = omega (arith, c.if-settled-len.true, c.len.ensures) in
@@ -26,15 +26,15 @@ raise-requires-clause-fits g c =
     omega (arith, at, start_at 0 rows c.args.settled v l, c.type_inv._first.fits)
 
 pub raise-requires-2-clause-len : goal.raise-requires-2-clause-len
-raise-requires-2-clause-len g c = c.requires.kept.long ∙ length_starts 0 c.args.list.now.rows
+raise-requires-2-clause-len g c = c.requires.starts.long ∙ length_starts 0 c.args.list.now.rows
 
 pub raise-requires-2-clause-within : goal.raise-requires-2-clause-within
-raise-requires-2-clause-within g c = omega (arith, c.requires.kept.within, length_starts 0 c.args.list.now.rows)
+raise-requires-2-clause-within g c = omega (arith, c.requires.starts.within, length_starts 0 c.args.list.now.rows)
 
 pub raise-requires-2-clause-fits : goal.raise-requires-2-clause-fits
 raise-requires-2-clause-fits g c =
     let rows = c.args.list.now.rows in
-    let h = c.requires.kept in
+    let h = c.requires.starts in
     let n = length_starts 0 rows in
     let e : c.args.settled ≡ length rows = omega (arith, c.if-settled-len.false, c.len.ensures, h.within, h.long, n) in
     omega (arith, h.none (omega (arith, n)), start_all rows c.args.settled e, c.len-len.ensures)

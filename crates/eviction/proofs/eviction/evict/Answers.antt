@@ -1,5 +1,5 @@
 use Rattle.std.proofs.Common.{◌∙◌, sym, subst, List}
-use Rattle.track_store.specs.Kept.{AreKept, AreEndedBy, AreStillSound}
+use Rattle.track_store.specs.Kept.{AreTracksSound, AreEndedBy, AreStillSound}
 use Rattle.track_store.specs.State.{TrackState, states_of}
 use Rattle.range_removal.proofs.Rooms.{keeps_both, room_kept, same_length}
 use Rattle.track_store.proofs.StillSound.{still_same}
@@ -19,8 +19,8 @@ returns-then-is_below_quota-clause-sound g c = still_same (states_of g.S.FrameSt
 pub returns-clause-sound : goal.returns-clause-sound
 returns-clause-sound g c = subst (λ (us : List TrackState). AreStillSound (states_of g.S.FrameStore.frames c.args.tracks.now.items) us) (sym (returns-clause-states g c)) (still_evicted c.args.position c.args.new_bytes c.args.quota c.args.duration (states_of g.S.FrameStore.frames c.args.tracks.now.items))
 
-pub returns-clause-kept : goal.returns-clause-kept
-returns-clause-kept g c = λ h. subst AreKept (sym (returns-clause-states g c)) (kept_evicted c.args.position c.args.new_bytes c.args.quota c.args.duration (states_of g.S.FrameStore.frames c.args.tracks.now.items) h)
+pub returns-clause-tracks_sound : goal.returns-clause-tracks_sound
+returns-clause-tracks_sound g c = λ h. subst AreTracksSound (sym (returns-clause-states g c)) (kept_evicted c.args.position c.args.new_bytes c.args.quota c.args.duration (states_of g.S.FrameStore.frames c.args.tracks.now.items) h)
 
 pub returns-clause-ends : goal.returns-clause-ends
 returns-clause-ends g c = λ limit h. subst (AreEndedBy limit) (sym (returns-clause-states g c)) (ends_evicted c.args.position c.args.new_bytes c.args.quota c.args.duration limit (states_of g.S.FrameStore.frames c.args.tracks.now.items) h)

@@ -1,7 +1,4 @@
-use Rattle.std.proofs.Common.{◌∙◌, ap}
-use Rattle.mse_base.specs.declared.ticks.Moment.{Moment}
 use Rattle.track_store.specs.State.{states_of}
-use Rattle.range_removal.specs.Removal.{tracks_after_removal}
 use Rattle.eviction.proofs.Evictions.{after_removed, fewer_after}
 use Rattle.eviction.proofs.eviction.evict_after_step.Goals as goal
 
@@ -11,7 +8,7 @@ returns-then-remove_while_full-clause-states g c =
     let ts = states_of F c.args.tracks.now.items in
     let us = states_of F c.remove_while_full.new.tracks.items in
     let d = c.args.duration.now in
-    let is = c.if-remove_while_full.ensures.states ∙ ap (λ (e : Moment). tracks_after_removal c.in-Some.start e d ts) c.time_or-end.ensures in
+    let is = c.if-remove_while_full.ensures.states in
     after_removed c.args.need.now.new_bytes c.args.need.now.quota c.args.position c.args.lead d c.args.next.now c.in-Some.start ts us c.in-Some.ensures c.if-remove_while_full.ensures.answer is
 
 pub returns-then-remove_while_full-clause-fewer : goal.returns-then-remove_while_full-clause-fewer
@@ -20,5 +17,5 @@ returns-then-remove_while_full-clause-fewer g c =
     let ts = states_of F c.args.tracks.now.items in
     let us = states_of F c.remove_while_full.new.tracks.items in
     let d = c.args.duration.now in
-    let is = c.if-remove_while_full.ensures.states ∙ ap (λ (e : Moment). tracks_after_removal c.in-Some.start e d ts) c.time_or-end.ensures in
+    let is = c.if-remove_while_full.ensures.states in
     fewer_after c.args.lead c.args.position d c.args.next.now c.in-Some.start ts us c.in-Some.ensures is

@@ -1,7 +1,7 @@
 use Rattle.std.proofs.Common.{◌≡◌, ◌∙◌, ap, sym, slice_get, Some, option_copied}
 use Rattle.track_store.specs.Frames.{overlapped}
 use Rattle.track_store.proofs.Overlapping.{overlapped-covers}
-use Rattle.overlap_rules.proofs.Rules.{can_apply}
+use Rattle.overlap_rules.proofs.Rules.{applicable}
 use Rattle.overlap_rules.proofs.room.resolve_overlap.Goals as goal
 
 pub rule_for-rule-requires : goal.rule_for-rule-requires
@@ -11,11 +11,11 @@ rule_for-rule-requires g c =
     let over : overlapped c.args.pts fs ≡ Some c.in-Some-get.stored.now = sym c.in-Some.ensures.frame ∙ at in
     rw over at (overlapped-covers c.args.pts fs)
 
-pub apply-requires-clause-shorter : goal.apply-requires-clause-shorter
-apply-requires-clause-shorter g c =
+pub apply-requires-clause-applicable : goal.apply-requires-clause-applicable
+apply-requires-clause-applicable g c =
     let fs = g.S.FrameStore.frames c.args.store.now in
     let x = c.in-Some-get.stored.now in
     let at : slice_get fs c.in-Some.i ≡ Some x = sym c.get.ensures ∙ ap option_copied c.in-Some-get.is in
     let over : overlapped c.args.pts fs ≡ Some x = sym c.in-Some.ensures.frame ∙ at in
     let held = rw over at (overlapped-covers c.args.pts fs) in
-    rw (at, c.rule_for-rule.ensures) (can_apply c.args.kind c.args.pts x held)
+    rw (at, c.rule_for-rule.ensures) (applicable c.args.kind c.args.pts x held)

@@ -8,4 +8,4 @@ pub returns : goal.returns
 returns c = ap Shorten (tick_some _ _ (sym c.in-Some.ensures))
 
 pub unreachable-requires : goal.unreachable-requires
-unreachable-requires c = tick_none _ (sym c.in-None.ensures) (part_is_tick c.args.pts c.args.stored.now.frame.pts c.args.stored.now.frame.dur c.requires c.get-longest.ensures.in_range)
+unreachable-requires c = tick_none _ (sym c.in-None.ensures) (part_is_tick c.args.pts c.args.stored.now.frame.pts c.args.stored.now.frame.dur c.requires c.get-longest.ensures.is_tick)

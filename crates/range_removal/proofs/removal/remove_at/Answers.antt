@@ -1,5 +1,5 @@
 use Rattle.std.proofs.Common.{◌≡◌, ◌∙◌, ap, sym, set, map, slice_get, Some, None}
-use Rattle.std.specs.Option.{option_copied_mut, option_map}
+use Rattle.std.specs.Option.{option_copied_mut}
 use Rattle.std.proofs.lemmas.Option.{slice_get-map}
 use Rattle.std.proofs.lemmas.List.{map-set}
 use Rattle.track_store.specs.State.{TrackState, state_of}

@@ -1,6 +1,6 @@
 use Rattle.std.proofs.Common.{◌∙◌, ◌<◌, ◌≤◌, List, sym, subst, length, arith}
 use Rattle.std.proofs.lemmas.List.{length-map}
-use Rattle.track_store.specs.Kept.{AreKept, AreEndedBy, AreStillSound}
+use Rattle.track_store.specs.Kept.{AreTracksSound, AreEndedBy, AreStillSound}
 use Rattle.track_store.specs.State.{TrackState, states_of}
 use Rattle.range_removal.specs.Removal.{track_after_removal}
 use Rattle.range_removal.proofs.Loops.{written_more, all_written}
@@ -21,13 +21,13 @@ loop-i-preserved g c =
       end = c.loop-i.invariant.end;
     }
 
-pub returns-clause-kept : goal.returns-clause-kept
-returns-clause-kept g c =
+pub returns-clause-tracks_sound : goal.returns-clause-tracks_sound
+returns-clause-tracks_sound g c =
     let F = g.S.FrameStore.frames in
     let old = states_of F c.args.tracks.now.items in
     let past : length old ≤ c.loop-i.i = rw length-map (omega (arith, c.loop-i.invariant.end, c.loop-i-test.false)) in
     let is = all_written (track_after_removal c.args.start c.args.end c.args.duration) old (states_of F c.loop-i.tracks.items) c.loop-i.i past c.loop-i.invariant.states in
-    λ h. subst AreKept (sym is) (kept_removed c.args.start c.args.end c.args.duration old h)
+    λ h. subst AreTracksSound (sym is) (kept_removed c.args.start c.args.end c.args.duration old h)
 
 pub returns-clause-sound : goal.returns-clause-sound
 returns-clause-sound g c =

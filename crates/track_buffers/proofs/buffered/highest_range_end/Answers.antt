@@ -12,7 +12,7 @@ pub loop-i-preserved : goal.loop-i-preserved
 loop-i-preserved g c =
     let rs = ranges_in {S = g.row.S.Denot} g.S.FrameStore.frames g.S.FrameStore.gap c.args.tracks.now.items in
     let here : c.loop-i.i < length rs = rw length-map (omega (arith, c.len-i-end.ensures)) in
-    c.greatest_of_two-best.ensures ∙ highest_more (λ (r : List Span). option_to_list (last_end r)) rs c.loop-i.i c.loop-i.best c.last_end_at.result here c.loop-i.invariant (end_here c.last_end_at.result (slice_get rs c.loop-i.i) c.last_end_at.ensures)
+    c.max-best.ensures ∙ highest_more (λ (r : List Span). option_to_list (last_end r)) rs c.loop-i.i c.loop-i.best c.last_end_at.result here c.loop-i.invariant (end_here c.last_end_at.result (slice_get rs c.loop-i.i) c.last_end_at.ensures)
 
 pub returns : goal.returns
 returns g c =

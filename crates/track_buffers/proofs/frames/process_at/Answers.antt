@@ -15,10 +15,10 @@ use Rattle.track_store.proofs.StillSound.{sound_in}
 use Rattle.track_buffers.proofs.frames.process_at.Goals as goal
 
 pub place_with_used-requires-clause-sound : goal.place_with_used-requires-clause-sound
-place_with_used-requires-clause-sound g c = sound_in (states_of g.S.FrameStore.frames c.args.tracks.now.items) c.args.i c.requires.kept.sound
+place_with_used-requires-clause-sound g c = sound_in (states_of g.S.FrameStore.frames c.args.tracks.now.items) c.args.i c.requires.sound.sound
 
 pub place_with_used-requires-clause-small : goal.place_with_used-requires-clause-small
-place_with_used-requires-clause-small g c = c.requires.kept.small
+place_with_used-requires-clause-small g c = c.requires.sound.small
 
 pub returns-in-Stored-clause-window_end : goal.returns-in-Stored-clause-window_end
 returns-in-Stored-clause-window_end g c =

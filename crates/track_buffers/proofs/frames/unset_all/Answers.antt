@@ -2,7 +2,7 @@ use Rattle.std.proofs.Common.{◌∙◌, ◌<◌, ◌≤◌, sym, subst, length,
 use Rattle.std.proofs.lemmas.List.{length-map}
 use Rattle.range_removal.proofs.Loops.{written_more, all_written}
 use Rattle.range_removal.proofs.Rooms.{keeps_both, room_kept, same_length}
-use Rattle.track_store.specs.Kept.{AreKept}
+use Rattle.track_store.specs.Kept.{AreTracksSound}
 use Rattle.track_store.specs.State.{states_of}
 use Rattle.track_buffers.specs.Frames.{unset_track}
 use Rattle.track_buffers.proofs.Keeping.{kept_unset}
@@ -28,10 +28,10 @@ returns-clause-states g c =
     let past : length old ≤ c.loop-i.i = rw length-map (omega (arith, c.loop-i.invariant.end, c.loop-i-test.false)) in
     all_written unset_track old (states_of F c.loop-i.tracks.items) c.loop-i.i past c.loop-i.invariant.states
 
-pub returns-clause-kept : goal.returns-clause-kept
-returns-clause-kept g c =
+pub returns-clause-sound : goal.returns-clause-sound
+returns-clause-sound g c =
     let old = states_of g.S.FrameStore.frames c.args.tracks.now.items in
-    λ h. subst AreKept (sym (returns-clause-states g c)) (kept_unset old h)
+    λ h. subst AreTracksSound (sym (returns-clause-states g c)) (kept_unset old h)
 
 pub returns-clause-room : goal.returns-clause-room
 returns-clause-room g c = λ n h.

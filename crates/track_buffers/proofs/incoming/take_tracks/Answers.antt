@@ -1,6 +1,6 @@
 use Rattle.std.specs.List.{AllByRecursion}
 use Rattle.std.proofs.Common.{◌≡◌, ◌∙◌, ℤ, List, sym, subst, filter, arith}
-use Rattle.track_store.specs.Kept.{AreKept}
+use Rattle.track_store.specs.Kept.{AreTracksSound}
 use Rattle.track_store.specs.State.{TrackState, states_of}
 use Rattle.track_buffers.specs.Initialized.{is_media_track}
 use Rattle.track_buffers.specs.Media.{EndsWithin}
@@ -14,11 +14,11 @@ returns-then-len-eq0-clause-states g c =
     let ts = c.args.tracks.now.items in
     c.add_all.ensures.states ∙ tracks_made F (filter is_media_track c.args.news.now) ts (omega (arith, c.len.ensures))
 
-pub returns-then-len-eq0-clause-kept : goal.returns-then-len-eq0-clause-kept
-returns-then-len-eq0-clause-kept g c = λ h.
+pub returns-then-len-eq0-clause-sound : goal.returns-then-len-eq0-clause-sound
+returns-then-len-eq0-clause-sound g c = λ h.
     let ts = states_of g.S.FrameStore.frames c.args.tracks.now.items in
     let news = filter is_media_track c.args.news.now in
-    subst AreKept (sym (returns-then-len-eq0-clause-states g c)) (kept_after news ts h)
+    subst AreTracksSound (sym (returns-then-len-eq0-clause-states g c)) (kept_after news ts h)
 
 pub returns-then-len-eq0-clause-within_duration : goal.returns-then-len-eq0-clause-within_duration
 returns-then-len-eq0-clause-within_duration g c = λ d h.
@@ -26,11 +26,11 @@ returns-then-len-eq0-clause-within_duration g c = λ d h.
     let news = filter is_media_track c.args.news.now in
     subst (λ (us : List TrackState). EndsWithin d us) (sym (returns-then-len-eq0-clause-states g c)) (ends_after news ts d h)
 
-pub returns-else-len-eq0-clause-kept : goal.returns-else-len-eq0-clause-kept
-returns-else-len-eq0-clause-kept g c = λ h.
+pub returns-else-len-eq0-clause-sound : goal.returns-else-len-eq0-clause-sound
+returns-else-len-eq0-clause-sound g c = λ h.
     let ts = states_of g.S.FrameStore.frames c.args.tracks.now.items in
     let news = filter is_media_track c.args.news.now in
-    subst AreKept (sym c.renew_all.ensures.states) (kept_renewed news ts h)
+    subst AreTracksSound (sym c.renew_all.ensures.states) (kept_renewed news ts h)
 
 pub returns-else-len-eq0-clause-within_duration : goal.returns-else-len-eq0-clause-within_duration
 returns-else-len-eq0-clause-within_duration g c = λ d h.

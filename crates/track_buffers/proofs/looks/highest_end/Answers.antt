@@ -11,7 +11,7 @@ pub loop-i-preserved : goal.loop-i-preserved
 loop-i-preserved g c =
     let ts = states_of g.S.FrameStore.frames c.args.tracks.now.items in
     let here : c.loop-i.i < length ts = rw length-map (omega (arith, c.len-i-end.ensures)) in
-    c.greatest_of_two-best.ensures ∙ highest_more (λ (t : TrackState). ends t.frames) ts c.loop-i.i c.loop-i.best c.highest_end_at.result here c.loop-i.invariant c.highest_end_at.ensures
+    c.max-best.ensures ∙ highest_more (λ (t : TrackState). ends t.frames) ts c.loop-i.i c.loop-i.best c.highest_end_at.result here c.loop-i.invariant c.highest_end_at.ensures
 
 pub returns : goal.returns
 returns g c =

@@ -1,6 +1,5 @@
 use Rattle.std.proofs.Common.{◌≡◌, ◌++◌, length, map, take, drop, filter}
-use Rattle.track_store.specs.State.{states_of}
-use Rattle.track_buffers.specs.Media.{stores_of}
+use Rattle.track_store.specs.State.{states_of, stores_of}
 use Rattle.track_buffers.specs.Initialized.{is_media_track, kinds_of, partner_of, track_with_partner}
 use Rattle.track_buffers.proofs.partners.renew_all.Given as goal
 

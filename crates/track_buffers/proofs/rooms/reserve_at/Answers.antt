@@ -28,7 +28,7 @@ returns-in-Some-clause-spare g c =
     let t = c.in-Some.track.now in
     let u = record t { store = c.reserve.new.self } in
     let at : slice_get ts c.args.i ≡ Some t = sym c.get_mut.ensures.value ∙ ap option_copied_mut c.in-Some.is in
-    keeps_set g.S.FrameStore.spare ts c.args.i t u at c.reserve.ensures.kept
+    keeps_set g.S.FrameStore.spare ts c.args.i t u at c.reserve.ensures.room_stays
 
 pub returns-in-Some-clause-gaps : goal.returns-in-Some-clause-gaps
 returns-in-Some-clause-gaps g c =

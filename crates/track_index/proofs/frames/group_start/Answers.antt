@@ -1,5 +1,5 @@
 use Rattle.std.proofs.Common.{◌≡◌, ◌∙◌, ◌<◌, ℕ, inl, inr, length, get_or, ap, arith}
-use Rattle.block_list.specs.Rows.{joined}
+use Rattle.mse_base.specs.Rows.{joined}
 use Rattle.track_index.proofs.Grouping.{IsPlaceUpTo, group_found, group_there}
 use Rattle.track_index.proofs.frames.group_start.Goals.{then-i-len, else-i-len}
 use Rattle.track_index.proofs.frames.group_start.Goals as goal

@@ -1,5 +1,5 @@
 use Rattle.std.proofs.Common.{◌∙◌, ap, is_some}
-use Rattle.block_list.specs.Rows.{joined}
+use Rattle.mse_base.specs.Rows.{joined}
 use Rattle.track_store.specs.Frames.{has_serial}
 use Rattle.track_index.proofs.Grouping.{any_position}
 use Rattle.track_index.proofs.frames.is_held.Goals as goal

@@ -1,6 +1,6 @@
 use Rattle.std.proofs.Common.{◌<◌, ◌≤◌, take, drop, subst, sym}
 use Rattle.std.specs.List.{AllByRecursion}
-use Rattle.block_list.specs.Rows.{joined}
+use Rattle.mse_base.specs.Rows.{joined}
 use Rattle.block_list.specs.BlockPlaces.{rank}
 use Rattle.track_index.specs.declared.frames.SerialBelow.{SerialBelow}
 use Rattle.track_index.proofs.Removing.{cut_below, lows_of, highs_of}

@@ -1,5 +1,5 @@
 use Rattle.std.proofs.Common.{◌∙◌, ◌<◌, ◌≤◌, ℕ, Some, length, ap, arith}
-use Rattle.block_list.specs.Rows.{joined}
+use Rattle.mse_base.specs.Rows.{joined}
 use Rattle.block_list.specs.BlockPlaces.{rank}
 use Rattle.track_index.proofs.Framing.{serial_found, serial_other, serial_past}
 use Rattle.track_index.proofs.Blocks.{rank_within}

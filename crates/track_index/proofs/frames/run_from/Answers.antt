@@ -1,5 +1,5 @@
 use Rattle.std.proofs.Common.{◌∙◌, ◌<◌, ◌+◌, ◌≤◌, ℕ, length, drop, ap, sym, refl, arith}
-use Rattle.block_list.specs.Rows.{joined}
+use Rattle.mse_base.specs.Rows.{joined}
 use Rattle.block_list.specs.BlockPlaces.{rank}
 use Rattle.track_store.specs.Frames.{from_sync}
 use Rattle.track_index.proofs.Framing.{run_stops, run_goes, run_ends}

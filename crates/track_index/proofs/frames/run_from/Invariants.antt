@@ -1,5 +1,5 @@
 use Rattle.std.proofs.Common.{◌≡◌, ◌+◌, ◌-◌, ◌<◌, ◌≤◌, length, drop}
-use Rattle.block_list.specs.Rows.{joined, row}
+use Rattle.mse_base.specs.Rows.{joined, row}
 use Rattle.block_list.specs.BlockPlaces.{rank, IsPlace}
 use Rattle.track_store.specs.Frames.{from_sync}
 use Rattle.track_index.proofs.frames.run_from.Given as goal

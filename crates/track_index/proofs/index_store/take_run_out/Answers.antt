@@ -1,11 +1,11 @@
 use Rattle.std.proofs.Common.{◌≡◌, ◌∙◌, ◌<◌, ◌+◌, ◌++◌, ◌∷◌, ℕ, not, length, take, drop, get_or, filter, ap, sym, subst, arith}
 use Rattle.std.specs.List.{AllByRecursion, list_any}
 use Rattle.std.proofs.lemmas.List.{take-append-drop}
-use Rattle.block_list.specs.Rows.{joined}
+use Rattle.mse_base.specs.Rows.{joined}
 use Rattle.block_list.specs.BlockPlaces.{rank}
 use Rattle.track_store.specs.Frames.{IsAscending, bytes_of}
 use Rattle.track_index.specs.declared.entry.OrderEntry.{OrderEntry}
-use Rattle.track_index.specs.Order.{ordered}
+use Rattle.track_index.specs.Order.{presentation_order}
 use Rattle.track_index.specs.Keyed.{IsKeyed, has_entry_serial}
 use Rattle.track_index.proofs.Keys.{keyed_ordered}
 use Rattle.track_index.proofs.Removing.{first_place, without_more, ascending_without, own_pts, held_mid, order_without, bytes_mid}
@@ -21,7 +21,7 @@ loop-n-init c =
     record {
       place = first_place c.args.frames.now.rows c.args.run.from c.requires.block c.requires.index;
       next = omega arith;
-      order = c.requires.in_order ∙ ap ordered (sym whole);
+      order = c.requires.in_order ∙ ap presentation_order (sym whole);
       bytes = c.requires.bytes ∙ ap bytes_of (sym whole);
       spare = omega arith;
     }
@@ -44,7 +44,7 @@ take_out-requires c =
     let at : x ≡ get_or fs (i + n) x = c.item-stored.ensures ∙ ap (λ (k : ℕ). get_or fs k x) c.loop-n.invariant.next in
     let e = without_more fs i n x (omega (arith, c.requires.within)) at in
     let u = subst IsAscending e (ascending_without fs i (i + n) (omega arith) c.requires.ascending) in
-    let o = c.loop-n.invariant.order ∙ ap ordered e in
+    let o = c.loop-n.invariant.order ∙ ap presentation_order e in
     record {
       keyed = subst IsKeyed (sym o) (keyed_ordered (take i fs ++ x ∷ ys) u);
       own = subst (λ os. AllByRecursion (λ p. p.serial ≡ x.serial → p.pts ≡ x.frame.pts) os) (sym o) (own_pts (take i fs) x ys u);
@@ -81,7 +81,7 @@ loop-n-preserved c =
     let at : x ≡ get_or fs (i + n) x = c.item-stored.ensures ∙ ap (λ (k : ℕ). get_or fs k x) c.loop-n.invariant.next in
     let e = without_more fs i n x (omega (arith, c.requires.within)) at in
     let u = subst IsAscending e (ascending_without fs i (i + n) (omega arith) c.requires.ascending) in
-    let o = c.loop-n.invariant.order ∙ ap ordered e in
+    let o = c.loop-n.invariant.order ∙ ap presentation_order e in
     record {
       place = c.next-place.ensures.place;
       next = omega (arith, c.next-place.ensures.rank, c.loop-n.invariant.next);
@@ -96,7 +96,7 @@ returns c =
     let fs = joined c.args.frames.now.rows in
     let i = rank c.args.frames.now.rows c.args.run.from in
     record {
-      order = c.loop-n.invariant.order ∙ ap (λ (k : ℕ). ordered (take i fs ++ drop (i + k) fs)) z;
+      order = c.loop-n.invariant.order ∙ ap (λ (k : ℕ). presentation_order (take i fs ++ drop (i + k) fs)) z;
       bytes = c.loop-n.invariant.bytes ∙ ap (λ (k : ℕ). bytes_of (take i fs ++ drop (i + k) fs)) z;
       spare = c.loop-n.invariant.spare;
     }

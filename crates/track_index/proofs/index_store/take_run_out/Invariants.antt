@@ -1,15 +1,15 @@
 use Rattle.std.proofs.Common.{◌≡◌, ◌+◌, ◌++◌, ◌≤◌, take, drop}
-use Rattle.block_list.specs.Rows.{joined}
+use Rattle.mse_base.specs.Rows.{joined}
 use Rattle.block_list.specs.BlockPlaces.{rank, IsPlace}
 use Rattle.track_store.specs.Frames.{bytes_of}
-use Rattle.track_index.specs.Order.{ordered}
+use Rattle.track_index.specs.Order.{presentation_order}
 use Rattle.track_index.proofs.index_store.take_run_out.Given as goal
 
 abbrev pub invariant-loop-n : goal.invariant-loop-n
 invariant-loop-n l = record {
   place : IsPlace l.frames.rows l.place;
   next : rank l.frames.rows l.place ≡ rank l.frames.rows l.fn.run.from + l.n;
-  order : joined l.order.rows ≡ ordered (take (rank l.frames.rows l.fn.run.from) (joined l.frames.rows) ++ drop (rank l.frames.rows l.fn.run.from + l.n) (joined l.frames.rows));
+  order : joined l.order.rows ≡ presentation_order (take (rank l.frames.rows l.fn.run.from) (joined l.frames.rows) ++ drop (rank l.frames.rows l.fn.run.from + l.n) (joined l.frames.rows));
   bytes : l.bytes_left ≡ bytes_of (take (rank l.frames.rows l.fn.run.from) (joined l.frames.rows) ++ drop (rank l.frames.rows l.fn.run.from + l.n) (joined l.frames.rows));
   spare : l.fn.order.spare ≤ l.order.spare;
 }

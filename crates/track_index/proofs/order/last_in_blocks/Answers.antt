@@ -1,5 +1,5 @@
 use Rattle.std.proofs.Common.{◌≡◌, ◌∙◌, ◌-◌, refl, true, take, sym, ap, arith}
-use Rattle.block_list.specs.Rows.{joined, row}
+use Rattle.mse_base.specs.Rows.{joined, row}
 use Rattle.track_index.specs.declared.known.Known.{Known}
 use Rattle.track_index.specs.Order.{entry_covers, last_that, is_ended}
 use Rattle.track_index.proofs.Ordering.{last_none}

@@ -1,6 +1,6 @@
 use Rattle.std.proofs.Common.{◌≡◌, ◌≤◌, ◌≤ℤ◌, length, take}
 use Rattle.std.specs.List.{AllByRecursion}
-use Rattle.block_list.specs.Rows.{joined}
+use Rattle.mse_base.specs.Rows.{joined}
 use Rattle.track_index.specs.Order.{entry_covers, last_that}
 use Rattle.track_index.proofs.order.last_in_blocks.Given as goal
 

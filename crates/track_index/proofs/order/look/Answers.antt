@@ -1,7 +1,7 @@
 use Rattle.std.proofs.Common.{◌≡◌, ◌∙◌, true, take, sym, ap}
 use Rattle.track_index.specs.declared.known.Known.{Known}
 use Rattle.track_index.specs.Order.{entry_covers, last_that, is_ended}
-use Rattle.block_list.specs.Rows.{row}
+use Rattle.mse_base.specs.Rows.{row}
 use Rattle.track_index.proofs.Blocks.{passed_over}
 use Rattle.track_index.proofs.order.look.Goals as goal
 

@@ -1,8 +1,8 @@
 use Rattle.std.proofs.Common.{◌≡◌, ℤ, true, false, take, drop, subst, sym}
 use Rattle.std.specs.List.{AllByRecursion}
-use Rattle.block_list.specs.Rows.{joined}
+use Rattle.mse_base.specs.Rows.{joined}
 use Rattle.block_list.specs.BlockPlaces.{rank}
-use Rattle.track_index.specs.Keyed.{before_key, Names, has_entry_serial}
+use Rattle.track_index.specs.Keyed.{is_before_key, IsNamedAt, has_entry_serial}
 use Rattle.track_index.proofs.Keys.{cut_keyed, names_at, any_rows}
 use Rattle.track_index.proofs.Blocks.{item_place}
 use Rattle.track_index.proofs.order.place_of.Goals as goal
@@ -17,9 +17,9 @@ names_of : goal.returns-clause-names
 names_of c =
     let os = joined c.args.list.now.rows in
     let k = rank c.args.list.now.rows c.search-place.result in
-    let before = subst (λ (m : ℤ). AllByRecursion (λ o. before_key (record { mark = m; serial = c.args.serial }) o ≡ true) (take k os)) c.at.ensures c.search-place.ensures.before in
-    let after = subst (λ (m : ℤ). AllByRecursion (λ o. before_key (record { mark = m; serial = c.args.serial }) o ≡ false) (drop k os)) c.at.ensures c.search-place.ensures.after in
-    subst (Names c.args.serial os) (sym c.at_item.ensures.rank) (names_at c.args.pts c.args.serial os k c.requires.keyed c.requires.own c.requires.held before after)
+    let before = subst (λ (m : ℤ). AllByRecursion (λ o. is_before_key (record { mark = m; serial = c.args.serial }) o ≡ true) (take k os)) c.at.ensures c.search-place.ensures.before in
+    let after = subst (λ (m : ℤ). AllByRecursion (λ o. is_before_key (record { mark = m; serial = c.args.serial }) o ≡ false) (drop k os)) c.at.ensures c.search-place.ensures.after in
+    subst (IsNamedAt c.args.serial os) (sym c.at_item.ensures.rank) (names_at c.args.pts c.args.serial os k c.requires.keyed c.requires.own c.requires.held before after)
 
 pub returns-clause-names : goal.returns-clause-names
 returns-clause-names c = names_of c

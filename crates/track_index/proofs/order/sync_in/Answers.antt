@@ -1,5 +1,5 @@
 use Rattle.std.proofs.Common.{◌∙◌, sym, ap}
-use Rattle.block_list.specs.Rows.{row}
+use Rattle.mse_base.specs.Rows.{row}
 use Rattle.track_index.specs.declared.known.Known.{Known}
 use Rattle.track_index.specs.Order.{first_start, is_sync_from}
 use Rattle.track_index.proofs.Blocks.{no_sync}

@@ -1,6 +1,6 @@
 use Rattle.std.proofs.Common.{◌∙◌, ◌+◌, drop, sym, ap, arith}
 use Rattle.std.proofs.lemmas.List.{drop_all}
-use Rattle.block_list.specs.Rows.{joined, row}
+use Rattle.mse_base.specs.Rows.{joined, row}
 use Rattle.track_index.specs.Order.{first_start, is_sync_from}
 use Rattle.track_index.proofs.Blocks.{rows_rest, first_some, first_none}
 use Rattle.track_index.proofs.order.sync_in_blocks.Goals as goal

@@ -1,5 +1,5 @@
 use Rattle.std.proofs.Common.{◌≡◌, drop}
-use Rattle.block_list.specs.Rows.{joined}
+use Rattle.mse_base.specs.Rows.{joined}
 use Rattle.track_index.specs.Order.{first_start, is_sync_from}
 use Rattle.track_index.proofs.order.sync_in_blocks.Given as goal
 

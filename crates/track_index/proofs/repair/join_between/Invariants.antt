@@ -1,5 +1,5 @@
 use Rattle.std.proofs.Common.{◌≡◌, ◌+◌, ◌-◌, length, take}
-use Rattle.block_list.specs.Rows.{joined}
+use Rattle.mse_base.specs.Rows.{joined}
 use Rattle.block_list.specs.BlockPlaces.{rank, IsPlace}
 use Rattle.mse_base.specs.Bridging.{IsRanges}
 use Rattle.track_index.specs.Repair.{AreGrownBy, HasTicksBetween}

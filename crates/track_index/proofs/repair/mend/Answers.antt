@@ -2,7 +2,7 @@ use Rattle.std.proofs.Common.{◌≡◌, ◌∙◌, ◌<ℤ◌, ◌≤ℤ◌, �
 use Rattle.std.proofs.lemmas.Int.{ints}
 use Rattle.mse_base.specs.Bridging.{ranges_without, IsRanges}
 use Rattle.mse_base.proofs.Merging.{ranges_bridged}
-use Rattle.block_list.specs.Rows.{joined}
+use Rattle.mse_base.specs.Rows.{joined}
 use Rattle.track_index.specs.declared.key.Key.{Key}
 use Rattle.track_index.specs.Order.{span_of}
 use Rattle.track_index.specs.Repair.{AreGrownBy, HasTicksPast, HasTicksBetween}

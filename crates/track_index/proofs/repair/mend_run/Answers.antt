@@ -1,7 +1,7 @@
 use Rattle.std.proofs.Common.{◌≡◌, ◌∙◌, ◌<◌, ◌+◌, ◌+ℤ◌, ◌∷◌, ℕ, length, take, drop, get_or, map, ap, sym, subst, arith}
 use Rattle.mse_base.specs.Time.{IsTick}
 use Rattle.mse_base.specs.declared.span.Span.{Span}
-use Rattle.block_list.specs.Rows.{joined}
+use Rattle.mse_base.specs.Rows.{joined}
 use Rattle.block_list.specs.BlockPlaces.{rank}
 use Rattle.track_store.specs.Frames.{intervals, interval, IsTimed}
 use Rattle.track_index.specs.declared.entry.OrderEntry.{OrderEntry}

@@ -1,4 +1,4 @@
-use Rattle.block_list.specs.Rows.{joined}
+use Rattle.mse_base.specs.Rows.{joined}
 use Rattle.track_index.proofs.Mending.{grown_both, past_grown}
 use Rattle.track_index.proofs.repair.refill.Goals as goal
 

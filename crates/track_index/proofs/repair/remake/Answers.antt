@@ -2,7 +2,7 @@ use Rattle.std.proofs.Common.{◌∙◌, ◌<◌, ◌+ℤ◌, ◌≤◌, ℕ, []
 use Rattle.mse_base.specs.Time.{IsTick}
 use Rattle.mse_base.specs.Bridging.{bridged_ranges, ranges_with, IsRanges}
 use Rattle.mse_base.proofs.Merging.{ranges_bridged}
-use Rattle.block_list.specs.Rows.{joined}
+use Rattle.mse_base.specs.Rows.{joined}
 use Rattle.block_list.specs.BlockPlaces.{rank}
 use Rattle.track_index.specs.declared.entry.OrderEntry.{OrderEntry}
 use Rattle.track_index.specs.Order.{span_of}

@@ -1,5 +1,5 @@
 use Rattle.std.proofs.Common.{◌≡◌, ◌+◌, ◌-◌, ◌≤◌, length, take, map}
-use Rattle.block_list.specs.Rows.{joined}
+use Rattle.mse_base.specs.Rows.{joined}
 use Rattle.block_list.specs.BlockPlaces.{rank, IsPlace}
 use Rattle.mse_base.specs.Bridging.{bridged_ranges}
 use Rattle.track_index.specs.Order.{span_of}

@@ -1,5 +1,5 @@
 use Rattle.std.proofs.Common.{sym, subst}
-use Rattle.block_list.specs.Rows.{joined}
+use Rattle.mse_base.specs.Rows.{joined}
 use Rattle.track_index.specs.Syncs.{AreSyncsOf}
 use Rattle.track_index.proofs.Noting.{held_syncs}
 use Rattle.track_index.proofs.syncs.make_room.Goals.{then-len-saturating_add, else-len-saturating_add}

@@ -1,8 +1,8 @@
 use Rattle.std.proofs.Common.{◌≡◌, ◌∙◌, ◌<◌, ◌-◌, ℤ, Option, length, get_or, refl, subst, ap, sym, arith}
 use Rattle.std.proofs.lemmas.List.{length-set}
 use Rattle.track_index.specs.declared.known.Known.{Known}
-use Rattle.track_index.specs.Known.{later_end}
-use Rattle.track_index.proofs.Ending.{follow_init, follow_stop, follow_front, unseen_init, unseen_next}
+use Rattle.mse_base.specs.Moments.{greatest_of_two}
+use Rattle.track_index.proofs.Ending.{same_end, follow_init, follow_stop, follow_front, unseen_init, unseen_next}
 use Rattle.track_index.proofs.tops.follow.Goals as goal
 
 pub loop-i-init : goal.loop-i-init
@@ -17,15 +17,15 @@ loop-i-init c =
       room = refl;
     }
 
-pub returns-then-is_same-clause-items : goal.returns-then-is_same-clause-items
-returns-then-is_same-clause-items c =
+pub returns-then-eq-clause-items : goal.returns-then-eq-clause-items
+returns-then-eq-clause-items c =
     let ts = c.loop-i.tops.items in
     let rows = c.args.list.now.rows in
     let i = c.loop-i.i in
     let inv = c.loop-i.invariant in
     let m : i < length ts = omega arith in
-    let top = c.later_end-top.ensures ∙ ap (λ (k : Known). later_end c.loop-i.best k.end) c.fact.ensures in
-    follow_stop c.loop-i.best ts rows i c.later_end-top.result (omega (arith, inv.long)) m top (subst (λ (z : Option ℤ). get_or ts i z ≡ z) (c.is_same.ensures c.if-is_same.true) (sym c.index.ensures)) (inv.rest.1 c.if-to-i.true) inv.front
+    let top = c.greatest_of_two-top.ensures ∙ ap (λ (k : Known). greatest_of_two c.loop-i.best k.end) c.fact.ensures in
+    follow_stop c.loop-i.best ts rows i c.greatest_of_two-top.result (omega (arith, inv.long)) m top (subst (λ (z : Option ℤ). get_or ts i z ≡ z) (same_end _ _ (sym c.eq.ensures ∙ c.if-eq.true)) (sym c.index.ensures)) (inv.rest.1 c.if-to-i.true) inv.front
 
 pub loop-i-preserved : goal.loop-i-preserved
 loop-i-preserved c =
@@ -35,10 +35,10 @@ loop-i-preserved c =
     let inv = c.loop-i.invariant in
     let m : i < length ts = omega arith in
     let l : i < length rows = omega (arith, inv.long) in
-    let top = c.later_end-top.ensures ∙ ap (λ (k : Known). later_end c.loop-i.best k.end) c.fact.ensures in
+    let top = c.greatest_of_two-top.ensures ∙ ap (λ (k : Known). greatest_of_two c.loop-i.best k.end) c.fact.ensures in
     record {
-      front = follow_front c.loop-i.best ts rows i c.later_end-top.result l m top inv.front;
-      rest = unseen_next ts rows c.args.to i c.later_end-top.result l m inv.rest;
-      long = length-set ts i c.later_end-top.result ∙ inv.long;
+      front = follow_front c.loop-i.best ts rows i c.greatest_of_two-top.result l m top inv.front;
+      rest = unseen_next ts rows c.args.to i c.greatest_of_two-top.result l m inv.rest;
+      long = length-set ts i c.greatest_of_two-top.result ∙ inv.long;
       room = inv.room;
     }

@@ -1,5 +1,6 @@
 use Rattle.std.proofs.Common.{◌≡◌, ◌+◌, length, ap, arith, subst}
-use Rattle.block_list.specs.Rows.{row, AreNonEmpty}
+use Rattle.mse_base.specs.Rows.{row}
+use Rattle.block_list.specs.Rows.{AreNonEmpty}
 use Rattle.block_list.proofs.Joining.{start_more, start_all}
 use Rattle.block_list.proofs.Keeping.{full_of}
 use Rattle.block_list.proofs.Cutting.{some_row}

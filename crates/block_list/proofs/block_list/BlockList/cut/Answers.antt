@@ -1,5 +1,5 @@
 use Rattle.std.proofs.Common.{length, ap, arith, vec_capacity}
-use Rattle.block_list.specs.Rows.{row}
+use Rattle.mse_base.specs.Rows.{row}
 use Rattle.block_list.proofs.Ranging.{cut_count, row_count}
 use Rattle.block_list.proofs.Keeping.{listed_cut}
 use Rattle.block_list.proofs.block_list.BlockList.cut.Goals as goal

@@ -1,5 +1,5 @@
 use Rattle.std.proofs.Common.{append-nil, length-append, ◌∙◌, ◌+◌, ◌++◌, ◌∷◌, [], length, ap, subst, arith, vec_capacity, insert}
-use Rattle.block_list.specs.Rows.{joined, start, AreEmpty}
+use Rattle.mse_base.specs.Rows.{joined, start, AreEmpty}
 use Rattle.block_list.proofs.Joining.{joined_set_insert, inserted, joined_append, empty_last, insert_last}
 use Rattle.block_list.proofs.Keeping.{listed_put, listed_push}
 use Rattle.block_list.proofs.block_list.BlockList.push.Goals as goal

@@ -1,5 +1,5 @@
 use Rattle.std.proofs.Common.{◌∙◌, ◌+◌, ◌<◌, length, ap, arith, vec_capacity, remove, get_or}
-use Rattle.block_list.specs.Rows.{joined, start, row}
+use Rattle.mse_base.specs.Rows.{joined, start, row}
 use Rattle.block_list.proofs.Joining.{joined_set_remove, removed, joined_one, row_is, one_gone}
 use Rattle.block_list.proofs.Keeping.{listed_take, listed_less}
 use Rattle.block_list.proofs.block_list.BlockList.remove.Goals as goal

@@ -1,5 +1,5 @@
 use Rattle.std.proofs.Common.{ap, sym, ◌∙◌, ◌≡◌, length, subst, arith, ◌≤◌, ◌*◌, ◌-◌, ◌+◌, max, vec_capacity, ℕ}
-use Rattle.block_list.specs.Rows.{joined}
+use Rattle.mse_base.specs.Rows.{joined}
 use Rattle.block_list.proofs.Keeping.{listed_fill}
 use Rattle.block_list.proofs.block_list.BlockList.reserve.Goals as goal
 

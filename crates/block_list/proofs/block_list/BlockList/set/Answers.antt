@@ -1,6 +1,6 @@
 use Rattle.std.proofs.Common.{◌∙◌, ◌<◌, ◌+◌, length, set, ap, arith, vec_capacity}
 use Rattle.std.proofs.lemmas.List.{length-set}
-use Rattle.block_list.specs.Rows.{joined, start, row}
+use Rattle.mse_base.specs.Rows.{joined, start, row}
 use Rattle.block_list.proofs.Joining.{joined_set_set}
 use Rattle.block_list.proofs.Keeping.{listed_set}
 use Rattle.block_list.proofs.block_list.BlockList.set.Goals as goal

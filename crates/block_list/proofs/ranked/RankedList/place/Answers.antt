@@ -1,5 +1,5 @@
 use Rattle.std.proofs.Common.{◌≡◌, ◌+◌, ◌<◌, length, ap, arith}
-use Rattle.block_list.specs.Rows.{start}
+use Rattle.mse_base.specs.Rows.{start}
 use Rattle.block_list.proofs.Starting.{item_in}
 use Rattle.block_list.proofs.ranked.RankedList.place.Goals as goal
 

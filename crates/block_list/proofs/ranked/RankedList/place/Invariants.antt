@@ -1,5 +1,5 @@
 use Rattle.std.proofs.Common.{◌<◌, ◌≤◌, ◌-◌, length}
-use Rattle.block_list.specs.Rows.{start}
+use Rattle.mse_base.specs.Rows.{start}
 use Rattle.block_list.proofs.ranked.RankedList.place.Given as goal
 
 abbrev pub invariant-search : goal.invariant-search

@@ -1,5 +1,5 @@
 use Rattle.std.proofs.Common.{◌≡◌, ◌∙◌, ◌+◌, ◌-◌, ◌<◌, ◌≤◌, length, drop, get_or, ap, sym, arith}
-use Rattle.block_list.specs.Rows.{joined, row}
+use Rattle.mse_base.specs.Rows.{joined, row}
 use Rattle.block_list.specs.Starts.{starts_of}
 use Rattle.block_list.proofs.Starting.{length_starts, start_at, start_front, kept_low, kept_high, kept_rest, front_left, rest_left, few_left}
 use Rattle.block_list.proofs.ranked.RankedList.remove_range.Goals as goal

@@ -1,5 +1,5 @@
 use Rattle.std.proofs.Common.{◌∙◌, ◌<◌, length, ap, arith}
-use Rattle.block_list.specs.Rows.{start}
+use Rattle.mse_base.specs.Rows.{start}
 use Rattle.block_list.specs.Starts.{starts_of}
 use Rattle.block_list.proofs.Starting.{length_starts, start_at, kept_low, kept_high}
 use Rattle.block_list.proofs.ranked.RankedList.start.Goals as goal

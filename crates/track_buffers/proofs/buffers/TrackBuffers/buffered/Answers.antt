@@ -9,7 +9,7 @@ use Rattle.track_buffers.proofs.Keeping.{gaps_forward}
 use Rattle.track_buffers.proofs.buffers.TrackBuffers.buffered.Goals as goal
 
 pub buffered_of-requires : goal.buffered_of-requires
-buffered_of-requires g c = gaps_forward c.self.inside.gap (gaps_of g.S.FrameStore.gap c.self.inside.tracks.items) c.self.invariant.0.gap_not_negative c.self.invariant.0.gaps_are
+buffered_of-requires g c = gaps_forward c.self.inside.gap (gaps_of g.S.FrameStore.gap c.self.inside.tracks.items) c.self.invariant.0.gap_from_zero c.self.invariant.0.gaps_are
 
 pub returns-clause-spans : goal.returns-clause-spans
 returns-clause-spans g c =
@@ -23,4 +23,4 @@ pub returns-clause-ticks : goal.returns-clause-ticks
 returns-clause-ticks g c =
     let b = c.self.inside in
     let m = media_of g.S.FrameStore.frames b.tracks.items b.settings b.pending b.gap in
-    rw (← c.self.view_is) (ok_buffered c.buffered_of.result c.args.ended m c.self.invariant.0.gap_not_negative (rw (← c.self.view_is) at (returns-clause-spans g c)))
+    rw (← c.self.view_is) (ok_buffered c.buffered_of.result c.args.ended m c.self.invariant.0.gap_from_zero (rw (← c.self.view_is) at (returns-clause-spans g c)))

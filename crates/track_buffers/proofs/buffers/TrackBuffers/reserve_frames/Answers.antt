@@ -1,9 +1,9 @@
 use Rattle.std.proofs.Common.{◌∙◌, ◌≤◌, ◌^◌, List, refl, sym, ap, subst, arith}
 use Rattle.std.specs.Option.{IfSome}
 use Rattle.range_removal.proofs.Rooms.{room_kept, same_length}
-use Rattle.track_store.specs.Kept.{AreKept, bytes_in, gaps_of}
+use Rattle.track_store.specs.Kept.{AreTracksSound, bytes_in, gaps_of}
 use Rattle.track_store.specs.State.{TrackState, states_of}
-use Rattle.track_buffers.specs.Frames.{IsPlaceOf}
+use Rattle.track_buffers.specs.Frames.{IsTrackPlace}
 use Rattle.track_buffers.specs.Buffered.{ranges_in}
 use Rattle.track_buffers.proofs.Ahead.{ahead_least, ahead_kept}
 use Rattle.track_buffers.proofs.Keeping.{all_room, room_kept_by}
@@ -28,8 +28,8 @@ invariant_of-self g c =
     let ts = b.tracks.items in
     let us = c.reserve_ahead.new.tracks.items in
     let r = c.reserve_ahead.ensures in
-    let kept = subst (λ (xs : List TrackState). AreKept xs) (sym r.states) c.self.invariant.0.kept in
-    (steady_by (states_of F ts) (states_of F us) (gaps_of G ts) (gaps_of G us) b.settings _ b.gap c.self.invariant.0 kept r.gaps c.self.invariant.0.window_start refl, ahead_kept g.S.FrameStore.spare b.ahead ts us (same_length G ts us r.gaps) r.spare c.self.invariant.1, watch_kept b.watch (ranges_in F G ts) (ranges_in F G us) (ranges_kept F G b.gap ts us c.self.invariant.0.gaps_are r.gaps r.states) c.self.invariant.2, subst (λ (xs : List TrackState). IfSome b.last (λ l. IsPlaceOf l xs)) (sym r.states) c.self.invariant.3, c.self.invariant.4 ∙ sym (ap bytes_in r.states))
+    let kept = subst (λ (xs : List TrackState). AreTracksSound xs) (sym r.states) c.self.invariant.0.sound in
+    (steady_by (states_of F ts) (states_of F us) (gaps_of G ts) (gaps_of G us) b.settings _ b.gap c.self.invariant.0 kept r.gaps c.self.invariant.0.window_start refl, ahead_kept g.S.FrameStore.spare b.ahead ts us (same_length G ts us r.gaps) r.spare c.self.invariant.1, watch_kept b.watch (ranges_in F G ts) (ranges_in F G us) (ranges_kept F G b.gap ts us c.self.invariant.0.gaps_are r.gaps r.states) c.self.invariant.2, subst (λ (xs : List TrackState). IfSome b.last (λ l. IsTrackPlace l xs)) (sym r.states) c.self.invariant.3, c.self.invariant.4 ∙ sym (ap bytes_in r.states))
 
 pub invariant_of-self-2 : goal.invariant_of-self-2
 invariant_of-self-2 g c =
@@ -39,8 +39,8 @@ invariant_of-self-2 g c =
     let ts = b.tracks.items in
     let us = c.reserve_ahead.new.tracks.items in
     let r = c.reserve_ahead.ensures in
-    let kept = subst (λ (xs : List TrackState). AreKept xs) (sym r.states) c.self.invariant.0.kept in
-    (steady_by (states_of F ts) (states_of F us) (gaps_of G ts) (gaps_of G us) b.settings _ b.gap c.self.invariant.0 kept r.gaps c.self.invariant.0.window_start refl, c.in_ok-self-inside.ensures.ok.2, watch_kept b.watch (ranges_in F G ts) (ranges_in F G us) (ranges_kept F G b.gap ts us c.self.invariant.0.gaps_are r.gaps r.states) c.self.invariant.2, subst (λ (xs : List TrackState). IfSome b.last (λ l. IsPlaceOf l xs)) (sym r.states) c.self.invariant.3, c.self.invariant.4 ∙ sym (ap bytes_in r.states))
+    let kept = subst (λ (xs : List TrackState). AreTracksSound xs) (sym r.states) c.self.invariant.0.sound in
+    (steady_by (states_of F ts) (states_of F us) (gaps_of G ts) (gaps_of G us) b.settings _ b.gap c.self.invariant.0 kept r.gaps c.self.invariant.0.window_start refl, c.in_ok-self-inside.ensures.ok.2, watch_kept b.watch (ranges_in F G ts) (ranges_in F G us) (ranges_kept F G b.gap ts us c.self.invariant.0.gaps_are r.gaps r.states) c.self.invariant.2, subst (λ (xs : List TrackState). IfSome b.last (λ l. IsTrackPlace l xs)) (sym r.states) c.self.invariant.3, c.self.invariant.4 ∙ sym (ap bytes_in r.states))
 
 pub returns-clause-ok : goal.returns-clause-ok
 returns-clause-ok g c =

@@ -2,7 +2,7 @@ use Rattle.std.proofs.Common.{List, subst, sym}
 use Rattle.mse_base.specs.Spans.{IsBridging}
 use Rattle.mse_base.specs.declared.span.Span.{Span}
 use Rattle.mse_base.proofs.Extended.{bridged_law}
-use Rattle.block_list.specs.Rows.{joined}
+use Rattle.mse_base.specs.Rows.{joined}
 use Rattle.track_store.specs.Frames.{intervals}
 use Rattle.track_index.proofs.index_store.IndexStore.kept.Goals as goal
 

@@ -1,5 +1,5 @@
 use Rattle.std.proofs.Common.{ℤ, ap}
-use Rattle.block_list.specs.Rows.{joined}
+use Rattle.mse_base.specs.Rows.{joined}
 use Rattle.track_index.proofs.Keys.{keyed_of}
 use Rattle.track_index.proofs.Nexts.{next_none, next_some}
 use Rattle.track_index.proofs.index_store.IndexStore.next_named.Goals as goal

@@ -1,5 +1,5 @@
 use Rattle.std.proofs.Common.{◌∙◌, ap, Some, None}
-use Rattle.block_list.specs.Rows.{joined}
+use Rattle.mse_base.specs.Rows.{joined}
 use Rattle.track_store.specs.Frames.{frame_at, has_serial}
 use Rattle.track_index.proofs.Keys.{keyed_of}
 use Rattle.track_index.proofs.Naming.{named_ordered}

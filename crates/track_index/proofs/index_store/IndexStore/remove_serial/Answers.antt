@@ -1,11 +1,11 @@
 use Rattle.std.proofs.Common.{refl, ◌≡◌, ◌∙◌, ◌≤◌, ◌+◌, ◌++◌, ℕ, List, true, false, length, take, drop, map, ap, sym, subst, arith}
 use Rattle.std.specs.List.{list_any}
-use Rattle.block_list.specs.Rows.{joined, start}
+use Rattle.mse_base.specs.Rows.{joined, start}
 use Rattle.block_list.specs.BlockPlaces.{rank}
 use Rattle.track_store.specs.Frames.{bytes_of, has_serial, frames_left, intervals, IsTimed}
 use Rattle.track_store.proofs.Listing.{are_ranges}
 use Rattle.track_index.specs.declared.entry.OrderEntry.{OrderEntry}
-use Rattle.track_index.specs.Order.{ordered, span_of}
+use Rattle.track_index.specs.Order.{presentation_order, span_of}
 use Rattle.track_index.specs.Repair.{AreBetween}
 use Rattle.track_index.proofs.Ordering.{length_ordered}
 use Rattle.track_index.proofs.Keys.{keyed_of}
@@ -97,7 +97,7 @@ invariant_of-self c =
     let z : start rows c.run_from-run.result.last.block + (c.run_from-run.result.last.index + 1) ≡ i + n = omega (arith, c.run_from-run.ensures.count) in
     let left = c.remove_range.ensures.items ∙ ap (λ (m : ℕ). take i fs ++ drop m fs) z in
     let gone = serial_gone c.args.serial fs i (i + n) h.kept.ascending held c.place_below-from.ensures.before c.place_below-from.ensures.after c.run_from-run.ensures.rest in
-    indexed_removed (has_serial c.args.serial) fs (joined c.remove_range.new.self.rows) _ _ c.self.inside.gap _ _ h c.mend_run.ensures.room (omega (arith, ap length left, length_without fs i n l)) (left ∙ sym gone) refl (c.take_run_out-bytes_left.ensures.order ∙ ap ordered (sym left)) c.mend_run.ensures.spans (c.take_run_out-bytes_left.ensures.bytes ∙ ap bytes_of (sym left))
+    indexed_removed (has_serial c.args.serial) fs (joined c.remove_range.new.self.rows) _ _ c.self.inside.gap _ _ h c.mend_run.ensures.room (omega (arith, ap length left, length_without fs i n l)) (left ∙ sym gone) refl (c.take_run_out-bytes_left.ensures.order ∙ ap presentation_order (sym left)) c.mend_run.ensures.spans (c.take_run_out-bytes_left.ensures.bytes ∙ ap bytes_of (sym left))
 
 pub returns-clause-frames : goal.returns-clause-frames
 returns-clause-frames c =

@@ -1,7 +1,7 @@
 use Rattle.std.proofs.Common.{◌∙◌, ◌+◌, ◌∷◌, [], ◌≤◌, length, arith, ap, ℕ, length-append}
 use Rattle.mse_base.specs.declared.span.Span.{Span}
 use Rattle.mse_base.specs.Bridging.{ranges_with}
-use Rattle.block_list.specs.Rows.{joined}
+use Rattle.mse_base.specs.Rows.{joined}
 use Rattle.track_store.proofs.Listing.{few_ranges, are_ranges}
 use Rattle.track_index.specs.declared.entry.OrderEntry.{OrderEntry}
 use Rattle.track_index.specs.Order.{put, span_of}
@@ -38,7 +38,7 @@ invariant_of-self c =
     let room = room_each _ _ _ _ _ (rw (← c.self.view_is) at c.requires.room) in
     let next : length fs + 1 ≤ c.add_span.new.self.spare + length c.add_span.new.self.spans = omega (arith, room.ranges, c.add_span.ensures.room) in
     let entry = c.entry_of-entry.ensures in
-    indexed_added fs _ _ _ c.self.inside.gap _ _ x c.self.invariant next older (c.requires.dur_not_negative, c.requires.in_range) small
+    indexed_added fs _ _ _ c.self.inside.gap _ _ x c.self.invariant next older (c.requires.dur_not_negative, c.requires.is_tick) small
     (rw (← c.self.view_is) at c.requires.predecessor)
     (c.note.ensures.syncs fs older c.self.invariant.syncs)
     c.push.ensures.items

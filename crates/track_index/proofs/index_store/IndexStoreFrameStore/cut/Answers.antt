@@ -2,12 +2,12 @@ use Rattle.std.proofs.Common.{◌≡◌, ◌∙◌, ◌+ℤ◌, ◌<◌, ℕ, []
 use Rattle.std.proofs.lemmas.List.{length-map}
 use Rattle.mse_base.specs.Time.{IsTick}
 use Rattle.mse_base.specs.declared.span.Span.{Span}
-use Rattle.block_list.specs.Rows.{joined}
+use Rattle.mse_base.specs.Rows.{joined}
 use Rattle.track_store.specs.Frames.{frames_with_dur, IsTimed}
 use Rattle.track_store.proofs.Clearing.{kept-shortened}
 use Rattle.track_store.proofs.Listing.{are_ranges}
 use Rattle.track_index.specs.declared.entry.OrderEntry.{OrderEntry}
-use Rattle.track_index.specs.Order.{shorter, span_of}
+use Rattle.track_index.specs.Order.{with_entry_dur, span_of}
 use Rattle.track_index.proofs.Ordering.{length_ordered}
 use Rattle.track_index.proofs.Keys.{keyed_of}
 use Rattle.track_index.proofs.Keeping.{timed_entries}
@@ -24,7 +24,7 @@ end_at-requires c =
     let value : x ≡ get_or fs c.args.i x = c.item.ensures ∙ ap (λ (n : ℕ). get_or fs n x) c.place-place.ensures.place in
     let at = found_at fs c.args.i x within value in
     let less = rw (← c.self.view_is, at) at c.requires.shorter in
-    let tick = cut_tick x.frame.pts c.args.dur x.frame.dur (subst (λ (e : OrderEntry). IsTick e.pts) c.entry_of-entry.ensures c.get-begins.ensures.in_range) less.0 less.1 (subst IsTimed (sym value) (each_at IsTimed fs c.args.i x within c.self.invariant.timed)).1 in
+    let tick = cut_tick x.frame.pts c.args.dur x.frame.dur (subst (λ (e : OrderEntry). IsTick e.pts) c.entry_of-entry.ensures c.get-begins.ensures.is_tick) less.0 less.1 (subst IsTimed (sym value) (each_at IsTimed fs c.args.i x within c.self.invariant.timed)).1 in
     subst (λ (e : OrderEntry). IsTick (e.pts +ℤ c.args.dur)) (sym c.entry_of-entry.ensures) tick
 
 pub shorten-requires-clause-keyed : goal.shorten-requires-clause-keyed
@@ -54,7 +54,7 @@ pub mend-requires-clause-room : goal.mend-requires-clause-room
 mend-requires-clause-room c =
     let fs = joined c.self.inside.items.rows in
     let os = joined c.self.inside.order.rows in
-    omega (arith, ap length c.shorten.ensures.items ∙ length-map os (shorter c.entry_of-entry.result.serial c.args.dur), ap length c.self.invariant.in_order ∙ length_ordered fs, c.self.invariant.roomy)
+    omega (arith, ap length c.shorten.ensures.items ∙ length-map os (with_entry_dur c.entry_of-entry.result.serial c.args.dur), ap length c.self.invariant.in_order ∙ length_ordered fs, c.self.invariant.roomy)
 
 pub mend-requires-clause-keyed : goal.mend-requires-clause-keyed
 mend-requires-clause-keyed c =
@@ -66,8 +66,8 @@ mend-requires-clause-keyed c =
     let less = rw (← c.self.view_is, at) at c.requires.shorter in
     let os = joined c.self.inside.order.rows in
     let ps = joined c.shorten.new.self.rows in
-    let p : ps ≡ map (shorter x.serial c.args.dur) os = c.shorten.ensures.items ∙ ap (λ (e : OrderEntry). map (shorter e.serial c.args.dur) os) c.entry_of-entry.ensures in
-    let tick = cut_tick x.frame.pts c.args.dur x.frame.dur (subst (λ (e : OrderEntry). IsTick e.pts) c.entry_of-entry.ensures c.get-begins.ensures.in_range) less.0 less.1 (subst IsTimed (sym value) (each_at IsTimed fs c.args.i x within c.self.invariant.timed)).1 in
+    let p : ps ≡ map (with_entry_dur x.serial c.args.dur) os = c.shorten.ensures.items ∙ ap (λ (e : OrderEntry). map (with_entry_dur e.serial c.args.dur) os) c.entry_of-entry.ensures in
+    let tick = cut_tick x.frame.pts c.args.dur x.frame.dur (subst (λ (e : OrderEntry). IsTick e.pts) c.entry_of-entry.ensures c.get-begins.ensures.is_tick) less.0 less.1 (subst IsTimed (sym value) (each_at IsTimed fs c.args.i x within c.self.invariant.timed)).1 in
     keyed_of ps (frames_with_dur x.serial c.args.dur fs) (order_cut c.args.dur x.serial fs os ps c.self.invariant.in_order p) (kept-shortened x.serial c.args.dur fs c.self.invariant.kept).ascending
 
 pub mend-requires-clause-timed : goal.mend-requires-clause-timed
@@ -80,8 +80,8 @@ mend-requires-clause-timed c =
     let less = rw (← c.self.view_is, at) at c.requires.shorter in
     let os = joined c.self.inside.order.rows in
     let ps = joined c.shorten.new.self.rows in
-    let p : ps ≡ map (shorter x.serial c.args.dur) os = c.shorten.ensures.items ∙ ap (λ (e : OrderEntry). map (shorter e.serial c.args.dur) os) c.entry_of-entry.ensures in
-    let tick = cut_tick x.frame.pts c.args.dur x.frame.dur (subst (λ (e : OrderEntry). IsTick e.pts) c.entry_of-entry.ensures c.get-begins.ensures.in_range) less.0 less.1 (subst IsTimed (sym value) (each_at IsTimed fs c.args.i x within c.self.invariant.timed)).1 in
+    let p : ps ≡ map (with_entry_dur x.serial c.args.dur) os = c.shorten.ensures.items ∙ ap (λ (e : OrderEntry). map (with_entry_dur e.serial c.args.dur) os) c.entry_of-entry.ensures in
+    let tick = cut_tick x.frame.pts c.args.dur x.frame.dur (subst (λ (e : OrderEntry). IsTick e.pts) c.entry_of-entry.ensures c.get-begins.ensures.is_tick) less.0 less.1 (subst IsTimed (sym value) (each_at IsTimed fs c.args.i x within c.self.invariant.timed)).1 in
     timed_entries (frames_with_dur x.serial c.args.dur fs) ps (order_cut c.args.dur x.serial fs os ps c.self.invariant.in_order p) (timed_cut c.args.dur x fs c.args.i c.self.invariant.kept.ascending within value less.0 tick c.self.invariant.timed)
 
 pub invariant_of-self : goal.invariant_of-self
@@ -94,8 +94,8 @@ invariant_of-self c =
     let less = rw (← c.self.view_is, at) at c.requires.shorter in
     let os = joined c.self.inside.order.rows in
     let ps = joined c.shorten.new.self.rows in
-    let p : ps ≡ map (shorter x.serial c.args.dur) os = c.shorten.ensures.items ∙ ap (λ (e : OrderEntry). map (shorter e.serial c.args.dur) os) c.entry_of-entry.ensures in
-    let tick = cut_tick x.frame.pts c.args.dur x.frame.dur (subst (λ (e : OrderEntry). IsTick e.pts) c.entry_of-entry.ensures c.get-begins.ensures.in_range) less.0 less.1 (subst IsTimed (sym value) (each_at IsTimed fs c.args.i x within c.self.invariant.timed)).1 in
+    let p : ps ≡ map (with_entry_dur x.serial c.args.dur) os = c.shorten.ensures.items ∙ ap (λ (e : OrderEntry). map (with_entry_dur e.serial c.args.dur) os) c.entry_of-entry.ensures in
+    let tick = cut_tick x.frame.pts c.args.dur x.frame.dur (subst (λ (e : OrderEntry). IsTick e.pts) c.entry_of-entry.ensures c.get-begins.ensures.is_tick) less.0 less.1 (subst IsTimed (sym value) (each_at IsTimed fs c.args.i x within c.self.invariant.timed)).1 in
     let start = c.end_at.ensures ∙ ap (λ (e : OrderEntry). e.pts +ℤ c.args.dur) c.entry_of-entry.ensures in
     let end = c.end_of.ensures ∙ ap (λ (e : OrderEntry). e.pts +ℤ e.dur) c.entry_of-entry.ensures in
     let hole : Span = record { start = c.end_at.result; end = c.end_of.result } in

@@ -1,5 +1,5 @@
 use Rattle.std.proofs.Common.{◌∙◌}
-use Rattle.block_list.specs.Rows.{joined}
+use Rattle.mse_base.specs.Rows.{joined}
 use Rattle.track_index.proofs.Highest.{highest_is, highest_tick}
 use Rattle.track_index.proofs.index_store.IndexStoreFrameStore.highest_end.Goals as goal
 

@@ -1,5 +1,5 @@
 use Rattle.std.proofs.Common.{ap, length, arith}
-use Rattle.block_list.specs.Rows.{joined}
+use Rattle.mse_base.specs.Rows.{joined}
 use Rattle.track_store.proofs.Listing.{few_ranges}
 use Rattle.track_index.proofs.index_store.IndexStoreFrameStore.reserve.Goals as goal
 

@@ -1,8 +1,8 @@
 use Rattle.std.proofs.Common.{◌≡◌, ◌∙◌, ◌<◌, ◌≤◌, false, ℕ, take, drop, length, sym, subst, arith}
 use Rattle.std.specs.List.{AllByRecursion}
-use Rattle.block_list.specs.Rows.{joined}
+use Rattle.mse_base.specs.Rows.{joined}
 use Rattle.block_list.specs.BlockPlaces.{rank}
-use Rattle.track_index.specs.Keyed.{before_key, entry_named}
+use Rattle.track_index.specs.Keyed.{is_before_key, is_entry_named}
 use Rattle.track_index.proofs.Ordering.{each_more}
 use Rattle.track_index.proofs.Keys.{found_init, found_here, none_from, none_at_end, none_behind, rest_next, unnamed_serial, is_named_entry}
 use Rattle.track_index.proofs.Blocks.{rank_within}
@@ -52,8 +52,8 @@ loop-place-preserved c =
     let x = c.entry-entry.result in
     record {
       place = c.next-place.ensures.place;
-      passed = subst (λ (n : ℕ). AllByRecursion (λ o. before_key c.args.key.now o ≡ false → entry_named c.args.to.now c.args.below o ≡ false) (take n os)) (sym c.next-place.ensures.rank) (each_more (λ o. before_key c.args.key.now o ≡ false → entry_named c.args.to.now c.args.below o ≡ false) os (rank rows s) x k c.entry-entry.ensures c.loop-place.invariant.passed (λ _. unnamed_serial c.args.to.now c.args.below x c.if-entry-below.false));
-      rest = subst (λ (n : ℕ). AllByRecursion (λ o. before_key c.args.key.now o ≡ false) (drop n os)) (sym c.next-place.ensures.rank) (rest_next c.args.key.now os (rank rows s) x k c.entry-entry.ensures c.loop-place.invariant.rest);
+      passed = subst (λ (n : ℕ). AllByRecursion (λ o. is_before_key c.args.key.now o ≡ false → is_entry_named c.args.to.now c.args.below o ≡ false) (take n os)) (sym c.next-place.ensures.rank) (each_more (λ o. is_before_key c.args.key.now o ≡ false → is_entry_named c.args.to.now c.args.below o ≡ false) os (rank rows s) x k c.entry-entry.ensures c.loop-place.invariant.passed (λ _. unnamed_serial c.args.to.now c.args.below x c.if-entry-below.false));
+      rest = subst (λ (n : ℕ). AllByRecursion (λ o. is_before_key c.args.key.now o ≡ false) (drop n os)) (sym c.next-place.ensures.rank) (rest_next c.args.key.now os (rank rows s) x k c.entry-entry.ensures c.loop-place.invariant.rest);
     }
 
 pub loop-place-smaller : goal.loop-place-smaller

@@ -1,6 +1,6 @@
 use Rattle.std.proofs.Common.{◌∙◌, ◌<◌, sym, subst, ap, take, filter, length, arith}
-use Rattle.block_list.specs.Rows.{joined}
-use Rattle.track_index.specs.Keyed.{IsKeyed, before_key}
+use Rattle.mse_base.specs.Rows.{joined}
+use Rattle.track_index.specs.Keyed.{IsKeyed, is_before_key}
 use Rattle.track_index.specs.Known.{greatest_end}
 use Rattle.track_index.proofs.Keys.{cut_keyed}
 use Rattle.track_index.proofs.Blocks.{greatest_before}
@@ -14,5 +14,5 @@ returns c =
     let rows = c.self.inside.list.rows in
     let s = c.search-place.result in
     let l : s.block < length rows = c.search-place.ensures.block (omega (arith, c.blocks-2.ensures, c.if-blocks-eq0.false)) in
-    c.later_end.ensures ∙ greatest_before c.args.key.now rows s c.top_before.result c.greatest_end-within.result l c.search-place.ensures.index c.search-place.ensures.before c.search-place.ensures.after c.top_before.ensures (c.greatest_end-within.ensures ∙ ap (λ zs. greatest_end (take s.index zs)) c.block-items.ensures.value)
-    ∙ ap (λ w. greatest_end (filter (before_key c.args.key.now) (joined w.rows))) c.self.view_is
+    c.greatest_of_two.ensures ∙ greatest_before c.args.key.now rows s c.top_before.result c.greatest_end-within.result l c.search-place.ensures.index c.search-place.ensures.before c.search-place.ensures.after c.top_before.ensures (c.greatest_end-within.ensures ∙ ap (λ zs. greatest_end (take s.index zs)) c.block-items.ensures.value)
+    ∙ ap (λ w. greatest_end (filter (is_before_key c.args.key.now) (joined w.rows))) c.self.view_is

@@ -1,17 +1,17 @@
 use Rattle.std.proofs.Common.{◌≡◌, ◌∙◌, ◌<◌, ◌+◌, ◌-◌, length, sym, subst, ap, arith}
 use Rattle.std.specs.List.{list_all}
-use Rattle.block_list.specs.Rows.{joined, start}
+use Rattle.mse_base.specs.Rows.{joined, start}
 use Rattle.block_list.specs.BlockPlaces.{rank}
 use Rattle.block_list.proofs.Joining.{start_more, start_all}
 use Rattle.block_list.proofs.Cutting.{some_row}
-use Rattle.track_index.specs.Keyed.{before_key, IsKeyed}
+use Rattle.track_index.specs.Keyed.{is_before_key, IsKeyed}
 use Rattle.track_index.proofs.Keys.{all_before}
 use Rattle.track_index.proofs.Blocks.{joined_none}
 use Rattle.track_index.proofs.order.Order.is_all_before.Goals as goal
 
 pub returns-then-n-eq0 : goal.returns-then-n-eq0
 returns-then-n-eq0 c =
-    ap (list_all (before_key c.args.key.now)) (sym (joined_none c.self.inside.list.rows (omega (arith, c.blocks-n.ensures, c.if-n-eq0.true)))) ∙ ap (λ w. list_all (before_key c.args.key.now) (joined w.rows)) c.self.view_is
+    ap (list_all (is_before_key c.args.key.now)) (sym (joined_none c.self.inside.list.rows (omega (arith, c.blocks-n.ensures, c.if-n-eq0.true)))) ∙ ap (λ w. list_all (is_before_key c.args.key.now) (joined w.rows)) c.self.view_is
 
 pub overflow_sub-index : goal.overflow_sub-index
 overflow_sub-index c =
@@ -40,4 +40,4 @@ returns c =
     let k : rank rows (record { block = n - 1; index = length c.block.result.now - 1 }) + 1 ≡ length (joined rows) = omega (arith, more, all, same, some, ap length c.block.ensures.value) in
     let keyed = subst (λ w. IsKeyed (joined w.rows)) (sym c.self.view_is) c.requires.keyed in
     all_before c.args.key.now (joined rows) (rank rows (record { block = n - 1; index = length c.block.result.now - 1 })) c.item-entry.result.now c.passes.result keyed k c.item-entry.ensures c.passes.ensures
-    ∙ ap (λ w. list_all (before_key c.args.key.now) (joined w.rows)) c.self.view_is
+    ∙ ap (λ w. list_all (is_before_key c.args.key.now) (joined w.rows)) c.self.view_is

@@ -1,10 +1,10 @@
 use Rattle.std.proofs.Common.{◌≡◌, ◌∙◌, ◌<◌, ◌+ℤ◌, pos, ℤ, sym, subst, ap, false, true, take, drop, length, arith, refl}
 use Rattle.std.specs.List.{AllByRecursion}
-use Rattle.block_list.specs.Rows.{joined, row}
+use Rattle.mse_base.specs.Rows.{joined, row}
 use Rattle.block_list.specs.BlockPlaces.{rank}
 use Rattle.track_index.specs.declared.key.Key.{Key}
 use Rattle.track_index.specs.Order.{entry_covers, last_that, or_else}
-use Rattle.track_index.specs.Keyed.{IsKeyed, before_key}
+use Rattle.track_index.specs.Keyed.{IsKeyed, is_before_key}
 use Rattle.track_index.proofs.Keys.{cut_keyed}
 use Rattle.track_index.proofs.Blocks.{last_at_place, begun_before}
 use Rattle.track_index.proofs.order.Order.last_holding.Goals as goal
@@ -19,7 +19,7 @@ whole c =
     let s = c.search-place.result in
     let l : s.block < length rows = c.search-place.ensures.block (omega (arith, c.blocks-2.ensures, c.if-blocks-eq0.false)) in
     let e = c.at-key.ensures ∙ ap (λ (m : ℤ). record { mark = m; serial = 0 }) c.after.ensures in
-    last_at_place c.args.t (c.args.t +ℤ pos 1) rows s refl l c.search-place.ensures.index (subst (λ (q : Key). AllByRecursion (λ o. before_key q o ≡ false) (drop (rank rows s) (joined rows))) e c.search-place.ensures.after)
+    last_at_place c.args.t (c.args.t +ℤ pos 1) rows s refl l c.search-place.ensures.index (subst (λ (q : Key). AllByRecursion (λ o. is_before_key q o ≡ false) (drop (rank rows s) (joined rows))) e c.search-place.ensures.after)
 
 pub returns-in-Some-clause-last : goal.returns-in-Some-clause-last
 returns-in-Some-clause-last c =
@@ -37,4 +37,4 @@ last_in_blocks-requires-clause-begun c =
     let s = c.search-place.result in
     let l : s.block < length rows = c.search-place.ensures.block (omega (arith, c.blocks-2.ensures, c.if-blocks-eq0.false)) in
     let e = c.at-key.ensures ∙ ap (λ (m : ℤ). record { mark = m; serial = 0 }) c.after.ensures in
-    begun_before c.args.t (c.args.t +ℤ pos 1) rows s refl l c.search-place.ensures.index (subst (λ (q : Key). AllByRecursion (λ o. before_key q o ≡ true) (take (rank rows s) (joined rows))) e c.search-place.ensures.before)
+    begun_before c.args.t (c.args.t +ℤ pos 1) rows s refl l c.search-place.ensures.index (subst (λ (q : Key). AllByRecursion (λ o. is_before_key q o ≡ true) (take (rank rows s) (joined rows))) e c.search-place.ensures.before)

@@ -1,5 +1,5 @@
 use Rattle.std.proofs.Common.{◌≡◌, ◌∙◌, ◌<◌, ◌+◌, ◌-◌, ℕ, Some, length, get_or, ap, arith}
-use Rattle.block_list.specs.Rows.{joined, start}
+use Rattle.mse_base.specs.Rows.{joined, start}
 use Rattle.block_list.specs.BlockPlaces.{rank}
 use Rattle.block_list.proofs.Joining.{start_more, start_all}
 use Rattle.block_list.proofs.Cutting.{some_row}

@@ -1,5 +1,5 @@
 use Rattle.std.proofs.Common.{sym, subst}
-use Rattle.block_list.specs.Rows.{joined}
+use Rattle.mse_base.specs.Rows.{joined}
 use Rattle.track_index.specs.Keyed.{IsKeyed}
 use Rattle.track_index.proofs.Keys.{cut_keyed}
 use Rattle.track_index.proofs.order.Order.place_at.Goals as goal

@@ -1,10 +1,10 @@
 use Rattle.std.proofs.Common.{◌∙◌, ◌<◌, ◌++◌, ◌∷◌, [], length, ap, subst, sym, arith, None, vec_capacity, ◌+ℤ◌, pos, ℤ}
-use Rattle.block_list.specs.Rows.{joined}
+use Rattle.mse_base.specs.Rows.{joined}
 use Rattle.block_list.specs.BlockPlaces.{rank}
 use Rattle.track_index.specs.declared.key.Key.{Key}
 use Rattle.track_index.specs.Order.{put}
 use Rattle.track_index.specs.Keyed.{IsKeyed}
-use Rattle.track_index.proofs.Ending.{length_running}
+use Rattle.track_index.proofs.Ending.{length_running_ends}
 use Rattle.track_index.proofs.Keys.{cut_keyed, put_with}
 use Rattle.track_index.proofs.Blocks.{ready, first_ready, joined_none, top_with}
 use Rattle.track_index.proofs.order.Order.put.Goals as goal
@@ -27,8 +27,8 @@ pub returns-then-blocks-eq0-clause-spare : goal.returns-then-blocks-eq0-clause-s
 returns-then-blocks-eq0-clause-spare c =
     let old = c.self.inside.list.rows in
     let new = c.push.new.self.rows in
-    let n = ap length c.self.invariant ∙ length_running None old in
-    let m = ap length c.refresh.ensures.items ∙ length_running None new in
+    let n = ap length c.self.invariant ∙ length_running_ends None old in
+    let m = ap length c.refresh.ensures.items ∙ length_running_ends None new in
     let few1 = c.push.ensures.one_block_apart.1 in
     omega (arith, ap (λ w. w.spare) c.self.view_is, c.push.ensures.spare, c.refresh.ensures.capacity, n, m, few1, c.refresh.new.tops.ok.0, c.self.inside.tops.ok.0)
 
@@ -41,7 +41,7 @@ refresh_with-requires c =
     let old = c.self.inside.list.rows in
     let new = c.insert.new.self.rows in
     let b = c.search-place.result.block in
-    let n = ap length c.self.invariant ∙ length_running None old in
+    let n = ap length c.self.invariant ∙ length_running_ends None old in
     let few0 = c.insert.ensures.one_block_apart.0 in
     let few1 = c.insert.ensures.one_block_apart.1 in
     let l : b < length old = c.search-place.ensures.block (omega (arith, c.blocks-2.ensures, c.if-blocks-eq0.false)) in
@@ -70,7 +70,7 @@ returns-clause-spare c =
     let old = c.self.inside.list.rows in
     let new = c.insert.new.self.rows in
     let b = c.search-place.result.block in
-    let n = ap length c.self.invariant ∙ length_running None old in
-    let m = ap length c.refresh_with.ensures.items ∙ length_running None new in
+    let n = ap length c.self.invariant ∙ length_running_ends None old in
+    let m = ap length c.refresh_with.ensures.items ∙ length_running_ends None new in
     let few1 = c.insert.ensures.one_block_apart.1 in
     omega (arith, ap (λ w. w.spare) c.self.view_is, c.insert.ensures.spare, c.refresh_with.ensures.capacity, n, m, few1, c.refresh_with.new.tops.ok.0, c.self.inside.tops.ok.0)

@@ -1,8 +1,8 @@
 use Rattle.std.proofs.Common.{◌≡◌, ◌∙◌, ◌+◌, ◌-◌, length, map, drop, ap, sym, arith, None, vec_capacity, ℕ}
-use Rattle.block_list.specs.Rows.{joined}
+use Rattle.mse_base.specs.Rows.{joined}
 use Rattle.block_list.specs.BlockPlaces.{rank}
-use Rattle.track_index.specs.Order.{shorter}
-use Rattle.track_index.proofs.Ending.{length_running}
+use Rattle.track_index.specs.Order.{with_entry_dur}
+use Rattle.track_index.proofs.Ending.{length_running_ends}
 use Rattle.track_index.proofs.Keys.{shortened_at}
 use Rattle.track_index.proofs.Blocks.{ready}
 use Rattle.track_index.proofs.order.Order.shorten.Goals as goal
@@ -13,7 +13,7 @@ refresh-requires c =
     let old = c.self.inside.list.rows in
     let new = c.set.new.self.rows in
     let b = c.place_of-place.result.block in
-    let n = ap length c.self.invariant ∙ length_running None old in
+    let n = ap length c.self.invariant ∙ length_running_ends None old in
     let k : b + 1 ≡ (b + 1 + length new) - length old = omega (arith, c.set.ensures.len) in
     let r = ready ts old new b (vec_capacity c.self.inside.tops) c.self.invariant c.place_of-place.ensures.block (omega (arith, c.set.ensures.len)) (omega (arith, c.set.ensures.len)) (omega (arith, c.set.ensures.len, n, c.self.inside.tops.ok.0, c.self.inside.tops.ok.1)) c.set.ensures.front (ap (λ (i : ℕ). drop i new) (sym k) ∙ c.set.ensures.rest) in
     record { within = r.within; more = r.more; fewer = r.fewer; gone = r.gone; room = r.room; front = r.front; rest = r.rest }
@@ -21,7 +21,7 @@ refresh-requires c =
 pub returns-clause-items : goal.returns-clause-items
 returns-clause-items c =
     let os = joined c.self.inside.list.rows in
-    c.set.ensures.items ∙ shortened_at c.args.serial c.args.dur os (rank c.self.inside.list.rows c.place_of-place.result) c.item-entry.result.now c.place_of-place.ensures.names c.item-entry.ensures ∙ ap (λ w. map (shorter c.args.serial c.args.dur) (joined w.rows)) c.self.view_is
+    c.set.ensures.items ∙ shortened_at c.args.serial c.args.dur os (rank c.self.inside.list.rows c.place_of-place.result) c.item-entry.result.now c.place_of-place.ensures.names c.item-entry.ensures ∙ ap (λ w. map (with_entry_dur c.args.serial c.args.dur) (joined w.rows)) c.self.view_is
 
 pub returns-clause-spare : goal.returns-clause-spare
 returns-clause-spare c =
@@ -29,6 +29,6 @@ returns-clause-spare c =
     let old = c.self.inside.list.rows in
     let new = c.set.new.self.rows in
     let b = c.place_of-place.result.block in
-    let n = ap length c.self.invariant ∙ length_running None old in
-    let m = ap length c.refresh.ensures.items ∙ length_running None new in
+    let n = ap length c.self.invariant ∙ length_running_ends None old in
+    let m = ap length c.refresh.ensures.items ∙ length_running_ends None new in
     omega (arith, ap (λ w. w.spare) c.self.view_is, c.set.ensures.spare, c.refresh.ensures.capacity, n, m, c.set.ensures.len, c.refresh.new.tops.ok.0, c.self.inside.tops.ok.0)

@@ -1,5 +1,5 @@
 use Rattle.std.proofs.Common.{◌∙◌, ◌+◌, drop, sym, ap, subst, arith}
-use Rattle.block_list.specs.Rows.{joined, row}
+use Rattle.mse_base.specs.Rows.{joined, row}
 use Rattle.block_list.specs.BlockPlaces.{rank}
 use Rattle.block_list.proofs.Ranging.{drop_at}
 use Rattle.track_index.specs.Order.{first_start, is_sync_from}

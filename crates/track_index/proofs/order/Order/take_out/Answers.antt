@@ -1,9 +1,9 @@
 use Rattle.std.proofs.Common.{◌∙◌, length, filter, not, ap, arith, None, vec_capacity}
-use Rattle.block_list.specs.Rows.{joined}
+use Rattle.mse_base.specs.Rows.{joined}
 use Rattle.block_list.specs.BlockPlaces.{rank}
 use Rattle.track_index.specs.declared.entry.OrderEntry.{OrderEntry}
 use Rattle.track_index.specs.Keyed.{has_entry_serial}
-use Rattle.track_index.proofs.Ending.{length_running}
+use Rattle.track_index.proofs.Ending.{length_running_ends}
 use Rattle.track_index.proofs.Keys.{taken_out}
 use Rattle.track_index.proofs.Blocks.{ready}
 use Rattle.track_index.proofs.order.Order.take_out.Goals as goal
@@ -14,7 +14,7 @@ refresh-requires c =
     let old = c.self.inside.list.rows in
     let new = c.remove.new.self.rows in
     let b = c.place_of-place.result.block in
-    let n = ap length c.self.invariant ∙ length_running None old in
+    let n = ap length c.self.invariant ∙ length_running_ends None old in
     let few0 = c.remove.ensures.one_block_apart.0 in
     let few1 = c.remove.ensures.one_block_apart.1 in
     let r = ready ts old new b (vec_capacity c.self.inside.tops) c.self.invariant c.place_of-place.ensures.block (omega (arith, few0)) few1 (omega (arith, few0, n, c.self.inside.tops.ok.0, c.self.inside.tops.ok.1)) c.remove.ensures.front c.remove.ensures.rest in
@@ -31,7 +31,7 @@ returns-clause-spare c =
     let old = c.self.inside.list.rows in
     let new = c.remove.new.self.rows in
     let b = c.place_of-place.result.block in
-    let n = ap length c.self.invariant ∙ length_running None old in
-    let m = ap length c.refresh.ensures.items ∙ length_running None new in
+    let n = ap length c.self.invariant ∙ length_running_ends None old in
+    let m = ap length c.refresh.ensures.items ∙ length_running_ends None new in
     let few0 = c.remove.ensures.one_block_apart.0 in
     omega (arith, ap (λ w. w.spare) c.self.view_is, c.remove.ensures.spare, c.refresh.ensures.capacity, n, m, few0, c.refresh.new.tops.ok.0, c.self.inside.tops.ok.0)

@@ -5,7 +5,7 @@ use Rattle.std.proofs.lemmas.List.Folds.{list_all_at}
 use Rattle.mse_base.specs.declared.track.TrackInfo.{TrackInfo}
 use Rattle.track_buffers.specs.Initialized.{is_media_track, is_known}
 use Rattle.track_buffers.proofs.Loops.{all-filter}
-use Rattle.track_buffers.proofs.kinds.all_known.Goals as goal
+use Rattle.track_buffers.proofs.kinds.are_known.Goals as goal
 
 pub returns-then-not-is_known : goal.returns-then-not-is_known
 returns-then-not-is_known c =

@@ -4,21 +4,21 @@ use Rattle.std.proofs.lemmas.List.{length-map, take_all}
 use Rattle.track_store.specs.State.{TrackState, states_of}
 use Rattle.track_buffers.specs.Initialized.{is_media_track, is_partner, partner_of}
 use Rattle.track_buffers.proofs.Loops.{all_more, all_stops}
-use Rattle.track_buffers.proofs.partners.all_fit.Goals as goal
+use Rattle.track_buffers.proofs.partners.has_all_partners.Goals as goal
 
-pub returns-then-not-fits_at : goal.returns-then-not-fits_at
-returns-then-not-fits_at g c =
+pub returns-then-not-has_partner_at : goal.returns-then-not-has_partner_at
+returns-then-not-has_partner_at g c =
     let ts = states_of g.S.FrameStore.frames c.args.tracks.now.items in
     let p = λ (t : TrackState). is_partner c.args.pending t (partner_of ts (filter is_media_track c.args.news.now) t) in
     let here : c.loop-i.i < length ts = rw length-map (omega (arith, c.len-i-end.ensures)) in
-    sym (all_stops p ts c.loop-i.i c.fits_at.result c.fits_at.ensures here c.if-not-fits_at.true)
+    sym (all_stops p ts c.loop-i.i c.has_partner_at.result c.has_partner_at.ensures here c.if-not-has_partner_at.true)
 
 pub loop-i-preserved : goal.loop-i-preserved
 loop-i-preserved g c =
     let ts = states_of g.S.FrameStore.frames c.args.tracks.now.items in
     let p = λ (t : TrackState). is_partner c.args.pending t (partner_of ts (filter is_media_track c.args.news.now) t) in
     let here : c.loop-i.i < length ts = rw length-map (omega (arith, c.len-i-end.ensures)) in
-    all_more p ts c.loop-i.i c.fits_at.result here c.loop-i.invariant c.fits_at.ensures c.if-not-fits_at.false
+    all_more p ts c.loop-i.i c.has_partner_at.result here c.loop-i.invariant c.has_partner_at.ensures c.if-not-has_partner_at.false
 
 pub returns : goal.returns
 returns g c =

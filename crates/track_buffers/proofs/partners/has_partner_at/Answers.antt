@@ -3,7 +3,7 @@ use Rattle.std.proofs.lemmas.Option.{slice_get-map}
 use Rattle.mse_base.specs.declared.track.TrackInfo.{TrackInfo}
 use Rattle.track_store.specs.State.{state_of}
 use Rattle.track_buffers.specs.Initialized.{is_partner}
-use Rattle.track_buffers.proofs.partners.fits_at.Goals as goal
+use Rattle.track_buffers.proofs.partners.has_partner_at.Goals as goal
 
 pub returns-in-Some : goal.returns-in-Some
 returns-in-Some g c =

@@ -1,7 +1,7 @@
 use Rattle.std.proofs.Common.{◌≡◌, ◌∙◌, ℕ, zero, suc, List, [], ◌∷◌, map, set, slice_get, Some, refl, ap, sym}
 use Rattle.std.specs.Option.{option_copied_mut}
 use Rattle.track_store.specs.State.{state_of}
-use Rattle.frame_tests.proofs.tests.placing.reserve_at.Goals as goal
+use Rattle.frame_tests.proofs.tests.media.reserve_at.Goals as goal
 
 -- the mapped list stays, where the new element maps to what the old one did
 map-set_same : {A B : Type 0} (h : A → B) (xs : List A) (i : ℕ) (x y : A) → slice_get xs i ≡ Some x → h y ≡ h x → map h (set xs i y) ≡ map h xs

@@ -1,0 +1,157 @@
+//! Coded frames that are told in media time, and tracks that they are placed in.
+
+ghost use Rattle.std.specs.Prelude.{◌≡◌, ◌<◌, ◌≤◌, ◌^◌, [], pos, ◌≤ℤ◌, length, IfOk, IfSome, slice_get, OnOk};
+ghost use Rattle.track_store.specs.State.{state_of, states_of};
+ghost use Rattle.track_store.specs.Sound.{IsSound};
+ghost use Rattle.track_store.specs.Kept.{AreTracksSound};
+
+use frame_rules::{Placed, place};
+use mse_base::{Bytes, CodedFrame, Kind, Moment, OutOfMemory, Ticks, convert};
+use std::alloc::Global;
+use std::test::Fail;
+use track_store::{FrameStore, Marks, Settings, Track, Tracks};
+
+/// Decode time, duration, composition offset, and whether it is a random access point.
+pub(super) type Sample = (u32, u32, i32, bool);
+
+/// The time, where it is not negative.
+pub(super) fn not_negative(t: Ticks) -> Option<Ticks>
+    ensures { IfSome result (λ u. pos 0 ≤ℤ u) }
+{
+    if t < Ticks::zero() { None } else { Some(t) }
+}
+
+/// A time in units of which a second has so many.
+pub(super) fn time(m: i128, scale: u32) -> Result<Ticks, Fail> {
+    if m.unsigned_abs() > 1 << 80 || scale == 0 {
+        return Err("no media time".into());
+    }
+    Ok(convert(m, scale).ok_or("no time")?)
+}
+
+/// The frame of a sample, with four bytes.
+pub(super) fn frame_of(alloc: Global, scale: u32, sample: &Sample) -> Result<CodedFrame, Fail>
+    ensures { IfOk result (λ f. pos 0 ≤ℤ f.dur) }
+{
+    let (decode, duration, offset, sync) = *sample;
+    let begin = i128::from(decode) + i128::from(offset);
+    let pts = time(begin, scale)?;
+    let dts = time(i128::from(decode), scale)?;
+    let end = time(begin + i128::from(duration), scale)?;
+    let length = end.checked_sub(pts).ok_or("no duration")?;
+    let dur = not_negative(length).ok_or("no duration")?;
+    let payload = Bytes::copy_of(alloc, &[0; 4])?;
+    Ok(CodedFrame {
+        track_id: 1,
+        pts,
+        dts,
+        dur,
+        sync,
+        payload,
+    })
+}
+
+/// The settings of a new source buffer.
+pub(super) fn segments() -> Settings
+    ensures { pos 0 ≤ℤ result.window_start }
+{
+    Settings {
+        sequence: false,
+        generate: false,
+        offset: Ticks::zero(),
+        window_start: Ticks::zero(),
+        window_end: Moment::Infinite,
+        group_start: None,
+        group_end: Ticks::zero(),
+    }
+}
+
+/// A track with no frames that claims to have received so many.
+pub(super) fn empty_track<S: FrameStore>(alloc: Global, kind: Kind, received: u64) -> Track<S>
+    requires { received ≤ 2 ^ 62 }
+    ensures empty { S.frames result.store ≡ [] }
+    ensures sound { IsSound (state_of S.frames result) }
+{
+    let mut marks = Marks::new();
+    marks.received = received;
+    Track {
+        id: 1,
+        kind,
+        codec: *b"avc1",
+        store: S::new(alloc, Ticks::zero()),
+        marks,
+    }
+}
+
+/// One track with no frames.
+pub(super) fn one_track<S: FrameStore>(
+    alloc: Global,
+    kind: Kind,
+    received: u64,
+) -> Result<Tracks<S>, OutOfMemory>
+    requires { received ≤ 2 ^ 62 }
+    ensures one { IfOk result (λ ts. length ts.items ≡ 1) }
+    ensures sound { IfOk result (λ ts. AreTracksSound (states_of S.frames ts.items)) }
+{
+    let mut tracks = Tracks::new(alloc);
+    tracks.reserve(1)?;
+    tracks.add(empty_track(alloc, kind, received));
+    Ok(tracks)
+}
+
+/// Makes room for one frame in a track.
+pub(super) fn reserve_at<S: FrameStore>(
+    tracks: &mut Tracks<S>,
+    index: usize,
+) -> Result<(), OutOfMemory>
+    ensures ok { OnOk result (IfSome (slice_get tracks.new.items index)
+        (λ t. 1 ≤ S.spare t.store)) }
+    ensures states { states_of S.frames tracks.new.items ≡ states_of S.frames tracks.old.items }
+    ensures len { length tracks.new.items ≡ length tracks.old.items }
+{
+    match tracks.get_mut(index) {
+        Some(track) => track.store.reserve(1),
+        None => Ok(()),
+    }
+}
+
+/// Places a frame in a track.
+pub(super) fn feed<S: FrameStore>(
+    tracks: &mut Tracks<S>,
+    settings: &mut Settings,
+    index: usize,
+    frame: CodedFrame,
+) -> Result<Placed, OutOfMemory>
+    requires in_range { index < length tracks.old.items }
+    requires sound { AreTracksSound (states_of S.frames tracks.old.items) }
+    requires window_start { pos 0 ≤ℤ settings.old.window_start }
+    requires dur_not_negative { pos 0 ≤ℤ frame.dur }
+    ensures len { length tracks.new.items ≡ length tracks.old.items }
+    ensures sound { AreTracksSound (states_of S.frames tracks.new.items) }
+    ensures window_start { pos 0 ≤ℤ settings.new.window_start }
+{
+    reserve_at(tracks, index)?;
+    Ok(place(tracks, settings, index, frame))
+}
+
+/// Places the frames of samples in the track.
+pub(super) fn feed_all<S: FrameStore>(
+    alloc: Global,
+    tracks: &mut Tracks<S>,
+    settings: &mut Settings,
+    scale: u32,
+    samples: &[Sample],
+) -> Result<(), Fail>
+    requires one { length tracks.old.items ≡ 1 }
+    requires sound { AreTracksSound (states_of S.frames tracks.old.items) }
+    requires window_start { pos 0 ≤ℤ settings.old.window_start }
+    ensures one { length tracks.new.items ≡ 1 }
+    ensures sound { AreTracksSound (states_of S.frames tracks.new.items) }
+    ensures window_start { pos 0 ≤ℤ settings.new.window_start }
+{
+    for sample in samples {
+        let frame = frame_of(alloc, scale, sample)?;
+        let _placed = feed(tracks, settings, 0, frame)?;
+    }
+    Ok(())
+}
