@@ -8,9 +8,9 @@ use Rattle.std.specs.Str.Parse.{digits_value}
 use Rattle.std.proofs.lemmas.Bool.Decides.{Decides-ltb, Decides-eqb}
 use Rattle.std.proofs.lemmas.Fmt.{decimal_is_IsNumeral_wide, decimal_by_steps_wide, length-decimal-le_wide, decimal_digit}
 use Rattle.std.proofs.lemmas.Str.Parse.{tells_all_ascii_digits}
+use Rattle.event_text.specs.Words.{is_printable}
 use Rattle.call_script.specs.Numbers.{is_number, number_of, below, number_below, index_of, size_of}
 use Rattle.call_script.specs.Times.{amount_of}
-use Rattle.call_script.specs.Lines.{is_printable}
 use Rattle.call_script.proofs.Parsing.{own, below-yes}
 use Rattle.call_script.proofs.Spaces.{Lacks, Prints}
 

@@ -11,7 +11,7 @@ use Rattle.std.specs.List.Sorted.{IsStrictlySortedBy}
 use Rattle.std.specs.Ordering.{is_lt, ordering_reverse}
 use Rattle.std.specs.Cmp.Lexicographic.{slice_cmp}
 use Rattle.std.proofs.lemmas.Cmp.{nat_list_cmp_total}
-use Rattle.call_script.specs.Keys.{is_script_key, keys_of, first_of, unknown_key}
+use Rattle.call_script.specs.Keys.{is_script_key, keys_of, lesser_key, unknown_key}
 
 pub keys_view : (es : List Entry) → keys_of (members_view es) ≡ map (λ k. string_bytes k) (map (λ e. e.0) es)
 keys_view [] = refl
@@ -47,16 +47,16 @@ found_after p key [] q h e = cc
 found_after p key (x ∷ es) q h e =
     found_by (p (string_bytes x.0)) (string_bytes key) (string_bytes x.0) q (find p (keys_of (members_view es))) h.0 (found_after p key es q h.1) e
 
-first_stays : (key : List ℕ) (o : Option (List ℕ)) → ((q : List ℕ) → o ≡ Some q → slice_cmp nat_cmp key q ≡ Less) → first_of key o ≡ Some key
+first_stays : (key : List ℕ) (o : Option (List ℕ)) → ((q : List ℕ) → o ≡ Some q → slice_cmp nat_cmp key q ≡ Less) → lesser_key key o ≡ Some key
 first_stays key None above = refl
 first_stays key (Some q) above =
     let after : slice_cmp nat_cmp q key ≡ Greater = nat_list_cmp_total.antisymm q key ∙ ap ordering_reverse (above q refl) in
     ap (λ (o : Ordering). if is_lt o then Some q else Some key) after
 
 unknown_by : (t : Bool) (key : List ℕ) (told found : Option (List ℕ)) → told ≡ found → ((q : List ℕ) → found ≡ Some q → slice_cmp nat_cmp key q ≡ Less)
-    → (if t then told else first_of key told) ≡ cond (not t) (Some key) found
+    → (if t then told else lesser_key key told) ≡ cond (not t) (Some key) found
 unknown_by true key told found e above = e
-unknown_by false key told found e above = ap (first_of key) e ∙ first_stays key found above
+unknown_by false key told found e above = ap (lesser_key key) e ∙ first_stays key found above
 
 -- of a sorted table the first unknown key is the one that stands first
 pub unknown_key-sorted : (es : List Entry) → IsStrictlySortedBy string_cmp (map (λ e. e.0) es) → unknown_key (members_view es) ≡ find (λ key. not (is_script_key key)) (keys_of (members_view es))

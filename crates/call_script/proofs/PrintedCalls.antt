@@ -14,13 +14,13 @@ use Rattle.mse_calls.specs.declared.calls.Mode.TheVariants.{Segments, Sequence}
 use Rattle.mse_calls.specs.declared.calls.EndKind.TheVariants.{Plain, Network, Decode}
 use Rattle.call_script.specs.declared.call_word.CallWord.{CallWord}
 use Rattle.call_script.specs.declared.call_word.CallWord.TheVariants as word
-use Rattle.event_text.specs.Words.{sign_of, printable_text}
+use Rattle.event_text.specs.Words.{sign_of, printable_text, is_printable}
 use Rattle.event_text.specs.Times.{moment_text}
 use Rattle.event_text.specs.Calls.{mode_text, type_text, append_text, call_text}
 use Rattle.call_script.specs.Numbers.{index_of, size_of}
 use Rattle.call_script.specs.Times.{time_of}
 use Rattle.call_script.specs.CallWords.{call_word_of}
-use Rattle.call_script.specs.Lines.{pair, mode_of, piece_with, piece_of, type_of, is_printable, call_with, call_of_line}
+use Rattle.call_script.specs.Lines.{pair, mode_of, piece_with, piece_of, type_of, call_with, call_of_line}
 use Rattle.call_script.specs.Words.{first_word, after_word}
 use Rattle.call_script.specs.ReadBack.{IsIndex, IsPart, HasFewDigits, IsPlain, IsReadableCall}
 use Rattle.call_script.proofs.Spaces.{Lacks, Prints, before-mark, rest_after-mark, before-alone, rest_after-alone, prints_words, both-is, pair-is, line-alone, line-with}

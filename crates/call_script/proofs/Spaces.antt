@@ -3,10 +3,11 @@ use Rattle.std.proofs.Common.{◌≡◌, ◌∙◌, ℕ, suc, ◌+◌, List, [],
 use Rattle.std.specs.Prelude.{◌==◌, ◌&&◌, ◌||◌, Option, Some, None, option_and_then}
 use Rattle.std.specs.List.{list_any, list_all, position_or_len}
 use Rattle.mse_calls.specs.declared.calls.Call.{Call}
+use Rattle.event_text.specs.Words.{is_printable}
 use Rattle.call_script.specs.declared.call_word.CallWord.{CallWord}
 use Rattle.call_script.specs.Words.{before, rest_after, first_word, after_word}
 use Rattle.call_script.specs.CallWords.{call_word_of}
-use Rattle.call_script.specs.Lines.{both, pair, is_printable, call_with, call_of_line}
+use Rattle.call_script.specs.Lines.{both, pair, call_with, call_of_line}
 
 -- the mark is not in the text
 pub record Lacks (mark : ℕ) (text : List ℕ) : Type 0 where

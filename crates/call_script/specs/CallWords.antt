@@ -2,7 +2,7 @@
 use Rattle.std.specs.Prelude.{ℕ, List, [], ◌∷◌, Option, codes}
 use Rattle.call_script.specs.declared.call_word.CallWord.{CallWord}
 use Rattle.call_script.specs.declared.call_word.CallWord.TheVariants.{Attach, Add, RemoveBuffer, Duration, EndOfStream, Live, ClearLive, Mode, Offset, WindowStart, WindowEnd, Append, Abort, Remove, ChangeType, Buffered, State, Seek, Play, Pause, Advance, ElementBuffered, Seekable}
-use Rattle.call_script.specs.Names.{named}
+use Rattle.call_script.specs.Names.{first_named}
 
 abbrev pub call_name : CallWord → List ℕ
 call_name Attach = codes "attach"
@@ -36,4 +36,4 @@ call_words =
     ∷ Seek ∷ Play ∷ Pause ∷ Advance ∷ ElementBuffered ∷ Seekable ∷ []
 
 unfoldable pub call_word_of : List ℕ → Option CallWord
-call_word_of text = named call_name call_words text
+call_word_of text = first_named call_name call_words text

@@ -8,7 +8,7 @@ use Rattle.mse_calls.specs.declared.events.Target.TheVariants.{Source, SourceBuf
 use Rattle.event_text.specs.Events.{target_text, kind_text}
 use Rattle.call_script.specs.Words.{first_word, after_word}
 use Rattle.call_script.specs.Numbers.{index_of}
-use Rattle.call_script.specs.Names.{named}
+use Rattle.call_script.specs.Names.{first_named}
 
 -- the events that are fired at each target (Media Source Extensions, event summaries; HTML, media
 -- element events)
@@ -25,21 +25,22 @@ kinds_at Element =
 abbrev pub single_targets : List Target
 single_targets = Source ∷ SourceBuffers ∷ ActiveSourceBuffers ∷ Element ∷ []
 
-abbrev pub event_at : Target → List ℕ → Option Event
-event_at target text =
+abbrev pub event_named : Target → List ℕ → Option Event
+event_named target text =
     option_map (λ kind. record { target = target; kind = kind })
-    (named kind_text (kinds_at target) text)
+    (first_named kind_text (kinds_at target) text)
 
 -- a buffer's number, and an event that is fired at a buffer
 abbrev pub buffer_event : List ℕ → Option Event
 buffer_event text =
-    option_and_then (λ k. option_and_then (event_at (Buffer k)) (after_word text))
+    option_and_then (λ k. option_and_then (event_named (Buffer k)) (after_word text))
     (index_of (first_word text))
 
 abbrev pub event_with : List ℕ → List ℕ → Option Event
 event_with word text =
     if bytes_eq word (codes "buffer") then buffer_event text
-    else option_and_then (λ target. event_at target text) (named target_text single_targets word)
+    else option_and_then (λ target. event_named target text)
+    (first_named target_text single_targets word)
 
 -- a target, and an event that is fired at it
 unfoldable pub event_of : List ℕ → Option Event

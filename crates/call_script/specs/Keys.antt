@@ -39,15 +39,15 @@ keys_of no_members = []
 keys_of (member key value members) = key ∷ keys_of members
 
 -- the first of a key and of another one, in order of their bytes
-abbrev pub first_of : List ℕ → Option (List ℕ) → Option (List ℕ)
-first_of key None = Some key
-first_of key (Some other) = if is_lt (slice_cmp nat_cmp other key) then Some other else Some key
+abbrev pub lesser_key : List ℕ → Option (List ℕ) → Option (List ℕ)
+lesser_key key None = Some key
+lesser_key key (Some other) = if is_lt (slice_cmp nat_cmp other key) then Some other else Some key
 
 -- the first key, in order of bytes, that a script does not have
 unfoldable pub unknown_key : Members → Option (List ℕ)
 unknown_key no_members = None
 unknown_key (member key value members) =
-    if is_script_key key then unknown_key members else first_of key (unknown_key members)
+    if is_script_key key then unknown_key members else lesser_key key (unknown_key members)
 
 -- a whole number from `least` to `most`
 abbrev pub within : ℕ → ℕ → Option ℤ → Option ℕ

@@ -1,5 +1,5 @@
 -- The lines of a script: a call's word with the kinds of its arguments, and the steps.
-use Rattle.std.specs.Prelude.{ℕ, nat_le, Bool, ◌&&◌, List, [], ◌∷◌, Option, Some, None, option_map, option_and_then, if◌then◌else◌, codes, bytes_eq}
+use Rattle.std.specs.Prelude.{ℕ, List, [], ◌∷◌, Option, Some, None, option_map, option_and_then, if◌then◌else◌, codes, bytes_eq}
 use Rattle.std.specs.List.{list_all}
 use Rattle.mse_calls.specs.declared.calls.Call.{Call}
 use Rattle.mse_calls.specs.declared.calls.Call.TheVariants as call
@@ -7,6 +7,7 @@ use Rattle.mse_calls.specs.declared.calls.Piece.{Piece}
 use Rattle.mse_calls.specs.declared.calls.Mode.{Mode as AppendMode}
 use Rattle.mse_calls.specs.declared.calls.Mode.TheVariants.{Segments, Sequence}
 use Rattle.mse_calls.specs.declared.calls.EndKind.TheVariants as kind
+use Rattle.event_text.specs.Words.{is_printable}
 use Rattle.call_script.specs.declared.call_word.CallWord.{CallWord}
 use Rattle.call_script.specs.declared.call_word.CallWord.TheVariants.{Attach, Add, RemoveBuffer, Duration, EndOfStream, Live, ClearLive, Mode, Offset, WindowStart, WindowEnd, Append, Abort, Remove, ChangeType, Buffered, State, Seek, Play, Pause, Advance, ElementBuffered, Seekable}
 use Rattle.call_script.specs.declared.script.StepLine.{StepLine}
@@ -50,9 +51,9 @@ type_of (Some []) = None
 type_of (Some (byte ∷ bytes)) = Some (byte ∷ bytes)
 
 -- What stands behind the word of a call, by the kinds of its arguments.
-abbrev pub alone : Call → Option (List ℕ) → Option Call
-alone call None = Some call
-alone call (Some text) = None
+abbrev pub call_alone : Call → Option (List ℕ) → Option Call
+call_alone call None = Some call
+call_alone call (Some text) = None
 
 abbrev pub one : {A : Type 0} → (List ℕ → Option A) → (A → Call) → Option (List ℕ) → Option Call
 one first make rest = option_map make (option_and_then first rest)
@@ -62,29 +63,29 @@ abbrev pub two : {A B : Type 0} → (List ℕ → Option A) → (List ℕ → Op
 two first second make rest =
     option_map (λ p. make p.0 p.1) (option_and_then (pair first second) rest)
 
-abbrev pub typed : (List ℕ → Call) → Option (List ℕ) → Option Call
-typed make rest = option_map make (type_of rest)
+abbrev pub type_call : (List ℕ → Call) → Option (List ℕ) → Option Call
+type_call make rest = option_map make (type_of rest)
 
-abbrev pub numbered_type : (ℕ → List ℕ → Call) → Option (List ℕ) → Option Call
-numbered_type make None = None
-numbered_type make (Some text) =
+abbrev pub index_and_type_call : (ℕ → List ℕ → Call) → Option (List ℕ) → Option Call
+index_and_type_call make None = None
+index_and_type_call make (Some text) =
     option_map (λ p. make p.0 p.1) (both (index_of (first_word text)) (type_of (after_word text)))
 
-abbrev pub ending : Option (List ℕ) → Option Call
-ending None = Some (call.EndOfStream kind.Plain)
-ending (Some text) =
+abbrev pub end_call : Option (List ℕ) → Option Call
+end_call None = Some (call.EndOfStream kind.Plain)
+end_call (Some text) =
     if bytes_eq text (codes "network") then Some (call.EndOfStream kind.Network)
     else (if bytes_eq text (codes "decode") then Some (call.EndOfStream kind.Decode) else None)
 
 -- the call of a word and of what stands behind it
 abbrev pub call_with : CallWord → Option (List ℕ) → Option Call
-call_with Attach = alone call.Attach
-call_with Add = typed (λ kind. call.AddSourceBuffer kind)
+call_with Attach = call_alone call.Attach
+call_with Add = type_call (λ kind. call.AddSourceBuffer kind)
 call_with RemoveBuffer = one index_of (λ k. call.RemoveSourceBuffer k)
 call_with Duration = one time_of (λ d. call.SetDuration d)
-call_with EndOfStream = ending
+call_with EndOfStream = end_call
 call_with Live = two time_of time_of (λ a b. call.SetLiveSeekableRange a b)
-call_with ClearLive = alone call.ClearLiveSeekableRange
+call_with ClearLive = call_alone call.ClearLiveSeekableRange
 call_with Mode = two index_of mode_of (λ k mode. call.SetMode k mode)
 call_with Offset = two index_of time_of (λ k t. call.SetTimestampOffset k t)
 call_with WindowStart = two index_of time_of (λ k t. call.SetAppendWindowStart k t)
@@ -92,19 +93,15 @@ call_with WindowEnd = two index_of time_of (λ k t. call.SetAppendWindowEnd k t)
 call_with Append = two index_of piece_of (λ k piece. call.AppendBuffer k piece)
 call_with Abort = one index_of (λ k. call.Abort k)
 call_with Remove = two index_of (pair time_of time_of) (λ k span. call.Remove k span.0 span.1)
-call_with ChangeType = numbered_type (λ k kind. call.ChangeType k kind)
+call_with ChangeType = index_and_type_call (λ k kind. call.ChangeType k kind)
 call_with Buffered = one index_of (λ k. call.Buffered k)
-call_with State = alone call.SourceState
+call_with State = call_alone call.SourceState
 call_with Seek = one time_of (λ t. call.Seek t)
-call_with Play = alone call.Play
-call_with Pause = alone call.Pause
+call_with Play = call_alone call.Play
+call_with Pause = call_alone call.Pause
 call_with Advance = one time_of (λ t. call.Advance t)
-call_with ElementBuffered = alone call.ElementBuffered
-call_with Seekable = alone call.Seekable
-
--- the bytes from 0x20 to 0x7E
-abbrev pub is_printable : ℕ → Bool
-is_printable byte = nat_le 32 byte && nat_le byte 126
+call_with ElementBuffered = call_alone call.ElementBuffered
+call_with Seekable = call_alone call.Seekable
 
 abbrev pub call_in : List ℕ → Option Call
 call_in line =

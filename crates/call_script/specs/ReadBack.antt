@@ -5,7 +5,7 @@ use Rattle.mse_base.specs.declared.ticks.Moment.{Moment}
 use Rattle.mse_base.specs.declared.ticks.Moment.TheVariants.{Nan, At, Infinite}
 use Rattle.mse_calls.specs.declared.calls.Call.{Call}
 use Rattle.mse_calls.specs.declared.calls.Call.TheVariants.{Attach, AddSourceBuffer, RemoveSourceBuffer, SetDuration, EndOfStream, SetLiveSeekableRange, ClearLiveSeekableRange, SetMode, SetTimestampOffset, SetAppendWindowStart, SetAppendWindowEnd, AppendBuffer, Abort, Remove, ChangeType, Buffered, SourceState, Seek, Play, Pause, Advance, ElementBuffered, Seekable}
-use Rattle.call_script.specs.Lines.{is_printable}
+use Rattle.event_text.specs.Words.{is_printable}
 
 -- the number of a buffer or of a blob
 abbrev pub IsIndex : ℕ → Type 0

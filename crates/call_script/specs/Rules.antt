@@ -23,8 +23,8 @@ on_of None = None
 on_of (Some value) = option_and_then event_of (as_str value)
 
 -- how often: 1 to 1000000, and once where it is not said
-unfoldable pub times_of : Option Data → Option ℕ
-times_of value = number_or 1 1 1000000 value
+unfoldable pub repeat_count_of : Option Data → Option ℕ
+repeat_count_of value = number_or 1 1 1000000 value
 
 -- whether the calls are made again and again: they are not where it is not said
 unfoldable pub repeat_of : Option Data → Option Bool
@@ -62,7 +62,7 @@ rule_in members =
     then rule_from
     (listener_of (get_member (rule_key_name Listener) members))
     (on_of (get_member (rule_key_name On) members))
-    (times_of (get_member (rule_key_name Times) members))
+    (repeat_count_of (get_member (rule_key_name Times) members))
     (repeat_of (get_member (rule_key_name Repeat) members))
     (calls_of (get_member (rule_key_name Calls) members))
     else None

@@ -43,12 +43,12 @@ answer_by view (Ok x) = Ok (view x)
 answer_by view (Err error) = Err error
 
 -- no key that a script does not have
-abbrev pub known_of : Option (List ℕ) → Result (Unit {0}) ScriptFault
-known_of None = Ok tt
-known_of (Some name) = Err (Key name)
+abbrev pub keys_fault : Option (List ℕ) → Result (Unit {0}) ScriptFault
+keys_fault None = Ok tt
+keys_fault (Some name) = Err (Key name)
 
 unfoldable pub known_keys : Members → Result (Unit {0}) ScriptFault
-known_keys members = known_of (unknown_key members)
+known_keys members = keys_fault (unknown_key members)
 
 -- the number at a key from `least` to `most`, or the default
 unfoldable pub number_at : ScriptKey → ℕ → ℕ → ℕ → Members → Result ℕ ScriptFault
@@ -64,20 +64,22 @@ unfoldable pub at_most : ℕ → ScriptKey → Items → Result (Unit {0}) Scrip
 at_most most key items = if nat_le (count_of items) most then Ok tt else Err (TooMany key)
 
 -- the fault that has the number of a bad member
-abbrev pub numbered : {A : Type 0} → (ℕ → ScriptFault) → Result A ℕ → Result A ScriptFault
-numbered fault (Ok x) = Ok x
-numbered fault (Err n) = Err (fault n)
+abbrev pub with_fault_number : {A : Type 0} → (ℕ → ScriptFault) → Result A ℕ → Result A ScriptFault
+with_fault_number fault (Ok x) = Ok x
+with_fault_number fault (Err n) = Err (fault n)
 
 unfoldable pub blobs_of : Items → Result (List BlobText) ScriptFault
 blobs_of items =
-    numbered (λ n. Blob n) (members_of (λ value. option_and_then blob_of (as_str value)) items)
+    with_fault_number (λ n. Blob n)
+    (members_of (λ value. option_and_then blob_of (as_str value)) items)
 
 unfoldable pub steps_of : Items → Result (List StepLine) ScriptFault
 steps_of items =
-    numbered (λ n. Step n) (members_of (λ value. option_and_then step_of_line (as_str value)) items)
+    with_fault_number (λ n. Step n)
+    (members_of (λ value. option_and_then step_of_line (as_str value)) items)
 
 unfoldable pub rules_of : Items → Result (List of_rules.Rule) ScriptFault
-rules_of items = numbered (λ n. Rule n) (members_of rule_of items)
+rules_of items = with_fault_number (λ n. Rule n) (members_of rule_of items)
 
 -- the script of a table, with the faults in their order
 unfoldable pub script_of : Members → Result Script ScriptFault

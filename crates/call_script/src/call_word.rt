@@ -89,7 +89,7 @@ impl CallWord {
 
     /// The word that the text is; `None` exactly where it is none.
     #[tactic(auto, unfolding(crate::specs::CallWords::call_word_of))]
-    pub fn named(text: &str) -> Option<CallWord>
+    pub fn of_text(text: &str) -> Option<CallWord>
         ensures { result ≡ call_word_of text.now }
     {
         CallWord::ALL

@@ -1,9 +1,9 @@
 ghost use Rattle.std.specs.Prelude.{◌≡◌};
 ghost use Rattle.event_text.specs.Events.{target_text, kind_text};
-ghost use Rattle.call_script.specs.Names.{named};
-ghost use Rattle.call_script.specs.Events.{kinds_at, single_targets, event_at, buffer_event, event_of};
+ghost use Rattle.call_script.specs.Names.{first_named};
+ghost use Rattle.call_script.specs.Events.{kinds_at, single_targets, event_named, buffer_event, event_of};
 
-use crate::numbers::index;
+use crate::numbers::read_index;
 use crate::words::split_word;
 use event_text::kind_name;
 use mse_calls::{Event, EventKind, Target};
@@ -39,7 +39,7 @@ const ELEMENT_KINDS: [EventKind; 14] = [
 
 /// The kind of this name among some kinds.
 fn kind_named(kinds: &[EventKind], text: &str) -> Option<EventKind>
-    ensures { result ≡ named kind_text kinds.now text.now }
+    ensures { result ≡ first_named kind_text kinds.now text.now }
 {
     kinds.iter().copied().find(|kind| text == kind_name(*kind))
 }
@@ -59,7 +59,7 @@ fn kinds_of(target: Target) -> &'static [EventKind]
 
 /// An event of this name at a target.
 fn read_kind(target: Target, text: &str) -> Option<Event>
-    ensures { result ≡ event_at target text.now }
+    ensures { result ≡ event_named target text.now }
 {
     kind_named(kinds_of(target), text).map(|kind| Event { target, kind })
 }
@@ -69,13 +69,13 @@ fn read_buffer_event(text: &str) -> Option<Event>
     ensures { result ≡ buffer_event text.now }
 {
     let (first, rest) = split_word(text);
-    let k = index(first)?;
+    let k = read_index(first)?;
     read_kind(Target::Buffer(k), rest?)
 }
 
 /// The target of this name, of which there is one.
 fn single_target(text: &str) -> Option<Target>
-    ensures { result ≡ named target_text single_targets text.now }
+    ensures { result ≡ first_named target_text single_targets text.now }
 {
     if text == "source" {
         Some(Target::Source)

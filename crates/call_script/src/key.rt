@@ -1,4 +1,4 @@
-ghost use Rattle.std.specs.Prelude.{◌≡◌, is_some};
+ghost use Rattle.std.specs.Prelude.{◌≡◌};
 ghost use Rattle.call_script.specs.Keys.{key_name, is_script_key, rule_key_name, is_rule_key};
 
 /// A key of a script.

@@ -1,12 +1,13 @@
-ghost use Rattle.std.specs.Prelude.{◌≡◌, IfOk, option_and_then, option_map};
+ghost use Rattle.std.specs.Prelude.{◌≡◌, IfOk, option_and_then};
 ghost use Rattle.std.specs.List.{list_all};
 ghost use Rattle.std.specs.Option.{option_copied};
+ghost use Rattle.event_text.specs.Words.{is_printable};
 ghost use Rattle.call_script.specs.Numbers.{index_of, size_of};
 ghost use Rattle.call_script.specs.Times.{time_of};
-ghost use Rattle.call_script.specs.Lines.{pair, mode_of, piece_of, type_of, alone, ending, is_printable, call_with, call_of_line, other_step, step_of_line};
+ghost use Rattle.call_script.specs.Lines.{pair, mode_of, piece_of, type_of, call_alone, end_call, call_with, call_of_line, other_step, step_of_line};
 
 use crate::call_word::CallWord;
-use crate::numbers::{index, size};
+use crate::numbers::{read_index, read_size};
 use crate::script::StepLine;
 use crate::times::read_time;
 use crate::words::split_word;
@@ -30,8 +31,8 @@ fn two_sizes(text: &str) -> Option<(u64, u64)>
     ensures { result ≡ pair size_of size_of text.now }
 {
     let (first, rest) = split_word(text);
-    let first = size(first)?;
-    let second = size(rest?)?;
+    let first = read_size(first)?;
+    let second = read_size(rest?)?;
     Some((first, second))
 }
 
@@ -41,7 +42,7 @@ fn piece(text: &str) -> Option<Piece>
     ensures { result ≡ piece_of text.now }
 {
     let (blob, rest) = split_word(text);
-    let blob = index(blob)?;
+    let blob = read_index(blob)?;
     match rest {
         None => Some(Piece { blob, part: None }),
         Some(rest) => {
@@ -57,7 +58,7 @@ fn piece(text: &str) -> Option<Piece>
 fn one_index(rest: Option<&str>) -> Option<u32>
     ensures { result ≡ option_and_then index_of (option_copied rest.entry) }
 {
-    index(rest?)
+    read_index(rest?)
 }
 
 fn one_time(rest: Option<&str>) -> Option<Moment>
@@ -79,7 +80,7 @@ fn index_and_mode(rest: Option<&str>) -> Option<(u32, Mode)>
     ensures { result ≡ option_and_then (pair index_of mode_of) (option_copied rest.entry) }
 {
     let (first, rest) = split_word(rest?);
-    let k = index(first)?;
+    let k = read_index(first)?;
     let mode = mode(rest?)?;
     Some((k, mode))
 }
@@ -88,7 +89,7 @@ fn index_and_time(rest: Option<&str>) -> Option<(u32, Moment)>
     ensures { result ≡ option_and_then (pair index_of time_of) (option_copied rest.entry) }
 {
     let (first, rest) = split_word(rest?);
-    let k = index(first)?;
+    let k = read_index(first)?;
     let t = one_time(rest)?;
     Some((k, t))
 }
@@ -98,7 +99,7 @@ fn index_and_times(rest: Option<&str>) -> Option<(u32, (Moment, Moment))>
         ≡ option_and_then (pair index_of (pair time_of time_of)) (option_copied rest.entry) }
 {
     let (first, rest) = split_word(rest?);
-    let k = index(first)?;
+    let k = read_index(first)?;
     let times = two_times(rest)?;
     Some((k, times))
 }
@@ -107,14 +108,14 @@ fn index_and_piece(rest: Option<&str>) -> Option<(u32, Piece)>
     ensures { result ≡ option_and_then (pair index_of piece_of) (option_copied rest.entry) }
 {
     let (first, rest) = split_word(rest?);
-    let k = index(first)?;
+    let k = read_index(first)?;
     let piece = piece(rest?)?;
     Some((k, piece))
 }
 
 /// The call, where nothing stands behind its word.
 fn call_alone(rest: Option<&str>, call: Call) -> Option<Call>
-    ensures { result ≡ alone call (option_copied rest.entry) }
+    ensures { result ≡ call_alone call (option_copied rest.entry) }
 {
     match rest {
         None => Some(call),
@@ -123,7 +124,7 @@ fn call_alone(rest: Option<&str>, call: Call) -> Option<Call>
 }
 
 fn end_of_stream(rest: Option<&str>) -> Option<Call>
-    ensures { result ≡ ending (option_copied rest.entry) }
+    ensures { result ≡ end_call (option_copied rest.entry) }
 {
     let Some(text) = rest else {
         return Some(Call::EndOfStream(EndKind::Plain));
@@ -166,7 +167,7 @@ fn change_type(alloc: Global, rest: Option<&str>) -> Result<Option<Call>, OutOfM
         return Ok(None);
     };
     let (first, rest) = split_word(rest);
-    let Some(k) = index(first) else {
+    let Some(k) = read_index(first) else {
         return Ok(None);
     };
     let Some(kind) = type_behind(rest) else {
@@ -235,7 +236,7 @@ pub fn read_call(alloc: Global, line: &str) -> Result<Option<Call>, OutOfMemory>
         return Ok(None);
     }
     let (word, rest) = split_word(line);
-    match CallWord::named(word) {
+    match CallWord::of_text(word) {
         Some(word) => read_arguments(alloc, word, rest),
         None => Ok(None),
     }

@@ -20,7 +20,7 @@ pub fn is_number(text: &str) -> bool
 }
 
 /// The number of a buffer or of a blob: below `2^32`.
-pub fn index(text: &str) -> Option<u32>
+pub fn read_index(text: &str) -> Option<u32>
     ensures { result ≡ index_of text.now }
 {
     if !is_number(text) {
@@ -36,7 +36,7 @@ fn below_limit(size: u64) -> Option<u64>
 }
 
 /// A first byte, or a length in bytes: below `2^63`.
-pub fn size(text: &str) -> Option<u64>
+pub fn read_size(text: &str) -> Option<u64>
     ensures { result ≡ size_of text.now }
 {
     if !is_number(text) {
@@ -49,7 +49,7 @@ pub fn size(text: &str) -> Option<u64>
 }
 
 /// A number of at most 24 digits.
-pub fn amount(text: &str) -> Option<i128>
+pub fn read_amount(text: &str) -> Option<i128>
     ensures value { result ≡ option_map (λ n. pos n) (amount_of text.now) }
     ensures small { IfSome result (λ n. unsigned_abs n < 10 ^ 24) }
 {

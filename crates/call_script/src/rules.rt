@@ -2,7 +2,7 @@ ghost use Rattle.std.specs.Prelude.{◌≡◌, IfOk, option_map};
 ghost use Rattle.std.specs.Result.{result_ok};
 ghost use Rattle.toml.specs.View.{view, table_view, items_view};
 ghost use Rattle.call_script.specs.Members.{members_of};
-ghost use Rattle.call_script.specs.Rules.{listener_of, on_of, times_of, repeat_of, call_of, calls_of, rule_in, rule_of};
+ghost use Rattle.call_script.specs.Rules.{listener_of, on_of, repeat_count_of, repeat_of, call_of, calls_of, rule_in, rule_of};
 
 use crate::events::read_event;
 use crate::key::RuleKey;
@@ -45,9 +45,9 @@ fn read_on(value: Option<&Value>) -> Option<Event>
     read_event(value?.as_str()?)
 }
 
-#[tactic(auto, unfolding(crate::specs::Rules::times_of))]
+#[tactic(auto, unfolding(crate::specs::Rules::repeat_count_of))]
 fn read_times(value: Option<&Value>) -> Option<u32>
-    ensures { result ≡ times_of (option_map (λ v. view v.now) value.entry) }
+    ensures { result ≡ repeat_count_of (option_map (λ v. view v.now) value.entry) }
 {
     let number = number_in(value, TIMES)?;
     Some(number as u32)

@@ -1,8 +1,7 @@
 ghost use Rattle.std.specs.Prelude.{◌≡◌, ◌≤◌, ◌^◌, IfSome, unsigned_abs};
-ghost use Rattle.std.specs.Option.{option_copied};
-ghost use Rattle.call_script.specs.Times.{signed_of, scale_of, ticks_of, finite_of, time_of};
+ghost use Rattle.call_script.specs.Times.{signed_of, scale_of, finite_of, time_of};
 
-use crate::numbers::{amount, index};
+use crate::numbers::{read_amount, read_index};
 use crate::words::split_at_mark;
 use mse_base::{Moment, Ticks, convert};
 
@@ -13,10 +12,10 @@ fn signed_amount(text: &str) -> Option<i128>
 {
     match text.strip_prefix('-') {
         Some(digits) => {
-            let n = amount(digits)?;
+            let n = read_amount(digits)?;
             if n == 0 { None } else { Some(-n) }
         }
-        None => amount(text),
+        None => read_amount(text),
     }
 }
 
@@ -25,7 +24,7 @@ fn scale(text: &str) -> Option<u32>
     ensures value { result ≡ scale_of text.now }
     ensures positive { IfSome result (λ units. 1 ≤ units) }
 {
-    let units = index(text)?;
+    let units = read_index(text)?;
     if units == 0 { None } else { Some(units) }
 }
 

@@ -2,9 +2,13 @@
 use Rattle.std.specs.Prelude.{ℕ, zero, suc, nat_le, Bool, true, false, ◌&&◌, if◌then◌else◌, List, [], ◌∷◌, ◌++◌, map, codes}
 use Rattle.std.specs.Str.{chars}
 
--- the sign that a character prints as: from 0x20 to 0x7E itself, and every other one as a question mark
+-- the characters from 0x20 to 0x7E
+abbrev pub is_printable : ℕ → Bool
+is_printable c = nat_le 32 c && nat_le c 126
+
+-- the sign that a character prints as: a printable one itself, and every other one as a question mark
 abbrev pub sign_of : ℕ → ℕ
-sign_of c = if nat_le 32 c && nat_le c 126 then c else 63
+sign_of c = if is_printable c then c else 63
 
 -- a text, which is in UTF-8: one sign for each of its characters
 abbrev pub printable_text : List ℕ → List ℕ

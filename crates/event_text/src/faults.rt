@@ -1,4 +1,4 @@
-ghost use Rattle.std.specs.Prelude.{◌≡◌, ◌++◌, IfOk, string_bytes};
+ghost use Rattle.std.specs.Prelude.{◌≡◌, IfOk, string_bytes};
 ghost use Rattle.event_text.specs.Words.{name_at};
 ghost use Rattle.event_text.specs.Faults.{stream_faults, init_faults, moof_faults, init_fault_text, inner_text, fault_line};
 

@@ -1,7 +1,4 @@
-ghost use Rattle.std.specs.Prelude.{◌≡◌, ◌∷◌, ◌++◌, [], IfOk, codes, string_bytes};
-ghost use Rattle.std.specs.Fmt.{decimal};
-ghost use Rattle.event_text.specs.Calls.{call_text};
-ghost use Rattle.event_text.specs.Answers.{answer_text};
+ghost use Rattle.std.specs.Prelude.{◌≡◌, IfOk, string_bytes};
 ghost use Rattle.event_text.specs.Lines.{line_text};
 
 use crate::answers::answer_words;

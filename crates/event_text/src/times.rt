@@ -1,5 +1,5 @@
 ghost use Rattle.std.specs.Prelude.{◌≡◌, ◌∷◌, ◌++◌, IfOk, OnOk, string_bytes};
-ghost use Rattle.event_text.specs.Times.{moment_text, span_text, closed_text, ranges_text, range_text};
+ghost use Rattle.event_text.specs.Times.{moment_text, span_text, ranges_text, range_text};
 
 use mse_base::{Moment, Span};
 use mse_calls::TimeRanges;

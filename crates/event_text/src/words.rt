@@ -36,7 +36,7 @@ pub fn code_signs(alloc: Global, code: &[u8; 4]) -> Result<String, AllocError>
 
 /// A text as it is printed: a character from 0x20 to 0x7E as itself, and every other one as a
 /// question mark.
-pub fn printable(alloc: Global, text: &str) -> Result<Text, OutOfMemory>
+pub fn printable_text(alloc: Global, text: &str) -> Result<Text, OutOfMemory>
     ensures { IfOk result (λ t. t ≡ printable_text text.now) }
 {
     let signs = signs_of(alloc, text)?;

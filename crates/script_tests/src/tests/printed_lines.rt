@@ -1,4 +1,4 @@
-use event_text::{closing, init_fault, line_of, printable};
+use event_text::{closing_text, init_fault, line_of, printable_text};
 use mse_base::{Kind, Moment, OutOfMemory, Phase, Ranges, Span, Text, Ticks};
 use mse_calls::{
     Answer, BufferView, BufferViews, Call, EndKind, Entry, Event, EventKind, FaultView, Level,
@@ -477,7 +477,7 @@ fn fault_of(alloc: Global, number: u8, inner: u8) -> Result<String, OutOfMemory>
         buffers: BufferViews::from_vec(Vec::new(alloc)),
         fault: Some(fault),
     };
-    let block = closing(alloc, &view, false)?;
+    let block = closing_text(alloc, &view, false)?;
     let rest = block
         .as_str()
         .strip_prefix("duration nan\nfault ")
@@ -532,7 +532,7 @@ fn prints_faults(rt: HostRuntime) -> Result<(), Fail> {
         assert_eq!(rt; fault_of(alloc, number, inner)?.as_str(), wanted);
     }
     assert_eq!(rt; init_fault(alloc, 2, b"mvhd")?.as_str(), "Missing mvhd");
-    assert_eq!(rt; printable(alloc, "caf\u{e9} \n")?.as_str(), "caf? ?");
+    assert_eq!(rt; printable_text(alloc, "caf\u{e9} \n")?.as_str(), "caf? ?");
     Ok(())
 }
 
@@ -617,7 +617,7 @@ fn prints_the_closing_lines(rt: HostRuntime) -> Result<(), Fail> {
         fault: None,
     };
     assert_eq!(rt;
-        closing(alloc, &view, true)?.as_str(),
+        closing_text(alloc, &view, true)?.as_str(),
         "state source open duration 4704000000 level 4 position 0 paused true seeking false error 0
 duration 4704000000
 buffer 0 phase waiting held 0 used 27 buffered [0,14112000000)
@@ -647,7 +647,7 @@ fn prints_the_closing_fault(rt: HostRuntime) -> Result<(), Fail> {
         }),
     };
     assert_eq!(rt;
-        closing(alloc, &view, false)?.as_str(),
+        closing_text(alloc, &view, false)?.as_str(),
         "duration inf
 fault 7 InSegment buffer 0 at 735
 "

@@ -8,4 +8,4 @@ pub returns-in-None-clause-value : goal.returns-in-None-clause-value
 returns-in-None-clause-value c =
     let stripped = strip_prefix_char 45 c.args.text.now c.strip_prefix.result c.strip_prefix.ensures.cases (lit< tt) in
     let none = subst (λ (r : Option (Bor (List ℕ))). MatchOption r ((rest : List ℕ) → c.args.text.now ≢ 45 ∷ rest) (λ x. c.args.text.now ≡ 45 ∷ x.now)) c.in-None.is stripped in
-    c.amount-in-None.ensures.value ∙ signed-plain c.args.text.now none
+    c.read_amount-in-None.ensures.value ∙ signed-plain c.args.text.now none

@@ -1,6 +1,6 @@
 use Rattle.std.proofs.Common.{◌∙◌, sym}
 use Rattle.call_script.proofs.Parsing.{parse-size, parse-size-none, size-none}
-use Rattle.call_script.proofs.numbers.size.Goals as goal
+use Rattle.call_script.proofs.numbers.read_size.Goals as goal
 
 pub returns-then-not-is_number : goal.returns-then-not-is_number
 returns-then-not-is_number c = size-none c.args.text.now (sym c.is_number.ensures ∙ c.if-not-is_number.true)

@@ -1,6 +1,6 @@
 use Rattle.std.proofs.Common.{◌∙◌, sym}
 use Rattle.call_script.proofs.Parsing.{parse-index, index-none}
-use Rattle.call_script.proofs.numbers.index.Goals as goal
+use Rattle.call_script.proofs.numbers.read_index.Goals as goal
 
 pub returns-then-not-is_number : goal.returns-then-not-is_number
 returns-then-not-is_number c = index-none c.args.text.now (sym c.is_number.ensures ∙ c.if-not-is_number.true)
