@@ -1,13 +1,13 @@
 -- The steps that are left become fewer.
-use Rattle.std.proofs.Common.{◌≡◌, ◌∙◌, ℕ, ◌+◌, ◌-◌, ◌<◌, ◌≤◌, List, ◌++◌, length, drop, sym, ap, arith, length-append, length-drop}
+use Rattle.std.proofs.Common.{◌≡◌, ◌∙◌, ◌+◌, ◌-◌, ◌<◌, ◌≤◌, ◌++◌, length, drop, sym, ap, arith, length-append, length-drop}
 use Rattle.std.proofs.lemmas.List.{length-map}
 use Rattle.std.specs.Prelude.{Option, Some, None, map}
-use Rattle.mse_base.specs.declared.track.Presentation.{Presentation}
 use Rattle.mse_base.specs.declared.ticks.Moment.{Moment}
 use Rattle.mse_types.specs.declared.answer.Container.{Container}
 use Rattle.mse_types.specs.declared.answer.Container.TheVariants.{Mp4, Adts}
 use Rattle.parser_loop.specs.Walk.{items_from, stay_at}
-use Rattle.parser_loop.proofs.Runs.{stands-items}
+use Rattle.parser_loop.specs.StringReadings.{StringReading, after_answer}
+use Rattle.parser_loop.proofs.Lookaheads.{stands-items}
 use Rattle.segment_walk.specs.Moves.{segments}
 use Rattle.segment_walk.specs.Strings as segment_string
 use Rattle.segment_walk.proofs.WalkLaws as segment_laws
@@ -30,29 +30,30 @@ use Rattle.buffer_state.specs.StepsLeft.{items_left, steps_left}
 use Rattle.buffer_state.proofs.Stepping.{GoesOn}
 
 -- the items that are left are those of the string but for the ones that were given
-pub left : (k : byte_stream.ParserState) (container : Container) (before : Option Presentation) (whole : List ℕ) (n : ℕ) → StandsIn k container before whole n → items_left k + n ≡ length (items_of container before whole)
-left (OfSegments k) Mp4 before whole n h =
-    let items = segment_string.walk_items before whole in
-    let parts : drop n items ≡ k.items ++ items_from segments k.state = stands-items segments segment_laws.is_walk k (segment_string.start before whole) n h in
-    let lengths : length items - n ≡ length k.items + length (items_from segments k.state) = sym (length-drop n items) ∙ ap length parts ∙ length-append k.items (items_from segments k.state) in
-    let taken : n ≤ length items = h.taken in
-    let mapped : length (items_of Mp4 before whole) ≡ length items = ap (λ xs. length (map of_segments xs)) (sym (items-boxes before whole)) ∙ length-map items of_segments in
+pub left : (k : byte_stream.ParserState) (container : Container) (r : StringReading) → StandsIn k container r → items_left k + r.taken ≡ length (items_of container r.before r.whole)
+left (OfSegments k) Mp4 r h =
+    let items = segment_string.walk_items r.before r.whole in
+    let parts : drop r.taken items ≡ k.items ++ items_from segments k.state = stands-items segments segment_laws.is_walk k (segment_string.start r.before r.whole) r.taken h in
+    let lengths : length items - r.taken ≡ length k.items + length (items_from segments k.state) = sym (length-drop r.taken items) ∙ ap length parts ∙ length-append k.items (items_from segments k.state) in
+    let taken : r.taken ≤ length items = h.taken in
+    let mapped : length (items_of Mp4 r.before r.whole) ≡ length items = ap (λ xs. length (map of_segments xs)) (sym (items-boxes r.before r.whole)) ∙ length-map items of_segments in
     omega arith
-left (OfFrames s) Adts before whole n h =
-    let items = items_from adts (frame_walk.start before whole) in
-    let parts : drop n items ≡ items_from adts s = stands-items adts frame_laws.is_walk (stay_at s) (frame_walk.start before whole) n h in
-    let lengths : length items - n ≡ length (items_from adts s) = sym (length-drop n items) ∙ ap length parts in
-    let taken : n ≤ length items = h.taken in
-    let mapped : length (items_of Adts before whole) ≡ length items = ap (λ xs. length (map of_frames xs)) (items-frames before whole) ∙ length-map items of_frames in
+left (OfFrames s) Adts r h =
+    let items = items_from adts (frame_walk.start r.before r.whole) in
+    let parts : drop r.taken items ≡ items_from adts s = stands-items adts frame_laws.is_walk (stay_at s) (frame_walk.start r.before r.whole) r.taken h in
+    let lengths : length items - r.taken ≡ length (items_from adts s) = sym (length-drop r.taken items) ∙ ap length parts in
+    let taken : r.taken ≤ length items = h.taken in
+    let mapped : length (items_of Adts r.before r.whole) ≡ length items = ap (λ xs. length (map of_frames xs)) (items-frames r.before r.whole) ∙ length-map items of_frames in
     omega arith
-left (OfSegments k) Adts before whole n h = absurd h
-left (OfFrames s) Mp4 before whole n h = absurd h
+left (OfSegments k) Adts r h = absurd h
+left (OfFrames s) Mp4 r h = absurd h
 
 -- an item that is given is one less
 one-less : (s t : StreamView) (item : ByteItem) → StandsForSome s → GoesOn s (Some item) t → items_left t.parser + 1 ≡ items_left s.parser
 one-less s t item some goes =
-    let before : items_left s.parser + some.reading.taken ≡ length (items_in some.reading) = left s.parser some.reading.container some.reading.before some.reading.whole some.reading.taken some.stands.parser in
-    let after : items_left t.parser + (some.reading.taken + 1) ≡ length (items_in some.reading) = left t.parser some.reading.container some.reading.before some.reading.whole (some.reading.taken + 1) (goes some.reading some.stands).parser in
+    let read : StringReading = some.reading.string in
+    let before : items_left s.parser + read.taken ≡ length (items_in some.reading) = left s.parser some.reading.container read some.stands.parser in
+    let after : items_left t.parser + (read.taken + 1) ≡ length (items_in some.reading) = left t.parser some.reading.container (after_answer (Some item) read) (goes some.reading some.stands).parser in
     omega arith
 
 pub fewer : (s0 s1 s2 : StreamView) (m0 m2 : Media) (r2 : Running) (oi : Option ByteItem) (st : ItemEffect) (c d : Content) (duration : Moment) → StandsForSome s0 → GoesOn s0 oi s1 → step_result st d ≡ item_stepped oi c duration → Leaves st s1 Append s2 r2 → steps_left (kept_buffer s2 m2 r2) < steps_left (kept_buffer s0 m0 Append)

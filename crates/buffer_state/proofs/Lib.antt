@@ -1,5 +1,5 @@
 pub mod Standing
-pub mod Front
+pub mod ItemsNext
 pub mod Stepping
 pub mod Leaving
 pub mod Typing

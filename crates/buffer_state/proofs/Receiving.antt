@@ -13,7 +13,7 @@ use Rattle.track_buffers.specs.Frames.{frame_result}
 use Rattle.track_buffers.proofs.Received.{init_leaves, fault_not_received, frame_not_received}
 use Rattle.buffer_state.specs.declared.reply.Reply.{Reply}
 use Rattle.buffer_state.specs.State.{Feed, Content, Surroundings, KeptBuffer, Stands, next_item}
-use Rattle.buffer_state.specs.Replies.{CallResult, Answers, IsResult, LeavesRanges}
+use Rattle.buffer_state.specs.Replies.{CallResult, IsBufferAnswer, IsResult, LeavesRanges}
 use Rattle.buffer_state.specs.Turns.{media_item_result, item_turn_result, append_turn_result}
 use Rattle.buffer_state.proofs.Standing.{feed_at, content_of}
 
@@ -42,7 +42,7 @@ turn_leaves (Some SegmentEnd) a f c = none_received c (append_turn_result (Some 
 turn_leaves (Some (FaultItem x at)) a f c = none_received c (append_turn_result (Some (FaultItem x at)) a f c) refl
 
 -- of what is kept, where it stands for some string
-pub leaves_ranges : (old new : KeptBuffer) (reply : Reply) (a : Surroundings) → StandsForSome old.stream → Answers old reply new (λ f c. append_turn_result (next_item f) a f c) → LeavesRanges old.media reply new.media
+pub leaves_ranges : (old new : KeptBuffer) (reply : Reply) (a : Surroundings) → StandsForSome old.stream → IsBufferAnswer old reply new (λ f c. append_turn_result (next_item f) a f c) → LeavesRanges old.media reply new.media
 leaves_ranges old new reply a some answers =
     let f : Feed = feed_at some.reading old.running in
     let c : Content = content_of old.media old.stream in

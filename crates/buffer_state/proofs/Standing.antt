@@ -9,7 +9,7 @@ use Rattle.track_buffers.specs.Media.{Media}
 use Rattle.buffer_state.specs.declared.running.Running.{Running}
 use Rattle.buffer_state.specs.declared.reply.Reply.{Reply}
 use Rattle.buffer_state.specs.State.{Feed, Content, KeptBuffer, Stands}
-use Rattle.buffer_state.specs.Replies.{CallResult, Answers, IsResult}
+use Rattle.buffer_state.specs.Replies.{CallResult, IsBufferAnswer, IsResult}
 
 -- the feed of a reading, with what runs
 abbrev pub feed_at : Reading → Running → Feed
@@ -20,7 +20,7 @@ abbrev pub content_of : Media → StreamView → Content
 content_of media stream = record { media = media; latest = latest_of stream }
 
 -- what holds of each feed with what runs, and of the content that is kept, holds of all that is stood for
-pub by_kept : (k : KeptBuffer) (P : Feed → Content → Type 0) → ((r : Reading) → byte_stream.Stands k.stream r → P (feed_at r k.running) (content_of k.media k.stream)) → (f : Feed) (c : Content) → Stands k f c → P f c
+pub by_kept : (k : KeptBuffer) (P : Feed → Content → Type 0) → byte_stream.ForEachReading k.stream (λ r. P (feed_at r k.running) (content_of k.media k.stream)) → (f : Feed) (c : Content) → Stands k f c → P f c
 by_kept k P go f c s =
     let first : P (feed_at f.reading k.running) (content_of k.media k.stream) = go f.reading s.stream in
     let second : P (feed_at f.reading f.running) (content_of k.media k.stream) = subst (λ (x : Running). P (feed_at f.reading x) (content_of k.media k.stream)) s.running first in
@@ -28,5 +28,5 @@ by_kept k P go f c s =
     subst (λ (p : Option Presentation). P (feed_at f.reading f.running) (record { media = c.media; latest = p })) s.latest third
 
 -- the same of an answer
-pub answers : (old : KeptBuffer) (reply : Reply) (new : KeptBuffer) (call : Feed → Content → CallResult) → ((r : Reading) → byte_stream.Stands old.stream r → IsResult reply new (call (feed_at r old.running) (content_of old.media old.stream))) → Answers old reply new call
+pub answers : (old : KeptBuffer) (reply : Reply) (new : KeptBuffer) (call : Feed → Content → CallResult) → byte_stream.ForEachReading old.stream (λ r. IsResult reply new (call (feed_at r old.running) (content_of old.media old.stream))) → IsBufferAnswer old reply new call
 answers old reply new call go = by_kept old (λ f c. IsResult reply new (call f c)) go

@@ -3,7 +3,7 @@ use Rattle.std.proofs.Common.{◌≡◌, ◌∙◌, ℕ, true, false, refl, ap, 
 use Rattle.std.specs.Prelude.{Option, Some, None, is_some}
 use Rattle.mse_base.specs.declared.track.Presentation.{Presentation}
 use Rattle.parser_loop.specs.Items.{InitItem, FrameItem, latest_after_any}
-use Rattle.byte_stream.specs.Readings.{Reading, ByteItem, after_answer}
+use Rattle.byte_stream.specs.Readings.{ByteItem, after_answer}
 use Rattle.byte_stream.specs.Readings as reading
 use Rattle.byte_stream.specs.Streams.{StreamView, latest_of}
 use Rattle.byte_stream.specs.Streams as byte_stream
@@ -24,7 +24,7 @@ use Rattle.buffer_state.specs.declared.reply.Reply.{Reply}
 use Rattle.buffer_state.specs.declared.turns.ItemEffect.{ItemEffect}
 use Rattle.buffer_state.specs.declared.turns.ItemEffect.TheVariants as step
 use Rattle.buffer_state.specs.State.{Feed, Content, Surroundings, kept_buffer, Stands, feed_after, next_item}
-use Rattle.buffer_state.specs.Replies.{CallResult, Answers, IsResult}
+use Rattle.buffer_state.specs.Replies.{CallResult, IsBufferAnswer, IsResult}
 use Rattle.buffer_state.specs.Turns.{ItemResult, Done, AppendError, media_item_result, item_result, item_turn_result, append_turn_result}
 use Rattle.buffer_state.specs.Steps.{Took, step_result, item_stepped, step_turn, content_at, IsItemRefused}
 use Rattle.buffer_state.proofs.Standing.{answers, feed_at, content_of}
@@ -44,15 +44,15 @@ stands-given None stream media running f c s m l r = record { stream = s; media 
 stands-given (Some item) stream media running f c s m l r = record { stream = s; media = m; latest = l; running = r }
 
 abbrev pub GivesItem : StreamView → Option ByteItem → Type 0
-GivesItem s oi = (r : Reading) → byte_stream.Stands s r → oi ≡ reading.next_item r
+GivesItem s oi = byte_stream.ForEachReading s (λ r. oi ≡ reading.next_item r)
 
 abbrev pub GoesOn : StreamView → Option ByteItem → StreamView → Type 0
-GoesOn s oi t = (r : Reading) → byte_stream.Stands s r → byte_stream.Stands t (after_answer oi r)
+GoesOn s oi t = byte_stream.StandsAfter s (after_answer oi) t
 
 pub append-turns : (s0 s1 s2 : StreamView) (m0 m1 m2 : Media) (r0 r2 : Running) (oi : Option ByteItem) (st : ItemEffect) (reply : Reply) (a : Surroundings) → GivesItem s0 oi → GoesOn s0 oi s1 → latest_of s1 ≡ latest_after_any (latest_of s0) oi
     → ((latest : Option Presentation) → step_result st (record { media = m1; latest = latest_after_any latest oi }) ≡ item_stepped oi (record { media = m0; latest = latest }) a.duration)
-    → Answers (kept_buffer s1 m1 r0) reply (kept_buffer s2 m2 r2) (step_turn st a)
-    → Answers (kept_buffer s0 m0 r0) reply (kept_buffer s2 m2 r2) (λ f c. append_turn_result (next_item f) a f c)
+    → IsBufferAnswer (kept_buffer s1 m1 r0) reply (kept_buffer s2 m2 r2) (step_turn st a)
+    → IsBufferAnswer (kept_buffer s0 m0 r0) reply (kept_buffer s2 m2 r2) (λ f c. append_turn_result (next_item f) a f c)
 append-turns s0 s1 s2 m0 m1 m2 r0 r2 oi st reply a gives goes last does done =
     answers (kept_buffer s0 m0 r0) reply (kept_buffer s2 m2 r2) (λ f c. append_turn_result (next_item f) a f c) (λ r s.
     let f : Feed = feed_at r r0 in
@@ -78,9 +78,9 @@ refused-stepped (step.Done e) o m d latest h = absurd h
 refused-stepped (step.AppendError fault at e) o m d latest h = sym (h latest)
 
 pub refusal-turns : (s0 s2 : StreamView) (m0 m2 : Media) (r0 r2 : Running) (st : ItemEffect) (reply : Reply) (a : Surroundings)
-    → ((r : Reading) → byte_stream.Stands s0 r → IsItemRefused st (reading.next_item r) m0 a.duration)
-    → Answers (kept_buffer s0 m0 r0) reply (kept_buffer s2 m2 r2) (step_turn st a)
-    → Answers (kept_buffer s0 m0 r0) reply (kept_buffer s2 m2 r2) (λ f c. append_turn_result (next_item f) a f c)
+    → byte_stream.ForEachReading s0 (λ r. IsItemRefused st (reading.next_item r) m0 a.duration)
+    → IsBufferAnswer (kept_buffer s0 m0 r0) reply (kept_buffer s2 m2 r2) (step_turn st a)
+    → IsBufferAnswer (kept_buffer s0 m0 r0) reply (kept_buffer s2 m2 r2) (λ f c. append_turn_result (next_item f) a f c)
 refusal-turns s0 s2 m0 m2 r0 r2 st reply a refused done =
     answers (kept_buffer s0 m0 r0) reply (kept_buffer s2 m2 r2) (λ f c. append_turn_result (next_item f) a f c) (λ r s.
     let f : Feed = feed_at r r0 in
@@ -111,8 +111,8 @@ frame-step st (effects.AppendError fault e) f at m0 m1 latest d is h = h ∙ ap 
 -- a frame that breaks the byte stream
 pub frame-breaks : (s0 s1 s2 : StreamView) (m0 m1 m2 : Media) (r0 r2 : Running) (f : CodedFrame) (at : ℕ) (fault : MediaFault) (e : SourceEffect) (reply : Reply) (a : Surroundings) → GivesItem s0 (Some (FrameItem f at)) → GoesOn s0 (Some (FrameItem f at)) s1 → latest_of s1 ≡ latest_of s0
     → media.AppendError fault m1 e ≡ frame_result f m0 a.duration
-    → Answers (kept_buffer s1 m1 r0) reply (kept_buffer s2 m2 r2) (step_turn (step.AppendError (Fault.Media fault) at e) a)
-    → Answers (kept_buffer s0 m0 r0) reply (kept_buffer s2 m2 r2) (λ f c. append_turn_result (next_item f) a f c)
+    → IsBufferAnswer (kept_buffer s1 m1 r0) reply (kept_buffer s2 m2 r2) (step_turn (step.AppendError (Fault.Media fault) at e) a)
+    → IsBufferAnswer (kept_buffer s0 m0 r0) reply (kept_buffer s2 m2 r2) (λ f c. append_turn_result (next_item f) a f c)
 frame-breaks s0 s1 s2 m0 m1 m2 r0 r2 f at fault e reply a gives goes last is done =
     let st : ItemEffect = step.AppendError (Fault.Media fault) at e in
     append-turns s0 s1 s2 m0 m1 m2 r0 r2 (Some (FrameItem f at)) st reply a gives goes last

@@ -138,7 +138,7 @@ remove_result start end a f c =
 -- the buffer full flag: the stored frames fill the quota, or the string would not be shorter than 2 ^ 62 bytes
 abbrev pub is_full : List ℕ → ℕ → Feed → Media → Bool
 is_full bytes quota f m =
-    nat_le quota (used_in m) || nat_le (2 ^ 62) (length f.reading.whole + length bytes)
+    nat_le quota (used_in m) || nat_le (2 ^ 62) (length f.reading.string.whole + length bytes)
 
 abbrev pub append_result_by_room : List ℕ → ℕ → Surroundings → Feed → Content → CallResult
 append_result_by_room bytes quota a f c =

@@ -21,8 +21,8 @@ pub record CallResult : Type 0 where
 -- ---- replies
 
 -- a refusal by a name; nothing comes of the call but that the source was opened again before it
-abbrev pub refusal : Name → Bool → Moment → Reply
-refusal name reopened duration = record {
+abbrev pub refused_reply : Name → Bool → Moment → Reply
+refused_reply name reopened duration = record {
   refused = Some name;
   reopened = reopened;
   events_first = false;
@@ -62,7 +62,7 @@ error_reply fault e = record (effect_reply false e (Error ∷ UpdateEnd ∷ []))
 
 abbrev pub refused_result : Name → Bool → Surroundings → Feed → Content → CallResult
 refused_result name reopened a f c = record {
-  reply = refusal name reopened a.duration;
+  reply = refused_reply name reopened a.duration;
   feed = f;
   content = c;
 }
@@ -78,14 +78,14 @@ pub record IsResult (reply : Reply) (k : KeptBuffer) (result : CallResult) : Typ
   pub stands : Stands k result.feed result.content
 
 -- a call answers a reply and leaves what is kept, for every feed and content that was stood for
-abbrev pub Answers : KeptBuffer → Reply → KeptBuffer → (Feed → Content → CallResult) → Type 0
-Answers old reply new call =
+abbrev pub IsBufferAnswer : KeptBuffer → Reply → KeptBuffer → (Feed → Content → CallResult) → Type 0
+IsBufferAnswer old reply new call =
     (f : Feed) (c : Content) → Stands old f c → IsResult reply new (call f c)
 
 -- the same of a call that answers one where there is memory
-abbrev pub AnswersIfOk : {E : Type 0} → KeptBuffer → Result Reply E → KeptBuffer → (Feed → Content → CallResult)
+abbrev pub IsBufferAnswerIfOk : {E : Type 0} → KeptBuffer → Result Reply E → KeptBuffer → (Feed → Content → CallResult)
     → Type 0
-AnswersIfOk old result new call =
+IsBufferAnswerIfOk old result new call =
     (f : Feed) (c : Content) → Stands old f c → IfOk result (λ reply. IsResult reply new (call f c))
 
 -- the names are those by which a call is refused before anything comes of it
@@ -115,9 +115,9 @@ IsTurnResult Idle k None = Unit {0}
 IsTurnResult Idle k (Some result) = ⊥
 
 -- the same of a turn, for every feed and content that was stood for, where there is memory
-abbrev pub TurnsIfOk : {E : Type 0} → KeptBuffer → Result Turned E → KeptBuffer
+abbrev pub IsTurnIfOk : {E : Type 0} → KeptBuffer → Result Turned E → KeptBuffer
     → (Feed → Content → Option CallResult) → Type 0
-TurnsIfOk old result new turn =
+IsTurnIfOk old result new turn =
     (f : Feed) (c : Content) → Stands old f c
     → IfOk result (λ turned. IsTurnResult turned new (turn f c))
 

@@ -5,7 +5,7 @@ ghost use Rattle.mse_calls.specs.Ready.{is_ended};
 ghost use Rattle.track_buffers.specs.Media.{EndsWithin};
 ghost use Rattle.track_buffers.specs.Frames.{media_after_eviction, used_in};
 ghost use Rattle.buffer_state.specs.State.{Feed, kept_buffer, surroundings, append_input};
-ghost use Rattle.buffer_state.specs.Replies.{Answers, AnswersIfOk, StaysWithin, refusal};
+ghost use Rattle.buffer_state.specs.Replies.{IsBufferAnswer, IsBufferAnswerIfOk, StaysWithin, refused_reply};
 ghost use Rattle.buffer_state.specs.Calls.{append_result_after_eviction, append_refusal, append_result};
 
 use crate::around::Around;
@@ -42,7 +42,8 @@ fn evict<S: FrameStore>(media: &mut TrackBuffers<S>, new_bytes: usize, around: &
 }
 
 fn refuse_full(around: &Around) -> Reply
-    ensures { result ≡ refusal Name.QuotaExceeded (is_ended around.now.ready) around.now.duration }
+    ensures { result ≡ refused_reply Name.QuotaExceeded (is_ended around.now.ready)
+        around.now.duration }
 {
     Reply::refused(
         Name::QuotaExceeded,
@@ -60,8 +61,8 @@ fn accept_or_decline<S: FrameStore>(
     around: &Around,
 ) -> Reply
     requires offered { stream.old.offered ≡ Some bytes.now }
-    requires short { nat_le (2 ^ 62) (stream.old.fed + length bytes.now) ≡ false }
-    ensures answered { Answers (kept_buffer stream.old media.old.media running.old) result
+    requires countable { nat_le (2 ^ 62) (stream.old.fed + length bytes.now) ≡ false }
+    ensures answered { IsBufferAnswer (kept_buffer stream.old media.old.media running.old) result
         (kept_buffer stream.new media.new.media running.new)
         (append_result_after_eviction (append_input bytes.now around.now)
         (surroundings around.now)) }
@@ -104,7 +105,8 @@ pub(crate) fn append<S: FrameStore>(
     around: &Around,
 ) -> Result<Reply, OutOfMemory>
     requires { stream.old.offered ≡ None }
-    ensures answered { AnswersIfOk (kept_buffer stream.old media.old.media running.old) result
+    ensures answered { IsBufferAnswerIfOk
+        (kept_buffer stream.old media.old.media running.old) result
         (kept_buffer stream.new media.new.media running.new)
         (append_result (append_input bytes.now around.now) (surroundings around.now)) }
     ensures within_duration { IfOk result

@@ -1,8 +1,8 @@
-ghost use Rattle.std.specs.Prelude.{◌≡◌, ◌≢◌, ◌+◌, ◌<◌, ◌≤◌, ◌^◌, ℕ, ℤ, pos, ◌≤ℤ◌, false, not, find, [], length, Option, None, Some, IfOk, OnErr};
+ghost use Rattle.std.specs.Prelude.{◌≡◌, ◌≢◌, ◌<◌, ◌≤◌, ◌^◌, ℤ, pos, ◌≤ℤ◌, false, not, find, length, Option, None, IfOk, OnErr};
 ghost use Rattle.std.specs.List.{AllByRecursion};
 ghost use Rattle.mse_base.specs.declared.ticks.Moment.{Moment};
 ghost use Rattle.mse_base.specs.Spans.{first_of, last_of, reaches};
-ghost use Rattle.track_store.specs.Kept.{AreKept};
+ghost use Rattle.track_store.specs.Kept.{AreTracksSound};
 ghost use Rattle.track_store.specs.Sound.{IsSound};
 ghost use Rattle.track_store.specs.State.{states_of};
 ghost use Rattle.track_buffers.specs.Settings.{new_media};
@@ -10,7 +10,7 @@ ghost use Rattle.track_buffers.specs.Media.{awaits_first, IsNotAfter};
 ghost use Rattle.track_buffers.specs.Frames.{used_in, highest_start_in, highest_end_in};
 ghost use Rattle.track_buffers.specs.Buffered.{buffered_of};
 ghost use Rattle.buffer_state.specs.State.{Feed, Content, KeptBuffer, Stands, surroundings, append_input, new_feed, phase_in, ready_in, is_updating, is_appending, is_removing};
-ghost use Rattle.buffer_state.specs.Replies.{Answers, AnswersIfOk, StaysWithin, LeavesRanges, TurnsIfOk, OfTurn, changes_of};
+ghost use Rattle.buffer_state.specs.Replies.{IsBufferAnswer, IsBufferAnswerIfOk, StaysWithin, LeavesRanges, IsTurnIfOk, OfTurn, changes_of};
 ghost use Rattle.buffer_state.specs.Turns.{turn_result};
 ghost use Rattle.buffer_state.specs.Calls.{generates_timestamps, mode_refusal, mode_result, offset_refusal, offset_result, window_start_refusal, window_start_result, window_end_refusal, window_end_result, remove_refusal, remove_result, append_refusal, append_result, abort_refusal, abort_result, change_type_refusal, change_type_result, end_work_result, buffer_view};
 ghost use Rattle.buffer_state.specs.StepsLeft.{IsFewer, IsIdle};
@@ -72,7 +72,7 @@ impl<S: FrameStore> Buffer<S> {
     /// timestamps are generated and the mode is "segments"; and, after an ended source is opened
     /// again, InvalidState where the segment parser loop is in a media segment.
     pub fn set_mode(&mut self, mode: Mode, around: &Around) -> Reply
-        ensures answered { Answers self.old result self.new
+        ensures answered { IsBufferAnswer self.old result self.new
             (mode_result mode (surroundings around.now)) }
         ensures within_duration { StaysWithin around.now.duration self.old.media result
             self.new.media }
@@ -89,7 +89,7 @@ impl<S: FrameStore> Buffer<S> {
     /// InvalidState where an append or a removal runs; and, after an ended
     /// source is opened again, InvalidState where the segment parser loop is in a media segment.
     pub fn set_offset(&mut self, t: Ticks, around: &Around) -> Reply
-        ensures answered { Answers self.old result self.new
+        ensures answered { IsBufferAnswer self.old result self.new
             (offset_result t (surroundings around.now)) }
         ensures within_duration { StaysWithin around.now.duration self.old.media result
             self.new.media }
@@ -106,7 +106,7 @@ impl<S: FrameStore> Buffer<S> {
     /// InvalidState where an append or a removal runs; TypeError where the
     /// start is negative, or at or after the end of the window.
     pub fn set_window_start(&mut self, t: Ticks, around: &Around) -> Reply
-        ensures answered { Answers self.old result self.new
+        ensures answered { IsBufferAnswer self.old result self.new
             (window_start_result t (surroundings around.now)) }
         ensures within_duration { StaysWithin around.now.duration self.old.media result
             self.new.media }
@@ -123,7 +123,7 @@ impl<S: FrameStore> Buffer<S> {
     /// InvalidState where an append or a removal runs; TypeError where the
     /// end is NaN, or at or before the start of the window.
     pub fn set_window_end(&mut self, t: Moment, around: &Around) -> Reply
-        ensures answered { Answers self.old result self.new
+        ensures answered { IsBufferAnswer self.old result self.new
             (window_end_result t (surroundings around.now)) }
         ensures within_duration { StaysWithin around.now.duration self.old.media result
             self.new.media }
@@ -141,7 +141,7 @@ impl<S: FrameStore> Buffer<S> {
     /// duration is NaN, where `start` is negative or later than the duration, or where `end` is NaN,
     /// or at or before `start`.
     pub fn remove(&mut self, start: Ticks, end: Moment, around: &Around) -> Reply
-        ensures answered { Answers self.old result self.new
+        ensures answered { IsBufferAnswer self.old result self.new
             (remove_result start end (surroundings around.now)) }
         ensures within_duration { StaysWithin around.now.duration self.old.media result
             self.new.media }
@@ -160,7 +160,7 @@ impl<S: FrameStore> Buffer<S> {
     /// then refused: QuotaExceeded where, after eviction, the stored frames have as many bytes as
     /// the quota or more, or where the bytes appended since the last reset would be `2^62` or more.
     pub fn append(&mut self, bytes: &Bytes, around: &Around) -> Result<Reply, OutOfMemory>
-        ensures answered { AnswersIfOk self.old result self.new
+        ensures answered { IsBufferAnswerIfOk self.old result self.new
             (append_result (append_input bytes.now around.now) (surroundings around.now)) }
         ensures within_duration { IfOk result
             (λ reply. StaysWithin around.now.duration self.old.media reply self.new.media) }
@@ -184,7 +184,7 @@ impl<S: FrameStore> Buffer<S> {
     ///
     /// InvalidState where the source is not open, or where a removal runs.
     pub fn abort(&mut self, around: &Around) -> Result<Reply, OutOfMemory>
-        ensures answered { AnswersIfOk self.old result self.new
+        ensures answered { IsBufferAnswerIfOk self.old result self.new
             (abort_result (surroundings around.now)) }
         ensures within_duration { IfOk result
             (λ reply. StaysWithin around.now.duration self.old.media reply self.new.media) }
@@ -212,7 +212,7 @@ impl<S: FrameStore> Buffer<S> {
     /// TypeError where the type is empty; InvalidState where an append or a removal runs;
     /// NotSupported where the type is not supported.
     pub fn change_type(&mut self, text: &str, around: &Around) -> Result<Reply, OutOfMemory>
-        ensures answered { AnswersIfOk self.old result self.new
+        ensures answered { IsBufferAnswerIfOk self.old result self.new
             (change_type_result text.now (surroundings around.now)) }
         ensures within_duration { IfOk result
             (λ reply. StaysWithin around.now.duration self.old.media reply self.new.media) }
@@ -235,7 +235,7 @@ impl<S: FrameStore> Buffer<S> {
     /// Ends running work, as when the buffer is removed from the list of source buffers. It tells
     /// the events that are fired at the buffer.
     pub fn end_work(&mut self, around: &Around) -> Reply
-        ensures answered { Answers self.old result self.new
+        ensures answered { IsBufferAnswer self.old result self.new
             (end_work_result (surroundings around.now)) }
         ensures within_duration { StaysWithin around.now.duration self.old.media result
             self.new.media }
@@ -251,7 +251,7 @@ impl<S: FrameStore> Buffer<S> {
     /// One step of the work that runs: the next item of an append or its end, or the whole of a
     /// removal. It takes its memory first; an `Err` changes nothing.
     pub fn turn(&mut self, around: &Around) -> Result<Turned, OutOfMemory>
-        ensures turned { TurnsIfOk self.old result self.new
+        ensures turned { IsTurnIfOk self.old result self.new
             (turn_result (surroundings around.now)) }
         ensures idle { IfOk result (λ turned. IsIdle turned self.old self.new) }
         ensures fewer { IfOk result (λ turned. IsFewer turned self.old self.new) }
@@ -439,7 +439,7 @@ impl<S: FrameStore> Buffer<S> {
 
     /// How many of the next items are coded frames, up to the first that is none: at most `2^20`.
     pub fn ready_frames(&self) -> usize
-        ensures kept { result ≡ ready_of self.now.stream }
+        ensures value { result ≡ ready_of self.now.stream }
         ensures ready { (f : Feed) (c : Content) → Stands self.now f c
             → result ≡ length (ready_in f) }
         ensures few { result ≤ 2 ^ 20 }
@@ -488,11 +488,12 @@ impl<S: FrameStore> Buffer<S> {
     /// received just before it is held too. And the bytes of all can be counted, the gap is not
     /// negative, and the buffer stands for some string. It does nothing when it runs.
     pub fn sound(&self)
-        ensures kept { AreKept self.now.media.tracks }
+        ensures tracks_sound { AreTracksSound self.now.media.tracks }
         ensures sound { AllByRecursion IsSound self.now.media.tracks }
-        ensures gap { pos 0 ≤ℤ self.now.media.gap }
+        ensures gap_from_zero { pos 0 ≤ℤ self.now.media.gap }
         ensures stands { StandsForSome self.now.stream }
     {
+        // The proof reads off these that the stream stands for some string, and that the tracks are sound.
         self.stream.stands();
         self.media.sound();
     }

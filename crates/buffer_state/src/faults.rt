@@ -1,5 +1,5 @@
 ghost use Rattle.std.specs.Prelude.{◌≡◌};
-ghost use Rattle.buffer_state.specs.Faults.{init_number, moof_number, stream_number, adts_number, media_number, fault_number, stream_inner, fault_inner, init_missing, stream_missing, fault_missing, fault_view, no_box};
+ghost use Rattle.buffer_state.specs.Faults.{init_number, moof_number, stream_number, adts_number, media_number, fault_number, stream_inner, fault_inner, init_missing, stream_missing, fault_missing, fault_view};
 
 use bmff_fragment::MoofFault;
 use bmff_init::InitFault;

@@ -5,8 +5,8 @@ ghost use Rattle.std.specs.Prelude.{◌≡◌, ◌+◌, ℕ, ℤ, List, Some, No
 ghost use Rattle.mse_base.specs.declared.ticks.Moment.{Moment};
 ghost use Rattle.mse_calls.specs.declared.answers.Name.{Name};
 ghost use Rattle.mse_calls.specs.declared.calls.Mode.{Mode};
-ghost use Rattle.byte_stream.specs.Readings.{Reading, items_in};
-ghost use Rattle.byte_stream.specs.Streams.{Stands, StreamView};
+ghost use Rattle.byte_stream.specs.Readings.{items_in};
+ghost use Rattle.byte_stream.specs.Streams.{ForEachReading, StreamView};
 ghost use Rattle.buffer_state.specs.State.{Feed, Content, Surroundings, AppendInput};
 ghost use Rattle.buffer_state.specs.Replies.{TellsRefusals, refused_result};
 ghost use Rattle.buffer_state.specs.Calls.{mode_refusal, mode_result, offset_refusal, offset_result, window_start_refusal, window_start_result, window_end_refusal, window_end_result, remove_refusal, remove_result, append_refusal, append_result, append_result_after_eviction, abort_refusal, abort_result, change_type_refusal, change_type_result};
@@ -14,8 +14,8 @@ ghost use Rattle.buffer_state.specs.StepsLeft.{items_left};
 
 /// The items that are left to an append are those of the string but for the ones that were taken.
 pub fn left_law()
-    ensures { (s : StreamView) (r : Reading) → Stands s r
-        → items_left s.parser + r.taken ≡ length (items_in r) }
+    ensures { (s : StreamView) → ForEachReading s (λ r.
+        items_left s.parser + r.string.taken ≡ length (items_in r)) }
 {}
 
 /// The refusals before anything comes of a call are those of the call, both ways: it leaves all as

@@ -3,7 +3,7 @@
 ghost use Rattle.std.specs.Prelude.{◌≡◌, ◌||◌, not, pos, int_lt, false};
 ghost use Rattle.mse_base.specs.Moments.{is_after, is_before, is_nan};
 ghost use Rattle.buffer_state.specs.State.{Feed, kept_buffer, surroundings};
-ghost use Rattle.buffer_state.specs.Replies.{Answers};
+ghost use Rattle.buffer_state.specs.Replies.{IsBufferAnswer};
 ghost use Rattle.buffer_state.specs.Calls.{remove_refusal, remove_result};
 ghost use Rattle.track_buffers.specs.Media.{Media};
 ghost use Rattle.byte_stream.specs.Streams.{StreamView};
@@ -51,7 +51,7 @@ pub(crate) fn remove_refusal(
 /// Begins a removal.
 pub(crate) fn remove(running: &mut Running, start: Ticks, end: Moment, around: &Around) -> Reply
     ensures answered { (stream : StreamView) (media : Media)
-        → Answers (kept_buffer stream media running.old) result
+        → IsBufferAnswer (kept_buffer stream media running.old) result
         (kept_buffer stream media running.new)
         (remove_result start end (surroundings around.now)) }
     ensures duration { result.duration ≡ around.now.duration }

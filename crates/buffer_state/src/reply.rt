@@ -1,10 +1,9 @@
-ghost use Rattle.std.specs.Prelude.{◌≡◌, [], ◌∷◌, ◌++◌, Some};
-ghost use Rattle.track_buffers.specs.Media.{no_effect};
-ghost use Rattle.buffer_state.specs.Replies.{refusal, effect_reply, event_reply, events_first_reply, error_reply};
+ghost use Rattle.std.specs.Prelude.{◌≡◌, [], ◌∷◌, Some};
+ghost use Rattle.buffer_state.specs.Replies.{refused_reply, effect_reply, event_reply, events_first_reply, error_reply};
 
 use mse_base::Moment;
 use mse_calls::{Changes, EventKind, FaultView, Name};
-use track_buffers::SourceEffect;
+use track_buffers::{SourceEffect, no_effect};
 
 /// What comes of a call or a turn at the source, the element and the buffer. The parts come in the
 /// order of the fields, but for the events at the buffer: where `events_first` is set they fire
@@ -45,7 +44,7 @@ pub enum Turned {
 impl Reply {
     /// A refusal by a name, where the duration is this.
     pub fn refused(name: Name, reopened: bool, duration: &Moment) -> Reply
-        ensures { result ≡ refusal name reopened duration.now }
+        ensures { result ≡ refused_reply name reopened duration.now }
     {
         Reply {
             refused: Some(name),
@@ -95,18 +94,6 @@ pub(crate) fn error_reply(fault: FaultView, effect: SourceEffect) -> Reply
     let mut reply = effect_reply(false, effect, events);
     reply.fault = Some(fault);
     reply
-}
-
-/// Nothing at the source, where this is the duration.
-pub(crate) fn no_effect(duration: &Moment) -> SourceEffect
-    ensures { result ≡ no_effect duration.now }
-{
-    SourceEffect {
-        duration_changes: 0,
-        duration: *duration,
-        activated: false,
-        received_init: false,
-    }
 }
 
 /// Events at the buffer alone.

@@ -1,15 +1,15 @@
 //! Reset parser state (Media Source Extensions, 3.5.2), for `abort` and `changeType`.
 
-ghost use Rattle.std.specs.Prelude.{◌≡◌, ◌≤◌, ◌≤ℤ◌, pos, ℕ, List, length, false, Option, None, IfOk, OnErr};
+ghost use Rattle.std.specs.Prelude.{◌≡◌, ◌≤◌, ◌≤ℤ◌, pos, length, false, Option, None, IfOk, OnErr};
 ghost use Rattle.std.specs.List.{AllByRecursion};
-ghost use Rattle.mse_base.specs.declared.track.Presentation.{Presentation};
 ghost use Rattle.mse_types.specs.declared.answer.Container.{Container};
+ghost use Rattle.parser_loop.specs.Items.{seen};
 ghost use Rattle.byte_stream.specs.Readings.{ready_at};
-ghost use Rattle.byte_stream.specs.Streams.{ForEachReading, ready_of, seen};
+ghost use Rattle.byte_stream.specs.Streams.{ForEachReading, ready_of};
 ghost use Rattle.track_buffers.specs.Media.{EndsWithin, IsNotAfter};
 ghost use Rattle.track_buffers.specs.Frames.{flush_result};
 ghost use Rattle.buffer_state.specs.State.{Feed, kept_buffer, ready_in, surroundings};
-ghost use Rattle.buffer_state.specs.Replies.{AnswersIfOk, StaysWithin};
+ghost use Rattle.buffer_state.specs.Replies.{IsBufferAnswerIfOk, StaysWithin};
 ghost use Rattle.buffer_state.specs.Calls.{abort_refusal, abort_result, abort_events, generates_timestamps, change_type_refusal, change_type_result, change_type_result_after_flush};
 ghost use Rattle.buffer_state.specs.Steps.{frame_in};
 
@@ -40,7 +40,8 @@ fn ready_frames(alloc: Global, stream: &ByteStream) -> Result<Vec<CodedFrame>, O
     ensures frames { ForEachReading stream.now (λ r.
         IfOk result (λ frames. frames.items ≡ ready_at r)) }
     ensures changes { IfOk result (λ frames. length frames.items ≤ ready_of stream.now) }
-    ensures lasting { IfOk result (λ frames. AllByRecursion (λ f. pos 0 ≤ℤ f.dur) frames.items) }
+    ensures dur_not_negative { IfOk result (λ frames.
+        AllByRecursion (λ f. pos 0 ≤ℤ f.dur) frames.items) }
 {
     let mut frames = Vec::new(alloc);
     for i in 0..stream.ready_frames() {
@@ -108,7 +109,8 @@ pub(crate) fn abort<S: FrameStore>(
     around: &Around,
 ) -> Result<Reply, OutOfMemory>
     requires { stream.old.offered ≡ None }
-    ensures answered { AnswersIfOk (kept_buffer stream.old media.old.media running.old) result
+    ensures answered { IsBufferAnswerIfOk
+        (kept_buffer stream.old media.old.media running.old) result
         (kept_buffer stream.new media.new.media running.new)
         (abort_result (surroundings around.now)) }
     ensures within_duration { IfOk result
@@ -142,6 +144,7 @@ pub(crate) fn generates_timestamps(container: Container) -> bool
     }
 }
 
+/// Takes a new type: the coded frames that are ready are processed, and the string is dropped.
 fn take_type<S: FrameStore>(
     alloc: Global,
     stream: &mut ByteStream,
@@ -150,7 +153,8 @@ fn take_type<S: FrameStore>(
     around: &Around,
 ) -> Result<Reply, OutOfMemory>
     requires { stream.old.offered ≡ None }
-    ensures answered { AnswersIfOk (kept_buffer stream.old media.old.media Running.Nothing) result
+    ensures answered { IsBufferAnswerIfOk
+        (kept_buffer stream.old media.old.media Running.Nothing) result
         (kept_buffer stream.new media.new.media Running.Nothing)
         (λ f c. change_type_result_after_flush container
         (flush_result (ready_in f) c.media around.now.duration) (surroundings around.now)) }
@@ -196,7 +200,8 @@ pub(crate) fn change_type<S: FrameStore>(
     around: &Around,
 ) -> Result<Reply, OutOfMemory>
     requires { stream.old.offered ≡ None }
-    ensures answered { AnswersIfOk (kept_buffer stream.old media.old.media running.now) result
+    ensures answered { IsBufferAnswerIfOk
+        (kept_buffer stream.old media.old.media running.now) result
         (kept_buffer stream.new media.new.media running.now)
         (change_type_result text.now (surroundings around.now)) }
     ensures within_duration { IfOk result

@@ -4,7 +4,7 @@ ghost use Rattle.std.specs.Prelude.{◌≡◌, ◌≢◌, ◌≤ℤ◌, pos, fal
 ghost use Rattle.mse_base.specs.declared.ticks.Moment.{Moment};
 ghost use Rattle.byte_stream.specs.Streams as byte_stream;
 ghost use Rattle.buffer_state.specs.State.{Feed, Content, Stands, kept_buffer, surroundings};
-ghost use Rattle.buffer_state.specs.Replies.{Answers, StaysWithin};
+ghost use Rattle.buffer_state.specs.Replies.{IsBufferAnswer, StaysWithin};
 ghost use Rattle.buffer_state.specs.Calls.{is_sequence, phase_refusal, mode_refusal, mode_result, offset_refusal, offset_result, window_start_refusal, window_start_result, window_end_refusal, window_end_result};
 
 use crate::around::Around;
@@ -64,6 +64,8 @@ pub(crate) fn mode_refusal<S: FrameStore>(
     phase_refusal(stream, around)
 }
 
+/// Sets the append mode, or answers the refusal. An ended source is opened again before the place in a media segment
+/// is looked at (Media Source Extensions, 3.1, `mode`).
 pub(crate) fn set_mode<S: FrameStore>(
     stream: &ByteStream,
     media: &mut TrackBuffers<S>,
@@ -72,7 +74,7 @@ pub(crate) fn set_mode<S: FrameStore>(
     around: &Around,
 ) -> Reply
     requires { stream.now.offered ≡ None }
-    ensures answered { Answers (kept_buffer stream.now media.old.media running.now) result
+    ensures answered { IsBufferAnswer (kept_buffer stream.now media.old.media running.now) result
         (kept_buffer stream.now media.new.media running.now)
         (mode_result mode (surroundings around.now)) }
     ensures within_duration { StaysWithin around.now.duration media.old.media result
@@ -108,6 +110,8 @@ pub(crate) fn offset_refusal(
     phase_refusal(stream, around)
 }
 
+/// Sets the timestamp offset, or answers the refusal. An ended source is opened again before the place in a media
+/// segment is looked at (Media Source Extensions, 3.1, `timestampOffset`).
 pub(crate) fn set_offset<S: FrameStore>(
     stream: &ByteStream,
     media: &mut TrackBuffers<S>,
@@ -116,7 +120,7 @@ pub(crate) fn set_offset<S: FrameStore>(
     around: &Around,
 ) -> Reply
     requires { stream.now.offered ≡ None }
-    ensures answered { Answers (kept_buffer stream.now media.old.media running.now) result
+    ensures answered { IsBufferAnswer (kept_buffer stream.now media.old.media running.now) result
         (kept_buffer stream.now media.new.media running.now)
         (offset_result t (surroundings around.now)) }
     ensures within_duration { StaysWithin around.now.duration media.old.media result
@@ -155,6 +159,8 @@ pub(crate) fn window_start_refusal<S: FrameStore>(
     None
 }
 
+/// Sets the start of the append window, or answers the refusal (Media Source Extensions, 3.1,
+/// `appendWindowStart`).
 pub(crate) fn set_window_start<S: FrameStore>(
     stream: &ByteStream,
     media: &mut TrackBuffers<S>,
@@ -162,7 +168,7 @@ pub(crate) fn set_window_start<S: FrameStore>(
     t: Ticks,
     around: &Around,
 ) -> Reply
-    ensures answered { Answers (kept_buffer stream.now media.old.media running.now) result
+    ensures answered { IsBufferAnswer (kept_buffer stream.now media.old.media running.now) result
         (kept_buffer stream.now media.new.media running.now) (window_start_result t
         (surroundings around.now)) }
     ensures within_duration { StaysWithin around.now.duration media.old.media result
@@ -197,6 +203,8 @@ pub(crate) fn window_end_refusal<S: FrameStore>(
     None
 }
 
+/// Sets the end of the append window, or answers the refusal (Media Source Extensions, 3.1,
+/// `appendWindowEnd`).
 pub(crate) fn set_window_end<S: FrameStore>(
     stream: &ByteStream,
     media: &mut TrackBuffers<S>,
@@ -204,7 +212,7 @@ pub(crate) fn set_window_end<S: FrameStore>(
     t: Moment,
     around: &Around,
 ) -> Reply
-    ensures answered { Answers (kept_buffer stream.now media.old.media running.now) result
+    ensures answered { IsBufferAnswer (kept_buffer stream.now media.old.media running.now) result
         (kept_buffer stream.now media.new.media running.now) (window_end_result t
         (surroundings around.now)) }
     ensures within_duration { StaysWithin around.now.duration media.old.media result

@@ -1,29 +1,30 @@
 //! One step of the running work of a source buffer (Media Source Extensions, 3.5.5 and 3.5.6).
 
-ghost use Rattle.std.specs.Prelude.{◌≡◌, ◌<◌, ◌≤◌, ℕ, List, false, length, slice_get, Option, Some, None, IfOk, OnOk, OnErr, IfSome};
+ghost use Rattle.std.specs.Prelude.{◌≡◌, ◌<◌, ◌≤◌, false, Option, Some, None, IfOk, OnOk, OnErr, IfSome};
 ghost use Rattle.mse_base.specs.declared.ticks.Moment.{Moment};
 ghost use Rattle.mse_base.specs.declared.track.Presentation.{Presentation};
-ghost use Rattle.mse_types.specs.declared.answer.Container.{Container};
-ghost use Rattle.parser_loop.specs.Items.{InitItem, latest_after_any};
+ghost use Rattle.parser_loop.specs.Items.{InitItem, latest_after_any, seen};
 ghost use Rattle.byte_stream.specs.Readings.{IsLasting};
 ghost use Rattle.byte_stream.specs.Readings as reading;
-ghost use Rattle.byte_stream.specs.Streams.{ForEachReading, StreamView, ready_of, seen};
+ghost use Rattle.byte_stream.specs.Streams.{ForEachReading, StreamView, ready_of};
 ghost use Rattle.track_buffers.specs.Effects.{media_result, source_effect};
 ghost use Rattle.track_buffers.specs.Media.{Media, EndsWithin, IsNotAfter};
 ghost use Rattle.buffer_state.specs.State.{Content, kept_buffer, next_item, surroundings};
-ghost use Rattle.buffer_state.specs.Replies.{Answers, AnswersIfOk, StaysWithin};
+ghost use Rattle.buffer_state.specs.Replies.{IsBufferAnswer, IsBufferAnswerIfOk, StaysWithin};
 ghost use Rattle.buffer_state.specs.Turns.{append_turn_result, removal_turn_result, media_item_result};
 ghost use Rattle.buffer_state.specs.Steps.{IsReadyFor, IsPrepared, Leaves, Took, content_at, step_result, item_stepped, duration_after, changes_after, step_turn};
 ghost use Rattle.buffer_state.specs.StepsLeft.{steps_left};
 
 use crate::around::Around;
 use crate::faults::{Fault, fault_view};
-use crate::reply::{Reply, effect_reply, error_reply, event_reply, no_effect, two};
+use crate::reply::{Reply, effect_reply, error_reply, event_reply, two};
 use crate::running::Running;
 use byte_stream::{ByteFault, ByteStream, Next};
 use mse_base::{CodedFrame, Moment, OutOfMemory, Presentation, Ticks};
 use mse_calls::{Changes, EventKind};
-use track_buffers::{MediaEffect, MediaFault, SourceEffect, TrackBuffers, media_track_count};
+use track_buffers::{
+    MediaEffect, MediaFault, SourceEffect, TrackBuffers, media_track_count, no_effect,
+};
 use track_store::FrameStore;
 
 /// What the next item did.
@@ -101,7 +102,7 @@ fn prepare<S: FrameStore>(
 /// What an item that is prepared does to the media.
 fn take_item<S: FrameStore>(media: &mut TrackBuffers<S>, next: Next, duration: Moment) -> ItemEffect
     requires prepared { IsReadyFor (seen next) media.old }
-    requires lasting { IfSome (seen next) IsLasting }
+    requires dur_not_negative { IfSome (seen next) IsLasting }
     ensures step { (latest : Option Presentation) → step_result result
         (record { media = media.new.media; latest = latest_after_any latest (seen next) })
         ≡ item_stepped (seen next) (record { media = media.old.media; latest = latest }) duration }
@@ -132,7 +133,7 @@ fn answer<S: FrameStore>(
     around: &Around,
 ) -> Reply
     requires { stream.old.offered ≡ None }
-    ensures answered { Answers (kept_buffer stream.old media.old.media running.old) result
+    ensures answered { IsBufferAnswer (kept_buffer stream.old media.old.media running.old) result
         (kept_buffer stream.new media.new.media running.new)
         (step_turn step (surroundings around.now)) }
     ensures within_duration { (d : Moment) → EndsWithin d media.old.media.tracks
@@ -169,7 +170,7 @@ fn frame_fault<S: FrameStore>(
     around: &Around,
 ) -> Reply
     requires { stream.old.offered ≡ None }
-    ensures answered { Answers (kept_buffer stream.old media.old.media running.old) result
+    ensures answered { IsBufferAnswer (kept_buffer stream.old media.old.media running.old) result
         (kept_buffer stream.new media.new.media running.new)
         (step_turn (ItemEffect.AppendError (Fault.Media fault) offset effect)
         (surroundings around.now)) }
@@ -177,7 +178,7 @@ fn frame_fault<S: FrameStore>(
         → EndsWithin d media.new.media.tracks }
     ensures duration { result.duration ≡ effect.duration }
     ensures changes { result.duration_changes ≡ effect.duration_changes }
-    ensures rests { running.new ≡ Running.Nothing }
+    ensures nothing_runs { running.new ≡ Running.Nothing }
     ensures none_offered { stream.new.offered ≡ None }
 {
     media.reset_parser();
@@ -197,7 +198,8 @@ fn frame_turn<S: FrameStore>(
     requires none_offered { stream.old.offered ≡ None }
     requires appending { running.old ≡ Running.Append }
     requires ready { 0 < ready_of stream.old }
-    ensures answered { AnswersIfOk (kept_buffer stream.old media.old.media running.old) result
+    ensures answered { IsBufferAnswerIfOk
+        (kept_buffer stream.old media.old.media running.old) result
         (kept_buffer stream.new media.new.media running.new)
         (λ f c. append_turn_result (next_item f) (surroundings around.now) f c) }
     ensures within_duration { IfOk result
@@ -212,7 +214,7 @@ fn frame_turn<S: FrameStore>(
         ≡ kept_buffer stream.old media.old.media running.old) }
 {
     media.reserve_frames(1)?;
-    // that the stream stands for some string is used where the frame is taken
+    // The proof reads off this that the stream stands for some string.
     stream.stands();
     let (frame, offset) = stream.next_frame()?;
     // what is buffered at the position is looked up behind the step
@@ -235,7 +237,8 @@ fn item_turn<S: FrameStore>(
     requires none_offered { stream.old.offered ≡ None }
     requires appending { running.old ≡ Running.Append }
     requires none_ready { ready_of stream.old ≡ 0 }
-    ensures answered { AnswersIfOk (kept_buffer stream.old media.old.media running.old) result
+    ensures answered { IsBufferAnswerIfOk
+        (kept_buffer stream.old media.old.media running.old) result
         (kept_buffer stream.new media.new.media running.new)
         (λ f c. append_turn_result (next_item f) (surroundings around.now) f c) }
     ensures within_duration { IfOk result
@@ -249,7 +252,7 @@ fn item_turn<S: FrameStore>(
     ensures err { OnErr result (kept_buffer stream.new media.new.media running.new
         ≡ kept_buffer stream.old media.old.media running.old) }
 {
-    // that the stream stands for some string is used where the item is taken
+    // The proof reads off this that the stream stands for some string.
     stream.stands();
     match prepare(stream, media, around.duration)? {
         Some(step) => Ok(answer(stream, media, running, step, around)),
@@ -270,7 +273,8 @@ pub(crate) fn append_turn<S: FrameStore>(
 ) -> Result<Reply, OutOfMemory>
     requires none_offered { stream.old.offered ≡ None }
     requires appending { running.old ≡ Running.Append }
-    ensures answered { AnswersIfOk (kept_buffer stream.old media.old.media running.old) result
+    ensures answered { IsBufferAnswerIfOk
+        (kept_buffer stream.old media.old.media running.old) result
         (kept_buffer stream.new media.new.media running.new)
         (λ f c. append_turn_result (next_item f) (surroundings around.now) f c) }
     ensures within_duration { IfOk result
@@ -299,7 +303,7 @@ pub(crate) fn removal_turn<S: FrameStore>(
     around: &Around,
 ) -> Reply
     ensures answered { (stream : StreamView)
-        → Answers (kept_buffer stream media.old.media running.old) result
+        → IsBufferAnswer (kept_buffer stream media.old.media running.old) result
         (kept_buffer stream media.new.media running.new) (removal_turn_result start end
         (surroundings around.now)) }
     ensures within_duration { StaysWithin around.now.duration media.old.media result
@@ -307,7 +311,7 @@ pub(crate) fn removal_turn<S: FrameStore>(
     ensures changes { result.duration_changes ≡ 0 }
     ensures duration { result.duration ≡ around.now.duration }
     ensures no_init { result.received_init ≡ false }
-    ensures rests { running.new ≡ Running.Nothing }
+    ensures nothing_runs { running.new ≡ Running.Nothing }
 {
     media.remove(start, end, around.duration);
     *running = Running::Nothing;

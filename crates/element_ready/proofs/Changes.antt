@@ -7,7 +7,7 @@ use Rattle.mse_calls.specs.Level.{has_metadata}
 use Rattle.mse_calls.specs.declared.answers.Level.{Level}
 use Rattle.mse_calls.specs.declared.answers.Level.TheVariants.{Nothing, Metadata, Current, Future, Enough}
 use Rattle.element_ready.specs.declared.facts.Facts.{Facts}
-use Rattle.element_ready.specs.Levels.{lasts, level_at}
+use Rattle.element_ready.specs.Levels.{has_enough_left, level_at}
 use Rattle.element_ready.specs.Events.{change_events, is_first_data}
 
 -- a level that stays fires nothing
@@ -33,4 +33,4 @@ data_by false false = refl
 -- the level of a position is never HAVE_NOTHING
 pub level-metadata : (range : Option Span) (position : ℤ) (duration : Moment) → has_metadata (level_at range position duration) ≡ true
 level-metadata None position duration = refl
-level-metadata (Some range) position duration = data_by (int_eq position range.end) (lasts range position duration)
+level-metadata (Some range) position duration = data_by (int_eq position range.end) (has_enough_left range position duration)

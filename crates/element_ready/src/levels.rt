@@ -1,5 +1,5 @@
 ghost use Rattle.std.specs.Prelude.{◌≡◌};
-ghost use Rattle.element_ready.specs.Levels.{lasts, level_at};
+ghost use Rattle.element_ready.specs.Levels.{has_enough_left, level_at};
 
 use mse_base::{Moment, Span, Ticks};
 use mse_calls::Level;
@@ -8,8 +8,8 @@ use mse_calls::Level;
 const THREE_SECONDS: i128 = 3 * 141_120_000_000;
 
 /// Whether the range goes on for 3 seconds or more from the position, or ends at the duration.
-fn lasts(range: &Span, position: Ticks, duration: Moment) -> bool
-    ensures { result ≡ lasts range.now position duration }
+fn has_enough_left(range: &Span, position: Ticks, duration: Moment) -> bool
+    ensures { result ≡ has_enough_left range.now position duration }
 {
     let ticks_left = range.end.get() - position.get();
     ticks_left >= THREE_SECONDS || Moment::At(range.end) == duration
@@ -25,7 +25,7 @@ pub fn level(span: Option<Span>, position: Ticks, duration: Moment) -> Level
     match span {
         None => Level::Metadata,
         Some(range) if position == range.end => Level::Current,
-        Some(range) if lasts(&range, position, duration) => Level::Enough,
+        Some(range) if has_enough_left(&range, position, duration) => Level::Enough,
         Some(_) => Level::Future,
     }
 }

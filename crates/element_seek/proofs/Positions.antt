@@ -11,8 +11,8 @@ use Rattle.mse_calls.specs.Answered.{Answered}
 use Rattle.mse_calls.specs.Level.{has_metadata}
 use Rattle.element_seek.specs.declared.scene.Scene.{Scene}
 use Rattle.element_seek.specs.State.{PlayerState, has_ended}
-use Rattle.element_seek.specs.Seeking.{nearest_in, in_media, after_seek_in, after_seek}
-use Rattle.element_seek.specs.Playing.{after_rewind, after_unpause, after_play, plays_on, after_move, after_time_in, after_advance}
+use Rattle.element_seek.specs.Seeking.{nearest_in, position_within, after_seek_in, after_seek}
+use Rattle.element_seek.specs.Playing.{after_rewind, after_unpause, after_play, is_playing_on, after_move, after_time_in, after_advance}
 use Rattle.element_seek.specs.Inside.{IsInside, LiesInside, HasSpansInside}
 
 not_after : (duration : Moment) (s e : ℤ) → s ≤ℤ e → is_after e duration ≡ false → is_after s duration ≡ false
@@ -43,7 +43,7 @@ seek_in (Some range) duration t p l h = nearest duration range t l
 
 pub seek-inside : (t : ℤ) (scene : Scene) (p : PlayerState) → HasSpansInside scene → IsInside scene.duration p.position → IsInside scene.duration (after_seek t scene p).state.position
 seek-inside t scene p spans h =
-    by_case scene.duration (has_metadata p.level) (after_seek_in scene.seekable (in_media t scene.duration) p) _ (λ _. seek_in scene.seekable scene.duration (in_media t scene.duration) p spans.seekable h) (λ _. h)
+    by_case scene.duration (has_metadata p.level) (after_seek_in scene.seekable (position_within t scene.duration) p) _ (λ _. seek_in scene.seekable scene.duration (position_within t scene.duration) p spans.seekable h) (λ _. h)
 
 rewind_inside : (scene : Scene) (p : PlayerState) → HasSpansInside scene → IsInside scene.duration p.position → IsInside scene.duration (after_rewind scene p).state.position
 rewind_inside scene p spans h = by_case scene.duration (has_ended scene p) (after_seek (pos 0) scene p) _ (λ _. seek-inside (pos 0) scene p spans h) (λ _. h)
@@ -75,4 +75,4 @@ not_negative t e = grind (arith, ints)
 pub advance-inside : (t : ℤ) (scene : Scene) (p : PlayerState) → HasSpansInside scene → IsInside scene.duration p.position → IsInside scene.duration (after_advance t scene p).state.position
 advance-inside t scene p spans h =
     by_case scene.duration (int_lt t (pos 0)) _ _ (λ _. h)
-    (λ e. by_case scene.duration (plays_on scene p) (after_time_in scene.span t p) _ (λ _. time_in scene.span scene.duration t p spans.span (not_negative t e) h) (λ _. h))
+    (λ e. by_case scene.duration (is_playing_on scene p) (after_time_in scene.span t p) _ (λ _. time_in scene.span scene.duration t p spans.span (not_negative t e) h) (λ _. h))

@@ -8,7 +8,7 @@ use Rattle.element_ready.specs.declared.facts.Facts.{Facts}
 use Rattle.element_ready.specs.Levels.{level_at}
 use Rattle.element_ready.specs.Events.{change_events, is_first_data}
 use Rattle.element_seek.specs.declared.scene.Scene.{Scene}
-use Rattle.element_seek.specs.State.{PlayerState, PlayerChange, telling, has_ended, is_playing}
+use Rattle.element_seek.specs.State.{PlayerState, PlayerChange, player_change, has_ended, is_playing}
 
 -- the level of the position; HAVE_NOTHING stays until the metadata is there
 abbrev pub level_in : Scene → PlayerState → Level
@@ -25,7 +25,7 @@ facts_in scene p = record {
 -- a new level, with its events; where playback has not ended, its end was not told
 abbrev pub at_level : Level → Scene → PlayerState → PlayerChange
 at_level new scene p =
-    telling (change_events p.level new (facts_in scene p))
+    player_change (change_events p.level new (facts_in scene p))
     (record p {
       level = new;
       loaded_before = p.loaded_before || is_first_data p.level new;
@@ -36,14 +36,14 @@ abbrev pub after_settle : Scene → PlayerState → PlayerChange
 after_settle scene p = at_level (level_in scene p) scene p
 
 -- the level is that of the position, by the buffered range there, or stays HAVE_NOTHING
-abbrev pub keeps_level : Option Span → Moment → PlayerState → Bool
-keeps_level span duration p =
+abbrev pub has_same_level : Option Span → Moment → PlayerState → Bool
+has_same_level span duration p =
     not (has_metadata p.level)
     || level_number (level_at span p.position duration) == level_number p.level
 
 -- and no end of playback was told, so that the end of a step changes nothing and tells nothing
-abbrev pub stays_by : Option Span → Moment → PlayerState → Bool
-stays_by span duration p = not p.finished && keeps_level span duration p
+abbrev pub is_settled_by : Option Span → Moment → PlayerState → Bool
+is_settled_by span duration p = not p.finished && has_same_level span duration p
 
-abbrev pub stays_in : Scene → PlayerState → Bool
-stays_in scene p = stays_by scene.span scene.duration p
+abbrev pub is_settled_in : Scene → PlayerState → Bool
+is_settled_in scene p = is_settled_by scene.span scene.duration p

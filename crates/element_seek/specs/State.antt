@@ -1,6 +1,6 @@
 -- A media element as a state, without a decoder.
 use Rattle.std.specs.Prelude.{ℕ, ◌==◌, ℤ, pos, Bool, true, false, not, ◌&&◌, List, ◌++◌}
-use Rattle.mse_base.specs.Moments.{same_moment}
+use Rattle.mse_base.specs.Moments.{is_same_moment}
 use Rattle.mse_base.specs.declared.ticks.Moment.TheVariants.{At}
 use Rattle.mse_calls.specs.Answered.{Answered}
 use Rattle.mse_calls.specs.Level.{has_metadata}
@@ -38,17 +38,18 @@ new_player = record {
 abbrev pub PlayerChange : Type 0
 PlayerChange = Answered (List EventKind) PlayerState
 
-abbrev pub telling : List EventKind → PlayerState → PlayerChange
-telling events p = record { answer = events; state = p }
+abbrev pub player_change : List EventKind → PlayerState → PlayerChange
+player_change events p = record { answer = events; state = p }
 
 -- one thing and then another, which tells its events behind
 abbrev pub then_after : PlayerChange → (PlayerState → PlayerChange) → PlayerChange
-then_after first next = telling (first.answer ++ (next first.state).answer) (next first.state).state
+then_after first next =
+    player_change (first.answer ++ (next first.state).answer) (next first.state).state
 
 -- ended playback (HTML, media elements): the metadata is there, the source is ended, and the position is the duration
 abbrev pub has_ended : Scene → PlayerState → Bool
 has_ended scene p =
-    has_metadata p.level && (scene.ended && same_moment (At p.position) scene.duration)
+    has_metadata p.level && (scene.ended && is_same_moment (At p.position) scene.duration)
 
 -- the element plays: it is not paused, it has no error, and playback has not ended
 abbrev pub is_playing : Scene → PlayerState → Bool

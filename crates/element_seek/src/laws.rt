@@ -4,7 +4,7 @@
 ghost use Rattle.std.specs.Prelude.{◌≡◌, ℤ, []};
 ghost use Rattle.mse_calls.specs.declared.calls.EndKind.{EndKind};
 ghost use Rattle.element_seek.specs.declared.scene.Scene.{Scene};
-ghost use Rattle.element_seek.specs.State.{PlayerState, telling};
+ghost use Rattle.element_seek.specs.State.{PlayerState, player_change};
 ghost use Rattle.element_seek.specs.Seeking.{after_seek, after_load};
 ghost use Rattle.element_seek.specs.Playing.{after_play, after_pause, after_advance, after_fail};
 ghost use Rattle.element_seek.specs.Turns.{after_turn};
@@ -15,7 +15,7 @@ ghost use Rattle.element_seek.specs.Inside.{HasSpansInside, StaysInside};
 pub fn settled_once()
     ensures { (scene : Scene) (p : PlayerState)
         → after_settle scene (after_settle scene p).state
-        ≡ telling [] (after_settle scene p).state }
+        ≡ player_change [] (after_settle scene p).state }
 {}
 
 /// Where the buffered range at the position and what can be sought lie between 0 and the duration,

@@ -1,10 +1,10 @@
 ghost use Rattle.std.specs.Prelude.{◌≡◌, ◌+◌, ◌≤◌, ◌++◌, pos, ◌+ℤ◌, ◌≤ℤ◌, length};
 ghost use Rattle.std.specs.Int.{int_min};
 ghost use Rattle.element_seek.specs.State.{new_player, has_ended, is_playing};
-ghost use Rattle.element_seek.specs.Seeking.{in_media, nearest_in, after_seek, after_load};
-ghost use Rattle.element_seek.specs.Playing.{after_play, after_pause, plays_on, after_move, after_advance, after_fail};
+ghost use Rattle.element_seek.specs.Seeking.{position_within, nearest_in, after_seek, after_load};
+ghost use Rattle.element_seek.specs.Playing.{after_play, after_pause, is_playing_on, after_move, after_advance, after_fail};
 ghost use Rattle.element_seek.specs.Turns.{is_seek_done, is_end_due, is_due, after_turn};
-ghost use Rattle.element_seek.specs.Settling.{after_settle, keeps_level, stays_by};
+ghost use Rattle.element_seek.specs.Settling.{after_settle, has_same_level, is_settled_by};
 
 use crate::acted::Acted;
 use crate::scene::Scene;
@@ -51,14 +51,10 @@ fn nearest_in(span: &Span, t: Ticks) -> Ticks
 }
 
 /// A time brought down to the duration, and then up to 0.
-fn in_media(t: Ticks, duration: Moment) -> Ticks
-    ensures { result ≡ in_media t duration }
+fn position_within(t: Ticks, duration: Moment) -> Ticks
+    ensures { result ≡ position_within t duration }
 {
-    let early = match duration {
-        Moment::At(d) => t.min(d),
-        Moment::Nan | Moment::Infinite => t,
-    };
-    early.max(Ticks::zero())
+    t.at_most(duration).max(Ticks::zero())
 }
 
 /// The position after a length of time, which is not negative: at most the end of the range.
@@ -117,7 +113,7 @@ impl Player {
             self.default_start = t;
             return;
         }
-        let t = in_media(t, scene.duration);
+        let t = position_within(t, scene.duration);
         match &scene.seekable {
             Some(range) => {
                 self.seeking = true;
@@ -183,8 +179,8 @@ impl Player {
     }
 
     /// Whether the element plays on: it plays, it is not seeking, and it has future data.
-    fn plays_on(&self, scene: &Scene) -> bool
-        ensures { result ≡ plays_on scene.now self.now }
+    fn is_playing_on(&self, scene: &Scene) -> bool
+        ensures { result ≡ is_playing_on scene.now self.now }
     {
         self.is_playing(scene) && !self.seeking && self.level.has_future_data()
     }
@@ -213,7 +209,7 @@ impl Player {
         if t < Ticks::zero() {
             return Acted::Refused(Name::TypeError);
         }
-        if !self.plays_on(scene) {
+        if !self.is_playing_on(scene) {
             return Acted::Done(Changes::new());
         }
         match &scene.span {
@@ -335,15 +331,15 @@ impl Player {
 
     /// Whether the end of a step leaves the element as it is and tells nothing, by the level of its
     /// position with this buffered range and this duration, at an element that has not told an end.
-    pub fn stays(&self, span: &Option<Span>, duration: Moment) -> bool
-        ensures { result ≡ stays_by span.now duration self.now }
+    pub fn is_settled(&self, span: &Option<Span>, duration: Moment) -> bool
+        ensures { result ≡ is_settled_by span.now duration self.now }
     {
-        !self.finished && self.keeps_level(span, duration)
+        !self.finished && self.has_same_level(span, duration)
     }
 
     /// Whether the level is that of the position, or stays `HAVE_NOTHING`.
-    fn keeps_level(&self, span: &Option<Span>, duration: Moment) -> bool
-        ensures { result ≡ keeps_level span.now duration self.now }
+    fn has_same_level(&self, span: &Option<Span>, duration: Moment) -> bool
+        ensures { result ≡ has_same_level span.now duration self.now }
     {
         !self.level.has_metadata() || level(*span, self.position, duration) == self.level
     }

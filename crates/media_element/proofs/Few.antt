@@ -15,8 +15,8 @@ use Rattle.element_ready.specs.Events.{data_events, future_events, enough_events
 use Rattle.element_seek.specs.declared.acted.Acted.{Acted}
 use Rattle.element_seek.specs.declared.scene.Scene.{Scene}
 use Rattle.element_seek.specs.State.{PlayerState, PlayerChange, has_ended}
-use Rattle.element_seek.specs.Seeking.{in_media, after_seek_in, after_seek, after_start, after_load}
-use Rattle.element_seek.specs.Playing.{after_rewind, after_unpause, after_play, after_pause, plays_on, after_move, after_time_in, after_time, after_advance, after_error, after_fail}
+use Rattle.element_seek.specs.Seeking.{position_within, after_seek_in, after_seek, after_start, after_load}
+use Rattle.element_seek.specs.Playing.{after_rewind, after_unpause, after_play, after_pause, is_playing_on, after_move, after_time_in, after_time, after_advance, after_error, after_fail}
 use Rattle.element_seek.specs.Turns.{is_seek_done, is_end_due, is_due, Turn, end_events, seek_turn, end_turn, no_turn, after_turn}
 use Rattle.element_seek.specs.Settling.{level_in, facts_in, after_settle}
 use Rattle.media_element.specs.Queueing.{told_kinds, turn_kinds}
@@ -34,7 +34,7 @@ seek_in_few None t p = omega arith
 seek_in_few (Some range) t p = omega arith
 
 pub few_in_seek : (t : ℤ) (scene : Scene) (p : PlayerState) → length (after_seek t scene p).answer ≤ 1
-few_in_seek t scene p = by_case 1 (has_metadata p.level) (after_seek_in scene.seekable (in_media t scene.duration) p) _ (seek_in_few scene.seekable (in_media t scene.duration) p) (omega arith)
+few_in_seek t scene p = by_case 1 (has_metadata p.level) (after_seek_in scene.seekable (position_within t scene.duration) p) _ (seek_in_few scene.seekable (position_within t scene.duration) p) (omega arith)
 
 start_few : (scene : Scene) (p : PlayerState) → length (after_start scene p).answer ≤ 1
 start_few scene p = by_case 1 (int_lt (pos 0) p.default_start) (after_seek p.default_start scene (record p { default_start = pos 0 })) _ (few_in_seek p.default_start scene (record p { default_start = pos 0 })) (omega arith)
@@ -78,7 +78,7 @@ time_in_few None t p = omega arith
 time_in_few (Some range) t p = move_few _ p
 
 time_few : (t : ℤ) (scene : Scene) (p : PlayerState) → length (after_time t scene p).answer ≤ 1
-time_few t scene p = by_case 1 (plays_on scene p) (after_time_in scene.span t p) _ (time_in_few scene.span t p) (omega arith)
+time_few t scene p = by_case 1 (is_playing_on scene p) (after_time_in scene.span t p) _ (time_in_few scene.span t p) (omega arith)
 
 pub few_in_advance : (t : ℤ) (scene : Scene) (p : PlayerState) → length (told_kinds (after_advance t scene p).answer) ≤ 1
 few_in_advance t scene p = by_refusal 1 (int_lt t (pos 0)) _ _ (omega arith) (time_few t scene p)

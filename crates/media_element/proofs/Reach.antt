@@ -9,7 +9,7 @@ use Rattle.mse_base.specs.declared.ticks.Moment.TheVariants.{Nan, At, Infinite}
 use Rattle.mse_calls.specs.Level.{has_metadata}
 use Rattle.element_seek.specs.declared.scene.Scene.{Scene}
 use Rattle.element_seek.specs.State.{PlayerState, PlayerChange}
-use Rattle.element_seek.specs.Seeking.{in_media, after_seek_in, after_seek}
+use Rattle.element_seek.specs.Seeking.{position_within, after_seek_in, after_seek}
 use Rattle.element_seek.specs.Inside.{IsInside, LiesInside, HasSpansInside, StaysInside}
 use Rattle.media_element.specs.DurationChange.{after_seek_to, after_end_seek, IsInReach}
 
@@ -36,7 +36,7 @@ SeekStaysInside = (t : ℤ) (scene : Scene) (p : PlayerState) → HasSpansInside
 sought_inside : SeekStaysInside → (t : ℤ) (scene : Scene) (p : PlayerState) → HasSpansInside scene → IsSome scene.seekable → has_metadata p.level ≡ true → IsInside scene.duration (after_seek t scene p).state.position
 sought_inside stays t scene p spans s m =
     let q : PlayerState = record p { position = pos 0 } in
-    let same : (after_seek t scene q).state.position ≡ (after_seek t scene p).state.position = same_place scene.seekable (in_media t scene.duration) (has_metadata p.level) q p _ _ s m in
+    let same : (after_seek t scene q).state.position ≡ (after_seek t scene p).state.position = same_place scene.seekable (position_within t scene.duration) (has_metadata p.level) q p _ _ s m in
     subst (λ x. IsInside scene.duration x) same (stays t scene q spans (start_inside scene.duration scene.seekable s spans.seekable))
 
 -- the seek was made, or the position is not after the time

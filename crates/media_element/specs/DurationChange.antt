@@ -6,11 +6,11 @@ use Rattle.mse_base.specs.declared.ticks.Moment.TheVariants.{Nan, At, Infinite}
 use Rattle.mse_calls.specs.Level.{has_metadata}
 use Rattle.mse_calls.specs.declared.events.EventKind.TheVariants.{DurationChange}
 use Rattle.element_seek.specs.declared.scene.Scene.{Scene}
-use Rattle.element_seek.specs.State.{PlayerState, PlayerChange, telling, then_after}
+use Rattle.element_seek.specs.State.{PlayerState, PlayerChange, player_change, then_after}
 use Rattle.element_seek.specs.Seeking.{after_seek}
 use Rattle.element_seek.specs.Inside.{HasSpansInside}
 use Rattle.media_element.specs.State.{ElementState}
-use Rattle.media_element.specs.Queueing.{after}
+use Rattle.media_element.specs.Queueing.{after_action}
 
 -- the time that it seeks to, if it seeks: the duration, where it has metadata and its position is after that
 abbrev pub sought_end : Moment → PlayerState → Option ℤ
@@ -19,7 +19,7 @@ sought_end (At d) p = if has_metadata p.level && int_lt d p.position then Some d
 sought_end Infinite p = None
 
 abbrev pub after_seek_to : Option ℤ → Scene → PlayerState → PlayerChange
-after_seek_to None scene p = telling [] p
+after_seek_to None scene p = player_change [] p
 after_seek_to (Some t) scene p = after_seek t scene p
 
 abbrev pub after_end_seek : Moment → Scene → PlayerState → PlayerChange
@@ -27,10 +27,10 @@ after_end_seek duration scene p = after_seek_to (sought_end duration p) scene p
 
 abbrev pub after_change : Moment → Scene → PlayerState → PlayerChange
 after_change duration scene p =
-    then_after (telling (DurationChange ∷ []) p) (after_end_seek duration scene)
+    then_after (player_change (DurationChange ∷ []) p) (after_end_seek duration scene)
 
-abbrev pub after_duration_change : Moment → Scene → ElementState → ElementState
-after_duration_change duration scene e = after (after_change duration scene) e
+abbrev pub after_element_change : Moment → Scene → ElementState → ElementState
+after_element_change duration scene e = after_action (after_change duration scene) e
 
 -- a change to the duration of the scene brings the element inside: the spans of the scene lie inside, something can be
 -- sought, and the element has metadata and a position that is not negative

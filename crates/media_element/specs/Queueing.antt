@@ -9,7 +9,7 @@ use Rattle.mse_calls.specs.declared.events.Target.TheVariants.{Element}
 use Rattle.element_seek.specs.declared.acted.Acted.{Acted}
 use Rattle.element_seek.specs.declared.acted.Acted.TheVariants.{Done, Refused}
 use Rattle.element_seek.specs.declared.scene.Scene.{Scene}
-use Rattle.element_seek.specs.State.{PlayerState, PlayerChange, telling}
+use Rattle.element_seek.specs.State.{PlayerState, PlayerChange, player_change}
 use Rattle.element_seek.specs.Turns.{after_turn}
 use Rattle.media_element.specs.State.{ElementState}
 
@@ -24,8 +24,8 @@ abbrev pub element_events : List EventKind → List Event
 element_events kinds = events_at Element kinds
 
 -- the events behind those that wait
-abbrev pub queued : List Event → ElementState → ElementState
-queued events e = record e { queue = e.queue ++ events }
+abbrev pub with_events : List Event → ElementState → ElementState
+with_events events e = record e { queue = e.queue ++ events }
 
 -- the first of those that wait is fired
 abbrev pub after_fire : ElementState → ElementState
@@ -36,8 +36,8 @@ abbrev pub after_told : PlayerChange → ElementState → ElementState
 after_told told e = record { player = told.state; queue = e.queue ++ element_events told.answer }
 
 -- an action of the element
-abbrev pub after : (PlayerState → PlayerChange) → ElementState → ElementState
-after action e = after_told (action e.player) e
+abbrev pub after_action : (PlayerState → PlayerChange) → ElementState → ElementState
+after_action action e = after_told (action e.player) e
 
 -- ---- a call that may be refused
 
@@ -51,11 +51,12 @@ refusal (Done kinds) = None
 refusal (Refused name) = Some name
 
 -- the call as an action
-abbrev pub told_by_call : (PlayerState → Answered Acted PlayerState) → PlayerState → PlayerChange
-told_by_call call p = telling (told_kinds (call p).answer) (call p).state
+abbrev pub change_by_call : (PlayerState → Answered Acted PlayerState) → PlayerState → PlayerChange
+change_by_call call p = player_change (told_kinds (call p).answer) (call p).state
 
-abbrev pub after_call : (PlayerState → Answered Acted PlayerState) → ElementState → ElementState
-after_call call e = after (told_by_call call) e
+abbrev pub after_player_call : (PlayerState → Answered Acted PlayerState) → ElementState
+    → ElementState
+after_player_call call e = after_action (change_by_call call) e
 
 -- ---- a turn
 
@@ -65,8 +66,9 @@ turn_kinds None = []
 turn_kinds (Some kinds) = kinds
 
 -- the turn as an action
-abbrev pub told_by_turn : Scene → PlayerState → PlayerChange
-told_by_turn scene p = telling (turn_kinds (after_turn scene p).answer) (after_turn scene p).state
+abbrev pub change_by_turn : Scene → PlayerState → PlayerChange
+change_by_turn scene p =
+    player_change (turn_kinds (after_turn scene p).answer) (after_turn scene p).state
 
 abbrev pub after_own_turn : Scene → ElementState → ElementState
-after_own_turn scene e = after (told_by_turn scene) e
+after_own_turn scene e = after_action (change_by_turn scene) e

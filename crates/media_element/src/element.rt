@@ -3,11 +3,11 @@ ghost use Rattle.mse_calls.specs.Level.{has_metadata};
 ghost use Rattle.element_seek.specs.Seeking.{after_seek, after_load};
 ghost use Rattle.element_seek.specs.Playing.{after_play, after_pause, after_advance, after_fail};
 ghost use Rattle.element_seek.specs.Turns.{is_due};
-ghost use Rattle.element_seek.specs.Settling.{after_settle, stays_by};
+ghost use Rattle.element_seek.specs.Settling.{after_settle, is_settled_by};
 ghost use Rattle.element_seek.specs.Inside.{IsInside, HasSpansInside, StaysInside};
 ghost use Rattle.media_element.specs.State.{new_element};
-ghost use Rattle.media_element.specs.Queueing.{events_at, element_events, queued, after_fire, after, told_kinds, refusal, after_call, after_own_turn};
-ghost use Rattle.media_element.specs.DurationChange.{sought_end, after_end_seek, after_duration_change, IsInReach};
+ghost use Rattle.media_element.specs.Queueing.{events_at, element_events, with_events, after_fire, after_action, told_kinds, refusal, after_player_call, after_own_turn};
+ghost use Rattle.media_element.specs.DurationChange.{sought_end, after_end_seek, after_element_change, IsInReach};
 
 use element_seek::laws::position_inside;
 use element_seek::{Acted, Player, Scene};
@@ -84,7 +84,7 @@ impl Element {
     /// Queues an event, at whatever target. It takes one place.
     pub fn tell(&mut self, event: Event)
         requires { 1 ≤ self.old.spare }
-        ensures state { self.new.state ≡ queued (event ∷ []) self.old.state }
+        ensures state { self.new.state ≡ with_events (event ∷ []) self.old.state }
         ensures spare { self.old.spare ≤ self.new.spare + 1 }
     {
         self.queue.push_reserved(event);
@@ -93,7 +93,7 @@ impl Element {
     /// Queues events at a target, in order. It takes at most four places.
     pub fn tell_kinds(&mut self, target: Target, kinds: &Changes)
         requires { 4 ≤ self.old.spare }
-        ensures state { self.new.state ≡ queued (events_at target kinds.now) self.old.state }
+        ensures state { self.new.state ≡ with_events (events_at target kinds.now) self.old.state }
         ensures spare { self.old.spare ≤ self.new.spare + 4 }
     {
         // The proof reads off this that there are at most four.
@@ -104,7 +104,7 @@ impl Element {
     /// Queues the same event `n` times. It takes `n` places.
     pub fn tell_again(&mut self, event: Event, n: u64)
         requires { n ≤ self.old.spare }
-        ensures state { self.new.state ≡ queued (replicate n event) self.old.state }
+        ensures state { self.new.state ≡ with_events (replicate n event) self.old.state }
         ensures spare { self.old.spare ≤ self.new.spare + n }
     {
         push_again(&mut self.queue, event, n);
@@ -113,7 +113,7 @@ impl Element {
     /// Queues events at the element, in order.
     fn tell_at_element(&mut self, kinds: &Changes)
         requires { length kinds.now ≤ self.old.spare }
-        ensures state { self.new.state ≡ queued (element_events kinds.now) self.old.state }
+        ensures state { self.new.state ≡ with_events (element_events kinds.now) self.old.state }
         ensures spare { self.new.spare + length kinds.now ≡ self.old.spare }
     {
         push_kinds(&mut self.queue, Target::Element, kinds);
@@ -141,7 +141,8 @@ impl Element {
     /// Seeks to a duration where the element has metadata and its position is after it.
     fn seek_if_beyond(&mut self, duration: Moment, scene: &Scene)
         requires { 1 ≤ self.old.spare }
-        ensures state { self.new.state ≡ after (after_end_seek duration scene.now) self.old.state }
+        ensures state { self.new.state
+            ≡ after_action (after_end_seek duration scene.now) self.old.state }
         ensures spare { self.old.spare ≤ self.new.spare + 1 }
     {
         match self.sought_end(duration) {
@@ -156,9 +157,9 @@ impl Element {
     /// places.
     pub fn change_duration(&mut self, duration: Moment, scene: &Scene)
         requires { 2 ≤ self.old.spare }
-        ensures state { self.new.state ≡ after_duration_change duration scene.now self.old.state }
+        ensures state { self.new.state ≡ after_element_change duration scene.now self.old.state }
         ensures spare { self.old.spare ≤ self.new.spare + 2 }
-        ensures inside { HasSpansInside scene.now
+        ensures stays_inside { HasSpansInside scene.now
             → StaysInside scene.now self.old.state.player self.new.state.player }
         ensures reached { IsInReach duration scene.now self.old.state.player
             → IsInside duration self.new.state.player.position }
@@ -177,9 +178,9 @@ impl Element {
     /// default playback start position, if that is above 0. It takes at most two places.
     pub fn load(&mut self, scene: &Scene)
         requires { 2 ≤ self.old.spare }
-        ensures state { self.new.state ≡ after (after_load scene.now) self.old.state }
+        ensures state { self.new.state ≡ after_action (after_load scene.now) self.old.state }
         ensures spare { self.old.spare ≤ self.new.spare + 2 }
-        ensures inside { HasSpansInside scene.now
+        ensures stays_inside { HasSpansInside scene.now
             → StaysInside scene.now self.old.state.player self.new.state.player }
     {
         // The proof reads off this that the position stays inside the media.
@@ -192,7 +193,7 @@ impl Element {
     /// algorithm): the first error stays. It takes at most one place.
     pub fn fail(&mut self, kind: EndKind)
         requires { 1 ≤ self.old.spare }
-        ensures state { self.new.state ≡ after (after_fail kind) self.old.state }
+        ensures state { self.new.state ≡ after_action (after_fail kind) self.old.state }
         ensures spare { self.old.spare ≤ self.new.spare + 1 }
     {
         let kinds = self.player.fail(kind);
@@ -203,7 +204,7 @@ impl Element {
     /// elements, ready states). It takes at most four places.
     pub fn settle(&mut self, scene: &Scene)
         requires { 4 ≤ self.old.spare }
-        ensures state { self.new.state ≡ after (after_settle scene.now) self.old.state }
+        ensures state { self.new.state ≡ after_action (after_settle scene.now) self.old.state }
         ensures spare { self.old.spare ≤ self.new.spare + 4 }
     {
         let kinds = self.player.settle(scene);
@@ -212,18 +213,18 @@ impl Element {
 
     /// Whether the end of a step leaves the element as it is and tells nothing, by the buffered range
     /// that has its position or ends at it, and by the duration, at an element that told no end.
-    pub fn stays(&self, span: &Option<Span>, duration: Moment) -> bool
-        ensures { result ≡ stays_by span.now duration self.now.state.player }
+    pub fn is_settled(&self, span: &Option<Span>, duration: Moment) -> bool
+        ensures { result ≡ is_settled_by span.now duration self.now.state.player }
     {
-        self.player.stays(span, duration)
+        self.player.is_settled(span, duration)
     }
 
     /// Seeks (HTML, media elements, "seeking") to a time in ticks. It takes at most one place.
     pub fn seek(&mut self, t: Ticks, scene: &Scene)
         requires { 1 ≤ self.old.spare }
-        ensures state { self.new.state ≡ after (after_seek t scene.now) self.old.state }
+        ensures state { self.new.state ≡ after_action (after_seek t scene.now) self.old.state }
         ensures spare { self.old.spare ≤ self.new.spare + 1 }
-        ensures inside { HasSpansInside scene.now
+        ensures stays_inside { HasSpansInside scene.now
             → StaysInside scene.now self.old.state.player self.new.state.player }
     {
         // The proof reads off this that the position stays inside the media.
@@ -237,7 +238,7 @@ impl Element {
         requires { length (told_kinds answer.now) ≤ self.old.spare }
         ensures name { result ≡ refusal answer.now }
         ensures state { self.new.state
-            ≡ queued (element_events (told_kinds answer.now)) self.old.state }
+            ≡ with_events (element_events (told_kinds answer.now)) self.old.state }
         ensures spare { self.new.spare + length (told_kinds answer.now) ≡ self.old.spare }
     {
         match answer {
@@ -255,9 +256,9 @@ impl Element {
     pub fn play(&mut self, scene: &Scene) -> Option<Name>
         requires { 3 ≤ self.old.spare }
         ensures name { result ≡ refusal (after_play scene.now self.old.state.player).answer }
-        ensures state { self.new.state ≡ after_call (after_play scene.now) self.old.state }
+        ensures state { self.new.state ≡ after_player_call (after_play scene.now) self.old.state }
         ensures spare { self.old.spare ≤ self.new.spare + 3 }
-        ensures inside { HasSpansInside scene.now
+        ensures stays_inside { HasSpansInside scene.now
             → StaysInside scene.now self.old.state.player self.new.state.player }
     {
         // The proof reads off this that the position stays inside the media.
@@ -269,7 +270,7 @@ impl Element {
     /// Pauses (HTML, `HTMLMediaElement.pause`). It takes at most two places.
     pub fn pause(&mut self)
         requires { 2 ≤ self.old.spare }
-        ensures state { self.new.state ≡ after after_pause self.old.state }
+        ensures state { self.new.state ≡ after_action after_pause self.old.state }
         ensures spare { self.old.spare ≤ self.new.spare + 2 }
     {
         let kinds = self.player.pause();
@@ -283,9 +284,10 @@ impl Element {
     pub fn advance(&mut self, t: Ticks, scene: &Scene) -> Option<Name>
         requires { 1 ≤ self.old.spare }
         ensures name { result ≡ refusal (after_advance t scene.now self.old.state.player).answer }
-        ensures state { self.new.state ≡ after_call (after_advance t scene.now) self.old.state }
+        ensures state { self.new.state
+            ≡ after_player_call (after_advance t scene.now) self.old.state }
         ensures spare { self.old.spare ≤ self.new.spare + 1 }
-        ensures inside { HasSpansInside scene.now
+        ensures stays_inside { HasSpansInside scene.now
             → StaysInside scene.now self.old.state.player self.new.state.player }
     {
         // The proof reads off this that the position stays inside the media.

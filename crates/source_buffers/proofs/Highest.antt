@@ -7,7 +7,7 @@ use Rattle.track_buffers.specs.Media.{Media, EndsWithin}
 use Rattle.track_buffers.specs.Frames.{highest_end_in}
 use Rattle.track_buffers.proofs.Keeping.{endby_none}
 use Rattle.track_buffers.proofs.Durations.{greatest_bounds, greatest_none, highest_bounds, highest_none, end_by_up}
-use Rattle.source_buffers.specs.All.{SlotEndsWithin, AllEndWithin, slot_times, highest_end_of_all}
+use Rattle.source_buffers.specs.All.{IsSlotWithin, AllEndWithin, slot_times, highest_end_of_all}
 
 all_left : (P : ℤ → Type 0) (xs ys : List ℤ) → AllByRecursion P (xs ++ ys) → AllByRecursion P xs × AllByRecursion P ys
 all_left P [] ys h = (tt, h)
@@ -17,7 +17,7 @@ media_by : (e : ℤ) (m : Media) (o : Option ℤ) → highest_end_in m ≡ o →
 media_by e m (Some d) is h = end_by_up d e m.tracks h.0 (highest_bounds m d is)
 media_by e m None is h = endby_none e m.tracks (highest_none m is)
 
-slot_by : (e : ℤ) (m : Option Media) → AllByRecursion (λ t. t ≤ℤ e) (slot_times highest_end_in m) → SlotEndsWithin (At e) m
+slot_by : (e : ℤ) (m : Option Media) → AllByRecursion (λ t. t ≤ℤ e) (slot_times highest_end_in m) → IsSlotWithin (At e) m
 slot_by e None h = tt
 slot_by e (Some m) h = media_by e m (highest_end_in m) refl h
 
@@ -35,7 +35,7 @@ no_times : (o : Option ℤ) (rest : List ℤ) → option_to_list o ++ rest ≡ [
 no_times None rest h = (refl, h)
 no_times (Some t) rest h = absurd cc
 
-slot_none : (m : Option Media) (rest : List ℤ) → slot_times highest_end_in m ++ rest ≡ [] → SlotEndsWithin Nan m × (rest ≡ [])
+slot_none : (m : Option Media) (rest : List ℤ) → slot_times highest_end_in m ++ rest ≡ [] → IsSlotWithin Nan m × (rest ≡ [])
 slot_none None rest h = (tt, h)
 slot_none (Some m) rest h =
     let both = no_times (highest_end_in m) rest h in

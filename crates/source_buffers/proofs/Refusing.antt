@@ -5,7 +5,7 @@ use Rattle.mse_calls.specs.declared.answers.Name.{Name}
 use Rattle.mse_calls.specs.declared.answers.Name.TheVariants.{NoSuchBuffer}
 use Rattle.buffer_state.specs.declared.reply.Reply.{Reply}
 use Rattle.buffer_state.specs.State.{Feed, Content, Surroundings}
-use Rattle.buffer_state.specs.Replies.{CallResult, TellsRefusals, refusal, refused_result}
+use Rattle.buffer_state.specs.Replies.{CallResult, TellsRefusals, refused_reply, refused_result}
 use Rattle.source_buffers.specs.State.{BufferState, BufferStates}
 use Rattle.source_buffers.specs.Slots.{BuffersResult, call_in_slot, refusal_in_slot, refusal_by_slot, refusal_on_buffer, refused_buffers, result_by_slot, result_on_buffer, slot_with, buffers_with}
 
@@ -40,10 +40,10 @@ refused told call k name a bs n tells h = refused_by told call k name a bs n (sl
 some_same : (x y : BufferState) → Some (Some x) ≡ Some (Some y) → x ≡ y
 some_same x y h = cc
 
-refused_whole : (r : CallResult) (n : Name) (a : Surroundings) (b : BufferState) → r.reply ≡ refusal n false a.duration → record { feed = r.feed; content = r.content } ≡ b → r ≡ refused_result n false a b.feed b.content
+refused_whole : (r : CallResult) (n : Name) (a : Surroundings) (b : BufferState) → r.reply ≡ refused_reply n false a.duration → record { feed = r.feed; content = r.content } ≡ b → r ≡ refused_result n false a b.feed b.content
 refused_whole r n a b replies same =
     ap (λ (x : Reply). record { reply = x; feed = r.feed; content = r.content }) replies
-    ∙ ap (λ (x : BufferState). record { reply = refusal n false a.duration; feed = x.feed; content = x.content }) same
+    ∙ ap (λ (x : BufferState). record { reply = refused_reply n false a.duration; feed = x.feed; content = x.content }) same
 
 named_by : (told : Surroundings → Feed → Content → Option Name) (call : Surroundings → Feed → Content → CallResult) (k : ℕ) (name : Name) (a : Surroundings) (bs : BufferStates) (n : Name) (o : Option (Option BufferState)) → TellsRefusals told call → slice_get bs k ≡ o → result_by_slot o (call_in_slot name a.duration (call a)) a.duration k bs ≡ refused_buffers n a.duration bs → refusal_by_slot o (refusal_in_slot name (told a)) ≡ Some n
 named_by told call k name a bs n None tells e h = ap (λ (r : BuffersResult). r.reply.refused) h

@@ -8,22 +8,22 @@ use Rattle.buffer_state.specs.declared.reply.Reply.{Reply}
 use Rattle.buffer_state.specs.declared.reply.Turned.{Turned}
 use Rattle.buffer_state.specs.declared.reply.Turned.TheVariants.{Did, Idle}
 use Rattle.buffer_state.specs.State.{Feed, Content, KeptBuffer, Surroundings, Stands}
-use Rattle.buffer_state.specs.Replies.{CallResult, IsResult, IsTurnResult, refusal}
+use Rattle.buffer_state.specs.Replies.{CallResult, IsResult, IsTurnResult, refused_reply}
 use Rattle.buffer_state.specs.Calls.{end_work_result}
 use Rattle.buffer_state.specs.Turns.{turn_result}
-use Rattle.source_buffers.specs.State.{BufferState, BufferStates, KeptBuffers, SlotStands, AllStand}
-use Rattle.source_buffers.specs.Slots.{call_in_slot, refusal_in_slot, removal_in_slot, SlotResult, IsSlotResult, IsBuffersResult, SlotAnswers, SlotAnswersIfOk, BuffersAnswer, BuffersAnswerIfOk, IsSlotTurn, IsBuffersTurn, SlotTurnIfOk, BuffersTurnIfOk, slot_turn_of, turn_in_slot, refusal_by_slot, refusal_on_slot, result_by_slot, result_on_slot, buffers_turn_of, turn_by_slot, buffers_turn}
+use Rattle.source_buffers.specs.State.{BufferState, BufferStates, KeptBuffers, IsSlotStanding, AllStand}
+use Rattle.source_buffers.specs.Slots.{call_in_slot, refusal_in_slot, removal_in_slot, SlotResult, IsSlotResult, IsBuffersResult, IsSlotAnswer, IsSlotAnswerIfOk, IsBuffersAnswer, IsBuffersAnswerIfOk, IsSlotTurn, IsBuffersTurn, IsSlotTurnIfOk, IsBuffersTurnIfOk, slot_turn_of, turn_in_slot, refusal_by_slot, refusal_on_slot, result_by_slot, result_on_slot, buffers_turn_of, turn_by_slot, buffers_turn}
 
 -- what stands at a place
 pub record Found (k : Option KeptBuffer) (bs : BufferStates) (i : ℕ) : Type 0 where
   pub slot : Option BufferState
   pub there : slice_get bs i ≡ Some slot
-  pub stands : SlotStands k slot
+  pub stands : IsSlotStanding k slot
 
 pub found : (ks : KeptBuffers) (bs : BufferStates) (i : ℕ) (k : Option KeptBuffer) → AllStand ks bs → slice_get ks i ≡ Some k → Found k bs i
 found [] bs i k all e = absurd cc
 found (x ∷ ks) [] i k all e = absurd all
-found (x ∷ ks) (b ∷ bs) zero k all e = let same : x ≡ k = cc in record { slot = b; there = refl; stands = subst (λ (z : Option KeptBuffer). SlotStands z b) same all.0 }
+found (x ∷ ks) (b ∷ bs) zero k all e = let same : x ≡ k = cc in record { slot = b; there = refl; stands = subst (λ (z : Option KeptBuffer). IsSlotStanding z b) same all.0 }
 found (x ∷ ks) (b ∷ bs) (suc i) k all e =
     let r = found ks bs i k all.1 e in
     record { slot = r.slot; there = r.there; stands = r.stands }
@@ -35,7 +35,7 @@ none_found (k ∷ ks) [] i all e = absurd all
 none_found (k ∷ ks) (b ∷ bs) zero all e = absurd cc
 none_found (k ∷ ks) (b ∷ bs) (suc i) all e = none_found ks bs i all.1 e
 
-set_all : (ks : KeptBuffers) (bs : BufferStates) (i : ℕ) (k : Option KeptBuffer) (b : Option BufferState) → AllStand ks bs → SlotStands k b → AllStand (slice_set ks i k) (slice_set bs i b)
+set_all : (ks : KeptBuffers) (bs : BufferStates) (i : ℕ) (k : Option KeptBuffer) (b : Option BufferState) → AllStand ks bs → IsSlotStanding k b → AllStand (slice_set ks i k) (slice_set bs i b)
 set_all [] [] i k b all h = tt
 set_all [] (x ∷ bs) i k b all h = absurd all
 set_all (k' ∷ ks) [] i k b all h = absurd all
@@ -44,19 +44,19 @@ set_all (k' ∷ ks) (x ∷ bs) (suc i) k b all h = (all.0, set_all ks bs i k b a
 
 -- ---- a call
 
-pub slot_answers : (ks : KeptBuffers) (i : ℕ) (d : Moment) (old new : Option KeptBuffer) (reply : Reply) (call : Option BufferState → SlotResult) → slice_get ks i ≡ Some old → SlotAnswers old reply new call → BuffersAnswer ks reply (slice_set ks i new) (result_on_slot i d call)
+pub slot_answers : (ks : KeptBuffers) (i : ℕ) (d : Moment) (old new : Option KeptBuffer) (reply : Reply) (call : Option BufferState → SlotResult) → slice_get ks i ≡ Some old → IsSlotAnswer old reply new call → IsBuffersAnswer ks reply (slice_set ks i new) (result_on_slot i d call)
 slot_answers ks i d old new reply call e go bs all =
     let p = found ks bs i old all e in
     let a : IsSlotResult reply new (call p.slot) = go p.slot p.stands in
     let here : IsBuffersResult reply (slice_set ks i new) (result_by_slot (Some p.slot) call d i bs) = record { replies = a.replies; stand = set_all ks bs i new (call p.slot).slot all a.stands } in
     subst (λ (o : Option (Option BufferState)). IsBuffersResult reply (slice_set ks i new) (result_by_slot o call d i bs)) (sym p.there) here
 
-pub slot_answers_if_ok : {E : Type 0} (ks : KeptBuffers) (i : ℕ) (d : Moment) (old new : Option KeptBuffer) (r : Result Reply E) (call : Option BufferState → SlotResult) → slice_get ks i ≡ Some old → SlotAnswersIfOk old r new call → BuffersAnswerIfOk ks r (slice_set ks i new) (result_on_slot i d call)
+pub slot_answers_if_ok : {E : Type 0} (ks : KeptBuffers) (i : ℕ) (d : Moment) (old new : Option KeptBuffer) (r : Result Reply E) (call : Option BufferState → SlotResult) → slice_get ks i ≡ Some old → IsSlotAnswerIfOk old r new call → IsBuffersAnswerIfOk ks r (slice_set ks i new) (result_on_slot i d call)
 slot_answers_if_ok ks i d old new (Ok reply) call e go = slot_answers ks i d old new reply call e go
 slot_answers_if_ok ks i d old new (Err x) call e go = λ bs all. tt
 
 -- where none was made
-pub none_answers : (ks : KeptBuffers) (i : ℕ) (d : Moment) (reply : Reply) (call : Option BufferState → SlotResult) → slice_get ks i ≡ None → reply ≡ refusal NoSuchBuffer false d → BuffersAnswer ks reply ks (result_on_slot i d call)
+pub none_answers : (ks : KeptBuffers) (i : ℕ) (d : Moment) (reply : Reply) (call : Option BufferState → SlotResult) → slice_get ks i ≡ None → reply ≡ refused_reply NoSuchBuffer false d → IsBuffersAnswer ks reply ks (result_on_slot i d call)
 none_answers ks i d reply call e is bs all =
     let here : IsBuffersResult reply ks (result_by_slot None call d i bs) = record { replies = is; stand = all } in
     subst (λ (o : Option (Option BufferState)). IsBuffersResult reply ks (result_by_slot o call d i bs)) (sym (none_found ks bs i all e)) here
@@ -69,7 +69,7 @@ did_turn (Did reply) new (Some x) h = record { replies = h.replies; stands = h.s
 did_turn Idle new None h = tt
 did_turn Idle new (Some x) h = absurd h
 
-pub full_turns : {E : Type 0} (r : Result Turned E) (old new : KeptBuffer) (a : Surroundings) → ((f : Feed) (c : Content) → Stands old f c → IfOk r (λ t. IsTurnResult t new (turn_result a f c))) → SlotTurnIfOk (Some old) r (Some new) (turn_in_slot a)
+pub full_turns : {E : Type 0} (r : Result Turned E) (old new : KeptBuffer) (a : Surroundings) → ((f : Feed) (c : Content) → Stands old f c → IfOk r (λ t. IsTurnResult t new (turn_result a f c))) → IsSlotTurnIfOk (Some old) r (Some new) (turn_in_slot a)
 full_turns r old new a go None h = absurd h
 full_turns (Err e) old new a go (Some b) h = tt
 full_turns (Ok t) old new a go (Some b) h = did_turn t new (turn_result a b.feed b.content) (go b.feed b.content h)
@@ -80,7 +80,7 @@ put_turn (Did reply) ks bs i new (Some a) all h = record { replies = h.replies; 
 put_turn Idle ks bs i new None all h = tt
 put_turn Idle ks bs i new (Some a) all h = absurd h
 
-pub slot_turns : {E : Type 0} (ks : KeptBuffers) (i : ℕ) (a : Surroundings) (old new : Option KeptBuffer) (r : Result Turned E) → slice_get ks i ≡ Some old → SlotTurnIfOk old r new (turn_in_slot a) → BuffersTurnIfOk ks r (slice_set ks i new) (buffers_turn i a)
+pub slot_turns : {E : Type 0} (ks : KeptBuffers) (i : ℕ) (a : Surroundings) (old new : Option KeptBuffer) (r : Result Turned E) → slice_get ks i ≡ Some old → IsSlotTurnIfOk old r new (turn_in_slot a) → IsBuffersTurnIfOk ks r (slice_set ks i new) (buffers_turn i a)
 slot_turns ks i a old new (Err x) e go bs all = tt
 slot_turns ks i a old new (Ok t) e go bs all =
     let p = found ks bs i old all e in
@@ -91,7 +91,7 @@ none_turns ks i a e bs all = subst (λ (o : Option (Option BufferState)). IsBuff
 
 -- ---- refusals
 
-pub slot_refuses : (ks : KeptBuffers) (i : ℕ) (old : Option KeptBuffer) (r : Option Name) (refusal : Option BufferState → Option Name) → slice_get ks i ≡ Some old → ((s : Option BufferState) → SlotStands old s → r ≡ refusal s) → (bs : BufferStates) → AllStand ks bs → r ≡ refusal_on_slot i refusal bs
+pub slot_refuses : (ks : KeptBuffers) (i : ℕ) (old : Option KeptBuffer) (r : Option Name) (refusal : Option BufferState → Option Name) → slice_get ks i ≡ Some old → ((s : Option BufferState) → IsSlotStanding old s → r ≡ refusal s) → (bs : BufferStates) → AllStand ks bs → r ≡ refusal_on_slot i refusal bs
 slot_refuses ks i old r refusal e go bs all =
     let p = found ks bs i old all e in
     subst (λ (o : Option (Option BufferState)). r ≡ refusal_by_slot o refusal) (sym p.there) (go p.slot p.stands)
@@ -101,19 +101,19 @@ none_refuses ks i refusal e bs all = subst (λ (o : Option (Option BufferState))
 
 -- ---- a call on the buffer in a slot
 
-pub full_answers_if_ok : {E : Type 0} (r : Result Reply E) (old new : KeptBuffer) (name : Name) (d : Moment) (call : Feed → Content → CallResult) → ((f : Feed) (c : Content) → Stands old f c → IfOk r (λ reply. IsResult reply new (call f c))) → (s : Option BufferState) → SlotStands (Some old) s → IfOk r (λ reply. IsSlotResult reply (Some new) (call_in_slot name d call s))
+pub full_answers_if_ok : {E : Type 0} (r : Result Reply E) (old new : KeptBuffer) (name : Name) (d : Moment) (call : Feed → Content → CallResult) → ((f : Feed) (c : Content) → Stands old f c → IfOk r (λ reply. IsResult reply new (call f c))) → (s : Option BufferState) → IsSlotStanding (Some old) s → IfOk r (λ reply. IsSlotResult reply (Some new) (call_in_slot name d call s))
 full_answers_if_ok r old new name d call go None h = absurd h
 full_answers_if_ok (Err e) old new name d call go (Some b) h = tt
 full_answers_if_ok (Ok reply) old new name d call go (Some b) h =
     let a = go b.feed b.content h in
     record { replies = a.replies; stands = a.stands }
 
-pub full_removal : (reply : Reply) (old new : KeptBuffer) (a : Surroundings) → ((f : Feed) (c : Content) → Stands old f c → IsResult reply new (end_work_result a f c)) → (s : Option BufferState) → SlotStands (Some old) s → IsSlotResult reply None (removal_in_slot a s)
+pub full_removal : (reply : Reply) (old new : KeptBuffer) (a : Surroundings) → ((f : Feed) (c : Content) → Stands old f c → IsResult reply new (end_work_result a f c)) → (s : Option BufferState) → IsSlotStanding (Some old) s → IsSlotResult reply None (removal_in_slot a s)
 full_removal reply old new a go None h = absurd h
 full_removal reply old new a go (Some b) h =
     let done = go b.feed b.content h in
     record { replies = done.replies; stands = tt }
 
-pub full_refuses : (r : Option Name) (old : KeptBuffer) (name : Name) (told : Feed → Content → Option Name) → ((f : Feed) (c : Content) → Stands old f c → r ≡ told f c) → (s : Option BufferState) → SlotStands (Some old) s → r ≡ refusal_in_slot name told s
+pub full_refuses : (r : Option Name) (old : KeptBuffer) (name : Name) (told : Feed → Content → Option Name) → ((f : Feed) (c : Content) → Stands old f c → r ≡ told f c) → (s : Option BufferState) → IsSlotStanding (Some old) s → r ≡ refusal_in_slot name told s
 full_refuses r old name told go None h = absurd h
 full_refuses r old name told go (Some b) h = go b.feed b.content h

@@ -4,9 +4,9 @@ use Rattle.std.specs.Prelude.{Option, Some, None}
 use Rattle.track_buffers.specs.Media.{Media}
 use Rattle.buffer_state.specs.declared.running.Running.{Running}
 use Rattle.buffer_state.specs.State.{KeptBuffer}
-use Rattle.source_buffers.specs.State.{BufferState, BufferStates, KeptBuffers, SlotStands, AllStand, media_of, media_of_all, kept_media, all_kept_media, running_of, running_of_all, kept_running, all_kept_running}
+use Rattle.source_buffers.specs.State.{BufferState, BufferStates, KeptBuffers, IsSlotStanding, AllStand, media_of, media_of_all, kept_media, all_kept_media, running_of, running_of_all, kept_running, all_kept_running}
 
-one_media : (k : Option KeptBuffer) (b : Option BufferState) → SlotStands k b → kept_media k ≡ media_of b
+one_media : (k : Option KeptBuffer) (b : Option BufferState) → IsSlotStanding k b → kept_media k ≡ media_of b
 one_media None None h = refl
 one_media None (Some b) h = absurd h
 one_media (Some k) None h = absurd h
@@ -18,7 +18,7 @@ same_media [] (b ∷ bs) all = absurd all
 same_media (k ∷ ks) [] all = absurd all
 same_media (k ∷ ks) (b ∷ bs) all = rw (one_media k b all.0, same_media ks bs all.1) refl
 
-one_running : (k : Option KeptBuffer) (b : Option BufferState) → SlotStands k b → kept_running k ≡ running_of b
+one_running : (k : Option KeptBuffer) (b : Option BufferState) → IsSlotStanding k b → kept_running k ≡ running_of b
 one_running None None h = refl
 one_running None (Some b) h = absurd h
 one_running (Some k) None h = absurd h
@@ -37,7 +37,7 @@ same_length (k ∷ ks) [] all = absurd all
 same_length (k ∷ ks) (b ∷ bs) all = ap suc (same_length ks bs all.1)
 
 -- one more buffer
-pub one_more : (ks : KeptBuffers) (bs : BufferStates) (k : Option KeptBuffer) (b : Option BufferState) → AllStand ks bs → SlotStands k b → AllStand (ks ++ k ∷ []) (bs ++ b ∷ [])
+pub one_more : (ks : KeptBuffers) (bs : BufferStates) (k : Option KeptBuffer) (b : Option BufferState) → AllStand ks bs → IsSlotStanding k b → AllStand (ks ++ k ∷ []) (bs ++ b ∷ [])
 one_more [] [] k b all h = (h, tt)
 one_more [] (x ∷ bs) k b all h = absurd all
 one_more (x ∷ ks) [] k b all h = absurd all

@@ -11,11 +11,11 @@ use Rattle.buffer_state.specs.declared.reply.Turned.TheVariants.{Did, Idle}
 use Rattle.buffer_state.specs.State.{KeptBuffer}
 use Rattle.buffer_state.specs.Replies.{OfTurn}
 use Rattle.source_buffers.specs.State.{KeptBuffers, kept_media, kept_running, all_kept_media, all_kept_running}
-use Rattle.source_buffers.specs.All.{SlotEndsWithin, SlotStaysWithin, AllEndWithin, AllStayWithin, IsFewerSlot, IsIdleSlot, AreFewer, AreIdle, is_updating_slot, is_updating_at, slot_steps_left, all_steps_left, slot_ready, ready_at}
+use Rattle.source_buffers.specs.All.{IsSlotWithin, IsSlotStillWithin, AllEndWithin, AllStayWithin, IsFewerSlot, IsIdleSlot, AreFewer, AreIdle, is_updating_slot, is_updating_at, slot_steps_left, all_steps_left, slot_ready, ready_of_buffer}
 
 -- ---- within the duration
 
-slot_later : (d e : Moment) (m : Option Media) → IsNotAfter d e → SlotEndsWithin d m → SlotEndsWithin e m
+slot_later : (d e : Moment) (m : Option Media) → IsNotAfter d e → IsSlotWithin d m → IsSlotWithin e m
 slot_later d e None later h = tt
 slot_later d e (Some m) later h = later m.tracks h
 
@@ -23,47 +23,47 @@ pub all_later : (d e : Moment) (ms : List (Option Media)) → IsNotAfter d e →
 all_later d e [] later all = tt
 all_later d e (m ∷ ms) later all = (slot_later d e m later all.0, all_later d e ms later all.1)
 
-slot_within : (d : Moment) (ks : KeptBuffers) (i : ℕ) (k : Option KeptBuffer) → AllEndWithin d (all_kept_media ks) → slice_get ks i ≡ Some k → SlotEndsWithin d (kept_media k)
+slot_within : (d : Moment) (ks : KeptBuffers) (i : ℕ) (k : Option KeptBuffer) → AllEndWithin d (all_kept_media ks) → slice_get ks i ≡ Some k → IsSlotWithin d (kept_media k)
 slot_within d [] i k all e = absurd cc
-slot_within d (x ∷ ks) zero k all e = let same : x ≡ k = cc in subst (λ (z : Option KeptBuffer). SlotEndsWithin d (kept_media z)) same all.0
+slot_within d (x ∷ ks) zero k all e = let same : x ≡ k = cc in subst (λ (z : Option KeptBuffer). IsSlotWithin d (kept_media z)) same all.0
 slot_within d (x ∷ ks) (suc i) k all e = slot_within d ks i k all.1 e
 
-set_within : (d : Moment) (ks : KeptBuffers) (i : ℕ) (k : Option KeptBuffer) → AllEndWithin d (all_kept_media ks) → SlotEndsWithin d (kept_media k) → AllEndWithin d (all_kept_media (slice_set ks i k))
+set_within : (d : Moment) (ks : KeptBuffers) (i : ℕ) (k : Option KeptBuffer) → AllEndWithin d (all_kept_media ks) → IsSlotWithin d (kept_media k) → AllEndWithin d (all_kept_media (slice_set ks i k))
 set_within d [] i k all h = tt
 set_within d (x ∷ ks) zero k all h = (h, all.1)
 set_within d (x ∷ ks) (suc i) k all h = (all.0, set_within d ks i k all.1 h)
 
-pub stays_later : (ks : KeptBuffers) (i : ℕ) (d : Moment) (old new : Option KeptBuffer) (reply : Reply) → slice_get ks i ≡ Some old → IsNotAfter d reply.duration → SlotStaysWithin d old reply new → AllStayWithin d ks reply (slice_set ks i new)
+pub stays_later : (ks : KeptBuffers) (i : ℕ) (d : Moment) (old new : Option KeptBuffer) (reply : Reply) → slice_get ks i ≡ Some old → IsNotAfter d reply.duration → IsSlotStillWithin d old reply new → AllStayWithin d ks reply (slice_set ks i new)
 stays_later ks i d old new reply e later own all = set_within reply.duration ks i new (all_later d reply.duration (all_kept_media ks) later all) (own (slot_within d ks i old all e))
 
 -- the duration is the same
 pub not_after_same : (d e : Moment) → e ≡ d → IsNotAfter d e
 not_after_same d e same ts h = subst (λ (x : Moment). EndsWithin x ts) (sym same) h
 
-pub stays : (ks : KeptBuffers) (i : ℕ) (d : Moment) (old new : Option KeptBuffer) (reply : Reply) → slice_get ks i ≡ Some old → reply.duration ≡ d → SlotStaysWithin d old reply new → AllStayWithin d ks reply (slice_set ks i new)
+pub stays : (ks : KeptBuffers) (i : ℕ) (d : Moment) (old new : Option KeptBuffer) (reply : Reply) → slice_get ks i ≡ Some old → reply.duration ≡ d → IsSlotStillWithin d old reply new → AllStayWithin d ks reply (slice_set ks i new)
 stays ks i d old new reply e same own = stays_later ks i d old new reply e (not_after_same d reply.duration same) own
 
 pub none_stays : (ks : KeptBuffers) (d : Moment) (reply : Reply) → reply.duration ≡ d → AllStayWithin d ks reply ks
 none_stays ks d reply same all = subst (λ (x : Moment). AllEndWithin x (all_kept_media ks)) (sym same) all
 
-pub stays_if_ok : {E : Type 0} (ks : KeptBuffers) (i : ℕ) (d : Moment) (old new : Option KeptBuffer) (r : Result Reply E) → slice_get ks i ≡ Some old → IfOk r (λ reply. reply.duration ≡ d) → IfOk r (λ reply. SlotStaysWithin d old reply new) → IfOk r (λ reply. AllStayWithin d ks reply (slice_set ks i new))
+pub stays_if_ok : {E : Type 0} (ks : KeptBuffers) (i : ℕ) (d : Moment) (old new : Option KeptBuffer) (r : Result Reply E) → slice_get ks i ≡ Some old → IfOk r (λ reply. reply.duration ≡ d) → IfOk r (λ reply. IsSlotStillWithin d old reply new) → IfOk r (λ reply. AllStayWithin d ks reply (slice_set ks i new))
 stays_if_ok ks i d old new (Ok reply) e same own = stays ks i d old new reply e same own
 stays_if_ok ks i d old new (Err x) e same own = tt
 
-pub stays_later_if_ok : {E : Type 0} (ks : KeptBuffers) (i : ℕ) (d : Moment) (old new : Option KeptBuffer) (r : Result Reply E) → slice_get ks i ≡ Some old → IfOk r (λ reply. IsNotAfter d reply.duration) → IfOk r (λ reply. SlotStaysWithin d old reply new) → IfOk r (λ reply. AllStayWithin d ks reply (slice_set ks i new))
+pub stays_later_if_ok : {E : Type 0} (ks : KeptBuffers) (i : ℕ) (d : Moment) (old new : Option KeptBuffer) (r : Result Reply E) → slice_get ks i ≡ Some old → IfOk r (λ reply. IsNotAfter d reply.duration) → IfOk r (λ reply. IsSlotStillWithin d old reply new) → IfOk r (λ reply. AllStayWithin d ks reply (slice_set ks i new))
 stays_later_if_ok ks i d old new (Ok reply) e later own = stays_later ks i d old new reply e later own
 stays_later_if_ok ks i d old new (Err x) e later own = tt
 
-turn_stays : (t : Turned) (ks : KeptBuffers) (i : ℕ) (d : Moment) (old new : Option KeptBuffer) → slice_get ks i ≡ Some old → OfTurn t (λ reply. IsNotAfter d reply.duration) → OfTurn t (λ reply. SlotStaysWithin d old reply new) → OfTurn t (λ reply. AllStayWithin d ks reply (slice_set ks i new))
+turn_stays : (t : Turned) (ks : KeptBuffers) (i : ℕ) (d : Moment) (old new : Option KeptBuffer) → slice_get ks i ≡ Some old → OfTurn t (λ reply. IsNotAfter d reply.duration) → OfTurn t (λ reply. IsSlotStillWithin d old reply new) → OfTurn t (λ reply. AllStayWithin d ks reply (slice_set ks i new))
 turn_stays (Did reply) ks i d old new e later own = stays_later ks i d old new reply e later own
 turn_stays Idle ks i d old new e later own = tt
 
-pub turn_stays_if_ok : {E : Type 0} (ks : KeptBuffers) (i : ℕ) (d : Moment) (old new : Option KeptBuffer) (r : Result Turned E) → slice_get ks i ≡ Some old → IfOk r (λ t. OfTurn t (λ reply. IsNotAfter d reply.duration)) → IfOk r (λ t. OfTurn t (λ reply. SlotStaysWithin d old reply new)) → IfOk r (λ t. OfTurn t (λ reply. AllStayWithin d ks reply (slice_set ks i new)))
+pub turn_stays_if_ok : {E : Type 0} (ks : KeptBuffers) (i : ℕ) (d : Moment) (old new : Option KeptBuffer) (r : Result Turned E) → slice_get ks i ≡ Some old → IfOk r (λ t. OfTurn t (λ reply. IsNotAfter d reply.duration)) → IfOk r (λ t. OfTurn t (λ reply. IsSlotStillWithin d old reply new)) → IfOk r (λ t. OfTurn t (λ reply. AllStayWithin d ks reply (slice_set ks i new)))
 turn_stays_if_ok ks i d old new (Ok t) e later own = turn_stays t ks i d old new e later own
 turn_stays_if_ok ks i d old new (Err x) e later own = tt
 
 -- one more buffer
-pub within_more : (d : Moment) (ks : KeptBuffers) (k : Option KeptBuffer) → AllEndWithin d (all_kept_media ks) → SlotEndsWithin d (kept_media k) → AllEndWithin d (all_kept_media (ks ++ k ∷ []))
+pub within_more : (d : Moment) (ks : KeptBuffers) (k : Option KeptBuffer) → AllEndWithin d (all_kept_media ks) → IsSlotWithin d (kept_media k) → AllEndWithin d (all_kept_media (ks ++ k ∷ []))
 within_more d [] k all h = (h, tt)
 within_more d (x ∷ ks) k all h = (all.0, within_more d ks k all.1 h)
 
@@ -119,13 +119,13 @@ turn_fewer_if_ok ks i old new (Ok t) e h = turn_fewer t ks i old new e h
 turn_fewer_if_ok ks i old new (Err x) e h = tt
 
 -- how many frames are ready
-pub ready_there : (ks : KeptBuffers) (i : ℕ) (k : Option KeptBuffer) → slice_get ks i ≡ Some k → ready_at i ks ≡ slot_ready k
+pub ready_there : (ks : KeptBuffers) (i : ℕ) (k : Option KeptBuffer) → slice_get ks i ≡ Some k → ready_of_buffer i ks ≡ slot_ready k
 ready_there ks i k e = ap (λ (o : Option (Option KeptBuffer)). slot_ready (option_flatten o)) e
 
-pub ready_none : (ks : KeptBuffers) (i : ℕ) → slice_get ks i ≡ None → ready_at i ks ≡ 0
+pub ready_none : (ks : KeptBuffers) (i : ℕ) → slice_get ks i ≡ None → ready_of_buffer i ks ≡ 0
 ready_none ks i e = ap (λ (o : Option (Option KeptBuffer)). slot_ready (option_flatten o)) e
 
 -- how often the duration changes in a reset of the parser
-pub changes_if_ok : {E : Type 0} (ks : KeptBuffers) (i : ℕ) (k : Option KeptBuffer) (r : Result Reply E) → slice_get ks i ≡ Some k → IfOk r (λ reply. reply.duration_changes ≤ slot_ready k) → IfOk r (λ reply. reply.duration_changes ≤ ready_at i ks)
+pub changes_if_ok : {E : Type 0} (ks : KeptBuffers) (i : ℕ) (k : Option KeptBuffer) (r : Result Reply E) → slice_get ks i ≡ Some k → IfOk r (λ reply. reply.duration_changes ≤ slot_ready k) → IfOk r (λ reply. reply.duration_changes ≤ ready_of_buffer i ks)
 changes_if_ok ks i k (Ok reply) e h = subst (λ (n : ℕ). reply.duration_changes ≤ n) (sym (ready_there ks i k e)) h
 changes_if_ok ks i k (Err x) e h = tt

@@ -5,13 +5,13 @@ use Rattle.std.specs.Option.{IfSome}
 use Rattle.std.proofs.lemmas.List.{append-nil, append_assoc}
 use Rattle.mse_calls.specs.declared.views.BufferView.{BufferView}
 use Rattle.buffer_state.specs.State.{KeptBuffer}
-use Rattle.source_buffers.specs.State.{BufferState, BufferStates, KeptBuffers, SlotStands, AllStand}
+use Rattle.source_buffers.specs.State.{BufferState, BufferStates, KeptBuffers, IsSlotStanding, AllStand}
 use Rattle.source_buffers.specs.Views.{views_from, buffer_views}
 use Rattle.source_buffers.proofs.Slotting.{found, none_found}
 use Rattle.source_buffers.proofs.Standing.{same_length}
 
 -- the view of one slot
-pub view_there : (ks : KeptBuffers) (i : ℕ) (k : Option KeptBuffer) (ended : Bool) (old new : List BufferView) → slice_get ks i ≡ Some k → ((s : Option BufferState) → SlotStands k s → new ≡ old ++ views_from i ended (s ∷ [])) → (bs : BufferStates) → AllStand ks bs → IfSome (slice_get bs i) (λ s. new ≡ old ++ views_from i ended (s ∷ []))
+pub view_there : (ks : KeptBuffers) (i : ℕ) (k : Option KeptBuffer) (ended : Bool) (old new : List BufferView) → slice_get ks i ≡ Some k → ((s : Option BufferState) → IsSlotStanding k s → new ≡ old ++ views_from i ended (s ∷ [])) → (bs : BufferStates) → AllStand ks bs → IfSome (slice_get bs i) (λ s. new ≡ old ++ views_from i ended (s ∷ []))
 view_there ks i k ended old new e go bs all =
     let p = found ks bs i k all e in
     subst (λ (o : Option (Option BufferState)). IfSome o (λ s. new ≡ old ++ views_from i ended (s ∷ []))) (sym p.there) (go p.slot p.stands)
@@ -50,6 +50,6 @@ loop_end ks i ended views past so_far bs all =
     let over : length bs ≤ i = omega (arith, past, count) in
     sym (views_end bs i i ended views over) ∙ so_far bs all
 
-pub view_there_if_ok : {T E : Type 0} (ks : KeptBuffers) (i : ℕ) (k : Option KeptBuffer) (ended : Bool) (old new : List BufferView) (r : Result T E) → slice_get ks i ≡ Some k → ((s : Option BufferState) → SlotStands k s → OnOk r (new ≡ old ++ views_from i ended (s ∷ []))) → (bs : BufferStates) → AllStand ks bs → OnOk r (IfSome (slice_get bs i) (λ s. new ≡ old ++ views_from i ended (s ∷ [])))
+pub view_there_if_ok : {T E : Type 0} (ks : KeptBuffers) (i : ℕ) (k : Option KeptBuffer) (ended : Bool) (old new : List BufferView) (r : Result T E) → slice_get ks i ≡ Some k → ((s : Option BufferState) → IsSlotStanding k s → OnOk r (new ≡ old ++ views_from i ended (s ∷ []))) → (bs : BufferStates) → AllStand ks bs → OnOk r (IfSome (slice_get bs i) (λ s. new ≡ old ++ views_from i ended (s ∷ [])))
 view_there_if_ok ks i k ended old new (Ok x) e go = view_there ks i k ended old new e go
 view_there_if_ok ks i k ended old new (Err x) e go = λ bs all. tt

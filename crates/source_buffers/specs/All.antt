@@ -56,23 +56,23 @@ abbrev pub is_initialized_slot : Option Media → Bool
 is_initialized_slot None = true
 is_initialized_slot (Some m) = not (awaits_first m)
 
-abbrev pub all_initialized : List (Option Media) → Bool
-all_initialized ms = list_all is_initialized_slot ms
+abbrev pub are_initialized : List (Option Media) → Bool
+are_initialized ms = list_all is_initialized_slot ms
 
 -- ---- frames within the duration
 
-abbrev pub SlotEndsWithin : Moment → Option Media → Type 0
-SlotEndsWithin d None = Unit {0}
-SlotEndsWithin d (Some m) = EndsWithin d m.tracks
+abbrev pub IsSlotWithin : Moment → Option Media → Type 0
+IsSlotWithin d None = Unit {0}
+IsSlotWithin d (Some m) = EndsWithin d m.tracks
 
 -- the same of one slot: where it held within the duration, it does within the duration that is replied
-abbrev pub SlotStaysWithin : Moment → Option KeptBuffer → Reply → Option KeptBuffer → Type 0
-SlotStaysWithin duration old reply new =
-    SlotEndsWithin duration (kept_media old) → SlotEndsWithin reply.duration (kept_media new)
+abbrev pub IsSlotStillWithin : Moment → Option KeptBuffer → Reply → Option KeptBuffer → Type 0
+IsSlotStillWithin duration old reply new =
+    IsSlotWithin duration (kept_media old) → IsSlotWithin reply.duration (kept_media new)
 
 -- each stored frame of each buffer ends at or before the duration; without a duration there is none
 abbrev pub AllEndWithin : Moment → List (Option Media) → Type 0
-AllEndWithin d ms = AllByRecursion (SlotEndsWithin d) ms
+AllEndWithin d ms = AllByRecursion (IsSlotWithin d) ms
 
 -- where each stored frame of each buffer ended within the duration, each does so within the duration that is replied
 abbrev pub AllStayWithin : Moment → KeptBuffers → Reply → KeptBuffers → Type 0
@@ -124,5 +124,5 @@ abbrev pub slot_ready : Option KeptBuffer → ℕ
 slot_ready None = 0
 slot_ready (Some k) = ready_of k.stream
 
-abbrev pub ready_at : ℕ → KeptBuffers → ℕ
-ready_at k ks = slot_ready (in_slot k ks)
+abbrev pub ready_of_buffer : ℕ → KeptBuffers → ℕ
+ready_of_buffer k ks = slot_ready (in_slot k ks)

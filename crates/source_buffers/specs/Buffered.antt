@@ -6,7 +6,7 @@ use Rattle.mse_base.specs.Meets.{meet_of_all}
 use Rattle.mse_base.specs.Spans.{covers, reaches, IsNormalized}
 use Rattle.track_store.specs.State.{TrackState}
 use Rattle.track_buffers.specs.Media.{Media}
-use Rattle.track_buffers.specs.Buffered.{buffered_of, with_common_end, all_cover}
+use Rattle.track_buffers.specs.Buffered.{buffered_of, with_common_end, is_covered_by_all}
 use Rattle.buffer_state.specs.declared.reply.Reply.{Reply}
 use Rattle.buffer_state.specs.State.{KeptBuffer}
 use Rattle.source_buffers.specs.State.{KeptBuffers, in_slot, kept_media, all_kept_media}
@@ -39,7 +39,8 @@ element_span t ended active ms = find (reaches t) (element_ranges ended active m
 pub record IsElementBuffered (ended : Bool) (active : List ℕ)
     (ms : List (Option Media)) : Type 0 where
   pub same : (t : ℤ) → active ≢ []
-      → covers (element_ranges ended active ms) t ≡ all_cover (shared_ranges ended active ms) t
+      → covers (element_ranges ended active ms) t
+      ≡ is_covered_by_all (shared_ranges ended active ms) t
   pub none : active ≡ [] → element_ranges ended active ms ≡ []
   pub normalized : IsNormalized (element_ranges ended active ms)
 
@@ -54,8 +55,8 @@ track_at k i ms = slot_track i (in_slot k ms)
 
 -- where an initialization segment was received, the ranges of the buffer are as before; there are none where it was the
 -- first
-abbrev pub SlotLeavesRanges : Option KeptBuffer → Reply → Option KeptBuffer → Type 0
-SlotLeavesRanges old reply new =
+abbrev pub AreSlotRangesLeft : Option KeptBuffer → Reply → Option KeptBuffer → Type 0
+AreSlotRangesLeft old reply new =
     reply.received_init ≡ true → (ended : Bool)
     → slot_ranges ended (kept_media new)
     ≡ (if reply.activated then [] else slot_ranges ended (kept_media old))

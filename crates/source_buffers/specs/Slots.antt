@@ -10,10 +10,10 @@ use Rattle.buffer_state.specs.declared.reply.Reply.{Reply}
 use Rattle.buffer_state.specs.declared.reply.Turned.{Turned}
 use Rattle.buffer_state.specs.declared.reply.Turned.TheVariants.{Did, Idle}
 use Rattle.buffer_state.specs.State.{Feed, Content, KeptBuffer, Surroundings}
-use Rattle.buffer_state.specs.Replies.{CallResult, refusal}
+use Rattle.buffer_state.specs.Replies.{CallResult, refused_reply}
 use Rattle.buffer_state.specs.Turns.{turn_result}
 use Rattle.buffer_state.specs.Calls.{end_work_result}
-use Rattle.source_buffers.specs.State.{BufferState, BufferStates, KeptBuffers, SlotStands, AllStand}
+use Rattle.source_buffers.specs.State.{BufferState, BufferStates, KeptBuffers, IsSlotStanding, AllStand}
 
 -- ---- one slot
 
@@ -33,7 +33,7 @@ empty_slot reply = record { reply = reply; slot = None }
 -- a call on a buffer; where the buffer was removed the call is refused by a name
 abbrev pub call_in_slot : Name → Moment → (Feed → Content → CallResult) → Option BufferState
     → SlotResult
-call_in_slot name d call None = empty_slot (refusal name false d)
+call_in_slot name d call None = empty_slot (refused_reply name false d)
 call_in_slot name d call (Some b) = slot_with (call b.feed b.content)
 
 -- the name by which changeType of a removed buffer is refused: an empty type is looked at first
@@ -48,7 +48,7 @@ removed_type_name text = removed_type_name_by_answer (type_of text)
 -- removeSourceBuffer (Media Source Extensions, 2.2): work that runs is aborted, and the buffer goes; one that has gone
 -- is not found
 abbrev pub removal_in_slot : Surroundings → Option BufferState → SlotResult
-removal_in_slot a None = empty_slot (refusal NotFound false a.duration)
+removal_in_slot a None = empty_slot (refused_reply NotFound false a.duration)
 removal_in_slot a (Some b) = empty_slot (end_work_result a b.feed b.content).reply
 
 -- one step of running work, or none where nothing runs
@@ -82,7 +82,7 @@ buffers_with k bs r = record { reply = r.reply; buffers = slice_set bs k r.slot 
 
 -- a refusal, by which nothing changes
 abbrev pub refused_buffers : Name → Moment → BufferStates → BuffersResult
-refused_buffers name d bs = record { reply = refusal name false d; buffers = bs }
+refused_buffers name d bs = record { reply = refused_reply name false d; buffers = bs }
 
 abbrev pub result_by_slot : Option (Option BufferState) → (Option BufferState → SlotResult) → Moment
     → ℕ → BufferStates → BuffersResult
@@ -116,6 +116,19 @@ abbrev pub refusal_on_buffer : ℕ → Name → (Feed → Content → Option Nam
     → Option Name
 refusal_on_buffer k name refusal bs = refusal_on_slot k (refusal_in_slot name refusal) bs
 
+-- a call on one buffer, and the names of its refusals, by what stands around the buffer
+abbrev pub BufferCall : Type 0
+BufferCall = Surroundings → Feed → Content → CallResult
+
+abbrev pub BufferRefusal : Type 0
+BufferRefusal = Surroundings → Feed → Content → Option Name
+
+-- the call on the buffer of a number, or of one that was removed, by `name`, is refused by this name and leaves all as
+-- it was
+abbrev pub IsRefusedOnBuffer : ℕ → Name → BufferCall → Surroundings → BufferStates → Name → Type 0
+IsRefusedOnBuffer k name call a bs n =
+    result_on_buffer k name a.duration (call a) bs ≡ refused_buffers n a.duration bs
+
 abbrev pub buffers_turn_of : ℕ → BufferStates → Option SlotResult → Option BuffersResult
 buffers_turn_of k bs None = None
 buffers_turn_of k bs (Some r) = Some (buffers_with k bs r)
@@ -132,9 +145,10 @@ buffers_turn k a bs = turn_by_slot (slice_get bs k) k a bs
 -- ---- the code and this
 
 -- the reply is the one that is meant, and what is kept stands for the state that is meant
-pub record IsSlotResult (reply : Reply) (kept : Option KeptBuffer) (result : SlotResult) : Type 0 where
+pub record IsSlotResult (reply : Reply) (kept : Option KeptBuffer)
+    (result : SlotResult) : Type 0 where
   pub replies : reply ≡ result.reply
-  pub stands : SlotStands kept result.slot
+  pub stands : IsSlotStanding kept result.slot
 
 pub record IsBuffersResult (reply : Reply) (kept : KeptBuffers)
     (result : BuffersResult) : Type 0 where
@@ -142,26 +156,27 @@ pub record IsBuffersResult (reply : Reply) (kept : KeptBuffers)
   pub stand : AllStand kept result.buffers
 
 -- for whatever the slot stood for
-abbrev pub SlotAnswers : Option KeptBuffer → Reply → Option KeptBuffer → (Option BufferState → SlotResult)
+abbrev pub IsSlotAnswer : Option KeptBuffer → Reply → Option KeptBuffer
+    → (Option BufferState → SlotResult)
     → Type 0
-SlotAnswers old reply new call =
-    (s : Option BufferState) → SlotStands old s → IsSlotResult reply new (call s)
+IsSlotAnswer old reply new call =
+    (s : Option BufferState) → IsSlotStanding old s → IsSlotResult reply new (call s)
 
-abbrev pub SlotAnswersIfOk : {E : Type 0} → Option KeptBuffer → Result Reply E → Option KeptBuffer
+abbrev pub IsSlotAnswerIfOk : {E : Type 0} → Option KeptBuffer → Result Reply E → Option KeptBuffer
     → (Option BufferState → SlotResult) → Type 0
-SlotAnswersIfOk old result new call =
-    (s : Option BufferState) → SlotStands old s
+IsSlotAnswerIfOk old result new call =
+    (s : Option BufferState) → IsSlotStanding old s
     → IfOk result (λ reply. IsSlotResult reply new (call s))
 
 -- for whatever buffers all slots stood for
-abbrev pub BuffersAnswer : KeptBuffers → Reply → KeptBuffers → (BufferStates → BuffersResult)
+abbrev pub IsBuffersAnswer : KeptBuffers → Reply → KeptBuffers → (BufferStates → BuffersResult)
     → Type 0
-BuffersAnswer old reply new call =
+IsBuffersAnswer old reply new call =
     (bs : BufferStates) → AllStand old bs → IsBuffersResult reply new (call bs)
 
-abbrev pub BuffersAnswerIfOk : {E : Type 0} → KeptBuffers → Result Reply E → KeptBuffers
+abbrev pub IsBuffersAnswerIfOk : {E : Type 0} → KeptBuffers → Result Reply E → KeptBuffers
     → (BufferStates → BuffersResult) → Type 0
-BuffersAnswerIfOk old result new call =
+IsBuffersAnswerIfOk old result new call =
     (bs : BufferStates) → AllStand old bs
     → IfOk result (λ reply. IsBuffersResult reply new (call bs))
 
@@ -179,14 +194,14 @@ IsBuffersTurn Idle kept None = Unit {0}
 IsBuffersTurn Idle kept (Some result) = ⊥
 
 -- for whatever buffers all slots stood for
-abbrev pub BuffersTurnIfOk : {E : Type 0} → KeptBuffers → Result Turned E → KeptBuffers
+abbrev pub IsBuffersTurnIfOk : {E : Type 0} → KeptBuffers → Result Turned E → KeptBuffers
     → (BufferStates → Option BuffersResult) → Type 0
-BuffersTurnIfOk old result new turn =
+IsBuffersTurnIfOk old result new turn =
     (bs : BufferStates) → AllStand old bs
     → IfOk result (λ turned. IsBuffersTurn turned new (turn bs))
 
-abbrev pub SlotTurnIfOk : {E : Type 0} → Option KeptBuffer → Result Turned E → Option KeptBuffer
+abbrev pub IsSlotTurnIfOk : {E : Type 0} → Option KeptBuffer → Result Turned E → Option KeptBuffer
     → (Option BufferState → Option SlotResult) → Type 0
-SlotTurnIfOk old result new turn =
-    (s : Option BufferState) → SlotStands old s
+IsSlotTurnIfOk old result new turn =
+    (s : Option BufferState) → IsSlotStanding old s
     → IfOk result (λ turned. IsSlotTurn turned new (turn s))

@@ -39,17 +39,17 @@ pub record BuffersView : Type 0 where
   pub spare : ℕ
 
 -- what is kept stands for the buffers, slot for slot
-abbrev pub SlotStands : Option KeptBuffer → Option BufferState → Type 0
-SlotStands None None = Unit {0}
-SlotStands None (Some b) = ⊥
-SlotStands (Some k) None = ⊥
-SlotStands (Some k) (Some b) = Stands k b.feed b.content
+abbrev pub IsSlotStanding : Option KeptBuffer → Option BufferState → Type 0
+IsSlotStanding None None = Unit {0}
+IsSlotStanding None (Some b) = ⊥
+IsSlotStanding (Some k) None = ⊥
+IsSlotStanding (Some k) (Some b) = Stands k b.feed b.content
 
 abbrev pub AllStand : KeptBuffers → BufferStates → Type 0
 AllStand [] [] = Unit {0}
 AllStand [] (b ∷ bs) = ⊥
 AllStand (k ∷ ks) [] = ⊥
-AllStand (k ∷ ks) (b ∷ bs) = SlotStands k b × AllStand ks bs
+AllStand (k ∷ ks) (b ∷ bs) = IsSlotStanding k b × AllStand ks bs
 
 -- ---- the parts of the buffers that are kept as they are
 

@@ -4,14 +4,13 @@ ghost use Rattle.std.specs.Prelude.{◌≡◌, ◌<◌, ◌≤◌, ◌^◌, leng
 ghost use Rattle.std.specs.List.{list_any};
 ghost use Rattle.track_buffers.specs.Frames.{highest_start_in, highest_end_in};
 ghost use Rattle.source_buffers.specs.State.{all_kept_media, all_kept_running, kept_media, kept_running};
-ghost use Rattle.source_buffers.specs.All.{AreSound, IsSoundSlot, all_initialized, greatest_of_all, highest_end_of_all, is_initialized_slot, is_updating_at, is_updating_slot, lowest_running, ready_at, slot_ready, slot_times};
+ghost use Rattle.source_buffers.specs.All.{AreSound, IsSoundSlot, are_initialized, greatest_of_all, highest_end_of_all, is_initialized_slot, is_updating_at, is_updating_slot, lowest_running, ready_of_buffer, slot_ready, slot_times};
 ghost use Rattle.source_buffers.specs.Buffered.{slot_track, track_at};
 ghost use Rattle.mse_base.specs.Moments.{greatest};
 ghost use Rattle.track_store.specs.State.{state_of};
 
 use buffer_state::Buffer;
 use mse_base::Ticks;
-use track_buffers::greatest_of_two;
 use track_store::{FrameStore, Track};
 
 /// The slot of a number; `None` exactly where no buffer was ever made with it.
@@ -34,7 +33,8 @@ fn is_updating<S: FrameStore>(slot: &Option<Buffer<S>>) -> bool
     }
 }
 
-pub(crate) fn updating_at<S: FrameStore>(slots: &Vec<Option<Buffer<S>>>, k: usize) -> bool
+/// Whether an append or a removal runs at the buffer of a number; false where no buffer is.
+pub(crate) fn is_updating_at<S: FrameStore>(slots: &Vec<Option<Buffer<S>>>, k: usize) -> bool
     ensures { result ≡ is_updating_at k (all_kept_running slots.now.items) }
 {
     match slot_at(slots, k) {
@@ -43,7 +43,8 @@ pub(crate) fn updating_at<S: FrameStore>(slots: &Vec<Option<Buffer<S>>>, k: usiz
     }
 }
 
-pub(crate) fn any_updating<S: FrameStore>(slots: &Vec<Option<Buffer<S>>>) -> bool
+/// Whether an append or a removal runs at a buffer.
+pub(crate) fn is_any_updating<S: FrameStore>(slots: &Vec<Option<Buffer<S>>>) -> bool
     ensures { result ≡ list_any is_updating_slot (all_kept_running slots.now.items) }
 {
     for slot in slots {
@@ -54,12 +55,14 @@ pub(crate) fn any_updating<S: FrameStore>(slots: &Vec<Option<Buffer<S>>>) -> boo
     false
 }
 
+/// The lowest number of a buffer at which an append or a removal runs; `None` exactly where there is
+/// none.
 pub(crate) fn lowest_running<S: FrameStore>(slots: &Vec<Option<Buffer<S>>>) -> Option<u32>
     requires { length slots.now.items < 2 ^ 32 }
     ensures { result ≡ lowest_running (all_kept_running slots.now.items) }
 {
     for k in 0..slots.len() {
-        if updating_at(slots, k) {
+        if is_updating_at(slots, k) {
             return Some(k as u32);
         }
     }
@@ -77,8 +80,9 @@ fn slot_ready<S: FrameStore>(slot: &Option<Buffer<S>>) -> usize
     }
 }
 
+/// How many of the next items of the buffer of a number are coded frames; 0 where no buffer is.
 pub(crate) fn ready_frames<S: FrameStore>(slots: &Vec<Option<Buffer<S>>>, k: usize) -> usize
-    ensures ready { result ≡ ready_at k slots.now.items }
+    ensures ready { result ≡ ready_of_buffer k slots.now.items }
     ensures few { result ≤ 2 ^ 20 }
 {
     match slot_at(slots, k) {
@@ -87,6 +91,7 @@ pub(crate) fn ready_frames<S: FrameStore>(slots: &Vec<Option<Buffer<S>>>, k: usi
     }
 }
 
+/// Whether the buffer in a slot has received its first initialization segment; true of an empty slot.
 fn is_initialized<S: FrameStore>(slot: &Option<Buffer<S>>) -> bool
     ensures { result ≡ is_initialized_slot (kept_media slot.now) }
 {
@@ -96,8 +101,9 @@ fn is_initialized<S: FrameStore>(slot: &Option<Buffer<S>>) -> bool
     }
 }
 
-pub(crate) fn all_initialized<S: FrameStore>(slots: &Vec<Option<Buffer<S>>>) -> bool
-    ensures { result ≡ all_initialized (all_kept_media slots.now.items) }
+/// Whether each buffer in the list has received its first initialization segment.
+pub(crate) fn are_initialized<S: FrameStore>(slots: &Vec<Option<Buffer<S>>>) -> bool
+    ensures { result ≡ are_initialized (all_kept_media slots.now.items) }
 {
     for slot in slots {
         if !is_initialized(slot) {
@@ -107,6 +113,7 @@ pub(crate) fn all_initialized<S: FrameStore>(slots: &Vec<Option<Buffer<S>>>) -> 
     true
 }
 
+/// The highest presentation timestamp of the frames of the buffer in a slot.
 fn slot_start<S: FrameStore>(slot: &Option<Buffer<S>>) -> Option<Ticks>
     ensures { result ≡ greatest (slot_times highest_start_in (kept_media slot.now)) }
 {
@@ -116,6 +123,7 @@ fn slot_start<S: FrameStore>(slot: &Option<Buffer<S>>) -> Option<Ticks>
     }
 }
 
+/// The highest presentation timestamp of the frames of the buffer at a place.
 fn start_at<S: FrameStore>(slots: &Vec<Option<Buffer<S>>>, i: usize) -> Option<Ticks>
     ensures { IfSome (slice_get (all_kept_media slots.now.items) i)
         (λ m. result ≡ greatest (slot_times highest_start_in m)) }
@@ -132,11 +140,12 @@ pub(crate) fn highest_start<S: FrameStore>(slots: &Vec<Option<Buffer<S>>>) -> Op
 {
     let mut best = None;
     for i in 0..slots.len() {
-        best = greatest_of_two(best, start_at(slots, i));
+        best = best.max(start_at(slots, i));
     }
     best
 }
 
+/// The highest end of the frames of the buffer in a slot.
 fn slot_end<S: FrameStore>(slot: &Option<Buffer<S>>) -> Option<Ticks>
     ensures { result ≡ greatest (slot_times highest_end_in (kept_media slot.now)) }
 {
@@ -146,6 +155,7 @@ fn slot_end<S: FrameStore>(slot: &Option<Buffer<S>>) -> Option<Ticks>
     }
 }
 
+/// The highest end of the frames of the buffer at a place.
 fn end_at<S: FrameStore>(slots: &Vec<Option<Buffer<S>>>, i: usize) -> Option<Ticks>
     ensures { IfSome (slice_get (all_kept_media slots.now.items) i)
         (λ m. result ≡ greatest (slot_times highest_end_in m)) }
@@ -162,28 +172,33 @@ pub(crate) fn highest_end<S: FrameStore>(slots: &Vec<Option<Buffer<S>>>) -> Opti
 {
     let mut best = None;
     for i in 0..slots.len() {
-        best = greatest_of_two(best, end_at(slots, i));
+        best = best.max(end_at(slots, i));
     }
     best
 }
 
+/// Each track buffer of the buffer in a slot is sound. It does nothing when it runs.
 fn sound_slot<S: FrameStore>(slot: &Option<Buffer<S>>)
     ensures { IsSoundSlot (kept_media slot.now) }
 {
     match slot {
+        // The proof reads off this that the tracks of the buffer are sound.
         Some(buffer) => buffer.sound(),
         None => {}
     }
 }
 
+/// Each track buffer of each buffer is sound. It does nothing when it runs.
 pub(crate) fn sound<S: FrameStore>(slots: &Vec<Option<Buffer<S>>>)
     ensures { AreSound (all_kept_media slots.now.items) }
 {
     for slot in slots {
+        // The proof reads off this that the tracks of this slot are sound.
         sound_slot(slot);
     }
 }
 
+/// A track of the buffer in a slot.
 fn slot_track<S: FrameStore>(slot: &Option<Buffer<S>>, i: usize) -> Option<&Track<S>>
     ensures { option_map (state_of S.frames) (option_copied result)
         ≡ slot_track i (kept_media slot.now) }

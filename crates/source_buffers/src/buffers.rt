@@ -5,9 +5,9 @@ ghost use Rattle.track_buffers.specs.Media.{IsNotAfter};
 ghost use Rattle.buffer_state.specs.State.{surroundings, append_input};
 ghost use Rattle.buffer_state.specs.Replies.{OfTurn, changes_of};
 ghost use Rattle.buffer_state.specs.Calls.{mode_refusal, mode_result, offset_refusal, offset_result, window_start_refusal, window_start_result, window_end_refusal, window_end_result, remove_refusal, remove_result, append_refusal, append_result, abort_refusal, abort_result, change_type_refusal, change_type_result};
-ghost use Rattle.source_buffers.specs.State.{BufferStates, AllStand, SlotStands, all_kept_media, all_kept_running, new_buffer};
-ghost use Rattle.source_buffers.specs.Slots.{BuffersAnswer, BuffersAnswerIfOk, BuffersTurnIfOk, result_on_buffer, refusal_on_buffer, refusal_on_slot, removal_refusal_in_slot, removal_result, removed_type_name, buffers_turn};
-ghost use Rattle.source_buffers.specs.All.{AllEndWithin, AllStayWithin, AreFewer, AreIdle, AreSound, all_buffers, all_initialized, is_updating_at, lowest_running, ready_at};
+ghost use Rattle.source_buffers.specs.State.{BufferStates, AllStand, all_kept_media, all_kept_running, new_buffer};
+ghost use Rattle.source_buffers.specs.Slots.{IsBuffersAnswer, IsBuffersAnswerIfOk, IsBuffersTurnIfOk, result_on_buffer, refusal_on_buffer, refusal_on_slot, removal_refusal_in_slot, removal_result, removed_type_name, buffers_turn};
+ghost use Rattle.source_buffers.specs.All.{AllEndWithin, AllStayWithin, AreFewer, AreIdle, AreSound, all_buffers, are_initialized, is_updating_at, lowest_running, ready_of_buffer};
 ghost use Rattle.source_buffers.specs.Buffered.{AllLeaveRanges, buffered_at, element_ranges, element_span, track_at};
 ghost use Rattle.source_buffers.specs.Views.{buffer_views};
 
@@ -76,7 +76,7 @@ impl<S: FrameStore> SourceBuffers<S> {
     pub fn add_reserved(&mut self, gap: Ticks, container: Container)
         requires spare { 1 ≤ self.old.spare }
         requires few { length self.old.buffers + 1 < 2 ^ 32 }
-        requires gap { pos 0 ≤ℤ gap }
+        requires gap_from_zero { pos 0 ≤ℤ gap }
         ensures stand { (bs : BufferStates) → AllStand self.old.buffers bs
             → AllStand self.new.buffers (bs ++ Some (new_buffer gap container) ∷ []) }
         ensures within_duration { (d : Moment) → AllEndWithin d (all_kept_media self.old.buffers)
@@ -93,7 +93,7 @@ impl<S: FrameStore> SourceBuffers<S> {
     ///
     /// NoSuchBuffer where no buffer was ever made with the number; NotFound where it was removed.
     pub fn remove(&mut self, k: u32, around: &Around) -> Reply
-        ensures answered { BuffersAnswer self.old.buffers result self.new.buffers
+        ensures answered { IsBuffersAnswer self.old.buffers result self.new.buffers
             (removal_result k (surroundings around.now)) }
         ensures within_duration { AllStayWithin around.now.duration self.old.buffers result
             self.new.buffers }
@@ -111,7 +111,7 @@ impl<S: FrameStore> SourceBuffers<S> {
     /// NoSuchBuffer where no buffer was ever made with the number; InvalidState where it was
     /// removed; and then as [`Buffer::set_mode`].
     pub fn set_mode(&mut self, k: u32, mode: Mode, around: &Around) -> Reply
-        ensures answered { BuffersAnswer self.old.buffers result self.new.buffers
+        ensures answered { IsBuffersAnswer self.old.buffers result self.new.buffers
             (result_on_buffer k Name.InvalidState around.now.duration
             (mode_result mode (surroundings around.now))) }
         ensures within_duration { AllStayWithin around.now.duration self.old.buffers result
@@ -131,7 +131,7 @@ impl<S: FrameStore> SourceBuffers<S> {
     /// NoSuchBuffer where no buffer was ever made with the number; InvalidState where it was
     /// removed; and then as [`Buffer::set_offset`].
     pub fn set_offset(&mut self, k: u32, t: Ticks, around: &Around) -> Reply
-        ensures answered { BuffersAnswer self.old.buffers result self.new.buffers
+        ensures answered { IsBuffersAnswer self.old.buffers result self.new.buffers
             (result_on_buffer k Name.InvalidState around.now.duration
             (offset_result t (surroundings around.now))) }
         ensures within_duration { AllStayWithin around.now.duration self.old.buffers result
@@ -151,7 +151,7 @@ impl<S: FrameStore> SourceBuffers<S> {
     /// NoSuchBuffer where no buffer was ever made with the number; InvalidState where it was
     /// removed; and then as [`Buffer::set_window_start`].
     pub fn set_window_start(&mut self, k: u32, t: Ticks, around: &Around) -> Reply
-        ensures answered { BuffersAnswer self.old.buffers result self.new.buffers
+        ensures answered { IsBuffersAnswer self.old.buffers result self.new.buffers
             (result_on_buffer k Name.InvalidState around.now.duration
             (window_start_result t (surroundings around.now))) }
         ensures within_duration { AllStayWithin around.now.duration self.old.buffers result
@@ -171,7 +171,7 @@ impl<S: FrameStore> SourceBuffers<S> {
     /// NoSuchBuffer where no buffer was ever made with the number; InvalidState where it was
     /// removed; and then as [`Buffer::set_window_end`].
     pub fn set_window_end(&mut self, k: u32, t: Moment, around: &Around) -> Reply
-        ensures answered { BuffersAnswer self.old.buffers result self.new.buffers
+        ensures answered { IsBuffersAnswer self.old.buffers result self.new.buffers
             (result_on_buffer k Name.InvalidState around.now.duration
             (window_end_result t (surroundings around.now))) }
         ensures within_duration { AllStayWithin around.now.duration self.old.buffers result
@@ -191,7 +191,7 @@ impl<S: FrameStore> SourceBuffers<S> {
     /// NoSuchBuffer where no buffer was ever made with the number; InvalidState where it was
     /// removed; and then as [`Buffer::remove`].
     pub fn remove_frames(&mut self, k: u32, start: Ticks, end: Moment, around: &Around) -> Reply
-        ensures answered { BuffersAnswer self.old.buffers result self.new.buffers
+        ensures answered { IsBuffersAnswer self.old.buffers result self.new.buffers
             (result_on_buffer k Name.InvalidState around.now.duration
             (remove_result start end (surroundings around.now))) }
         ensures within_duration { AllStayWithin around.now.duration self.old.buffers result
@@ -211,7 +211,7 @@ impl<S: FrameStore> SourceBuffers<S> {
     /// NoSuchBuffer where no buffer was ever made with the number; InvalidState where it was
     /// removed; and then as [`Buffer::append`].
     pub fn append(&mut self, k: u32, bytes: &Bytes, around: &Around) -> Result<Reply, OutOfMemory>
-        ensures answered { BuffersAnswerIfOk self.old.buffers result self.new.buffers
+        ensures answered { IsBuffersAnswerIfOk self.old.buffers result self.new.buffers
             (result_on_buffer k Name.InvalidState around.now.duration
             (append_result (append_input bytes.now around.now) (surroundings around.now))) }
         ensures within_duration { IfOk result (λ reply.
@@ -232,13 +232,13 @@ impl<S: FrameStore> SourceBuffers<S> {
     /// NoSuchBuffer where no buffer was ever made with the number; InvalidState where it was
     /// removed; and then as [`Buffer::abort`].
     pub fn abort(&mut self, k: u32, around: &Around) -> Result<Reply, OutOfMemory>
-        ensures answered { BuffersAnswerIfOk self.old.buffers result self.new.buffers
+        ensures answered { IsBuffersAnswerIfOk self.old.buffers result self.new.buffers
             (result_on_buffer k Name.InvalidState around.now.duration
             (abort_result (surroundings around.now))) }
         ensures within_duration { IfOk result (λ reply.
             AllStayWithin around.now.duration self.old.buffers reply self.new.buffers) }
         ensures changes { IfOk result
-            (λ reply. reply.duration_changes ≤ ready_at k self.old.buffers) }
+            (λ reply. reply.duration_changes ≤ ready_of_buffer k self.old.buffers) }
         ensures no_fall { IfOk result (λ reply. IsNotAfter around.now.duration reply.duration) }
         ensures no_init { IfOk result (λ reply. reply.received_init ≡ false) }
         ensures len { length self.new.buffers ≡ length self.old.buffers }
@@ -255,13 +255,13 @@ impl<S: FrameStore> SourceBuffers<S> {
     /// NoSuchBuffer where no buffer was ever made with the number; TypeError where the type is
     /// empty; InvalidState where the buffer was removed; and then as [`Buffer::change_type`].
     pub fn change_type(&mut self, k: u32, text: &str, around: &Around) -> Result<Reply, OutOfMemory>
-        ensures answered { BuffersAnswerIfOk self.old.buffers result self.new.buffers
+        ensures answered { IsBuffersAnswerIfOk self.old.buffers result self.new.buffers
             (result_on_buffer k (removed_type_name text.now) around.now.duration
             (change_type_result text.now (surroundings around.now))) }
         ensures within_duration { IfOk result (λ reply.
             AllStayWithin around.now.duration self.old.buffers reply self.new.buffers) }
         ensures changes { IfOk result
-            (λ reply. reply.duration_changes ≤ ready_at k self.old.buffers) }
+            (λ reply. reply.duration_changes ≤ ready_of_buffer k self.old.buffers) }
         ensures no_fall { IfOk result (λ reply. IsNotAfter around.now.duration reply.duration) }
         ensures no_init { IfOk result (λ reply. reply.received_init ≡ false) }
         ensures len { length self.new.buffers ≡ length self.old.buffers }
@@ -275,7 +275,7 @@ impl<S: FrameStore> SourceBuffers<S> {
     /// the whole of a removal; `Idle` exactly where nothing runs there, also where no buffer is. It
     /// takes its memory first; an `Err` changes nothing.
     pub fn turn(&mut self, k: u32, around: &Around) -> Result<Turned, OutOfMemory>
-        ensures turned { BuffersTurnIfOk self.old.buffers result self.new.buffers
+        ensures turned { IsBuffersTurnIfOk self.old.buffers result self.new.buffers
             (buffers_turn k (surroundings around.now)) }
         ensures idle { IfOk result (λ turned. AreIdle turned k self.old.buffers self.new.buffers) }
         ensures fewer { IfOk result (λ turned. AreFewer turned self.old.buffers self.new.buffers) }
@@ -389,17 +389,17 @@ impl<S: FrameStore> SourceBuffers<S> {
     }
 
     /// Whether an append or a removal runs at the buffer of a number; false where no buffer is.
-    pub fn updating_at(&self, k: u32) -> bool
+    pub fn is_updating_at(&self, k: u32) -> bool
         ensures { result ≡ is_updating_at k (all_kept_running self.now.buffers) }
     {
-        all::updating_at(&self.slots, k as usize)
+        all::is_updating_at(&self.slots, k as usize)
     }
 
     /// How many of the next items of the buffer of a number are coded frames, up to the first that
     /// is none; 0 where no buffer is, and at most `2^20`, since a moof has no more samples. An abort
     /// and a change of the type change the duration at most so many times.
     pub fn ready_frames(&self, k: u32) -> usize
-        ensures ready { result ≡ ready_at k self.now.buffers }
+        ensures ready { result ≡ ready_of_buffer k self.now.buffers }
         ensures few { result ≤ 2 ^ 20 }
     {
         all::ready_frames(&self.slots, k as usize)
@@ -411,7 +411,7 @@ impl<S: FrameStore> SourceBuffers<S> {
             (all_kept_media self.now.buffers) }
     {
         AllBuffers {
-            updating: all::any_updating(&self.slots),
+            updating: all::is_any_updating(&self.slots),
             highest_start: all::highest_start(&self.slots),
             highest_end: all::highest_end(&self.slots),
         }
@@ -419,10 +419,10 @@ impl<S: FrameStore> SourceBuffers<S> {
 
     /// Whether each buffer in the list has received its first initialization segment (Media Source
     /// Extensions, 3.5.7).
-    pub fn all_initialized(&self) -> bool
-        ensures { result ≡ all_initialized (all_kept_media self.now.buffers) }
+    pub fn are_initialized(&self) -> bool
+        ensures { result ≡ are_initialized (all_kept_media self.now.buffers) }
     {
-        all::all_initialized(&self.slots)
+        all::are_initialized(&self.slots)
     }
 
     /// The lowest number of a buffer at which an append or a removal runs; `None` exactly where
@@ -484,6 +484,7 @@ impl<S: FrameStore> SourceBuffers<S> {
     pub fn sound(&self)
         ensures { AreSound (all_kept_media self.now.buffers) }
     {
+        // The proof reads off this that the tracks of each slot are sound.
         all::sound(&self.slots);
     }
 }

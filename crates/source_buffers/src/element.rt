@@ -1,8 +1,8 @@
 //! What is buffered at one source buffer, and at the element.
 
-ghost use Rattle.std.specs.Prelude.{◌≡◌, [], map, slice_get, find, option_map, unwrap_or, true, false, None, IfSome, IfOk};
+ghost use Rattle.std.specs.Prelude.{◌≡◌, map, slice_get, find, option_map, true, false, None, IfSome, IfOk};
 ghost use Rattle.mse_base.specs.Moments.{greatest};
-ghost use Rattle.mse_base.specs.Spans.{reaches, last_of};
+ghost use Rattle.mse_base.specs.Spans.{reaches};
 ghost use Rattle.track_buffers.specs.Buffered.{buffered_of, last_end, last_ends, with_end, with_last_end};
 ghost use Rattle.source_buffers.specs.State.{all_kept_media, in_slot, kept_media};
 ghost use Rattle.source_buffers.specs.Buffered.{active_ranges, buffered_at, element_ranges, element_span, shared_ranges, slot_ranges};
@@ -11,7 +11,7 @@ use crate::all::{slot_at, sound};
 use buffer_state::Buffer;
 use mse_base::{OutOfMemory, Ranges, Span, Ticks};
 use std::alloc::Global;
-use track_buffers::{extend_last, greatest_of_two, overlap_of_two, span_up_to};
+use track_buffers::{extend_last, overlap_of_two, span_up_to};
 use track_store::FrameStore;
 
 fn slot_ranges<S: FrameStore>(
@@ -89,7 +89,7 @@ fn highest_range_end<S: FrameStore>(slots: &Vec<Option<Buffer<S>>>, active: &[u3
 {
     let mut best = None;
     for i in 0..active.len() {
-        best = greatest_of_two(best, end_at(slots, active, i));
+        best = best.max(end_at(slots, active, i));
     }
     best
 }
@@ -177,6 +177,7 @@ pub(crate) fn element_ranges<S: FrameStore>(
     if active.len() == 0 {
         return Ok(Ranges::new(alloc));
     }
+    // The proof reads off this that the tracks are sound.
     sound(slots);
     let end = common_end(slots, active, ended);
     let mut common = ranges_at(slots, alloc, active, 0, ended, &end)?;
@@ -192,6 +193,7 @@ pub(crate) fn element_ranges<S: FrameStore>(
 fn ended_span_holding<S: FrameStore>(buffer: &Buffer<S>, t: Ticks, end: Ticks) -> Option<Span>
     ensures { result ≡ find (reaches t) (with_last_end end (buffered_of true buffer.now.media)) }
 {
+    // The proof reads off this that the tracks are sound.
     buffer.sound();
     match buffer.last_span(true) {
         Some(last) => {
@@ -289,6 +291,7 @@ fn shared_span<S: FrameStore>(
     if active.len() == 0 {
         return None;
     }
+    // The proof reads off this that the tracks are sound.
     sound(slots);
     let end = common_end(slots, active, ended);
     let mut span = span_at(slots, active, 0, t, ended, &end);

@@ -5,9 +5,9 @@ ghost use Rattle.std.specs.Prelude.{◌≡◌, ℕ, ℤ, length, List, Option, B
 ghost use Rattle.mse_base.specs.declared.ticks.Moment.{Moment};
 ghost use Rattle.track_buffers.specs.Media.{Media, IsNotAfter};
 ghost use Rattle.mse_calls.specs.declared.answers.Name.{Name};
-ghost use Rattle.buffer_state.specs.State.{Feed, Content, Surroundings};
-ghost use Rattle.buffer_state.specs.Replies.{CallResult, TellsRefusals};
-ghost use Rattle.source_buffers.specs.Slots.{refusal_on_buffer, refused_buffers, result_on_buffer};
+ghost use Rattle.buffer_state.specs.State.{Surroundings};
+ghost use Rattle.buffer_state.specs.Replies.{TellsRefusals};
+ghost use Rattle.source_buffers.specs.Slots.{BufferCall, BufferRefusal, IsRefusedOnBuffer, refusal_on_buffer};
 ghost use Rattle.source_buffers.specs.State.{BufferStates, KeptBuffers, AllStand, media_of_all, all_kept_media, running_of_all, all_kept_running};
 ghost use Rattle.source_buffers.specs.All.{AllEndWithin, AreSound, highest_end_of_all};
 ghost use Rattle.source_buffers.specs.Buffered.{IsElementBuffered};
@@ -44,14 +44,10 @@ pub fn element_law()
 /// are on the buffer of a number: where there is one, the call is refused by it and leaves all as
 /// it was, and where a call is refused and nothing comes before it, that is the one.
 pub fn refusals()
-    ensures refused { (told : Surroundings → Feed → Content → Option Name)
-        (call : Surroundings → Feed → Content → CallResult) (k : ℕ) (name : Name)
-        (a : Surroundings) (bs : BufferStates) (n : Name) → TellsRefusals told call
-        → refusal_on_buffer k name (told a) bs ≡ Some n
-        → result_on_buffer k name a.duration (call a) bs ≡ refused_buffers n a.duration bs }
-    ensures named { (told : Surroundings → Feed → Content → Option Name)
-        (call : Surroundings → Feed → Content → CallResult) (k : ℕ) (name : Name)
-        (a : Surroundings) (bs : BufferStates) (n : Name) → TellsRefusals told call
-        → result_on_buffer k name a.duration (call a) bs ≡ refused_buffers n a.duration bs
-        → refusal_on_buffer k name (told a) bs ≡ Some n }
+    ensures refused { (told : BufferRefusal) (call : BufferCall) (k : ℕ) (name n : Name)
+        (a : Surroundings) (bs : BufferStates) → TellsRefusals told call
+        → refusal_on_buffer k name (told a) bs ≡ Some n → IsRefusedOnBuffer k name call a bs n }
+    ensures told { (told : BufferRefusal) (call : BufferCall) (k : ℕ) (name n : Name)
+        (a : Surroundings) (bs : BufferStates) → TellsRefusals told call
+        → IsRefusedOnBuffer k name call a bs n → refusal_on_buffer k name (told a) bs ≡ Some n }
 {}

@@ -3,12 +3,12 @@
 ghost use Rattle.std.specs.Prelude.{◌≡◌, ◌≤◌, false, Option, IfOk, OnErr};
 ghost use Rattle.track_buffers.specs.Media.{IsNotAfter};
 ghost use Rattle.buffer_state.specs.State.{surroundings, append_input};
-ghost use Rattle.buffer_state.specs.Replies.{OfTurn, changes_of, refusal};
+ghost use Rattle.buffer_state.specs.Replies.{OfTurn, changes_of, refused_reply};
 ghost use Rattle.buffer_state.specs.Calls.{mode_refusal, mode_result, offset_refusal, offset_result, window_start_refusal, window_start_result, window_end_refusal, window_end_result, remove_refusal, remove_result, append_refusal, append_result, abort_refusal, abort_result, change_type_refusal, change_type_result};
-ghost use Rattle.source_buffers.specs.All.{SlotStaysWithin, IsFewerSlot, IsIdleSlot, slot_ready};
-ghost use Rattle.source_buffers.specs.Buffered.{SlotLeavesRanges};
-ghost use Rattle.source_buffers.specs.State.{BufferState, SlotStands};
-ghost use Rattle.source_buffers.specs.Slots.{SlotAnswers, SlotAnswersIfOk, SlotTurnIfOk, call_in_slot, refusal_in_slot, removal_in_slot, removal_refusal_in_slot, removed_type_name, turn_in_slot};
+ghost use Rattle.source_buffers.specs.All.{IsSlotStillWithin, IsFewerSlot, IsIdleSlot, slot_ready};
+ghost use Rattle.source_buffers.specs.Buffered.{AreSlotRangesLeft};
+ghost use Rattle.source_buffers.specs.State.{BufferState, IsSlotStanding};
+ghost use Rattle.source_buffers.specs.Slots.{IsSlotAnswer, IsSlotAnswerIfOk, IsSlotTurnIfOk, call_in_slot, refusal_in_slot, removal_in_slot, removal_refusal_in_slot, removed_type_name, turn_in_slot};
 
 use buffer_state::{Around, Buffer, Reply, Turned};
 use mse_base::{Bytes, Moment, OutOfMemory, Ticks};
@@ -18,7 +18,7 @@ use track_store::FrameStore;
 
 /// The refusal of a call on a buffer that was removed.
 fn refusal_where_removed(around: &Around) -> Reply
-    ensures { result ≡ refusal Name.InvalidState false around.now.duration }
+    ensures { result ≡ refused_reply Name.InvalidState false around.now.duration }
 {
     Reply::refused(Name::InvalidState, false, &around.duration)
 }
@@ -29,10 +29,10 @@ pub(crate) fn set_mode<S: FrameStore>(
     mode: Mode,
     around: &Around,
 ) -> Reply
-    ensures answered { SlotAnswers slot.old result slot.new
+    ensures answered { IsSlotAnswer slot.old result slot.new
         (call_in_slot Name.InvalidState around.now.duration
         (mode_result mode (surroundings around.now))) }
-    ensures within_duration { SlotStaysWithin around.now.duration slot.old result slot.new }
+    ensures within_duration { IsSlotStillWithin around.now.duration slot.old result slot.new }
     ensures changes { result.duration_changes ≡ 0 }
     ensures duration { result.duration ≡ around.now.duration }
     ensures no_init { result.received_init ≡ false }
@@ -49,10 +49,10 @@ pub(crate) fn set_offset<S: FrameStore>(
     t: Ticks,
     around: &Around,
 ) -> Reply
-    ensures answered { SlotAnswers slot.old result slot.new
+    ensures answered { IsSlotAnswer slot.old result slot.new
         (call_in_slot Name.InvalidState around.now.duration
         (offset_result t (surroundings around.now))) }
-    ensures within_duration { SlotStaysWithin around.now.duration slot.old result slot.new }
+    ensures within_duration { IsSlotStillWithin around.now.duration slot.old result slot.new }
     ensures changes { result.duration_changes ≡ 0 }
     ensures duration { result.duration ≡ around.now.duration }
     ensures no_init { result.received_init ≡ false }
@@ -69,10 +69,10 @@ pub(crate) fn set_window_start<S: FrameStore>(
     t: Ticks,
     around: &Around,
 ) -> Reply
-    ensures answered { SlotAnswers slot.old result slot.new
+    ensures answered { IsSlotAnswer slot.old result slot.new
         (call_in_slot Name.InvalidState around.now.duration
         (window_start_result t (surroundings around.now))) }
-    ensures within_duration { SlotStaysWithin around.now.duration slot.old result slot.new }
+    ensures within_duration { IsSlotStillWithin around.now.duration slot.old result slot.new }
     ensures changes { result.duration_changes ≡ 0 }
     ensures duration { result.duration ≡ around.now.duration }
     ensures no_init { result.received_init ≡ false }
@@ -89,10 +89,10 @@ pub(crate) fn set_window_end<S: FrameStore>(
     t: Moment,
     around: &Around,
 ) -> Reply
-    ensures answered { SlotAnswers slot.old result slot.new
+    ensures answered { IsSlotAnswer slot.old result slot.new
         (call_in_slot Name.InvalidState around.now.duration
         (window_end_result t (surroundings around.now))) }
-    ensures within_duration { SlotStaysWithin around.now.duration slot.old result slot.new }
+    ensures within_duration { IsSlotStillWithin around.now.duration slot.old result slot.new }
     ensures changes { result.duration_changes ≡ 0 }
     ensures duration { result.duration ≡ around.now.duration }
     ensures no_init { result.received_init ≡ false }
@@ -110,10 +110,10 @@ pub(crate) fn remove_frames<S: FrameStore>(
     end: Moment,
     around: &Around,
 ) -> Reply
-    ensures answered { SlotAnswers slot.old result slot.new
+    ensures answered { IsSlotAnswer slot.old result slot.new
         (call_in_slot Name.InvalidState around.now.duration
         (remove_result start end (surroundings around.now))) }
-    ensures within_duration { SlotStaysWithin around.now.duration slot.old result slot.new }
+    ensures within_duration { IsSlotStillWithin around.now.duration slot.old result slot.new }
     ensures changes { result.duration_changes ≡ 0 }
     ensures duration { result.duration ≡ around.now.duration }
     ensures no_init { result.received_init ≡ false }
@@ -130,11 +130,11 @@ pub(crate) fn append<S: FrameStore>(
     bytes: &Bytes,
     around: &Around,
 ) -> Result<Reply, OutOfMemory>
-    ensures answered { SlotAnswersIfOk slot.old result slot.new
+    ensures answered { IsSlotAnswerIfOk slot.old result slot.new
         (call_in_slot Name.InvalidState around.now.duration
         (append_result (append_input bytes.now around.now) (surroundings around.now))) }
     ensures within_duration { IfOk result
-        (λ reply. SlotStaysWithin around.now.duration slot.old reply slot.new) }
+        (λ reply. IsSlotStillWithin around.now.duration slot.old reply slot.new) }
     ensures changes { IfOk result (λ reply. reply.duration_changes ≡ 0) }
     ensures duration { IfOk result (λ reply. reply.duration ≡ around.now.duration) }
     ensures no_init { IfOk result (λ reply. reply.received_init ≡ false) }
@@ -151,11 +151,11 @@ pub(crate) fn abort<S: FrameStore>(
     slot: &mut Option<Buffer<S>>,
     around: &Around,
 ) -> Result<Reply, OutOfMemory>
-    ensures answered { SlotAnswersIfOk slot.old result slot.new
+    ensures answered { IsSlotAnswerIfOk slot.old result slot.new
         (call_in_slot Name.InvalidState around.now.duration
         (abort_result (surroundings around.now))) }
     ensures within_duration { IfOk result
-        (λ reply. SlotStaysWithin around.now.duration slot.old reply slot.new) }
+        (λ reply. IsSlotStillWithin around.now.duration slot.old reply slot.new) }
     ensures changes { IfOk result (λ reply. reply.duration_changes ≤ slot_ready slot.old) }
     ensures no_fall { IfOk result (λ reply. IsNotAfter around.now.duration reply.duration) }
     ensures no_init { IfOk result (λ reply. reply.received_init ≡ false) }
@@ -183,11 +183,11 @@ pub(crate) fn change_type<S: FrameStore>(
     text: &str,
     around: &Around,
 ) -> Result<Reply, OutOfMemory>
-    ensures answered { SlotAnswersIfOk slot.old result slot.new
+    ensures answered { IsSlotAnswerIfOk slot.old result slot.new
         (call_in_slot (removed_type_name text.now) around.now.duration
         (change_type_result text.now (surroundings around.now))) }
     ensures within_duration { IfOk result
-        (λ reply. SlotStaysWithin around.now.duration slot.old reply slot.new) }
+        (λ reply. IsSlotStillWithin around.now.duration slot.old reply slot.new) }
     ensures changes { IfOk result (λ reply. reply.duration_changes ≤ slot_ready slot.old) }
     ensures no_fall { IfOk result (λ reply. IsNotAfter around.now.duration reply.duration) }
     ensures no_init { IfOk result (λ reply. reply.received_init ≡ false) }
@@ -204,9 +204,9 @@ pub(crate) fn change_type<S: FrameStore>(
 
 /// Ends running work, and removes the buffer.
 pub(crate) fn remove<S: FrameStore>(slot: &mut Option<Buffer<S>>, around: &Around) -> Reply
-    ensures answered { SlotAnswers slot.old result slot.new
+    ensures answered { IsSlotAnswer slot.old result slot.new
         (removal_in_slot (surroundings around.now)) }
-    ensures within_duration { SlotStaysWithin around.now.duration slot.old result slot.new }
+    ensures within_duration { IsSlotStillWithin around.now.duration slot.old result slot.new }
     ensures changes { result.duration_changes ≡ 0 }
     ensures duration { result.duration ≡ around.now.duration }
     ensures no_init { result.received_init ≡ false }
@@ -226,18 +226,18 @@ pub(crate) fn turn<S: FrameStore>(
     slot: &mut Option<Buffer<S>>,
     around: &Around,
 ) -> Result<Turned, OutOfMemory>
-    ensures turned { SlotTurnIfOk slot.old result slot.new
+    ensures turned { IsSlotTurnIfOk slot.old result slot.new
         (turn_in_slot (surroundings around.now)) }
     ensures idle { IfOk result (λ turned. IsIdleSlot turned slot.old slot.new) }
     ensures fewer { IfOk result (λ turned. IsFewerSlot turned slot.old slot.new) }
     ensures changes { IfOk result (λ turned. changes_of turned ≤ 1) }
     ensures within_duration { IfOk result
         (λ turned. OfTurn turned
-        (λ reply. SlotStaysWithin around.now.duration slot.old reply slot.new)) }
+        (λ reply. IsSlotStillWithin around.now.duration slot.old reply slot.new)) }
     ensures no_fall { IfOk result (λ turned. OfTurn turned
         (λ reply. IsNotAfter around.now.duration reply.duration)) }
     ensures ranges { IfOk result (λ turned. OfTurn turned
-        (λ reply. SlotLeavesRanges slot.old reply slot.new)) }
+        (λ reply. AreSlotRangesLeft slot.old reply slot.new)) }
     ensures err { OnErr result (slot.new ≡ slot.old) }
 {
     match slot {
@@ -248,12 +248,13 @@ pub(crate) fn turn<S: FrameStore>(
 
 // ---- refusals before anything comes of a call
 
+/// The name by which setting the append mode is refused, if it is.
 pub(crate) fn mode_refusal<S: FrameStore>(
     slot: &Option<Buffer<S>>,
     mode: Mode,
     around: &Around,
 ) -> Option<Name>
-    ensures { (s : Option BufferState) → SlotStands slot.now s
+    ensures { (s : Option BufferState) → IsSlotStanding slot.now s
         → result ≡ refusal_in_slot Name.InvalidState
         (mode_refusal mode (surroundings around.now)) s }
 {
@@ -263,11 +264,12 @@ pub(crate) fn mode_refusal<S: FrameStore>(
     }
 }
 
+/// The name by which setting the timestamp offset is refused, if it is.
 pub(crate) fn offset_refusal<S: FrameStore>(
     slot: &Option<Buffer<S>>,
     around: &Around,
 ) -> Option<Name>
-    ensures { (s : Option BufferState) → SlotStands slot.now s
+    ensures { (s : Option BufferState) → IsSlotStanding slot.now s
         → result ≡ refusal_in_slot Name.InvalidState
         (λ f c. offset_refusal (surroundings around.now) f) s }
 {
@@ -277,11 +279,12 @@ pub(crate) fn offset_refusal<S: FrameStore>(
     }
 }
 
+/// The name by which setting the start of the append window is refused, if it is.
 pub(crate) fn window_start_refusal<S: FrameStore>(
     slot: &Option<Buffer<S>>,
     t: Ticks,
 ) -> Option<Name>
-    ensures { (s : Option BufferState) → SlotStands slot.now s
+    ensures { (s : Option BufferState) → IsSlotStanding slot.now s
         → result ≡ refusal_in_slot Name.InvalidState (window_start_refusal t) s }
 {
     match slot {
@@ -290,8 +293,9 @@ pub(crate) fn window_start_refusal<S: FrameStore>(
     }
 }
 
+/// The name by which setting the end of the append window is refused, if it is.
 pub(crate) fn window_end_refusal<S: FrameStore>(slot: &Option<Buffer<S>>, t: Moment) -> Option<Name>
-    ensures { (s : Option BufferState) → SlotStands slot.now s
+    ensures { (s : Option BufferState) → IsSlotStanding slot.now s
         → result ≡ refusal_in_slot Name.InvalidState (window_end_refusal t) s }
 {
     match slot {
@@ -300,13 +304,14 @@ pub(crate) fn window_end_refusal<S: FrameStore>(slot: &Option<Buffer<S>>, t: Mom
     }
 }
 
+/// The name by which a removal of coded frames is refused, if it is.
 pub(crate) fn remove_frames_refusal<S: FrameStore>(
     slot: &Option<Buffer<S>>,
     start: Ticks,
     end: Moment,
     around: &Around,
 ) -> Option<Name>
-    ensures { (s : Option BufferState) → SlotStands slot.now s
+    ensures { (s : Option BufferState) → IsSlotStanding slot.now s
         → result ≡ refusal_in_slot Name.InvalidState
         (λ f c. remove_refusal start end (surroundings around.now) f) s }
 {
@@ -316,11 +321,12 @@ pub(crate) fn remove_frames_refusal<S: FrameStore>(
     }
 }
 
+/// The name by which an append is refused before bytes are evicted, if it is.
 pub(crate) fn append_refusal<S: FrameStore>(
     slot: &Option<Buffer<S>>,
     around: &Around,
 ) -> Option<Name>
-    ensures { (s : Option BufferState) → SlotStands slot.now s
+    ensures { (s : Option BufferState) → IsSlotStanding slot.now s
         → result ≡ refusal_in_slot Name.InvalidState
         (λ f c. append_refusal (surroundings around.now) f) s }
 {
@@ -330,11 +336,12 @@ pub(crate) fn append_refusal<S: FrameStore>(
     }
 }
 
+/// The name by which an abort is refused, if it is.
 pub(crate) fn abort_refusal<S: FrameStore>(
     slot: &Option<Buffer<S>>,
     around: &Around,
 ) -> Option<Name>
-    ensures { (s : Option BufferState) → SlotStands slot.now s
+    ensures { (s : Option BufferState) → IsSlotStanding slot.now s
         → result ≡ refusal_in_slot Name.InvalidState
         (λ f c. abort_refusal (surroundings around.now) f) s }
 {
@@ -344,11 +351,12 @@ pub(crate) fn abort_refusal<S: FrameStore>(
     }
 }
 
+/// The name by which a change of the type is refused, if it is.
 pub(crate) fn change_type_refusal<S: FrameStore>(
     slot: &Option<Buffer<S>>,
     text: &str,
 ) -> Option<Name>
-    ensures { (s : Option BufferState) → SlotStands slot.now s
+    ensures { (s : Option BufferState) → IsSlotStanding slot.now s
         → result ≡ refusal_in_slot (removed_type_name text.now)
         (λ f c. change_type_refusal text.now f) s }
 {
@@ -358,8 +366,9 @@ pub(crate) fn change_type_refusal<S: FrameStore>(
     }
 }
 
+/// The name by which the removal of the buffer is refused, if it is.
 pub(crate) fn removal_refusal<S: FrameStore>(slot: &Option<Buffer<S>>) -> Option<Name>
-    ensures { (s : Option BufferState) → SlotStands slot.now s
+    ensures { (s : Option BufferState) → IsSlotStanding slot.now s
         → result ≡ removal_refusal_in_slot s }
 {
     match slot {

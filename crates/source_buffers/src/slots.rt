@@ -6,8 +6,8 @@ ghost use Rattle.buffer_state.specs.State.{surroundings, append_input};
 ghost use Rattle.buffer_state.specs.Replies.{OfTurn, changes_of};
 ghost use Rattle.buffer_state.specs.Calls.{mode_refusal, mode_result, offset_refusal, offset_result, window_start_refusal, window_start_result, window_end_refusal, window_end_result, remove_refusal, remove_result, append_refusal, append_result, abort_refusal, abort_result, change_type_refusal, change_type_result};
 ghost use Rattle.source_buffers.specs.State.{BufferStates, AllStand};
-ghost use Rattle.source_buffers.specs.Slots.{BuffersAnswer, BuffersAnswerIfOk, BuffersTurnIfOk, result_on_buffer, refusal_on_buffer, refusal_on_slot, removal_refusal_in_slot, removal_result, removed_type_name, buffers_turn};
-ghost use Rattle.source_buffers.specs.All.{AllStayWithin, AreFewer, AreIdle, ready_at};
+ghost use Rattle.source_buffers.specs.Slots.{IsBuffersAnswer, IsBuffersAnswerIfOk, IsBuffersTurnIfOk, result_on_buffer, refusal_on_buffer, refusal_on_slot, removal_refusal_in_slot, removal_result, removed_type_name, buffers_turn};
+ghost use Rattle.source_buffers.specs.All.{AllStayWithin, AreFewer, AreIdle, ready_of_buffer};
 ghost use Rattle.source_buffers.specs.Buffered.{AllLeaveRanges};
 
 use crate::all::slot_at;
@@ -17,12 +17,13 @@ use mse_base::{Bytes, Moment, OutOfMemory, Ticks};
 use mse_calls::{Mode, Name};
 use track_store::FrameStore;
 
+/// Ends running work of the buffer of a number, and removes the buffer.
 pub(crate) fn remove<S: FrameStore>(
     slots: &mut Vec<Option<Buffer<S>>>,
     k: u32,
     around: &Around,
 ) -> Reply
-    ensures answered { BuffersAnswer slots.old.items result slots.new.items
+    ensures answered { IsBuffersAnswer slots.old.items result slots.new.items
         (removal_result k (surroundings around.now)) }
     ensures within_duration { AllStayWithin around.now.duration slots.old.items result
         slots.new.items }
@@ -38,13 +39,14 @@ pub(crate) fn remove<S: FrameStore>(
     }
 }
 
+/// Sets the append mode of the buffer of a number.
 pub(crate) fn set_mode<S: FrameStore>(
     slots: &mut Vec<Option<Buffer<S>>>,
     k: u32,
     mode: Mode,
     around: &Around,
 ) -> Reply
-    ensures answered { BuffersAnswer slots.old.items result slots.new.items
+    ensures answered { IsBuffersAnswer slots.old.items result slots.new.items
         (result_on_buffer k Name.InvalidState around.now.duration
         (mode_result mode (surroundings around.now))) }
     ensures within_duration { AllStayWithin around.now.duration slots.old.items result
@@ -61,13 +63,14 @@ pub(crate) fn set_mode<S: FrameStore>(
     }
 }
 
+/// Sets the timestamp offset of the buffer of a number.
 pub(crate) fn set_offset<S: FrameStore>(
     slots: &mut Vec<Option<Buffer<S>>>,
     k: u32,
     t: Ticks,
     around: &Around,
 ) -> Reply
-    ensures answered { BuffersAnswer slots.old.items result slots.new.items
+    ensures answered { IsBuffersAnswer slots.old.items result slots.new.items
         (result_on_buffer k Name.InvalidState around.now.duration
         (offset_result t (surroundings around.now))) }
     ensures within_duration { AllStayWithin around.now.duration slots.old.items result
@@ -84,13 +87,14 @@ pub(crate) fn set_offset<S: FrameStore>(
     }
 }
 
+/// Sets the start of the append window of the buffer of a number.
 pub(crate) fn set_window_start<S: FrameStore>(
     slots: &mut Vec<Option<Buffer<S>>>,
     k: u32,
     t: Ticks,
     around: &Around,
 ) -> Reply
-    ensures answered { BuffersAnswer slots.old.items result slots.new.items
+    ensures answered { IsBuffersAnswer slots.old.items result slots.new.items
         (result_on_buffer k Name.InvalidState around.now.duration
         (window_start_result t (surroundings around.now))) }
     ensures within_duration { AllStayWithin around.now.duration slots.old.items result
@@ -107,13 +111,14 @@ pub(crate) fn set_window_start<S: FrameStore>(
     }
 }
 
+/// Sets the end of the append window of the buffer of a number.
 pub(crate) fn set_window_end<S: FrameStore>(
     slots: &mut Vec<Option<Buffer<S>>>,
     k: u32,
     t: Moment,
     around: &Around,
 ) -> Reply
-    ensures answered { BuffersAnswer slots.old.items result slots.new.items
+    ensures answered { IsBuffersAnswer slots.old.items result slots.new.items
         (result_on_buffer k Name.InvalidState around.now.duration
         (window_end_result t (surroundings around.now))) }
     ensures within_duration { AllStayWithin around.now.duration slots.old.items result
@@ -130,6 +135,7 @@ pub(crate) fn set_window_end<S: FrameStore>(
     }
 }
 
+/// Begins a removal of coded frames at the buffer of a number.
 pub(crate) fn remove_frames<S: FrameStore>(
     slots: &mut Vec<Option<Buffer<S>>>,
     k: u32,
@@ -137,7 +143,7 @@ pub(crate) fn remove_frames<S: FrameStore>(
     end: Moment,
     around: &Around,
 ) -> Reply
-    ensures answered { BuffersAnswer slots.old.items result slots.new.items
+    ensures answered { IsBuffersAnswer slots.old.items result slots.new.items
         (result_on_buffer k Name.InvalidState around.now.duration
         (remove_result start end (surroundings around.now))) }
     ensures within_duration { AllStayWithin around.now.duration slots.old.items result
@@ -154,13 +160,14 @@ pub(crate) fn remove_frames<S: FrameStore>(
     }
 }
 
+/// Begins an append of bytes at the buffer of a number.
 pub(crate) fn append<S: FrameStore>(
     slots: &mut Vec<Option<Buffer<S>>>,
     k: u32,
     bytes: &Bytes,
     around: &Around,
 ) -> Result<Reply, OutOfMemory>
-    ensures answered { BuffersAnswerIfOk slots.old.items result slots.new.items
+    ensures answered { IsBuffersAnswerIfOk slots.old.items result slots.new.items
         (result_on_buffer k Name.InvalidState around.now.duration
         (append_result (append_input bytes.now around.now) (surroundings around.now))) }
     ensures within_duration { IfOk result (λ reply.
@@ -178,18 +185,19 @@ pub(crate) fn append<S: FrameStore>(
     }
 }
 
+/// Aborts an append at the buffer of a number, and resets its parser.
 pub(crate) fn abort<S: FrameStore>(
     slots: &mut Vec<Option<Buffer<S>>>,
     k: u32,
     around: &Around,
 ) -> Result<Reply, OutOfMemory>
-    ensures answered { BuffersAnswerIfOk slots.old.items result slots.new.items
+    ensures answered { IsBuffersAnswerIfOk slots.old.items result slots.new.items
         (result_on_buffer k Name.InvalidState around.now.duration
         (abort_result (surroundings around.now))) }
     ensures within_duration { IfOk result (λ reply.
         AllStayWithin around.now.duration slots.old.items reply slots.new.items) }
     ensures changes { IfOk result
-        (λ reply. reply.duration_changes ≤ ready_at k slots.old.items) }
+        (λ reply. reply.duration_changes ≤ ready_of_buffer k slots.old.items) }
     ensures no_fall { IfOk result (λ reply. IsNotAfter around.now.duration reply.duration) }
     ensures no_init { IfOk result (λ reply. reply.received_init ≡ false) }
     ensures len { length slots.new.items ≡ length slots.old.items }
@@ -202,19 +210,20 @@ pub(crate) fn abort<S: FrameStore>(
     }
 }
 
+/// Resets the parser of the buffer of a number and changes its byte stream format to that of a type.
 pub(crate) fn change_type<S: FrameStore>(
     slots: &mut Vec<Option<Buffer<S>>>,
     k: u32,
     text: &str,
     around: &Around,
 ) -> Result<Reply, OutOfMemory>
-    ensures answered { BuffersAnswerIfOk slots.old.items result slots.new.items
+    ensures answered { IsBuffersAnswerIfOk slots.old.items result slots.new.items
         (result_on_buffer k (removed_type_name text.now) around.now.duration
         (change_type_result text.now (surroundings around.now))) }
     ensures within_duration { IfOk result (λ reply.
         AllStayWithin around.now.duration slots.old.items reply slots.new.items) }
     ensures changes { IfOk result
-        (λ reply. reply.duration_changes ≤ ready_at k slots.old.items) }
+        (λ reply. reply.duration_changes ≤ ready_of_buffer k slots.old.items) }
     ensures no_fall { IfOk result (λ reply. IsNotAfter around.now.duration reply.duration) }
     ensures no_init { IfOk result (λ reply. reply.received_init ≡ false) }
     ensures len { length slots.new.items ≡ length slots.old.items }
@@ -227,12 +236,13 @@ pub(crate) fn change_type<S: FrameStore>(
     }
 }
 
+/// One step of the work that runs at the buffer of a number.
 pub(crate) fn turn<S: FrameStore>(
     slots: &mut Vec<Option<Buffer<S>>>,
     k: u32,
     around: &Around,
 ) -> Result<Turned, OutOfMemory>
-    ensures turned { BuffersTurnIfOk slots.old.items result slots.new.items
+    ensures turned { IsBuffersTurnIfOk slots.old.items result slots.new.items
         (buffers_turn k (surroundings around.now)) }
     ensures idle { IfOk result (λ turned. AreIdle turned k slots.old.items slots.new.items) }
     ensures fewer { IfOk result (λ turned. AreFewer turned slots.old.items slots.new.items) }
@@ -253,6 +263,7 @@ pub(crate) fn turn<S: FrameStore>(
     }
 }
 
+/// The name by which setting the append mode of the buffer of a number is refused, if it is.
 pub(crate) fn mode_refusal<S: FrameStore>(
     slots: &Vec<Option<Buffer<S>>>,
     k: u32,
@@ -269,6 +280,7 @@ pub(crate) fn mode_refusal<S: FrameStore>(
     }
 }
 
+/// The name by which setting the timestamp offset of the buffer of a number is refused, if it is.
 pub(crate) fn offset_refusal<S: FrameStore>(
     slots: &Vec<Option<Buffer<S>>>,
     k: u32,
@@ -284,6 +296,7 @@ pub(crate) fn offset_refusal<S: FrameStore>(
     }
 }
 
+/// The name by which setting the start of the append window of the buffer of a number is refused, if it is.
 pub(crate) fn window_start_refusal<S: FrameStore>(
     slots: &Vec<Option<Buffer<S>>>,
     k: u32,
@@ -298,6 +311,7 @@ pub(crate) fn window_start_refusal<S: FrameStore>(
     }
 }
 
+/// The name by which setting the end of the append window of the buffer of a number is refused, if it is.
 pub(crate) fn window_end_refusal<S: FrameStore>(
     slots: &Vec<Option<Buffer<S>>>,
     k: u32,
@@ -312,6 +326,7 @@ pub(crate) fn window_end_refusal<S: FrameStore>(
     }
 }
 
+/// The name by which, at the buffer of a number, a removal of coded frames is refused, if it is.
 pub(crate) fn remove_frames_refusal<S: FrameStore>(
     slots: &Vec<Option<Buffer<S>>>,
     k: u32,
@@ -329,6 +344,7 @@ pub(crate) fn remove_frames_refusal<S: FrameStore>(
     }
 }
 
+/// The name by which, at the buffer of a number, an append is refused before bytes are evicted, if it is.
 pub(crate) fn append_refusal<S: FrameStore>(
     slots: &Vec<Option<Buffer<S>>>,
     k: u32,
@@ -344,6 +360,7 @@ pub(crate) fn append_refusal<S: FrameStore>(
     }
 }
 
+/// The name by which, at the buffer of a number, an abort is refused, if it is.
 pub(crate) fn abort_refusal<S: FrameStore>(
     slots: &Vec<Option<Buffer<S>>>,
     k: u32,
@@ -359,6 +376,7 @@ pub(crate) fn abort_refusal<S: FrameStore>(
     }
 }
 
+/// The name by which, at the buffer of a number, a change of the type is refused, if it is.
 pub(crate) fn change_type_refusal<S: FrameStore>(
     slots: &Vec<Option<Buffer<S>>>,
     k: u32,
@@ -374,6 +392,7 @@ pub(crate) fn change_type_refusal<S: FrameStore>(
     }
 }
 
+/// The name by which the removal of the buffer of a number is refused, if it is.
 pub(crate) fn removal_refusal<S: FrameStore>(slots: &Vec<Option<Buffer<S>>>, k: u32) -> Option<Name>
     ensures { (bs : BufferStates) → AllStand slots.now.items bs
         → result ≡ refusal_on_slot k removal_refusal_in_slot bs }

@@ -1,7 +1,7 @@
 //! What views show of the source buffers.
 
 ghost use Rattle.std.specs.Prelude.{◌≡◌, ◌<◌, ◌^◌, [], ◌∷◌, ◌++◌, length, slice_get, Option, IfSome, IfOk, OnOk};
-ghost use Rattle.source_buffers.specs.State.{BufferState, BufferStates, AllStand, SlotStands};
+ghost use Rattle.source_buffers.specs.State.{BufferState, BufferStates, AllStand, IsSlotStanding};
 ghost use Rattle.source_buffers.specs.Views.{buffer_views, views_from};
 
 use crate::all::slot_at;
@@ -18,7 +18,7 @@ fn push_slot<S: FrameStore>(
     number: u32,
     ended: bool,
 ) -> Result<(), OutOfMemory>
-    ensures { (s : Option BufferState) → SlotStands slot.now s
+    ensures { (s : Option BufferState) → IsSlotStanding slot.now s
         → OnOk result (views.new.items ≡ views.old.items ++ views_from number ended (s ∷ [])) }
 {
     match slot {

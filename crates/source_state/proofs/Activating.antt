@@ -4,7 +4,7 @@ use Rattle.std.proofs.lemmas.Bool.{false≢true, eq-eqb}
 use Rattle.std.proofs.lemmas.Bool.Decides.{eqb_tells}
 use Rattle.std.proofs.lemmas.List.Folds.{list_any-append}
 use Rattle.std.proofs.lemmas.List.Sums.{length-filter, count_by-le-length}
-use Rattle.source_state.specs.State.{has, without}
+use Rattle.source_state.specs.State.{is_listed_in, without}
 use Rattle.source_state.specs.Room.{inactive_count}
 
 or_right : (b c : Bool) → b ≡ false → (b || c) ≡ true → c ≡ true
@@ -39,25 +39,25 @@ counted_few false x k l = omega (arith, l)
 
 pub few : (ns active : List ℕ) → inactive_count ns active ≤ length ns
 few [] active = omega arith
-few (n ∷ ns) active = omega (arith, counted_few (has n active) (inactive_count ns active) (length ns) (few ns active))
+few (n ∷ ns) active = omega (arith, counted_few (is_listed_in n active) (inactive_count ns active) (length ns) (few ns active))
 
-has_more : (n k : ℕ) (active : List ℕ) → has n active ≡ true → has n (active ++ k ∷ []) ≡ true
+has_more : (n k : ℕ) (active : List ℕ) → is_listed_in n active ≡ true → is_listed_in n (active ++ k ∷ []) ≡ true
 has_more n k active e = list_any-append (λ m. nat_eq m n) active (k ∷ []) ∙ ap (λ b. b || (nat_eq k n || false)) e
 
-has_new : (k : ℕ) (active : List ℕ) → has k (active ++ k ∷ []) ≡ true
-has_new k active = list_any-append (λ m. nat_eq m k) active (k ∷ []) ∙ or_second (has k active) (nat_eq k k) (eq-eqb k k refl)
+has_new : (k : ℕ) (active : List ℕ) → is_listed_in k (active ++ k ∷ []) ≡ true
+has_new k active = list_any-append (λ m. nat_eq m k) active (k ∷ []) ∙ or_second (is_listed_in k active) (nat_eq k k) (eq-eqb k k refl)
 
 push_le : (ns active : List ℕ) (k : ℕ) → inactive_count ns (active ++ k ∷ []) ≤ inactive_count ns active
 push_le [] active k = omega arith
-push_le (n ∷ ns) active k = counted_le (has n (active ++ k ∷ [])) (has n active) _ _ (has_more n k active) (push_le ns active k)
+push_le (n ∷ ns) active k = counted_le (is_listed_in n (active ++ k ∷ [])) (is_listed_in n active) _ _ (has_more n k active) (push_le ns active k)
 
 -- a listed buffer that becomes active is one less that is not
-pub push_lt : (ns active : List ℕ) (k : ℕ) → has k ns ≡ true → has k active ≡ false → (inactive_count ns (active ++ k ∷ []) + 1) ≤ inactive_count ns active
+pub push_lt : (ns active : List ℕ) (k : ℕ) → is_listed_in k ns ≡ true → is_listed_in k active ≡ false → (inactive_count ns (active ++ k ∷ []) + 1) ≤ inactive_count ns active
 push_lt [] active k e f = absurd (false≢true e)
 push_lt (n ∷ ns) active k e f =
     elim (eqb_tells n k) [
-      | inl t ↦ counted_once (has n (active ++ k ∷ [])) (has n active) _ _ (ap (λ m. has m (active ++ k ∷ [])) t.1 ∙ has_new k active) (ap (λ m. has m active) t.1 ∙ f) (push_le ns active k)
-      | inr t ↦ counted_lt (has n (active ++ k ∷ [])) (has n active) _ _ (has_more n k active) (push_lt ns active k (or_right (nat_eq n k) (has k ns) t.0 e) f)
+      | inl t ↦ counted_once (is_listed_in n (active ++ k ∷ [])) (is_listed_in n active) _ _ (ap (λ m. is_listed_in m (active ++ k ∷ [])) t.1 ∙ has_new k active) (ap (λ m. is_listed_in m active) t.1 ∙ f) (push_le ns active k)
+      | inr t ↦ counted_lt (is_listed_in n (active ++ k ∷ [])) (is_listed_in n active) _ _ (has_more n k active) (push_lt ns active k (or_right (nat_eq n k) (is_listed_in k ns) t.0 e) f)
     ]
 
 or_kept : (b c d : Bool) → (c ≡ true → d ≡ true) → (b || c) ≡ true → (b || d) ≡ true
@@ -71,12 +71,12 @@ differ m n k e d = elim (eqb_tells m n) [
   | inr t ↦ t.0
 ]
 
-has_without : (n k : ℕ) (active : List ℕ) → nat_eq n k ≡ false → has n active ≡ true → has n (without k active) ≡ true
+has_without : (n k : ℕ) (active : List ℕ) → nat_eq n k ≡ false → is_listed_in n active ≡ true → is_listed_in n (without k active) ≡ true
 has_without n k [] d e = e
 has_without n k (m ∷ ms) d e =
     elim (eqb_tells m k) [
-      | inl t ↦ rw t.0 (has_without n k ms d (or_right (nat_eq m n) (has n ms) (differ m n k t.1 d) e))
-      | inr t ↦ rw t.0 (or_kept (nat_eq m n) (has n ms) (has n (without k ms)) (has_without n k ms d) e)
+      | inl t ↦ rw t.0 (has_without n k ms d (or_right (nat_eq m n) (is_listed_in n ms) (differ m n k t.1 d) e))
+      | inr t ↦ rw t.0 (or_kept (nat_eq m n) (is_listed_in n ms) (is_listed_in n (without k ms)) (has_without n k ms d) e)
     ]
 
 one_more : (b : Bool) (x : ℕ) → x ≤ cond b x (x + 1)
@@ -88,8 +88,8 @@ pub without_le : (ns active : List ℕ) (k : ℕ) → inactive_count (without k 
 without_le [] active k = omega arith
 without_le (n ∷ ns) active k =
     elim (eqb_tells n k) [
-      | inl t ↦ rw t.0 (omega (arith, without_le ns active k, one_more (has n active) (inactive_count ns active)))
-      | inr t ↦ rw t.0 (counted_le (has n (without k active)) (has n active) _ _ (has_without n k active t.0) (without_le ns active k))
+      | inl t ↦ rw t.0 (omega (arith, without_le ns active k, one_more (is_listed_in n active) (inactive_count ns active)))
+      | inr t ↦ rw t.0 (counted_le (is_listed_in n (without k active)) (is_listed_in n active) _ _ (has_without n k active t.0) (without_le ns active k))
     ]
 
 pub without_length : (active : List ℕ) (k : ℕ) → length (without k active) ≤ length active

@@ -3,7 +3,7 @@ use Rattle.std.specs.Prelude.{ℕ, ◌+◌, ◌-◌, ◌^◌, nat_le, ℤ, pos, 
 use Rattle.mse_base.specs.declared.span.Span.{Span}
 use Rattle.mse_base.specs.declared.ticks.Moment.{Moment}
 use Rattle.mse_base.specs.declared.ticks.Moment.TheVariants.{At}
-use Rattle.mse_base.specs.Moments.{is_nan, is_after, same_moment, greater_moment}
+use Rattle.mse_base.specs.Moments.{is_nan, is_after, is_same_moment, greater_moment}
 use Rattle.mse_calls.specs.Answered.{Answered}
 use Rattle.mse_calls.specs.Ready.{is_closed, is_open, is_ended}
 use Rattle.mse_calls.specs.declared.answers.Name.{Name}
@@ -19,11 +19,11 @@ use Rattle.source_state.specs.declared.answers.Removed.{Removed}
 use Rattle.source_state.specs.declared.answers.Removed.TheVariants as removed
 use Rattle.source_state.specs.declared.answers.Changed.{Changed}
 use Rattle.source_state.specs.declared.answers.Changed.TheVariants as changed
-use Rattle.source_state.specs.State.{SourceState, has, without}
+use Rattle.source_state.specs.State.{SourceState, is_listed_in, without}
 
 -- what is answered, and the state that is left
-abbrev pub answering : {A : Type 0} → A → SourceState → Answered A SourceState
-answering answer state = record { answer = answer; state = state }
+abbrev pub answer_and_state : {A : Type 0} → A → SourceState → Answered A SourceState
+answer_and_state answer state = record { answer = answer; state = state }
 
 abbrev pub in_ready : Ready → SourceState → SourceState
 in_ready ready s = record s { ready = ready }
@@ -31,8 +31,8 @@ in_ready ready s = record s { ready = ready }
 -- attaching to a media element (2.4.1): of a source that is closed
 abbrev pub after_attach : SourceState → Answered (Option Name) SourceState
 after_attach s =
-    if not (is_closed s.ready) then answering (Some InvalidState) s
-    else answering None (in_ready Opened s)
+    if not (is_closed s.ready) then answer_and_state (Some InvalidState) s
+    else answer_and_state None (in_ready Opened s)
 
 -- ---- the live seekable range
 
@@ -42,15 +42,15 @@ with_live live s = record s { live = live }
 -- setLiveSeekableRange: of an open source, from a time that is neither negative nor after the end
 abbrev pub after_set_live : ℤ → ℤ → SourceState → Answered (Option Name) SourceState
 after_set_live start end s =
-    if not (is_open s.ready) then answering (Some InvalidState) s
-    else (if int_lt start (pos 0) || int_lt end start then answering (Some TypeError) s
-    else answering None (with_live (Some (record { start = start; end = end })) s))
+    if not (is_open s.ready) then answer_and_state (Some InvalidState) s
+    else (if int_lt start (pos 0) || int_lt end start then answer_and_state (Some TypeError) s
+    else answer_and_state None (with_live (Some (record { start = start; end = end })) s))
 
 -- clearLiveSeekableRange: of an open source
 abbrev pub after_clear_live : SourceState → Answered (Option Name) SourceState
 after_clear_live s =
-    if not (is_open s.ready) then answering (Some InvalidState) s
-    else answering None (with_live None s)
+    if not (is_open s.ready) then answer_and_state (Some InvalidState) s
+    else answer_and_state None (with_live None s)
 
 -- ---- the lists of source buffers
 
@@ -65,9 +65,9 @@ with_new s = record s { made = s.made + 1; listed = s.listed ++ s.made ∷ [] }
 -- addSourceBuffer, once its type is known to be supported: to an open source that is not full
 abbrev pub after_add_buffer : SourceState → Answered Added SourceState
 after_add_buffer s =
-    if has_most_buffers s then answering (added.Refused QuotaExceeded) s
-    else (if not (is_open s.ready) then answering (added.Refused InvalidState) s
-    else answering (added.Number s.made) (with_new s))
+    if has_most_buffers s then answer_and_state (added.Refused QuotaExceeded) s
+    else (if not (is_open s.ready) then answer_and_state (added.Refused InvalidState) s
+    else answer_and_state (added.Number s.made) (with_new s))
 
 -- the name by which the call is refused, if it is
 abbrev pub add_name : Added → Option Name
@@ -80,8 +80,8 @@ without_buffer k s = record s { listed = without k s.listed; active = without k 
 -- removeSourceBuffer: of a buffer in sourceBuffers. It leaves activeSourceBuffers too, where it is there.
 abbrev pub after_remove_buffer : ℕ → SourceState → Answered Removed SourceState
 after_remove_buffer k s =
-    if not (has k s.listed) then answering (removed.Refused NotFound) s
-    else answering (removed.Gone (has k s.active)) (without_buffer k s)
+    if not (is_listed_in k s.listed) then answer_and_state (removed.Refused NotFound) s
+    else answer_and_state (removed.Gone (is_listed_in k s.active)) (without_buffer k s)
 
 -- the name by which the call is refused, if it is
 abbrev pub remove_name : Removed → Option Name
@@ -97,8 +97,8 @@ with_active k s = record s { active = s.active ++ k ∷ [] }
 -- duration change (2.4.6): to the duration that there is already, nothing
 abbrev pub after_duration_change : Moment → SourceState → Answered Changed SourceState
 after_duration_change d s =
-    if same_moment d s.duration then answering changed.Same s
-    else answering (changed.To d) (record s { duration = d })
+    if is_same_moment d s.duration then answer_and_state changed.Same s
+    else answer_and_state (changed.To d) (record s { duration = d })
 
 -- the greater of a duration and the highest end of all frames, if there are any
 abbrev pub past_frames : Option ℤ → Moment → Moment
@@ -114,11 +114,12 @@ has_frame_after (Some start) d = is_after start d
 -- duration does not cut off the start of a frame, and takes in the ends of all.
 abbrev pub after_set_duration : Moment → AllBuffers → SourceState → Answered Changed SourceState
 after_set_duration d all s =
-    if is_nan d || is_after (pos 0) d then answering (changed.Refused TypeError) s
-    else (if not (is_open s.ready) then answering (changed.Refused InvalidState) s
-    else (if all.updating then answering (changed.Refused InvalidState) s
-    else (if same_moment d s.duration then answering changed.Same s
-    else (if has_frame_after all.highest_start d then answering (changed.Refused InvalidState) s
+    if is_nan d || is_after (pos 0) d then answer_and_state (changed.Refused TypeError) s
+    else (if not (is_open s.ready) then answer_and_state (changed.Refused InvalidState) s
+    else (if all.updating then answer_and_state (changed.Refused InvalidState) s
+    else (if is_same_moment d s.duration then answer_and_state changed.Same s
+    else (if has_frame_after all.highest_start d
+    then answer_and_state (changed.Refused InvalidState) s
     else after_duration_change (past_frames all.highest_end d) s))))
 
 -- the name by which the call is refused, if it is
@@ -138,11 +139,11 @@ end_refusal updating s = if not (is_open s.ready) || updating then Some InvalidS
 abbrev pub after_end : EndKind → Option ℤ → SourceState → Answered Changed SourceState
 after_end Plain highest_end s =
     after_duration_change (At (unwrap_or highest_end (pos 0))) (in_ready Ended s)
-after_end Network highest_end s = answering changed.Same (in_ready Ended s)
-after_end Decode highest_end s = answering changed.Same (in_ready Ended s)
+after_end Network highest_end s = answer_and_state changed.Same (in_ready Ended s)
+after_end Decode highest_end s = answer_and_state changed.Same (in_ready Ended s)
 
 -- an ended source is opened again
 abbrev pub after_reopen : SourceState → Answered Bool SourceState
 after_reopen s =
-    if is_ended s.ready then answering true (in_ready Opened s)
-    else answering false s
+    if is_ended s.ready then answer_and_state true (in_ready Opened s)
+    else answer_and_state false s

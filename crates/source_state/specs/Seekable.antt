@@ -1,18 +1,12 @@
 -- What can be sought (Media Source Extensions, 6, HTMLMediaElement extensions, seekable).
 use Rattle.std.specs.Prelude.{ℤ, pos, Option, Some, None}
-use Rattle.std.specs.Int.{int_min}
-use Rattle.mse_base.specs.Moments.{greater_with}
+use Rattle.mse_base.specs.Moments.{greater_with, lesser_with}
 use Rattle.mse_base.specs.declared.span.Span.{Span}
 use Rattle.mse_base.specs.declared.ticks.Moment.{Moment}
 use Rattle.mse_base.specs.declared.ticks.Moment.TheVariants.{Nan, At, Infinite}
 
 abbrev pub span_to : ℤ → Span
 span_to t = record { start = pos 0; end = t }
-
--- the lesser of a time and another, if there is one
-abbrev pub lesser_with : Option ℤ → ℤ → ℤ
-lesser_with None t = t
-lesser_with (Some u) t = int_min u t
 
 -- the least span that has the live seekable range and all that is buffered
 abbrev pub live_union : Span → Option ℤ → Option ℤ → Span

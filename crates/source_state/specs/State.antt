@@ -29,8 +29,8 @@ new_source = record {
 }
 
 -- a list of buffers has the one of a number
-abbrev pub has : ℕ → List ℕ → Bool
-has k ks = list_any (λ n. n == k) ks
+abbrev pub is_listed_in : ℕ → List ℕ → Bool
+is_listed_in k ks = list_any (λ n. n == k) ks
 
 -- a list of buffers without the one of a number
 abbrev pub without : ℕ → List ℕ → List ℕ
@@ -38,4 +38,4 @@ without k ks = filter (λ n. not (n == k)) ks
 
 -- every buffer of a list is in another
 abbrev pub are_in : List ℕ → List ℕ → Bool
-are_in ks all = list_all (λ n. has n all) ks
+are_in ks all = list_all (λ n. is_listed_in n all) ks

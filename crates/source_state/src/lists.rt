@@ -1,9 +1,9 @@
 ghost use Rattle.std.specs.Prelude.{◌≡◌, vec_capacity};
-ghost use Rattle.source_state.specs.State.{has, without, are_in};
+ghost use Rattle.source_state.specs.State.{is_listed_in, without, are_in};
 
 /// Whether the list has the buffer of a number.
-pub(crate) fn has(list: &Vec<u32>, k: u32) -> bool
-    ensures { result ≡ has k list.now.items }
+pub(crate) fn is_listed_in(list: &Vec<u32>, k: u32) -> bool
+    ensures { result ≡ is_listed_in k list.now.items }
 {
     list.contains(&k)
 }
@@ -20,5 +20,5 @@ pub(crate) fn remove_number(list: &mut Vec<u32>, k: u32)
 pub(crate) fn are_in(list: &Vec<u32>, all: &Vec<u32>) -> bool
     ensures { result ≡ are_in list.now.items all.now.items }
 {
-    list.iter().all(|n| has(all, *n))
+    list.iter().all(|n| is_listed_in(all, *n))
 }

@@ -1,23 +1,14 @@
 ghost use Rattle.std.specs.Prelude.{◌≡◌};
-ghost use Rattle.source_state.specs.Seekable.{lesser_with, live_union, seekable_span};
+ghost use Rattle.source_state.specs.Seekable.{live_union, seekable_span};
 
 use mse_base::{Moment, Span, Ticks};
-
-fn lesser_with(other: Option<Ticks>, t: Ticks) -> Ticks
-    ensures { result ≡ lesser_with other t }
-{
-    match other {
-        Some(other) => other.min(t),
-        None => t,
-    }
-}
 
 /// The least span that has the live seekable range and all that is buffered.
 fn live_union(live: &Span, first: Option<Ticks>, last: Option<Ticks>) -> Span
     ensures { result ≡ live_union live.now first last }
 {
     Span {
-        start: lesser_with(first, live.start),
+        start: live.start.lesser_with(first),
         end: live.end.greater_with(last),
     }
 }

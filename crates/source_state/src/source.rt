@@ -1,11 +1,11 @@
 ghost use Rattle.std.specs.Prelude.{◌≡◌, true, false, not, length, slice_get, IfOk, OnErr};
-ghost use Rattle.source_state.specs.State.{new_source, has, are_in};
-ghost use Rattle.mse_base.specs.Moments.{same_moment};
+ghost use Rattle.source_state.specs.State.{new_source, is_listed_in, are_in};
+ghost use Rattle.mse_base.specs.Moments.{is_same_moment};
 ghost use Rattle.source_state.specs.Calls.{add_name, remove_name, duration_name, after_attach, after_set_live, after_clear_live, after_add_buffer, after_remove_buffer, with_active, after_duration_change, after_set_duration, end_refusal, after_end, after_reopen};
 ghost use Rattle.source_state.specs.Seekable.{seekable_span};
 
 use crate::answers::{Added, AllBuffers, Changed, Removed};
-use crate::lists::{are_in, has, remove_number};
+use crate::lists::{are_in, is_listed_in, remove_number};
 use crate::seekable::seekable_span;
 use mse_base::{Moment, OutOfMemory, Span, Ticks};
 use mse_calls::{EndKind, Name, Ready};
@@ -186,7 +186,7 @@ impl Source {
         if let Some(name) = self.remove_refusal(k) {
             return Removed::Refused(name);
         }
-        let active = has(&self.active, k);
+        let active = is_listed_in(&self.active, k);
         remove_number(&mut self.listed, k);
         remove_number(&mut self.active, k);
         Removed::Gone { active }
@@ -196,7 +196,7 @@ impl Source {
     pub fn remove_refusal(&self, k: u32) -> Option<Name>
         ensures { result ≡ remove_name (after_remove_buffer k self.now).answer }
     {
-        if !has(&self.listed, k) {
+        if !is_listed_in(&self.listed, k) {
             return Some(Name::NotFound);
         }
         None
@@ -205,8 +205,8 @@ impl Source {
     /// Puts a buffer on the list of active buffers (Media Source Extensions, 3.5.7, initialization
     /// segment received). It takes no memory.
     pub fn activate(&mut self, k: u32)
-        requires listed { has k self.old.listed ≡ true }
-        requires inactive { has k self.old.active ≡ false }
+        requires listed { is_listed_in k self.old.listed ≡ true }
+        requires inactive { is_listed_in k self.old.active ≡ false }
         ensures { self.new ≡ with_active k self.old }
     {
         self.active.push_reserved(k);
@@ -263,7 +263,7 @@ impl Source {
     /// Changes the duration to `d`, in ticks, NaN where there is none (Media Source Extensions, 2.4.6,
     /// duration change): true exactly where it was another.
     pub fn change_duration(&mut self, d: Moment) -> bool
-        ensures answer { result ≡ not (same_moment d self.old.duration) }
+        ensures answer { result ≡ not (is_same_moment d self.old.duration) }
         ensures state { self.new ≡ (after_duration_change d self.old).state }
     {
         if d == self.duration {
@@ -369,16 +369,16 @@ impl Source {
 
     /// Whether the buffer of a number is in the list.
     pub fn listed(&self, k: u32) -> bool
-        ensures { result ≡ has k self.now.listed }
+        ensures { result ≡ is_listed_in k self.now.listed }
     {
-        has(&self.listed, k)
+        is_listed_in(&self.listed, k)
     }
 
     /// Whether the buffer of a number is in the list of active buffers.
     pub fn active(&self, k: u32) -> bool
-        ensures { result ≡ has k self.now.active }
+        ensures { result ≡ is_listed_in k self.now.active }
     {
-        has(&self.active, k)
+        is_listed_in(&self.active, k)
     }
 
     /// The numbers of the active buffers, in the order in which they became active.
@@ -389,7 +389,7 @@ impl Source {
     }
 
     /// Whether every buffer in the list of source buffers is active.
-    pub fn all_active(&self) -> bool
+    pub fn are_all_active(&self) -> bool
         ensures { result ≡ are_in self.now.listed self.now.active }
     {
         are_in(&self.listed, &self.active)

@@ -19,19 +19,19 @@ const LASTS: i128 = 3_010_560_000;
 
 /// Source buffers, with the duration that they are told.
 #[derive(Drop)]
-struct Scene {
+struct AllBuffersScene {
     buffers: SourceBuffers<ListStore>,
     duration: Moment,
 }
 
-fn new_scene(alloc: Global) -> Scene {
-    Scene {
+fn new_scene(alloc: Global) -> AllBuffersScene {
+    AllBuffersScene {
         buffers: SourceBuffers::new(alloc),
         duration: Moment::Nan,
     }
 }
 
-fn around(scene: &Scene, number: u32) -> Around {
+fn around(scene: &AllBuffersScene, number: u32) -> Around {
     Around {
         number,
         ready: Ready::Opened,
@@ -43,7 +43,7 @@ fn around(scene: &Scene, number: u32) -> Around {
 }
 
 /// One buffer more.
-fn add(scene: &mut Scene) -> Result<(), OutOfMemory> {
+fn add(scene: &mut AllBuffersScene) -> Result<(), OutOfMemory> {
     if scene.buffers.len() < 100 {
         scene.buffers.reserve(1)?;
         scene.buffers.add_reserved(Ticks::zero(), Container::Adts);
@@ -52,7 +52,12 @@ fn add(scene: &mut Scene) -> Result<(), OutOfMemory> {
 }
 
 /// Begins an append of so many frames.
-fn begin(scene: &mut Scene, alloc: Global, k: u32, count: usize) -> Result<Reply, OutOfMemory> {
+fn begin(
+    scene: &mut AllBuffersScene,
+    alloc: Global,
+    k: u32,
+    count: usize,
+) -> Result<Reply, OutOfMemory> {
     let mut bytes = Vec::new(alloc);
     for _ in 0..count {
         bytes.extend_from_slice(&FRAME)?;
@@ -64,7 +69,7 @@ fn begin(scene: &mut Scene, alloc: Global, k: u32, count: usize) -> Result<Reply
 }
 
 /// Does all work of a buffer, and tells in how many steps.
-fn drain(scene: &mut Scene, k: u32) -> Result<usize, OutOfMemory> {
+fn drain(scene: &mut AllBuffersScene, k: u32) -> Result<usize, OutOfMemory> {
     for steps in 0..100 {
         let told = around(scene, k);
         match scene.buffers.turn(k, &told)? {
@@ -104,7 +109,12 @@ fn expect_ranges(rt: &impl Abort, ranges: &Ranges, frames: u8) -> Result<(), Fai
 }
 
 /// Compares what a buffer has: one range from 0 on over so many frames.
-fn expect_buffered(rt: &impl Abort, scene: &Scene, k: u32, frames: u8) -> Result<(), Fail> {
+fn expect_buffered(
+    rt: &impl Abort,
+    scene: &AllBuffersScene,
+    k: u32,
+    frames: u8,
+) -> Result<(), Fail> {
     match scene.buffers.buffered(k, false)? {
         Some(ranges) => expect_ranges(rt, &ranges, frames),
         None => Err(Fail::new("the buffer is there")),
@@ -114,7 +124,7 @@ fn expect_buffered(rt: &impl Abort, scene: &Scene, k: u32, frames: u8) -> Result
 /// Begins an append, which is not refused, and compares which buffer runs.
 fn expect_begun(
     rt: &impl Abort,
-    scene: &mut Scene,
+    scene: &mut AllBuffersScene,
     alloc: Global,
     k: u32,
     count: usize,
@@ -127,7 +137,7 @@ fn expect_begun(
 /// Compares what is told of all buffers: whether one is updating, and by how many frames the last one begins and ends.
 fn expect_all(
     rt: &impl Abort,
-    scene: &Scene,
+    scene: &AllBuffersScene,
     updating: bool,
     highest: Option<(u8, u8)>,
 ) -> Result<(), Fail> {
@@ -145,7 +155,7 @@ fn expect_all(
 }
 
 /// Two buffers, with no frame.
-fn two_empty_buffers(alloc: Global) -> Result<Scene, OutOfMemory> {
+fn two_empty_buffers(alloc: Global) -> Result<AllBuffersScene, OutOfMemory> {
     let mut scene = new_scene(alloc);
     add(&mut scene)?;
     add(&mut scene)?;
@@ -153,7 +163,7 @@ fn two_empty_buffers(alloc: Global) -> Result<Scene, OutOfMemory> {
 }
 
 /// Two buffers, of three frames and of five.
-fn two_buffers(alloc: Global) -> Result<Scene, OutOfMemory> {
+fn two_buffers(alloc: Global) -> Result<AllBuffersScene, OutOfMemory> {
     let mut scene = two_empty_buffers(alloc)?;
     for (k, count) in [(0, 3), (1, 5)] {
         begin(&mut scene, alloc, k, count)?;
@@ -182,8 +192,11 @@ fn work_of_two_buffers(rt: HostRuntime) -> Result<(), Fail> {
     for (k, steps, initialized, updating) in DRAINS {
         assert_eq!(rt; drain(&mut scene, k)?, steps);
         let buffers = &scene.buffers;
-        assert_eq!(rt; buffers.all_initialized(), initialized);
-        assert_eq!(rt; (buffers.updating_at(0), buffers.updating_at(1)), updating);
+        assert_eq!(rt; buffers.are_initialized(), initialized);
+        assert_eq!(rt;
+            (buffers.is_updating_at(0), buffers.is_updating_at(1)),
+            updating
+        );
     }
     expect_all(&rt, &scene, false, Some((4, 5)))?;
     assert_eq!(rt; scene.duration, Moment::Infinite);
@@ -227,7 +240,7 @@ fn ranges_of_the_element(rt: HostRuntime) -> Result<(), Fail> {
 
 /// A call on a buffer. Times are so many frames behind 0.
 #[derive(Clone, Copy)]
-enum Act {
+enum BuffersCall {
     Mode(Mode),
     Offset(u8),
     WindowStart(u8),
@@ -258,20 +271,25 @@ fn call(
     buffers: &mut SourceBuffers<ListStore>,
     alloc: Global,
     k: u32,
-    act: Act,
+    act: BuffersCall,
     told: &Around,
 ) -> Result<Reply, Fail> {
     match act {
-        Act::Mode(mode) => Ok(buffers.set_mode(k, mode, told)),
-        Act::Offset(t) => Ok(buffers.set_offset(k, after(t)?, told)),
-        Act::WindowStart(t) => Ok(buffers.set_window_start(k, after(t)?, told)),
-        Act::WindowEnd(t) => Ok(buffers.set_window_end(k, Moment::At(after(t)?), told)),
-        Act::WindowWithoutEnd => Ok(buffers.set_window_end(k, Moment::Infinite, told)),
-        Act::RemoveFrames(t) => Ok(buffers.remove_frames(k, after(t)?, Moment::Infinite, told)),
-        Act::Append => Ok(append_frame(buffers, alloc, k, told)?),
-        Act::Abort => Ok(buffers.abort(k, told)?),
-        Act::Type(text) => Ok(buffers.change_type(k, text, told)?),
-        Act::Remove => Ok(buffers.remove(k, told)),
+        BuffersCall::Mode(mode) => Ok(buffers.set_mode(k, mode, told)),
+        BuffersCall::Offset(t) => Ok(buffers.set_offset(k, after(t)?, told)),
+        BuffersCall::WindowStart(t) => Ok(buffers.set_window_start(k, after(t)?, told)),
+        BuffersCall::WindowEnd(t) => Ok(buffers.set_window_end(k, Moment::At(after(t)?), told)),
+        BuffersCall::WindowWithoutEnd => Ok(buffers.set_window_end(k, Moment::Infinite, told)),
+        BuffersCall::RemoveFrames(t) => Ok(buffers.remove_frames(
+            k,
+            after(t)?,
+            Moment::Infinite,
+            told,
+        )),
+        BuffersCall::Append => Ok(append_frame(buffers, alloc, k, told)?),
+        BuffersCall::Abort => Ok(buffers.abort(k, told)?),
+        BuffersCall::Type(text) => Ok(buffers.change_type(k, text, told)?),
+        BuffersCall::Remove => Ok(buffers.remove(k, told)),
     }
 }
 
@@ -279,27 +297,27 @@ fn call(
 fn refusal(
     buffers: &SourceBuffers<ListStore>,
     k: u32,
-    act: Act,
+    act: BuffersCall,
     told: &Around,
 ) -> Result<Option<Name>, Fail> {
     match act {
-        Act::Mode(mode) => Ok(buffers.mode_refusal(k, mode, told)),
-        Act::Offset(_) => Ok(buffers.offset_refusal(k, told)),
-        Act::WindowStart(t) => Ok(buffers.window_start_refusal(k, after(t)?)),
-        Act::WindowEnd(t) => Ok(buffers.window_end_refusal(k, Moment::At(after(t)?))),
-        Act::WindowWithoutEnd => Ok(buffers.window_end_refusal(k, Moment::Infinite)),
-        Act::RemoveFrames(t) => {
+        BuffersCall::Mode(mode) => Ok(buffers.mode_refusal(k, mode, told)),
+        BuffersCall::Offset(_) => Ok(buffers.offset_refusal(k, told)),
+        BuffersCall::WindowStart(t) => Ok(buffers.window_start_refusal(k, after(t)?)),
+        BuffersCall::WindowEnd(t) => Ok(buffers.window_end_refusal(k, Moment::At(after(t)?))),
+        BuffersCall::WindowWithoutEnd => Ok(buffers.window_end_refusal(k, Moment::Infinite)),
+        BuffersCall::RemoveFrames(t) => {
             Ok(buffers.remove_frames_refusal(k, after(t)?, Moment::Infinite, told))
         }
-        Act::Append => Ok(buffers.append_refusal(k, told)),
-        Act::Abort => Ok(buffers.abort_refusal(k, told)),
-        Act::Type(text) => Ok(buffers.change_type_refusal(k, text)),
-        Act::Remove => Ok(buffers.removal_refusal(k)),
+        BuffersCall::Append => Ok(buffers.append_refusal(k, told)),
+        BuffersCall::Abort => Ok(buffers.abort_refusal(k, told)),
+        BuffersCall::Type(text) => Ok(buffers.change_type_refusal(k, text)),
+        BuffersCall::Remove => Ok(buffers.removal_refusal(k)),
     }
 }
 
 /// A buffer, a call on it, and the name by which it is refused, if it is.
-type Row = (u32, Act, Option<Name>);
+type Row = (u32, BuffersCall, Option<Name>);
 
 /// Makes one call after the other, and compares the refusals.
 fn run(
@@ -317,22 +335,26 @@ fn run(
 }
 
 const CALLS_BEHIND_A_REMOVAL: [Row; 12] = [
-    (1, Act::Remove, Some(Name::NotFound)),
-    (2, Act::Remove, Some(Name::NoSuchBuffer)),
-    (1, Act::Mode(Mode::Sequence), Some(Name::InvalidState)),
-    (1, Act::Offset(0), Some(Name::InvalidState)),
-    (1, Act::WindowStart(0), Some(Name::InvalidState)),
-    (1, Act::WindowWithoutEnd, Some(Name::InvalidState)),
-    (1, Act::RemoveFrames(0), Some(Name::InvalidState)),
-    (1, Act::Append, Some(Name::InvalidState)),
-    (1, Act::Abort, Some(Name::InvalidState)),
-    (1, Act::Type("audio/aac"), Some(Name::InvalidState)),
-    (1, Act::Type(""), Some(Name::TypeError)),
-    (2, Act::Type(""), Some(Name::NoSuchBuffer)),
+    (1, BuffersCall::Remove, Some(Name::NotFound)),
+    (2, BuffersCall::Remove, Some(Name::NoSuchBuffer)),
+    (
+        1,
+        BuffersCall::Mode(Mode::Sequence),
+        Some(Name::InvalidState),
+    ),
+    (1, BuffersCall::Offset(0), Some(Name::InvalidState)),
+    (1, BuffersCall::WindowStart(0), Some(Name::InvalidState)),
+    (1, BuffersCall::WindowWithoutEnd, Some(Name::InvalidState)),
+    (1, BuffersCall::RemoveFrames(0), Some(Name::InvalidState)),
+    (1, BuffersCall::Append, Some(Name::InvalidState)),
+    (1, BuffersCall::Abort, Some(Name::InvalidState)),
+    (1, BuffersCall::Type("audio/aac"), Some(Name::InvalidState)),
+    (1, BuffersCall::Type(""), Some(Name::TypeError)),
+    (2, BuffersCall::Type(""), Some(Name::NoSuchBuffer)),
 ];
 
 /// Two buffers of which the one of number 1 was removed while an append ran there.
-fn one_buffer_left(rt: &impl Abort, alloc: Global) -> Result<Scene, Fail> {
+fn one_buffer_left(rt: &impl Abort, alloc: Global) -> Result<AllBuffersScene, Fail> {
     let mut scene = two_buffers(alloc)?;
     begin(&mut scene, alloc, 1, 1)?;
     let told = around(&scene, 1);
@@ -375,13 +397,13 @@ fn a_removed_buffer(rt: HostRuntime) -> Result<(), Fail> {
 }
 
 const CALLS_ON_A_BUFFER: [Row; 7] = [
-    (0, Act::Mode(Mode::Segments), Some(Name::TypeError)),
-    (0, Act::WindowEnd(9), None),
-    (0, Act::WindowStart(9), Some(Name::TypeError)),
-    (0, Act::Abort, None),
-    (0, Act::Offset(1), None),
-    (0, Act::Type("audio/aac"), None),
-    (0, Act::RemoveFrames(1), None),
+    (0, BuffersCall::Mode(Mode::Segments), Some(Name::TypeError)),
+    (0, BuffersCall::WindowEnd(9), None),
+    (0, BuffersCall::WindowStart(9), Some(Name::TypeError)),
+    (0, BuffersCall::Abort, None),
+    (0, BuffersCall::Offset(1), None),
+    (0, BuffersCall::Type("audio/aac"), None),
+    (0, BuffersCall::RemoveFrames(1), None),
 ];
 
 #[test]
@@ -395,23 +417,23 @@ fn calls_on_buffers_that_are_there(rt: HostRuntime) -> Result<(), Fail> {
 }
 
 /// Calls that a buffer that is there does not refuse.
-const ALLOWED: [Act; 8] = [
-    Act::Mode(Mode::Sequence),
-    Act::Offset(0),
-    Act::WindowStart(1),
-    Act::WindowWithoutEnd,
-    Act::RemoveFrames(1),
-    Act::Append,
-    Act::Abort,
-    Act::Type("audio/aac"),
+const ALLOWED: [BuffersCall; 8] = [
+    BuffersCall::Mode(Mode::Sequence),
+    BuffersCall::Offset(0),
+    BuffersCall::WindowStart(1),
+    BuffersCall::WindowWithoutEnd,
+    BuffersCall::RemoveFrames(1),
+    BuffersCall::Append,
+    BuffersCall::Abort,
+    BuffersCall::Type("audio/aac"),
 ];
 
 /// Other calls where the buffer of number 1 was removed.
 const OTHERS: [Row; 4] = [
-    (1, Act::Type(""), Some(Name::TypeError)),
-    (0, Act::Remove, None),
-    (1, Act::Remove, Some(Name::NotFound)),
-    (2, Act::Remove, Some(Name::NoSuchBuffer)),
+    (1, BuffersCall::Type(""), Some(Name::TypeError)),
+    (0, BuffersCall::Remove, None),
+    (1, BuffersCall::Remove, Some(Name::NotFound)),
+    (2, BuffersCall::Remove, Some(Name::NoSuchBuffer)),
 ];
 
 #[test]
@@ -436,7 +458,7 @@ fn refusals_before_a_call(rt: HostRuntime) -> Result<(), Fail> {
 }
 
 /// Sixteen buffers, in each of which an append runs, of one frame more than its number.
-fn sixteen_appends(alloc: Global) -> Result<Scene, OutOfMemory> {
+fn sixteen_appends(alloc: Global) -> Result<AllBuffersScene, OutOfMemory> {
     let mut scene = new_scene(alloc);
     for k in 0..16 {
         add(&mut scene)?;

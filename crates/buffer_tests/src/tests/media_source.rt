@@ -45,7 +45,7 @@ const WRONG_STATE: Option<Name> = Some(Name::InvalidState);
 
 /// A call on a source, or a question, with the answer.
 #[derive(Clone, Copy)]
-enum Act {
+enum SourceCall {
     Ready(Ready),
     Duration(Duration),
     Attach(Option<Name>),
@@ -74,45 +74,45 @@ fn expect_end(
     Ok(())
 }
 
-fn expect(rt: &impl Abort, source: &mut Source, act: Act) -> Result<(), Fail> {
+fn expect(rt: &impl Abort, source: &mut Source, act: SourceCall) -> Result<(), Fail> {
     match act {
-        Act::Ready(wanted) => assert_eq!(rt; source.ready(), wanted),
-        Act::Duration(wanted) => assert_eq!(rt; source.duration(), moment(wanted)?),
-        Act::Attach(wanted) => assert_eq!(rt; source.attach(), wanted),
-        Act::EndRefusal(updating, wanted) => {
+        SourceCall::Ready(wanted) => assert_eq!(rt; source.ready(), wanted),
+        SourceCall::Duration(wanted) => assert_eq!(rt; source.duration(), moment(wanted)?),
+        SourceCall::Attach(wanted) => assert_eq!(rt; source.attach(), wanted),
+        SourceCall::EndRefusal(updating, wanted) => {
             assert_eq!(rt; source.end_refusal(updating), wanted);
         }
-        Act::End(kind, end, comes) => expect_end(rt, source, kind, end, comes)?,
-        Act::Reopen(wanted) => assert_eq!(rt; source.reopen(), wanted),
+        SourceCall::End(kind, end, comes) => expect_end(rt, source, kind, end, comes)?,
+        SourceCall::Reopen(wanted) => assert_eq!(rt; source.reopen(), wanted),
     }
     Ok(())
 }
 
 /// A closed source, an open one and an ended one.
-const ENDS: [Act; 14] = [
-    Act::Ready(Ready::Closed),
-    Act::EndRefusal(false, WRONG_STATE),
-    Act::Reopen(false),
-    Act::Attach(None),
-    Act::Attach(WRONG_STATE),
-    Act::EndRefusal(true, WRONG_STATE),
-    Act::EndRefusal(false, None),
-    Act::End(EndKind::Decode, Some(5), Comes::Same),
-    Act::Ready(Ready::Ended),
-    Act::Duration(Duration::Nan),
-    Act::Attach(WRONG_STATE),
-    Act::EndRefusal(false, WRONG_STATE),
-    Act::Reopen(true),
-    Act::Ready(Ready::Opened),
+const ENDS: [SourceCall; 14] = [
+    SourceCall::Ready(Ready::Closed),
+    SourceCall::EndRefusal(false, WRONG_STATE),
+    SourceCall::Reopen(false),
+    SourceCall::Attach(None),
+    SourceCall::Attach(WRONG_STATE),
+    SourceCall::EndRefusal(true, WRONG_STATE),
+    SourceCall::EndRefusal(false, None),
+    SourceCall::End(EndKind::Decode, Some(5), Comes::Same),
+    SourceCall::Ready(Ready::Ended),
+    SourceCall::Duration(Duration::Nan),
+    SourceCall::Attach(WRONG_STATE),
+    SourceCall::EndRefusal(false, WRONG_STATE),
+    SourceCall::Reopen(true),
+    SourceCall::Ready(Ready::Opened),
 ];
 
 /// The duration at a plain end is the highest end, or 0.
-const HIGHEST_ENDS: [Act; 5] = [
-    Act::Attach(None),
-    Act::End(EndKind::Plain, Some(7), Comes::To(Duration::At(7))),
-    Act::End(EndKind::Plain, Some(7), Comes::Same),
-    Act::End(EndKind::Network, None, Comes::Same),
-    Act::End(EndKind::Plain, None, Comes::To(Duration::At(0))),
+const HIGHEST_ENDS: [SourceCall; 5] = [
+    SourceCall::Attach(None),
+    SourceCall::End(EndKind::Plain, Some(7), Comes::To(Duration::At(7))),
+    SourceCall::End(EndKind::Plain, Some(7), Comes::Same),
+    SourceCall::End(EndKind::Network, None, Comes::Same),
+    SourceCall::End(EndKind::Plain, None, Comes::To(Duration::At(0))),
 ];
 
 #[test]

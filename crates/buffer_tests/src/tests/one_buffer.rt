@@ -4,8 +4,8 @@ mod acts;
 mod files;
 
 use acts::{
-    Act, Heard, Scene, State, first_track, new_scene, perform, quiet, range_count, refusal, show,
-    told,
+    BufferCall, BufferShown, Heard, OneBufferScene, first_track, new_scene, perform, quiet,
+    range_count, refusal, show, told,
 };
 use buffer_state::*;
 use files::{Changes, DIFFERENT, PLAIN, SECOND, SECONDS, bytes_of, file};
@@ -101,8 +101,8 @@ fn heard_of(wanted: Hears) -> Heard {
 }
 
 /// A state with one range from 0 on, or none where it would end at 0.
-fn shows(phase: Phase, held: u64, used: u64, frames: u64, end: i128) -> State {
-    State {
+fn shows(phase: Phase, held: u64, used: u64, frames: u64, end: i128) -> BufferShown {
+    BufferShown {
         phase,
         held,
         used,
@@ -123,10 +123,15 @@ fn first_refusal(heard: &Heard) -> Option<Name> {
 }
 
 /// An act, and what is to be heard of it.
-type Row = (Act, Hears);
+type Row = (BufferCall, Hears);
 
 /// Does it, and compares what is heard, and the refusal that is told before it.
-fn run_one(rt: &impl Abort, scene: &mut Scene, bytes: &[u8], row: &Row) -> Result<(), Fail> {
+fn run_one(
+    rt: &impl Abort,
+    scene: &mut OneBufferScene,
+    bytes: &[u8],
+    row: &Row,
+) -> Result<(), Fail> {
     let (act, wanted) = *row;
     let wanted = heard_of(wanted);
     let told = refusal(scene, act)?;
@@ -137,7 +142,12 @@ fn run_one(rt: &impl Abort, scene: &mut Scene, bytes: &[u8], row: &Row) -> Resul
 }
 
 /// Does one after the other.
-fn run(rt: &impl Abort, scene: &mut Scene, bytes: &[u8], rows: &[Row]) -> Result<(), Fail> {
+fn run(
+    rt: &impl Abort,
+    scene: &mut OneBufferScene,
+    bytes: &[u8],
+    rows: &[Row],
+) -> Result<(), Fail> {
     for row in rows {
         run_one(rt, scene, bytes, row)?;
     }
@@ -145,14 +155,19 @@ fn run(rt: &impl Abort, scene: &mut Scene, bytes: &[u8], rows: &[Row]) -> Result
 }
 
 /// Compares what the buffer shows, where the source is ended or not.
-fn expect(rt: &impl Abort, scene: &Scene, ended: bool, wanted: State) -> Result<(), Fail> {
+fn expect(
+    rt: &impl Abort,
+    scene: &OneBufferScene,
+    ended: bool,
+    wanted: BufferShown,
+) -> Result<(), Fail> {
     let found = show(scene, ended)?;
     assert!(rt; found == wanted, "{found:?}");
     Ok(())
 }
 
 /// A buffer of files with room enough.
-fn roomy(alloc: Global) -> Scene {
+fn roomy(alloc: Global) -> OneBufferScene {
     new_scene(alloc, Container::Mp4, 1 << 62)
 }
 
@@ -160,7 +175,7 @@ fn roomy(alloc: Global) -> Scene {
 fn run_with(
     rt: &impl Abort,
     alloc: Global,
-    scene: &mut Scene,
+    scene: &mut OneBufferScene,
     changes: Changes,
     rows: &[Row],
 ) -> Result<(), Fail> {
@@ -169,7 +184,12 @@ fn run_with(
 }
 
 /// Acts on a new buffer with the file as it is, and what the buffer then shows where the source is not ended.
-fn story(rt: &impl Abort, alloc: Global, rows: &[Row], wanted: State) -> Result<Scene, Fail> {
+fn story(
+    rt: &impl Abort,
+    alloc: Global,
+    rows: &[Row],
+    wanted: BufferShown,
+) -> Result<OneBufferScene, Fail> {
     let mut scene = roomy(alloc);
     run_with(rt, alloc, &mut scene, PLAIN, rows)?;
     expect(rt, &scene, false, wanted)?;
@@ -177,14 +197,14 @@ fn story(rt: &impl Abort, alloc: Global, rows: &[Row], wanted: State) -> Result<
 }
 
 const TURN_BY_TURN: [Row; 8] = [
-    (Act::Append(0, 751), Hears::Start(false)),
-    (Act::Turn, Hears::Segment(1, true)),
-    (Act::Turn, Hears::Nothing),
-    (Act::Turn, Hears::Nothing),
-    (Act::Turn, Hears::Nothing),
-    (Act::Turn, Hears::Nothing),
-    (Act::Turn, Hears::End),
-    (Act::Drain, Hears::Nothing),
+    (BufferCall::Append(0, 751), Hears::Start(false)),
+    (BufferCall::Turn, Hears::Segment(1, true)),
+    (BufferCall::Turn, Hears::Nothing),
+    (BufferCall::Turn, Hears::Nothing),
+    (BufferCall::Turn, Hears::Nothing),
+    (BufferCall::Turn, Hears::Nothing),
+    (BufferCall::Turn, Hears::End),
+    (BufferCall::Drain, Hears::Nothing),
 ];
 
 /// One append, step by step.
@@ -209,12 +229,12 @@ fn an_append_turn_by_turn(rt: HostRuntime) -> Result<(), Fail> {
 }
 
 const SEQUENCE: [Row; 6] = [
-    (Act::Duration(14_112_000_000), Hears::Nothing),
-    (Act::Mode(Mode::Sequence), Hears::Nothing),
-    (Act::Append(0, 751), Hears::Start(false)),
-    (Act::Drain, Hears::EndAfter(0, true)),
-    (Act::Append(595, 751), Hears::Start(false)),
-    (Act::Drain, Hears::EndAfter(3, false)),
+    (BufferCall::Duration(14_112_000_000), Hears::Nothing),
+    (BufferCall::Mode(Mode::Sequence), Hears::Nothing),
+    (BufferCall::Append(0, 751), Hears::Start(false)),
+    (BufferCall::Drain, Hears::EndAfter(0, true)),
+    (BufferCall::Append(595, 751), Hears::Start(false)),
+    (BufferCall::Drain, Hears::EndAfter(3, false)),
 ];
 
 /// The duration follows each frame, and not the append.
@@ -226,24 +246,29 @@ fn the_duration_rises_with_each_frame(rt: HostRuntime) -> Result<(), Fail> {
 }
 
 const EVICTED: [Row; 4] = [
-    (Act::Append(0, 751), Hears::Start(false)),
-    (Act::Drain, Hears::EndAfter(1, true)),
-    (Act::Append(0, 4), Hears::Start(false)),
-    (Act::Drain, Hears::End),
+    (BufferCall::Append(0, 751), Hears::Start(false)),
+    (BufferCall::Drain, Hears::EndAfter(1, true)),
+    (BufferCall::Append(0, 4), Hears::Start(false)),
+    (BufferCall::Drain, Hears::End),
 ];
 
 const FULL: [Row; 4] = [
-    (Act::Append(0, 751), Hears::Start(false)),
-    (Act::Drain, Hears::EndAfter(1, true)),
+    (BufferCall::Append(0, 751), Hears::Start(false)),
+    (BufferCall::Drain, Hears::EndAfter(1, true)),
     (
-        Act::Append(0, 0),
+        BufferCall::Append(0, 0),
         Hears::Refusal(Name::QuotaExceeded, false),
     ),
-    (Act::Drain, Hears::Nothing),
+    (BufferCall::Drain, Hears::Nothing),
 ];
 
 /// Acts on a new buffer of eight bytes, with frames of a second each, and what it then shows.
-fn full_story(rt: &impl Abort, alloc: Global, rows: &[Row], wanted: State) -> Result<(), Fail> {
+fn full_story(
+    rt: &impl Abort,
+    alloc: Global,
+    rows: &[Row],
+    wanted: BufferShown,
+) -> Result<(), Fail> {
     let mut scene = new_scene(alloc, Container::Mp4, 8);
     run_with(rt, alloc, &mut scene, SECONDS, rows)?;
     expect(rt, &scene, false, wanted)
@@ -259,14 +284,14 @@ fn a_full_buffer(rt: HostRuntime) -> Result<(), Fail> {
 }
 
 const TYPE_CHANGED: [Row; 3] = [
-    (Act::Append(0, 751), Hears::Start(false)),
-    (Act::Drain, Hears::EndAfter(1, true)),
-    (Act::Type("video/mp4"), Hears::Nothing),
+    (BufferCall::Append(0, 751), Hears::Start(false)),
+    (BufferCall::Drain, Hears::EndAfter(1, true)),
+    (BufferCall::Type("video/mp4"), Hears::Nothing),
 ];
 
 const OTHER_TYPE: [Row; 2] = [
-    (Act::Append(0, 751), Hears::Start(false)),
-    (Act::Drain, Hears::EndAfterSecond),
+    (BufferCall::Append(0, 751), Hears::Start(false)),
+    (BufferCall::Drain, Hears::EndAfterSecond),
 ];
 
 /// A second segment of another track and codec, behind a change of type and without one.
@@ -282,18 +307,18 @@ fn a_change_of_type(rt: HostRuntime) -> Result<(), Fail> {
 }
 
 const FORGOTTEN: [Row; 8] = [
-    (Act::Append(0, 751), Hears::Start(false)),
-    (Act::Drain, Hears::EndAfter(1, true)),
-    (Act::Type("video/mp4"), Hears::Nothing),
-    (Act::Append(595, 751), Hears::Start(false)),
+    (BufferCall::Append(0, 751), Hears::Start(false)),
+    (BufferCall::Drain, Hears::EndAfter(1, true)),
+    (BufferCall::Type("video/mp4"), Hears::Nothing),
+    (BufferCall::Append(595, 751), Hears::Start(false)),
     (
-        Act::Type("video/webm"),
+        BufferCall::Type("video/webm"),
         Hears::Refusal(Name::InvalidState, false),
     ),
-    (Act::Type(""), Hears::Refusal(Name::TypeError, false)),
-    (Act::Drain, Hears::Fault(6, 0)),
+    (BufferCall::Type(""), Hears::Refusal(Name::TypeError, false)),
+    (BufferCall::Drain, Hears::Fault(6, 0)),
     (
-        Act::Type("video/webm"),
+        BufferCall::Type("video/webm"),
         Hears::Refusal(Name::NotSupported, false),
     ),
 ];
@@ -307,14 +332,14 @@ fn a_forgotten_presentation(rt: HostRuntime) -> Result<(), Fail> {
 }
 
 const ONE_APPEND: [Row; 2] = [
-    (Act::Append(0, 751), Hears::Start(false)),
-    (Act::Drain, Hears::EndAfter(1, true)),
+    (BufferCall::Append(0, 751), Hears::Start(false)),
+    (BufferCall::Drain, Hears::EndAfter(1, true)),
 ];
 
 const OTHER_CODEC: [Row; 3] = [
-    (Act::Append(0, 751), Hears::Start(false)),
-    (Act::Turn, Hears::Fault(13, 775)),
-    (Act::Drain, Hears::Nothing),
+    (BufferCall::Append(0, 751), Hears::Start(false)),
+    (BufferCall::Turn, Hears::Fault(13, 775)),
+    (BufferCall::Drain, Hears::Nothing),
 ];
 
 /// A second segment with another codec is a fault, and no frame behind it is processed by the reset.
@@ -328,12 +353,12 @@ fn other_tracks(rt: HostRuntime) -> Result<(), Fail> {
 }
 
 const ABORTED: [Row; 6] = [
-    (Act::WindowEnd(9_408_000_000), Hears::Nothing),
-    (Act::Append(0, 751), Hears::Start(false)),
-    (Act::Turn, Hears::Segment(1, true)),
-    (Act::Abort, Hears::Abort),
-    (Act::WindowStart(9_408_000_000), Hears::Nothing),
-    (Act::Abort, Hears::Nothing),
+    (BufferCall::WindowEnd(9_408_000_000), Hears::Nothing),
+    (BufferCall::Append(0, 751), Hears::Start(false)),
+    (BufferCall::Turn, Hears::Segment(1, true)),
+    (BufferCall::Abort, Hears::Abort),
+    (BufferCall::WindowStart(9_408_000_000), Hears::Nothing),
+    (BufferCall::Abort, Hears::Nothing),
 ];
 
 /// An abort in the middle of a segment stores the frames that are ready, in the window as it was, and then sets the
@@ -346,11 +371,11 @@ fn an_abort_in_a_segment(rt: HostRuntime) -> Result<(), Fail> {
 }
 
 const OUT_OF_RANGE: [Row; 5] = [
-    (Act::Duration(1), Hears::Nothing),
-    (Act::Offset(1 << 110), Hears::Nothing),
-    (Act::Append(0, 751), Hears::Start(false)),
-    (Act::Turn, Hears::Segment(0, true)),
-    (Act::Abort, Hears::Abort),
+    (BufferCall::Duration(1), Hears::Nothing),
+    (BufferCall::Offset(1 << 110), Hears::Nothing),
+    (BufferCall::Append(0, 751), Hears::Start(false)),
+    (BufferCall::Turn, Hears::Segment(0, true)),
+    (BufferCall::Abort, Hears::Abort),
 ];
 
 /// Times out of range in an abort end its reset and are no fault.
@@ -362,29 +387,41 @@ fn an_abort_out_of_range(rt: HostRuntime) -> Result<(), Fail> {
 }
 
 const REFUSED_ACTS: [Row; 14] = [
-    (Act::Remove(0), Hears::Refusal(Name::TypeError, false)),
-    (Act::Append(0, 745), Hears::Start(false)),
     (
-        Act::Mode(Mode::Segments),
-        Hears::Refusal(Name::InvalidState, false),
-    ),
-    (Act::Drain, Hears::EndAfter(1, true)),
-    (Act::Duration(4_704_000_000), Hears::Nothing),
-    (Act::Ended, Hears::Nothing),
-    (
-        Act::Mode(Mode::Sequence),
-        Hears::Refusal(Name::InvalidState, true),
-    ),
-    (Act::Offset(5), Hears::Refusal(Name::InvalidState, true)),
-    (Act::WindowEnd(0), Hears::Refusal(Name::TypeError, false)),
-    (Act::WindowStart(-1), Hears::Refusal(Name::TypeError, false)),
-    (Act::Abort, Hears::Refusal(Name::InvalidState, false)),
-    (
-        Act::Remove(4_704_000_001),
+        BufferCall::Remove(0),
         Hears::Refusal(Name::TypeError, false),
     ),
-    (Act::Remove(0), Hears::Start(true)),
-    (Act::EndWork, Hears::Abort),
+    (BufferCall::Append(0, 745), Hears::Start(false)),
+    (
+        BufferCall::Mode(Mode::Segments),
+        Hears::Refusal(Name::InvalidState, false),
+    ),
+    (BufferCall::Drain, Hears::EndAfter(1, true)),
+    (BufferCall::Duration(4_704_000_000), Hears::Nothing),
+    (BufferCall::Ended, Hears::Nothing),
+    (
+        BufferCall::Mode(Mode::Sequence),
+        Hears::Refusal(Name::InvalidState, true),
+    ),
+    (
+        BufferCall::Offset(5),
+        Hears::Refusal(Name::InvalidState, true),
+    ),
+    (
+        BufferCall::WindowEnd(0),
+        Hears::Refusal(Name::TypeError, false),
+    ),
+    (
+        BufferCall::WindowStart(-1),
+        Hears::Refusal(Name::TypeError, false),
+    ),
+    (BufferCall::Abort, Hears::Refusal(Name::InvalidState, false)),
+    (
+        BufferCall::Remove(4_704_000_001),
+        Hears::Refusal(Name::TypeError, false),
+    ),
+    (BufferCall::Remove(0), Hears::Start(true)),
+    (BufferCall::EndWork, Hears::Abort),
 ];
 
 /// Refusals by their names, and the opening of the source that comes before one.
@@ -397,11 +434,11 @@ fn refusals(rt: HostRuntime) -> Result<(), Fail> {
 }
 
 const SECOND_SEGMENT: [Row; 5] = [
-    (Act::Append(0, 751), Hears::Start(false)),
-    (Act::Drain, Hears::EndAfter(1, true)),
-    (Act::Append(0, 595), Hears::Start(false)),
-    (Act::Turn, Hears::Segment(0, false)),
-    (Act::Turn, Hears::End),
+    (BufferCall::Append(0, 751), Hears::Start(false)),
+    (BufferCall::Drain, Hears::EndAfter(1, true)),
+    (BufferCall::Append(0, 595), Hears::Start(false)),
+    (BufferCall::Turn, Hears::Segment(0, false)),
+    (BufferCall::Turn, Hears::End),
 ];
 
 /// A second initialization segment leaves the frames, and is told as received.
@@ -413,18 +450,18 @@ fn a_second_segment(rt: HostRuntime) -> Result<(), Fail> {
 }
 
 const FIRST_INIT: [Row; 2] = [
-    (Act::Append(0, 595), Hears::Start(false)),
-    (Act::Drain, Hears::EndAfter(1, true)),
+    (BufferCall::Append(0, 595), Hears::Start(false)),
+    (BufferCall::Drain, Hears::EndAfter(1, true)),
 ];
 
 const REFUSED_INIT: [Row; 2] = [
-    (Act::Append(0, 595), Hears::Start(false)),
-    (Act::Turn, Hears::Fault(13, 619)),
+    (BufferCall::Append(0, 595), Hears::Start(false)),
+    (BufferCall::Turn, Hears::Fault(13, 619)),
 ];
 
 const MEDIA: [Row; 2] = [
-    (Act::Append(595, 751), Hears::Start(false)),
-    (Act::Drain, Hears::End),
+    (BufferCall::Append(595, 751), Hears::Start(false)),
+    (BufferCall::Drain, Hears::End),
 ];
 
 /// A media segment behind a refused initialization segment has its frames, read with the
@@ -440,12 +477,12 @@ fn a_presentation_from_before(rt: HostRuntime) -> Result<(), Fail> {
 }
 
 const REMOVED: [Row; 6] = [
-    (Act::Append(0, 751), Hears::Start(false)),
-    (Act::Drain, Hears::EndAfter(1, true)),
-    (Act::Remove(4_704_000_000), Hears::Start(false)),
-    (Act::Abort, Hears::Refusal(Name::InvalidState, false)),
-    (Act::Turn, Hears::End),
-    (Act::Drain, Hears::Nothing),
+    (BufferCall::Append(0, 751), Hears::Start(false)),
+    (BufferCall::Drain, Hears::EndAfter(1, true)),
+    (BufferCall::Remove(4_704_000_000), Hears::Start(false)),
+    (BufferCall::Abort, Hears::Refusal(Name::InvalidState, false)),
+    (BufferCall::Turn, Hears::End),
+    (BufferCall::Drain, Hears::Nothing),
 ];
 
 /// A removal is one step.
@@ -503,14 +540,14 @@ fn adts(
     text: &str,
     len: usize,
     heard: Hears,
-) -> Result<Scene, Fail> {
+) -> Result<OneBufferScene, Fail> {
     let bytes = bytes_of(alloc, text)?;
     let mut scene = new_scene(alloc, Container::Adts, 1 << 62);
     let rows = [
-        (Act::Append(0, len), Hears::Start(false)),
-        (Act::Drain, heard),
+        (BufferCall::Append(0, len), Hears::Start(false)),
+        (BufferCall::Drain, heard),
         (
-            Act::Mode(Mode::Segments),
+            BufferCall::Mode(Mode::Segments),
             Hears::Refusal(Name::TypeError, false),
         ),
     ];

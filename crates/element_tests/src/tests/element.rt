@@ -68,7 +68,7 @@ fn fires(element: &mut Element, wanted: &[EventKind]) -> bool {
 
 /// A call on an element with its answer, its turn, the end of a step, or the events that wait. Times are in ticks.
 #[derive(Clone, Copy)]
-enum Act {
+enum ElementCall {
     Seek(i128),
     Play(Option<Name>),
     Advance(i128, Option<Name>),
@@ -82,22 +82,32 @@ enum Act {
 }
 
 /// Does it, and compares the answer.
-fn expect(rt: &impl Abort, element: &mut Element, scene: &Scene, act: Act) -> Result<(), Fail> {
+fn expect(
+    rt: &impl Abort,
+    element: &mut Element,
+    scene: &Scene,
+    act: ElementCall,
+) -> Result<(), Fail> {
     element.reserve(4)?;
     match act {
-        Act::Seek(t) => element.seek(time(t)?, scene),
-        Act::Play(wanted) => assert_eq!(rt; element.play(scene), wanted),
-        Act::Advance(t, wanted) => assert_eq!(rt; element.advance(time(t)?, scene), wanted),
-        Act::Due(wanted) => assert_eq!(rt; element.due(scene), wanted),
-        Act::Turn(wanted) => assert_eq!(rt; element.turn(scene), wanted),
-        Act::Settle => element.settle(scene),
-        Act::Fires(wanted) => assert!(rt; fires(element, wanted)),
+        ElementCall::Seek(t) => element.seek(time(t)?, scene),
+        ElementCall::Play(wanted) => assert_eq!(rt; element.play(scene), wanted),
+        ElementCall::Advance(t, wanted) => assert_eq!(rt; element.advance(time(t)?, scene), wanted),
+        ElementCall::Due(wanted) => assert_eq!(rt; element.due(scene), wanted),
+        ElementCall::Turn(wanted) => assert_eq!(rt; element.turn(scene), wanted),
+        ElementCall::Settle => element.settle(scene),
+        ElementCall::Fires(wanted) => assert!(rt; fires(element, wanted)),
     }
     Ok(())
 }
 
 /// Does one after the other.
-fn run(rt: &impl Abort, element: &mut Element, scene: &Scene, acts: &[Act]) -> Result<(), Fail> {
+fn run(
+    rt: &impl Abort,
+    element: &mut Element,
+    scene: &Scene,
+    acts: &[ElementCall],
+) -> Result<(), Fail> {
     for act in acts {
         expect(rt, element, scene, *act)?;
     }
@@ -184,7 +194,10 @@ const FALLS: [(i128, &[EventKind], i128); 2] = [
 fn seeks_to_a_lesser_duration(rt: HostRuntime) -> Result<(), Fail> {
     let long = open(at(10 * SECOND)?, range(0, 6 * SECOND)?);
     let mut element = loaded(&rt, &long)?;
-    let acts = [Act::Seek(5 * SECOND), Act::Fires(&[EventKind::Seeking])];
+    let acts = [
+        ElementCall::Seek(5 * SECOND),
+        ElementCall::Fires(&[EventKind::Seeking]),
+    ];
     run(&rt, &mut element, &long, &acts)?;
     for (end, wanted, reached) in FALLS {
         let scene = open(at(end)?, range(0, end)?);
@@ -233,27 +246,27 @@ fn loads_at_its_start(rt: HostRuntime) -> Result<(), Fail> {
 }
 
 /// The element plays where its data is, and seeks to a place without data.
-const BEFORE_THE_DATA: [Act; 3] = [
-    Act::Play(None),
-    Act::Fires(&[EventKind::Play, EventKind::Playing]),
-    Act::Seek(5 * SECOND),
+const BEFORE_THE_DATA: [ElementCall; 3] = [
+    ElementCall::Play(None),
+    ElementCall::Fires(&[EventKind::Play, EventKind::Playing]),
+    ElementCall::Seek(5 * SECOND),
 ];
 
-const WITHOUT_DATA: [Act; 3] = [
-    Act::Settle,
-    Act::Fires(&[
+const WITHOUT_DATA: [ElementCall; 3] = [
+    ElementCall::Settle,
+    ElementCall::Fires(&[
         EventKind::Seeking,
         EventKind::TimeUpdate,
         EventKind::Waiting,
     ]),
-    Act::Due(false),
+    ElementCall::Due(false),
 ];
 
-const WITH_THE_DATA: [Act; 4] = [
-    Act::Settle,
-    Act::Fires(&[EventKind::CanPlay, EventKind::Playing]),
-    Act::Turn(true),
-    Act::Fires(&[EventKind::TimeUpdate, EventKind::Seeked]),
+const WITH_THE_DATA: [ElementCall; 4] = [
+    ElementCall::Settle,
+    ElementCall::Fires(&[EventKind::CanPlay, EventKind::Playing]),
+    ElementCall::Turn(true),
+    ElementCall::Fires(&[EventKind::TimeUpdate, EventKind::Seeked]),
 ];
 
 /// A seek while the element plays, to a place whose data comes only later.
@@ -273,14 +286,14 @@ fn seeks_while_it_plays(rt: HostRuntime) -> Result<(), Fail> {
     Ok(())
 }
 
-const TO_THE_END: [Act; 7] = [
-    Act::Play(None),
-    Act::Fires(&[EventKind::Play, EventKind::Playing]),
-    Act::Advance(-1, Some(Name::TypeError)),
-    Act::Advance(SECOND, None),
-    Act::Settle,
-    Act::Turn(true),
-    Act::Fires(&[
+const TO_THE_END: [ElementCall; 7] = [
+    ElementCall::Play(None),
+    ElementCall::Fires(&[EventKind::Play, EventKind::Playing]),
+    ElementCall::Advance(-1, Some(Name::TypeError)),
+    ElementCall::Advance(SECOND, None),
+    ElementCall::Settle,
+    ElementCall::Turn(true),
+    ElementCall::Fires(&[
         EventKind::TimeUpdate,
         EventKind::TimeUpdate,
         EventKind::Pause,

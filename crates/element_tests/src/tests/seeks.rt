@@ -53,7 +53,7 @@ fn refused(acted: Acted, wanted: Name) -> bool {
 
 /// A call on the element, its turn, or the end of a step. Times are in ticks.
 #[derive(Clone, Copy)]
-enum Act {
+enum PlayerCall {
     Seek(i128),
     Play,
     Pause,
@@ -63,19 +63,19 @@ enum Act {
 }
 
 /// Does it, and tells what comes of it.
-fn perform(player: &mut Player, scene: &Scene, act: Act) -> Result<Acted, Fail> {
+fn perform(player: &mut Player, scene: &Scene, act: PlayerCall) -> Result<Acted, Fail> {
     match act {
-        Act::Seek(t) => Ok(Acted::Done(player.seek(time(t)?, scene))),
-        Act::Play => Ok(player.play(scene)),
-        Act::Pause => Ok(Acted::Done(player.pause())),
-        Act::Advance(t) => Ok(player.advance(time(t)?, scene)),
-        Act::Turn => Ok(Acted::Done(player.turn(scene).ok_or("no turn")?)),
-        Act::Settle => Ok(Acted::Done(player.settle(scene))),
+        PlayerCall::Seek(t) => Ok(Acted::Done(player.seek(time(t)?, scene))),
+        PlayerCall::Play => Ok(player.play(scene)),
+        PlayerCall::Pause => Ok(Acted::Done(player.pause())),
+        PlayerCall::Advance(t) => Ok(player.advance(time(t)?, scene)),
+        PlayerCall::Turn => Ok(Acted::Done(player.turn(scene).ok_or("no turn")?)),
+        PlayerCall::Settle => Ok(Acted::Done(player.settle(scene))),
     }
 }
 
 /// An act, and the events that it tells.
-type Row = (Act, &'static [EventKind]);
+type Row = (PlayerCall, &'static [EventKind]);
 
 /// Does one after the other, and compares the events.
 fn run(rt: &impl Abort, player: &mut Player, scene: &Scene, rows: &[Row]) -> Result<(), Fail> {
@@ -163,20 +163,29 @@ fn seeks_inside(rt: HostRuntime) -> Result<(), Fail> {
 }
 
 const PLAYED_AND_PAUSED: [Row; 4] = [
-    (Act::Pause, &[]),
-    (Act::Play, &[EventKind::Play, EventKind::Playing]),
-    (Act::Play, &[]),
-    (Act::Pause, &[EventKind::TimeUpdate, EventKind::Pause]),
+    (PlayerCall::Pause, &[]),
+    (PlayerCall::Play, &[EventKind::Play, EventKind::Playing]),
+    (PlayerCall::Play, &[]),
+    (
+        PlayerCall::Pause,
+        &[EventKind::TimeUpdate, EventKind::Pause],
+    ),
 ];
 
 const WITHOUT_DATA: [Row; 2] = [
-    (Act::Settle, &[]),
-    (Act::Play, &[EventKind::Play, EventKind::Waiting]),
+    (PlayerCall::Settle, &[]),
+    (PlayerCall::Play, &[EventKind::Play, EventKind::Waiting]),
 ];
 
-const WITH_DATA: [Row; 1] = [(Act::Settle, &[EventKind::CanPlay, EventKind::Playing])];
+const WITH_DATA: [Row; 1] = [(
+    PlayerCall::Settle,
+    &[EventKind::CanPlay, EventKind::Playing],
+)];
 
-const WITHOUT_DATA_AGAIN: [Row; 1] = [(Act::Settle, &[EventKind::TimeUpdate, EventKind::Waiting])];
+const WITHOUT_DATA_AGAIN: [Row; 1] = [(
+    PlayerCall::Settle,
+    &[EventKind::TimeUpdate, EventKind::Waiting],
+)];
 
 /// Play tells `waiting` or `playing` by the level before the end of the step; a call that changes
 /// nothing tells nothing.
@@ -202,18 +211,21 @@ fn plays_and_pauses(rt: HostRuntime) -> Result<(), Fail> {
 }
 
 const NOT_YET_MOVED: [Row; 3] = [
-    (Act::Advance(1), &[]),
-    (Act::Play, &[EventKind::Play, EventKind::Playing]),
-    (Act::Advance(0), &[]),
+    (PlayerCall::Advance(1), &[]),
+    (PlayerCall::Play, &[EventKind::Play, EventKind::Playing]),
+    (PlayerCall::Advance(0), &[]),
 ];
 
-const MOVED: [Row; 1] = [(Act::Advance(5), &[EventKind::TimeUpdate])];
+const MOVED: [Row; 1] = [(PlayerCall::Advance(5), &[EventKind::TimeUpdate])];
 
-const MOVED_FAR: [Row; 1] = [(Act::Advance(1 << 110), &[EventKind::TimeUpdate])];
+const MOVED_FAR: [Row; 1] = [(PlayerCall::Advance(1 << 110), &[EventKind::TimeUpdate])];
 
 const MOVED_NO_MORE: [Row; 2] = [
-    (Act::Settle, &[EventKind::TimeUpdate, EventKind::Waiting]),
-    (Act::Advance(1), &[]),
+    (
+        PlayerCall::Settle,
+        &[EventKind::TimeUpdate, EventKind::Waiting],
+    ),
+    (PlayerCall::Advance(1), &[]),
 ];
 
 /// The position moves on up to the end of the buffered range, while the element plays.
@@ -236,36 +248,42 @@ fn moves_on(rt: HostRuntime) -> Result<(), Fail> {
 }
 
 const TO_THE_END: [Row; 3] = [
-    (Act::Play, &[EventKind::Play, EventKind::Playing]),
-    (Act::Advance(9 * SECOND), &[EventKind::TimeUpdate]),
-    (Act::Settle, &[]),
+    (PlayerCall::Play, &[EventKind::Play, EventKind::Playing]),
+    (PlayerCall::Advance(9 * SECOND), &[EventKind::TimeUpdate]),
+    (PlayerCall::Settle, &[]),
 ];
 
 const AT_THE_END: [Row; 1] = [(
-    Act::Turn,
+    PlayerCall::Turn,
     &[EventKind::TimeUpdate, EventKind::Pause, EventKind::Ended],
 )];
 
 const AT_THE_BEGINNING: [Row; 1] = [(
-    Act::Play,
+    PlayerCall::Play,
     &[EventKind::Seeking, EventKind::Play, EventKind::Waiting],
 )];
 
 const AGAIN: [Row; 4] = [
     (
-        Act::Settle,
+        PlayerCall::Settle,
         &[
             EventKind::CanPlay,
             EventKind::Playing,
             EventKind::CanPlayThrough,
         ],
     ),
-    (Act::Turn, &[EventKind::TimeUpdate, EventKind::Seeked]),
-    (Act::Pause, &[EventKind::TimeUpdate, EventKind::Pause]),
-    (Act::Seek(4 * SECOND), &[EventKind::Seeking]),
+    (
+        PlayerCall::Turn,
+        &[EventKind::TimeUpdate, EventKind::Seeked],
+    ),
+    (
+        PlayerCall::Pause,
+        &[EventKind::TimeUpdate, EventKind::Pause],
+    ),
+    (PlayerCall::Seek(4 * SECOND), &[EventKind::Seeking]),
 ];
 
-const AT_THE_END_AGAIN: [Row; 1] = [(Act::Turn, &[EventKind::TimeUpdate, EventKind::Ended])];
+const AT_THE_END_AGAIN: [Row; 1] = [(PlayerCall::Turn, &[EventKind::TimeUpdate, EventKind::Ended])];
 
 /// The end of playback is told once, until the position leaves it; play begins at 0 again.
 #[test]

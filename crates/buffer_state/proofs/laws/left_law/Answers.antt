@@ -2,4 +2,4 @@ use Rattle.buffer_state.proofs.Leaving.{left}
 use Rattle.buffer_state.proofs.laws.left_law.Goals as goal
 
 pub returns : goal.returns
-returns c = λ s r h. left s.parser r.container r.before r.whole r.taken h.parser
+returns c = λ s r h. left s.parser r.container r.string h.parser

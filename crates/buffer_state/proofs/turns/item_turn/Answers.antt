@@ -1,11 +1,11 @@
 use Rattle.std.proofs.Common.{◌<◌, sym, subst}
-use Rattle.parser_loop.specs.Items.{latest_after_any}
-use Rattle.byte_stream.specs.Streams.{latest_of, seen}
+use Rattle.parser_loop.specs.Items.{latest_after_any, seen}
+use Rattle.byte_stream.specs.Streams.{latest_of}
 use Rattle.track_buffers.specs.Media.{Media}
 use Rattle.buffer_state.specs.declared.running.Running.{Running}
 use Rattle.buffer_state.specs.declared.running.Running.TheVariants.{Append}
 use Rattle.buffer_state.specs.State.{Feed, Content, kept_buffer, next_item, surroundings}
-use Rattle.buffer_state.specs.Replies.{Answers}
+use Rattle.buffer_state.specs.Replies.{IsBufferAnswer}
 use Rattle.buffer_state.specs.Turns.{append_turn_result}
 use Rattle.buffer_state.specs.Steps.{Leaves}
 use Rattle.buffer_state.specs.StepsLeft.{steps_left}
@@ -18,14 +18,14 @@ pub returns-in-Some-clause-answered : goal.returns-in-Some-clause-answered
 returns-in-Some-clause-answered g c =
     let a = surroundings c.args.around.now in
     let turned = refusal-turns c.args.stream.now c.answer.new.stream c.prepare.new.media.media c.answer.new.media.media c.args.running.now c.answer.new.running c.in-Some.step c.answer.result a (λ r s. rw c.in-Some.is at (c.in_ok-step.ensures.prepared r s)) c.answer.ensures.answered in
-    subst (λ (m : Media). Answers (kept_buffer c.args.stream.now m c.args.running.now) c.answer.result (kept_buffer c.answer.new.stream c.answer.new.media.media c.answer.new.running) (λ (f : Feed) (d : Content). append_turn_result (next_item f) a f d)) c.in_ok-step.ensures.media turned
+    subst (λ (m : Media). IsBufferAnswer (kept_buffer c.args.stream.now m c.args.running.now) c.answer.result (kept_buffer c.answer.new.stream c.answer.new.media.media c.answer.new.running) (λ (f : Feed) (d : Content). append_turn_result (next_item f) a f d)) c.in_ok-step.ensures.media turned
 
 -- the media is as before the reservation, and the parts of the step are put together
 pub returns-in_ok-next-in-None-clause-answered : goal.returns-in_ok-next-in-None-clause-answered
 returns-in_ok-next-in-None-clause-answered g c =
     let a = surroundings c.args.around.now in
     let turned = append-turns c.args.stream.now c.next.new.self c.answer-in-None.new.stream c.prepare.new.media.media c.take_item-step.new.media.media c.answer-in-None.new.media.media c.args.running.now c.answer-in-None.new.running (seen c.in_ok-next-in-None.next) c.take_item-step.result c.answer-in-None.result a c.in_ok-next-in-None.ensures.item c.in_ok-next-in-None.ensures.stands c.in_ok-next-in-None.ensures.latest c.take_item-step.ensures.step c.answer-in-None.ensures.answered in
-    subst (λ (m : Media). Answers (kept_buffer c.args.stream.now m c.args.running.now) c.answer-in-None.result (kept_buffer c.answer-in-None.new.stream c.answer-in-None.new.media.media c.answer-in-None.new.running) (λ (f : Feed) (d : Content). append_turn_result (next_item f) a f d)) c.in_ok-step.ensures.media turned
+    subst (λ (m : Media). IsBufferAnswer (kept_buffer c.args.stream.now m c.args.running.now) c.answer-in-None.result (kept_buffer c.answer-in-None.new.stream c.answer-in-None.new.media.media c.answer-in-None.new.running) (λ (f : Feed) (d : Content). append_turn_result (next_item f) a f d)) c.in_ok-step.ensures.media turned
 
 pub returns-in_ok-next-in-None-clause-fewer : goal.returns-in_ok-next-in-None-clause-fewer
 returns-in_ok-next-in-None-clause-fewer g c =

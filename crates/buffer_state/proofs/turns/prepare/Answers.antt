@@ -1,9 +1,9 @@
 use Rattle.std.proofs.Common.{◌≤◌, length, refl, arith}
 use Rattle.byte_stream.specs.Readings.{items_in, ready_at}
-use Rattle.byte_stream.specs.Streams.{seen}
+use Rattle.parser_loop.specs.Items.{seen}
 use Rattle.byte_stream.proofs.Standing.{ready-is}
 use Rattle.buffer_state.specs.Steps.{IsNoInit}
-use Rattle.buffer_state.proofs.Front.{place-other, no-init, at-front}
+use Rattle.buffer_state.proofs.ItemsNext.{place-other, no-init, at-front}
 use Rattle.buffer_state.proofs.turns.prepare.Goals as goal
 
 -- no frame is ready, and what comes next is no initialization segment
@@ -11,10 +11,10 @@ pub returns : goal.returns
 returns g c = record {
   media = refl;
   prepared = λ r s.
-      (let ready = ready-is c.args.stream.now.parser r.container r.before r.whole r.taken s.parser in
+      (let ready = ready-is c.args.stream.now.parser r.container r.string s.parser in
       let none : length (ready_at r) ≤ 0 = omega (arith, ready, c.requires.none_ready) in
       let looked = c.in_ok-presentation.ensures.item r s in
-      place-other (items_in r) r.taken c.args.media.now none (at-front IsNoInit (items_in r) r.taken (seen c.in_ok-presentation.field-0) looked (no-init c.in_ok-presentation.field-0 c.in_default.not-Init)));
+      place-other (items_in r) r.string.taken c.args.media.now none (at-front IsNoInit (items_in r) r.string.taken (seen c.in_ok-presentation.field-0) looked (no-init c.in_ok-presentation.field-0 c.in_default.not-Init)));
   no_fall = tt;
   changes = tt;
 }

@@ -9,7 +9,7 @@ use track_store::ListStore;
 
 /// A call on a buffer, a step of its work, or a change of what it is told. Times are in ticks.
 #[derive(Clone, Copy)]
-pub(super) enum Act {
+pub(super) enum BufferCall {
     /// Appends the bytes from one place of a file to another.
     Append(usize, usize),
     /// One step.
@@ -59,14 +59,14 @@ pub(super) fn quiet() -> Heard {
 
 /// A buffer, with what it is told.
 #[derive(Drop)]
-pub(super) struct Scene {
+pub(super) struct OneBufferScene {
     alloc: Global,
     buffer: Buffer<ListStore>,
     around: Around,
 }
 
-pub(super) fn new_scene(alloc: Global, container: Container, quota: u64) -> Scene {
-    Scene {
+pub(super) fn new_scene(alloc: Global, container: Container, quota: u64) -> OneBufferScene {
+    OneBufferScene {
         alloc,
         buffer: Buffer::new(alloc, Ticks::zero(), container),
         around: Around {
@@ -123,14 +123,14 @@ fn then(first: &Heard, second: &Heard) -> Result<Heard, Fail> {
     })
 }
 
-fn append(scene: &mut Scene, bytes: &[u8], from: usize, to: usize) -> Result<Heard, Fail> {
+fn append(scene: &mut OneBufferScene, bytes: &[u8], from: usize, to: usize) -> Result<Heard, Fail> {
     let part = bytes.get(from..to).ok_or("no such part")?;
     let part = Bytes::copy_of(scene.alloc, part)?;
     let reply = scene.buffer.append(&part, &scene.around)?;
     Ok(hear(&reply))
 }
 
-fn turn(scene: &mut Scene) -> Result<Option<Heard>, OutOfMemory> {
+fn turn(scene: &mut OneBufferScene) -> Result<Option<Heard>, OutOfMemory> {
     match scene.buffer.turn(&scene.around)? {
         Turned::Did(reply) => {
             scene.around.duration = reply.duration;
@@ -140,7 +140,7 @@ fn turn(scene: &mut Scene) -> Result<Option<Heard>, OutOfMemory> {
     }
 }
 
-fn drain(scene: &mut Scene) -> Result<Heard, Fail> {
+fn drain(scene: &mut OneBufferScene) -> Result<Heard, Fail> {
     let mut all = quiet();
     for _ in 0..40 {
         match turn(scene)? {
@@ -151,59 +151,63 @@ fn drain(scene: &mut Scene) -> Result<Heard, Fail> {
     Ok(all)
 }
 
-fn abort(scene: &mut Scene) -> Result<Heard, OutOfMemory> {
+fn abort(scene: &mut OneBufferScene) -> Result<Heard, OutOfMemory> {
     let reply = scene.buffer.abort(&scene.around)?;
     Ok(hear(&reply))
 }
 
-fn change_type(scene: &mut Scene, text: &str) -> Result<Heard, OutOfMemory> {
+fn change_type(scene: &mut OneBufferScene, text: &str) -> Result<Heard, OutOfMemory> {
     let reply = scene.buffer.change_type(text, &scene.around)?;
     Ok(hear(&reply))
 }
 
-fn set_mode(scene: &mut Scene, mode: Mode) -> Heard {
+fn set_mode(scene: &mut OneBufferScene, mode: Mode) -> Heard {
     hear(&scene.buffer.set_mode(mode, &scene.around))
 }
 
-fn set_offset(scene: &mut Scene, t: Ticks) -> Heard {
+fn set_offset(scene: &mut OneBufferScene, t: Ticks) -> Heard {
     hear(&scene.buffer.set_offset(t, &scene.around))
 }
 
-fn set_window_start(scene: &mut Scene, t: Ticks) -> Heard {
+fn set_window_start(scene: &mut OneBufferScene, t: Ticks) -> Heard {
     hear(&scene.buffer.set_window_start(t, &scene.around))
 }
 
-fn set_window_end(scene: &mut Scene, t: Ticks) -> Heard {
+fn set_window_end(scene: &mut OneBufferScene, t: Ticks) -> Heard {
     hear(&scene.buffer.set_window_end(Moment::At(t), &scene.around))
 }
 
-fn remove(scene: &mut Scene, from: Ticks) -> Heard {
+fn remove(scene: &mut OneBufferScene, from: Ticks) -> Heard {
     hear(&scene.buffer.remove(from, Moment::Infinite, &scene.around))
 }
 
-fn end_work(scene: &mut Scene) -> Heard {
+fn end_work(scene: &mut OneBufferScene) -> Heard {
     hear(&scene.buffer.end_work(&scene.around))
 }
 
 /// Does it, with the bytes of a file.
-pub(super) fn perform(scene: &mut Scene, bytes: &[u8], act: Act) -> Result<Heard, Fail> {
+pub(super) fn perform(
+    scene: &mut OneBufferScene,
+    bytes: &[u8],
+    act: BufferCall,
+) -> Result<Heard, Fail> {
     match act {
-        Act::Append(from, to) => append(scene, bytes, from, to),
-        Act::Turn => Ok(turn(scene)?.ok_or("nothing runs")?),
-        Act::Drain => drain(scene),
-        Act::Abort => Ok(abort(scene)?),
-        Act::Type(text) => Ok(change_type(scene, text)?),
-        Act::Mode(mode) => Ok(set_mode(scene, mode)),
-        Act::Offset(t) => Ok(set_offset(scene, time(t)?)),
-        Act::WindowStart(t) => Ok(set_window_start(scene, time(t)?)),
-        Act::WindowEnd(t) => Ok(set_window_end(scene, time(t)?)),
-        Act::Remove(t) => Ok(remove(scene, time(t)?)),
-        Act::EndWork => Ok(end_work(scene)),
-        Act::Duration(t) => {
+        BufferCall::Append(from, to) => append(scene, bytes, from, to),
+        BufferCall::Turn => Ok(turn(scene)?.ok_or("nothing runs")?),
+        BufferCall::Drain => drain(scene),
+        BufferCall::Abort => Ok(abort(scene)?),
+        BufferCall::Type(text) => Ok(change_type(scene, text)?),
+        BufferCall::Mode(mode) => Ok(set_mode(scene, mode)),
+        BufferCall::Offset(t) => Ok(set_offset(scene, time(t)?)),
+        BufferCall::WindowStart(t) => Ok(set_window_start(scene, time(t)?)),
+        BufferCall::WindowEnd(t) => Ok(set_window_end(scene, time(t)?)),
+        BufferCall::Remove(t) => Ok(remove(scene, time(t)?)),
+        BufferCall::EndWork => Ok(end_work(scene)),
+        BufferCall::Duration(t) => {
             scene.around.duration = Moment::At(time(t)?);
             Ok(quiet())
         }
-        Act::Ended => {
+        BufferCall::Ended => {
             scene.around.ready = Ready::Ended;
             Ok(quiet())
         }
@@ -211,24 +215,28 @@ pub(super) fn perform(scene: &mut Scene, bytes: &[u8], act: Act) -> Result<Heard
 }
 
 /// The name by which it would be refused before anything comes of it.
-pub(super) fn refusal(scene: &Scene, act: Act) -> Result<Option<Name>, Fail> {
+pub(super) fn refusal(scene: &OneBufferScene, act: BufferCall) -> Result<Option<Name>, Fail> {
     let (buffer, around) = (&scene.buffer, &scene.around);
     match act {
-        Act::Append(_, _) => Ok(buffer.append_refusal(around)),
-        Act::Abort => Ok(buffer.abort_refusal(around)),
-        Act::Type(text) => Ok(buffer.change_type_refusal(text)),
-        Act::Mode(mode) => Ok(buffer.mode_refusal(mode, around)),
-        Act::Offset(_) => Ok(buffer.offset_refusal(around)),
-        Act::WindowStart(t) => Ok(buffer.window_start_refusal(time(t)?)),
-        Act::WindowEnd(t) => Ok(buffer.window_end_refusal(Moment::At(time(t)?))),
-        Act::Remove(t) => Ok(buffer.remove_refusal(time(t)?, Moment::Infinite, around)),
-        Act::Turn | Act::Drain | Act::EndWork | Act::Duration(_) | Act::Ended => Ok(None),
+        BufferCall::Append(_, _) => Ok(buffer.append_refusal(around)),
+        BufferCall::Abort => Ok(buffer.abort_refusal(around)),
+        BufferCall::Type(text) => Ok(buffer.change_type_refusal(text)),
+        BufferCall::Mode(mode) => Ok(buffer.mode_refusal(mode, around)),
+        BufferCall::Offset(_) => Ok(buffer.offset_refusal(around)),
+        BufferCall::WindowStart(t) => Ok(buffer.window_start_refusal(time(t)?)),
+        BufferCall::WindowEnd(t) => Ok(buffer.window_end_refusal(Moment::At(time(t)?))),
+        BufferCall::Remove(t) => Ok(buffer.remove_refusal(time(t)?, Moment::Infinite, around)),
+        BufferCall::Turn
+        | BufferCall::Drain
+        | BufferCall::EndWork
+        | BufferCall::Duration(_)
+        | BufferCall::Ended => Ok(None),
     }
 }
 
 /// What a buffer shows.
 #[derive(Clone, Copy, Debug, PartialEq, Eq)]
-pub(super) struct State {
+pub(super) struct BufferShown {
     pub(super) phase: Phase,
     pub(super) held: u64,
     pub(super) used: u64,
@@ -240,9 +248,9 @@ pub(super) struct State {
 }
 
 /// What the buffer shows, where the source is ended or not.
-pub(super) fn show(scene: &Scene, ended: bool) -> Result<State, OutOfMemory> {
+pub(super) fn show(scene: &OneBufferScene, ended: bool) -> Result<BufferShown, OutOfMemory> {
     let view = scene.buffer.view(0, ended)?;
-    Ok(State {
+    Ok(BufferShown {
         phase: view.phase,
         held: view.held,
         used: view.used,
@@ -259,14 +267,14 @@ pub(super) fn show(scene: &Scene, ended: bool) -> Result<State, OutOfMemory> {
 }
 
 /// The number and the codec of the first track.
-pub(super) fn first_track(scene: &Scene) -> Option<(u32, [u8; 4])> {
+pub(super) fn first_track(scene: &OneBufferScene) -> Option<(u32, [u8; 4])> {
     let track = scene.buffer.tracks().get(0)?;
     Some((track.id, track.codec))
 }
 
 /// What the buffer tells beside its view: whether work runs, whether an initialization segment came, the phase, the
 /// frames that are ready, the bytes held and used, and where the last frame begins and ends.
-pub(super) fn told(scene: &Scene) -> (bool, bool, Phase, usize, usize, u64, i128, i128) {
+pub(super) fn told(scene: &OneBufferScene) -> (bool, bool, Phase, usize, usize, u64, i128, i128) {
     let buffer = &scene.buffer;
     (
         buffer.updating(),
@@ -288,6 +296,6 @@ fn number(t: Option<Ticks>) -> i128 {
 }
 
 /// How many ranges are buffered.
-pub(super) fn range_count(scene: &Scene) -> Result<usize, OutOfMemory> {
+pub(super) fn range_count(scene: &OneBufferScene) -> Result<usize, OutOfMemory> {
     Ok(scene.buffer.buffered(true)?.len())
 }

@@ -10,7 +10,7 @@ pub loop-i-preserved : goal.loop-i-preserved
 loop-i-preserved g c =
     let ms = all_kept_media c.args.slots.now.items in
     let here : c.loop-i.i < length ms = rw length-map (omega (arith, c.len-i-end.ensures)) in
-    c.greatest_of_two-best.ensures ∙ highest_more (slot_times highest_start_in) ms c.loop-i.i c.loop-i.best c.start_at.result here c.loop-i.invariant c.start_at.ensures
+    c.max-best.ensures ∙ highest_more (slot_times highest_start_in) ms c.loop-i.i c.loop-i.best c.start_at.result here c.loop-i.invariant c.start_at.ensures
 
 pub returns : goal.returns
 returns g c =

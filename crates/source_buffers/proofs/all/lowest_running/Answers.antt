@@ -6,17 +6,17 @@ use Rattle.source_buffers.specs.All.{is_updating_slot}
 use Rattle.source_buffers.proofs.Looking.{running_at}
 use Rattle.source_buffers.proofs.all.lowest_running.Goals as goal
 
-pub returns-then-updating_at : goal.returns-then-updating_at
-returns-then-updating_at g c =
+pub returns-then-is_updating_at : goal.returns-then-is_updating_at
+returns-then-is_updating_at g c =
     let rs = all_kept_running c.args.slots.now.items in
     let here : c.loop-k.k < length rs = rw length-map (omega (arith, c.len-k-end.ensures)) in
-    position_here is_updating_slot rs c.loop-k.k c.updating_at.result here c.loop-k.invariant (running_at c.updating_at.result (slice_get rs c.loop-k.k) c.updating_at.ensures) c.if-updating_at.true
+    position_here is_updating_slot rs c.loop-k.k c.is_updating_at.result here c.loop-k.invariant (running_at c.is_updating_at.result (slice_get rs c.loop-k.k) c.is_updating_at.ensures) c.if-is_updating_at.true
 
 pub loop-k-preserved : goal.loop-k-preserved
 loop-k-preserved g c =
     let rs = all_kept_running c.args.slots.now.items in
     let here : c.loop-k.k < length rs = rw length-map (omega (arith, c.len-k-end.ensures)) in
-    position_more is_updating_slot rs c.loop-k.k c.updating_at.result here c.loop-k.invariant (running_at c.updating_at.result (slice_get rs c.loop-k.k) c.updating_at.ensures) c.if-updating_at.false
+    position_more is_updating_slot rs c.loop-k.k c.is_updating_at.result here c.loop-k.invariant (running_at c.is_updating_at.result (slice_get rs c.loop-k.k) c.is_updating_at.ensures) c.if-is_updating_at.false
 
 pub returns : goal.returns
 returns g c =

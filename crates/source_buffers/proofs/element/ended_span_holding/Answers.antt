@@ -16,14 +16,14 @@ returns-then-lt-2 g c =
     let m = c.args.buffer.now.media in
     let from : c.in-Some.last.start ≤ℤ c.args.t = grind (arith, ints, c.lt.ensures, c.if-lt.false) in
     let past : c.span_up_to-span.result.end <ℤ c.args.t = grind (arith, ints, c.lt-in-Some.ensures, c.if-lt-2.true) in
-    last_misses c.args.t c.args.end c.in-Some.last c.span_up_to-span.result (buffered_of true m) (buffered_is true m c.sound.ensures.gap).normalized (sym c.last_span.ensures ∙ c.in-Some.is) from c.span_up_to-span.ensures past
+    last_misses c.args.t c.args.end c.in-Some.last c.span_up_to-span.result (buffered_of true m) (buffered_is true m c.sound.ensures.gap_from_zero).normalized (sym c.last_span.ensures ∙ c.in-Some.is) from c.span_up_to-span.ensures past
 
 pub returns-else-lt-2 : goal.returns-else-lt-2
 returns-else-lt-2 g c =
     let m = c.args.buffer.now.media in
     let from : c.in-Some.last.start ≤ℤ c.args.t = grind (arith, ints, c.lt.ensures, c.if-lt.false) in
     let within : c.args.t ≤ℤ c.span_up_to-span.result.end = grind (arith, ints, c.lt-in-Some.ensures, c.if-lt-2.false) in
-    last_holds c.args.t c.args.end c.in-Some.last c.span_up_to-span.result (buffered_of true m) (buffered_is true m c.sound.ensures.gap).normalized (sym c.last_span.ensures ∙ c.in-Some.is) from c.span_up_to-span.ensures within
+    last_holds c.args.t c.args.end c.in-Some.last c.span_up_to-span.result (buffered_of true m) (buffered_is true m c.sound.ensures.gap_from_zero).normalized (sym c.last_span.ensures ∙ c.in-Some.is) from c.span_up_to-span.ensures within
 
 pub returns-in-None : goal.returns-in-None
 returns-in-None g c = none_holds c.args.t c.args.end (buffered_of true c.args.buffer.now.media) (sym c.last_span.ensures ∙ c.in-None.is)

@@ -14,7 +14,7 @@ pub loop-i-preserved : goal.loop-i-preserved
 loop-i-preserved g c =
     let rs = active_ranges true c.args.active.now (all_kept_media c.args.slots.now.items) in
     let here : c.loop-i.i < length rs = rw length-map (omega (arith, c.loop-i-test.true)) in
-    c.greatest_of_two-best.ensures ∙ highest_more (λ (r : List Span). option_to_list (last_end r)) rs c.loop-i.i c.loop-i.best c.end_at.result here c.loop-i.invariant (end_here c.end_at.result (slice_get rs c.loop-i.i) c.end_at.ensures)
+    c.max-best.ensures ∙ highest_more (λ (r : List Span). option_to_list (last_end r)) rs c.loop-i.i c.loop-i.best c.end_at.result here c.loop-i.invariant (end_here c.end_at.result (slice_get rs c.loop-i.i) c.end_at.ensures)
 
 pub returns : goal.returns
 returns g c =

@@ -12,7 +12,7 @@ returns-clause-state c = heard (after_load c.args.scene.now) c.args.self.now c.t
 pub returns-clause-spare : goal.returns-clause-spare
 returns-clause-spare c = room_left 2 (after_load c.args.scene.now) c.args.self.now c.tell_at_element.new.self c.self.inside.player c.self.inside.queue.events c.self.inside.queue.spare c.load-kinds.result c.self.view_is c.load-kinds.ensures.events (few_in_load c.args.scene.now c.self.inside.player) c.tell_at_element.ensures.spare
 
-pub returns-clause-inside : goal.returns-clause-inside
-returns-clause-inside c spans =
+pub returns-clause-stays_inside : goal.returns-clause-stays_inside
+returns-clause-stays_inside c spans =
     let state = heard (after_load c.args.scene.now) c.args.self.now c.tell_at_element.new.self c.self.inside.player c.load-kinds.new.self c.self.inside.queue.events c.self.inside.queue.spare c.load-kinds.result c.self.view_is c.load-kinds.ensures.events c.load-kinds.ensures.state c.tell_at_element.ensures.state in
     inside (after_load c.args.scene.now) c.args.scene.now c.args.self.now c.tell_at_element.new.self state (c.position_inside.ensures.load c.args.scene.now c.args.self.now.state.player spans)
