@@ -12,12 +12,12 @@ use Rattle.source_buffers.specs.State.{BufferState}
 use Rattle.source_buffers.specs.Slots.{slot_turn_of, turn_by_slot, buffers_turn_of}
 use Rattle.media_element.specs.Queueing as queueing
 use Rattle.mse_engine.specs.State.{Core, State, outer_of, element_in}
-use Rattle.mse_engine.specs.State.{Element as ElementPart}
+use Rattle.mse_engine.specs.State.{ElementPart}
 use Rattle.mse_engine.specs.Signals.{step}
 use Rattle.mse_engine.specs.Replies.{surroundings_in}
 use Rattle.mse_engine.specs.CoreEffects.{CoreEffect}
 use Rattle.mse_engine.specs.BufferCalls.{reply_effect}
-use Rattle.mse_engine.specs.Work.{work_effect, work_result, after_work, after_element_turn, running_in, due_in, scene_in}
+use Rattle.mse_engine.specs.Work.{work_effect, work_result, after_work, after_element_turn, running_in, is_turn_due, scene_in}
 use Rattle.mse_engine.specs.Run.{step_meaning, after_entries}
 use Rattle.mse_engine.specs.Progress.{steps_left}
 use Rattle.mse_engine.proofs.Progress.{work-fewer, turn-fewer}
@@ -42,15 +42,15 @@ turned-by true new st e = e
 turned-by false new st e = refl
 
 pub turned-core : (st : State) → (step_meaning (after_element_turn st) st).state.core ≡ st.core
-turned-core st = turned-by (due_in st) (step st.core [] (outer_of (queueing.after_own_turn (scene_in st) (element_in st.core.source.error st.outer)))) st refl
+turned-core st = turned-by (is_turn_due st) (step st.core [] (outer_of (queueing.after_own_turn (scene_in st) (element_in st.core.source.error st.outer)))) st refl
 
 -- a turn that is due finds something to do
 pub turned-holds : (t : Bool) (new st : State) → t ≡ true → (step_meaning (if t then Some new else None) st).holds
 turned-holds true new st e = tt
 turned-holds false new st e = absurd (cc)
 
-pub turn-holds : (st : State) → due_in st ≡ true → (step_meaning (after_element_turn st) st).holds
-turn-holds st d = turned-holds (due_in st) (step st.core [] (outer_of (queueing.after_own_turn (scene_in st) (element_in st.core.source.error st.outer)))) st d
+pub turn-holds : (st : State) → is_turn_due st ≡ true → (step_meaning (after_element_turn st) st).holds
+turn-holds st d = turned-holds (is_turn_due st) (step st.core [] (outer_of (queueing.after_own_turn (scene_in st) (element_in st.core.source.error st.outer)))) st d
 
 -- ---- a drain
 
@@ -91,13 +91,13 @@ by-step (Some new) st h = refl
 pub work-falls : (blobs : List (List ℕ)) (st : State) (k : ℕ) → running_in st ≡ Some k → steps_left (after_entry blobs st (Work k)) < steps_left st
 work-falls blobs st k r = work-fewer k st (after_entry blobs st (Work k)) (by-step (after_work k st) st (work-holds st k r))
 
-pub turn-falls : (blobs : List (List ℕ)) (st : State) → due_in st ≡ true → steps_left (after_entry blobs st Element) < steps_left st
+pub turn-falls : (blobs : List (List ℕ)) (st : State) → is_turn_due st ≡ true → steps_left (after_entry blobs st Element) < steps_left st
 turn-falls blobs st d = turn-fewer st (after_entry blobs st Element) (by-step (after_element_turn st) st (turn-holds st d))
 
 abbrev pub Drains : ℕ → List (List ℕ) → State → Type 0
 Drains n blobs st = (after_entries blobs st (drain_in n blobs st)).core ≡ drain_core st.core
 
-then-drains : (low : Option ℕ) (t : Bool) (n : ℕ) (blobs : List (List ℕ)) (st : State) → running_in st ≡ low → due_in st ≡ t → steps_left st < suc n
+then-drains : (low : Option ℕ) (t : Bool) (n : ℕ) (blobs : List (List ℕ)) (st : State) → running_in st ≡ low → is_turn_due st ≡ t → steps_left st < suc n
     → ((new : State) → steps_left new < n → Drains n blobs new)
     → (after_entries blobs st (entries_behind (next_entry_by low t) (λ entry. drain_in n blobs (after_entry blobs st entry)))).core ≡ drain_core st.core
 then-drains (Some k) t n blobs st r d l f =
@@ -119,7 +119,7 @@ drains-in (suc n) blobs st l =
     let still : State = record { core = st.core; outer = record { element = st.outer.element; queue = [] } } in
     ap (λ (s : State). s.core) (after-append blobs st (fired_entries st.outer.queue) (entries_then (drain_in n blobs) blobs (after_entries blobs st (fired_entries st.outer.queue))))
     ∙ ap (λ (s : State). (after_entries blobs s (entries_then (drain_in n blobs) blobs s)).core) (without-events blobs st.core st.outer.element st.outer.queue)
-    ∙ then-drains (running_in still) (due_in still) n blobs still refl refl l (λ new fewer. drains-in n blobs new fewer)
+    ∙ then-drains (running_in still) (is_turn_due still) n blobs still refl refl l (λ new fewer. drains-in n blobs new fewer)
 
 -- there are steps enough
 pub drain-core : (blobs : List (List ℕ)) (st : State) → (after_entries blobs st (drain_entries blobs st)).core ≡ drain_core st.core

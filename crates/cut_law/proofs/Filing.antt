@@ -32,7 +32,7 @@ half_behind-tells f count s (Stopped c t) k = inr k
 append-tells : (t : Bool) (bytes : List ℕ) (k : ℕ) (h : Half) → is_updating h.buffer.feed.running ≡ false → Tells h.source (half_at_end k (half_after_append_by t bytes k h)).source
 append-tells true bytes k h idle = inl (ap (λ (g : Half). g.source.fault) (half_at_end-idle k h idle), ap (λ (g : Half). g.source.error) (half_at_end-idle k h idle))
 append-tells false bytes k h idle =
-    let f : Feed = append_feed h.buffer.feed (h.buffer.feed.reading.whole ++ bytes) h.buffer.feed.reading.taken in
+    let f : Feed = append_feed h.buffer.feed (h.buffer.feed.reading.string.whole ++ bytes) h.buffer.feed.reading.string.taken in
     half_behind-tells f (length (items_left f)) (begin_source k h.source) (run k (items_left f) h.buffer.content (begin_source k h.source)) (run-keeps k (items_left f) h.buffer.content (begin_source k h.source))
 
 slot-tells : (x : Option (Option BufferState)) (bytes : List ℕ) (k : ℕ) (c : Core) → slice_get c.buffers k ≡ x → lowest c.buffers ≡ None

@@ -95,7 +95,7 @@ run-keeps k (x ∷ xs) c s = run-keeps-by k xs s (item_result x c s.state.durati
 -- ---- all the work of one buffer
 
 abbrev pub reading_of : Feed → List ℕ → ℕ → Reading
-reading_of f whole taken = record { container = f.reading.container; before = f.reading.before; whole = whole; taken = taken }
+reading_of f whole taken = record { container = f.reading.container; string = record { before = f.reading.string.before; whole = whole; taken = taken } }
 
 -- the feed with this string and count, with an append that runs and with nothing that runs
 abbrev pub append_feed : Feed → List ℕ → ℕ → Feed
@@ -105,10 +105,10 @@ abbrev pub idle_feed_of : Feed → List ℕ → ℕ → Feed
 idle_feed_of f whole taken = record { reading = reading_of f whole taken; running = Nothing }
 
 abbrev pub items_left : Feed → List ByteItem
-items_left f = drop f.reading.taken (items_in f.reading)
+items_left f = drop f.reading.string.taken (items_in f.reading)
 
 abbrev pub half_behind : Feed → ℕ → Ran → Half
-half_behind f count (Whole c s) = record { buffer = record { feed = idle_feed_of f f.reading.whole (f.reading.taken + count); content = c }; source = s }
+half_behind f count (Whole c s) = record { buffer = record { feed = idle_feed_of f f.reading.string.whole (f.reading.string.taken + count); content = c }; source = s }
 half_behind f count (Stopped c s) = record { buffer = record { feed = new_feed f.reading.container c.latest; content = c }; source = s }
 
 abbrev pub half_at_end_by : Running → ℕ → Feed → Content → CoreSource → Half
@@ -155,8 +155,8 @@ drop-some (suc n) (x ∷ xs) y e = drop-some n xs y e
 
 half_behind-count : (x : ByteItem) (f : Feed) (count : ℕ) (r : Ran) → half_behind f (suc count) r ≡ half_behind (feed_after (Some x) f) count r
 half_behind-count x f count (Whole c s) =
-    let more : f.reading.taken + suc count ≡ f.reading.taken + 1 + count = omega arith in
-    ap (λ n. record { buffer = record { feed = idle_feed_of f f.reading.whole n; content = c }; source = s }) more
+    let more : f.reading.string.taken + suc count ≡ f.reading.string.taken + 1 + count = omega arith in
+    ap (λ n. record { buffer = record { feed = idle_feed_of f f.reading.string.whole n; content = c }; source = s }) more
 half_behind-count x f count (Stopped c s) = refl
 
 turn-by : (x : ByteItem) (t : ItemResult) (k : ℕ) (f : Feed) (s : CoreSource) (left : List ByteItem) → f.running ≡ Append → items_left (feed_after (Some x) f) ≡ left
@@ -170,15 +170,15 @@ turn-by x (AppendError fault at c e) k f s left r l = refl
 turn-of : (x : Option ByteItem) (k : ℕ) (f : Feed) (c : Content) (s : CoreSource) → f.running ≡ Append → next_item f ≡ x
     → half_at_end_by Append k f c s ≡ half_at_end k (half_with k (append_turn_result x (surroundings_in k s) f c) s)
 turn-of None k f c s r l =
-    let nil : items_left f ≡ [] = drop-none f.reading.taken (items_in f.reading) l in
-    let none : f.reading.taken + 0 ≡ f.reading.taken = omega arith in
+    let nil : items_left f ≡ [] = drop-none f.reading.string.taken (items_in f.reading) l in
+    let none : f.reading.string.taken + 0 ≡ f.reading.string.taken = omega arith in
     ap (λ xs. half_behind f (length xs) (run k xs c s)) nil
-    ∙ ap (λ n. record { buffer = record { feed = idle_feed_of f f.reading.whole n; content = c }; source = s }) none
+    ∙ ap (λ n. record { buffer = record { feed = idle_feed_of f f.reading.string.whole n; content = c }; source = s }) none
 turn-of (Some x) k f c s r l =
-    let more : items_left f ≡ x ∷ drop (suc f.reading.taken) (items_in f.reading) = drop-some f.reading.taken (items_in f.reading) x l in
-    let one : f.reading.taken + 1 ≡ suc f.reading.taken = omega arith in
+    let more : items_left f ≡ x ∷ drop (suc f.reading.string.taken) (items_in f.reading) = drop-some f.reading.string.taken (items_in f.reading) x l in
+    let one : f.reading.string.taken + 1 ≡ suc f.reading.string.taken = omega arith in
     ap (λ xs. half_behind f (length xs) (run k xs c s)) more
-    ∙ turn-by x (item_result x c s.state.duration) k f s (drop (suc f.reading.taken) (items_in f.reading)) r (ap (λ n. drop n (items_in f.reading)) one)
+    ∙ turn-by x (item_result x c s.state.duration) k f s (drop (suc f.reading.string.taken) (items_in f.reading)) r (ap (λ n. drop n (items_in f.reading)) one)
 
 -- what one step leaves, and what is there where nothing runs
 abbrev pub half_by : ℕ → Option CallResult → Half → Half
@@ -259,7 +259,7 @@ after-stop : (q : List ℕ) (k : ℕ) (f : Feed) (count : ℕ) (c : Content) (s 
 after-stop q k f count c s e = ap (λ t. half_at_end k (half_after_append_by (not t) q k (half_behind f count (Stopped c s)))) e
 
 after-end : (w q : List ℕ) (k n : ℕ) (f : Feed) (count : ℕ) (ys : List ByteItem) (c : Content) (s : CoreSource) → (s.error == 0) ≡ true → IsNotEnded s.state.ready
-    → drop (n + count) (items_of f.reading.container f.reading.before (w ++ q)) ≡ ys
+    → drop (n + count) (items_of f.reading.container f.reading.string.before (w ++ q)) ≡ ys
     → half_at_end k (half_after_append q k (half_behind (append_feed f w n) count (Whole c s))) ≡ half_behind (append_feed f (w ++ q) (n + count)) (length ys) (run k ys c s)
 after-end w q k n f count ys c s free live left =
     let old : Half = record { buffer = record { feed = idle_feed_of f w (n + count); content = c }; source = s } in
@@ -274,7 +274,7 @@ counts w f n a b (Whole c s) =
 counts w f n a b (Stopped c s) = refl
 
 second-by : (r : Ran) (w q : List ℕ) (k n : ℕ) (f : Feed) (count : ℕ) (ys : List ByteItem) (s : CoreSource) → RanKeeps s r → (s.error == 0) ≡ true → IsNotEnded s.state.ready
-    → drop (n + count) (items_of f.reading.container f.reading.before (w ++ q)) ≡ ys
+    → drop (n + count) (items_of f.reading.container f.reading.string.before (w ++ q)) ≡ ys
     → half_at_end k (half_after_append q k (half_behind (append_feed f w n) count r)) ≡ half_behind (append_feed f (w ++ q) n) (count + length ys) (and_then k r ys)
 second-by (Whole d u) w q k n f count ys s keeps free live left =
     let free2 : (u.error == 0) ≡ true = rw keeps.error free in
@@ -283,19 +283,19 @@ second-by (Whole d u) w q k n f count ys s keeps free live left =
 second-by (Stopped d u) w q k n f count ys s keeps free live left = after-stop q k (append_feed f w n) count d u keeps.0
 
 two-parts : (p q : List ℕ) (k : ℕ) (f : Feed) (c : Content) (s : CoreSource) → (s.error == 0) ≡ true → IsNotEnded s.state.ready
-    → half_at_end k (half_after_append q k (half_at_end k (record { buffer = record { feed = append_feed f (f.reading.whole ++ p) f.reading.taken; content = c }; source = s })))
-    ≡ half_at_end k (record { buffer = record { feed = append_feed f (f.reading.whole ++ (p ++ q)) f.reading.taken; content = c }; source = s })
+    → half_at_end k (half_after_append q k (half_at_end k (record { buffer = record { feed = append_feed f (f.reading.string.whole ++ p) f.reading.string.taken; content = c }; source = s })))
+    ≡ half_at_end k (record { buffer = record { feed = append_feed f (f.reading.string.whole ++ (p ++ q)) f.reading.string.taken; content = c }; source = s })
 two-parts p q k f c s free live =
-    let w : List ℕ = f.reading.whole ++ p in
-    let n : ℕ = f.reading.taken in
-    let xs : List ByteItem = drop n (items_of f.reading.container f.reading.before w) in
-    let ys : List ByteItem = drop (n + length xs) (items_of f.reading.container f.reading.before (w ++ q)) in
-    let all : drop n (items_of f.reading.container f.reading.before (w ++ q)) ≡ xs ++ ys = items-split f.reading.container f.reading.before n w q in
+    let w : List ℕ = f.reading.string.whole ++ p in
+    let n : ℕ = f.reading.string.taken in
+    let xs : List ByteItem = drop n (items_of f.reading.container f.reading.string.before w) in
+    let ys : List ByteItem = drop (n + length xs) (items_of f.reading.container f.reading.string.before (w ++ q)) in
+    let all : drop n (items_of f.reading.container f.reading.string.before (w ++ q)) ≡ xs ++ ys = items-split f.reading.container f.reading.string.before n w q in
     second-by (run k xs c s) w q k n f (length xs) ys s (run-keeps k xs c s) free live refl
     ∙ ap (λ r. half_behind (append_feed f (w ++ q) n) (length xs + length ys) r) (sym (run-append k xs ys c s))
     ∙ ap (λ m. half_behind (append_feed f (w ++ q) n) m (run k (xs ++ ys) c s)) (sym (length-append xs ys))
     ∙ ap (λ zs. half_behind (append_feed f (w ++ q) n) (length zs) (run k zs c s)) (sym all)
-    ∙ ap (λ v. half_at_end k (record { buffer = record { feed = append_feed f v n; content = c }; source = s })) (append_assoc f.reading.whole p q)
+    ∙ ap (λ v. half_at_end k (record { buffer = record { feed = append_feed f v n; content = c }; source = s })) (append_assoc f.reading.string.whole p q)
 
 refused-by : (t : Bool) → not t ≡ false → t ≡ true
 refused-by true e = refl

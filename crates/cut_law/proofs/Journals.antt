@@ -32,7 +32,7 @@ use Rattle.mse_engine.specs.Replies.{surroundings_in}
 use Rattle.mse_engine.specs.CoreEffects.{CoreEffect, refused_effect, if_made}
 use Rattle.mse_engine.specs.BufferCalls.{reply_effect, append_effect_of}
 use Rattle.mse_engine.specs.Calls.{core_effect}
-use Rattle.mse_engine.specs.Work.{work_effect, work_result, after_element_turn, without_first, fire_result, due_in, scene_in}
+use Rattle.mse_engine.specs.Work.{work_effect, work_result, after_element_turn, without_first, fire_result, is_turn_due, scene_in}
 use Rattle.mse_engine.specs.Run.{step_meaning, fire_meaning, after_entries, fire_entries, entries_if}
 use Rattle.cut_law.specs.Plays.{after_entry, line_entries, after_line, play_entries, play_of}
 use Rattle.cut_law.specs.Room.{HasRoomFor, HasRoomForCall, HasRoomForEntry, HasRoomForLine, IsUnmet}
@@ -65,7 +65,7 @@ pick false x y e = absurd (cc)
 
 evicts-none : (bytes : List ℕ) (position : ℤ) (quota : ℕ) (d : Moment) (f : Feed) (m : Media) → is_full bytes quota f m ≡ false → media_after_eviction position (length bytes) quota d m ≡ m
 evicts-none bytes position quota d f m e =
-    let less : nat_lt (bytes_in m.tracks) quota ≡ true = below quota (bytes_in m.tracks) (not-full (nat_le quota (used_in m)) (nat_le (2 ^ 62) (length f.reading.whole + length bytes)) e) in
+    let less : nat_lt (bytes_in m.tracks) quota ≡ true = below quota (bytes_in m.tracks) (not-full (nat_le quota (used_in m)) (nat_le (2 ^ 62) (length f.reading.string.whole + length bytes)) e) in
     ap (λ ts. record m { tracks = ts }) (pick (nat_lt (bytes_in m.tracks) quota) m.tracks _ less)
 
 append-free : (t : Bool) (bytes : List ℕ) (position : ℤ) (k : ℕ) (b : BufferState) (s : CoreSource) → is_full bytes s.quota b.feed b.content.media ≡ false
@@ -239,7 +239,7 @@ same-line blobs a b line e room =
 
 -- a turn of the element leaves the core
 pub turn-leaves : (st : State) → IfSome (after_element_turn st) (λ new. new.core ≡ st.core)
-turn-leaves st = by-due (due_in st) (step_of st.core [] (outer_of (queueing.after_own_turn (scene_in st) (element_in st.core.source.error st.outer)))) st refl
+turn-leaves st = by-due (is_turn_due st) (step_of st.core [] (outer_of (queueing.after_own_turn (scene_in st) (element_in st.core.source.error st.outer)))) st refl
   where
     by-due : (t : Bool) (new st : State) → new.core ≡ st.core → IfSome (if t then Some new else None) (λ new. new.core ≡ st.core)
     by-due true new st e = e

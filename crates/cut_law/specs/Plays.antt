@@ -7,7 +7,7 @@ use Rattle.call_script.specs.declared.script.StepLine.{StepLine}
 use Rattle.call_script.specs.declared.script.StepLine.TheVariants as step
 use Rattle.mse_engine.specs.State.{State}
 use Rattle.mse_engine.specs.Calls.{after_call}
-use Rattle.mse_engine.specs.Work.{after_work, after_element_turn, fire_result, running_in, due_in}
+use Rattle.mse_engine.specs.Work.{after_work, after_element_turn, fire_result, running_in, is_turn_due}
 use Rattle.mse_engine.specs.Progress.{steps_left}
 use Rattle.mse_engine.specs.Run.{entry_meaning, after_entries, fire_entries, entries_if}
 
@@ -28,7 +28,7 @@ next_entry_by None true = Some Element
 next_entry_by None false = None
 
 abbrev pub next_entry : State → Option Entry
-next_entry st = next_entry_by (running_in st) (due_in st)
+next_entry st = next_entry_by (running_in st) (is_turn_due st)
 
 abbrev pub entries_behind : Option Entry → (Entry → List Entry) → List Entry
 entries_behind None go = []

@@ -89,7 +89,7 @@ pub fn needed_premises()
     ensures awaited { ((blobs : List (List ℕ)) (st : State) (s t : List StepLine)
         → IsOtherCut blobs s t → IsUnmet blobs st s → IsUnmet blobs st t
         → (play_of blobs st t).core ≡ (play_of blobs st s).core) → ⊥ }
-    ensures room { ((blobs : List (List ℕ)) (st : State) (s t : List StepLine)
+    ensures cut_has_room { ((blobs : List (List ℕ)) (st : State) (s t : List StepLine)
         (c : IsOtherCut blobs s t) → IsAwaited blobs st c.front
         → (play_of blobs st t).core ≡ (play_of blobs st s).core) → ⊥ }
 {}

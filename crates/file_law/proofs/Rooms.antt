@@ -1,5 +1,5 @@
 -- A source buffer to which fewer than 2 ^ 62 bytes are appended is not full.
-use Rattle.std.proofs.Common.{◌≡◌, ℕ, zero, suc, ◌+◌, ◌≤◌, ◌<◌, ◌^◌, Bool, true, false, not, ◌||◌, List, [], ◌∷◌, ◌++◌, length, drop, take, map, set, refl, ap, sym, subst, ◌∙◌, arith, length-append}
+use Rattle.std.proofs.Common.{◌≡◌, ℕ, zero, suc, ◌+◌, ◌≤◌, ◌<◌, ◌^◌, Bool, true, false, ◌||◌, List, [], ◌∷◌, ◌++◌, length, drop, take, map, set, refl, ap, sym, subst, ◌∙◌, arith, length-append}
 use Rattle.std.specs.Prelude.{Option, Some, None, IfSome, slice_get, slice_set, nat_le, ◌-◌, if◌then◌else◌}
 use Rattle.std.specs.Option.{option_flatten}
 use Rattle.std.proofs.lemmas.Bool.Decides.{nat_tests}
@@ -31,21 +31,19 @@ use Rattle.track_buffers.specs.declared.effects.SourceEffect.{SourceEffect}
 use Rattle.track_buffers.specs.declared.effects.MediaFault.{MediaFault}
 use Rattle.track_buffers.specs.Media.{Media, MediaResult}
 use Rattle.track_buffers.specs.Media as media
-use Rattle.track_buffers.specs.Frames.{used_in, frame_result, frame_result_at, place_of, placement_result, unset_track, media_after_reset}
-use Rattle.track_buffers.specs.Initialized.{init_fault, init_result, init_result_of, media_tracks, new_track, partner_of, segment_effect, track_with_partner, tracks_after, tracks_with_partners}
-use Rattle.buffer_state.specs.declared.faults.Fault.{Fault}
+use Rattle.track_buffers.specs.Frames.{used_in, frame_result, frame_result_at, place_of, placement_result, unset_track}
+use Rattle.track_buffers.specs.Initialized.{init_fault, init_result, init_result_of, media_tracks, new_track, partner_of, segment_effect, track_with_partner, tracks_after}
 use Rattle.buffer_state.specs.State.{Feed, Content, is_updating}
-use Rattle.buffer_state.specs.Calls.{is_full}
-use Rattle.buffer_state.specs.Turns.{ItemResult, Done, AppendError, item_result, media_item_result, content_after_error}
-use Rattle.source_buffers.specs.State.{BufferState, BufferStates, in_slot}
+use Rattle.buffer_state.specs.Turns.{ItemResult, Done, AppendError, item_result, media_item_result}
+use Rattle.source_buffers.specs.State.{BufferState, in_slot}
 use Rattle.mse_engine.specs.State.{CoreSource, Core, State}
 use Rattle.mse_engine.specs.Work.{running_in}
 use Rattle.cut_law.specs.Plays.{after_line}
 use Rattle.cut_law.specs.Room.{HasRoomForCall, HasRoomFor}
-use Rattle.cut_law.specs.Cuts.{extent_of, AreParts}
+use Rattle.cut_law.specs.Cuts.{AreParts}
 use Rattle.cut_law.specs.Files.{after_piece, UnlessFault, HaveRoom}
 use Rattle.cut_law.proofs.Halves.{Half, Ran, Whole, Stopped, ran_by, run, effect_source, half_behind, items_left, half_at_end, half_at_end-idle, half_after_append_by, half_after_append, is_refused, append_feed, begin_source}
-use Rattle.cut_law.proofs.Drains.{drain_core, append_core, on_slot, set_place, appended, at-idle, lowest, lowest-is, append-rests}
+use Rattle.cut_law.proofs.Drains.{drain_core, append_core, on_slot, appended, at-idle, lowest, lowest-is, append-rests}
 use Rattle.cut_law.proofs.Drains as drains
 use Rattle.cut_law.proofs.Journals.{append_some, line-core}
 use Rattle.cut_law.proofs.Cutting.{piece-bytes}
@@ -187,7 +185,7 @@ record HalfHolds (start quota : ℕ) (h : Half) : Type 0 where
   held : IsHeldBefore start h.buffer
   same : h.source.quota ≡ quota
 
-behind-holds : (start : ℕ) (f : Feed) (count : ℕ) (s : CoreSource) (r : Ran) → length f.reading.whole ≤ start → RanCounts s r → HalfHolds start s.quota (half_behind f count r)
+behind-holds : (start : ℕ) (f : Feed) (count : ℕ) (s : CoreSource) (r : Ran) → length f.reading.string.whole ≤ start → RanCounts s r → HalfHolds start s.quota (half_behind f count r)
 behind-holds start f count s (Whole c t) l h = record { held = record { read = l; used = h.0 }; same = h.1 }
 behind-holds start f count s (Stopped c t) l h = record { held = record { read = omega arith; used = h.0 }; same = h.1 }
 
@@ -198,9 +196,9 @@ append-holds : (t : Bool) (start : ℕ) (bytes : List ℕ) (k : ℕ) (h : Half) 
 append-holds true start bytes k h idle held =
     subst (λ (g : Half). HalfHolds (start + length bytes) h.source.quota g) (sym (half_at_end-idle k h idle)) (record { held = held-later start (length bytes) h.buffer held; same = refl })
 append-holds false start bytes k h idle held =
-    let f : Feed = append_feed h.buffer.feed (h.buffer.feed.reading.whole ++ bytes) h.buffer.feed.reading.taken in
+    let f : Feed = append_feed h.buffer.feed (h.buffer.feed.reading.string.whole ++ bytes) h.buffer.feed.reading.string.taken in
     let read = held.read in
-    let long = length-append h.buffer.feed.reading.whole bytes in
+    let long = length-append h.buffer.feed.reading.string.whole bytes in
     behind-holds (start + length bytes) f (length (items_left f)) (begin_source k h.source) (run k (items_left f) h.buffer.content (begin_source k h.source)) (omega (arith, read, long))
     (run-counts k (items_left f) h.buffer.content (begin_source k h.source) held.used)
 
@@ -249,7 +247,7 @@ room-for : (o : Option BufferState) (quota start : ℕ) (bytes : List ℕ) → 2
 room-for None quota start bytes q h l = tt
 room-for (Some b) quota start bytes q h l =
     let read = h.read in
-    not-full 0 quota (used_in b.content.media) (length b.feed.reading.whole + length bytes) q h.used (omega (arith, read, l))
+    not-full 0 quota (used_in b.content.media) (length b.feed.reading.string.whole + length bytes) q h.used (omega (arith, read, l))
 
 unless : (o : Option FaultView) (P : Type 0) → P → UnlessFault o P
 unless None P h = h

@@ -1,20 +1,19 @@
 -- A file that is appended in parts, or with bytes behind its first fault, comes to what the file comes to.
-use Rattle.std.proofs.Common.{◌≡◌, ℕ, zero, suc, ◌+◌, ◌≤◌, ◌<◌, ◌^◌, ◌==◌, Bool, true, false, List, [], ◌∷◌, ◌++◌, length, drop, take, refl, ap, sym, subst, ◌∙◌, arith, length-append}
-use Rattle.std.specs.Prelude.{Option, Some, None, IsSome, is_some, slice_get}
+use Rattle.std.proofs.Common.{◌≡◌, ℕ, ◌+◌, ◌≤◌, ◌<◌, ◌^◌, List, [], ◌∷◌, ◌++◌, length, take, refl, ap, sym, subst, ◌∙◌, arith, length-append}
+use Rattle.std.specs.Prelude.{Option, Some, None, IsSome}
 use Rattle.mse_calls.specs.Pieces.{bytes_of}
 use Rattle.mse_calls.specs.declared.calls.Call.TheVariants.{AppendBuffer}
 use Rattle.mse_calls.specs.declared.calls.Piece.{Piece}
 use Rattle.mse_calls.specs.declared.views.FaultView.{FaultView}
 use Rattle.mse_engine.specs.State.{Core, State}
-use Rattle.mse_engine.specs.Work.{running_in}
 use Rattle.cut_law.specs.Cuts.{AreParts}
-use Rattle.cut_law.specs.Files.{after_piece, after_pieces, unless_fault, HaveRoom, UnlessFault}
+use Rattle.cut_law.specs.Files.{after_piece, after_pieces, unless_fault}
 use Rattle.cut_law.specs.Room.{HasRoomForCall}
 use Rattle.cut_law.proofs.Cutting.{piece-bytes}
 use Rattle.cut_law.proofs.Filing.{filing}
 use Rattle.cut_law.proofs.Drains.{drain_core}
 use Rattle.cut_law.proofs.Journals.{append_some}
-use Rattle.file_law.specs.Rooms.{HoldsLittle, IsFresh, whole_of}
+use Rattle.file_law.specs.Rooms.{IsFresh, whole_of}
 use Rattle.file_law.proofs.Rooms.{file-rooms, piece-core, piece-room}
 
 -- one piece, where there was no fault

@@ -1,5 +1,5 @@
 -- A source buffer that holds little enough for the rest of a file.
-use Rattle.std.specs.Prelude.{◌≡◌, ℕ, ◌≤◌, ◌<◌, ◌^◌, length, Option, None, IfSome}
+use Rattle.std.specs.Prelude.{◌≡◌, ℕ, ◌≤◌, ◌<◌, ◌^◌, length, None, IfSome}
 use Rattle.mse_calls.specs.declared.calls.Piece.{Piece}
 use Rattle.track_buffers.specs.Frames.{used_in}
 use Rattle.source_buffers.specs.State.{BufferState, in_slot}
@@ -8,7 +8,7 @@ use Rattle.mse_engine.specs.Work.{running_in}
 
 -- it read no more than so many bytes, and the bytes of its coded frames can be counted
 pub record IsHeldBefore (start : ℕ) (b : BufferState) : Type 0 where
-  pub read : length b.feed.reading.whole ≤ start
+  pub read : length b.feed.reading.string.whole ≤ start
   pub used : used_in b.content.media < 2 ^ 62
 
 -- so does the buffer of a number, if there is one, and the quota is not met by what can be counted

@@ -4,7 +4,7 @@ use Rattle.std.specs.Prelude.{Option, None}
 use Rattle.mse_base.specs.declared.span.Span.{Span}
 use Rattle.mse_base.specs.declared.ticks.Moment.{Moment}
 use Rattle.mse_base.specs.declared.ticks.Moment.TheVariants.{Nan, At, Infinite}
-use Rattle.mse_base.specs.Moments.{same_moment}
+use Rattle.mse_base.specs.Moments.{is_same_moment}
 use Rattle.track_buffers.specs.Media.{Media}
 use Rattle.source_state.specs.Seekable.{seekable_span}
 use Rattle.source_state.specs.State.{SourceState}
@@ -17,7 +17,7 @@ use Rattle.mse_engine.specs.Scenes.{buffered_in, seekable_in, seekable_of}
 use Rattle.mse_engine.specs.Standing.{SourceSide, HasBounds, bounds_at, view_of}
 
 -- where the duration is not infinite the ranges do not matter
-pub finite_seekable : (d : Moment) (live : Option Span) (first last : Option ℤ) → same_moment d Infinite ≡ false → seekable_span d live None None ≡ seekable_span d live first last
+pub finite_seekable : (d : Moment) (live : Option Span) (first last : Option ℤ) → is_same_moment d Infinite ≡ false → seekable_span d live None None ≡ seekable_span d live first last
 finite_seekable Nan live first last h = refl
 finite_seekable (At d) live first last h = refl
 finite_seekable Infinite live first last h = absurd (cc)

@@ -10,12 +10,12 @@ use Rattle.mse_base.specs.Moments.{greatest}
 use Rattle.track_buffers.specs.Buffered.{with_end, with_common_end, last_ends}
 use Rattle.track_buffers.specs.Media.{Media}
 use Rattle.buffer_state.specs.declared.reply.Reply.{Reply}
-use Rattle.source_state.specs.State.{SourceState, has, are_in}
+use Rattle.source_state.specs.State.{SourceState, is_listed_in, are_in}
 use Rattle.source_buffers.specs.State.{KeptBuffers, in_slot, all_kept_media}
 use Rattle.source_buffers.specs.Buffered.{slot_ranges, active_ranges, element_ranges, AllLeaveRanges}
 use Rattle.media_element.specs.State.{ElementState}
 use Rattle.mse_engine.specs.declared.scenes.LoadBounds.{LoadBounds}
-use Rattle.mse_engine.specs.Replies.{active_after, loads, ready_after}
+use Rattle.mse_engine.specs.Replies.{active_after, is_loading, ready_after}
 use Rattle.mse_engine.specs.Standing.{SourceSide, HasBounds, IsReadyToLoad, bounds_at, no_bounds, reply_view}
 
 -- ---- ranges that nothing shares
@@ -39,20 +39,20 @@ first_empty h f k n rest none empty e =
     let same : n ≡ k = grind (arith, nat_tests, e) in
     ap (λ x. fold meet (h (f x)) rest) same ∙ (ap (λ x. fold meet (h x) rest) empty ∙ (ap (λ x. fold meet x rest) none ∙ empty_fold rest))
 
-later_by : (b : Bool) (h : List Span → List Span) (f : ℕ → List Span) (k n : ℕ) (ns : List ℕ) (acc : List Span) → h [] ≡ [] → f k ≡ [] → (n == k) ≡ b → (b || has k ns) ≡ true
-    → (has k ns ≡ true → fold meet (meet acc (h (f n))) (map h (map f ns)) ≡ []) → fold meet (meet acc (h (f n))) (map h (map f ns)) ≡ []
+later_by : (b : Bool) (h : List Span → List Span) (f : ℕ → List Span) (k n : ℕ) (ns : List ℕ) (acc : List Span) → h [] ≡ [] → f k ≡ [] → (n == k) ≡ b → (b || is_listed_in k ns) ≡ true
+    → (is_listed_in k ns ≡ true → fold meet (meet acc (h (f n))) (map h (map f ns)) ≡ []) → fold meet (meet acc (h (f n))) (map h (map f ns)) ≡ []
 later_by true h f k n ns acc none empty is e next = map_empty h f k n acc (map h (map f ns)) none empty is
 later_by false h f k n ns acc none empty is e next = next e
 
-later_empty : (h : List Span → List Span) (f : ℕ → List Span) (k : ℕ) (ns : List ℕ) (acc : List Span) → h [] ≡ [] → f k ≡ [] → has k ns ≡ true → fold meet acc (map h (map f ns)) ≡ []
+later_empty : (h : List Span → List Span) (f : ℕ → List Span) (k : ℕ) (ns : List ℕ) (acc : List Span) → h [] ≡ [] → f k ≡ [] → is_listed_in k ns ≡ true → fold meet acc (map h (map f ns)) ≡ []
 later_empty h f k [] acc none empty e = absurd cc
 later_empty h f k (n ∷ ns) acc none empty e = later_by (n == k) h f k n ns acc none empty refl e (λ there. later_empty h f k ns (meet acc (h (f n))) none empty there)
 
-first_by : (b : Bool) (h : List Span → List Span) (f : ℕ → List Span) (k n : ℕ) (ns : List ℕ) → h [] ≡ [] → f k ≡ [] → (n == k) ≡ b → (b || has k ns) ≡ true → fold meet (h (f n)) (map h (map f ns)) ≡ []
+first_by : (b : Bool) (h : List Span → List Span) (f : ℕ → List Span) (k n : ℕ) (ns : List ℕ) → h [] ≡ [] → f k ≡ [] → (n == k) ≡ b → (b || is_listed_in k ns) ≡ true → fold meet (h (f n)) (map h (map f ns)) ≡ []
 first_by true h f k n ns none empty is e = first_empty h f k n (map h (map f ns)) none empty is
 first_by false h f k n ns none empty is e = later_empty h f k ns (h (f n)) none empty e
 
-mapped_empty : (h : List Span → List Span) (f : ℕ → List Span) (k : ℕ) (ns : List ℕ) → h [] ≡ [] → f k ≡ [] → has k ns ≡ true → meet_of_all (map h (map f ns)) ≡ []
+mapped_empty : (h : List Span → List Span) (f : ℕ → List Span) (k : ℕ) (ns : List ℕ) → h [] ≡ [] → f k ≡ [] → is_listed_in k ns ≡ true → meet_of_all (map h (map f ns)) ≡ []
 mapped_empty h f k [] none empty e = refl
 mapped_empty h f k (n ∷ ns) none empty e = first_by (n == k) h f k n ns none empty refl e
 
@@ -65,7 +65,7 @@ end_of_none None = refl
 end_of_none (Some e) = refl
 
 -- one of the active buffers has no ranges
-pub one_empty : (ended : Bool) (k : ℕ) (active : List ℕ) (ms : List (Option Media)) → slot_ranges ended (in_slot k ms) ≡ [] → has k active ≡ true → element_ranges ended active ms ≡ []
+pub one_empty : (ended : Bool) (k : ℕ) (active : List ℕ) (ms : List (Option Media)) → slot_ranges ended (in_slot k ms) ≡ [] → is_listed_in k active ≡ true → element_ranges ended active ms ≡ []
 one_empty false k active ms empty there = ap meet_of_all (sym (no_change (active_ranges false active ms))) ∙ mapped_empty (λ r. r) (λ j. slot_ranges false (in_slot j ms)) k active refl empty there
 one_empty true k active ms empty there =
     let e : Option ℤ = greatest (last_ends (active_ranges true active ms)) in
@@ -83,10 +83,10 @@ neither true true d h = absurd cc
 neither true false d h = (refl, h)
 neither false c d h = (refl, refl)
 
-left_all : (b : Bool) (k : ℕ) (f g : ℕ → List Span) (ns : List ℕ) → ((j : ℕ) → f j ≡ cond (b && (j == k)) [] (g j)) → (b && has k ns) ≡ false → map f ns ≡ map g ns
+left_all : (b : Bool) (k : ℕ) (f g : ℕ → List Span) (ns : List ℕ) → ((j : ℕ) → f j ≡ cond (b && (j == k)) [] (g j)) → (b && is_listed_in k ns) ≡ false → map f ns ≡ map g ns
 left_all b k f g [] same h = refl
 left_all b k f g (n ∷ ns) same h =
-    let split = neither b (n == k) (has k ns) h in
+    let split = neither b (n == k) (is_listed_in k ns) h in
     let first : f n ≡ g n = left_one b (n == k) (f n) (g n) (same n) split.0 in
     let rest : map f ns ≡ map g ns = left_all b k f g ns same split.1 in
     λ i. first i ∷ rest i
@@ -94,10 +94,10 @@ left_all b k f g (n ∷ ns) same h =
 -- ---- behind a reply
 
 module _ (k : ℕ) (r : Reply) (old new : KeptBuffers) (leaves : AllLeaveRanges k old r new) (received : r.received_init ≡ true) where
-  left_ranges : (ended : Bool) (active : List ℕ) → (r.activated && has k active) ≡ false → element_ranges ended active (all_kept_media new) ≡ element_ranges ended active (all_kept_media old)
+  left_ranges : (ended : Bool) (active : List ℕ) → (r.activated && is_listed_in k active) ≡ false → element_ranges ended active (all_kept_media new) ≡ element_ranges ended active (all_kept_media old)
   left_ranges ended active h = ap (λ rs. meet_of_all (with_common_end ended rs)) (left_all r.activated k (λ j. slot_ranges ended (in_slot j (all_kept_media new))) (λ j. slot_ranges ended (in_slot j (all_kept_media old))) active (leaves received ended) h)
 
-  no_ranges : (ended : Bool) (active : List ℕ) → r.activated ≡ true → has k active ≡ true → element_ranges ended active (all_kept_media new) ≡ []
+  no_ranges : (ended : Bool) (active : List ℕ) → r.activated ≡ true → is_listed_in k active ≡ true → element_ranges ended active (all_kept_media new) ≡ []
   no_ranges ended active joined there =
       let own : slot_ranges ended (in_slot k (all_kept_media new)) ≡ cond (r.activated && (k == k)) [] (slot_ranges ended (in_slot k (all_kept_media old))) = leaves received ended k in
       let is : (r.activated && (k == k)) ≡ true = grind (arith, nat_tests, joined) in
@@ -111,9 +111,9 @@ or_left : (b c : Bool) → b ≡ true → (b || c) ≡ true
 or_left true c h = refl
 or_left false c h = absurd cc
 
-has_last : (k : ℕ) (ns : List ℕ) → has k (ns ++ k ∷ []) ≡ true
+has_last : (k : ℕ) (ns : List ℕ) → is_listed_in k (ns ++ k ∷ []) ≡ true
 has_last k [] = or_left (k == k) false (grind (arith, nat_tests))
-has_last k (n ∷ ns) = or_right (n == k) (has k (ns ++ k ∷ [])) (has_last k ns)
+has_last k (n ∷ ns) = or_right (n == k) (is_listed_in k (ns ++ k ∷ [])) (has_last k ns)
 
 none_bounds : (ended : Bool) → HasBounds (bounds_at no_bounds ended) []
 none_bounds true = record { first = refl; last = refl }
@@ -143,20 +143,20 @@ not_true true h = absurd cc
 not_true false h = refl
 
 by_joining : (a l c : Bool) (k : ℕ) (r : Reply) (old new : KeptBuffers) (leaves : AllLeaveRanges k old r new) (received : r.received_init ≡ true) (s : SourceState) (bounds : LoadBounds) (ended : Bool)
-    → r.activated ≡ a → has k s.active ≡ c → HasBounds (bounds_at bounds ended) (element_ranges ended s.active (all_kept_media old))
+    → r.activated ≡ a → is_listed_in k s.active ≡ c → HasBounds (bounds_at bounds ended) (element_ranges ended s.active (all_kept_media old))
     → HasBounds (bounds_at (cond (a && (l || c)) no_bounds bounds) ended) (element_ranges ended (cond (a && (l && not c)) (s.active ++ k ∷ []) s.active) (all_kept_media new))
-by_joining false l c k r old new leaves received s bounds ended joins there h = subst (λ (x : List Span). HasBounds (bounds_at bounds ended) x) (sym (left_ranges k r old new leaves received ended s.active (first_false r.activated (has k s.active) joins))) h
+by_joining false l c k r old new leaves received s bounds ended joins there h = subst (λ (x : List Span). HasBounds (bounds_at bounds ended) x) (sym (left_ranges k r old new leaves received ended s.active (first_false r.activated (is_listed_in k s.active) joins))) h
 by_joining true true true k r old new leaves received s bounds ended joins there h = empty_bounds ended (element_ranges ended s.active (all_kept_media new)) (no_ranges k r old new leaves received ended s.active joins there)
 by_joining true true false k r old new leaves received s bounds ended joins there h = empty_bounds ended (element_ranges ended (s.active ++ k ∷ []) (all_kept_media new)) (no_ranges k r old new leaves received ended (s.active ++ k ∷ []) joins (has_last k s.active))
 by_joining true false true k r old new leaves received s bounds ended joins there h = empty_bounds ended (element_ranges ended s.active (all_kept_media new)) (no_ranges k r old new leaves received ended s.active joins there)
-by_joining true false false k r old new leaves received s bounds ended joins there h = subst (λ (x : List Span). HasBounds (bounds_at bounds ended) x) (sym (left_ranges k r old new leaves received ended s.active (both_false r.activated (has k s.active) there))) h
+by_joining true false false k r old new leaves received s bounds ended joins there h = subst (λ (x : List Span). HasBounds (bounds_at bounds ended) x) (sym (left_ranges k r old new leaves received ended s.active (both_false r.activated (is_listed_in k s.active) there))) h
 
 -- the bounds before a reply, or none where a buffer becomes active, are those behind it
 pub brought : (k : ℕ) (r : Reply) (old new : KeptBuffers) (side : SourceSide) (e : ElementState) (bounds behind : LoadBounds)
     → AllLeaveRanges k old r new
-    → behind ≡ cond (r.activated && (has k side.state.listed || has k side.state.active)) no_bounds bounds
+    → behind ≡ cond (r.activated && (is_listed_in k side.state.listed || is_listed_in k side.state.active)) no_bounds bounds
     → (has_metadata e.player.level ≡ false → int_lt (pos 0) e.player.default_start ≡ true → (ended : Bool) → HasBounds (bounds_at bounds ended) (element_ranges ended side.state.active (all_kept_media old)))
-    → loads k r (not (has_metadata e.player.level)) side.state ≡ true
+    → is_loading k r (not (has_metadata e.player.level)) side.state ≡ true
     → IsReadyToLoad behind (reply_view k r side new e) e
 brought k r old new side e bounds behind leaves is before loaded above =
     let s : SourceState = side.state in
@@ -164,4 +164,4 @@ brought k r old new side e bounds behind leaves is before loaded above =
     let received : r.received_init ≡ true = first_true r.received_init (not (has_metadata e.player.level)) received_blank in
     let blank : has_metadata e.player.level ≡ false = not_true (has_metadata e.player.level) (second_true r.received_init (not (has_metadata e.player.level)) received_blank) in
     let ended : Bool = is_ended (ready_after r s.ready) in
-    subst (λ (b : LoadBounds). HasBounds (bounds_at b ended) (element_ranges ended (active_after k r s) (all_kept_media new))) (sym is) (by_joining r.activated (has k s.listed) (has k s.active) k r old new leaves received s bounds ended refl refl (before blank above ended))
+    subst (λ (b : LoadBounds). HasBounds (bounds_at b ended) (element_ranges ended (active_after k r s) (all_kept_media new))) (sym is) (by_joining r.activated (is_listed_in k s.listed) (is_listed_in k s.active) k r old new leaves received s bounds ended refl refl (before blank above ended))

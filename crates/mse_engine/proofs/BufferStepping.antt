@@ -24,7 +24,7 @@ use Rattle.buffer_state.specs.Calls.{append_result}
 use Rattle.track_buffers.specs.Buffered.{buffered_of}
 use Rattle.source_buffers.specs.State.{BufferState, BufferStates, KeptBuffers, AllStand, in_slot, media_of, media_of_all, all_kept_media}
 use Rattle.source_buffers.specs.All.{AllEndWithin, AllStayWithin}
-use Rattle.source_buffers.specs.Slots.{BuffersResult, BuffersAnswer, IsBuffersResult, call_in_slot, result_by_slot, result_on_buffer, refused_buffers}
+use Rattle.source_buffers.specs.Slots.{BuffersResult, IsBuffersAnswer, IsBuffersResult, call_in_slot, result_by_slot, result_on_buffer, refused_buffers}
 use Rattle.source_buffers.specs.Buffered.{buffered_at}
 use Rattle.source_buffers.proofs.Standing.{same_length, same_media}
 use Rattle.media_element.specs.State.{ElementState}
@@ -33,7 +33,7 @@ use Rattle.mse_engine.specs.State.{CoreSource, Core, Outer, State, outer_of, ele
 use Rattle.mse_engine.specs.Scenes.{core_view}
 use Rattle.mse_engine.specs.Signals.{after_settling}
 use Rattle.source_state.specs.State.{SourceState, are_in}
-use Rattle.mse_engine.specs.Replies.{active_after, loads, surroundings_in}
+use Rattle.mse_engine.specs.Replies.{active_after, is_loading, surroundings_in}
 use Rattle.mse_engine.specs.CoreEffects.{CoreEffect, refused_effect, no_core_effect, if_made, if_finite}
 use Rattle.mse_engine.specs.BufferCalls.{reply_effect, buffer_effect, append_effect_of, append_effect}
 use Rattle.mse_engine.specs.Calls.{after_call, after_call_by, no_element_effect, read_slot_effect}
@@ -52,7 +52,7 @@ result_at k name call c = result_on_buffer k name c.source.state.duration (call 
 
 pub call_steps : (k : ℕ) (name : Name) (call : Surroundings → Feed → Content → CallResult) (around : Surroundings) (d : Moment) (r : Reply) (a : Answer) (side : SourceSide) (e e1 : ElementState) (old new : KeptBuffers) (after : KeptEngine)
     → e1 ≡ e → around ≡ surroundings_in k (core_source side e1) → d ≡ side.state.duration
-    → BuffersAnswer old r new (result_on_buffer k name d (call around))
+    → IsBuffersAnswer old r new (result_on_buffer k name d (call around))
     → Concludes k a r (kept_engine side new e1) after
     → (st : State) → Stands (kept_engine side old e) st → IsStep a after (after_call_by (reply_effect k (result_at k name call st.core) st.core) (no_element_effect st.outer) answer.Done)
 call_steps k name call around d r a side e e1 old new after same there long answers concludes st h =
@@ -64,9 +64,9 @@ call_steps k name call around d r a side e e1 old new after same there long answ
     concludes st (result_at k name call st.core) source (ap outer_of same ∙ h.outer) next
 
 -- where no initialization segment was received the element gets no metadata
-pub never_loads : (P : Type 0) (k : ℕ) (r : Reply) (blank : Bool) (s : SourceState) → r.received_init ≡ false → loads k r blank s ≡ true → P
+pub never_loads : (P : Type 0) (k : ℕ) (r : Reply) (blank : Bool) (s : SourceState) → r.received_init ≡ false → is_loading k r blank s ≡ true → P
 never_loads P k r blank s none h =
-    let no : loads k r blank s ≡ false = ap (λ (b : Bool). (b && blank) && are_in s.listed (active_after k r s)) none in
+    let no : is_loading k r blank s ≡ false = ap (λ (b : Bool). (b && blank) && are_in s.listed (active_after k r s)) none in
     let wrong : false ≡ true = sym no ∙ h in
     absurd (cc)
 
@@ -206,7 +206,7 @@ unread_steps k x st past settled h = unmade_steps k (read_slot_effect (in_slot k
 pub append_steps : (k : ℕ) (bytes : List ℕ) (piece : Piece) (blobs : List (List ℕ)) (around : Surroundings) (d : Moment) (position : ℤ) (quota : ℕ) (r : Reply) (a : Answer) (side : SourceSide) (e e1 : ElementState) (old new : KeptBuffers) (after : KeptEngine)
     → nat_lt k (length old) ≡ true → bytes_of blobs piece ≡ Some bytes
     → e1 ≡ e → around ≡ surroundings_in k (core_source side e1) → d ≡ side.state.duration → position ≡ e1.player.position → quota ≡ side.quota
-    → BuffersAnswer old r new (result_on_buffer k InvalidState d (append_result (record { bytes = bytes; position = position; quota = quota }) around))
+    → IsBuffersAnswer old r new (result_on_buffer k InvalidState d (append_result (record { bytes = bytes; position = position; quota = quota }) around))
     → Concludes k a r (kept_engine side new e1) after
     → (st : State) → Stands (kept_engine side old e) st → IsStep a after (after_call blobs (call.AppendBuffer k piece) st)
 append_steps k bytes piece blobs around d position quota r a side e e1 old new after is there same told long at most answers concludes st h =

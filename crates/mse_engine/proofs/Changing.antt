@@ -6,7 +6,7 @@ use Rattle.std.proofs.lemmas.Int.{ints}
 use Rattle.mse_base.specs.declared.span.Span.{Span}
 use Rattle.mse_base.specs.declared.ticks.Moment.{Moment}
 use Rattle.mse_base.specs.declared.ticks.Moment.TheVariants.{Nan, At, Infinite}
-use Rattle.mse_base.specs.Moments.{is_nan, is_after, same_moment, greater_moment}
+use Rattle.mse_base.specs.Moments.{is_nan, is_after, is_same_moment, greater_moment}
 use Rattle.mse_calls.specs.Answered.{Answered}
 use Rattle.mse_calls.specs.Ready.{is_open}
 use Rattle.mse_calls.specs.declared.answers.Answer.TheVariants.{Done, Refused}
@@ -18,7 +18,7 @@ use Rattle.mse_calls.specs.declared.calls.EndKind.TheVariants.{Plain, Network, D
 use Rattle.track_buffers.specs.Media.{Media}
 use Rattle.track_buffers.proofs.Durations.{not_after_at, not_after_nan, not_after_infinite}
 use Rattle.source_state.specs.State.{SourceState}
-use Rattle.source_state.specs.Calls.{answering, in_ready, past_frames, has_frame_after, after_duration_change, after_set_duration, after_end}
+use Rattle.source_state.specs.Calls.{answer_and_state, in_ready, past_frames, has_frame_after, after_duration_change, after_set_duration, after_end}
 use Rattle.source_state.specs.Seekable.{seekable_span}
 use Rattle.source_state.specs.declared.answers.AllBuffers.{AllBuffers}
 use Rattle.source_state.specs.declared.answers.Changed.{Changed}
@@ -30,7 +30,7 @@ use Rattle.source_buffers.proofs.Staying.{all_later}
 use Rattle.source_buffers.proofs.Highest.{all_bounded, none_stored}
 use Rattle.media_element.specs.State.{ElementState}
 use Rattle.media_element.specs.Settled.{IsSettled}
-use Rattle.media_element.specs.DurationChange.{after_duration_change as after_element_change}
+use Rattle.media_element.specs.DurationChange.{after_element_change}
 use Rattle.mse_engine.specs.State.{CoreSource, Core, State}
 use Rattle.mse_engine.specs.Scenes.{CoreView, scene_at}
 use Rattle.mse_engine.specs.Signals.{Signal, after_signals, step}
@@ -38,7 +38,7 @@ use Rattle.mse_engine.specs.CoreEffects.{CoreEffect, refused_effect, effect_leav
 use Rattle.mse_engine.specs.SourceCalls.{all_in, change_signals, changed_effect, changed_effect_by, set_duration_effect}
 use Rattle.mse_engine.specs.Calls.{no_element_effect, after_call_by}
 use Rattle.mse_engine.specs.Standing.{SourceSide, KeptEngine, Stands, IsStep, IsSteady, kept_engine, kept_scene, view_of}
-use Rattle.mse_engine.proofs.Unchanged.{IsKept, same, in_fall}
+use Rattle.mse_engine.proofs.Unchanged.{IsUnchanged, same, in_fall}
 use Rattle.mse_engine.proofs.Stepping.{IsEnd, still}
 use Rattle.mse_engine.proofs.Sourcing.{in_state, source_step}
 
@@ -53,23 +53,23 @@ pub record IsChange (s : SourceState) (a : Answered Changed SourceState) : Type 
   pub now : (d : Moment) → a.answer ≡ changed.To d → a.state.duration ≡ d
   pub made : a.state.made ≡ s.made
 
-is_same : (s : SourceState) → IsChange s (answering changed.Same s)
+is_same : (s : SourceState) → IsChange s (answer_and_state changed.Same s)
 is_same s = record { refused = λ name e. refl; now = λ d e. absurd cc; made = refl }
 
-is_refused : (name : Name) (s : SourceState) → IsChange s (answering (changed.Refused name) s)
+is_refused : (name : Name) (s : SourceState) → IsChange s (answer_and_state (changed.Refused name) s)
 is_refused name s = record { refused = λ n e. refl; now = λ d e. absurd cc; made = refl }
 
-is_new : (d : Moment) (s : SourceState) → IsChange s (answering (changed.To d) (record s { duration = d }))
+is_new : (d : Moment) (s : SourceState) → IsChange s (answer_and_state (changed.To d) (record s { duration = d }))
 is_new d s = record { refused = λ name e. absurd cc; now = λ x e. cc; made = refl }
 
 duration_change : (d : Moment) (s : SourceState) → IsChange s (after_duration_change d s)
-duration_change d s = by_case (IsChange s) (same_moment d s.duration) _ _ (is_same s) (is_new d s)
+duration_change d s = by_case (IsChange s) (is_same_moment d s.duration) _ _ (is_same s) (is_new d s)
 
 pub set_duration_change : (d : Moment) (all : AllBuffers) (s : SourceState) → IsChange s (after_set_duration d all s)
 set_duration_change d all s =
     let last = duration_change (past_frames all.highest_end d) s in
     let invalid = is_refused InvalidState s in
-    by_case (IsChange s) (is_nan d || is_after (pos 0) d) _ _ (is_refused TypeError s) (by_case (IsChange s) (not (is_open s.ready)) _ _ invalid (by_case (IsChange s) all.updating _ _ invalid (by_case (IsChange s) (same_moment d s.duration) _ _ (is_same s) (by_case (IsChange s) (has_frame_after all.highest_start d) _ _ invalid last))))
+    by_case (IsChange s) (is_nan d || is_after (pos 0) d) _ _ (is_refused TypeError s) (by_case (IsChange s) (not (is_open s.ready)) _ _ invalid (by_case (IsChange s) all.updating _ _ invalid (by_case (IsChange s) (is_same_moment d s.duration) _ _ (is_same s) (by_case (IsChange s) (has_frame_after all.highest_start d) _ _ invalid last))))
 
 pub end_change : (kind : EndKind) (highest : Option ℤ) (s : SourceState) → IsChange (in_ready Ended s) (after_end kind highest s)
 end_change Plain highest s = duration_change (At (unwrap_or highest (pos 0))) (in_ready Ended s)
@@ -78,14 +78,14 @@ end_change Decode highest s = is_same (in_ready Ended s)
 
 -- an end is not refused
 pub end_done : (kind : EndKind) (highest : Option ℤ) (s : SourceState) (name : Name) → (after_end kind highest s).answer ≡ changed.Refused name → ⊥
-end_done Plain highest s name = by_case (λ a. a.answer ≡ changed.Refused name → ⊥) (same_moment (At (unwrap_or highest (pos 0))) s.duration) _ _ (λ e. absurd cc) (λ e. absurd cc)
+end_done Plain highest s name = by_case (λ a. a.answer ≡ changed.Refused name → ⊥) (is_same_moment (At (unwrap_or highest (pos 0))) s.duration) _ _ (λ e. absurd cc) (λ e. absurd cc)
 end_done Network highest s name = λ e. absurd cc
 end_done Decode highest s name = λ e. absurd cc
 
 -- ---- frames within the duration
 
 duration_within : (d : Moment) (s : SourceState) (ms : List (Option Media)) → AllEndWithin s.duration ms → AllEndWithin d ms → AllEndWithin (after_duration_change d s).state.duration ms
-duration_within d s ms h k = by_case (λ a. AllEndWithin a.state.duration ms) (same_moment d s.duration) _ _ h k
+duration_within d s ms h k = by_case (λ a. AllEndWithin a.state.duration ms) (is_same_moment d s.duration) _ _ h k
 
 at_least : (d : Moment) (end : ℤ) (ms : List (Option Media)) → AllEndWithin (At end) ms → AllEndWithin (greater_moment d end) ms
 at_least Nan end ms h = h
@@ -104,7 +104,7 @@ pub set_duration_within : (d : Moment) (all : AllBuffers) (s : SourceState) (ms 
 set_duration_within d all s ms e h =
     let P : Answered Changed SourceState → Type 0 = λ a. AllEndWithin a.state.duration ms in
     let last = duration_within (past_frames all.highest_end d) s ms h (past_within all.highest_end d ms (sym e)) in
-    by_case P (is_nan d || is_after (pos 0) d) _ _ h (by_case P (not (is_open s.ready)) _ _ h (by_case P all.updating _ _ h (by_case P (same_moment d s.duration) _ _ h (by_case P (has_frame_after all.highest_start d) _ _ h last))))
+    by_case P (is_nan d || is_after (pos 0) d) _ _ h (by_case P (not (is_open s.ready)) _ _ h (by_case P all.updating _ _ h (by_case P (is_same_moment d s.duration) _ _ h (by_case P (has_frame_after all.highest_start d) _ _ h last))))
 
 pub end_within : (kind : EndKind) (highest : Option ℤ) (s : SourceState) (ms : List (Option Media)) → highest ≡ highest_end_of_all ms → AllEndWithin s.duration ms → AllEndWithin (after_end kind highest s).state.duration ms
 end_within Plain highest s ms e h = duration_within (At (unwrap_or highest (pos 0))) (in_ready Ended s) ms h (ended_within highest ms (sym e))
@@ -124,7 +124,7 @@ pub fall_alike : (d : Moment) (live : Option Span) (first last : Option ℤ) (en
     → after_element_change duration (record { duration = d; ended = ended; span = span; seekable = seekable_span d live None None }) e ≡ after_element_change duration (record { duration = d; ended = ended; span = span; seekable = seekable_span d live first last }) e
 fall_alike d live first last ended span e duration is = subst (λ (x : Moment). after_element_change x (record { duration = d; ended = ended; span = span; seekable = seekable_span d live None None }) e ≡ after_element_change x (record { duration = d; ended = ended; span = span; seekable = seekable_span d live first last }) e) is (fall_by d live first last ended span e)
 
-pub change_keeps : (v : CoreView) (ch : Changed) (e : ElementState) → IsKept e.player (after_signals v (change_signals ch) e).player
+pub change_keeps : (v : CoreView) (ch : Changed) (e : ElementState) → IsUnchanged e.player (after_signals v (change_signals ch) e).player
 change_keeps v (changed.Refused name) e = same e.player
 change_keeps v changed.Same e = same e.player
 change_keeps v (changed.To d) e = in_fall d (scene_at e.player.position v) e.player
@@ -164,7 +164,7 @@ module _ (d : Moment) (all : AllBuffers) (side new_side : SourceSide) (buffers :
       → IsStep Done (kept_engine new_side buffers new) (after_call_by (set_duration_effect d st.core) (no_element_effect st.outer) Done)
   duration_step told new st done heard end k =
       let began : Stands (kept_engine side buffers start) st = subst (λ (x : ElementState). Stands (kept_engine side buffers x) st) (sym ready) k in
-      let keeps : IsKept start.player told.player = subst (λ (x : ElementState). IsKept start.player x.player) (sym heard) (change_keeps (view_of new_side buffers start) ch start) in
+      let keeps : IsUnchanged start.player told.player = subst (λ (x : ElementState). IsUnchanged start.player x.player) (sym heard) (change_keeps (view_of new_side buffers start) ch start) in
       let a = after_set_duration d all side.state in
       let here : IsStep Done (kept_engine new_side buffers new) (after_call_by (effect_leaving a.state (change_signals ch) st.core) (no_element_effect st.outer) Done) = record { answers = refl; stands = source_step side new_side buffers start told new a.state (change_signals ch) st is began keeps heard end } in
       subst (λ (m : CoreEffect). IsStep Done (kept_engine new_side buffers new) (after_call_by m (no_element_effect st.outer) Done)) (sym (changed_done [] ch a.state st.core done) ∙ meant st k) here

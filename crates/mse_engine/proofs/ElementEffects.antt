@@ -13,7 +13,7 @@ use Rattle.element_seek.specs.declared.scene.Scene.{Scene}
 use Rattle.element_seek.specs.State.{PlayerState, PlayerChange}
 use Rattle.source_buffers.specs.State.{KeptBuffers}
 use Rattle.media_element.specs.State.{ElementState}
-use Rattle.media_element.specs.Queueing.{after, refusal}
+use Rattle.media_element.specs.Queueing.{after_action, refusal}
 use Rattle.media_element.specs.Settled.{IsSettled}
 use Rattle.mse_engine.specs.State.{Outer, State, outer_of, element_in}
 use Rattle.mse_engine.specs.Scenes.{CoreView, core_view, scene_at, scene_with, seekable_in}
@@ -21,25 +21,25 @@ use Rattle.mse_engine.specs.Signals.{step}
 use Rattle.mse_engine.specs.CoreEffects.{no_core_effect}
 use Rattle.mse_engine.specs.Calls.{ElementEffect, seek_effect, advance_effect, refused_or, no_element_effect, after_call_by}
 use Rattle.mse_engine.specs.Standing.{SourceSide, KeptEngine, Stands, IsStep, IsSteady, kept_engine, kept_scene, view_of}
-use Rattle.mse_engine.proofs.Unchanged.{IsKept, same}
+use Rattle.mse_engine.proofs.Unchanged.{IsUnchanged, same}
 use Rattle.mse_engine.proofs.Stepping.{IsEnd, stepped, still, kept_facts, meant_element, meant_view}
 
 -- ---- what an action is at the machine
 
 module _ (side : SourceSide) (buffers : KeptBuffers) (start : ElementState) (st : State) (k : Stands (kept_engine side buffers start) st) where
-  pub meant_action : (action : PlayerState → PlayerChange) (told : ElementState) → told ≡ after action start → outer_of told ≡ outer_of (after action (element_in st.core.source.error st.outer))
+  pub meant_action : (action : PlayerState → PlayerChange) (told : ElementState) → told ≡ after_action action start → outer_of told ≡ outer_of (after_action action (element_in st.core.source.error st.outer))
   meant_action action told h =
       let element = meant_element side start st.core.source st.outer k.source k.outer in
-      ap outer_of h ∙ (λ i. outer_of (after action (element i)))
+      ap outer_of h ∙ (λ i. outer_of (after_action action (element i)))
 
   pub meant_in_scene : (action : Scene → PlayerState → PlayerChange) (told : ElementState) (seekable : Option Span)
-      → told ≡ after (action (scene_with seekable start.player.position (view_of side buffers start))) start → seekable ≡ seekable_in (view_of side buffers start)
-      → outer_of told ≡ outer_of (after (action (scene_at st.outer.element.position (core_view st.core))) (element_in st.core.source.error st.outer))
+      → told ≡ after_action (action (scene_with seekable start.player.position (view_of side buffers start))) start → seekable ≡ seekable_in (view_of side buffers start)
+      → outer_of told ≡ outer_of (after_action (action (scene_at st.outer.element.position (core_view st.core))) (element_in st.core.source.error st.outer))
   meant_in_scene action told seekable h is =
       let seen = meant_view side buffers start st.core k.source k.buffers in
       let element = meant_element side start st.core.source st.outer k.source k.outer in
-      let sought : told ≡ after (action (scene_at start.player.position (view_of side buffers start))) start = h ∙ ap (λ (o : Option Span). after (action (scene_with o start.player.position (view_of side buffers start))) start) is in
-      ap outer_of sought ∙ (λ i. outer_of (after (action (scene_at (element i).player.position (seen i))) (element i)))
+      let sought : told ≡ after_action (action (scene_at start.player.position (view_of side buffers start))) start = h ∙ ap (λ (o : Option Span). after_action (action (scene_with o start.player.position (view_of side buffers start))) start) is in
+      ap outer_of sought ∙ (λ i. outer_of (after_action (action (scene_at (element i).player.position (seen i))) (element i)))
 
   pub meant_refusal : (call : Scene → PlayerState → Answered Acted PlayerState) (n : Option Name) (seekable : Option Span)
       → n ≡ refusal (call (scene_with seekable start.player.position (view_of side buffers start)) start.player).answer → seekable ≡ seekable_in (view_of side buffers start)
@@ -55,23 +55,23 @@ module _ (side : SourceSide) (buffers : KeptBuffers) (e start : ElementState) (r
   pub begun : (st : State) → Stands (kept_engine side buffers e) st → Stands (kept_engine side buffers start) st
   begun st k = subst (λ (x : ElementState). Stands (kept_engine side buffers x) st) (sym ready) k
 
-  pub acted : (told new : ElementState) (acts : Outer) (st : State) → IsKept start.player told.player → IsEnd side buffers told new → outer_of told ≡ acts → Stands (kept_engine side buffers e) st
+  pub acted : (told new : ElementState) (acts : Outer) (st : State) → IsUnchanged start.player told.player → IsEnd side buffers told new → outer_of told ≡ acts → Stands (kept_engine side buffers e) st
       → Stands (kept_engine side buffers new) (step st.core [] acts)
   acted told new acts st keeps ends is k =
       let began = begun st k in
       stepped side buffers told told new st.core [] acts (kept_facts side start told keeps ∙ began.source) began.buffers is (same told.player) refl ends
 
-  pub action_step : (action : PlayerState → PlayerChange) (told new : ElementState) (st : State) → told ≡ after action start → IsKept start.player (action start.player).state → IsEnd side buffers told new → Stands (kept_engine side buffers e) st
-      → Stands (kept_engine side buffers new) (step st.core [] (outer_of (after action (element_in st.core.source.error st.outer))))
+  pub action_step : (action : PlayerState → PlayerChange) (told new : ElementState) (st : State) → told ≡ after_action action start → IsUnchanged start.player (action start.player).state → IsEnd side buffers told new → Stands (kept_engine side buffers e) st
+      → Stands (kept_engine side buffers new) (step st.core [] (outer_of (after_action action (element_in st.core.source.error st.outer))))
   action_step action told new st h keeps ends k =
-      acted told new (outer_of (after action (element_in st.core.source.error st.outer))) st (subst (λ (x : ElementState). IsKept start.player x.player) (sym h) keeps) ends (meant_action side buffers start st (begun st k) action told h) k
+      acted told new (outer_of (after_action action (element_in st.core.source.error st.outer))) st (subst (λ (x : ElementState). IsUnchanged start.player x.player) (sym h) keeps) ends (meant_action side buffers start st (begun st k) action told h) k
 
   pub scene_step : (action : Scene → PlayerState → PlayerChange) (told new : ElementState) (seekable : Option Span) (st : State)
-      → told ≡ after (action (scene_with seekable start.player.position (view_of side buffers start))) start → seekable ≡ seekable_in (view_of side buffers start)
-      → IsKept start.player (action (scene_with seekable start.player.position (view_of side buffers start)) start.player).state → IsEnd side buffers told new → Stands (kept_engine side buffers e) st
-      → Stands (kept_engine side buffers new) (step st.core [] (outer_of (after (action (scene_at st.outer.element.position (core_view st.core))) (element_in st.core.source.error st.outer))))
+      → told ≡ after_action (action (scene_with seekable start.player.position (view_of side buffers start))) start → seekable ≡ seekable_in (view_of side buffers start)
+      → IsUnchanged start.player (action (scene_with seekable start.player.position (view_of side buffers start)) start.player).state → IsEnd side buffers told new → Stands (kept_engine side buffers e) st
+      → Stands (kept_engine side buffers new) (step st.core [] (outer_of (after_action (action (scene_at st.outer.element.position (core_view st.core))) (element_in st.core.source.error st.outer))))
   scene_step action told new seekable st h is keeps ends k =
-      acted told new (outer_of (after (action (scene_at st.outer.element.position (core_view st.core))) (element_in st.core.source.error st.outer))) st (subst (λ (x : ElementState). IsKept start.player x.player) (sym h) keeps) ends (meant_in_scene side buffers start st (begun st k) action told seekable h is) k
+      acted told new (outer_of (after_action (action (scene_at st.outer.element.position (core_view st.core))) (element_in st.core.source.error st.outer))) st (subst (λ (x : ElementState). IsUnchanged start.player x.player) (sym h) keeps) ends (meant_in_scene side buffers start st (begun st k) action told seekable h is) k
 
   pub refusal_is : (call : Scene → PlayerState → Answered Acted PlayerState) (n : Option Name) (a : Answer) (seekable : Option Span) (st : State)
       → a ≡ refused_or n Done → n ≡ refusal (call (scene_with seekable start.player.position (view_of side buffers start)) start.player).answer → seekable ≡ seekable_in (view_of side buffers start)

@@ -15,10 +15,10 @@ use Rattle.source_state.specs.declared.answers.Changed.{Changed}
 use Rattle.source_state.specs.declared.answers.Changed.TheVariants as changed
 use Rattle.source_buffers.specs.State.{KeptBuffers, all_kept_media, all_kept_running}
 use Rattle.source_buffers.specs.All.{AllEndWithin, all_buffers, highest_end_of_all}
-use Rattle.element_seek.specs.State.{telling}
+use Rattle.element_seek.specs.State.{player_change}
 use Rattle.element_seek.specs.Playing.{after_fail}
 use Rattle.media_element.specs.State.{ElementState}
-use Rattle.media_element.specs.Queueing.{event_at, queued, after_told, after}
+use Rattle.media_element.specs.Queueing.{event_at, with_events, after_told, after_action}
 use Rattle.media_element.specs.Settled.{IsSettled}
 use Rattle.mse_engine.specs.State.{CoreSource, Core, State, element_in}
 use Rattle.mse_engine.specs.Scenes.{core_view}
@@ -27,7 +27,7 @@ use Rattle.mse_engine.specs.CoreEffects.{CoreEffect, refused_effect, effect_leav
 use Rattle.mse_engine.specs.SourceCalls.{all_in, change_signals, changed_effect, changed_effect_by, end_error, end_error_events, with_end_error, end_effect_by, end_effect}
 use Rattle.mse_engine.specs.Calls.{no_element_effect, after_call_by}
 use Rattle.mse_engine.specs.Standing.{SourceSide, Stands, IsStep, IsSteady, core_source, kept_engine, kept_scene, view_of}
-use Rattle.mse_engine.proofs.Unchanged.{IsKept}
+use Rattle.mse_engine.proofs.Unchanged.{IsUnchanged}
 use Rattle.mse_engine.proofs.Stepping.{IsEnd, ended, still, kept_facts, meant_element, meant_view}
 use Rattle.mse_engine.proofs.Sourcing.{in_state}
 use Rattle.mse_engine.proofs.Errors.{with_error, signals_error, signals_join}
@@ -36,12 +36,12 @@ use Rattle.mse_engine.proofs.Changing.{change_keeps, changed_done, end_change, e
 -- ---- the error at the element
 
 code_by : (b m : Bool) (code : ℕ) (e : ElementState)
-    → after_told (cond b (telling (kind.Error ∷ []) (record e.player { error = cond m code 4 })) (telling [] e.player)) e ≡ with_error (cond b (cond (not m) 4 code) e.player.error) (queued (cond b (event_at target.Element kind.Error ∷ []) []) e)
+    → after_told (cond b (player_change (kind.Error ∷ []) (record e.player { error = cond m code 4 })) (player_change [] e.player)) e ≡ with_error (cond b (cond (not m) 4 code) e.player.error) (with_events (cond b (event_at target.Element kind.Error ∷ []) []) e)
 code_by true true code e = refl
 code_by true false code e = refl
 code_by false m code e = refl
 
-pub failed : (end : EndKind) (e : ElementState) → after (after_fail end) e ≡ with_error (end_error end (not (has_metadata e.player.level)) e.player.error) (queued (end_error_events end e.player.error) e)
+pub failed : (end : EndKind) (e : ElementState) → after_action (after_fail end) e ≡ with_error (end_error end (not (has_metadata e.player.level)) e.player.error) (with_events (end_error_events end e.player.error) e)
 failed Plain e = refl
 failed Network e = code_by (e.player.error == 0) (has_metadata e.player.level) 2 e
 failed Decode e = code_by (e.player.error == 0) (has_metadata e.player.level) 3 e
@@ -59,25 +59,25 @@ end_signals ch end error = ((Tell (event_at target.Source kind.SourceEnded ∷ [
 
 module _ (end : EndKind) (side new_side : SourceSide) (buffers : KeptBuffers) (e start told failing new : ElementState) (ch : Changed) (s : SourceState)
     (ready : start ≡ e) (is : new_side ≡ in_state s side)
-    (heard : told ≡ after_signals (view_of new_side buffers start) (change_signals ch) (queued (event_at target.Source kind.SourceEnded ∷ []) start))
-    (fails : failing ≡ after (after_fail end) told) (ends : IsEnd new_side buffers failing new) where
+    (heard : told ≡ after_signals (view_of new_side buffers start) (change_signals ch) (with_events (event_at target.Source kind.SourceEnded ∷ []) start))
+    (fails : failing ≡ after_action (after_fail end) told) (ends : IsEnd new_side buffers failing new) where
   pub end_stands : (st : State) → Stands (kept_engine side buffers e) st
       → (let m : CoreEffect = with_end_error end (effect_leaving s ((Tell (event_at target.Source kind.SourceEnded ∷ []) ∷ []) ++ change_signals ch) st.core) in Stands (kept_engine new_side buffers new) (step m.core m.signals st.outer))
   end_stands st k =
-      let first : ElementState = queued (event_at target.Source kind.SourceEnded ∷ []) start in
+      let first : ElementState = with_events (event_at target.Source kind.SourceEnded ∷ []) start in
       let began : Stands (kept_engine side buffers start) st = subst (λ (x : ElementState). Stands (kept_engine side buffers x) st) (sym ready) k in
       let n : ℕ = end_error end st.core.source.blank st.core.source.error in
       let source : CoreSource = record (with_state s st.core.source) { error = n } in
       let core : Core = record { source = source; buffers = st.core.buffers } in
-      let keeps : IsKept start.player told.player = subst (λ (x : ElementState). IsKept start.player x.player) (sym heard) (change_keeps (view_of new_side buffers start) ch first) in
+      let keeps : IsUnchanged start.player told.player = subst (λ (x : ElementState). IsUnchanged start.player x.player) (sym heard) (change_keeps (view_of new_side buffers start) ch first) in
       let from : core_source new_side start ≡ with_state s st.core.source = ap (λ (x : SourceSide). core_source x start) is ∙ ap (λ (x : CoreSource). with_state s x) began.source in
       let facts : core_source new_side told ≡ with_state s st.core.source = kept_facts new_side start told keeps ∙ from in
-      let broken : failing ≡ with_error n (queued (end_error_events end st.core.source.error) told) = fails ∙ (failed end told ∙ (λ i. with_error (end_error end (facts i).blank (facts i).error) (queued (end_error_events end (facts i).error) told))) in
+      let broken : failing ≡ with_error n (with_events (end_error_events end st.core.source.error) told) = fails ∙ (failed end told ∙ (λ i. with_error (end_error end (facts i).blank (facts i).error) (with_events (end_error_events end (facts i).error) told))) in
       let there : core_source new_side failing ≡ source = ap (core_source new_side) broken ∙ (λ i. record (facts i) { error = n }) in
       let view : view_of new_side buffers start ≡ core_view (effect_leaving s [] st.core).core = meant_view new_side buffers start (effect_leaving s [] st.core).core from began.buffers in
       let element : start ≡ element_in st.core.source.error st.outer = meant_element side start st.core.source st.outer began.source began.outer in
       let alike : told ≡ after_signals (core_view core) (change_signals ch) first = heard ∙ (ap (λ v. after_signals v (change_signals ch) first) view ∙ sym (heard_by (with_state s st.core.source) n (core_view core).media ch first)) in
-      let told_all : after_signals (core_view core) (end_signals ch end st.core.source.error) start ≡ queued (end_error_events end st.core.source.error) told = signals_join (core_view core) ((Tell (event_at target.Source kind.SourceEnded ∷ []) ∷ []) ++ change_signals ch) (Tell (end_error_events end st.core.source.error) ∷ []) start ∙ ap (queued (end_error_events end st.core.source.error)) (sym alike) in
+      let told_all : after_signals (core_view core) (end_signals ch end st.core.source.error) start ≡ with_events (end_error_events end st.core.source.error) told = signals_join (core_view core) ((Tell (event_at target.Source kind.SourceEnded ∷ []) ∷ []) ++ change_signals ch) (Tell (end_error_events end st.core.source.error) ∷ []) start ∙ ap (with_events (end_error_events end st.core.source.error)) (sym alike) in
       let now : failing ≡ after_signals (core_view core) (end_signals ch end st.core.source.error) (element_in n st.outer) = broken ∙ (ap (with_error n) (sym told_all) ∙ (sym (signals_error (core_view core) (end_signals ch end st.core.source.error) n start) ∙ ap (λ (x : ElementState). after_signals (core_view core) (end_signals ch end st.core.source.error) (with_error n x)) element)) in
       ended new_side buffers failing new core (end_signals ch end st.core.source.error) st.outer there began.buffers now ends
 
@@ -109,8 +109,8 @@ module _ (end : EndKind) (all : AllBuffers) (side : SourceSide) (buffers : KeptB
 
   pub end_step : (n : Option Name) (new_side : SourceSide) (e start told failing new : ElementState) (ch : Changed) (st : State) → n ≡ end_refusal all.updating side.state → n ≡ None → start ≡ e
       → ch ≡ (after_end end all.highest_end side.state).answer → new_side ≡ in_state (after_end end all.highest_end side.state).state side
-      → told ≡ after_signals (view_of new_side buffers start) (change_signals ch) (queued (event_at target.Source kind.SourceEnded ∷ []) start)
-      → failing ≡ after (after_fail end) told → IsEnd new_side buffers failing new → Stands (kept_engine side buffers e) st
+      → told ≡ after_signals (view_of new_side buffers start) (change_signals ch) (with_events (event_at target.Source kind.SourceEnded ∷ []) start)
+      → failing ≡ after_action (after_fail end) told → IsEnd new_side buffers failing new → Stands (kept_engine side buffers e) st
       → IsStep Done (kept_engine new_side buffers new) (after_call_by (end_effect end st.core) (no_element_effect st.outer) Done)
   end_step n new_side e start told failing new ch st answer none ready change is heard fails ends k =
       let a = after_end end all.highest_end side.state in

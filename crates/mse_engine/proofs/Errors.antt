@@ -8,10 +8,10 @@ use Rattle.mse_calls.specs.Level.{has_metadata}
 use Rattle.mse_calls.specs.declared.answers.Level.TheVariants.{Metadata}
 use Rattle.mse_calls.specs.declared.events.EventKind.TheVariants.{DurationChange, LoadedMetadata}
 use Rattle.element_seek.specs.declared.scene.Scene.{Scene}
-use Rattle.element_seek.specs.State.{PlayerState, PlayerChange, telling}
-use Rattle.element_seek.specs.Seeking.{in_media, after_seek_in, after_seek, after_start, after_load}
+use Rattle.element_seek.specs.State.{PlayerState, PlayerChange, player_change}
+use Rattle.element_seek.specs.Seeking.{position_within, after_seek_in, after_seek, after_start, after_load}
 use Rattle.media_element.specs.State.{ElementState}
-use Rattle.media_element.specs.Queueing.{after_told, after}
+use Rattle.media_element.specs.Queueing.{after_told, after_action}
 use Rattle.media_element.specs.DurationChange.{after_seek_to, after_end_seek, after_change}
 use Rattle.mse_engine.specs.State.{outer_of, player_of}
 use Rattle.mse_engine.specs.Scenes.{CoreView, scene_at}
@@ -24,7 +24,7 @@ abbrev pub with_error : ℕ → ElementState → ElementState
 with_error n e = record { player = with_code n e.player; queue = e.queue }
 
 abbrev told_with : ℕ → PlayerChange → PlayerChange
-told_with n t = telling t.answer (with_code n t.state)
+told_with n t = player_change t.answer (with_code n t.state)
 
 -- ---- actions
 
@@ -33,12 +33,12 @@ seek_in_error None t n p = refl
 seek_in_error (Some range) t n p = refl
 
 seek_by : (b : Bool) (o : Option Span) (t u : ℤ) (n : ℕ) (p : PlayerState)
-    → cond b (after_seek_in o u (with_code n p)) (telling [] (record (with_code n p) { default_start = t })) ≡ told_with n (cond b (after_seek_in o u p) (telling [] (record p { default_start = t })))
+    → cond b (after_seek_in o u (with_code n p)) (player_change [] (record (with_code n p) { default_start = t })) ≡ told_with n (cond b (after_seek_in o u p) (player_change [] (record p { default_start = t })))
 seek_by true o t u n p = seek_in_error o u n p
 seek_by false o t u n p = refl
 
 seek_error : (t : ℤ) (scene : Scene) (n : ℕ) (p : PlayerState) → after_seek t scene (with_code n p) ≡ told_with n (after_seek t scene p)
-seek_error t scene n p = seek_by (has_metadata p.level) scene.seekable t (in_media t scene.duration) n p
+seek_error t scene n p = seek_by (has_metadata p.level) scene.seekable t (position_within t scene.duration) n p
 
 seek_to_error : (o : Option ℤ) (scene : Scene) (n : ℕ) (p : PlayerState) → after_seek_to o scene (with_code n p) ≡ told_with n (after_seek_to o scene p)
 seek_to_error None scene n p = refl
@@ -50,10 +50,10 @@ fall_error (At d) scene n p = seek_to_error (cond (has_metadata p.level && int_l
 fall_error Infinite scene n p = refl
 
 change_error : (d : Moment) (scene : Scene) (n : ℕ) (p : PlayerState) → after_change d scene (with_code n p) ≡ told_with n (after_change d scene p)
-change_error d scene n p = ap (λ (t : PlayerChange). telling ((DurationChange ∷ []) ++ t.answer) t.state) (fall_error d scene n p)
+change_error d scene n p = ap (λ (t : PlayerChange). player_change ((DurationChange ∷ []) ++ t.answer) t.state) (fall_error d scene n p)
 
 start_by : (b : Bool) (scene : Scene) (n : ℕ) (p : PlayerState)
-    → cond b (after_seek p.default_start scene (record (with_code n p) { default_start = pos 0 })) (telling [] (with_code n p)) ≡ told_with n (cond b (after_seek p.default_start scene (record p { default_start = pos 0 })) (telling [] p))
+    → cond b (after_seek p.default_start scene (record (with_code n p) { default_start = pos 0 })) (player_change [] (with_code n p)) ≡ told_with n (cond b (after_seek p.default_start scene (record p { default_start = pos 0 })) (player_change [] p))
 start_by true scene n p = seek_error p.default_start scene n (record p { default_start = pos 0 })
 start_by false scene n p = refl
 
@@ -61,11 +61,11 @@ start_error : (scene : Scene) (n : ℕ) (p : PlayerState) → after_start scene 
 start_error scene n p = start_by (int_lt (pos 0) p.default_start) scene n p
 
 load_error : (scene : Scene) (n : ℕ) (p : PlayerState) → after_load scene (with_code n p) ≡ told_with n (after_load scene p)
-load_error scene n p = ap (λ (t : PlayerChange). telling ((LoadedMetadata ∷ []) ++ t.answer) t.state) (start_error scene n (record p { level = Metadata }))
+load_error scene n p = ap (λ (t : PlayerChange). player_change ((LoadedMetadata ∷ []) ++ t.answer) t.state) (start_error scene n (record p { level = Metadata }))
 
 -- ---- signals
 
-heard_error : (action : PlayerState → PlayerChange) (n : ℕ) (e : ElementState) → action (with_code n e.player) ≡ told_with n (action e.player) → after action (with_error n e) ≡ with_error n (after action e)
+heard_error : (action : PlayerState → PlayerChange) (n : ℕ) (e : ElementState) → action (with_code n e.player) ≡ told_with n (action e.player) → after_action action (with_error n e) ≡ with_error n (after_action action e)
 heard_error action n e h = ap (λ (t : PlayerChange). after_told t e) h
 
 signal_error : (v : CoreView) (s : Signal) (n : ℕ) (e : ElementState) → after_signal v s (with_error n e) ≡ with_error n (after_signal v s e)

@@ -13,17 +13,17 @@ use Rattle.mse_calls.specs.declared.events.Target.TheVariants as target
 use Rattle.mse_types.specs.declared.answer.Container.{Container}
 use Rattle.buffer_state.specs.declared.reply.Reply.{Reply}
 use Rattle.buffer_state.specs.State.{Surroundings}
-use Rattle.source_state.specs.State.{SourceState, has}
+use Rattle.source_state.specs.State.{SourceState, is_listed_in}
 use Rattle.source_state.specs.Calls.{has_most_buffers, with_new, after_add_buffer, after_remove_buffer}
 use Rattle.source_state.specs.declared.answers.Added.{Added}
 use Rattle.source_state.specs.declared.answers.Added.TheVariants as added
 use Rattle.source_state.specs.declared.answers.Removed.{Removed}
 use Rattle.source_state.specs.declared.answers.Removed.TheVariants as removed
 use Rattle.source_buffers.specs.State.{BufferStates, KeptBuffers, AllStand, all_kept_media, new_buffer}
-use Rattle.source_buffers.specs.Slots.{BuffersResult, BuffersAnswer, IsBuffersResult, removal_result}
+use Rattle.source_buffers.specs.Slots.{BuffersResult, IsBuffersAnswer, IsBuffersResult, removal_result}
 use Rattle.source_buffers.specs.All.{AllEndWithin, AllStayWithin}
 use Rattle.media_element.specs.State.{ElementState}
-use Rattle.media_element.specs.Queueing.{event_at, events_at, queued}
+use Rattle.media_element.specs.Queueing.{event_at, events_at, with_events}
 use Rattle.media_element.specs.Settled.{IsSettled}
 use Rattle.mse_engine.specs.State.{CoreSource, Core, State}
 use Rattle.mse_engine.specs.Signals.{Signal, Tell, after_signals, step}
@@ -32,7 +32,7 @@ use Rattle.mse_engine.specs.CoreEffects.{CoreEffect, refused_effect, with_state}
 use Rattle.mse_engine.specs.SourceCalls.{added_effect, add_effect_by, inactive_events, removal_events, removed_effect, remove_effect_by}
 use Rattle.mse_engine.specs.Calls.{no_element_effect, after_call_by}
 use Rattle.mse_engine.specs.Standing.{SourceSide, KeptEngine, Stands, IsStep, IsSteady, core_source, kept_engine, kept_scene, view_of}
-use Rattle.mse_engine.proofs.Unchanged.{IsKept, same}
+use Rattle.mse_engine.proofs.Unchanged.{IsUnchanged, same}
 use Rattle.mse_engine.proofs.Stepping.{IsEnd, stepped, still}
 use Rattle.mse_engine.proofs.Sourcing.{in_state}
 
@@ -104,7 +104,7 @@ module _ (container : Container) (side new_side : SourceSide) (buffers : KeptBuf
 
   pub add_step : (n : ℕ) (grew : KeptBuffers) (told new : ElementState) (st : State) → x ≡ added.Number n
       → ((bs : BufferStates) → AllStand buffers bs → AllStand grew (bs ++ Some (new_buffer side.gap container) ∷ []))
-      → told ≡ queued (event_at target.SourceBuffers kind.AddSourceBuffer ∷ []) start → IsEnd new_side grew told new → Stands (kept_engine side buffers e) st
+      → told ≡ with_events (event_at target.SourceBuffers kind.AddSourceBuffer ∷ []) start → IsEnd new_side grew told new → Stands (kept_engine side buffers e) st
       → IsStep Done (kept_engine new_side grew new) (after_call_by (add_effect_by (after_add_buffer st.core.source.state) container st.core) (no_element_effect st.outer) Done)
   add_step n grew told new st h stand heard ends k =
       let s = (after_add_buffer side.state).state in
@@ -112,7 +112,7 @@ module _ (container : Container) (side new_side : SourceSide) (buffers : KeptBuf
       let from : core_source new_side start ≡ with_state s st.core.source = ap (λ (y : SourceSide). core_source y start) is ∙ ap (λ (y : CoreSource). with_state s y) began.source in
       let gap : side.gap ≡ st.core.source.gap = ap (λ (y : CoreSource). y.gap) k.source in
       let all : AllStand grew (grown container s st.core).buffers = subst (λ g. AllStand grew (st.core.buffers ++ Some (new_buffer g container) ∷ [])) gap (stand st.core.buffers k.buffers) in
-      let keeps = subst (λ (y : ElementState). IsKept start.player y.player) (sym heard) (same start.player) in
+      let keeps = subst (λ (y : ElementState). IsUnchanged start.player y.player) (sym heard) (same start.player) in
       let here : IsStep Done (kept_engine new_side grew new) (after_call_by (record { refused = None; core = grown container s st.core; signals = add_signals }) (no_element_effect st.outer) Done) = record { answers = refl; stands = stepped new_side grew start told new (grown container s st.core) add_signals st.outer from all began.outer keeps heard ends } in
       subst (λ (m : CoreEffect). IsStep Done (kept_engine new_side grew new) (after_call_by m (no_element_effect st.outer) Done)) (sym (added_done container x n s st.core h) ∙ add_meant st k) here
 
@@ -133,18 +133,18 @@ module _ (container : Container) (side new_side : SourceSide) (buffers : KeptBuf
 
 -- what is told in three parts, in order
 pub removal_told : (k : ℕ) (r : Reply) (active : Bool) (start e1 e2 e3 : ElementState)
-    → e1 ≡ queued (events_at (target.Buffer k) r.events) start → e2 ≡ queued (inactive_events active) e1 → e3 ≡ queued (event_at target.SourceBuffers kind.RemoveSourceBuffer ∷ []) e2
-    → e3 ≡ queued (removal_events active) (queued (events_at (target.Buffer k) r.events) start)
+    → e1 ≡ with_events (events_at (target.Buffer k) r.events) start → e2 ≡ with_events (inactive_events active) e1 → e3 ≡ with_events (event_at target.SourceBuffers kind.RemoveSourceBuffer ∷ []) e2
+    → e3 ≡ with_events (removal_events active) (with_events (events_at (target.Buffer k) r.events) start)
 removal_told k r active start e1 e2 e3 a b d =
     let last : List Event = event_at target.SourceBuffers kind.RemoveSourceBuffer ∷ [] in
-    let all : e3 ≡ queued last (queued (inactive_events active) (queued (events_at (target.Buffer k) r.events) start)) = d ∙ (ap (queued last) b ∙ ap (λ (x : ElementState). queued last (queued (inactive_events active) x)) a) in
+    let all : e3 ≡ with_events last (with_events (inactive_events active) (with_events (events_at (target.Buffer k) r.events) start)) = d ∙ (ap (with_events last) b ∙ ap (λ (x : ElementState). with_events last (with_events (inactive_events active) x)) a) in
     all ∙ (λ i. record { player = start.player; queue = append_assoc (start.queue ++ events_at (target.Buffer k) r.events) (inactive_events active) last i })
 
 abbrev RemoveLeaves : SourceState → Answered Removed SourceState → Type 0
 RemoveLeaves s a = ((name : Name) → a.answer ≡ removed.Refused name → a.state ≡ s) × ((a.state.made ≡ s.made) × (a.state.duration ≡ s.duration))
 
 remove_leaves : (k : ℕ) (s : SourceState) → RemoveLeaves s (after_remove_buffer k s)
-remove_leaves k s = by_case (RemoveLeaves s) (not (has k s.listed)) _ _ (λ name e. refl, (refl, refl)) (λ name e. absurd cc, (refl, refl))
+remove_leaves k s = by_case (RemoveLeaves s) (not (is_listed_in k s.listed)) _ _ (λ name e. refl, (refl, refl)) (λ name e. absurd cc, (refl, refl))
 
 removed_refused : (k : ℕ) (r : BuffersResult) (x : Removed) (name : Name) (s : SourceState) (c : Core) → x ≡ removed.Refused name → removed_effect k r x s c ≡ refused_effect name c
 removed_refused k r (removed.Refused n) name s c e = let is : n ≡ name = cc in ap (λ (m : Name). refused_effect m c) is
@@ -183,8 +183,8 @@ module _ (k : ℕ) (side new_side : SourceSide) (buffers : KeptBuffers) (e start
       subst (λ (m : CoreEffect). IsStep (Refused name) (kept_engine new_side buffers start) (after_call_by m (no_element_effect st.outer) Done)) (sym (removed_refused k (removal_result k (surroundings_in k st.core.source) st.core.buffers) x name (after_remove_buffer k side.state).state st.core h) ∙ remove_meant st s) by_name
 
   pub remove_step : (active : Bool) (r : Reply) (around : Surroundings) (left : KeptBuffers) (told new : ElementState) (st : State) → x ≡ removed.Gone active
-      → around ≡ surroundings_in k (core_source side start) → BuffersAnswer buffers r left (removal_result k around)
-      → told ≡ queued (removal_events active) (queued (events_at (target.Buffer k) r.events) start) → IsEnd new_side left told new → Stands (kept_engine side buffers e) st
+      → around ≡ surroundings_in k (core_source side start) → IsBuffersAnswer buffers r left (removal_result k around)
+      → told ≡ with_events (removal_events active) (with_events (events_at (target.Buffer k) r.events) start) → IsEnd new_side left told new → Stands (kept_engine side buffers e) st
       → IsStep Done (kept_engine new_side left new) (after_call_by (remove_effect_by k (after_remove_buffer k st.core.source.state) st.core) (no_element_effect st.outer) Done)
   remove_step active r around left told new st h at answers heard ends stands =
       let s = (after_remove_buffer k side.state).state in
@@ -194,8 +194,8 @@ module _ (k : ℕ) (side new_side : SourceSide) (buffers : KeptBuffers) (e start
       let found : IsBuffersResult r left meant = subst (λ (y : Surroundings). IsBuffersResult r left (removal_result k y st.core.buffers)) there (answers st.core.buffers stands.buffers) in
       let m : CoreEffect = removal_effect k meant active s st.core in
       let from : core_source new_side start ≡ with_state s st.core.source = ap (λ (y : SourceSide). core_source y start) is ∙ ap (λ (y : CoreSource). with_state s y) began.source in
-      let keeps = subst (λ (y : ElementState). IsKept start.player y.player) (sym heard) (same start.player) in
-      let told_all : told ≡ after_signals (view_of new_side left start) m.signals start = heard ∙ (λ i. queued (removal_events active) (queued (events_at (target.Buffer k) (found.replies i).events) start)) in
+      let keeps = subst (λ (y : ElementState). IsUnchanged start.player y.player) (sym heard) (same start.player) in
+      let told_all : told ≡ after_signals (view_of new_side left start) m.signals start = heard ∙ (λ i. with_events (removal_events active) (with_events (events_at (target.Buffer k) (found.replies i).events) start)) in
       let here : IsStep Done (kept_engine new_side left new) (after_call_by m (no_element_effect st.outer) Done) = record { answers = refl; stands = stepped new_side left start told new m.core m.signals st.outer from found.stand began.outer keeps told_all ends } in
       subst (λ (y : CoreEffect). IsStep Done (kept_engine new_side left new) (after_call_by y (no_element_effect st.outer) Done)) (sym (removed_done k meant x active s st.core h) ∙ remove_meant st stands) here
 

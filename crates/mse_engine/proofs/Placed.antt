@@ -5,7 +5,7 @@ use Rattle.std.specs.List.{AllByRecursion}
 use Rattle.std.proofs.lemmas.Int.{ints}
 use Rattle.mse_base.specs.declared.ticks.Moment.{Moment}
 use Rattle.mse_base.specs.declared.ticks.Moment.TheVariants.{Nan, At, Infinite}
-use Rattle.mse_base.specs.Moments.{is_nan, is_after, same_moment}
+use Rattle.mse_base.specs.Moments.{is_nan, is_after, is_same_moment}
 use Rattle.mse_types.specs.declared.answer.Container.{Container}
 use Rattle.mse_types.specs.declared.answer.TypeAnswer.{TypeAnswer}
 use Rattle.mse_types.specs.declared.answer.TypeAnswer.TheVariants.{Supported, Empty, Unsupported}
@@ -25,8 +25,8 @@ use Rattle.buffer_state.specs.declared.reply.Reply.{Reply}
 use Rattle.buffer_state.specs.State.{Feed, Content, Surroundings}
 use Rattle.buffer_state.specs.Replies.{CallResult}
 use Rattle.buffer_state.specs.Calls.{mode_result, offset_result, window_start_result, window_end_result, remove_result, append_result, abort_result, change_type_result}
-use Rattle.source_state.specs.State.{SourceState, has, are_in}
-use Rattle.source_state.specs.Calls.{answering, in_ready, with_live, after_set_live, has_most_buffers, with_new, without_buffer, after_duration_change, past_frames, has_frame_after, end_refusal}
+use Rattle.source_state.specs.State.{SourceState, is_listed_in, are_in}
+use Rattle.source_state.specs.Calls.{answer_and_state, in_ready, with_live, after_set_live, has_most_buffers, with_new, without_buffer, after_duration_change, past_frames, has_frame_after, end_refusal}
 use Rattle.source_state.specs.declared.answers.Added.{Added}
 use Rattle.source_state.specs.declared.answers.Added.TheVariants as added
 use Rattle.source_state.specs.declared.answers.Removed.{Removed}
@@ -40,13 +40,13 @@ use Rattle.element_seek.specs.Inside.{LiesInside}
 use Rattle.mse_engine.specs.State.{CoreSource, Core, Outer, State, player_of, element_in}
 use Rattle.mse_engine.specs.Scenes.{CoreView, core_view}
 use Rattle.mse_engine.specs.Signals.{Signal, Tell, DurationChanged, after_signals, outer_after, step}
-use Rattle.mse_engine.specs.Replies.{surroundings_in, active_after, activates, loads, load_signals, effect_signals, middle_signals, reply_signals}
+use Rattle.mse_engine.specs.Replies.{surroundings_in, active_after, is_activating, is_loading, load_signals, effect_signals, middle_signals, reply_signals}
 use Rattle.mse_engine.specs.CoreEffects.{CoreEffect, refused_effect, no_core_effect, effect_leaving, if_finite, if_made}
 use Rattle.mse_engine.specs.SourceCalls.{from_source, attach_effect, set_live_effect, clear_live_effect, added_effect, add_effect_by, add_effect_of, remove_effect_by, remove_effect, changed_effect_by, all_in, set_duration_effect, with_end_error, end_effect_by}
 use Rattle.mse_engine.specs.BufferCalls.{reply_effect, buffer_effect, append_effect_of}
 use Rattle.mse_engine.specs.Calls.{seek_effect, advance_effect, read_slot_effect, core_effect, after_call}
-use Rattle.mse_engine.specs.Work.{work_result, after_work, due_in, after_element_turn}
-use Rattle.mse_engine.specs.Positions.{IsPlaced, HasNoTracks, AreUntracked, IsPlacedState}
+use Rattle.mse_engine.specs.Work.{work_result, after_work, is_turn_due, after_element_turn}
+use Rattle.mse_engine.specs.Positions.{IsPositionInside, HasNoTracks, AreUntracked, IsInsideState}
 use Rattle.mse_engine.proofs.Telling.{ended_event}
 use Rattle.mse_engine.proofs.Progress.{turned}
 use Rattle.mse_engine.proofs.Spanning.{all_append, highest-above}
@@ -57,7 +57,7 @@ use Rattle.mse_engine.proofs.Placing.{AreInside, HasFrames, placed_raised, place
 -- what a call does to the source and its buffers, and what the element hears of it, leaves the position inside
 record IsPlacing (c : Core) (m : CoreEffect) : Type 0 where
   untracked : AreUntracked m.core.source.state.duration m.core.buffers
-  placed : (o : Outer) → IsPlaced c.source.state o.element → HasFrames (core_view m.core) → IsPlaced m.core.source.state (outer_after (core_view m.core) m.signals o).element
+  placed : (o : Outer) → IsPositionInside c.source.state o.element → HasFrames (core_view m.core) → IsPositionInside m.core.source.state (outer_after (core_view m.core) m.signals o).element
 
 placing_by : (c : Core) (b : Bool) (x y : CoreEffect) → IsPlacing c x → IsPlacing c y → IsPlacing c (cond b x y)
 placing_by c true x y h k = h
@@ -79,9 +79,9 @@ first_true false b c e = absurd (cc)
 
 reply_heard : (v : CoreView) (k : ℕ) (r : Reply) (s : CoreSource) → (r.received_init ≡ true → is_nan v.source.state.duration ≡ false) → CanHearAll v (reply_signals k r s)
 reply_heard v k r s f =
-    let brings : Bool = loads k r s.blank s.state in
+    let brings : Bool = is_loading k r s.blank s.state in
     let there = load_heard v brings (λ e. f (first_true r.received_init s.blank (are_in s.state.listed (active_after k r s.state)) e)) in
-    (tt, all_append (CanHear v) (middle_signals k r (activates k r s.state) brings) _ (middle_heard v r.events_first _ (effect_signals r.duration_changes (activates k r s.state) brings) (tt, (tt, there))) (tt, tt))
+    (tt, all_append (CanHear v) (middle_signals k r (is_activating k r s.state) brings) _ (middle_heard v r.events_first _ (effect_signals r.duration_changes (is_activating k r s.state) brings) (tt, (tt, there))) (tt, tt))
 
 -- ---- a time that may be after the end of what is sought
 
@@ -149,21 +149,21 @@ module _ (law : AreInside) (c : Core) (none : AreUntracked c.source.state.durati
 
   attach : IsPlacing c (attach_effect c)
   attach =
-      source_by (not (is_closed c.source.state.ready)) (answering (Some InvalidState) c.source.state) (answering None (in_ready Opened c.source.state)) _ (refused InvalidState)
+      source_by (not (is_closed c.source.state.ready)) (answer_and_state (Some InvalidState) c.source.state) (answer_and_state None (in_ready Opened c.source.state)) _ (refused InvalidState)
       (effect (in_ready Opened c.source.state) _ refl (λ x. x) (tt, tt))
 
   clear_live : IsPlacing c (clear_live_effect c)
   clear_live =
-      source_by (not (is_open c.source.state.ready)) (answering (Some InvalidState) c.source.state) (answering None (with_live None c.source.state)) [] (refused InvalidState)
+      source_by (not (is_open c.source.state.ready)) (answer_and_state (Some InvalidState) c.source.state) (answer_and_state None (with_live None c.source.state)) [] (refused InvalidState)
       (effect (with_live None c.source.state) [] refl (λ x. tt) tt)
 
   live_by : (b : Bool) (a e : ℤ) → (int_lt a (pos 0) || int_lt e a) ≡ b
-      → IsPlacing c (from_source (cond b (answering (Some TypeError) c.source.state) (answering None (with_live (Some (record { start = a; end = e })) c.source.state))) [] c)
+      → IsPlacing c (from_source (cond b (answer_and_state (Some TypeError) c.source.state) (answer_and_state None (with_live (Some (record { start = a; end = e })) c.source.state))) [] c)
   live_by true a e h = refused TypeError
   live_by false a e h = let both = live_times a e h in effect (with_live (Some (record { start = a; end = e })) c.source.state) [] refl (λ x. (both.0, both.1, refl)) tt
 
   set_live_at : (a e : ℤ) → IsPlacing c (from_source (after_set_live a e c.source.state) [] c)
-  set_live_at a e = source_by (not (is_open c.source.state.ready)) (answering (Some InvalidState) c.source.state) _ [] (refused InvalidState) (live_by (int_lt a (pos 0) || int_lt e a) a e refl)
+  set_live_at a e = source_by (not (is_open c.source.state.ready)) (answer_and_state (Some InvalidState) c.source.state) _ [] (refused InvalidState) (live_by (int_lt a (pos 0) || int_lt e a) a e refl)
 
   finite : (t : Moment) (call : ℤ → CoreEffect) → ((x : ℤ) → IsPlacing c (call x)) → IsPlacing c (if_finite t call c)
   finite Nan call f = refused TypeError
@@ -186,8 +186,8 @@ module _ (law : AreInside) (c : Core) (none : AreUntracked c.source.state.durati
   add_of Empty = refused _
   add_of Unsupported = refused _
   add_of (Supported container) =
-      add_by (has_most_buffers c.source.state) (answering (added.Refused QuotaExceeded) c.source.state) _ container (refused QuotaExceeded)
-      (add_by (not (is_open c.source.state.ready)) (answering (added.Refused InvalidState) c.source.state) (answering (added.Number c.source.state.made) (with_new c.source.state)) container (refused InvalidState) (added_to container))
+      add_by (has_most_buffers c.source.state) (answer_and_state (added.Refused QuotaExceeded) c.source.state) _ container (refused QuotaExceeded)
+      (add_by (not (is_open c.source.state.ready)) (answer_and_state (added.Refused InvalidState) c.source.state) (answer_and_state (added.Number c.source.state.made) (with_new c.source.state)) container (refused InvalidState) (added_to container))
 
   made : (k : ℕ) (m : CoreEffect) → IsPlacing c m → IsPlacing c (if_made k m c)
   made k m h = placing_by c (nat_lt k (length c.buffers)) m _ h (refused _)
@@ -196,13 +196,13 @@ module _ (law : AreInside) (c : Core) (none : AreUntracked c.source.state.durati
   remove_by true k x y h j = h
   remove_by false k x y h j = j
 
-  gone : (k : ℕ) → IsPlacing c (remove_effect_by k (answering (removed.Gone (has k c.source.state.active)) (without_buffer k c.source.state)) c)
+  gone : (k : ℕ) → IsPlacing c (remove_effect_by k (answer_and_state (removed.Gone (is_listed_in k c.source.state.active)) (without_buffer k c.source.state)) c)
   gone k =
-      carried (remove_effect_by k (answering (removed.Gone (has k c.source.state.active)) (without_buffer k c.source.state)) c) (removal-timely k (surroundings_in k c.source) c.buffers none)
+      carried (remove_effect_by k (answer_and_state (removed.Gone (is_listed_in k c.source.state.active)) (without_buffer k c.source.state)) c) (removal-timely k (surroundings_in k c.source) c.buffers none)
       (raised_same c.source.state.duration) (λ x. x) (tt, (tt, tt))
 
   remove : (k : ℕ) → IsPlacing c (remove_effect k c)
-  remove k = made k _ (remove_by (not (has k c.source.state.listed)) k (answering (removed.Refused NotFound) c.source.state) _ (refused NotFound) (gone k))
+  remove k = made k _ (remove_by (not (is_listed_in k c.source.state.listed)) k (answer_and_state (removed.Refused NotFound) c.source.state) _ (refused NotFound) (gone k))
 
   -- ---- the duration
 
@@ -211,7 +211,7 @@ module _ (law : AreInside) (c : Core) (none : AreUntracked c.source.state.durati
   change_by false x y h k = k
 
   -- the element is above the start, whatever the duration becomes
-  above : (s : SourceState) (o : Outer) → IsPlaced c.source.state o.element → is_nan s.duration ≡ false → is_after (pos 0) s.duration ≡ false → s.live ≡ c.source.state.live → IsAbove s o.element
+  above : (s : SourceState) (o : Outer) → IsPositionInside c.source.state o.element → is_nan s.duration ≡ false → is_after (pos 0) s.duration ≡ false → s.live ≡ c.source.state.live → IsAbove s o.element
   above s o h named lasting live = record {
     lasting = lasting;
     live = subst (λ x. LiesInside Infinite x) (sym live) h.live;
@@ -220,35 +220,35 @@ module _ (law : AreInside) (c : Core) (none : AreUntracked c.source.state.durati
     above = h.inside.0;
   }
 
-  changed_to : (d : Moment) → is_nan d ≡ false → is_after (pos 0) d ≡ false → IsPlacing c (changed_effect_by [] (answering (changed.To d) (record c.source.state { duration = d })) c)
+  changed_to : (d : Moment) → is_nan d ≡ false → is_after (pos 0) d ≡ false → IsPlacing c (changed_effect_by [] (answer_and_state (changed.To d) (record c.source.state { duration = d })) c)
   changed_to d named lasting = record {
     untracked = λ n. absurd (cc);
     placed = λ o h f.
-        let v : CoreView = core_view (changed_effect_by [] (answering (changed.To d) (record c.source.state { duration = d })) c).core in
+        let v : CoreView = core_view (changed_effect_by [] (answer_and_state (changed.To d) (record c.source.state { duration = d })) c).core in
         placed_settled v (after_signals v (DurationChanged d ∷ []) (element_in v.source.error o))
         (placed_fall law d v (player_of v.source.error o.element) f refl (above (record c.source.state { duration = d }) o h named lasting refl));
   }
 
-  same_duration : IsPlacing c (changed_effect_by [] (answering changed.Same c.source.state) c)
+  same_duration : IsPlacing c (changed_effect_by [] (answer_and_state changed.Same c.source.state) c)
   same_duration = effect c.source.state [] refl (λ x. x) tt
 
   set_by : (b : Bool) (d : Moment) → (is_nan d || is_after (pos 0) d) ≡ b
-      → IsPlacing c (changed_effect_by [] (cond b (answering (changed.Refused TypeError) c.source.state)
-      (cond (not (is_open c.source.state.ready)) (answering (changed.Refused InvalidState) c.source.state)
-      (cond (all_in c).updating (answering (changed.Refused InvalidState) c.source.state)
-      (cond (same_moment d c.source.state.duration) (answering changed.Same c.source.state)
-      (cond (has_frame_after (all_in c).highest_start d) (answering (changed.Refused InvalidState) c.source.state)
+      → IsPlacing c (changed_effect_by [] (cond b (answer_and_state (changed.Refused TypeError) c.source.state)
+      (cond (not (is_open c.source.state.ready)) (answer_and_state (changed.Refused InvalidState) c.source.state)
+      (cond (all_in c).updating (answer_and_state (changed.Refused InvalidState) c.source.state)
+      (cond (is_same_moment d c.source.state.duration) (answer_and_state changed.Same c.source.state)
+      (cond (has_frame_after (all_in c).highest_start d) (answer_and_state (changed.Refused InvalidState) c.source.state)
       (after_duration_change (past_frames (all_in c).highest_end d) c.source.state)))))) c)
   set_by true d h = refused TypeError
   set_by false d h =
       let both = not_nan_by (is_nan d) (is_after (pos 0) d) h in
       let past : Moment = past_frames (all_in c).highest_end d in
       let fine = past_lasting (all_in c).highest_end d both.0 both.1 in
-      change_by (not (is_open c.source.state.ready)) (answering (changed.Refused InvalidState) c.source.state) _ (refused InvalidState)
-      (change_by (all_in c).updating (answering (changed.Refused InvalidState) c.source.state) _ (refused InvalidState)
-      (change_by (same_moment d c.source.state.duration) (answering changed.Same c.source.state) _ same_duration
-      (change_by (has_frame_after (all_in c).highest_start d) (answering (changed.Refused InvalidState) c.source.state) _ (refused InvalidState)
-      (change_by (same_moment past c.source.state.duration) (answering changed.Same c.source.state) (answering (changed.To past) (record c.source.state { duration = past })) same_duration (changed_to past fine.0 fine.1)))))
+      change_by (not (is_open c.source.state.ready)) (answer_and_state (changed.Refused InvalidState) c.source.state) _ (refused InvalidState)
+      (change_by (all_in c).updating (answer_and_state (changed.Refused InvalidState) c.source.state) _ (refused InvalidState)
+      (change_by (is_same_moment d c.source.state.duration) (answer_and_state changed.Same c.source.state) _ same_duration
+      (change_by (has_frame_after (all_in c).highest_start d) (answer_and_state (changed.Refused InvalidState) c.source.state) _ (refused InvalidState)
+      (change_by (is_same_moment past c.source.state.duration) (answer_and_state changed.Same c.source.state) (answer_and_state (changed.To past) (record c.source.state { duration = past })) same_duration (changed_to past fine.0 fine.1)))))
 
   set_duration : (d : Moment) → IsPlacing c (set_duration_effect d c)
   set_duration d = set_by (is_nan d || is_after (pos 0) d) d refl
@@ -256,15 +256,15 @@ module _ (law : AreInside) (c : Core) (none : AreUntracked c.source.state.durati
   -- ---- the end
 
   -- with an error, or to the duration that there is
-  ended_same : (end : EndKind) → IsPlacing c (with_end_error end (changed_effect_by (Tell (ended_event ∷ []) ∷ []) (answering changed.Same (in_ready Ended c.source.state)) c))
-  ended_same end = carried (with_end_error end (changed_effect_by (Tell (ended_event ∷ []) ∷ []) (answering changed.Same (in_ready Ended c.source.state)) c)) none (raised_same c.source.state.duration) (λ x. x) (tt, (tt, tt))
+  ended_same : (end : EndKind) → IsPlacing c (with_end_error end (changed_effect_by (Tell (ended_event ∷ []) ∷ []) (answer_and_state changed.Same (in_ready Ended c.source.state)) c))
+  ended_same end = carried (with_end_error end (changed_effect_by (Tell (ended_event ∷ []) ∷ []) (answer_and_state changed.Same (in_ready Ended c.source.state)) c)) none (raised_same c.source.state.duration) (λ x. x) (tt, (tt, tt))
 
-  ended_at : (d : Moment) → is_nan d ≡ false → (HasFrames (core_view (with_end_error Plain (changed_effect_by (Tell (ended_event ∷ []) ∷ []) (answering (changed.To d) (record (in_ready Ended c.source.state) { duration = d })) c)).core) → is_after (pos 0) d ≡ false)
-      → IsPlacing c (with_end_error Plain (changed_effect_by (Tell (ended_event ∷ []) ∷ []) (answering (changed.To d) (record (in_ready Ended c.source.state) { duration = d })) c))
+  ended_at : (d : Moment) → is_nan d ≡ false → (HasFrames (core_view (with_end_error Plain (changed_effect_by (Tell (ended_event ∷ []) ∷ []) (answer_and_state (changed.To d) (record (in_ready Ended c.source.state) { duration = d })) c)).core) → is_after (pos 0) d ≡ false)
+      → IsPlacing c (with_end_error Plain (changed_effect_by (Tell (ended_event ∷ []) ∷ []) (answer_and_state (changed.To d) (record (in_ready Ended c.source.state) { duration = d })) c))
   ended_at d named lasting = record {
     untracked = λ n. absurd (cc);
     placed = λ o h f.
-        let m : CoreEffect = with_end_error Plain (changed_effect_by (Tell (ended_event ∷ []) ∷ []) (answering (changed.To d) (record (in_ready Ended c.source.state) { duration = d })) c) in
+        let m : CoreEffect = with_end_error Plain (changed_effect_by (Tell (ended_event ∷ []) ∷ []) (answer_and_state (changed.To d) (record (in_ready Ended c.source.state) { duration = d })) c) in
         let v : CoreView = core_view m.core in
         placed_settled v (after_signals v m.signals (element_in v.source.error o))
         (placed_fall law d v (player_of v.source.error o.element) f refl (above (record (in_ready Ended c.source.state) { duration = d }) o h named (lasting f) refl));
@@ -278,7 +278,7 @@ module _ (law : AreInside) (c : Core) (none : AreUntracked c.source.state.durati
   ended_by : (end : EndKind) → IsPlacing c (end_effect_by None end c)
   ended_by Plain =
       let d : Moment = At (unwrap_or (all_in c).highest_end (pos 0)) in
-      end_by (same_moment d c.source.state.duration) (answering changed.Same (in_ready Ended c.source.state)) (answering (changed.To d) (record (in_ready Ended c.source.state) { duration = d })) (ended_same Plain)
+      end_by (is_same_moment d c.source.state.duration) (answer_and_state changed.Same (in_ready Ended c.source.state)) (answer_and_state (changed.To d) (record (in_ready Ended c.source.state) { duration = d })) (ended_same Plain)
       (ended_at d refl (λ f. end_above (highest_end_of_all (media_of_all c.buffers)) (λ e is. highest-above (media_of_all c.buffers) e f.sound is)))
   ended_by Network = ended_same Network
   ended_by Decode = ended_same Decode
@@ -332,29 +332,29 @@ module _ (law : AreInside) (c : Core) (none : AreUntracked c.source.state.durati
 
 -- ---- calls on the element
 
-module _ (law : AreInside) (st : State) (h : IsPlacedState st) (f : HasFrames (core_view st.core)) where
-  settled : (o : Outer) → IsPlaced st.core.source.state o.element → IsPlacedState (step st.core [] o)
+module _ (law : AreInside) (st : State) (h : IsInsideState st) (f : HasFrames (core_view st.core)) where
+  settled : (o : Outer) → IsPositionInside st.core.source.state o.element → IsInsideState (step st.core [] o)
   settled o k = record { placed = placed_settled (core_view st.core) (element_in st.core.source.error o) k; untracked = h.untracked }
 
-  seeks : (t : Moment) → IsPlaced st.core.source.state (seek_effect t (core_view st.core) st.outer).state.element
+  seeks : (t : Moment) → IsPositionInside st.core.source.state (seek_effect t (core_view st.core) st.outer).state.element
   seeks Nan = h.placed
   seeks (At t) = placed_seek law (core_view st.core) (player_of st.core.source.error st.outer.element) f h.placed t
   seeks Infinite = h.placed
 
-  advances : (t : Moment) → IsPlaced st.core.source.state (advance_effect t (core_view st.core) st.outer).state.element
+  advances : (t : Moment) → IsPositionInside st.core.source.state (advance_effect t (core_view st.core) st.outer).state.element
   advances Nan = h.placed
   advances (At t) = placed_advance law (core_view st.core) (player_of st.core.source.error st.outer.element) f h.placed t
   advances Infinite = h.placed
 
 -- a call that the element does not act by
-behind : AreInside → (blobs : List (List ℕ)) (x : Call) (st : State) → IsPlacedState st → HasFrames (core_view (core_effect blobs st.outer.element.position x st.core).core)
-    → IsPlacedState (step (core_effect blobs st.outer.element.position x st.core).core (core_effect blobs st.outer.element.position x st.core).signals st.outer)
+behind : AreInside → (blobs : List (List ℕ)) (x : Call) (st : State) → IsInsideState st → HasFrames (core_view (core_effect blobs st.outer.element.position x st.core).core)
+    → IsInsideState (step (core_effect blobs st.outer.element.position x st.core).core (core_effect blobs st.outer.element.position x st.core).signals st.outer)
 behind law blobs x st h f =
     let all = of_call law st.core h.untracked blobs st.outer.element.position x in
     record { placed = all.placed st.outer h.placed f; untracked = all.untracked }
 
 -- where the frames are sound and end within the duration behind a call, it leaves the position inside
-pub call-placed : AreInside → (blobs : List (List ℕ)) (x : Call) (st : State) → IsPlacedState st → HasFrames (core_view (after_call blobs x st).state.core) → IsPlacedState (after_call blobs x st).state
+pub call-placed : AreInside → (blobs : List (List ℕ)) (x : Call) (st : State) → IsInsideState st → HasFrames (core_view (after_call blobs x st).state.core) → IsInsideState (after_call blobs x st).state
 call-placed law blobs (call.Seek t) st h f = settled law st h f _ (seeks law st h f t)
 call-placed law blobs call.Play st h f = settled law st h f _ (placed_play law (core_view st.core) (player_of st.core.source.error st.outer.element) f h.placed)
 call-placed law blobs call.Pause st h f = settled law st h f _ (placed_pause law (core_view st.core) (player_of st.core.source.error st.outer.element) f h.placed)
@@ -379,25 +379,25 @@ call-placed law blobs call.SourceState st h f = behind law blobs call.SourceStat
 call-placed law blobs call.ElementBuffered st h f = behind law blobs call.ElementBuffered st h f
 call-placed law blobs call.Seekable st h f = behind law blobs call.Seekable st h f
 
-work_by : AreInside → (o : Option BuffersResult) (k : ℕ) (st new : State) → ((r : BuffersResult) → o ≡ Some r → AreTimelyBuffers st.core.source.state.duration r) → IsPlacedState st → HasFrames (core_view new.core)
-    → work_result (option_map (λ result. reply_effect k result st.core) o) st ≡ Some new → IsPlacedState new
+work_by : AreInside → (o : Option BuffersResult) (k : ℕ) (st new : State) → ((r : BuffersResult) → o ≡ Some r → AreTimelyBuffers st.core.source.state.duration r) → IsInsideState st → HasFrames (core_view new.core)
+    → work_result (option_map (λ result. reply_effect k result st.core) o) st ≡ Some new → IsInsideState new
 work_by law None k st new t h f e = absurd (cc)
 work_by law (Some r) k st new t h f e =
     let m : CoreEffect = reply_effect k r st.core in
     let same : step m.core m.signals st.outer ≡ new = cc in
     let all = replied law st.core h.untracked k r (t r refl) in
     let frames : HasFrames (core_view m.core) = subst (λ (s : State). HasFrames (core_view s.core)) (sym same) f in
-    subst (λ (s : State). IsPlacedState s) same (record { placed = all.placed st.outer h.placed frames; untracked = all.untracked })
+    subst (λ (s : State). IsInsideState s) same (record { placed = all.placed st.outer h.placed frames; untracked = all.untracked })
 
-pub work-placed : AreInside → (k : ℕ) (st new : State) → after_work k st ≡ Some new → IsPlacedState st → HasFrames (core_view new.core) → IsPlacedState new
+pub work-placed : AreInside → (k : ℕ) (st new : State) → after_work k st ≡ Some new → IsInsideState st → HasFrames (core_view new.core) → IsInsideState new
 work-placed law k st new e h f =
     work_by law (buffers_turn k (surroundings_in k st.core.source) st.core.buffers) k st new (λ r is. turn-timely k (surroundings_in k st.core.source) st.core.buffers r h.untracked is) h f e
 
-turn_by : AreInside → (b : Bool) (st new : State) → cond b (Some (turned st)) None ≡ Some new → IsPlacedState st → HasFrames (core_view st.core) → IsPlacedState new
+turn_by : AreInside → (b : Bool) (st new : State) → cond b (Some (turned st)) None ≡ Some new → IsInsideState st → HasFrames (core_view st.core) → IsInsideState new
 turn_by law true st new e h f =
     let same : turned st ≡ new = cc in
-    subst (λ (s : State). IsPlacedState s) same (settled law st h f _ (placed_turn law (core_view st.core) (player_of st.core.source.error st.outer.element) f h.placed))
+    subst (λ (s : State). IsInsideState s) same (settled law st h f _ (placed_turn law (core_view st.core) (player_of st.core.source.error st.outer.element) f h.placed))
 turn_by law false st new e h f = absurd (cc)
 
-pub turn-placed : AreInside → (st new : State) → after_element_turn st ≡ Some new → IsPlacedState st → HasFrames (core_view st.core) → IsPlacedState new
-turn-placed law st new e h f = turn_by law (due_in st) st new e h f
+pub turn-placed : AreInside → (st new : State) → after_element_turn st ≡ Some new → IsInsideState st → HasFrames (core_view st.core) → IsInsideState new
+turn-placed law st new e h f = turn_by law (is_turn_due st) st new e h f

@@ -16,16 +16,16 @@ use Rattle.source_state.specs.Seekable.{seekable_span}
 use Rattle.element_seek.specs.declared.scene.Scene.{Scene}
 use Rattle.element_seek.specs.State.{PlayerState, has_ended, is_playing}
 use Rattle.element_seek.specs.Inside.{IsInside, LiesInside, HasSpansInside, StaysInside}
-use Rattle.element_seek.specs.Seeking.{in_media, after_seek_in, after_seek, after_load}
-use Rattle.element_seek.specs.Playing.{after_rewind, after_unpause, after_play, after_pause, plays_on, after_time_in, after_time, after_advance}
+use Rattle.element_seek.specs.Seeking.{position_within, after_seek_in, after_seek, after_load}
+use Rattle.element_seek.specs.Playing.{after_rewind, after_unpause, after_play, after_pause, is_playing_on, after_time_in, after_time, after_advance}
 use Rattle.element_seek.specs.Turns.{is_seek_done, is_end_due, after_turn}
 use Rattle.media_element.specs.State.{ElementState}
 use Rattle.media_element.specs.DurationChange.{after_seek_to, after_end_seek}
 use Rattle.media_element.proofs.Reach.{SeekStaysInside, reached}
-use Rattle.mse_engine.specs.State.{Element, element_of}
+use Rattle.mse_engine.specs.State.{ElementPart, element_of}
 use Rattle.mse_engine.specs.Scenes.{CoreView, scene_at}
 use Rattle.mse_engine.specs.Signals.{Signal, Tell, DurationChanged, Loaded, after_signal, after_signals, after_settling}
-use Rattle.mse_engine.specs.Positions.{IsPlaced}
+use Rattle.mse_engine.specs.Positions.{IsPositionInside}
 use Rattle.mse_engine.specs.Sound.{AreSoundWithin}
 use Rattle.mse_engine.proofs.Unchanged.{in_seek, in_play, in_pause, in_advance, in_turn, in_fall}
 use Rattle.mse_engine.proofs.Loading.{load_level, settled_metadata}
@@ -50,7 +50,7 @@ raised_by false m d e t h n f g l k = h.later t n k
 raised_by true true d e t h n f g l k = let named = f refl in absurd (cc)
 raised_by true false d e t h n f g l k = ap (λ x. is_after x e) (g refl) ∙ h.lasting l
 
-pub placed_raised : (s u : SourceState) (e : Element) → IsPlaced s e → IsRaised s.duration u.duration → (LiesInside Infinite s.live → LiesInside Infinite u.live) → IsPlaced u e
+pub placed_raised : (s u : SourceState) (e : ElementPart) → IsPositionInside s e → IsRaised s.duration u.duration → (LiesInside Infinite s.live → LiesInside Infinite u.live) → IsPositionInside u e
 placed_raised s u e h r live = record {
   lasting = r.lasting h.lasting;
   live = live h.live;
@@ -61,8 +61,8 @@ placed_raised s u e h r live = record {
 
 -- ---- an action
 
-acted : (s : SourceState) (p q : PlayerState) → IsPlaced s (element_of p) → has_metadata q.level ≡ has_metadata p.level → (has_metadata p.level ≡ false → q.position ≡ p.position)
-    → (IsInside s.duration p.position → IsInside s.duration q.position) → IsPlaced s (element_of q)
+acted : (s : SourceState) (p q : PlayerState) → IsPositionInside s (element_of p) → has_metadata q.level ≡ has_metadata p.level → (has_metadata p.level ≡ false → q.position ≡ p.position)
+    → (IsInside s.duration p.position → IsInside s.duration q.position) → IsPositionInside s (element_of q)
 acted s p q h level still keeps = record {
   lasting = h.lasting;
   live = h.live;
@@ -80,7 +80,7 @@ position_else true x y t h k = absurd (cc)
 position_else false x y t h k = k
 
 seek_still : (t : ℤ) (scene : Scene) (p : PlayerState) → has_metadata p.level ≡ false → (after_seek t scene p).state.position ≡ p.position
-seek_still t scene p b = position_else (has_metadata p.level) (after_seek_in scene.seekable (in_media t scene.duration) p) _ p.position b refl
+seek_still t scene p b = position_else (has_metadata p.level) (after_seek_in scene.seekable (position_within t scene.duration) p) _ p.position b refl
 
 unpause_still : (p : PlayerState) → (after_unpause p).state.position ≡ p.position
 unpause_still p = position_by p.paused _ _ p.position refl refl
@@ -105,7 +105,7 @@ third_false false b c e = refl
 
 time_still : (t : ℤ) (scene : Scene) (p : PlayerState) → has_metadata p.level ≡ false → (after_time t scene p).state.position ≡ p.position
 time_still t scene p b =
-    position_else (plays_on scene p) (after_time_in scene.span t p) _ p.position (third_false (is_playing scene p) (not p.seeking) (has_future_data p.level) (no_future p.level b)) refl
+    position_else (is_playing_on scene p) (after_time_in scene.span t p) _ p.position (third_false (is_playing scene p) (not p.seeking) (has_future_data p.level) (no_future p.level b)) refl
 
 advance_still : (t : ℤ) (scene : Scene) (p : PlayerState) → has_metadata p.level ≡ false → (after_advance t scene p).state.position ≡ p.position
 advance_still t scene p b = position_by (int_lt t (pos 0)) _ _ p.position refl (time_still t scene p b)
@@ -119,35 +119,35 @@ turn_still scene p = position_by (is_seek_done p) _ _ p.position refl (position_
 there : (s : SourceState) (p q : PlayerState) → q.position ≡ p.position → IsInside s.duration p.position → IsInside s.duration q.position
 there s p q same h = subst (λ (t : ℤ). IsInside s.duration t) (sym same) h
 
-module _ (law : AreInside) (v : CoreView) (p : PlayerState) (frames : HasFrames v) (h : IsPlaced v.source.state (element_of p)) where
+module _ (law : AreInside) (v : CoreView) (p : PlayerState) (frames : HasFrames v) (h : IsPositionInside v.source.state (element_of p)) where
   spans : HasSpansInside (scene_at p.position v)
   spans = spans-inside p.position v frames.sound frames.within h.lasting h.live
 
-  pub placed_seek : (t : ℤ) → IsPlaced v.source.state (element_of (after_seek t (scene_at p.position v) p).state)
+  pub placed_seek : (t : ℤ) → IsPositionInside v.source.state (element_of (after_seek t (scene_at p.position v) p).state)
   placed_seek t =
       let scene = scene_at p.position v in
       acted v.source.state p (after_seek t scene p).state h (ap has_metadata (in_seek t scene p).level) (seek_still t scene p) (law.seek t scene p spans)
 
-  pub placed_play : IsPlaced v.source.state (element_of (after_play (scene_at p.position v) p).state)
+  pub placed_play : IsPositionInside v.source.state (element_of (after_play (scene_at p.position v) p).state)
   placed_play =
       let scene = scene_at p.position v in
       acted v.source.state p (after_play scene p).state h (ap has_metadata (in_play scene p).level) (play_still scene p) (law.play scene p spans)
 
-  pub placed_advance : (t : ℤ) → IsPlaced v.source.state (element_of (after_advance t (scene_at p.position v) p).state)
+  pub placed_advance : (t : ℤ) → IsPositionInside v.source.state (element_of (after_advance t (scene_at p.position v) p).state)
   placed_advance t =
       let scene = scene_at p.position v in
       acted v.source.state p (after_advance t scene p).state h (ap has_metadata (in_advance t scene p).level) (advance_still t scene p) (law.advance t scene p spans)
 
-  pub placed_pause : IsPlaced v.source.state (element_of (after_pause p).state)
+  pub placed_pause : IsPositionInside v.source.state (element_of (after_pause p).state)
   placed_pause = acted v.source.state p (after_pause p).state h (ap has_metadata (in_pause p).level) (λ _. pause_still p) (there v.source.state p (after_pause p).state (pause_still p))
 
-  pub placed_turn : IsPlaced v.source.state (element_of (after_turn (scene_at p.position v) p).state)
+  pub placed_turn : IsPositionInside v.source.state (element_of (after_turn (scene_at p.position v) p).state)
   placed_turn =
       let scene = scene_at p.position v in
       acted v.source.state p (after_turn scene p).state h (ap has_metadata (in_turn scene p).level) (λ _. turn_still scene p) (there v.source.state p (after_turn scene p).state (turn_still scene p))
 
   -- the metadata is there, and so is a duration
-  pub placed_load : is_nan v.source.state.duration ≡ false → IsPlaced v.source.state (element_of (after_load (scene_at p.position v) p).state)
+  pub placed_load : is_nan v.source.state.duration ≡ false → IsPositionInside v.source.state (element_of (after_load (scene_at p.position v) p).state)
   placed_load named =
       let scene = scene_at p.position v in
       let metadata : has_metadata (after_load scene p).state.level ≡ true = ap has_metadata (load_level scene p) in
@@ -159,7 +159,7 @@ module _ (law : AreInside) (v : CoreView) (p : PlayerState) (frames : HasFrames 
         inside = law.load scene p spans h.inside;
       }
 
-pub placed_settled : (v : CoreView) (e : ElementState) → IsPlaced v.source.state (element_of e.player) → IsPlaced v.source.state (element_of (after_settling v e).player)
+pub placed_settled : (v : CoreView) (e : ElementState) → IsPositionInside v.source.state (element_of e.player) → IsPositionInside v.source.state (element_of (after_settling v e).player)
 placed_settled v e h = acted v.source.state e.player (after_settling v e).player h (settled_metadata (scene_at e.player.position v) e.player) (λ _. refl) (λ x. x)
 
 -- ---- signals, but for a changed duration
@@ -172,8 +172,8 @@ CanHear v Loaded = is_nan v.source.state.duration ≡ false
 abbrev pub CanHearAll : CoreView → List Signal → Type 0
 CanHearAll v signals = AllByRecursion (CanHear v) signals
 
-pub placed_signals : AreInside → (v : CoreView) (signals : List Signal) (e : ElementState) → HasFrames v → CanHearAll v signals → IsPlaced v.source.state (element_of e.player)
-    → IsPlaced v.source.state (element_of (after_signals v signals e).player)
+pub placed_signals : AreInside → (v : CoreView) (signals : List Signal) (e : ElementState) → HasFrames v → CanHearAll v signals → IsPositionInside v.source.state (element_of e.player)
+    → IsPositionInside v.source.state (element_of (after_signals v signals e).player)
 placed_signals law v [] e f c h = h
 placed_signals law v (Tell events ∷ signals) e f c h = placed_signals law v signals (after_signal v (Tell events) e) f c.1 h
 placed_signals law v (DurationChanged d ∷ signals) e f c h = absurd c.0
@@ -182,7 +182,7 @@ placed_signals law v (Loaded ∷ signals) e f c h = placed_signals law v signals
 -- ---- a changed duration
 
 -- the position may be after the duration
-pub record IsAbove (s : SourceState) (e : Element) : Type 0 where
+pub record IsAbove (s : SourceState) (e : ElementPart) : Type 0 where
   pub lasting : is_after (pos 0) s.duration ≡ false
   pub live : LiesInside Infinite s.live
   pub named : is_nan s.duration ≡ false
@@ -222,7 +222,7 @@ fall_inside law true (At d) v p f b same h =
 fall_inside law true Infinite v p f b same h = subst (λ (m : Moment). IsInside m p.position) same (h.above, refl)
 
 pub placed_fall : AreInside → (d : Moment) (v : CoreView) (p : PlayerState) → HasFrames v → d ≡ v.source.state.duration → IsAbove v.source.state (element_of p)
-    → IsPlaced v.source.state (element_of (after_end_seek d (scene_at p.position v) p).state)
+    → IsPositionInside v.source.state (element_of (after_end_seek d (scene_at p.position v) p).state)
 placed_fall law d v p f same h =
     let scene = scene_at p.position v in
     let level : has_metadata (after_end_seek d scene p).state.level ≡ has_metadata p.level = ap has_metadata (in_fall d scene p).level in

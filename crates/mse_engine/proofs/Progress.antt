@@ -20,7 +20,7 @@ use Rattle.mse_engine.specs.Scenes.{CoreView, core_view, scene_at}
 use Rattle.mse_engine.specs.Signals.{step}
 use Rattle.mse_engine.specs.Replies.{surroundings_in}
 use Rattle.mse_engine.specs.BufferCalls.{reply_effect}
-use Rattle.mse_engine.specs.Work.{work_result, after_work, after_element_turn, due_in, player_in, scene_in, without_first, fire_result}
+use Rattle.mse_engine.specs.Work.{work_result, after_work, after_element_turn, is_turn_due, player_in, scene_in, without_first, fire_result}
 use Rattle.mse_engine.specs.Progress.{work_left_by, slot_work_left, work_left, turns_left, steps_left, IsOneEventLess}
 
 -- ---- one step of the work of a buffer
@@ -40,18 +40,18 @@ abbrev left_behind : CallResult → ℕ
 left_behind r = work_left_by r.feed.running r.feed
 
 item_fewer : (x : ByteItem) (t : ItemResult) (a : Surroundings) (f : Feed) → f.running ≡ Append
-    → length (drop f.reading.taken (items_in f.reading)) ≡ suc (length (drop (f.reading.taken + 1) (items_in f.reading)))
-    → left_behind (item_turn_result x t a f) < suc (length (drop f.reading.taken (items_in f.reading)))
+    → length (drop f.reading.string.taken (items_in f.reading)) ≡ suc (length (drop (f.reading.string.taken + 1) (items_in f.reading)))
+    → left_behind (item_turn_result x t a f) < suc (length (drop f.reading.string.taken (items_in f.reading)))
 item_fewer x (Done c e) a f r l =
-    let here : work_left_by f.running (feed_after (Some x) f) ≡ suc (length (drop (f.reading.taken + 1) (items_in f.reading))) = ap (λ w. work_left_by w (feed_after (Some x) f)) r in
+    let here : work_left_by f.running (feed_after (Some x) f) ≡ suc (length (drop (f.reading.string.taken + 1) (items_in f.reading))) = ap (λ w. work_left_by w (feed_after (Some x) f)) r in
     omega (arith, here, l)
 item_fewer x (AppendError fault at c e) a f r l = omega arith
 
 append_fewer : (x : Option ByteItem) (a : Surroundings) (f : Feed) (c : Content) → f.running ≡ Append → next_item f ≡ x
-    → left_behind (append_turn_result x a f c) < suc (length (drop f.reading.taken (items_in f.reading)))
+    → left_behind (append_turn_result x a f c) < suc (length (drop f.reading.string.taken (items_in f.reading)))
 append_fewer None a f c r e = omega arith
 append_fewer (Some x) a f c r e =
-    item_fewer x (item_result x c a.duration) a f r (length-left f.reading.taken (items_in f.reading) x e)
+    item_fewer x (item_result x c a.duration) a f r (length-left f.reading.string.taken (items_in f.reading) x e)
 
 by_work : (r : Running) (a : Surroundings) (f : Feed) (c : Content) (new : CallResult) → f.running ≡ r → turn_result_by_work r a f c ≡ Some new → left_behind new < work_left_by r f
 by_work Nothing a f c new r e = absurd (cc)
@@ -182,21 +182,21 @@ turn_fewer_by false false v p s e d = absurd (cc)
 abbrev pub turned : State → State
 turned st = step st.core [] (outer_of (queueing.after_own_turn (scene_in st) (element_in st.core.source.error st.outer)))
 
-due_fewer : (st : State) → due_in st ≡ true → steps_left (turned st) < steps_left st
+due_fewer : (st : State) → is_turn_due st ≡ true → steps_left (turned st) < steps_left st
 due_fewer st d =
     let v : CoreView = core_view st.core in
     let p : PlayerState = player_in st in
     let fewer : turns_left (turned st).outer.element.seeking (turned st).outer.element.finished < turns_left p.seeking p.finished = turn_fewer_by (is_seek_done p) (is_end_due (scene_at p.position v) p) v p refl refl d in
     omega (arith, fewer)
 
-by_due : (b : Bool) (st new : State) → due_in st ≡ b → cond b (Some (turned st)) None ≡ Some new → steps_left new < steps_left st
+by_due : (b : Bool) (st new : State) → is_turn_due st ≡ b → cond b (Some (turned st)) None ≡ Some new → steps_left new < steps_left st
 by_due true st new d e =
     let same : turned st ≡ new = cc in
     subst (λ (x : State). steps_left x < steps_left st) same (due_fewer st d)
 by_due false st new d e = absurd (cc)
 
 pub turn-fewer : (st new : State) → after_element_turn st ≡ Some new → steps_left new < steps_left st
-turn-fewer st new e = by_due (due_in st) st new refl e
+turn-fewer st new e = by_due (is_turn_due st) st new refl e
 
 -- ---- firing
 

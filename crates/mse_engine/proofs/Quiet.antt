@@ -4,7 +4,7 @@ use Rattle.std.specs.Prelude.{Option, Some, None, is_none, replicate}
 use Rattle.std.proofs.lemmas.Bool.{and_parts}
 use Rattle.std.proofs.lemmas.Bool.Decides.{Decides-int_eq, nat_tests}
 use Rattle.std.proofs.lemmas.List.{append-nil}
-use Rattle.mse_base.specs.Moments.{same_moment}
+use Rattle.mse_base.specs.Moments.{is_same_moment}
 use Rattle.mse_base.specs.declared.ticks.Moment.{Moment}
 use Rattle.mse_base.specs.declared.ticks.Moment.TheVariants.{Nan, At, Infinite}
 use Rattle.mse_calls.specs.Level.{has_metadata, level_number}
@@ -14,7 +14,7 @@ use Rattle.buffer_state.specs.declared.reply.Reply.{Reply}
 use Rattle.element_ready.specs.Levels.{level_at}
 use Rattle.element_seek.specs.declared.scene.Scene.{Scene}
 use Rattle.element_seek.specs.State.{PlayerState}
-use Rattle.element_seek.specs.Settling.{stays_by, stays_in}
+use Rattle.element_seek.specs.Settling.{is_settled_by, is_settled_in}
 use Rattle.source_state.specs.State.{SourceState}
 use Rattle.source_buffers.specs.State.{KeptBuffers}
 use Rattle.media_element.specs.State.{ElementState}
@@ -41,7 +41,7 @@ no_fault : (fault : Option FaultView) → is_none fault ≡ true → fault ≡ N
 no_fault None h = refl
 no_fault (Some fault) h = absurd cc
 
-same : (a b : Moment) → same_moment a b ≡ true → a ≡ b
+same : (a b : Moment) → is_same_moment a b ≡ true → a ≡ b
 same Nan Nan h = refl
 same Nan (At b) h = absurd cc
 same Nan Infinite h = absurd cc
@@ -66,7 +66,7 @@ quieted r d = record r {
 
 quiet_reply : (r : Reply) (s : SourceState) → is_quiet r s ≡ true → r ≡ quieted r s.duration
 quiet_reply r s h =
-    let lasts = same_moment r.duration s.duration in
+    let lasts = is_same_moment r.duration s.duration in
     let calm = is_none r.fault && lasts in
     let untold = (length r.events == 0) && calm in
     let kept = (r.duration_changes == 0) && untold in
@@ -92,7 +92,7 @@ blank_by : (metadata finished x y : Bool) → metadata ≡ false → (not finish
 blank_by true finished x y h = absurd cc
 blank_by false finished x y h = refl
 
-pub blank_stays : (scene : Scene) (d : Moment) (p : PlayerState) → not (has_metadata p.level) ≡ true → stays_by None d p ≡ stays_in scene p
+pub blank_stays : (scene : Scene) (d : Moment) (p : PlayerState) → not (has_metadata p.level) ≡ true → is_settled_by None d p ≡ is_settled_in scene p
 blank_stays scene d p h = blank_by (has_metadata p.level) p.finished (level_number (level_at None p.position d) == level_number p.level) (level_number (level_at scene.span p.position scene.duration) == level_number p.level) (unset (has_metadata p.level) h)
 
 -- ---- the source

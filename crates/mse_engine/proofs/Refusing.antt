@@ -6,7 +6,7 @@ use Rattle.std.proofs.lemmas.Bool.Decides.{nat_tests}
 use Rattle.std.proofs.lemmas.Option.{slice_get_past}
 use Rattle.mse_base.specs.declared.ticks.Moment.{Moment}
 use Rattle.mse_base.specs.declared.ticks.Moment.TheVariants.{Nan, At, Infinite}
-use Rattle.mse_base.specs.Moments.{same_moment}
+use Rattle.mse_base.specs.Moments.{is_same_moment}
 use Rattle.mse_types.specs.declared.answer.Container.{Container}
 use Rattle.mse_types.specs.declared.answer.TypeAnswer.{TypeAnswer}
 use Rattle.mse_types.specs.declared.answer.TypeAnswer.TheVariants.{Supported, Empty, Unsupported}
@@ -23,7 +23,7 @@ use Rattle.mse_calls.specs.declared.events.EventKind.TheVariants.{UpdateStart}
 use Rattle.mse_calls.specs.declared.events.EventKind.TheVariants as kind
 use Rattle.mse_calls.specs.declared.events.Target.TheVariants as target
 use Rattle.source_state.specs.State.{SourceState}
-use Rattle.source_state.specs.Calls.{add_name, after_add_buffer, after_end, after_remove_buffer, after_set_duration, after_set_live, answering, duration_name, end_refusal, in_ready, remove_name}
+use Rattle.source_state.specs.Calls.{add_name, after_add_buffer, after_end, after_remove_buffer, after_set_duration, after_set_live, answer_and_state, duration_name, end_refusal, in_ready, remove_name}
 use Rattle.source_state.specs.declared.answers.Added.{Added}
 use Rattle.source_state.specs.declared.answers.Added.TheVariants as added
 use Rattle.source_state.specs.declared.answers.Removed.{Removed}
@@ -33,7 +33,7 @@ use Rattle.source_state.specs.declared.answers.Changed.TheVariants as changed
 use Rattle.element_seek.specs.declared.acted.Acted.{Acted}
 use Rattle.element_seek.specs.declared.acted.Acted.TheVariants as acted
 use Rattle.element_seek.specs.State.{PlayerState, then_after}
-use Rattle.element_seek.specs.Playing.{after_rewind, after_unpause, done}
+use Rattle.element_seek.specs.Playing.{after_rewind, after_unpause, done_answer}
 use Rattle.media_element.specs.Queueing as queueing
 use Rattle.track_buffers.specs.Settings.{with_window_start, with_window_end}
 use Rattle.track_buffers.specs.Frames.{flush_result}
@@ -142,7 +142,7 @@ never_refused : (end : EndKind) (highest : Option ℤ) (s : SourceState) → dur
 never_refused Plain highest s =
     let d = At (unwrap_or highest (pos 0)) in
     let t = in_ready Ended s in
-    change_by (same_moment d t.duration) (answering changed.Same t) (answering (changed.To d) (record t { duration = d })) refl refl
+    change_by (is_same_moment d t.duration) (answer_and_state changed.Same t) (answer_and_state (changed.To d) (record t { duration = d })) refl refl
 never_refused Network highest s = refl
 never_refused Decode highest s = refl
 
@@ -229,9 +229,9 @@ timely k t u refusal call c o is told tells =
 
 -- ---- what each call tells
 
-unless_name : (o : Option Name) (done : CallResult) (a : Surroundings) (f : Feed) (c : Content) → done.reply.refused ≡ None → (unless_refused o done a f c).reply.refused ≡ o
-unless_name None done a f c none = none
-unless_name (Some name) done a f c none = refl
+unless_name : (o : Option Name) (done_answer : CallResult) (a : Surroundings) (f : Feed) (c : Content) → done_answer.reply.refused ≡ None → (unless_refused o done_answer a f c).reply.refused ≡ o
+unless_name None done_answer a f c none = none
+unless_name (Some name) done_answer a f c none = refl
 
 pub window_start_tells : (t : ℤ) (a : Surroundings) (f : Feed) (c : Content) → (window_start_result t a f c).reply.refused ≡ window_start_refusal t f c
 window_start_tells t a f c = unless_name (window_start_refusal t f c) (settings_result false (with_window_start t c.media) a f c) a f c refl
@@ -349,4 +349,4 @@ pub play_name : (x : KeptEngine) (st : State) → Stands x st → cond (x.elemen
 play_name x st h =
     let p = player_in st in
     ap (λ (s : CoreSource). cond (s.error == 4) (Some NotSupported) None) h.source
-    ∙ sym (acted_name (st.core.source.error == 4) (record { answer = acted.Refused NotSupported; state = p }) (done (then_after (after_rewind (scene_in st) p) after_unpause)) (Some NotSupported) None refl refl)
+    ∙ sym (acted_name (st.core.source.error == 4) (record { answer = acted.Refused NotSupported; state = p }) (done_answer (then_after (after_rewind (scene_in st) p) after_unpause)) (Some NotSupported) None refl refl)

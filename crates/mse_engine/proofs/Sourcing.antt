@@ -19,7 +19,7 @@ use Rattle.mse_engine.specs.CoreEffects.{refused_effect, effect_leaving, with_st
 use Rattle.mse_engine.specs.SourceCalls.{answered_by, from_source, set_live_effect}
 use Rattle.mse_engine.specs.Calls.{refused_or, no_element_effect, after_call_by}
 use Rattle.mse_engine.specs.Standing.{SourceSide, KeptEngine, Stands, IsStep, IsSteady, core_source, kept_engine, kept_scene, view_of}
-use Rattle.mse_engine.proofs.Unchanged.{IsKept, same}
+use Rattle.mse_engine.proofs.Unchanged.{IsUnchanged, same}
 use Rattle.mse_engine.proofs.Stepping.{IsEnd, stepped, still}
 
 abbrev pub SourceCall : Type 0
@@ -71,7 +71,7 @@ live_refused Infinite end c h = refl
 
 pub source_step : (side new_side : SourceSide) (buffers : KeptBuffers) (e told new : ElementState) (s : SourceState) (signals : List Signal) (st : State)
     → new_side ≡ in_state s side → Stands (kept_engine side buffers e) st
-    → IsKept e.player told.player → told ≡ after_signals (view_of new_side buffers e) signals e → IsEnd new_side buffers told new
+    → IsUnchanged e.player told.player → told ≡ after_signals (view_of new_side buffers e) signals e → IsEnd new_side buffers told new
     → Stands (kept_engine new_side buffers new) (step (effect_leaving s signals st.core).core signals st.outer)
 source_step side new_side buffers e told new s signals st is k same heard end =
     stepped new_side buffers e told new (effect_leaving s signals st.core).core signals st.outer (ap (λ (x : SourceSide). core_source x e) is ∙ ap (λ (x : CoreSource). with_state s x) k.source) k.buffers k.outer same heard end
@@ -105,7 +105,7 @@ module _ (call : SourceCall) (side new_side : SourceSide) (buffers : KeptBuffers
       }
 
   pub told_step : (told new : ElementState) (signals : List Signal) (st : State)
-      → (call side.state).answer ≡ None → IsKept start.player told.player → told ≡ after_signals (view_of new_side buffers start) signals start
+      → (call side.state).answer ≡ None → IsUnchanged start.player told.player → told ≡ after_signals (view_of new_side buffers start) signals start
       → IsEnd new_side buffers told new → Stands (kept_engine side buffers e) st
       → IsStep Done (kept_engine new_side buffers new) (after_call_by (from_source (call st.core.source.state) signals st.core) (no_element_effect st.outer) Done)
   told_step told new signals st none keeps heard end k =

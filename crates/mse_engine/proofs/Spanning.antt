@@ -7,9 +7,9 @@ use Rattle.std.proofs.lemmas.Int.{ints}
 use Rattle.mse_base.specs.declared.span.Span.{Span}
 use Rattle.mse_base.specs.declared.ticks.Moment.{Moment}
 use Rattle.mse_base.specs.declared.ticks.Moment.TheVariants.{Nan, At, Infinite}
-use Rattle.mse_base.specs.Moments.{is_after, greater_of, greatest, greater_with}
-use Rattle.mse_base.specs.Bridging.{is_empty, is_far_before, span_round, ranges_with_lasting, ranges_with, ranges_with_all, overlap}
-use Rattle.mse_base.specs.Meets.{meet, meet_of_all}
+use Rattle.mse_base.specs.Moments.{is_after, greater_of, greatest, greater_with, lesser_with}
+use Rattle.mse_base.specs.Bridging.{is_empty, is_far_before, span_round, ranges_with_lasting, ranges_with, ranges_with_all}
+use Rattle.mse_base.specs.Meets.{overlap, meet, meet_of_all}
 use Rattle.mse_base.specs.Spans.{reaches, last_from, last_of}
 use Rattle.track_store.specs.declared.store.Stored.{Stored}
 use Rattle.track_store.specs.Frames.{ends, intervals, ranges_of}
@@ -18,12 +18,12 @@ use Rattle.track_store.specs.State.{TrackState}
 use Rattle.track_buffers.specs.Media.{Media, EndsWithin}
 use Rattle.track_buffers.specs.Frames.{highest_end_in}
 use Rattle.track_buffers.specs.Buffered.{last_end, last_ends, with_last_end, with_end, with_common_end, track_ranges, buffered_of}
-use Rattle.source_state.specs.Seekable.{lesser_with, seekable_span}
+use Rattle.source_state.specs.Seekable.{seekable_span}
 use Rattle.source_buffers.specs.State.{in_slot}
 use Rattle.source_buffers.specs.All.{AllEndWithin, AreSound, slot_times, highest_end_of_all}
 use Rattle.source_buffers.specs.Buffered.{slot_ranges, active_ranges, element_ranges}
 use Rattle.element_seek.specs.Inside.{LiesInside, HasSpansInside}
-use Rattle.mse_engine.specs.Scenes.{CoreView, first_start, scene_at}
+use Rattle.mse_engine.specs.Scenes.{CoreView, start_of_first, scene_at}
 
 -- the time is not after the duration, which there is
 abbrev EndsBy : Moment → ℤ → Type 0
@@ -72,9 +72,9 @@ pick P false x y h k = k
 
 round_within : (d : Moment) (s r : Span) → IsWithin d s → IsWithin d r → IsWithin d (span_round s r)
 round_within d s r h k = (
-  pick (λ t. pos 0 ≤ℤ t) (int_le s.start r.start) s.start r.start h.0 k.0,
-  pick (λ t. pos 0 ≤ℤ t) (int_le s.end r.end) r.end s.end k.1 h.1,
-  pick (EndsBy d) (int_le s.end r.end) r.end s.end k.2 h.2,
+  pick (λ t. pos 0 ≤ℤ t) (int_lt r.start s.start) r.start s.start k.0 h.0,
+  pick (λ t. pos 0 ≤ℤ t) (int_lt r.end s.end) s.end r.end h.1 k.1,
+  pick (EndsBy d) (int_lt r.end s.end) s.end r.end h.2 k.2,
 )
 
 lasting_within : (d : Moment) (gap : ℤ) (s : Span) (rs : List Span) → IsWithin d s → AreWithin d rs → AreWithin d (ranges_with_lasting gap s rs)
@@ -153,10 +153,14 @@ common_within d true rs h = each_longer d (greatest (last_ends rs)) rs (λ e is.
 
 -- ---- the ticks that are shared
 
+shared_within : (d : Moment) (b : Bool) (s : Span) → IsWithin d s → AreWithin d (option_to_list (cond b (Some s) None))
+shared_within d true s h = (h, tt)
+shared_within d false s h = tt
+
 overlap_within : (d : Moment) (x y : Span) → IsWithin d x → IsWithin d y → AreWithin d (overlap x y)
 overlap_within d x y h k =
-    all_by (IsWithin d) (int_lt (int_max x.start y.start) (int_min x.end y.end)) _ []
-    ((most_above x.start y.start h.0, least_above x.end y.end h.1 k.1, ends_least d x.end y.end h.2), tt) tt
+    shared_within d (int_lt (int_max x.start y.start) (int_min x.end y.end)) _
+    (most_above x.start y.start h.0, least_above x.end y.end h.1 k.1, ends_least d x.end y.end h.2)
 
 one_meets : (d : Moment) (x : Span) (ys : List Span) → IsWithin d x → AreWithin d ys → AreWithin d (flat_map (λ y. overlap x y) ys)
 one_meets d x [] h k = tt
@@ -234,7 +238,7 @@ sought_lies Infinite (Some live) first last h k f g = (live_start first live.sta
 sought_lies Infinite None first (Some last) h k f g = (omega (arith, ints), g last refl, refl)
 sought_lies Infinite None first None h k f g = tt
 
-first_above : (d : Moment) (rs : List Span) (t : ℤ) → AreWithin d rs → first_start rs ≡ Some t → pos 0 ≤ℤ t
+first_above : (d : Moment) (rs : List Span) (t : ℤ) → AreWithin d rs → start_of_first rs ≡ Some t → pos 0 ≤ℤ t
 first_above d [] t h e = absurd (cc)
 first_above d (s ∷ rs) t h e = let same : s.start ≡ t = cc in subst (λ (x : ℤ). pos 0 ≤ℤ x) same h.0.0
 
@@ -256,7 +260,7 @@ spans-inside position v sound within lasting live =
     let all : AreWithin d rs = ranges_within d _ v.source.state.active v.media sound within in
     record {
       span = found_lies d position rs all;
-      seekable = sought_lies d v.source.state.live (first_start rs) (last_end rs) lasting live (λ t e. first_above d rs t all e) (λ t e. last_above d rs t all e);
+      seekable = sought_lies d v.source.state.live (start_of_first rs) (last_end rs) lasting live (λ t e. first_above d rs t all e) (λ t e. last_above d rs t all e);
     }
 
 -- ---- the highest end

@@ -11,10 +11,10 @@ use Rattle.mse_engine.specs.State.{CoreSource, Core, Outer, State, outer_of, ele
 use Rattle.mse_engine.specs.Scenes.{core_view, scene_at}
 use Rattle.mse_engine.specs.Signals.{Signal, after_signals, after_settling, step}
 use Rattle.mse_engine.specs.Standing.{SourceSide, Stands, core_source, kept_engine, kept_scene, view_of}
-use Rattle.mse_engine.proofs.Unchanged.{IsKept}
+use Rattle.mse_engine.proofs.Unchanged.{IsUnchanged}
 
 -- what the source buffers are told does not change
-pub kept_facts : (side : SourceSide) (e told : ElementState) → IsKept e.player told.player → core_source side told ≡ core_source side e
+pub kept_facts : (side : SourceSide) (e told : ElementState) → IsUnchanged e.player told.player → core_source side told ≡ core_source side e
 kept_facts side e told h = λ i. record { state = side.state; error = h.error i; blank = not (has_metadata (h.level i)); fault = side.fault; quota = side.quota; gap = side.gap }
 
 -- the element is the one that the machine has, and sees the same
@@ -45,7 +45,7 @@ ended side buffers told new c signals o h all now end =
 -- a step whose signals the element heard, and which ended
 pub stepped : (side : SourceSide) (buffers : KeptBuffers) (e told new : ElementState) (c : Core) (signals : List Signal) (o : Outer)
     → core_source side e ≡ c.source → AllStand buffers c.buffers → outer_of e ≡ o
-    → IsKept e.player told.player → told ≡ after_signals (view_of side buffers e) signals e → IsEnd side buffers told new
+    → IsUnchanged e.player told.player → told ≡ after_signals (view_of side buffers e) signals e → IsEnd side buffers told new
     → Stands (kept_engine side buffers new) (step c signals o)
 stepped side buffers e told new c signals o h all k same heard end =
     let seen = meant_view side buffers e c h all in

@@ -8,7 +8,7 @@ use Rattle.mse_base.specs.declared.frame.CodedFrame.{CodedFrame}
 use Rattle.mse_base.specs.declared.ticks.Moment.{Moment}
 use Rattle.mse_base.specs.declared.ticks.Moment.TheVariants.{Nan, At, Infinite}
 use Rattle.mse_base.specs.declared.track.Presentation.{Presentation}
-use Rattle.mse_base.specs.Moments.{is_nan, is_after, same_moment, greater_moment}
+use Rattle.mse_base.specs.Moments.{is_nan, is_after, is_same_moment, greater_moment}
 use Rattle.mse_types.specs.declared.answer.Container.{Container}
 use Rattle.mse_types.specs.declared.answer.Container.TheVariants.{Mp4, Adts}
 use Rattle.bmff_boxes.specs.Children.{payload_of}
@@ -19,7 +19,7 @@ use Rattle.bmff_init.specs.declared.fault.InitFault.TheVariants.{Size, TooManyTr
 use Rattle.bmff_init.specs.declared.form.Form.{Form}
 use Rattle.bmff_init.specs.declared.form.Form.TheVariants.{Fragmented}
 use lib.Chars.{codes}
-use Rattle.bmff_init.specs.Tracks.{tracks_of}
+use Rattle.bmff_init.specs.Tracks.{tracks_of_traks}
 use Rattle.bmff_init.specs.Movies.{times_of, extends_of, moment_of, presentation_in, init_of}
 use Rattle.parser_loop.specs.Items.{InitItem, FrameItem, SegmentEnd, FaultItem}
 use Rattle.byte_stream.specs.Readings.{ByteItem, Reading, items_in, IsInitIn}
@@ -31,7 +31,7 @@ use Rattle.frame_rules.specs.declared.answer.Placed.TheVariants as placed_as
 use Rattle.frame_rules.specs.Place.{placement}
 use Rattle.track_buffers.specs.declared.effects.SourceEffect.{SourceEffect}
 use Rattle.track_buffers.specs.declared.effects.MediaFault.{MediaFault}
-use Rattle.track_buffers.specs.Media.{Media, no_effect, with_duration, MediaResult, effect_of}
+use Rattle.track_buffers.specs.Media.{Media, no_effect, MediaResult, effect_of}
 use Rattle.track_buffers.specs.Media as media
 use Rattle.track_buffers.specs.Initialized.{segment_effect, init_fault, init_result_of}
 use Rattle.track_buffers.specs.Frames.{place_of, placement_result, frame_result_at, frame_result, FlushResult, flush_result_of, flush_result}
@@ -97,7 +97,7 @@ received_by true d e = refl
 received_by false d e = refl
 
 placed_raised : (a : Placed) (ts : List TrackState) (s : Settings) (m : Media) (d : Moment) → is_nan d ≡ false → IsRaised d (effect_of (placement_result a ts s m d)).duration
-placed_raised placed_as.Stored ts s m d n = raised_by (same_moment (greater_moment d s.group_end) d) d (greater_moment d s.group_end) n (raised_to d s.group_end n)
+placed_raised placed_as.Stored ts s m d n = raised_by (is_same_moment (greater_moment d s.group_end) d) d (greater_moment d s.group_end) n (raised_to d s.group_end n)
 placed_raised (placed_as.Dropped why) ts s m d n = raised_same d
 placed_raised placed_as.TimeRange ts s m d n = raised_same d
 placed_raised placed_as.Counts ts s m d n = raised_same d
@@ -111,7 +111,7 @@ abbrev pub IsTimelyResult : Moment → MediaResult → Type 0
 IsTimelyResult d r = IsTimely d (effect_of r).duration (effect_of r).received_init (media_in r).tracks
 
 placed_received : (a : Placed) (ts : List TrackState) (s : Settings) (m : Media) (d : Moment) → (effect_of (placement_result a ts s m d)).received_init ≡ false
-placed_received placed_as.Stored ts s m d = received_by (same_moment (greater_moment d s.group_end) d) d (greater_moment d s.group_end)
+placed_received placed_as.Stored ts s m d = received_by (is_same_moment (greater_moment d s.group_end) d) d (greater_moment d s.group_end)
 placed_received (placed_as.Dropped why) ts s m d = refl
 placed_received placed_as.TimeRange ts s m d = refl
 placed_received placed_as.Counts ts s m d = refl
@@ -205,7 +205,7 @@ movie_timed form boxes p e =
     let a = through (times_of boxes) _ p e in
     let b = through (extends_of form boxes) _ p a.then in
     let c = through (check TooManyTracks (nat_le (length (all_of (codes "trak") boxes)) 64)) _ p b.then in
-    let d = through (tracks_of form a.value.scale b.value.trexes [] (all_of (codes "trak") boxes)) _ p c.then in
+    let d = through (tracks_of_traks form a.value.scale b.value.trexes [] (all_of (codes "trak") boxes)) _ p c.then in
     let n : ℕ = cond (b.value.duration == 0) a.value.duration b.value.duration in
     time_of_same a.value.scale n p (record { scale = a.value.scale; duration = moment_of a.value.scale n; tracks = d.value }) refl d.then
 
@@ -229,9 +229,9 @@ HasTimeIn (Some (FrameItem f at)) = Unit {0}
 HasTimeIn (Some SegmentEnd) = Unit {0}
 HasTimeIn (Some (FaultItem f at)) = Unit {0}
 
-pub items_timed : (o : Option ByteItem) (r : Reading) → slice_get (items_in r) r.taken ≡ o → HasTimeIn o
+pub items_timed : (o : Option ByteItem) (r : Reading) → slice_get (items_in r) r.string.taken ≡ o → HasTimeIn o
 items_timed None r e = tt
-items_timed (Some (InitItem p at)) r e = read_timed r.container r.whole at p (init-place r.container r.before r.whole r.taken at p e)
+items_timed (Some (InitItem p at)) r e = read_timed r.container r.string.whole at p (init-place r.container r.string.before r.string.whole r.string.taken at p e)
 items_timed (Some (FrameItem f at)) r e = tt
 items_timed (Some SegmentEnd) r e = tt
 items_timed (Some (FaultItem f at)) r e = tt
@@ -242,13 +242,13 @@ segment_by : (b : Bool) (p : Presentation) → HasTime p → IsRaised Nan (cond 
 segment_by true p h = (raised_same Nan, λ e. absurd (cc))
 segment_by false p h = (record { lasting = λ _. h.lasting; named = λ e. absurd (cc); later = λ t e. absurd (cc) }, λ _. h.named)
 
-not_nan : (d : Moment) → is_nan d ≡ false → same_moment d Nan ≡ false
+not_nan : (d : Moment) → is_nan d ≡ false → is_same_moment d Nan ≡ false
 not_nan Nan e = absurd (cc)
 not_nan (At d) e = refl
 not_nan Infinite e = refl
 
 segment_timely : (p : Presentation) (d : Moment) → HasTime p → IsRaised d (segment_effect p d).duration × (is_nan (segment_effect p d).duration ≡ false)
-segment_timely p Nan h = let all = segment_by (same_moment p.duration Nan) p h in (all.0, all.1 (not_nan p.duration h.named))
+segment_timely p Nan h = let all = segment_by (is_same_moment p.duration Nan) p h in (all.0, all.1 (not_nan p.duration h.named))
 segment_timely p (At d) h = (raised_same (At d), refl)
 segment_timely p Infinite h = (raised_same Infinite, refl)
 

@@ -14,13 +14,13 @@ use Rattle.mse_engine.specs.declared.engine.Worked.TheVariants.{Did, Idle}
 use Rattle.mse_engine.specs.State.{State, opening_state}
 use Rattle.mse_engine.specs.Calls.{after_call}
 use Rattle.mse_engine.specs.Work.{after_work, after_element_turn, fire_result, without_first}
-use Rattle.mse_engine.specs.Positions.{IsPlacedState}
+use Rattle.mse_engine.specs.Positions.{IsInsideState}
 use Rattle.mse_engine.specs.Standing.{SourceSide, KeptEngine, Stands, IsStep, IsSteady, IsWork, IsFired, HasEngineInvariants, kept_engine, new_side}
 use Rattle.mse_engine.proofs.SoundStates.{sound_steady, stands_sound}
 use Rattle.mse_engine.proofs.Placing.{AreInside}
 use Rattle.mse_engine.proofs.Placed.{call-placed, work-placed, turn-placed}
 
-pub opens_placed : (quota : ℕ) (gap : ℤ) → IsPlacedState (opening_state quota gap)
+pub opens_placed : (quota : ℕ) (gap : ℤ) → IsInsideState (opening_state quota gap)
 opens_placed quota gap = record {
   placed = record { lasting = refl; live = tt; timed = λ m. absurd (cc); start = λ b. refl; inside = (omega (arith, ints), refl) };
   untracked = λ n. tt;
@@ -41,7 +41,7 @@ whole_call law blobs x old new answer h steady sound made = record {
 pub whole_still : (old new : KeptEngine) → new ≡ old → HasEngineInvariants old → HasEngineInvariants new
 whole_still old new same h = subst (λ (k : KeptEngine). HasEngineInvariants k) (sym same) h
 
-worked_by : (w : Worked) (o : Option State) (old new : KeptEngine) → HasEngineInvariants old → IsSteady new → ((st : State) → o ≡ Some st → Stands new st → IsPlacedState st) → IsWork w old new o → HasEngineInvariants new
+worked_by : (w : Worked) (o : Option State) (old new : KeptEngine) → HasEngineInvariants old → IsSteady new → ((st : State) → o ≡ Some st → Stands new st → IsInsideState st) → IsWork w old new o → HasEngineInvariants new
 worked_by Did None old new h steady f work = absurd work
 worked_by Did (Some st) old new h steady f work = record { steady = steady; inside = record { state = st; stands = work; placed = f st refl work } }
 worked_by Idle None old new h steady f work = whole_still old new work h
@@ -56,10 +56,10 @@ whole_turn law w old new h steady sound work =
     worked_by w (after_element_turn h.inside.state) old new h steady (λ st is stands. turn-placed law h.inside.state st is h.inside.placed (stands_sound old h.inside.state h.inside.stands (sound_steady old h.steady sound))) work
 
 -- firing leaves the core and the element
-fired_placed : (st : State) → IsPlacedState st → IsPlacedState (without_first st)
+fired_placed : (st : State) → IsInsideState st → IsInsideState (without_first st)
 fired_placed st h = record { placed = h.placed; untracked = h.untracked }
 
-whole_fired_by : (o : Option Event) (st : State) (event : Option Event) (old new : KeptEngine) → HasEngineInvariants old → IsPlacedState st → IsSteady new
+whole_fired_by : (o : Option Event) (st : State) (event : Option Event) (old new : KeptEngine) → HasEngineInvariants old → IsInsideState st → IsSteady new
     → IsFired event old new (option_map (λ e. record { answer = e; state = without_first st }) o) → HasEngineInvariants new
 whole_fired_by None st None old new h p steady fire = whole_still old new fire h
 whole_fired_by None st (Some event) old new h p steady fire = absurd fire

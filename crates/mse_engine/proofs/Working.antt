@@ -13,13 +13,13 @@ use Rattle.buffer_state.specs.declared.reply.Reply.{Reply}
 use Rattle.buffer_state.specs.declared.reply.Turned.TheVariants as turned
 use Rattle.buffer_state.specs.State.{Surroundings}
 use Rattle.element_seek.specs.declared.scene.Scene.{Scene}
-use Rattle.element_seek.specs.State.{telling}
+use Rattle.element_seek.specs.State.{player_change}
 use Rattle.element_seek.specs.Turns.{Turn, is_seek_done, is_end_due, is_due, seek_turn, end_turn, no_turn, after_turn}
 use Rattle.source_buffers.specs.State.{BufferStates, KeptBuffers, AllStand}
 use Rattle.source_buffers.specs.Views.{buffer_views}
 use Rattle.source_buffers.specs.Slots.{BuffersResult, IsBuffersResult, IsBuffersTurn, buffers_turn}
 use Rattle.media_element.specs.State.{ElementState}
-use Rattle.media_element.specs.Queueing.{turn_kinds, told_by_turn, after_own_turn, after_fire}
+use Rattle.media_element.specs.Queueing.{turn_kinds, change_by_turn, after_own_turn, after_fire}
 use Rattle.media_element.proofs.QueuedEvents.{silent}
 use Rattle.mse_engine.specs.declared.engine.Worked.TheVariants as worked
 use Rattle.mse_engine.specs.State.{CoreSource, Outer, State, outer_of}
@@ -29,7 +29,7 @@ use Rattle.mse_engine.specs.Views.{span_in, view_in}
 use Rattle.mse_engine.specs.Signals.{step}
 use Rattle.mse_engine.specs.Replies.{surroundings_in}
 use Rattle.mse_engine.specs.BufferCalls.{reply_effect}
-use Rattle.mse_engine.specs.Work.{work_result, after_work, due_in, after_element_turn, without_first, fire_result}
+use Rattle.mse_engine.specs.Work.{work_result, after_work, is_turn_due, after_element_turn, without_first, fire_result}
 use Rattle.mse_engine.specs.Standing.{SourceSide, KeptEngine, Stands, IsSteady, IsWork, IsFired, core_source, kept_engine, view_of}
 use Rattle.mse_engine.proofs.Unchanged.{in_turn}
 use Rattle.mse_engine.proofs.Stepping.{IsEnd, meant_element, meant_view}
@@ -87,10 +87,10 @@ no_turn_by false false x y z h = refl
 pub undue : (scene : Scene) (e : ElementState) → is_due scene e.player ≡ false → after_own_turn scene e ≡ e
 undue scene e h =
     let none : after_turn scene e.player ≡ no_turn e.player = no_turn_by (is_seek_done e.player) (is_end_due scene e.player) (seek_turn e.player) (end_turn e.player) (no_turn e.player) h in
-    silent (told_by_turn scene) e (λ i. telling (turn_kinds (none i).answer) (none i).state)
+    silent (change_by_turn scene) e (λ i. player_change (turn_kinds (none i).answer) (none i).state)
 
 module _ (side : SourceSide) (buffers : KeptBuffers) (e : ElementState) (st : State) (k : Stands (kept_engine side buffers e) st) where
-  pub meant_due : (b : Bool) → b ≡ is_due (scene_with None e.player.position (view_of side buffers e)) e.player → b ≡ due_in st
+  pub meant_due : (b : Bool) → b ≡ is_due (scene_with None e.player.position (view_of side buffers e)) e.player → b ≡ is_turn_due st
   meant_due b h =
       let seen = meant_view side buffers e st.core k.source k.buffers in
       let element = meant_element side e st.core.source st.outer k.source k.outer in
@@ -119,8 +119,8 @@ pub turn_did : (side : SourceSide) (buffers : KeptBuffers) (e start told new : E
     → IsWork worked.Did (kept_engine side buffers e) (kept_engine side buffers new) (after_element_turn st)
 turn_did side buffers e start told new b st ready due is heard ends k =
     let v = view_of side buffers start in
-    let here = scene_step side buffers e start ready (λ scene p. told_by_turn scene p) told new (seekable_in v) st heard refl (in_turn (scene_at start.player.position v) start.player) ends k in
-    did_by (due_in st) (kept_engine side buffers e) (kept_engine side buffers new) _ (sym (meant_due side buffers start st (begun side buffers e start ready st k) b due) ∙ is) here
+    let here = scene_step side buffers e start ready (λ scene p. change_by_turn scene p) told new (seekable_in v) st heard refl (in_turn (scene_at start.player.position v) start.player) ends k in
+    did_by (is_turn_due st) (kept_engine side buffers e) (kept_engine side buffers new) _ (sym (meant_due side buffers start st (begun side buffers e start ready st k) b due) ∙ is) here
 
 pub turn_idle : (side : SourceSide) (buffers : KeptBuffers) (e start told : ElementState) (b : Bool) (st : State) → start ≡ e
     → b ≡ is_due (scene_with None start.player.position (view_of side buffers start)) start.player → b ≡ false
@@ -129,7 +129,7 @@ pub turn_idle : (side : SourceSide) (buffers : KeptBuffers) (e start told : Elem
     → IsWork worked.Idle (kept_engine side buffers e) (kept_engine side buffers told) (after_element_turn st)
 turn_idle side buffers e start told b st ready due is heard k =
     let same : told ≡ e = heard ∙ (undue (scene_with None start.player.position (view_of side buffers start)) start (sym due ∙ is) ∙ ready) in
-    rest_by (due_in st) (kept_engine side buffers e) (kept_engine side buffers told) _ (sym (meant_due side buffers start st (begun side buffers e start ready st k) b due) ∙ is) (λ i. kept_engine side buffers (same i))
+    rest_by (is_turn_due st) (kept_engine side buffers e) (kept_engine side buffers told) _ (sym (meant_due side buffers start st (begun side buffers e start ready st k) b due) ∙ is) (λ i. kept_engine side buffers (same i))
 
 pub idle_steady : (side : SourceSide) (buffers : KeptBuffers) (e start told : ElementState) (b : Bool) → start ≡ e
     → b ≡ is_due (scene_with None start.player.position (view_of side buffers start)) start.player → b ≡ false

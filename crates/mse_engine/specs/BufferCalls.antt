@@ -32,7 +32,8 @@ abbrev pub mode_effect : ℕ → Mode → Core → CoreEffect
 mode_effect k mode c = buffer_effect k (mode_result mode) c
 
 abbrev pub offset_effect : ℕ → Moment → Core → CoreEffect
-offset_effect k t c = if_made k (if_finite t (λ offset. buffer_effect k (offset_result offset) c) c) c
+offset_effect k t c =
+    if_made k (if_finite t (λ offset. buffer_effect k (offset_result offset) c) c) c
 
 abbrev pub window_start_effect : ℕ → Moment → Core → CoreEffect
 window_start_effect k t c =

@@ -35,10 +35,11 @@ abbrev pub no_element_effect : Outer → ElementEffect
 no_element_effect o = record { answer = None; state = o }
 
 -- what may be refused
-abbrev pub element_effect_by : (PlayerState → Answered Acted PlayerState) → ElementState → ElementEffect
+abbrev pub element_effect_by : (PlayerState → Answered Acted PlayerState) → ElementState
+    → ElementEffect
 element_effect_by call e = record {
   answer = queueing.refusal (call e.player).answer;
-  state = outer_of (queueing.after_call call e);
+  state = outer_of (queueing.after_player_call call e);
 }
 
 -- currentTime, on setting: to a number (HTML, "seeking")
@@ -47,7 +48,8 @@ seek_effect Nan v o = record { answer = Some TypeError; state = o }
 seek_effect (At t) v o =
     no_element_effect
     (outer_of
-    (queueing.after (after_seek t (scene_at o.element.position v)) (element_in v.source.error o)))
+    (queueing.after_action (after_seek t (scene_at o.element.position v))
+    (element_in v.source.error o)))
 seek_effect Infinite v o = record { answer = Some TypeError; state = o }
 
 abbrev pub play_effect : CoreView → Outer → ElementEffect
@@ -56,13 +58,14 @@ play_effect v o =
 
 abbrev pub pause_effect : CoreView → Outer → ElementEffect
 pause_effect v o =
-    no_element_effect (outer_of (queueing.after after_pause (element_in v.source.error o)))
+    no_element_effect (outer_of (queueing.after_action after_pause (element_in v.source.error o)))
 
 -- so much time passes
 abbrev pub advance_effect : Moment → CoreView → Outer → ElementEffect
 advance_effect Nan v o = record { answer = Some TypeError; state = o }
 advance_effect (At t) v o =
-    element_effect_by (after_advance t (scene_at o.element.position v)) (element_in v.source.error o)
+    element_effect_by (after_advance t (scene_at o.element.position v))
+    (element_in v.source.error o)
 advance_effect Infinite v o = record { answer = Some TypeError; state = o }
 
 abbrev pub element_effect : Call → CoreView → Outer → ElementEffect

@@ -10,10 +10,10 @@ use Rattle.track_buffers.specs.Media.{Media}
 use Rattle.source_state.specs.State.{SourceState}
 use Rattle.source_buffers.specs.State.{BufferStates, media_of_all}
 use Rattle.element_seek.specs.Inside.{IsInside, LiesInside}
-use Rattle.mse_engine.specs.State.{Element, State}
+use Rattle.mse_engine.specs.State.{ElementPart, State}
 
 -- the element in the media of a source
-pub record IsPlaced (s : SourceState) (e : Element) : Type 0 where
+pub record IsPositionInside (s : SourceState) (e : ElementPart) : Type 0 where
   -- the duration is not negative
   pub lasting : is_after (pos 0) s.duration ≡ false
   -- the live seekable range neither starts before 0 nor ends before it starts
@@ -33,6 +33,6 @@ HasNoTracks (Some m) = m.tracks ≡ []
 abbrev pub AreUntracked : Moment → BufferStates → Type 0
 AreUntracked d bs = is_nan d ≡ true → AllByRecursion HasNoTracks (media_of_all bs)
 
-pub record IsPlacedState (st : State) : Type 0 where
-  pub placed : IsPlaced st.core.source.state st.outer.element
+pub record IsInsideState (st : State) : Type 0 where
+  pub placed : IsPositionInside st.core.source.state st.outer.element
   pub untracked : AreUntracked st.core.source.state.duration st.core.buffers

@@ -1,6 +1,6 @@
 -- How much can still come by itself, so that a drain, in which no call is made, ends.
-use Rattle.std.specs.Prelude.{◌≡◌, ℕ, suc, ◌+◌, ◌*◌, Bool, true, false, [], ◌∷◌, length, drop, Option, Some, None}
-use Rattle.byte_stream.specs.Readings.{items_in}
+use Rattle.std.specs.Prelude.{◌≡◌, ℕ, suc, ◌+◌, ◌*◌, Bool, true, false, [], ◌∷◌, length, Option, Some, None}
+use Rattle.byte_stream.specs.Readings.{items_ahead}
 use Rattle.buffer_state.specs.declared.running.Running.{Running}
 use Rattle.buffer_state.specs.declared.running.Running.TheVariants.{Nothing, Append, Removal}
 use Rattle.buffer_state.specs.State.{Feed}
@@ -12,7 +12,7 @@ use Rattle.mse_engine.specs.State.{State}
 -- an append has a step for each item that was not given yet, and one for its end; a removal is one step
 abbrev pub work_left_by : Running → Feed → ℕ
 work_left_by Nothing f = 0
-work_left_by Append f = suc (length (drop f.reading.taken (items_in f.reading)))
+work_left_by Append f = suc (length (items_ahead f.reading))
 work_left_by (Removal start end) f = 1
 
 abbrev pub slot_work_left : Option BufferState → ℕ

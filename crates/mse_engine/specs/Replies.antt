@@ -1,6 +1,6 @@
 -- What comes of a source buffer's reply at the source and at the element, in order.
 use Rattle.std.specs.Prelude.{ℕ, ◌==◌, Bool, false, not, ◌&&◌, List, [], ◌∷◌, ◌++◌, length, replicate, Option, Some, None, is_none, unwrap_or, if◌then◌else◌}
-use Rattle.mse_base.specs.Moments.{same_moment}
+use Rattle.mse_base.specs.Moments.{is_same_moment}
 use Rattle.mse_calls.specs.Ready.{is_ended}
 use Rattle.mse_calls.specs.declared.answers.Ready.{Ready}
 use Rattle.mse_calls.specs.declared.answers.Ready.TheVariants.{Opened, Ended}
@@ -10,7 +10,7 @@ use Rattle.mse_calls.specs.declared.events.Target.TheVariants as target
 use Rattle.mse_calls.specs.declared.views.FaultView.{FaultView}
 use Rattle.buffer_state.specs.declared.reply.Reply.{Reply}
 use Rattle.buffer_state.specs.State.{Surroundings}
-use Rattle.source_state.specs.State.{SourceState, has, are_in}
+use Rattle.source_state.specs.State.{SourceState, is_listed_in, are_in}
 use Rattle.media_element.specs.Queueing.{event_at, events_at}
 use Rattle.mse_engine.specs.State.{CoreSource}
 use Rattle.mse_engine.specs.Signals.{Signal, Tell, Loaded}
@@ -27,27 +27,27 @@ surroundings_in k s = record {
 -- ---- at the source
 
 -- a buffer becomes active once, while it is in the list of source buffers
-abbrev pub activates : ℕ → Reply → SourceState → Bool
-activates k r s = r.activated && (has k s.listed && not (has k s.active))
+abbrev pub is_activating : ℕ → Reply → SourceState → Bool
+is_activating k r s = r.activated && (is_listed_in k s.listed && not (is_listed_in k s.active))
 
 abbrev pub active_after : ℕ → Reply → SourceState → List ℕ
-active_after k r s = if activates k r s then s.active ++ k ∷ [] else s.active
+active_after k r s = if is_activating k r s then s.active ++ k ∷ [] else s.active
 
 -- The metadata is there where an initialization segment was received while the element has none, and every buffer in
 -- the list has had its first one, which is that it is active.
-abbrev pub loads : ℕ → Reply → Bool → SourceState → Bool
-loads k r blank s = (r.received_init && blank) && are_in s.listed (active_after k r s)
+abbrev pub is_loading : ℕ → Reply → Bool → SourceState → Bool
+is_loading k r blank s = (r.received_init && blank) && are_in s.listed (active_after k r s)
 
 -- the source is opened again by a call, and ends by a fault
-abbrev pub ready_behind : Option FaultView → Ready → Ready
-ready_behind None ready = ready
-ready_behind (Some fault) ready = Ended
+abbrev pub ready_after_fault : Option FaultView → Ready → Ready
+ready_after_fault None ready = ready
+ready_after_fault (Some fault) ready = Ended
 
 abbrev pub ready_again : Bool → Ready → Ready
 ready_again reopened ready = if reopened && is_ended ready then Opened else ready
 
 abbrev pub ready_after : Reply → Ready → Ready
-ready_after r ready = ready_behind r.fault (ready_again r.reopened ready)
+ready_after r ready = ready_after_fault r.fault (ready_again r.reopened ready)
 
 abbrev pub state_after : ℕ → Reply → SourceState → SourceState
 state_after k r s = record {
@@ -59,8 +59,8 @@ state_after k r s = record {
   active = active_after k r s;
 }
 
-abbrev pub blank_after : ℕ → Reply → CoreSource → Bool
-blank_after k r s = if loads k r s.blank s.state then false else s.blank
+abbrev pub is_blank_after : ℕ → Reply → CoreSource → Bool
+is_blank_after k r s = if is_loading k r s.blank s.state then false else s.blank
 
 -- the element's error code behind an error of a code: the first error stays, and before there is metadata the error is
 -- that the source is not supported, of code 4 (HTML, MediaError)
@@ -80,8 +80,8 @@ fault_after (Some fault) first = Some (unwrap_or first fault)
 abbrev pub source_after : ℕ → Reply → CoreSource → CoreSource
 source_after k r s = record {
   state = state_after k r s.state;
-  error = error_after r.fault (blank_after k r s) s.error;
-  blank = blank_after k r s;
+  error = error_after r.fault (is_blank_after k r s) s.error;
+  blank = is_blank_after k r s;
   fault = fault_after r.fault s.fault;
   quota = s.quota;
   gap = s.gap;
@@ -98,7 +98,7 @@ is_quiet r s =
     && (r.duration_changes == 0
     && (length r.events == 0
     && (is_none r.fault
-    && same_moment r.duration s.duration)))))
+    && is_same_moment r.duration s.duration)))))
 
 -- ---- in the queue and at the element, in order
 
@@ -110,17 +110,17 @@ abbrev pub duration_events : ℕ → List Event
 duration_events changes = replicate changes (event_at target.Element kind.DurationChange)
 
 abbrev pub active_events : Bool → List Event
-active_events activates =
-    if activates then (event_at target.ActiveSourceBuffers kind.AddSourceBuffer ∷ []) else []
+active_events is_activating =
+    if is_activating then (event_at target.ActiveSourceBuffers kind.AddSourceBuffer ∷ []) else []
 
 abbrev pub load_signals : Bool → List Signal
-load_signals loads = if loads then (Loaded ∷ []) else []
+load_signals is_loading = if is_loading then (Loaded ∷ []) else []
 
 -- what an item or a reset of the parser brings about: how often the duration changed, whether the buffer became active,
 -- and whether the metadata is there
 abbrev pub effect_signals : ℕ → Bool → Bool → List Signal
-effect_signals changes activates loads =
-    Tell (duration_events changes) ∷ Tell (active_events activates) ∷ load_signals loads
+effect_signals changes is_activating is_loading =
+    Tell (duration_events changes) ∷ Tell (active_events is_activating) ∷ load_signals is_loading
 
 -- the events at the buffer
 abbrev pub buffer_signal : ℕ → Reply → Signal
@@ -128,9 +128,10 @@ buffer_signal k r = Tell (events_at (target.Buffer k) r.events)
 
 -- those of an abort come before what its reset brings about, all others behind it
 abbrev pub middle_signals : ℕ → Reply → Bool → Bool → List Signal
-middle_signals k r activates loads =
-    if r.events_first then buffer_signal k r ∷ effect_signals r.duration_changes activates loads
-    else effect_signals r.duration_changes activates loads ++ buffer_signal k r ∷ []
+middle_signals k r is_activating is_loading =
+    if r.events_first
+    then buffer_signal k r ∷ effect_signals r.duration_changes is_activating is_loading
+    else effect_signals r.duration_changes is_activating is_loading ++ buffer_signal k r ∷ []
 
 abbrev pub error_events : ℕ → List Event
 error_events error = if error == 0 then (event_at target.Element kind.Error ∷ []) else []
@@ -143,5 +144,5 @@ fault_events (Some fault) error = event_at target.Source kind.SourceEnded ∷ er
 abbrev pub reply_signals : ℕ → Reply → CoreSource → List Signal
 reply_signals k r s =
     Tell (open_events r)
-    ∷ (middle_signals k r (activates k r s.state) (loads k r s.blank s.state)
+    ∷ (middle_signals k r (is_activating k r s.state) (is_loading k r s.blank s.state)
     ++ Tell (fault_events r.fault s.error) ∷ [])

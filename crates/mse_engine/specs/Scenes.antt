@@ -23,12 +23,12 @@ abbrev pub buffered_in : CoreView → List Span
 buffered_in v = element_ranges (is_ended v.source.state.ready) v.source.state.active v.media
 
 -- where the first of some ranges starts
-abbrev pub first_start : List Span → Option ℤ
-first_start rs = option_map (λ range. range.start) (slice_get rs 0)
+abbrev pub start_of_first : List Span → Option ℤ
+start_of_first rs = option_map (λ range. range.start) (slice_get rs 0)
 
 abbrev pub seekable_of : CoreView → List Span → Option Span
 seekable_of v rs =
-    seekable_span v.source.state.duration v.source.state.live (first_start rs) (last_end rs)
+    seekable_span v.source.state.duration v.source.state.live (start_of_first rs) (last_end rs)
 
 -- what can be sought (HTMLMediaElement extensions, seekable)
 abbrev pub seekable_in : CoreView → Option Span
@@ -36,7 +36,8 @@ seekable_in v = seekable_of v (buffered_in v)
 
 -- the buffered range that has a position or ends at it
 abbrev pub span_at : ℤ → CoreView → Option Span
-span_at position v = element_span position (is_ended v.source.state.ready) v.source.state.active v.media
+span_at position v =
+    element_span position (is_ended v.source.state.ready) v.source.state.active v.media
 
 -- the scene of an element at a position, where this is what can be sought
 abbrev pub scene_with : Option Span → ℤ → CoreView → Scene

@@ -5,8 +5,8 @@ use Rattle.mse_calls.specs.declared.events.Event.{Event}
 use Rattle.element_seek.specs.Seeking.{after_load}
 use Rattle.element_seek.specs.Settling.{after_settle}
 use Rattle.media_element.specs.State.{ElementState}
-use Rattle.media_element.specs.Queueing.{queued, after}
-use Rattle.media_element.specs.DurationChange.{after_duration_change}
+use Rattle.media_element.specs.Queueing.{with_events, after_action}
+use Rattle.media_element.specs.DurationChange.{after_element_change}
 use Rattle.mse_engine.specs.State.{Core, Outer, State, outer_of, element_in}
 use Rattle.mse_engine.specs.Scenes.{CoreView, core_view, scene_at}
 
@@ -20,9 +20,9 @@ pub data Signal : Type 0 where
 
 -- what the element does where it hears a signal, with what the source and its buffers are after the step
 abbrev pub after_signal : CoreView → Signal → ElementState → ElementState
-after_signal v (Tell events) e = queued events e
-after_signal v (DurationChanged d) e = after_duration_change d (scene_at e.player.position v) e
-after_signal v Loaded e = after (after_load (scene_at e.player.position v)) e
+after_signal v (Tell events) e = with_events events e
+after_signal v (DurationChanged d) e = after_element_change d (scene_at e.player.position v) e
+after_signal v Loaded e = after_action (after_load (scene_at e.player.position v)) e
 
 abbrev pub after_signals : CoreView → List Signal → ElementState → ElementState
 after_signals v [] e = e
@@ -30,7 +30,7 @@ after_signals v (signal ∷ signals) e = after_signals v signals (after_signal v
 
 -- the end of each step: the level that the position has now, with its events
 abbrev pub after_settling : CoreView → ElementState → ElementState
-after_settling v e = after (after_settle (scene_at e.player.position v)) e
+after_settling v e = after_action (after_settle (scene_at e.player.position v)) e
 
 abbrev pub outer_after : CoreView → List Signal → Outer → Outer
 outer_after v signals o =

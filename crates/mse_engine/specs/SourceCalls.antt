@@ -114,7 +114,8 @@ change_signals (changed.To d) = DurationChanged d ∷ []
 abbrev pub changed_effect : List Signal → Changed → SourceState → Core → CoreEffect
 changed_effect first (changed.Refused name) s c = refused_effect name c
 changed_effect first changed.Same s c = effect_leaving s (first ++ change_signals changed.Same) c
-changed_effect first (changed.To d) s c = effect_leaving s (first ++ change_signals (changed.To d)) c
+changed_effect first (changed.To d) s c =
+    effect_leaving s (first ++ change_signals (changed.To d)) c
 
 abbrev pub changed_effect_by : List Signal → Answered Changed SourceState → Core → CoreEffect
 changed_effect_by first a c = changed_effect first a.answer a.state c

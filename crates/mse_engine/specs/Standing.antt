@@ -1,5 +1,5 @@
 -- What the engine keeps, and the states that it stands for. Read first `KeptEngine` and `Stands`, then `IsStep` and
--- `Answers`, which say what a call gives, then `IsSteady` and `HasEngineInvariants`, which say what every step keeps.
+-- `IsEngineAnswer`, which say what a call gives, then `IsSteady` and `HasEngineInvariants`, which say what every step keeps.
 use Rattle.std.specs.Prelude.{◌≡◌, ℕ, ◌<◌, ℤ, pos, int_lt, Bool, true, not, List, if◌then◌else◌, length, Option, Some, None, Result, IfOk}
 use Rattle.buffer_state.specs.declared.reply.Reply.{Reply}
 use Rattle.mse_calls.specs.Answered.{Answered}
@@ -14,7 +14,7 @@ use Rattle.source_buffers.specs.State.{KeptBuffers, AllStand, all_kept_media}
 use Rattle.media_element.specs.State.{ElementState}
 use Rattle.mse_engine.specs.State.{CoreSource, State, outer_of}
 use Rattle.track_buffers.specs.Buffered.{last_end}
-use Rattle.mse_engine.specs.Scenes.{CoreView, first_start, scene_with, buffered_in}
+use Rattle.mse_engine.specs.Scenes.{CoreView, start_of_first, scene_with, buffered_in}
 use Rattle.mse_calls.specs.Ready.{is_ended}
 use Rattle.element_seek.specs.declared.scene.Scene.{Scene}
 use Rattle.media_element.specs.Settled.{IsSettled}
@@ -23,7 +23,7 @@ use Rattle.mse_engine.specs.declared.scenes.LoadBounds.{LoadBounds}
 use Rattle.mse_base.specs.declared.span.Span.{Span}
 use Rattle.source_buffers.specs.All.{AllEndWithin, all_steps_left}
 use Rattle.mse_engine.specs.Replies.{state_after, fault_after, source_after}
-use Rattle.mse_engine.specs.Positions.{IsPlacedState}
+use Rattle.mse_engine.specs.Positions.{IsInsideState}
 
 -- the source, the first fault, the quota of a source buffer, and the gap across which ranges join
 pub record SourceSide : Type 0 where
@@ -78,9 +78,10 @@ pub record IsStep (answer : Answer) (k : KeptEngine) (meant : Answered Answer St
   pub stands : Stands k meant.state
 
 -- for every state that was stood for
-abbrev pub Answers : {E : Type 0} → KeptEngine → Result Answer E → KeptEngine → (State → Answered Answer State)
+abbrev pub IsEngineAnswer : {E : Type 0} → KeptEngine → Result Answer E → KeptEngine
+    → (State → Answered Answer State)
     → Type 0
-Answers old result new call =
+IsEngineAnswer old result new call =
     (st : State) → Stands old st → IfOk result (λ answer. IsStep answer new (call st))
 
 -- the scene of the element, but for what can be sought
@@ -100,15 +101,15 @@ pub record IsStanding (k : KeptEngine) : Type 0 where
   pub stands : Stands k state
 
 -- what is kept stands for a state in which the position lies inside the media
-pub record StandsPlaced (k : KeptEngine) : Type 0 where
+pub record StandsInside (k : KeptEngine) : Type 0 where
   pub state : State
   pub stands : Stands k state
-  pub placed : IsPlacedState state
+  pub placed : IsInsideState state
 
 -- what every step of the whole engine keeps
 pub record HasEngineInvariants (k : KeptEngine) : Type 0 where
   pub steady : IsSteady k
-  pub inside : StandsPlaced k
+  pub inside : StandsInside k
 
 -- ---- a reply
 
@@ -132,7 +133,7 @@ no_bounds = record {
 
 -- the bounds are those of the ranges
 pub record HasBounds (bounds : Bounds) (rs : List Span) : Type 0 where
-  pub first : bounds.first ≡ first_start rs
+  pub first : bounds.first ≡ start_of_first rs
   pub last : bounds.last ≡ last_end rs
 
 -- where the element has a default playback start position, the bounds are those of what it has buffered

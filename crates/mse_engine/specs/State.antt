@@ -26,7 +26,7 @@ pub record Core : Type 0 where
   pub buffers : BufferStates
 
 -- The element, but for its error code.
-pub record Element : Type 0 where
+pub record ElementPart : Type 0 where
   pub level : Level
   pub loaded_before : Bool
   pub position : ℤ
@@ -37,7 +37,7 @@ pub record Element : Type 0 where
 
 -- What no source buffer is told of but the position, which an eviction looks at.
 pub record Outer : Type 0 where
-  pub element : Element
+  pub element : ElementPart
   pub queue : List Event
 
 pub record State : Type 0 where
@@ -46,7 +46,7 @@ pub record State : Type 0 where
 
 -- ---- the element with its error code
 
-abbrev pub element_of : PlayerState → Element
+abbrev pub element_of : PlayerState → ElementPart
 element_of p = record {
   level = p.level;
   loaded_before = p.loaded_before;
@@ -57,7 +57,7 @@ element_of p = record {
   finished = p.finished;
 }
 
-abbrev pub player_of : ℕ → Element → PlayerState
+abbrev pub player_of : ℕ → ElementPart → PlayerState
 player_of error e = record {
   level = e.level;
   loaded_before = e.loaded_before;

@@ -8,7 +8,8 @@ use Rattle.mse_engine.specs.Sound.{AreSoundBehind}
 
 -- From each state that was stood for, the entries replay, what is kept then stands for the state behind them, and the
 -- state behind each of them is sound. Without an entry nothing changed.
-pub record IsTransition (blobs : List (List ℕ)) (old new : KeptEngine) (entries : List Entry) : Type 0 where
+pub record IsTransition (blobs : List (List ℕ)) (old new : KeptEngine)
+    (entries : List Entry) : Type 0 where
   pub replays : (st : State) → Stands old st → Replays blobs st entries
   pub stands : (st : State) → Stands old st → Stands new (after_entries blobs st entries)
   pub sound : (st : State) → Stands old st → AreSoundBehind blobs st entries

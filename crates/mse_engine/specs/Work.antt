@@ -44,13 +44,13 @@ abbrev pub scene_in : State → Scene
 scene_in st = scene_at st.outer.element.position (core_view st.core)
 
 -- a seek is done, or the end of playback was reached
-abbrev pub due_in : State → Bool
-due_in st = is_due (scene_in st) (player_in st)
+abbrev pub is_turn_due : State → Bool
+is_turn_due st = is_due (scene_in st) (player_in st)
 
 -- none where nothing is due
 abbrev pub after_element_turn : State → Option State
 after_element_turn st =
-    if due_in st
+    if is_turn_due st
     then Some
     (step st.core []
     (outer_of (queueing.after_own_turn (scene_in st) (element_in st.core.source.error st.outer))))
@@ -63,8 +63,8 @@ abbrev pub without_first : State → State
 without_first st = record st { outer = record st.outer { queue = drop 1 st.outer.queue } }
 
 -- whether there is one
-abbrev pub waits_in : State → Bool
-waits_in st = not (length st.outer.queue == 0)
+abbrev pub has_event_in : State → Bool
+has_event_in st = not (length st.outer.queue == 0)
 
 -- none where the queue is empty
 abbrev pub fire_result : State → Option (Answered Event State)

@@ -2,12 +2,12 @@
 
 ghost use Rattle.std.specs.Prelude.{◌≡◌, ◌≤◌, ◌+◌, nat_lt, [], length, OnOk, OnErr, if◌then◌else◌};
 ghost use Rattle.media_element.specs.State.{ElementState};
-ghost use Rattle.source_buffers.specs.All.{ready_at};
+ghost use Rattle.source_buffers.specs.All.{ready_of_buffer};
 ghost use Rattle.mse_calls.specs.declared.answers.Answer.TheVariants as answer;
 ghost use Rattle.mse_calls.specs.declared.answers.Name.TheVariants as name;
 ghost use Rattle.mse_calls.specs.declared.calls.Call.TheVariants as call;
 ghost use Rattle.mse_engine.specs.Calls.{after_call};
-ghost use Rattle.mse_engine.specs.Standing.{Answers, IsSteady, kept_engine};
+ghost use Rattle.mse_engine.specs.Standing.{IsEngineAnswer, IsSteady, kept_engine};
 
 use crate::finish::{PLACES, conclude};
 use crate::side::{SourceSide, around};
@@ -26,7 +26,8 @@ pub(crate) fn set_mode<S: FrameStore>(
     mode: Mode,
 ) -> Result<Answer, OutOfMemory>
     requires steady { IsSteady (kept_engine side.old buffers.old.buffers element.old.state) }
-    ensures answered { Answers (kept_engine side.old buffers.old.buffers element.old.state) result
+    ensures answered { IsEngineAnswer
+        (kept_engine side.old buffers.old.buffers element.old.state) result
         (kept_engine side.new buffers.new.buffers element.new.state)
         (after_call [] (call.SetMode k mode)) }
     ensures steady { IsSteady (kept_engine side.new buffers.new.buffers element.new.state) }
@@ -61,7 +62,8 @@ pub(crate) fn set_offset<S: FrameStore>(
     t: Moment,
 ) -> Result<Answer, OutOfMemory>
     requires steady { IsSteady (kept_engine side.old buffers.old.buffers element.old.state) }
-    ensures answered { Answers (kept_engine side.old buffers.old.buffers element.old.state) result
+    ensures answered { IsEngineAnswer
+        (kept_engine side.old buffers.old.buffers element.old.state) result
         (kept_engine side.new buffers.new.buffers element.new.state)
         (after_call [] (call.SetTimestampOffset k t)) }
     ensures steady { IsSteady (kept_engine side.new buffers.new.buffers element.new.state) }
@@ -86,7 +88,8 @@ pub(crate) fn set_window_start<S: FrameStore>(
     t: Moment,
 ) -> Result<Answer, OutOfMemory>
     requires steady { IsSteady (kept_engine side.old buffers.old.buffers element.old.state) }
-    ensures answered { Answers (kept_engine side.old buffers.old.buffers element.old.state) result
+    ensures answered { IsEngineAnswer
+        (kept_engine side.old buffers.old.buffers element.old.state) result
         (kept_engine side.new buffers.new.buffers element.new.state)
         (after_call [] (call.SetAppendWindowStart k t)) }
     ensures steady { IsSteady (kept_engine side.new buffers.new.buffers element.new.state) }
@@ -111,7 +114,8 @@ pub(crate) fn set_window_end<S: FrameStore>(
     t: Moment,
 ) -> Result<Answer, OutOfMemory>
     requires steady { IsSteady (kept_engine side.old buffers.old.buffers element.old.state) }
-    ensures answered { Answers (kept_engine side.old buffers.old.buffers element.old.state) result
+    ensures answered { IsEngineAnswer
+        (kept_engine side.old buffers.old.buffers element.old.state) result
         (kept_engine side.new buffers.new.buffers element.new.state)
         (after_call [] (call.SetAppendWindowEnd k t)) }
     ensures steady { IsSteady (kept_engine side.new buffers.new.buffers element.new.state) }
@@ -134,7 +138,8 @@ pub(crate) fn remove<S: FrameStore>(
     end: Moment,
 ) -> Result<Answer, OutOfMemory>
     requires steady { IsSteady (kept_engine side.old buffers.old.buffers element.old.state) }
-    ensures answered { Answers (kept_engine side.old buffers.old.buffers element.old.state) result
+    ensures answered { IsEngineAnswer
+        (kept_engine side.old buffers.old.buffers element.old.state) result
         (kept_engine side.new buffers.new.buffers element.new.state)
         (after_call [] (call.Remove k start end)) }
     ensures steady { IsSteady (kept_engine side.new buffers.new.buffers element.new.state) }
@@ -160,7 +165,8 @@ pub(crate) fn append<S: FrameStore>(
     blobs: &Blobs,
 ) -> Result<Answer, OutOfMemory>
     requires steady { IsSteady (kept_engine side.old buffers.old.buffers element.old.state) }
-    ensures answered { Answers (kept_engine side.old buffers.old.buffers element.old.state) result
+    ensures answered { IsEngineAnswer
+        (kept_engine side.old buffers.old.buffers element.old.state) result
         (kept_engine side.new buffers.new.buffers element.new.state)
         (after_call blobs.now (call.AppendBuffer k piece.now)) }
     ensures steady { IsSteady (kept_engine side.new buffers.new.buffers element.new.state) }
@@ -186,7 +192,7 @@ fn reserve_reset<S: FrameStore>(
     k: u32,
 ) -> Result<(), OutOfMemory>
     ensures state { element.new.state ≡ element.old.state }
-    ensures spare { OnOk result (ready_at k buffers.now.buffers + 14 ≤ element.new.spare) }
+    ensures spare { OnOk result (ready_of_buffer k buffers.now.buffers + 14 ≤ element.new.spare) }
 {
     element.reserve(buffers.ready_frames(k) + PLACES)
 }
@@ -199,7 +205,8 @@ pub(crate) fn abort<S: FrameStore>(
     k: u32,
 ) -> Result<Answer, OutOfMemory>
     requires steady { IsSteady (kept_engine side.old buffers.old.buffers element.old.state) }
-    ensures answered { Answers (kept_engine side.old buffers.old.buffers element.old.state) result
+    ensures answered { IsEngineAnswer
+        (kept_engine side.old buffers.old.buffers element.old.state) result
         (kept_engine side.new buffers.new.buffers element.new.state)
         (after_call [] (call.Abort k)) }
     ensures steady { IsSteady (kept_engine side.new buffers.new.buffers element.new.state) }
@@ -221,7 +228,8 @@ pub(crate) fn change_type<S: FrameStore>(
     text: &str,
 ) -> Result<Answer, OutOfMemory>
     requires steady { IsSteady (kept_engine side.old buffers.old.buffers element.old.state) }
-    ensures answered { Answers (kept_engine side.old buffers.old.buffers element.old.state) result
+    ensures answered { IsEngineAnswer
+        (kept_engine side.old buffers.old.buffers element.old.state) result
         (kept_engine side.new buffers.new.buffers element.new.state)
         (after_call [] (call.ChangeType k text.now)) }
     ensures steady { IsSteady (kept_engine side.new buffers.new.buffers element.new.state) }
@@ -241,7 +249,7 @@ pub(crate) fn buffered<S: FrameStore>(
     k: u32,
 ) -> Result<Answer, OutOfMemory>
     ensures { (e : ElementState) → IsSteady (kept_engine side.now buffers.now.buffers e)
-        → Answers (kept_engine side.now buffers.now.buffers e) result
+        → IsEngineAnswer (kept_engine side.now buffers.now.buffers e) result
         (kept_engine side.now buffers.now.buffers e) (after_call [] (call.Buffered k)) }
 {
     if !buffers.is_made(k) {

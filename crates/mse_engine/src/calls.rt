@@ -2,7 +2,7 @@
 
 ghost use Rattle.std.specs.Prelude.{◌≡◌, OnErr};
 ghost use Rattle.mse_engine.specs.Calls.{after_call};
-ghost use Rattle.mse_engine.specs.Standing.{Answers, IsSteady, kept_engine};
+ghost use Rattle.mse_engine.specs.Standing.{IsEngineAnswer, IsSteady, kept_engine};
 
 use crate::side::SourceSide;
 use crate::{buffer_calls as of_buffer, element_calls as of_element, source_calls as of_source};
@@ -21,7 +21,8 @@ pub(crate) fn make_call<S: FrameStore>(
     blobs: &Blobs,
 ) -> Result<Answer, OutOfMemory>
     requires steady { IsSteady (kept_engine side.old buffers.old.buffers element.old.state) }
-    ensures answered { Answers (kept_engine side.old buffers.old.buffers element.old.state) result
+    ensures answered { IsEngineAnswer
+        (kept_engine side.old buffers.old.buffers element.old.state) result
         (kept_engine side.new buffers.new.buffers element.new.state)
         (after_call blobs.now call.now) }
     ensures steady { IsSteady (kept_engine side.new buffers.new.buffers element.new.state) }

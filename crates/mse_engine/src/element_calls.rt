@@ -5,7 +5,7 @@ ghost use Rattle.mse_calls.specs.declared.calls.Call.TheVariants as call;
 ghost use Rattle.media_element.specs.State.{ElementState};
 ghost use Rattle.mse_engine.specs.State.{State, outer_of};
 ghost use Rattle.mse_engine.specs.Calls.{after_call, state_view};
-ghost use Rattle.mse_engine.specs.Standing.{Answers, IsSteady, core_source, kept_engine};
+ghost use Rattle.mse_engine.specs.Standing.{IsEngineAnswer, IsSteady, core_source, kept_engine};
 
 use crate::finish::{PLACES, settle};
 use crate::scenes;
@@ -25,7 +25,8 @@ pub(crate) fn seek<S: FrameStore>(
     t: Moment,
 ) -> Result<Answer, OutOfMemory>
     requires steady { IsSteady (kept_engine side.now buffers.now.buffers element.old.state) }
-    ensures answered { Answers (kept_engine side.now buffers.now.buffers element.old.state) result
+    ensures answered { IsEngineAnswer
+        (kept_engine side.now buffers.now.buffers element.old.state) result
         (kept_engine side.now buffers.now.buffers element.new.state)
         (after_call [] (call.Seek t)) }
     ensures steady { IsSteady (kept_engine side.now buffers.now.buffers element.new.state) }
@@ -50,7 +51,8 @@ pub(crate) fn play<S: FrameStore>(
     element: &mut Element,
 ) -> Result<Answer, OutOfMemory>
     requires steady { IsSteady (kept_engine side.now buffers.now.buffers element.old.state) }
-    ensures answered { Answers (kept_engine side.now buffers.now.buffers element.old.state) result
+    ensures answered { IsEngineAnswer
+        (kept_engine side.now buffers.now.buffers element.old.state) result
         (kept_engine side.now buffers.now.buffers element.new.state)
         (after_call [] call.Play) }
     ensures steady { IsSteady (kept_engine side.now buffers.now.buffers element.new.state) }
@@ -72,7 +74,8 @@ pub(crate) fn pause<S: FrameStore>(
     element: &mut Element,
 ) -> Result<Answer, OutOfMemory>
     requires steady { IsSteady (kept_engine side.now buffers.now.buffers element.old.state) }
-    ensures answered { Answers (kept_engine side.now buffers.now.buffers element.old.state) result
+    ensures answered { IsEngineAnswer
+        (kept_engine side.now buffers.now.buffers element.old.state) result
         (kept_engine side.now buffers.now.buffers element.new.state)
         (after_call [] call.Pause) }
     ensures steady { IsSteady (kept_engine side.now buffers.now.buffers element.new.state) }
@@ -93,7 +96,8 @@ pub(crate) fn advance<S: FrameStore>(
     t: Moment,
 ) -> Result<Answer, OutOfMemory>
     requires steady { IsSteady (kept_engine side.now buffers.now.buffers element.old.state) }
-    ensures answered { Answers (kept_engine side.now buffers.now.buffers element.old.state) result
+    ensures answered { IsEngineAnswer
+        (kept_engine side.now buffers.now.buffers element.old.state) result
         (kept_engine side.now buffers.now.buffers element.new.state)
         (after_call [] (call.Advance t)) }
     ensures steady { IsSteady (kept_engine side.now buffers.now.buffers element.new.state) }
@@ -132,7 +136,7 @@ pub(crate) fn element_buffered<S: FrameStore>(
     buffers: &SourceBuffers<S>,
 ) -> Result<Answer, OutOfMemory>
     ensures { (e : ElementState) → IsSteady (kept_engine side.now buffers.now.buffers e)
-        → Answers (kept_engine side.now buffers.now.buffers e) result
+        → IsEngineAnswer (kept_engine side.now buffers.now.buffers e) result
         (kept_engine side.now buffers.now.buffers e)
         (after_call [] call.ElementBuffered) }
 {
@@ -146,7 +150,7 @@ pub(crate) fn seekable<S: FrameStore>(
     buffers: &SourceBuffers<S>,
 ) -> Result<Answer, OutOfMemory>
     ensures { (e : ElementState) → IsSteady (kept_engine side.now buffers.now.buffers e)
-        → Answers (kept_engine side.now buffers.now.buffers e) result
+        → IsEngineAnswer (kept_engine side.now buffers.now.buffers e) result
         (kept_engine side.now buffers.now.buffers e)
         (after_call [] call.Seekable) }
 {

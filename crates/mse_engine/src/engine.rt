@@ -1,5 +1,4 @@
 ghost use Rattle.std.specs.Prelude.{◌≡◌, ◌≤ℤ◌, pos, true, false, option_copied, option_map, IfOk, OnOk, OnErr};
-ghost use Rattle.std.specs.List.{AllByRecursion};
 ghost use Rattle.mse_base.specs.Moments.{is_nan};
 ghost use Rattle.mse_calls.specs.Level.{has_metadata};
 ghost use Rattle.track_store.specs.State.{state_of};
@@ -9,10 +8,10 @@ ghost use Rattle.source_buffers.specs.State.{all_kept_media};
 ghost use Rattle.mse_engine.specs.State.{State, opening_state};
 ghost use Rattle.mse_engine.specs.Calls.{after_call};
 ghost use Rattle.mse_engine.specs.Refusals.{call_refusal};
-ghost use Rattle.mse_engine.specs.Work.{after_element_turn, after_work, due_in, fire_result, running_in, waits_in};
+ghost use Rattle.mse_engine.specs.Work.{after_element_turn, after_work, is_turn_due, fire_result, running_in, has_event_in};
 ghost use Rattle.mse_engine.specs.Views.{span_in, view_in};
 ghost use Rattle.mse_engine.specs.Sound.{IsSoundEngine};
-ghost use Rattle.mse_engine.specs.Standing.{Answers, IsFewerWork, IsFired, IsStanding, IsWork, Stands};
+ghost use Rattle.mse_engine.specs.Standing.{IsEngineAnswer, IsFewerWork, IsFired, IsStanding, IsWork, Stands};
 
 use crate::calls::make_call;
 use crate::fault::EngineFault;
@@ -77,7 +76,7 @@ impl<S: FrameStore> Engine<S> {
     ///
     /// An `Err` is want of memory; then nothing changed.
     pub fn call(&mut self, call: &Call, blobs: &Blobs) -> Result<Answer, EngineFault>
-        ensures answered { Answers self.old result self.new (after_call blobs.now call.now) }
+        ensures answered { IsEngineAnswer self.old result self.new (after_call blobs.now call.now) }
         ensures sound { OnOk result (IsSoundEngine self.new) }
         ensures err { OnErr result (self.new ≡ self.old) }
     {
@@ -158,14 +157,14 @@ impl<S: FrameStore> Engine<S> {
 
     /// Whether an event waits to be fired.
     pub fn has_event(&self) -> bool
-        ensures { (st : State) → Stands self.now st → result ≡ waits_in st }
+        ensures { (st : State) → Stands self.now st → result ≡ has_event_in st }
     {
         self.element.has_event()
     }
 
     /// Whether the element has something to do by itself.
     pub fn due(&self) -> bool
-        ensures { (st : State) → Stands self.now st → result ≡ due_in st }
+        ensures { (st : State) → Stands self.now st → result ≡ is_turn_due st }
     {
         let scene = scenes::scene(&self.side, &self.buffers, &self.element, None);
         self.element.due(&scene)

@@ -1,20 +1,20 @@
 //! What comes of a reply of a source buffer, and the end of each step.
 
-ghost use Rattle.std.specs.Prelude.{◌≡◌, ◌≤◌, ◌+◌, not, true, [], ◌∷◌};
+ghost use Rattle.std.specs.Prelude.{◌≡◌, ◌≤◌, ◌+◌, not, true};
 ghost use Rattle.mse_calls.specs.Level.{has_metadata};
 ghost use Rattle.mse_calls.specs.declared.answers.Answer.TheVariants.{Done};
-ghost use Rattle.media_element.specs.Queueing.{event_at, queued};
+ghost use Rattle.media_element.specs.Queueing.{event_at, with_events};
 ghost use Rattle.media_element.specs.Settled.{IsSettled};
-ghost use Rattle.element_seek.specs.Settling.{stays_in};
+ghost use Rattle.element_seek.specs.Settling.{is_settled_in};
 ghost use Rattle.source_buffers.specs.State.{all_kept_media};
 ghost use Rattle.source_buffers.specs.Slots.{BuffersResult, IsBuffersResult};
 ghost use Rattle.mse_engine.specs.State.{State, outer_of};
 ghost use Rattle.mse_engine.specs.Scenes.{CoreView};
 ghost use Rattle.mse_engine.specs.Signals.{after_signals, after_settling, outer_after};
-ghost use Rattle.mse_engine.specs.Replies.{loads, source_after, open_events, active_events, load_signals, effect_signals, middle_signals, fault_events, error_after, is_quiet, reply_signals};
+ghost use Rattle.mse_engine.specs.Replies.{is_loading, source_after, open_events, active_events, load_signals, effect_signals, middle_signals, fault_events, error_after, is_quiet, reply_signals};
 ghost use Rattle.mse_engine.specs.BufferCalls.{reply_effect};
 ghost use Rattle.mse_engine.specs.Calls.{after_call_by, refused_or, no_element_effect};
-ghost use Rattle.mse_engine.specs.Standing.{IsReadyToLoad, IsSteady, IsStep, core_source, kept_engine, kept_scene, no_bounds, reply_view, side_after, view_of};
+ghost use Rattle.mse_engine.specs.Standing.{IsReadyToLoad, IsStep, core_source, kept_engine, kept_scene, no_bounds, reply_view, side_after, view_of};
 
 use crate::scenes::{self, LoadBounds};
 use crate::side::{Effects, SourceSide};
@@ -42,15 +42,15 @@ fn is_settled<S: FrameStore>(
     buffers: &SourceBuffers<S>,
     element: &Element,
 ) -> bool
-    ensures { result ≡ stays_in (kept_scene
+    ensures { result ≡ is_settled_in (kept_scene
         (kept_engine side.now buffers.now.buffers element.now.state)) element.now.state.player }
 {
     let duration = side.source.duration();
     if is_blank(element) {
-        return element.stays(&None, duration);
+        return element.is_settled(&None, duration);
     }
     let span = scenes::span_at(side, buffers, element.position());
-    element.stays(&span, duration)
+    element.is_settled(&span, duration)
 }
 
 /// The end of each step: the level that the position has now, with its events.
@@ -93,7 +93,7 @@ fn settle_level<S: FrameStore>(side: &SourceSide, buffers: &SourceBuffers<S>, el
 /// Tells of a source that is opened again, where a reply says so.
 fn tell_open(element: &mut Element, reply: &Reply)
     requires { 1 ≤ element.old.spare }
-    ensures state { element.new.state ≡ queued (open_events reply.now) element.old.state }
+    ensures state { element.new.state ≡ with_events (open_events reply.now) element.old.state }
     ensures spare { element.old.spare ≤ element.new.spare + 1 }
 {
     if reply.reopened {
@@ -104,7 +104,7 @@ fn tell_open(element: &mut Element, reply: &Reply)
 /// Tells of a buffer that becomes active.
 fn tell_active(element: &mut Element, activates: bool)
     requires { 1 ≤ element.old.spare }
-    ensures state { element.new.state ≡ queued (active_events activates) element.old.state }
+    ensures state { element.new.state ≡ with_events (active_events activates) element.old.state }
     ensures spare { element.old.spare ≤ element.new.spare + 1 }
 {
     if activates {
@@ -205,7 +205,7 @@ fn tell_middle<S: FrameStore>(
 fn tell_fault(element: &mut Element, fault: Option<FaultView>)
     requires { 2 ≤ element.old.spare }
     ensures outer { outer_of element.new.state ≡ outer_of
-        (queued (fault_events fault element.old.state.player.error) element.old.state) }
+        (with_events (fault_events fault element.old.state.player.error) element.old.state) }
     ensures error { element.new.state.player.error ≡ error_after fault
         (not (has_metadata element.old.state.player.level)) element.old.state.player.error }
     ensures spare { element.old.spare ≤ element.new.spare + 2 }
@@ -249,7 +249,7 @@ pub(crate) fn finish<S: FrameStore>(
     bounds: &LoadBounds,
 )
     requires places { reply.now.duration_changes + 14 ≤ element.old.spare }
-    requires bounds { loads k reply.now (not (has_metadata element.old.state.player.level))
+    requires bounds { is_loading k reply.now (not (has_metadata element.old.state.player.level))
         side.old.state ≡ true → IsReadyToLoad bounds.now
         (reply_view k reply.now side.old buffers.now.buffers element.old.state)
         element.old.state }
@@ -282,7 +282,7 @@ fn finish_with_events<S: FrameStore>(
     bounds: &LoadBounds,
 )
     requires places { reply.now.duration_changes + 14 ≤ element.old.spare }
-    requires bounds { loads k reply.now (not (has_metadata element.old.state.player.level))
+    requires bounds { is_loading k reply.now (not (has_metadata element.old.state.player.level))
         side.old.state ≡ true → IsReadyToLoad bounds.now
         (reply_view k reply.now side.old buffers.now.buffers element.old.state)
         element.old.state }
@@ -324,7 +324,7 @@ pub(crate) fn conclude<S: FrameStore>(
     reply: &Reply,
 ) -> Answer
     requires places { reply.now.duration_changes + 14 ≤ element.old.spare }
-    requires bounds { loads k reply.now (not (has_metadata element.old.state.player.level))
+    requires bounds { is_loading k reply.now (not (has_metadata element.old.state.player.level))
         side.old.state ≡ true → IsReadyToLoad no_bounds
         (reply_view k reply.now side.old buffers.now.buffers element.old.state)
         element.old.state }

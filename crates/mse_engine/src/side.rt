@@ -2,7 +2,7 @@
 
 ghost use Rattle.std.specs.Prelude.{◌≡◌, ◌≤ℤ◌, pos};
 ghost use Rattle.buffer_state.specs.State.{surroundings};
-ghost use Rattle.mse_engine.specs.Replies.{activates, active_after, loads, ready_again, ready_behind, surroundings_in};
+ghost use Rattle.mse_engine.specs.Replies.{is_activating, active_after, is_loading, ready_again, ready_after_fault, surroundings_in};
 ghost use Rattle.mse_engine.specs.Standing.{core_source, new_side, side_after};
 
 use buffer_state::{Around, Reply};
@@ -78,7 +78,7 @@ fn open_again(source: &mut Source, is_reopened: bool)
 
 /// The buffer of a number joins the active buffers, where a reply says so. Whether it did.
 fn join_active(source: &mut Source, k: u32, reply: &Reply) -> bool
-    ensures joins { result ≡ activates k reply.now source.old }
+    ensures joins { result ≡ is_activating k reply.now source.old }
     ensures source { source.new
         ≡ record source.old { active = active_after k reply.now source.old } }
 {
@@ -91,7 +91,7 @@ fn join_active(source: &mut Source, k: u32, reply: &Reply) -> bool
 
 /// Ends the source, where a reply has a fault.
 fn end_by_fault(source: &mut Source, fault: Option<FaultView>)
-    ensures { source.new ≡ record source.old { ready = ready_behind fault source.old.ready } }
+    ensures { source.new ≡ record source.old { ready = ready_after_fault fault source.old.ready } }
 {
     if fault.is_some() {
         source.end(EndKind::Decode, None);
@@ -115,14 +115,14 @@ impl SourceSide {
     /// Does what a reply of the buffer of a number brings about at the source, where the element is
     /// blank or not.
     pub(crate) fn apply_reply(&mut self, k: u32, reply: &Reply, blank: bool) -> Effects
-        ensures activates { result.activates ≡ activates k reply.now self.old.state }
-        ensures loads { result.loads ≡ loads k reply.now blank self.old.state }
+        ensures activates { result.activates ≡ is_activating k reply.now self.old.state }
+        ensures loads { result.loads ≡ is_loading k reply.now blank self.old.state }
         ensures side { self.new ≡ side_after k reply.now self.old }
     {
         open_again(&mut self.source, reply.reopened);
         self.source.change_duration(reply.duration);
         let activates = join_active(&mut self.source, k, reply);
-        let loads = reply.received_init && blank && self.source.all_active();
+        let loads = reply.received_init && blank && self.source.are_all_active();
         end_by_fault(&mut self.source, reply.fault);
         self.fault = self.fault.or(reply.fault);
         Effects { activates, loads }

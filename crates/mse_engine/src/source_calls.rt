@@ -6,11 +6,11 @@ ghost use Rattle.mse_calls.specs.declared.answers.Answer.TheVariants.{Done};
 ghost use Rattle.mse_calls.specs.declared.calls.Call.TheVariants as call;
 ghost use Rattle.mse_types.specs.declared.answer.TypeAnswer.TheVariants.{Supported};
 ghost use Rattle.source_state.specs.declared.answers.Changed.TheVariants.{To};
-ghost use Rattle.media_element.specs.Queueing.{queued};
+ghost use Rattle.media_element.specs.Queueing.{with_events};
 ghost use Rattle.mse_engine.specs.Signals.{DurationChanged, after_signal, after_signals};
 ghost use Rattle.mse_engine.specs.SourceCalls.{add_effect_of, change_signals, inactive_events};
 ghost use Rattle.mse_engine.specs.Calls.{after_call, after_call_by, refused_or, no_element_effect};
-ghost use Rattle.mse_engine.specs.Standing.{Answers, IsSteady, kept_engine, view_of};
+ghost use Rattle.mse_engine.specs.Standing.{IsEngineAnswer, IsSteady, kept_engine, view_of};
 
 use crate::finish::{PLACES, event, settle};
 use crate::scenes;
@@ -40,7 +40,8 @@ pub(crate) fn attach<S: FrameStore>(
     element: &mut Element,
 ) -> Result<Answer, OutOfMemory>
     requires steady { IsSteady (kept_engine side.old buffers.now.buffers element.old.state) }
-    ensures answered { Answers (kept_engine side.old buffers.now.buffers element.old.state) result
+    ensures answered { IsEngineAnswer
+        (kept_engine side.old buffers.now.buffers element.old.state) result
         (kept_engine side.new buffers.now.buffers element.new.state)
         (after_call [] call.Attach) }
     ensures steady { IsSteady (kept_engine side.new buffers.now.buffers element.new.state) }
@@ -64,7 +65,8 @@ fn add<S: FrameStore>(
     container: Container,
 ) -> Result<Answer, OutOfMemory>
     requires steady { IsSteady (kept_engine side.old buffers.old.buffers element.old.state) }
-    ensures answered { Answers (kept_engine side.old buffers.old.buffers element.old.state) result
+    ensures answered { IsEngineAnswer
+        (kept_engine side.old buffers.old.buffers element.old.state) result
         (kept_engine side.new buffers.new.buffers element.new.state)
         (λ st. after_call_by (add_effect_of (Supported container) st.core)
         (no_element_effect st.outer) Done) }
@@ -93,7 +95,8 @@ pub(crate) fn add_source_buffer<S: FrameStore>(
     text: &str,
 ) -> Result<Answer, OutOfMemory>
     requires steady { IsSteady (kept_engine side.old buffers.old.buffers element.old.state) }
-    ensures answered { Answers (kept_engine side.old buffers.old.buffers element.old.state) result
+    ensures answered { IsEngineAnswer
+        (kept_engine side.old buffers.old.buffers element.old.state) result
         (kept_engine side.new buffers.new.buffers element.new.state)
         (after_call [] (call.AddSourceBuffer text.now)) }
     ensures steady { IsSteady (kept_engine side.new buffers.new.buffers element.new.state) }
@@ -110,7 +113,7 @@ pub(crate) fn add_source_buffer<S: FrameStore>(
 /// Tells of a buffer that leaves the active ones, where it was there.
 fn tell_inactive(element: &mut Element, active: bool)
     requires { 1 ≤ element.old.spare }
-    ensures state { element.new.state ≡ queued (inactive_events active) element.old.state }
+    ensures state { element.new.state ≡ with_events (inactive_events active) element.old.state }
     ensures spare { element.old.spare ≤ element.new.spare + 1 }
 {
     if active {
@@ -126,7 +129,8 @@ pub(crate) fn remove_source_buffer<S: FrameStore>(
     k: u32,
 ) -> Result<Answer, OutOfMemory>
     requires steady { IsSteady (kept_engine side.old buffers.old.buffers element.old.state) }
-    ensures answered { Answers (kept_engine side.old buffers.old.buffers element.old.state) result
+    ensures answered { IsEngineAnswer
+        (kept_engine side.old buffers.old.buffers element.old.state) result
         (kept_engine side.new buffers.new.buffers element.new.state)
         (after_call [] (call.RemoveSourceBuffer k)) }
     ensures steady { IsSteady (kept_engine side.new buffers.new.buffers element.new.state) }
@@ -198,7 +202,8 @@ pub(crate) fn set_duration<S: FrameStore>(
     duration: Moment,
 ) -> Result<Answer, OutOfMemory>
     requires steady { IsSteady (kept_engine side.old buffers.now.buffers element.old.state) }
-    ensures answered { Answers (kept_engine side.old buffers.now.buffers element.old.state) result
+    ensures answered { IsEngineAnswer
+        (kept_engine side.old buffers.now.buffers element.old.state) result
         (kept_engine side.new buffers.now.buffers element.new.state)
         (after_call [] (call.SetDuration duration)) }
     ensures steady { IsSteady (kept_engine side.new buffers.now.buffers element.new.state) }
@@ -224,7 +229,8 @@ pub(crate) fn end_of_stream<S: FrameStore>(
     kind: EndKind,
 ) -> Result<Answer, OutOfMemory>
     requires steady { IsSteady (kept_engine side.old buffers.now.buffers element.old.state) }
-    ensures answered { Answers (kept_engine side.old buffers.now.buffers element.old.state) result
+    ensures answered { IsEngineAnswer
+        (kept_engine side.old buffers.now.buffers element.old.state) result
         (kept_engine side.new buffers.now.buffers element.new.state)
         (after_call [] (call.EndOfStream kind)) }
     ensures steady { IsSteady (kept_engine side.new buffers.now.buffers element.new.state) }
@@ -253,7 +259,8 @@ pub(crate) fn set_live<S: FrameStore>(
     end: Moment,
 ) -> Result<Answer, OutOfMemory>
     requires steady { IsSteady (kept_engine side.old buffers.now.buffers element.old.state) }
-    ensures answered { Answers (kept_engine side.old buffers.now.buffers element.old.state) result
+    ensures answered { IsEngineAnswer
+        (kept_engine side.old buffers.now.buffers element.old.state) result
         (kept_engine side.new buffers.now.buffers element.new.state)
         (after_call [] (call.SetLiveSeekableRange start end)) }
     ensures steady { IsSteady (kept_engine side.new buffers.now.buffers element.new.state) }
@@ -279,7 +286,8 @@ pub(crate) fn clear_live<S: FrameStore>(
     element: &mut Element,
 ) -> Result<Answer, OutOfMemory>
     requires steady { IsSteady (kept_engine side.old buffers.now.buffers element.old.state) }
-    ensures answered { Answers (kept_engine side.old buffers.now.buffers element.old.state) result
+    ensures answered { IsEngineAnswer
+        (kept_engine side.old buffers.now.buffers element.old.state) result
         (kept_engine side.new buffers.now.buffers element.new.state)
         (after_call [] call.ClearLiveSeekableRange) }
     ensures steady { IsSteady (kept_engine side.new buffers.now.buffers element.new.state) }

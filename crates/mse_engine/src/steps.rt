@@ -1,7 +1,7 @@
 //! Steps that nobody calls for: of the running work of a buffer, and of the element by itself.
 
 ghost use Rattle.std.specs.Prelude.{◌≡◌, ◌&&◌, ◌||◌, if◌then◌else◌, IfOk, OnErr};
-ghost use Rattle.source_state.specs.State.{has};
+ghost use Rattle.source_state.specs.State.{is_listed_in};
 ghost use Rattle.mse_engine.specs.State.{State};
 ghost use Rattle.mse_engine.specs.Work.{after_element_turn, after_work};
 ghost use Rattle.mse_engine.specs.Standing.{IsFewerWork, IsSteady, IsWork, Stands, kept_engine, no_bounds};
@@ -20,7 +20,7 @@ use track_store::FrameStore;
 /// becomes active has nothing yet, so that then there are none.
 fn drop_stale_bounds(side: &SourceSide, k: u32, reply: &Reply, bounds: &mut LoadBounds)
     ensures { bounds.new ≡ (if reply.now.activated
-        && (has k side.now.state.listed || has k side.now.state.active)
+        && (is_listed_in k side.now.state.listed || is_listed_in k side.now.state.active)
         then no_bounds else bounds.old) }
 {
     if reply.activated && (side.source.listed(k) || side.source.active(k)) {

@@ -11,8 +11,8 @@ use Rattle.mse_calls.specs.declared.entry.Entry.TheVariants.{Step, Script, Liste
 use Rattle.call_script.specs.declared.script.StepLine.{StepLine}
 use Rattle.call_script.specs.declared.script.StepLine.TheVariants as step
 use Rattle.mse_engine.specs.State.{Core, State}
-use Rattle.mse_engine.specs.State.{Element as ElementPart}
-use Rattle.mse_engine.specs.Work.{after_work, after_element_turn, fire_result, running_in, due_in}
+use Rattle.mse_engine.specs.State.{ElementPart}
+use Rattle.mse_engine.specs.Work.{after_work, after_element_turn, fire_result, running_in, is_turn_due}
 use Rattle.mse_engine.specs.Run.{entry_meaning, step_meaning, fire_meaning, after_entries, Replays, fire_entries, entries_if}
 use Rattle.script_run.specs.DrainSteps.{IsDrain, IsNextStep, IsAtRest, AreInDrainOrder}
 use Rattle.script_run.specs.Turns.{ListenerTurn, first_turn, AreInTurn, calls_in}
@@ -63,10 +63,10 @@ next-due : (st : State) (entry : Entry) (entries : List Entry) → IsNextStep st
 next-due st (Fired event) entries n q = ap (λ x. due_by x (next_entry st)) n
 next-due st (Work k) entries n q =
     ap (λ x. due_by x (next_entry st)) (no-event st.outer.queue n.0)
-    ∙ ap (λ low. next_entry_by low (due_in st)) n.1
+    ∙ ap (λ low. next_entry_by low (is_turn_due st)) n.1
 next-due st Element entries n q =
     ap (λ x. due_by x (next_entry st)) (no-event st.outer.queue n.0.queue)
-    ∙ ap (λ low. next_entry_by low (due_in st)) n.0.running
+    ∙ ap (λ low. next_entry_by low (is_turn_due st)) n.0.running
     ∙ ap (λ t. next_entry_by None t) n.1
 next-due st (Listener w call answer) entries n q = absurd (omega (arith, q))
 next-due st (Script call answer) entries n q = absurd n
@@ -75,7 +75,7 @@ next-due st (Step n) entries next q = absurd next
 rest-due : (st : State) → IsAtRest st → due st ≡ None
 rest-due st r =
     ap (λ x. due_by x (next_entry st)) (no-event st.outer.queue r.quiet.queue)
-    ∙ ap (λ low. next_entry_by low (due_in st)) r.quiet.running
+    ∙ ap (λ low. next_entry_by low (is_turn_due st)) r.quiet.running
     ∙ ap (λ t. next_entry_by None t) r.due
 
 one-drain : (blobs : List (List ℕ)) (st : State) (xs ys : List Entry) → AreInDrainOrder blobs st xs → IsAtRest (after_entries blobs st xs) → calls_in xs ≡ 0
@@ -128,7 +128,7 @@ drained-events blobs c e [] entries d = d
 drained-events blobs c e (event ∷ events) entries d =
     drained-more blobs (record { core = c; outer = record { element = e; queue = event ∷ events } }) (Fired event) (fired_entries events ++ entries) refl refl refl (drained-events blobs c e events entries d)
 
-then-drained : (low : Option ℕ) (t : Bool) (n : ℕ) (blobs : List (List ℕ)) (st : State) → running_in st ≡ low → due_in st ≡ t → st.outer.queue ≡ [] → steps_left st < suc n
+then-drained : (low : Option ℕ) (t : Bool) (n : ℕ) (blobs : List (List ℕ)) (st : State) → running_in st ≡ low → is_turn_due st ≡ t → st.outer.queue ≡ [] → steps_left st < suc n
     → ((new : State) → steps_left new < n → Drained blobs new (drain_in n blobs new))
     → Drained blobs st (entries_behind (next_entry_by low t) (λ entry. drain_in n blobs (after_entry blobs st entry)))
 then-drained (Some k) t n blobs st r d q l f =
@@ -145,7 +145,7 @@ drained-in : (n : ℕ) (blobs : List (List ℕ)) (st : State) → steps_left st 
 drained-in zero blobs st l = absurd (omega arith)
 drained-in (suc n) blobs st l =
     let still : State = record { core = st.core; outer = record { element = st.outer.element; queue = [] } } in
-    let rest : Drained blobs still (entries_then (drain_in n blobs) blobs still) = then-drained (running_in still) (due_in still) n blobs still refl refl refl l (λ new fewer. drained-in n blobs new fewer) in
+    let rest : Drained blobs still (entries_then (drain_in n blobs) blobs still) = then-drained (running_in still) (is_turn_due still) n blobs still refl refl refl l (λ new fewer. drained-in n blobs new fewer) in
     let all : Drained blobs st (fired_entries st.outer.queue ++ entries_then (drain_in n blobs) blobs still) = drained-events blobs st.core st.outer.element st.outer.queue (entries_then (drain_in n blobs) blobs still) rest in
     subst (λ s. Drained blobs st (fired_entries st.outer.queue ++ entries_then (drain_in n blobs) blobs s)) (sym (without-events blobs st.core st.outer.element st.outer.queue)) all
 

@@ -5,7 +5,7 @@
 
 use super::files::PLAIN;
 use call_script::{BlobText, Script, StepLine, read_script};
-use event_text::{closing, line_of};
+use event_text::{closing_text, line_of};
 use mse_base::{Bytes, OutOfMemory, Text, Ticks};
 use mse_calls::{Answer, Blobs, Call, Entry};
 use mse_engine::{Engine, EngineFault};
@@ -107,26 +107,26 @@ struct Player {
     text: String,
 }
 
-/// A step of the engine that may find no memory.
+/// A call or a step of the engine that may find no memory.
 #[derive(Clone, Copy)]
-enum Step<'a> {
+enum MemoryCall<'a> {
     Call(&'a Call),
     Work(u32),
     Turn,
 }
 
 /// Takes a step; a call has an answer.
-fn take(player: &mut Player, step: Step) -> Result<Option<Answer>, EngineFault> {
+fn take(player: &mut Player, step: MemoryCall) -> Result<Option<Answer>, EngineFault> {
     match step {
-        Step::Call(call) => {
+        MemoryCall::Call(call) => {
             let answer = player.engine.call(call, &player.blobs)?;
             Ok(Some(answer))
         }
-        Step::Work(k) => {
+        MemoryCall::Work(k) => {
             player.engine.work(k)?;
             Ok(None)
         }
-        Step::Turn => {
+        MemoryCall::Turn => {
             player.engine.element_turn()?;
             Ok(None)
         }
@@ -136,7 +136,7 @@ fn take(player: &mut Player, step: Step) -> Result<Option<Answer>, EngineFault> 
 /// What an engine shows, as it is printed at the end of a run.
 fn shown_once(alloc: Global, player: &Player) -> Result<Text, OutOfMemory> {
     match player.engine.view() {
-        Ok(view) => closing(alloc, &view, true),
+        Ok(view) => closing_text(alloc, &view, true),
         Err(_) => Err(OutOfMemory),
     }
 }
@@ -153,7 +153,7 @@ fn take_again(
     rt: &impl Abort,
     alloc: Global,
     player: &mut Player,
-    step: Step,
+    step: MemoryCall,
 ) -> Result<Option<Answer>, Fail> {
     let before = shown(alloc, player)?;
     match take(player, step) {
@@ -203,11 +203,11 @@ fn do_next(rt: &impl Abort, alloc: Global, player: &mut Player) -> Result<bool, 
         return Ok(true);
     }
     if let Some(k) = player.engine.running() {
-        take_again(rt, alloc, player, Step::Work(k))?;
+        take_again(rt, alloc, player, MemoryCall::Work(k))?;
         return Ok(true);
     }
     if player.engine.due() {
-        take_again(rt, alloc, player, Step::Turn)?;
+        take_again(rt, alloc, player, MemoryCall::Turn)?;
         return Ok(true);
     }
     Ok(false)
@@ -223,7 +223,7 @@ fn drain(rt: &impl Abort, alloc: Global, player: &mut Player) -> Result<(), Fail
 }
 
 fn make(rt: &impl Abort, alloc: Global, player: &mut Player, call: &Call) -> Result<(), Fail> {
-    let Some(answer) = take_again(rt, alloc, player, Step::Call(call))? else {
+    let Some(answer) = take_again(rt, alloc, player, MemoryCall::Call(call))? else {
         return Err("no answer")?;
     };
     let entry = Entry::Script(copy(call)?, answer);
@@ -243,10 +243,10 @@ fn do_line(
             fire(alloc, player)?;
         }
         StepLine::Work(k) => {
-            take_again(rt, alloc, player, Step::Work(*k))?;
+            take_again(rt, alloc, player, MemoryCall::Work(*k))?;
         }
         StepLine::Element => {
-            take_again(rt, alloc, player, Step::Turn)?;
+            take_again(rt, alloc, player, MemoryCall::Turn)?;
         }
         StepLine::Drain => drain(rt, alloc, player)?,
     }

@@ -19,22 +19,22 @@ const WHOLE: Piece = Piece {
 
 /// An engine whose buffers hold one byte, with a blob of one frame.
 #[derive(Drop)]
-struct Scene {
+struct RefusalScene {
     engine: Engine<ListStore>,
     blobs: Blobs,
 }
 
-fn new_scene(alloc: Global) -> Result<Scene, OutOfMemory> {
+fn new_scene(alloc: Global) -> Result<RefusalScene, OutOfMemory> {
     let mut blobs = Blobs::new(alloc);
     blobs.push(Bytes::copy_of(alloc, &FRAME)?)?;
-    Ok(Scene {
+    Ok(RefusalScene {
         engine: Engine::new(alloc, 1, Ticks::zero()),
         blobs,
     })
 }
 
 /// What is asked for, and what the call then answers.
-fn refusals(scene: &mut Scene, call: &Call) -> Result<(Option<Name>, Option<Name>), Fail> {
+fn refusals(scene: &mut RefusalScene, call: &Call) -> Result<(Option<Name>, Option<Name>), Fail> {
     let asked = scene.engine.refusal(call, &scene.blobs);
     match scene.engine.call(call, &scene.blobs) {
         Ok(Answer::Refused(name)) => Ok((asked, Some(name))),
@@ -44,7 +44,7 @@ fn refusals(scene: &mut Scene, call: &Call) -> Result<(Option<Name>, Option<Name
 }
 
 /// An open source with one buffer of ADTS frames.
-fn opened(alloc: Global) -> Result<Scene, Fail> {
+fn opened(alloc: Global) -> Result<RefusalScene, Fail> {
     let mut scene = new_scene(alloc)?;
     refusals(&mut scene, &Call::Attach)?;
     let kind = Text::copy_of(alloc, "audio/aac")?;
@@ -53,7 +53,7 @@ fn opened(alloc: Global) -> Result<Scene, Fail> {
 }
 
 /// Works until nothing runs at the first buffer.
-fn drain(scene: &mut Scene) -> Result<(), Fail> {
+fn drain(scene: &mut RefusalScene) -> Result<(), Fail> {
     for _ in 0..10 {
         if scene.engine.work(0).is_err() {
             return Err(Fail::new("memory"));

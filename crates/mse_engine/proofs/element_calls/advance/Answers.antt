@@ -4,7 +4,7 @@ use Rattle.mse_calls.specs.declared.answers.Name.TheVariants.{TypeError}
 use Rattle.mse_calls.specs.declared.calls.Call.TheVariants as call
 use Rattle.element_seek.specs.declared.scene.Scene.{Scene}
 use Rattle.element_seek.specs.Playing.{after_advance}
-use Rattle.media_element.specs.Queueing.{refusal, told_by_call, after_call}
+use Rattle.media_element.specs.Queueing.{refusal, change_by_call, after_player_call}
 use Rattle.mse_engine.specs.Scenes.{core_view, scene_with, seekable_in}
 use Rattle.mse_engine.specs.Calls.{advance_effect}
 use Rattle.mse_engine.specs.Calls as calls
@@ -15,11 +15,11 @@ use Rattle.mse_engine.proofs.element_calls.advance.Goals as goal
 
 pub returns-clause-answered : goal.returns-clause-answered
 returns-clause-answered g c st h =
-    let told = c.advance-refusal.ensures.state ∙ ap (λ (s : Scene). after_call (after_advance c.in-At.t s) c.reserve.new.self.state) c.scene-scene.ensures in
+    let told = c.advance-refusal.ensures.state ∙ ap (λ (s : Scene). after_player_call (after_advance c.in-At.t s) c.reserve.new.self.state) c.scene-scene.ensures in
     let name = c.advance-refusal.ensures.name ∙ ap (λ (s : Scene). refusal (after_advance c.in-At.t s c.reserve.new.self.state.player).answer) c.scene-scene.ensures in
     subst (λ (t : Moment). IsStep c.answer_by.result (kept_engine c.args.side.now c.args.buffers.now.buffers c.settle.new.element.state) (calls.after_call [] (call.Advance t) st)) (sym c.in-At.is) (record {
       answers = refusal_is c.args.side.now c.args.buffers.now.buffers c.args.element.now.state c.reserve.new.self.state c.reserve.ensures.state (after_advance c.in-At.t) c.advance-refusal.result c.answer_by.result (seekable_in (view_of c.args.side.now c.args.buffers.now.buffers c.reserve.new.self.state)) st c.answer_by.ensures name refl h;
-      stands = scene_step c.args.side.now c.args.buffers.now.buffers c.args.element.now.state c.reserve.new.self.state c.reserve.ensures.state (λ scene p. told_by_call (after_advance c.in-At.t scene) p) c.advance-refusal.new.self.state c.settle.new.element.state (seekable_in (view_of c.args.side.now c.args.buffers.now.buffers c.reserve.new.self.state)) st told refl (in_advance c.in-At.t (scene_with (seekable_in (view_of c.args.side.now c.args.buffers.now.buffers c.reserve.new.self.state)) c.reserve.new.self.state.player.position (view_of c.args.side.now c.args.buffers.now.buffers c.reserve.new.self.state)) c.reserve.new.self.state.player) (record { source = c.settle.ensures.source; element = c.settle.ensures.element }) h;
+      stands = scene_step c.args.side.now c.args.buffers.now.buffers c.args.element.now.state c.reserve.new.self.state c.reserve.ensures.state (λ scene p. change_by_call (after_advance c.in-At.t scene) p) c.advance-refusal.new.self.state c.settle.new.element.state (seekable_in (view_of c.args.side.now c.args.buffers.now.buffers c.reserve.new.self.state)) st told refl (in_advance c.in-At.t (scene_with (seekable_in (view_of c.args.side.now c.args.buffers.now.buffers c.reserve.new.self.state)) c.reserve.new.self.state.player.position (view_of c.args.side.now c.args.buffers.now.buffers c.reserve.new.self.state)) c.reserve.new.self.state.player) (record { source = c.settle.ensures.source; element = c.settle.ensures.element }) h;
     })
 
 pub returns-clause-steady : goal.returns-clause-steady

@@ -5,7 +5,7 @@ use Rattle.mse_calls.specs.declared.answers.Name.TheVariants.{TypeError}
 use Rattle.mse_calls.specs.declared.calls.Call.TheVariants as call
 use Rattle.element_seek.specs.declared.scene.Scene.{Scene}
 use Rattle.element_seek.specs.Seeking.{after_seek}
-use Rattle.media_element.specs.Queueing.{after}
+use Rattle.media_element.specs.Queueing.{after_action}
 use Rattle.mse_engine.specs.Scenes.{core_view, scene_with}
 use Rattle.mse_engine.specs.Calls.{seek_effect, after_call}
 use Rattle.mse_engine.specs.Standing.{IsStep, kept_engine, view_of}
@@ -15,7 +15,7 @@ use Rattle.mse_engine.proofs.element_calls.seek.Goals as goal
 
 pub returns-clause-answered : goal.returns-clause-answered
 returns-clause-answered g c st h =
-    let told = c.seek.ensures.state ∙ ap (λ (s : Scene). after (after_seek c.in-At.t s) c.reserve.new.self.state) c.scene-scene.ensures in
+    let told = c.seek.ensures.state ∙ ap (λ (s : Scene). after_action (after_seek c.in-At.t s) c.reserve.new.self.state) c.scene-scene.ensures in
     subst (λ (t : Moment). IsStep Done (kept_engine c.args.side.now c.args.buffers.now.buffers c.settle.new.element.state) (after_call [] (call.Seek t) st)) (sym c.in-At.is) (record {
       answers = refl;
       stands = scene_step c.args.side.now c.args.buffers.now.buffers c.args.element.now.state c.reserve.new.self.state c.reserve.ensures.state (after_seek c.in-At.t) c.seek.new.self.state c.settle.new.element.state c.in_ok-seekable.seekable st told (c.in_ok-seekable.ensures c.reserve.new.self.state) (in_seek c.in-At.t (scene_with c.in_ok-seekable.seekable c.reserve.new.self.state.player.position (view_of c.args.side.now c.args.buffers.now.buffers c.reserve.new.self.state)) c.reserve.new.self.state.player) (record { source = c.settle.ensures.source; element = c.settle.ensures.element }) h;

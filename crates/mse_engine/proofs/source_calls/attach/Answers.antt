@@ -4,10 +4,10 @@ use Rattle.mse_calls.specs.declared.events.EventKind.TheVariants as kind
 use Rattle.mse_calls.specs.declared.events.Target.TheVariants as target
 use Rattle.source_state.specs.Calls.{after_attach}
 use Rattle.media_element.specs.State.{ElementState}
-use Rattle.media_element.specs.Queueing.{event_at, queued}
+use Rattle.media_element.specs.Queueing.{event_at, with_events}
 use Rattle.mse_engine.specs.Signals.{Tell}
 use Rattle.mse_engine.specs.Standing.{KeptEngine, IsSteady}
-use Rattle.mse_engine.proofs.Unchanged.{IsKept, same}
+use Rattle.mse_engine.proofs.Unchanged.{IsUnchanged, same}
 use Rattle.mse_engine.proofs.Sourcing.{attach_plain, plain_steady, told_step, unchanged, refused_step}
 use Rattle.mse_engine.proofs.ElementEffects.{steady_still}
 use Rattle.mse_engine.proofs.Inside.{side_of, new_state, new_answer}
@@ -15,9 +15,9 @@ use Rattle.mse_engine.proofs.source_calls.attach.Goals as goal
 
 pub returns-clause-answered : goal.returns-clause-answered
 returns-clause-answered g c st h =
-    let told : c.tell.new.self.state ≡ queued (event_at target.Source kind.SourceOpen ∷ []) c.reserve.new.self.state = c.tell.ensures.state ∙ ap (λ (x : Event). queued (x ∷ []) c.reserve.new.self.state) c.event.ensures in
+    let told : c.tell.new.self.state ≡ with_events (event_at target.Source kind.SourceOpen ∷ []) c.reserve.new.self.state = c.tell.ensures.state ∙ ap (λ (x : Event). with_events (x ∷ []) c.reserve.new.self.state) c.event.ensures in
     let none = sym (new_answer c.side.inside.source c.side.inside.fault c.side.inside.quota c.side.inside.gap c.args.side.now c.side.view_is (λ s. (after_attach s).answer) c.attach.result c.attach.ensures.answer) ∙ c.in_default.is in
-    let keeps = subst (λ (x : ElementState). IsKept c.reserve.new.self.state.player x.player) (sym told) (same c.reserve.new.self.state.player) in
+    let keeps = subst (λ (x : ElementState). IsUnchanged c.reserve.new.self.state.player x.player) (sym told) (same c.reserve.new.self.state.player) in
     told_step after_attach c.args.side.now (side_of c.attach.new.self c.side.inside.fault c.side.inside.quota c.side.inside.gap) c.args.buffers.now.buffers c.args.element.now.state c.reserve.new.self.state (attach_plain c.args.side.now.state) (new_state c.side.inside.source c.side.inside.fault c.side.inside.quota c.side.inside.gap c.args.side.now c.side.view_is (λ s. (after_attach s).state) c.attach.new.self c.attach.ensures.state) c.reserve.ensures.state c.tell.new.self.state c.settle.new.element.state (Tell (event_at target.Source kind.SourceOpen ∷ []) ∷ []) st none keeps told (record { source = c.settle.ensures.source; element = c.settle.ensures.element }) h
 
 pub returns-clause-steady : goal.returns-clause-steady

@@ -5,7 +5,7 @@ use Rattle.mse_calls.specs.declared.events.Target.TheVariants as target
 use Rattle.source_state.specs.State.{SourceState}
 use Rattle.source_state.specs.Calls.{after_end, end_refusal}
 use Rattle.media_element.specs.State.{ElementState}
-use Rattle.media_element.specs.Queueing.{event_at, queued}
+use Rattle.media_element.specs.Queueing.{event_at, with_events}
 use Rattle.mse_engine.specs.Signals.{after_signals}
 use Rattle.mse_engine.specs.SourceCalls.{change_signals}
 use Rattle.mse_engine.specs.Standing.{view_of}
@@ -20,7 +20,7 @@ tell_change-requires-clause-now g c d h = ap (λ (s : SourceState). s.duration) 
 
 pub returns-clause-answered : goal.returns-clause-answered
 returns-clause-answered g c st h =
-    let first : c.tell.new.self.state ≡ queued (event_at target.Source kind.SourceEnded ∷ []) c.reserve.new.self.state = c.tell.ensures.state ∙ ap (λ (x : Event). queued (x ∷ []) c.reserve.new.self.state) c.event.ensures in
+    let first : c.tell.new.self.state ≡ with_events (event_at target.Source kind.SourceEnded ∷ []) c.reserve.new.self.state = c.tell.ensures.state ∙ ap (λ (x : Event). with_events (x ∷ []) c.reserve.new.self.state) c.event.ensures in
     let heard = c.tell_change.ensures.state ∙ ap (λ (x : ElementState). after_signals (view_of (side_of c.end-change.new.self c.side.inside.fault c.side.inside.quota c.side.inside.gap) c.args.buffers.now.buffers x) (change_signals c.end-change.result) x) first in
     end_step c.args.kind c.all_buffers-all.result c.args.side.now c.args.buffers.now.buffers c.all_buffers-all.ensures c.end_refusal.result (side_of c.end-change.new.self c.side.inside.fault c.side.inside.quota c.side.inside.gap) c.args.element.now.state c.reserve.new.self.state c.tell_change.new.element.state c.fail.new.self.state c.settle.new.element.state c.end-change.result st (new_answer c.side.inside.source c.side.inside.fault c.side.inside.quota c.side.inside.gap c.args.side.now c.side.view_is (λ s. end_refusal c.all_buffers-all.result.updating s) c.end_refusal.result c.end_refusal.ensures) c.in_default.is c.reserve.ensures.state (new_answer c.side.inside.source c.side.inside.fault c.side.inside.quota c.side.inside.gap c.args.side.now c.side.view_is (λ s. (after_end c.args.kind c.all_buffers-all.result.highest_end s).answer) c.end-change.result c.end-change.ensures.answer) (new_state c.side.inside.source c.side.inside.fault c.side.inside.quota c.side.inside.gap c.args.side.now c.side.view_is (λ s. (after_end c.args.kind c.all_buffers-all.result.highest_end s).state) c.end-change.new.self c.end-change.ensures.state) heard c.fail.ensures.state (record { source = c.settle.ensures.source; element = c.settle.ensures.element }) h
 

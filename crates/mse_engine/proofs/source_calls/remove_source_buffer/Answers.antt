@@ -3,7 +3,7 @@ use Rattle.mse_calls.specs.declared.answers.Answer.TheVariants.{Done, Refused}
 use Rattle.mse_calls.specs.declared.events.Event.{Event}
 use Rattle.buffer_state.specs.State.{surroundings}
 use Rattle.source_state.specs.Calls.{after_remove_buffer}
-use Rattle.media_element.specs.Queueing.{queued}
+use Rattle.media_element.specs.Queueing.{with_events}
 use Rattle.mse_engine.specs.CoreEffects.{CoreEffect}
 use Rattle.mse_engine.specs.SourceCalls.{remove_effect_by}
 use Rattle.mse_engine.specs.Calls.{after_call_by, no_element_effect}
@@ -28,7 +28,7 @@ returns-in-Refused-clause-answered g c st h =
 pub returns-in-Gone-clause-answered : goal.returns-in-Gone-clause-answered
 returns-in-Gone-clause-answered g c st h =
     let is : nat_lt c.args.k (length c.args.buffers.now.buffers) ≡ true = cc in
-    let last = c.tell.ensures.state ∙ ap (λ (x : Event). queued (x ∷ []) c.tell_inactive.new.element.state) c.event.ensures in
+    let last = c.tell.ensures.state ∙ ap (λ (x : Event). with_events (x ∷ []) c.tell_inactive.new.element.state) c.event.ensures in
     let heard = removal_told c.args.k c.remove-reply.result c.in-Gone.active c.reserve.new.self.state c.tell_kinds.new.self.state c.tell_inactive.new.element.state c.tell.new.self.state c.tell_kinds.ensures.state c.tell_inactive.ensures.state last in
     let here = remove_step c.args.k c.args.side.now (side_of c.remove_buffer.new.self c.side.inside.fault c.side.inside.quota c.side.inside.gap) c.args.buffers.now.buffers c.args.element.now.state c.reserve.new.self.state c.remove_buffer.result c.reserve.ensures.state (new_answer c.side.inside.source c.side.inside.fault c.side.inside.quota c.side.inside.gap c.args.side.now c.side.view_is (λ s. (after_remove_buffer c.args.k s).answer) c.remove_buffer.result c.remove_buffer.ensures.answer) (new_state c.side.inside.source c.side.inside.fault c.side.inside.quota c.side.inside.gap c.args.side.now c.side.view_is (λ s. (after_remove_buffer c.args.k s).state) c.remove_buffer.new.self c.remove_buffer.ensures.state) c.in-Gone.active c.remove-reply.result (surroundings c.around-around.result) c.remove-reply.new.self.buffers c.tell.new.self.state c.settle.new.element.state st c.in-Gone.is c.around-around.ensures.surroundings c.remove-reply.ensures.answered heard (record { source = c.settle.ensures.source; element = c.settle.ensures.element }) h in
     subst (λ (m : CoreEffect). IsStep Done (kept_engine (side_of c.remove_buffer.new.self c.side.inside.fault c.side.inside.quota c.side.inside.gap) c.remove-reply.new.self.buffers c.settle.new.element.state) (after_call_by m (no_element_effect st.outer) Done)) (sym (made_effect c.args.k (remove_effect_by c.args.k (after_remove_buffer c.args.k st.core.source.state) st.core) (kept_engine c.args.side.now c.args.buffers.now.buffers c.args.element.now.state) st is h)) here
