@@ -18,9 +18,9 @@ use Rattle.track_store.proofs.Soundness.{last_push}
 use Rattle.decoder_feed.specs.declared.steps.FeedNext.{FeedNext}
 use Rattle.decoder_feed.specs.declared.steps.FeedNext.TheVariants.{Frame, Idle, Wait, Lost, GroupEnd}
 use Rattle.decoder_feed.specs.Runs.{frame_given, frames_given, with_first}
-use Rattle.decoder_feed.specs.Steps.{FeederState, next_answer, state_after, state_after_seek}
-use Rattle.decoder_feed.proofs.Giving.{Outcome, outcome}
-use Rattle.feed_lines.specs.Groups.{answer_behind, end_of, frames_for, state_behind}
+use Rattle.decoder_feed.specs.Steps.{FeederState, next_answer, feeder_after, feeder_after_seek}
+use Rattle.decoder_feed.proofs.Giving.{IsStillOrGiven, still_or_given}
+use Rattle.feed_lines.specs.Groups.{answer_behind, end_of, frames_for, feeder_behind}
 use Rattle.feed_lines.specs.Lines.{end_line, feed_text, frame_line, given_text, groups_text, none_line, wanted_line}
 use Rattle.feed_lines.proofs.Giving.{AreEnough, all_same, calls_left, enough_left, none_given, received, rest_of}
 use Rattle.feed_lines.proofs.Progress.{all_groups, end, later, nothing_shown, one_group, something_given}
@@ -29,8 +29,8 @@ use Rattle.feed_lines.proofs.Progress.{all_groups, end, later, nothing_shown, on
 
 -- what the feeder keeps that has given some of them
 abbrev pub IsBehind : ℤ → TrackState → FeederState → List Stored → Type 0
-IsBehind at t s [] = s ≡ state_after_seek at t.frames
-IsBehind at t s (f ∷ fs) = s ≡ state_behind (f ∷ fs)
+IsBehind at t s [] = s ≡ feeder_after_seek at t.frames
+IsBehind at t s (f ∷ fs) = s ≡ feeder_behind (f ∷ fs)
 
 -- the time that a group of frames is looked for at, and the track that it is of
 pub record GroupPlace : Type 0 where
@@ -52,7 +52,7 @@ enough_received : (t : TrackState) (next given : Option ℕ) → AreEnough t (re
 enough_received t None given = tt
 enough_received t (Some n) given = omega arith
 
-pub none_yet : (at : ℤ) (t : TrackState) (s : FeederState) (told : Option (List ℕ)) → s ≡ state_after_seek at t.frames → IsGiving (group_place at t) s None told told
+pub none_yet : (at : ℤ) (t : TrackState) (s : FeederState) (told : Option (List ℕ)) → s ≡ feeder_after_seek at t.frames → IsGiving (group_place at t) s None told told
 none_yet at t s told is = record {
   done = [];
   parts = ap (λ x. frames_given x (replicate t.marks.received t)) (sym is) ∙ all_same t.marks.received t s (calls_left t s.next) (enough_received t s.next s.given) (enough_left t s.next s.given);
@@ -61,13 +61,13 @@ none_yet at t s told is = record {
   wrote = wrote_none told;
 }
 
-behind_push : (at : ℤ) (t : TrackState) (s : FeederState) (done : List Stored) (f : Stored) → s ≡ state_behind (done ++ f ∷ []) → IsBehind at t s (done ++ f ∷ [])
+behind_push : (at : ℤ) (t : TrackState) (s : FeederState) (done : List Stored) (f : Stored) → s ≡ feeder_behind (done ++ f ∷ []) → IsBehind at t s (done ++ f ∷ [])
 behind_push at t s [] f is = is
 behind_push at t s (g ∷ done) f is = is
 
 -- where a frame comes next, it is the first of the rest
-rest_by : (t : TrackState) (s : FeederState) (place : ℕ) (f : Stored) → next_answer s t ≡ Frame place → slice_get t.frames place ≡ Some f → Outcome s t.frames (next_answer s t)
-    → (state_after (Frame place) s ≡ record { next = Some (f.serial + 1); given = Some f.serial }) × (rest_of t s ≡ f ∷ rest_of t (record { next = Some (f.serial + 1); given = Some f.serial }))
+rest_by : (t : TrackState) (s : FeederState) (place : ℕ) (f : Stored) → next_answer s t ≡ Frame place → slice_get t.frames place ≡ Some f → IsStillOrGiven s t.frames (next_answer s t)
+    → (feeder_after (Frame place) s ≡ record { next = Some (f.serial + 1); given = Some f.serial }) × (rest_of t s ≡ f ∷ rest_of t (record { next = Some (f.serial + 1); given = Some f.serial }))
 rest_by t s place f is at (inl still) =
     let given : frame_given t.frames (next_answer s t) ≡ Some f = ap (frame_given t.frames) is ∙ at in
     let clash = sym still.none ∙ given in cc
@@ -75,28 +75,28 @@ rest_by t s place f is at (inr (g, gives)) =
     let s' : FeederState = record { next = Some (f.serial + 1); given = Some f.serial } in
     let given : frame_given t.frames (next_answer s t) ≡ Some f = ap (frame_given t.frames) is ∙ at in
     let own : g ≡ f = (let both = sym gives.given ∙ given in cc) in
-    let after : state_after (next_answer s t) s ≡ s' = gives.after ∙ ap (λ (x : Stored). record { next = Some (x.serial + 1); given = Some x.serial }) own in
+    let after : feeder_after (next_answer s t) s ≡ s' = gives.after ∙ ap (λ (x : Stored). record { next = Some (x.serial + 1); given = Some x.serial }) own in
     let next : s.next ≡ Some f.serial = gives.next ∙ ap (λ (x : Stored). Some x.serial) own in
     let low : f.serial < t.marks.received = subst (λ o. IfSome o (λ n. n < t.marks.received)) next (received t s place is) in
     let left : calls_left t s.next ≡ suc (calls_left t s'.next) = ap (calls_left t) next ∙ omega arith in (
-      ap (λ a. state_after a s) (sym is) ∙ after,
+      ap (λ a. feeder_after a s) (sym is) ∙ after,
       ap (λ m. frames_given s (replicate m t)) left
-          ∙ ap (λ o. with_first o (frames_given (state_after (next_answer s t) s) (replicate (calls_left t s'.next) t))) given
+          ∙ ap (λ o. with_first o (frames_given (feeder_after (next_answer s t) s) (replicate (calls_left t s'.next) t))) given
           ∙ ap (λ x. f ∷ frames_given x (replicate (calls_left t s'.next) t)) after,
     )
 
 -- one more frame is given
 pub one_more : (at : ℤ) (t : TrackState) (s : FeederState) (place : ℕ) (f : Stored) (last : Option ℤ) (old mid new : Option (List ℕ))
     → next_answer s t ≡ Frame place → slice_get t.frames place ≡ Some f → IsGiving (group_place at t) s last old mid → IsWritten (frame_line f) mid new
-    → IsGiving (group_place at t) (state_after (Frame place) s) (greater_of last (end f)) old new
+    → IsGiving (group_place at t) (feeder_after (Frame place) s) (greater_of last (end f)) old new
 one_more at t s place f last old mid new is there p w =
-    let step = rest_by t s place f is there (outcome s t) in
+    let step = rest_by t s place f is there (still_or_given s t) in
     let s' : FeederState = record { next = Some (f.serial + 1); given = Some f.serial } in
     let serial : last_serial None (p.done ++ f ∷ []) ≡ Some f.serial = last_push None p.done f in
-    let behind : state_after (Frame place) s ≡ state_behind (p.done ++ f ∷ []) = step.0 ∙ ap (λ (o : Option ℕ). record { next = option_map (λ n. n + 1) o; given = o }) (sym serial) in record {
+    let behind : feeder_after (Frame place) s ≡ feeder_behind (p.done ++ f ∷ []) = step.0 ∙ ap (λ (o : Option ℕ). record { next = option_map (λ n. n + 1) o; given = o }) (sym serial) in record {
       done = p.done ++ f ∷ [];
-      parts = p.parts ∙ ap (λ xs. p.done ++ xs) (step.1 ∙ ap (λ x. f ∷ rest_of t x) (sym step.0)) ∙ sym (append_assoc p.done (f ∷ []) (rest_of t (state_after (Frame place) s)));
-      behind = behind_push at t (state_after (Frame place) s) p.done f behind;
+      parts = p.parts ∙ ap (λ xs. p.done ++ xs) (step.1 ∙ ap (λ x. f ∷ rest_of t x) (sym step.0)) ∙ sym (append_assoc p.done (f ∷ []) (rest_of t (feeder_after (Frame place) s)));
+      behind = behind_push at t (feeder_after (Frame place) s) p.done f behind;
       last_is = ap (λ o. greater_of o (end f)) p.last_is ∙ sym (ap greatest (map-append end p.done (f ∷ [])) ∙ fold-append greater_of None (ends p.done) (end f ∷ []));
       wrote = subst (λ xs. IsWritten xs old new) (ap (λ xs. flat_map frame_line p.done ++ xs) (sym (append-nil (frame_line f))) ∙ sym (flat_map-append frame_line p.done (f ∷ []))) (wrote_more (flat_map frame_line p.done) (frame_line f) old mid new p.wrote w);
     }
@@ -105,7 +105,7 @@ one_more at t s place f last old mid new is there p w =
 pub frame_failed : (at : ℤ) (t : TrackState) (s : FeederState) (place : ℕ) (f : Stored) (last : Option ℤ) (old mid new : Option (List ℕ))
     → next_answer s t ≡ Frame place → slice_get t.frames place ≡ Some f → IsGiving (group_place at t) s last old mid → IsFrontWritten (frame_line f) mid new → IsFrontWritten (given_text at t) old new
 frame_failed at t s place f last old mid new is there p w =
-    let step = rest_by t s place f is there (outcome s t) in
+    let step = rest_by t s place f is there (still_or_given s t) in
     let rest : List ℕ = flat_map frame_line (rest_of t (record { next = Some (f.serial + 1); given = Some f.serial })) in
     let end : List ℕ = end_line (answer_behind (frames_for at t) t) in
     let front : List ℕ = flat_map frame_line p.done in
@@ -125,14 +125,14 @@ no_frame fs Wait h = refl
 no_frame fs Lost h = refl
 no_frame fs GroupEnd h = refl
 
-same_after : (a : FeedNext) (s : FeederState) → ((place : ℕ) → a ≡ Frame place → ⊥) → state_after a s ≡ s
+same_after : (a : FeedNext) (s : FeederState) → ((place : ℕ) → a ≡ Frame place → ⊥) → feeder_after a s ≡ s
 same_after (Frame place) s h = absurd (h place refl)
 same_after Idle s h = refl
 same_after Wait s h = refl
 same_after Lost s h = refl
 same_after GroupEnd s h = refl
 
-behind_all : (at : ℤ) (t : TrackState) (s : FeederState) (done : List Stored) → IsBehind at t s done → (done ≡ [] → ⊥) → s ≡ state_behind done
+behind_all : (at : ℤ) (t : TrackState) (s : FeederState) (done : List Stored) → IsBehind at t s done → (done ≡ [] → ⊥) → s ≡ feeder_behind done
 behind_all at t s [] h some = absurd (some refl)
 behind_all at t s (f ∷ done) h some = h
 
@@ -145,9 +145,9 @@ pub record IsGiven (group : GroupPlace) (answer : FeedNext) (last : Option ℤ) 
 all_given : (at : ℤ) (t : TrackState) (s : FeederState) (wanted : Stored) (answer : FeedNext) (last : Option ℤ) (old new : Option (List ℕ)) → IsSound t → overlapped at t.frames ≡ Some wanted
     → answer ≡ next_answer s t → ((place : ℕ) → answer ≡ Frame place → ⊥) → IsGiving (group_place at t) s last old new → IsGiven (group_place at t) answer last old new
 all_given at t s wanted answer last old new sound shown is other p =
-    let none = none_given t s (calls_left t s.next) (ap (frame_given t.frames) (sym is) ∙ no_frame t.frames answer other) (ap (λ a. state_after a s) (sym is) ∙ same_after answer s other) in
+    let none = none_given t s (calls_left t s.next) (ap (frame_given t.frames) (sym is) ∙ no_frame t.frames answer other) (ap (λ a. feeder_after a s) (sym is) ∙ same_after answer s other) in
     let all : frames_for at t ≡ p.done = p.parts ∙ ap (λ xs. p.done ++ xs) none ∙ append-nil p.done in
-    let behind : s ≡ state_behind p.done = behind_all at t s p.done p.behind (λ e. something_given at t wanted sound shown (all ∙ e)) in record {
+    let behind : s ≡ feeder_behind p.done = behind_all at t s p.done p.behind (λ e. something_given at t wanted sound shown (all ∙ e)) in record {
       answer_is = is ∙ ap (λ x. next_answer x t) behind ∙ ap (λ xs. answer_behind xs t) (sym all);
       last_is = p.last_is ∙ ap (λ xs. greatest (ends xs)) (sym all);
       wrote = subst (λ xs. IsWritten (flat_map frame_line xs) old new) (sym all) p.wrote;

@@ -7,8 +7,8 @@ use Rattle.track_store.specs.State.{TrackState}
 use Rattle.decoder_feed.specs.declared.steps.FeedNext.{FeedNext}
 use Rattle.decoder_feed.specs.declared.steps.FeedNext.TheVariants.{Frame, Idle, Wait, Lost, GroupEnd}
 use Rattle.decoder_feed.specs.Runs.{frame_given, frames_given, with_first}
-use Rattle.decoder_feed.specs.Steps.{FeederState, answer_to, next_answer, state_after}
-use Rattle.decoder_feed.proofs.Giving.{Outcome, outcome}
+use Rattle.decoder_feed.specs.Steps.{FeederState, answer_to, next_answer, feeder_after}
+use Rattle.decoder_feed.proofs.Giving.{IsStillOrGiven, still_or_given}
 
 -- so many calls are enough for all that a feeder gives
 abbrev pub AreEnough : TrackState → FeederState → ℕ → Type 0
@@ -29,10 +29,10 @@ rest_of t s = frames_given s (replicate (calls_left t s.next) t)
 
 -- ---- nothing more
 
-pub none_given : (t : TrackState) (s : FeederState) (j : ℕ) → frame_given t.frames (next_answer s t) ≡ None → state_after (next_answer s t) s ≡ s → frames_given s (replicate j t) ≡ []
+pub none_given : (t : TrackState) (s : FeederState) (j : ℕ) → frame_given t.frames (next_answer s t) ≡ None → feeder_after (next_answer s t) s ≡ s → frames_given s (replicate j t) ≡ []
 none_given t s zero none same = refl
 none_given t s (suc j) none same =
-    ap (λ o. with_first o (frames_given (state_after (next_answer s t) s) (replicate j t))) none
+    ap (λ o. with_first o (frames_given (feeder_after (next_answer s t) s) (replicate j t))) none
     ∙ ap (λ x. frames_given x (replicate j t)) same
     ∙ none_given t s j none same
 
@@ -62,18 +62,18 @@ at_most t None given m serial e h k = cc
 at_most t (Some n) given m serial e h k = let same : n ≡ serial = cc in (omega arith, omega arith)
 
 -- any two numbers of calls that are enough give the same
-by_outcome : (t : TrackState) (s : FeederState) (m k : ℕ) → ((s' : FeederState) (m' k' : ℕ) → m ≡ suc m' → AreEnough t s' m' → AreEnough t s' k' → frames_given s' (replicate m' t) ≡ frames_given s' (replicate k' t))
-    → AreEnough t s m → AreEnough t s k → Outcome s t.frames (next_answer s t) → frames_given s (replicate m t) ≡ frames_given s (replicate k t)
-by_outcome t s m k ih em ek (inl still) = none_given t s m still.none still.same ∙ sym (none_given t s k still.none still.same)
-by_outcome t s zero k ih em ek (inr (f, gives)) =
+by_case : (t : TrackState) (s : FeederState) (m k : ℕ) → ((s' : FeederState) (m' k' : ℕ) → m ≡ suc m' → AreEnough t s' m' → AreEnough t s' k' → frames_given s' (replicate m' t) ≡ frames_given s' (replicate k' t))
+    → AreEnough t s m → AreEnough t s k → IsStillOrGiven s t.frames (next_answer s t) → frames_given s (replicate m t) ≡ frames_given s (replicate k t)
+by_case t s m k ih em ek (inl still) = none_given t s m still.none still.same ∙ sym (none_given t s k still.none still.same)
+by_case t s zero k ih em ek (inr (f, gives)) =
     let frame = is_frame t.frames (next_answer s t) f gives.given in
     let low = at_most t s.next s.given zero f.serial gives.next (received t s frame.0 frame.1) em in
     absurd (omega (arith, low.0, low.1))
-by_outcome t s (suc m) zero ih em ek (inr (f, gives)) =
+by_case t s (suc m) zero ih em ek (inr (f, gives)) =
     let frame = is_frame t.frames (next_answer s t) f gives.given in
     let low = at_most t s.next s.given zero f.serial gives.next (received t s frame.0 frame.1) ek in
     absurd (omega (arith, low.0, low.1))
-by_outcome t s (suc m) (suc k) ih em ek (inr (f, gives)) =
+by_case t s (suc m) (suc k) ih em ek (inr (f, gives)) =
     let s' : FeederState = record { next = Some (f.serial + 1); given = Some f.serial } in
     let frame = is_frame t.frames (next_answer s t) f gives.given in
     let more = at_most t s.next s.given (suc m) f.serial gives.next (received t s frame.0 frame.1) em in
@@ -83,13 +83,13 @@ by_outcome t s (suc m) (suc k) ih em ek (inr (f, gives)) =
     ∙ ap (λ x. with_first (frame_given t.frames (next_answer s t)) (frames_given x (replicate k t))) (sym gives.after)
 
 pub all_same : (m : ℕ) (t : TrackState) (s : FeederState) (k : ℕ) → AreEnough t s m → AreEnough t s k → frames_given s (replicate m t) ≡ frames_given s (replicate k t)
-all_same zero t s k em ek = by_outcome t s zero k (λ s' m' k' e h g. cc) em ek (outcome s t)
+all_same zero t s k em ek = by_case t s zero k (λ s' m' k' e h g. cc) em ek (still_or_given s t)
 all_same (suc m) t s k em ek =
-    by_outcome t s (suc m) k (λ s' m' k' e h g. let same : m ≡ m' = cc in subst (λ j. frames_given s' (replicate j t) ≡ frames_given s' (replicate k' t)) same (all_same m t s' k' (subst (λ j. AreEnough t s' j) (sym same) h) g)) em ek (outcome s t)
+    by_case t s (suc m) k (λ s' m' k' e h g. let same : m ≡ m' = cc in subst (λ j. frames_given s' (replicate j t) ≡ frames_given s' (replicate k' t)) same (all_same m t s' k' (subst (λ j. AreEnough t s' j) (sym same) h) g)) em ek (still_or_given s t)
 
 -- fewer calls give a front of it
 front_by : (t : TrackState) (s : FeederState) (k m : ℕ) → ((s' : FeederState) (k' m' : ℕ) → k ≡ suc k' → AreEnough t s' m' → (rest : List Stored) × (frames_given s' (replicate m' t) ≡ frames_given s' (replicate k' t) ++ rest))
-    → AreEnough t s m → Outcome s t.frames (next_answer s t) → (rest : List Stored) × (frames_given s (replicate m t) ≡ frames_given s (replicate k t) ++ rest)
+    → AreEnough t s m → IsStillOrGiven s t.frames (next_answer s t) → (rest : List Stored) × (frames_given s (replicate m t) ≡ frames_given s (replicate k t) ++ rest)
 front_by t s k m ih em (inl still) = ([], none_given t s m still.none still.same ∙ sym (ap (λ xs. xs ++ []) (none_given t s k still.none still.same)))
 front_by t s zero m ih em (inr gives) = (frames_given s (replicate m t), refl)
 front_by t s (suc k) zero ih em (inr (f, gives)) =
@@ -106,6 +106,6 @@ front_by t s (suc k) (suc m) ih em (inr (f, gives)) =
     (rest.0, step m ∙ ap (λ xs. f ∷ xs) rest.1 ∙ ap (λ xs. xs ++ rest.0) (sym (step k)))
 
 pub front_of_all : (k : ℕ) (t : TrackState) (s : FeederState) (m : ℕ) → AreEnough t s m → (rest : List Stored) × (frames_given s (replicate m t) ≡ frames_given s (replicate k t) ++ rest)
-front_of_all zero t s m em = front_by t s zero m (λ s' k' m' e h. cc) em (outcome s t)
+front_of_all zero t s m em = front_by t s zero m (λ s' k' m' e h. cc) em (still_or_given s t)
 front_of_all (suc k) t s m em =
-    front_by t s (suc k) m (λ s' k' m' e h. let same : k ≡ k' = cc in subst (λ j. (rest : List Stored) × (frames_given s' (replicate m' t) ≡ frames_given s' (replicate j t) ++ rest)) same (front_of_all k t s' m' h)) em (outcome s t)
+    front_by t s (suc k) m (λ s' k' m' e h. let same : k ≡ k' = cc in subst (λ j. (rest : List Stored) × (frames_given s' (replicate m' t) ≡ frames_given s' (replicate j t) ++ rest)) same (front_of_all k t s' m' h)) em (still_or_given s t)

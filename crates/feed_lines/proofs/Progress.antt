@@ -13,9 +13,9 @@ use Rattle.track_store.proofs.Limits.{highest_bounds, highest_none}
 use Rattle.track_store.proofs.Overlapping.{overlapped-covers}
 use Rattle.decoder_feed.specs.Feed.{IsGroupUpTo, IsLastOf, feed_of}
 use Rattle.decoder_feed.specs.Runs.{AreGiven}
-use Rattle.decoder_feed.specs.Steps.{state_after_seek}
+use Rattle.decoder_feed.specs.Steps.{feeder_after_seek}
 use Rattle.decoder_feed.proofs.Giving.{feed_given}
-use Rattle.decoder_feed.proofs.Groups.{IsPlaced, feed_group, shown_placed}
+use Rattle.decoder_feed.proofs.Groups.{HasPlaceIn, feed_group, shown_placed}
 use Rattle.feed_lines.specs.Groups.{end_of, frames_for}
 use Rattle.feed_lines.specs.Lines.{feed_text, groups_text, none_line, text_by}
 use Rattle.feed_lines.proofs.Giving.{AreEnough, front_of_all}
@@ -51,8 +51,8 @@ enough_received t (Some n) given = omega arith
 -- the feed is given first
 pub feed_first : (at : ℤ) (t : TrackState) (feed : List Stored) → IsSound t → feed_of at t.frames ≡ Some feed → (rest : List Stored) × (frames_for at t ≡ feed ++ rest)
 feed_first at t feed sound is =
-    let all = subst (λ o. AreGiven (state_after_seek at t.frames) t o) is (feed_given at t sound) in
-    let more = front_of_all (length feed) t (state_after_seek at t.frames) t.marks.received (enough_received t (state_after_seek at t.frames).next (state_after_seek at t.frames).given) in
+    let all = subst (λ o. AreGiven (feeder_after_seek at t.frames) t o) is (feed_given at t sound) in
+    let more = front_of_all (length feed) t (feeder_after_seek at t.frames) t.marks.received (enough_received t (feeder_after_seek at t.frames).next (feeder_after_seek at t.frames).given) in
     (more.0, more.1 ∙ ap (λ xs. xs ++ more.0) all)
 
 -- what is given begins with a list that ends with the frame that is shown
@@ -145,7 +145,7 @@ goes_on at t wanted sound is =
     let before = before_end at t.frames wanted is in
     let less : at <ℤ end wanted = lt_of at (end wanted) before in
     let up : at ≤ℤ next = omega (arith, ints, after, less) in
-    let placed : IsPlaced t.frames wanted = subst (λ o. IfSome o (IsPlaced t.frames)) is (shown_placed at t.frames) in
+    let placed : HasPlaceIn t.frames wanted = subst (λ o. IfSome o (HasPlaceIn t.frames)) is (shown_placed at t.frames) in
     fewer_at at next t.frames placed.0 wanted placed.1 up before (not_later next (end wanted) after)
 
 pub later-length : (at : ℤ) (fs : List Stored) → later at fs ≤ length fs

@@ -12,22 +12,28 @@ use Rattle.feed_lines.specs.Groups.{frames_for, answer_behind, end_of}
 
 -- no frame of the track is shown at a time
 abbrev pub none_line : ℕ → ℤ → List ℕ
-none_line id at = line (codes "feed" ∷ codes "0" ∷ decimal id ∷ codes "at" ∷ signed_decimal at ∷ codes "none" ∷ [])
+none_line id at =
+    line (codes "feed" ∷ codes "0" ∷ decimal id ∷ codes "at" ∷ signed_decimal at
+    ∷ codes "none" ∷ [])
 
 -- the frame of a serial is
 abbrev pub wanted_line : ℕ → ℤ → ℕ → List ℕ
 wanted_line id at serial =
-    line (codes "feed" ∷ codes "0" ∷ decimal id ∷ codes "at" ∷ signed_decimal at ∷ codes "wanted" ∷ decimal serial ∷ [])
+    line (codes "feed" ∷ codes "0" ∷ decimal id ∷ codes "at" ∷ signed_decimal at
+    ∷ codes "wanted" ∷ decimal serial ∷ [])
 
 -- how many bytes a frame has, and whether it is a random access point
 abbrev pub size_text : Stored → List ℕ
-size_text f = line (codes "bytes" ∷ decimal (length f.frame.payload) ∷ codes "sync" ∷ bool_text f.frame.sync ∷ [])
+size_text f =
+    line (codes "bytes" ∷ decimal (length f.frame.payload)
+    ∷ codes "sync" ∷ bool_text f.frame.sync ∷ [])
 
 -- a frame that is given
 abbrev pub frame_line : Stored → List ℕ
 frame_line f =
     words (codes "frame" ∷ decimal f.serial ∷ codes "pts" ∷ signed_decimal f.frame.pts
-    ∷ codes "dts" ∷ signed_decimal f.frame.dts ∷ codes "dur" ∷ signed_decimal f.frame.dur ∷ size_text f ∷ [])
+    ∷ codes "dts" ∷ signed_decimal f.frame.dts
+    ∷ codes "dur" ∷ signed_decimal f.frame.dur ∷ size_text f ∷ [])
 
 abbrev pub answer_text : FeedNext → List ℕ
 answer_text (Frame place) = codes "Frame"
@@ -42,7 +48,8 @@ end_line answer = line (codes "end" ∷ answer_text answer ∷ [])
 
 -- the frames that are given to show the frame at a time, and why no more are
 abbrev pub given_text : ℤ → TrackState → List ℕ
-given_text at t = flat_map frame_line (frames_for at t) ++ end_line (answer_behind (frames_for at t) t)
+given_text at t =
+    flat_map frame_line (frames_for at t) ++ end_line (answer_behind (frames_for at t) t)
 
 -- what is given to show a frame at a time, and then what follows; where no frame is shown, that is all
 abbrev pub text_by : Option Stored → ℤ → TrackState → List ℕ → List ℕ

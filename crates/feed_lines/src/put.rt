@@ -1,14 +1,12 @@
 //! The feeds of a track, put as they come.
 
-ghost use Rattle.std.specs.Prelude.{◌≡◌, ◌≤◌, ◌+ℤ◌, ◌++◌, IfOk, IsSome, OnOk, OnErr, IsErrOf};
-ghost use Rattle.std.specs.List.{flat_map};
-ghost use Rattle.mse_base.specs.Time.{IsTick};
+ghost use Rattle.std.specs.Prelude.{◌≡◌, ◌≤◌, IfOk, IsSome, OnOk, OnErr, IsErrOf};
 ghost use Rattle.mse_outside.specs.Outside.{HasRisen};
 ghost use Rattle.script_run.specs.Writes.{IsWritten, IsFrontWritten};
 ghost use Rattle.track_store.specs.Frames.{overlapped};
 ghost use Rattle.track_store.specs.Sound.{IsSound};
 ghost use Rattle.track_store.specs.State.{state_of};
-ghost use Rattle.decoder_feed.specs.Steps.{state_after_seek};
+ghost use Rattle.decoder_feed.specs.Steps.{feeder_after_seek};
 ghost use Rattle.feed_lines.specs.Groups.{end_of, frames_for};
 ghost use Rattle.feed_lines.specs.Lines.{feed_text, given_text};
 
@@ -18,18 +16,7 @@ use mse_base::Ticks;
 use mse_outside::Sink;
 use script_run::Halt;
 use std::alloc::Global;
-use track_store::{FrameStore, Stored, Track};
-
-/// When a frame ends.
-fn end_of(stored: &Stored) -> Ticks
-    requires { IsTick (stored.now.frame.pts +ℤ stored.now.frame.dur) }
-    ensures { result ≡ stored.now.frame.pts +ℤ stored.now.frame.dur }
-{
-    match stored.frame.pts.checked_add(stored.frame.dur) {
-        Some(end) => end,
-        None => unreachable!(),
-    }
-}
+use track_store::{FrameStore, Track};
 
 /// Puts the lines of the frames that are given to show the frame at a time, to which the feeder was
 /// sought, and why no more are. It answers when they end.
@@ -42,7 +29,7 @@ fn put_given<S: FrameStore, K: Sink>(
 ) -> Result<Ticks, Halt>
     requires sound { IsSound (state_of S.frames track.now) }
     requires shown { IsSome (overlapped at (S.frames track.now.store)) }
-    requires sought { feeder.old ≡ state_after_seek at (S.frames track.now.store) }
+    requires sought { feeder.old ≡ feeder_after_seek at (S.frames track.now.store) }
     ensures end { IfOk result (λ end. end
         ≡ end_of at (frames_for at (state_of S.frames track.now))) }
     ensures ok { OnOk result (IsWritten (given_text at (state_of S.frames track.now))
@@ -63,7 +50,7 @@ fn put_given<S: FrameStore, K: Sink>(
                     Ok(()) => {}
                     Err(halt) => return Err(halt),
                 }
-                last = end_of(stored).greater_of(last);
+                last = stored.end().greater_of(last);
             }
             answer => {
                 return match put_end(alloc, sink, answer) {

@@ -1,6 +1,6 @@
 -- Calls that are left, one after the other.
-use Rattle.std.proofs.Common.{◌≡◌, ℕ, zero, suc, ◌+◌, ◌<◌, ◌≤◌, List, [], ◌∷◌, ◌++◌, length, drop, get_or, map, refl, sym, ap, ◌∙◌, append_assoc, arith, zero-add, add-zero, length-append}
-use Rattle.std.specs.Prelude.{Bool, true, false, nat_lt, ◌&&◌, ⊤, if◌then◌else◌, Option, Some, None, slice_get}
+use Rattle.std.proofs.Common.{◌≡◌, ℕ, zero, suc, ◌+◌, ◌<◌, ◌≤◌, List, [], ◌∷◌, ◌++◌, length, drop, get_or, refl, sym, ap, ◌∙◌, append_assoc, arith, zero-add, add-zero, length-append}
+use Rattle.std.specs.Prelude.{Bool, true, false, ◌&&◌, if◌then◌else◌, Some, None, slice_get}
 use Rattle.std.specs.List.{filter}
 use Rattle.std.proofs.lemmas.List.{append-nil, drop_more}
 use Rattle.std.proofs.lemmas.Option.{slice_get_past}
@@ -11,8 +11,8 @@ use Rattle.mse_calls.specs.declared.calls.Call.TheVariants.{Play}
 use Rattle.mse_calls.specs.declared.events.Event.{Event}
 use Rattle.mse_calls.specs.declared.rules.Rule.{Rule}
 use Rattle.listeners.specs.declared.listener.Note.{Note}
-use Rattle.listeners.specs.Notes.{heard_of, made_of}
-use Rattle.listeners.specs.RuleCalls.{has_calls, answers, answering_rules, once_calls, again_calls, calls_from, rule_calls, next_call}
+use Rattle.listeners.specs.Notes.{heard_of, calls_made}
+use Rattle.listeners.specs.RuleCalls.{has_calls, is_answering, answering_rules, once_calls, again_calls, calls_from, rule_calls, next_call}
 use Rattle.listeners.specs.Coming.{once_left, IsLeft, HaveCalls, HasNextCall}
 
 -- nothing was heard
@@ -98,16 +98,16 @@ get_end : (made : List Call) (x : Call) (xs : List Call) → slice_get (made ++ 
 get_end [] x xs = refl
 get_end (m ∷ made) x xs = get_end made x xs
 
-pub next_none : (rules : List Rule) (notes : List Note) → IsLeft (made_of notes) (answering_rules rules (heard_of notes)) 0 [] → next_call rules notes ≡ None
+pub next_none : (rules : List Rule) (notes : List Note) → IsLeft (calls_made notes) (answering_rules rules (heard_of notes)) 0 [] → next_call rules notes ≡ None
 unfolding next_call rule_calls
 next_none rules notes h =
-    rw (first_calls (made_of notes) (answering_rules rules (heard_of notes)) 0 [] h 1, append-nil (made_of notes)) (slice_get_past (made_of notes) (length (made_of notes)) (omega arith))
+    rw (first_calls (calls_made notes) (answering_rules rules (heard_of notes)) 0 [] h 1, append-nil (calls_made notes)) (slice_get_past (calls_made notes) (length (calls_made notes)) (omega arith))
 
 pub next_some : (rules : List Rule) (notes : List Note) (call : ℕ) (rule : Rule) (left : List Rule) → call < length rule.calls
-    → IsLeft (made_of notes) (answering_rules rules (heard_of notes)) call (rule ∷ left) → next_call rules notes ≡ Some (get_or rule.calls call Play)
+    → IsLeft (calls_made notes) (answering_rules rules (heard_of notes)) call (rule ∷ left) → next_call rules notes ≡ Some (get_or rule.calls call Play)
 unfolding next_call rule_calls
 next_some rules notes call rule left inside h =
-    rw (first_calls (made_of notes) (answering_rules rules (heard_of notes)) call (rule ∷ left) h 1, next_of 0 call rule left inside) (get_end (made_of notes) (get_or rule.calls call Play) [])
+    rw (first_calls (calls_made notes) (answering_rules rules (heard_of notes)) call (rule ∷ left) h 1, next_of 0 call rule left inside) (get_end (calls_made notes) (get_or rule.calls call Play) [])
 
 -- rules that answer have calls
 has_some : (calls : List Call) → has_calls calls ≡ true → 0 < length calls
@@ -124,10 +124,10 @@ middle_true true true false e = refl
 middle_true true false c e = cc
 middle_true false b c e = cc
 
-pub answers_have : (heard : List Event) (event : Event) (rules : List Rule) → HaveCalls (filter (answers heard event) rules)
+pub answers_have : (heard : List Event) (event : Event) (rules : List Rule) → HaveCalls (filter (is_answering heard event) rules)
 answers_have heard event [] = tt
 answers_have heard event (rule ∷ rules) =
-    have_by (answers heard event rule) rule (filter (answers heard event) rules) (λ e. has_some rule.calls (middle_true _ _ _ e)) (answers_have heard event rules)
+    have_by (is_answering heard event rule) rule (filter (is_answering heard event) rules) (λ e. has_some rule.calls (middle_true _ _ _ e)) (answers_have heard event rules)
 
 have_append : (xs ys : List Rule) → HaveCalls xs → HaveCalls ys → HaveCalls (xs ++ ys)
 have_append [] ys h k = k

@@ -8,16 +8,16 @@ use Rattle.mse_calls.specs.declared.rules.Rule.{Rule}
 use Rattle.listeners.specs.declared.index.RuleIndex.{RuleIndex}
 use Rattle.listeners.specs.Events.{is_same}
 use Rattle.listeners.specs.Index.{HasIndex}
-use Rattle.listeners.specs.RuleCalls.{times_heard, answers, answering_after, answering_rules}
+use Rattle.listeners.specs.RuleCalls.{times_heard, is_answering, answering_after, answering_rules}
 
 answering_more : (rules : List Rule) (earlier events : List Event) (event : Event)
-    → answering_after rules earlier (events ++ event ∷ []) ≡ answering_after rules earlier events ++ filter (answers (earlier ++ events) event) rules
-answering_more rules earlier [] event = rw (append-nil earlier) (append-nil (filter (answers earlier event) rules))
+    → answering_after rules earlier (events ++ event ∷ []) ≡ answering_after rules earlier events ++ filter (is_answering (earlier ++ events) event) rules
+answering_more rules earlier [] event = rw (append-nil earlier) (append-nil (filter (is_answering earlier event) rules))
 answering_more rules earlier (e ∷ events) event =
-    ap (λ (rs : List Rule). filter (answers earlier e) rules ++ rs) (answering_more rules (earlier ++ e ∷ []) events event)
-    ∙ rw (append_assoc earlier (e ∷ []) events) (sym (append_assoc (filter (answers earlier e) rules) (answering_after rules (earlier ++ e ∷ []) events) (filter (answers (earlier ++ e ∷ events) event) rules)))
+    ap (λ (rs : List Rule). filter (is_answering earlier e) rules ++ rs) (answering_more rules (earlier ++ e ∷ []) events event)
+    ∙ rw (append_assoc earlier (e ∷ []) events) (sym (append_assoc (filter (is_answering earlier e) rules) (answering_after rules (earlier ++ e ∷ []) events) (filter (is_answering (earlier ++ e ∷ events) event) rules)))
 
-pub answering_next : (rules : List Rule) (heard : List Event) (event : Event) → answering_rules rules (heard ++ event ∷ []) ≡ answering_rules rules heard ++ filter (answers heard event) rules
+pub answering_next : (rules : List Rule) (heard : List Event) (event : Event) → answering_rules rules (heard ++ event ∷ []) ≡ answering_rules rules heard ++ filter (is_answering heard event) rules
 answering_next rules heard event = answering_more rules [] heard event
 
 times_by : (b : Bool) (m n : ℕ) → (if b then suc (m + n) else m + n) ≡ (if b then suc m else m) + n
@@ -41,4 +41,4 @@ pub record Duties : Type 0 where
 -- what hearing an event makes of the index, and of the rules that are due
 pub record Hears (rules : List Rule) (heard : List Event) (event : Event) (before : List Rule) (after : Duties) : Type 0 where
   pub indexed : HasIndex rules (heard ++ event ∷ []) after.index
-  pub due : after.due ≡ before ++ filter (answers heard event) rules
+  pub due : after.due ≡ before ++ filter (is_answering heard event) rules

@@ -1,5 +1,5 @@
 -- What a listener by rules keeps, from one call to the next.
-use Rattle.std.proofs.Common.{◌≡◌, ℕ, zero, suc, ◌+◌, ◌<◌, ◌≤◌, List, [], ◌∷◌, ◌++◌, length, take, drop, get_or, map, ◌-◌, refl, sym, ap, ◌∙◌, arith, subst, Bor}
+use Rattle.std.proofs.Common.{◌≡◌, ℕ, zero, suc, ◌+◌, ◌<◌, ◌≤◌, List, [], ◌∷◌, ◌++◌, length, take, drop, get_or, ◌-◌, refl, sym, ap, ◌∙◌, arith, subst, Bor}
 use Rattle.std.specs.Prelude.{Bool, true, false, nat_lt, if◌then◌else◌, Option, Some, None, is_some}
 use Rattle.std.specs.Option.{option_copied}
 use Rattle.std.specs.List.{filter}
@@ -14,9 +14,9 @@ use Rattle.mse_calls.specs.declared.events.Event.{Event}
 use Rattle.mse_calls.specs.declared.rules.Rule.{Rule}
 use Rattle.listeners.specs.declared.index.RuleIndex.{RuleIndex}
 use Rattle.listeners.specs.declared.listener.Note.{Note}
-use Rattle.listeners.specs.declared.listener.Note.TheVariants.{Heard, Made, Told, Rested}
-use Rattle.listeners.specs.Notes.{told_note, heard_of, made_of}
-use Rattle.listeners.specs.RuleCalls.{answers, answering_rules, once_calls, again_calls, calls_from, rule_calls, next_call}
+use Rattle.listeners.specs.declared.listener.Note.TheVariants.{Heard, Made, Rested}
+use Rattle.listeners.specs.Notes.{told_note, heard_of, calls_made}
+use Rattle.listeners.specs.RuleCalls.{is_answering, answering_rules, rule_calls, next_call}
 use Rattle.listeners.specs.Index.{HasIndex}
 use Rattle.listeners.specs.Coming.{no_rule, rule_at, call_at, rules_at, IsLeft, HasNextCall, HaveCalls, Holds}
 use Rattle.listeners.proofs.Noting.{heard_more, heard_made, rested_heard, rested_made, made_heard, made_made}
@@ -27,7 +27,7 @@ pub holds_first : (rules : List Rule) → Holds rules [] None [] 0
 holds_first rules = record { left = none_left rules; ready = refl; indexed = refl }
 
 pub holds_same : (rules : List Rule) (notes more : List Note) (index : Option RuleIndex) (due : List ℕ) (call : ℕ)
-    → heard_of more ≡ heard_of notes → made_of more ≡ made_of notes → Holds rules notes index due call → Holds rules more index due call
+    → heard_of more ≡ heard_of notes → calls_made more ≡ calls_made notes → Holds rules notes index due call → Holds rules more index due call
 holds_same rules notes more index due call heard made h = record {
   left = rw (heard, made) h.left;
   ready = h.ready;
@@ -47,8 +47,8 @@ pub holds_heard : (rules : List Rule) (notes : List Note) (event : Event) (index
     → Holds rules notes index due call → Hears rules (heard_of notes) event (rules_at rules due) (record { index = other; due = rules_at rules after }) → Holds rules (notes ++ Heard event ∷ []) other after call
 holds_heard rules notes event index other due after call h e = record {
   left = rw (heard_more notes event, heard_made notes event, answering_next rules (heard_of notes) event, e.due)
-      (more_left (made_of notes) (answering_rules rules (heard_of notes)) call (rules_at rules due) (filter (answers (heard_of notes) event) rules) h.left);
-  ready = rw e.due (ready_more call (rules_at rules due) (filter (answers (heard_of notes) event) rules) h.ready (answers_have (heard_of notes) event rules));
+      (more_left (calls_made notes) (answering_rules rules (heard_of notes)) call (rules_at rules due) (filter (is_answering (heard_of notes) event) rules) h.left);
+  ready = rw e.due (ready_more call (rules_at rules due) (filter (is_answering (heard_of notes) event) rules) h.ready (answers_have (heard_of notes) event rules));
   indexed = rw (heard_more notes event) e.indexed;
 }
 
@@ -59,15 +59,15 @@ turn_of rule at call =
 
 turn_by : (b r : Bool) (rules : List Rule) (notes : List Note) (index : Option RuleIndex) (due : List ℕ) (at call : ℕ) (rule : Rule) (rest : List Rule) (told : Option Answer) (x : Call)
     → nat_lt (call + 1) (length rule.calls) ≡ b → rule.repeat ≡ r → at < length due → rules_at rules (drop at due) ≡ rule ∷ rest → rules_at rules (drop (at + 1) due) ≡ rest → call < length rule.calls → HaveCalls rest
-    → IsLeft (made_of notes ++ x ∷ []) (answering_rules rules (heard_of notes)) (suc call) (rule ∷ rest)
+    → IsLeft (calls_made notes ++ x ∷ []) (answering_rules rules (heard_of notes)) (suc call) (rule ∷ rest)
     → let turn : ℕ × ℕ = if b then (at, call + 1) else (if r then (at, 0) else (at + 1, 0)) in
-    (turn.0 ≤ length due) × IsLeft (made_of notes ++ x ∷ []) (answering_rules rules (heard_of notes)) turn.1 (rules_at rules (drop turn.0 due)) × HasNextCall turn.1 (rules_at rules (drop turn.0 due))
+    (turn.0 ≤ length due) × IsLeft (calls_made notes ++ x ∷ []) (answering_rules rules (heard_of notes)) turn.1 (rules_at rules (drop turn.0 due)) × HasNextCall turn.1 (rules_at rules (drop turn.0 due))
 turn_by true r rules notes index due at call rule rest told x b e within here there inside have h =
     (omega (arith, within), rw here (rw (add-one call) h), rw here (ltb-true (call + 1) (length rule.calls) b, have))
 turn_by false true rules notes index due at call rule rest told x b e within here there inside have h =
-    (omega (arith, within), rw here (again_left (made_of notes ++ x ∷ []) (answering_rules rules (heard_of notes)) call rule rest (rw (← add-one call) (ltb-false (call + 1) (length rule.calls) b)) e h), rw here (omega (arith, inside), have))
+    (omega (arith, within), rw here (again_left (calls_made notes ++ x ∷ []) (answering_rules rules (heard_of notes)) call rule rest (rw (← add-one call) (ltb-false (call + 1) (length rule.calls) b)) e h), rw here (omega (arith, inside), have))
 turn_by false false rules notes index due at call rule rest told x b e within here there inside have h =
-    (omega (arith, within), rw there (over_left (made_of notes ++ x ∷ []) (answering_rules rules (heard_of notes)) call rule rest (rw (← add-one call) (ltb-false (call + 1) (length rule.calls) b)) e h), rw there (ready_begin rest have))
+    (omega (arith, within), rw there (over_left (calls_made notes ++ x ∷ []) (answering_rules rules (heard_of notes)) call rule rest (rw (← add-one call) (ltb-false (call + 1) (length rule.calls) b)) e h), rw there (ready_begin rest have))
 
 places_here : (rules : List Rule) (due : List ℕ) (at : ℕ) → at < length due → rules_at rules (drop at due) ≡ rule_at rules (get_or due at 0) ∷ rules_at rules (drop (at + 1) due)
 places_here rules due at within = rw (drop_more due at 0 within) refl
@@ -85,8 +85,8 @@ holds_turn rules notes index due at call told within h =
     let rule = rule_at rules (get_or due at 0) in
     let rest = rules_at rules (drop (at + 1) due) in
     let ready : HasNextCall call (rule ∷ rest) = subst (λ (rs : List Rule). HasNextCall call rs) (places_here rules due at within) h.ready in
-    let left : IsLeft (made_of notes) (answering_rules rules (heard_of notes)) call (rule ∷ rest) = subst (λ (rs : List Rule). IsLeft (made_of notes) (answering_rules rules (heard_of notes)) call rs) (places_here rules due at within) h.left in
-    let turned = turn_by (nat_lt (call + 1) (length rule.calls)) rule.repeat rules notes index due at call rule rest told (get_or rule.calls call Play) refl refl within (places_here rules due at within) refl ready.0 ready.1 (one_left (made_of notes) (answering_rules rules (heard_of notes)) call rule rest ready.0 left) in (
+    let left : IsLeft (calls_made notes) (answering_rules rules (heard_of notes)) call (rule ∷ rest) = subst (λ (rs : List Rule). IsLeft (calls_made notes) (answering_rules rules (heard_of notes)) call rs) (places_here rules due at within) h.left in
+    let turned = turn_by (nat_lt (call + 1) (length rule.calls)) rule.repeat rules notes index due at call rule rest told (get_or rule.calls call Play) refl refl within (places_here rules due at within) refl ready.0 ready.1 (one_left (calls_made notes) (answering_rules rules (heard_of notes)) call rule rest ready.0 left) in (
       turned.0,
       record {
         left = rw (made_made notes told (get_or rule.calls call Play), made_heard notes told (get_or rule.calls call Play)) turned.1;
@@ -100,18 +100,18 @@ pub next_is_none : (rules : List Rule) (notes : List Note) (index : Option RuleI
 next_is_none rules notes index due at call past h =
     let none : drop at due ≡ [] = drop_of_length-le due past in
     let ready : call ≡ 0 = subst (λ (ps : List ℕ). HasNextCall call (rules_at rules ps)) none h.ready in
-    next_none rules notes (subst (λ (n : ℕ). IsLeft (made_of notes) (answering_rules rules (heard_of notes)) n []) ready (subst (λ (ps : List ℕ). IsLeft (made_of notes) (answering_rules rules (heard_of notes)) call (rules_at rules ps)) none h.left))
+    next_none rules notes (subst (λ (n : ℕ). IsLeft (calls_made notes) (answering_rules rules (heard_of notes)) n []) ready (subst (λ (ps : List ℕ). IsLeft (calls_made notes) (answering_rules rules (heard_of notes)) call (rules_at rules ps)) none h.left))
 
 pub next_is_some : (rules : List Rule) (notes : List Note) (index : Option RuleIndex) (due : List ℕ) (at call : ℕ) → at < length due
     → Holds rules notes index (drop at due) call → next_call rules notes ≡ Some (call_at rules (get_or due at 0) call)
 next_is_some rules notes index due at call within h =
-    let left = subst (λ (rs : List Rule). IsLeft (made_of notes) (answering_rules rules (heard_of notes)) call rs) (places_here rules due at within) h.left in
+    let left = subst (λ (rs : List Rule). IsLeft (calls_made notes) (answering_rules rules (heard_of notes)) call rs) (places_here rules due at within) h.left in
     next_some rules notes call (rule_at rules (get_or due at 0)) (rules_at rules (drop (at + 1) due)) (call_inside rules notes index due at call within h) left
 
 pub made_by_rules : (rules : List Rule) (notes : List Note) (index : Option RuleIndex) (due : List ℕ) (call : ℕ) → Holds rules notes index due call
-    → made_of notes ≡ rule_calls rules (heard_of notes) (length (made_of notes))
+    → calls_made notes ≡ rule_calls rules (heard_of notes) (length (calls_made notes))
 unfolding rule_calls
-made_by_rules rules notes index due call h = made_first (made_of notes) (answering_rules rules (heard_of notes)) call (rules_at rules due) h.left
+made_by_rules rules notes index due call h = made_first (calls_made notes) (answering_rules rules (heard_of notes)) call (rules_at rules due) h.left
 
 -- ---- what the code reads
 pub past_end : (o : Option (Bor ℕ)) (xs : List ℕ) (at : ℕ) → is_some o ≡ nat_lt at (length xs) → None ≡ option_copied o → length xs ≤ at

@@ -1,22 +1,19 @@
 -- Rules found by the number of their event.
-use Rattle.std.proofs.Common.{◌≡◌, ◌≢◌, ℕ, zero, suc, ◌+◌, ◌-◌, ◌^◌, ◌<◌, ◌≤◌, min, ◌⊎◌, inl, inr, List, [], ◌∷◌, ◌++◌, length, take, drop, get_or, map, refl, sym, ap, ◌∙◌, append_assoc, arith, nat_cmp, cond, length-append, zero-add, add-zero}
-use Rattle.std.specs.Prelude.{Bool, true, false, nat_lt, ◌==◌, ◌&&◌, if◌then◌else◌, Option, Some, None, Vec}
+use Rattle.std.proofs.Common.{◌≡◌, ◌≢◌, ℕ, suc, ◌+◌, ◌-◌, ◌^◌, ◌<◌, ◌⊎◌, inl, inr, List, [], ◌∷◌, ◌++◌, length, take, get_or, refl, sym, ap, ◌∙◌, append_assoc, arith, nat_cmp, length-append, zero-add, add-zero}
+use Rattle.std.specs.Prelude.{Bool, true, false, nat_lt, ◌==◌, ◌&&◌, if◌then◌else◌, Some, Vec}
 use Rattle.std.specs.List.{filter}
-use Rattle.std.specs.BTreeMap.{BTreeMap, get, is_at}
+use Rattle.std.specs.BTreeMap.{BTreeMap, get}
 use Rattle.std.specs.declared.alloc.Global.{Global}
-use Rattle.std.specs.Cmp.{nat_cmp_is, Equal-is}
-use Rattle.std.specs.Ordering.{is_eq}
 use Rattle.std.proofs.lemmas.Bool.{ltb-true, ltb-false, eqb-true, false≢true}
 use Rattle.std.proofs.lemmas.Bool.Decides.{eqb_tells}
 use Rattle.std.proofs.lemmas.List.{append-nil, take_more, length-take-le, map-append, get_or_default, nil_from_length}
 use Rattle.std.proofs.Math.Seq.{get_or-append_seam}
-use Rattle.mse_calls.specs.declared.calls.Call.{Call}
 use Rattle.mse_calls.specs.declared.events.Event.{Event}
 use Rattle.mse_calls.specs.declared.rules.Rule.{Rule}
 use Rattle.listeners.specs.declared.index.RuleIndex.{RuleIndex}
 use Rattle.listeners.specs.Events.{event_number, is_same}
-use Rattle.listeners.specs.RuleCalls.{has_calls, times_heard, answers}
-use Rattle.listeners.specs.Index.{is_on, places_from, places_of, places_or_none, places_at, count_at, bounded_count, Indexes}
+use Rattle.listeners.specs.RuleCalls.{times_heard, is_answering}
+use Rattle.listeners.specs.Index.{is_on, places_from, places_of, places_or_none, places_at, count_at, bounded_count, IsIndexOf}
 use Rattle.listeners.specs.Coming.{no_rule, rule_at, rules_at}
 use Rattle.listeners.proofs.Hearing.{times_more, Hears}
 
@@ -64,7 +61,7 @@ rules_from number times front (rule ∷ rules) =
     length_one xs x = length-append xs (x ∷ [])
 
 pub rules_found : (rules : List Rule) (heard : List Event) (event : Event)
-    → rules_at rules (filter (λ p. nat_lt (times_heard event heard) (rule_at rules p).times) (places_of rules (event_number event))) ≡ filter (answers heard event) rules
+    → rules_at rules (filter (λ p. nat_lt (times_heard event heard) (rule_at rules p).times) (places_of rules (event_number event))) ≡ filter (is_answering heard event) rules
 rules_found rules heard event = rules_from (event_number event) (times_heard event heard) [] rules
 
 -- ---- counts
@@ -104,7 +101,7 @@ counts_same event e rules heard count none (inr h) = by (eqb_tells (event_number
 
 -- the rules on an event, and its count, tell which rules answer
 pub hears_none : (rules : List Rule) (heard : List Event) (event : Event) (index : RuleIndex) (left : List ℕ) → places_at index (event_number event) ≡ []
-    → Indexes rules heard index → Hears rules heard event (rules_at rules left) (record { index = Some index; due = rules_at rules left })
+    → IsIndexOf rules heard index → Hears rules heard event (rules_at rules left) (record { index = Some index; due = rules_at rules left })
 hears_none rules heard event index left none h =
     let no = sym (h.places (event_number event)) ∙ none in
     record {
@@ -116,7 +113,7 @@ pub hears_some : (rules : List Rule) (heard : List Event) (event : Event) (new o
     → new.places ≡ old.places
     → ((m : ℕ) → count_at new m ≡ (if m == event_number event then bounded_count (count_at old m + 1) else count_at old m))
     → ((times : ℕ) → count_at old (event_number event) ≡ bounded_count times → due ≡ left ++ filter (λ p. nat_lt times (rule_at rules p).times) (places_at old (event_number event)))
-    → Indexes rules heard old → Hears rules heard event (rules_at rules left) (record { index = Some new; due = rules_at rules due })
+    → IsIndexOf rules heard old → Hears rules heard event (rules_at rules left) (record { index = Some new; due = rules_at rules due })
 hears_some rules heard event new old left due some same counted chosen h =
     record {
       indexed = record {
@@ -132,7 +129,7 @@ hears_some rules heard event new old left due some same counted chosen h =
     count_by e (inr g) = inr (counts_more event e heard (count_at new (event_number e)) (count_at old (event_number e)) (counted (event_number e)) g)
 
     found : (places_of rules (event_number event) ≡ []) ⊎ (count_at old (event_number event) ≡ bounded_count (times_heard event heard))
-        → rules_at rules due ≡ rules_at rules left ++ filter (answers heard event) rules
+        → rules_at rules due ≡ rules_at rules left ++ filter (is_answering heard event) rules
     found (inl g) = absurd (some (h.places (event_number event) ∙ g))
     found (inr g) =
         rw (chosen (times_heard event heard) g, h.places (event_number event))

@@ -13,7 +13,7 @@ use Rattle.listeners.specs.declared.listener.Note.TheVariants.{Heard, Made, Told
 use Rattle.listeners.specs.declared.history.Remark.{Remark}
 use Rattle.listeners.specs.declared.history.Remark.TheVariants as remark
 use Rattle.listeners.specs.declared.index.RuleIndex.{RuleIndex}
-use Rattle.listeners.specs.Notes.{heard_of, made_of}
+use Rattle.listeners.specs.Notes.{heard_of, calls_made}
 use Rattle.listeners.specs.RuleCalls.{answering_rules, once_calls, again_calls, calls_from}
 use Rattle.listeners.specs.Index.{HasIndex}
 
@@ -74,7 +74,8 @@ rules_at rules places = map (rule_at rules) places
 -- what a listener by rules keeps
 pub record Holds (rules : List Rule) (notes : List Note) (index : Option RuleIndex)
     (due : List ℕ) (call : ℕ) : Type 0 where
-  pub left : IsLeft (made_of notes) (answering_rules rules (heard_of notes)) call (rules_at rules due)
+  pub left : IsLeft (calls_made notes) (answering_rules rules (heard_of notes)) call
+      (rules_at rules due)
   pub ready : HasNextCall call (rules_at rules due)
   pub indexed : HasIndex rules (heard_of notes) index
 

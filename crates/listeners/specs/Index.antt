@@ -1,6 +1,6 @@
 -- Where the rules on an event are, and how often it was heard.
-use Rattle.std.specs.Prelude.{ℕ, suc, ◌+◌, ◌-◌, ◌^◌, ◌==◌, ◌≡◌, ◌⊎◌, ◌&&◌, min, Bool, List, [], ◌∷◌, Option, Some, None, if◌then◌else◌, Vec}
-use Rattle.std.specs.BTreeMap.{BTreeMap, get}
+use Rattle.std.specs.Prelude.{ℕ, ◌+◌, ◌-◌, ◌^◌, ◌==◌, ◌≡◌, ◌⊎◌, ◌&&◌, min, Bool, List, [], ◌∷◌, Option, Some, None, if◌then◌else◌, Vec}
+use Rattle.std.specs.BTreeMap.{get}
 use Rattle.std.specs.Ordering.{nat_cmp}
 use Rattle.std.specs.declared.alloc.Global.{Global}
 use Rattle.mse_calls.specs.declared.events.Event.{Event}
@@ -49,11 +49,11 @@ HasCount rules heard index event =
     ⊎ (count_at index (event_number event) ≡ bounded_count (times_heard event heard))
 
 -- the index of rules after these events were heard
-pub record Indexes (rules : List Rule) (heard : List Event) (index : RuleIndex) : Type 0 where
+pub record IsIndexOf (rules : List Rule) (heard : List Event) (index : RuleIndex) : Type 0 where
   pub places : (number : ℕ) → places_at index number ≡ places_of rules number
   pub counts : (event : Event) → HasCount rules heard index event
 
 -- an index that may not be there yet, where nothing was heard
 abbrev pub HasIndex : List Rule → List Event → Option RuleIndex → Type 0
 HasIndex rules heard None = heard ≡ []
-HasIndex rules heard (Some index) = Indexes rules heard index
+HasIndex rules heard (Some index) = IsIndexOf rules heard index

@@ -28,12 +28,12 @@ heard_of (Told answer ∷ notes) = heard_of notes
 heard_of (Rested ∷ notes) = heard_of notes
 
 -- the calls that were made, in their order
-abbrev pub made_of : List Note → List Call
-made_of [] = []
-made_of (Heard event ∷ notes) = made_of notes
-made_of (Made call ∷ notes) = call ∷ made_of notes
-made_of (Told answer ∷ notes) = made_of notes
-made_of (Rested ∷ notes) = made_of notes
+abbrev pub calls_made : List Note → List Call
+calls_made [] = []
+calls_made (Heard event ∷ notes) = calls_made notes
+calls_made (Made call ∷ notes) = call ∷ calls_made notes
+calls_made (Told answer ∷ notes) = calls_made notes
+calls_made (Rested ∷ notes) = calls_made notes
 
 -- the notes of the calls of listener `w` among these entries: each call, and what it was told
 abbrev pub entry_notes : ℕ → Entry → List Note

@@ -6,7 +6,7 @@ use Rattle.mse_calls.specs.declared.events.Event.{Event}
 use Rattle.mse_calls.specs.declared.rules.Rule.{Rule}
 use Rattle.listeners.specs.declared.listener.Note.{Note}
 use Rattle.listeners.specs.Events.{is_same}
-use Rattle.listeners.specs.Notes.{heard_of, made_of}
+use Rattle.listeners.specs.Notes.{heard_of, calls_made}
 
 -- how often an event is among these
 abbrev pub times_heard : Event → List Event → ℕ
@@ -20,15 +20,16 @@ has_calls (call ∷ calls) = true
 
 -- whether a rule answers an event after the earlier ones: it is on it, it has calls, and its times
 -- are not used up
-abbrev pub answers : List Event → Event → Rule → Bool
-answers earlier event rule =
+abbrev pub is_answering : List Event → Event → Rule → Bool
+is_answering earlier event rule =
     is_same event rule.on && has_calls rule.calls && nat_lt (times_heard event earlier) rule.times
 
 -- the rules that answer these events after the earlier ones, one event after the other
 abbrev pub answering_after : List Rule → List Event → List Event → List Rule
 answering_after rules earlier [] = []
 answering_after rules earlier (event ∷ events) =
-    filter (answers earlier event) rules ++ answering_after rules (earlier ++ event ∷ []) events
+    filter (is_answering earlier event) rules
+    ++ answering_after rules (earlier ++ event ∷ []) events
 
 abbrev pub answering_rules : List Rule → List Event → List Rule
 answering_rules rules events = answering_after rules [] events
@@ -53,10 +54,11 @@ calls_from (suc n) [] (call ∷ again) = call ∷ calls_from n again (call ∷ a
 -- the first `n` calls that rules give for the events that are heard, or all where there are fewer
 unfoldable pub rule_calls : List Rule → List Event → ℕ → List Call
 rule_calls rules events n =
-    calls_from n (once_calls (answering_rules rules events)) (again_calls (answering_rules rules events))
+    calls_from n (once_calls (answering_rules rules events))
+    (again_calls (answering_rules rules events))
 
 -- the call that rules give after those that were made; none where they give no more
 unfoldable pub next_call : List Rule → List Note → Option Call
 next_call rules notes =
-    slice_get (rule_calls rules (heard_of notes) (length (made_of notes) + 1))
-    (length (made_of notes))
+    slice_get (rule_calls rules (heard_of notes) (length (calls_made notes) + 1))
+    (length (calls_made notes))

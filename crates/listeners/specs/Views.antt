@@ -10,8 +10,8 @@ pub record RunView : Type 0 where
   pub entries : List Entry
   pub left : ℕ
 
-abbrev pub run_view : KeptEngine → List Entry → ℕ → RunView
-run_view engine entries left = record { engine = engine; entries = entries; left = left }
+abbrev pub view_of_run : KeptEngine → List Entry → ℕ → RunView
+view_of_run engine entries left = record { engine = engine; entries = entries; left = left }
 
 -- with the listener whose turn it is: its number and its notes
 pub record TurnView : Type 0 where

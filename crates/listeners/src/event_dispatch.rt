@@ -1,9 +1,9 @@
-ghost use Rattle.std.specs.Prelude.{◌≡◌, ◌≤◌, ◌<◌, ◌^◌, ◌++◌, ◌∷◌, [], List, OnOk, OnErr, IfOk, map, vec_len};
+ghost use Rattle.std.specs.Prelude.{◌≡◌, ◌≤◌, ◌<◌, ◌^◌, ◌++◌, ◌∷◌, [], OnOk, OnErr, IfOk, map, vec_len};
 ghost use Rattle.std.specs.Option.{option_copied};
 ghost use Rattle.listeners.specs.declared.listener.Note.{Note};
 ghost use Rattle.listeners.specs.Notes.{told_note, asked_note};
 ghost use Rattle.listeners.specs.Dispatch.{IsCallTurn, IsDispatch, IsServed};
-ghost use Rattle.listeners.specs.Views.{run_view, turn_view, dispatch_view};
+ghost use Rattle.listeners.specs.Views.{view_of_run, turn_view, dispatch_view};
 
 use crate::Listener;
 use mse_base::OutOfMemory;
@@ -64,9 +64,9 @@ fn make_one<S: FrameStore>(
     requires { 1 ≤ left.old }
     ensures rules { rules listener.new ≡ rules listener.old }
     ensures turn { IsCallTurn blobs.now call
-        (turn_view number (run_view engine.old journal.old.entries left.old)
+        (turn_view number (view_of_run engine.old journal.old.entries left.old)
         (notes listener.old))
-        (turn_view number (run_view engine.new journal.new.entries left.new)
+        (turn_view number (view_of_run engine.new journal.new.entries left.new)
         (notes listener.new))
         result }
 {
@@ -94,9 +94,9 @@ fn serve<S: FrameStore>(
 ) -> Result<(), DispatchFault>
     ensures rules { rules listener.new ≡ rules listener.old }
     ensures turn { IsServed blobs.now event.now
-        (turn_view number (run_view engine.old journal.old.entries left.old)
+        (turn_view number (view_of_run engine.old journal.old.entries left.old)
         (notes listener.old))
-        (turn_view number (run_view engine.new journal.new.entries left.new)
+        (turn_view number (view_of_run engine.new journal.new.entries left.new)
         (notes listener.new))
         result }
 {
@@ -145,9 +145,9 @@ pub fn dispatch<S: FrameStore>(
     ensures rules { map (λ b. rules b) listeners.new.items
         ≡ map (λ b. rules b) listeners.old.items }
     ensures dispatch { IsDispatch blobs.now event.now
-        (dispatch_view (run_view engine.old journal.old.entries left.old)
+        (dispatch_view (view_of_run engine.old journal.old.entries left.old)
         (map (λ b. notes b) listeners.old.items))
-        (dispatch_view (run_view engine.new journal.new.entries left.new)
+        (dispatch_view (view_of_run engine.new journal.new.entries left.new)
         (map (λ b. notes b) listeners.new.items)) result }
 {
     for number in 0..listeners.len() {

@@ -1,9 +1,9 @@
-ghost use Rattle.std.specs.Prelude.{◌≡◌, ◌≤◌, ◌+◌, ◌==◌, ◌++◌, ◌∷◌, [], List, ℕ, IfOk, OnOk, OnErr, if◌then◌else◌, nat_lt};
+ghost use Rattle.std.specs.Prelude.{◌≡◌, ◌+◌, ◌==◌, ◌++◌, ◌∷◌, [], ℕ, IfOk, OnOk, OnErr, if◌then◌else◌, nat_lt};
 ghost use Rattle.std.specs.List.{filter};
 ghost use Rattle.std.specs.BTreeMap.{get};
 ghost use Rattle.std.specs.Ordering.{nat_cmp};
 ghost use Rattle.mse_calls.specs.declared.rules.Rule.{Rule};
-ghost use Rattle.listeners.specs.Index.{is_on, places_or_none, places_at, count_at, bounded_count, Indexes};
+ghost use Rattle.listeners.specs.Index.{is_on, places_or_none, places_at, count_at, bounded_count, IsIndexOf};
 ghost use Rattle.listeners.specs.Coming.{rule_at};
 
 use crate::numbers::event_number;
@@ -58,7 +58,7 @@ fn add_rule(
 impl RuleIndex {
     /// The index of rules of which no event was heard.
     pub fn of(alloc: Global, rules: &[Rule]) -> Result<RuleIndex, OutOfMemory>
-        ensures { IfOk result (λ index. Indexes rules.now [] index) }
+        ensures { IfOk result (λ index. IsIndexOf rules.now [] index) }
     {
         let mut places = BTreeMap::new(alloc);
         for (place, rule) in rules.iter().enumerate() {
@@ -120,7 +120,7 @@ pub fn due_places(
     let mut due = Vec::new(alloc);
     due.extend_from_slice(places_left)?;
     for place in places {
-        if answers_again(rules, *place, count) {
+        if has_times_left(rules, *place, count) {
             due.push(*place)?;
         }
     }
@@ -134,7 +134,8 @@ fn is_above(times: u32, count: u32) -> bool
     count < times
 }
 
-fn answers_again(rules: &[Rule], place: usize, count: u32) -> bool
+/// Whether the rule at a place answers an event once more, after it was heard so often.
+fn has_times_left(rules: &[Rule], place: usize, count: u32) -> bool
     ensures { (times : ℕ) → count ≡ bounded_count times
         → result ≡ nat_lt times (rule_at rules.now place).times }
 {

@@ -3,10 +3,9 @@ ghost use Rattle.std.specs.List.{filter};
 ghost use Rattle.std.specs.Option.{option_copied};
 ghost use Rattle.mse_calls.specs.declared.events.Event.{Event};
 ghost use Rattle.mse_calls.specs.declared.rules.Rule.{Rule};
-ghost use Rattle.listeners.specs.declared.listener.Note.{Note};
-ghost use Rattle.listeners.specs.Notes.{told_note, asked_note, heard_of, made_of};
-ghost use Rattle.listeners.specs.RuleCalls.{answers, rule_calls, next_call};
-ghost use Rattle.listeners.specs.Index.{Indexes, HasIndex};
+ghost use Rattle.listeners.specs.Notes.{told_note, asked_note, heard_of, calls_made};
+ghost use Rattle.listeners.specs.RuleCalls.{is_answering, rule_calls, next_call};
+ghost use Rattle.listeners.specs.Index.{IsIndexOf, HasIndex};
 ghost use Rattle.listeners.specs.Coming.{rules_at, due_after};
 
 use crate::Listener;
@@ -56,7 +55,7 @@ fn take_index(
     rules: &[Rule],
 ) -> Result<RuleIndex, OutOfMemory>
     ensures ok { (heard : List Event) → HasIndex rules.now heard index.old
-        → IfOk result (λ rule_index. Indexes rules.now heard rule_index) }
+        → IfOk result (λ rule_index. IsIndexOf rules.now heard rule_index) }
     ensures err { (heard : List Event) → HasIndex rules.now heard index.old
         → OnErr result (HasIndex rules.now heard index.new) }
 {
@@ -74,13 +73,13 @@ fn hear_by_index(
     places_left: &[usize],
     event: &Event,
 ) -> Result<Option<Vec<usize>>, OutOfMemory>
-    ensures index { (heard : List Event) → Indexes rules.now heard index.old
-        → OnOk result (Indexes rules.now (heard ++ event.now ∷ []) index.new) }
-    ensures due { (heard : List Event) → Indexes rules.now heard index.old
+    ensures index { (heard : List Event) → IsIndexOf rules.now heard index.old
+        → OnOk result (IsIndexOf rules.now (heard ++ event.now ∷ []) index.new) }
+    ensures due { (heard : List Event) → IsIndexOf rules.now heard index.old
         → IfOk result (λ due. rules_at rules.now (due_after places_left.now due)
-        ≡ rules_at rules.now places_left.now ++ filter (answers heard event.now) rules.now) }
-    ensures err { (heard : List Event) → Indexes rules.now heard index.old
-        → OnErr result (Indexes rules.now heard index.new) }
+        ≡ rules_at rules.now places_left.now ++ filter (is_answering heard event.now) rules.now) }
+    ensures err { (heard : List Event) → IsIndexOf rules.now heard index.old
+        → OnErr result (IsIndexOf rules.now heard index.new) }
 {
     let number = event_number(event);
     let places = index.places(number);
@@ -104,7 +103,7 @@ fn hear_event(
         → OnOk result (HasIndex rules.now (heard ++ event.now ∷ []) index.new) }
     ensures due { (heard : List Event) → HasIndex rules.now heard index.old
         → IfOk result (λ due. rules_at rules.now (due_after places_left.now due)
-        ≡ rules_at rules.now places_left.now ++ filter (answers heard event.now) rules.now) }
+        ≡ rules_at rules.now places_left.now ++ filter (is_answering heard event.now) rules.now) }
     ensures err { (heard : List Event) → HasIndex rules.now heard index.old
         → OnErr result (HasIndex rules.now heard index.new) }
 {
@@ -152,9 +151,10 @@ impl RuleListener {
     /// The calls that it made are the first that its rules give for the events that it heard. It does
     /// nothing.
     pub fn calls_are_by_rules(&self)
-        ensures { made_of self.now.notes ≡ rule_calls self.now.rules (heard_of self.now.notes)
-            (length (made_of self.now.notes)) }
+        ensures { calls_made self.now.notes ≡ rule_calls self.now.rules (heard_of self.now.notes)
+            (length (calls_made self.now.notes)) }
     {
+        // The proof reads off this what always holds of the fields.
         let _ = &self.alloc;
     }
 }

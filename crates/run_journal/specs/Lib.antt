@@ -1,3 +1,3 @@
 pub mod JournalView
 pub mod EntryRef
-pub mod Marks
+pub mod EntryPlaces

@@ -3,7 +3,7 @@ ghost use Rattle.mse_calls.specs.declared.entry.Entry.TheVariants.{Work};
 ghost use Rattle.run_journal.specs.EntryRef.{entry_of};
 
 use crate::EntryRef;
-use crate::mark::{AnsweredCall, Mark, entry_ref, keep};
+use crate::entry_place::{AnsweredCall, EntryPlace, entry_ref, keep};
 use mse_base::OutOfMemory;
 use mse_calls::{Entry, Piece};
 use std::alloc::Global;
@@ -12,11 +12,11 @@ use std::marker::Model;
 /// For how many entries a journal makes room at once.
 const MANY: usize = 64;
 
-/// What happened in a run, in order, and room for more. It keeps a small mark for each entry, calls
-/// with their answers in a list of their own, and in another one the pieces of a script's appends.
+/// What happened in a run, in order, and room for more. It keeps for each entry a few bytes, which say where
+/// it is, calls with their answers in a list of their own, and in another one the pieces of a script's appends.
 #[derive(Debug, Drop)]
 pub struct Journal {
-    marks: Vec<Mark>,
+    places: Vec<EntryPlace>,
     calls: Vec<AnsweredCall>,
     pieces: Vec<Piece>,
     spare: usize,
@@ -25,18 +25,18 @@ pub struct Journal {
 impl Model for Journal {
     ghost use Rattle.std.specs.Prelude.{◌+◌, ◌≤◌, All, vec_len, vec_capacity};
     ghost use Rattle.run_journal.specs.JournalView.{JournalView};
-    ghost use Rattle.run_journal.specs.Marks.{entries_at, PointsInside};
+    ghost use Rattle.run_journal.specs.EntryPlaces.{entries_at, IsPlaceInside};
 
     ghost Value = { JournalView };
 
     ghost view = { λ j. record {
-      entries = entries_at j.calls.items j.pieces.items j.marks.items;
+      entries = entries_at j.calls.items j.pieces.items j.places.items;
       spare = j.spare;
     } };
 
     ghost invariant = { λ j. record {
-      placed : All (PointsInside j.calls.items j.pieces.items) j.marks.items;
-      marks_room : vec_len j.marks + j.spare ≤ vec_capacity j.marks;
+      places_inside : All (IsPlaceInside j.calls.items j.pieces.items) j.places.items;
+      places_room : vec_len j.places + j.spare ≤ vec_capacity j.places;
       calls_room : vec_len j.calls + j.spare ≤ vec_capacity j.calls;
       pieces_room : vec_len j.pieces + j.spare ≤ vec_capacity j.pieces;
     } };
@@ -48,7 +48,7 @@ impl Journal {
         ensures { result.entries ≡ [] }
     {
         Journal {
-            marks: Vec::new(alloc),
+            places: Vec::new(alloc),
             calls: Vec::new(alloc),
             pieces: Vec::new(alloc),
             spare: 0,
@@ -59,22 +59,22 @@ impl Journal {
     pub fn len(&self) -> usize
         ensures { result ≡ length self.now.entries }
     {
-        self.marks.len()
+        self.places.len()
     }
 
     /// The entry at a place; `None` exactly past the end.
     pub fn get(&self, i: usize) -> Option<EntryRef<'_>>
         ensures { option_map entry_of result ≡ slice_get self.now.entries i }
     {
-        let mark = self.marks.get(i)?;
-        Some(entry_ref(*mark, &self.calls, &self.pieces))
+        let place = self.places.get(i)?;
+        Some(entry_ref(*place, &self.calls, &self.pieces))
     }
 
     /// Makes room for at least `n` more entries. The room from before stays, also where it finds
     /// no memory.
     pub fn reserve(&mut self, n: usize) -> Result<(), OutOfMemory>
         ensures spare { OnOk result (n ≤ self.new.spare) }
-        ensures kept { self.old.spare ≤ self.new.spare }
+        ensures room_stays { self.old.spare ≤ self.new.spare }
         ensures entries { self.new.entries ≡ self.old.entries }
     {
         if n <= self.spare {
@@ -89,7 +89,7 @@ impl Journal {
     #[inline(never)]
     fn reserve_more(&mut self, n: usize) -> Result<(), OutOfMemory>
         ensures spare { OnOk result (n ≤ self.new.spare) }
-        ensures kept { self.old.spare ≤ self.new.spare }
+        ensures room_stays { self.old.spare ≤ self.new.spare }
         ensures entries { self.new.entries ≡ self.old.entries }
     {
         match self.make_room(n.max(MANY)) {
@@ -101,10 +101,10 @@ impl Journal {
     /// Makes room for at least `n` more entries.
     fn make_room(&mut self, n: usize) -> Result<(), OutOfMemory>
         ensures spare { OnOk result (n ≤ self.new.spare) }
-        ensures kept { self.old.spare ≤ self.new.spare }
+        ensures room_stays { self.old.spare ≤ self.new.spare }
         ensures entries { self.new.entries ≡ self.old.entries }
     {
-        self.marks.try_reserve(n)?;
+        self.places.try_reserve(n)?;
         self.calls.try_reserve(n)?;
         self.pieces.try_reserve(n)?;
         self.spare = self.spare.max(n);
@@ -117,8 +117,8 @@ impl Journal {
         ensures entries { self.new.entries ≡ self.old.entries ++ entry ∷ [] }
         ensures spare { self.new.spare + 1 ≡ self.old.spare }
     {
-        let mark = keep(&mut self.calls, &mut self.pieces, entry);
-        self.marks.push_reserved(mark);
+        let place = keep(&mut self.calls, &mut self.pieces, entry);
+        self.places.push_reserved(place);
         self.spare -= 1;
     }
 
@@ -129,7 +129,7 @@ impl Journal {
         ensures entries { self.new.entries ≡ self.old.entries ++ Work k ∷ [] }
         ensures spare { self.new.spare + 1 ≡ self.old.spare }
     {
-        self.marks.push_reserved(Mark::Work(k));
+        self.places.push_reserved(EntryPlace::Work(k));
         self.spare -= 1;
     }
 }

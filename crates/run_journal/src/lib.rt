@@ -4,9 +4,9 @@
 //! entries, to which an entry is appended without memory once its place was reserved.
 #![tactic(auto)]
 
+mod entry_place;
 mod entry_ref;
 mod journal;
-mod mark;
 
 pub use entry_ref::EntryRef;
 pub use journal::Journal;

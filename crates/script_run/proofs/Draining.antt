@@ -10,7 +10,7 @@ use Rattle.mse_engine.specs.State.{State}
 use Rattle.mse_engine.specs.declared.engine.Worked.TheVariants.{Did}
 use Rattle.mse_engine.specs.Standing.{IsStanding, IsWork, KeptEngine, Stands}
 use Rattle.mse_engine.specs.Run.{after_entries, fire_meaning}
-use Rattle.mse_engine.specs.Work.{after_element_turn, due_in, running_in, without_first}
+use Rattle.mse_engine.specs.Work.{after_element_turn, is_turn_due, running_in, without_first}
 use Rattle.mse_engine.proofs.Transitions.{goes_none, goes_then}
 use Rattle.call_script.specs.declared.script.StepLine.TheVariants.{Fire, Drain}
 use Rattle.script_run.specs.declared.stop.Stop.{Stop}
@@ -103,13 +103,13 @@ working_ran blobs k true a b t n s empty runs p = work_ran blobs (AreInDrainOrde
 working_ran blobs k false a b t n s empty runs p = absurd (running_works s.state k (runs s.state s.stands) (p.1 s.state s.stands))
 
 -- the element takes the turn that is due
-pub did_turn : (blobs : List (List ℕ)) (turned : Bool) (a b : RunView) → IsStanding a.engine → ((st : State) → Stands a.engine st → due_in st ≡ true)
+pub did_turn : (blobs : List (List ℕ)) (turned : Bool) (a b : RunView) → IsStanding a.engine → ((st : State) → Stands a.engine st → is_turn_due st ≡ true)
     → IsOwnStepIf blobs element_step a b turned → turned ≡ true
 did_turn blobs true a b s due p = refl
 did_turn blobs false a b s due p = absurd (due_turns s.state (due s.state s.stands) (p.1 s.state s.stands))
 
 pub turning_ran : (blobs : List (List ℕ)) (turned : Bool) (a b : RunView) (t : Option (List ℕ)) (n : List (List Note)) → IsStanding a.engine
-    → ((st : State) → Stands a.engine st → IsQuiet st) → ((st : State) → Stands a.engine st → due_in st ≡ true)
+    → ((st : State) → Stands a.engine st → IsQuiet st) → ((st : State) → Stands a.engine st → is_turn_due st ≡ true)
     → IsOwnStepIf blobs element_step a b turned → IsPlayedInLine blobs (AreInDrainOrder blobs) (run_at a t n) (run_at b t n)
 turning_ran blobs true a b t n s quiet due p = turn_ran blobs (AreInDrainOrder blobs) a b t n (λ st h. ((quiet st h, due st h), tt)) p
 turning_ran blobs false a b t n s quiet due p = absurd (due_turns s.state (due s.state s.stands) (p.1 s.state s.stands))
@@ -155,7 +155,7 @@ drains_work blobs k true a b s empty runs p = record { entries = Work k ∷ []; 
 drains_work blobs k false a b s empty runs p = absurd (running_works s.state k (runs s.state s.stands) (p.1 s.state s.stands))
 
 pub drains_turn : (blobs : List (List ℕ)) (turned : Bool) (a b : RunView) → IsStanding a.engine
-    → ((st : State) → Stands a.engine st → IsQuiet st) → ((st : State) → Stands a.engine st → due_in st ≡ true)
+    → ((st : State) → Stands a.engine st → IsQuiet st) → ((st : State) → Stands a.engine st → is_turn_due st ≡ true)
     → IsOwnStepIf blobs element_step a b turned → Drains blobs a b
 drains_turn blobs true a b s quiet due p = record { entries = Element ∷ []; stepped = p; order = λ st h. ((quiet st h, due st h), tt); silent = refl }
 drains_turn blobs false a b s quiet due p = absurd (due_turns s.state (due s.state s.stands) (p.1 s.state s.stands))

@@ -32,7 +32,7 @@ use Rattle.script_run.specs.Lines.{IsLineFront, IsLineEntries, own_of}
 use Rattle.script_run.specs.RunParts.{EntryRelation}
 use Rattle.script_run.specs.PlayedParts.{IsDispatchCut, HasGrown, IsHeardUpTo, IsOverLimit, IsPlayedInLine, IsPlayedInLineUpTo, IsOwnStep, IsStoppedBy, stop_of}
 use Rattle.script_run.specs.RunStates.{run_at}
-use Rattle.script_run.specs.NoteHistory.{IsAllHeard, note_history, until_fired}
+use Rattle.script_run.specs.NoteHistory.{IsAllHeard, note_history, entries_until_event}
 use Rattle.script_run.specs.Text.{lines_of}
 use Rattle.script_run.specs.Turns.{AreInTurn, IsSpent, calls_in}
 use Rattle.script_run.specs.Writes.{IsWritten, IsFrontWritten}
@@ -51,7 +51,7 @@ calls_own low high (Fired e ∷ es) h = absurd h
 calls_own low high (Work k ∷ es) h = absurd h
 calls_own low high (Element ∷ es) h = absurd h
 
-calls_until : (low high : ℕ) (es : List Entry) → CallsInTurn low high es → until_fired es ≡ es
+calls_until : (low high : ℕ) (es : List Entry) → CallsInTurn low high es → entries_until_event es ≡ es
 calls_until low high [] h = refl
 calls_until low high (Listener v c a ∷ es) h = ap (λ (x : List Entry). Listener v c a ∷ x) (calls_until v high es h.2)
 calls_until low high (Step n ∷ es) h = absurd h
@@ -157,7 +157,7 @@ heard_at : (blobs : List (List ℕ)) (event : Event) (b c : RunView) (n0 n1 : Li
     → (d : IsDispatch blobs event (dispatch_view b n0) (dispatch_view c n1) (Ok tt)) → length n1 ≡ length n0
     → IsAllHeard (Fired event ∷ d.entries) n0 n1
 heard_at blobs event b c n0 n1 d same =
-    let until : until_fired d.entries ≡ d.entries = calls_until 0 (length n0) d.entries d.in_turn in
+    let until : entries_until_event d.entries ≡ d.entries = calls_until 0 (length n0) d.entries d.in_turn in
     record {
       count = same;
       notes = λ w lt. d.outcome w lt ∙ ap (λ (x : List Note). notes_at n0 w ++ x)

@@ -9,7 +9,7 @@ use Rattle.std.proofs.lemmas.Bool.Decides.{eqb_tells}
 use Rattle.mse_calls.specs.declared.rules.Rule.{Rule}
 use Rattle.listeners.specs.declared.listener.Note.{Note}
 use Rattle.listeners.specs.Dispatch.{notes_at}
-use Rattle.script_run.specs.Rules.{is_for, rules_at, rules_for}
+use Rattle.script_run.specs.Rules.{is_for, rules_of_listener, rules_for}
 
 -- the listener at a place has no notes
 pub none_at : {X : Type 0} (notes : X → List Note) (xs0 xs : List X) (w : ℕ) (old : X) → ((k : ℕ) → notes_at (map notes xs0) k ≡ []) → map notes xs ≡ map notes xs0
@@ -38,7 +38,7 @@ others_keep w k (x ∷ xs) ne =
 
 -- the rules that are left, and those of the listeners before
 pub record Given (all left : List Rule) (given : List (List Rule)) (n : ℕ) : Type 0 where
-  pub before : (w : ℕ) → w < n → rules_at given w ≡ rules_for w all
+  pub before : (w : ℕ) → w < n → rules_of_listener given w ≡ rules_for w all
   pub behind : (w : ℕ) → n ≤ w → rules_for w left ≡ rules_for w all
 
 pub given_none : (all : List Rule) (given : List (List Rule)) → Given all all given 0

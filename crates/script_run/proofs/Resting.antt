@@ -19,7 +19,7 @@ use Rattle.mse_engine.specs.Signals.{step}
 use Rattle.mse_engine.specs.State.{State, element_in, outer_of}
 use Rattle.mse_engine.specs.BufferCalls.{reply_effect}
 use Rattle.mse_engine.specs.Replies.{surroundings_in}
-use Rattle.mse_engine.specs.Work.{after_element_turn, after_work, due_in, fire_result, player_in, running_in, scene_in, without_first, work_result}
+use Rattle.mse_engine.specs.Work.{after_element_turn, after_work, is_turn_due, fire_result, player_in, running_in, scene_in, without_first, work_result}
 use Rattle.mse_engine.specs.Progress.{turns_left}
 use Rattle.mse_engine.specs.Standing.{IsFired, KeptEngine, Stands}
 use Rattle.script_run.specs.Progress.{HasFewerEvents, HasFewerTurns, events_left, own_turns_left}
@@ -110,7 +110,7 @@ turn_fewer false scene p done due =
 turned : State → State
 turned st = step st.core [] (outer_of (after_own_turn (scene_in st) (element_in st.core.source.error st.outer)))
 
-turned_is : (st new : State) (due : Bool) → due_in st ≡ due → after_element_turn st ≡ Some new → (due_in st ≡ true) × (new ≡ turned st)
+turned_is : (st new : State) (due : Bool) → is_turn_due st ≡ due → after_element_turn st ≡ Some new → (is_turn_due st ≡ true) × (new ≡ turned st)
 unfolding turned
 turned_is st new true d e = let f = rw d at e in (d, cc)
 turned_is st new false d e = let f = rw d at e in absurd (let h : ⊥ = cc in h)
@@ -126,7 +126,7 @@ turned_finished st = refl
 pub turn_taken : (a b : KeptEngine) (st new : State) → Stands a st → after_element_turn st ≡ Some new → Stands b new → b.buffers ≡ a.buffers → HasFewerTurns a b
 unfolding turns_of
 turn_taken a b st new s e t same =
-    let is = turned_is st new (due_in st) refl e in
+    let is = turned_is st new (is_turn_due st) refl e in
     let seeking : b.element.player.seeking ≡ (after_turn (scene_in st) (player_in st)).state.seeking = seeking_of b new t ∙ ap (λ (x : State). x.outer.element.seeking) is.1 ∙ turned_seeking st in
     let finished : b.element.player.finished ≡ finished_then (scene_in st) (after_turn (scene_in st) (player_in st)).state =
     finished_of b new t ∙ ap (λ (x : State). x.outer.element.finished) is.1 ∙ turned_finished st in
@@ -135,7 +135,7 @@ turn_taken a b st new s e t same =
       buffers = same;
     }
 
-pub due_turns : (st : State) → due_in st ≡ true → after_element_turn st ≡ None → ⊥
+pub due_turns : (st : State) → is_turn_due st ≡ true → after_element_turn st ≡ None → ⊥
 due_turns st due none = let e = rw due at none in cc
 
 -- ---- work

@@ -10,12 +10,12 @@ use Rattle.listeners.specs.declared.event_dispatch.DispatchFault.{DispatchFault}
 use Rattle.listeners.specs.Notes.{call_notes, entry_notes, event_notes}
 use Rattle.listeners.specs.Dispatch.{notes_at}
 use Rattle.script_run.specs.Turns.{AreInTurn}
-use Rattle.script_run.specs.NoteHistory.{until_fired, note_history, IsAllHeard}
+use Rattle.script_run.specs.NoteHistory.{entries_until_event, note_history, IsAllHeard}
 use Rattle.script_run.specs.PlayedParts.{IsDispatchCut}
 use Rattle.script_run.proofs.Turning.{turns_front}
 
 -- before the first event no listener calls
-pub fresh_turns : (count : ℕ) (es : List Entry) (w : ℕ) → AreInTurn count None es → call_notes w (until_fired es) ≡ []
+pub fresh_turns : (count : ℕ) (es : List Entry) (w : ℕ) → AreInTurn count None es → call_notes w (entries_until_event es) ≡ []
 fresh_turns count [] w h = refl
 fresh_turns count (Fired event ∷ es) w h = refl
 fresh_turns count (Step n ∷ es) w h = fresh_turns count es w h
@@ -25,7 +25,7 @@ fresh_turns count (Element ∷ es) w h = fresh_turns count es w h
 fresh_turns count (Listener v call answer ∷ es) w h = absurd h
 
 -- the calls before the next event, of a journal that goes on with none
-until-append : (xs ys : List Entry) (w : ℕ) → call_notes w (until_fired ys) ≡ [] → call_notes w (until_fired (xs ++ ys)) ≡ call_notes w (until_fired xs)
+until-append : (xs ys : List Entry) (w : ℕ) → call_notes w (entries_until_event ys) ≡ [] → call_notes w (entries_until_event (xs ++ ys)) ≡ call_notes w (entries_until_event xs)
 until-append [] ys w e = e
 until-append (Fired event ∷ xs) ys w e = refl
 until-append (Step n ∷ xs) ys w e = until-append xs ys w e
@@ -34,12 +34,12 @@ until-append (Work k ∷ xs) ys w e = until-append xs ys w e
 until-append (Element ∷ xs) ys w e = until-append xs ys w e
 until-append (Listener v call answer ∷ xs) ys w e = ap (λ (x : List Note). entry_notes w (Listener v call answer) ++ x) (until-append xs ys w e)
 
-note_history-append : (xs ys : List Entry) (w : ℕ) → call_notes w (until_fired ys) ≡ [] → note_history w (xs ++ ys) ≡ note_history w xs ++ note_history w ys
+note_history-append : (xs ys : List Entry) (w : ℕ) → call_notes w (entries_until_event ys) ≡ [] → note_history w (xs ++ ys) ≡ note_history w xs ++ note_history w ys
 note_history-append [] ys w e = refl
 note_history-append (Fired event ∷ xs) ys w e =
     ap (λ (x : List Note). (Heard event ∷ (x ++ Rested ∷ [])) ++ note_history w (xs ++ ys)) (until-append xs ys w e)
-    ∙ ap (λ (x : List Note). event_notes event w (until_fired xs) ++ x) (note_history-append xs ys w e)
-    ∙ sym (append_assoc (event_notes event w (until_fired xs)) (note_history w xs) (note_history w ys))
+    ∙ ap (λ (x : List Note). event_notes event w (entries_until_event xs) ++ x) (note_history-append xs ys w e)
+    ∙ sym (append_assoc (event_notes event w (entries_until_event xs)) (note_history w xs) (note_history w ys))
 note_history-append (Step n ∷ xs) ys w e = note_history-append xs ys w e
 note_history-append (Script call answer ∷ xs) ys w e = note_history-append xs ys w e
 note_history-append (Work k ∷ xs) ys w e = note_history-append xs ys w e

@@ -3,7 +3,7 @@ use Rattle.std.specs.Prelude.{◌≡◌, ℕ, true, false, List, [], ◌∷◌, 
 use Rattle.mse_calls.specs.declared.entry.Entry.{Entry}
 use Rattle.mse_calls.specs.declared.entry.Entry.TheVariants.{Step, Script, Listener, Fired, Work, Element}
 use Rattle.mse_engine.specs.State.{State}
-use Rattle.mse_engine.specs.Work.{after_element_turn, after_work, due_in, running_in}
+use Rattle.mse_engine.specs.Work.{after_element_turn, after_work, is_turn_due, running_in}
 use Rattle.mse_engine.specs.Run.{after_entries, entry_meaning}
 
 -- a step of the machine: its entry, and what comes of a state where there is something to do
@@ -30,7 +30,7 @@ pub record IsQuiet (st : State) : Type 0 where
 abbrev pub IsNextStep : State → Entry → Type 0
 IsNextStep st (Fired event) = slice_get st.outer.queue 0 ≡ Some event
 IsNextStep st (Work k) = (st.outer.queue ≡ []) × (running_in st ≡ Some k)
-IsNextStep st Element = IsQuiet st × (due_in st ≡ true)
+IsNextStep st Element = IsQuiet st × (is_turn_due st ≡ true)
 IsNextStep st (Listener w call answer) = ⊤
 IsNextStep st (Script call answer) = ⊥
 IsNextStep st (Step n) = ⊥
@@ -42,7 +42,7 @@ HasNoEvent st = st.outer.queue ≡ []
 -- there is nothing left to do
 pub record IsAtRest (st : State) : Type 0 where
   pub quiet : IsQuiet st
-  pub due : due_in st ≡ false
+  pub due : is_turn_due st ≡ false
 
 -- the entries come in the order in which a drain does things
 abbrev pub AreInDrainOrder : List (List ℕ) → State → List Entry → Type 0

@@ -49,7 +49,10 @@ IsNumberedLineBegun inputs n line st entries =
     ⊎ ((part : List Entry) × (entries ≡ Step n ∷ part) × IsLineBegun inputs st line part)
 
 abbrev pub AreScriptLinesDone : List (List ℕ) → Limits → List StepLine → State → List Entry → Type 0
-AreScriptLinesDone blobs limits lines st entries = AreLinesDone (play_inputs blobs limits) 0 st lines entries
+AreScriptLinesDone blobs limits lines st entries =
+    AreLinesDone (play_inputs blobs limits) 0 st lines entries
 
-abbrev pub AreScriptLinesBegun : List (List ℕ) → Limits → List StepLine → State → List Entry → Type 0
-AreScriptLinesBegun blobs limits lines st entries = AreLinesBegun (play_inputs blobs limits) 0 st lines entries
+abbrev pub AreScriptLinesBegun : List (List ℕ) → Limits → List StepLine → State → List Entry
+    → Type 0
+AreScriptLinesBegun blobs limits lines st entries =
+    AreLinesBegun (play_inputs blobs limits) 0 st lines entries

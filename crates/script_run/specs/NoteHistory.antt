@@ -8,19 +8,22 @@ use Rattle.listeners.specs.Notes.{event_notes}
 use Rattle.listeners.specs.Dispatch.{notes_at}
 
 -- the entries before the next event
-abbrev pub until_fired : List Entry → List Entry
-until_fired [] = []
-until_fired (Fired event ∷ entries) = []
-until_fired (Step n ∷ entries) = Step n ∷ until_fired entries
-until_fired (Script call answer ∷ entries) = Script call answer ∷ until_fired entries
-until_fired (Listener v call answer ∷ entries) = Listener v call answer ∷ until_fired entries
-until_fired (Work k ∷ entries) = Work k ∷ until_fired entries
-until_fired (Element ∷ entries) = Element ∷ until_fired entries
+abbrev pub entries_until_event : List Entry → List Entry
+entries_until_event [] = []
+entries_until_event (Fired event ∷ entries) = []
+entries_until_event (Step n ∷ entries) = Step n ∷ entries_until_event entries
+entries_until_event (Script call answer ∷ entries) =
+    Script call answer ∷ entries_until_event entries
+entries_until_event (Listener v call answer ∷ entries) =
+    Listener v call answer ∷ entries_until_event entries
+entries_until_event (Work k ∷ entries) = Work k ∷ entries_until_event entries
+entries_until_event (Element ∷ entries) = Element ∷ entries_until_event entries
 
 -- the notes of listener `w`: one part for each event, of the calls between it and the next
 abbrev pub note_history : ℕ → List Entry → List Note
 note_history w [] = []
-note_history w (Fired event ∷ entries) = event_notes event w (until_fired entries) ++ note_history w entries
+note_history w (Fired event ∷ entries) =
+    event_notes event w (entries_until_event entries) ++ note_history w entries
 note_history w (Step n ∷ entries) = note_history w entries
 note_history w (Script call answer ∷ entries) = note_history w entries
 note_history w (Listener v call answer ∷ entries) = note_history w entries

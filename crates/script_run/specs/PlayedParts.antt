@@ -27,7 +27,8 @@ use Rattle.script_run.specs.Turns.{AreInTurn, IsSpent, calls_in}
 use Rattle.script_run.specs.Writes.{IsWritten, IsFrontWritten}
 
 -- entries came, which the engine went by, and no listener called
-pub record IsOwnStep (blobs : List (List ℕ)) (entries : List Entry) (old new : RunView) : Type 0 where
+pub record IsOwnStep (blobs : List (List ℕ)) (entries : List Entry)
+    (old new : RunView) : Type 0 where
   pub grew : new.entries ≡ old.entries ++ entries
   pub goes : IsTransition blobs old.engine new.engine entries
   pub left : new.left ≡ old.left
@@ -48,7 +49,8 @@ IsOwnStepIf blobs step old new false =
 -- the first event was fired; or there was none, and nothing changed
 abbrev pub IsEventTaken : List (List ℕ) → RunView → RunView → Option Event → Type 0
 IsEventTaken blobs old new (Some event) = IsOwnStep blobs (Fired event ∷ []) old new
-IsEventTaken blobs old new None = (new ≡ old) × ((st : State) → Stands old.engine st → HasNoEvent st)
+IsEventTaken blobs old new None =
+    (new ≡ old) × ((st : State) → Stands old.engine st → HasNoEvent st)
 
 -- the journal grew by entries of a part, which the engine went by
 pub record HasGrown (blobs : List (List ℕ)) (does : EntryRelation) (old new : RunView)
@@ -59,7 +61,8 @@ pub record HasGrown (blobs : List (List ℕ)) (does : EntryRelation) (old new : 
 
 -- a part went through: all its lines were written, and each listener heard each event and answered
 -- it in its turn
-pub record IsPlayed (blobs : List (List ℕ)) (does : EntryRelation) (old new : RunState) : Type 0 where
+pub record IsPlayed (blobs : List (List ℕ)) (does : EntryRelation)
+    (old new : RunState) : Type 0 where
   pub entries : List Entry
   pub grew : HasGrown blobs does old.run new.run entries
   pub turns : AreInTurn (length old.notes) None entries
@@ -67,7 +70,8 @@ pub record IsPlayed (blobs : List (List ℕ)) (does : EntryRelation) (old new : 
   pub heard : IsAllHeard entries old.notes new.notes
 
 -- and the calls that listeners made were taken off what is left
-pub record IsPlayedInLine (blobs : List (List ℕ)) (does : EntryRelation) (old new : RunState) : Type 0 where
+pub record IsPlayedInLine (blobs : List (List ℕ)) (does : EntryRelation)
+    (old new : RunState) : Type 0 where
   pub played : IsPlayed blobs does old new
   pub left : old.run.left ≡ new.run.left + calls_in played.entries
 
@@ -89,7 +93,8 @@ pub record IsDispatchCut (fault : DispatchFault) (entries : List Entry)
 -- listeners may make no further call.
 abbrev pub IsOverLimit : (List Entry → Type 0) → Stop → List Entry
     → List (List Note) → List (List Note) → Type 0
-IsOverLimit spent (CallBudget k) entries old new = IsDispatchCut (fault.CallBudget k) entries old new
+IsOverLimit spent (CallBudget k) entries old new =
+    IsDispatchCut (fault.CallBudget k) entries old new
 IsOverLimit spent TaskBudget entries old new =
     spent entries × IsDispatchCut fault.TaskBudget entries old new
 IsOverLimit spent (Halted halt) entries old new = ⊥
@@ -144,7 +149,8 @@ IsPlayedBy spent course old new (Err stop) =
 
 abbrev pub IsPlayedInLineBy : {A : Type 0} → RunPart → RunState → RunState → Result A Stop → Type 0
 IsPlayedInLineBy course old new (Ok x) = IsPlayedInLine course.blobs course.does old new
-IsPlayedInLineBy course old new (Err stop) = IsPlayedInLineUpTo course.blobs course.begins stop old new
+IsPlayedInLineBy course old new (Err stop) =
+    IsPlayedInLineUpTo course.blobs course.begins stop old new
 
 -- a call of the script was made, and its line was written
 pub record IsCallMade (blobs : List (List ℕ)) (call : Call) (old new : PrintedRun) : Type 0 where
@@ -153,7 +159,8 @@ pub record IsCallMade (blobs : List (List ℕ)) (call : Call) (old new : Printed
   pub wrote : IsWritten (line_text (Script call answer)) old.written new.written
 
 -- a front of its line was written
-pub record IsCallHalfWritten (blobs : List (List ℕ)) (call : Call) (old new : PrintedRun) : Type 0 where
+pub record IsCallHalfWritten (blobs : List (List ℕ)) (call : Call)
+    (old new : PrintedRun) : Type 0 where
   pub answer : Answer
   pub stepped : IsOwnStep blobs (Script call answer ∷ []) old.run new.run
   pub wrote : IsFrontWritten (line_text (Script call answer)) old.written new.written

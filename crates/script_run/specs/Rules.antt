@@ -4,8 +4,8 @@ use Rattle.std.specs.List.{filter}
 use Rattle.mse_calls.specs.declared.rules.Rule.{Rule}
 
 -- the rules of a listener, by its number
-abbrev pub rules_at : List (List Rule) → ℕ → List Rule
-rules_at given w = slice_index_or given w []
+abbrev pub rules_of_listener : List (List Rule) → ℕ → List Rule
+rules_of_listener given w = slice_index_or given w []
 
 -- the rule is for it
 abbrev pub is_for : ℕ → Rule → Bool

@@ -1,6 +1,6 @@
 //! A drain.
 
-ghost use Rattle.std.specs.Prelude.{◌≡◌, ◌≤◌, ◌<◌, ◌^◌, Ok, true, false, IsErrOf, OnOk, map, vec_len};
+ghost use Rattle.std.specs.Prelude.{◌≡◌, ◌≤◌, ◌<◌, ◌^◌, Ok, true, false, IsErrOf, map, vec_len};
 ghost use Rattle.call_script.specs.declared.script.StepLine.{StepLine};
 ghost use Rattle.mse_engine.specs.State.{State};
 ghost use Rattle.mse_engine.specs.Standing.{Stands};
@@ -13,7 +13,7 @@ ghost use Rattle.script_run.specs.RunStates.{run_at};
 
 use crate::put::put_entries;
 use crate::run::ScriptRun;
-use crate::stop::{Halt, Stop, wanted_memory};
+use crate::stop::{Halt, Stop, is_out_of_memory};
 use listeners::{Listener, dispatch};
 use mse_calls::Blobs;
 use mse_outside::Sink;
@@ -59,7 +59,7 @@ impl<S: FrameStore> ScriptRun<S> {
             &mut self.left,
             &mut self.journal,
         );
-        if wanted_memory(outcome) {
+        if is_out_of_memory(outcome) {
             return Err(Stop::Halted(Halt::Memory));
         }
         match put_entries(self.alloc, sink, &self.journal, from) {
@@ -89,7 +89,8 @@ impl<S: FrameStore> ScriptRun<S> {
             (run_at self.old (K.written sink.old) (map (λ b. notes b) listeners.old.items))
             (run_at self.new (K.written sink.new) (map (λ b. notes b) listeners.new.items)) result }
         ensures calm { result ≡ Ok true → IsCalm self.old.engine self.new.engine }
-        ensures end { result ≡ Ok true → (st : State) → Stands self.new.engine st → HasNoEvent st }
+        ensures nothing_left { result ≡ Ok true → (st : State) → Stands self.new.engine st
+            → HasNoEvent st }
         ensures called { result ≡ Ok false → self.new.left < self.old.left }
         ensures no_fewer_faults { K.faults sink.old ≤ K.faults sink.new }
         ensures cause { IsErrOf result (Stop.Halted Halt.Write)
@@ -123,7 +124,8 @@ impl<S: FrameStore> ScriptRun<S> {
         ensures ran { IsPlayedInLineBy (drain_part blobs.now)
             (run_at self.old (K.written sink.old) (map (λ b. notes b) listeners.old.items))
             (run_at self.new (K.written sink.new) (map (λ b. notes b) listeners.new.items)) result }
-        ensures end { result ≡ Ok true → (st : State) → Stands self.new.engine st → IsQuiet st }
+        ensures nothing_left { result ≡ Ok true → (st : State) → Stands self.new.engine st
+            → IsQuiet st }
         ensures called { result ≡ Ok false → self.new.left < self.old.left }
         ensures no_fewer_faults { K.faults sink.old ≤ K.faults sink.new }
         ensures cause { IsErrOf result (Stop.Halted Halt.Write)
@@ -162,7 +164,8 @@ impl<S: FrameStore> ScriptRun<S> {
         ensures ran { IsPlayedInLineBy (drain_part blobs.now)
             (run_at self.old (K.written sink.old) (map (λ b. notes b) listeners.old.items))
             (run_at self.new (K.written sink.new) (map (λ b. notes b) listeners.new.items)) result }
-        ensures end { result ≡ Ok true → (st : State) → Stands self.new.engine st → IsAtRest st }
+        ensures nothing_left { result ≡ Ok true → (st : State) → Stands self.new.engine st
+            → IsAtRest st }
         ensures called { result ≡ Ok false → self.new.left < self.old.left }
         ensures no_fewer_faults { K.faults sink.old ≤ K.faults sink.new }
         ensures cause { IsErrOf result (Stop.Halted Halt.Write)
@@ -199,7 +202,8 @@ impl<S: FrameStore> ScriptRun<S> {
         ensures ran { IsPlayedInLineBy (drain_part blobs.now)
             (run_at self.old (K.written sink.old) (map (λ b. notes b) listeners.old.items))
             (run_at self.new (K.written sink.new) (map (λ b. notes b) listeners.new.items)) result }
-        ensures end { result ≡ Ok true → (st : State) → Stands self.new.engine st → IsAtRest st }
+        ensures nothing_left { result ≡ Ok true → (st : State) → Stands self.new.engine st
+            → IsAtRest st }
         ensures called { result ≡ Ok false → self.new.left < self.old.left }
         ensures no_fewer_faults { K.faults sink.old ≤ K.faults sink.new }
         ensures cause { IsErrOf result (Stop.Halted Halt.Write)

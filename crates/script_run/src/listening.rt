@@ -3,7 +3,7 @@
 ghost use Rattle.std.specs.Prelude.{◌≡◌, ◌≤◌, ◌<◌, ◌+◌, ◌^◌, ◌==◌, ◌++◌, ◌∷◌, not, ℕ, [], IfOk, OnOk, OnErr, map, vec_len};
 ghost use Rattle.std.specs.List.{filter};
 ghost use Rattle.listeners.specs.Dispatch.{notes_at};
-ghost use Rattle.script_run.specs.Rules.{is_for, rules_at, rules_for};
+ghost use Rattle.script_run.specs.Rules.{is_for, rules_of_listener, rules_for};
 
 use listeners::Listener;
 use mse_base::OutOfMemory;
@@ -16,10 +16,10 @@ pub fn add_listener(
     listener: Box<dyn Listener>,
 ) -> Result<(), OutOfMemory>
     requires new { notes listener ≡ [] }
-    requires old { (w : ℕ) → notes_at (map (λ b. notes b) listeners.old.items) w ≡ [] }
+    requires no_notes { (w : ℕ) → notes_at (map (λ b. notes b) listeners.old.items) w ≡ [] }
     ensures ok { OnOk result (listeners.new.items ≡ listeners.old.items ++ listener ∷ []) }
     ensures err { OnErr result (listeners.new.items ≡ listeners.old.items) }
-    ensures fresh { (w : ℕ) → notes_at (map (λ b. notes b) listeners.new.items) w ≡ [] }
+    ensures no_notes { (w : ℕ) → notes_at (map (λ b. notes b) listeners.new.items) w ≡ [] }
     ensures count { vec_len listeners.new ≤ vec_len listeners.old + 1 }
 {
     listeners.push(listener)?;
@@ -66,12 +66,12 @@ pub fn give_rules(
     list: Vec<Rule>,
 ) -> Result<(), OutOfMemory>
     requires listeners { vec_len listeners.old < 2 ^ 32 }
-    requires fresh { (w : ℕ) → notes_at (map (λ b. notes b) listeners.old.items) w ≡ [] }
+    requires no_notes { (w : ℕ) → notes_at (map (λ b. notes b) listeners.old.items) w ≡ [] }
     ensures count { vec_len listeners.new ≡ vec_len listeners.old }
     ensures notes { map (λ b. notes b) listeners.new.items
         ≡ map (λ b. notes b) listeners.old.items }
     ensures given { OnOk result ((w : ℕ) → w < vec_len listeners.new
-        → rules_at (map (λ b. rules b) listeners.new.items) w ≡ rules_for w list.items) }
+        → rules_of_listener (map (λ b. rules b) listeners.new.items) w ≡ rules_for w list.items) }
 {
     let mut rules_left = list;
     for number in 0..listeners.len() {

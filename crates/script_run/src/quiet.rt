@@ -1,6 +1,6 @@
 //! A drain that nobody hears of and that writes nothing.
 
-ghost use Rattle.std.specs.Prelude.{◌≡◌, ℕ, List, Ok, None, IfOk, OnOk, OnErr};
+ghost use Rattle.std.specs.Prelude.{ℕ, List, Ok, OnOk};
 ghost use Rattle.mse_engine.specs.State.{State};
 ghost use Rattle.mse_engine.specs.Standing.{Stands};
 ghost use Rattle.script_run.specs.DrainSteps.{IsAtRest, IsQuiet, HasNoEvent};
@@ -16,7 +16,8 @@ impl<S: FrameStore> ScriptRun<S> {
     fn fire_quietly(&mut self) -> Result<(), OutOfMemory>
         ensures drains { (blobs : List (List ℕ)) → Drains blobs self.old self.new }
         ensures calm { IsCalm self.old.engine self.new.engine }
-        ensures end { OnOk result ((st : State) → Stands self.new.engine st → HasNoEvent st) }
+        ensures nothing_left { OnOk result ((st : State) → Stands self.new.engine st
+            → HasNoEvent st) }
     {
         'firing: loop {
             let Ok(next_event) = self.take_event() else {
@@ -31,7 +32,7 @@ impl<S: FrameStore> ScriptRun<S> {
     /// Fires, and works on buffers, until no event waits and no buffer works.
     fn work_quietly(&mut self) -> Result<(), OutOfMemory>
         ensures drains { (blobs : List (List ℕ)) → Drains blobs self.old self.new }
-        ensures end { OnOk result ((st : State) → Stands self.new.engine st → IsQuiet st) }
+        ensures nothing_left { OnOk result ((st : State) → Stands self.new.engine st → IsQuiet st) }
     {
         'working: loop {
             let Ok(()) = self.fire_quietly() else {
@@ -55,7 +56,8 @@ impl<S: FrameStore> ScriptRun<S> {
     /// engine and in the journal.
     pub fn drain_quietly(&mut self) -> Result<(), OutOfMemory>
         ensures drains { (blobs : List (List ℕ)) → Drains blobs self.old self.new }
-        ensures end { OnOk result ((st : State) → Stands self.new.engine st → IsAtRest st) }
+        ensures nothing_left { OnOk result ((st : State) → Stands self.new.engine st
+            → IsAtRest st) }
     {
         let Ok(()) = self.work_quietly() else {
             return Err(OutOfMemory);

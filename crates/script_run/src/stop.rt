@@ -39,7 +39,7 @@ impl Stop {
 }
 
 /// Whether memory was wanting in a dispatch.
-pub(crate) fn wanted_memory(outcome: Result<(), DispatchFault>) -> bool
+pub(crate) fn is_out_of_memory(outcome: Result<(), DispatchFault>) -> bool
     ensures { (result ≡ true) ↔ (outcome ≡ Err DispatchFault.OutOfMemory) }
 {
     match outcome {

@@ -63,7 +63,7 @@ listener 0 append 0 0: refused InvalidStateError
 ";
 
 #[derive(Drop)]
-struct Scene {
+struct DispatchScene {
     engine: Engine<ListStore>,
     blobs: Blobs,
     listeners: Vec<Box<dyn Listener>>,
@@ -76,10 +76,10 @@ fn new_scene(
     alloc: Global,
     listeners: Vec<Box<dyn Listener>>,
     left: u64,
-) -> Result<Scene, OutOfMemory> {
+) -> Result<DispatchScene, OutOfMemory> {
     let mut blobs = Blobs::new(alloc);
     blobs.push(Bytes::copy_of(alloc, &FREE)?)?;
-    Ok(Scene {
+    Ok(DispatchScene {
         engine: Engine::new(alloc, 1 << 40, Ticks::zero()),
         blobs,
         listeners,
@@ -89,7 +89,7 @@ fn new_scene(
 }
 
 /// The script makes a call.
-fn make(scene: &mut Scene, call: Call) -> Result<(), Fail> {
+fn make(scene: &mut DispatchScene, call: Call) -> Result<(), Fail> {
     scene.journal.reserve(1)?;
     let answer = scene.engine.call(&call, &scene.blobs)?;
     scene.journal.push_reserved(Entry::Script(call, answer));
@@ -97,7 +97,7 @@ fn make(scene: &mut Scene, call: Call) -> Result<(), Fail> {
 }
 
 /// The first event of the queue is fired, and dispatched.
-fn fire(scene: &mut Scene) -> Result<Result<(), DispatchFault>, Fail> {
+fn fire(scene: &mut DispatchScene) -> Result<Result<(), DispatchFault>, Fail> {
     if scene.listeners.len() > 100 {
         return Err(Fail::new("too many listeners"));
     }
@@ -117,7 +117,7 @@ fn fire(scene: &mut Scene) -> Result<Result<(), DispatchFault>, Fail> {
 }
 
 /// So many events, of which each is dispatched to all.
-fn fire_all(rt: &impl Abort, scene: &mut Scene, count: u32) -> Result<(), Fail> {
+fn fire_all(rt: &impl Abort, scene: &mut DispatchScene, count: u32) -> Result<(), Fail> {
     for _ in 0..count {
         assert_eq!(rt; fire(scene)?, Ok(()));
     }
@@ -139,7 +139,7 @@ fn line_of(alloc: Global, entry: EntryRef<'_>) -> Result<Text, OutOfMemory> {
 }
 
 /// The printed lines of what was done.
-fn lines(alloc: Global, scene: &Scene) -> Result<String, OutOfMemory> {
+fn lines(alloc: Global, scene: &DispatchScene) -> Result<String, OutOfMemory> {
     let mut text = String::new(alloc);
     for i in 0..scene.journal.len() {
         if let Some(entry) = scene.journal.get(i) {

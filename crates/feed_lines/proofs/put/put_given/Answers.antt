@@ -15,12 +15,12 @@ pub returns-in-Err-clause-err : goal.returns-in-Err-clause-err
 returns-in-Err-clause-err g c =
     frame_failed c.args.at (state_of g.S.FrameStore.frames c.args.track.now) c.giving.feeder c.in-Frame.place c.in-Some.stored.now c.giving.last _ _ _ (sym c.in-Frame.ensures.answer) (sym c.in-Some.ensures) c.giving.invariant.giving c.in-Err.ensures.err
 
-pub end_of-requires : goal.end_of-requires
-end_of-requires g c = (each_at IsTimed (g.S.FrameStore.frames c.args.track.now.store) c.in-Frame.place c.in-Some.stored.now c.requires.sound.timed (sym c.in-Some.ensures)).1
+pub end-requires : goal.end-requires
+end-requires g c = (each_at IsTimed (g.S.FrameStore.frames c.args.track.now.store) c.in-Frame.place c.in-Some.stored.now c.requires.sound.timed (sym c.in-Some.ensures)).1
 
 pub giving-preserved : goal.giving-preserved
 giving-preserved g c = record {
-  giving = rw (c.in-Frame.ensures.state, c.greater_of-last.ensures, c.end_of.ensures) (one_more c.args.at (state_of g.S.FrameStore.frames c.args.track.now) c.giving.feeder c.in-Frame.place c.in-Some.stored.now c.giving.last _ _ _ (sym c.in-Frame.ensures.answer) (sym c.in-Some.ensures) c.giving.invariant.giving c.in-Ok.ensures.ok);
+  giving = rw (c.in-Frame.ensures.state, c.greater_of-last.ensures, c.end.ensures) (one_more c.args.at (state_of g.S.FrameStore.frames c.args.track.now) c.giving.feeder c.in-Frame.place c.in-Some.stored.now c.giving.last _ _ _ (sym c.in-Frame.ensures.answer) (sym c.in-Some.ensures) c.giving.invariant.giving c.in-Ok.ensures.ok);
   no_fewer_faults = omega (arith, c.giving.invariant.no_fewer_faults, c.put_frame.ensures.no_fewer_faults);
 }
 

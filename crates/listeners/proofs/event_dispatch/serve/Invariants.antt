@@ -1,5 +1,5 @@
 use Rattle.std.proofs.Common.{◌≡◌, ◌-◌}
-use Rattle.listeners.specs.Views.{turn_view, run_view}
+use Rattle.listeners.specs.Views.{turn_view, view_of_run}
 use Rattle.listeners.proofs.Serving.{IsServing}
 use Rattle.listeners.proofs.event_dispatch.serve.Given as goal
 
@@ -7,8 +7,8 @@ abbrev pub invariant-loop-next_call : goal.invariant-loop-next_call
 invariant-loop-next_call g l = record {
   rules : (goal.Listener-dyn g (l.listener.vtable, l.listener.value)).rules l.listener.value ≡ (goal.Listener-dyn g (l.fn.listener.vtable, l.fn.listener.value)).rules l.fn.listener.value;
   serving : IsServing l.blobs l.event
-      (turn_view l.number (run_view l.fn.engine l.fn.journal.entries l.fn.left) ((goal.Listener-dyn g (l.fn.listener.vtable, l.fn.listener.value)).notes l.fn.listener.value))
-      (turn_view l.number (run_view l.engine l.journal.entries l.left) ((goal.Listener-dyn g (l.listener.vtable, l.listener.value)).notes l.listener.value)) (record { call_count = l.call_count; next_call = l.next_call });
+      (turn_view l.number (view_of_run l.fn.engine l.fn.journal.entries l.fn.left) ((goal.Listener-dyn g (l.fn.listener.vtable, l.fn.listener.value)).notes l.fn.listener.value))
+      (turn_view l.number (view_of_run l.engine l.journal.entries l.left) ((goal.Listener-dyn g (l.listener.vtable, l.listener.value)).notes l.listener.value)) (record { call_count = l.call_count; next_call = l.next_call });
 }
 
 abbrev pub decreases-loop-next_call : goal.decreases-loop-next_call

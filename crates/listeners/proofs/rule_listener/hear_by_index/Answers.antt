@@ -1,5 +1,4 @@
-use Rattle.std.proofs.Common.{◌≡◌, ◌≢◌, ◌∙◌, ℕ, List, [], ap, sym}
-use Rattle.listeners.specs.Events.{event_number}
+use Rattle.std.proofs.Common.{◌∙◌, ℕ, ap}
 use Rattle.listeners.specs.Index.{places_at, count_at}
 use Rattle.listeners.proofs.Indexing.{empty_there, not_empty, hears_none, hears_some}
 use Rattle.listeners.proofs.rule_listener.hear_by_index.Goals as goal

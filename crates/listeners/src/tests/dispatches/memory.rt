@@ -3,10 +3,10 @@
 //!
 //! An allocation is refused from outside, by `rt try --test --fail-alloc` or by `bench/refused.py` of the repository.
 
-use super::{Appender, Scene, WHOLE, add, answering, fire, lines, new_scene};
+use super::{Appender, DispatchScene, WHOLE, add, answering, fire, lines, new_scene};
 use crate::tests::OPEN;
 use crate::{DispatchFault, Listener};
-use event_text::closing;
+use event_text::closing_text;
 use mse_base::{OutOfMemory, Text};
 use mse_calls::{Call, Entry};
 use std::alloc::Global;
@@ -61,7 +61,7 @@ fn listeners(alloc: Global) -> Result<Vec<Box<dyn Listener>>, OutOfMemory> {
     Ok(listeners)
 }
 
-fn make(scene: &mut Scene, call: Call) -> Result<(), OutOfMemory> {
+fn make(scene: &mut DispatchScene, call: Call) -> Result<(), OutOfMemory> {
     scene.journal.reserve(1)?;
     let Ok(answer) = scene.engine.call(&call, &scene.blobs) else {
         return Err(OutOfMemory);
@@ -71,7 +71,7 @@ fn make(scene: &mut Scene, call: Call) -> Result<(), OutOfMemory> {
 }
 
 /// An opened source, whose first event waits.
-fn opened(alloc: Global, listeners: Vec<Box<dyn Listener>>) -> Result<Scene, OutOfMemory> {
+fn opened(alloc: Global, listeners: Vec<Box<dyn Listener>>) -> Result<DispatchScene, OutOfMemory> {
     let mut scene = new_scene(alloc, listeners, LIMIT)?;
     make(&mut scene, Call::Attach)?;
     // the place of the event that is fired next
@@ -79,11 +79,11 @@ fn opened(alloc: Global, listeners: Vec<Box<dyn Listener>>) -> Result<Scene, Out
     Ok(scene)
 }
 
-fn scene_once(alloc: Global) -> Result<Scene, OutOfMemory> {
+fn scene_once(alloc: Global) -> Result<DispatchScene, OutOfMemory> {
     opened(alloc, listeners(alloc)?)
 }
 
-fn scene(alloc: Global) -> Result<Scene, OutOfMemory> {
+fn scene(alloc: Global) -> Result<DispatchScene, OutOfMemory> {
     match scene_once(alloc) {
         Ok(scene) => Ok(scene),
         Err(_) => scene_once(alloc),
@@ -91,7 +91,7 @@ fn scene(alloc: Global) -> Result<Scene, OutOfMemory> {
 }
 
 /// The same source with the first calls of the listeners, which are made without any.
-fn replay_once(alloc: Global, count: usize) -> Result<Scene, OutOfMemory> {
+fn replay_once(alloc: Global, count: usize) -> Result<DispatchScene, OutOfMemory> {
     let mut scene = opened(alloc, Vec::new(alloc))?;
     scene.engine.fire();
     for call in calls(alloc)?.into_iter().take(count) {
@@ -100,29 +100,29 @@ fn replay_once(alloc: Global, count: usize) -> Result<Scene, OutOfMemory> {
     Ok(scene)
 }
 
-fn replay(alloc: Global, count: usize) -> Result<Scene, OutOfMemory> {
+fn replay(alloc: Global, count: usize) -> Result<DispatchScene, OutOfMemory> {
     match replay_once(alloc, count) {
         Ok(scene) => Ok(scene),
         Err(_) => replay_once(alloc, count),
     }
 }
 
-fn text(alloc: Global, scene: &Scene) -> Result<String, OutOfMemory> {
+fn text(alloc: Global, scene: &DispatchScene) -> Result<String, OutOfMemory> {
     match lines(alloc, scene) {
         Ok(text) => Ok(text),
         Err(_) => lines(alloc, scene),
     }
 }
 
-fn shown_once(alloc: Global, scene: &Scene) -> Result<Text, OutOfMemory> {
+fn shown_once(alloc: Global, scene: &DispatchScene) -> Result<Text, OutOfMemory> {
     match scene.engine.view() {
-        Ok(view) => closing(alloc, &view, true),
+        Ok(view) => closing_text(alloc, &view, true),
         Err(_) => Err(OutOfMemory),
     }
 }
 
 /// What an engine shows, as it is printed at the end of a run.
-fn shown(alloc: Global, scene: &Scene) -> Result<Text, OutOfMemory> {
+fn shown(alloc: Global, scene: &DispatchScene) -> Result<Text, OutOfMemory> {
     match shown_once(alloc, scene) {
         Ok(text) => Ok(text),
         Err(_) => shown_once(alloc, scene),
@@ -133,8 +133,8 @@ fn shown(alloc: Global, scene: &Scene) -> Result<Text, OutOfMemory> {
 fn check_alike(
     rt: &impl Abort,
     alloc: Global,
-    scene: &mut Scene,
-    other: &mut Scene,
+    scene: &mut DispatchScene,
+    other: &mut DispatchScene,
 ) -> Result<(), Fail> {
     let this = shown(alloc, scene)?;
     let that = shown(alloc, other)?;

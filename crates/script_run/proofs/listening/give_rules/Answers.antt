@@ -7,7 +7,7 @@ pub loop-number-init : goal.loop-number-init
 loop-number-init g c = record { len = search rules; notes = refl; given = given_none _ _ }
 
 pub give_to-requires : goal.give_to-requires
-give_to-requires g c = none_at _ _ c.loop-number.listeners.items c.loop-number.number _ c.requires.fresh c.loop-number.invariant.notes (grind (arith, common_steps)) c.index_mut-listener.ensures.value
+give_to-requires g c = none_at _ _ c.loop-number.listeners.items c.loop-number.number _ c.requires.no_notes c.loop-number.invariant.notes (grind (arith, common_steps)) c.index_mut-listener.ensures.value
 
 pub loop-number-preserved : goal.loop-number-preserved
 loop-number-preserved g c = record {

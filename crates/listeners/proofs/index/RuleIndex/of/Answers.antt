@@ -1,4 +1,4 @@
-use Rattle.std.proofs.Common.{◌≡◌, ◌<◌, ℕ, length, get_or, arith, rules}
+use Rattle.std.proofs.Common.{arith, rules}
 use Rattle.listeners.proofs.Indexing.{places_next}
 use Rattle.listeners.proofs.index.RuleIndex.of.Goals as goal
 

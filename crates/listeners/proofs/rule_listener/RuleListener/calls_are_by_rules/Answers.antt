@@ -1,4 +1,3 @@
-use Rattle.std.proofs.Common.{◌≡◌}
 use Rattle.listeners.proofs.Holding.{made_by_rules}
 use Rattle.listeners.proofs.rule_listener.RuleListener.calls_are_by_rules.Goals as goal
 

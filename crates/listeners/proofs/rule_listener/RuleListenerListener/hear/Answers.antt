@@ -1,4 +1,4 @@
-use Rattle.std.proofs.Common.{◌≡◌, ◌≤◌, ℕ, length, drop, arith}
+use Rattle.std.proofs.Common.{drop, arith}
 use Rattle.listeners.specs.Notes.{heard_of}
 use Rattle.listeners.specs.Coming.{notes_of}
 use Rattle.listeners.proofs.Holding.{holds_index, holds_heard, rest_whole}

@@ -1,7 +1,5 @@
-use Rattle.std.proofs.Common.{rules, ◌≡◌, ◌∙◌, ◌<◌, ◌≤◌, ℕ, length, get_or, drop, sym, ap}
-use Rattle.std.specs.Prelude.{Some}
-use Rattle.mse_calls.specs.declared.calls.Call.{Call}
-use Rattle.listeners.specs.Coming.{notes_of, rule_at, call_at}
+use Rattle.std.proofs.Common.{rules, ◌≡◌, ◌<◌, length, get_or, sym}
+use Rattle.listeners.specs.Coming.{notes_of}
 use Rattle.listeners.proofs.Holding.{holds_rested, next_is_none, past_end, rule_read, rule_inside, room_there, call_read, holds_after, next_after}
 use Rattle.listeners.proofs.rule_listener.RuleListenerListener.next.Goals as goal
 

@@ -9,7 +9,7 @@ pub returns-in-Err-clause-ran : goal.returns-in-Err-clause-ran
 returns-in-Err-clause-ran g c = order_then_stop _ c.in-Err.stop _ _ _ c.draining.invariant.ran c.in-Err.ensures.ran
 
 pub returns-in-Ok-true-clause-ran : goal.returns-in-Ok-true-clause-ran
-returns-in-Ok-true-clause-ran g c = drain_of _ _ _ (order_then_ran _ _ _ _ c.draining.invariant.ran c.in-Ok-true.ensures.ran) ((rw c.in-Ok-true.field-0-test at c.in-Ok-true.ensures.end) refl)
+returns-in-Ok-true-clause-ran g c = drain_of _ _ _ (order_then_ran _ _ _ _ c.draining.invariant.ran c.in-Ok-true.ensures.ran) ((rw c.in-Ok-true.field-0-test at c.in-Ok-true.ensures.nothing_left) refl)
 
 pub draining-preserved : goal.draining-preserved
 draining-preserved g c =

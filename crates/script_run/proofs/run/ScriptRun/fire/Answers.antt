@@ -34,11 +34,11 @@ put_entries-requires g c =
     let from = c.len-from.ensures in
     grind (arith, common_steps)
 
-pub returns-then-wanted_memory-clause-ran : goal.returns-then-wanted_memory-clause-ran
-returns-then-wanted_memory-clause-ran g c =
+pub returns-then-is_out_of_memory-clause-ran : goal.returns-then-is_out_of_memory-clause-ran
+returns-then-is_out_of_memory-clause-ran g c =
     let took = rw c.in-Some.is at c.in-Ok.ensures.ok in
     let step = rw (← c.self.view_is, ← c.self-2.view_is) at (took c.args.blobs.now) in
-    let wanted : c.dispatch-outcome.result ≡ Err OutOfMemory = c.wanted_memory.ensures.0 c.if-wanted_memory.true in
+    let wanted : c.dispatch-outcome.result ≡ Err OutOfMemory = c.is_out_of_memory.ensures.0 c.if-is_out_of_memory.true in
     let short = rw wanted at c.dispatch-outcome.ensures.dispatch in
     rw (← c.self.view_is) (fired_short c.args.blobs.now c.in-Some.event _ _ _ _ _ _ step short (simp length-map (grind (arith, common_steps, c.dispatch-outcome.ensures.count))))
 
@@ -47,7 +47,7 @@ returns-in-Err-clause-ran g c =
     let took = rw c.in-Some.is at c.in-Ok.ensures.ok in
     let step = rw (← c.self.view_is, ← c.self-2.view_is) at (took c.args.blobs.now) in
     let wrote = rw c.len-from.ensures at c.in-Err.ensures.err in
-    let not : ¬ (c.dispatch-outcome.result ≡ Err OutOfMemory) = λ e. absurd (cc (c.wanted_memory.ensures.1 e, c.if-wanted_memory.false)) in
+    let not : ¬ (c.dispatch-outcome.result ≡ Err OutOfMemory) = λ e. absurd (cc (c.is_out_of_memory.ensures.1 e, c.if-is_out_of_memory.false)) in
     rw (← c.self.view_is) (fired_half c.args.blobs.now c.in-Some.event c.in-Err.halt _ _ _ _ _ _ _ c.dispatch-outcome.result not step c.dispatch-outcome.ensures.dispatch (simp length-map (grind (arith, common_steps, c.dispatch-outcome.ensures.count))) wrote)
 
 pub returns-in-Err-outcome-clause-ran : goal.returns-in-Err-outcome-clause-ran
@@ -56,7 +56,7 @@ returns-in-Err-outcome-clause-ran g c =
     let step = rw (← c.self.view_is, ← c.self-2.view_is) at (took c.args.blobs.now) in
     let wrote = rw c.len-from.ensures at c.in-Ok-put_entries.ensures.ok in
     let not : ¬ (c.in-Err-outcome.fault ≡ OutOfMemory) =
-    λ e. absurd (cc (c.wanted_memory.ensures.1 (c.in-Err-outcome.is ∙ ap (λ (f : DispatchFault). Err f) e), c.if-wanted_memory.false)) in
+    λ e. absurd (cc (c.is_out_of_memory.ensures.1 (c.in-Err-outcome.is ∙ ap (λ (f : DispatchFault). Err f) e), c.if-is_out_of_memory.false)) in
     rw (c.of.ensures, ← c.self.view_is) (fired_stopped c.args.blobs.now c.in-Some.event c.in-Err-outcome.fault _ _ _ _ _ _ _ not step c.in-Err-outcome.ensures.dispatch
     (simp length-map (grind (arith, common_steps, c.dispatch-outcome.ensures.count))) wrote)
 

@@ -15,8 +15,8 @@ returns-in-Ok-false-clause-ran g c = order_then_ran _ _ _ _ c.firing.invariant.r
 pub returns-in-Ok-false-clause-calm : goal.returns-in-Ok-false-clause-calm
 returns-in-Ok-false-clause-calm g c = λ e. rw ((rw c.in-Ok-false.field-0-test at c.in-Ok-false.ensures.none) refl) c.firing.invariant.calm
 
-pub returns-in-Ok-false-clause-end : goal.returns-in-Ok-false-clause-end
-returns-in-Ok-false-clause-end g c = λ e st h. ((rw c.in-Ok-false.field-0-test at c.in-Ok-false.ensures.empty) refl) st (rw ((rw c.in-Ok-false.field-0-test at c.in-Ok-false.ensures.none) refl) at h)
+pub returns-in-Ok-false-clause-nothing_left : goal.returns-in-Ok-false-clause-nothing_left
+returns-in-Ok-false-clause-nothing_left g c = λ e st h. ((rw c.in-Ok-false.field-0-test at c.in-Ok-false.ensures.empty) refl) st (rw ((rw c.in-Ok-false.field-0-test at c.in-Ok-false.ensures.none) refl) at h)
 
 pub returns-then-self-before-clause-ran : goal.returns-then-self-before-clause-ran
 returns-then-self-before-clause-ran g c = order_then_ran _ _ _ _ c.firing.invariant.ran (fire_ran_order _ _ _ c.in-Ok-true.ensures.ran)

@@ -24,7 +24,7 @@ returns-in_default-next_event-clause-calm g c =
     let took = rw c.in_default-next_event.is at c.in-Ok.ensures.ok in
     rw (took []).0 c.firing.invariant.calm
 
-pub returns-in_default-next_event-clause-end : goal.returns-in_default-next_event-clause-end
-returns-in_default-next_event-clause-end g c =
+pub returns-in_default-next_event-clause-nothing_left : goal.returns-in_default-next_event-clause-nothing_left
+returns-in_default-next_event-clause-nothing_left g c =
     let took = rw c.in_default-next_event.is at c.in-Ok.ensures.ok in
     λ st h. (took []).1 st (rw (took []).0 at h)

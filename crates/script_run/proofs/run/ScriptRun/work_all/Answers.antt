@@ -19,8 +19,8 @@ returns-in-Ok-false-clause-ran g c = order_then_ran _ _ _ _ c.working.invariant.
 pub returns-in_default-clause-ran : goal.returns-in_default-clause-ran
 returns-in_default-clause-ran g c = order_then_ran _ _ _ _ c.working.invariant.ran c.in-Ok-true.ensures.ran
 
-pub returns-in_default-clause-end : goal.returns-in_default-clause-end
-returns-in_default-clause-end g c = λ e st h. record { queue = ((rw c.in-Ok-true.field-0-test at c.in-Ok-true.ensures.end) refl) st h; running = sym (c.in_default.ensures st (rw (← c.self.view_is) at h)) }
+pub returns-in_default-clause-nothing_left : goal.returns-in_default-clause-nothing_left
+returns-in_default-clause-nothing_left g c = λ e st h. record { queue = ((rw c.in-Ok-true.field-0-test at c.in-Ok-true.ensures.nothing_left) refl) st h; running = sym (c.in_default.ensures st (rw (← c.self.view_is) at h)) }
 
 pub returns-in_default-work-clause-ran : goal.returns-in_default-work-clause-ran
 returns-in_default-work-clause-ran g c =
@@ -31,7 +31,7 @@ working-preserved g c =
     let both = order_then_ran _ _ _ _ c.working.invariant.ran c.in-Ok-true.ensures.ran in
     let stands : IsStanding c.fire_all.new.self.engine = rw (← c.self.view_is) c.sound.ensures.standing in
     let runs : (st : State) → Stands c.fire_all.new.self.engine st → running_in st ≡ Some c.in-Some.k = λ st h. sym (c.in-Some.ensures st (rw (← c.self.view_is) at h)) in
-    let step = working_ran c.args.blobs.now c.in-Some.k c.in-Ok._has_worked c.fire_all.new.self c.work.new.self _ _ stands ((rw c.in-Ok-true.field-0-test at c.in-Ok-true.ensures.end) refl) runs (c.in-Ok.ensures.ok c.args.blobs.now) in
+    let step = working_ran c.args.blobs.now c.in-Some.k c.in-Ok._has_worked c.fire_all.new.self c.work.new.self _ _ stands ((rw c.in-Ok-true.field-0-test at c.in-Ok-true.ensures.nothing_left) refl) runs (c.in-Ok.ensures.ok c.args.blobs.now) in
     record {
       count = c.fire_all.ensures.count ∙ c.working.invariant.count;
       rules = c.fire_all.ensures.rules ∙ c.working.invariant.rules;

@@ -16,8 +16,8 @@ returns-in_default-clause-drains g c = λ blobs. drains_then blobs _ _ _ (c.work
 pub returns-in_default-running-clause-drains : goal.returns-in_default-running-clause-drains
 returns-in_default-running-clause-drains g c = λ blobs. drains_then blobs _ _ _ (c.working.invariant.drains blobs) (c.fire_quietly.ensures.drains blobs)
 
-pub returns-in_default-running-clause-end : goal.returns-in_default-running-clause-end
-returns-in_default-running-clause-end g c = λ st h. record { queue = c.in-Ok.ensures.end st h; running = sym (c.in_default-running.ensures st (rw (← c.self.view_is) at h)) }
+pub returns-in_default-running-clause-nothing_left : goal.returns-in_default-running-clause-nothing_left
+returns-in_default-running-clause-nothing_left g c = λ st h. record { queue = c.in-Ok.ensures.nothing_left st h; running = sym (c.in_default-running.ensures st (rw (← c.self.view_is) at h)) }
 
 pub working-smaller : goal.working-smaller
 working-smaller g c =
@@ -35,7 +35,7 @@ working-preserved g c =
     let runs : (st : State) → Stands c.fire_quietly.new.self.engine st → running_in st ≡ Some c.in-Some.k = λ st h. sym (c.in-Some.ensures st (rw (← c.self.view_is) at h)) in
     record {
       drains = λ blobs. drains_then blobs _ _ _ (both blobs)
-          (drains_work blobs c.in-Some.k c.in-Ok-work._has_worked c.fire_quietly.new.self c.work.new.self stands c.in-Ok.ensures.end runs (c.in-Ok-work.ensures.ok blobs));
+          (drains_work blobs c.in-Some.k c.in-Ok-work._has_worked c.fire_quietly.new.self c.work.new.self stands c.in-Ok.ensures.nothing_left runs (c.in-Ok-work.ensures.ok blobs));
     }
 
 pub returns-in_default-work-clause-drains : goal.returns-in_default-work-clause-drains

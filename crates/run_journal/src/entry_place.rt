@@ -1,0 +1,102 @@
+//! Where the entries of a journal are, with lists of the calls and of the pieces that they name by their index.
+
+ghost use Rattle.std.specs.Prelude.{◌≡◌, ◌+◌, ◌<◌, ◌≤◌, vec_len};
+ghost use Rattle.std.specs.Vec.{vec_capacity};
+ghost use Rattle.run_journal.specs.EntryRef.{entry_of};
+ghost use Rattle.run_journal.specs.EntryPlaces.{entry_at, IsPlaceInside, IsExtension};
+
+use crate::EntryRef;
+use mse_calls::{Answer, Call, Entry, Event, Piece};
+
+/// Where an entry is: here, but for what would not fit into a few bytes, which is named by its index in a list.
+#[derive(Clone, Copy, Debug)]
+pub(crate) enum EntryPlace {
+    /// The line of the script with that number began.
+    Step(u32),
+    /// The script made the call at that index of the calls.
+    Script(usize),
+    /// The script appended to the buffer of that number the piece at that index of the pieces, and
+    /// it was done.
+    Append(u32, usize),
+    /// The listener of that number made the call at that index of the calls.
+    Listener(u32, usize),
+    /// An event was fired.
+    Fired(Event),
+    /// The buffer of that number did one step of work.
+    Work(u32),
+    /// The element took a turn.
+    Element,
+}
+
+/// A call, and what it answered.
+#[derive(Debug, Drop)]
+pub(crate) struct AnsweredCall {
+    pub(crate) call: Call,
+    pub(crate) answer: Answer,
+}
+
+/// Keeps what an entry holds, in room that is there, and says where.
+pub(crate) fn keep(
+    calls: &mut Vec<AnsweredCall>,
+    pieces: &mut Vec<Piece>,
+    entry: Entry,
+) -> EntryPlace
+    requires room_for_call { vec_len calls.old < vec_capacity calls.old }
+    requires room_for_piece { vec_len pieces.old < vec_capacity pieces.old }
+    ensures entry { entry_at calls.new.items pieces.new.items result ≡ entry }
+    ensures place_inside { IsPlaceInside calls.new.items pieces.new.items result }
+    ensures calls_extended { IsExtension calls.old.items calls.new.items }
+    ensures pieces_extended { IsExtension pieces.old.items pieces.new.items }
+    ensures calls_len { vec_len calls.new ≤ vec_len calls.old + 1 }
+    ensures pieces_len { vec_len pieces.new ≤ vec_len pieces.old + 1 }
+    ensures calls_room { vec_capacity calls.new ≡ vec_capacity calls.old }
+    ensures pieces_room { vec_capacity pieces.new ≡ vec_capacity pieces.old }
+{
+    match entry {
+        Entry::Step(n) => EntryPlace::Step(n),
+        Entry::Script(Call::AppendBuffer(k, piece), Answer::Done) => {
+            let index = pieces.len();
+            pieces.push_reserved(piece);
+            EntryPlace::Append(k, index)
+        }
+        Entry::Script(call, answer) => {
+            let index = calls.len();
+            calls.push_reserved(AnsweredCall { call, answer });
+            EntryPlace::Script(index)
+        }
+        Entry::Listener(number, call, answer) => {
+            let index = calls.len();
+            calls.push_reserved(AnsweredCall { call, answer });
+            EntryPlace::Listener(number, index)
+        }
+        Entry::Fired(event) => EntryPlace::Fired(event),
+        Entry::Work(k) => EntryPlace::Work(k),
+        Entry::Element => EntryPlace::Element,
+    }
+}
+
+/// The entry at a place.
+pub(crate) fn entry_ref<'a>(
+    place: EntryPlace,
+    calls: &'a [AnsweredCall],
+    pieces: &[Piece],
+) -> EntryRef<'a>
+    requires { IsPlaceInside calls.now pieces.now place }
+    ensures { entry_of result ≡ entry_at calls.now pieces.now place }
+{
+    match place {
+        EntryPlace::Step(n) => EntryRef::Step(n),
+        EntryPlace::Script(index) => {
+            let AnsweredCall { call, answer } = &calls[index];
+            EntryRef::Script(call, answer)
+        }
+        EntryPlace::Append(k, index) => EntryRef::Append(k, pieces[index]),
+        EntryPlace::Listener(number, index) => {
+            let AnsweredCall { call, answer } = &calls[index];
+            EntryRef::Listener(number, call, answer)
+        }
+        EntryPlace::Fired(event) => EntryRef::Fired(event),
+        EntryPlace::Work(k) => EntryRef::Work(k),
+        EntryPlace::Element => EntryRef::Element,
+    }
+}
