@@ -12,7 +12,7 @@ mod script_files;
 mod scripts;
 mod text_library;
 
-ghost use Rattle.std.specs.Prelude.{◌≡◌, [], IfOk, vec_len};
+ghost use Rattle.std.specs.Prelude.{◌≡◌, [], IfOk};
 
 use files::{CASES, INIT_BACK, INIT_FRONT, PLAIN_SEGMENT};
 use hex::FromHexError;
@@ -123,7 +123,7 @@ fn prints_blocks(rt: HostRuntime) -> Result<(), Fail> {
         ] {
             let (status, sink) = printed(alloc, words, &bytes)?;
             assert_eq!(rt; status, wanted, "at {block}");
-            assert_eq!(rt; sink.written(), block.as_bytes(), "at {block}");
+            assert_eq!(rt; sink.written_bytes(), block.as_bytes(), "at {block}");
         }
     }
     Ok(())
@@ -172,7 +172,7 @@ fn prints_blocks_of_fronts(rt: HostRuntime) -> Result<(), Fail> {
         ] {
             let (status, sink) = printed(alloc, words, &bytes[..len])?;
             assert_eq!(rt; status, Status::Ok, "at {len}");
-            assert_eq!(rt; sink.written(), block.as_bytes(), "at {len}");
+            assert_eq!(rt; sink.written_bytes(), block.as_bytes(), "at {len}");
         }
     }
     Ok(())
@@ -216,7 +216,7 @@ fn prints_made_files(rt: HostRuntime) -> Result<(), Fail> {
     for (count, text) in &MADE {
         let (status, sink) = printed(alloc, &["make", *count], &[])?;
         assert_eq!(rt; status, Status::Ok, "at {text}");
-        assert_eq!(rt; sink.written(), text.as_bytes());
+        assert_eq!(rt; sink.written_bytes(), text.as_bytes());
     }
     Ok(())
 }
@@ -301,7 +301,7 @@ fn tells_causes(rt: HostRuntime) -> Result<(), Fail> {
         let words = texts(alloc, words)?;
         let status = status_of(alloc, &words, &mut library, &mut sink);
         assert_eq!(rt; status, wanted, "at {line}");
-        assert_eq!(rt; sink.written(), line.as_bytes());
+        assert_eq!(rt; sink.written_bytes(), line.as_bytes());
     }
     Ok(())
 }
@@ -334,7 +334,7 @@ fn tells_blobs_that_are_not_loaded(rt: HostRuntime) -> Result<(), Fail> {
         let script = format!(in alloc; "blobs = [{blobs}]\nsteps = [\"attach\", \"drain\"]\n")?;
         let (status, sink) = played::<IndexStore>(alloc, script.as_str())?;
         assert_eq!(rt; status, *wanted, "at {blobs}");
-        assert_eq!(rt; sink.written(), line.as_bytes(), "at {blobs}");
+        assert_eq!(rt; sink.written_bytes(), line.as_bytes(), "at {blobs}");
     }
     Ok(())
 }
@@ -356,7 +356,7 @@ fn yields_to_failed_puts(rt: HostRuntime) -> Result<(), Fail> {
         let words = texts(alloc, &[command, word])?;
         let status = status_of(alloc, &words, &mut library, &mut sink);
         assert_eq!(rt; status, Status::Write, "at {written}");
-        assert_eq!(rt; sink.written(), written.as_bytes());
+        assert_eq!(rt; sink.written_bytes(), written.as_bytes());
     }
     Ok(())
 }
@@ -411,10 +411,10 @@ fn plays_scripts(rt: HostRuntime) -> Result<(), Fail> {
         for (script, wanted, text) in table {
             let (status, sink) = played::<IndexStore>(alloc, script)?;
             assert_eq!(rt; status, *wanted, "at {script}");
-            assert_eq!(rt; sink.written(), text.as_bytes(), "at {script}");
+            assert_eq!(rt; sink.written_bytes(), text.as_bytes(), "at {script}");
             let (status, sink) = played::<ListStore>(alloc, script)?;
             assert_eq!(rt; status, *wanted, "at {script}");
-            assert_eq!(rt; sink.written(), text.as_bytes(), "at {script}");
+            assert_eq!(rt; sink.written_bytes(), text.as_bytes(), "at {script}");
         }
     }
     Ok(())
@@ -427,9 +427,13 @@ fn stops_a_listener(rt: HostRuntime) -> Result<(), Fail> {
         [[rules]]\nlistener = 0\non = \"source sourceopen\"\nrepeat = true\ncalls = [\"state\"]\n";
     let (status, sink) = played::<IndexStore>(alloc, script)?;
     assert_eq!(rt; status, Status::CallBudget);
-    let lines = sink.written().iter().filter(|byte| **byte == b'\n').count();
+    let lines = sink
+        .written_bytes()
+        .iter()
+        .filter(|byte| **byte == b'\n')
+        .count();
     assert_eq!(rt; lines, 1003);
     let last = b"\nerror: listener 0 answered more than 1000 calls for one event\n";
-    assert!(rt; sink.written().ends_with(last));
+    assert!(rt; sink.written_bytes().ends_with(last));
     Ok(())
 }

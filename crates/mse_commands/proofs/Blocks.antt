@@ -1,17 +1,16 @@
 -- What `ranges` and `pieces` print of one file.
-use Rattle.std.proofs.Common.{◌≡◌, ℕ, zero, suc, ◌+◌, ◌≤◌, ◌<◌, ◌^◌, ◌-◌, ℤ, pos, Bool, true, false, List, [], ◌∷◌, ◌++◌, length, refl, ap, sym, subst, ◌∙◌, arith, ⊎_elim, inl, inr}
+use Rattle.std.proofs.Common.{◌≡◌, ℕ, ◌+◌, ◌≤◌, ◌<◌, ◌^◌, ◌-◌, ℤ, pos, Bool, true, false, List, [], ◌∷◌, ◌++◌, length, refl, ap, sym, subst, ◌∙◌, arith, ⊎_elim, inl, inr}
 use Rattle.std.specs.Prelude.{◌⊎◌, min, Option, Some, None, IfSome, IsSome, IsSomeAnd, is_some, Result, Ok, ok_or, bytes_eq, codes, option_map, if◌then◌else◌}
 use Rattle.std.proofs.lemmas.Bool.{cases_lt}
 use Rattle.bmff_boxes.specs.Reading.{◌>>=◌}
 use Rattle.mse_outside.specs.Outside.{Table}
-use Rattle.mse_calls.specs.declared.answers.Answer.{Answer}
 use Rattle.mse_calls.specs.declared.answers.Answer.TheVariants as answer
 use Rattle.mse_calls.specs.declared.calls.Piece.{Piece}
 use Rattle.mse_calls.specs.declared.entry.Entry.{Entry}
 use Rattle.mse_calls.specs.declared.views.FaultView.{FaultView}
 use Rattle.event_text.specs.Block.{closing_text}
 use Rattle.bmff_boxes.specs.Headers.{header_of}
-use Rattle.segment_walk.specs.Segments.{segment_parse, Items}
+use Rattle.segment_walk.specs.Segments.{segment_parse, items_of_string}
 use Rattle.mse_engine.specs.State.{Core, Outer, State, opening_state}
 use Rattle.mse_engine.specs.Run.{after_entries}
 use Rattle.mse_engine.specs.Views.{view_in}
@@ -30,11 +29,11 @@ use Rattle.mse_commands.specs.declared.words.Command.{Command}
 use Rattle.mse_commands.specs.declared.words.Command.TheVariants.{Ranges, Pieces, Make, Play, Remux, Feed}
 use Rattle.mse_commands.specs.declared.ending.End.{End}
 use Rattle.mse_commands.specs.declared.ending.End.TheVariants.{NoFile}
-use Rattle.mse_commands.specs.Asked.{Request, Task, ByFile, asked, opening_of, request_of}
-use Rattle.mse_commands.specs.Files.{AppendsFile, IsJournalOf, IsThrough, NameOneFile}
+use Rattle.mse_commands.specs.Requests.{Request, Task, ByFile, request_in, request_of}
+use Rattle.mse_commands.specs.Files.{AppendsFile, IsJournalOf, IsThrough, AreNamesOfOneFile}
 use Rattle.mse_commands.specs.Outcomes.{Ends, EndsBehind, EndsRun, RunOutcome}
-use Rattle.mse_commands.specs.Shown.{IsAppends, IsWholeFile, StopsAtFault, append_entry, last_state, open_entries, pieces_by, pieces_of, text_of}
-use Rattle.mse_commands.specs.Words.{IsInRange, command_of, file_of, finite_time, longest_piece, most_segments, number_of}
+use Rattle.mse_commands.specs.Shown.{IsAppends, StopsAtFault, append_entry, last_state, open_entries, pieces_by, pieces_of, text_of}
+use Rattle.mse_commands.specs.Words.{IsInRange, command_of, file_of, finite_time, longest_piece, most_segments, count_of_word}
 use Rattle.mse_commands.proofs.Numbers.{bounds_by}
 use Rattle.mse_commands.proofs.Pieces.{HasNext, IsLeft, all_left, next_left, none_left}
 
@@ -114,7 +113,7 @@ pieces-parts (Feed at) bytes a r = absurd a
 
 -- ---- the empty file, which may have no piece
 
-no-items : Items None [] ≡ []
+no-items : items_of_string None [] ≡ []
 unfolding segment_parse header_of
 no-items = refl
 
@@ -203,11 +202,11 @@ command-range : (words : List (List ℕ)) → IfSome (command_of words) IsInRang
 command-range [] = tt
 command-range (name ∷ []) = tt
 command-range (name ∷ word ∷ []) =
-    two-range (bytes_eq name (codes "ranges")) (bytes_eq name (codes "play")) (bytes_eq name (codes "remux")) (bytes_eq name (codes "make")) (number_of most_segments word)
-    (bounds_by most_segments word (number_of most_segments word) (omega arith) refl)
+    two-range (bytes_eq name (codes "ranges")) (bytes_eq name (codes "play")) (bytes_eq name (codes "remux")) (bytes_eq name (codes "make")) (count_of_word most_segments word)
+    (bounds_by most_segments word (count_of_word most_segments word) (omega arith) refl)
 command-range (name ∷ word ∷ file ∷ []) =
-    three-range (bytes_eq name (codes "pieces")) (bytes_eq name (codes "feed")) (number_of longest_piece word) (finite_time word)
-    (bounds_by longest_piece word (number_of longest_piece word) (omega arith) refl)
+    three-range (bytes_eq name (codes "pieces")) (bytes_eq name (codes "feed")) (count_of_word longest_piece word) (finite_time word)
+    (bounds_by longest_piece word (count_of_word longest_piece word) (omega arith) refl)
 command-range (name ∷ word ∷ file ∷ more ∷ words) = tt
 
 task-is : (command : Command) (files : Table) (name bytes : List ℕ) → AppendsFile command → files name ≡ Some bytes → (request_of files name (Some command)).task ≡ Ok (ByFile command bytes)
@@ -223,7 +222,7 @@ record Names (files : Table) (words : List (List ℕ)) (bytes : List ℕ) : Type
   command : Command
   appends : AppendsFile command
   number : IsInRange command
-  task : (asked files words).task ≡ Ok (ByFile command bytes)
+  task : (request_in files words).task ≡ Ok (ByFile command bytes)
 
 names-by : (o : Option Command) (files : Table) (words : List (List ℕ)) (bytes : List ℕ) → command_of words ≡ o → IfSome o IsInRange → IsSomeAnd o AppendsFile → files (file_of words) ≡ Some bytes → Names files words bytes
 names-by None files words bytes e r a found = absurd a
@@ -267,16 +266,16 @@ ran-file n request command bytes left end a r (inr e) ends =
       end_is = e ∙ ap status_by (sym all.1);
     }
 
-file-run : (n : ℕ) (files : Table) (words : List (List ℕ)) (bytes : List ℕ) (left : RunOutcome) (end : Status) (named : Names files words bytes) → IsThrough end → Ends n (asked files words) left end → RanFile named.command bytes left end
+file-run : (n : ℕ) (files : Table) (words : List (List ℕ)) (bytes : List ℕ) (left : RunOutcome) (end : Status) (named : Names files words bytes) → IsThrough end → Ends n (request_in files words) left end → RanFile named.command bytes left end
 file-run n files words bytes left end named through ends =
-    ran-file n (asked files words) named.command bytes left end named.appends named.number through
-    (subst (λ (r : Result Task End). EndsBehind n (asked files words) r left end) named.task ends)
+    ran-file n (request_in files words) named.command bytes left end named.appends named.number through
+    (subst (λ (r : Result Task End). EndsBehind n (request_in files words) r left end) named.task ends)
 
 wrote-is : (text before : List ℕ) (old new : Option (List ℕ)) → old ≡ Some before → IsWritten text old new → new ≡ Some (before ++ text)
 wrote-is text before old new e w = subst (λ (o : Option (List ℕ)). IsWritten text o new) e w
 
-pub one-run : (files : Table) (a b : List (List ℕ)) (bytes : List ℕ) (n m : ℕ) (before : List ℕ) (s t : RunOutcome) (x y : Status) → NameOneFile files a b bytes → length bytes < 2 ^ 62
-    → s.before.written ≡ Some before → t.before.written ≡ Some before → IsThrough x → IsThrough y → Ends n (asked files a) s x → Ends m (asked files b) t y → (x ≡ y) × (s.now.written ≡ t.now.written)
+pub one-run : (files : Table) (a b : List (List ℕ)) (bytes : List ℕ) (n m : ℕ) (before : List ℕ) (s t : RunOutcome) (x y : Status) → AreNamesOfOneFile files a b bytes → length bytes < 2 ^ 62
+    → s.before.written ≡ Some before → t.before.written ≡ Some before → IsThrough x → IsThrough y → Ends n (request_in files a) s x → Ends m (request_in files b) t y → (x ≡ y) × (s.now.written ≡ t.now.written)
 one-run files a b bytes n m before s t x y one short i j f g p q =
     let first : Names files a bytes = names files a bytes one.first one.found in
     let second : Names files b bytes = names files b bytes one.second (ap files (sym one.same) ∙ one.found) in

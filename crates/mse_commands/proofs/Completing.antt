@@ -1,8 +1,7 @@
 -- A run goes through to its end where nothing stands in its way, and what then is known of cut scripts.
-use Rattle.std.proofs.Common.{◌≡◌, ℕ, List, refl, sym, subst, inl, inr}
+use Rattle.std.proofs.Common.{◌≡◌, ℕ, List, refl, subst, inl, inr}
 use Rattle.std.specs.Prelude.{Option, Some, None, IfSome, Result, Ok, ◌⊎◌}
 use Rattle.mse_outside.specs.Outside.{HasRisen, Table}
-use Rattle.mse_calls.specs.declared.entry.Entry.{Entry}
 use Rattle.call_script.specs.declared.script.Script.{Script as CallScript}
 use Rattle.script_run.specs.Lines.{limits}
 use Rattle.script_run.specs.Turns.{calls_in}
@@ -12,7 +11,7 @@ use Rattle.mse_commands.specs.declared.ending.End.{End}
 use Rattle.mse_commands.specs.declared.ending.End.TheVariants.{CallBudget, TaskBudget}
 use Rattle.mse_commands.specs.declared.ending.Status.{Status}
 use Rattle.mse_commands.specs.declared.ending.Status.TheVariants as status
-use Rattle.mse_commands.specs.Asked.{OfWords, Request, Task, ByScript, asked, opening_of}
+use Rattle.mse_commands.specs.Requests.{OfWords, Request, Task, ByScript, request_in, opening_of}
 use Rattle.mse_commands.specs.Loads.{failures}
 use Rattle.mse_commands.specs.Outcomes.{Ends, EndsBehind, EndsRun, RunOutcome, IsWholeRun}
 use Rattle.mse_commands.specs.Complete.{IsCutAnywhere, IsComplete, IsUnhindered, IsRunToEnd}
@@ -38,10 +37,10 @@ ends_complete count request left a b s p w = λ task is u.
     run_complete count request task left a b s (subst (λ (t : Result Task End). EndsBehind count request t left s) is p) w u
 
 pub complete_by : (table : Option Table) (words : List (List ℕ)) (count : ℕ) (left : RunOutcome) (a b : ℕ) (s : Status) → OfWords table words (λ request. Ends count request left s) → (s ≡ status.Write → HasRisen a b)
-    → IfSome table (λ files. IsComplete count (asked files words) left (failures a b) s)
+    → IfSome table (λ files. IsComplete count (request_in files words) left (failures a b) s)
 complete_by None words count left a b s p w = tt
 complete_by (Some files) words count left a b s p w =
-    ends_complete count (asked files words) left a b s (subst (λ (request : Request). Ends count request left s) p.1 p.2) w
+    ends_complete count (request_in files words) left a b s (subst (λ (request : Request). Ends count request left s) p.1 p.2) w
 
 -- ---- cut anywhere
 
@@ -57,6 +56,6 @@ ends_cuts count request left s p = λ script blobs is end silent.
     whole_cuts count script blobs left ran.0 silent
 
 pub cuts_by : (table : Option Table) (words : List (List ℕ)) (count : ℕ) (left : RunOutcome) (s : Status) → OfWords table words (λ request. Ends count request left s)
-    → IfSome table (λ files. IsCutAnywhere (asked files words) left.entries s)
+    → IfSome table (λ files. IsCutAnywhere (request_in files words) left.entries s)
 cuts_by None words count left s p = tt
-cuts_by (Some files) words count left s p = ends_cuts count (asked files words) left s (subst (λ (request : Request). Ends count request left s) p.1 p.2)
+cuts_by (Some files) words count left s p = ends_cuts count (request_in files words) left s (subst (λ (request : Request). Ends count request left s) p.1 p.2)

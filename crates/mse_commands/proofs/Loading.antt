@@ -1,12 +1,12 @@
 -- What was loaded of a library.
 use Rattle.std.proofs.Common.{◌≡◌, ◌≤◌, ◌<◌, ◌+◌, ℕ, length, get_or, take, drop, List, [], ◌∷◌, ◌++◌, refl, ap, sym, ◌∙◌, subst, arith, append_assoc, inl, inr}
-use Rattle.std.specs.Prelude.{Option, Some, None, IsSome, IfSome, ok_or, Result, Ok, Err, All, ◌⊎◌, nat_lt}
+use Rattle.std.specs.Prelude.{Option, Some, None, IsSome, IfSome, ok_or, Result, Ok, Err, All, ◌⊎◌}
 use Rattle.std.proofs.lemmas.Grind.{common_steps}
 use Rattle.std.proofs.lemmas.List.{take-append-drop, drop_more, take_more}
 use Rattle.std.proofs.lemmas.List.Elements.{All-nil, All-cons, All-append, filter_map-append}
 use Rattle.mse_outside.specs.Count.{next_count}
-use Rattle.mse_outside.specs.Outside.{LoadTells, HasRisen, Table}
-use Rattle.mse_outside.specs.declared.library.Loaded.TheVariants.{Done as LoadDone, NoFile as LoadNoFile}
+use Rattle.mse_outside.specs.Outside.{IsLoadTold, HasRisen, Table}
+use Rattle.mse_outside.specs.declared.library.Loaded.TheVariants.{Done as LoadDone}
 use Rattle.bmff_boxes.specs.Reading.{◌>>=◌}
 use Rattle.call_script.specs.declared.fault.ScriptFault.{ScriptFault}
 use Rattle.call_script.specs.declared.script.BlobText.{BlobText}
@@ -15,7 +15,7 @@ use Rattle.call_script.specs.declared.script.Script.{Script as CallScript}
 use Rattle.call_script.specs.Script.{read_of}
 use Rattle.mse_commands.specs.declared.ending.End.{End}
 use Rattle.mse_commands.specs.declared.ending.End.TheVariants.{Memory, Write, Words, NoFile, Read, Script, CallBudget, TaskBudget}
-use Rattle.mse_commands.specs.Asked.{blob_bytes, blobs_bytes, file_in, files_in, loaded, script_loaded, script_read}
+use Rattle.mse_commands.specs.Requests.{blob_bytes, blobs_bytes, file_in, files_in, file_bytes, script_of_file, script_or_fault}
 use Rattle.mse_commands.specs.Loads.{IsReached, IsLoadEnd, IsScriptEnd, failures}
 
 -- ---- names
@@ -91,23 +91,23 @@ end_as table a b c d names more one two (TaskBudget limit) before later reach te
 
 -- ---- a file
 
-found_bytes : (file : Option (List ℕ)) (name new : List ℕ) → LoadTells file [] new LoadDone → ok_or file (NoFile name) ≡ Ok new
+found_bytes : (file : Option (List ℕ)) (name new : List ℕ) → IsLoadTold file [] new LoadDone → ok_or file (NoFile name) ≡ Ok new
 found_bytes None name new p = absurd p
 found_bytes (Some bytes) name new p = ap (λ (x : List ℕ). Ok x) (sym p)
 
-pub load_done : (table : Option Table) (name new : List ℕ) → IfSome table (λ files. LoadTells (files name) [] new LoadDone) → IfSome table (λ files. loaded files name ≡ Ok new)
+pub load_done : (table : Option Table) (name new : List ℕ) → IfSome table (λ files. IsLoadTold (files name) [] new LoadDone) → IfSome table (λ files. file_bytes files name ≡ Ok new)
 load_done None name new p = tt
 load_done (Some files) name new p = found_bytes (files name) name new p
 
 missing : (file : Option (List ℕ)) (name : List ℕ) → file ≡ None → ◌≡◌ {A = Result (List ℕ) End} (ok_or file (NoFile name)) (Err (NoFile name))
 missing file name p = ap (λ (x : Option (List ℕ)). ok_or x (NoFile name)) p
 
-missing_by : (table : Option Table) (name : List ℕ) → IfSome table (λ files. files name ≡ None) → IfSome table (λ files. loaded files name ≡ Err (NoFile name))
+missing_by : (table : Option Table) (name : List ℕ) → IfSome table (λ files. files name ≡ None) → IfSome table (λ files. file_bytes files name ≡ Err (NoFile name))
 missing_by None name p = tt
 missing_by (Some files) name p = missing (files name) name p
 
 pub load_missing : (table : Option Table) (a b : ℕ) (name : List ℕ) (end : End) → IfSome table (λ files. files name ≡ None) → (end ≡ Memory) ⊎ (end ≡ NoFile name)
-    → IsLoadEnd table (failures a b) (name ∷ []) (λ files. loaded files name) end
+    → IsLoadEnd table (failures a b) (name ∷ []) (λ files. file_bytes files name) end
 load_missing table a b name end p (inl e) = rw e tt
 load_missing table a b name end p (inr e) = rw e (missing_by table name p)
 
@@ -116,12 +116,12 @@ first_by None name = tt
 first_by (Some files) name = reached_first files name []
 
 pub load_failed : (table : Option Table) (a b : ℕ) (name : List ℕ) (end : End) → HasRisen a b → (end ≡ Memory) ⊎ (end ≡ Read name)
-    → IsLoadEnd table (failures a b) (name ∷ []) (λ files. loaded files name) end
+    → IsLoadEnd table (failures a b) (name ∷ []) (λ files. file_bytes files name) end
 load_failed table a b name end rose (inl e) = rw e tt
 load_failed table a b name end rose (inr e) = rw e (rose, first_by table name)
 
 -- the bytes of a file are there
-pub loaded_there : (files : Table) (name bytes : List ℕ) → loaded files name ≡ Ok bytes → IsSome (files name)
+pub loaded_there : (files : Table) (name bytes : List ℕ) → file_bytes files name ≡ Ok bytes → IsSome (files name)
 loaded_there files name bytes e = is_there (files name) e
   where
     is_there : (file : Option (List ℕ)) → ◌≡◌ {A = Result (List ℕ) End} (ok_or file (NoFile name)) (Ok bytes) → IsSome file
@@ -130,33 +130,33 @@ loaded_there files name bytes e = is_there (files name) e
 
 -- ---- a script
 
-script_behind : (files : Table) (name bytes : List ℕ) (found : Result CallScript ScriptFault) → loaded files name ≡ Ok bytes → read_of bytes ≡ found
-    → script_loaded files name ≡ script_read found
+script_behind : (files : Table) (name bytes : List ℕ) (found : Result CallScript ScriptFault) → file_bytes files name ≡ Ok bytes → read_of bytes ≡ found
+    → script_of_file files name ≡ script_or_fault found
 script_behind files name bytes found e q = rw (e, q) refl
 
-pub script_done : (table : Option Table) (name bytes : List ℕ) (script : CallScript) → IfSome table (λ files. loaded files name ≡ Ok bytes) → read_of bytes ≡ Ok script
-    → IfSome table (λ files. script_loaded files name ≡ Ok script)
+pub script_done : (table : Option Table) (name bytes : List ℕ) (script : CallScript) → IfSome table (λ files. file_bytes files name ≡ Ok bytes) → read_of bytes ≡ Ok script
+    → IfSome table (λ files. script_of_file files name ≡ Ok script)
 script_done None name bytes script p q = tt
 script_done (Some files) name bytes script p q = script_behind files name bytes (Ok script) p q
 
-script_faulty : (table : Option Table) (name bytes : List ℕ) (fault : ScriptFault) → IfSome table (λ files. loaded files name ≡ Ok bytes) → read_of bytes ≡ Err fault
-    → IfSome table (λ files. script_loaded files name ≡ Err (Script fault))
+script_faulty : (table : Option Table) (name bytes : List ℕ) (fault : ScriptFault) → IfSome table (λ files. file_bytes files name ≡ Ok bytes) → read_of bytes ≡ Err fault
+    → IfSome table (λ files. script_of_file files name ≡ Err (Script fault))
 script_faulty None name bytes fault p q = tt
 script_faulty (Some files) name bytes fault p q = script_behind files name bytes (Err fault) p q
 
-pub script_fault_end : (table : Option Table) (a b : ℕ) (name bytes : List ℕ) (fault : ScriptFault) → IfSome table (λ files. loaded files name ≡ Ok bytes) → read_of bytes ≡ Err fault
+pub script_fault_end : (table : Option Table) (a b : ℕ) (name bytes : List ℕ) (fault : ScriptFault) → IfSome table (λ files. file_bytes files name ≡ Ok bytes) → read_of bytes ≡ Err fault
     → IsScriptEnd table (failures a b) name (Script fault)
 script_fault_end table a b name bytes fault p q = ((bytes, q), script_faulty table name bytes fault p q)
 
-script_fails : (files : Table) (name : List ℕ) (end : End) → loaded files name ≡ Err end → script_loaded files name ≡ Err end
+script_fails : (files : Table) (name : List ℕ) (end : End) → file_bytes files name ≡ Err end → script_of_file files name ≡ Err end
 script_fails files name end e = rw e refl
 
 -- the end of its file is that of the script
-pub script_end : (table : Option Table) (a b : ℕ) (name : List ℕ) (end : End) → IsLoadEnd table (failures a b) (name ∷ []) (λ files. loaded files name) end → IsScriptEnd table (failures a b) name end
+pub script_end : (table : Option Table) (a b : ℕ) (name : List ℕ) (end : End) → IsLoadEnd table (failures a b) (name ∷ []) (λ files. file_bytes files name) end → IsScriptEnd table (failures a b) name end
 script_end table a b name Memory p = tt
 script_end table a b name (Read other) p = p
 script_end table a b name (NoFile other) p =
-    told_as table (λ files. loaded files name) (λ files. script_loaded files name) (NoFile other) (λ files e q. script_fails files name (NoFile other) q) p
+    told_as table (λ files. file_bytes files name) (λ files. script_of_file files name) (NoFile other) (λ files e q. script_fails files name (NoFile other) q) p
 script_end table a b name (Script fault) p = absurd p
 script_end table a b name Write p = absurd p
 script_end table a b name Words p = absurd p
@@ -169,9 +169,9 @@ then_first (Ok x) f y e = (x, refl, e)
 then_first (Err end) f y e = absurd (cc)
 
 -- a script was loaded of a file that is there
-pub script_there : (files : Table) (name : List ℕ) (script : CallScript) → script_loaded files name ≡ Ok script → IsSome (files name)
+pub script_there : (files : Table) (name : List ℕ) (script : CallScript) → script_of_file files name ≡ Ok script → IsSome (files name)
 script_there files name script e =
-    let first = then_first (loaded files name) (λ bytes. script_read (read_of bytes)) script e in
+    let first = then_first (file_bytes files name) (λ bytes. script_or_fault (read_of bytes)) script e in
     loaded_there files name first.0 first.1
 
 -- ---- blobs

@@ -1,71 +1,22 @@
 -- The numbers that words name.
-use Rattle.std.proofs.Common.{zero, suc, lit<, ◌≡◌, ◌≢◌, ◌∙◌, ℕ, ◌<◌, ◌≤◌, ◌^◌, Bool, true, false, List, [], ◌∷◌, length, get_or, Option, Some, None, Result, Ok, Err, ap, subst, refl, sym, ⊎_elim, arith}
+use Rattle.std.proofs.Common.{◌≡◌, ◌∙◌, ℕ, ◌<◌, ◌≤◌, ◌^◌, Bool, true, false, List, Option, Some, None, ap, sym, refl, ⊎_elim, arith}
 use Rattle.std.proofs.lemmas.Bool.{cases_lt}
-use Rattle.std.proofs.lemmas.Fmt.{digits_decimal, digits_value-decimal, decimal-digits_value, decimal_digit, decimal_nonempty, first_decimal}
 use Rattle.std.proofs.lemmas.Grind.{common_steps}
-use Rattle.std.proofs.lemmas.Str.Parse.{IsNumeralModel, numerals_by_value, tells_all_ascii_digits, parse_plain}
-use Rattle.std.specs.Prelude.{◌&&◌, nat_le, if◌then◌else◌, IfSome}
+use Rattle.std.specs.Prelude.{◌⊎◌, ◌&&◌, nat_le, option_and_then, if◌then◌else◌, IfSome}
 use Rattle.std.specs.Fmt.{decimal}
-use Rattle.std.specs.Result.{OkIff}
-use Rattle.std.specs.Str.{all_ascii_digits}
-use Rattle.std.specs.Str.Parse.{digits_value, ParsesUnsigned}
-use Rattle.mse_commands.specs.Words.{number_within, number_of}
+use Rattle.call_script.specs.Numbers.{below, number_of, index_of}
+use Rattle.call_script.proofs.Decimals.{number_of-decimal}
+use Rattle.call_script.proofs.PrintedNumbers.{number_read}
+use Rattle.mse_commands.specs.Words.{count_within, count_of_word}
 
--- all decimal digits, by std's test
-own : IsNumeralModel (λ ds. all_ascii_digits ds ≡ true) (digits_value 10)
-own = numerals_by_value _ tells_all_ascii_digits
+within_yes : (most n : ℕ) → 1 ≤ n → n ≤ most → count_within most n ≡ Some n
+within_yes most n one few = grind (arith, common_steps)
 
-within_yes : (most n : ℕ) → n ≤ most → number_within most n ≡ Some n
-within_yes most n h = grind (arith, common_steps)
-
-within_no : (most n : ℕ) → most < n → number_within most n ≡ None
+within_no : (most n : ℕ) → most < n → count_within most n ≡ None
 within_no most n h = grind (arith, common_steps)
 
-first_digit : (d : ℕ) → 49 ≤ d → d ≤ 57 → (nat_le 49 d && nat_le d 57) ≡ true
-first_digit d low high = grind (arith, common_steps)
-
--- a word that begins with a digit but 0
-number_at : (most d : ℕ) (ds : List ℕ) → 49 ≤ d → d ≤ 57 → number_of most (d ∷ ds) ≡ (if all_ascii_digits ds then number_within most (digits_value 10 (d ∷ ds)) else None)
-number_at most d ds low high = ap (λ (t : Bool). if t && all_ascii_digits ds then number_within most (digits_value 10 (d ∷ ds)) else None) (first_digit d low high)
-
--- it is read
-number_read : {E : Type 0} (most d : ℕ) (ds : List ℕ) (r : Result ℕ E) (n : ℕ) → 49 ≤ d → d ≤ 57 → ParsesUnsigned 32 10 (d ∷ ds) r → r ≡ Ok n → number_of most (d ∷ ds) ≡ number_within most n
-number_read {E} most d ds r n low high read e =
-    let plus : d ≢ 43 = λ q. absurd (omega (arith, q)) in
-    let ok = subst (λ (x : Result ℕ E). OkIff x ((all_ascii_digits (d ∷ ds) ≡ true) × (0 < length (d ∷ ds)) × (digits_value 10 (d ∷ ds) < 2 ^ 32)) (digits_value 10 (d ∷ ds))) e (parse_plain own 32 (d ∷ ds) r read plus) in
-    let digits = (tells_all_ascii_digits.parts d ds ok.0.0).1 in
-    number_at most d ds low high
-    ∙ ap (λ (t : Bool). if t then number_within most (digits_value 10 (d ∷ ds)) else None) digits
-    ∙ ap (number_within most) (sym ok.1)
-
--- it is not read
-not_digits : (most d : ℕ) (ds : List ℕ) (t : Bool) → most < 2 ^ 32 → 49 ≤ d → d ≤ 57 → all_ascii_digits ds ≡ t
-    → ¬ ((all_ascii_digits (d ∷ ds) ≡ true) × (0 < length (d ∷ ds)) × (digits_value 10 (d ∷ ds) < 2 ^ 32)) → number_of most (d ∷ ds) ≡ None
-not_digits most d ds false bound low high same never =
-    number_at most d ds low high ∙ ap (λ (t : Bool). if t then number_within most (digits_value 10 (d ∷ ds)) else None) same
-not_digits most d ds true bound low high same never =
-    let all = tells_all_ascii_digits.more d ds (omega arith, omega arith) same in
-    let great : most < digits_value 10 (d ∷ ds) = ⊎_elim (λ h. absurd (never (all, omega arith, h))) (λ h. omega (arith, h)) (cases_lt (digits_value 10 (d ∷ ds)) (2 ^ 32)) in
-    number_at most d ds low high ∙ ap (λ (t : Bool). if t then number_within most (digits_value 10 (d ∷ ds)) else None) same ∙ within_no most (digits_value 10 (d ∷ ds)) great
-
-number_not_read : {E : Type 0} (most d : ℕ) (ds : List ℕ) (r : Result ℕ E) (err : E) → most < 2 ^ 32 → 49 ≤ d → d ≤ 57 → ParsesUnsigned 32 10 (d ∷ ds) r → r ≡ Err err → number_of most (d ∷ ds) ≡ None
-number_not_read {E} most d ds r err bound low high read e =
-    let plus : d ≢ 43 = λ q. absurd (omega (arith, q)) in
-    let never = subst (λ (x : Result ℕ E). OkIff x ((all_ascii_digits (d ∷ ds) ≡ true) × (0 < length (d ∷ ds)) × (digits_value 10 (d ∷ ds) < 2 ^ 32)) (digits_value 10 (d ∷ ds))) e (parse_plain own 32 (d ∷ ds) r read plus) in
-    not_digits most d ds (all_ascii_digits ds) bound low high refl never
-
--- the same of a word that is told by its first byte
-pub word_read : {E : Type 0} (most : ℕ) (word : List ℕ) (r : Result ℕ E) (n : ℕ) → 1 ≤ length word → 49 ≤ get_or word 0 0 → get_or word 0 0 ≤ 57 → ParsesUnsigned 32 10 word r → r ≡ Ok n
-    → number_within most n ≡ number_of most word
-word_read most [] r n some low high read e = absurd (omega arith)
-word_read most (d ∷ ds) r n some low high read e = sym (number_read most d ds r n low high read e)
-
-pub word_not_read : {E : Type 0} (most : ℕ) (word : List ℕ) (r : Result ℕ E) (err : E) → most < 2 ^ 32 → 1 ≤ length word → 49 ≤ get_or word 0 0 → get_or word 0 0 ≤ 57 → ParsesUnsigned 32 10 word r → r ≡ Err err
-    → None ≡ number_of most word
-word_not_read most [] r err bound some low high read e = absurd (omega arith)
-word_not_read most (d ∷ ds) r err bound some low high read e = sym (number_not_read most d ds r err bound low high read e)
-
--- ---- words and numbers
+within_zero : (most n : ℕ) → n < 1 → count_within most n ≡ None
+within_zero most n h = grind (arith, common_steps)
 
 some_then : {A : Type 0} (t : Bool) (o : Option A) (v : A) → (if t then o else None) ≡ Some v → (t ≡ true) × (o ≡ Some v)
 some_then true o v e = (refl, e)
@@ -78,47 +29,58 @@ both_true false b e = absurd cc
 at_least : (m n : ℕ) → nat_le m n ≡ true → m ≤ n
 at_least m n e = grind (arith, common_steps)
 
-within_some : (most m n : ℕ) → number_within most m ≡ Some n → (m ≤ most) × (m ≡ n)
+within_some : (most m n : ℕ) → count_within most m ≡ Some n → (1 ≤ m) × (m ≤ most) × (m ≡ n)
 within_some most m n e =
-    let a = some_then (nat_le m most) (Some m) n e in
-    (at_least m most a.0, cc (a.1))
+    let a = some_then (nat_le 1 m && nat_le m most) (Some m) n e in
+    let b = both_true (nat_le 1 m) (nat_le m most) a.0 in
+    (at_least 1 m b.0, at_least m most b.1, cc (a.1))
+
+-- what is not below the limit is above the greatest count
+below_first : (most : ℕ) (o : Option ℕ) → most < 2 ^ 32 → option_and_then (count_within most) (option_and_then (below (2 ^ 32)) o) ≡ option_and_then (count_within most) o
+below_first most None bound = refl
+below_first most (Some n) bound = ⊎_elim
+    (λ low. ap (option_and_then (count_within most)) (is_below n low))
+    (λ high. ap (option_and_then (count_within most)) (is_none n high) ∙ sym (within_no most n (omega (arith, high, bound))))
+    (cases_lt n (2 ^ 32))
+  where
+    is_below : (n : ℕ) → n < 2 ^ 32 → below (2 ^ 32) n ≡ Some n
+    is_below n h = grind (arith, common_steps)
+
+    is_none : (n : ℕ) → 2 ^ 32 ≤ n → below (2 ^ 32) n ≡ None
+    is_none n h = grind (arith, common_steps)
+
+count_by_index : (most : ℕ) (word : List ℕ) → most < 2 ^ 32 → option_and_then (count_within most) (index_of word) ≡ count_of_word most word
+unfolding index_of
+count_by_index most word bound = below_first most (number_of word) bound
+
+-- what the code finds of an index
+pub count_none : (most : ℕ) (word : List ℕ) → most < 2 ^ 32 → index_of word ≡ None → None ≡ count_of_word most word
+count_none most word bound e = sym (ap (option_and_then (count_within most)) e) ∙ count_by_index most word bound
+
+pub count_found : (most n : ℕ) (word : List ℕ) → most < 2 ^ 32 → index_of word ≡ Some n → 1 ≤ n → n ≤ most → Some n ≡ count_of_word most word
+count_found most n word bound e one few =
+    sym (ap (option_and_then (count_within most)) e ∙ within_yes most n one few) ∙ count_by_index most word bound
+
+pub count_outside : (most n : ℕ) (word : List ℕ) → most < 2 ^ 32 → index_of word ≡ Some n → (n < 1) ⊎ (most < n) → None ≡ count_of_word most word
+count_outside most n word bound e out =
+    sym (ap (option_and_then (count_within most)) e ∙ ⊎_elim (within_zero most n) (within_no most n) out) ∙ count_by_index most word bound
+
+word_by : (most n : ℕ) (word : List ℕ) (o : Option ℕ) → number_of word ≡ o → most < 2 ^ 32 → option_and_then (count_within most) o ≡ Some n → (1 ≤ n) × (n ≤ most) × (word ≡ decimal n)
+word_by most n word None is bound e = absurd cc
+word_by most n word (Some m) is bound e =
+    let a = within_some most m n e in
+    (omega (arith, a.0, a.2), omega (arith, a.1, a.2), number_read word m is (omega (arith, a.1, bound)) ∙ ap decimal a.2)
 
 -- a word that names a number is the number in decimal digits
-pub word_is : (most n : ℕ) (word : List ℕ) → most < 2 ^ 32 → number_of most word ≡ Some n → (1 ≤ n) × (n ≤ most) × (word ≡ decimal n)
-word_is most n [] bound e = absurd cc
-word_is most n (d ∷ ds) bound e =
-    let value : ℕ = digits_value 10 (d ∷ ds) in
-    let a = some_then ((nat_le 49 d && nat_le d 57) && all_ascii_digits ds) (number_within most value) n e in
-    let b = both_true (nat_le 49 d && nat_le d 57) (all_ascii_digits ds) a.0 in
-    let c = both_true (nat_le 49 d) (nat_le d 57) b.0 in
-    let low : 49 ≤ d = at_least 49 d c.0 in
-    let high : d ≤ 57 = at_least d 57 c.1 in
-    let all = tells_all_ascii_digits.more d ds (omega arith, omega arith) b.1 in
-    let found = within_some most value n a.1 in
-    let text : decimal value ≡ d ∷ ds = decimal-digits_value own (d ∷ ds) all (omega arith) (λ q. absurd (omega (arith, q))) (omega (arith, found.0)) in
-    let named : d ∷ ds ≡ decimal n = sym text ∙ ap decimal found.1 in
-    (positive n d ds low named, omega (arith, found.0, found.1), named)
-  where
-    positive : (n d : ℕ) (ds : List ℕ) → 49 ≤ d → d ∷ ds ≡ decimal n → 1 ≤ n
-    positive zero d ds low e =
-        let first : d ≡ 48 = cc (e ∙ decimal_digit 0 (lit< tt)) in absurd (omega arith)
-    positive (suc n) d ds low e = omega arith
+pub word_is : (most n : ℕ) (word : List ℕ) → most < 2 ^ 32 → count_of_word most word ≡ Some n → (1 ≤ n) × (n ≤ most) × (word ≡ decimal n)
+word_is most n word bound e = word_by most n word (number_of word) refl bound e
 
 -- and so it has its bounds
-pub bounds_by : (most : ℕ) (word : List ℕ) (o : Option ℕ) → most < 2 ^ 32 → o ≡ number_of most word → IfSome o (λ n. (1 ≤ n) × (n ≤ most))
+pub bounds_by : (most : ℕ) (word : List ℕ) (o : Option ℕ) → most < 2 ^ 32 → o ≡ count_of_word most word → IfSome o (λ n. (1 ≤ n) × (n ≤ most))
 bounds_by most word None bound e = tt
 bounds_by most word (Some n) bound e = let h = word_is most n word bound (sym e) in (h.0, h.1)
 
 -- and each number is named by its decimal digits
-named_by : (most n : ℕ) (word : List ℕ) → 0 < length word → 48 < get_or word 0 0 → all_ascii_digits word ≡ true → digits_value 10 word ≡ n → n ≤ most → number_of most word ≡ Some n
-named_by most n [] some low all value few = absurd (omega arith)
-named_by most n (d ∷ ds) some low all value few =
-    let digits = tells_all_ascii_digits.parts d ds all in
-    number_at most d ds (omega arith) (omega (arith, digits.0.1))
-    ∙ ap (λ (t : Bool). if t then number_within most (digits_value 10 (d ∷ ds)) else None) digits.1
-    ∙ ap (number_within most) value ∙ within_yes most n few
-
-pub is_named : (most n : ℕ) → most < 2 ^ 32 → 1 ≤ n → n ≤ most → number_of most (decimal n) ≡ Some n
+pub is_named : (most n : ℕ) → most < 2 ^ 32 → 1 ≤ n → n ≤ most → count_of_word most (decimal n) ≡ Some n
 is_named most n bound one few =
-    let small : n < 2 ^ 64 = omega arith in
-    named_by most n (decimal n) (decimal_nonempty n small) (first_decimal n (omega arith) small) (digits_decimal own n small) (digits_value-decimal own n small) few
+    ap (option_and_then (count_within most)) (number_of-decimal n (omega (arith, few, bound))) ∙ within_yes most n one few

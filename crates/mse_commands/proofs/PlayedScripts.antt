@@ -1,5 +1,5 @@
 -- How a script was played.
-use Rattle.std.proofs.Common.{◌≡◌, ◌<◌, ℕ, List, [], ◌++◌, length, map, refl, sym, subst, arith, inl, inr}
+use Rattle.std.proofs.Common.{◌≡◌, ◌<◌, ℕ, List, ◌++◌, length, map, refl, sym, subst, arith, inl, inr}
 use Rattle.std.proofs.lemmas.List.{length-map}
 use Rattle.std.specs.Prelude.{true, false, Option, Result, Ok, Err, OnErr}
 use Rattle.mse_calls.specs.declared.rules.Rule.{Rule}
@@ -14,7 +14,7 @@ use Rattle.script_run.specs.declared.stop.Stop.{Stop}
 use Rattle.script_run.specs.declared.stop.Stop.TheVariants.{Halted, CallBudget, TaskBudget}
 use Rattle.script_run.specs.Follows.{AreScriptLinesDone}
 use Rattle.script_run.specs.PlayedParts.{IsPlayed, IsPlayedUpTo}
-use Rattle.script_run.specs.Rules.{rules_at, rules_for}
+use Rattle.script_run.specs.Rules.{rules_of_listener, rules_for}
 use Rattle.listeners.specs.Views.{RunView}
 use Rattle.script_run.specs.RunStates.{RunState, run_at}
 use Rattle.script_run.specs.Writes.{IsWritten, IsFrontWritten}
@@ -48,7 +48,7 @@ err_behind (Err e) before text old mid new w p = front_more before text old mid 
 
 -- the listeners have the rules that they were given
 pub have_rules : {X : Type 0} (f : X → List Rule) (xs : List X) (n : ℕ) (rules list : List Rule) (now : List (List Rule)) → now ≡ map f xs → list ≡ rules
-    → ((w : ℕ) → w < n → rules_at (map f xs) w ≡ rules_for w list) → length xs ≡ n → HaveRules rules now
+    → ((w : ℕ) → w < n → rules_of_listener (map f xs) w ≡ rules_for w list) → length xs ≡ n → HaveRules rules now
 have_rules f xs n rules list now e q given len =
     subst (λ (x : List (List Rule)). HaveRules rules x) (sym e)
     (subst (λ (r : List Rule). HaveRules r (map f xs)) q (λ w h. given w (omega (arith, h, len, length-map xs f))))

@@ -1,5 +1,5 @@
 -- What is said of how a run ended.
-use Rattle.std.proofs.Common.{◌≡◌, ◌≢◌, ◌≤◌, ℕ, List, [], ◌++◌, refl, ap, sym, ◌∙◌, subst, arith, inl, inr}
+use Rattle.std.proofs.Common.{◌≡◌, ◌≢◌, ◌≤◌, ℕ, List, refl, ap, sym, ◌∙◌, subst, arith, inl, inr}
 use Rattle.std.specs.Prelude.{Bool, true, false, is_some, Option, Some, None, IsSome, Result, Ok, Err, ◌⊎◌}
 use Rattle.mse_outside.specs.Outside.{HasRisen, Table}
 use Rattle.mse_calls.specs.declared.entry.Entry.{Entry}
@@ -18,12 +18,12 @@ use Rattle.mse_commands.specs.declared.ending.End.{End}
 use Rattle.mse_commands.specs.declared.ending.End.TheVariants.{Memory, Write, Words, NoFile, Read, Script, CallBudget, TaskBudget}
 use Rattle.mse_commands.specs.declared.ending.Status.{Status}
 use Rattle.mse_commands.specs.declared.ending.Status.TheVariants as status
-use Rattle.mse_commands.specs.Asked.{OfWords, Request, Task, ByScript, ByFile, ByRemux}
+use Rattle.mse_commands.specs.Requests.{OfWords, Request, Task, ByScript, ByFile, ByRemux}
 use Rattle.mse_commands.specs.Endings.{error_line, status_of}
 use Rattle.mse_commands.specs.Outcomes.{Ends, EndsBehind, EndsBy, EndsByRead, EndsRun, EndsShort, EndsWith, HasFailedRead, HasCause, HaveTheirRules, IsBroken, IsHeardTo, RunOutcome, IsFrontRun, IsNothingRun, IsSaid, IsFrontSaid, IsSomeSaid, IsTextWritten}
-use Rattle.mse_commands.specs.Says.{IsHalfSaid, IsWholeSaid, IsEndSaid, IsLineSaid}
-use Rattle.mse_commands.specs.Shown.{last_state, shown_lines, text_of}
-use Rattle.mse_commands.specs.Works.{IsNothingDone, IsSomeDone, IsDoneUpTo, IsRequestDone, IsRequestDoneBy, IsTaskMissing, broken_in}
+use Rattle.mse_commands.specs.Says.{IsEndSaid, IsLineSaid}
+use Rattle.mse_commands.specs.Shown.{last_state, shown_lines}
+use Rattle.mse_commands.specs.Works.{IsNothingDone, IsSomeDone, IsDoneUpTo, IsRequestDone, IsRequestDoneBy, IsTaskMissing, is_broken_in}
 use Rattle.mse_commands.proofs.Loading.{rose_within}
 
 -- ---- the same when more was written
@@ -93,12 +93,12 @@ some_true : (o : Option FaultView) → true ≡ is_some o → IsSome o
 some_true None e = absurd (cc)
 some_true (Some f) e = refl
 
-not_broken : (task : Task) (entries : List Entry) → false ≡ broken_in task entries → ¬ IsBroken task entries
+not_broken : (task : Task) (entries : List Entry) → false ≡ is_broken_in task entries → ¬ IsBroken task entries
 not_broken (ByScript script blobs) entries e = λ x. x
 not_broken (ByFile command bytes) entries e = none_false (last_state (ByFile command bytes) entries).core.source.fault e
 not_broken (ByRemux bytes) entries e = λ x. cc (e, x)
 
-broken_by : (task : Task) (entries : List Entry) → true ≡ broken_in task entries → IsBroken task entries
+broken_by : (task : Task) (entries : List Entry) → true ≡ is_broken_in task entries → IsBroken task entries
 broken_by (ByScript script blobs) entries e = absurd (cc)
 broken_by (ByFile command bytes) entries e = some_true (last_state (ByFile command bytes) entries).core.source.fault e
 broken_by (ByRemux bytes) entries e = sym e

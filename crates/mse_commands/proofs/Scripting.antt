@@ -1,5 +1,5 @@
 -- Scripts that were read.
-use Rattle.std.proofs.Common.{◌≡◌, ◌≤◌, ◌+◌, ◌^◌, ℕ, suc, List, [], ◌∷◌, length, refl, ap, ◌∙◌, arith}
+use Rattle.std.proofs.Common.{◌≡◌, ◌≤◌, ◌+◌, ◌^◌, ℕ, suc, List, [], ◌∷◌, length, refl, ap, arith}
 use Rattle.std.specs.Prelude.{Bool, true, false, nat_le, if◌then◌else◌, Option, Some, None, Result, Ok, Err, option_and_then}
 use Rattle.std.specs.Str.{is_utf8}
 use Rattle.std.proofs.lemmas.Grind.{common_steps}
@@ -14,7 +14,7 @@ use Rattle.call_script.specs.declared.script.StepLine.{StepLine}
 use Rattle.call_script.specs.Keys.{count_of}
 use Rattle.call_script.specs.Lines.{step_of_line}
 use Rattle.call_script.specs.Members.{in_front, members_from, members_of}
-use Rattle.call_script.specs.Script.{◌>>=◌, at_most, blobs_of, document_of, known_keys, list_at, number_at, numbered, read_of, rules_of, script_of, steps_of}
+use Rattle.call_script.specs.Script.{◌>>=◌, at_most, blobs_of, document_of, known_keys, list_at, number_at, with_fault_number, read_of, rules_of, script_of, steps_of}
 
 -- what one thing gave, of which another came
 after_first : {A B : Type 0} (r : Result A ScriptFault) (f : A → Result B ScriptFault) (y : B) → (r >>= f) ≡ Ok y → (x : A) × (r ≡ Ok x) × (f x ≡ Ok y)
@@ -35,7 +35,7 @@ members_length read n no_items xs e = let none : xs ≡ [] = cc in rw none refl
 members_length read n (item value items) xs e =
     front_length n (read value) (members_from read (n + 1) items) xs (count_of items) e (λ ys q. members_length read (n + 1) items ys q)
 
-numbered_done : {A : Type 0} (fault : ℕ → ScriptFault) (r : Result A ℕ) (x : A) → numbered fault r ≡ Ok x → r ≡ Ok x
+numbered_done : {A : Type 0} (fault : ℕ → ScriptFault) (r : Result A ℕ) (x : A) → with_fault_number fault r ≡ Ok x → r ≡ Ok x
 numbered_done fault (Ok y) x e = let same : y ≡ x = cc in ap (λ z. Ok z) same
 numbered_done fault (Err n) x e = absurd (cc)
 

@@ -1,6 +1,6 @@
 -- A file that was shown, and what was asked for.
-use Rattle.std.proofs.Common.{◌≡◌, ℕ, List, [], ◌++◌, length, refl, subst, inl, inr}
-use Rattle.std.specs.Prelude.{Bool, false, is_some, Option, Some, None, Result, Ok, Err}
+use Rattle.std.proofs.Common.{◌≡◌, ℕ, List, [], length, refl, subst, inl, inr}
+use Rattle.std.specs.Prelude.{Bool, is_some, Option, Some, None, Result, Ok, Err}
 use Rattle.mse_outside.specs.Outside.{Table}
 use Rattle.mse_calls.specs.declared.rules.Rule.{Rule}
 use Rattle.mse_calls.specs.declared.entry.Entry.{Entry}
@@ -15,7 +15,7 @@ use Rattle.script_run.specs.Writes.{IsWritten, IsFrontWritten}
 use Rattle.mse_commands.specs.declared.ending.End.{End}
 use Rattle.mse_commands.specs.declared.ending.End.TheVariants.{Memory, Words}
 use Rattle.mse_commands.specs.declared.words.Command.{Command}
-use Rattle.mse_commands.specs.Asked.{OfCommand, OfWords, request_of}
+use Rattle.mse_commands.specs.Requests.{OfCommand, OfWords, request_of}
 use Rattle.mse_commands.specs.Endings.{end_of_halt}
 use Rattle.mse_commands.specs.Outcomes.{RunOutcome, outcome, outside_of}
 use Rattle.mse_commands.specs.Shown.{file_closing, pieces_by}

@@ -1,15 +1,14 @@
 -- What was done of what was asked for.
-use Rattle.std.proofs.Common.{◌≡◌, ◌^◌, ◌<◌, ◌≤◌, ℕ, suc, List, [], ◌∷◌, ◌++◌, length, refl, ap, sym, ◌∙◌, subst, arith, inl, inr, pos}
-use Rattle.std.specs.Prelude.{Bool, true, false, Option, Some, None, IfSome, Result, Ok, Err, is_err, ◌⊎◌}
+use Rattle.std.proofs.Common.{◌≡◌, ◌≤◌, ℕ, suc, List, [], ◌∷◌, ◌++◌, length, refl, ap, sym, ◌∙◌, subst, arith, inl, inr}
+use Rattle.std.specs.Prelude.{Bool, true, Option, Some, None, IfSome, Result, Ok, Err, is_err}
 use Rattle.std.proofs.lemmas.List.{append-nil}
 use Rattle.mse_outside.specs.Outside.{HasRisen, Table}
 use Rattle.bmff_write.specs.Made.{made_bytes}
 use Rattle.mse_calls.specs.declared.entry.Entry.{Entry}
 use Rattle.mse_calls.specs.declared.rules.Rule.{Rule}
-use Rattle.call_script.specs.declared.script.BlobText.{BlobText}
 use Rattle.call_script.specs.declared.script.Script.{Script as CallScript}
 use Rattle.call_script.specs.declared.script.StepLine.{StepLine}
-use Rattle.mse_engine.specs.State.{State, opening_state}
+use Rattle.mse_engine.specs.State.{State}
 use Rattle.mse_engine.specs.Standing.{KeptEngine, Stands}
 use Rattle.mse_engine.specs.Run.{after_entries}
 use Rattle.mse_engine.specs.Transitions.{IsTransition}
@@ -17,7 +16,7 @@ use Rattle.mse_engine.specs.Views.{view_in}
 use Rattle.mse_engine.proofs.Transitions.{goes_none}
 use Rattle.event_text.specs.Block.{closing_text}
 use Rattle.listeners.specs.declared.listener.Note.{Note}
-use Rattle.remux.specs.Remuxed.{remuxed}
+use Rattle.remux.specs.Pieces.{pieces_of_file}
 use Rattle.script_run.specs.declared.stop.Halt.{Halt}
 use Rattle.script_run.specs.declared.stop.Halt.TheVariants as halt
 use Rattle.script_run.specs.declared.stop.Stop.{Stop}
@@ -36,13 +35,13 @@ use Rattle.mse_commands.specs.declared.ending.End.{End}
 use Rattle.mse_commands.specs.declared.ending.End.TheVariants.{Memory, Write, Words, NoFile, Read, Script, CallBudget, TaskBudget}
 use Rattle.mse_commands.specs.declared.words.Command.{Command}
 use Rattle.mse_commands.specs.declared.words.Command.TheVariants.{Ranges, Pieces, Make, Play, Remux, Feed}
-use Rattle.mse_commands.specs.Asked.{IsFileCommand, IsLackOf, IsReadOf, IsTaskOf, OfCommand, Request, Task, ByScript, ByFile, ByRemux, blobs_bytes, file_by, file_request, file_task, files_by, files_in, files_of_script, loaded, opening_of, remux_request, remux_task, request_of, script_loaded, script_request, script_task}
+use Rattle.mse_commands.specs.Requests.{IsFileCommand, IsLackOf, IsReadOf, IsTaskOf, OfCommand, Request, Task, ByScript, ByFile, ByRemux, blobs_bytes, file_by, file_request, file_task, files_by, files_in, files_of_script, file_bytes, opening_of, remux_request, remux_task, request_of, script_of_file, script_request, script_task}
 use Rattle.mse_commands.specs.Loads.{IsMade, IsReached, IsUnmade, IsLoadEnd, IsScriptEnd, failures}
 use Rattle.mse_commands.specs.Endings.{end_of_halt}
-use Rattle.mse_commands.specs.Outcomes.{HaveRules, IsRun, RunOutcome, IsFrontRun, IsWholeRun, outcome, outside_of}
+use Rattle.mse_commands.specs.Outcomes.{IsRun, RunOutcome, IsFrontRun, IsWholeRun, outcome, outside_of}
 use Rattle.mse_commands.specs.Remuxing.{remux_text}
-use Rattle.mse_commands.specs.Shown.{IsAllOf, IsWholeFile, file_closing, last_state, pieces_by, text_of}
-use Rattle.mse_commands.specs.Works.{IsAppended, IsPartAppended, IsAllDone, IsNothingDone, IsSomeDone, IsDoneUpTo, IsFileShown, IsFileFrontShown, PlaysScript, IsScriptHalfPlayed, IsScriptPlayed, IsScriptCutShort, IsScriptStopped, IsScriptUnplayed, IsFrontShown, ShowsFile, IsRequestDone, IsRequestDoneBy, IsTaskDone, script_inputs}
+use Rattle.mse_commands.specs.Shown.{IsWholeFile, file_closing, last_state, pieces_by}
+use Rattle.mse_commands.specs.Works.{IsAppended, IsPartAppended, IsNothingDone, IsSomeDone, IsDoneUpTo, IsFileFrontShown, PlaysScript, IsScriptHalfPlayed, IsScriptPlayed, IsScriptCutShort, IsScriptStopped, IsScriptUnplayed, IsFrontShown, ShowsFile, IsRequestDone, IsRequestDoneBy, IsTaskDone, script_inputs}
 use Rattle.mse_commands.proofs.Loading.{end_as, reached_behind, reached_first, reached_more, script_there}
 
 -- ---- what was not loaded
@@ -113,9 +112,9 @@ untold_file count name command after names told (TaskBudget limit) lack n p = ab
 
 untold_script : (count : ℕ) (name : List ℕ) (after : RunOutcome) (end : End) → IsNothingDone after → IsScriptEnd None (failures after.before.faults after.now.faults) name end
     → OfCommand None name (Some Play) (λ request. IsRequestDone count request after (Err end))
-untold_script count name after Memory n p = untold_file count name Play after (name ∷ []) (λ files. script_loaded files name) Memory (λ other. tt) n p
-untold_script count name after (Read other) n p = untold_file count name Play after (name ∷ []) (λ files. script_loaded files name) (Read other) (λ x. tt) n p
-untold_script count name after (NoFile other) n p = untold_file count name Play after (name ∷ []) (λ files. script_loaded files name) (NoFile other) (λ x. tt) n p
+untold_script count name after Memory n p = untold_file count name Play after (name ∷ []) (λ files. script_of_file files name) Memory (λ other. tt) n p
+untold_script count name after (Read other) n p = untold_file count name Play after (name ∷ []) (λ files. script_of_file files name) (Read other) (λ x. tt) n p
+untold_script count name after (NoFile other) n p = untold_file count name Play after (name ∷ []) (λ files. script_of_file files name) (NoFile other) (λ x. tt) n p
 untold_script count name after (Script fault) n p = (no_request [] (Script fault), p.0, (n, refl))
 untold_script count name after Write n p = absurd p
 untold_script count name after Words n p = absurd p
@@ -279,24 +278,24 @@ file_works (Some files) f0 f1 name bytes command a b w0 w1 count notes rules res
 
 -- ---- a classic file
 
-remux_fails : (files : Table) (name : List ℕ) (end : End) → loaded files name ≡ Err end → remux_task files name ≡ Err end
+remux_fails : (files : Table) (name : List ℕ) (end : End) → file_bytes files name ≡ Err end → remux_task files name ≡ Err end
 remux_fails files name end e = rw e refl
 
-remux_goes : (files : Table) (name bytes : List ℕ) → loaded files name ≡ Ok bytes → remux_task files name ≡ Ok (ByRemux bytes)
+remux_goes : (files : Table) (name bytes : List ℕ) → file_bytes files name ≡ Ok bytes → remux_task files name ≡ Ok (ByRemux bytes)
 remux_goes files name bytes e = rw e refl
 
 pub remux_not_loaded : (table : Option Table) (a b : ℕ) (name : List ℕ) (end : End) (written : Option (List ℕ)) (count : ℕ) (notes : List (List Note)) (rules : List (List Rule))
-    → IsLoadEnd table (failures a b) (name ∷ []) (λ files. loaded files name) end
+    → IsLoadEnd table (failures a b) (name ∷ []) (λ files. file_bytes files name) end
     → OfCommand table name (Some Remux) (λ request. IsRequestDone count request (outcome [] None (outside_of a written notes rules) (outside_of b written notes rules)) (Err end))
 remux_not_loaded None a b name end written count notes rules p =
-    untold_file count name Remux (outcome [] None (outside_of a written notes rules) (outside_of b written notes rules)) (name ∷ []) (λ files. loaded files name) end (λ other. tt) (did_nothing a b written notes rules) p
+    untold_file count name Remux (outcome [] None (outside_of a written notes rules) (outside_of b written notes rules)) (name ∷ []) (λ files. file_bytes files name) end (λ other. tt) (did_nothing a b written notes rules) p
 remux_not_loaded (Some files) a b name end written count notes rules p =
     let after : RunOutcome = outcome [] None (outside_of a written notes rules) (outside_of b written notes rules) in
     let request : Request = remux_request files name in (
       request,
       refl,
       not_loaded_by count request (remux_task files name) after end (did_nothing a b written notes rules)
-          (told_file files request (remux_task files name) after (name ∷ []) (loaded files name) end (remux_fails files name end) (λ n q. q) p),
+          (told_file files request (remux_task files name) after (name ∷ []) (file_bytes files name) end (remux_fails files name end) (λ n q. q) p),
     )
 
 -- nothing is in the journal, and there is no engine
@@ -304,7 +303,7 @@ remux_ran : (bytes : List ℕ) (a b : ℕ) (w0 w1 : Option (List ℕ)) (notes : 
 remux_ran bytes a b w0 w1 notes rules = record { replays = tt; sound = tt; engine = refl }
 
 remux_whole : (count : ℕ) (request : Request) (bytes : List ℕ) (a b : ℕ) (w0 w1 : Option (List ℕ)) (notes : List (List Note)) (rules : List (List Rule)) (broken : Bool)
-    → IsWritten (remux_text bytes) w0 w1 → broken ≡ is_err (remuxed bytes) → IsTaskDone count request (ByRemux bytes) (outcome [] None (outside_of a w0 notes rules) (outside_of b w1 notes rules)) (Ok broken)
+    → IsWritten (remux_text bytes) w0 w1 → broken ≡ is_err (pieces_of_file bytes) → IsTaskDone count request (ByRemux bytes) (outcome [] None (outside_of a w0 notes rules) (outside_of b w1 notes rules)) (Ok broken)
 remux_whole count request bytes a b w0 w1 notes rules broken wrote is = record {
   ran = record { run = remux_ran bytes a b w0 w1 notes rules; all = refl; wrote = wrote; heard = (refl, refl) };
   broken_is = is;
@@ -324,7 +323,7 @@ remux_half count request halt.Memory bytes a b w0 w1 notes rules wrote = inr (re
 remux_half count request halt.Write bytes a b w0 w1 notes rules wrote = remux_some count halt.Write bytes a b w0 w1 notes rules wrote
 
 -- what is asked for where the file is there
-remux_asked : (table : Option Table) (name bytes : List ℕ) (count : ℕ) (after : RunOutcome) (result : Result Bool End) → IfSome table (λ files. loaded files name ≡ Ok bytes)
+remux_asked : (table : Option Table) (name bytes : List ℕ) (count : ℕ) (after : RunOutcome) (result : Result Bool End) → IfSome table (λ files. file_bytes files name ≡ Ok bytes)
     → ((request : Request) → IsTaskDone count request (ByRemux bytes) after result) → OfCommand table name (Some Remux) (λ request. IsRequestDone count request after result)
 remux_asked None name bytes count after result is p =
     let request : Request = record { files = λ x. None; names = []; task = Ok (ByRemux bytes) } in
@@ -334,29 +333,29 @@ remux_asked (Some files) name bytes count after result is p =
     (request, refl, works_on count request (ByRemux bytes) after result (remux_goes files name bytes is) (p request))
 
 pub remux_works : (table : Option Table) (a b : ℕ) (name bytes : List ℕ) (w0 w1 : Option (List ℕ)) (count : ℕ) (notes : List (List Note)) (rules : List (List Rule)) (broken : Bool)
-    → IfSome table (λ files. loaded files name ≡ Ok bytes) → IsWritten (remux_text bytes) w0 w1 → broken ≡ is_err (remuxed bytes)
+    → IfSome table (λ files. file_bytes files name ≡ Ok bytes) → IsWritten (remux_text bytes) w0 w1 → broken ≡ is_err (pieces_of_file bytes)
     → OfCommand table name (Some Remux) (λ request. IsRequestDone count request (outcome [] None (outside_of a w0 notes rules) (outside_of b w1 notes rules)) (Ok broken))
 remux_works table a b name bytes w0 w1 count notes rules broken is wrote broken_is =
     remux_asked table name bytes count (outcome [] None (outside_of a w0 notes rules) (outside_of b w1 notes rules)) (Ok broken) is (λ request. remux_whole count request bytes a b w0 w1 notes rules broken wrote broken_is)
 
 pub remux_stops : (table : Option Table) (a b : ℕ) (name bytes : List ℕ) (w0 w1 : Option (List ℕ)) (count : ℕ) (notes : List (List Note)) (rules : List (List Rule)) (h : Halt)
-    → IfSome table (λ files. loaded files name ≡ Ok bytes) → IsFrontWritten (remux_text bytes) w0 w1
+    → IfSome table (λ files. file_bytes files name ≡ Ok bytes) → IsFrontWritten (remux_text bytes) w0 w1
     → OfCommand table name (Some Remux) (λ request. IsRequestDone count request (outcome [] None (outside_of a w0 notes rules) (outside_of b w1 notes rules)) (Err (end_of_halt h)))
 remux_stops table a b name bytes w0 w1 count notes rules h is wrote =
     remux_asked table name bytes count (outcome [] None (outside_of a w0 notes rules) (outside_of b w1 notes rules)) (Err (end_of_halt h)) is (λ request. remux_half count request h bytes a b w0 w1 notes rules wrote)
 
 -- ---- a script that was not loaded
 
-script_fails : (files : Table) (name : List ℕ) (end : End) → script_loaded files name ≡ Err end → script_task files name ≡ Err end
+script_fails : (files : Table) (name : List ℕ) (end : End) → script_of_file files name ≡ Err end → script_task files name ≡ Err end
 script_fails files name end e = rw e refl
 
-blobs_fail : (files : Table) (name : List ℕ) (script : CallScript) (end : End) → script_loaded files name ≡ Ok script → blobs_bytes files script.blobs ≡ Err end → script_task files name ≡ Err end
+blobs_fail : (files : Table) (name : List ℕ) (script : CallScript) (end : End) → script_of_file files name ≡ Ok script → blobs_bytes files script.blobs ≡ Err end → script_task files name ≡ Err end
 blobs_fail files name script end e q = rw (e, q) refl
 
 told_script : (files : Table) (name : List ℕ) (after : RunOutcome) (end : End) → IsScriptEnd (Some files) (failures after.before.faults after.now.faults) name end
     → ToldEnd (script_request files name) (script_task files name) after end
 told_script files name after Memory p = tt
-told_script files name after (Read other) p = (p.0, reached_more files other (name ∷ []) (files_of_script (script_loaded files name)) p.1)
+told_script files name after (Read other) p = (p.0, reached_more files other (name ∷ []) (files_of_script (script_of_file files name)) p.1)
 told_script files name after (NoFile other) p = script_fails files name (NoFile other) p
 told_script files name after (Script fault) p = script_fails files name (Script fault) p.1
 told_script files name after Write p = absurd p
@@ -379,7 +378,7 @@ script_not_loaded (Some files) a b name end entries engine written count notes r
     )
 
 pub blobs_not_loaded : (table : Option Table) (a b c : ℕ) (name : List ℕ) (script : CallScript) (end : End) (entries : List Entry) (engine : Option KeptEngine) (written : Option (List ℕ))
-    (count : ℕ) (notes : List (List Note)) (rules : List (List Rule)) → entries ≡ [] → engine ≡ None → a ≤ b → IfSome table (λ files. script_loaded files name ≡ Ok script)
+    (count : ℕ) (notes : List (List Note)) (rules : List (List Rule)) → entries ≡ [] → engine ≡ None → a ≤ b → IfSome table (λ files. script_of_file files name ≡ Ok script)
     → IsLoadEnd table (failures b c) (files_in script.blobs) (λ files. blobs_bytes files script.blobs) end
     → OfCommand table name (Some Play) (λ request. IsRequestDone count request (outcome entries engine (outside_of a written notes rules) (outside_of c written notes rules)) (Err end))
 blobs_not_loaded None a b c name script end entries engine written count notes rules none nothing before is p =
@@ -403,7 +402,7 @@ blobs_not_loaded (Some files) a b c name script end entries engine written count
 
     reaches : (n : List ℕ) → IsReached files (files_in script.blobs) n → IsReached files (script_request files name).names n
     reaches n q =
-        let names : files_of_script (script_loaded files name) ≡ files_in script.blobs = ap files_of_script is in
+        let names : files_of_script (script_of_file files name) ≡ files_in script.blobs = ap files_of_script is in
         rw names (reached_behind files name n (files_in script.blobs) (script_there files name script is) q)
 
 -- ---- a script that was run
@@ -537,13 +536,13 @@ module _ (count : ℕ) (request : Request) (script : CallScript) (blobs : List (
   script_worked (Err (Read name)) p = absurd p
   script_worked (Err (Script fault)) p = absurd p
 
-script_goes : (files : Table) (name : List ℕ) (script : CallScript) (blobs : List (List ℕ)) → script_loaded files name ≡ Ok script → blobs_bytes files script.blobs ≡ Ok blobs
+script_goes : (files : Table) (name : List ℕ) (script : CallScript) (blobs : List (List ℕ)) → script_of_file files name ≡ Ok script → blobs_bytes files script.blobs ≡ Ok blobs
     → script_task files name ≡ Ok (ByScript script blobs)
 script_goes files name script blobs e q = rw (e, q) refl
 
 pub script_works : (table : Option Table) (f0 f1 : ℕ) (name : List ℕ) (script : CallScript) (blobs : List (List ℕ)) (a b : RunState) (count : ℕ) (r0 r1 : List (List Rule))
     (result : Result Bool End) → IsReadOf (Ok script) → length blobs ≡ length script.blobs
-    → IfSome table (λ files. script_loaded files name ≡ Ok script) → IfSome table (λ files. blobs_bytes files script.blobs ≡ Ok blobs)
+    → IfSome table (λ files. script_of_file files name ≡ Ok script) → IfSome table (λ files. blobs_bytes files script.blobs ≡ Ok blobs)
     → Stands a.run.engine (opening_of (ByScript script blobs)) → a.run.entries ≡ []
     → PlaysScript (script_inputs count script blobs) r1 a b result
     → OfCommand table name (Some Play) (λ request. IsRequestDone count request (outcome b.run.entries (Some b.run.engine) (outside_of f0 a.written a.notes r0) (outside_of f1 b.written b.notes r1)) result)

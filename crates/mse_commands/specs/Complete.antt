@@ -8,7 +8,7 @@ use Rattle.play_law.specs.Silent.{CutsAlike}
 use Rattle.mse_commands.specs.declared.ending.End.{End}
 use Rattle.mse_commands.specs.declared.ending.Status.{Status}
 use Rattle.mse_commands.specs.declared.ending.Status.TheVariants as status
-use Rattle.mse_commands.specs.Asked.{Request, Task, ByScript, opening_of}
+use Rattle.mse_commands.specs.Requests.{Request, Task, ByScript, opening_of}
 use Rattle.mse_commands.specs.Loads.{Failures}
 use Rattle.mse_commands.specs.Outcomes.{HasCause, IsBroken, RunOutcome, IsWholeRun}
 use Rattle.mse_commands.specs.Shown.{last_state}
@@ -42,7 +42,8 @@ IsComplete count request outcome puts end =
 -- fault.
 abbrev pub IsCutAnywhere : Request → List Entry → Status → Type 0
 IsCutAnywhere request entries end =
-    (script : CallScript) (blobs : List (List ℕ)) → request.task ≡ Ok (ByScript script blobs) → end ≡ status.Ok
+    (script : CallScript) (blobs : List (List ℕ)) → request.task ≡ Ok (ByScript script blobs)
+    → end ≡ status.Ok
     → calls_in entries ≡ 0
     → CutsAlike blobs (opening_of (ByScript script blobs)) script.steps
     (last_state (ByScript script blobs) entries).core

@@ -66,6 +66,8 @@ error_line (NoFile name) = codes "error: no file " ++ (printable_text name ++ 10
 error_line (Read name) = codes "error: read " ++ (printable_text name ++ 10 ∷ [])
 error_line (Script fault) = script_line fault
 error_line (CallBudget k) =
-    codes "error: listener " ++ (decimal k ++ (codes " answered more than 1000 calls for one event" ++ 10 ∷ []))
+    codes "error: listener " ++ (decimal k
+    ++ (codes " answered more than 1000 calls for one event" ++ 10 ∷ []))
 error_line (TaskBudget limit) =
-    codes "error: more than " ++ (decimal limit ++ (codes " listener calls in one drain" ++ 10 ∷ []))
+    codes "error: more than " ++ (decimal limit
+    ++ (codes " listener calls in one drain" ++ 10 ∷ []))

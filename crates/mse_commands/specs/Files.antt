@@ -6,7 +6,8 @@ use Rattle.mse_commands.specs.declared.ending.Status.{Status}
 use Rattle.mse_commands.specs.declared.ending.Status.TheVariants as status
 use Rattle.mse_commands.specs.declared.words.Command.{Command}
 use Rattle.mse_commands.specs.declared.words.Command.TheVariants.{Ranges, Pieces}
-use Rattle.mse_commands.specs.Asked.{ByFile, opening_of}
+use Rattle.mse_commands.specs.Requests.{ByFile, opening_of, request_in}
+use Rattle.mse_commands.specs.Outcomes.{Ends, RunOutcome}
 use Rattle.mse_commands.specs.Shown.{IsWholeFile, pieces_by}
 use Rattle.mse_commands.specs.Words.{IsInRange, command_of, file_of}
 
@@ -20,10 +21,11 @@ AppendsFile other = ⊥
 pub record IsJournalOf (command : Command) (bytes : List ℕ) (entries : List Entry) : Type 0 where
   pub appends : AppendsFile command
   pub number : IsInRange command
-  pub whole : IsWholeFile (bytes ∷ []) (opening_of (ByFile command bytes)) (pieces_by command (length bytes)) entries
+  pub whole : IsWholeFile (bytes ∷ []) (opening_of (ByFile command bytes))
+      (pieces_by command (length bytes)) entries
 
 -- two calls name one file, of these bytes
-pub record NameOneFile (files : Table) (a b : List (List ℕ)) (bytes : List ℕ) : Type 0 where
+pub record AreNamesOfOneFile (files : Table) (a b : List (List ℕ)) (bytes : List ℕ) : Type 0 where
   pub first : IsSomeAnd (command_of a) AppendsFile
   pub second : IsSomeAnd (command_of b) AppendsFile
   pub same : file_of a ≡ file_of b
@@ -32,3 +34,11 @@ pub record NameOneFile (files : Table) (a b : List (List ℕ)) (bytes : List ℕ
 -- the run went through to its end
 abbrev pub IsThrough : Status → Type 0
 IsThrough end = (end ≡ status.Ok) ⊎ (end ≡ status.Media)
+
+-- a run for these words that went through to its end, where these bytes were written before
+pub record IsThroughWith (files : Table) (words : List (List ℕ)) (before : List ℕ)
+    (outcome : RunOutcome) (status : Status) : Type 0 where
+  pub count : ℕ
+  pub before_is : outcome.before.written ≡ Some before
+  pub through : IsThrough status
+  pub ends : Ends count (request_in files words) outcome status

@@ -8,7 +8,9 @@ use Rattle.mse_commands.specs.declared.words.Command.TheVariants.{Make}
 -- has 30
 abbrev pub made_line : ℕ → ℕ → List ℕ
 made_line count len =
-    codes "made " ++ (decimal count ++ (codes " bytes " ++ (decimal len ++ (codes " frames " ++ (decimal (30 * count) ++ 10 ∷ [])))))
+    codes "made " ++ (decimal count
+    ++ (codes " bytes " ++ (decimal len
+    ++ (codes " frames " ++ (decimal (30 * count) ++ 10 ∷ [])))))
 
 -- what stands before the block of a file of so many bytes: nothing unless it was made
 abbrev pub heading_of : Command → ℕ → List ℕ

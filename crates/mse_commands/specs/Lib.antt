@@ -1,7 +1,7 @@
 pub mod Words
 pub mod Endings
 pub mod Heading
-pub mod Asked
+pub mod Requests
 pub mod Feeds
 pub mod Remuxing
 pub mod Loads

@@ -6,7 +6,7 @@ use Rattle.mse_commands.specs.declared.ending.End.{End}
 use Rattle.mse_commands.specs.declared.ending.End.TheVariants.{Memory, Write, Words, NoFile, Read, Script, CallBudget, TaskBudget}
 use Rattle.mse_commands.specs.declared.words.Command.{Command}
 use Rattle.mse_commands.specs.declared.words.Command.TheVariants.{Make}
-use Rattle.mse_commands.specs.Asked.{IsReadOf, script_loaded}
+use Rattle.mse_commands.specs.Requests.{IsReadOf, script_of_file}
 
 -- a file of this name is one of those that are loaded, and all that are named before it are there
 pub record IsReached (files : Table) (names : List (List ℕ)) (name : List ℕ) : Type 0 where
@@ -30,7 +30,8 @@ abbrev pub IsLoadEnd : {A : Type 0} → Option Table → Failures → List (List
 IsLoadEnd table faults names told Memory = ⊤
 IsLoadEnd table faults names told (Read name) =
     HasRisen faults.before faults.now × IfSome table (λ files. IsReached files names name)
-IsLoadEnd table faults names told (NoFile name) = IfSome table (λ files. told files ≡ Err (NoFile name))
+IsLoadEnd table faults names told (NoFile name) =
+    IfSome table (λ files. told files ≡ Err (NoFile name))
 IsLoadEnd table faults names told (Script fault) = ⊥
 IsLoadEnd table faults names told Write = ⊥
 IsLoadEnd table faults names told Words = ⊥
@@ -40,9 +41,9 @@ IsLoadEnd table faults names told (TaskBudget limit) = ⊥
 -- why a script was not loaded: the same, or it has a fault
 abbrev pub IsScriptEnd : Option Table → Failures → List ℕ → End → Type 0
 IsScriptEnd table faults name (Script fault) =
-    IsReadOf (Err fault) × IfSome table (λ files. script_loaded files name ≡ Err (Script fault))
+    IsReadOf (Err fault) × IfSome table (λ files. script_of_file files name ≡ Err (Script fault))
 IsScriptEnd table faults name other =
-    IsLoadEnd table faults (name ∷ []) (λ files. script_loaded files name) other
+    IsLoadEnd table faults (name ∷ []) (λ files. script_of_file files name) other
 
 -- What is made is the file of the number, and only memory may be wanting for it.
 abbrev pub IsMade : Command → List ℕ → Type 0

@@ -1,6 +1,5 @@
 -- How a run ends, by its words, the library and the sink.
-use Rattle.std.specs.Prelude.{◌≡◌, ◌⊎◌, ◌<◌, ℕ, List, [], ◌∷◌, ◌++◌, length, Option, Some, None, MatchOption, IsSome, IsErr, Result, Ok, Err, ⊤}
-use Rattle.std.specs.List.{filter}
+use Rattle.std.specs.Prelude.{◌≡◌, ◌⊎◌, ◌<◌, ℕ, List, [], ◌++◌, length, map, Option, None, MatchOption, IsSome, IsErr, Result, Ok, Err}
 use Rattle.mse_outside.specs.Outside.{HasRisen}
 use Rattle.mse_calls.specs.declared.entry.Entry.{Entry}
 use Rattle.mse_calls.specs.declared.rules.Rule.{Rule}
@@ -8,12 +7,12 @@ use Rattle.mse_engine.specs.Run.{Replays}
 use Rattle.mse_engine.specs.Sound.{AreSoundBehind}
 use Rattle.mse_engine.specs.Standing.{KeptEngine, Stands}
 use Rattle.listeners.specs.declared.listener.Note.{Note}
-use Rattle.remux.specs.Remuxed.{remuxed}
+use Rattle.remux.specs.Pieces.{pieces_of_file}
 use Rattle.script_run.specs.declared.stop.Halt.{Halt}
 use Rattle.script_run.specs.declared.stop.Halt.TheVariants as halt
 use Rattle.script_run.specs.declared.stop.Stop.TheVariants as stop
 use Rattle.script_run.specs.PlayedParts.{IsHeardUpTo, IsOverLimit}
-use Rattle.script_run.specs.Rules.{rules_at, rules_for}
+use Rattle.script_run.specs.Rules.{rules_of_listener, rules_for}
 use Rattle.script_run.specs.NoteHistory.{IsAllHeard}
 use Rattle.script_run.specs.Turns.{IsSpentInLine}
 use Rattle.script_run.specs.Writes.{IsWritten, IsFrontWritten}
@@ -21,7 +20,7 @@ use Rattle.mse_commands.specs.declared.ending.End.{End}
 use Rattle.mse_commands.specs.declared.ending.End.TheVariants.{Memory, Write, Words, NoFile, Read, Script, CallBudget, TaskBudget}
 use Rattle.mse_commands.specs.declared.ending.Status.{Status}
 use Rattle.mse_commands.specs.declared.ending.Status.TheVariants as status
-use Rattle.mse_commands.specs.Asked.{Request, Task, ByScript, ByFile, ByRemux, blobs_of, opening_of}
+use Rattle.mse_commands.specs.Requests.{Request, Task, ByScript, ByFile, ByRemux, blobs_of, opening_of}
 use Rattle.mse_commands.specs.Endings.{error_line, status_of}
 use Rattle.mse_commands.specs.Loads.{IsReached}
 use Rattle.mse_commands.specs.Shown.{IsAllOf, IsFrontOf, last_state, shown_lines, text_of}
@@ -49,11 +48,26 @@ abbrev pub outcome : List Entry → Option KeptEngine → Outside → Outside �
 outcome entries engine before now =
     record { entries = entries; engine = engine; before = before; now = now }
 
+-- the same of a library, a sink and listeners, before the run and now, by what is seen of each: the library's count of
+-- failures, what was written, and the notes and rules of a listener
+abbrev pub outside_at : {L K A : Type 0} → (L → ℕ) → (K → Option (List ℕ)) → (A → List Note)
+    → (A → List Rule) → L × K × List A → Outside
+outside_at faults written notes rules place =
+    outside_of (faults place.0) (written place.1) (map notes place.2) (map rules place.2)
+
+abbrev pub outcome_at : {L K A : Type 0} → (L → ℕ) → (K → Option (List ℕ)) → (A → List Note)
+    → (A → List Rule) → List Entry → Option KeptEngine → L × K × List A → L × K × List A
+    → RunOutcome
+outcome_at faults written notes rules entries engine before now =
+    outcome entries engine (outside_at faults written notes rules before)
+    (outside_at faults written notes rules now)
+
 -- ---- the journal and the engine
 
 -- the engine stands for the state behind the last entry; where it was not made, there is none
 abbrev pub EngineStands : Task → List Entry → Option KeptEngine → Type 0
-EngineStands task entries engine = MatchOption engine (entries ≡ []) (λ kept. Stands kept (last_state task entries))
+EngineStands task entries engine =
+    MatchOption engine (entries ≡ []) (λ kept. Stands kept (last_state task entries))
 
 -- a classic file needs no engine
 abbrev pub HasEngine : Task → List Entry → Option KeptEngine → Type 0
@@ -71,23 +85,28 @@ pub record IsRun (task : Task) (outcome : RunOutcome) : Type 0 where
 
 -- each listener has the rules of its number
 abbrev pub HaveRules : List Rule → List (List Rule) → Type 0
-HaveRules rules given = (w : ℕ) → w < length given → rules_at given w ≡ rules_for w rules
+HaveRules rules given = (w : ℕ) → w < length given → rules_of_listener given w ≡ rules_for w rules
 
 -- of a script, each has its rules, heard each event, and answered it; else nobody was told anything
 abbrev pub IsHeard : Task → RunOutcome → Type 0
-IsHeard (ByScript script blobs) outcome = HaveRules script.rules outcome.now.rules × IsAllHeard outcome.entries outcome.before.notes outcome.now.notes
-IsHeard other outcome = (outcome.now.rules ≡ outcome.before.rules) × (outcome.now.notes ≡ outcome.before.notes)
+IsHeard (ByScript script blobs) outcome =
+    HaveRules script.rules outcome.now.rules
+    × IsAllHeard outcome.entries outcome.before.notes outcome.now.notes
+IsHeard other outcome =
+    (outcome.now.rules ≡ outcome.before.rules) × (outcome.now.notes ≡ outcome.before.notes)
 
 -- of a script, each has its rules where anything was done
 abbrev pub HaveTheirRules : Task → RunOutcome → Type 0
-HaveTheirRules (ByScript script blobs) outcome = (outcome.entries ≡ []) ⊎ HaveRules script.rules outcome.now.rules
+HaveTheirRules (ByScript script blobs) outcome =
+    (outcome.entries ≡ []) ⊎ HaveRules script.rules outcome.now.rules
 HaveTheirRules other outcome = outcome.now.rules ≡ outcome.before.rules
 
 -- What was heard where memory or the sink was wanting: each listener heard each event, but that the dispatch of the last
 -- event may have ended for want of memory, or, where the sink was wanting, at a limit of calls.
 abbrev pub IsHeardTo : Task → Halt → RunOutcome → Type 0
 IsHeardTo (ByScript script blobs) halt outcome =
-    IsHeardUpTo (IsSpentInLine script.drain) halt outcome.entries outcome.before.notes outcome.now.notes
+    IsHeardUpTo (IsSpentInLine script.drain) halt outcome.entries outcome.before.notes
+    outcome.now.notes
 IsHeardTo other halt outcome = outcome.now.notes ≡ outcome.before.notes
 
 -- ---- what was run
@@ -115,8 +134,9 @@ pub record IsNothingRun (outcome : RunOutcome) : Type 0 where
 -- a file breaks the byte stream format, or is no classic file that can be turned into fragments
 abbrev pub IsBroken : Task → List Entry → Type 0
 IsBroken (ByScript script blobs) entries = ⊥
-IsBroken (ByFile command bytes) entries = IsSome (last_state (ByFile command bytes) entries).core.source.fault
-IsBroken (ByRemux bytes) entries = IsErr (remuxed bytes)
+IsBroken (ByFile command bytes) entries =
+    IsSome (last_state (ByFile command bytes) entries).core.source.fault
+IsBroken (ByRemux bytes) entries = IsErr (pieces_of_file bytes)
 
 -- ---- why a run ended early
 
@@ -124,30 +144,35 @@ IsBroken (ByRemux bytes) entries = IsErr (remuxed bytes)
 -- had made so many in this one.
 abbrev pub HasCause : Task → RunOutcome → End → Type 0
 HasCause (ByScript script blobs) outcome (CallBudget k) =
-    IsOverLimit (IsSpentInLine script.drain) (stop.CallBudget k) outcome.entries outcome.before.notes outcome.now.notes
+    IsOverLimit (IsSpentInLine script.drain)
+    (stop.CallBudget k) outcome.entries outcome.before.notes outcome.now.notes
 HasCause (ByScript script blobs) outcome (TaskBudget limit) =
     (limit ≡ script.drain)
-    × IsOverLimit (IsSpentInLine script.drain) stop.TaskBudget outcome.entries outcome.before.notes outcome.now.notes
+    × IsOverLimit (IsSpentInLine script.drain) stop.TaskBudget outcome.entries outcome.before.notes
+    outcome.now.notes
 HasCause task outcome end = ⊥
 
 -- the lines, and the error line whose cause had come
 pub record EndsBy (count : ℕ) (task : Task) (outcome : RunOutcome) (end : End) : Type 0 where
   pub ran : IsFrontRun count task outcome
   pub cause : HasCause task outcome end
-  pub wrote : IsWritten (shown_lines task outcome.entries ++ error_line end) outcome.before.written outcome.now.written
+  pub wrote : IsWritten (shown_lines task outcome.entries ++ error_line end) outcome.before.written
+      outcome.now.written
 
 -- a front of the lines; or, where all was run, of the whole text
 abbrev pub IsTextWritten : ℕ → Task → RunOutcome → Type 0
 IsTextWritten count task outcome =
     IsFrontWritten (shown_lines task outcome.entries) outcome.before.written outcome.now.written
-    ⊎ (IsAllOf count task outcome.entries × IsFrontWritten (text_of task outcome.entries) outcome.before.written outcome.now.written)
+    ⊎ (IsAllOf count task outcome.entries
+    × IsFrontWritten (text_of task outcome.entries) outcome.before.written outcome.now.written)
 
 -- or of the lines and the error line whose cause had come
 abbrev pub IsSomeWritten : ℕ → Task → RunOutcome → Type 0
 IsSomeWritten count task outcome =
     IsTextWritten count task outcome
     ⊎ ((end : End) × HasCause task outcome end
-    × IsFrontWritten (shown_lines task outcome.entries ++ error_line end) outcome.before.written outcome.now.written)
+    × IsFrontWritten (shown_lines task outcome.entries ++ error_line end) outcome.before.written
+    outcome.now.written)
 
 -- the library failed to read a file of this name, which is one of those that are loaded, behind others that are there
 pub record HasFailedRead (request : Request) (outcome : RunOutcome) : Type 0 where
@@ -165,26 +190,33 @@ pub record EndsByRead (request : Request) (outcome : RunOutcome) : Type 0 where
 pub record IsSomeSaid (request : Request) (outcome : RunOutcome) : Type 0 where
   pub nothing : IsNothingRun outcome
   pub wrote : (outcome.now.written ≡ outcome.before.written)
-      ⊎ ((cause : HasFailedRead request outcome) × IsFrontWritten (error_line (Read cause.name)) outcome.before.written outcome.now.written)
+      ⊎ ((cause : HasFailedRead request outcome)
+      × IsFrontWritten (error_line (Read cause.name)) outcome.before.written outcome.now.written)
 
 -- a front was run, and memory or the sink was wanting
-pub record IsRunCutShort (count : ℕ) (halt : Halt) (task : Task) (outcome : RunOutcome) : Type 0 where
+pub record IsRunCutShort (count : ℕ) (halt : Halt) (task : Task)
+    (outcome : RunOutcome) : Type 0 where
   pub ran : IsFrontRun count task outcome
   pub heard : IsHeardTo task halt outcome
   pub wrote : IsSomeWritten count task outcome
 
 -- or nothing was run
 abbrev pub EndsShort : ℕ → Halt → Request → Task → RunOutcome → Type 0
-EndsShort count halt request task outcome = IsRunCutShort count halt task outcome ⊎ IsSomeSaid request outcome
+EndsShort count halt request task outcome =
+    IsRunCutShort count halt task outcome ⊎ IsSomeSaid request outcome
 
 -- ---- by the status
 
 -- how a run ends that has something to run
 abbrev pub EndsRun : ℕ → Request → Task → RunOutcome → Status → Type 0
-EndsRun count request task outcome status.Ok = IsWholeRun count task outcome × ¬ IsBroken task outcome.entries
-EndsRun count request task outcome status.Media = IsWholeRun count task outcome × IsBroken task outcome.entries
-EndsRun count request task outcome status.CallBudget = (k : ℕ) × EndsBy count task outcome (CallBudget k)
-EndsRun count request task outcome status.TaskBudget = (limit : ℕ) × EndsBy count task outcome (TaskBudget limit)
+EndsRun count request task outcome status.Ok =
+    IsWholeRun count task outcome × ¬ IsBroken task outcome.entries
+EndsRun count request task outcome status.Media =
+    IsWholeRun count task outcome × IsBroken task outcome.entries
+EndsRun count request task outcome status.CallBudget =
+    (k : ℕ) × EndsBy count task outcome (CallBudget k)
+EndsRun count request task outcome status.TaskBudget =
+    (limit : ℕ) × EndsBy count task outcome (TaskBudget limit)
 EndsRun count request task outcome status.Read = EndsByRead request outcome
 EndsRun count request task outcome status.Write = EndsShort count halt.Write request task outcome
 EndsRun count request task outcome status.Memory = EndsShort count halt.Memory request task outcome

@@ -8,7 +8,7 @@ use Rattle.event_text.specs.Words.{line}
 use Rattle.sample_tables.specs.declared.fault.MovieFault.{MovieFault}
 use Rattle.sample_tables.specs.declared.fault.MovieFault.TheVariants.{Box, NoMoov, Fragmented, Moov, Tables, Place, Range, TooMany, NoTracks}
 use Rattle.sample_tables.specs.declared.fault.PlacedFault.{PlacedFault}
-use Rattle.remux.specs.Remuxed.{remuxed}
+use Rattle.remux.specs.Pieces.{pieces_of_file}
 
 abbrev pub remux_number : MovieFault → ℕ
 remux_number Box = 21
@@ -49,4 +49,4 @@ pieces_or_fault (Err placed) = remux_fault_line placed.fault placed.offset
 
 -- the pieces one after the other, or the line of the fault
 abbrev pub remux_text : List ℕ → List ℕ
-remux_text bytes = pieces_or_fault (remuxed bytes)
+remux_text bytes = pieces_or_fault (pieces_of_file bytes)

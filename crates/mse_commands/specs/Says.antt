@@ -2,7 +2,7 @@
 use Rattle.std.specs.Prelude.{◌≡◌, ◌⊎◌, ℕ, List, Option}
 use Rattle.script_run.specs.Writes.{IsWritten, IsFrontWritten}
 use Rattle.mse_commands.specs.declared.ending.End.{End}
-use Rattle.mse_commands.specs.declared.ending.End.TheVariants.{Memory, Write, Words, NoFile, Read, Script, CallBudget, TaskBudget}
+use Rattle.mse_commands.specs.declared.ending.End.TheVariants.{Memory, Write}
 use Rattle.mse_commands.specs.declared.ending.Status.{Status}
 use Rattle.mse_commands.specs.declared.ending.Status.TheVariants as status
 use Rattle.mse_commands.specs.Endings.{error_line, status_of}

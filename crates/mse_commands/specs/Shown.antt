@@ -1,8 +1,7 @@
 -- The journal of what is run, and what is printed of it (docs/SCRIPTS.md, commands and the block).
-use Rattle.std.specs.Prelude.{◌≡◌, ◌⊎◌, ℕ, ◌+◌, ◌*◌, ◌-◌, ◌/◌, min, List, [], ◌∷◌, ◌++◌, length, map, codes, true, false, Option, Some, None}
+use Rattle.std.specs.Prelude.{◌≡◌, ℕ, ◌+◌, ◌*◌, ◌-◌, ◌/◌, min, List, [], ◌∷◌, ◌++◌, length, map, codes, true, false, Option, Some, None}
 use Rattle.std.specs.List.{range_with_len}
 use Rattle.mse_calls.specs.declared.answers.Answer.{Answer}
-use Rattle.mse_calls.specs.declared.calls.Call.{Call}
 use Rattle.mse_calls.specs.declared.calls.Call.TheVariants.{Attach, AddSourceBuffer, AppendBuffer}
 use Rattle.mse_calls.specs.declared.calls.Piece.{Piece}
 use Rattle.mse_calls.specs.declared.entry.Entry.{Entry}
@@ -12,14 +11,14 @@ use Rattle.event_text.specs.Block.{closing_text}
 use Rattle.mse_engine.specs.State.{State}
 use Rattle.mse_engine.specs.Run.{after_entries}
 use Rattle.mse_engine.specs.Views.{view_in}
-use Rattle.script_run.specs.DrainSteps.{AreInDrainOrder, IsDrain}
+use Rattle.script_run.specs.DrainSteps.{IsDrain}
 use Rattle.script_run.specs.Follows.{AreLinesBegun, AreLinesDone}
 use Rattle.script_run.specs.Lines.{limits, play_inputs}
 use Rattle.script_run.specs.Text.{lines_of}
 use Rattle.script_run.specs.Turns.{calls_in}
 use Rattle.mse_commands.specs.declared.words.Command.{Command}
 use Rattle.mse_commands.specs.declared.words.Command.TheVariants.{Pieces, Make, Feed}
-use Rattle.mse_commands.specs.Asked.{Task, ByScript, ByFile, ByRemux, blobs_of, opening_of}
+use Rattle.mse_commands.specs.Requests.{Task, ByScript, ByFile, ByRemux, blobs_of, opening_of}
 use Rattle.mse_commands.specs.Feeds.{feed_closing}
 use Rattle.mse_commands.specs.Heading.{heading_of}
 use Rattle.mse_commands.specs.Remuxing.{remux_text}
@@ -60,18 +59,22 @@ append_entry piece answer = Script (AppendBuffer 0 piece) answer
 -- Each piece is appended and drained, one after the other, up to the first fault.
 abbrev pub IsAppends : List (List ℕ) → State → List Piece → List Entry → Type 0
 IsAppends blobs st [] entries = entries ≡ []
-IsAppends blobs st (piece ∷ pieces) entries = (answer : Answer) × (part : List Entry) × (rest : List Entry)
+IsAppends blobs st (piece ∷ pieces) entries =
+    (answer : Answer) × (part : List Entry) × (rest : List Entry)
     × (entries ≡ append_entry piece answer ∷ (part ++ rest))
     × IsQuietDrain blobs (after_entries blobs st (append_entry piece answer ∷ [])) part
-    × StopsAtFault (after_entries blobs st (append_entry piece answer ∷ part)).core.source.fault rest
+    × StopsAtFault (after_entries blobs st (append_entry piece answer ∷ part)).core.source.fault
+    rest
     (IsAppends blobs (after_entries blobs st (append_entry piece answer ∷ part)) pieces rest)
 
 -- the source is opened and gets a source buffer of ISO BMFF
 abbrev pub open_entries : Answer → Answer → List Entry
-open_entries attached added = Script Attach attached ∷ Script (AddSourceBuffer (codes "video/mp4")) added ∷ []
+open_entries attached added =
+    Script Attach attached ∷ Script (AddSourceBuffer (codes "video/mp4")) added ∷ []
 
 -- and then the pieces are appended
-pub record IsWholeFile (blobs : List (List ℕ)) (st : State) (pieces : List Piece) (entries : List Entry) : Type 0 where
+pub record IsWholeFile (blobs : List (List ℕ)) (st : State) (pieces : List Piece)
+    (entries : List Entry) : Type 0 where
   pub attached : Answer
   pub added : Answer
   pub rest : List Entry
@@ -83,15 +86,18 @@ pub record IsWholeFile (blobs : List (List ℕ)) (st : State) (pieces : List Pie
 -- all of it is done; there are `count` listeners
 abbrev pub IsAllOf : ℕ → Task → List Entry → Type 0
 IsAllOf count (ByScript script blobs) entries =
-    AreLinesDone (play_inputs blobs (limits script.drain count)) 0 (opening_of (ByScript script blobs)) script.steps entries
+    AreLinesDone (play_inputs blobs (limits script.drain count)) 0
+    (opening_of (ByScript script blobs)) script.steps entries
 IsAllOf count (ByFile command bytes) entries =
-    IsWholeFile (bytes ∷ []) (opening_of (ByFile command bytes)) (pieces_by command (length bytes)) entries
+    IsWholeFile (bytes ∷ []) (opening_of (ByFile command bytes))
+    (pieces_by command (length bytes)) entries
 IsAllOf count (ByRemux bytes) entries = entries ≡ []
 
 -- a script is done up to some place; of a file, a front of all is done
 abbrev pub IsFrontOf : ℕ → Task → List Entry → Type 0
 IsFrontOf count (ByScript script blobs) entries =
-    AreLinesBegun (play_inputs blobs (limits script.drain count)) 0 (opening_of (ByScript script blobs)) script.steps entries
+    AreLinesBegun (play_inputs blobs (limits script.drain count)) 0
+    (opening_of (ByScript script blobs)) script.steps entries
 IsFrontOf count (ByFile command bytes) entries =
     (rest : List Entry) × IsAllOf count (ByFile command bytes) (entries ++ rest)
 IsFrontOf count (ByRemux bytes) entries = entries ≡ []

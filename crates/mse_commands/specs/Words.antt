@@ -1,25 +1,20 @@
 -- The words of a call.
 use Rattle.std.specs.Prelude.{ℕ, ℤ, ◌≤◌, ◌^◌, ◌&&◌, nat_le, List, [], ◌∷◌, Option, Some, None, option_map, option_and_then, if◌then◌else◌, codes, bytes_eq, ⊤}
-use Rattle.std.specs.Str.{all_ascii_digits}
-use Rattle.std.specs.Str.Parse.{digits_value}
 use Rattle.mse_base.specs.declared.ticks.Moment.{Moment}
 use Rattle.mse_base.specs.declared.ticks.Moment.TheVariants.{Nan, At, Infinite}
+use Rattle.call_script.specs.Numbers.{number_of}
 use Rattle.call_script.specs.Times.{time_of}
 use Rattle.mse_commands.specs.declared.words.Command.{Command}
 use Rattle.mse_commands.specs.declared.words.Command.TheVariants.{Ranges, Pieces, Make, Play, Remux, Feed}
 
--- the number where it is not too great
-abbrev pub number_within : ℕ → ℕ → Option ℕ
-number_within most n = if nat_le n most then Some n else None
+-- a count from 1 to the greatest one
+abbrev pub count_within : ℕ → ℕ → Option ℕ
+count_within most n = if nat_le 1 n && nat_le n most then Some n else None
 
 -- The number from 1 to the greatest one that a word names, in decimal digits without leading zeros; nothing where it
 -- names none.
-abbrev pub number_of : ℕ → List ℕ → Option ℕ
-number_of most [] = None
-number_of most (digit ∷ digits) =
-    if (nat_le 49 digit && nat_le digit 57) && all_ascii_digits digits
-    then number_within most (digits_value 10 (digit ∷ digits))
-    else None
+abbrev pub count_of_word : ℕ → List ℕ → Option ℕ
+count_of_word most word = option_and_then (count_within most) (number_of word)
 
 -- a piece has at most so many bytes
 abbrev pub longest_piece : ℕ
@@ -45,13 +40,15 @@ command_of_two name word =
     if bytes_eq name (codes "ranges") then Some Ranges
     else (if bytes_eq name (codes "play") then Some Play
     else (if bytes_eq name (codes "remux") then Some Remux
-    else (if bytes_eq name (codes "make") then option_map (λ n. Make n) (number_of most_segments word)
+    else (if bytes_eq name (codes "make")
+    then option_map (λ n. Make n) (count_of_word most_segments word)
     else None)))
 
 -- what three words ask for, of which the last names a file
 abbrev pub command_of_three : List ℕ → List ℕ → Option Command
 command_of_three name word =
-    if bytes_eq name (codes "pieces") then option_map (λ n. Pieces n) (number_of longest_piece word)
+    if bytes_eq name (codes "pieces")
+    then option_map (λ n. Pieces n) (count_of_word longest_piece word)
     else (if bytes_eq name (codes "feed") then option_map (λ t. Feed t) (finite_time word)
     else None)
 

@@ -1,5 +1,5 @@
 -- What is done before the line that says why a run ends early.
-use Rattle.std.specs.Prelude.{◌≡◌, ◌⊎◌, ℕ, List, [], ◌∷◌, ◌++◌, length, Bool, true, false, Option, Some, Result, Ok, Err, is_err, is_some}
+use Rattle.std.specs.Prelude.{◌≡◌, ◌⊎◌, ℕ, List, [], ◌∷◌, ◌++◌, length, Bool, true, false, Option, Result, Ok, Err, is_err, is_some}
 use Rattle.mse_calls.specs.declared.answers.Answer.{Answer}
 use Rattle.mse_calls.specs.declared.calls.Piece.{Piece}
 use Rattle.mse_calls.specs.declared.entry.Entry.{Entry}
@@ -10,7 +10,7 @@ use Rattle.event_text.specs.Block.{closing_text}
 use Rattle.mse_engine.specs.State.{State}
 use Rattle.mse_engine.specs.Standing.{Stands}
 use Rattle.mse_engine.specs.Views.{view_in}
-use Rattle.remux.specs.Remuxed.{remuxed}
+use Rattle.remux.specs.Pieces.{pieces_of_file}
 use Rattle.script_run.specs.declared.stop.Halt.{Halt}
 use Rattle.script_run.specs.declared.stop.Halt.TheVariants as halt
 use Rattle.script_run.specs.declared.stop.Stop.{Stop}
@@ -25,9 +25,9 @@ use Rattle.script_run.specs.Turns.{IsSpentInLine, calls_in}
 use Rattle.script_run.specs.Writes.{IsWritten, IsFrontWritten}
 use Rattle.mse_commands.specs.declared.ending.End.{End}
 use Rattle.mse_commands.specs.declared.ending.End.TheVariants.{Memory, Write, Words, NoFile, Read, Script, CallBudget, TaskBudget}
-use Rattle.mse_commands.specs.Asked.{Request, Task, ByScript, ByFile, ByRemux}
+use Rattle.mse_commands.specs.Requests.{Request, Task, ByScript, ByFile, ByRemux}
 use Rattle.mse_commands.specs.Outcomes.{HasFailedRead, HasCause, HaveRules, IsHeardTo, RunOutcome, IsFrontRun, IsNothingRun, IsWholeRun, IsTextWritten}
-use Rattle.mse_commands.specs.Shown.{IsWholeFile, file_closing, last_state, open_entries, pieces_by, shown_lines, text_of}
+use Rattle.mse_commands.specs.Shown.{IsWholeFile, file_closing, last_state, open_entries, pieces_by, shown_lines}
 use Rattle.mse_commands.specs.declared.words.Command.{Command}
 
 -- the source was opened, and has a source buffer of ISO BMFF
@@ -48,13 +48,15 @@ pub record IsFrontOpened (blobs : List (List ℕ)) (old new : RunView) : Type 0 
 -- a file was appended in these pieces, and nobody heard of it
 pub record IsAppended (bytes : List ℕ) (pieces : List Piece) (old new : RunView) : Type 0 where
   pub entries : List Entry
-  pub grew : HasGrown (bytes ∷ []) (λ st part. IsWholeFile (bytes ∷ []) st pieces part) old new entries
+  pub grew : HasGrown (bytes ∷ []) (λ st part. IsWholeFile (bytes ∷ []) st pieces part) old new
+      entries
   pub silent : calls_in entries ≡ 0
 
 -- a front of that was done
 pub record IsPartAppended (bytes : List ℕ) (pieces : List Piece) (old new : RunView) : Type 0 where
   pub entries : List Entry
-  pub grew : HasGrown (bytes ∷ []) (λ st part. (rest : List Entry) × IsWholeFile (bytes ∷ []) st pieces (part ++ rest)) old new entries
+  pub grew : HasGrown (bytes ∷ []) (λ st part. (rest : List Entry)
+      × IsWholeFile (bytes ∷ []) st pieces (part ++ rest)) old new entries
 
 -- ---- a file that is shown
 
@@ -63,7 +65,8 @@ abbrev pub IsFrontShown : (State → List ℕ) → RunView → Option (List ℕ)
 IsFrontShown text new written_before written =
     (st : State) → Stands new.engine st → IsFrontWritten (text st) written_before written
 
-pub record IsAllShown (text : State → List ℕ) (new : RunView) (written_before written : Option (List ℕ)) : Type 0 where
+pub record IsAllShown (text : State → List ℕ) (new : RunView)
+    (written_before written : Option (List ℕ)) : Type 0 where
   pub wrote : (st : State) → Stands new.engine st → IsWritten (text st) written_before written
 
 -- what closes a script
@@ -112,7 +115,8 @@ script_inputs count script blobs = record {
 pub record IsScriptPlayed (inputs : ScriptInputs) (given : List (List Rule))
     (old new : RunState) : Type 0 where
   pub middle : Option (List ℕ)
-  pub played : IsPlayed inputs.blobs (AreScriptLinesDone inputs.blobs inputs.limits inputs.lines) old
+  pub played : IsPlayed inputs.blobs (AreScriptLinesDone inputs.blobs inputs.limits inputs.lines)
+      old
       (record new { written = middle })
   pub shown : IsAllShown script_closing new.run middle new.written
   pub rules_are : HaveRules inputs.rules given
@@ -132,7 +136,8 @@ pub record IsScriptStopped (inputs : ScriptInputs) (given : List (List Rule)) (o
 pub record IsScriptHalfPlayed (inputs : ScriptInputs) (given : List (List Rule))
     (old new : RunState) : Type 0 where
   pub middle : Option (List ℕ)
-  pub played : IsPlayed inputs.blobs (AreScriptLinesDone inputs.blobs inputs.limits inputs.lines) old
+  pub played : IsPlayed inputs.blobs (AreScriptLinesDone inputs.blobs inputs.limits inputs.lines)
+      old
       (record new { written = middle })
   pub shown : IsFrontShown script_closing new.run middle new.written
   pub rules_are : HaveRules inputs.rules given
@@ -148,7 +153,8 @@ IsScriptCutShort inputs given old new halt =
     IsScriptUnplayed old new ⊎ IsScriptStopped inputs given old new (Halted halt)
     ⊎ IsScriptHalfPlayed inputs given old new
 
-abbrev pub PlaysScript : ScriptInputs → List (List Rule) → RunState → RunState → Result Bool End → Type 0
+abbrev pub PlaysScript : ScriptInputs → List (List Rule) → RunState → RunState → Result Bool End
+    → Type 0
 PlaysScript inputs given old new (Ok broken) =
     (broken ≡ false) × IsScriptPlayed inputs given old new
 PlaysScript inputs given old new (Err Memory) = IsScriptCutShort inputs given old new halt.Memory
@@ -162,10 +168,11 @@ PlaysScript inputs given old new (Err other) = ⊥
 -- ---- a run
 
 -- whether a file breaks the byte stream format, or cannot be turned into fragments; no script does
-abbrev pub broken_in : Task → List Entry → Bool
-broken_in (ByScript script blobs) entries = false
-broken_in (ByFile command bytes) entries = is_some (last_state (ByFile command bytes) entries).core.source.fault
-broken_in (ByRemux bytes) entries = is_err (remuxed bytes)
+abbrev pub is_broken_in : Task → List Entry → Bool
+is_broken_in (ByScript script blobs) entries = false
+is_broken_in (ByFile command bytes) entries =
+    is_some (last_state (ByFile command bytes) entries).core.source.fault
+is_broken_in (ByRemux bytes) entries = is_err (pieces_of_file bytes)
 
 -- nothing was run and nothing was written
 pub record IsNothingDone (outcome : RunOutcome) : Type 0 where
@@ -182,19 +189,24 @@ pub record IsSomeDone (count : ℕ) (halt : Halt) (task : Task) (outcome : RunOu
 pub record IsDoneUpTo (count : ℕ) (task : Task) (outcome : RunOutcome) (end : End) : Type 0 where
   pub ran : IsFrontRun count task outcome
   pub cause : HasCause task outcome end
-  pub wrote : IsWritten (shown_lines task outcome.entries) outcome.before.written outcome.now.written
+  pub wrote : IsWritten (shown_lines task outcome.entries) outcome.before.written
+      outcome.now.written
 
 pub record IsAllDone (count : ℕ) (task : Task) (outcome : RunOutcome) (broken : Bool) : Type 0 where
   pub ran : IsWholeRun count task outcome
-  pub broken_is : broken ≡ broken_in task outcome.entries
+  pub broken_is : broken ≡ is_broken_in task outcome.entries
 
 abbrev pub IsTaskDone : ℕ → Request → Task → RunOutcome → Result Bool End → Type 0
 IsTaskDone count request task outcome (Ok broken) = IsAllDone count task outcome broken
-IsTaskDone count request task outcome (Err Memory) = IsNothingDone outcome ⊎ IsSomeDone count halt.Memory task outcome
+IsTaskDone count request task outcome (Err Memory) =
+    IsNothingDone outcome ⊎ IsSomeDone count halt.Memory task outcome
 IsTaskDone count request task outcome (Err Write) = IsSomeDone count halt.Write task outcome
-IsTaskDone count request task outcome (Err (Read name)) = IsNothingDone outcome × ((cause : HasFailedRead request outcome) × (cause.name ≡ name))
-IsTaskDone count request task outcome (Err (CallBudget k)) = IsDoneUpTo count task outcome (CallBudget k)
-IsTaskDone count request task outcome (Err (TaskBudget limit)) = IsDoneUpTo count task outcome (TaskBudget limit)
+IsTaskDone count request task outcome (Err (Read name)) =
+    IsNothingDone outcome × ((cause : HasFailedRead request outcome) × (cause.name ≡ name))
+IsTaskDone count request task outcome (Err (CallBudget k)) =
+    IsDoneUpTo count task outcome (CallBudget k)
+IsTaskDone count request task outcome (Err (TaskBudget limit)) =
+    IsDoneUpTo count task outcome (TaskBudget limit)
 IsTaskDone count request task outcome (Err Words) = ⊥
 IsTaskDone count request task outcome (Err (NoFile name)) = ⊥
 IsTaskDone count request task outcome (Err (Script fault)) = ⊥
@@ -203,13 +215,16 @@ IsTaskDone count request task outcome (Err (Script fault)) = ⊥
 abbrev pub IsTaskMissing : Request → End → RunOutcome → Result Bool End → Type 0
 IsTaskMissing request end outcome (Ok broken) = ⊥
 IsTaskMissing request end outcome (Err Memory) = IsNothingDone outcome
-IsTaskMissing request end outcome (Err (Read name)) = IsNothingDone outcome × ((cause : HasFailedRead request outcome) × (cause.name ≡ name))
+IsTaskMissing request end outcome (Err (Read name)) =
+    IsNothingDone outcome × ((cause : HasFailedRead request outcome) × (cause.name ≡ name))
 IsTaskMissing request end outcome (Err other) = IsNothingDone outcome × (other ≡ end)
 
 abbrev pub IsRequestDoneBy : ℕ → Request → Result Task End → RunOutcome → Result Bool End → Type 0
-IsRequestDoneBy count request (Ok task) outcome result = IsTaskDone count request task outcome result
+IsRequestDoneBy count request (Ok task) outcome result =
+    IsTaskDone count request task outcome result
 IsRequestDoneBy count request (Err end) outcome result = IsTaskMissing request end outcome result
 
 -- what is done of what was asked for
 abbrev pub IsRequestDone : ℕ → Request → RunOutcome → Result Bool End → Type 0
-IsRequestDone count request outcome result = IsRequestDoneBy count request request.task outcome result
+IsRequestDone count request outcome result =
+    IsRequestDoneBy count request request.task outcome result

@@ -11,10 +11,10 @@ ghost use Rattle.mse_engine.specs.Views.{view_in};
 ghost use Rattle.mse_outside.specs.Outside.{HasRisen};
 ghost use Rattle.script_run.specs.RunStates.{printed_run, run_at};
 ghost use Rattle.script_run.specs.Writes.{IsWritten, IsFrontWritten};
-ghost use Rattle.mse_commands.specs.Asked.{IsFileCommand, OfCommand, OfWords, file_by, files_by};
+ghost use Rattle.mse_commands.specs.Requests.{IsFileCommand, OfCommand, OfWords, file_by, files_by};
 ghost use Rattle.mse_commands.specs.Heading.{heading_of};
 ghost use Rattle.mse_commands.specs.Loads.{IsMade, IsUnmade, IsLoadEnd, failures};
-ghost use Rattle.mse_commands.specs.Outcomes.{outcome, outside_of};
+ghost use Rattle.mse_commands.specs.Outcomes.{outcome, outcome_at, outside_of};
 ghost use Rattle.mse_commands.specs.Shown.{file_closing, pieces_by};
 ghost use Rattle.mse_commands.specs.Words.{IsInRange, command_of};
 ghost use Rattle.mse_commands.specs.Works.{IsAppended, IsPartAppended, PlaysScript, ShowsFile, IsRequestDone, script_inputs};
@@ -28,7 +28,7 @@ use crate::text::heading;
 use crate::words::{Command, file_name, read_command};
 use bmff_write::make;
 use call_script::Script;
-use event_text::closing;
+use event_text::closing_text;
 use listeners::Listener;
 use mse_base::{OutOfMemory, Ticks};
 use mse_calls::Blobs;
@@ -66,7 +66,7 @@ fn close<S: FrameStore, K: Sink>(
     let Ok(view) = engine.view() else {
         return Err(Halt::Memory);
     };
-    let Ok(text) = closing(alloc, &view, whole) else {
+    let Ok(text) = closing_text(alloc, &view, whole) else {
         return Err(Halt::Memory);
     };
     match put_lines(sink, before.as_str()) {
@@ -109,7 +109,7 @@ fn file_for<L: Library>(
     ensures table { L.table library.new ≡ L.table library.old }
     ensures ok { IfSome (L.table library.old) (λ files.
         IfOk result (λ bytes. file_by files name.now command.now ≡ Ok bytes.items)) }
-    ensures end { IfErr result (IsLoadEnd (L.table library.old)
+    ensures early_end { IfErr result (IsLoadEnd (L.table library.old)
         (failures (L.faults library.old) (L.faults library.new))
         (files_by name.now command.now) (λ files. file_by files name.now command.now)) }
     ensures made { IfOk result (λ bytes. IsMade command.now bytes.items) }
@@ -216,7 +216,7 @@ fn play_script<S: FrameStore, K: Sink>(
     script: Script,
 ) -> Result<bool, End>
     requires listeners { vec_len listeners.old < 2 ^ 32 }
-    requires fresh { (w : ℕ) → notes_at (map (λ b. notes b) listeners.old.items) w ≡ [] }
+    requires no_notes { (w : ℕ) → notes_at (map (λ b. notes b) listeners.old.items) w ≡ [] }
     requires lines { length script.steps < 2 ^ 32 }
     ensures plays { PlaysScript (script_inputs (vec_len listeners.old) script blobs.now)
         (map (λ b. rules b) listeners.new.items)
@@ -263,7 +263,7 @@ fn run_file<S: FrameStore, L: Library, K: Sink>(
     requires range { IsInRange command }
     requires file { IsFileCommand command }
     requires journal { journal.old.entries ≡ [] }
-    requires engine { engine.old ≡ None }
+    requires no_engine { engine.old ≡ None }
     ensures works { (count : ℕ) (told : List (List Note)) (given : List (List Rule))
         → OfCommand (L.table library.old) name.now (Some command) (λ request.
         IsRequestDone count request
@@ -310,17 +310,14 @@ fn run_script<S: FrameStore, L: Library, K: Sink>(
     journal: &mut Journal,
 ) -> Result<bool, End>
     requires listeners { vec_len listeners.old < 2 ^ 32 }
-    requires fresh { (w : ℕ) → notes_at (map (λ b. notes b) listeners.old.items) w ≡ [] }
+    requires no_notes { (w : ℕ) → notes_at (map (λ b. notes b) listeners.old.items) w ≡ [] }
     requires journal { journal.old.entries ≡ [] }
-    requires engine { engine.old ≡ None }
+    requires no_engine { engine.old ≡ None }
     ensures works { OfCommand (L.table library.old) name.now (Some Command.Play) (λ request.
         IsRequestDone (vec_len listeners.old) request
-        (outcome journal.new.entries engine.new
-        (outside_of (L.faults library.old) (K.written sink.old)
-        (map (λ b. notes b) listeners.old.items) (map (λ b. rules b) listeners.old.items))
-        (outside_of (L.faults library.new) (K.written sink.new)
-        (map (λ b. notes b) listeners.new.items) (map (λ b. rules b) listeners.new.items)))
-        result) }
+        (outcome_at L.faults K.written notes rules journal.new.entries engine.new
+        (library.old, sink.old, listeners.old.items)
+        (library.new, sink.new, listeners.new.items)) result) }
     ensures count { vec_len listeners.new ≡ vec_len listeners.old }
     ensures words { ¬ IsErrOf result End.Words }
     ensures no_fewer_read_faults { L.faults library.old ≤ L.faults library.new }
@@ -357,17 +354,14 @@ fn run_command<S: FrameStore, L: Library, K: Sink>(
 ) -> Result<bool, End>
     requires range { IsInRange command }
     requires listeners { vec_len listeners.old < 2 ^ 32 }
-    requires fresh { (w : ℕ) → notes_at (map (λ b. notes b) listeners.old.items) w ≡ [] }
+    requires no_notes { (w : ℕ) → notes_at (map (λ b. notes b) listeners.old.items) w ≡ [] }
     requires journal { journal.old.entries ≡ [] }
-    requires engine { engine.old ≡ None }
+    requires no_engine { engine.old ≡ None }
     ensures works { OfCommand (L.table library.old) name.now (Some command) (λ request.
         IsRequestDone (vec_len listeners.old) request
-        (outcome journal.new.entries engine.new
-        (outside_of (L.faults library.old) (K.written sink.old)
-        (map (λ b. notes b) listeners.old.items) (map (λ b. rules b) listeners.old.items))
-        (outside_of (L.faults library.new) (K.written sink.new)
-        (map (λ b. notes b) listeners.new.items) (map (λ b. rules b) listeners.new.items)))
-        result) }
+        (outcome_at L.faults K.written notes rules journal.new.entries engine.new
+        (library.old, sink.old, listeners.old.items)
+        (library.new, sink.new, listeners.new.items)) result) }
     ensures count { vec_len listeners.new ≡ vec_len listeners.old }
     ensures words { ¬ IsErrOf result End.Words }
     ensures no_fewer_read_faults { L.faults library.old ≤ L.faults library.new }
@@ -397,17 +391,14 @@ pub fn work<S: FrameStore, L: Library, K: Sink>(
     journal: &mut Journal,
 ) -> Result<bool, End>
     requires listeners { vec_len listeners.old < 2 ^ 32 }
-    requires fresh { (w : ℕ) → notes_at (map (λ b. notes b) listeners.old.items) w ≡ [] }
+    requires no_notes { (w : ℕ) → notes_at (map (λ b. notes b) listeners.old.items) w ≡ [] }
     requires journal { journal.old.entries ≡ [] }
-    requires engine { engine.old ≡ None }
+    requires no_engine { engine.old ≡ None }
     ensures works { OfWords (L.table library.old) (map string_bytes words.now) (λ request.
         IsRequestDone (vec_len listeners.old) request
-        (outcome journal.new.entries engine.new
-        (outside_of (L.faults library.old) (K.written sink.old)
-        (map (λ b. notes b) listeners.old.items) (map (λ b. rules b) listeners.old.items))
-        (outside_of (L.faults library.new) (K.written sink.new)
-        (map (λ b. notes b) listeners.new.items) (map (λ b. rules b) listeners.new.items)))
-        result) }
+        (outcome_at L.faults K.written notes rules journal.new.entries engine.new
+        (library.old, sink.old, listeners.old.items)
+        (library.new, sink.new, listeners.new.items)) result) }
     ensures count { vec_len listeners.new ≡ vec_len listeners.old }
     ensures words { IsErrOf result End.Words → command_of (map string_bytes words.now) ≡ None }
     ensures no_fewer_read_faults { L.faults library.old ≤ L.faults library.new }

@@ -1,24 +1,25 @@
 //! What follows from the definitions: functions that do nothing, with the laws as their contracts.
 
-ghost use Rattle.std.specs.Prelude.{◌≡◌, ◌≤◌, ◌<◌, ◌^◌, ℕ, List, ◌++◌, length, Option, Some, IsSome};
+ghost use Rattle.std.specs.Prelude.{◌≡◌, ◌≤◌, ◌<◌, ◌^◌, ℕ, List, ◌++◌, length, Some, IsSome};
 ghost use Rattle.std.specs.Fmt.{decimal};
 ghost use Rattle.mse_outside.specs.Outside.{Table};
 ghost use Rattle.mse_calls.specs.declared.entry.Entry.{Entry};
 ghost use Rattle.mse_commands.specs.declared.ending.Status.{Status};
 ghost use Rattle.mse_commands.specs.declared.words.Command.{Command};
-ghost use Rattle.mse_commands.specs.Asked.{ByFile, asked};
-ghost use Rattle.mse_commands.specs.Files.{AppendsFile, IsJournalOf, IsThrough, NameOneFile};
-ghost use Rattle.mse_commands.specs.Outcomes.{Ends, RunOutcome};
+ghost use Rattle.mse_commands.specs.Requests.{ByFile};
+ghost use Rattle.mse_commands.specs.Files.{IsJournalOf, IsThroughWith, AreNamesOfOneFile};
+ghost use Rattle.mse_commands.specs.Outcomes.{RunOutcome};
 ghost use Rattle.mse_commands.specs.Shown.{last_state, text_of};
-ghost use Rattle.mse_commands.specs.Words.{number_of};
+ghost use Rattle.mse_commands.specs.Words.{count_of_word};
 
 /// A word names a number up to the greatest one, which has 32 bits, exactly where it is that number
 /// in decimal digits.
 pub fn numbers_in_words()
-    ensures named { (most n : ℕ) (word : List ℕ) → most < 2 ^ 32 → number_of most word ≡ Some n
+    ensures in_digits { (most n : ℕ) (word : List ℕ) → most < 2 ^ 32
+        → count_of_word most word ≡ Some n
         → (1 ≤ n) × (n ≤ most) × (word ≡ decimal n) }
     ensures each { (most n : ℕ) → most < 2 ^ 32 → 1 ≤ n → n ≤ most
-        → number_of most (decimal n) ≡ Some n }
+        → count_of_word most (decimal n) ≡ Some n }
 {}
 
 /// Whole journals of a file of fewer than 2^62 bytes, by `ranges` or by `pieces` of any size, come
@@ -31,10 +32,10 @@ pub fn one_block()
     ensures text { (a b : Command) (bytes : List ℕ) (entries others : List Entry)
         → length bytes < 2 ^ 62 → IsJournalOf a bytes entries → IsJournalOf b bytes others
         → text_of (ByFile a bytes) entries ≡ text_of (ByFile b bytes) others }
-    ensures runs { (files : Table) (a b : List (List ℕ)) (bytes : List ℕ) (n m : ℕ)
-        (before : List ℕ) (s t : RunOutcome) (x y : Status) → NameOneFile files a b bytes
-        → length bytes < 2 ^ 62 → s.before.written ≡ Some before → t.before.written ≡ Some before
-        → IsThrough x → IsThrough y → Ends n (asked files a) s x → Ends m (asked files b) t y
+    ensures runs { (files : Table) (a b : List (List ℕ)) (bytes before : List ℕ)
+        (s t : RunOutcome) (x y : Status) → AreNamesOfOneFile files a b bytes
+        → length bytes < 2 ^ 62
+        → IsThroughWith files a before s x → IsThroughWith files b before t y
         → (x ≡ y) × (s.now.written ≡ t.now.written) }
 {}
 

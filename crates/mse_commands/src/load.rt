@@ -1,8 +1,7 @@
 //! Files, scripts and blobs of the library.
 
-ghost use Rattle.std.specs.Prelude.{◌≡◌, ◌≤◌, ◌⊎◌, ◌∷◌, [], ℕ, length, Ok, IfSome, IfOk, IfErr};
-ghost use Rattle.mse_outside.specs.Outside.{HasRisen};
-ghost use Rattle.mse_commands.specs.Asked.{IsReadOf, blob_bytes, blobs_bytes, files_in, loaded, script_loaded};
+ghost use Rattle.std.specs.Prelude.{◌≡◌, ◌≤◌, ◌⊎◌, ◌∷◌, [], length, Ok, IfSome, IfOk, IfErr};
+ghost use Rattle.mse_commands.specs.Requests.{IsReadOf, blob_bytes, blobs_bytes, files_in, file_bytes, script_of_file};
 ghost use Rattle.mse_commands.specs.Loads.{IsLoadEnd, IsScriptEnd, failures};
 
 use crate::ending::End;
@@ -23,7 +22,7 @@ fn no_file(alloc: Global, name: &str) -> End
 }
 
 /// The library failed to read the file of this name.
-fn read_failed(alloc: Global, name: &str) -> End
+fn failed_read(alloc: Global, name: &str) -> End
     ensures { (result ≡ End.Memory) ⊎ (result ≡ End.Read name.now) }
 {
     match Text::copy_of(alloc, name) {
@@ -39,17 +38,17 @@ fn read_failed(alloc: Global, name: &str) -> End
 pub fn load<L: Library>(alloc: Global, library: &mut L, name: &str) -> Result<Vec<u8>, End>
     ensures table { L.table library.new ≡ L.table library.old }
     ensures ok { IfSome (L.table library.old) (λ files.
-        IfOk result (λ made. loaded files name.now ≡ Ok made.items)) }
-    ensures end { IfErr result (IsLoadEnd (L.table library.old)
+        IfOk result (λ made. file_bytes files name.now ≡ Ok made.items)) }
+    ensures early_end { IfErr result (IsLoadEnd (L.table library.old)
         (failures (L.faults library.old) (L.faults library.new))
-        (name.now ∷ []) (λ files. loaded files name.now)) }
+        (name.now ∷ []) (λ files. file_bytes files name.now)) }
     ensures no_fewer_faults { L.faults library.old ≤ L.faults library.new }
 {
     let mut bytes = Vec::new(alloc);
     match library.load(name, &mut bytes) {
         Loaded::Done => Ok(bytes),
         Loaded::NoFile => Err(no_file(alloc, name)),
-        Loaded::Failed => Err(read_failed(alloc, name)),
+        Loaded::Failed => Err(failed_read(alloc, name)),
         Loaded::OutOfMemory => Err(End::Memory),
     }
 }
@@ -60,9 +59,9 @@ pub fn load<L: Library>(alloc: Global, library: &mut L, name: &str) -> Result<Ve
 pub fn load_script<L: Library>(alloc: Global, library: &mut L, name: &str) -> Result<Script, End>
     ensures table { L.table library.new ≡ L.table library.old }
     ensures ok { IfSome (L.table library.old) (λ files.
-        IfOk result (λ made. script_loaded files name.now ≡ Ok made)) }
-    ensures read { IfOk result (λ made. IsReadOf (Ok made)) }
-    ensures end { IfErr result (IsScriptEnd (L.table library.old)
+        IfOk result (λ made. script_of_file files name.now ≡ Ok made)) }
+    ensures as_read { IfOk result (λ made. IsReadOf (Ok made)) }
+    ensures early_end { IfErr result (IsScriptEnd (L.table library.old)
         (failures (L.faults library.old) (L.faults library.new)) name.now) }
     ensures no_fewer_faults { L.faults library.old ≤ L.faults library.new }
 {
@@ -82,7 +81,7 @@ fn load_blob<L: Library>(alloc: Global, library: &mut L, text: &BlobText) -> Res
     ensures table { L.table library.new ≡ L.table library.old }
     ensures ok { IfSome (L.table library.old) (λ files.
         IfOk result (λ made. blob_bytes files text.now ≡ Ok made)) }
-    ensures end { IfErr result (IsLoadEnd (L.table library.old)
+    ensures early_end { IfErr result (IsLoadEnd (L.table library.old)
         (failures (L.faults library.old) (L.faults library.new))
         (files_in (text.now ∷ [])) (λ files. blob_bytes files text.now)) }
     ensures no_fewer_faults { L.faults library.old ≤ L.faults library.new }
@@ -115,7 +114,7 @@ pub fn load_blobs<L: Library>(
     ensures ok { IfSome (L.table library.old) (λ files.
         IfOk result (λ made. blobs_bytes files texts.now ≡ Ok made)) }
     ensures count { IfOk result (λ made. length made ≡ length texts.now) }
-    ensures end { IfErr result (IsLoadEnd (L.table library.old)
+    ensures early_end { IfErr result (IsLoadEnd (L.table library.old)
         (failures (L.faults library.old) (L.faults library.new))
         (files_in texts.now) (λ files. blobs_bytes files texts.now)) }
     ensures no_fewer_faults { L.faults library.old ≤ L.faults library.new }

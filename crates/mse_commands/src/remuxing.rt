@@ -5,9 +5,9 @@ ghost use Rattle.std.specs.List.{flat_map};
 ghost use Rattle.listeners.specs.declared.listener.Note.{Note};
 ghost use Rattle.mse_calls.specs.declared.rules.Rule.{Rule};
 ghost use Rattle.mse_outside.specs.Outside.{HasRisen};
-ghost use Rattle.remux.specs.Remuxed.{remuxed};
+ghost use Rattle.remux.specs.Pieces.{pieces_of_file};
 ghost use Rattle.script_run.specs.Writes.{IsWritten, IsFrontWritten};
-ghost use Rattle.mse_commands.specs.Asked.{OfCommand};
+ghost use Rattle.mse_commands.specs.Requests.{OfCommand};
 ghost use Rattle.mse_commands.specs.Outcomes.{outcome, outside_of};
 ghost use Rattle.mse_commands.specs.Remuxing.{remux_fault_line, remux_text};
 ghost use Rattle.mse_commands.specs.Works.{IsRequestDone};
@@ -62,7 +62,7 @@ fn put_fault<K: Sink>(
 
 /// Puts a file as fragments, or the line of its fault. It answers whether it has one.
 fn put_remuxed<K: Sink>(alloc: Global, sink: &mut K, file: &[u8]) -> Result<bool, Halt>
-    ensures ok { IfOk result (λ broken. broken ≡ is_err (remuxed file.now)) }
+    ensures ok { IfOk result (λ broken. broken ≡ is_err (pieces_of_file file.now)) }
     ensures wrote { OnOk result (IsWritten (remux_text file.now)
         (K.written sink.old) (K.written sink.new)) }
     ensures err { OnErr result (IsFrontWritten (remux_text file.now)

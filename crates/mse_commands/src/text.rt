@@ -9,7 +9,7 @@ ghost use Rattle.mse_commands.specs.Heading.{made_line, heading_of};
 use crate::ending::End;
 use crate::words::Command;
 use call_script::ScriptFault;
-use event_text::printable;
+use event_text::printable_text;
 use mse_base::OutOfMemory;
 use std::alloc::Global;
 
@@ -38,7 +38,7 @@ fn line_naming(alloc: Global, words: &str, name: &str) -> Result<String, OutOfMe
     ensures { IfOk result (λ line.
         string_bytes line ≡ words.now ++ (printable_text name.now ++ 10 ∷ [])) }
 {
-    let shown_name = printable(alloc, name)?;
+    let shown_name = printable_text(alloc, name)?;
     let shown_name = shown_name.as_str();
     let line = format!(in alloc; "{words}{shown_name}\n")?;
     Ok(line)

@@ -3,10 +3,10 @@
 ghost use Rattle.std.specs.Prelude.{◌≡◌, ◌≤◌, ◌<◌, ◌⊎◌, ◌^◌, ℕ, [], None, IfSome, map, string_bytes, vec_len};
 ghost use Rattle.listeners.specs.Dispatch.{notes_at};
 ghost use Rattle.mse_outside.specs.Outside.{HasRisen};
-ghost use Rattle.mse_commands.specs.Asked.{OfWords, asked};
+ghost use Rattle.mse_commands.specs.Requests.{OfWords, request_in};
 ghost use Rattle.mse_commands.specs.Complete.{IsCutAnywhere, IsComplete};
 ghost use Rattle.mse_commands.specs.Loads.{failures};
-ghost use Rattle.mse_commands.specs.Outcomes.{Ends, outcome, outside_of};
+ghost use Rattle.mse_commands.specs.Outcomes.{Ends, outcome_at};
 ghost use Rattle.mse_commands.specs.Says.{IsEndSaid, IsLineSaid};
 ghost use Rattle.mse_commands.specs.Words.{command_of};
 
@@ -72,27 +72,22 @@ pub fn run<S: FrameStore, L: Library, K: Sink>(
     journal: &mut Journal,
 ) -> Status
     requires listeners { vec_len listeners.old < 2 ^ 32 }
-    requires fresh { (w : ℕ) → notes_at (map (λ b. notes b) listeners.old.items) w ≡ [] }
+    requires no_notes { (w : ℕ) → notes_at (map (λ b. notes b) listeners.old.items) w ≡ [] }
     requires journal { journal.old.entries ≡ [] }
-    requires engine { engine.old ≡ None }
+    requires no_engine { engine.old ≡ None }
     ensures ends { OfWords (L.table library.old) (map string_bytes words.now) (λ request.
         Ends (vec_len listeners.old) request
-        (outcome journal.new.entries engine.new
-        (outside_of (L.faults library.old) (K.written sink.old)
-        (map (λ b. notes b) listeners.old.items) (map (λ b. rules b) listeners.old.items))
-        (outside_of (L.faults library.new) (K.written sink.new)
-        (map (λ b. notes b) listeners.new.items) (map (λ b. rules b) listeners.new.items)))
-        result) }
+        (outcome_at L.faults K.written notes rules journal.new.entries engine.new
+        (library.old, sink.old, listeners.old.items)
+        (library.new, sink.new, listeners.new.items)) result) }
     ensures complete { IfSome (L.table library.old) (λ files. IsComplete (vec_len listeners.old)
-        (asked files (map string_bytes words.now))
-        (outcome journal.new.entries engine.new
-        (outside_of (L.faults library.old) (K.written sink.old)
-        (map (λ b. notes b) listeners.old.items) (map (λ b. rules b) listeners.old.items))
-        (outside_of (L.faults library.new) (K.written sink.new)
-        (map (λ b. notes b) listeners.new.items) (map (λ b. rules b) listeners.new.items)))
+        (request_in files (map string_bytes words.now))
+        (outcome_at L.faults K.written notes rules journal.new.entries engine.new
+        (library.old, sink.old, listeners.old.items)
+        (library.new, sink.new, listeners.new.items))
         (failures (K.faults sink.old) (K.faults sink.new)) result) }
     ensures cuts { IfSome (L.table library.old) (λ files.
-        IsCutAnywhere (asked files (map string_bytes words.now)) journal.new.entries result) }
+        IsCutAnywhere (request_in files (map string_bytes words.now)) journal.new.entries result) }
     ensures count { vec_len listeners.new ≡ vec_len listeners.old }
     ensures words { result ≡ Status.Words → command_of (map string_bytes words.now) ≡ None }
     ensures read { result ≡ Status.Read → HasRisen (L.faults library.old) (L.faults library.new) }

@@ -1,9 +1,9 @@
 //! The words of a call.
 
 ghost use Rattle.std.specs.Prelude.{◌≡◌, ◌≤◌, IfSome, map, string_bytes};
-ghost use Rattle.mse_commands.specs.Words.{number_within, number_of, finite_time, command_of_two, command_of_three, command_of, file_of, IsInRange};
+ghost use Rattle.mse_commands.specs.Words.{count_of_word, finite_time, command_of_two, command_of_three, command_of, file_of, IsInRange};
 
-use call_script::read_time;
+use call_script::{read_index, read_time};
 use mse_base::{Moment, Ticks};
 
 /// The most bytes that a piece may have.
@@ -32,27 +32,16 @@ pub enum Command {
     Feed(Ticks),
 }
 
-/// The number where it is not too great.
-fn within(most: u32, count: u32) -> Option<u32>
-    ensures { result ≡ number_within most count }
-{
-    if count <= most { Some(count) } else { None }
-}
-
 /// The number from 1 to `most` that a word names: decimal digits without leading zeros.
-fn read_number(most: u32, word: &str) -> Option<u32>
-    ensures value { result ≡ number_of most word.now }
+fn read_count(most: u32, word: &str) -> Option<u32>
+    ensures value { result ≡ count_of_word most word.now }
     ensures bounds { IfSome result (λ count. (1 ≤ count) × (count ≤ most)) }
 {
-    let [first, ..] = word.as_bytes() else {
-        return None;
-    };
-    if *first < b'1' || *first > b'9' {
-        return None;
-    }
-    match word.parse::<u32>() {
-        Ok(count) => within(most, count),
-        Err(_) => None,
+    let count = read_index(word)?;
+    if 1 <= count && count <= most {
+        Some(count)
+    } else {
+        None
     }
 }
 
@@ -78,7 +67,7 @@ fn command_of_two(name: &str, word: &str) -> Option<Command>
     } else if name == "remux" {
         Some(Command::Remux)
     } else if name == "make" {
-        let count = read_number(MOST_SEGMENTS, word)?;
+        let count = read_count(MOST_SEGMENTS, word)?;
         Some(Command::Make(count))
     } else {
         None
@@ -91,7 +80,7 @@ fn command_of_three(name: &str, word: &str) -> Option<Command>
     ensures range { IfSome result IsInRange }
 {
     if name == "pieces" {
-        let count = read_number(LONGEST, word)?;
+        let count = read_count(LONGEST, word)?;
         Some(Command::Pieces(count))
     } else if name == "feed" {
         let at = finite_time(word)?;

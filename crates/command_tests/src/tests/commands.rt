@@ -69,10 +69,10 @@ fn remuxes_a_classic_file(rt: HostRuntime) -> Result<(), Fail> {
     let plain = plain_file(alloc)?;
     let (status, sink) = printed(alloc, &["remux", "plain.mp4"], &file)?;
     assert_eq!(rt; status, Status::Ok);
-    assert_eq!(rt; sink.written(), plain.as_slice());
-    let (status, shown) = printed(alloc, &["ranges", "plain.mp4"], sink.written())?;
+    assert_eq!(rt; sink.written_bytes(), plain.as_slice());
+    let (status, shown) = printed(alloc, &["ranges", "plain.mp4"], sink.written_bytes())?;
     assert_eq!(rt; status, Status::Ok);
-    assert_eq!(rt; shown.written(), PLAIN_BLOCK.as_bytes());
+    assert_eq!(rt; shown.written_bytes(), PLAIN_BLOCK.as_bytes());
     Ok(())
 }
 
@@ -98,7 +98,7 @@ fn names_faults_of_classic_files(rt: HostRuntime) -> Result<(), Fail> {
     for (file, line) in &cases {
         let (status, sink) = printed(alloc, &["remux", "plain.mp4"], file)?;
         assert_eq!(rt; status, Status::Media, "at {line}");
-        assert_eq!(rt; sink.written(), line.as_bytes());
+        assert_eq!(rt; sink.written_bytes(), line.as_bytes());
     }
     Ok(())
 }
@@ -115,7 +115,7 @@ fn puts_each_segment_by_itself(rt: HostRuntime) -> Result<(), Fail> {
         let words = texts(alloc, &["remux", "plain.mp4"])?;
         let status = status_of(alloc, &words, &mut library, &mut sink);
         assert_eq!(rt; status, Status::Write);
-        assert_eq!(rt; Some(sink.written()), plain.get(..len));
+        assert_eq!(rt; Some(sink.written_bytes()), plain.get(..len));
     }
     Ok(())
 }
@@ -178,7 +178,7 @@ fn feeds_a_decoder(rt: HostRuntime) -> Result<(), Fail> {
         let wanted = if *breaks { Status::Media } else { Status::Ok };
         let (status, sink) = printed(alloc, &["feed", *time, "plain.mp4"], &bytes)?;
         assert_eq!(rt; status, wanted, "at {text}");
-        assert_eq!(rt; sink.written(), text.as_bytes(), "at {text}");
+        assert_eq!(rt; sink.written_bytes(), text.as_bytes(), "at {text}");
     }
     Ok(())
 }
@@ -199,7 +199,7 @@ fn takes_no_other_words(rt: HostRuntime) -> Result<(), Fail> {
     ] {
         let (status, sink) = printed(alloc, words, &plain_file(alloc)?)?;
         assert_eq!(rt; status, Status::Words);
-        assert_eq!(rt; sink.written(), b"error: words\n".as_slice());
+        assert_eq!(rt; sink.written_bytes(), b"error: words\n".as_slice());
     }
     Ok(())
 }

@@ -9,7 +9,7 @@ use track_index::IndexStore;
 /// A script is played to its end, and closes with this block.
 fn closes_with(alloc: Global, script: &str, block: &str) -> Result<bool, Fail> {
     let (status, sink) = played::<IndexStore>(alloc, script)?;
-    Ok(status == Status::Ok && sink.written().ends_with(block.as_bytes()))
+    Ok(status == Status::Ok && sink.written_bytes().ends_with(block.as_bytes()))
 }
 
 #[test]

@@ -33,7 +33,7 @@ fn check(rt: &impl Abort, alloc: Global, file: &[u8], block: &str) -> Result<(),
     ] {
         let (status, sink) = printed(alloc, words, file)?;
         assert_eq!(rt; status, Status::Ok, "at {block}");
-        assert_eq!(rt; sink.written(), block.as_bytes(), "at {block}");
+        assert_eq!(rt; sink.written_bytes(), block.as_bytes(), "at {block}");
     }
     Ok(())
 }
@@ -94,7 +94,10 @@ fn front_parts_of_adts_frames(rt: HostRuntime) -> Result<(), Fail> {
                 let words = ["play", "plain.mp4"].as_slice();
                 let (status, sink) = printed(alloc, words, script.as_bytes())?;
                 assert_eq!(rt; status, Status::Ok, "at {script}");
-                assert!(rt; sink.written().ends_with(block.as_bytes()), "at {script}");
+                assert!(rt;
+                    sink.written_bytes().ends_with(block.as_bytes()),
+                    "at {script}"
+                );
             }
         }
     }

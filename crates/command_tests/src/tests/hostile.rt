@@ -39,9 +39,9 @@ fn a_listener_removes_its_buffer(rt: HostRuntime) -> Result<(), Fail> {
     let alloc = rt.alloc();
     let (status, sink) = played::<IndexStore>(alloc, SCRIPT)?;
     assert_eq!(rt; status, Status::Ok);
-    assert_eq!(rt; sink.written(), PRINTS.as_bytes());
+    assert_eq!(rt; sink.written_bytes(), PRINTS.as_bytes());
     let (status, sink) = played::<ListStore>(alloc, SCRIPT)?;
     assert_eq!(rt; status, Status::Ok);
-    assert_eq!(rt; sink.written(), PRINTS.as_bytes());
+    assert_eq!(rt; sink.written_bytes(), PRINTS.as_bytes());
     Ok(())
 }

@@ -1,5 +1,5 @@
-use Rattle.std.proofs.Common.{◌≡◌, ◌≤◌, ◌<◌, ◌^◌, ℕ, pos, neg_ℤ, ap, ◌∙◌, arith, sym, to_z, of_z}
-use Rattle.std.specs.Prelude.{Bool, true, ◌&&◌, Option, Some, None, if◌then◌else◌, int_le}
+use Rattle.std.proofs.Common.{◌≡◌, ◌<◌, ◌^◌, ℕ, pos, neg_ℤ, ap, arith, to_z, of_z}
+use Rattle.std.specs.Prelude.{Bool, true, ◌&&◌, Some, None, if◌then◌else◌, int_le}
 use Rattle.std.specs.Int.{w128}
 use Rattle.std.proofs.lemmas.Grind.{common_steps}
 use Rattle.std.proofs.lemmas.Int.{ints, to_z-of_z}

@@ -1,4 +1,4 @@
-use Rattle.std.proofs.Common.{◌≡◌, ◌∙◌, ap, string_bytes, arith, List, [], ℕ, length}
+use Rattle.std.proofs.Common.{◌≡◌, string_bytes, arith, [], length}
 use Rattle.std.specs.Prelude.{vec_len}
 use Rattle.std.proofs.lemmas.Grind.{common_steps}
 use Rattle.mse_commands.specs.Works.{script_inputs}

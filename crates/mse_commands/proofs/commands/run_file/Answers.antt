@@ -6,7 +6,7 @@ use Rattle.mse_commands.proofs.commands.run_file.Goals as goal
 pub returns-in-Err-clause-works : goal.returns-in-Err-clause-works
 returns-in-Err-clause-works g c = λ count told given.
     file_not_loaded (g.L.Library.table c.args.library.now) (g.L.Library.faults c.args.library.now) (g.L.Library.faults c.file_for.new.library) c.args.name.now c.args.command c.in-Err.end
-    c.args.journal.now.entries c.args.engine.now (g.K.Sink.written c.args.sink.now) count told given c.requires.file c.in-Err.ensures.unmade c.requires.journal c.requires.engine c.in-Err.ensures.end
+    c.args.journal.now.entries c.args.engine.now (g.K.Sink.written c.args.sink.now) count told given c.requires.file c.in-Err.ensures.unmade c.requires.journal c.requires.no_engine c.in-Err.ensures.early_end
 
 pub returns-clause-works : goal.returns-clause-works
 returns-clause-works g c = λ count told given.

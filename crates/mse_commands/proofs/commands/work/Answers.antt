@@ -8,4 +8,4 @@ pub returns-in-None-clause-works : goal.returns-in-None-clause-works
 returns-in-None-clause-works g c =
     let none : None ≡ command_of (map string_bytes c.args.words.now) = cc (c.in-None.is, c.read_command.ensures.value) in
     no_words (g.L.Library.table c.args.library.now) (vec_len c.args.listeners.now) (g.L.Library.faults c.args.library.now) (map string_bytes c.args.words.now)
-    c.args.journal.now.entries c.args.engine.now (g.K.Sink.written c.args.sink.now) _ _ none c.requires.journal c.requires.engine
+    c.args.journal.now.entries c.args.engine.now (g.K.Sink.written c.args.sink.now) _ _ none c.requires.journal c.requires.no_engine

@@ -1,4 +1,4 @@
-use Rattle.std.proofs.Common.{◌≡◌, ◌<◌, ◌≤◌, ◌+◌, ◌-◌, ◌∙◌, ℕ, [], ◌∷◌, length, true, false, sym, arith}
+use Rattle.std.proofs.Common.{◌≡◌, ◌<◌, ◌≤◌, ◌+◌, ◌-◌, ◌∙◌, [], ◌∷◌, length, true, false, sym, arith}
 use Rattle.std.specs.Prelude.{min, is_some}
 use Rattle.std.proofs.lemmas.Grind.{common_steps}
 use Rattle.mse_commands.specs.Shown.{pieces_of}
@@ -35,7 +35,7 @@ returns-then-is_some-clause-ok g c =
     let is : c.min-count.result ≡ min c.args.size (c.len-len.result - c.appending.at) = grind (arith, common_steps) in
     let call = rw c.piece_at.ensures at c.in-Ok-append.ensures.ok in
     let done = next_filed c.args.file.items c.args.size c.len-len.result c.appending.at c.min-count.result c.appending.blobs c.args.run.now c.appending.run c.append.new.run c.drain_quietly.new.self
-    c.requires c.appending-test.true is c.appending.invariant call (c.drain_quietly.ensures.drains (c.args.file.items ∷ [])) c.in-Ok-drain_quietly.ensures.end in
+    c.requires c.appending-test.true is c.appending.invariant call (c.drain_quietly.ensures.drains (c.args.file.items ∷ [])) c.in-Ok-drain_quietly.ensures.nothing_left in
     ends_at_fault c.args.file.items c.args.size c.len-len.result (c.appending.at + c.min-count.result) c.args.run.now c.drain_quietly.new.self c.fault.result done
     (sym c.is_some.ensures ∙ c.if-is_some.true) (λ st h. c.fault.ensures st (rw c.engine.ensures h)) c.appending.invariant.whole
 
@@ -44,7 +44,7 @@ appending-preserved g c =
     let is : c.min-count.result ≡ min c.args.size (c.len-len.result - c.appending.at) = grind (arith, common_steps) in
     let call = rw c.piece_at.ensures at c.in-Ok-append.ensures.ok in
     let done = next_filed c.args.file.items c.args.size c.len-len.result c.appending.at c.min-count.result c.appending.blobs c.args.run.now c.appending.run c.append.new.run c.drain_quietly.new.self
-    c.requires c.appending-test.true is c.appending.invariant call (c.drain_quietly.ensures.drains (c.args.file.items ∷ [])) c.in-Ok-drain_quietly.ensures.end in
+    c.requires c.appending-test.true is c.appending.invariant call (c.drain_quietly.ensures.drains (c.args.file.items ∷ [])) c.in-Ok-drain_quietly.ensures.nothing_left in
     let more : c.appending.at < c.len-len.result = c.appending-test.true in
     let within : c.appending.at + c.min-count.result ≤ c.len-len.result = omega (arith, is, more) in
     let are : c.appending.at + c.min-count.result < c.len-len.result → c.if-at-len.blobs ≡ c.args.file.items ∷ [] = λ h.

@@ -29,4 +29,4 @@ returns-clause-ok g c =
     let called = rw c.in-Ok.ensures at c.in-Ok-append.ensures.ok in
     appended_last c.args.file.items (whole_piece ∷ []) c.args.run.now c.drain_quietly.new.self
     (piece_done c.args.file.items (whole_piece ∷ []) whole_piece [] c.args.run.now c.open.new.run c.append.new.run c.drain_quietly.new.self
-    (under_way c.args.file.items (whole_piece ∷ []) c.args.run.now c.open.new.run opened) called (c.drain_quietly.ensures.drains (c.args.file.items ∷ [])) c.in-Ok-drain_quietly.ensures.end)
+    (under_way c.args.file.items (whole_piece ∷ []) c.args.run.now c.open.new.run opened) called (c.drain_quietly.ensures.drains (c.args.file.items ∷ [])) c.in-Ok-drain_quietly.ensures.nothing_left)

@@ -1,4 +1,4 @@
-use Rattle.std.proofs.Common.{◌<◌, ◌+◌, ◌^◌, ◌≡◌, List, ℕ, length, ◌++◌, arith, length-append}
+use Rattle.std.proofs.Common.{◌<◌, ◌+◌, ◌^◌, ◌≡◌, length, ◌++◌, arith, length-append}
 use Rattle.mse_commands.proofs.Blocks.{fault-text}
 use Rattle.mse_commands.proofs.laws.behind_a_fault.Goals as goal
 

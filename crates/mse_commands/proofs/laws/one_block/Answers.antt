@@ -8,4 +8,5 @@ pub returns-clause-text : goal.returns-clause-text
 returns-clause-text c = λ a b bytes entries others short p q. one-text a b bytes entries others short p q
 
 pub returns-clause-runs : goal.returns-clause-runs
-returns-clause-runs c = λ files a b bytes n m before s t x y one short i j f g p q. one-run files a b bytes n m before s t x y one short i j f g p q
+returns-clause-runs c = λ files a b bytes before s t x y one short p q.
+    one-run files a b bytes p.count q.count before s t x y one short p.before_is q.before_is p.through q.through p.ends q.ends

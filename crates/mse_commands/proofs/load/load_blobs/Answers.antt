@@ -1,13 +1,13 @@
-use Rattle.std.proofs.Common.{◌≡◌, ◌≤◌, ◌+◌, ◌∙◌, take, drop, arith, length-append}
+use Rattle.std.proofs.Common.{◌≤◌, ◌+◌, ◌∙◌, take, drop, arith, length-append}
 use Rattle.mse_commands.proofs.Loading.{blobs_end, blobs_step, more_at, parts_at}
 use Rattle.mse_commands.proofs.load.load_blobs.Goals as goal
 
-pub returns-in-Err-clause-end : goal.returns-in-Err-clause-end
-returns-in-Err-clause-end g c =
+pub returns-in-Err-clause-early_end : goal.returns-in-Err-clause-early_end
+returns-in-Err-clause-early_end g c =
     let i = c.loop-text.text-index in
     blobs_end (g.L.Library.table c.args.library.now) (g.L.Library.table c.loop-text.library) (g.L.Library.faults c.args.library.now) (g.L.Library.faults c.loop-text.library)
     (g.L.Library.faults c.load_blob.new.library) c.args.texts.now (take i c.args.texts.now) c.text-item.result (drop (i + 1) c.args.texts.now) c.loop-text.blobs c.in-Err.end
-    c.loop-text.invariant.table c.loop-text.invariant.no_fewer_faults (parts_at c.args.texts.now i c.text-item.result c.loop-text-test.true c.text-item.is) c.loop-text.invariant.made c.in-Err.ensures.end
+    c.loop-text.invariant.table c.loop-text.invariant.no_fewer_faults (parts_at c.args.texts.now i c.text-item.result c.loop-text-test.true c.text-item.is) c.loop-text.invariant.made c.in-Err.ensures.early_end
 
 pub loop-text-preserved : goal.loop-text-preserved
 loop-text-preserved g c =

@@ -1,6 +1,6 @@
 use Rattle.std.proofs.Common.{◌≡◌, ◌≤◌, length, take}
 use Rattle.std.specs.Prelude.{IfSome, Ok}
-use Rattle.mse_commands.specs.Asked.{blobs_bytes}
+use Rattle.mse_commands.specs.Requests.{blobs_bytes}
 use Rattle.mse_commands.proofs.load.load_blobs.Given as goal
 
 -- the blobs so far are those of the texts so far

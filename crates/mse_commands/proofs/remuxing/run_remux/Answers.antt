@@ -4,7 +4,7 @@ use Rattle.mse_commands.proofs.remuxing.run_remux.Goals as goal
 pub returns-in-Err-clause-works : goal.returns-in-Err-clause-works
 returns-in-Err-clause-works g c = λ count told given.
     remux_not_loaded (g.L.Library.table c.args.library.now) (g.L.Library.faults c.args.library.now) (g.L.Library.faults c.load.new.library) c.args.name.now c.in-Err.end
-    (g.K.Sink.written c.args.sink.now) count told given c.in-Err.ensures.end
+    (g.K.Sink.written c.args.sink.now) count told given c.in-Err.ensures.early_end
 
 pub returns-in-Ok-put_remuxed-clause-works : goal.returns-in-Ok-put_remuxed-clause-works
 returns-in-Ok-put_remuxed-clause-works g c = λ count told given.

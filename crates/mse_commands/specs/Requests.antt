@@ -16,12 +16,12 @@ use Rattle.mse_commands.specs.declared.words.Command.TheVariants.{Ranges, Pieces
 use Rattle.mse_commands.specs.Words.{command_of, file_of}
 
 -- the bytes of a file
-abbrev pub loaded : Table → List ℕ → Result (List ℕ) End
-loaded files name = need (NoFile name) (files name)
+abbrev pub file_bytes : Table → List ℕ → Result (List ℕ) End
+file_bytes files name = need (NoFile name) (files name)
 
 -- those of the blobs of a script, up to the first file that is not there
 abbrev pub blob_bytes : Table → BlobText → Result (List ℕ) End
-blob_bytes files (File name) = loaded files name
+blob_bytes files (File name) = file_bytes files name
 blob_bytes files (Hex bytes) = Ok bytes
 
 abbrev pub blobs_bytes : Table → List BlobText → Result (List (List ℕ)) End
@@ -32,9 +32,9 @@ blobs_bytes files (text ∷ texts) = do
   Ok (bytes ∷ others)
 
 -- a script that was read, or its fault
-abbrev pub script_read : Result CallScript ScriptFault → Result CallScript End
-script_read (Ok script) = Ok script
-script_read (Err fault) = Err (Script fault)
+abbrev pub script_or_fault : Result CallScript ScriptFault → Result CallScript End
+script_or_fault (Ok script) = Ok script
+script_or_fault (Err fault) = Err (Script fault)
 
 -- What is run: a script with the bytes of its blobs, a file that is appended, or a classic file that is turned into
 -- fragments.
@@ -43,21 +43,21 @@ pub data Task : Type 0 where
   ByFile : Command → List ℕ → Task
   ByRemux : List ℕ → Task
 
-abbrev pub script_loaded : Table → List ℕ → Result CallScript End
-script_loaded files name = do
-  bytes ← loaded files name
-  script_read (read_of bytes)
+abbrev pub script_of_file : Table → List ℕ → Result CallScript End
+script_of_file files name = do
+  bytes ← file_bytes files name
+  script_or_fault (read_of bytes)
 
 abbrev pub script_task : Table → List ℕ → Result Task End
 script_task files name = do
-  script ← script_loaded files name
+  script ← script_of_file files name
   blobs ← blobs_bytes files script.blobs
   Ok (ByScript script blobs)
 
 -- the bytes that a command appends: those of a file, or those that it makes
 abbrev pub file_by : Table → List ℕ → Command → Result (List ℕ) End
 file_by files name (Make count) = Ok (made_bytes count)
-file_by files name other = loaded files name
+file_by files name other = file_bytes files name
 
 -- the command appends a file
 abbrev pub IsFileCommand : Command → Type 0
@@ -75,7 +75,7 @@ file_task files name command = do
 
 abbrev pub remux_task : Table → List ℕ → Result Task End
 remux_task files name = do
-  bytes ← loaded files name
+  bytes ← file_bytes files name
   Ok (ByRemux bytes)
 
 -- ---- with the files that are loaded for it
@@ -106,7 +106,8 @@ pub record Request : Type 0 where
   pub task : Result Task End
 
 abbrev pub file_request : Table → List ℕ → Command → Request
-file_request files name command = record { files = files; names = files_by name command; task = file_task files name command }
+file_request files name command =
+    record { files = files; names = files_by name command; task = file_task files name command }
 
 abbrev pub remux_request : Table → List ℕ → Request
 remux_request files name = record { files = files; names = name ∷ []; task = remux_task files name }
@@ -114,7 +115,7 @@ remux_request files name = record { files = files; names = name ∷ []; task = r
 abbrev pub script_request : Table → List ℕ → Request
 script_request files name = record {
   files = files;
-  names = name ∷ files_of_script (script_loaded files name);
+  names = name ∷ files_of_script (script_of_file files name);
   task = script_task files name;
 }
 
@@ -126,8 +127,8 @@ request_of files name (Some other) = file_request files name other
 
 -- What is run, or why nothing is: the words are no command, the first file in order of loading that is not there, or the
 -- fault of the script. All files are loaded before anything is run.
-abbrev pub asked : Table → List (List ℕ) → Request
-asked files words = request_of files (file_of words) (command_of words)
+abbrev pub request_in : Table → List (List ℕ) → Request
+request_in files words = request_of files (file_of words) (command_of words)
 
 -- ---- of a library that tells no files
 
@@ -152,24 +153,25 @@ IsLackOf Play (Script fault) = IsReadOf (Err fault)
 IsLackOf command (NoFile name) = ⊤
 IsLackOf command end = ⊥
 
-abbrev pub MayBeTask : Command → Result Task End → Type 0
-MayBeTask command (Ok task) = IsTaskOf command task
-MayBeTask command (Err end) = IsLackOf command end
+abbrev pub IsTaskOrLack : Command → Result Task End → Type 0
+IsTaskOrLack command (Ok task) = IsTaskOf command task
+IsTaskOrLack command (Err end) = IsLackOf command end
 
-abbrev pub MayBeRequest : Option Command → Request → Type 0
-MayBeRequest None request = (request.names ≡ []) × (request.task ≡ Err Words)
-MayBeRequest (Some command) request = MayBeTask command request.task
+abbrev pub IsRequestOfCommand : Option Command → Request → Type 0
+IsRequestOfCommand None request = (request.names ≡ []) × (request.task ≡ Err Words)
+IsRequestOfCommand (Some command) request = IsTaskOrLack command request.task
 
 -- ---- of any library
 
 -- What a command asks for of a library that may tell its files: just what these say, or what they may be.
 abbrev pub IsRequestOf : Option Table → List ℕ → Option Command → Request → Type 0
 IsRequestOf (Some files) name command request = request ≡ request_of files name command
-IsRequestOf None name command request = MayBeRequest command request
+IsRequestOf None name command request = IsRequestOfCommand command request
 
 -- something holds of what a command asks for
 abbrev pub OfCommand : Option Table → List ℕ → Option Command → (Request → Type 0) → Type 0
-OfCommand table name command P = (request : Request) × IsRequestOf table name command request × P request
+OfCommand table name command P =
+    (request : Request) × IsRequestOf table name command request × P request
 
 -- something holds of what the words ask for
 abbrev pub OfWords : Option Table → List (List ℕ) → (Request → Type 0) → Type 0
