@@ -4,7 +4,7 @@ use Rattle.std.specs.List.{AllByRecursion, filter}
 use Rattle.std.proofs.lemmas.Int.{ints}
 use Rattle.std.proofs.lemmas.List.{drop_more, length-take-le, get_or-take}
 use Rattle.mse_base.specs.declared.span.Span.{Span}
-use Rattle.mse_base.specs.Spans.{IsNormalized, StartsAfter, last_of, ends_after, starts_before}
+use Rattle.mse_base.specs.Spans.{IsNormalized, IsFirstStartAfter, last_of, has_end_after, has_start_before}
 use Rattle.mse_base.proofs.Looking.{last_some}
 
 is_lt : (a b : ℤ) → a <ℤ b → int_lt a b ≡ true
@@ -40,7 +40,7 @@ first_of_back P rs i x l at h = subst P (sym at) (subst (AllByRecursion P) (drop
 abbrev pub IsBehind : ℤ → Span → Type 0
 IsBehind e q = (e <ℤ q.start) × (e <ℤ q.end)
 
-behind_end : (e : ℤ) (rs : List Span) → StartsAfter e rs → IsNormalized rs → AllByRecursion (IsBehind e) rs
+behind_end : (e : ℤ) (rs : List Span) → IsFirstStartAfter e rs → IsNormalized rs → AllByRecursion (IsBehind e) rs
 behind_end e [] a p = tt
 behind_end e (r ∷ rs) a p =
     let own = p.0 in
@@ -65,25 +65,25 @@ front_started t (r ∷ rs) (suc i) p h = (let own = p.0 in let early = h.0 in om
 -- ---- the first that ends after a time
 
 -- those that end at a time or before it are passed over
-pub first_left : (t : ℤ) (rs : List Span) (i : ℕ) → AllByRecursion (λ r. r.end ≤ℤ t) (take i rs) → AllByRecursion (λ r. t <ℤ r.end) (drop i rs) → slice_get rs i ≡ find (ends_after t) rs
+pub first_left : (t : ℤ) (rs : List Span) (i : ℕ) → AllByRecursion (λ r. r.end ≤ℤ t) (take i rs) → AllByRecursion (λ r. t <ℤ r.end) (drop i rs) → slice_get rs i ≡ find (has_end_after t) rs
 first_left t [] i h k = refl
-first_left t (r ∷ rs) zero h k = ap (λ c. cond c (Some r) (find (ends_after t) rs)) (sym (is_lt t r.end k.0))
+first_left t (r ∷ rs) zero h k = ap (λ c. cond c (Some r) (find (has_end_after t) rs)) (sym (is_lt t r.end k.0))
 first_left t (r ∷ rs) (suc i) h k =
-    first_left t rs i h.1 k ∙ ap (λ c. cond c (Some r) (find (ends_after t) rs)) (sym (not_lt t r.end h.0))
+    first_left t rs i h.1 k ∙ ap (λ c. cond c (Some r) (find (has_end_after t) rs)) (sym (not_lt t r.end h.0))
 
 -- ---- the last that starts before a time
 
-none_started : (t : ℤ) (rs : List Span) → AllByRecursion (λ r. t ≤ℤ r.start) rs → filter (starts_before t) rs ≡ []
+none_started : (t : ℤ) (rs : List Span) → AllByRecursion (λ r. t ≤ℤ r.start) rs → filter (has_start_before t) rs ≡ []
 none_started t [] k = refl
 none_started t (r ∷ rs) k =
-    ap (λ c. cond c (r ∷ filter (starts_before t) rs) (filter (starts_before t) rs)) (not_lt r.start t k.0) ∙ none_started t rs k.1
+    ap (λ c. cond c (r ∷ filter (has_start_before t) rs) (filter (has_start_before t) rs)) (not_lt r.start t k.0) ∙ none_started t rs k.1
 
 -- those that start before a time stand at the front
-pub started_front : (t : ℤ) (rs : List Span) (i : ℕ) → AllByRecursion (λ r. r.start <ℤ t) (take i rs) → AllByRecursion (λ r. t ≤ℤ r.start) (drop i rs) → filter (starts_before t) rs ≡ take i rs
+pub started_front : (t : ℤ) (rs : List Span) (i : ℕ) → AllByRecursion (λ r. r.start <ℤ t) (take i rs) → AllByRecursion (λ r. t ≤ℤ r.start) (drop i rs) → filter (has_start_before t) rs ≡ take i rs
 started_front t rs zero h k = none_started t rs k
 started_front t [] (suc i) h k = refl
 started_front t (r ∷ rs) (suc i) h k =
-    ap (λ c. cond c (r ∷ filter (starts_before t) rs) (filter (starts_before t) rs)) (is_lt r.start t h.0) ∙ ap (λ z. r ∷ z) (started_front t rs i h.1 k)
+    ap (λ c. cond c (r ∷ filter (has_start_before t) rs) (filter (has_start_before t) rs)) (is_lt r.start t h.0) ∙ ap (λ z. r ∷ z) (started_front t rs i h.1 k)
 
 -- the last of the front
 pub last_front : (rs : List Span) (n i : ℕ) (x : Span) → n ≤ length rs → i + 1 ≡ n → x ≡ get_or rs i x → Some x ≡ last_of (take n rs)

@@ -190,11 +190,11 @@ between : (u m : ℤ) → (u <ℤ m) ⊎ (m ≤ℤ u)
 between u m = grind (arith, ints)
 
 -- the ranges agree with the spans but in the hole
-abbrev pub AgreeOutside : ℤ → ℤ → ℤ → List Span → List Span → Type 0
-AgreeOutside gap a b rs spans = (t : ℤ) → (t <ℤ (a +ℤ gap)) ⊎ (b ≤ℤ t) → is_near_any gap t rs ≡ is_near_any gap t spans
+abbrev pub AreSameOutside : ℤ → ℤ → ℤ → List Span → List Span → Type 0
+AreSameOutside gap a b rs spans = (t : ℤ) → (t <ℤ (a +ℤ gap)) ⊎ (b ≤ℤ t) → is_near_any gap t rs ≡ is_near_any gap t spans
 
 -- left of the hole what ends by it is still there
-pub left_holds : (gap t a b : ℤ) (rs xs spans : List Span) → pos 0 ≤ℤ gap → (a +ℤ gap) <ℤ b → IsRanges gap rs → AgreeOutside gap a b rs spans → ((u : ℤ) → is_near_any gap u xs ≡ true → is_near_any gap u spans ≡ true) → AllByRecursion (λ s. s.end ≤ℤ a) xs → t <ℤ (a +ℤ gap) → is_near_any gap t xs ≡ true → is_near_any gap t (ranges_without a b rs) ≡ true
+pub left_holds : (gap t a b : ℤ) (rs xs spans : List Span) → pos 0 ≤ℤ gap → (a +ℤ gap) <ℤ b → IsRanges gap rs → AreSameOutside gap a b rs spans → ((u : ℤ) → is_near_any gap u xs ≡ true → is_near_any gap u spans ≡ true) → AllByRecursion (λ s. s.end ≤ℤ a) xs → t <ℤ (a +ℤ gap) → is_near_any gap t xs ≡ true → is_near_any gap t (ranges_without a b rs) ≡ true
 left_holds gap t a b rs xs spans g w h same sub ends l e =
     let r = near_holder gap t rs (same t (inl l) ∙ sub t e) in
     let p = near_parts gap t r.0 r.2 in
@@ -212,7 +212,7 @@ left_holds gap t a b rs xs spans g w h same sub ends l e =
           absurd (true_false _ (same u (inl (omega (arith, ints))) ∙ sub u there) (start_open gap rs r.0 g h r.1))
     ]
 
-pub right_holds : (gap t a b : ℤ) (rs ys spans : List Span) → pos 0 ≤ℤ gap → (a +ℤ gap) <ℤ b → IsRanges gap rs → AgreeOutside gap a b rs spans → ((u : ℤ) → is_near_any gap u ys ≡ true → is_near_any gap u spans ≡ true) → AllByRecursion (λ s. b ≤ℤ s.start) ys → b ≤ℤ t → is_near_any gap t ys ≡ true → is_near_any gap t (ranges_without a b rs) ≡ true
+pub right_holds : (gap t a b : ℤ) (rs ys spans : List Span) → pos 0 ≤ℤ gap → (a +ℤ gap) <ℤ b → IsRanges gap rs → AreSameOutside gap a b rs spans → ((u : ℤ) → is_near_any gap u ys ≡ true → is_near_any gap u spans ≡ true) → AllByRecursion (λ s. b ≤ℤ s.start) ys → b ≤ℤ t → is_near_any gap t ys ≡ true → is_near_any gap t (ranges_without a b rs) ≡ true
 right_holds gap t a b rs ys spans g w h same sub begins l e =
     let r = near_holder gap t rs (same t (inr l) ∙ sub t e) in
     let p = near_parts gap t r.0 r.2 in
@@ -240,7 +240,7 @@ three : (gap t : ℤ) (xs ms ys : List Span) → is_near_any gap t (xs ++ (ms ++
 three gap t xs ms ys = nears-append gap t xs (ms ++ ys) ∙ ap (λ b. is_near_any gap t xs || b) (nears-append gap t ms ys)
 
 -- the ticks after the hole is filled again
-filled_times : (gap t a b : ℤ) (rs xs ms ys : List Span) → pos 0 ≤ℤ gap → (a +ℤ gap) <ℤ b → IsRanges gap rs → AgreeOutside gap a b rs (xs ++ (ms ++ ys)) → AllByRecursion (λ s. s.end ≤ℤ a) xs → AllByRecursion (λ s. b ≤ℤ s.start) ys → (is_near_any gap t (ranges_without a b rs) || is_near_any gap t ms) ≡ is_near_any gap t (xs ++ (ms ++ ys))
+filled_times : (gap t a b : ℤ) (rs xs ms ys : List Span) → pos 0 ≤ℤ gap → (a +ℤ gap) <ℤ b → IsRanges gap rs → AreSameOutside gap a b rs (xs ++ (ms ++ ys)) → AllByRecursion (λ s. s.end ≤ℤ a) xs → AllByRecursion (λ s. b ≤ℤ s.start) ys → (is_near_any gap t (ranges_without a b rs) || is_near_any gap t ms) ≡ is_near_any gap t (xs ++ (ms ++ ys))
 filled_times gap t a b rs xs ms ys g w h same ends begins =
     let all = three gap t xs ms ys in
     let more : is_near_any gap t (ranges_without a b rs) ≡ true → (t <ℤ (a +ℤ gap)) ⊎ (b ≤ℤ t) → is_near_any gap t (xs ++ (ms ++ ys)) ≡ true = λ e out. sym (same t out) ∙ carved_less gap t a b rs e in
@@ -275,7 +275,7 @@ filled_times gap t a b rs xs ms ys g w h same ends begins =
     ]
 
 -- the ranges of spans, made from ranges that agree but in a hole: what lies in the hole is taken out, and the spans there are joined in
-pub filled : (gap a b : ℤ) (rs xs ms ys : List Span) → pos 0 ≤ℤ gap → (a +ℤ gap) <ℤ b → IsRanges gap rs → AgreeOutside gap a b rs (xs ++ (ms ++ ys)) → AllByRecursion (λ s. s.end ≤ℤ a) xs → AllByRecursion (λ s. b ≤ℤ s.start) ys → ranges_with_all gap (ranges_without a b rs) ms ≡ bridged_ranges gap (xs ++ (ms ++ ys))
+pub filled : (gap a b : ℤ) (rs xs ms ys : List Span) → pos 0 ≤ℤ gap → (a +ℤ gap) <ℤ b → IsRanges gap rs → AreSameOutside gap a b rs (xs ++ (ms ++ ys)) → AllByRecursion (λ s. s.end ≤ℤ a) xs → AllByRecursion (λ s. b ≤ℤ s.start) ys → ranges_with_all gap (ranges_without a b rs) ms ≡ bridged_ranges gap (xs ++ (ms ++ ys))
 filled gap a b rs xs ms ys g w h same ends begins =
     let left = ranges_carved gap a b rs g w h in
     same_near gap _ _ g (ranges_joined_to gap (ranges_without a b rs) ms g left) (ranges_bridged gap (xs ++ (ms ++ ys)) g)

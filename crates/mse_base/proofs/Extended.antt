@@ -3,7 +3,7 @@ use Rattle.std.proofs.Common.{◌≡◌, ◌∙◌, ℕ, zero, suc, ℤ, pos, ne
 use Rattle.std.specs.List.{AllByRecursion}
 use Rattle.std.proofs.lemmas.Int.{ints}
 use Rattle.mse_base.specs.declared.span.Span.{Span}
-use Rattle.mse_base.specs.Spans.{has_tick, covers, StartsAfter, IsNormalized, IsBridged, IsBridging}
+use Rattle.mse_base.specs.Spans.{has_tick, has_tick_in, IsFirstStartAfter, IsNormalized, IsBridged, IsBridging}
 use Rattle.mse_base.specs.Bridging.{bridged_ranges, is_near, is_near_any, IsRanges, is_empty}
 use Rattle.mse_base.proofs.Unique.{unique}
 use Rattle.mse_base.proofs.Merging.{ranges_bridged, times_bridged}
@@ -16,7 +16,7 @@ IsIn x (y ∷ ys) = (x ≡ y) ⊎ IsIn x ys
 abbrev longer : ℤ → Span → Span
 longer gap s = record { start = s.start; end = s.end +ℤ gap }
 
-after_all : (n : ℤ) (rs : List Span) (gap : ℤ) → AllByRecursion (λ q. n <ℤ q.start) rs → StartsAfter n (map (longer gap) rs)
+after_all : (n : ℤ) (rs : List Span) (gap : ℤ) → AllByRecursion (λ q. n <ℤ q.start) rs → IsFirstStartAfter n (map (longer gap) rs)
 after_all n [] gap h = tt
 after_all n (r ∷ rs) gap h = h.0
 
@@ -33,9 +33,9 @@ full r h = grind (arith, ints)
 pub near_lasting : (gap t : ℤ) (r : Span) → r.start <ℤ r.end → is_near gap t r ≡ (int_le r.start t && int_lt t (r.end +ℤ gap))
 near_lasting gap t r h = ap (λ b. not b && (int_le r.start t && int_lt t (r.end +ℤ gap))) (full r h)
 
-covers_longer : (gap t : ℤ) (rs : List Span) → IsRanges gap rs → covers (map (longer gap) rs) t ≡ is_near_any gap t rs
+covers_longer : (gap t : ℤ) (rs : List Span) → IsRanges gap rs → has_tick_in (map (longer gap) rs) t ≡ is_near_any gap t rs
 covers_longer gap t [] h = refl
-covers_longer gap t (r ∷ rs) h = ap (λ b. b || covers (map (longer gap) rs) t) (sym (near_lasting gap t r h.0)) ∙ ap (λ b. is_near gap t r || b) (covers_longer gap t rs h.2)
+covers_longer gap t (r ∷ rs) h = ap (λ b. b || has_tick_in (map (longer gap) rs) t) (sym (near_lasting gap t r h.0)) ∙ ap (λ b. is_near gap t r || b) (covers_longer gap t rs h.2)
 
 same_end : (a b g : ℤ) → (a +ℤ g) ≡ (b +ℤ g) → a ≡ b
 same_end a b g e = omega (arith, ints)
@@ -68,7 +68,7 @@ same_longer gap (x ∷ xs) (y ∷ ys) e =
 pub same_near : (gap : ℤ) (xs ys : List Span) → pos 0 ≤ℤ gap → IsRanges gap xs → IsRanges gap ys → ((t : ℤ) → is_near_any gap t xs ≡ is_near_any gap t ys) → xs ≡ ys
 same_near gap xs ys g p q same = same_longer gap xs ys (unique (map (longer gap) xs) (map (longer gap) ys) (normalized_longer gap xs g p) (normalized_longer gap ys g q) (λ t. covers_longer gap t xs p ∙ same t ∙ sym (covers_longer gap t ys q)))
 
-after_ranges : (e gap : ℤ) (rs : List Span) → pos 0 ≤ℤ gap → AllByRecursion (λ q. (e +ℤ gap) <ℤ q.start) rs → StartsAfter e rs
+after_ranges : (e gap : ℤ) (rs : List Span) → pos 0 ≤ℤ gap → AllByRecursion (λ q. (e +ℤ gap) <ℤ q.start) rs → IsFirstStartAfter e rs
 after_ranges e gap [] g h = tt
 after_ranges e gap (r ∷ rs) g h = let first = h.0 in omega (arith, ints)
 
@@ -89,8 +89,8 @@ holder (r ∷ rs) p c none more e =
 pub near_holder : (gap t : ℤ) (rs : List Span) → is_near_any gap t rs ≡ true → (r : Span) × IsIn r rs × (is_near gap t r ≡ true)
 near_holder gap t rs e = holder rs (is_near gap t) (is_near_any gap t) refl (λ s ss. refl) e
 
-pub cover_holder : (t : ℤ) (rs : List Span) → covers rs t ≡ true → (r : Span) × IsIn r rs × (has_tick r t ≡ true)
-cover_holder t rs e = holder rs (λ s. has_tick s t) (λ ss. covers ss t) refl (λ s ss. refl) e
+pub cover_holder : (t : ℤ) (rs : List Span) → has_tick_in rs t ≡ true → (r : Span) × IsIn r rs × (has_tick r t ≡ true)
+cover_holder t rs e = holder rs (λ s. has_tick s t) (λ ss. has_tick_in ss t) refl (λ s ss. refl) e
 
 or_left : (a b : Bool) → a ≡ true → (a || b) ≡ true
 or_left a b e = ap (λ x. x || b) e
@@ -104,10 +104,10 @@ near_by gap t [] r i e = absurd i
 near_by gap t (x ∷ rs) r (inl same) e = or_left (is_near gap t x) (is_near_any gap t rs) (subst (λ (z : Span). is_near gap t z ≡ true) same e)
 near_by gap t (x ∷ rs) r (inr i) e = or_right (is_near gap t x) (is_near_any gap t rs) (near_by gap t rs r i e)
 
-pub cover_by : (t : ℤ) (rs : List Span) (r : Span) → IsIn r rs → has_tick r t ≡ true → covers rs t ≡ true
+pub cover_by : (t : ℤ) (rs : List Span) (r : Span) → IsIn r rs → has_tick r t ≡ true → has_tick_in rs t ≡ true
 cover_by t [] r i e = absurd i
-cover_by t (x ∷ rs) r (inl same) e = or_left (has_tick x t) (covers rs t) (subst (λ (z : Span). has_tick z t ≡ true) same e)
-cover_by t (x ∷ rs) r (inr i) e = or_right (has_tick x t) (covers rs t) (cover_by t rs r i e)
+cover_by t (x ∷ rs) r (inl same) e = or_left (has_tick x t) (has_tick_in rs t) (subst (λ (z : Span). has_tick z t ≡ true) same e)
+cover_by t (x ∷ rs) r (inr i) e = or_right (has_tick x t) (has_tick_in rs t) (cover_by t rs r i e)
 
 -- what a tick near a span is
 pub near_parts : (gap t : ℤ) (s : Span) → is_near gap t s ≡ true → (s.start <ℤ s.end) × (s.start ≤ℤ t) × (t <ℤ (s.end +ℤ gap))
@@ -172,7 +172,7 @@ start_open gap (x ∷ rs) r g h (inr i) =
     neither (is_near gap (r.start -ℤ pos 1) x) (is_near_any gap (r.start -ℤ pos 1) rs) (far_off gap (r.start -ℤ pos 1) x (inr past)) (start_open gap rs r g h.2 i)
 
 -- each tick between two bridged ones is near
-near_from : (gap u from : ℤ) (given : List Span) → covers given from ≡ true → from ≤ℤ u → u ≤ℤ (from +ℤ gap) → is_near_any gap u given ≡ true
+near_from : (gap u from : ℤ) (given : List Span) → has_tick_in given from ≡ true → from ≤ℤ u → u ≤ℤ (from +ℤ gap) → is_near_any gap u given ≡ true
 near_from gap u from given e l k =
     let s = cover_holder from given e in
     let w = within_parts from s.0 s.2 in
@@ -196,7 +196,7 @@ true_false true e f = cc
 true_false false e f = cc
 
 -- the range that holds one tick of a bridge holds the other
-pub no_less : (gap : ℤ) (given rs : List Span) (t : ℤ) → pos 0 ≤ℤ gap → IsRanges gap rs → ((u : ℤ) → is_near_any gap u rs ≡ is_near_any gap u given) → IsBridged gap given t → covers rs t ≡ true
+pub no_less : (gap : ℤ) (given rs : List Span) (t : ℤ) → pos 0 ≤ℤ gap → IsRanges gap rs → ((u : ℤ) → is_near_any gap u rs ≡ is_near_any gap u given) → IsBridged gap given t → has_tick_in rs t ≡ true
 no_less gap given rs t g h same b =
     let near = b.near in
     let above = b.above in
@@ -206,29 +206,29 @@ no_less gap given rs t g h same b =
     let p = near_parts gap b.from r.0 r.2 in
     let p1 = p.1 in
     let p2 = p.2 in
-    elim (between r.0.end b.to) as (λ _. covers rs t ≡ true) [
+    elim (between r.0.end b.to) as (λ _. has_tick_in rs t ≡ true) [
       | inl short ↦ absurd (true_false _ (same (r.0.end +ℤ gap) ∙ near_between gap (r.0.end +ℤ gap) given t b (omega (arith, ints)) (omega (arith, ints))) (end_open gap rs r.0 g h r.1))
       | inr long ↦ cover_by t rs r.0 r.1 (within_is t r.0 (omega (arith, ints)) (omega (arith, ints)))
     ]
 
 -- the last tick of the spans that is not after t and not before low
-record Before (given : List Span) (low t : ℤ) : Type 0 where
+record HasLastTickBetween (given : List Span) (low t : ℤ) : Type 0 where
   at : ℤ
   above : low ≤ℤ at
   below : at ≤ℤ t
-  has : covers given at ≡ true
-  rest : (v : ℤ) → at <ℤ v → v ≤ℤ t → covers given v ≡ false
+  has : has_tick_in given at ≡ true
+  rest : (v : ℤ) → at <ℤ v → v ≤ℤ t → has_tick_in given v ≡ false
 
-abbrev NoneFrom : List Span → ℤ → ℤ → Type 0
-NoneFrom given low high = (v : ℤ) → low ≤ℤ v → v ≤ℤ high → covers given v ≡ false
+abbrev HasNoTickBetween : List Span → ℤ → ℤ → Type 0
+HasNoTickBetween given low high = (v : ℤ) → low ≤ℤ v → v ≤ℤ high → has_tick_in given v ≡ false
 
-same_tick : (given : List Span) (u v : ℤ) (b : Bool) → covers given u ≡ b → u ≡ v → covers given v ≡ b
-same_tick given u v b e s = subst (λ (z : ℤ). covers given z ≡ b) s e
+same_tick : (given : List Span) (u v : ℤ) (b : Bool) → has_tick_in given u ≡ b → u ≡ v → has_tick_in given v ≡ b
+same_tick given u v b e s = subst (λ (z : ℤ). has_tick_in given z ≡ b) s e
 
 at_or_below : (v t : ℤ) → v ≤ℤ t → (t ≡ v) ⊎ (v ≤ℤ (t -ℤ pos 1))
 at_or_below v t h = grind (arith, ints)
 
-down-step : (given : List Span) (t : ℤ) (k : ℕ) (b : Bool) → covers given t ≡ b → Before given ((t -ℤ pos 1) -ℤ pos k) (t -ℤ pos 1) ⊎ NoneFrom given ((t -ℤ pos 1) -ℤ pos k) (t -ℤ pos 1) → Before given (t -ℤ pos (suc k)) t ⊎ NoneFrom given (t -ℤ pos (suc k)) t
+down-step : (given : List Span) (t : ℤ) (k : ℕ) (b : Bool) → has_tick_in given t ≡ b → HasLastTickBetween given ((t -ℤ pos 1) -ℤ pos k) (t -ℤ pos 1) ⊎ HasNoTickBetween given ((t -ℤ pos 1) -ℤ pos k) (t -ℤ pos 1) → HasLastTickBetween given (t -ℤ pos (suc k)) t ⊎ HasNoTickBetween given (t -ℤ pos (suc k)) t
 down-step given t k true e rest = inl (record { at = t; above = omega (arith, ints); below = omega (arith, ints); has = e; rest = λ v l m. absurd (omega (arith, ints)) })
 down-step given t k false e (inl found) =
     let above = found.above in
@@ -238,57 +238,57 @@ down-step given t k false e (inl found) =
       above = omega (arith, ints);
       below = omega (arith, ints);
       has = found.has;
-      rest = λ v l m. elim (at_or_below v t m) as (λ _. covers given v ≡ false) [ inl same ↦ same_tick given t v false e same | inr low ↦ found.rest v l low ];
+      rest = λ v l m. elim (at_or_below v t m) as (λ _. has_tick_in given v ≡ false) [ inl same ↦ same_tick given t v false e same | inr low ↦ found.rest v l low ];
     })
-down-step given t k false e (inr none) = inr (λ v l m. elim (at_or_below v t m) as (λ _. covers given v ≡ false) [ inl same ↦ same_tick given t v false e same | inr low ↦ none v (omega (arith, ints)) low ])
+down-step given t k false e (inr none) = inr (λ v l m. elim (at_or_below v t m) as (λ _. has_tick_in given v ≡ false) [ inl same ↦ same_tick given t v false e same | inr low ↦ none v (omega (arith, ints)) low ])
 
-one-step : (given : List Span) (t : ℤ) (b : Bool) → covers given t ≡ b → Before given (t -ℤ pos 0) t ⊎ NoneFrom given (t -ℤ pos 0) t
+one-step : (given : List Span) (t : ℤ) (b : Bool) → has_tick_in given t ≡ b → HasLastTickBetween given (t -ℤ pos 0) t ⊎ HasNoTickBetween given (t -ℤ pos 0) t
 one-step given t true e = inl (record { at = t; above = omega (arith, ints); below = omega (arith, ints); has = e; rest = λ v l m. absurd (omega (arith, ints)) })
 one-step given t false e = inr (λ v l m. same_tick given t v false e (omega (arith, ints)))
 
-down : (given : List Span) (t : ℤ) (k : ℕ) → Before given (t -ℤ pos k) t ⊎ NoneFrom given (t -ℤ pos k) t
-down given t zero = one-step given t (covers given t) refl
-down given t (suc k) = down-step given t k (covers given t) refl (down given (t -ℤ pos 1) k)
+down : (given : List Span) (t : ℤ) (k : ℕ) → HasLastTickBetween given (t -ℤ pos k) t ⊎ HasNoTickBetween given (t -ℤ pos k) t
+down given t zero = one-step given t (has_tick_in given t) refl
+down given t (suc k) = down-step given t k (has_tick_in given t) refl (down given (t -ℤ pos 1) k)
 
 -- a tick of the spans from t on, up to high
-record Next (given : List Span) (t high : ℤ) : Type 0 where
+record HasTickBetween (given : List Span) (t high : ℤ) : Type 0 where
   at : ℤ
   above : t ≤ℤ at
   below : at ≤ℤ high
-  has : covers given at ≡ true
+  has : has_tick_in given at ≡ true
 
 at_or_above : (v t : ℤ) → t ≤ℤ v → (t ≡ v) ⊎ ((t +ℤ pos 1) ≤ℤ v)
 at_or_above v t h = grind (arith, ints)
 
-up-step : (given : List Span) (t : ℤ) (k : ℕ) (b : Bool) → covers given t ≡ b → Next given (t +ℤ pos 1) ((t +ℤ pos 1) +ℤ pos k) ⊎ NoneFrom given (t +ℤ pos 1) ((t +ℤ pos 1) +ℤ pos k) → Next given t (t +ℤ pos (suc k)) ⊎ NoneFrom given t (t +ℤ pos (suc k))
+up-step : (given : List Span) (t : ℤ) (k : ℕ) (b : Bool) → has_tick_in given t ≡ b → HasTickBetween given (t +ℤ pos 1) ((t +ℤ pos 1) +ℤ pos k) ⊎ HasNoTickBetween given (t +ℤ pos 1) ((t +ℤ pos 1) +ℤ pos k) → HasTickBetween given t (t +ℤ pos (suc k)) ⊎ HasNoTickBetween given t (t +ℤ pos (suc k))
 up-step given t k true e rest = inl (record { at = t; above = omega (arith, ints); below = omega (arith, ints); has = e })
 up-step given t k false e (inl found) =
     let above = found.above in
     let below = found.below in
     inl (record { at = found.at; above = omega (arith, ints); below = omega (arith, ints); has = found.has })
-up-step given t k false e (inr none) = inr (λ v l m. elim (at_or_above v t l) as (λ _. covers given v ≡ false) [ inl same ↦ same_tick given t v false e same | inr high ↦ none v high (omega (arith, ints)) ])
+up-step given t k false e (inr none) = inr (λ v l m. elim (at_or_above v t l) as (λ _. has_tick_in given v ≡ false) [ inl same ↦ same_tick given t v false e same | inr high ↦ none v high (omega (arith, ints)) ])
 
-one-up : (given : List Span) (t : ℤ) (b : Bool) → covers given t ≡ b → Next given t (t +ℤ pos 0) ⊎ NoneFrom given t (t +ℤ pos 0)
+one-up : (given : List Span) (t : ℤ) (b : Bool) → has_tick_in given t ≡ b → HasTickBetween given t (t +ℤ pos 0) ⊎ HasNoTickBetween given t (t +ℤ pos 0)
 one-up given t true e = inl (record { at = t; above = omega (arith, ints); below = omega (arith, ints); has = e })
 one-up given t false e = inr (λ v l m. same_tick given t v false e (omega (arith, ints)))
 
-up : (given : List Span) (t : ℤ) (k : ℕ) → Next given t (t +ℤ pos k) ⊎ NoneFrom given t (t +ℤ pos k)
-up given t zero = one-up given t (covers given t) refl
-up given t (suc k) = up-step given t k (covers given t) refl (up given (t +ℤ pos 1) k)
+up : (given : List Span) (t : ℤ) (k : ℕ) → HasTickBetween given t (t +ℤ pos k) ⊎ HasNoTickBetween given t (t +ℤ pos k)
+up given t zero = one-up given t (has_tick_in given t) refl
+up given t (suc k) = up-step given t k (has_tick_in given t) refl (up given (t +ℤ pos 1) k)
 
 -- the tick after the last before t lies in no span, where none lies up to the end of the gap
-next_one : (g : ℕ) (given : List Span) (t : ℤ) (b : Before given (t -ℤ pos g) t) (s : Span) → IsIn s given → s.start ≤ℤ b.at → (b.at +ℤ pos 1) <ℤ s.end → NoneFrom given t (b.at +ℤ pos g +ℤ pos 1) → ⊥
+next_one : (g : ℕ) (given : List Span) (t : ℤ) (b : HasLastTickBetween given (t -ℤ pos g) t) (s : Span) → IsIn s given → s.start ≤ℤ b.at → (b.at +ℤ pos 1) <ℤ s.end → HasNoTickBetween given t (b.at +ℤ pos g +ℤ pos 1) → ⊥
 next_one g given t b s i early long none =
     let below = b.below in
     let above = b.above in
-    let has : covers given (b.at +ℤ pos 1) ≡ true = cover_by (b.at +ℤ pos 1) given s i (within_is (b.at +ℤ pos 1) s (omega (arith, ints)) long) in
+    let has : has_tick_in given (b.at +ℤ pos 1) ≡ true = cover_by (b.at +ℤ pos 1) given s i (within_is (b.at +ℤ pos 1) s (omega (arith, ints)) long) in
     elim (between t b.at) as (λ _. ⊥) [
       | inl same ↦ true_false _ has (none (b.at +ℤ pos 1) (omega (arith, ints)) (omega (arith, ints)))
       | inr later ↦ true_false _ has (b.rest (b.at +ℤ pos 1) (omega (arith, ints)) (omega (arith, ints)))
     ]
 
 -- a near tick has a tick of the spans not after it and not before it by more than the gap
-not_none : (g : ℕ) (t : ℤ) (given : List Span) → is_near_any (pos g) t given ≡ true → NoneFrom given (t -ℤ pos g) t → ⊥
+not_none : (g : ℕ) (t : ℤ) (given : List Span) → is_near_any (pos g) t given ≡ true → HasNoTickBetween given (t -ℤ pos g) t → ⊥
 not_none g t given e none =
     let s = near_holder (pos g) t given e in
     let p = near_parts (pos g) t s.0 s.2 in
@@ -301,7 +301,7 @@ not_none g t given e none =
     ]
 
 -- where no tick of the spans lies in the gap after one, the tick after that gap is not near
-not_near : (g : ℕ) (t : ℤ) (given : List Span) (b : Before given (t -ℤ pos g) t) → NoneFrom given t (b.at +ℤ pos g +ℤ pos 1) → is_near_any (pos g) (b.at +ℤ pos g +ℤ pos 1) given ≡ true → ⊥
+not_near : (g : ℕ) (t : ℤ) (given : List Span) (b : HasLastTickBetween given (t -ℤ pos g) t) → HasNoTickBetween given t (b.at +ℤ pos g +ℤ pos 1) → is_near_any (pos g) (b.at +ℤ pos g +ℤ pos 1) given ≡ true → ⊥
 not_near g t given b none e =
     let w = b.at +ℤ pos g +ℤ pos 1 in
     let s = near_holder (pos g) w given e in
@@ -323,7 +323,7 @@ of_pos : (z : ℤ) → pos 0 ≤ℤ z → (k : ℕ) × (z ≡ pos k)
 of_pos (pos k) h = (k, refl)
 of_pos (negsuc k) h = absurd (omega (arith, ints))
 
-both_ends : (g : ℕ) (t : ℤ) (given : List Span) (b : Before given (t -ℤ pos g) t) → Next given t (b.at +ℤ pos g +ℤ pos 1) → IsBridged (pos g) given t
+both_ends : (g : ℕ) (t : ℤ) (given : List Span) (b : HasLastTickBetween given (t -ℤ pos g) t) → HasTickBetween given t (b.at +ℤ pos g +ℤ pos 1) → IsBridged (pos g) given t
 both_ends g t given b n = record { from = b.at; to = n.at; has_from = b.has; has_to = n.has; above = b.below; below = n.above; near = n.below }
 
 gap_left : (g : ℕ) (t at : ℤ) → (t -ℤ pos g) ≤ℤ at → at ≤ℤ t → (k : ℕ) × ((t +ℤ pos k) ≡ (at +ℤ pos g +ℤ pos 1))
@@ -347,7 +347,7 @@ more_than g given rs t h same r i e =
           let above = b.above in
           let below = b.below in
           let k = gap_left g t b.at above below in
-          elim (subst (λ (z : ℤ). Next given t z ⊎ NoneFrom given t z) k.1 (up given t k.0)) as (λ _. IsBridged (pos g) given t) [
+          elim (subst (λ (z : ℤ). HasTickBetween given t z ⊎ HasNoTickBetween given t z) k.1 (up given t k.0)) as (λ _. IsBridged (pos g) given t) [
             | inl n ↦ both_ends g t given b n
             | inr none ↦ elim (between t b.at) as (λ _. IsBridged (pos g) given t) [
               | inl same_t ↦ absurd (true_false _ b.has (none b.at same_t (omega (arith, ints))))
@@ -375,4 +375,4 @@ both_true false false f g = refl
 
 -- the bridged ranges of spans are one list
 pub one_bridged : (gap : ℤ) (given xs ys : List Span) → IsBridging gap given xs → IsBridging gap given ys → xs ≡ ys
-one_bridged gap given xs ys p q = unique xs ys p.normalized q.normalized (λ t. both_true (covers xs t) (covers ys t) (λ e. q.no_less t (p.no_more t e)) (λ e. p.no_less t (q.no_more t e)))
+one_bridged gap given xs ys p q = unique xs ys p.normalized q.normalized (λ t. both_true (has_tick_in xs t) (has_tick_in ys t) (λ e. q.no_less t (p.no_more t e)) (λ e. p.no_less t (q.no_more t e)))

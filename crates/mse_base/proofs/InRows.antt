@@ -3,82 +3,82 @@ use Rattle.std.proofs.Common.{◌≡◌, ◌∙◌, ℕ, zero, suc, ◌+◌, ◌
 use Rattle.std.proofs.lemmas.List.{get_or_append_left, get_or-append-add, set-append_left, set-append_right, length-set, length-take-le, take-append-drop}
 use Rattle.std.proofs.lemmas.List.Edits.{insert-append_left, insert-append_right, remove-append_left, remove-append_right, length-insert, length-remove}
 use Rattle.mse_base.specs.declared.span.Span.{Span}
-use Rattle.mse_base.specs.Rows.{joined, start, row, split_row, merge_rows, AreFilled, AreEmpty, AreDense}
+use Rattle.mse_base.specs.Rows.{row_items, start, row, split_row, merge_rows, AreFilled, AreEmpty, AreDense}
 
 pub row_is : (rows : List (List Span)) (b : ℕ) (r : List Span) → b < length rows → r ≡ get_or rows b r → r ≡ row rows b
 row_is [] b r l e = absurd (omega arith)
 row_is (q ∷ rows) zero r l e = e
 row_is (q ∷ rows) (suc b) r l e = row_is rows b r (omega arith) e
 
-pub joined_set_insert : (rows : List (List Span)) (b i : ℕ) (x : Span) → b < length rows → i ≤ length (row rows b) → joined (set rows b (insert (row rows b) i x)) ≡ insert (joined rows) (start rows b + i) x
+pub joined_set_insert : (rows : List (List Span)) (b i : ℕ) (x : Span) → b < length rows → i ≤ length (row rows b) → row_items (set rows b (insert (row rows b) i x)) ≡ insert (row_items rows) (start rows b + i) x
 joined_set_insert [] b i x l k = absurd (omega arith)
-joined_set_insert (r ∷ rows) zero i x l k = let z : 0 + i ≡ i = omega arith in rw z (sym (insert-append_left r (joined rows) i x k))
+joined_set_insert (r ∷ rows) zero i x l k = let z : 0 + i ≡ i = omega arith in rw z (sym (insert-append_left r (row_items rows) i x k))
 joined_set_insert (r ∷ rows) (suc b) i x l k =
     let n : (length r + start rows b + i) - length r ≡ start rows b + i = omega arith in
-    ap (λ xs. r ++ xs) (joined_set_insert rows b i x (omega arith) k ∙ ap (λ n. insert (joined rows) n x) (sym n)) ∙ sym (insert-append_right r (joined rows) (length r) (length r + start rows b + i) x refl (omega arith))
+    ap (λ xs. r ++ xs) (joined_set_insert rows b i x (omega arith) k ∙ ap (λ n. insert (row_items rows) n x) (sym n)) ∙ sym (insert-append_right r (row_items rows) (length r) (length r + start rows b + i) x refl (omega arith))
 
-pub joined_set_remove : (rows : List (List Span)) (b i : ℕ) → b < length rows → i < length (row rows b) → joined (set rows b (remove (row rows b) i)) ≡ remove (joined rows) (start rows b + i)
+pub joined_set_remove : (rows : List (List Span)) (b i : ℕ) → b < length rows → i < length (row rows b) → row_items (set rows b (remove (row rows b) i)) ≡ remove (row_items rows) (start rows b + i)
 joined_set_remove [] b i l k = absurd (omega arith)
-joined_set_remove (r ∷ rows) zero i l k = let z : 0 + i ≡ i = omega arith in rw z (sym (remove-append_left r (joined rows) i k))
+joined_set_remove (r ∷ rows) zero i l k = let z : 0 + i ≡ i = omega arith in rw z (sym (remove-append_left r (row_items rows) i k))
 joined_set_remove (r ∷ rows) (suc b) i l k =
     let n : (length r + start rows b + i) - length r ≡ start rows b + i = omega arith in
-    ap (λ xs. r ++ xs) (joined_set_remove rows b i (omega arith) k ∙ ap (λ n. remove (joined rows) n) (sym n)) ∙ sym (remove-append_right r (joined rows) (length r) (length r + start rows b + i) refl (omega arith))
+    ap (λ xs. r ++ xs) (joined_set_remove rows b i (omega arith) k ∙ ap (λ n. remove (row_items rows) n) (sym n)) ∙ sym (remove-append_right r (row_items rows) (length r) (length r + start rows b + i) refl (omega arith))
 
-pub joined_set_set : (rows : List (List Span)) (b i : ℕ) (x : Span) → b < length rows → i < length (row rows b) → joined (set rows b (set (row rows b) i x)) ≡ set (joined rows) (start rows b + i) x
+pub joined_set_set : (rows : List (List Span)) (b i : ℕ) (x : Span) → b < length rows → i < length (row rows b) → row_items (set rows b (set (row rows b) i x)) ≡ set (row_items rows) (start rows b + i) x
 joined_set_set [] b i x l k = absurd (omega arith)
-joined_set_set (r ∷ rows) zero i x l k = let z : 0 + i ≡ i = omega arith in rw z (sym (set-append_left r (joined rows) i x k))
+joined_set_set (r ∷ rows) zero i x l k = let z : 0 + i ≡ i = omega arith in rw z (sym (set-append_left r (row_items rows) i x k))
 joined_set_set (r ∷ rows) (suc b) i x l k =
     let n : (length r + start rows b + i) - length r ≡ start rows b + i = omega arith in
-    ap (λ xs. r ++ xs) (joined_set_set rows b i x (omega arith) k ∙ ap (λ n. set (joined rows) n x) (sym n)) ∙ sym (set-append_right r (joined rows) (length r) (length r + start rows b + i) x refl (omega arith))
+    ap (λ xs. r ++ xs) (joined_set_set rows b i x (omega arith) k ∙ ap (λ n. set (row_items rows) n x) (sym n)) ∙ sym (set-append_right r (row_items rows) (length r) (length r + start rows b + i) x refl (omega arith))
 
-pub joined_one : (rows : List (List Span)) (b i : ℕ) → b < length rows → length (row rows b) ≡ 1 → i ≡ 0 → joined (remove rows b) ≡ remove (joined rows) (start rows b + i)
+pub joined_one : (rows : List (List Span)) (b i : ℕ) → b < length rows → length (row rows b) ≡ 1 → i ≡ 0 → row_items (remove rows b) ≡ remove (row_items rows) (start rows b + i)
 joined_one [] b i l h e = absurd (omega arith)
 joined_one ([] ∷ rows) zero i l h e = absurd (omega arith)
 joined_one ((x ∷ []) ∷ rows) zero i l h e = let z : 0 + i ≡ 0 = omega arith in rw z refl
 joined_one ((x ∷ y ∷ r) ∷ rows) zero i l h e = absurd (omega arith)
 joined_one (r ∷ rows) (suc b) i l h e =
     let n : (length r + start rows b + i) - length r ≡ start rows b + i = omega arith in
-    ap (λ xs. r ++ xs) (joined_one rows b i (omega arith) h e ∙ ap (λ n. remove (joined rows) n) (sym n)) ∙ sym (remove-append_right r (joined rows) (length r) (length r + start rows b + i) refl (omega arith))
+    ap (λ xs. r ++ xs) (joined_one rows b i (omega arith) h e ∙ ap (λ n. remove (row_items rows) n) (sym n)) ∙ sym (remove-append_right r (row_items rows) (length r) (length r + start rows b + i) refl (omega arith))
 
-pub get_at : (rows : List (List Span)) (b i : ℕ) (d : Span) → b < length rows → i < length (row rows b) → get_or (joined rows) (start rows b + i) d ≡ get_or (row rows b) i d
+pub get_at : (rows : List (List Span)) (b i : ℕ) (d : Span) → b < length rows → i < length (row rows b) → get_or (row_items rows) (start rows b + i) d ≡ get_or (row rows b) i d
 get_at [] b i d l k = absurd (omega arith)
-get_at (r ∷ rows) zero i d l k = let z : 0 + i ≡ i = omega arith in ap (λ n. get_or (r ++ joined rows) n d) z ∙ get_or_append_left r (joined rows) d i k
+get_at (r ∷ rows) zero i d l k = let z : 0 + i ≡ i = omega arith in ap (λ n. get_or (r ++ row_items rows) n d) z ∙ get_or_append_left r (row_items rows) d i k
 get_at (r ∷ rows) (suc b) i d l k =
     let z : length r + start rows b + i ≡ length r + (start rows b + i) = omega arith in
-    ap (λ n. get_or (r ++ joined rows) n d) z ∙ get_or-append-add r (joined rows) (start rows b + i) d ∙ get_at rows b i d (omega arith) k
+    ap (λ n. get_or (r ++ row_items rows) n d) z ∙ get_or-append-add r (row_items rows) (start rows b + i) d ∙ get_at rows b i d (omega arith) k
 
-pub row_within : (rows : List (List Span)) (b : ℕ) → b < length rows → start rows b + length (row rows b) ≤ length (joined rows)
+pub row_within : (rows : List (List Span)) (b : ℕ) → b < length rows → start rows b + length (row rows b) ≤ length (row_items rows)
 row_within [] b l = absurd (omega arith)
-row_within (r ∷ rows) zero l = omega (arith, length-append r (joined rows))
-row_within (r ∷ rows) (suc b) l = omega (arith, length-append r (joined rows), row_within rows b (omega arith))
+row_within (r ∷ rows) zero l = omega (arith, length-append r (row_items rows))
+row_within (r ∷ rows) (suc b) l = omega (arith, length-append r (row_items rows), row_within rows b (omega arith))
 
 pub start_more : (rows : List (List Span)) (b : ℕ) → b < length rows → start rows (b + 1) ≡ start rows b + length (row rows b)
 start_more [] b l = absurd (omega arith)
 start_more (r ∷ rows) zero l = omega arith
 start_more (r ∷ rows) (suc b) l = let z : suc b + 1 ≡ suc (b + 1) = omega arith in rw z (omega (arith, start_more rows b (omega arith)))
 
-pub start_all : (rows : List (List Span)) (b : ℕ) → b ≡ length rows → start rows b ≡ length (joined rows)
+pub start_all : (rows : List (List Span)) (b : ℕ) → b ≡ length rows → start rows b ≡ length (row_items rows)
 start_all [] zero e = refl
 start_all [] (suc b) e = refl
 start_all (r ∷ rows) zero e = absurd (omega arith)
-start_all (r ∷ rows) (suc b) e = omega (arith, start_all rows b (omega arith), length-append r (joined rows))
+start_all (r ∷ rows) (suc b) e = omega (arith, start_all rows b (omega arith), length-append r (row_items rows))
 
-pub start_within : (rows : List (List Span)) (b : ℕ) → b ≤ length rows → start rows b ≤ length (joined rows)
+pub start_within : (rows : List (List Span)) (b : ℕ) → b ≤ length rows → start rows b ≤ length (row_items rows)
 start_within rows zero l = omega arith
 start_within [] (suc b) l = omega arith
-start_within (r ∷ rows) (suc b) l = omega (arith, length-append r (joined rows), start_within rows b (omega arith))
+start_within (r ∷ rows) (suc b) l = omega (arith, length-append r (row_items rows), start_within rows b (omega arith))
 
-pub rows_behind : (rows : List (List Span)) (b : ℕ) → b < length rows → start rows b + length (row rows b) < length (joined rows) → b + 1 < length rows
+pub rows_behind : (rows : List (List Span)) (b : ℕ) → b < length rows → start rows b + length (row rows b) < length (row_items rows) → b + 1 < length rows
 rows_behind [] b l k = absurd (omega arith)
 rows_behind (r ∷ []) zero l k = absurd (omega (arith, length-append r []))
 rows_behind (r ∷ q ∷ rows) zero l k = omega arith
-rows_behind (r ∷ rows) (suc b) l k = omega (arith, rows_behind rows b (omega arith) (omega (arith, length-append r (joined rows))))
+rows_behind (r ∷ rows) (suc b) l k = omega (arith, rows_behind rows b (omega arith) (omega (arith, length-append r (row_items rows))))
 
 -- ---- a row cut in two
 
-pub joined_split : (rows : List (List Span)) (b s : ℕ) → joined (split_row rows b s) ≡ joined rows
+pub joined_split : (rows : List (List Span)) (b s : ℕ) → row_items (split_row rows b s) ≡ row_items rows
 joined_split [] b s = refl
-joined_split (r ∷ rows) zero s = sym (append_assoc (take s r) (drop s r) (joined rows)) ∙ ap (λ xs. xs ++ joined rows) (take-append-drop s r)
+joined_split (r ∷ rows) zero s = sym (append_assoc (take s r) (drop s r) (row_items rows)) ∙ ap (λ xs. xs ++ row_items rows) (take-append-drop s r)
 joined_split (r ∷ rows) (suc b) s = ap (λ xs. r ++ xs) (joined_split rows b s)
 
 pub split_is : (rows : List (List Span)) (b s : ℕ) → b < length rows → insert (set rows b (take s (row rows b))) (suc b) (drop s (row rows b)) ≡ split_row rows b s
@@ -138,12 +138,12 @@ filled_right (r ∷ rows) zero s y a l z k p = let n = length-take-le s r k in (
 filled_right (r ∷ rows) (suc b) s y a l z k p = (a.0, filled_right rows b s y a.1 (omega arith) z k p)
 
 -- a row was cut in two, and a span put into one of the parts
-pub record Apart (rows new : List (List Span)) (k : ℕ) (x : Span) : Type 0 where
-  pub spans : joined new ≡ insert (joined rows) k x
+pub record IsSpanPutByCut (rows new : List (List Span)) (k : ℕ) (x : Span) : Type 0 where
+  pub spans : row_items new ≡ insert (row_items rows) k x
   pub filled : AreFilled new
   pub len : length new ≡ length rows + 1
 
-pub apart_left : (rows mid new : List (List Span)) (b i s : ℕ) (x : Span) → mid ≡ split_row rows b s → new ≡ set mid b (insert (row mid b) i x) → b < length rows → AreFilled rows → s < length (row rows b) → i < s → Apart rows new (start rows b + i) x
+pub apart_left : (rows mid new : List (List Span)) (b i s : ℕ) (x : Span) → mid ≡ split_row rows b s → new ≡ set mid b (insert (row mid b) i x) → b < length rows → AreFilled rows → s < length (row rows b) → i < s → IsSpanPutByCut rows new (start rows b + i) x
 apart_left rows mid new b i s x e f l a k m =
     let cut = split_row rows b s in
     let n = length-take-le s (row rows b) (omega arith) in
@@ -151,12 +151,12 @@ apart_left rows mid new b i s x e f l a k m =
     let long = length_split rows b s l in
     let y : length (insert (row cut b) i x) ≡ s + 1 = rw g (omega (arith, length-insert (take s (row rows b)) i x (omega arith))) in
     rw (f, e) (record {
-      spans = joined_set_insert cut b i x (omega arith) (rw g (omega arith)) ∙ ap (λ xs. insert xs (start cut b + i) x) (joined_split rows b s) ∙ ap (λ n. insert (joined rows) (n + i) x) (left_start rows b s);
+      spans = joined_set_insert cut b i x (omega arith) (rw g (omega arith)) ∙ ap (λ xs. insert xs (start cut b + i) x) (joined_split rows b s) ∙ ap (λ n. insert (row_items rows) (n + i) x) (left_start rows b s);
       filled = filled_left rows b s (insert (row cut b) i x) a l k (omega arith);
       len = length-set cut b (insert (row cut b) i x) ∙ long;
     })
 
-pub apart_right : (rows mid new : List (List Span)) (b i s : ℕ) (x : Span) → mid ≡ split_row rows b s → new ≡ set mid (b + 1) (insert (row mid (b + 1)) (i - s) x) → b < length rows → AreFilled rows → 0 < s → s ≤ i → i ≤ length (row rows b) → Apart rows new (start rows b + i) x
+pub apart_right : (rows mid new : List (List Span)) (b i s : ℕ) (x : Span) → mid ≡ split_row rows b s → new ≡ set mid (b + 1) (insert (row mid (b + 1)) (i - s) x) → b < length rows → AreFilled rows → 0 < s → s ≤ i → i ≤ length (row rows b) → IsSpanPutByCut rows new (start rows b + i) x
 apart_right rows mid new b i s x e f l a p k w =
     let cut = split_row rows b s in
     let z : b + 1 ≡ suc b = omega arith in
@@ -166,7 +166,7 @@ apart_right rows mid new b i s x e f l a p k w =
     let v : start cut (suc b) + (i - s) ≡ start rows b + i = omega (arith, right_start rows b s l (omega arith)) in
     let y : 0 < length (insert (row cut (suc b)) (i - s) x) = rw g (omega (arith, length-insert (drop s (row rows b)) (i - s) x (omega arith))) in
     rw (f, e, z) (record {
-      spans = joined_set_insert cut (suc b) (i - s) x (omega arith) (rw g (omega arith)) ∙ ap (λ xs. insert xs (start cut (suc b) + (i - s)) x) (joined_split rows b s) ∙ ap (λ n. insert (joined rows) n x) v;
+      spans = joined_set_insert cut (suc b) (i - s) x (omega arith) (rw g (omega arith)) ∙ ap (λ xs. insert xs (start cut (suc b) + (i - s)) x) (joined_split rows b s) ∙ ap (λ n. insert (row_items rows) n x) v;
       filled = filled_right rows b s (insert (row cut (suc b)) (i - s) x) a l p (omega arith) y;
       len = length-set cut (suc b) (insert (row cut (suc b)) (i - s) x) ∙ long;
     })
@@ -191,10 +191,10 @@ merge_is (r ∷ []) b l = absurd (omega arith)
 merge_is (r ∷ s ∷ rows) zero l = refl
 merge_is (r ∷ s ∷ rows) (suc b) l = ap (λ qs. r ∷ qs) (merge_is (s ∷ rows) b (omega arith))
 
-pub joined_merge : (rows : List (List Span)) (b : ℕ) → joined (merge_rows rows b) ≡ joined rows
+pub joined_merge : (rows : List (List Span)) (b : ℕ) → row_items (merge_rows rows b) ≡ row_items rows
 joined_merge [] b = refl
 joined_merge (r ∷ []) b = refl
-joined_merge (r ∷ s ∷ rows) zero = append_assoc r s (joined rows)
+joined_merge (r ∷ s ∷ rows) zero = append_assoc r s (row_items rows)
 joined_merge (r ∷ s ∷ rows) (suc b) = ap (λ xs. r ++ xs) (joined_merge (s ∷ rows) b)
 
 pub length_merge : (rows : List (List Span)) (b : ℕ) → suc b < length rows → length (merge_rows rows b) + 1 ≡ length rows
@@ -239,14 +239,14 @@ gathered_none rows b p l k d =
     let y : b - 1 - 1 + 1 ≡ suc (b - 1 - 1) = omega arith in
     dense_more rows (b - 1 - 1) (omega arith) (subst (λ n. 1024 < length (row rows (b - 1 - 1)) + length (row rows n)) y k) (subst (λ n. AreDense (drop n rows)) (sym z) d)
 
-pub record Gathered (rows new : List (List Span)) (b : ℕ) : Type 0 where
+pub record AreRowsMerged (rows new : List (List Span)) (b : ℕ) : Type 0 where
   pub within : b - 1 ≤ length new
-  pub spans : joined new ≡ joined rows
+  pub spans : row_items new ≡ row_items rows
   pub filled : AreFilled new
   pub dense : AreDense (drop (b - 1 - 1) new)
   pub len : length new + 1 ≡ length rows
 
-pub gathered : (rows new : List (List Span)) (b : ℕ) → 1 < b → b ≤ length rows → new ≡ merge_rows rows (b - 1 - 1) → AreFilled rows → AreDense (drop (b - 1) rows) → Gathered rows new b
+pub gathered : (rows new : List (List Span)) (b : ℕ) → 1 < b → b ≤ length rows → new ≡ merge_rows rows (b - 1 - 1) → AreFilled rows → AreDense (drop (b - 1) rows) → AreRowsMerged rows new b
 gathered rows new b p l e a d =
     let z : suc (b - 1 - 1) ≡ b - 1 = omega arith in
     let n = length_merge rows (b - 1 - 1) (omega arith) in
@@ -259,11 +259,11 @@ gathered rows new b p l e a d =
     })
 
 -- there are few rows where no two neighbours can be one
-few_from : (r : List Span) (rows : List (List Span)) → AreDense (r ∷ rows) → 1025 * length (r ∷ rows) + length r ≤ 2 * length (joined (r ∷ rows)) + 1025
-few_from r [] d = omega (arith, length-append r (joined []))
-few_from r (s ∷ rows) d = omega (arith, d.0, length-append r (joined (s ∷ rows)), few_from s rows d.1)
+few_from : (r : List Span) (rows : List (List Span)) → AreDense (r ∷ rows) → 1025 * length (r ∷ rows) + length r ≤ 2 * length (row_items (r ∷ rows)) + 1025
+few_from r [] d = omega (arith, length-append r (row_items []))
+few_from r (s ∷ rows) d = omega (arith, d.0, length-append r (row_items (s ∷ rows)), few_from s rows d.1)
 
-pub few_rows : (rows : List (List Span)) → AreDense rows → 1025 * length rows ≤ 2 * length (joined rows) + 1025
+pub few_rows : (rows : List (List Span)) → AreDense rows → 1025 * length rows ≤ 2 * length (row_items rows) + 1025
 few_rows [] d = omega arith
 few_rows (r ∷ rows) d = omega (arith, few_from r rows d)
 
@@ -285,7 +285,7 @@ empty_last (p ∷ pool) y a = let k = empty_last pool y a.1 in ((a.0, k.0), k.1)
 pub one_more : (xs : List (List Span)) (x : List Span) → length (xs ++ x ∷ []) ≡ length xs + 1
 one_more xs x = omega (arith, length-append xs (x ∷ []))
 
-pub joined_take : (rows : List (List Span)) (b : ℕ) → b < length rows → joined (take (b + 1) rows) ≡ joined (take b rows) ++ row rows b
+pub joined_take : (rows : List (List Span)) (b : ℕ) → b < length rows → row_items (take (b + 1) rows) ≡ row_items (take b rows) ++ row rows b
 joined_take [] b l = absurd (omega arith)
 joined_take (r ∷ rows) zero l = append-nil r
-joined_take (r ∷ rows) (suc b) l = let z : suc b + 1 ≡ suc (b + 1) = omega arith in rw z (ap (λ xs. r ++ xs) (joined_take rows b (omega arith)) ∙ sym (append_assoc r (joined (take b rows)) (row rows b)))
+joined_take (r ∷ rows) (suc b) l = let z : suc b + 1 ≡ suc (b + 1) = omega arith in rw z (ap (λ xs. r ++ xs) (joined_take rows b (omega arith)) ∙ sym (append_assoc r (row_items (take b rows)) (row rows b)))

@@ -4,8 +4,8 @@ use Rattle.std.specs.Int.{int_min, int_max}
 use Rattle.std.specs.List.{AllByRecursion, filter}
 use Rattle.std.proofs.lemmas.Int.{ints}
 use Rattle.mse_base.specs.declared.span.Span.{Span}
-use Rattle.mse_base.specs.Spans.{has_tick, covers, StartsAfter, IsNormalized, last_from, last_of, starts_before}
-use Rattle.mse_base.specs.Meets.{meet, meet_of_all, narrowed, narrowed_of_two, narrowed_of_all}
+use Rattle.mse_base.specs.Spans.{has_tick, has_tick_in, IsFirstStartAfter, IsNormalized, last_from, last_of, has_start_before}
+use Rattle.mse_base.specs.Meets.{meet, meet_of_all, narrowed_span, narrowed_of_two, narrowed_of_all}
 use Rattle.mse_base.proofs.Meeting.{later_than}
 use Rattle.mse_base.proofs.Unique.{before_all, inner, pick, same_span}
 use Rattle.mse_base.proofs.Firsts.{HasNoneBefore, HasNoneFrom, before_both, before_or_from, both_in, either_has, from_both, left_out, none_at_all, past, right_out}
@@ -14,9 +14,9 @@ use Rattle.mse_base.proofs.Firsts.{HasNoneBefore, HasNoneFrom, before_both, befo
 -- before it
 pub record IsLastBefore (t : ℤ) (c : Span) (m : List Span) : Type 0 where
   pub early : c.start <ℤ t
-  pub after : (u : ℤ) → c.end ≤ℤ u → u <ℤ t → covers m u ≡ false
-  pub within : (u : ℤ) → c.start ≤ℤ u → u <ℤ c.end → covers m u ≡ true
-  pub ahead : covers m (c.start -ℤ pos 1) ≡ false
+  pub after : (u : ℤ) → c.end ≤ℤ u → u <ℤ t → has_tick_in m u ≡ false
+  pub within : (u : ℤ) → c.start ≤ℤ u → u <ℤ c.end → has_tick_in m u ≡ true
+  pub ahead : has_tick_in m (c.start -ℤ pos 1) ≡ false
 
 -- the same of a span that may be missing: then the list has no tick before the time
 abbrev pub IsFoundBefore : ℤ → Option Span → List Span → Type 0
@@ -25,21 +25,21 @@ IsFoundBefore t (Some c) m = IsLastBefore t c m
 
 -- ---- one list
 
-starts_from : (t : ℤ) (s : Span) → starts_before t s ≡ false → t ≤ℤ s.start
+starts_from : (t : ℤ) (s : Span) → has_start_before t s ≡ false → t ≤ℤ s.start
 starts_from t s h = grind (arith, ints)
 
-starts_early : (t : ℤ) (s : Span) → starts_before t s ≡ true → s.start <ℤ t
+starts_early : (t : ℤ) (s : Span) → has_start_before t s ≡ true → s.start <ℤ t
 starts_early t s h = grind (arith, ints)
 
 -- no range begins before the time
-none_started : (t e : ℤ) (ss : List Span) → t ≤ℤ e → StartsAfter e ss → IsNormalized ss → filter (starts_before t) ss ≡ []
+none_started : (t e : ℤ) (ss : List Span) → t ≤ℤ e → IsFirstStartAfter e ss → IsNormalized ss → filter (has_start_before t) ss ≡ []
 none_started t e [] low a n = refl
 none_started t e (s ∷ ss) low a n =
     let long = n.0 in
-    ap (λ c. cond c (s ∷ filter (starts_before t) ss) (filter (starts_before t) ss)) (not_started t s (omega (arith, ints)))
+    ap (λ c. cond c (s ∷ filter (has_start_before t) ss) (filter (has_start_before t) ss)) (not_started t s (omega (arith, ints)))
     ∙ none_started t s.end ss (omega (arith, ints)) n.1 n.2
   where
-    not_started : (t : ℤ) (s : Span) → t ≤ℤ s.start → starts_before t s ≡ false
+    not_started : (t : ℤ) (s : Span) → t ≤ℤ s.start → has_start_before t s ≡ false
     not_started t s h = grind (arith, ints)
 
 -- the last of some spans is one of them
@@ -58,26 +58,26 @@ all_long (s ∷ ss) n = (n.0, all_long ss n.2)
 only : (t : ℤ) (s : Span) (ss : List Span) → IsNormalized (s ∷ ss) → s.start <ℤ t → HasNoneBefore t ss → IsLastBefore t s (s ∷ ss)
 only t s ss n early none = record {
   early = early;
-  after = λ u low high. past s u (covers ss u) low ∙ none u high;
-  within = λ u low high. inner s u (covers ss u) low high;
+  after = λ u low high. past s u (has_tick_in ss u) low ∙ none u high;
+  within = λ u low high. inner s u (has_tick_in ss u) low high;
   ahead = before_all s ss (s.start -ℤ pos 1) n (omega (arith, ints));
 }
 
 one_more : (t : ℤ) (s x : Span) (ss : List Span) → s.end <ℤ x.start → x.start <ℤ x.end → IsLastBefore t x ss → IsLastBefore t x (s ∷ ss)
 one_more t s x ss far long h = record {
   early = h.early;
-  after = λ u low high. past s u (covers ss u) (omega (arith, ints)) ∙ h.after u low high;
-  within = λ u low high. either_has (has_tick s u) (covers ss u) (h.within u low high);
-  ahead = past s (x.start -ℤ pos 1) (covers ss (x.start -ℤ pos 1)) (omega (arith, ints)) ∙ h.ahead;
+  after = λ u low high. past s u (has_tick_in ss u) (omega (arith, ints)) ∙ h.after u low high;
+  within = λ u low high. either_has (has_tick s u) (has_tick_in ss u) (h.within u low high);
+  ahead = past s (x.start -ℤ pos 1) (has_tick_in ss (x.start -ℤ pos 1)) (omega (arith, ints)) ∙ h.ahead;
 }
 
-next_started : (t : ℤ) (s q x : Span) (ss : List Span) → IsNormalized (s ∷ q ∷ ss) → last_from q (filter (starts_before t) ss) ≡ Some x → IsLastBefore t x (q ∷ ss) → IsLastBefore t x (s ∷ q ∷ ss)
+next_started : (t : ℤ) (s q x : Span) (ss : List Span) → IsNormalized (s ∷ q ∷ ss) → last_from q (filter (has_start_before t) ss) ≡ Some x → IsLastBefore t x (q ∷ ss) → IsLastBefore t x (s ∷ q ∷ ss)
 next_started t s q x ss n e h =
     let later = later_than s.end (q ∷ ss) n.1 n.2 in
     let long = all_long (q ∷ ss) n.2 in
-    one_more t s x (q ∷ ss) (last_holds (λ z. s.end <ℤ z.start) (starts_before t) q x ss later.0 later.1 e) (last_holds (λ z. z.start <ℤ z.end) (starts_before t) q x ss long.0 long.1 e) h
+    one_more t s x (q ∷ ss) (last_holds (λ z. s.end <ℤ z.start) (has_start_before t) q x ss later.0 later.1 e) (last_holds (λ z. z.start <ℤ z.end) (has_start_before t) q x ss long.0 long.1 e) h
 
-next_not_started : (t : ℤ) (s q x : Span) (ss : List Span) → IsNormalized (s ∷ q ∷ ss) → s.start <ℤ t → t ≤ℤ q.start → last_from s (filter (starts_before t) ss) ≡ Some x → IsLastBefore t x (s ∷ q ∷ ss)
+next_not_started : (t : ℤ) (s q x : Span) (ss : List Span) → IsNormalized (s ∷ q ∷ ss) → s.start <ℤ t → t ≤ℤ q.start → last_from s (filter (has_start_before t) ss) ≡ Some x → IsLastBefore t x (s ∷ q ∷ ss)
 next_not_started t s q x ss n early late e =
     let rest = n.2 in
     let long = rest.0 in
@@ -86,33 +86,33 @@ next_not_started t s q x ss n early late e =
     let same : s ≡ x = cc in
     subst (λ (z : Span). IsLastBefore t z (s ∷ q ∷ ss)) same (only t s (q ∷ ss) n early (λ u low. before_all q ss u rest (omega (arith, ints))))
 
-started_by : (t : ℤ) (s q x : Span) (ss : List Span) (b : Bool) → starts_before t q ≡ b → IsNormalized (s ∷ q ∷ ss) → s.start <ℤ t → (q.start <ℤ t → last_from q (filter (starts_before t) ss) ≡ Some x → IsLastBefore t x (q ∷ ss)) → last_from s (cond b (q ∷ filter (starts_before t) ss) (filter (starts_before t) ss)) ≡ Some x → IsLastBefore t x (s ∷ q ∷ ss)
+started_by : (t : ℤ) (s q x : Span) (ss : List Span) (b : Bool) → has_start_before t q ≡ b → IsNormalized (s ∷ q ∷ ss) → s.start <ℤ t → (q.start <ℤ t → last_from q (filter (has_start_before t) ss) ≡ Some x → IsLastBefore t x (q ∷ ss)) → last_from s (cond b (q ∷ filter (has_start_before t) ss) (filter (has_start_before t) ss)) ≡ Some x → IsLastBefore t x (s ∷ q ∷ ss)
 started_by t s q x ss true is n early f e = next_started t s q x ss n e (f (starts_early t q is) e)
 started_by t s q x ss false is n early f e = next_not_started t s q x ss n early (starts_from t q is) e
 
-found_from : (t : ℤ) (s x : Span) (ss : List Span) → IsNormalized (s ∷ ss) → s.start <ℤ t → last_from s (filter (starts_before t) ss) ≡ Some x → IsLastBefore t x (s ∷ ss)
+found_from : (t : ℤ) (s x : Span) (ss : List Span) → IsNormalized (s ∷ ss) → s.start <ℤ t → last_from s (filter (has_start_before t) ss) ≡ Some x → IsLastBefore t x (s ∷ ss)
 found_from t s x [] n early e = let same : s ≡ x = cc in subst (λ (z : Span). IsLastBefore t z (s ∷ [])) same (only t s [] n early (λ u low. refl))
-found_from t s x (q ∷ ss) n early e = started_by t s q x ss (starts_before t q) refl n early (λ low f. found_from t q x ss n.2 low f) e
+found_from t s x (q ∷ ss) n early e = started_by t s q x ss (has_start_before t q) refl n early (λ low f. found_from t q x ss n.2 low f) e
 
 is_some : (s : Span) (ss : List Span) → last_from s ss ≡ None → ⊥
 is_some s [] h = cc
 is_some s (r ∷ ss) h = is_some r ss h
 
-found_first : (t : ℤ) (s : Span) (ss : List Span) (o : Option Span) → IsNormalized (s ∷ ss) → s.start <ℤ t → last_from s (filter (starts_before t) ss) ≡ o → IsFoundBefore t o (s ∷ ss)
-found_first t s ss None n early e = absurd (is_some s (filter (starts_before t) ss) e)
+found_first : (t : ℤ) (s : Span) (ss : List Span) (o : Option Span) → IsNormalized (s ∷ ss) → s.start <ℤ t → last_from s (filter (has_start_before t) ss) ≡ o → IsFoundBefore t o (s ∷ ss)
+found_first t s ss None n early e = absurd (is_some s (filter (has_start_before t) ss) e)
 found_first t s ss (Some x) n early e = found_from t s x ss n early e
 
-found_by : (t : ℤ) (s : Span) (ss : List Span) (b : Bool) → starts_before t s ≡ b → IsNormalized (s ∷ ss) → IsFoundBefore t (last_of (cond b (s ∷ filter (starts_before t) ss) (filter (starts_before t) ss))) (s ∷ ss)
-found_by t s ss true is n = found_first t s ss (last_from s (filter (starts_before t) ss)) n (starts_early t s is) refl
+found_by : (t : ℤ) (s : Span) (ss : List Span) (b : Bool) → has_start_before t s ≡ b → IsNormalized (s ∷ ss) → IsFoundBefore t (last_of (cond b (s ∷ filter (has_start_before t) ss) (filter (has_start_before t) ss))) (s ∷ ss)
+found_by t s ss true is n = found_first t s ss (last_from s (filter (has_start_before t) ss)) n (starts_early t s is) refl
 found_by t s ss false is n =
     let long = n.0 in
     let late = starts_from t s is in
     let none = none_started t s.end ss (omega (arith, ints)) n.1 n.2 in
     subst (λ (zs : List Span). IsFoundBefore t (last_of zs) (s ∷ ss)) (sym none) (λ u low. before_all s ss u n (omega (arith, ints)))
 
-found_before : (t : ℤ) (r : List Span) → IsNormalized r → IsFoundBefore t (last_of (filter (starts_before t) r)) r
+found_before : (t : ℤ) (r : List Span) → IsNormalized r → IsFoundBefore t (last_of (filter (has_start_before t) r)) r
 found_before t [] n = λ u h. refl
-found_before t (s ∷ ss) n = found_by t s ss (starts_before t s) refl n
+found_before t (s ∷ ss) n = found_by t s ss (has_start_before t s) refl n
 
 -- ---- all of some lists
 
@@ -125,7 +125,7 @@ from_one u a b h = grind (arith, ints)
 is_one : (a b : ℤ) → (int_max a b ≡ a) ⊎ (int_max a b ≡ b)
 is_one a b = grind (arith, ints)
 
-narrowed_before : (t : ℤ) (c d : Span) (xs ys : List Span) → IsLastBefore t c xs → IsLastBefore t d ys → IsLastBefore t (narrowed c d) (meet xs ys)
+narrowed_before : (t : ℤ) (c d : Span) (xs ys : List Span) → IsLastBefore t c xs → IsLastBefore t d ys → IsLastBefore t (narrowed_span c d) (meet xs ys)
 narrowed_before t c d xs ys h k = record {
   early = most_early t c.start d.start h.early k.early;
   after = λ u low high. elim (from_one u c.end d.end low) [
@@ -137,8 +137,8 @@ narrowed_before t c d xs ys h k = record {
       let to = before_both u c.end d.end high in
       both_in xs ys u (h.within u from.0 to.0) (k.within u from.1 to.1);
   ahead = elim (is_one c.start d.start) [
-    | inl l ↦ subst (λ (e : ℤ). covers (meet xs ys) (e -ℤ pos 1) ≡ false) (sym l) (left_out xs ys (c.start -ℤ pos 1) h.ahead)
-    | inr r ↦ subst (λ (e : ℤ). covers (meet xs ys) (e -ℤ pos 1) ≡ false) (sym r) (right_out xs ys (d.start -ℤ pos 1) k.ahead)
+    | inl l ↦ subst (λ (e : ℤ). has_tick_in (meet xs ys) (e -ℤ pos 1) ≡ false) (sym l) (left_out xs ys (c.start -ℤ pos 1) h.ahead)
+    | inr r ↦ subst (λ (e : ℤ). has_tick_in (meet xs ys) (e -ℤ pos 1) ≡ false) (sym r) (right_out xs ys (d.start -ℤ pos 1) k.ahead)
   ];
 }
 
@@ -147,32 +147,32 @@ found_both t None p xs ys h k = λ u low. left_out xs ys u (h u low)
 found_both t (Some c) None xs ys h k = λ u low. right_out xs ys u (k u low)
 found_both t (Some c) (Some d) xs ys h k = narrowed_before t c d xs ys h k
 
-found_fold : (t : ℤ) (o : Option Span) (r : List Span) (rs : List (List Span)) → IsFoundBefore t o r → AllByRecursion IsNormalized rs → IsFoundBefore t (fold narrowed_of_two o (map (λ q. last_of (filter (starts_before t) q)) rs)) (fold meet r rs)
+found_fold : (t : ℤ) (o : Option Span) (r : List Span) (rs : List (List Span)) → IsFoundBefore t o r → AllByRecursion IsNormalized rs → IsFoundBefore t (fold narrowed_of_two o (map (λ q. last_of (filter (has_start_before t) q)) rs)) (fold meet r rs)
 found_fold t o r [] h n = h
-found_fold t o r (q ∷ rs) h n = found_fold t (narrowed_of_two o (last_of (filter (starts_before t) q))) (meet r q) rs (found_both t o (last_of (filter (starts_before t) q)) r q h (found_before t q n.0)) n.1
+found_fold t o r (q ∷ rs) h n = found_fold t (narrowed_of_two o (last_of (filter (has_start_before t) q))) (meet r q) rs (found_both t o (last_of (filter (has_start_before t) q)) r q h (found_before t q n.0)) n.1
 
 -- what the last ranges of all lists that begin before a time tell of the ticks that the lists share
-pub found_in_all : (t : ℤ) (rs : List (List Span)) → AllByRecursion IsNormalized rs → IsFoundBefore t (narrowed_of_all (map (λ r. last_of (filter (starts_before t) r)) rs)) (meet_of_all rs)
+pub found_in_all : (t : ℤ) (rs : List (List Span)) → AllByRecursion IsNormalized rs → IsFoundBefore t (narrowed_of_all (map (λ r. last_of (filter (has_start_before t) r)) rs)) (meet_of_all rs)
 found_in_all t [] n = λ u h. refl
-found_in_all t (r ∷ rs) n = found_fold t (last_of (filter (starts_before t) r)) r rs (found_before t r n.0) n.1
+found_in_all t (r ∷ rs) n = found_fold t (last_of (filter (has_start_before t) r)) r rs (found_before t r n.0) n.1
 
 -- ---- the last range of all
 
 -- a span of the list whose ticks the list has, and neither the tick before it nor one behind it
 pub record IsLastPart (z : Span) (m : List Span) : Type 0 where
   pub long : z.start <ℤ z.end
-  pub within : (u : ℤ) → z.start ≤ℤ u → u <ℤ z.end → covers m u ≡ true
+  pub within : (u : ℤ) → z.start ≤ℤ u → u <ℤ z.end → has_tick_in m u ≡ true
   pub behind : HasNoneFrom z.end m
-  pub ahead : covers m (z.start -ℤ pos 1) ≡ false
+  pub ahead : has_tick_in m (z.start -ℤ pos 1) ≡ false
 
 last_part_more : (s z : Span) (ss : List Span) → s.end <ℤ z.start → IsLastPart z ss → IsLastPart z (s ∷ ss)
 last_part_more s z ss far h =
     let long = h.long in
     record {
       long = h.long;
-      within = λ u low high. either_has (has_tick s u) (covers ss u) (h.within u low high);
-      behind = λ u low. past s u (covers ss u) (omega (arith, ints)) ∙ h.behind u low;
-      ahead = past s (z.start -ℤ pos 1) (covers ss (z.start -ℤ pos 1)) (omega (arith, ints)) ∙ h.ahead;
+      within = λ u low high. either_has (has_tick s u) (has_tick_in ss u) (h.within u low high);
+      behind = λ u low. past s u (has_tick_in ss u) (omega (arith, ints)) ∙ h.behind u low;
+      ahead = past s (z.start -ℤ pos 1) (has_tick_in ss (z.start -ℤ pos 1)) (omega (arith, ints)) ∙ h.ahead;
     }
 
 last_is_part : (s z : Span) (ss : List Span) → IsNormalized (s ∷ ss) → last_from s ss ≡ Some z → IsLastPart z (s ∷ ss) × (s.start ≤ℤ z.start)

@@ -4,14 +4,14 @@ use Rattle.std.specs.List.{AllByRecursion}
 use Rattle.std.proofs.lemmas.Int.{ints}
 use Rattle.std.proofs.lemmas.List.{drop_more, drop_all}
 use Rattle.mse_base.specs.declared.span.Span.{Span}
-use Rattle.mse_base.specs.Spans.{IsNormalized, StartsAfter, last_of, reaches}
+use Rattle.mse_base.specs.Spans.{IsNormalized, IsFirstStartAfter, last_of, reaches}
 
 weaker : (m n : ℤ) (rs : List Span) → m <ℤ n → AllByRecursion (λ r. n <ℤ r.end) rs → AllByRecursion (λ r. m <ℤ r.end) rs
 weaker m n [] l h = tt
 weaker m n (r ∷ rs) l h = (let first = h.0 in omega (arith, ints), weaker m n rs l h.1)
 
 -- all end later than e
-ends_after : (e : ℤ) (rs : List Span) → StartsAfter e rs → IsNormalized rs → AllByRecursion (λ r. e <ℤ r.end) rs
+ends_after : (e : ℤ) (rs : List Span) → IsFirstStartAfter e rs → IsNormalized rs → AllByRecursion (λ r. e <ℤ r.end) rs
 ends_after e [] a p = tt
 ends_after e (r ∷ rs) a p =
     let own = p.0 in
@@ -63,7 +63,7 @@ find_past t (r ∷ rs) (suc i) h =
     let other : reaches t r ≡ false = ap (λ b. int_le r.start t && b) (not_le t r.end h.0) ∙ and_false (int_le r.start t) in
     ap (λ b. cond b (Some r) (find (reaches t) rs)) other ∙ find_past t rs i h.1
 
-pub starts_late : (t e : ℤ) (rs : List Span) → t ≤ℤ e → StartsAfter e rs → IsNormalized rs → find (reaches t) rs ≡ None
+pub starts_late : (t e : ℤ) (rs : List Span) → t ≤ℤ e → IsFirstStartAfter e rs → IsNormalized rs → find (reaches t) rs ≡ None
 starts_late t e [] l a p = refl
 starts_late t e (r ∷ rs) l a p =
     let own = p.0 in

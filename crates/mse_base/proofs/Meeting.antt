@@ -5,24 +5,24 @@ use Rattle.std.specs.List.{AllByRecursion, list_all}
 use Rattle.std.proofs.lemmas.Int.{ints}
 use Rattle.std.proofs.lemmas.List.Sums.{fold-append}
 use Rattle.mse_base.specs.declared.span.Span.{Span}
-use Rattle.mse_base.specs.Spans.{has_tick, covers, StartsAfter, IsNormalized, IsIntersection}
+use Rattle.mse_base.specs.Spans.{has_tick, has_tick_in, IsFirstStartAfter, IsNormalized, IsIntersection}
 use Rattle.mse_base.specs.Meets.{overlap, meet, meet_of_all}
 use Rattle.mse_base.proofs.Sets.{covers-append}
 use Rattle.mse_base.proofs.Neighbours.{one_met}
 
-pub later_than : (e : ℤ) (ss : List Span) → StartsAfter e ss → IsNormalized ss → AllByRecursion (λ q. e <ℤ q.start) ss
+pub later_than : (e : ℤ) (ss : List Span) → IsFirstStartAfter e ss → IsNormalized ss → AllByRecursion (λ q. e <ℤ q.start) ss
 later_than e [] h n = tt
 later_than e (s ∷ ss) h n = (h, later_than e ss (after_more e s ss h n.0 n.1) n.2)
   where
-    after_more : (e : ℤ) (s : Span) (ss : List Span) → e <ℤ s.start → s.start <ℤ s.end → StartsAfter s.end ss → StartsAfter e ss
+    after_more : (e : ℤ) (s : Span) (ss : List Span) → e <ℤ s.start → s.start <ℤ s.end → IsFirstStartAfter s.end ss → IsFirstStartAfter e ss
     after_more e s [] h k n = tt
     after_more e s (r ∷ ss) h k n = omega (arith, ints)
 
-starts_first : (e : ℤ) (ss : List Span) → AllByRecursion (λ q. e <ℤ q.start) ss → StartsAfter e ss
+starts_first : (e : ℤ) (ss : List Span) → AllByRecursion (λ q. e <ℤ q.start) ss → IsFirstStartAfter e ss
 starts_first e [] h = tt
 starts_first e (s ∷ ss) h = h.0
 
-starts_append : (e : ℤ) (xs ys : List Span) → StartsAfter e xs → AllByRecursion (λ q. e <ℤ q.start) ys → StartsAfter e (xs ++ ys)
+starts_append : (e : ℤ) (xs ys : List Span) → IsFirstStartAfter e xs → AllByRecursion (λ q. e <ℤ q.start) ys → IsFirstStartAfter e (xs ++ ys)
 starts_append e [] ys h k = starts_first e ys k
 starts_append e (x ∷ xs) ys h k = h
 
@@ -38,10 +38,10 @@ normalized-append e (x ∷ xs) ys n m ends starts = (n.0, starts_append x.end xs
 abbrev both : Span → Span → Span
 both x y = record { start = int_max x.start y.start; end = int_min x.end y.end }
 
-abbrev share : Span → Span → Bool
-share x y = int_lt (int_max x.start y.start) (int_min x.end y.end)
+abbrev have_shared_tick : Span → Span → Bool
+have_shared_tick x y = int_lt (int_max x.start y.start) (int_min x.end y.end)
 
-covers-overlap : (x y : Span) (t : ℤ) → covers (overlap x y) t ≡ (has_tick x t && has_tick y t)
+covers-overlap : (x y : Span) (t : ℤ) → has_tick_in (overlap x y) t ≡ (has_tick x t && has_tick y t)
 covers-overlap x y t = grind (arith, ints)
 
 and_none : (a : Bool) → (a && false) ≡ false
@@ -56,13 +56,13 @@ and_spread false b c = refl
 abbrev parts : Span → List Span → List Span
 parts x ys = flat_map (λ y. overlap x y) ys
 
-covers-parts : (x : Span) (ys : List Span) (t : ℤ) → covers (parts x ys) t ≡ (has_tick x t && covers ys t)
+covers-parts : (x : Span) (ys : List Span) (t : ℤ) → has_tick_in (parts x ys) t ≡ (has_tick x t && has_tick_in ys t)
 covers-parts x [] t = sym (and_none (has_tick x t))
 covers-parts x (y ∷ ys) t =
     covers-append (overlap x y) (parts x ys) t
-    ∙ ap (λ b. b || covers (parts x ys) t) (covers-overlap x y t)
+    ∙ ap (λ b. b || has_tick_in (parts x ys) t) (covers-overlap x y t)
     ∙ ap (λ b. (has_tick x t && has_tick y t) || b) (covers-parts x ys t)
-    ∙ and_spread (has_tick x t) (has_tick y t) (covers ys t)
+    ∙ and_spread (has_tick x t) (has_tick y t) (has_tick_in ys t)
 
 or_spread : (a b c : Bool) → ((a && c) || (b && c)) ≡ ((a || b) && c)
 or_spread true true true = refl
@@ -71,13 +71,13 @@ or_spread true false true = refl
 or_spread true false false = refl
 or_spread false b c = refl
 
-pub covers-meet : (xs ys : List Span) (t : ℤ) → covers (meet xs ys) t ≡ (covers xs t && covers ys t)
+pub covers-meet : (xs ys : List Span) (t : ℤ) → has_tick_in (meet xs ys) t ≡ (has_tick_in xs t && has_tick_in ys t)
 covers-meet [] ys t = refl
 covers-meet (x ∷ xs) ys t =
     covers-append (parts x ys) (meet xs ys) t
-    ∙ ap (λ b. b || covers (meet xs ys) t) (covers-parts x ys t)
-    ∙ ap (λ b. (has_tick x t && covers ys t) || b) (covers-meet xs ys t)
-    ∙ or_spread (has_tick x t) (covers xs t) (covers ys t)
+    ∙ ap (λ b. b || has_tick_in (meet xs ys) t) (covers-parts x ys t)
+    ∙ ap (λ b. (has_tick x t && has_tick_in ys t) || b) (covers-meet xs ys t)
+    ∙ or_spread (has_tick x t) (has_tick_in xs t) (has_tick_in ys t)
 
 -- where the spans of a part begin and end
 overlap_normalized : (x y : Span) (b : Bool) → int_lt (int_max x.start y.start) (int_min x.end y.end) ≡ b → IsNormalized (option_to_list (cond b (Some (both x y)) None))
@@ -110,21 +110,21 @@ all-append P (x ∷ xs) ys h k = (h.0, all-append P xs ys h.1 k)
 
 parts_ends : (x : Span) (ys : List Span) → AllByRecursion (λ s. s.end ≤ℤ x.end) (parts x ys)
 parts_ends x [] = tt
-parts_ends x (y ∷ ys) = all-append (λ s. s.end ≤ℤ x.end) (overlap x y) (parts x ys) (overlap_ends x y x.end (share x y) (lesser_left x.end y.end)) (parts_ends x ys)
+parts_ends x (y ∷ ys) = all-append (λ s. s.end ≤ℤ x.end) (overlap x y) (parts x ys) (overlap_ends x y x.end (have_shared_tick x y) (lesser_left x.end y.end)) (parts_ends x ys)
 
 parts_begin : (x : Span) (e : ℤ) (ys : List Span) → e <ℤ x.start → AllByRecursion (λ s. e <ℤ s.start) (parts x ys)
 parts_begin x e [] h = tt
-parts_begin x e (y ∷ ys) h = all-append (λ s. e <ℤ s.start) (overlap x y) (parts x ys) (overlap_starts x y e (share x y) (greater_left e x.start y.start h)) (parts_begin x e ys h)
+parts_begin x e (y ∷ ys) h = all-append (λ s. e <ℤ s.start) (overlap x y) (parts x ys) (overlap_starts x y e (have_shared_tick x y) (greater_left e x.start y.start h)) (parts_begin x e ys h)
 
 parts_after : (x : Span) (e : ℤ) (ys : List Span) → AllByRecursion (λ q. e <ℤ q.start) ys → AllByRecursion (λ s. e <ℤ s.start) (parts x ys)
 parts_after x e [] h = tt
-parts_after x e (y ∷ ys) h = all-append (λ s. e <ℤ s.start) (overlap x y) (parts x ys) (overlap_starts x y e (share x y) (greater_right e x.start y.start h.0)) (parts_after x e ys h.1)
+parts_after x e (y ∷ ys) h = all-append (λ s. e <ℤ s.start) (overlap x y) (parts x ys) (overlap_starts x y e (have_shared_tick x y) (greater_right e x.start y.start h.0)) (parts_after x e ys h.1)
 
 parts_normalized : (x : Span) (ys : List Span) → IsNormalized ys → IsNormalized (parts x ys)
 parts_normalized x [] n = tt
 parts_normalized x (y ∷ ys) n =
-    normalized-append y.end (overlap x y) (parts x ys) (overlap_normalized x y (share x y) refl) (parts_normalized x ys n.2)
-    (overlap_ends x y y.end (share x y) (lesser_right x.end y.end)) (parts_after x y.end ys (later_than y.end ys n.1 n.2))
+    normalized-append y.end (overlap x y) (parts x ys) (overlap_normalized x y (have_shared_tick x y) refl) (parts_normalized x ys n.2)
+    (overlap_ends x y y.end (have_shared_tick x y) (lesser_right x.end y.end)) (parts_after x y.end ys (later_than y.end ys n.1 n.2))
 
 meet_after : (e : ℤ) (xs ys : List Span) → AllByRecursion (λ q. e <ℤ q.start) xs → AllByRecursion (λ s. e <ℤ s.start) (meet xs ys)
 meet_after e [] ys h = tt
@@ -155,11 +155,11 @@ and_all : (a : Bool) → a ≡ (a && true)
 and_all true = refl
 and_all false = refl
 
-covers-fold : (r : List Span) (rs : List (List Span)) (t : ℤ) → covers (fold meet r rs) t ≡ (covers r t && list_all (λ r. covers r t) rs)
-covers-fold r [] t = and_all (covers r t)
-covers-fold r (q ∷ rs) t = covers-fold (meet r q) rs t ∙ ap (λ b. b && list_all (λ r. covers r t) rs) (covers-meet r q t) ∙ and_assoc (covers r t) (covers q t) (list_all (λ r. covers r t) rs)
+covers-fold : (r : List Span) (rs : List (List Span)) (t : ℤ) → has_tick_in (fold meet r rs) t ≡ (has_tick_in r t && list_all (λ r. has_tick_in r t) rs)
+covers-fold r [] t = and_all (has_tick_in r t)
+covers-fold r (q ∷ rs) t = covers-fold (meet r q) rs t ∙ ap (λ b. b && list_all (λ r. has_tick_in r t) rs) (covers-meet r q t) ∙ and_assoc (has_tick_in r t) (has_tick_in q t) (list_all (λ r. has_tick_in r t) rs)
 
-pub covers-all : (rs : List (List Span)) (t : ℤ) → rs ≢ [] → covers (meet_of_all rs) t ≡ list_all (λ r. covers r t) rs
+pub covers-all : (rs : List (List Span)) (t : ℤ) → rs ≢ [] → has_tick_in (meet_of_all rs) t ≡ list_all (λ r. has_tick_in r t) rs
 covers-all [] t some = absurd (some refl)
 covers-all (r ∷ rs) t some = covers-fold r rs t
 

@@ -3,7 +3,7 @@ use Rattle.std.proofs.Common.{◌≡◌, ◌∙◌, ℤ, pos, Bool, true, false,
 use Rattle.std.proofs.lemmas.Int.{ints}
 use Rattle.std.specs.Int.{int_min, int_max}
 use Rattle.mse_base.specs.declared.span.Span.{Span}
-use Rattle.mse_base.specs.Spans.{has_tick, covers}
+use Rattle.mse_base.specs.Spans.{has_tick, has_tick_in}
 use Rattle.mse_base.specs.Bridging.{span_between, ranges_without, is_near, is_near_any}
 
 pub or_assoc : (a b c : Bool) → ((a || b) || c) ≡ (a || (b || c))
@@ -20,19 +20,19 @@ pub or_none : (a : Bool) → (a || false) ≡ a
 or_none true = refl
 or_none false = refl
 
-pub covers-append : (xs ys : List Span) (t : ℤ) → covers (xs ++ ys) t ≡ (covers xs t || covers ys t)
+pub covers-append : (xs ys : List Span) (t : ℤ) → has_tick_in (xs ++ ys) t ≡ (has_tick_in xs t || has_tick_in ys t)
 covers-append [] ys t = refl
-covers-append (x ∷ xs) ys t = ap (λ b. has_tick x t || b) (covers-append xs ys t) ∙ sym (or_assoc (has_tick x t) (covers xs t) (covers ys t))
+covers-append (x ∷ xs) ys t = ap (λ b. has_tick x t || b) (covers-append xs ys t) ∙ sym (or_assoc (has_tick x t) (has_tick_in xs t) (has_tick_in ys t))
 
 -- with no gap, near a span is in it
 pub near_within : (t : ℤ) (s : Span) → is_near (pos 0) t s ≡ has_tick s t
 near_within t s = grind (arith, ints)
 
-pub nears_covers : (t : ℤ) (ss : List Span) → is_near_any (pos 0) t ss ≡ covers ss t
+pub nears_covers : (t : ℤ) (ss : List Span) → is_near_any (pos 0) t ss ≡ has_tick_in ss t
 nears_covers t [] = refl
 nears_covers t (s ∷ ss) = ap (λ b. b || is_near_any (pos 0) t ss) (near_within t s) ∙ ap (λ b. has_tick s t || b) (nears_covers t ss)
 
-covers-part : (x y t : ℤ) → covers (span_between x y) t ≡ (int_le x t && int_lt t y)
+covers-part : (x y t : ℤ) → has_tick_in (span_between x y) t ≡ (int_le x t && int_lt t y)
 covers-part x y t = grind (arith, ints)
 
 lt_lesser : (t x a : ℤ) → int_lt t (int_min x a) ≡ (int_lt t x && int_lt t a)
@@ -67,19 +67,19 @@ and_or true false false = refl
 and_or false b c = refl
 
 -- the ticks that a hole leaves
-pub covers-carved : (a b t : ℤ) (ss : List Span) → covers (ranges_without a b ss) t ≡ (covers ss t && not (int_le a t && int_lt t b))
+pub covers-carved : (a b t : ℤ) (ss : List Span) → has_tick_in (ranges_without a b ss) t ≡ (has_tick_in ss t && not (int_le a t && int_lt t b))
 covers-carved a b t [] = refl
 covers-carved a b t (s ∷ ss) =
-    let rest = covers (ranges_without a b ss) t in
+    let rest = has_tick_in (ranges_without a b ss) t in
     let hole = not (int_le a t && int_lt t b) in
     let same : not (not (int_lt t a) && not (int_le b t)) ≡ hole =
     ap (λ c. not (c && not (int_le b t))) (sym (le_is_not_lt a t)) ∙ ap (λ c. not (int_le a t && c)) (sym (lt_is_not_le t b))
     in
     covers-append (span_between s.start (int_min s.end a)) (span_between (int_max s.start b) s.end ++ ranges_without a b ss) t
-    ∙ ap (λ c. covers (span_between s.start (int_min s.end a)) t || c) (covers-append (span_between (int_max s.start b) s.end) (ranges_without a b ss) t)
-    ∙ ap (λ c. c || (covers (span_between (int_max s.start b) s.end) t || rest)) (covers-part s.start (int_min s.end a) t ∙ ap (λ c. int_le s.start t && c) (lt_lesser t s.end a))
+    ∙ ap (λ c. has_tick_in (span_between s.start (int_min s.end a)) t || c) (covers-append (span_between (int_max s.start b) s.end) (ranges_without a b ss) t)
+    ∙ ap (λ c. c || (has_tick_in (span_between (int_max s.start b) s.end) t || rest)) (covers-part s.start (int_min s.end a) t ∙ ap (λ c. int_le s.start t && c) (lt_lesser t s.end a))
     ∙ ap (λ c. (int_le s.start t && (int_lt t s.end && int_lt t a)) || (c || rest)) (covers-part (int_max s.start b) s.end t ∙ ap (λ c. c && int_lt t s.end) (greater_le t s.start b))
     ∙ cut-one (int_le s.start t) (int_lt t s.end) (int_lt t a) (int_le b t) rest
     ∙ ap (λ c. (has_tick s t && c) || rest) same
     ∙ ap (λ c. (has_tick s t && hole) || c) (covers-carved a b t ss)
-    ∙ and_or (has_tick s t) (covers ss t) hole
+    ∙ and_or (has_tick s t) (has_tick_in ss t) hole

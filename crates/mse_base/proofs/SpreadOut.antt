@@ -3,7 +3,7 @@ use Rattle.std.proofs.Common.{◌≡◌, ◌∙◌, ℕ, ◌+◌, ◌-◌, ◌<�
 use Rattle.std.proofs.lemmas.List.{length-set}
 use Rattle.std.proofs.lemmas.List.Edits.{length-remove}
 use Rattle.mse_base.specs.declared.span.Span.{Span}
-use Rattle.mse_base.specs.Rows.{joined, start, row, Blocks, IsSpread}
+use Rattle.mse_base.specs.Rows.{row_items, start, row, Blocks, IsSpread}
 use Rattle.mse_base.proofs.InRows.{joined_set_set, joined_set_remove, joined_one, filled_set, filled_less, empty_push, one_more, row_within}
 
 pub spread_set : (old : Blocks Span) (new : List (List Span)) (len spare b i capacity : ℕ) (x : Span) → IsSpread old len spare → b < length old.rows → i < length (row old.rows b) → new ≡ set old.rows b (set (row old.rows b) i x) → capacity ≡ old.block_capacity → IsSpread (record old { rows = new; block_capacity = capacity }) len spare
@@ -12,7 +12,7 @@ spread_set old new len spare b i capacity x k l w f u =
     let y = set (row rows b) i x in
     let z = length-set rows b y in
     let n = length-set (row rows b) i x in
-    let j : length (joined (set rows b y)) ≡ length (joined rows) = ap length (joined_set_set rows b i x l w) ∙ length-set (joined rows) (start rows b + i) x in
+    let j : length (row_items (set rows b y)) ≡ length (row_items rows) = ap length (joined_set_set rows b i x l w) ∙ length-set (row_items rows) (start rows b + i) x in
     rw (f, u) (record {
       filled = filled_set rows b y k.filled (omega arith);
       empty = k.empty;
@@ -31,7 +31,7 @@ spread_take old new len spare b i capacity k l w h f u =
     let n = length-remove (row rows b) i w in
     let r = row_within rows b l in
     let j = ap length (joined_set_remove rows b i l w) in
-    let m = length-remove (joined rows) (start rows b + i) (omega arith) in
+    let m = length-remove (row_items rows) (start rows b + i) (omega arith) in
     let c = k.count in
     let t = k.fits in
     rw (f, u) (record {
@@ -51,7 +51,7 @@ spread_less old new gone len spare b i k l w h f g e u v =
     let z = length-remove rows b l in
     let r = row_within rows b l in
     let j = ap length (joined_one rows b i l (omega arith) (omega arith)) in
-    let m = length-remove (joined rows) (start rows b + i) (omega arith) in
+    let m = length-remove (row_items rows) (start rows b + i) (omega arith) in
     let c = k.count in
     let t = k.fits in
     record {

@@ -35,14 +35,14 @@ overlap_of_all [] = None
 overlap_of_all (s ∷ ss) = fold overlap_of_two s ss
 
 -- from the later start of two spans to the earlier end, which may be before it
-abbrev pub narrowed : Span → Span → Span
-narrowed x y = record { start = int_max x.start y.start; end = int_min x.end y.end }
+abbrev pub narrowed_span : Span → Span → Span
+narrowed_span x y = record { start = int_max x.start y.start; end = int_min x.end y.end }
 
 -- the same of two spans that may be missing
 abbrev pub narrowed_of_two : Option Span → Option Span → Option Span
 narrowed_of_two None y = None
 narrowed_of_two (Some x) None = None
-narrowed_of_two (Some x) (Some y) = Some (narrowed x y)
+narrowed_of_two (Some x) (Some y) = Some (narrowed_span x y)
 
 -- from the latest start of some spans to the earliest end, where there is a span and none is missing
 abbrev pub narrowed_of_all : List (Option Span) → Option Span

@@ -4,9 +4,9 @@ use Rattle.std.specs.List.{AllByRecursion}
 use Rattle.mse_base.specs.declared.span.Span.{Span}
 
 -- the items in order
-abbrev pub joined : {T : Type 0} → List (List T) → List T
-joined [] = []
-joined (r ∷ rows) = r ++ joined rows
+abbrev pub row_items : {T : Type 0} → List (List T) → List T
+row_items [] = []
+row_items (r ∷ rows) = r ++ row_items rows
 
 -- how many items stand before row b
 abbrev pub start : {T : Type 0} → List (List T) → ℕ → ℕ
@@ -60,7 +60,7 @@ pub record IsSpread (blocks : Blocks Span) (len spare : ℕ) : Type 0 where
   pub empty : AreEmpty blocks.pool
   pub block_room : length blocks.pool + length blocks.rows ≤ blocks.block_capacity
   pub pool_room : length blocks.pool + length blocks.rows ≤ blocks.pool_capacity
-  pub count : len ≡ length (joined blocks.rows)
+  pub count : len ≡ length (row_items blocks.rows)
   pub fits : len + spare < 2 ^ 64
   pub enough : 0 < len + spare
       → 2 * (len + spare) + 1025 ≤ 1025 * (length blocks.rows + length blocks.pool)

@@ -12,49 +12,49 @@ abbrev pub has_tick : Span → ℤ → Bool
 has_tick s t = int_le s.start t && int_lt t s.end
 
 -- some span has the tick
-abbrev pub covers : List Span → ℤ → Bool
-covers [] t = false
-covers (s ∷ ss) t = has_tick s t || covers ss t
+abbrev pub has_tick_in : List Span → ℤ → Bool
+has_tick_in [] t = false
+has_tick_in (s ∷ ss) t = has_tick s t || has_tick_in ss t
 
 -- the first span, if any, begins after e
-abbrev pub StartsAfter : ℤ → List Span → Type 0
-StartsAfter e [] = Unit {0}
-StartsAfter e (s ∷ ss) = e <ℤ s.start
+abbrev pub IsFirstStartAfter : ℤ → List Span → Type 0
+IsFirstStartAfter e [] = Unit {0}
+IsFirstStartAfter e (s ∷ ss) = e <ℤ s.start
 
 -- ascending, none empty, no two overlapping or touching (HTML, "normalized TimeRanges object")
 abbrev pub IsNormalized : List Span → Type 0
 IsNormalized [] = Unit {0}
-IsNormalized (s ∷ ss) = (s.start <ℤ s.end) × StartsAfter s.end ss × IsNormalized ss
+IsNormalized (s ∷ ss) = (s.start <ℤ s.end) × IsFirstStartAfter s.end ss × IsNormalized ss
 
 -- the normalized ranges whose ticks are just those of the given spans
 pub record IsUnion (given joined : List Span) : Type 0 where
-  pub same : (t : ℤ) → covers joined t ≡ covers given t
+  pub same : (t : ℤ) → has_tick_in joined t ≡ has_tick_in given t
   pub normalized : IsNormalized joined
 
 -- the normalized ranges whose ticks are just those that both lists have
 pub record IsIntersection (left right met : List Span) : Type 0 where
-  pub same : (t : ℤ) → covers met t ≡ (covers left t && covers right t)
+  pub same : (t : ℤ) → has_tick_in met t ≡ (has_tick_in left t && has_tick_in right t)
   pub normalized : IsNormalized met
 
 -- the normalized ranges whose ticks are those of the given spans, but for those from `from` on and below `to`
 pub record IsDifference (from to : ℤ) (given left : List Span) : Type 0 where
-  pub same : (t : ℤ) → covers left t ≡ (covers given t && not (int_le from t && int_lt t to))
+  pub same : (t : ℤ) → has_tick_in left t ≡ (has_tick_in given t && not (int_le from t && int_lt t to))
   pub normalized : IsNormalized left
 
 -- the tick is one of the spans, or lies between two of their ticks with at most `gap` ticks between the two
 pub record IsBridged (gap : ℤ) (given : List Span) (t : ℤ) : Type 0 where
   pub from : ℤ
   pub to : ℤ
-  pub has_from : covers given from ≡ true
-  pub has_to : covers given to ≡ true
+  pub has_from : has_tick_in given from ≡ true
+  pub has_to : has_tick_in given to ≡ true
   pub above : from ≤ℤ t
   pub below : t ≤ℤ to
   pub near : to ≤ℤ (from +ℤ gap +ℤ pos 1)
 
 -- the normalized ranges whose ticks are just the bridged ticks of the given spans
 pub record IsBridging (gap : ℤ) (given bridged : List Span) : Type 0 where
-  pub no_more : (t : ℤ) → covers bridged t ≡ true → IsBridged gap given t
-  pub no_less : (t : ℤ) → IsBridged gap given t → covers bridged t ≡ true
+  pub no_more : (t : ℤ) → has_tick_in bridged t ≡ true → IsBridged gap given t
+  pub no_less : (t : ℤ) → IsBridged gap given t → has_tick_in bridged t ≡ true
   pub normalized : IsNormalized bridged
 
 -- the tick lies between two neighbours of the ranges that are at most `gap` ticks apart
@@ -88,9 +88,9 @@ first_of [] = None
 first_of (s ∷ ss) = Some s
 
 -- the span ends after the time
-abbrev pub ends_after : ℤ → Span → Bool
-ends_after t s = int_lt t s.end
+abbrev pub has_end_after : ℤ → Span → Bool
+has_end_after t s = int_lt t s.end
 
 -- the span begins before the time
-abbrev pub starts_before : ℤ → Span → Bool
-starts_before t s = int_lt s.start t
+abbrev pub has_start_before : ℤ → Span → Bool
+has_start_before t s = int_lt s.start t

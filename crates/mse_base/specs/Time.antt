@@ -19,8 +19,8 @@ floor_div (pos n) d = pos (n / d)
 floor_div (negsuc n) d = negsuc (n / d)
 
 -- a media time, in units of which `scale` make a second, in ticks
-abbrev pub converted : ℤ → ℕ → ℤ
-converted m scale = floor_div (m *ℤ pos SECOND) scale
+abbrev pub media_ticks : ℤ → ℕ → ℤ
+media_ticks m scale = floor_div (m *ℤ pos SECOND) scale
 
 -- q is the greatest whole number that times d is at most z
 abbrev pub IsFloor : ℤ → ℕ → ℤ → Type 0

@@ -2,7 +2,7 @@
 
 ghost use Rattle.std.specs.Prelude.{◌≡◌, ◌+◌, ◌^◌, ◌<◌, ◌≤◌, [], length, true, false, OnOk, IfSome, IfNone, slice_index_or, slice_set, vec_capacity};
 ghost use Rattle.std.specs.List.{insert, remove};
-ghost use Rattle.mse_base.specs.Rows.{joined, start, row, split_row, merge_rows, AreFilled, AreEmpty, AreDense};
+ghost use Rattle.mse_base.specs.Rows.{row_items, start, row, split_row, merge_rows, AreFilled, AreEmpty, AreDense};
 
 use crate::span_block::{Block, LONG};
 use crate::{OutOfMemory, Span};
@@ -30,7 +30,7 @@ pub(crate) fn span_at(blocks: &Vec<Block>, place: BlockPlace) -> Span
     requires block { place.block < length blocks.now.items }
     requires index { place.index < length (row blocks.now.items place.block) }
     ensures { result
-        ≡ slice_index_or (joined blocks.now.items)
+        ≡ slice_index_or (row_items blocks.now.items)
         (start blocks.now.items place.block + place.index) result }
 {
     let block = &blocks[place.block];
@@ -40,7 +40,7 @@ pub(crate) fn span_at(blocks: &Vec<Block>, place: BlockPlace) -> Span
 /// How many spans come before a block.
 pub(crate) fn start_of(blocks: &Vec<Block>, b: usize) -> usize
     requires within { b ≤ length blocks.now.items }
-    requires small { length (joined blocks.now.items) < 2 ^ 64 }
+    requires small { length (row_items blocks.now.items) < 2 ^ 64 }
     ensures { result ≡ start blocks.now.items b }
 {
     let mut count = 0;
@@ -54,7 +54,7 @@ pub(crate) fn start_of(blocks: &Vec<Block>, b: usize) -> usize
 
 /// The place of a span.
 pub(crate) fn place_of(blocks: &Vec<Block>, i: usize) -> BlockPlace
-    requires { i < length (joined blocks.now.items) }
+    requires { i < length (row_items blocks.now.items) }
     ensures block { result.block < length blocks.now.items }
     ensures index { result.index < length (row blocks.now.items result.block) }
     ensures rank { start blocks.now.items result.block + result.index ≡ i }
@@ -74,7 +74,7 @@ pub(crate) fn place_of(blocks: &Vec<Block>, i: usize) -> BlockPlace
 /// The place at which a span is put: that behind a block's last rather than before the next one's
 /// first.
 pub(crate) fn place_to_put(blocks: &Vec<Block>, i: usize) -> BlockPlace
-    requires within { i ≤ length (joined blocks.now.items) }
+    requires within { i ≤ length (row_items blocks.now.items) }
     requires some { 0 < length blocks.now.items }
     ensures block { result.block < length blocks.now.items }
     ensures index { result.index ≤ length (row blocks.now.items result.block) }
@@ -162,8 +162,8 @@ fn put_apart(blocks: &mut Vec<Block>, b: usize, i: usize, x: Span, right: Block)
     requires empty { right ≡ [] }
     requires room { length blocks.old.items < vec_capacity blocks.old }
     requires filled { AreFilled blocks.old.items }
-    ensures spans { joined blocks.new.items
-        ≡ insert (joined blocks.old.items) (start blocks.old.items b + i) x }
+    ensures spans { row_items blocks.new.items
+        ≡ insert (row_items blocks.old.items) (start blocks.old.items b + i) x }
     ensures filled { AreFilled blocks.new.items }
     ensures len { length blocks.new.items ≡ length blocks.old.items + 1 }
     ensures capacity { vec_capacity blocks.new ≡ vec_capacity blocks.old }
@@ -179,11 +179,11 @@ fn put_apart(blocks: &mut Vec<Block>, b: usize, i: usize, x: Span, right: Block)
 
 /// Puts a span at a place, where its block has room; whether it has.
 pub(crate) fn put_if_room(blocks: &mut Vec<Block>, i: usize, x: &Span) -> bool
-    requires within { i ≤ length (joined blocks.old.items) }
+    requires within { i ≤ length (row_items blocks.old.items) }
     requires filled { AreFilled blocks.old.items }
     ensures spans { result ≡ true
-        → joined blocks.new.items ≡ insert (joined blocks.old.items) i x.now }
-    ensures full { result ≡ false → blocks.new.items ≡ blocks.old.items }
+        → row_items blocks.new.items ≡ insert (row_items blocks.old.items) i x.now }
+    ensures unchanged { result ≡ false → blocks.new.items ≡ blocks.old.items }
     ensures filled { AreFilled blocks.new.items }
     ensures len { length blocks.new.items ≡ length blocks.old.items }
     ensures capacity { vec_capacity blocks.new ≡ vec_capacity blocks.old }
@@ -201,11 +201,11 @@ pub(crate) fn put_if_room(blocks: &mut Vec<Block>, i: usize, x: &Span) -> bool
 
 /// Puts a span at a place, by an empty block; that block, where it was not needed.
 pub(crate) fn put(blocks: &mut Vec<Block>, i: usize, x: Span, fresh: Block) -> Option<Block>
-    requires within { i ≤ length (joined blocks.old.items) }
+    requires within { i ≤ length (row_items blocks.old.items) }
     requires empty { fresh ≡ [] }
     requires room { length blocks.old.items < vec_capacity blocks.old }
     requires filled { AreFilled blocks.old.items }
-    ensures spans { joined blocks.new.items ≡ insert (joined blocks.old.items) i x }
+    ensures spans { row_items blocks.new.items ≡ insert (row_items blocks.old.items) i x }
     ensures filled { AreFilled blocks.new.items }
     ensures one { IfSome result
         (λ q. (q ≡ []) × (length blocks.new.items ≡ length blocks.old.items)) }
@@ -245,7 +245,7 @@ pub(crate) fn gather(blocks: &mut Vec<Block>, pool: &mut Vec<Block>)
     requires room { length pool.old.items + length blocks.old.items ≤ vec_capacity pool.old }
     requires filled { AreFilled blocks.old.items }
     requires empty { AreEmpty pool.old.items }
-    ensures spans { joined blocks.new.items ≡ joined blocks.old.items }
+    ensures spans { row_items blocks.new.items ≡ row_items blocks.old.items }
     ensures filled { AreFilled blocks.new.items }
     ensures empty { AreEmpty pool.new.items }
     ensures dense { AreDense blocks.new.items }
@@ -291,7 +291,7 @@ fn add_empty(
     ensures rows { blocks.new.items ≡ blocks.old.items }
     ensures empty { AreEmpty pool.old.items → AreEmpty pool.new.items }
     ensures ok { OnOk result (length pool.new.items ≡ length pool.old.items + 1) }
-    ensures more { length pool.old.items ≤ length pool.new.items }
+    ensures no_fewer_blocks { length pool.old.items ≤ length pool.new.items }
     ensures block_room { length pool.old.items + length blocks.old.items ≤ vec_capacity blocks.old
         → length pool.new.items + length blocks.new.items ≤ vec_capacity blocks.new }
     ensures pool_room { length pool.old.items + length blocks.old.items ≤ vec_capacity pool.old
@@ -318,7 +318,7 @@ pub(crate) fn fill(
     ensures rows { blocks.new.items ≡ blocks.old.items }
     ensures empty { AreEmpty pool.new.items }
     ensures ok { OnOk result (block_count ≤ length pool.new.items + length blocks.new.items) }
-    ensures more { length pool.old.items ≤ length pool.new.items }
+    ensures no_fewer_blocks { length pool.old.items ≤ length pool.new.items }
     ensures block_room { length pool.new.items + length blocks.new.items ≤ vec_capacity blocks.new }
     ensures pool_room { length pool.new.items + length blocks.new.items ≤ vec_capacity pool.new }
 {

@@ -67,7 +67,7 @@ fn join_from(ranges: &mut SpanList, gap: Ticks, from: usize, span: Span)
 }
 
 /// A span with what another has behind it, which begins no earlier.
-fn extended(r: &Span, s: &Span) -> Span
+fn longer_span(r: &Span, s: &Span) -> Span
     requires { r.now.start ≤ℤ s.now.start }
     ensures { result ≡ span_round s.now r.now }
 {
@@ -101,7 +101,7 @@ fn join_before_last(ranges: &mut SpanList, gap: Ticks, span: &Span) -> bool
         return false;
     }
     let last = ranges.get(len - 1);
-    let longer = extended(&before, span);
+    let longer = longer_span(&before, span);
     if is_far_before(gap, &longer, &last) {
         ranges.set(len - 2, longer);
         return true;
@@ -136,7 +136,7 @@ fn join_late(ranges: &mut SpanList, gap: Ticks, span: &Span) -> bool
         ranges.insert(len, *span);
         return true;
     }
-    ranges.set(len - 1, extended(&last, span));
+    ranges.set(len - 1, longer_span(&last, span));
     true
 }
 

@@ -45,7 +45,8 @@ fn right_of(s: &Span, high: Ticks, gap: Ticks) -> Option<Span>
     }
 }
 
-fn begins_before(s: &Span, high: Ticks, gap: Ticks) -> bool
+/// Whether a span starts before the gap behind a time ends.
+fn has_start_before_gap_end(s: &Span, high: Ticks, gap: Ticks) -> bool
     ensures { result ≡ int_lt s.now.start (high +ℤ gap) }
 {
     s.start.get() < high.get() + gap.get()
@@ -91,7 +92,7 @@ fn carve_from(ranges: &mut SpanList, gap: Ticks, from: usize, hole: &Span)
     let mut i = from;
     while i < ranges.len() {
         let s = ranges.get(i);
-        if !begins_before(&s, hole.end, gap) {
+        if !has_start_before_gap_end(&s, hole.end, gap) {
             return;
         }
         i = replace(ranges, i, left_of(&s, hole.start, gap));

@@ -4,7 +4,7 @@
 ghost use Rattle.std.specs.Prelude.{◌≡◌, ◌≢◌, ◌⊎◌, ◌↔◌, ℤ, ℕ, ◌<◌, ◌≤◌, ◌≤ℤ◌, pos, List, [], ◌∷◌, ◌++◌, length, map, find, Option, true};
 ghost use Rattle.std.specs.List.{AllByRecursion, list_all};
 ghost use Rattle.mse_base.specs.Time.{floor_div, IsFloor};
-ghost use Rattle.mse_base.specs.Spans.{covers, reaches, IsNormalized, IsUnion, IsIntersection, IsDifference, IsBridging, IsBridged, IsInGap};
+ghost use Rattle.mse_base.specs.Spans.{has_tick_in, reaches, IsNormalized, IsUnion, IsIntersection, IsDifference, IsBridging, IsBridged, IsInGap};
 ghost use Rattle.mse_base.specs.Bridging.{bridged_ranges};
 ghost use Rattle.mse_base.specs.Meets.{meet, meet_of_all, overlap_of_two, overlap_of_all};
 ghost use Rattle.mse_base.specs.declared.span.Span.{Span};
@@ -39,7 +39,7 @@ pub fn bridging()
 /// `gap` ticks between two neighbours of them.
 pub fn gaps_between_neighbours()
     ensures { (gap : ℤ) (given joined : List Span) (t : ℤ) → pos 0 ≤ℤ gap → IsUnion given joined →
-        IsBridged gap given t ↔ ((covers joined t ≡ true) ⊎ IsInGap gap joined t) }
+        IsBridged gap given t ↔ ((has_tick_in joined t ≡ true) ⊎ IsInGap gap joined t) }
 {}
 
 /// The meet of two lists of ranges is the one normalized list of the ticks that both have. Its
@@ -59,7 +59,7 @@ pub fn meets_of_all()
     ensures normalized { (rs : List (List Span)) → AllByRecursion IsNormalized rs →
         IsNormalized (meet_of_all rs) }
     ensures ticks { (rs : List (List Span)) (t : ℤ) → rs ≢ []
-        → covers (meet_of_all rs) t ≡ list_all (λ r. covers r t) rs }
+        → has_tick_in (meet_of_all rs) t ≡ list_all (λ r. has_tick_in r t) rs }
     ensures found { (t : ℤ) (rs : List (List Span)) → AllByRecursion IsNormalized rs
         → find (reaches t) (meet_of_all rs) ≡ overlap_of_all (map (find (reaches t)) rs) }
     ensures one_more { (rs : List (List Span)) (r : List Span) → 1 ≤ length rs

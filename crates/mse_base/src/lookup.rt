@@ -1,6 +1,6 @@
 ghost use Rattle.std.specs.Prelude.{◌≡◌, ◌≤◌, ◌<ℤ◌, ◌≤ℤ◌, ◌-ℤ◌, int_lt, pos, length, take, drop, find, slice_get, true};
 ghost use Rattle.std.specs.List.{AllByRecursion, filter};
-ghost use Rattle.mse_base.specs.Spans.{IsNormalized, reaches, last_of, ends_after, starts_before};
+ghost use Rattle.mse_base.specs.Spans.{IsNormalized, reaches, last_of, has_end_after, has_start_before};
 ghost use Rattle.mse_base.specs.Bridging.{IsRanges, is_far_before};
 
 use crate::span_list::SpanList;
@@ -14,7 +14,7 @@ pub(crate) fn is_far_before(gap: Ticks, s: &Span, r: &Span) -> bool
 }
 
 /// Whether a span ends more than the gap before a time.
-pub(crate) fn ends_before(s: &Span, t: Ticks, gap: Ticks) -> bool
+pub(crate) fn is_far_before_time(s: &Span, t: Ticks, gap: Ticks) -> bool
     ensures { result ≡ int_lt s.now.end (t -ℤ gap) }
 {
     s.end.get() < t.get() - gap.get()
@@ -31,7 +31,7 @@ pub(crate) fn ending_before(ranges: &[Span], t: Ticks, gap: Ticks) -> usize
     let mut high = ranges.len();
     while low < high {
         let middle = low + (high - low) / 2;
-        if ends_before(&ranges[middle], t, gap) {
+        if is_far_before_time(&ranges[middle], t, gap) {
             low = middle + 1;
         } else {
             high = middle;
@@ -109,7 +109,7 @@ fn count_started(ranges: &SpanList, t: Ticks) -> usize
 /// The first range that ends after a time.
 pub(crate) fn first_after(ranges: &SpanList, t: Ticks) -> Option<Span>
     requires { IsNormalized ranges.now.spans }
-    ensures { result ≡ find (ends_after t) ranges.now.spans }
+    ensures { result ≡ find (has_end_after t) ranges.now.spans }
 {
     span_at(ranges, count_ended(ranges, t))
 }
@@ -117,7 +117,7 @@ pub(crate) fn first_after(ranges: &SpanList, t: Ticks) -> Option<Span>
 /// The last range that starts before a time.
 pub(crate) fn last_before(ranges: &SpanList, t: Ticks) -> Option<Span>
     requires { IsNormalized ranges.now.spans }
-    ensures { result ≡ last_of (filter (starts_before t) ranges.now.spans) }
+    ensures { result ≡ last_of (filter (has_start_before t) ranges.now.spans) }
 {
     let count = count_started(ranges, t);
     if count == 0 {

@@ -1,7 +1,8 @@
 ghost use Rattle.std.specs.Prelude.{◌≡◌, ◌↔◌, ◌+◌, ◌≤◌, ◌<ℤ◌, ◌≤ℤ◌, ◌+ℤ◌, ◌-ℤ◌, pos, [], ◌∷◌, ◌++◌, length, slice_get, find, IsTrue, IfOk, OnOk};
 ghost use Rattle.std.specs.Int.{int_max};
 ghost use Rattle.std.specs.List.{filter};
-ghost use Rattle.mse_base.specs.Spans.{IsNormalized, IsUnion, IsIntersection, IsBridging, IsDifference, reaches, last_of, ends_after, starts_before};
+ghost use Rattle.std.specs.Option.{ForSome};
+ghost use Rattle.mse_base.specs.Spans.{IsNormalized, IsUnion, IsIntersection, IsBridging, IsDifference, reaches, last_of, has_end_after, has_start_before};
 ghost use Rattle.mse_base.specs.Bridging.{IsRanges, ranges_with, bridged_ranges, ranges_without};
 ghost use Rattle.mse_base.specs.Meets.{meet};
 
@@ -61,6 +62,23 @@ impl Ranges {
             self.new.spans }
     {
         self.spans.clear();
+    }
+
+    /// Adds a span that begins no earlier than the last range, and the gaps of at most `gap`
+    /// ticks round it.
+    pub fn add_last(&mut self, span: Span, gap: Ticks)
+        requires room { 1 ≤ self.old.spare }
+        requires order { ForSome (last_of self.old.spans) (λ last. last.start ≤ℤ span.start) }
+        requires gap_from_zero { pos 0 ≤ℤ gap }
+        requires ranges { IsRanges gap self.old.spans }
+        ensures bridged { IsBridging gap (self.old.spans ++ span ∷ []) self.new.spans }
+        ensures spans { self.new.spans ≡ ranges_with gap self.old.spans span }
+        ensures ranges { IsRanges gap self.new.spans }
+        ensures room { self.old.spare + length self.old.spans
+            ≡ self.new.spare + length self.new.spans }
+        ensures len { length self.new.spans ≤ length self.old.spans + 1 }
+    {
+        self.add_span(span, gap);
     }
 
     /// Adds a span anywhere, and the gaps of at most `gap` ticks round it.
@@ -195,14 +213,14 @@ impl Ranges {
 
     /// The first range that ends after a time; `None` exactly where none does.
     pub fn first_after(&self, t: Ticks) -> Option<Span>
-        ensures { result ≡ find (ends_after t) self.now.spans }
+        ensures { result ≡ find (has_end_after t) self.now.spans }
     {
         first_after(&self.spans, t)
     }
 
     /// The last range that starts before a time; `None` exactly where none does.
     pub fn last_before(&self, t: Ticks) -> Option<Span>
-        ensures { result ≡ last_of (filter (starts_before t) self.now.spans) }
+        ensures { result ≡ last_of (filter (has_start_before t) self.now.spans) }
     {
         last_before(&self.spans, t)
     }

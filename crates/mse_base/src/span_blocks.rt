@@ -3,13 +3,13 @@
 ghost use Rattle.std.specs.Prelude.{◌≡◌, ◌+◌, ◌-◌, ◌*◌, ◌<◌, ◌≤◌, ◌<ℤ◌, ◌≤ℤ◌, ◌-ℤ◌, [], length, take, drop, IfOk, OnOk, slice_index_or, slice_set, vec_capacity};
 ghost use Rattle.std.specs.List.{AllByRecursion, insert, remove};
 ghost use Rattle.mse_base.specs.Spans.{IsNormalized};
-ghost use Rattle.mse_base.specs.Rows.{joined, start, row, AreFilled, AreEmpty};
+ghost use Rattle.mse_base.specs.Rows.{row_items, start, row, AreFilled, AreEmpty};
 
 use crate::block_row::{
     BlockPlace, drop_all, fill, gather, len_at, place_of, put, put_if_room, set_in, span_at,
     start_of, take_from,
 };
-use crate::lookup::ends_before;
+use crate::lookup::is_far_before_time;
 use crate::span_block::Block;
 use crate::{OutOfMemory, Span, Ticks};
 use std::alloc::Global;
@@ -32,11 +32,11 @@ pub(crate) struct SpanBlocks {
 impl Model for SpanBlocks {
     ghost use Rattle.std.specs.Prelude.{vec_capacity};
     ghost use Rattle.mse_base.specs.Spans.{RangesView};
-    ghost use Rattle.mse_base.specs.Rows.{joined, IsSpread};
+    ghost use Rattle.mse_base.specs.Rows.{row_items, IsSpread};
 
     ghost Value = { RangesView };
 
-    ghost view = { λ s. record { spans = joined s.blocks.items; spare = s.spare } };
+    ghost view = { λ s. record { spans = row_items s.blocks.items; spare = s.spare } };
 
     ghost invariant = { λ s. IsSpread (record {
       rows = s.blocks.items;
@@ -51,10 +51,10 @@ fn refill(blocks: &mut Vec<Block>, pool: &mut Vec<Block>)
     requires room { length pool.old.items + length blocks.old.items ≤ vec_capacity pool.old }
     requires filled { AreFilled blocks.old.items }
     requires empty { AreEmpty pool.old.items }
-    requires enough { 2 * length (joined blocks.old.items) + 1026
+    requires enough { 2 * length (row_items blocks.old.items) + 1026
         ≤ 1025 * (length blocks.old.items + length pool.old.items) }
     ensures some { 0 < length pool.new.items }
-    ensures spans { joined blocks.new.items ≡ joined blocks.old.items }
+    ensures spans { row_items blocks.new.items ≡ row_items blocks.old.items }
     ensures filled { AreFilled blocks.new.items }
     ensures empty { AreEmpty pool.new.items }
     ensures len { length pool.new.items + length blocks.new.items
@@ -72,10 +72,10 @@ fn take_fresh(blocks: &mut Vec<Block>, pool: &mut Vec<Block>) -> Block
     requires room { length pool.old.items + length blocks.old.items ≤ vec_capacity pool.old }
     requires filled { AreFilled blocks.old.items }
     requires empty { AreEmpty pool.old.items }
-    requires enough { 2 * length (joined blocks.old.items) + 1026
+    requires enough { 2 * length (row_items blocks.old.items) + 1026
         ≤ 1025 * (length blocks.old.items + length pool.old.items) }
     ensures fresh { result ≡ [] }
-    ensures spans { joined blocks.new.items ≡ joined blocks.old.items }
+    ensures spans { row_items blocks.new.items ≡ row_items blocks.old.items }
     ensures filled { AreFilled blocks.new.items }
     ensures empty { AreEmpty pool.new.items }
     ensures len { length pool.new.items + length blocks.new.items + 1
@@ -89,15 +89,15 @@ fn take_fresh(blocks: &mut Vec<Block>, pool: &mut Vec<Block>) -> Block
 
 /// Puts in a span, by a block of the pool where none has room.
 fn put_in_place(blocks: &mut Vec<Block>, pool: &mut Vec<Block>, i: usize, x: Span)
-    requires within { i ≤ length (joined blocks.old.items) }
+    requires within { i ≤ length (row_items blocks.old.items) }
     requires room { length pool.old.items + length blocks.old.items ≤ vec_capacity pool.old }
     requires block_room { length pool.old.items + length blocks.old.items
         ≤ vec_capacity blocks.old }
     requires filled { AreFilled blocks.old.items }
     requires empty { AreEmpty pool.old.items }
-    requires enough { 2 * length (joined blocks.old.items) + 1026
+    requires enough { 2 * length (row_items blocks.old.items) + 1026
         ≤ 1025 * (length blocks.old.items + length pool.old.items) }
-    ensures spans { joined blocks.new.items ≡ insert (joined blocks.old.items) i x }
+    ensures spans { row_items blocks.new.items ≡ insert (row_items blocks.old.items) i x }
     ensures filled { AreFilled blocks.new.items }
     ensures empty { AreEmpty pool.new.items }
     ensures len { length pool.new.items + length blocks.new.items
@@ -117,8 +117,8 @@ fn first_of(blocks: &Vec<Block>, b: usize) -> Span
     requires block { b < length blocks.now.items }
     requires filled { AreFilled blocks.now.items }
     ensures value { result
-        ≡ slice_index_or (joined blocks.now.items) (start blocks.now.items b) result }
-    ensures within { start blocks.now.items b < length (joined blocks.now.items) }
+        ≡ slice_index_or (row_items blocks.now.items) (start blocks.now.items b) result }
+    ensures within { start blocks.now.items b < length (row_items blocks.now.items) }
 {
     span_at(blocks, BlockPlace { block: b, index: 0 })
 }
@@ -126,18 +126,18 @@ fn first_of(blocks: &Vec<Block>, b: usize) -> Span
 /// Up to which block the first spans end more than the gap before a time.
 fn blocks_ending(blocks: &Vec<Block>, t: Ticks, gap: Ticks) -> usize
     requires filled { AreFilled blocks.now.items }
-    requires normalized { IsNormalized (joined blocks.now.items) }
+    requires normalized { IsNormalized (row_items blocks.now.items) }
     ensures within { result ≤ length blocks.now.items }
     ensures before { 0 < result → AllByRecursion (λ r. r.end <ℤ (t -ℤ gap))
-        (take (start blocks.now.items (result - 1) + 1) (joined blocks.now.items)) }
+        (take (start blocks.now.items (result - 1) + 1) (row_items blocks.now.items)) }
     ensures after { AllByRecursion (λ r. (t -ℤ gap) ≤ℤ r.end)
-        (drop (start blocks.now.items result) (joined blocks.now.items)) }
+        (drop (start blocks.now.items result) (row_items blocks.now.items)) }
 {
     let mut low = 0;
     let mut high = blocks.len();
     while low < high {
         let middle = low + (high - low) / 2;
-        if ends_before(&first_of(blocks, middle), t, gap) {
+        if is_far_before_time(&first_of(blocks, middle), t, gap) {
             low = middle + 1;
         } else {
             high = middle;
@@ -150,16 +150,16 @@ fn blocks_ending(blocks: &Vec<Block>, t: Ticks, gap: Ticks) -> usize
 fn spans_ending(blocks: &Vec<Block>, b: usize, t: Ticks, gap: Ticks) -> usize
     requires block { b < length blocks.now.items }
     requires filled { AreFilled blocks.now.items }
-    requires normalized { IsNormalized (joined blocks.now.items) }
+    requires normalized { IsNormalized (row_items blocks.now.items) }
     requires before { AllByRecursion (λ r. r.end <ℤ (t -ℤ gap))
-        (take (start blocks.now.items b + 1) (joined blocks.now.items)) }
+        (take (start blocks.now.items b + 1) (row_items blocks.now.items)) }
     requires after { AllByRecursion (λ r. (t -ℤ gap) ≤ℤ r.end)
-        (drop (start blocks.now.items (b + 1)) (joined blocks.now.items)) }
+        (drop (start blocks.now.items (b + 1)) (row_items blocks.now.items)) }
     ensures within { result ≤ length (row blocks.now.items b) }
     ensures before { AllByRecursion (λ r. r.end <ℤ (t -ℤ gap))
-        (take (start blocks.now.items b + result) (joined blocks.now.items)) }
+        (take (start blocks.now.items b + result) (row_items blocks.now.items)) }
     ensures after { AllByRecursion (λ r. (t -ℤ gap) ≤ℤ r.end)
-        (drop (start blocks.now.items b + result) (joined blocks.now.items)) }
+        (drop (start blocks.now.items b + result) (row_items blocks.now.items)) }
 {
     let mut low = 1;
     let mut high = len_at(blocks, b);
@@ -169,7 +169,7 @@ fn spans_ending(blocks: &Vec<Block>, b: usize, t: Ticks, gap: Ticks) -> usize
             block: b,
             index: middle,
         };
-        if ends_before(&span_at(blocks, place), t, gap) {
+        if is_far_before_time(&span_at(blocks, place), t, gap) {
             low = middle + 1;
         } else {
             high = middle;
@@ -211,7 +211,7 @@ impl SpanBlocks {
     pub fn reserve(&mut self, n: usize) -> Result<(), OutOfMemory>
         ensures spans { self.new.spans ≡ self.old.spans }
         ensures spare { OnOk result (n ≤ self.new.spare) }
-        ensures room_stays { self.old.spare ≤ self.new.spare }
+        ensures no_room_lost { self.old.spare ≤ self.new.spare }
     {
         if n <= self.spare {
             return Ok(());

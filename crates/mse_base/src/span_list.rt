@@ -160,7 +160,7 @@ impl SpanList {
     pub fn reserve(&mut self, alloc: Global, n: usize) -> Result<(), OutOfMemory>
         ensures spans { self.new.spans ≡ self.old.spans }
         ensures spare { OnOk result (n ≤ self.new.spare) }
-        ensures room_stays { self.old.spare ≤ self.new.spare }
+        ensures no_room_lost { self.old.spare ≤ self.new.spare }
     {
         if n <= self.spare() {
             return Ok(());

@@ -1,5 +1,5 @@
 ghost use Rattle.std.specs.Prelude.{◌≡◌, ◌≤◌, ◌^◌, ◌+ℤ◌, ◌-ℤ◌, ◌*ℤ◌, pos, unsigned_abs};
-ghost use Rattle.mse_base.specs.Time.{IsTick, tick, converted, SECOND as ticks_in_a_second};
+ghost use Rattle.mse_base.specs.Time.{IsTick, tick, media_ticks, SECOND as ticks_in_a_second};
 
 use std::marker::Model;
 
@@ -88,7 +88,7 @@ fn product(m: i128, ticks: u64) -> i128
 pub fn convert(m: i128, scale: u32) -> Option<Ticks>
     requires small { unsigned_abs m ≤ 2 ^ 80 }
     requires positive { 1 ≤ scale }
-    ensures { result ≡ tick (converted m scale) }
+    ensures { result ≡ tick (media_ticks m scale) }
 {
     let scale = u64::from(scale);
     // The usual scales divide a second, and a product costs less than a division of 128 bits.

@@ -1,11 +1,11 @@
 use Rattle.std.proofs.Common.{◌≡◌, ◌-◌, ◌+◌, ◌≤◌, length, drop, vec_capacity}
-use Rattle.mse_base.specs.Rows.{joined, AreFilled, AreEmpty, AreDense}
+use Rattle.mse_base.specs.Rows.{row_items, AreFilled, AreEmpty, AreDense}
 use Rattle.mse_base.proofs.block_row.gather.Given as goal
 
 abbrev pub invariant-gathering : goal.invariant-gathering
 invariant-gathering l = record {
   within : l.b ≤ length l.blocks.items;
-  spans : joined l.blocks.items ≡ joined l.fn.blocks.items;
+  spans : row_items l.blocks.items ≡ row_items l.fn.blocks.items;
   filled : AreFilled l.blocks.items;
   empty : AreEmpty l.pool.items;
   dense : AreDense (drop (l.b - 1) l.blocks.items);

@@ -13,4 +13,4 @@ pub returns-clause-spans : goal.returns-clause-spans
 returns-clause-spans c = λ _.
     let n = c.len-len.result in
     let begins : c.get-last.result.start ≤ℤ c.args.span.now.start = grind (arith, ints, c.lt.ensures, c.if-lt.false) in
-    c.set.ensures.spans ∙ late_joined c.args.gap c.args.ranges.now.spans (n - 1) c.args.span.now c.get-last.result c.extended.result c.requires.gap_from_zero c.requires.not_empty c.requires.ranges (omega (arith, c.if-len-eq0.false, c.len-len.ensures)) c.get-last.ensures begins (sym c.is_far_before.ensures ∙ c.if-is_far_before.false) c.extended.ensures
+    c.set.ensures.spans ∙ late_joined c.args.gap c.args.ranges.now.spans (n - 1) c.args.span.now c.get-last.result c.longer_span.result c.requires.gap_from_zero c.requires.not_empty c.requires.ranges (omega (arith, c.if-len-eq0.false, c.len-len.ensures)) c.get-last.ensures begins (sym c.is_far_before.ensures ∙ c.if-is_far_before.false) c.longer_span.ensures

@@ -3,12 +3,12 @@ use Rattle.std.proofs.lemmas.Int.{ints}
 use Rattle.mse_base.proofs.Places.{carved_end, carved_split, carved_step}
 use Rattle.mse_base.proofs.carve.carve_from.Goals as goal
 
-pub returns-then-not-begins_before-clause-spans : goal.returns-then-not-begins_before-clause-spans
-returns-then-not-begins_before-clause-spans c =
+pub returns-then-not-has_start_before_gap_end-clause-spans : goal.returns-then-not-has_start_before_gap_end-clause-spans
+returns-then-not-has_start_before_gap_end-clause-spans c =
     let hole_not_empty = c.requires.hole_not_empty in
     let gap_from_zero = c.requires.gap_from_zero in
     let wide : (c.args.hole.now.start -ℤ c.args.gap) <ℤ (c.args.hole.now.end +ℤ c.args.gap) = omega (arith, ints) in
-    carved_end c.args.gap _ _ c.loop-i.ranges.spans _ c.loop-i.i c.get-s.result gap_from_zero wide (omega arith) c.get-s.ensures (sym c.begins_before.ensures ∙ c.if-not-begins_before.true) c.loop-i.invariant.ranges c.loop-i.invariant.items
+    carved_end c.args.gap _ _ c.loop-i.ranges.spans _ c.loop-i.i c.get-s.result gap_from_zero wide (omega arith) c.get-s.ensures (sym c.has_start_before_gap_end.ensures ∙ c.if-not-has_start_before_gap_end.true) c.loop-i.invariant.ranges c.loop-i.invariant.items
 
 pub returns-in-Some-clause-spans : goal.returns-in-Some-clause-spans
 returns-in-Some-clause-spans c =

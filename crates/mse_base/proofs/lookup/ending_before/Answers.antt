@@ -3,9 +3,9 @@ use Rattle.std.proofs.lemmas.Int.{ints}
 use Rattle.mse_base.proofs.Looking.{below_more, above_from}
 use Rattle.mse_base.proofs.lookup.ending_before.Goals as goal
 
-pub loop-low-preserved-then-ends_before : goal.loop-low-preserved-then-ends_before
-loop-low-preserved-then-ends_before c =
-    let early : c.index-ranges-middle.result.end <ℤ (c.args.t -ℤ c.args.gap) = grind (arith, ints, c.ends_before.ensures, c.if-ends_before.true) in
+pub loop-low-preserved-then-is_far_before_time : goal.loop-low-preserved-then-is_far_before_time
+loop-low-preserved-then-is_far_before_time c =
+    let early : c.index-ranges-middle.result.end <ℤ (c.args.t -ℤ c.args.gap) = grind (arith, ints, c.is_far_before_time.ensures, c.if-is_far_before_time.true) in
     record {
       order = omega arith;
       within = c.loop-low.invariant.within;
@@ -15,7 +15,7 @@ loop-low-preserved-then-ends_before c =
 
 pub loop-low-preserved : goal.loop-low-preserved
 loop-low-preserved c =
-    let late : (c.args.t -ℤ c.args.gap) ≤ℤ c.index-ranges-middle.result.end = grind (arith, ints, c.ends_before.ensures, c.if-ends_before.false) in
+    let late : (c.args.t -ℤ c.args.gap) ≤ℤ c.index-ranges-middle.result.end = grind (arith, ints, c.is_far_before_time.ensures, c.if-is_far_before_time.false) in
     record {
       order = omega arith;
       within = omega arith;

@@ -1,7 +1,7 @@
 use Rattle.std.proofs.Common.{◌≡◌, ◌≤ℤ◌, ◌-ℤ◌, ◌<ℤ◌, length, drop, subst, arith}
 use Rattle.std.specs.List.{AllByRecursion}
 use Rattle.std.proofs.lemmas.Int.{ints}
-use Rattle.mse_base.specs.Rows.{joined, start}
+use Rattle.mse_base.specs.Rows.{row_items, start}
 use Rattle.mse_base.proofs.Looking.{above_from}
 use Rattle.mse_base.proofs.Ending.{below_row, above_all}
 use Rattle.mse_base.proofs.span_blocks.blocks_ending.Goals as goal
@@ -16,9 +16,9 @@ loop-low-init c =
       after = above_all c.args.blocks.now.items c.len-high.result (c.args.t -ℤ c.args.gap) n;
     }
 
-pub loop-low-preserved-then-ends_before : goal.loop-low-preserved-then-ends_before
-loop-low-preserved-then-ends_before c =
-    let early : c.first_of.result.end <ℤ (c.args.t -ℤ c.args.gap) = grind (arith, ints, c.ends_before.ensures, c.if-ends_before.true) in
+pub loop-low-preserved-then-is_far_before_time : goal.loop-low-preserved-then-is_far_before_time
+loop-low-preserved-then-is_far_before_time c =
+    let early : c.first_of.result.end <ℤ (c.args.t -ℤ c.args.gap) = grind (arith, ints, c.is_far_before_time.ensures, c.if-is_far_before_time.true) in
     record {
       order = omega arith;
       within = c.loop-low.invariant.within;
@@ -29,12 +29,12 @@ loop-low-preserved-then-ends_before c =
 pub loop-low-preserved : goal.loop-low-preserved
 loop-low-preserved c =
     let rows = c.args.blocks.now.items in
-    let late : (c.args.t -ℤ c.args.gap) ≤ℤ c.first_of.result.end = grind (arith, ints, c.ends_before.ensures, c.if-ends_before.false) in
+    let late : (c.args.t -ℤ c.args.gap) ≤ℤ c.first_of.result.end = grind (arith, ints, c.is_far_before_time.ensures, c.if-is_far_before_time.false) in
     record {
       order = omega arith;
       within = omega arith;
       before = c.loop-low.invariant.before;
-      after = above_from (joined rows) _ c.first_of.result (c.args.t -ℤ c.args.gap) c.requires.normalized c.first_of.ensures.within c.first_of.ensures.value late;
+      after = above_from (row_items rows) _ c.first_of.result (c.args.t -ℤ c.args.gap) c.requires.normalized c.first_of.ensures.within c.first_of.ensures.value late;
     }
 
 pub returns : goal.returns
@@ -44,5 +44,5 @@ returns c =
     record {
       within = omega (arith, z, c.loop-low.invariant.within);
       before = c.loop-low.invariant.before;
-      after = subst (λ k. AllByRecursion (λ r. (c.args.t -ℤ c.args.gap) ≤ℤ r.end) (drop (start rows k) (joined rows))) z c.loop-low.invariant.after;
+      after = subst (λ k. AllByRecursion (λ r. (c.args.t -ℤ c.args.gap) ≤ℤ r.end) (drop (start rows k) (row_items rows))) z c.loop-low.invariant.after;
     }

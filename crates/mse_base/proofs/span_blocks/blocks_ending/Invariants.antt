@@ -1,14 +1,14 @@
 use Rattle.std.proofs.Common.{◌+◌, ◌-◌, ◌<◌, ◌≤◌, ◌≤ℤ◌, ◌-ℤ◌, ◌<ℤ◌, length, take, drop}
 use Rattle.std.specs.List.{AllByRecursion}
-use Rattle.mse_base.specs.Rows.{joined, start}
+use Rattle.mse_base.specs.Rows.{row_items, start}
 use Rattle.mse_base.proofs.span_blocks.blocks_ending.Given as goal
 
 abbrev pub invariant-loop-low : goal.invariant-loop-low
 invariant-loop-low l = record {
   order : l.low ≤ l.high;
   within : l.high ≤ length l.blocks.items;
-  before : 0 < l.low → AllByRecursion (λ r. r.end <ℤ (l.t -ℤ l.gap)) (take (start l.blocks.items (l.low - 1) + 1) (joined l.blocks.items));
-  after : AllByRecursion (λ r. (l.t -ℤ l.gap) ≤ℤ r.end) (drop (start l.blocks.items l.high) (joined l.blocks.items));
+  before : 0 < l.low → AllByRecursion (λ r. r.end <ℤ (l.t -ℤ l.gap)) (take (start l.blocks.items (l.low - 1) + 1) (row_items l.blocks.items));
+  after : AllByRecursion (λ r. (l.t -ℤ l.gap) ≤ℤ r.end) (drop (start l.blocks.items l.high) (row_items l.blocks.items));
 }
 
 abbrev pub decreases-loop-low : goal.decreases-loop-low

@@ -1,7 +1,7 @@
 use Rattle.std.proofs.Common.{◌≡◌, ◌+◌, ◌≤ℤ◌, ◌-ℤ◌, ◌<ℤ◌, drop, subst, arith}
 use Rattle.std.specs.List.{AllByRecursion}
 use Rattle.std.proofs.lemmas.Int.{ints}
-use Rattle.mse_base.specs.Rows.{joined, start}
+use Rattle.mse_base.specs.Rows.{row_items, start}
 use Rattle.mse_base.proofs.InRows.{filled_row}
 use Rattle.mse_base.proofs.Ending.{below_in, above_in, above_row}
 use Rattle.mse_base.proofs.span_blocks.spans_ending.Goals as goal
@@ -17,9 +17,9 @@ loop-low-init c =
       after = above_row rows c.args.b c.len_at-high.result (c.args.t -ℤ c.args.gap) c.requires.block c.len_at-high.ensures.value c.requires.after;
     }
 
-pub loop-low-preserved-then-ends_before : goal.loop-low-preserved-then-ends_before
-loop-low-preserved-then-ends_before c =
-    let early : c.span_at.result.end <ℤ (c.args.t -ℤ c.args.gap) = grind (arith, ints, c.ends_before.ensures, c.if-ends_before.true) in
+pub loop-low-preserved-then-is_far_before_time : goal.loop-low-preserved-then-is_far_before_time
+loop-low-preserved-then-is_far_before_time c =
+    let early : c.span_at.result.end <ℤ (c.args.t -ℤ c.args.gap) = grind (arith, ints, c.is_far_before_time.ensures, c.if-is_far_before_time.true) in
     record {
       order = omega arith;
       within = c.loop-low.invariant.within;
@@ -29,7 +29,7 @@ loop-low-preserved-then-ends_before c =
 
 pub loop-low-preserved : goal.loop-low-preserved
 loop-low-preserved c =
-    let late : (c.args.t -ℤ c.args.gap) ≤ℤ c.span_at.result.end = grind (arith, ints, c.ends_before.ensures, c.if-ends_before.false) in
+    let late : (c.args.t -ℤ c.args.gap) ≤ℤ c.span_at.result.end = grind (arith, ints, c.is_far_before_time.ensures, c.if-is_far_before_time.false) in
     record {
       order = omega arith;
       within = omega (arith, c.loop-low.invariant.within);
@@ -44,5 +44,5 @@ returns c =
     record {
       within = omega (arith, z, c.loop-low.invariant.within);
       before = c.loop-low.invariant.before;
-      after = subst (λ k. AllByRecursion (λ r. (c.args.t -ℤ c.args.gap) ≤ℤ r.end) (drop (start rows c.args.b + k) (joined rows))) z c.loop-low.invariant.after;
+      after = subst (λ k. AllByRecursion (λ r. (c.args.t -ℤ c.args.gap) ≤ℤ r.end) (drop (start rows c.args.b + k) (row_items rows))) z c.loop-low.invariant.after;
     }

@@ -1,5 +1,5 @@
 use Rattle.std.proofs.Common.{◌∙◌, ◌≡◌, remove, length, ap, arith, vec_capacity}
-use Rattle.mse_base.specs.Rows.{joined, row}
+use Rattle.mse_base.specs.Rows.{row_items, row}
 use Rattle.mse_base.proofs.InRows.{joined_set_remove, joined_one}
 use Rattle.mse_base.proofs.SpreadOut.{spread_take, spread_less}
 use Rattle.mse_base.proofs.span_blocks.SpanBlocks.remove.Goals as goal
@@ -10,7 +10,7 @@ invariant_of-self c = spread_take _ c.take_from.new.blocks.items c.self.inside.l
 pub returns-then-len_at-gt1-clause-spans : goal.returns-then-len_at-gt1-clause-spans
 returns-then-len_at-gt1-clause-spans c =
     let rows = c.self.inside.blocks.items in
-    ap joined c.take_from.ensures.rows ∙ joined_set_remove rows c.place_of-place.result.block c.place_of-place.result.index c.place_of-place.ensures.block c.place_of-place.ensures.index ∙ ap (λ n. remove (joined rows) n) c.place_of-place.ensures.rank ∙ ap (λ w. remove w.spans c.args.i) c.self.view_is
+    ap row_items c.take_from.ensures.rows ∙ joined_set_remove rows c.place_of-place.result.block c.place_of-place.result.index c.place_of-place.ensures.block c.place_of-place.ensures.index ∙ ap (λ n. remove (row_items rows) n) c.place_of-place.ensures.rank ∙ ap (λ w. remove w.spans c.args.i) c.self.view_is
 
 pub invariant_of-self-2 : goal.invariant_of-self-2
 invariant_of-self-2 c =
@@ -22,4 +22,4 @@ returns-clause-spans c =
     let b = c.place_of-place.result.block in
     let i = c.place_of-place.result.index in
     let one : length (row rows b) ≡ 1 = omega (arith, c.len_at.ensures.value, c.place_of-place.ensures.index) in
-    ap joined c.remove-block.ensures.items ∙ joined_one rows b i c.place_of-place.ensures.block one (omega (arith, one, c.place_of-place.ensures.index)) ∙ ap (λ n. remove (joined rows) n) c.place_of-place.ensures.rank ∙ ap (λ w. remove w.spans c.args.i) c.self.view_is
+    ap row_items c.remove-block.ensures.items ∙ joined_one rows b i c.place_of-place.ensures.block one (omega (arith, one, c.place_of-place.ensures.index)) ∙ ap (λ n. remove (row_items rows) n) c.place_of-place.ensures.rank ∙ ap (λ w. remove w.spans c.args.i) c.self.view_is

@@ -1,7 +1,7 @@
 use Rattle.std.proofs.Common.{◌∙◌}
 use Rattle.mse_base.proofs.Compared.{max_is}
 use Rattle.mse_base.proofs.Late.{round_later}
-use Rattle.mse_base.proofs.bridge.extended.Goals as goal
+use Rattle.mse_base.proofs.bridge.longer_span.Goals as goal
 
 pub returns : goal.returns
 returns c =
