@@ -27,7 +27,8 @@ HasEnds at (e ∷ es) = (e.end ≡ (at + length e.piece) % 2 ^ 64) × HasEnds (a
 -- Wherever the ends are counted from: the new ends are right where the old ones were, and `end` is that of all bytes,
 -- which are `total` now.
 abbrev pub HasNewEnds : ℕ → ℕ → List PieceWithEnd → List PieceWithEnd → Type 0
-HasNewEnds end total old new = (at : ℕ) → HasEnds at old → end ≡ (at + total) % 2 ^ 64 → HasEnds at new
+HasNewEnds end total old new =
+    (at : ℕ) → HasEnds at old → end ≡ (at + total) % 2 ^ 64 → HasEnds at new
 
 -- the pieces with bytes behind the last, and their ends, where these bytes end at `end`
 pub record IsWith (bytes : List ℕ) (end : ℕ) (old new : List PieceWithEnd) : Type 0 where

@@ -2,26 +2,26 @@
 use Rattle.std.proofs.Common.{◌≡◌, suc, ◌||◌, List, [], ◌∷◌, ◌++◌, length, map, Option, refl, ap, sym, ◌∙◌}
 use Rattle.std.specs.List.{list_any}
 use Rattle.mse_base.specs.declared.track.Presentation.{Presentation}
-use Rattle.parser_loop.specs.Walk.{StreamKind, holds_end, Extends, leading, leading_by}
+use Rattle.parser_loop.specs.Walk.{StreamKind, has_end_item, AreFrontItems, leading_count, leading_by}
 use Rattle.parser_loop.specs.Items.{Item, InitItem, FrameItem, SegmentEnd, FaultItem, IsPrefix, is_fault, is_frame, latest_after, latest_after_all, leading_frames, with_fault}
 
 -- ---- of a walk that ends at faults
 
-any-ends : {S F : Type 0} (k : StreamKind S (Item F)) → ((item : Item F) → k.ends item ≡ is_fault item) → (items : List (Item F)) → holds_end k items ≡ list_any is_fault items
+any-ends : {S F : Type 0} (k : StreamKind S (Item F)) → ((item : Item F) → k.ends item ≡ is_fault item) → (items : List (Item F)) → has_end_item k items ≡ list_any is_fault items
 any-ends k e [] = refl
-any-ends k e (item ∷ items) = ap (λ b. b || holds_end k items) (e item) ∙ ap (λ b. is_fault item || b) (any-ends k e items)
+any-ends k e (item ∷ items) = ap (λ b. b || has_end_item k items) (e item) ∙ ap (λ b. is_fault item || b) (any-ends k e items)
 
-pub is-prefix : {S F : Type 0} (k : StreamKind S (Item F)) → ((item : Item F) → k.ends item ≡ is_fault item) → (items others : List (Item F)) → Extends k items others → IsPrefix items others
+pub is-prefix : {S F : Type 0} (k : StreamKind S (Item F)) → ((item : Item F) → k.ends item ≡ is_fault item) → (items others : List (Item F)) → AreFrontItems k items others → IsPrefix items others
 is-prefix k e items others x = record { tail = x.tail; is = x.is; ended = λ h. x.ended (any-ends k e items ∙ h) }
 
 -- ---- of a walk that takes coded frames ahead
 
-pub leading-length : {S F : Type 0} (k : StreamKind S (Item F)) → ((item : Item F) → k.runs item ≡ is_frame item) → (items : List (Item F)) → leading k items ≡ length (leading_frames items)
+pub leading-length : {S F : Type 0} (k : StreamKind S (Item F)) → ((item : Item F) → k.runs item ≡ is_frame item) → (items : List (Item F)) → leading_count k items ≡ length (leading_frames items)
 leading-length k e [] = refl
-leading-length k e (InitItem p at ∷ items) = ap (leading_by (leading k items)) (e (InitItem p at))
-leading-length k e (FrameItem f at ∷ items) = ap (leading_by (leading k items)) (e (FrameItem f at)) ∙ ap suc (leading-length k e items)
-leading-length k e (SegmentEnd ∷ items) = ap (leading_by (leading k items)) (e SegmentEnd)
-leading-length k e (FaultItem f at ∷ items) = ap (leading_by (leading k items)) (e (FaultItem f at))
+leading-length k e (InitItem p at ∷ items) = ap (leading_by (leading_count k items)) (e (InitItem p at))
+leading-length k e (FrameItem f at ∷ items) = ap (leading_by (leading_count k items)) (e (FrameItem f at)) ∙ ap suc (leading-length k e items)
+leading-length k e (SegmentEnd ∷ items) = ap (leading_by (leading_count k items)) (e SegmentEnd)
+leading-length k e (FaultItem f at ∷ items) = ap (leading_by (leading_count k items)) (e (FaultItem f at))
 
 -- ---- with other names for the faults
 

@@ -1,10 +1,10 @@
 -- Laws of what is taken ahead.
 use Rattle.std.proofs.Common.{◌≡◌, ℕ, zero, suc, ◌+◌, ◌<◌, ◌≤◌, Bool, true, false, List, [], ◌∷◌, ◌++◌, length, drop, slice_get, Option, Some, None, refl, ap, sym, ◌∙◌, arith}
 use Rattle.std.proofs.lemmas.List.{append_assoc}
-use Rattle.parser_loop.specs.Walk.{Move, Stop, Pass, Give, StreamKind, items_by, items_from, settle_by, settle, after_item, state_at, Shrinks, Follows, IsWalk, Lookahead, stay_at, with_items, lookahead_give, lookahead_by, lookahead_in, lookahead_from, Stands, kept_with, item_of, first_by, first_item, lookahead_after, after_by, after_first, count_after, leading_by, leading}
+use Rattle.parser_loop.specs.Walk.{Move, Stop, Pass, Give, StreamKind, items_by, items_from, settle_by, settled_state, after_item, state_at, IsMoveBelow, IsSameWithMore, IsWalk, Lookahead, stay_at, with_items, lookahead_give, lookahead_by, lookahead_in, lookahead_from, Stands, kept_with, item_of, first_by, first_item, lookahead_after, after_by, after_first, count_after, leading_by, leading_count}
 use Rattle.parser_loop.proofs.Walks.{items-step, settle-step, IsSettled, items-at, state-next, settled-at-state, state-more}
 
-agree-lookahead : {S I : Type 0} (k : StreamKind S I) (s : S) (m : Move S I) (f g : S → Lookahead S I) (n : ℕ) → Shrinks k n m → ((t : S) → k.size t < n → f t ≡ g t) → lookahead_by k s f m ≡ lookahead_by k s g m
+agree-lookahead : {S I : Type 0} (k : StreamKind S I) (s : S) (m : Move S I) (f g : S → Lookahead S I) (n : ℕ) → IsMoveBelow k n m → ((t : S) → k.size t < n → f t ≡ g t) → lookahead_by k s f m ≡ lookahead_by k s g m
 agree-lookahead k s Stop f g n h e = refl
 agree-lookahead k s (Pass t) f g n h e = e t h
 agree-lookahead k s (Give item t) f g n h e = ap (λ r. lookahead_give s item r (k.runs item)) (e t h)
@@ -21,17 +21,17 @@ lookahead-step k w s = agree-lookahead k s (k.move s) (lookahead_in k (k.size s)
 
 -- ---- the lookahead from the settled state is that from the state
 
-lookahead-settle-at : {S I : Type 0} (k : StreamKind S I) (w : IsWalk k) (s : S) (m : Move S I) → k.move s ≡ m → Shrinks k (k.size s) m → ((t : S) → k.size t < k.size s → lookahead_from k (settle k t) ≡ lookahead_from k t) → lookahead_from k (settle_by s (settle k) m) ≡ lookahead_from k s
+lookahead-settle-at : {S I : Type 0} (k : StreamKind S I) (w : IsWalk k) (s : S) (m : Move S I) → k.move s ≡ m → IsMoveBelow k (k.size s) m → ((t : S) → k.size t < k.size s → lookahead_from k (settled_state k t) ≡ lookahead_from k t) → lookahead_from k (settle_by s (settled_state k) m) ≡ lookahead_from k s
 lookahead-settle-at k w s Stop e h f = refl
 lookahead-settle-at k w s (Pass t) e h f = f t h ∙ sym (lookahead-step k w s ∙ ap (lookahead_by k s (lookahead_from k)) e)
 lookahead-settle-at k w s (Give item t) e h f = refl
 
-lookahead-settle-in : {S I : Type 0} (k : StreamKind S I) (w : IsWalk k) (n : ℕ) (s : S) → k.size s < n → lookahead_from k (settle k s) ≡ lookahead_from k s
+lookahead-settle-in : {S I : Type 0} (k : StreamKind S I) (w : IsWalk k) (n : ℕ) (s : S) → k.size s < n → lookahead_from k (settled_state k s) ≡ lookahead_from k s
 lookahead-settle-in k w zero s h = absurd (omega arith)
 lookahead-settle-in k w (suc n) s h = ap (lookahead_from k) (settle-step k w s) ∙ lookahead-settle-at k w s (k.move s) refl (w.shrinks s) (λ t l. lookahead-settle-in k w n t (omega arith))
 
 -- the lookahead from a state on its way to the next item is that from the state before that item
-pub lookahead-settle : {S I : Type 0} (k : StreamKind S I) (w : IsWalk k) (s : S) → lookahead_from k (settle k s) ≡ lookahead_from k s
+pub lookahead-settle : {S I : Type 0} (k : StreamKind S I) (w : IsWalk k) (s : S) → lookahead_from k (settled_state k s) ≡ lookahead_from k s
 lookahead-settle k w s = lookahead-settle-in k w (suc (k.size s)) s (omega arith)
 
 -- ---- a lookahead goes on when bytes come
@@ -50,7 +50,7 @@ lookahead-give-more k s t item c true e q f =
     over-lookahead k s c (with_items (item ∷ []) (lookahead_from k t)) e (q ∙ ap (with_items (item ∷ [])) f ∙ joined-joined (item ∷ []) (lookahead_from k t).items (lookahead_from k (k.more (lookahead_from k t).state c)))
 lookahead-give-more k s t item c false e q f = over-lookahead k s c (stay_at s) e refl
 
-lookahead-more-at : {S I : Type 0} (k : StreamKind S I) (w : IsWalk k) (s : S) (c : List ℕ) (m : Move S I) → k.move s ≡ m → Shrinks k (k.size s) m → Follows k c m (k.move (k.more s c)) → ((t : S) → k.size t < k.size s → IsPiecewise k t c) → IsPiecewise k s c
+lookahead-more-at : {S I : Type 0} (k : StreamKind S I) (w : IsWalk k) (s : S) (c : List ℕ) (m : Move S I) → k.move s ≡ m → IsMoveBelow k (k.size s) m → IsSameWithMore k c m (k.move (k.more s c)) → ((t : S) → k.size t < k.size s → IsPiecewise k t c) → IsPiecewise k s c
 lookahead-more-at k w s c Stop e h q f = over-lookahead k s c (stay_at s) (lookahead-step k w s ∙ ap (lookahead_by k s (lookahead_from k)) e) refl
 lookahead-more-at k w s c (Pass t) e h q f =
     over-lookahead k s c (lookahead_from k t) (lookahead-step k w s ∙ ap (lookahead_by k s (lookahead_from k)) e) (lookahead-step k w (k.more s c) ∙ ap (lookahead_by k (k.more s c) (lookahead_from k)) q ∙ f t h)
@@ -77,7 +77,7 @@ front-give : {S I : Type 0} (k : StreamKind S I) (s t : S) (item : I) (b : Bool)
 front-give k s t item true e q f = over-front k s (with_items (item ∷ []) (lookahead_from k t)) e (q ∙ ap (λ items. item ∷ items) f)
 front-give k s t item false e q f = over-front k s (stay_at s) e refl
 
-front-at : {S I : Type 0} (k : StreamKind S I) (w : IsWalk k) (s : S) (m : Move S I) → k.move s ≡ m → Shrinks k (k.size s) m → ((t : S) → k.size t < k.size s → AreNext k t) → AreNext k s
+front-at : {S I : Type 0} (k : StreamKind S I) (w : IsWalk k) (s : S) (m : Move S I) → k.move s ≡ m → IsMoveBelow k (k.size s) m → ((t : S) → k.size t < k.size s → AreNext k t) → AreNext k s
 front-at k w s Stop e h f = over-front k s (stay_at s) (lookahead-step k w s ∙ ap (lookahead_by k s (lookahead_from k)) e) refl
 front-at k w s (Pass t) e h f = over-front k s (lookahead_from k t) (lookahead-step k w s ∙ ap (lookahead_by k s (lookahead_from k)) e) (items-step k w s ∙ ap (items_by (items_from k)) e ∙ f t h)
 front-at k w s (Give item t) e h f = front-give k s t item (k.runs item) (lookahead-step k w s ∙ ap (lookahead_by k s (lookahead_from k)) e) (items-step k w s ∙ ap (items_by (items_from k)) e) (f t h)
@@ -99,25 +99,25 @@ IsRested k (Pass t) = ⊥
 IsRested k (Give item t) = k.runs item ≡ false
 
 -- a fact that a lookahead keeps
-abbrev pub Keeps : {S I : Type 0} → StreamKind S I → (S → Type 0) → Move S I → Type 0
-Keeps k P Stop = Unit {0}
-Keeps k P (Pass t) = P t
-Keeps k P (Give item t) = k.runs item ≡ true → P t
+abbrev pub IsKeptByLookahead : {S I : Type 0} → StreamKind S I → (S → Type 0) → Move S I → Type 0
+IsKeptByLookahead k P Stop = Unit {0}
+IsKeptByLookahead k P (Pass t) = P t
+IsKeptByLookahead k P (Give item t) = k.runs item ≡ true → P t
 
-abbrev All : {S I : Type 0} → StreamKind S I → List I → Type 0
-All k [] = Unit {0}
-All k (item ∷ items) = (k.runs item ≡ true) × All k items
+abbrev AreTakenAhead : {S I : Type 0} → StreamKind S I → List I → Type 0
+AreTakenAhead k [] = Unit {0}
+AreTakenAhead k (item ∷ items) = (k.runs item ≡ true) × AreTakenAhead k items
 
 -- a lookahead stops only before what may not be taken ahead, and holds only what may
 pub record IsLookahead {S I : Type 0} (k : StreamKind S I) (r : Lookahead S I) : Type 0 where
   pub rested : IsRested k (k.move r.state)
-  pub all : All k r.items
+  pub all : AreTakenAhead k r.items
 
 is_lookahead-give : {S I : Type 0} (k : StreamKind S I) (s t : S) (item : I) (b : Bool) → k.runs item ≡ b → k.move s ≡ Give item t → IsLookahead k (lookahead_from k t) → IsLookahead k (lookahead_give s item (lookahead_from k t) b)
 is_lookahead-give k s t item true q e f = record { rested = f.rested; all = (q, f.all) }
 is_lookahead-give k s t item false q e f = record { rested = rw e q; all = tt }
 
-is_lookahead-at : {S I : Type 0} (k : StreamKind S I) (w : IsWalk k) (s : S) (m : Move S I) → k.move s ≡ m → Shrinks k (k.size s) m → ((t : S) → k.size t < k.size s → IsLookahead k (lookahead_from k t)) → IsLookahead k (lookahead_by k s (lookahead_from k) m)
+is_lookahead-at : {S I : Type 0} (k : StreamKind S I) (w : IsWalk k) (s : S) (m : Move S I) → k.move s ≡ m → IsMoveBelow k (k.size s) m → ((t : S) → k.size t < k.size s → IsLookahead k (lookahead_from k t)) → IsLookahead k (lookahead_by k s (lookahead_from k) m)
 is_lookahead-at k w s Stop e h f = record { rested = rw e tt; all = tt }
 is_lookahead-at k w s (Pass t) e h f = f t h
 is_lookahead-at k w s (Give item t) e h f = is_lookahead-give k s t item (k.runs item) refl e (f t h)
@@ -143,17 +143,17 @@ keeps-give : {S I : Type 0} (k : StreamKind S I) (P : S → Type 0) (s t : S) (i
 keeps-give k P s t item true q p f = f refl
 keeps-give k P s t item false q p f = p
 
-keeps-at : {S I : Type 0} (k : StreamKind S I) (w : IsWalk k) (P : S → Type 0) (s : S) (m : Move S I) → Keeps k P m → P s → Shrinks k (k.size s) m → ((t : S) → k.size t < k.size s → P t → P (lookahead_from k t).state) → P (lookahead_by k s (lookahead_from k) m).state
+keeps-at : {S I : Type 0} (k : StreamKind S I) (w : IsWalk k) (P : S → Type 0) (s : S) (m : Move S I) → IsKeptByLookahead k P m → P s → IsMoveBelow k (k.size s) m → ((t : S) → k.size t < k.size s → P t → P (lookahead_from k t).state) → P (lookahead_by k s (lookahead_from k) m).state
 keeps-at k w P s Stop q p h f = p
 keeps-at k w P s (Pass t) q p h f = f t h q
 keeps-at k w P s (Give item t) q p h f = keeps-give k P s t item (k.runs item) refl p (λ e. f t h (q e))
 
-keeps-in : {S I : Type 0} (k : StreamKind S I) (w : IsWalk k) (P : S → Type 0) (g : (s : S) → P s → Keeps k P (k.move s)) (n : ℕ) (s : S) → k.size s < n → P s → P (lookahead_from k s).state
+keeps-in : {S I : Type 0} (k : StreamKind S I) (w : IsWalk k) (P : S → Type 0) (g : (s : S) → P s → IsKeptByLookahead k P (k.move s)) (n : ℕ) (s : S) → k.size s < n → P s → P (lookahead_from k s).state
 keeps-in k w P g zero s h p = absurd (omega arith)
 keeps-in k w P g (suc n) s h p = rw (lookahead-step k w s) (keeps-at k w P s (k.move s) (g s p) p (w.shrinks s) (λ t l q. keeps-in k w P g n t (omega arith) q))
 
 -- a fact that each pass and each item taken ahead keeps holds of the state behind a lookahead
-pub keeps : {S I : Type 0} (k : StreamKind S I) (w : IsWalk k) (P : S → Type 0) → ((s : S) → P s → Keeps k P (k.move s)) → (s : S) → P s → P (lookahead_from k s).state
+pub keeps : {S I : Type 0} (k : StreamKind S I) (w : IsWalk k) (P : S → Type 0) → ((s : S) → P s → IsKeptByLookahead k P (k.move s)) → (s : S) → P s → P (lookahead_from k s).state
 keeps k w P g s p = keeps-in k w P g (suc (k.size s)) s (omega arith) p
 
 -- ---- what is kept stands for a string
@@ -204,26 +204,26 @@ pub stands-look : {S I : Type 0} (k : StreamKind S I) (w : IsWalk k) (kept : Loo
 stands-look k w kept s n i l h =
     sym (sym (at-drop (items_from k s) n i) ∙ ap (λ xs. slice_get xs i) (stands-items k w kept s n h) ∙ get-front kept.items (items_from k kept.state) i l)
 
-lead-rested : {S I : Type 0} (k : StreamKind S I) (w : IsWalk k) (s : S) (m : Move S I) → k.move s ≡ m → IsRested k m → leading k (items_from k s) ≡ 0
-lead-rested k w s Stop e h = ap (leading k) (items-step k w s ∙ ap (items_by (items_from k)) e)
+lead-rested : {S I : Type 0} (k : StreamKind S I) (w : IsWalk k) (s : S) (m : Move S I) → k.move s ≡ m → IsRested k m → leading_count k (items_from k s) ≡ 0
+lead-rested k w s Stop e h = ap (leading_count k) (items-step k w s ∙ ap (items_by (items_from k)) e)
 lead-rested k w s (Pass t) e h = absurd h
-lead-rested k w s (Give item t) e h = ap (leading k) (items-step k w s ∙ ap (items_by (items_from k)) e) ∙ ap (leading_by (leading k (items_from k t))) h
+lead-rested k w s (Give item t) e h = ap (leading_count k) (items-step k w s ∙ ap (items_by (items_from k)) e) ∙ ap (leading_by (leading_count k (items_from k t))) h
 
-lead-all : {S I : Type 0} (k : StreamKind S I) (items others : List I) → All k items → leading k others ≡ 0 → leading k (items ++ others) ≡ length items
+lead-all : {S I : Type 0} (k : StreamKind S I) (items others : List I) → AreTakenAhead k items → leading_count k others ≡ 0 → leading_count k (items ++ others) ≡ length items
 lead-all k [] others a e = e
-lead-all k (x ∷ items) others a e = ap (leading_by (leading k (items ++ others))) a.0 ∙ ap suc (lead-all k items others a.1 e)
+lead-all k (x ∷ items) others a e = ap (leading_by (leading_count k (items ++ others))) a.0 ∙ ap suc (lead-all k items others a.1 e)
 
 -- as many items were taken ahead as stand before the first that may not be
-pub stands-ready : {S I : Type 0} (k : StreamKind S I) (w : IsWalk k) (kept : Lookahead S I) (s : S) (n : ℕ) → Stands k kept s n → length kept.items ≡ leading k (drop n (items_from k s))
+pub stands-ready : {S I : Type 0} (k : StreamKind S I) (w : IsWalk k) (kept : Lookahead S I) (s : S) (n : ℕ) → Stands k kept s n → length kept.items ≡ leading_count k (drop n (items_from k s))
 stands-ready k w kept s n h =
     let r = kept-rested k w kept (state_at k n s) h.is in
-    sym (ap (leading k) (stands-items k w kept s n h) ∙ lead-all k kept.items (items_from k kept.state) r.all (lead-rested k w kept.state (k.move kept.state) refl r.rested))
+    sym (ap (leading_count k) (stands-items k w kept s n h) ∙ lead-all k kept.items (items_from k kept.state) r.all (lead-rested k w kept.state (k.move kept.state) refl r.rested))
 
 -- the next item is taken
-abbrev Next : {S I : Type 0} → StreamKind S I → S → S → ℕ → Type 0
-Next k t s n = lookahead_from k (after_item t (k.move t)) ≡ lookahead_from k (state_at k (suc n) s)
+abbrev IsNextTaken : {S I : Type 0} → StreamKind S I → S → S → ℕ → Type 0
+IsNextTaken k t s n = lookahead_from k (after_item t (k.move t)) ≡ lookahead_from k (state_at k (suc n) s)
 
-next-state : {S I : Type 0} (k : StreamKind S I) (w : IsWalk k) (n : ℕ) (s : S) → Next k (state_at k n s) s n
+next-state : {S I : Type 0} (k : StreamKind S I) (w : IsWalk k) (n : ℕ) (s : S) → IsNextTaken k (state_at k n s) s n
 next-state k w n s = sym (ap (lookahead_from k) (state-next k n s) ∙ lookahead-settle k w (after_item (state_at k n s) (k.move (state_at k n s))))
 
 -- what is kept after an item, from a settled state
@@ -246,8 +246,8 @@ none-after k w [] s (Pass t) e h q = absurd h
 none-after k w [] s (Give item t) e h q = cc
 none-after k w (x ∷ items) s m e h q = cc
 
-abbrev After : {S I : Type 0} → StreamKind S I → Lookahead S I → S → ℕ → Option I → Type 0
-After k kept s n o = Stands k (after_first k kept) s (count_after n o)
+abbrev IsFirstTaken : {S I : Type 0} → StreamKind S I → Lookahead S I → S → ℕ → Option I → Type 0
+IsFirstTaken k kept s n o = Stands k (after_first k kept) s (count_after n o)
 
 some-not : {X : Type 0} (x : X) (o : Option X) → o ≡ Some x → o ≡ None → ⊥
 some-not x o e f = cc
@@ -257,7 +257,7 @@ get-length [] n x e = absurd (cc)
 get-length (y ∷ xs) zero x e = omega arith
 get-length (y ∷ xs) (suc n) x e = let h = get-length xs n x e in omega arith
 
-after-by-option : {S I : Type 0} (k : StreamKind S I) (w : IsWalk k) (kept : Lookahead S I) (s : S) (n : ℕ) (o : Option I) → first_item k kept ≡ o → Stands k kept s n → After k kept s n o
+after-by-option : {S I : Type 0} (k : StreamKind S I) (w : IsWalk k) (kept : Lookahead S I) (s : S) (n : ℕ) (o : Option I) → first_item k kept ≡ o → Stands k kept s n → IsFirstTaken k kept s n o
 after-by-option {S = S} k w kept s n None e h =
     let r = kept-rested k w kept (state_at k n s) h.is in
     rw (none-after k w kept.items kept.state (k.move kept.state) refl r.rested e) h

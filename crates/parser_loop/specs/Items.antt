@@ -16,12 +16,12 @@ pub data Item (F : Type 0) : Type 0 where
   FaultItem : F → ℕ → Item F
 
 -- the item that an answer gives, if it gives one
-abbrev pub seen : {F : Type 0} → Next F → Option (Item F)
-seen (next.Init p offset) = Some (InitItem p offset)
-seen (next.Frame frame offset) = Some (FrameItem frame offset)
-seen next.SegmentEnd = Some SegmentEnd
-seen (next.Fault f offset) = Some (FaultItem f offset)
-seen next.Dry = None
+abbrev pub answer_item : {F : Type 0} → Next F → Option (Item F)
+answer_item (next.Init p offset) = Some (InitItem p offset)
+answer_item (next.Frame frame offset) = Some (FrameItem frame offset)
+answer_item next.SegmentEnd = Some SegmentEnd
+answer_item (next.Fault f offset) = Some (FaultItem f offset)
+answer_item next.Dry = None
 
 abbrev pub is_fault : {F : Type 0} → Item F → Bool
 is_fault (InitItem p offset) = false

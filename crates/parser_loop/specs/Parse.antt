@@ -55,26 +55,26 @@ abbrev pub IsTrue : {X : Type 0} → (X → Bool) → X → Type 0
 IsTrue test x = test x ≡ true
 
 -- P holds of the state that a move leads to, and Q of the item that it gives
-abbrev pub Keeps : {S I : Type 0} → (S → Type 0) → (I → Type 0) → Move S I → Type 0
-Keeps P Q Stop = Unit {0}
-Keeps P Q (Pass t) = P t
-Keeps P Q (Give item t) = Q item × P t
+abbrev pub IfMoved : {S I : Type 0} → (S → Type 0) → (I → Type 0) → Move S I → Type 0
+IfMoved P Q Stop = Unit {0}
+IfMoved P Q (Pass t) = P t
+IfMoved P Q (Give item t) = Q item × P t
 
 -- behind an item of which Q holds no move can be made
-abbrev pub Halts : {S I : Type 0} → StreamKind S I → (I → Type 0) → Move S I → Type 0
-Halts k Q Stop = Unit {0}
-Halts k Q (Pass t) = Unit {0}
-Halts k Q (Give item t) = Q item → k.move t ≡ Stop
+abbrev pub IsHaltBehind : {S I : Type 0} → StreamKind S I → (I → Type 0) → Move S I → Type 0
+IsHaltBehind k Q Stop = Unit {0}
+IsHaltBehind k Q (Pass t) = Unit {0}
+IsHaltBehind k Q (Give item t) = Q item → k.move t ≡ Stop
 
 -- a move leaves of the bytes, if it does not leave all, the end
-abbrev pub Drops : {S I : Type 0} → (S → List ℕ) → List ℕ → Move S I → Type 0
-Drops bytes from Stop = Unit {0}
-Drops bytes from (Pass t) = IsSuffix (bytes t) from
-Drops bytes from (Give item t) = IsSuffix (bytes t) from
+abbrev pub IsSuffixLeft : {S I : Type 0} → (S → List ℕ) → List ℕ → Move S I → Type 0
+IsSuffixLeft bytes from Stop = Unit {0}
+IsSuffixLeft bytes from (Pass t) = IsSuffix (bytes t) from
+IsSuffixLeft bytes from (Give item t) = IsSuffix (bytes t) from
 
 -- a move changes the latest presentation as its item says
-abbrev pub Remembers : {S F : Type 0} → (S → Option Presentation) → Option Presentation
+abbrev pub IsLatestAfterMove : {S F : Type 0} → (S → Option Presentation) → Option Presentation
     → Move S (Item F) → Type 0
-Remembers latest last Stop = Unit {0}
-Remembers latest last (Pass t) = latest t ≡ last
-Remembers latest last (Give item t) = latest t ≡ latest_after last item
+IsLatestAfterMove latest last Stop = Unit {0}
+IsLatestAfterMove latest last (Pass t) = latest t ≡ last
+IsLatestAfterMove latest last (Give item t) = latest t ≡ latest_after last item

@@ -47,8 +47,8 @@ settle_in k zero s = s
 settle_in k (suc n) s = settle_by s (settle_in k n) (k.move s)
 
 -- the state just before the next item, or at the end of the walk where there is none
-unfoldable pub settle : {S I : Type 0} → StreamKind S I → S → S
-settle k s = settle_in k (suc (k.size s)) s
+unfoldable pub settled_state : {S I : Type 0} → StreamKind S I → S → S
+settled_state k s = settle_in k (suc (k.size s)) s
 
 -- the state behind the item of a move
 abbrev pub after_item : {S I : Type 0} → S → Move S I → S
@@ -58,39 +58,40 @@ after_item s (Give item t) = t
 
 -- the state just before item n, counted from 0, or at the end of the walk where there is none
 abbrev pub state_at : {S I : Type 0} → StreamKind S I → ℕ → S → S
-state_at k zero s = settle k s
-state_at k (suc n) s = state_at k n (after_item (settle k s) (k.move (settle k s)))
+state_at k zero s = settled_state k s
+state_at k (suc n) s = state_at k n (after_item (settled_state k s) (k.move (settled_state k s)))
 
 -- ---- what makes a kind a walk
 
 -- a move leads to a state of a smaller size
-abbrev pub Shrinks : {S I : Type 0} → StreamKind S I → ℕ → Move S I → Type 0
-Shrinks k n Stop = Unit {0}
-Shrinks k n (Pass t) = k.size t < n
-Shrinks k n (Give item t) = k.size t < n
+abbrev pub IsMoveBelow : {S I : Type 0} → StreamKind S I → ℕ → Move S I → Type 0
+IsMoveBelow k n Stop = Unit {0}
+IsMoveBelow k n (Pass t) = k.size t < n
+IsMoveBelow k n (Give item t) = k.size t < n
 
 -- a move that could be made is the same with more bytes; behind an item that ends the walk no byte is looked at
-abbrev pub Follows : {S I : Type 0} → StreamKind S I → List ℕ → Move S I → Move S I → Type 0
-Follows k c Stop m = Unit {0}
-Follows k c (Pass t) m = m ≡ Pass (k.more t c)
-Follows k c (Give item t) m = (m ≡ Give item (k.more t c)) × (k.ends item ≡ true → k.more t c ≡ t)
+abbrev pub IsSameWithMore : {S I : Type 0} → StreamKind S I → List ℕ → Move S I → Move S I → Type 0
+IsSameWithMore k c Stop m = Unit {0}
+IsSameWithMore k c (Pass t) m = m ≡ Pass (k.more t c)
+IsSameWithMore k c (Give item t) m =
+    (m ≡ Give item (k.more t c)) × (k.ends item ≡ true → k.more t c ≡ t)
 
 pub record IsWalk {S I : Type 0} (k : StreamKind S I) : Type 0 where
-  pub shrinks : (s : S) → Shrinks k (k.size s) (k.move s)
-  pub follows : (s : S) (c : List ℕ) → Follows k c (k.move s) (k.move (k.more s c))
+  pub shrinks : (s : S) → IsMoveBelow k (k.size s) (k.move s)
+  pub follows : (s : S) (c : List ℕ) → IsSameWithMore k c (k.move s) (k.move (k.more s c))
 
 -- ---- more bytes
 
 -- one of the items ends the walk
-abbrev pub holds_end : {S I : Type 0} → StreamKind S I → List I → Bool
-holds_end k [] = false
-holds_end k (item ∷ items) = k.ends item || holds_end k items
+abbrev pub has_end_item : {S I : Type 0} → StreamKind S I → List I → Bool
+has_end_item k [] = false
+has_end_item k (item ∷ items) = k.ends item || has_end_item k items
 
 -- the items are the front of the others, and all of them where one of them ends the walk
-pub record Extends {S I : Type 0} (k : StreamKind S I) (items others : List I) : Type 0 where
+pub record AreFrontItems {S I : Type 0} (k : StreamKind S I) (items others : List I) : Type 0 where
   pub tail : List I
   pub is : others ≡ items ++ tail
-  pub ended : holds_end k items ≡ true → others ≡ items
+  pub ended : has_end_item k items ≡ true → others ≡ items
 
 -- the state where these pieces have come one after the other
 abbrev pub more_all : {S I : Type 0} → StreamKind S I → S → List (List ℕ) → S
@@ -116,7 +117,8 @@ abbrev pub lookahead_give : {S I : Type 0} → S → I → Lookahead S I → Boo
 lookahead_give s item r true = with_items (item ∷ []) r
 lookahead_give s item r false = stay_at s
 
-abbrev pub lookahead_by : {S I : Type 0} → StreamKind S I → S → (S → Lookahead S I) → Move S I → Lookahead S I
+abbrev pub lookahead_by : {S I : Type 0} → StreamKind S I → S → (S → Lookahead S I) → Move S I
+    → Lookahead S I
 lookahead_by k s go Stop = stay_at s
 lookahead_by k s go (Pass t) = go t
 lookahead_by k s go (Give item t) = lookahead_give s item (go t) (k.runs item)
@@ -131,7 +133,8 @@ lookahead_from k s = lookahead_in k (suc (k.size s)) s
 
 -- What is kept stands for the walk from s on, of whose items n were asked for: it is all that can be taken ahead
 -- from the state at item n on. Many strings may lead to one thing kept; each law holds for all of them.
-pub record Stands {S I : Type 0} (k : StreamKind S I) (kept : Lookahead S I) (s : S) (n : ℕ) : Type 0 where
+pub record Stands {S I : Type 0} (k : StreamKind S I) (kept : Lookahead S I) (s : S)
+    (n : ℕ) : Type 0 where
   pub taken : n ≤ length (items_from k s)
   pub is : kept ≡ lookahead_from k (state_at k n s)
 
@@ -140,7 +143,8 @@ abbrev pub kept_with : {S I : Type 0} → StreamKind S I → Lookahead S I → L
 kept_with k kept c = with_items kept.items (lookahead_from k (k.more kept.state c))
 
 -- what is kept where these pieces have come one after the other
-abbrev pub kept_with_all : {S I : Type 0} → StreamKind S I → Lookahead S I → List (List ℕ) → Lookahead S I
+abbrev pub kept_with_all : {S I : Type 0} → StreamKind S I → Lookahead S I → List (List ℕ)
+    → Lookahead S I
 kept_with_all k kept [] = kept
 kept_with_all k kept (c ∷ cs) = kept_with_all k (kept_with k kept c) cs
 
@@ -180,6 +184,6 @@ leading_by n true = suc n
 leading_by n false = 0
 
 -- how many items stand before the first that may not be taken ahead
-abbrev pub leading : {S I : Type 0} → StreamKind S I → List I → ℕ
-leading k [] = 0
-leading k (item ∷ items) = leading_by (leading k items) (k.runs item)
+abbrev pub leading_count : {S I : Type 0} → StreamKind S I → List I → ℕ
+leading_count k [] = 0
+leading_count k (item ∷ items) = leading_by (leading_count k items) (k.runs item)

@@ -2,7 +2,7 @@ ghost use Rattle.std.specs.Prelude.{◌≡◌, [], ◌∷◌, Option, Some, None
 ghost use lib.Chars.{codes};
 ghost use Rattle.mse_base.specs.declared.frame.CodedFrame.{CodedFrame};
 ghost use Rattle.mse_base.specs.declared.track.Presentation.{Presentation};
-ghost use Rattle.parser_loop.specs.Items.{Item, InitItem, FrameItem, SegmentEnd, FaultItem, latest_after_all, leading_frames, seen, with_fault};
+ghost use Rattle.parser_loop.specs.Items.{Item, InitItem, FrameItem, SegmentEnd, FaultItem, latest_after_all, leading_frames, answer_item, with_fault};
 ghost use Rattle.parser_loop.specs.Parse.{NoItem, ItemThen, parse_from, seen_before, items_of};
 ghost use Rattle.parser_loop.specs.declared.next.Next.TheVariants as next;
 ghost use Rattle.parser_loop.specs.StringReadings.{after_answer, after_reset, string_from, with_bytes};
@@ -43,8 +43,8 @@ pub fn item_example_law<F>()
         seen_before 1 (ItemThen a x (ItemThen b y (NoItem c))) ≡ b }
     ensures end { (a b c : F) (x y : CodedFrame) →
         seen_before 3 (ItemThen a x (ItemThen b y (NoItem c))) ≡ c }
-    ensures answer { (f : F) → seen (next.Fault f 4) ≡ Some (FaultItem f 4) }
-    ensures dry { seen {F = F} next.Dry ≡ None }
+    ensures answer { (f : F) → answer_item (next.Fault f 4) ≡ Some (FaultItem f 4) }
+    ensures dry { answer_item {F = F} next.Dry ≡ None }
 {}
 
 /// What the definitions give for a string that comes in two pieces, of whose items one was given, and for a reset

@@ -1,13 +1,13 @@
 ghost use Rattle.std.specs.Prelude.{◌≡◌, suc, ◌+◌, ◌<◌, ◌≤◌, ◌++◌, ℕ, List, Bool, true, Option, Some, length, take, drop, slice_get};
 ghost use Rattle.mse_base.specs.declared.track.Presentation.{Presentation};
 ghost use Rattle.parser_loop.specs.Items.{Item, IsPrefix, latest_after_all, leading_frames, is_fault, is_frame};
-ghost use Rattle.parser_loop.specs.Parse.{items_of, seen_before, parse_from, IsTrue, Keeps, Halts, Drops, IsSuffix, Remembers};
-ghost use Rattle.parser_loop.specs.Walk.{StreamKind, IsWalk, Extends, Lookahead, Stands, items_from, settle, state_at, more_all, lookahead_from, kept_with, kept_with_all, first_item, after_first, count_after, leading};
+ghost use Rattle.parser_loop.specs.Parse.{items_of, seen_before, parse_from, IsTrue, IfMoved, IsHaltBehind, IsSuffixLeft, IsSuffix, IsLatestAfterMove};
+ghost use Rattle.parser_loop.specs.Walk.{StreamKind, IsWalk, AreFrontItems, Lookahead, Stands, items_from, settled_state, state_at, more_all, lookahead_from, kept_with, kept_with_all, first_item, after_first, count_after, leading_count};
 
 /// With more bytes the items begin with those that were there, and none follow one that ends the walk.
 pub fn prefix_law<S, I>()
     ensures { (k : StreamKind S I) → IsWalk k → (s : S) (c : List ℕ) →
-        Extends k (items_from k s) (items_from k (k.more s c)) }
+        AreFrontItems k (items_from k s) (items_from k (k.more s c)) }
 {}
 
 /// With more bytes the state before an item that is there is the one before, with more bytes, after the moves that
@@ -15,7 +15,7 @@ pub fn prefix_law<S, I>()
 pub fn state_law<S, I>()
     ensures { (k : StreamKind S I) → IsWalk k → (n : ℕ) (s : S) (c : List ℕ) →
         n ≤ length (items_from k s) →
-        state_at k n (k.more s c) ≡ settle k (k.more (state_at k n s) c) }
+        state_at k n (k.more s c) ≡ settled_state k (k.more (state_at k n s) c) }
 {}
 
 /// From the state before item `n` on the items are those from `n` on.
@@ -49,7 +49,7 @@ pub fn kept_law<S, I>()
         i < length kept.items → Stands k kept s n →
         slice_get kept.items i ≡ slice_get (items_from k s) (n + i) }
     ensures ready { (k : StreamKind S I) → IsWalk k → (kept : Lookahead S I) (s : S) (n : ℕ) →
-        Stands k kept s n → length kept.items ≡ leading k (drop n (items_from k s)) }
+        Stands k kept s n → length kept.items ≡ leading_count k (drop n (items_from k s)) }
 {}
 
 /// The parse that a walk makes has its items, and shows before each what is seen of its state.
@@ -63,18 +63,18 @@ pub fn parse_law<S, V, I>()
 /// What all moves keep holds of each item, and of the state before each.
 pub fn invariant_law<S, I>()
     ensures items { (k : StreamKind S I) (p : S → Bool) (q : I → Bool) → IsWalk k →
-        ((s : S) → p s ≡ true → Keeps (IsTrue p) (IsTrue q) (k.move s)) →
+        ((s : S) → p s ≡ true → IfMoved (IsTrue p) (IsTrue q) (k.move s)) →
         (s : S) (n : ℕ) (item : I) → p s ≡ true →
         slice_get (items_from k s) n ≡ Some item → q item ≡ true }
     ensures states { (k : StreamKind S I) (p : S → Bool) (q : I → Bool) → IsWalk k →
-        ((s : S) → p s ≡ true → Keeps (IsTrue p) (IsTrue q) (k.move s)) →
+        ((s : S) → p s ≡ true → IfMoved (IsTrue p) (IsTrue q) (k.move s)) →
         (s : S) (n : ℕ) → p s ≡ true → p (state_at k n s) ≡ true }
 {}
 
 /// An item behind which the walk halts is the last one.
 pub fn last_law<S, I>()
     ensures { (k : StreamKind S I) (q : I → Bool) → IsWalk k →
-        ((s : S) → Halts k (IsTrue q) (k.move s)) →
+        ((s : S) → IsHaltBehind k (IsTrue q) (k.move s)) →
         (s : S) (n : ℕ) (item : I) → slice_get (items_from k s) n ≡ Some item → q item ≡ true →
         suc n ≡ length (items_from k s) }
 {}
@@ -82,7 +82,7 @@ pub fn last_law<S, I>()
 /// Where each move leaves an end of the bytes that are kept, what is kept before an item is an end of the string.
 pub fn suffix_law<S, I>()
     ensures { (k : StreamKind S I) (bytes : S → List ℕ) → IsWalk k →
-        ((s : S) → Drops bytes (bytes s) (k.move s)) →
+        ((s : S) → IsSuffixLeft bytes (bytes s) (k.move s)) →
         (s : S) (n : ℕ) → IsSuffix (bytes (state_at k n s)) (bytes s) }
 {}
 
@@ -90,7 +90,7 @@ pub fn suffix_law<S, I>()
 /// last initialization segment among the items before it, or that of the start.
 pub fn latest_law<S, F>()
     ensures { (k : StreamKind S (Item F)) (latest : S → Option Presentation) → IsWalk k →
-        ((s : S) → Remembers latest (latest s) (k.move s)) →
+        ((s : S) → IsLatestAfterMove latest (latest s) (k.move s)) →
         (s : S) (n : ℕ) →
         latest (state_at k n s) ≡ latest_after_all (latest s) (take n (items_from k s)) }
 {}
@@ -102,5 +102,5 @@ pub fn item_law<S, F>()
         ((item : Item F) → k.ends item ≡ is_fault item) → (s : S) (c : List ℕ) →
         IsPrefix (items_from k s) (items_from k (k.more s c)) }
     ensures ahead { (k : StreamKind S (Item F)) → ((item : Item F) → k.runs item ≡ is_frame item) →
-        (items : List (Item F)) → leading k items ≡ length (leading_frames items) }
+        (items : List (Item F)) → leading_count k items ≡ length (leading_frames items) }
 {}

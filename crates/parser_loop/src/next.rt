@@ -1,6 +1,6 @@
 ghost use Rattle.std.specs.Prelude.{◌≡◌};
 ghost use Rattle.std.specs.Option.{option_map};
-ghost use Rattle.parser_loop.specs.Items.{seen, with_fault};
+ghost use Rattle.parser_loop.specs.Items.{answer_item, with_fault};
 
 use mse_base::{CodedFrame, Presentation};
 
@@ -25,7 +25,7 @@ impl<F> Next<F> {
     pub fn with_fault<G, N: FnOnce(F) -> G>(self, name: N) -> Next<G>
         requires { N.IsAlwaysCallable name }
         ensures { (g : F → G) → ((f : F) (named : G) → N.post name f named → named ≡ g f) →
-            seen result ≡ option_map (with_fault g) (seen self) }
+            answer_item result ≡ option_map (with_fault g) (answer_item self) }
     {
         match self {
             Next::Init(presentation, offset) => Next::Init(presentation, offset),

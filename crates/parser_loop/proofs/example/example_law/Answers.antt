@@ -1,5 +1,5 @@
 use Rattle.std.proofs.Common.{refl}
-use Rattle.parser_loop.specs.Walk.{items_from, settle, lookahead_from}
+use Rattle.parser_loop.specs.Walk.{items_from, settled_state, lookahead_from}
 use Rattle.parser_loop.specs.Parse.{parse_from}
 use Rattle.parser_loop.proofs.example.example_law.Goals as goal
 
@@ -16,7 +16,7 @@ unfolding parse_from
 returns-clause-parse c = refl
 
 pub returns-clause-state : goal.returns-clause-state
-unfolding settle
+unfolding settled_state
 returns-clause-state c = refl
 
 pub returns-clause-ahead : goal.returns-clause-ahead
