@@ -9,24 +9,24 @@ use Rattle.bmff_boxes.specs.Children.{ChildView, Box, NoBytes, NoBox, whole_box,
 use Rattle.bmff_boxes.proofs.HeaderLaws.{header-room}
 
 -- a step over a box takes its payload and eight bytes at least
-abbrev pub Falls : ℕ → ChildView × List ℕ → Type 0
-Falls n (Box kind payload, rest) = length payload + 8 + length rest ≤ n
-Falls n (NoBytes, rest) = Unit {0}
-Falls n (NoBox, rest) = Unit {0}
+abbrev pub IsChildWithin : ℕ → ChildView × List ℕ → Type 0
+IsChildWithin n (Box kind payload, rest) = length payload + 8 + length rest ≤ n
+IsChildWithin n (NoBytes, rest) = Unit {0}
+IsChildWithin n (NoBox, rest) = Unit {0}
 
-falls-by : (b : List ℕ) (kind : List ℕ) (start len : ℕ) (few : Bool) → ltb (length b) len ≡ few → 8 ≤ start → start ≤ len → Falls (length b) (cond few (NoBox, b) (Box kind (drop start (take len b)), drop len b))
+falls-by : (b : List ℕ) (kind : List ℕ) (start len : ℕ) (few : Bool) → ltb (length b) len ≡ few → 8 ≤ start → start ≤ len → IsChildWithin (length b) (cond few (NoBox, b) (Box kind (drop start (take len b)), drop len b))
 falls-by b kind start len true e h k = tt
 falls-by b kind start len false e h k =
     let l : len ≤ length b = grind (arith, nat_tests) in
     omega (arith, length-drop len b, length-drop start (take len b), length-take-le len b l)
 
-falls-at : (b : List ℕ) (h : Header) → IsHeaderWithin (length b) h → Falls (length b) (whole_box b h)
+falls-at : (b : List ℕ) (h : Header) → IsHeaderWithin (length b) h → IsChildWithin (length b) (whole_box b h)
 falls-at b head.Short r = tt
 falls-at b (head.Bad f) r = tt
 falls-at b (head.Whole kind start len) r = falls-by b kind start len (ltb (length b) len) refl r.0 r.1
 
 -- what a step takes of the bytes
-pub child-falls : (b : List ℕ) → Falls (length b) (child_of b)
+pub child-falls : (b : List ℕ) → IsChildWithin (length b) (child_of b)
 unfolding child_of
 child-falls [] = tt
 child-falls (x ∷ b) = falls-at (x ∷ b) (header_of (x ∷ b)) (header-room (x ∷ b))

@@ -3,12 +3,12 @@ use Rattle.std.proofs.Common.{◌≡◌, Option, Some, None, Result, Ok, Err, Bo
 use Rattle.bmff_boxes.specs.Reading.{◌>>=◌, need, check}
 
 -- what was read on the way to what came of it
-pub record Through {A B F : Type 0} (r : Result A F) (next : A → Result B F) (y : B) : Type 0 where
+pub record IsOkThrough {A B F : Type 0} (r : Result A F) (next : A → Result B F) (y : B) : Type 0 where
   pub value : A
   pub was : r ≡ Ok value
   pub then : next value ≡ Ok y
 
-pub through : {A B F : Type 0} (r : Result A F) (next : A → Result B F) (y : B) → (r >>= next) ≡ Ok y → Through r next y
+pub through : {A B F : Type 0} (r : Result A F) (next : A → Result B F) (y : B) → (r >>= next) ≡ Ok y → IsOkThrough r next y
 through (Ok x) next y e = record { value = x; was = refl; then = e }
 through (Err fault) next y e = absurd (cc)
 

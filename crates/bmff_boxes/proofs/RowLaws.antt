@@ -4,11 +4,11 @@ use Rattle.std.specs.Option.{option_map}
 use Rattle.bmff_boxes.specs.Children.{ChildView, Box, NoBytes, NoBox, child_of}
 use Rattle.bmff_boxes.specs.Headers.{header_of}
 use Rattle.bmff_boxes.specs.declared.box_header.Header.TheVariants as head
-use Rattle.bmff_boxes.proofs.ChildLaws.{Falls, child-falls, child-whole}
+use Rattle.bmff_boxes.proofs.ChildLaws.{IsChildWithin, child-falls, child-whole}
 use Rattle.bmff_boxes.specs.Rows.{BoxView, row_by, row_in, row_of, boxes_in, first_of, all_of}
 use Rattle.std.specs.Str.{bytes_eq}
 
-agree : (m : ChildView × List ℕ) (f g : List ℕ → Option (List BoxView)) (n : ℕ) → Falls n m → ((r : List ℕ) → length r < n → f r ≡ g r) → row_by f m ≡ row_by g m
+agree : (m : ChildView × List ℕ) (f g : List ℕ → Option (List BoxView)) (n : ℕ) → IsChildWithin n m → ((r : List ℕ) → length r < n → f r ≡ g r) → row_by f m ≡ row_by g m
 agree (Box kind payload, rest) f g n h e = ap (option_map (λ row. record { kind = kind; payload = payload } ∷ row)) (e rest (omega arith))
 agree (NoBytes, rest) f g n h e = refl
 agree (NoBox, rest) f g n h e = refl
@@ -24,11 +24,11 @@ unfolding row_of
 row-step b = agree (child_of b) (row_in (length b)) row_of (length b) (child-falls b) (λ r l. enough (length b) (suc (length r)) r l (omega arith))
 
 -- what is left of a row behind its first box
-pub record Behind (b kind payload rest : List ℕ) : Type 0 where
+pub record HasFirstBox (b kind payload rest : List ℕ) : Type 0 where
   pub row : IsSome (row_of rest)
   pub boxes : boxes_in b ≡ record { kind = kind; payload = payload } ∷ boxes_in rest
 
-behind-by : (b kind payload rest : List ℕ) (o : Option (List BoxView)) → row_of rest ≡ o → row_of b ≡ option_map (λ row. record { kind = kind; payload = payload } ∷ row) o → IsSome (row_of b) → Behind b kind payload rest
+behind-by : (b kind payload rest : List ℕ) (o : Option (List BoxView)) → row_of rest ≡ o → row_of b ≡ option_map (λ row. record { kind = kind; payload = payload } ∷ row) o → IsSome (row_of b) → HasFirstBox b kind payload rest
 behind-by b kind payload rest None e f h = absurd (cc)
 behind-by b kind payload rest (Some row) e f h = record {
   row = ap is_some e;
@@ -36,7 +36,7 @@ behind-by b kind payload rest (Some row) e f h = record {
 }
 
 -- the row behind a box of a row
-pub found : (b kind payload rest : List ℕ) → (Box kind payload, rest) ≡ child_of b → IsSome (row_of b) → Behind b kind payload rest
+pub found : (b kind payload rest : List ℕ) → (Box kind payload, rest) ≡ child_of b → IsSome (row_of b) → HasFirstBox b kind payload rest
 found b kind payload rest e h = behind-by b kind payload rest (row_of rest) refl (row-step b ∙ ap (row_by row_of) (sym e)) h
 
 -- behind a whole box the bytes are a row exactly where they are one from that box on
@@ -110,7 +110,7 @@ pub length-all_of : (kind : List ℕ) (bs : List BoxView) → length (all_of kin
 length-all_of kind [] = omega arith
 length-all_of kind (b ∷ bs) = length-all_of-by (bytes_eq b.kind kind) b.payload (all_of kind bs) (length bs) (length-all_of kind bs)
 
-row-length-by : (m : ChildView × List ℕ) (n : ℕ) (row : List BoxView) → Falls n m → ((r : List ℕ) (rest : List BoxView) → length r < n → row_of r ≡ Some rest → 8 * length rest ≤ length r) → row_by row_of m ≡ Some row → 8 * length row ≤ n
+row-length-by : (m : ChildView × List ℕ) (n : ℕ) (row : List BoxView) → IsChildWithin n m → ((r : List ℕ) (rest : List BoxView) → length r < n → row_of r ≡ Some rest → 8 * length rest ≤ length r) → row_by row_of m ≡ Some row → 8 * length row ≤ n
 row-length-by (NoBytes, rest) n row h f e = let z : [] ≡ row = cc in rw (← z) (omega arith)
 row-length-by (NoBox, rest) n row h f e = absurd (cc)
 row-length-by (Box kind payload, rest) n row h f e = by (row_of rest) refl e

@@ -6,18 +6,18 @@ use Rattle.std.proofs.lemmas.Bool.Decides.{nat_tests}
 use Rattle.std.proofs.Math.Nat.{suc-mul, mul-le-mul_right}
 use Rattle.bmff_boxes.specs.declared.entries.TrunSample.{TrunSample}
 use Rattle.bmff_boxes.specs.declared.run_samples.RunFields.{RunFields}
-use Rattle.bmff_boxes.specs.Fields.{field, signed, flags_of, optional_len, optional_field, ◌>>=◌}
+use Rattle.bmff_boxes.specs.Fields.{field, signed_number, flags_of, optional_len, optional_field, ◌>>=◌}
 use Rattle.bmff_boxes.specs.FragmentFields.{trun_count_of, trun_data_offset_of, trun_first_flags_of, composition_offset, sample_len, samples_place, sample_place, trun_sample_at, trun_sample_of}
 use Rattle.bmff_boxes.specs.RunFields.{field_places_of, run_fields_of}
 use Rattle.bmff_boxes.proofs.FieldLaws.{field-room}
 
 -- what was read on the way to what came of it
-pub record Through {A B : Type 0} (o : Option A) (f : A → Option B) (y : B) : Type 0 where
+pub record IsSomeThrough {A B : Type 0} (o : Option A) (f : A → Option B) (y : B) : Type 0 where
   pub value : A
   pub was : o ≡ Some value
   pub then : f value ≡ Some y
 
-pub through : {A B : Type 0} (o : Option A) (f : A → Option B) (y : B) → (o >>= f) ≡ Some y → Through o f y
+pub through : {A B : Type 0} (o : Option A) (f : A → Option B) (y : B) → (o >>= f) ≡ Some y → IsSomeThrough o f y
 through None f y e = absurd (cc)
 through (Some x) f y e = record { value = x; was = refl; then = e }
 
@@ -55,7 +55,7 @@ sample-short p flags at None e some h = refl
 sample-short p flags at (Some s) e some h = absurd (omega (arith, sample-room p flags at s e some))
 
 -- a sample that is not there
-pub record Missing (p : List ℕ) (count : ℕ) : Type 0 where
+pub record HasMissingSample (p : List ℕ) (count : ℕ) : Type 0 where
   pub index : ℕ
   pub within : index < count
   pub none : trun_sample_of p index ≡ None
@@ -64,7 +64,7 @@ some-len : (len start n l : ℕ) → start ≤ l → l < start + n * len → 0 <
 some-len zero start n l h k = absurd (omega arith)
 some-len (suc len) start n l h k = omega arith
 
-missing-by : (p : List ℕ) (flags count : ℕ) → flags_of p ≡ Some flags → samples_place flags ≤ length p → length p < sample_place flags count → Missing p count
+missing-by : (p : List ℕ) (flags count : ℕ) → flags_of p ≡ Some flags → samples_place flags ≤ length p → length p < sample_place flags count → HasMissingSample p count
 unfolding trun_sample_of
 missing-by p flags zero e h k = absurd (omega arith)
 missing-by p flags (suc n) e h k =
@@ -84,7 +84,7 @@ pub record HasHead (p : List ℕ) : Type 0 where
   pub told : flags_of p ≡ Some flags
   pub inside : samples_place flags ≤ length p
 
-mapped : {A B : Type 0} (f : A → B) (o : Option A) (y : B) → option_map f o ≡ Some y → Through o (λ x. Some (f x)) y
+mapped : {A B : Type 0} (f : A → B) (o : Option A) (y : B) → option_map f o ≡ Some y → IsSomeThrough o (λ x. Some (f x)) y
 mapped f None y e = absurd (cc)
 mapped f (Some x) y e = record { value = x; was = refl; then = e }
 
@@ -97,7 +97,7 @@ pub has-head : (p : List ℕ) (count : ℕ) (offset : Option ℤ) (first : Optio
 unfolding trun_data_offset_of trun_first_flags_of
 has-head p count offset first c o f =
     let a = through (flags_of p) _ offset o in
-    let b = mapped (option_map (signed 4)) (optional_field a.value 0x1 4 8 p) offset a.then in
+    let b = mapped (option_map (signed_number 4)) (optional_field a.value 0x1 4 8 p) offset a.then in
     let g : optional_field a.value 0x4 4 (8 + optional_len a.value 0x1 4) p ≡ Some first = sym (ap (λ o. o >>= λ flags. optional_field flags 0x4 4 (8 + optional_len flags 0x1 4) p) a.was) ∙ f in
     record {
       flags = a.value;
@@ -116,7 +116,7 @@ short-by l n true f e h = grind (arith, nat_tests)
 short-by l n false f e h = absurd (cc)
 
 -- where they do not, a sample is not there
-pub run-short : (p : List ℕ) (count : ℕ) → HasHead p → None ≡ run_fields_of p count → Missing p count
+pub run-short : (p : List ℕ) (count : ℕ) → HasHead p → None ≡ run_fields_of p count → HasMissingSample p count
 run-short p count h e =
     let flags = h.flags in
     let q : cond (ltb (length p) (sample_place flags count)) None (Some (field_places_of p flags count)) ≡ None =
@@ -125,12 +125,12 @@ run-short p count h e =
     missing-by p flags count h.told h.inside (short-by (length p) (sample_place flags count) _ (field_places_of p flags count) refl q)
 
 -- the fields of all samples lie where they should, in the payload
-pub record Lies (p : List ℕ) (f : RunFields) : Type 0 where
+pub record HasFieldPlaces (p : List ℕ) (f : RunFields) : Type 0 where
   pub told : flags_of p ≡ Some f.flags
   pub places : f ≡ field_places_of p f.flags f.count
   pub inside : sample_place f.flags f.count ≤ length p
 
-lies-by : (p : List ℕ) (f : RunFields) (flags : ℕ) (t : Bool) → flags_of p ≡ Some flags → ltb (length p) (sample_place flags f.count) ≡ t → Some f ≡ cond t None (Some (field_places_of p flags f.count)) → Lies p f
+lies-by : (p : List ℕ) (f : RunFields) (flags : ℕ) (t : Bool) → flags_of p ≡ Some flags → ltb (length p) (sample_place flags f.count) ≡ t → Some f ≡ cond t None (Some (field_places_of p flags f.count)) → HasFieldPlaces p f
 lies-by p f flags true e h k = absurd (cc)
 lies-by p f flags false e h k =
     let is : f ≡ field_places_of p flags f.count = cc in
@@ -141,11 +141,11 @@ lies-by p f flags false e h k =
       inside = rw same (grind (arith, nat_tests));
     }
 
-lies-at : (p : List ℕ) (f : RunFields) (o : Option ℕ) → flags_of p ≡ o → Some f ≡ (o >>= λ flags. cond (ltb (length p) (sample_place flags f.count)) None (Some (field_places_of p flags f.count))) → Lies p f
+lies-at : (p : List ℕ) (f : RunFields) (o : Option ℕ) → flags_of p ≡ o → Some f ≡ (o >>= λ flags. cond (ltb (length p) (sample_place flags f.count)) None (Some (field_places_of p flags f.count))) → HasFieldPlaces p f
 lies-at p f None e h = absurd (cc)
 lies-at p f (Some flags) e h = lies-by p f flags _ e refl h
 
-pub run-lies : (p : List ℕ) (f : RunFields) → Some f ≡ run_fields_of p f.count → Lies p f
+pub run-lies : (p : List ℕ) (f : RunFields) → Some f ≡ run_fields_of p f.count → HasFieldPlaces p f
 run-lies p f e = lies-at p f (flags_of p) refl (e ∙ fields-is p f.count)
 
 count-by : (p : List ℕ) (count flags : ℕ) (f : RunFields) (t : Bool) → Some f ≡ cond t None (Some (field_places_of p flags count)) → f.count ≡ count
@@ -173,7 +173,7 @@ sample-lies p f i e h =
     rw (first, len) (omega (arith, l.inside, more, suc-mul i (sample_len f.flags)))
 
 -- it begins behind those before it
-pub sample-begins : (p : List ℕ) (f : RunFields) (i : ℕ) → Lies p f → trun_sample_at p f.flags (f.first + i * f.len) ≡ trun_sample_of p i
+pub sample-begins : (p : List ℕ) (f : RunFields) (i : ℕ) → HasFieldPlaces p f → trun_sample_at p f.flags (f.first + i * f.len) ≡ trun_sample_of p i
 unfolding trun_sample_of
 sample-begins p f i l =
     ap (λ (x : RunFields). trun_sample_at p f.flags (x.first + i * x.len)) l.places

@@ -42,7 +42,7 @@ abbrev pub payload_of : List ℕ → Option (List ℕ)
 payload_of b = payload_in (child_of b)
 
 -- a step over a box takes its payload and at least eight bytes of header, and another step takes none
-abbrev pub IsShorter : ℕ → ℕ → Child → Type 0
-IsShorter before after (Found kind payload) = length payload.now + 8 + after ≤ before
-IsShorter before after End = after ≡ before
-IsShorter before after Uneven = after ≡ before
+abbrev pub IsRestAfterChild : ℕ → ℕ → Child → Type 0
+IsRestAfterChild before after (Found kind payload) = length payload.now + 8 + after ≤ before
+IsRestAfterChild before after End = after ≡ before
+IsRestAfterChild before after Uneven = after ≡ before

@@ -9,12 +9,12 @@ unfoldable pub field : ℕ → ℕ → List ℕ → Option ℕ
 field n i p = if nat_lt (length p) (i + n) then None else Some (big_number n (drop i p))
 
 -- the number `bits` of n bytes, read as two's complement
-abbrev pub signed : ℕ → ℕ → ℤ
-signed n bits = if nat_lt bits (2 ^ (8 * n - 1)) then pos bits else pos bits -ℤ pos (2 ^ (8 * n))
+abbrev pub signed_number : ℕ → ℕ → ℤ
+signed_number n bits = if nat_lt bits (2 ^ (8 * n - 1)) then pos bits else pos bits -ℤ pos (2 ^ (8 * n))
 
 -- the signed number in the n bytes from place i on
 abbrev pub signed_field : ℕ → ℕ → List ℕ → Option ℤ
-signed_field n i p = option_map (signed n) (field n i p)
+signed_field n i p = option_map (signed_number n) (field n i p)
 
 abbrev pub version_of : List ℕ → Option ℕ
 version_of p = field 1 0 p

@@ -2,7 +2,7 @@
 use Rattle.std.specs.Prelude.{ℕ, ◌+◌, ◌*◌, ℤ, pos, if◌then◌else◌, List, Option, Some}
 use Rattle.std.specs.Option.{option_map}
 use Rattle.bmff_boxes.specs.declared.entries.TrunSample.{TrunSample}
-use Rattle.bmff_boxes.specs.Fields.{field, signed, flags_of, is_version, optional_len, optional_field, ◌>>=◌}
+use Rattle.bmff_boxes.specs.Fields.{field, signed_number, flags_of, is_version, optional_len, optional_field, ◌>>=◌}
 
 -- tfdt, track fragment decode time (8.8.12): baseMediaDecodeTime, eight bytes in version 1 and four in every other
 abbrev pub tfdt_time_of : List ℕ → Option ℕ
@@ -59,7 +59,7 @@ trun_count_of p = field 4 4 p
 unfoldable pub trun_data_offset_of : List ℕ → Option (Option ℤ)
 trun_data_offset_of p = do
   flags ← flags_of p
-  option_map (option_map (signed 4)) (optional_field flags 0x1 4 8 p)
+  option_map (option_map (signed_number 4)) (optional_field flags 0x1 4 8 p)
 
 unfoldable pub trun_first_flags_of : List ℕ → Option (Option ℕ)
 trun_first_flags_of p = do
@@ -83,7 +83,7 @@ sample_place flags i = samples_place flags + i * sample_len flags
 
 -- an offset is unsigned in version 0 and signed in every other
 abbrev pub composition_offset : List ℕ → ℕ → ℤ
-composition_offset p bits = if is_version 0 p then pos bits else signed 4 bits
+composition_offset p bits = if is_version 0 p then pos bits else signed_number 4 bits
 
 -- the sample that begins at place `at`
 abbrev pub trun_sample_at : List ℕ → ℕ → ℕ → Option TrunSample

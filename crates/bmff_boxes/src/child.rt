@@ -1,5 +1,5 @@
 ghost use Rattle.std.specs.Prelude.{◌≡◌, length};
-ghost use Rattle.bmff_boxes.specs.Children.{child_of, child_view, IsShorter};
+ghost use Rattle.bmff_boxes.specs.Children.{child_of, child_view, IsRestAfterChild};
 
 use crate::box_header::Header;
 use crate::readers::header;
@@ -27,7 +27,8 @@ impl<'a> Children<'a> {
     #[tactic(auto, unfolding(crate::specs::Children::child_of))]
     pub fn next(&mut self) -> Child<'a>
         ensures value { (child_view result, self.new.rest.now) ≡ child_of self.old.rest.now }
-        ensures shorter { IsShorter (length self.old.rest.now) (length self.new.rest.now) result }
+        ensures rest_len { IsRestAfterChild (length self.old.rest.now) (length self.new.rest.now)
+            result }
     {
         let bytes = self.rest;
         if bytes.is_empty() {

@@ -2,7 +2,7 @@
 //! `None` exactly where the payload is too short for the field.
 ghost use Rattle.std.specs.Prelude.{◌≡◌, ◌+◌, ◌<◌, ◌≤◌, ◌^◌};
 ghost use Rattle.std.specs.Option.{option_map};
-ghost use Rattle.bmff_boxes.specs.Fields.{optional_field, signed};
+ghost use Rattle.bmff_boxes.specs.Fields.{optional_field, signed_number};
 ghost use Rattle.bmff_boxes.specs.FragmentFields.{tfdt_time_of, tfhd_track_of, description_place, duration_place, size_place, flags_place, tfhd_base_of, tfhd_description_of, tfhd_duration_of, tfhd_size_of, tfhd_flags_of, trun_count_of, trun_data_offset_of, trun_first_flags_of, sample_place, composition_offset, trun_sample_at, trun_sample_of};
 
 use crate::entries::TrunSample;
@@ -137,7 +137,8 @@ pub fn trun_count(p: &[u8]) -> Option<u32>
 
 fn optional_i32(p: &[u8], flags: u32, flag: u32, at: usize) -> Option<Option<i32>>
     requires { at < 2 ^ 63 }
-    ensures { result ≡ option_map (option_map (signed 4)) (optional_field flags flag 4 at p.now) }
+    ensures { result ≡ option_map (option_map (signed_number 4))
+        (optional_field flags flag 4 at p.now) }
 {
     if flags & flag == 0 {
         return Some(None);

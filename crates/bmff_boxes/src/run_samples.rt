@@ -1,6 +1,6 @@
 ghost use Rattle.std.specs.Prelude.{◌≡◌, ◌+◌, ◌<◌, ◌≤◌, length, Some};
 ghost use Rattle.std.specs.Option.{option_map};
-ghost use Rattle.bmff_boxes.specs.Fields.{field, signed_field, signed, is_version, optional_len, optional_field};
+ghost use Rattle.bmff_boxes.specs.Fields.{field, signed_field, signed_number, is_version, optional_len, optional_field};
 ghost use Rattle.bmff_boxes.specs.FragmentFields.{sample_len, composition_offset, trun_sample_at, trun_sample_of};
 ghost use Rattle.bmff_boxes.specs.RunFields.{run_fields_of};
 
@@ -88,7 +88,7 @@ fn read_optional_u32(p: &[u8], flags: u32, flag: u32, at: usize) -> Option<u32>
 /// A signed field of four bytes that is there where its flag is set.
 fn read_optional_i32(p: &[u8], flags: u32, flag: u32, at: usize) -> Option<i32>
     requires { at + optional_len flags flag 4 ≤ length p.now }
-    ensures { Some result ≡ option_map (option_map (signed 4))
+    ensures { Some result ≡ option_map (option_map (signed_number 4))
         (optional_field flags flag 4 at p.now) }
 {
     if flags & flag == 0 {

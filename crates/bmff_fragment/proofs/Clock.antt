@@ -5,7 +5,7 @@ use Rattle.std.proofs.lemmas.Int.{ints, unsigned_abs-mul}
 use Rattle.std.proofs.lemmas.Nat.{le-div}
 use Rattle.std.proofs.Math.Nat.{div-le_self, div-mul-le_self}
 use Rattle.mse_base.specs.declared.track.TrackInfo.{TrackInfo}
-use Rattle.mse_base.specs.Time.{SECOND, IsTick, tick, floor_div, converted}
+use Rattle.mse_base.specs.Time.{SECOND, IsTick, tick, floor_div, media_ticks}
 use Rattle.mse_base.proofs.TickLemmas.{tick_is}
 use Rattle.mse_base.specs.Presentation.{IsReadable}
 use Rattle.bmff_fragment.specs.declared.sample.FragmentSample.{FragmentSample}
@@ -18,7 +18,7 @@ floor_small (pos n) d = div-le_self n d
 floor_small (negsuc n) d = omega (arith, div-le_self n d)
 
 -- a conversion is small where the media time is
-pub converted_small : (m : ℤ) (scale : ℕ) → unsigned_abs m ≤ 2 ^ 68 → unsigned_abs (converted m scale) ≤ 2 ^ 106
+pub converted_small : (m : ℤ) (scale : ℕ) → unsigned_abs m ≤ 2 ^ 68 → unsigned_abs (media_ticks m scale) ≤ 2 ^ 106
 converted_small m scale h = omega (arith, unsigned_abs-mul m (pos SECOND), floor_small (m *ℤ pos SECOND) scale)
 
 pub in_range : (z : ℤ) → unsigned_abs z ≤ 2 ^ 106 → IsTick z
@@ -42,13 +42,13 @@ lasts t m d h =
     omega (arith, ints, f)
 
 -- what is presented is small but for the empty edit
-pub tick_at-small : (t : TrackInfo) (m : ℤ) → unsigned_abs m ≤ 2 ^ 67 → unsigned_abs t.media_shift ≤ 2 ^ 63 → unsigned_abs (converted (m -ℤ t.media_shift) t.scale) ≤ 2 ^ 106
+pub tick_at-small : (t : TrackInfo) (m : ℤ) → unsigned_abs m ≤ 2 ^ 67 → unsigned_abs t.media_shift ≤ 2 ^ 63 → unsigned_abs (media_ticks (m -ℤ t.media_shift) t.scale) ≤ 2 ^ 106
 tick_at-small t m h s = converted_small (m -ℤ t.media_shift) t.scale (omega (arith, ints))
 
 pub tick_at-near : (t : TrackInfo) (m : ℤ) → unsigned_abs m ≤ 2 ^ 67 → unsigned_abs t.media_shift ≤ 2 ^ 63 → unsigned_abs (tick_at t m -ℤ t.empty_shift) ≤ 2 ^ 106
 unfolding tick_at
 tick_at-near t m h s =
-    let z = converted (m -ℤ t.media_shift) t.scale in
+    let z = media_ticks (m -ℤ t.media_shift) t.scale in
     let e : (z +ℤ t.empty_shift) -ℤ t.empty_shift ≡ z = omega (arith, ints) in
     let P : ℤ → Type 0 = λ y. unsigned_abs y ≤ 2 ^ 106 in
     subst P (sym e) (tick_at-small t m h s)
@@ -58,13 +58,13 @@ pub difference : (x y s : ℤ) (o : Option ℤ) → unsigned_abs (x -ℤ s) ≤ 
 difference x y s o g h e = e ∙ tick_is (x -ℤ y) (omega (arith, ints), omega (arith, ints))
 
 -- what converting the media time gives, and what the shift then gives
-pub converts : (t : TrackInfo) (m moved : ℤ) (o : Option ℤ) → moved ≡ m -ℤ t.media_shift → o ≡ tick (converted moved t.scale) → unsigned_abs m ≤ 2 ^ 67 → unsigned_abs t.media_shift ≤ 2 ^ 63 → o ≡ Some (converted (m -ℤ t.media_shift) t.scale)
-converts t m moved o e h g s = h ∙ ap (λ x. tick (converted x t.scale)) e ∙ tick_is (converted (m -ℤ t.media_shift) t.scale) (in_range (converted (m -ℤ t.media_shift) t.scale) (tick_at-small t m g s))
+pub converts : (t : TrackInfo) (m moved : ℤ) (o : Option ℤ) → moved ≡ m -ℤ t.media_shift → o ≡ tick (media_ticks moved t.scale) → unsigned_abs m ≤ 2 ^ 67 → unsigned_abs t.media_shift ≤ 2 ^ 63 → o ≡ Some (media_ticks (m -ℤ t.media_shift) t.scale)
+converts t m moved o e h g s = h ∙ ap (λ x. tick (media_ticks x t.scale)) e ∙ tick_is (media_ticks (m -ℤ t.media_shift) t.scale) (in_range (media_ticks (m -ℤ t.media_shift) t.scale) (tick_at-small t m g s))
 
-pub presents : (t : TrackInfo) (m x : ℤ) (o : Option ℤ) → IsReadable t → Some x ≡ Some (converted (m -ℤ t.media_shift) t.scale) → o ≡ tick (x +ℤ t.empty_shift) → unsigned_abs m ≤ 2 ^ 67 → unsigned_abs t.media_shift ≤ 2 ^ 63 → o ≡ Some (tick_at t m)
+pub presents : (t : TrackInfo) (m x : ℤ) (o : Option ℤ) → IsReadable t → Some x ≡ Some (media_ticks (m -ℤ t.media_shift) t.scale) → o ≡ tick (x +ℤ t.empty_shift) → unsigned_abs m ≤ 2 ^ 67 → unsigned_abs t.media_shift ≤ 2 ^ 63 → o ≡ Some (tick_at t m)
 unfolding tick_at
 presents t m x o r e h g s =
-    let z = converted (m -ℤ t.media_shift) t.scale in
+    let z = media_ticks (m -ℤ t.media_shift) t.scale in
     let k : x ≡ z = cc in
     h ∙ ap (λ y. tick (y +ℤ t.empty_shift)) k ∙ tick_is (z +ℤ t.empty_shift) (shifted_in_range z t.empty_shift (tick_at-small t m g s) r.2 r.3)
 

@@ -173,26 +173,26 @@ with_more front more (Ok slots) = ap Ok (append_assoc front more slots)
 with_more front more (Err fault) = refl
 
 -- what the track fragments behind the first give, where reading goes on with them
-abbrev pub Goes : List TrackInfo → List (List ℕ) → Type 0
-Goes tracks ts = (at : MoofProgress) (slots : List Slot) → trafs_steps tracks at slots ts ≡ with_front slots (trafs_of tracks at.samples at.data_end ts)
+abbrev pub AreReadInSteps : List TrackInfo → List (List ℕ) → Type 0
+AreReadInSteps tracks ts = (at : MoofProgress) (slots : List Slot) → trafs_steps tracks at slots ts ≡ with_front slots (trafs_of tracks at.samples at.data_end ts)
 
-by_runs : (tracks : List TrackInfo) (count : ℕ) (slots : List Slot) (ts : List (List ℕ)) → Goes tracks ts → (f : TrackFragment) (r : Result (List Run) MoofFault) → ((r >>= λ runs. Ok (traf_give f count slots runs)) >>= λ next. trafs_steps tracks next.0 next.1 ts) ≡ with_front slots (r >>= λ runs. trafs_of tracks (count + length (samples_in runs)) (data_end f.base runs) ts >>= λ more. Ok (own_slots f runs ++ more))
+by_runs : (tracks : List TrackInfo) (count : ℕ) (slots : List Slot) (ts : List (List ℕ)) → AreReadInSteps tracks ts → (f : TrackFragment) (r : Result (List Run) MoofFault) → ((r >>= λ runs. Ok (traf_give f count slots runs)) >>= λ next. trafs_steps tracks next.0 next.1 ts) ≡ with_front slots (r >>= λ runs. trafs_of tracks (count + length (samples_in runs)) (data_end f.base runs) ts >>= λ more. Ok (own_slots f runs ++ more))
 by_runs tracks count slots ts go f (Err fault) = refl
 by_runs tracks count slots ts go f (Ok runs) =
     let next = traf_give f count slots runs in
     go next.0 next.1 ∙ with_more slots (own_slots f runs) (trafs_of tracks (count + length (samples_in runs)) (data_end f.base runs) ts)
 
-by_fragment : (tracks : List TrackInfo) (count : ℕ) (slots : List Slot) (ts : List (List ℕ)) → Goes tracks ts → (row : List BoxView) (r : Result TrackFragment MoofFault) → ((r >>= λ f. runs_part f count slots (all_of (codes "trun") row)) >>= λ next. trafs_steps tracks next.0 next.1 ts) ≡ with_front slots (r >>= λ f. runs_of f count f.base (all_of (codes "trun") row) >>= λ runs. trafs_of tracks (count + length (samples_in runs)) (data_end f.base runs) ts >>= λ more. Ok (own_slots f runs ++ more))
+by_fragment : (tracks : List TrackInfo) (count : ℕ) (slots : List Slot) (ts : List (List ℕ)) → AreReadInSteps tracks ts → (row : List BoxView) (r : Result TrackFragment MoofFault) → ((r >>= λ f. runs_part f count slots (all_of (codes "trun") row)) >>= λ next. trafs_steps tracks next.0 next.1 ts) ≡ with_front slots (r >>= λ f. runs_of f count f.base (all_of (codes "trun") row) >>= λ runs. trafs_of tracks (count + length (samples_in runs)) (data_end f.base runs) ts >>= λ more. Ok (own_slots f runs ++ more))
 by_fragment tracks count slots ts go row (Err fault) = refl
 by_fragment tracks count slots ts go row (Ok f) =
     ap (λ r. r >>= λ next. trafs_steps tracks next.0 next.1 ts) (part_is f count slots (all_of (codes "trun") row))
     ∙ by_runs tracks count slots ts go f (runs_of f count f.base (all_of (codes "trun") row))
 
-by_row : (tracks : List TrackInfo) (at : MoofProgress) (slots : List Slot) (ts : List (List ℕ)) → Goes tracks ts → (o : Option (List BoxView)) → ((need Size o >>= λ row. track_fragment_of tracks at.data_end row >>= λ f. runs_part f at.samples slots (all_of (codes "trun") row)) >>= λ next. trafs_steps tracks next.0 next.1 ts) ≡ with_front slots (need Size o >>= λ row. track_fragment_of tracks at.data_end row >>= λ f. runs_of f at.samples f.base (all_of (codes "trun") row) >>= λ runs. trafs_of tracks (at.samples + length (samples_in runs)) (data_end f.base runs) ts >>= λ more. Ok (own_slots f runs ++ more))
+by_row : (tracks : List TrackInfo) (at : MoofProgress) (slots : List Slot) (ts : List (List ℕ)) → AreReadInSteps tracks ts → (o : Option (List BoxView)) → ((need Size o >>= λ row. track_fragment_of tracks at.data_end row >>= λ f. runs_part f at.samples slots (all_of (codes "trun") row)) >>= λ next. trafs_steps tracks next.0 next.1 ts) ≡ with_front slots (need Size o >>= λ row. track_fragment_of tracks at.data_end row >>= λ f. runs_of f at.samples f.base (all_of (codes "trun") row) >>= λ runs. trafs_of tracks (at.samples + length (samples_in runs)) (data_end f.base runs) ts >>= λ more. Ok (own_slots f runs ++ more))
 by_row tracks at slots ts go None = refl
 by_row tracks at slots ts go (Some row) = by_fragment tracks at.samples slots ts go row (track_fragment_of tracks at.data_end row)
 
-pub trafs-linked : (tracks : List TrackInfo) (trafs : List (List ℕ)) → Goes tracks trafs
+pub trafs-linked : (tracks : List TrackInfo) (trafs : List (List ℕ)) → AreReadInSteps tracks trafs
 trafs-linked tracks [] = λ at slots. traf_steps_none tracks at slots ∙ ap Ok (sym (append-nil slots)) ∙ ap (with_front slots) (sym (trafs_none tracks at.samples at.data_end))
 trafs-linked tracks (t ∷ ts) =
     let go = trafs-linked tracks ts in

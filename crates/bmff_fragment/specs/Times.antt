@@ -2,7 +2,7 @@
 use Rattle.std.specs.Prelude.{ℕ, ◌+◌, ℤ, pos, ◌+ℤ◌, ◌-ℤ◌, unsigned_abs, bit_and, ◌==◌, List, [], ◌∷◌, ◌++◌, map, take, sum_by}
 use Rattle.std.specs.List.{enumerate_from}
 use Rattle.mse_base.specs.declared.track.TrackInfo.{TrackInfo}
-use Rattle.mse_base.specs.Time.{converted}
+use Rattle.mse_base.specs.Time.{media_ticks}
 use Rattle.bmff_fragment.specs.declared.sample.FragmentSample.{FragmentSample}
 use Rattle.bmff_fragment.specs.declared.slot.Slot.{Slot}
 
@@ -27,7 +27,7 @@ run_end run = run.start +ℤ pos (data_len run.samples)
 -- a media time of a track in ticks, by its edit list (ISO/IEC 14496-12, 8.6.6): the presentation waits for
 -- the empty edit, and then begins with the media time of the edit behind it
 unfoldable pub tick_at : TrackInfo → ℤ → ℤ
-tick_at track m = converted (m -ℤ track.media_shift) track.scale +ℤ track.empty_shift
+tick_at track m = media_ticks (m -ℤ track.media_shift) track.scale +ℤ track.empty_shift
 
 -- the slot of a sample that is decoded at media time `time` and whose data begin at `start`. It is presented
 -- by its composition offset later, and lasts from there to the end of its media time. It is a sync sample

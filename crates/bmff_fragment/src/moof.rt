@@ -50,7 +50,7 @@ fn read_run(
         ≤ unsigned_abs fragment.now.base + 2 ^ 31 + from.samples * 2 ^ 32 }
     requires time_small { from.decode_time ≤ 2 ^ 64 + from.samples * 2 ^ 32 }
     requires well_formed { All IsWellFormed slots.old.items }
-    requires few_slots { vec_len slots.old ≤ from.samples }
+    requires slots_within_samples { vec_len slots.old ≤ from.samples }
     ensures value { Gives (λ to. (to, slots.new.items)) result
         (run_step fragment.now from slots.old.items trun.now) }
     ensures few { IfOk result (λ to. to.samples ≤ 2 ^ 20) }
@@ -58,7 +58,7 @@ fn read_run(
         ≤ unsigned_abs fragment.now.base + 2 ^ 31 + to.samples * 2 ^ 32) }
     ensures time_small { IfOk result (λ to. to.decode_time ≤ 2 ^ 64 + to.samples * 2 ^ 32) }
     ensures well_formed { IfOk result (λ to. All IsWellFormed slots.new.items) }
-    ensures few_slots { IfOk result (λ to. vec_len slots.new ≤ to.samples) }
+    ensures slots_within_samples { IfOk result (λ to. vec_len slots.new ≤ to.samples) }
 {
     let Some(header) = run_header(trun) else {
         return Err(MoofError::Fault(MoofFault::Size));
@@ -98,14 +98,14 @@ fn read_runs(
     requires base_small { unsigned_abs fragment.now.base ≤ 2 ^ 120 }
     requires few { samples ≤ 2 ^ 20 }
     requires well_formed { All IsWellFormed slots.old.items }
-    requires few_slots { vec_len slots.old ≤ samples }
+    requires slots_within_samples { vec_len slots.old ≤ samples }
     ensures value { Gives (λ to. (to, slots.new.items)) result
         (runs_part fragment.now samples slots.old.items (all_of (codes "trun") row.entry)) }
     ensures few { IfOk result (λ to. to.samples ≤ 2 ^ 20) }
     ensures data_end_small { IfOk result (λ to. unsigned_abs to.data_end
         ≤ unsigned_abs fragment.now.base + 2 ^ 53) }
     ensures well_formed { IfOk result (λ to. All IsWellFormed slots.new.items) }
-    ensures few_slots { IfOk result (λ to. vec_len slots.new ≤ to.samples) }
+    ensures slots_within_samples { IfOk result (λ to. vec_len slots.new ≤ to.samples) }
 {
     let mut row = row;
     let mut at = RunProgress {
@@ -137,14 +137,14 @@ fn read_traf(
     requires few { from.samples ≤ 2 ^ 20 }
     requires data_end_small { unsigned_abs from.data_end ≤ 2 ^ 120 }
     requires well_formed { All IsWellFormed slots.old.items }
-    requires few_slots { vec_len slots.old ≤ from.samples }
+    requires slots_within_samples { vec_len slots.old ≤ from.samples }
     ensures value { Gives (λ to. (to, slots.new.items)) result
         (traf_step tracks.now from slots.old.items traf.now) }
     ensures few { IfOk result (λ to. to.samples ≤ 2 ^ 20) }
     ensures data_end_small { IfOk result (λ to. unsigned_abs to.data_end
         ≤ unsigned_abs from.data_end + 2 ^ 53) }
     ensures well_formed { IfOk result (λ to. All IsWellFormed slots.new.items) }
-    ensures few_slots { IfOk result (λ to. vec_len slots.new ≤ to.samples) }
+    ensures slots_within_samples { IfOk result (λ to. vec_len slots.new ≤ to.samples) }
 {
     let Some(row) = open(traf) else {
         return Err(MoofError::Fault(MoofFault::Size));
@@ -161,7 +161,7 @@ fn read_trafs(alloc: Global, tracks: &TrackList, row: Row<'_>) -> Result<Vec<Slo
         (trafs_steps tracks.now (record { samples = 0; data_end = pos 0 }) []
         (all_of (codes "traf") row.entry)) }
     ensures well_formed { IfOk result (λ v. All IsWellFormed v.items) }
-    ensures few_slots { IfOk result (λ v. vec_len v ≤ 2 ^ 20) }
+    ensures few { IfOk result (λ v. vec_len v ≤ 2 ^ 20) }
 {
     let mut row = row;
     let mut slots: Vec<Slot> = Vec::new(alloc);

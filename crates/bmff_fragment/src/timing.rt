@@ -102,7 +102,8 @@ pub(crate) fn push_run(
     ensures slots { OnOk result (slots.new.items ≡ slots.old.items
         ++ media_slots track.now
         (slots_of_run track.now time (record { start = start; samples = samples.now }))) }
-    ensures few_slots { OnOk result (vec_len slots.new ≤ vec_len slots.old + length samples.now) }
+    ensures slots_within_samples { OnOk result (vec_len slots.new
+        ≤ vec_len slots.old + length samples.now) }
     ensures well_formed { OnOk result (All IsWellFormed slots.new.items) }
     ensures out_of_memory { IfErr result (λ e. e ≡ OutOfMemory) }
 {

@@ -23,13 +23,13 @@ unfolding edits_from
 from-none elst i = refl
 
 -- an entry of a list that was read from place `i` on
-pub record Entry (elst : List ℕ) (place k : ℕ) (edits : List EditEntry) : Type 0 where
+pub record HasEditAt (elst : List ℕ) (place k : ℕ) (edits : List EditEntry) : Type 0 where
   pub edit : EditEntry
   pub reads : elst_entry_of elst place ≡ Some edit
   pub drops : drop k edits ≡ edit ∷ drop (suc k) edits
 
 -- the parts of one step of reading
-pub record Read (elst : List ℕ) (i n : ℕ) (edits : List EditEntry) : Type 0 where
+pub record HasFirstEdit (elst : List ℕ) (i n : ℕ) (edits : List EditEntry) : Type 0 where
   pub edit : EditEntry
   pub rest : List EditEntry
   pub reads : elst_entry_of elst i ≡ Some edit
@@ -37,15 +37,15 @@ pub record Read (elst : List ℕ) (i n : ℕ) (edits : List EditEntry) : Type 0 
   pub all : edits ≡ edit ∷ rest
 
 read_by : (elst : List ℕ) (i n : ℕ) (edits : List EditEntry) (o : Option EditEntry) (r : Result (List EditEntry) InitFault) → elst_entry_of elst i ≡ o → edits_from elst (i + 1) n ≡ r
-    → (need Size o >>= λ edit. r >>= λ rest. Ok (edit ∷ rest)) ≡ Ok edits → Read elst i n edits
+    → (need Size o >>= λ edit. r >>= λ rest. Ok (edit ∷ rest)) ≡ Ok edits → HasFirstEdit elst i n edits
 read_by elst i n edits None r eo er e = absurd (cc)
 read_by elst i n edits (Some edit) (Err f) eo er e = absurd (cc)
 read_by elst i n edits (Some edit) (Ok rest) eo er e = record { edit = edit; rest = rest; reads = eo; behind = er; all = cc }
 
-pub read : (elst : List ℕ) (i n : ℕ) (edits : List EditEntry) → edits_from elst i (suc n) ≡ Ok edits → Read elst i n edits
+pub read : (elst : List ℕ) (i n : ℕ) (edits : List EditEntry) → edits_from elst i (suc n) ≡ Ok edits → HasFirstEdit elst i n edits
 read elst i n edits e = read_by elst i n edits _ _ refl refl (sym (from-step elst i n) ∙ e)
 
-pub entry-at : (k : ℕ) (elst : List ℕ) (i n : ℕ) (edits : List EditEntry) → edits_from elst i n ≡ Ok edits → k < n → Entry elst (i + k) k edits
+pub entry-at : (k : ℕ) (elst : List ℕ) (i n : ℕ) (edits : List EditEntry) → edits_from elst i n ≡ Ok edits → k < n → HasEditAt elst (i + k) k edits
 entry-at k elst i zero edits e h = absurd (omega arith)
 entry-at zero elst i (suc n) edits e h =
     let r = read elst i n edits e in
@@ -97,11 +97,11 @@ all-there (suc n) elst i h =
     (first.0 ∷ rest.0, from-step elst i n ∙ (ap (λ o. need Size o >>= λ edit. edits_from elst (i + 1) n >>= λ more. Ok (edit ∷ more)) first.1 ∙ ap (λ r. r >>= λ more. Ok (first.0 ∷ more)) rest.1))
 
 -- the first `len` of the edits are empty and last `duration`
-pub record Passed (len duration : ℕ) (edits : List EditEntry) : Type 0 where
+pub record AreEmptyUpTo (len duration : ℕ) (edits : List EditEntry) : Type 0 where
   pub places : len + prefix_len is_empty_edit (drop len edits) ≡ prefix_len is_empty_edit edits
   pub lasts : duration + empty_duration (drop len edits) ≡ empty_duration edits
 
-pub passed-none : (edits : List EditEntry) → Passed 0 0 edits
+pub passed-none : (edits : List EditEntry) → AreEmptyUpTo 0 0 edits
 passed-none edits = record { places = zero-add _; lasts = zero-add _ }
 
 empty_front : (edit : EditEntry) (rest : List EditEntry) (t : Bool) → is_empty_edit edit ≡ t → t ≡ true
@@ -114,7 +114,7 @@ other_front edit rest e = (rw e refl, rw e refl)
 
 -- one more empty edit
 pub passed-more : (elst : List ℕ) (count len duration : ℕ) (edits : List EditEntry) (edit : EditEntry) → edits_from elst 0 count ≡ Ok edits → len < count → Some edit ≡ elst_entry_of elst len → is_empty_edit edit ≡ true
-    → Passed len duration edits → Passed (len + 1) (duration + edit.duration) edits
+    → AreEmptyUpTo len duration edits → AreEmptyUpTo (len + 1) (duration + edit.duration) edits
 passed-more elst count len duration edits edit e h o empty p =
     let s = entry-at len elst 0 count edits e h in
     let same : s.edit ≡ edit = some-same (sym (ap (elst_entry_of elst) (zero-add len) ∙ sym o) ∙ s.reads) in
@@ -132,7 +132,7 @@ passed-more elst count len duration edits edit e h o empty p =
 
 -- no more empty edits
 pub passed-stop : (elst : List ℕ) (count len duration : ℕ) (edits : List EditEntry) (edit : EditEntry) → edits_from elst 0 count ≡ Ok edits → len < count → Some edit ≡ elst_entry_of elst len → is_empty_edit edit ≡ false
-    → Passed len duration edits → (len ≡ prefix_len is_empty_edit edits) × (duration ≡ empty_duration edits)
+    → AreEmptyUpTo len duration edits → (len ≡ prefix_len is_empty_edit edits) × (duration ≡ empty_duration edits)
 passed-stop elst count len duration edits edit e h o other p =
     let s = entry-at len elst 0 count edits e h in
     let same : s.edit ≡ edit = some-same (sym (ap (elst_entry_of elst) (zero-add len) ∙ sym o) ∙ s.reads) in
@@ -155,7 +155,7 @@ passed-absent elst count len edits e h o =
     cc
 
 -- all edits are empty
-pub passed-all : (elst : List ℕ) (count len duration : ℕ) (edits : List EditEntry) → edits_from elst 0 count ≡ Ok edits → count ≤ len → Passed len duration edits → (len ≡ prefix_len is_empty_edit edits) × (duration ≡ empty_duration edits)
+pub passed-all : (elst : List ℕ) (count len duration : ℕ) (edits : List EditEntry) → edits_from elst 0 count ≡ Ok edits → count ≤ len → AreEmptyUpTo len duration edits → (len ≡ prefix_len is_empty_edit edits) × (duration ≡ empty_duration edits)
 passed-all elst count len duration edits e h p =
     let l = length-from count elst 0 edits e in
     let short : length edits ≤ len = omega arith in

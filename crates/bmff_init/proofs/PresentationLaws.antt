@@ -6,7 +6,7 @@ use Rattle.std.proofs.lemmas.Int.{ints}
 use Rattle.std.proofs.lemmas.List.{length-append}
 use Rattle.std.proofs.lemmas.Bool.Decides.{nat_tests}
 use lib.Chars.{codes}
-use Rattle.mse_base.specs.Time.{converted}
+use Rattle.mse_base.specs.Time.{media_ticks}
 use Rattle.mse_base.specs.Presentation.{has_id, IsReadable, HasDistinctIds, IsPresentation}
 use Rattle.mse_base.specs.declared.ticks.Moment.TheVariants.{Nan, At, Infinite}
 use Rattle.mse_base.specs.declared.track.Kind.{Kind}
@@ -41,13 +41,13 @@ not_zero n e = grind (arith, nat_tests)
 
 -- ---- the shifts of a track
 
-pub record InRange (shifts : Shifts) : Type 0 where
+pub record AreShiftsInRange (shifts : Shifts) : Type 0 where
   pub media : pos 0 ≤ℤ shifts.media
   pub low : pos 0 ≤ℤ shifts.empty
   pub high : shifts.empty ≤ℤ pos (2 ^ 109)
 
-none_in_range : (shifts : Shifts) → record { media = pos 0; empty = pos 0 } ≡ shifts → InRange shifts
-none_in_range shifts e = subst InRange e (record { media = omega (arith, ints); low = omega (arith, ints); high = omega (arith, ints) })
+none_in_range : (shifts : Shifts) → record { media = pos 0; empty = pos 0 } ≡ shifts → AreShiftsInRange shifts
+none_in_range shifts e = subst AreShiftsInRange e (record { media = omega (arith, ints); low = omega (arith, ints); high = omega (arith, ints) })
 
 first_of_both : (a b : Bool) → (a && b) ≡ true → a ≡ true
 first_of_both true b e = refl
@@ -71,30 +71,30 @@ media_in_range (edit ∷ next ∷ edits) media e = absurd (cc)
 
 empty_in_range : (scale duration : ℕ) (empty : ℤ) → empty_shift_of scale duration ≡ Ok empty → (pos 0 ≤ℤ empty) × (empty ≤ℤ pos (2 ^ 109))
 empty_in_range scale duration empty e =
-    let b = through (check EditList (int_le (converted (pos duration) scale) (pos (2 ^ 109)))) (λ _. Ok (converted (pos duration) scale)) empty e in
+    let b = through (check EditList (int_le (media_ticks (pos duration) scale) (pos (2 ^ 109)))) (λ _. Ok (media_ticks (pos duration) scale)) empty e in
     let le = checked EditList _ _ b.was in
-    let is : converted (pos duration) scale ≡ empty = same_ok _ _ (Ok (converted (pos duration) scale)) refl b.then in
-    let high : converted (pos duration) scale ≤ℤ pos (2 ^ 109) = grind (arith, ints, le) in
-    let low : pos 0 ≤ℤ converted (pos duration) scale = rw (converted-is duration scale) (omega (arith, ints)) in
+    let is : media_ticks (pos duration) scale ≡ empty = same_ok _ _ (Ok (media_ticks (pos duration) scale)) refl b.then in
+    let high : media_ticks (pos duration) scale ≤ℤ pos (2 ^ 109) = grind (arith, ints, le) in
+    let low : pos 0 ≤ℤ media_ticks (pos duration) scale = rw (converted-is duration scale) (omega (arith, ints)) in
     subst (λ z. (pos 0 ≤ℤ z) × (z ≤ℤ pos (2 ^ 109))) is (low, high)
 
-with_in_range : (edits : List EditEntry) (scale duration : ℕ) (shifts : Shifts) → both_shifts (media_time_of edits) (empty_shift_of scale duration) ≡ Ok shifts → InRange shifts
+with_in_range : (edits : List EditEntry) (scale duration : ℕ) (shifts : Shifts) → both_shifts (media_time_of edits) (empty_shift_of scale duration) ≡ Ok shifts → AreShiftsInRange shifts
 with_in_range edits scale duration shifts e =
     let m = through (media_time_of edits) (λ media. empty_shift_of scale duration >>= λ empty. Ok (record { media = media; empty = empty })) shifts e in
     let s = through (empty_shift_of scale duration) (λ empty. Ok (record { media = m.value; empty = empty })) shifts m.then in
     let range = empty_in_range scale duration s.value s.was in
-    let all : InRange (record { media = m.value; empty = s.value }) = record { media = media_in_range edits m.value m.was; low = range.0; high = range.1 } in
-    subst InRange (same_ok _ _ (Ok (record { media = m.value; empty = s.value })) refl s.then) all
+    let all : AreShiftsInRange (record { media = m.value; empty = s.value }) = record { media = media_in_range edits m.value m.was; low = range.0; high = range.1 } in
+    subst AreShiftsInRange (same_ok _ _ (Ok (record { media = m.value; empty = s.value })) refl s.then) all
 
-by_in_range : (scale : ℕ) (edits : List EditEntry) (shifts : Shifts) → shifts_by scale edits ≡ Ok shifts → InRange shifts
+by_in_range : (scale : ℕ) (edits : List EditEntry) (shifts : Shifts) → shifts_by scale edits ≡ Ok shifts → AreShiftsInRange shifts
 by_in_range scale [] shifts e = none_in_range shifts (same_ok _ _ (Ok (record { media = pos 0; empty = pos 0 })) refl e)
 by_in_range scale (edit ∷ edits) shifts e = with_in_range (drop (prefix_len is_empty_edit (edit ∷ edits)) (edit ∷ edits)) scale (empty_duration (edit ∷ edits)) shifts e
 
-list_in_range : (scale : ℕ) (elst : Option (List ℕ)) (shifts : Shifts) → shifts_in_list scale elst ≡ Ok shifts → InRange shifts
+list_in_range : (scale : ℕ) (elst : Option (List ℕ)) (shifts : Shifts) → shifts_in_list scale elst ≡ Ok shifts → AreShiftsInRange shifts
 list_in_range scale None shifts e = none_in_range shifts (same_ok _ _ (Ok (record { media = pos 0; empty = pos 0 })) refl e)
 list_in_range scale (Some elst) shifts e = let b = through (elst_edits_of elst) (shifts_by scale) shifts e in by_in_range scale b.value shifts b.then
 
-shifts_in_range : (scale : ℕ) (edts : Option (List ℕ)) (shifts : Shifts) → shifts_in scale edts ≡ Ok shifts → InRange shifts
+shifts_in_range : (scale : ℕ) (edts : Option (List ℕ)) (shifts : Shifts) → shifts_in scale edts ≡ Ok shifts → AreShiftsInRange shifts
 shifts_in_range scale None shifts e = none_in_range shifts (same_ok _ _ (Ok (record { media = pos 0; empty = pos 0 })) refl e)
 shifts_in_range scale (Some edts) shifts e =
     let b = through (need Size (row_of edts)) (λ boxes. shifts_in_list scale (first_of (codes "elst") boxes)) shifts e in
@@ -102,7 +102,7 @@ shifts_in_range scale (Some edts) shifts e =
 
 -- ---- a track
 
-pub record Fits (content : TrackContent) : Type 0 where
+pub record IsContentInRange (content : TrackContent) : Type 0 where
   pub scale : 1 ≤ content.scale
   pub media : pos 0 ≤ℤ content.media_shift
   pub low : pos 0 ≤ℤ content.empty_shift
@@ -116,21 +116,21 @@ scale_in_range media scale e =
     let some : 1 ≤ b.value = not_zero b.value (checked ZeroTimescale _ _ c.was) in
     subst (λ n. 1 ≤ n) (same_ok _ _ (Ok b.value) refl c.then) some
 
-media_fits : (form : Form) (scale : ℕ) (track media : List BoxView) (content : TrackContent) → media_content form scale track media ≡ Ok content → Fits content
+media_fits : (form : Form) (scale : ℕ) (track media : List BoxView) (content : TrackContent) → media_content form scale track media ≡ Ok content → IsContentInRange content
 unfolding media_content
 media_fits form scale track media content e =
     let a = through (media_scale_of media) (λ s. codec_in form media >>= λ codec. shifts_in scale (first_of (codes "edts") track) >>= λ shifts. Ok (record { codec = codec; scale = s; media_shift = shifts.media; empty_shift = shifts.empty })) content e in
     let b = through (codec_in form media) (λ codec. shifts_in scale (first_of (codes "edts") track) >>= λ shifts. Ok (record { codec = codec; scale = a.value; media_shift = shifts.media; empty_shift = shifts.empty })) content a.then in
     let c = through (shifts_in scale (first_of (codes "edts") track)) (λ shifts. Ok (record { codec = b.value; scale = a.value; media_shift = shifts.media; empty_shift = shifts.empty })) content b.then in
     let range = shifts_in_range scale (first_of (codes "edts") track) c.value c.was in
-    let all : Fits (record { codec = b.value; scale = a.value; media_shift = c.value.media; empty_shift = c.value.empty }) = record { scale = scale_in_range media a.value a.was; media = range.media; low = range.low; high = range.high } in
-    subst Fits (same_ok _ _ (Ok (record { codec = b.value; scale = a.value; media_shift = c.value.media; empty_shift = c.value.empty })) refl c.then) all
+    let all : IsContentInRange (record { codec = b.value; scale = a.value; media_shift = c.value.media; empty_shift = c.value.empty }) = record { scale = scale_in_range media a.value a.was; media = range.media; low = range.low; high = range.high } in
+    subst IsContentInRange (same_ok _ _ (Ok (record { codec = b.value; scale = a.value; media_shift = c.value.media; empty_shift = c.value.empty })) refl c.then) all
 
-content_fits : (form : Form) (scale : ℕ) (kind : Kind) (track media : List BoxView) (content : TrackContent) → content_of form scale kind track media ≡ Ok content → Fits content
+content_fits : (form : Form) (scale : ℕ) (kind : Kind) (track media : List BoxView) (content : TrackContent) → content_of form scale kind track media ≡ Ok content → IsContentInRange content
 content_fits form scale Other track media content e =
     let none : TrackContent = record { codec = 0 ∷ 0 ∷ 0 ∷ 0 ∷ []; scale = 1; media_shift = pos 0; empty_shift = pos 0 } in
-    let all : Fits none = record { scale = omega arith; media = omega (arith, ints); low = omega (arith, ints); high = omega (arith, ints) } in
-    subst Fits (same_ok _ _ (Ok none) refl e) all
+    let all : IsContentInRange none = record { scale = omega arith; media = omega (arith, ints); low = omega (arith, ints); high = omega (arith, ints) } in
+    subst IsContentInRange (same_ok _ _ (Ok none) refl e) all
 content_fits form scale Video track media content e = media_fits form scale track media content e
 content_fits form scale Audio track media content e = media_fits form scale track media content e
 
@@ -147,11 +147,11 @@ new_number before track id e =
     subst (λ n. list_any (has_id n) before ≡ false) (same_ok _ _ (Ok b.value) refl c.then) fresh
 
 -- what a track has that comes behind others
-pub record Joins (before : List TrackInfo) (track : TrackInfo) : Type 0 where
+pub record IsNewTrack (before : List TrackInfo) (track : TrackInfo) : Type 0 where
   pub readable : IsReadable track
   pub fresh : list_any (has_id track.id) before ≡ false
 
-track_joins : (form : Form) (scale : ℕ) (trexes : List (List ℕ)) (before : List TrackInfo) (trak : List ℕ) (track : TrackInfo) → track_of_trak form scale trexes before trak ≡ Ok track → Joins before track
+track_joins : (form : Form) (scale : ℕ) (trexes : List (List ℕ)) (before : List TrackInfo) (trak : List ℕ) (track : TrackInfo) → track_of_trak form scale trexes before trak ≡ Ok track → IsNewTrack before track
 unfolding track_of_trak
 track_joins form scale trexes before trak track e =
     let a = through (need Size (row_of trak)) (λ boxes. track_number_of before boxes >>= λ id. mdia_row_of boxes >>= λ media. kind_in media >>= λ kind. content_of form scale kind boxes media >>= λ content. Ok (track_with trexes id kind content)) track e in
@@ -160,8 +160,8 @@ track_joins form scale trexes before trak track e =
     let d = through (kind_in c.value) (λ kind. content_of form scale kind a.value c.value >>= λ content. Ok (track_with trexes b.value kind content)) track c.then in
     let f = through (content_of form scale d.value a.value c.value) (λ content. Ok (track_with trexes b.value d.value content)) track d.then in
     let fits = content_fits form scale d.value a.value c.value f.value f.was in
-    let all : Joins before (track_with trexes b.value d.value f.value) = record { readable = (fits.scale, fits.media, fits.low, fits.high); fresh = new_number before a.value b.value b.was } in
-    subst (Joins before) (same_ok _ _ (Ok (track_with trexes b.value d.value f.value)) refl f.then) all
+    let all : IsNewTrack before (track_with trexes b.value d.value f.value) = record { readable = (fits.scale, fits.media, fits.low, fits.high); fresh = new_number before a.value b.value b.was } in
+    subst (IsNewTrack before) (same_ok _ _ (Ok (track_with trexes b.value d.value f.value)) refl f.then) all
 
 -- ---- the tracks
 
@@ -230,7 +230,7 @@ presentation_in_is form movie p e =
       readable = are.readable;
       distinct = are.distinct;
       few = omega arith;
-      timed = timed_by (duration == 0) (converted (pos duration) a.value.scale);
+      timed = timed_by (duration == 0) (media_ticks (pos duration) a.value.scale);
     } in
     subst IsPresentation (same_ok _ _ (Ok (record { scale = a.value.scale; duration = moment_of a.value.scale duration; tracks = d.value })) refl d.then) all
   where

@@ -3,7 +3,7 @@ use Rattle.std.specs.Prelude.{ℕ, zero, suc, ◌+◌, ◌*◌, ◌^◌, nat_le,
 use Rattle.std.specs.List.{prefix_len}
 use Rattle.std.specs.Ordering.{int_eq}
 use lib.Chars.{codes}
-use Rattle.mse_base.specs.Time.{converted}
+use Rattle.mse_base.specs.Time.{media_ticks}
 use Rattle.bmff_boxes.specs.declared.entries.EditEntry.{EditEntry}
 use Rattle.bmff_boxes.specs.Fields.{is_version}
 use Rattle.bmff_boxes.specs.MovieFields.{entry_count_of, elst_entry_of}
@@ -63,8 +63,8 @@ empty_duration edits = sum_by (λ edit. edit.duration) (take_while is_empty_edit
 -- that in ticks, at most 2 ^ 109
 abbrev pub empty_shift_of : ℕ → ℕ → Result ℤ InitFault
 empty_shift_of scale duration = do
-  _ ← check EditList (int_le (converted (pos duration) scale) (pos (2 ^ 109)))
-  Ok (converted (pos duration) scale)
+  _ ← check EditList (int_le (media_ticks (pos duration) scale) (pos (2 ^ 109)))
+  Ok (media_ticks (pos duration) scale)
 
 abbrev pub both_shifts : Result ℤ InitFault → Result ℤ InitFault → Result Shifts InitFault
 both_shifts media_time empty_shift = do

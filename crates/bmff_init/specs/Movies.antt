@@ -3,7 +3,7 @@
 use Rattle.std.specs.Prelude.{ℕ, ◌-◌, ◌^◌, nat_le, ◌==◌, pos, not, if◌then◌else◌, List, [], length, Option, None, Some, Result, Ok}
 use Rattle.std.specs.List.{list_all}
 use lib.Chars.{codes}
-use Rattle.mse_base.specs.Time.{converted}
+use Rattle.mse_base.specs.Time.{media_ticks}
 use Rattle.mse_base.specs.declared.ticks.Moment.{Moment}
 use Rattle.mse_base.specs.declared.ticks.Moment.TheVariants.{At, Infinite}
 use Rattle.mse_base.specs.declared.track.Presentation.{Presentation}
@@ -63,7 +63,7 @@ extends_of Fragmented movie = do
 
 -- a duration in the movie's timescale; of 0 it is not known when the movie ends
 abbrev pub moment_of : ℕ → ℕ → Moment
-moment_of scale duration = if duration == 0 then Infinite else At (converted (pos duration) scale)
+moment_of scale duration = if duration == 0 then Infinite else At (media_ticks (pos duration) scale)
 
 -- the presentation of the boxes of a movie box
 unfoldable pub presentation_in : Form → List BoxView → Result Presentation InitFault

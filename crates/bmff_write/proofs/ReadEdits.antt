@@ -4,7 +4,7 @@ use Rattle.std.specs.List.{flat_map}
 use Rattle.std.specs.Int.{w32, cast_unsigned}
 use lib.Chars.{codes}
 use Rattle.bmff_boxes.specs.declared.entries.EditEntry.{EditEntry}
-use Rattle.bmff_boxes.specs.Fields.{field, signed, is_version}
+use Rattle.bmff_boxes.specs.Fields.{field, signed_number, is_version}
 use Rattle.bmff_boxes.specs.MovieFields.{entry_count_of, elst_entry_of}
 use Rattle.bmff_boxes.specs.Rows.{BoxView, row_of}
 use Rattle.bmff_write.specs.declared.boxes.Field.{Field}
@@ -29,7 +29,7 @@ elst_payload edits = fields_bytes (elst_fields (length edits)) ++ flat_map edit_
 
 entry_known : (p : List ℕ) (i a b c d : ℕ) → is_version 1 p ≡ false
     → field 4 (8 + i * 12) p ≡ Some a → field 4 (8 + i * 12 + 4) p ≡ Some b → field 2 (8 + i * 12 + 8) p ≡ Some c → field 2 (8 + i * 12 + 10) p ≡ Some d
-    → elst_entry_of p i ≡ Some (record { duration = a; media_time = signed 4 b; rate = signed 2 c; fraction = signed 2 d })
+    → elst_entry_of p i ≡ Some (record { duration = a; media_time = signed_number 4 b; rate = signed_number 2 c; fraction = signed_number 2 d })
 unfolding elst_entry_of
 entry_known p i a b c d version first second third fourth = rw (version, first, second, third, fourth) refl
 

@@ -12,7 +12,7 @@ use Rattle.std.specs.Int.{w32, cast_unsigned}
 use Rattle.std.specs.Option.{option_map}
 use Rattle.byteorder.specs.Endian.{big_bytes, big_number}
 use Rattle.byteorder.specs.Numbers.{big_number-reads_back, length-bytes_high_first}
-use Rattle.bmff_boxes.specs.Fields.{field, signed, signed_field, flags_of}
+use Rattle.bmff_boxes.specs.Fields.{field, signed_number, signed_field, flags_of}
 use Rattle.bmff_boxes.proofs.FieldLaws.{field-there}
 use Rattle.bmff_write.specs.declared.boxes.Field.{Field}
 use Rattle.bmff_write.specs.declared.boxes.Field.TheVariants.{Full, U16, U32, I32, U64}
@@ -50,7 +50,7 @@ u64_written front back rest x fits =
     ∙ number_written (fields_bytes front) (fields_bytes back ++ rest) 8 (fields_len front) x (fields_size front) (omega arith)
 
 -- a signed number as its two's complement
-pub signed_back : (z : ℤ) → FitsSigned w32 z → signed 4 (cast_unsigned w32 z) ≡ z
+pub signed_back : (z : ℤ) → FitsSigned w32 z → signed_number 4 (cast_unsigned w32 z) ≡ z
 signed_back (pos n) fits = let few : ltb n (2 ^ 31) ≡ true = grind (arith, nat_tests, fits.sfits) in rw few refl
 signed_back (negsuc n) fits =
     let many : ltb (2 ^ 32 - suc n) (2 ^ 31) ≡ false = grind (arith, nat_tests, fits.sfits) in
@@ -71,7 +71,7 @@ bits_written front back rest z fits =
 pub i32_written : (front back : List Field) (rest : List ℕ) (z : ℤ) → FitsSigned w32 z
     → signed_field 4 (fields_len front) (fields_bytes (front ++ I32 z ∷ back) ++ rest) ≡ Some z
 i32_written front back rest z fits =
-    ap (option_map (signed 4)) (bits_written front back rest z fits) ∙ ap Some (signed_back z fits)
+    ap (option_map (signed_number 4)) (bits_written front back rest z fits) ∙ ap Some (signed_back z fits)
 
 -- ---- a full box
 

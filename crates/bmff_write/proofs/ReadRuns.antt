@@ -4,7 +4,7 @@ use Rattle.std.proofs.lemmas.Bool.Decides.{nat_tests}
 use Rattle.std.specs.List.{flat_map}
 use Rattle.std.specs.Int.{w32, cast_unsigned}
 use Rattle.bmff_boxes.specs.declared.entries.TrunSample.{TrunSample}
-use Rattle.bmff_boxes.specs.Fields.{field, signed, flags_of, is_version}
+use Rattle.bmff_boxes.specs.Fields.{field, signed_number, flags_of, is_version}
 use Rattle.bmff_boxes.specs.FragmentFields.{trun_sample_of, trun_count_of, trun_data_offset_of, trun_first_flags_of}
 use Rattle.bmff_write.specs.declared.boxes.Field.{Field}
 use Rattle.bmff_write.specs.declared.boxes.Field.TheVariants.{Full, U32, I32}
@@ -50,7 +50,7 @@ run_first_flags_written at count rest =
 
 sample_known : (p : List ℕ) (i a b c d : ℕ) → flags_of p ≡ Some 0x000f01 → is_version 0 p ≡ false
     → field 4 (12 + i * 16) p ≡ Some a → field 4 (12 + i * 16 + 4) p ≡ Some b → field 4 (12 + i * 16 + 4 + 4) p ≡ Some c → field 4 (12 + i * 16 + 4 + 4 + 4) p ≡ Some d
-    → trun_sample_of p i ≡ Some (record { duration = Some a; size = Some b; flags = Some c; offset = Some (signed 4 d) })
+    → trun_sample_of p i ≡ Some (record { duration = Some a; size = Some b; flags = Some c; offset = Some (signed_number 4 d) })
 unfolding trun_sample_of
 sample_known p i a b c d flags signed first second third fourth = rw (flags, first, second, third, fourth, signed) refl
 

@@ -32,16 +32,16 @@ pub record IsTrackOut (t : TrackOut) : Type 0 where
   pub edited : AreEdits t.edits
 
 -- no two tracks have one number
-abbrev pub HaveDistinctNumbers : List TrackOut → Type 0
-HaveDistinctNumbers [] = Unit {0}
-HaveDistinctNumbers (t ∷ ts) = AllByRecursion (λ u. t.id ≢ u.id) ts × HaveDistinctNumbers ts
+abbrev pub AreNumbersDistinct : List TrackOut → Type 0
+AreNumbersDistinct [] = Unit {0}
+AreNumbersDistinct (t ∷ ts) = AllByRecursion (λ u. t.id ≢ u.id) ts × AreNumbersDistinct ts
 
 -- the tracks of an initialization segment
 pub record AreTracksOut (tracks : List TrackOut) : Type 0 where
   pub some : 1 ≤ length tracks
   pub few : length tracks ≤ 64
   pub each : AllByRecursion IsTrackOut tracks
-  pub distinct : HaveDistinctNumbers tracks
+  pub distinct : AreNumbersDistinct tracks
 
 -- a whole header of a box of this type
 abbrev pub HasType : List ℕ → Header → Type 0

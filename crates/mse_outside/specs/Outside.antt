@@ -15,28 +15,29 @@ abbrev pub Table : Type 0
 Table = List ℕ → Option (List ℕ)
 
 -- bytes were appended
-abbrev pub Appends : List ℕ → List ℕ → Type 0
-Appends old new = (more : List ℕ) × (new ≡ old ++ more)
+abbrev pub HasBytesAppended : List ℕ → List ℕ → Type 0
+HasBytesAppended old new = (more : List ℕ) × (new ≡ old ++ more)
 
 -- a front part of the bytes was appended
-abbrev pub AppendsFront : List ℕ → List ℕ → List ℕ → Type 0
-AppendsFront bytes old new =
+abbrev pub HasFrontAppended : List ℕ → List ℕ → List ℕ → Type 0
+HasFrontAppended bytes old new =
     (front : List ℕ) × (rest : List ℕ) × (bytes ≡ front ++ rest) × (new ≡ old ++ front)
 
 -- what the answer to a load says of the file in a told table, and of the buffer
-abbrev pub IsLoadTold : Option (List ℕ) → List ℕ → List ℕ → Loaded → Type 0
-IsLoadTold file old new LoadDone = IsSomeAnd file (λ bytes. new ≡ old ++ bytes)
-IsLoadTold file old new NoFile = file ≡ None
-IsLoadTold file old new LoadFailed = Unit {0}
-IsLoadTold file old new LoadOutOfMemory = Unit {0}
+abbrev pub IsLoadEffect : Option (List ℕ) → List ℕ → List ℕ → Loaded → Type 0
+IsLoadEffect file old new LoadDone = IsSomeAnd file (λ bytes. new ≡ old ++ bytes)
+IsLoadEffect file old new NoFile = file ≡ None
+IsLoadEffect file old new LoadFailed = Unit {0}
+IsLoadEffect file old new LoadOutOfMemory = Unit {0}
 
 -- what the answer to a put says of the written bytes
-abbrev pub IsPutTold : List ℕ → List ℕ → List ℕ → Put → Type 0
-IsPutTold bytes old new PutDone = new ≡ old ++ bytes
-IsPutTold bytes old new PutFailed = AppendsFront bytes old new
-IsPutTold bytes old new PutOutOfMemory = AppendsFront bytes old new
+abbrev pub IsPutEffect : List ℕ → List ℕ → List ℕ → Put → Type 0
+IsPutEffect bytes old new PutDone = new ≡ old ++ bytes
+IsPutEffect bytes old new PutFailed = HasFrontAppended bytes old new
+IsPutEffect bytes old new PutOutOfMemory = HasFrontAppended bytes old new
 
 -- the same where the written bytes are told; a sink that tells them goes on telling them
-abbrev pub IsPutToldIfKnown : List ℕ → Option (List ℕ) → Option (List ℕ) → Put → Type 0
-IsPutToldIfKnown bytes None new answer = Unit {0}
-IsPutToldIfKnown bytes (Some old) new answer = IsSomeAnd new (λ now. IsPutTold bytes old now answer)
+abbrev pub IsPutEffectIfKnown : List ℕ → Option (List ℕ) → Option (List ℕ) → Put → Type 0
+IsPutEffectIfKnown bytes None new answer = Unit {0}
+IsPutEffectIfKnown bytes (Some old) new answer =
+    IsSomeAnd new (λ now. IsPutEffect bytes old now answer)

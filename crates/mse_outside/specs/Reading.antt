@@ -1,6 +1,6 @@
 -- What the loop over a file's reader appends, where the bytes that the reader has left are known.
 use Rattle.std.specs.Prelude.{◌≡◌, ◌≤◌, ℕ, List, ◌++◌, length, Option, Result, Ok, Err, IfSome}
-use Rattle.mse_outside.specs.Outside.{AppendsFront}
+use Rattle.mse_outside.specs.Outside.{HasFrontAppended}
 use Rattle.mse_outside.specs.declared.folder.ReadStop.{ReadStop}
 use Rattle.mse_outside.specs.declared.folder.ReadStop.TheVariants.{TooLong, Reader, OutOfMemory as StopOutOfMemory, Endless}
 use Rattle.mse_outside.specs.declared.library.Loaded.{Loaded}
@@ -12,7 +12,7 @@ IsReadToEnd most left old new = IfSome left (λ bytes. (new ≡ old ++ bytes) ×
 
 -- a front part of what the reader had left was appended
 abbrev pub IsFrontAppended : Option (List ℕ) → List ℕ → List ℕ → Type 0
-IsFrontAppended left old new = IfSome left (λ bytes. AppendsFront bytes old new)
+IsFrontAppended left old new = IfSome left (λ bytes. HasFrontAppended bytes old new)
 
 -- a load is done where the file was read to its end; each other stop but want of memory is a failure
 abbrev pub answer_to_read : Result (Unit {0}) ReadStop → Loaded

@@ -2,7 +2,7 @@
 
 ghost use Rattle.std.specs.Prelude.{◌≡◌, ◌≢◌, ◌<◌, ◌≤◌, ◌+◌, ◌^◌, ◌↔◌, ℕ, None, IfSome, OnOk, length, vec_len};
 ghost use Rattle.std.specs.IoError.{error_kind};
-ghost use Rattle.mse_outside.specs.Outside.{Appends};
+ghost use Rattle.mse_outside.specs.Outside.{HasBytesAppended};
 ghost use Rattle.mse_outside.specs.Folder.{faults_after};
 ghost use Rattle.mse_outside.specs.Reading.{IsReadToEnd, IsFrontAppended, answer_to_read};
 
@@ -44,7 +44,7 @@ fn answer_for_error(error: &io::Error) -> Loaded
     ensures missing { (result ≡ Loaded.NoFile) ↔ (error_kind error.now ≡ ErrorKind.NotFound) }
     ensures out_of_memory { (result ≡ Loaded.OutOfMemory)
         ↔ (error_kind error.now ≡ ErrorKind.OutOfMemory) }
-    ensures never { result ≢ Loaded.Done }
+    ensures not_done { result ≢ Loaded.Done }
 {
     match error.kind() {
         ErrorKind::NotFound => Loaded::NoFile,
@@ -77,7 +77,7 @@ pub(crate) fn append_all<F: Read>(
     ensures too_long { result ≡ Err ReadStop.TooLong →
         IfSome (F.remaining file.old) (λ bytes. most < length bytes) }
     ensures front { IsFrontAppended (F.remaining file.old) into.old.items into.new.items }
-    ensures appends { Appends into.old.items into.new.items }
+    ensures appends { HasBytesAppended into.old.items into.new.items }
     ensures longest { vec_len into.new ≤ vec_len into.old + most }
 {
     let mut piece = [0u8; 4096];
@@ -132,7 +132,7 @@ impl<R: Files + Drop> Library for FolderLibrary<R> {
 
     fn load(&mut self, name: &str, into: &mut Vec<u8>) -> Loaded
         ensures faults { self.new ≡ faults_after self.old result }
-        ensures appends { Appends into.old.items into.new.items }
+        ensures appends { HasBytesAppended into.old.items into.new.items }
         ensures longest { vec_len into.new ≤ vec_len into.old + 2 ^ 30 }
         ensures unchanged { result ≢ Loaded.Done → into.new.items ≡ into.old.items }
     {

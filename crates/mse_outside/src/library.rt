@@ -1,7 +1,7 @@
 //! A library of files, by its told table and its count of failures.
 
 ghost use Rattle.std.specs.Prelude.{◌≡◌, ◌≢◌, ◌≤◌, ℕ, Option, IfSome};
-ghost use Rattle.mse_outside.specs.Outside.{HasRisen, Appends, Table, IsLoadTold};
+ghost use Rattle.mse_outside.specs.Outside.{HasRisen, HasBytesAppended, Table, IsLoadEffect};
 
 /// What a load answers. With `Failed` the count of failures (`faults`) has risen, or stands at 2^64 - 1.
 #[derive(Clone, Copy, Debug, PartialEq, Eq)]
@@ -28,8 +28,8 @@ pub trait Library {
     fn load(&mut self, name: &str, into: &mut Vec<u8>) -> Loaded
         ensures same_table { table self.new ≡ table self.old }
         ensures told { IfSome (table self.old)
-            (λ files. IsLoadTold (files name.now) into.old.items into.new.items result) }
-        ensures appends { Appends into.old.items into.new.items }
+            (λ files. IsLoadEffect (files name.now) into.old.items into.new.items result) }
+        ensures appends { HasBytesAppended into.old.items into.new.items }
         ensures unchanged { result ≢ Loaded.Done → into.new.items ≡ into.old.items }
         ensures no_fewer_faults { faults self.old ≤ faults self.new }
         ensures cause { result ≡ Loaded.Failed → HasRisen (faults self.old) (faults self.new) };

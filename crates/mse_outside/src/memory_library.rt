@@ -2,7 +2,7 @@
 
 ghost use Rattle.std.specs.Prelude.{◌≡◌, ◌≢◌, ◌++◌, ◌↔◌, Option, Some, None, IsSome, IsSomeAnd, AllPairs, Contains, map, vec_len, length, string_bytes, option_map};
 ghost use Rattle.mse_outside.specs.Count.{next_count};
-ghost use Rattle.mse_outside.specs.Outside.{Appends};
+ghost use Rattle.mse_outside.specs.Outside.{HasBytesAppended};
 ghost use Rattle.mse_outside.specs.Memory.{Files, LibraryState, file_at, table_of, library_after};
 
 use crate::{Library, Loaded};
@@ -92,7 +92,7 @@ impl Library for MemoryLibrary {
             (λ bytes. into.new.items ≡ into.old.items ++ bytes) }
         ensures found { result ≡ Loaded.OutOfMemory → IsSome (table_of self.old.files name.now) }
         ensures unchanged { result ≢ Loaded.Done → into.new.items ≡ into.old.items }
-        ensures appends { Appends into.old.items into.new.items }
+        ensures appends { HasBytesAppended into.old.items into.new.items }
     {
         self.calls = self.calls.saturating_add(1);
         if self.failing.contains(&self.calls) {
@@ -155,7 +155,7 @@ impl Library for SureLibrary {
             (λ bytes. into.new.items ≡ into.old.items ++ bytes) }
         ensures found { result ≡ Loaded.OutOfMemory → IsSome (table_of self.old name.now) }
         ensures unchanged { result ≢ Loaded.Done → into.new.items ≡ into.old.items }
-        ensures appends { Appends into.old.items into.new.items }
+        ensures appends { HasBytesAppended into.old.items into.new.items }
     {
         match find_file(&self.names, &self.contents, name) {
             None => Loaded::NoFile,

@@ -2,7 +2,7 @@
 
 ghost use Rattle.std.specs.Prelude.{◌≡◌, ◌≢◌, ◌++◌, [], ℕ, List, Option, Some, None, IsSome, take};
 ghost use Rattle.mse_outside.specs.Count.{next_count};
-ghost use Rattle.mse_outside.specs.Outside.{IsPutToldIfKnown};
+ghost use Rattle.mse_outside.specs.Outside.{IsPutEffectIfKnown};
 ghost use Rattle.mse_outside.specs.Memory.{SinkState, failed_len_at, after_put};
 
 use crate::{Put, Sink};
@@ -56,7 +56,7 @@ impl MemorySink {
     }
 
     /// The bytes that were appended so far.
-    pub fn written_bytes(&self) -> &[u8]
+    pub fn written(&self) -> &[u8]
         ensures { result.now ≡ self.now.written }
     {
         self.written.as_slice()
@@ -70,7 +70,7 @@ impl Sink for MemorySink {
 
     fn put(&mut self, bytes: &[u8]) -> Put
         ensures state { self.new ≡ after_put self.old bytes.now result }
-        ensures told { IsPutToldIfKnown bytes.now (Some self.old.written)
+        ensures told { IsPutEffectIfKnown bytes.now (Some self.old.written)
             (Some self.new.written) result }
         ensures done { result ≡ Put.Done →
             failed_len_at self.old.failing (next_count self.old.calls) ≡ None }
@@ -120,7 +120,7 @@ impl SureSink {
     }
 
     /// The bytes that were appended so far.
-    pub fn written_bytes(&self) -> &[u8]
+    pub fn written(&self) -> &[u8]
         ensures { result.now ≡ self.now }
     {
         &self.written

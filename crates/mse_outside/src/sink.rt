@@ -1,7 +1,7 @@
 //! A sink of bytes, by what was written and its count of failures.
 
 ghost use Rattle.std.specs.Prelude.{◌≡◌, ◌≤◌, ℕ, List, Option};
-ghost use Rattle.mse_outside.specs.Outside.{HasRisen, IsPutToldIfKnown};
+ghost use Rattle.mse_outside.specs.Outside.{HasRisen, IsPutEffectIfKnown};
 
 /// What a put answers. With `Failed` the count of failures (`faults`) has risen, or stands at 2^64 - 1.
 #[derive(Clone, Copy, Debug, PartialEq, Eq)]
@@ -24,7 +24,7 @@ pub trait Sink {
 
     /// Appends the bytes. After any answer but `Done`, a front part of them was appended.
     fn put(&mut self, bytes: &[u8]) -> Put
-        ensures told { IsPutToldIfKnown bytes.now (written self.old) (written self.new) result }
+        ensures told { IsPutEffectIfKnown bytes.now (written self.old) (written self.new) result }
         ensures no_fewer_faults { faults self.old ≤ faults self.new }
         ensures cause { result ≡ Put.Failed → HasRisen (faults self.old) (faults self.new) };
 }

@@ -52,10 +52,10 @@ fn puts_into_memory(rt: HostRuntime) -> Result<(), Fail> {
     assert_eq!(rt; sink.put(b"cd"), Put::Failed);
     assert_eq!(rt; sink.put(b"ef"), Put::Failed);
     assert_eq!(rt; sink.put(b"gh"), Put::Done);
-    assert_eq!(rt; sink.written_bytes(), b"abcefgh".as_slice());
+    assert_eq!(rt; sink.written(), b"abcefgh".as_slice());
     let mut sure = SureSink::new(alloc);
     assert_eq!(rt; sure.put(b"ab"), Put::Done);
-    assert_eq!(rt; sure.written_bytes(), b"ab".as_slice());
+    assert_eq!(rt; sure.written(), b"ab".as_slice());
     Ok(())
 }
 

@@ -19,7 +19,7 @@ use Rattle.bmff_init.specs.Tracks.{codec_of, entry_type}
 use Rattle.bmff_write.specs.declared.track_out.TrackOut.{TrackOut}
 use Rattle.bmff_write.specs.declared.traf_out.SampleOut.{SampleOut}
 use Rattle.bmff_write.specs.declared.traf_out.TrafOut.{TrafOut}
-use Rattle.bmff_write.specs.Tracks.{AreEdits, IsTrackOut, HaveDistinctNumbers, AreTracksOut, HasType, IsSampleDescription, AreSampleDescriptions, payload_len, AreTrafsOut}
+use Rattle.bmff_write.specs.Tracks.{AreEdits, IsTrackOut, AreNumbersDistinct, AreTracksOut, HasType, IsSampleDescription, AreSampleDescriptions, payload_len, AreTrafsOut}
 use Rattle.sample_tables.specs.declared.sample.Sample.{Sample}
 use Rattle.sample_tables.specs.declared.media_track.MediaTrack.{MediaTrack}
 use Rattle.sample_tables.specs.Facts.{IsDescription, IsSampleIn, IsFileTrack, AreFileTracks}
@@ -58,7 +58,7 @@ others : (id : ℕ) (ts : List MediaTrack) → AllByRecursion (λ (u : TrackInfo
 others id [] h = tt
 others id (t ∷ ts) h = (h.0, others id ts h.1)
 
-distinct_are : (ts : List MediaTrack) → HasDistinctIds (map (λ t. t.info) ts) → HaveDistinctNumbers (map track_out ts)
+distinct_are : (ts : List MediaTrack) → HasDistinctIds (map (λ t. t.info) ts) → AreNumbersDistinct (map track_out ts)
 distinct_are [] h = tt
 distinct_are (t ∷ ts) h = (others t.info.id ts h.0, distinct_are ts h.1)
 

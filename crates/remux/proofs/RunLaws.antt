@@ -133,8 +133,8 @@ length_ordered tracks = let few = length_tracks tracks in omega (arith, few, len
 
 -- ---- the runs that the code keeps
 
-abbrev pub earlier : RunOfTrack → RunOfTrack → Bool
-earlier a b = is_lt (int_cmp a.time b.time)
+abbrev pub is_earlier : RunOfTrack → RunOfTrack → Bool
+is_earlier a b = is_lt (int_cmp a.time b.time)
 
 earlier_is : (a b : ℤ) → is_lt (int_cmp a b) ≡ int_lt a b
 earlier_is a b = by (int_lt a b) (int_lt b a)
@@ -144,16 +144,16 @@ earlier_is a b = by (int_lt a b) (int_lt b a)
     by false true = refl
     by false false = refl
 
-put_value : (r : RunOfTrack) (rs : List RunOfTrack) → map run_value (put earlier r rs) ≡ run_put (run_value r) (map run_value rs)
+put_value : (r : RunOfTrack) (rs : List RunOfTrack) → map run_value (put is_earlier r rs) ≡ run_put (run_value r) (map run_value rs)
 put_value r [] = refl
-put_value r (n ∷ ns) = ap (λ t. map run_value (cond t (n ∷ put earlier r ns) (r ∷ n ∷ ns))) (earlier_is n.time r.time) ∙ by (int_lt n.time r.time) (put_value r ns)
+put_value r (n ∷ ns) = ap (λ t. map run_value (cond t (n ∷ put is_earlier r ns) (r ∷ n ∷ ns))) (earlier_is n.time r.time) ∙ by (int_lt n.time r.time) (put_value r ns)
   where
-    by : (t : Bool) → map run_value (put earlier r ns) ≡ run_put (run_value r) (map run_value ns)
-        → map run_value (cond t (n ∷ put earlier r ns) (r ∷ n ∷ ns)) ≡ cond t (run_value n ∷ run_put (run_value r) (map run_value ns)) (run_value r ∷ run_value n ∷ map run_value ns)
+    by : (t : Bool) → map run_value (put is_earlier r ns) ≡ run_put (run_value r) (map run_value ns)
+        → map run_value (cond t (n ∷ put is_earlier r ns) (r ∷ n ∷ ns)) ≡ cond t (run_value n ∷ run_put (run_value r) (map run_value ns)) (run_value r ∷ run_value n ∷ map run_value ns)
     by true q = ap (λ ws. run_value n ∷ ws) q
     by false q = refl
 
 -- sorting them sorts what they are
-pub order_value : (rs : List RunOfTrack) → map run_value (sorted earlier rs) ≡ in_order (map run_value rs)
+pub order_value : (rs : List RunOfTrack) → map run_value (sorted is_earlier rs) ≡ in_order (map run_value rs)
 order_value [] = refl
-order_value (r ∷ rs) = put_value r (sorted earlier rs) ∙ ap (run_put (run_value r)) (order_value rs)
+order_value (r ∷ rs) = put_value r (sorted is_earlier rs) ∙ ap (run_put (run_value r)) (order_value rs)

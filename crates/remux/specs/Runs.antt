@@ -1,7 +1,7 @@
 -- The samples of a classic file in runs, each of which becomes a movie fragment (ISO/IEC 14496-12, 8.8).
 use Rattle.std.specs.Prelude.{ℕ, ◌+◌, ◌%◌, ◌^◌, ◌≤◌, nat_le, nat_lt, ◌==◌, ◌||◌, ℤ, pos, ◌-ℤ◌, int_lt, Bool, false, if◌then◌else◌, List, [], ◌∷◌, ◌++◌, length, map, sum_by}
 use Rattle.std.specs.List.{AllByRecursion, flat_map}
-use Rattle.mse_base.specs.Time.{converted}
+use Rattle.mse_base.specs.Time.{media_ticks}
 use Rattle.mse_base.specs.declared.track.Kind.{Kind}
 use Rattle.mse_base.specs.declared.track.Kind.TheVariants.{Video, Audio, Other}
 use Rattle.sample_tables.specs.declared.sample.Sample.{Sample}
@@ -79,7 +79,7 @@ sample_run track samples = record {
   id = track.info.id;
   decode = first_decode samples + track.lag;
   time =
-      converted (pos (first_decode samples + track.lag) -ℤ track.info.media_shift) track.info.scale;
+      media_ticks (pos (first_decode samples + track.lag) -ℤ track.info.media_shift) track.info.scale;
   samples = samples;
 }
 

@@ -1,6 +1,6 @@
 ghost use Rattle.std.specs.Prelude.{◌≡◌, pos, ◌-ℤ◌, ◌≤ℤ◌, ◌++◌, ◌≤◌, ◌^◌, map, OnOk, IfOk};
 ghost use Rattle.std.specs.List.{AllByRecursion};
-ghost use Rattle.mse_base.specs.Time.{converted};
+ghost use Rattle.mse_base.specs.Time.{media_ticks};
 ghost use Rattle.sample_tables.specs.Facts.{IsSampleIn, IsFileTrack};
 ghost use Rattle.remux.specs.Runs.{is_run_start, bytes_of, is_over_before, run_value, sample_run, track_runs, runs_in_order};
 
@@ -56,7 +56,7 @@ fn is_over_before(kind: Kind, position: usize, run: &[Sample], bytes: u64, sampl
 fn ticks_of(decode: u64, shift: i64, scale: u32) -> i128
     requires positive { 1 ≤ scale }
     requires shift_not_negative { pos 0 ≤ℤ shift }
-    ensures { result ≡ converted (pos decode -ℤ shift) scale }
+    ensures { result ≡ media_ticks (pos decode -ℤ shift) scale }
 {
     let media_time = i128::from(decode) - i128::from(shift);
     match convert(media_time, scale) {

@@ -41,21 +41,21 @@ field_below i p x h e =
 
 -- ---- boxes
 
-abbrev ChildBytes : ChildView × List ℕ → Type 0
-ChildBytes (Box kind payload, rest) = AreBytes payload × AreBytes rest
-ChildBytes (NoBytes, rest) = Unit {0}
-ChildBytes (NoBox, rest) = Unit {0}
+abbrev AreChildBytes : ChildView × List ℕ → Type 0
+AreChildBytes (Box kind payload, rest) = AreBytes payload × AreBytes rest
+AreChildBytes (NoBytes, rest) = Unit {0}
+AreChildBytes (NoBox, rest) = Unit {0}
 
-whole_bytes : (b kind : List ℕ) (start len : ℕ) (t : Bool) → AreBytes b → ChildBytes (cond t (NoBox, b) (Box kind (drop start (take len b)), drop len b))
+whole_bytes : (b kind : List ℕ) (start len : ℕ) (t : Bool) → AreBytes b → AreChildBytes (cond t (NoBox, b) (Box kind (drop start (take len b)), drop len b))
 whole_bytes b kind start len true h = tt
 whole_bytes b kind start len false h = (All-drop IsByte start (take len b) (All-take IsByte len b h), All-drop IsByte len b h)
 
-header_bytes : (b : List ℕ) (header : Header) → AreBytes b → ChildBytes (whole_box b header)
+header_bytes : (b : List ℕ) (header : Header) → AreBytes b → AreChildBytes (whole_box b header)
 header_bytes b (head.Whole kind start len) h = whole_bytes b kind start len (ltb (length b) len) h
 header_bytes b head.Short h = tt
 header_bytes b (head.Bad fault) h = tt
 
-child_bytes : (b : List ℕ) → AreBytes b → ChildBytes (child_of b)
+child_bytes : (b : List ℕ) → AreBytes b → AreChildBytes (child_of b)
 unfolding child_of
 child_bytes [] h = tt
 child_bytes (x ∷ b) h = header_bytes (x ∷ b) (header_of (x ∷ b)) h
@@ -63,7 +63,7 @@ child_bytes (x ∷ b) h = header_bytes (x ∷ b) (header_of (x ∷ b)) h
 pub payload_bytes : (b p : List ℕ) → AreBytes b → payload_of b ≡ Some p → AreBytes p
 payload_bytes b p h e = by (child_of b) (child_bytes b h) e
   where
-    by : (m : ChildView × List ℕ) → ChildBytes m → payload_in m ≡ Some p → AreBytes p
+    by : (m : ChildView × List ℕ) → AreChildBytes m → payload_in m ≡ Some p → AreBytes p
     by (Box kind payload, rest) k e = subst AreBytes (some_same payload p e) k.0
     by (NoBytes, rest) k e = absurd (cc)
     by (NoBox, rest) k e = absurd (cc)
@@ -77,7 +77,7 @@ row_more : (view : BoxView) (o : Option (List BoxView)) (row : List BoxView) →
 row_more view None row h k e = absurd (cc)
 row_more view (Some r) row h k e = subst (AllByRecursion IsByteBox) (some_same (view ∷ r) row e) (h, k r refl)
 
-row_step : (go : List ℕ → Option (List BoxView)) (m : ChildView × List ℕ) (row : List BoxView) → ChildBytes m → ((rest : List ℕ) (r : List BoxView) → AreBytes rest → go rest ≡ Some r → AllByRecursion IsByteBox r)
+row_step : (go : List ℕ → Option (List BoxView)) (m : ChildView × List ℕ) (row : List BoxView) → AreChildBytes m → ((rest : List ℕ) (r : List BoxView) → AreBytes rest → go rest ≡ Some r → AllByRecursion IsByteBox r)
     → row_by go m ≡ Some row → AllByRecursion IsByteBox row
 row_step go (NoBytes, rest) row h k e = subst (AllByRecursion IsByteBox) (some_same [] row e) tt
 row_step go (NoBox, rest) row h k e = absurd (cc)

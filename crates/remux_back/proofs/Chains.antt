@@ -14,7 +14,7 @@ IsChain time [] = Unit {0}
 IsChain time (s ∷ ss) = (s.decode ≡ time) × IsChain (time + s.duration) ss
 
 -- a sample whose numbers fit the fields of a run
-pub record FitsRun (s : Sample) : Type 0 where
+pub record IsFittingInRun (s : Sample) : Type 0 where
   pub duration : s.duration < 2 ^ 32
   pub offset : FitsSigned w32 s.offset
 
@@ -27,7 +27,7 @@ fits_short (negsuc n) low high = record { sfits = omega (arith, ints, low) }
 pub record IsPart (ss : List Sample) : Type 0 where
   pub time : ℕ
   pub chain : IsChain time ss
-  pub fits : AllByRecursion FitsRun ss
+  pub fits : AllByRecursion IsFittingInRun ss
 
 chain_first : (xs ys : List Sample) (time : ℕ) → IsChain time (xs ++ ys) → IsChain time xs
 chain_first [] ys time h = tt
@@ -37,12 +37,12 @@ pub all_first : {X : Type 0} (P : X → Type 0) (xs ys : List X) → AllByRecurs
 all_first P [] ys h = tt
 all_first P (x ∷ xs) ys h = (h.0, all_first P xs ys h.1)
 
-part_last : (xs ys : List Sample) (time : ℕ) → IsChain time (xs ++ ys) → AllByRecursion FitsRun (xs ++ ys) → IsPart ys
+part_last : (xs ys : List Sample) (time : ℕ) → IsChain time (xs ++ ys) → AllByRecursion IsFittingInRun (xs ++ ys) → IsPart ys
 part_last [] ys time h f = record { time = time; chain = h; fits = f }
 part_last (x ∷ xs) ys time h f = part_last xs ys (time + x.duration) h.1 f.1
 
 part_first : (xs ys : List Sample) → IsPart (xs ++ ys) → IsPart xs
-part_first xs ys h = record { time = h.time; chain = chain_first xs ys h.time h.chain; fits = all_first FitsRun xs ys h.fits }
+part_first xs ys h = record { time = h.time; chain = chain_first xs ys h.time h.chain; fits = all_first IsFittingInRun xs ys h.fits }
 
 parts_from : (kind : Kind) (position : ℕ) (run ss : List Sample) → IsPart (run ++ ss) → AllByRecursion IsPart (runs_from kind position run ss)
 parts_from kind position run [] h = (part_first run [] h, tt)

@@ -4,7 +4,7 @@ use Rattle.std.specs.List.{AllByRecursion, flat_map}
 use Rattle.std.specs.Ordering.{int_eq}
 use Rattle.std.proofs.lemmas.Bool.Decides.{Decides-int_eq}
 use Rattle.std.proofs.lemmas.Int.{ints}
-use Rattle.mse_base.specs.Time.{converted}
+use Rattle.mse_base.specs.Time.{media_ticks}
 use Rattle.mse_base.specs.declared.track.TrackInfo.{TrackInfo}
 use Rattle.mse_base.specs.declared.ticks.Moment.TheVariants.{Infinite}
 use Rattle.bmff_write.specs.declared.track_out.TrackOut.{TrackOut}
@@ -53,7 +53,7 @@ info_by t shift wait = record {
   codec = t.codec;
   scale = t.info.scale;
   media_shift = shift;
-  empty_shift = converted (pos wait) 1000;
+  empty_shift = media_ticks (pos wait) 1000;
   default_duration = 0;
   default_size = 0;
   default_flags = 0;

@@ -9,7 +9,7 @@ use Rattle.sample_tables.specs.declared.sample.Sample.{Sample}
 use Rattle.sample_tables.specs.declared.media_track.MediaTrack.{MediaTrack}
 use Rattle.remux.specs.Runs.{runs_of, SampleRun, first_decode, sample_run, track_runs, run_put, in_order, runs_in_order}
 use Rattle.remux_back.specs.Fragments.{has_track_number}
-use Rattle.remux_back.proofs.Chains.{FitsRun, IsChain, IsPart, parts_of}
+use Rattle.remux_back.proofs.Chains.{IsFittingInRun, IsChain, IsPart, parts_of}
 
 -- ---- a number names the one track that has it
 
@@ -48,7 +48,7 @@ pub record IsTold (t : MediaTrack) : Type 0 where
   pub codec : length t.codec ≡ 4
   pub lag : t.lag ≤ 2 ^ 62
   pub chain : IsChain 0 t.samples
-  pub fits : AllByRecursion FitsRun t.samples
+  pub fits : AllByRecursion IsFittingInRun t.samples
 
 -- a run of one of the tracks
 pub record IsRunIn (tracks : List MediaTrack) (run : SampleRun) : Type 0 where

@@ -11,7 +11,7 @@ use Rattle.sample_tables.specs.Samples.{sample_at, samples_of}
 use Rattle.sample_tables.specs.Rules.{is_short_offset}
 use Rattle.sample_tables.proofs.RuleLaws.{both_true, sum_cons}
 use Rattle.sample_tables.proofs.ColumnLaws.{sum_more}
-use Rattle.remux_back.proofs.Chains.{IsChain, FitsRun, fits_short}
+use Rattle.remux_back.proofs.Chains.{IsChain, IsFittingInRun, fits_short}
 use Rattle.remux_back.proofs.Tables.{IsShortTime}
 
 -- ---- decode times
@@ -63,10 +63,10 @@ offset_fits z e =
     at_most : (y : ℤ) → int_le y (pos (2 ^ 31 - 1)) ≡ true → y ≤ℤ pos (2 ^ 31 - 1)
     at_most y h = grind (arith, ints)
 
-pub samples_fit : (c : SampleColumns) → All IsShortTime c.durations → length c.durations ≡ length c.sizes → length c.offsets ≡ length c.sizes → list_all is_short_offset c.offsets ≡ true → AllByRecursion FitsRun (samples_of c)
+pub samples_fit : (c : SampleColumns) → All IsShortTime c.durations → length c.durations ≡ length c.sizes → length c.offsets ≡ length c.sizes → list_all is_short_offset c.offsets ≡ true → AllByRecursion IsFittingInRun (samples_of c)
 unfolding samples_of
 samples_fit c h d o e =
-    all_range FitsRun (sample_at c) 0 (length c.sizes) (λ i a b. record {
+    all_range IsFittingInRun (sample_at c) 0 (length c.sizes) (λ i a b. record {
       duration = All-get_or IsShortTime c.durations i 0 (omega (arith, d)) h;
       offset = offset_fits (slice_index_or c.offsets i (pos 0)) (at_all is_short_offset c.offsets i (pos 0) e (omega (arith, o)));
     })

@@ -6,7 +6,7 @@ use Rattle.std.specs.Prelude.{find, IsSome}
 use Rattle.std.proofs.lemmas.Int.{ints}
 use Rattle.std.proofs.lemmas.List.{length-map}
 use Rattle.std.proofs.lemmas.List.Sums.{sum_by-cons}
-use Rattle.mse_base.specs.Time.{converted}
+use Rattle.mse_base.specs.Time.{media_ticks}
 use Rattle.mse_base.specs.declared.frame.CodedFrame.{CodedFrame}
 use Rattle.mse_base.specs.declared.track.TrackInfo.{TrackInfo}
 use Rattle.bmff_fragment.specs.Times.{tick_at}
@@ -28,14 +28,14 @@ use Rattle.remux.proofs.PieceLaws.{length_range, payload_is, trafs_are}
 use Rattle.written_back.specs.Segments.{SegmentOut, IsTrafOf, IsSegmentOf, frame_read, samples_read, traf_read, segments_read, segments_bytes}
 use Rattle.written_back.proofs.Walked.{segment_size}
 use Rattle.remux_back.specs.Fragments.{track_info, tick_of, frame_of_sample, items_of_samples, has_track_number, items_of_run, head_len, items_of_runs}
-use Rattle.remux_back.proofs.Chains.{FitsRun, IsChain, IsPart}
+use Rattle.remux_back.proofs.Chains.{IsFittingInRun, IsChain, IsPart}
 use Rattle.remux_back.proofs.RunTracks.{IsRunIn}
 
 -- ---- the frames of samples
 
 tick_is : (t : MediaTrack) (time : ℤ) → tick_at (track_info t) time ≡ tick_of t time
 unfolding tick_at
-tick_is t time = none (converted (time -ℤ t.info.media_shift) t.info.scale)
+tick_is t time = none (media_ticks (time -ℤ t.info.media_shift) t.info.scale)
   where
     none : (z : ℤ) → z +ℤ pos 0 ≡ z
     none z = omega (arith, ints)
@@ -137,7 +137,7 @@ segments_are file tracks number at (run ∷ runs) h k =
 
 -- ---- each of them can be read
 
-samples_fit : (file : List ℕ) (ss : List Sample) → AllByRecursion FitsRun ss → AllByRecursion IsFittingSample (map (sample_out file) ss)
+samples_fit : (file : List ℕ) (ss : List Sample) → AllByRecursion IsFittingInRun ss → AllByRecursion IsFittingSample (map (sample_out file) ss)
 samples_fit file [] h = tt
 samples_fit file (s ∷ ss) h = let one = h.0 in (record { duration = one.duration; offset = one.offset }, samples_fit file ss h.1)
 

@@ -1,7 +1,7 @@
 -- What the fragments of a classic file read as (ISO BMFF byte stream format).
 use Rattle.std.specs.Prelude.{ℕ, ◌+◌, ◌*◌, ◌==◌, Bool, ℤ, pos, ◌+ℤ◌, ◌-ℤ◌, List, [], ◌∷◌, ◌++◌, length, map, find, Option, Some, None}
 use Rattle.std.specs.List.{slice_range}
-use Rattle.mse_base.specs.Time.{converted}
+use Rattle.mse_base.specs.Time.{media_ticks}
 use Rattle.mse_base.specs.declared.frame.CodedFrame.{CodedFrame}
 use Rattle.mse_base.specs.declared.ticks.Moment.TheVariants.{Infinite}
 use Rattle.mse_base.specs.declared.track.TrackInfo.{TrackInfo}
@@ -37,7 +37,7 @@ presentation_of_tracks tracks = record {
 
 -- a media time of a track, which is shifted by its edit list, in ticks
 abbrev pub tick_of : MediaTrack → ℤ → ℤ
-tick_of track time = converted (time -ℤ track.info.media_shift) track.info.scale
+tick_of track time = media_ticks (time -ℤ track.info.media_shift) track.info.scale
 
 -- when a sample is decoded, in its track's media time
 abbrev pub decode_time : MediaTrack → Sample → ℤ

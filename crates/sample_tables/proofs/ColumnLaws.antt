@@ -14,7 +14,7 @@ use Rattle.bmff_boxes.specs.declared.reading.ReadError.{ReadError}
 use Rattle.bmff_boxes.specs.declared.reading.ReadError.TheVariants.{OutOfMemory, Fault}
 use Rattle.sample_tables.specs.declared.fault.MovieFault.{MovieFault}
 use Rattle.sample_tables.specs.declared.fault.MovieFault.TheVariants.{Place}
-use Rattle.sample_tables.specs.Rules.{are_chunk_runs, has_first_chunk, is_offset_table, are_inside, places_inside, Refuses}
+use Rattle.sample_tables.specs.Rules.{are_chunk_runs, has_first_chunk, is_offset_table, are_inside, places_inside, IsPlaceRefusal}
 use Rattle.sample_tables.proofs.RuleLaws.{sum_cons, drop_next, chunk_run_parts, behind_above}
 
 -- ---- lengths
@@ -155,7 +155,7 @@ pub chunk_rest : (i : ℕ) (counts rest behind : List ℕ) → i < length counts
 chunk_rest i counts rest behind h s f = omega (arith, sum_next i counts h, s, ap length f, length-drop (get_or counts i 0) rest)
 
 -- a sample that does not lie inside the file
-pub refused : (e : ReadError MovieFault) (part : Bool) (len : ℕ) (sizes places : List ℕ) → Refuses part e → (part ≡ false → are_inside len places sizes ≡ false) → Fails e (places_inside len sizes places)
+pub refused : (e : ReadError MovieFault) (part : Bool) (len : ℕ) (sizes places : List ℕ) → IsPlaceRefusal part e → (part ≡ false → are_inside len places sizes ≡ false) → Fails e (places_inside len sizes places)
 refused OutOfMemory part len sizes places r h = tt
 refused (Fault fault) part len sizes places r h =
     ap (λ b. check Place b >>= λ _. Ok places) (h r.1) ∙ ap Err (sym r.0)

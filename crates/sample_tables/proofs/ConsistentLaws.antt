@@ -9,7 +9,7 @@ use Rattle.sample_tables.specs.Rules.{is_offset_table, is_sync_table, has_first_
 use Rattle.sample_tables.proofs.RuleLaws.{both_true}
 use Rattle.sample_tables.proofs.ColumnLaws.{length_replicate, length_durations, length_offsets, length_sync, length_counts, length_places}
 
-pub record Agree (t : SampleTables) : Type 0 where
+pub record AreConsistent (t : SampleTables) : Type 0 where
   pub durations : sum_by (λ r. r.count) t.durations ≡ sample_count t.sizes
   pub offsets : is_offset_table (sample_count t.sizes) t.offsets ≡ true
   pub sync : is_sync_table (sample_count t.sizes) t.sync ≡ true
@@ -20,7 +20,7 @@ pub record Agree (t : SampleTables) : Type 0 where
 same_of : (a b : ℕ) → eqb a b ≡ true → a ≡ b
 same_of a b e = grind (arith, nat_tests)
 
-pub agree : (t : SampleTables) → are_consistent t ≡ true → Agree t
+pub agree : (t : SampleTables) → are_consistent t ≡ true → AreConsistent t
 unfolding are_consistent
 agree t e =
     let n = sample_count t.sizes in

@@ -5,11 +5,11 @@ use Rattle.std.proofs.lemmas.Slice.Eq.{bytes_eq-Decides}
 use Rattle.std.proofs.lemmas.Bool.Decides.{nat_tests}
 use Rattle.bmff_boxes.specs.Children.{ChildView, Box, NoBytes, NoBox, child_of}
 use Rattle.bmff_boxes.specs.Reading.{◌>>=◌}
-use Rattle.bmff_boxes.proofs.ChildLaws.{Falls, child-falls}
+use Rattle.bmff_boxes.proofs.ChildLaws.{IsChildWithin, child-falls}
 use Rattle.sample_tables.specs.declared.box_place.BoxPlace.{BoxPlace}
 use Rattle.sample_tables.specs.BoxPlaces.{places_by, places_in, box_places, has_kind, first_after, first_place}
 
-agree : (total start : ℕ) (m : ChildView × List ℕ) (f g : List ℕ → Result (List BoxPlace) ℕ) (n : ℕ) → Falls n m → ((r : List ℕ) → length r < n → f r ≡ g r) → places_by f total start m ≡ places_by g total start m
+agree : (total start : ℕ) (m : ChildView × List ℕ) (f g : List ℕ → Result (List BoxPlace) ℕ) (n : ℕ) → IsChildWithin n m → ((r : List ℕ) → length r < n → f r ≡ g r) → places_by f total start m ≡ places_by g total start m
 agree total start (Box kind payload, rest) f g n h e = ap (λ r. r >>= λ places. Ok (record { kind = kind; start = start; end = total - length rest } ∷ places)) (e rest (omega arith))
 agree total start (NoBytes, rest) f g n h e = refl
 agree total start (NoBox, rest) f g n h e = refl

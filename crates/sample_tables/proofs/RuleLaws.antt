@@ -13,8 +13,8 @@ use Rattle.sample_tables.specs.Samples.{offsets_by, chunk_behind, chunk_counts}
 use Rattle.sample_tables.specs.Rules.{are_numbers, are_chunk_runs, is_short_offset}
 
 -- an element of a list as it is read there
-abbrev pub Reads : {X : Type 0} → List X → ℕ → X → Type 0
-Reads xs i x = x ≡ get_or xs i x
+abbrev pub IsReadAt : {X : Type 0} → List X → ℕ → X → Type 0
+IsReadAt xs i x = x ≡ get_or xs i x
 
 -- the next element and those behind it
 pub drop_next : {X Y : Type 0} (F : List X → Y) (xs : List X) (i : ℕ) (x : X) → i < length xs → x ≡ get_or xs i x → F (drop i xs) ≡ F (x ∷ drop (i + 1) xs)

@@ -37,7 +37,7 @@ columns_then false columns f t e = absurd (cc)
 
 -- ---- what can be written
 
-pub record InRange (track : TrackInfo) (stsd : List ℕ) (t : SampleTables) : Type 0 where
+pub record IsTrackInRange (track : TrackInfo) (stsd : List ℕ) (t : SampleTables) : Type 0 where
   pub numbered : 1 ≤ track.id
   pub below : track.id ≤ 2 ^ 32 - 2
   pub shift : track.media_shift ≤ℤ pos (2 ^ 31 - 1)
@@ -48,7 +48,7 @@ pub record InRange (track : TrackInfo) (stsd : List ℕ) (t : SampleTables) : Ty
 le_of : (a b : ℕ) → leb a b ≡ true → a ≤ b
 le_of a b e = grind (arith, nat_tests)
 
-pub range_parts : (track : TrackInfo) (stsd : List ℕ) (t : SampleTables) → is_in_range track stsd t ≡ true → InRange track stsd t
+pub range_parts : (track : TrackInfo) (stsd : List ℕ) (t : SampleTables) → is_in_range track stsd t ≡ true → IsTrackInRange track stsd t
 unfolding is_in_range
 range_parts track stsd t e =
     let a = both_true (leb 1 track.id) _ e in
@@ -68,12 +68,12 @@ range_parts track stsd t e =
     shift_of : (z : ℤ) → int_le z (pos (2 ^ 31 - 1)) ≡ true → z ≤ℤ pos (2 ^ 31 - 1)
     shift_of z h = grind (arith, ints)
 
-pub record FewParts (before : Totals) (t : SampleTables) : Type 0 where
+pub record HasFewSamples (before : Totals) (t : SampleTables) : Type 0 where
   pub samples : before.samples + sample_count t.sizes ≤ 2 ^ 22
   pub bytes : before.bytes + sum (sizes_of t.sizes) ≤ 2 ^ 30
   pub each : list_all (λ size. leb size (2 ^ 26)) (sizes_of t.sizes) ≡ true
 
-pub few_parts : (before : Totals) (t : SampleTables) → are_few before t ≡ true → FewParts before t
+pub few_parts : (before : Totals) (t : SampleTables) → are_few before t ≡ true → HasFewSamples before t
 unfolding are_few
 few_parts before t e =
     let a = both_true (leb (before.samples + sample_count t.sizes) (2 ^ 22)) _ e in
@@ -141,14 +141,14 @@ columns_sizes : (t : SampleTables) → (columns_of t).sizes ≡ sizes_of t.sizes
 unfolding columns_of
 columns_sizes t = refl
 
-pub record Read (len : ℕ) (before : Totals) (info : TrackInfo) (read : TrackTables) (t : MediaTrack) : Type 0 where
+pub record IsTrackRead (len : ℕ) (before : Totals) (info : TrackInfo) (read : TrackTables) (t : MediaTrack) : Type 0 where
   pub consistent : are_consistent read.tables ≡ true
   pub range : is_in_range info read.stsd read.tables ≡ true
   pub few : are_few before read.tables ≡ true
   pub inside : are_inside len (columns_of read.tables).places (columns_of read.tables).sizes ≡ true
   pub is : record { info = info; lag = lag_of info; stsd = read.stsd; codec = read.codec; samples = samples_of (columns_of read.tables) } ≡ t
 
-pub track_read : (len : ℕ) (before : Totals) (info : TrackInfo) (read : TrackTables) (t : MediaTrack) → media_track_with len before info read ≡ Ok t → Read len before info read t
+pub track_read : (len : ℕ) (before : Totals) (info : TrackInfo) (read : TrackTables) (t : MediaTrack) → media_track_with len before info read ≡ Ok t → IsTrackRead len before info read t
 track_read len before info read t e =
     let f : SampleColumns → MediaTrack = λ c. record { info = info; lag = lag_of info; stsd = read.stsd; codec = read.codec; samples = samples_of c } in
     let n3 : Result MediaTrack MovieFault = columns_inside len read.tables >>= λ c. Ok (f c) in
@@ -169,7 +169,7 @@ columns_complete len t c a few e = subst AreComplete (inside_by (are_inside len 
 
 -- a track of what was read
 pub track_made : (len : ℕ) (before : Totals) (info : TrackInfo) (read : TrackTables) (c : SampleColumns) (t : MediaTrack) → are_consistent read.tables ≡ true → is_in_range info read.stsd read.tables ≡ true → are_few before read.tables ≡ true → columns_inside len read.tables ≡ Ok c
-    → record { info = info; lag = lag_of info; stsd = read.stsd; codec = read.codec; samples = samples_of c } ≡ t → Read len before info read t
+    → record { info = info; lag = lag_of info; stsd = read.stsd; codec = read.codec; samples = samples_of c } ≡ t → IsTrackRead len before info read t
 track_made len before info read c t a b d e f =
     let g = inside_by (are_inside len (columns_of read.tables).places (columns_of read.tables).sizes) (columns_of read.tables) c e in
     record {
@@ -181,7 +181,7 @@ track_made len before info read c t a b d e f =
     }
 
 -- the samples of a track and of those before it
-pub track_few : (len : ℕ) (before : Totals) (info : TrackInfo) (read : TrackTables) (t : MediaTrack) → Read len before info read t → AreFew before t
+pub track_few : (len : ℕ) (before : Totals) (info : TrackInfo) (read : TrackTables) (t : MediaTrack) → IsTrackRead len before info read t → AreFew before t
 track_few len before info read t r =
     let p = few_parts before read.tables r.few in
     let c = columns_of read.tables in
@@ -192,7 +192,7 @@ track_few len before info read t r =
     subst (AreFew before) r.is all
 
 -- all that holds of the track
-pub track_facts : (len : ℕ) (before : Totals) (info : TrackInfo) (read : TrackTables) (t : MediaTrack) → Read len before info read t → IsReadable info → info.kind ≢ Other → IsDescription read.codec read.stsd → AllByRecursion (λ s. s.decode ≤ 2 ^ 54) t.samples → IsFileTrack len t
+pub track_facts : (len : ℕ) (before : Totals) (info : TrackInfo) (read : TrackTables) (t : MediaTrack) → IsTrackRead len before info read t → IsReadable info → info.kind ≢ Other → IsDescription read.codec read.stsd → AllByRecursion (λ s. s.decode ≤ 2 ^ 54) t.samples → IsFileTrack len t
 track_facts len before info read t r readable media described times =
     let p = range_parts info read.stsd read.tables r.range in
     let q = few_parts before read.tables r.few in

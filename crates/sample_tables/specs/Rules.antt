@@ -103,6 +103,6 @@ places_inside len sizes places = do
   Ok places
 
 -- a call that found no memory, or a sample that does not lie inside the file
-abbrev pub Refuses : Bool → ReadError MovieFault → Type 0
-Refuses inside OutOfMemory = Unit {0}
-Refuses inside (Fault fault) = (fault ≡ Place) × (inside ≡ false)
+abbrev pub IsPlaceRefusal : Bool → ReadError MovieFault → Type 0
+IsPlaceRefusal inside OutOfMemory = Unit {0}
+IsPlaceRefusal inside (Fault fault) = (fault ≡ Place) × (inside ≡ false)

@@ -2,7 +2,7 @@ ghost use Rattle.std.specs.Prelude.{◌≡◌, ◌++◌, ◌+◌, ◌<◌, ◌�
 ghost use Rattle.std.specs.List.{list_all, AllByRecursion};
 ghost use Rattle.bmff_boxes.specs.Reading.{Gives};
 ghost use Rattle.sample_tables.specs.Samples.{sample_count, sizes_of, durations_of, offsets_by, offsets_of, sync_by, sync_of, chunk_counts, places_from, places_of, sample_at, samples_of, AreComplete};
-ghost use Rattle.sample_tables.specs.Rules.{is_offset_table, are_numbers, is_sync_table, are_consistent, are_chunk_runs, is_short_offset, is_inside, are_inside, places_inside, Refuses};
+ghost use Rattle.sample_tables.specs.Rules.{is_offset_table, are_numbers, is_sync_table, are_consistent, are_chunk_runs, is_short_offset, is_inside, are_inside, places_inside, IsPlaceRefusal};
 ghost use Rattle.sample_tables.specs.Movies.{columns_inside};
 
 use crate::entries::{ChunkRun, DurationRun, OffsetRun, SampleSizes};
@@ -154,7 +154,8 @@ fn push_places(places: &mut Vec<u64>, len: u64, start: u64, sizes: &[u32]) -> Re
     ensures ok { OnOk result
         (places.new.items ≡ places.old.items ++ places_from start sizes.now) }
     ensures inside { OnOk result (are_inside len (places_from start sizes.now) sizes.now ≡ true) }
-    ensures err { IfErr result (Refuses (are_inside len (places_from start sizes.now) sizes.now)) }
+    ensures err { IfErr result (IsPlaceRefusal
+        (are_inside len (places_from start sizes.now) sizes.now)) }
 {
     let mut at = start;
     for size in sizes {

@@ -8,7 +8,7 @@ use Rattle.std.specs.List.{flat_map, AllByRecursion, sum_by, prefix_len}
 use Rattle.std.specs.Ordering.{int_eq}
 use Rattle.std.specs.Prelude.{◌&&◌, Err}
 use lib.Chars.{codes}
-use Rattle.mse_base.specs.Time.{SECOND, converted}
+use Rattle.mse_base.specs.Time.{SECOND, media_ticks}
 use Rattle.bmff_boxes.specs.declared.entries.EditEntry.{EditEntry}
 use Rattle.bmff_boxes.specs.Fields.{is_version}
 use Rattle.bmff_boxes.specs.MovieFields.{entry_count_of, elst_entry_of}
@@ -112,19 +112,19 @@ wait_below (edit ∷ next ∷ edits) fits =
     let one = fits.0 in
     omega (arith, ih, one.duration)
 
-wait_read : (n : ℕ) → n ≤ 1000 * 2 ^ 32 → empty_shift_of 1000 n ≡ Ok (converted (pos n) 1000)
+wait_read : (n : ℕ) → n ≤ 1000 * 2 ^ 32 → empty_shift_of 1000 n ≡ Ok (media_ticks (pos n) 1000)
 wait_read n small =
     let tick = duration-tick n 1000 (omega arith) in
     let below : n * SECOND / 1000 ≤ n * SECOND = div-le_self (n * SECOND) 1000 in
     let is = converted-is n 1000 in
-    let high : converted (pos n) 1000 ≤ℤ pos (2 ^ 109) = rw is (omega (arith, ints)) in
-    sym (shift-ok n 1000 (converted (pos n) 1000) (sym tick) high)
+    let high : media_ticks (pos n) 1000 ≤ℤ pos (2 ^ 109) = rw is (omega (arith, ints)) in
+    sym (shift-ok n 1000 (media_ticks (pos n) 1000) (sym tick) high)
 
 both : (media : Result ℤ InitFault) (empty : Result ℤ InitFault) (m e : ℤ) → media ≡ Ok m → empty ≡ Ok e → both_shifts media empty ≡ Ok (record { media = m; empty = e })
 both media empty m e a b = rw (a, b) refl
 
 abbrev pub shifts_read : List (ℕ × ℤ) → Shifts
-shifts_read edits = record { media = last_media_time edits; empty = converted (pos (wait_of edits)) 1000 }
+shifts_read edits = record { media = last_media_time edits; empty = media_ticks (pos (wait_of edits)) 1000 }
 
 edts_opened : (elst : List ℕ) (edts : List ℕ) (edits : List EditEntry) (shifts : Shifts) → row_of edts ≡ Some (record { kind = codes "elst"; payload = elst } ∷ [])
     → elst_edits_of elst ≡ Ok edits → shifts_by 1000 edits ≡ Ok shifts → shifts_in 1000 (Some edts) ≡ Ok shifts
@@ -137,5 +137,5 @@ shifts_written (edit ∷ edits) are fits =
     let parts = said all are.0 in
     let below = wait_below all fits in
     let empty = ap (empty_shift_of 1000) parts.1 ∙ wait_read (wait_of all) (omega (arith, below, are.1)) in
-    let shifts = both _ _ (last_media_time all) (converted (pos (wait_of all)) 1000) parts.0 empty in
+    let shifts = both _ _ (last_media_time all) (media_ticks (pos (wait_of all)) 1000) parts.0 empty in
     edts_opened (elst_payload all) (elst_bytes all) (map edit_read all) (shifts_read all) (elst_row all are.1) (edits_written all fits are.1) shifts

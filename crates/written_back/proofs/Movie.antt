@@ -4,7 +4,7 @@ use Rattle.std.proofs.lemmas.Bool.Decides.{nat_tests}
 use Rattle.std.specs.List.{AllByRecursion, list_all, list_any}
 use Rattle.std.specs.Prelude.{◌==◌, ◌||◌, find, unwrap_or, IsSomeAnd}
 use lib.Chars.{codes}
-use Rattle.mse_base.specs.Time.{converted}
+use Rattle.mse_base.specs.Time.{media_ticks}
 use Rattle.mse_base.specs.Presentation.{has_id}
 use Rattle.mse_base.specs.declared.ticks.Moment.TheVariants.{Infinite}
 use Rattle.mse_base.specs.declared.track.Kind.{Kind}
@@ -24,7 +24,7 @@ use Rattle.bmff_init.specs.Movies.{times_of, extends_of, presentation_in, moov_p
 use Rattle.bmff_write.specs.declared.track_out.TrackOut.{TrackOut}
 use Rattle.bmff_write.specs.Boxes.{box_bytes}
 use Rattle.bmff_write.specs.Fits.{IsFittingTrack}
-use Rattle.bmff_write.specs.Tracks.{IsTrackOut, HaveDistinctNumbers, AreTracksOut, HasType, IsSampleDescription, AreSampleDescriptions}
+use Rattle.bmff_write.specs.Tracks.{IsTrackOut, AreNumbersDistinct, AreTracksOut, HasType, IsSampleDescription, AreSampleDescriptions}
 use Rattle.bmff_write.specs.Movie.{handler_of, greatest_number, moov_bytes}
 use Rattle.bmff_write.proofs.ReadBoxes.{box_child}
 use Rattle.bmff_write.proofs.ReadMovies.{table_payload, table_row, stbl_payload, table_row_read, no_entries, information_row, minf_payload, information_read, stbl_first, mdhd_payload, hdlr_payload, media_row, mdia_payload, media_row_read, scale_read, handler_written, tkhd_payload, track_row, trak_payload, track_row_read, mdia_first, edts_first, number_read, trex_payload, trex_len, trex_zero, few_edits, trak_payloads, mvhd_payload, trex_boxes, mvex_payload, trexes_row, trexes_all, movie_row, traks_all, mvex_first, mvhd_scale, mvhd_duration, mvhd_version, moov_payload, moov_small, movie_row_read}
@@ -129,7 +129,7 @@ trexes_zero (t ∷ ts) =
     ((one.0, ih.0), (one.1, ih.1), (one.2, ih.2))
 
 abbrev content_read : TrackOut → Content
-content_read t = record { codec = t.codec; scale = t.scale; media_shift = last_media_time t.edits; empty_shift = converted (pos (wait_of t.edits)) 1000 }
+content_read t = record { codec = t.codec; scale = t.scale; media_shift = last_media_time t.edits; empty_shift = media_ticks (pos (wait_of t.edits)) 1000 }
 
 with_trexes : (ts : List TrackOut) (t : TrackOut) → track_with (map trex_payload ts) t.id t.kind (content_read t) ≡ track_read t
 with_trexes ts t =
@@ -184,7 +184,7 @@ unfolding tracks_of_traks
 tracks_step form trexes before trak traks track all a b = rw (a, b) refl
 
 tracks_written : (form : Form) → IsFragmented form → (all ts : List TrackOut) (stsds : List (List ℕ)) (before : List TrackInfo) → AllByRecursion IsTrackOut ts → AllByRecursion IsFittingTrack ts → AreSampleDescriptions ts stsds
-    → HaveDistinctNumbers ts → AreFresh before ts
+    → AreNumbersDistinct ts → AreFresh before ts
     → tracks_of_traks form 1000 (map trex_payload all) before (trak_payloads ts stsds) ≡ Ok (before ++ map track_read ts)
 unfolding tracks_of_traks
 tracks_written form fragmented all [] stsds before each fits are apart fresh = ap Ok (sym (append-nil before))

@@ -36,8 +36,8 @@ use Rattle.written_back.proofs.Fragment.{plan_written}
 -- ---- parts of a string
 
 -- the bytes stand in the string at an offset, with others behind them
-abbrev pub StandsAt : List ℕ → ℕ → List ℕ → List ℕ → Type 0
-StandsAt b at bytes rest = drop at b ≡ bytes ++ rest
+abbrev pub HasBytesAt : List ℕ → ℕ → List ℕ → List ℕ → Type 0
+HasBytesAt b at bytes rest = drop at b ≡ bytes ++ rest
 
 -- the bytes behind some of these
 pub stands_behind : (b : List ℕ) (at : ℕ) (xs ys rest : List ℕ) → drop at b ≡ xs ++ (ys ++ rest) → drop (at + length xs) b ≡ ys ++ rest

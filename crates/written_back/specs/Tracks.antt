@@ -1,6 +1,6 @@
 -- What an initialization segment of tracks reads as.
 use Rattle.std.specs.Prelude.{ℕ, ◌+◌, ℤ, pos, List, [], ◌∷◌, map}
-use Rattle.mse_base.specs.Time.{converted}
+use Rattle.mse_base.specs.Time.{media_ticks}
 use Rattle.mse_base.specs.declared.ticks.Moment.TheVariants.{Infinite}
 use Rattle.mse_base.specs.declared.track.TrackInfo.{TrackInfo}
 use Rattle.mse_base.specs.declared.track.Presentation.{Presentation}
@@ -26,7 +26,7 @@ track_read t = record {
   codec = t.codec;
   scale = t.scale;
   media_shift = last_media_time t.edits;
-  empty_shift = converted (pos (wait_of t.edits)) 1000;
+  empty_shift = media_ticks (pos (wait_of t.edits)) 1000;
   default_duration = 0;
   default_size = 0;
   default_flags = 0;

@@ -110,7 +110,7 @@ fn rows_of_boxes(rt: HostRuntime) -> Result<(), Fail> {
     Ok(())
 }
 
-// Payloads of version 0, 1 and 2 with some flags, whose other bytes are their own places.
+/// Payloads of version 0, 1 and 2 with some flags, whose other bytes are their own places.
 const ZERO: [u8; 32] = [
     0, 0, 0, 0, 4, 5, 6, 7, 8, 9, 10, 11, 12, 13, 14, 15, 16, 17, 18, 19, 20, 21, 22, 23, 24, 25,
     26, 27, 28, 29, 30, 31,

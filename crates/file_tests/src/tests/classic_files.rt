@@ -1,4 +1,4 @@
-use super::made_boxes::boxed;
+use super::made_boxes::bytes_of_box;
 use bmff_init::InitFault;
 use sample_tables::*;
 use std::alloc::Global;
@@ -13,15 +13,15 @@ fn put_table(alloc: Global, bytes: &mut Vec<u8>, table: &Table) -> Result<(), Fa
     for number in *numbers {
         payload.extend_from_slice(&number.to_be_bytes())?;
     }
-    let made = boxed(alloc, kind, &[payload.as_slice()])?;
+    let made = bytes_of_box(alloc, kind, &[payload.as_slice()])?;
     bytes.extend_from_slice(made.as_slice())?;
     Ok(())
 }
 
 /// A classic file of 32 bytes of media and a movie box with one track of these tables.
 fn classic(alloc: Global, handler: &[u8; 4], tables: &[Table]) -> Result<Vec<u8>, Fail> {
-    let entry = boxed(alloc, b"mp4a", &[])?;
-    let mut stbl = boxed(
+    let entry = bytes_of_box(alloc, b"mp4a", &[])?;
+    let mut stbl = bytes_of_box(
         alloc,
         b"stsd",
         &[&[0, 0, 0, 0, 0, 0, 0, 1], entry.as_slice()],
@@ -29,22 +29,22 @@ fn classic(alloc: Global, handler: &[u8; 4], tables: &[Table]) -> Result<Vec<u8>
     for table in tables {
         put_table(alloc, &mut stbl, table)?;
     }
-    let stbl = boxed(alloc, b"stbl", &[stbl.as_slice()])?;
-    let minf = boxed(alloc, b"minf", &[stbl.as_slice()])?;
-    let mdhd = boxed(alloc, b"mdhd", &[&[0; 12], &[0, 1, 0x5F, 0x90]])?;
-    let hdlr = boxed(alloc, b"hdlr", &[&[0; 8], handler])?;
+    let stbl = bytes_of_box(alloc, b"stbl", &[stbl.as_slice()])?;
+    let minf = bytes_of_box(alloc, b"minf", &[stbl.as_slice()])?;
+    let mdhd = bytes_of_box(alloc, b"mdhd", &[&[0; 12], &[0, 1, 0x5F, 0x90]])?;
+    let hdlr = bytes_of_box(alloc, b"hdlr", &[&[0; 8], handler])?;
     let media = [mdhd.as_slice(), hdlr.as_slice(), minf.as_slice()];
-    let mdia = boxed(alloc, b"mdia", &media)?;
-    let tkhd = boxed(alloc, b"tkhd", &[&[0; 12], &[0, 0, 0, 7]])?;
+    let mdia = bytes_of_box(alloc, b"mdia", &media)?;
+    let tkhd = bytes_of_box(alloc, b"tkhd", &[&[0; 12], &[0, 0, 0, 7]])?;
     let empty = [0, 0, 1, 0xF4, 0xFF, 0xFF, 0xFF, 0xFF, 0, 1, 0, 0];
     let plain = [0, 0, 0, 0, 0, 0, 0, 30, 0, 1, 0, 0];
-    let elst = boxed(alloc, b"elst", &[&[0, 0, 0, 0, 0, 0, 0, 2], &empty, &plain])?;
-    let edts = boxed(alloc, b"edts", &[elst.as_slice()])?;
+    let elst = bytes_of_box(alloc, b"elst", &[&[0, 0, 0, 0, 0, 0, 0, 2], &empty, &plain])?;
+    let edts = bytes_of_box(alloc, b"edts", &[elst.as_slice()])?;
     let track = [tkhd.as_slice(), edts.as_slice(), mdia.as_slice()];
-    let trak = boxed(alloc, b"trak", &track)?;
-    let mvhd = boxed(alloc, b"mvhd", &[&[0; 14], &[3, 0xE8, 0, 0, 0, 0]])?;
-    let moov = boxed(alloc, b"moov", &[mvhd.as_slice(), trak.as_slice()])?;
-    let mut file = boxed(alloc, b"mdat", &[&[0; 24]])?;
+    let trak = bytes_of_box(alloc, b"trak", &track)?;
+    let mvhd = bytes_of_box(alloc, b"mvhd", &[&[0; 14], &[3, 0xE8, 0, 0, 0, 0]])?;
+    let moov = bytes_of_box(alloc, b"moov", &[mvhd.as_slice(), trak.as_slice()])?;
+    let mut file = bytes_of_box(alloc, b"mdat", &[&[0; 24]])?;
     file.extend_from_slice(moov.as_slice())?;
     Ok(file)
 }
@@ -52,7 +52,7 @@ fn classic(alloc: Global, handler: &[u8; 4], tables: &[Table]) -> Result<Vec<u8>
 /// What a sample is: decode time, place, size, duration, composition offset, and whether it is a sync sample.
 type Told = (u64, u64, u32, u32, i32, bool);
 
-fn told(sample: &Sample) -> Told {
+fn view_of_sample(sample: &Sample) -> Told {
     (
         sample.decode,
         sample.place,
@@ -118,7 +118,7 @@ fn samples_of_tables(rt: HostRuntime) -> Result<(), Fail> {
         assert_eq!(rt; track.stsd.len(), 24);
         assert_eq!(rt; track.samples.len(), want.len());
         for (sample, wanted) in track.samples.as_slice().iter().zip(want.iter()) {
-            assert_eq!(rt; told(sample), *wanted);
+            assert_eq!(rt; view_of_sample(sample), *wanted);
         }
     }
     Ok(())

@@ -1,4 +1,4 @@
-use super::made_boxes::{boxed, overwrite};
+use super::made_boxes::{bytes_of_box, overwrite};
 use bmff_init::InitFault;
 use md5::{Digest, Md5};
 use mse_base::Bytes;
@@ -10,7 +10,7 @@ use std::test::*;
 /// A sample table box of three samples of four bytes in one chunk at 32, of which the first is a sync sample.
 fn sample_table(alloc: Global) -> Result<Vec<u8>, Fail> {
     let dpi = [0, 0x48, 0, 0, 0, 0x48, 0, 0];
-    let avc1 = boxed(
+    let avc1 = bytes_of_box(
         alloc,
         b"avc1",
         &[
@@ -23,14 +23,14 @@ fn sample_table(alloc: Global) -> Result<Vec<u8>, Fail> {
         ],
     )?;
     let count = [0, 0, 0, 0, 0, 0, 0, 1];
-    let stsd = boxed(alloc, b"stsd", &[&count, avc1.as_slice()])?;
-    let stts = boxed(alloc, b"stts", &[&count, &[0, 0, 0, 3, 0, 0, 0x0B, 0xB8]])?;
-    let stss = boxed(alloc, b"stss", &[&count, &[0, 0, 0, 1]])?;
+    let stsd = bytes_of_box(alloc, b"stsd", &[&count, avc1.as_slice()])?;
+    let stts = bytes_of_box(alloc, b"stts", &[&count, &[0, 0, 0, 3, 0, 0, 0x0B, 0xB8]])?;
+    let stss = bytes_of_box(alloc, b"stss", &[&count, &[0, 0, 0, 1]])?;
     let chunks = [0, 0, 0, 1, 0, 0, 0, 3, 0, 0, 0, 1];
-    let stsc = boxed(alloc, b"stsc", &[&count, &chunks])?;
-    let stsz = boxed(alloc, b"stsz", &[&[0, 0, 0, 0, 0, 0, 0, 4, 0, 0, 0, 3]])?;
-    let stco = boxed(alloc, b"stco", &[&count, &[0, 0, 0, 32]])?;
-    boxed(
+    let stsc = bytes_of_box(alloc, b"stsc", &[&count, &chunks])?;
+    let stsz = bytes_of_box(alloc, b"stsz", &[&[0, 0, 0, 0, 0, 0, 0, 4, 0, 0, 0, 3]])?;
+    let stco = bytes_of_box(alloc, b"stco", &[&count, &[0, 0, 0, 32]])?;
+    bytes_of_box(
         alloc,
         b"stbl",
         &[
@@ -46,18 +46,18 @@ fn sample_table(alloc: Global) -> Result<Vec<u8>, Fail> {
 
 /// A classic file of one video track, whose movie box is at 44.
 fn classic(alloc: Global) -> Result<Vec<u8>, Fail> {
-    let tkhd = boxed(alloc, b"tkhd", &[&[0; 12], &[0, 0, 0, 1]])?;
-    let mdhd = boxed(alloc, b"mdhd", &[&[0; 12], &[0, 1, 0x5F, 0x90]])?;
-    let hdlr = boxed(alloc, b"hdlr", &[&[0; 8], b"vide"])?;
+    let tkhd = bytes_of_box(alloc, b"tkhd", &[&[0; 12], &[0, 0, 0, 1]])?;
+    let mdhd = bytes_of_box(alloc, b"mdhd", &[&[0; 12], &[0, 1, 0x5F, 0x90]])?;
+    let hdlr = bytes_of_box(alloc, b"hdlr", &[&[0; 8], b"vide"])?;
     let stbl = sample_table(alloc)?;
-    let minf = boxed(alloc, b"minf", &[stbl.as_slice()])?;
+    let minf = bytes_of_box(alloc, b"minf", &[stbl.as_slice()])?;
     let media = [mdhd.as_slice(), hdlr.as_slice(), minf.as_slice()];
-    let mdia = boxed(alloc, b"mdia", &media)?;
-    let trak = boxed(alloc, b"trak", &[tkhd.as_slice(), mdia.as_slice()])?;
-    let mvhd = boxed(alloc, b"mvhd", &[&[0; 14], &[3, 0xE8, 0, 0, 0, 0]])?;
-    let moov = boxed(alloc, b"moov", &[mvhd.as_slice(), trak.as_slice()])?;
-    let mut file = boxed(alloc, b"ftyp", &[b"iso6", &[0; 4], b"iso6mp41"])?;
-    let mdat = boxed(alloc, b"mdat", &[&[0; 12]])?;
+    let mdia = bytes_of_box(alloc, b"mdia", &media)?;
+    let trak = bytes_of_box(alloc, b"trak", &[tkhd.as_slice(), mdia.as_slice()])?;
+    let mvhd = bytes_of_box(alloc, b"mvhd", &[&[0; 14], &[3, 0xE8, 0, 0, 0, 0]])?;
+    let moov = bytes_of_box(alloc, b"moov", &[mvhd.as_slice(), trak.as_slice()])?;
+    let mut file = bytes_of_box(alloc, b"ftyp", &[b"iso6", &[0; 4], b"iso6mp41"])?;
+    let mdat = bytes_of_box(alloc, b"mdat", &[&[0; 12]])?;
     file.extend_from_slice(mdat.as_slice())?;
     file.extend_from_slice(moov.as_slice())?;
     Ok(file)

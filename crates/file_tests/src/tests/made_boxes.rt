@@ -4,7 +4,11 @@ use std::alloc::Global;
 use std::test::*;
 
 /// A box of a type, with these parts behind its header.
-pub(super) fn boxed(alloc: Global, kind: &[u8; 4], parts: &[&[u8]]) -> Result<Vec<u8>, Fail> {
+pub(super) fn bytes_of_box(
+    alloc: Global,
+    kind: &[u8; 4],
+    parts: &[&[u8]],
+) -> Result<Vec<u8>, Fail> {
     let mut payload = Vec::new(alloc);
     for part in parts {
         payload.extend_from_slice(part)?;

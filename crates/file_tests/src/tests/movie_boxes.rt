@@ -1,6 +1,6 @@
 mod segments;
 
-use super::made_boxes::{boxed, overwrite};
+use super::made_boxes::{bytes_of_box, overwrite};
 use bmff_init::*;
 use mse_base::{Kind, Moment, Presentation, Ticks, TrackInfo};
 use segments::{AV1, ONE_VIDEO_TRACK, OPUS, REORDERED, TWO_TRACKS};
@@ -10,19 +10,19 @@ use std::test::*;
 
 /// A track box with the timescale 90000 and one `avc1` sample entry, and with an edit box if it is given one.
 fn track(alloc: Global, number: u8, handler: &[u8; 4], edts: &[u8]) -> Result<Vec<u8>, Fail> {
-    let tkhd = boxed(alloc, b"tkhd", &[&[0; 12], &[0, 0, 0, number]])?;
-    let mdhd = boxed(alloc, b"mdhd", &[&[0; 12], &[0, 1, 0x5F, 0x90]])?;
-    let hdlr = boxed(alloc, b"hdlr", &[&[0; 8], handler])?;
-    let avc1 = boxed(alloc, b"avc1", &[])?;
-    let stsd = boxed(
+    let tkhd = bytes_of_box(alloc, b"tkhd", &[&[0; 12], &[0, 0, 0, number]])?;
+    let mdhd = bytes_of_box(alloc, b"mdhd", &[&[0; 12], &[0, 1, 0x5F, 0x90]])?;
+    let hdlr = bytes_of_box(alloc, b"hdlr", &[&[0; 8], handler])?;
+    let avc1 = bytes_of_box(alloc, b"avc1", &[])?;
+    let stsd = bytes_of_box(
         alloc,
         b"stsd",
         &[&[0, 0, 0, 0, 0, 0, 0, 1], avc1.as_slice()],
     )?;
-    let stts = boxed(alloc, b"stts", &[&[0; 8]])?;
-    let stsc = boxed(alloc, b"stsc", &[&[0; 8]])?;
-    let stco = boxed(alloc, b"stco", &[&[0; 8]])?;
-    let stbl = boxed(
+    let stts = bytes_of_box(alloc, b"stts", &[&[0; 8]])?;
+    let stsc = bytes_of_box(alloc, b"stsc", &[&[0; 8]])?;
+    let stco = bytes_of_box(alloc, b"stco", &[&[0; 8]])?;
+    let stbl = bytes_of_box(
         alloc,
         b"stbl",
         &[
@@ -32,13 +32,13 @@ fn track(alloc: Global, number: u8, handler: &[u8; 4], edts: &[u8]) -> Result<Ve
             stco.as_slice(),
         ],
     )?;
-    let minf = boxed(alloc, b"minf", &[stbl.as_slice()])?;
-    let mdia = boxed(
+    let minf = bytes_of_box(alloc, b"minf", &[stbl.as_slice()])?;
+    let mdia = bytes_of_box(
         alloc,
         b"mdia",
         &[mdhd.as_slice(), hdlr.as_slice(), minf.as_slice()],
     )?;
-    boxed(alloc, b"trak", &[tkhd.as_slice(), edts, mdia.as_slice()])
+    bytes_of_box(alloc, b"trak", &[tkhd.as_slice(), edts, mdia.as_slice()])
 }
 
 /// The payload of a movie header with the timescale 1000.
@@ -46,9 +46,9 @@ const HEADER: &[u8] = b"\0\0\0\0\0\0\0\0\0\0\0\0\0\0\x03\xE8\0\0\0\0";
 
 /// A movie box with these tracks, and with these boxes in its movie extends box.
 fn movie(alloc: Global, header: &[u8], traks: &[u8], extends: &[u8]) -> Result<Vec<u8>, Fail> {
-    let mvhd = boxed(alloc, b"mvhd", &[header])?;
-    let mvex = boxed(alloc, b"mvex", &[extends])?;
-    boxed(alloc, b"moov", &[mvhd.as_slice(), traks, mvex.as_slice()])
+    let mvhd = bytes_of_box(alloc, b"mvhd", &[header])?;
+    let mvex = bytes_of_box(alloc, b"mvex", &[extends])?;
+    bytes_of_box(alloc, b"moov", &[mvhd.as_slice(), traks, mvex.as_slice()])
 }
 
 /// The defaults of a track.
@@ -56,7 +56,7 @@ fn trex(alloc: Global, number: u8, duration: u8) -> Result<Vec<u8>, Fail> {
     let fields = [
         0, 0, 0, number, 0, 0, 0, 1, 0, 0, 0, duration, 0, 0, 0, 7, 0, 1, 0, 0,
     ];
-    boxed(alloc, b"trex", &[&[0; 4], &fields])
+    bytes_of_box(alloc, b"trex", &[&[0; 4], &fields])
 }
 
 fn fault_of(outcome: Result<Presentation, InitError>) -> Option<InitFault> {
@@ -162,16 +162,16 @@ const FAULTS: [(Change, Change, InitFault); 34] = [
 
 /// A movie box of two tracks, the first with an edit list, and with a duration and defaults.
 fn two_tracks(alloc: Global) -> Result<Vec<u8>, Fail> {
-    let elst = boxed(
+    let elst = bytes_of_box(
         alloc,
         b"elst",
         &[&[0, 0, 0, 0, 0, 0, 0, 1], &[0; 8], &[0, 1, 0, 0]],
     )?;
-    let edts = boxed(alloc, b"edts", &[elst.as_slice()])?;
+    let edts = bytes_of_box(alloc, b"edts", &[elst.as_slice()])?;
     let mut traks = track(alloc, 1, b"vide", edts.as_slice())?;
     let second = track(alloc, 2, b"soun", &[])?;
     traks.extend_from_slice(second.as_slice())?;
-    let mut extends = boxed(alloc, b"mehd", &[&[0; 8]])?;
+    let mut extends = bytes_of_box(alloc, b"mehd", &[&[0; 8]])?;
     let defaults = trex(alloc, 1, 5)?;
     extends.extend_from_slice(defaults.as_slice())?;
     movie(alloc, HEADER, traks.as_slice(), extends.as_slice())
@@ -252,8 +252,8 @@ fn shifts(
     header: &[u8],
     edits: &[u8],
 ) -> Result<Result<(i64, i128), Option<InitFault>>, Fail> {
-    let elst = boxed(alloc, b"elst", &[edits])?;
-    let edts = boxed(alloc, b"edts", &[elst.as_slice()])?;
+    let elst = bytes_of_box(alloc, b"elst", &[edits])?;
+    let edts = bytes_of_box(alloc, b"edts", &[elst.as_slice()])?;
     let trak = track(alloc, 1, b"vide", edts.as_slice())?;
     let moov = movie(alloc, header, trak.as_slice(), &[])?;
     Ok(match read_init(alloc, moov.as_slice()) {
@@ -423,7 +423,7 @@ fn edit_lists(rt: HostRuntime) -> Result<(), Fail> {
 /// The number, kind, codec, timescale and media shift of each track.
 type Wanted = (u32, Kind, [u8; 4], u32, i64);
 
-fn told(track: &TrackInfo) -> Wanted {
+fn view_of_track(track: &TrackInfo) -> Wanted {
     let codec = track.codec;
     (track.id, track.kind, codec, track.scale, track.media_shift)
 }
@@ -450,7 +450,7 @@ fn segments_of_packagers(rt: HostRuntime) -> Result<(), Fail> {
         assert_eq!(rt; presentation.duration, Moment::Infinite);
         assert_eq!(rt; presentation.tracks.as_slice().len(), want.len());
         for (track, wanted) in presentation.tracks.as_slice().iter().zip(want.iter()) {
-            assert_eq!(rt; told(track), *wanted);
+            assert_eq!(rt; view_of_track(track), *wanted);
         }
     }
     Ok(())
@@ -466,7 +466,7 @@ fn a_classic_movie(rt: HostRuntime) -> Result<(), Fail> {
     let presentation = read_movie(alloc, classic.as_slice())
         .ok()
         .ok_or("a presentation")?;
-    let told_tracks = presentation.tracks.as_slice().first().map(told);
+    let told_tracks = presentation.tracks.as_slice().first().map(view_of_track);
     assert_eq!(rt; told_tracks, Some((1, Kind::Audio, *b"Opus", 48000, 312)));
     assert_eq!(rt;
         fault_of(read_init(alloc, classic.as_slice())),
@@ -507,7 +507,7 @@ fn many_tracks(rt: HostRuntime) -> Result<(), Fail> {
     let [.., before, last] = presentation.tracks.as_slice() else {
         return Err(Fail::new("tracks"));
     };
-    assert_eq!(rt; told(before), (63, Kind::Other, [0; 4], 1, 0));
+    assert_eq!(rt; view_of_track(before), (63, Kind::Other, [0; 4], 1, 0));
     assert_eq!(rt; defaults(before), (0, 0, 0));
     assert_eq!(rt; defaults(last), (5, 7, 0x10000));
     Ok(())
@@ -543,7 +543,7 @@ fn durations(rt: HostRuntime) -> Result<(), Fail> {
         (long_unknown, none, None),
     ];
     for (header, duration, want) in table {
-        let mehd = boxed(alloc, b"mehd", &[duration])?;
+        let mehd = bytes_of_box(alloc, b"mehd", &[duration])?;
         let moov = movie(alloc, header, &[], mehd.as_slice())?;
         let presentation = read_init(alloc, moov.as_slice())
             .ok()

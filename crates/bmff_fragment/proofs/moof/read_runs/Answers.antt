@@ -36,7 +36,7 @@ boxes-preserved-then-eq c =
       data_end_small = c.in_ok-at.ensures.data_end_small;
       time_small = c.in_ok-at.ensures.time_small;
       well_formed = c.in_ok-at.ensures.well_formed;
-      few_slots = c.in_ok-at.ensures.few_slots;
+      slots_within_samples = c.in_ok-at.ensures.slots_within_samples;
     }
 
 pub returns-clause-value : goal.returns-clause-value

@@ -14,7 +14,7 @@ invariant-boxes l = record {
   data_end_small : unsigned_abs l.at.data_end ≤ unsigned_abs l.fragment.base + 2 ^ 31 + l.at.samples * 2 ^ 32;
   time_small : l.at.decode_time ≤ 2 ^ 64 + l.at.samples * 2 ^ 32;
   well_formed : All IsWellFormed l.slots.items;
-  few_slots : vec_len l.slots ≤ l.at.samples;
+  slots_within_samples : vec_len l.slots ≤ l.at.samples;
 }
 
 abbrev pub decreases-boxes : goal.decreases-boxes

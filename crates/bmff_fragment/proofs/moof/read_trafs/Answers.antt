@@ -29,7 +29,7 @@ boxes-preserved-then-eq c =
       few = c.in_ok-at.ensures.few;
       data_end_small = omega (arith, s.invariant.data_end_small, c.in_ok-at.ensures.data_end_small, c.in-Some.ensures.shorter);
       well_formed = c.in_ok-at.ensures.well_formed;
-      few_slots = c.in_ok-at.ensures.few_slots;
+      slots_within_samples = c.in_ok-at.ensures.slots_within_samples;
     }
 
 pub returns-clause-value : goal.returns-clause-value

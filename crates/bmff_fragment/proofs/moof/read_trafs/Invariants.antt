@@ -13,7 +13,7 @@ invariant-boxes l = record {
   few : l.at.samples ≤ 2 ^ 20;
   data_end_small : unsigned_abs l.at.data_end + length l.row * 2 ^ 53 ≤ 2 ^ 117;
   well_formed : All IsWellFormed l.slots.items;
-  few_slots : vec_len l.slots ≤ l.at.samples;
+  slots_within_samples : vec_len l.slots ≤ l.at.samples;
 }
 
 abbrev pub decreases-boxes : goal.decreases-boxes

@@ -1,5 +1,5 @@
 use Rattle.std.proofs.Common.{sym, ◌∙◌, arith, subst, ◌+◌, ◌<◌, ◌^◌}
-use Rattle.bmff_init.proofs.EditLaws.{Passed, passed-none, passed-more, passed-stop, passed-absent, passed-all}
+use Rattle.bmff_init.proofs.EditLaws.{AreEmptyUpTo, passed-none, passed-more, passed-stop, passed-absent, passed-all}
 use Rattle.bmff_init.proofs.edits.empty_edits.Goals as goal
 
 pub loop-len-init : goal.loop-len-init
@@ -12,7 +12,7 @@ loop-len-preserved c =
     let short = c.loop-len.invariant.short in
     let is = c.from-duration.ensures in
     record {
-      passed = λ edits e. subst (λ n. Passed (c.loop-len.len + 1) (c.loop-len.duration + n) edits) (sym is)
+      passed = λ edits e. subst (λ n. AreEmptyUpTo (c.loop-len.len + 1) (c.loop-len.duration + n) edits) (sym is)
           (passed-more c.args.elst.now c.args.count c.loop-len.len c.loop-len.duration edits c.in-Some.edit e c.loop-len-test.true c.in-Some.ensures empty (c.loop-len.invariant.passed edits e));
       few = omega arith;
       short = omega arith;

@@ -14,7 +14,7 @@ boxes-init c = record {
 pub boxes-preserved : goal.boxes-preserved
 boxes-preserved c =
     let left = c.boxes.invariant.left in
-    let shorter = c.in-Found.ensures.shorter in
+    let shorter = c.in-Found.ensures.rest_len in
     record {
       same = first-step (length c.args.bytes.now) c.boxes.walk.rest.now c.args.kind _ _ _ c.boxes.first _ _ c.in-Found.ensures.value c.first_after-first.ensures c.boxes.invariant.same;
       left = omega (arith, left, shorter);
