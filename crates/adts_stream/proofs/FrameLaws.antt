@@ -44,10 +44,10 @@ tag-short (suc left) last at (x ∷ rest) h = by-move (going last (InTag (suc le
 -- ---- what stands at an offset
 
 -- what goes on from an offset behind `at` is the walk there
-abbrev GoesOn : (Option Presentation → ℕ → AdtsParse) → List ℕ → ℕ → Type 0
-GoesOn next b at = (last : Option Presentation) (to : ℕ) → at < to → to ≤ length b → next last to ≡ walk_parse (going last AtHeader to (drop to b))
+abbrev IsWalkBehind : (Option Presentation → ℕ → AdtsParse) → List ℕ → ℕ → Type 0
+IsWalkBehind next b at = (last : Option Presentation) (to : ℕ) → at < to → to ≤ length b → next last to ≡ walk_parse (going last AtHeader to (drop to b))
 
-tag-by : (next : Option Presentation → ℕ → AdtsParse) (b : List ℕ) (last : Option Presentation) (at n : ℕ) (c : Bool) → leb (at + n) (length b) ≡ c → at ≤ length b → 0 < n → GoesOn next b at → cond c (next last (at + n)) (NoItem (view_waiting last [])) ≡ walk_parse (going last (InTag n) at (drop at b))
+tag-by : (next : Option Presentation → ℕ → AdtsParse) (b : List ℕ) (last : Option Presentation) (at n : ℕ) (c : Bool) → leb (at + n) (length b) ≡ c → at ≤ length b → 0 < n → IsWalkBehind next b at → cond c (next last (at + n)) (NoItem (view_waiting last [])) ≡ walk_parse (going last (InTag n) at (drop at b))
 tag-by next b last at n true e h z g =
     let l : at + n ≤ length b = grind (arith, nat_tests) in
     g last (at + n) (omega arith) l ∙ sym (tag-there n last at (drop at b) (omega (arith, length-drop at b)) ∙ ap (λ rest. walk_parse (going last AtHeader (at + n) rest)) (drop-drop n at b))
@@ -55,7 +55,7 @@ tag-by next b last at n false e h z g =
     let l : length b < at + n = grind (arith, nat_tests) in
     sym (tag-short n last at (drop at b) (omega (arith, length-drop at b)))
 
-frame-by : (next : Option Presentation → ℕ → AdtsParse) (b : List ℕ) (last : Option Presentation) (at : ℕ) (h : FrameHeader) (c : Bool) → leb (at + h.len) (length b) ≡ c → at ≤ length b → 0 < h.len → GoesOn next b at → let now = view_of (going last (AtFrame h) at (drop at b)) in cond c (ItemThen now (FrameItem (coded_frame h (drop at b)) at) (ItemThen now SegmentEnd (next last (at + h.len)))) (NoItem now) ≡ walk_parse (going last (AtFrame h) at (drop at b))
+frame-by : (next : Option Presentation → ℕ → AdtsParse) (b : List ℕ) (last : Option Presentation) (at : ℕ) (h : FrameHeader) (c : Bool) → leb (at + h.len) (length b) ≡ c → at ≤ length b → 0 < h.len → IsWalkBehind next b at → let now = view_of (going last (AtFrame h) at (drop at b)) in cond c (ItemThen now (FrameItem (coded_frame h (drop at b)) at) (ItemThen now SegmentEnd (next last (at + h.len)))) (NoItem now) ≡ walk_parse (going last (AtFrame h) at (drop at b))
 frame-by next b last at h true e l z g =
     let m : at + h.len ≤ length b = grind (arith, nat_tests) in
     let rest = drop at b in
@@ -70,14 +70,14 @@ frame-by next b last at h false e l z g =
     let s = going last (AtFrame h) at (drop at b) in
     sym (by-move s Stop (once-short s h _ (omega (arith, length-drop at b))))
 
-frame-at : (next : Option Presentation → ℕ → AdtsParse) (b : List ℕ) (last : Option Presentation) (at : ℕ) (h : FrameHeader) → at ≤ length b → 0 < h.len → GoesOn next b at → frame_parse next b last at h ≡ walk_parse (going last (AtFrame h) at (drop at b))
+frame-at : (next : Option Presentation → ℕ → AdtsParse) (b : List ℕ) (last : Option Presentation) (at : ℕ) (h : FrameHeader) → at ≤ length b → 0 < h.len → IsWalkBehind next b at → frame_parse next b last at h ≡ walk_parse (going last (AtFrame h) at (drop at b))
 frame-at next b last at h l z g = frame-by next b last at h (leb (at + h.len) (length b)) refl l z g
 
-rate-by : (next : Option Presentation → ℕ → AdtsParse) (b : List ℕ) (last : Option Presentation) (at : ℕ) (h : FrameHeader) (c : Bool) → at ≤ length b → 0 < h.len → GoesOn next b at → let s = going last AtHeader at (drop at b) in let p = presentation_of h.rate in cond c (frame_parse next b last at h) (ItemThen (view_of s) (InitItem p at) (frame_parse next b (Some p) at h)) ≡ parse_by view_of s (parse_from adts view_of) (cond c (Pass (state_in s (AtFrame h))) (Give (InitItem p at) (state_after_init s h)))
+rate-by : (next : Option Presentation → ℕ → AdtsParse) (b : List ℕ) (last : Option Presentation) (at : ℕ) (h : FrameHeader) (c : Bool) → at ≤ length b → 0 < h.len → IsWalkBehind next b at → let s = going last AtHeader at (drop at b) in let p = presentation_of h.rate in cond c (frame_parse next b last at h) (ItemThen (view_of s) (InitItem p at) (frame_parse next b (Some p) at h)) ≡ parse_by view_of s (parse_from adts view_of) (cond c (Pass (state_in s (AtFrame h))) (Give (InitItem p at) (state_after_init s h)))
 rate-by next b last at h true l z g = frame-at next b last at h l z g
 rate-by next b last at h false l z g = ap (ItemThen (view_of (going last AtHeader at (drop at b))) (InitItem (presentation_of h.rate) at)) (frame-at next b (Some (presentation_of h.rate)) at h l z g)
 
-found-by : (next : Option Presentation → ℕ → AdtsParse) (b : List ℕ) (last : Option Presentation) (at : ℕ) (f : Found) → HasRoom (length (drop at b)) f → at ≤ length b → GoesOn next b at → let s = going last AtHeader at (drop at b) in found_parse next b last at f ≡ parse_by view_of s (parse_from adts view_of) (found_move s f)
+found-by : (next : Option Presentation → ℕ → AdtsParse) (b : List ℕ) (last : Option Presentation) (at : ℕ) (f : Found) → HasRoom (length (drop at b)) f → at ≤ length b → IsWalkBehind next b at → let s = going last AtHeader at (drop at b) in found_parse next b last at f ≡ parse_by view_of s (parse_from adts view_of) (found_move s f)
 found-by next b last at found.Nothing r l g = refl
 found-by next b last at (found.Tag n) r l g = tag-by next b last at n (leb (at + n) (length b)) refl l (omega (arith, r)) g
 found-by next b last at (found.Fault f) r l g =

@@ -16,30 +16,30 @@ by-test : (P : Found → Type 0) (b : Bool) (f g : Found) → P f → P g → P 
 by-test P true f g h k = h
 by-test P false f g h k = k
 
-abbrev HeaderLasts : Found → Type 0
-HeaderLasts found.Nothing = Unit {0}
-HeaderLasts (found.Tag n) = Unit {0}
-HeaderLasts (found.Fault f) = Unit {0}
-HeaderLasts (found.Frame h) = pos 0 ≤ℤ h.duration
+abbrev HasLastingHeader : Found → Type 0
+HasLastingHeader found.Nothing = Unit {0}
+HasLastingHeader (found.Tag n) = Unit {0}
+HasLastingHeader (found.Fault f) = Unit {0}
+HasLastingHeader (found.Frame h) = pos 0 ≤ℤ h.duration
 
-rate-lasts : (header : ℕ) (rate : Option ℕ) → HeaderLasts (frame_of_rate header rate)
+rate-lasts : (header : ℕ) (rate : Option ℕ) → HasLastingHeader (frame_of_rate header rate)
 rate-lasts header None = tt
-rate-lasts header (Some rate) = by-test HeaderLasts (ltb (frame_length header) (header_length header)) _ _ tt (omega (arith, ints))
+rate-lasts header (Some rate) = by-test HasLastingHeader (ltb (frame_length header) (header_length header)) _ _ tt (omega (arith, ints))
 
-frame-lasts : (header : ℕ) → HeaderLasts (frame_found header)
+frame-lasts : (header : ℕ) → HasLastingHeader (frame_found header)
 unfolding frame_found
-frame-lasts header = by-test HeaderLasts (eqb (syncword header) 4095 && eqb (layer header) 0) _ _ (rate-lasts header (slice_get sampling_frequencies (sampling_frequency_index header))) tt
+frame-lasts header = by-test HasLastingHeader (eqb (syncword header) 4095 && eqb (layer header) 0) _ _ (rate-lasts header (slice_get sampling_frequencies (sampling_frequency_index header))) tt
 
-found-lasts : (b : List ℕ) → HeaderLasts (found_at b)
+found-lasts : (b : List ℕ) → HasLastingHeader (found_at b)
 unfolding found_at
 found-lasts b =
-    by-test HeaderLasts (ltb (length b) 3) _ _ tt (
-    by-test HeaderLasts (bytes_eq (first_three b) (codes "ID3")) _ _ (by-test HeaderLasts (ltb (length b) 10) _ _ tt tt) (
-    by-test HeaderLasts (bytes_eq (first_three b) (codes "TAG")) _ _ tt (
-    by-test HeaderLasts (ltb (length b) 7) _ _ tt (frame-lasts (big_number 7 b)))))
+    by-test HasLastingHeader (ltb (length b) 3) _ _ tt (
+    by-test HasLastingHeader (bytes_eq (first_three b) (codes "ID3")) _ _ (by-test HasLastingHeader (ltb (length b) 10) _ _ tt tt) (
+    by-test HasLastingHeader (bytes_eq (first_three b) (codes "TAG")) _ _ tt (
+    by-test HasLastingHeader (ltb (length b) 7) _ _ tt (frame-lasts (big_number 7 b)))))
 
-header-lasts : (f : Found) (h : FrameHeader) → f ≡ found.Frame h → HeaderLasts f → pos 0 ≤ℤ h.duration
-header-lasts f h e k = subst HeaderLasts e k
+header-lasts : (f : Found) (h : FrameHeader) → f ≡ found.Frame h → HasLastingHeader f → pos 0 ≤ℤ h.duration
+header-lasts f h e k = subst HasLastingHeader e k
 
 pub coded-lasts : (b : List ℕ) (at : ℕ) (f : CodedFrame) → IsFrameAt b at f → pos 0 ≤ℤ f.dur
 coded-lasts b at f h = subst (λ (f : CodedFrame). pos 0 ≤ℤ f.dur) (sym h.is) (header-lasts (found_at (drop at b)) h.header h.found (found-lasts (drop at b)))

@@ -2,7 +2,7 @@
 use Rattle.std.proofs.Common.{◌≡◌, ℕ, zero, suc, ◌+◌, ◌-◌, ◌*◌, ◌<◌, ◌≤◌, ltb, cond, Bool, true, false, List, [], ◌∷◌, length, drop, Option, Some, None, Result, Ok, Err, OnOk, refl, ap, sym, ◌∙◌, subst, arith}
 use Rattle.std.proofs.lemmas.List.{length-drop}
 use Rattle.mse_base.specs.declared.track.Presentation.{Presentation}
-use Rattle.parser_loop.specs.Walk.{Move, Stop, Pass, Give, settle, settle_by, Shrinks, item_of}
+use Rattle.parser_loop.specs.Walk.{Move, Stop, Pass, Give, settled_state, settle_by, IsMoveBelow, item_of}
 use Rattle.parser_loop.proofs.Walks.{settle-step, settle-same, IsSettled}
 use Rattle.adts_stream.specs.declared.header.FrameHeader.{FrameHeader}
 use Rattle.adts_stream.specs.declared.header.Found.{Found}
@@ -14,7 +14,7 @@ use Rattle.adts_stream.specs.Headers.{found_at}
 use Rattle.parser_loop.specs.Items.{InitItem, FrameItem, SegmentEnd}
 use Rattle.adts_stream.specs.Frames.{AdtsItem, presentation_of, has_rate, coded_frame}
 use Rattle.adts_stream.specs.Walk.{WalkState, state_in, state_after_init, state_past, state_after_fault, frame_move, found_move, tag_move, move_unless, size_by, adts}
-use Rattle.adts_stream.specs.Values.{IsMoveTo, state_of, state_behind}
+use Rattle.adts_stream.specs.Values.{IsMoveTo, state_of, state_after_item}
 use Rattle.adts_stream.proofs.WalkLaws.{going, is_walk, tag-size, tag-most, once-short, once-there}
 
 -- ---- one move
@@ -22,8 +22,8 @@ use Rattle.adts_stream.proofs.WalkLaws.{going, is_walk, tag-size, tag-most, once
 -- where it only passes on
 pub moved-on : (s t : WalkState) → adts.move s ≡ Pass t → IsMoveTo s t true
 moved-on s t e =
-    let d : Shrinks adts (adts.size s) (Pass t) = subst (Shrinks adts (adts.size s)) e (is_walk.shrinks s) in
-    (sym (settle-step adts is_walk s ∙ ap (settle_by s (settle adts)) e), d)
+    let d : IsMoveBelow adts (adts.size s) (Pass t) = subst (IsMoveBelow adts (adts.size s)) e (is_walk.shrinks s) in
+    (sym (settle-step adts is_walk s ∙ ap (settle_by s (settled_state adts)) e), d)
 
 -- where it does not
 pub stays-there : (s : WalkState) (m : Move WalkState AdtsItem) → adts.move s ≡ m → IsSettled m → IsMoveTo s s false
@@ -35,7 +35,7 @@ at-position last position rest point e f = rw (e, f) refl
 
 -- ---- the bytes of a tag
 
-tag-passed : (n left : ℕ) (last : Option Presentation) (offset : ℕ) (rest : List ℕ) → n ≤ left → n ≤ length rest → settle adts (going last (InTag left) offset rest) ≡ settle adts (going last (InTag (left - n)) (offset + n) (drop n rest))
+tag-passed : (n left : ℕ) (last : Option Presentation) (offset : ℕ) (rest : List ℕ) → n ≤ left → n ≤ length rest → settled_state adts (going last (InTag left) offset rest) ≡ settled_state adts (going last (InTag (left - n)) (offset + n) (drop n rest))
 tag-passed zero left last offset rest h l =
     let e : left - 0 ≡ left = omega arith in
     let f : offset + 0 ≡ offset = omega arith in
@@ -47,9 +47,9 @@ tag-passed (suc n) (suc left) last offset (x ∷ rest) h l =
     let f : offset + suc n ≡ offset + 1 + n = omega arith in
     let g = tag-passed n left last (offset + 1) rest (omega arith) (omega arith) in
     settle-step adts is_walk (going last (InTag (suc left)) offset (x ∷ rest)) ∙ g
-    ∙ sym (ap (λ k. settle adts (going last (InTag k) (offset + suc n) (drop n rest))) e ∙ ap (λ k. settle adts (going last (InTag (left - n)) k (drop n rest))) f)
+    ∙ sym (ap (λ k. settled_state adts (going last (InTag k) (offset + suc n) (drop n rest))) e ∙ ap (λ k. settled_state adts (going last (InTag (left - n)) k (drop n rest))) f)
 
-tag-over : (last : Option Presentation) (offset : ℕ) (rest : List ℕ) → settle adts (going last (InTag 0) offset rest) ≡ settle adts (going last AtHeader offset rest)
+tag-over : (last : Option Presentation) (offset : ℕ) (rest : List ℕ) → settled_state adts (going last (InTag 0) offset rest) ≡ settled_state adts (going last AtHeader offset rest)
 tag-over last offset rest = settle-step adts is_walk (going last (InTag 0) offset rest)
 
 -- a part of the tag is there
@@ -67,7 +67,7 @@ header-size (suc left) n l k e h g = omega arith
 pub all-passed : (last : Option Presentation) (offset left n : ℕ) (rest : List ℕ) → n ≡ left → n ≤ length rest → IsMoveTo (going last (InTag left) offset rest) (going last AtHeader (offset + n) (drop n rest)) true
 all-passed last offset left n rest e l =
     let z : left - n ≡ 0 = omega arith in (
-      sym (tag-passed n left last offset rest (omega arith) l ∙ ap (λ k. settle adts (going last (InTag k) (offset + n) (drop n rest))) z ∙ tag-over last (offset + n) (drop n rest)),
+      sym (tag-passed n left last offset rest (omega arith) l ∙ ap (λ k. settled_state adts (going last (InTag k) (offset + n) (drop n rest))) z ∙ tag-over last (offset + n) (drop n rest)),
       omega (arith, header-size left n (length rest) (length (drop n rest)) e l (length-drop n rest)),
     )
 
@@ -157,32 +157,32 @@ tag-dry last offset (suc left) rest = tag-none (going last (InTag (suc left)) of
 
 -- ---- behind an item
 
-behind-by : (s t : WalkState) (m : Move WalkState AdtsItem) (item : AdtsItem) → m ≡ Give item t → IsSettled (adts.move t) → state_behind s m ≡ t
-behind-by s t m item e h = ap (state_behind s) e ∙ settle-same adts is_walk t h
+behind-by : (s t : WalkState) (m : Move WalkState AdtsItem) (item : AdtsItem) → m ≡ Give item t → IsSettled (adts.move t) → state_after_item s m ≡ t
+behind-by s t m item e h = ap (state_after_item s) e ∙ settle-same adts is_walk t h
 
 -- behind an initialization segment
-pub behind-init : (s : WalkState) (h : FrameHeader) (item : AdtsItem) → adts.move s ≡ Give item (state_after_init s h) → going (Some (presentation_of h.rate)) (AtFrame h) s.offset s.rest ≡ state_behind s (adts.move s)
+pub behind-init : (s : WalkState) (h : FrameHeader) (item : AdtsItem) → adts.move s ≡ Give item (state_after_init s h) → going (Some (presentation_of h.rate)) (AtFrame h) s.offset s.rest ≡ state_after_item s (adts.move s)
 behind-init s h item e = sym (behind-by s (state_after_init s h) (adts.move s) item e (frame-settled (Some (presentation_of h.rate)) s.offset s.rest h))
 
 -- behind a coded frame
-pub behind-frame : (s : WalkState) (h : FrameHeader) (item : AdtsItem) → adts.move s ≡ Give item (state_in s (AtEnd h)) → going s.last (AtEnd h) s.offset s.rest ≡ state_behind s (adts.move s)
+pub behind-frame : (s : WalkState) (h : FrameHeader) (item : AdtsItem) → adts.move s ≡ Give item (state_in s (AtEnd h)) → going s.last (AtEnd h) s.offset s.rest ≡ state_after_item s (adts.move s)
 behind-frame s h item e = sym (behind-by s (state_in s (AtEnd h)) (adts.move s) item e (end-settled s.last s.offset s.rest h))
 
 -- behind a fault
-pub behind-fault : (s : WalkState) (item : AdtsItem) → adts.move s ≡ Give item (state_after_fault s) → state_after_fault s ≡ state_behind s (adts.move s)
+pub behind-fault : (s : WalkState) (item : AdtsItem) → adts.move s ≡ Give item (state_after_fault s) → state_after_fault s ≡ state_after_item s (adts.move s)
 behind-fault s item e = sym (behind-by s (state_after_fault s) (adts.move s) item e tt)
 
 -- behind a segment
-pub behind-end : (s : WalkState) (n : ℕ) (item : AdtsItem) → adts.move s ≡ Give item (state_past s n) → settle adts (state_past s n) ≡ state_behind s (adts.move s)
-behind-end s n item e = sym (ap (state_behind s) e)
+pub behind-end : (s : WalkState) (n : ℕ) (item : AdtsItem) → adts.move s ≡ Give item (state_past s n) → settled_state adts (state_past s n) ≡ state_after_item s (adts.move s)
+behind-end s n item e = sym (ap (state_after_item s) e)
 
-none-behind : (s : WalkState) (m : Move WalkState AdtsItem) → item_of m ≡ None → s ≡ state_behind s m
+none-behind : (s : WalkState) (m : Move WalkState AdtsItem) → item_of m ≡ None → s ≡ state_after_item s m
 none-behind s Stop e = refl
 none-behind s (Pass t) e = refl
 none-behind s (Give item t) e = absurd (cc)
 
 -- where there is no item, what is kept stays
-pub behind-none : (s : WalkState) → item_of (adts.move s) ≡ None → s ≡ state_behind s (adts.move s)
+pub behind-none : (s : WalkState) → item_of (adts.move s) ≡ None → s ≡ state_after_item s (adts.move s)
 behind-none s e = none-behind s (adts.move s) e
 
 -- ---- moves of a position
@@ -206,7 +206,7 @@ going-at s item t false e h = e
 pub going-on : (s : WalkState) (item : AdtsItem) (t : WalkState) → adts.move s ≡ Give item t → s.failed ≡ false
 going-on s item t h = going-at s item t s.failed refl h
 
-pub kept-init : (last new_last : Option Presentation) (position new : ParsePosition) (rest : List ℕ) (h : FrameHeader) (item : AdtsItem) → let s = state_of last position rest in adts.move s ≡ Give item (state_after_init s h) → new_last ≡ Some (presentation_of h.rate) → new ≡ record { point = AtFrame h; offset = position.offset; failed = position.failed } → state_of new_last new rest ≡ state_behind s (adts.move s)
+pub kept-init : (last new_last : Option Presentation) (position new : ParsePosition) (rest : List ℕ) (h : FrameHeader) (item : AdtsItem) → let s = state_of last position rest in adts.move s ≡ Give item (state_after_init s h) → new_last ≡ Some (presentation_of h.rate) → new ≡ record { point = AtFrame h; offset = position.offset; failed = position.failed } → state_of new_last new rest ≡ state_after_item s (adts.move s)
 kept-init last new_last position new rest h item e l n =
     let s : WalkState = state_of last position rest in
     let g : position.failed ≡ false = going-on s item (state_after_init s h) e in
@@ -214,7 +214,7 @@ kept-init last new_last position new rest h item e l n =
     let at : Bool → ParsePosition = λ b. record { point = AtFrame h; offset = position.offset; failed = b } in
     ap (λ l. kept l new) l ∙ ap (kept (Some (presentation_of h.rate))) (n ∙ ap at g) ∙ behind-init s h item e
 
-pub kept-frame : (last : Option Presentation) (position new : ParsePosition) (rest : List ℕ) (h : FrameHeader) (item : AdtsItem) → let s = state_of last position rest in adts.move s ≡ Give item (state_in s (AtEnd h)) → new ≡ record { point = AtEnd h; offset = position.offset; failed = position.failed } → state_of last new rest ≡ state_behind s (adts.move s)
+pub kept-frame : (last : Option Presentation) (position new : ParsePosition) (rest : List ℕ) (h : FrameHeader) (item : AdtsItem) → let s = state_of last position rest in adts.move s ≡ Give item (state_in s (AtEnd h)) → new ≡ record { point = AtEnd h; offset = position.offset; failed = position.failed } → state_of last new rest ≡ state_after_item s (adts.move s)
 kept-frame last position new rest h item e n =
     let s : WalkState = state_of last position rest in
     let g : position.failed ≡ false = going-on s item (state_in s (AtEnd h)) e in

@@ -6,11 +6,11 @@ use Rattle.mse_base.specs.declared.frame.Phase.TheVariants.{Waiting}
 use Rattle.std.proofs.lemmas.List.{length-append, length-drop, length-take-le, append-nil, append_assoc, take-append-drop}
 use Rattle.std.proofs.lemmas.Bool.Decides.{nat_tests}
 use Rattle.mse_base.specs.declared.track.Presentation.{Presentation}
-use Rattle.parser_loop.specs.Walk.{Move, Stop, Pass, Give, Lookahead, lookahead_from, stay_at, settle, items_by, items_from, lookahead_after, item_of, count_after}
+use Rattle.parser_loop.specs.Walk.{Move, Stop, Pass, Give, Lookahead, lookahead_from, stay_at, settled_state, items_by, items_from, lookahead_after, item_of, count_after}
 use Rattle.parser_loop.specs.Walk as walk
 use Rattle.parser_loop.proofs.Walks.{IsSettled, settled, settle-same, settled-at-state, items-at, items-step}
 use Rattle.parser_loop.proofs.Lookaheads.{IsRested, lookahead-rested, lookahead-settle, stands-first, stands-after}
-use Rattle.parser_loop.specs.Items.{leading_frames, seen}
+use Rattle.parser_loop.specs.Items.{leading_frames, answer_item}
 use Rattle.parser_loop.specs.StringReadings.{StringReading, after_answer, string_from, with_bytes}
 use Rattle.parser_loop.specs.Parse.{ParserView}
 use Rattle.parser_loop.proofs.Pieces.{stands-piece, stands-start}
@@ -26,7 +26,7 @@ use Rattle.adts_stream.specs.Headers.{found_at}
 use Rattle.parser_loop.specs.Items.{InitItem, FrameItem, SegmentEnd, FaultItem, latest_after_all}
 use Rattle.adts_stream.specs.Frames.{AdtsItem, presentation_of, has_rate, coded_frame, items_of_string, phase_before, ready_before, held_before}
 use Rattle.adts_stream.specs.Walk.{WalkState, found_move, tag_move, move_unless, more_unless, state_in, state_after_init, state_past, adts, start, state_before, phase_of}
-use Rattle.adts_stream.specs.Values.{state_of, state_behind, ready_at_point, ready_unless, ready_of, position_at_start}
+use Rattle.adts_stream.specs.Values.{state_of, state_after_item, ready_at_point, ready_unless, ready_of, position_at_start}
 use Rattle.adts_stream.specs.Streams.{AdtsView, ForEachReading, Stands, StandsAfter, kept_with, kept_with_all, adts_view, IsAdtsStream}
 use Rattle.adts_stream.proofs.WalkLaws.{going, is_walk, once-short}
 use Rattle.adts_stream.proofs.Moves.{at-position, behind-none, end-whole, frame-whole}
@@ -41,8 +41,8 @@ rested Stop h = tt
 rested (Pass t) h = h
 rested (Give item t) h = refl
 
-lookahead-is : (t : WalkState) → lookahead_from adts t ≡ stay_at (settle adts t)
-lookahead-is t = sym (lookahead-settle adts is_walk t) ∙ lookahead-rested adts is_walk (settle adts t) (rested (adts.move (settle adts t)) (settled adts is_walk t))
+lookahead-is : (t : WalkState) → lookahead_from adts t ≡ stay_at (settled_state adts t)
+lookahead-is t = sym (lookahead-settle adts is_walk t) ∙ lookahead-rested adts is_walk (settled_state adts t) (rested (adts.move (settled_state adts t)) (settled adts is_walk t))
 
 lookahead-state : (r : StringReading) → lookahead_from adts (state_before r) ≡ stay_at (state_before r)
 lookahead-state r = lookahead-rested adts is_walk (state_before r) (rested (adts.move (state_before r)) (settled-at-state adts is_walk r.taken (start r.before r.whole)))
@@ -58,13 +58,13 @@ stands-given kept r h = omega (arith, h.taken, ap length (items-frames r.before 
 pub stands-item : (kept : WalkState) (r : StringReading) → Stands kept r → item_of (adts.move kept) ≡ slice_get (items_of_string r.before r.whole) r.taken
 stands-item kept r h = stands-first adts is_walk (stay_at kept) (start r.before r.whole) r.taken h ∙ ap (λ items. slice_get items r.taken) (sym (items-frames r.before r.whole))
 
-after-is : (kept : WalkState) (m : Move WalkState AdtsItem) → lookahead_after adts kept m ≡ stay_at (state_behind kept m)
+after-is : (kept : WalkState) (m : Move WalkState AdtsItem) → lookahead_after adts kept m ≡ stay_at (state_after_item kept m)
 after-is kept Stop = refl
 after-is kept (Pass t) = refl
 after-is kept (Give item t) = lookahead-is t
 
 -- behind it
-pub stands-behind : (kept : WalkState) (r : StringReading) → Stands kept r → Stands (state_behind kept (adts.move kept)) (after_answer (item_of (adts.move kept)) r)
+pub stands-behind : (kept : WalkState) (r : StringReading) → Stands kept r → Stands (state_after_item kept (adts.move kept)) (after_answer (item_of (adts.move kept)) r)
 stands-behind kept r h = subst (λ k. walk.Stands adts k (start r.before r.whole) (count_after r.taken (item_of (adts.move kept)))) (after-is kept (adts.move kept)) (stands-after adts is_walk (stay_at kept) (start r.before r.whole) r.taken h)
 
 -- with more bytes
@@ -114,15 +114,15 @@ one-frame last offset rest h l =
     ap frames_first e ∙ ap (λ items. suc (frames_first items)) f
 
 -- whether the item of a move is a coded frame
-abbrev gives_frame : Move WalkState AdtsItem → Bool
-gives_frame Stop = false
-gives_frame (Pass t) = false
-gives_frame (Give (InitItem p offset) t) = false
-gives_frame (Give (FrameItem frame offset) t) = true
-gives_frame (Give SegmentEnd t) = false
-gives_frame (Give (FaultItem f offset) t) = false
+abbrev is_frame_move : Move WalkState AdtsItem → Bool
+is_frame_move Stop = false
+is_frame_move (Pass t) = false
+is_frame_move (Give (InitItem p offset) t) = false
+is_frame_move (Give (FrameItem frame offset) t) = true
+is_frame_move (Give SegmentEnd t) = false
+is_frame_move (Give (FaultItem f offset) t) = false
 
-no-frame : (s : WalkState) (m : Move WalkState AdtsItem) → adts.move s ≡ m → IsSettled m → gives_frame m ≡ false → frames_first (items_from adts s) ≡ 0
+no-frame : (s : WalkState) (m : Move WalkState AdtsItem) → adts.move s ≡ m → IsSettled m → is_frame_move m ≡ false → frames_first (items_from adts s) ≡ 0
 no-frame s Stop e h f = ap frames_first (items-stop s e)
 no-frame s (Pass t) e h f = absurd h
 no-frame s (Give (InitItem p offset) t) e h f = ap frames_first (items-give s t (InitItem p offset) e)
@@ -130,21 +130,21 @@ no-frame s (Give (FrameItem frame offset) t) e h f = absurd (cc)
 no-frame s (Give SegmentEnd t) e h f = ap frames_first (items-give s t SegmentEnd e)
 no-frame s (Give (FaultItem g offset) t) e h f = ap frames_first (items-give s t (FaultItem g offset) e)
 
-rate-frameless : (b : Bool) (t u : WalkState) (p : Presentation) (offset : ℕ) → gives_frame (cond b (Pass t) (Give (InitItem p offset) u)) ≡ false
+rate-frameless : (b : Bool) (t u : WalkState) (p : Presentation) (offset : ℕ) → is_frame_move (cond b (Pass t) (Give (InitItem p offset) u)) ≡ false
 rate-frameless true t u p offset = refl
 rate-frameless false t u p offset = refl
 
-found-frameless : (s : WalkState) (f : Found) → gives_frame (found_move s f) ≡ false
+found-frameless : (s : WalkState) (f : Found) → is_frame_move (found_move s f) ≡ false
 found-frameless s found.Nothing = refl
 found-frameless s (found.Tag n) = refl
 found-frameless s (found.Fault f) = refl
 found-frameless s (found.Frame h) = rate-frameless (has_rate s.last h.rate) (state_in s (AtFrame h)) (state_after_init s h) (presentation_of h.rate) s.offset
 
-tag-frameless : (s : WalkState) (left : ℕ) (rest : List ℕ) → gives_frame (tag_move s left rest) ≡ false
+tag-frameless : (s : WalkState) (left : ℕ) (rest : List ℕ) → is_frame_move (tag_move s left rest) ≡ false
 tag-frameless s left [] = refl
 tag-frameless s left (x ∷ rest) = refl
 
-end-frameless : (b : Bool) (t : WalkState) → gives_frame (cond b Stop (Give SegmentEnd t)) ≡ false
+end-frameless : (b : Bool) (t : WalkState) → is_frame_move (cond b Stop (Give SegmentEnd t)) ≡ false
 end-frameless true t = refl
 end-frameless false t = refl
 
@@ -255,14 +255,14 @@ pub kept_with-failed : (last : Option Presentation) (position : ParsePosition) (
 kept_with-failed last position bytes c e =
     let s : WalkState = state_of last position bytes in
     let m : adts.move s ≡ Stop = ap (move_unless s) e in
-    sym (ap (settle adts) (more-still s c position.failed refl e) ∙ settle-same adts is_walk s (rw m tt))
+    sym (ap (settled_state adts) (more-still s c position.failed refl e) ∙ settle-same adts is_walk s (rw m tt))
 
-pub kept_with-going : (last : Option Presentation) (position : ParsePosition) (bytes : List ℕ) (k : ℕ) → position.failed ≡ false → settle adts (state_of last position bytes) ≡ kept_with (state_of last position (take k bytes)) (drop k bytes)
+pub kept_with-going : (last : Option Presentation) (position : ParsePosition) (bytes : List ℕ) (k : ℕ) → position.failed ≡ false → settled_state adts (state_of last position bytes) ≡ kept_with (state_of last position (take k bytes)) (drop k bytes)
 kept_with-going last position bytes k e =
     let s : WalkState = state_of last position (take k bytes) in
     let f : adts.more s (drop k bytes) ≡ going last position.point position.offset (take k bytes ++ drop k bytes) = ap (more_unless s (drop k bytes)) e in
     let g : state_of last position bytes ≡ going last position.point position.offset bytes = at-position last position bytes position.point refl e in
-    ap (settle adts) (g ∙ ap (going last position.point position.offset) (sym (take-append-drop k bytes)) ∙ sym f)
+    ap (settled_state adts) (g ∙ ap (going last position.point position.offset) (sym (take-append-drop k bytes)) ∙ sym f)
 
 offered-length : (bytes : List ℕ) (len : ℕ) → len ≤ length bytes → length (drop (length bytes - len) bytes) ≡ len
 offered-length bytes len h = let l = length-drop (length bytes - len) bytes in omega (arith, l)
@@ -292,14 +292,14 @@ decline-holds position bytes new n len h f =
 
 -- ---- the next item
 
-pub next-item : {E : Type 0} (result : Result (Next AdtsFault) E) (s : WalkState) → IfOk result (λ x. seen x ≡ item_of (adts.move s)) → ForEachReading s (λ r. IfOk result (λ x. seen x ≡ slice_get (items_of_string r.before r.whole) r.taken))
+pub next-item : {E : Type 0} (result : Result (Next AdtsFault) E) (s : WalkState) → IfOk result (λ x. answer_item x ≡ item_of (adts.move s)) → ForEachReading s (λ r. IfOk result (λ x. answer_item x ≡ slice_get (items_of_string r.before r.whole) r.taken))
 next-item (Ok x) s g = λ r h. g ∙ stands-item s r h
 next-item (Err e) s g = λ r h. tt
 
-pub next-stands : {E : Type 0} (result : Result (Next AdtsFault) E) (s new : WalkState) → IfOk result (λ x. seen x ≡ item_of (adts.move s)) → OnOk result (new ≡ state_behind s (adts.move s)) → IfOk result (λ x. StandsAfter s (after_answer (seen x)) new)
-next-stands (Ok x) s new g k = λ r h. subst (λ w. Stands w (after_answer (seen x) r)) (sym k) (subst (λ o. Stands (state_behind s (adts.move s)) (after_answer o r)) (sym g) (stands-behind s r h))
+pub next-stands : {E : Type 0} (result : Result (Next AdtsFault) E) (s new : WalkState) → IfOk result (λ x. answer_item x ≡ item_of (adts.move s)) → OnOk result (new ≡ state_after_item s (adts.move s)) → IfOk result (λ x. StandsAfter s (after_answer (answer_item x)) new)
+next-stands (Ok x) s new g k = λ r h. subst (λ w. Stands w (after_answer (answer_item x) r)) (sym k) (subst (λ o. Stands (state_after_item s (adts.move s)) (after_answer o r)) (sym g) (stands-behind s r h))
 next-stands (Err e) s new g k = tt
 
-pub next-dry : {E : Type 0} (result : Result (Next AdtsFault) E) (s new : WalkState) → IfOk result (λ x. seen x ≡ item_of (adts.move s)) → OnOk result (new ≡ state_behind s (adts.move s)) → IfOk result (λ x. seen x ≡ None → new ≡ s)
+pub next-dry : {E : Type 0} (result : Result (Next AdtsFault) E) (s new : WalkState) → IfOk result (λ x. answer_item x ≡ item_of (adts.move s)) → OnOk result (new ≡ state_after_item s (adts.move s)) → IfOk result (λ x. answer_item x ≡ None → new ≡ s)
 next-dry (Ok x) s new g k = λ e. k ∙ sym (behind-none s (sym g ∙ e))
 next-dry (Err x) s new g k = tt

@@ -1,7 +1,7 @@
 -- What a whole string of ADTS frames gives, frame by frame (Media Source Extensions, 3.5.1, segment parser loop, on the
 -- MPEG audio byte stream format). Each frame is a media segment; an initialization segment is made up where a frame has
 -- another sampling frequency than the latest presentation, or there is none. The coded frames have no times of their own: they are generated.
-use Rattle.std.specs.Prelude.{ℕ, zero, suc, ◌+◌, pos, nat_le, ◌==◌, Bool, true, false, if◌then◌else◌, List, [], ◌∷◌, length, take, drop, Option, Some, None}
+use Rattle.std.specs.Prelude.{ℕ, zero, suc, ◌+◌, pos, nat_le, ◌==◌, Bool, true, false, if◌then◌else◌, List, [], ◌∷◌, length, take, drop, slice_get, Option, Some, None}
 use lib.Chars.{codes}
 use Rattle.mse_base.specs.declared.frame.CodedFrame.{CodedFrame}
 use Rattle.mse_base.specs.declared.frame.Phase.{Phase}
@@ -115,6 +115,13 @@ string_parse last b = parse_at (suc (length b)) b last 0
 -- all items of the string
 abbrev pub items_of_string : Option Presentation → List ℕ → List AdtsItem
 items_of_string last b = items_of (string_parse last b)
+
+-- the next item of a reading, and the one that stands i places after it; none where the string has none there
+abbrev pub next_item : StringReading → Option AdtsItem
+next_item r = slice_get (items_of_string r.before r.whole) r.taken
+
+abbrev pub item_ahead : StringReading → ℕ → Option AdtsItem
+item_ahead r i = slice_get (items_of_string r.before r.whole) (r.taken + i)
 
 -- what is seen of the parser just before the next item of a reading, or at the end where there is none
 abbrev pub view_before : StringReading → ParserView

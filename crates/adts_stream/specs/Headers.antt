@@ -4,7 +4,7 @@ use Rattle.std.specs.Prelude.{ℕ, ◌+◌, ◌-◌, ◌*◌, ◌/◌, ◌%◌, 
 use Rattle.std.specs.Str.{bytes_eq}
 use lib.Chars.{codes}
 use Rattle.byteorder.specs.Endian.{big_number}
-use Rattle.mse_base.specs.Time.{converted}
+use Rattle.mse_base.specs.Time.{media_ticks}
 use Rattle.adts_stream.specs.declared.next.AdtsFault.TheVariants as fault
 use Rattle.adts_stream.specs.declared.header.Found.{Found}
 use Rattle.adts_stream.specs.declared.header.Found.TheVariants as found
@@ -54,7 +54,7 @@ frame_of_length header rate =
     else found.Frame
     (record {
       rate = rate;
-      duration = converted (pos (1024 * raw_data_blocks header)) rate;
+      duration = media_ticks (pos (1024 * raw_data_blocks header)) rate;
       len = frame_length header;
     })
 

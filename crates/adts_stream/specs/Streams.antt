@@ -1,7 +1,7 @@
 -- What contracts see of a stream.
 use Rattle.std.specs.Prelude.{ℕ, ◌+◌, ◌-◌, ◌<◌, ◌≤◌, ◌^◌, List, [], ◌∷◌, take, drop, length, Option, Some, None}
 use Rattle.mse_base.specs.declared.track.Presentation.{Presentation}
-use Rattle.parser_loop.specs.Walk.{settle, stay_at}
+use Rattle.parser_loop.specs.Walk.{settled_state, stay_at}
 use Rattle.parser_loop.specs.Walk as walk
 use Rattle.parser_loop.specs.StringReadings.{StringReading}
 use Rattle.adts_stream.specs.declared.position.ParsePosition.{ParsePosition}
@@ -30,7 +30,7 @@ StandsAfter old change new = ForEachReading old (λ r. Stands new (change r))
 
 -- what is kept where more bytes have come
 abbrev pub kept_with : WalkState → List ℕ → WalkState
-kept_with kept c = settle adts (adts.more kept c)
+kept_with kept c = settled_state adts (adts.more kept c)
 
 -- what is kept where these pieces have come one after the other
 abbrev pub kept_with_all : WalkState → List (List ℕ) → WalkState

@@ -1,7 +1,7 @@
 -- What the values of the code are to the walk.
 use Rattle.std.specs.Prelude.{◌≡◌, ℕ, ◌<◌, ◌≤◌, nat_le, if◌then◌else◌, Bool, true, false, List, length, Option, None}
 use Rattle.mse_base.specs.declared.track.Presentation.{Presentation}
-use Rattle.parser_loop.specs.Walk.{Move, Stop, Pass, Give, item_of, settle}
+use Rattle.parser_loop.specs.Walk.{Move, Stop, Pass, Give, item_of, settled_state}
 use Rattle.adts_stream.specs.declared.position.ParsePoint.{ParsePoint}
 use Rattle.adts_stream.specs.declared.position.ParsePoint.TheVariants.{AtHeader, InTag, AtFrame, AtEnd}
 use Rattle.adts_stream.specs.declared.position.ParsePosition.{ParsePosition}
@@ -22,8 +22,8 @@ state_of last position rest = record {
 
 -- one move on the way to the next item, where there is one, or the state just before that item
 abbrev pub IsMoveTo : WalkState → WalkState → Bool → Type 0
-IsMoveTo s t true = (settle adts t ≡ settle adts s) × (adts.size t < adts.size s)
-IsMoveTo s t false = t ≡ settle adts s
+IsMoveTo s t true = (settled_state adts t ≡ settled_state adts s) × (adts.size t < adts.size s)
+IsMoveTo s t false = t ≡ settled_state adts s
 
 -- the next item, with what the walk comes to behind it
 abbrev pub IsNextItem : WalkState → NextItem → Type 0
@@ -39,10 +39,10 @@ IsNextItem s (next_item.End h) =
 IsNextItem s (next_item.Fault f) = adts.move s ≡ Give (FaultItem f s.offset) (state_after_fault s)
 
 -- what is kept behind the item of a move
-abbrev pub state_behind : WalkState → Move WalkState AdtsItem → WalkState
-state_behind s Stop = s
-state_behind s (Pass t) = s
-state_behind s (Give item t) = settle adts t
+abbrev pub state_after_item : WalkState → Move WalkState AdtsItem → WalkState
+state_after_item s Stop = s
+state_after_item s (Pass t) = s
+state_after_item s (Give item t) = settled_state adts t
 
 -- whether a frame comes next, of which n bytes are there
 abbrev pub ready_at_point : ℕ → ParsePoint → ℕ

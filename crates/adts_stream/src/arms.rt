@@ -1,12 +1,12 @@
 ghost use Rattle.std.specs.Prelude.{◌≡◌, ◌+◌, ◌<◌, ◌≤◌, ◌^◌, length, Option, false, Some, IfOk, OnOk, OnErr};
 ghost use Rattle.std.specs.List.{concat};
-ghost use Rattle.parser_loop.specs.Walk.{item_of, settle};
+ghost use Rattle.parser_loop.specs.Walk.{item_of, settled_state};
 ghost use Rattle.mse_base.specs.declared.track.Presentation.{Presentation};
 ghost use Rattle.adts_stream.specs.declared.header.FrameHeader.{FrameHeader};
-ghost use Rattle.parser_loop.specs.Items.{FrameItem, InitItem, latest_after_any, seen};
+ghost use Rattle.parser_loop.specs.Items.{FrameItem, InitItem, latest_after_any, answer_item};
 ghost use Rattle.adts_stream.specs.Walk.{adts, state_past, state_after_fault};
 ghost use Rattle.adts_stream.specs.Frames.{coded_frame, presentation_of};
-ghost use Rattle.adts_stream.specs.Values.{state_behind, state_of};
+ghost use Rattle.adts_stream.specs.Values.{state_after_item, state_of};
 
 use crate::header::FrameHeader;
 use crate::next::AdtsNext;
@@ -64,7 +64,7 @@ pub(crate) fn look_on(
     input: &Chunks,
 ) -> Result<AdtsNext, OutOfMemory>
     ensures { IfOk result
-        (λ x. seen x ≡ item_of (adts.move (state_of last.now position (concat input.now)))) }
+        (λ x. answer_item x ≡ item_of (adts.move (state_of last.now position (concat input.now)))) }
 {
     let offset = position.offset;
     match next_item_of(last, position, input) {
@@ -87,7 +87,7 @@ fn init_on(
     header: FrameHeader,
 ) -> Result<AdtsNext, OutOfMemory>
     ensures item { IfOk result
-        (λ x. seen x ≡ Some (InitItem (presentation_of header.rate) position.old.offset)) }
+        (λ x. answer_item x ≡ Some (InitItem (presentation_of header.rate) position.old.offset)) }
     ensures last { OnOk result (last.new ≡ Some (presentation_of header.rate)) }
     ensures position { OnOk result (position.new
         ≡ record {
@@ -112,7 +112,7 @@ fn frame_on(
 ) -> Result<AdtsNext, OutOfMemory>
     requires { header.len ≤ length (concat input.now) }
     ensures item { IfOk result
-        (λ x. seen x
+        (λ x. answer_item x
         ≡ Some (FrameItem (coded_frame header (concat input.now)) position.old.offset)) }
     ensures position { OnOk result (position.new
         ≡ record {
@@ -133,7 +133,7 @@ fn end_on(last: &Option<Presentation>, position: &mut ParsePosition, input: &mut
     requires unfailed { position.old.failed ≡ false }
     requires bounded { position.old.offset + length (concat input.old) < 2 ^ 62 }
     ensures kept { state_of last.now position.new (concat input.new)
-        ≡ settle adts (state_past (state_of last.now position.old (concat input.old)) len) }
+        ≡ settled_state adts (state_past (state_of last.now position.old (concat input.old)) len) }
     ensures total { position.new.offset + length (concat input.new)
         ≡ position.old.offset + length (concat input.old) }
 {
@@ -164,11 +164,12 @@ pub(crate) fn next_on(
 ) -> Result<AdtsNext, OutOfMemory>
     requires { position.old.offset + length (concat input.old) < 2 ^ 62 }
     ensures item { IfOk result
-        (λ x. seen x ≡ item_of (adts.move (state_of last.old position.old (concat input.old)))) }
+        (λ x. answer_item x ≡ item_of (adts.move
+        (state_of last.old position.old (concat input.old)))) }
     ensures kept { OnOk result (state_of last.new position.new (concat input.new)
-        ≡ state_behind (state_of last.old position.old (concat input.old))
+        ≡ state_after_item (state_of last.old position.old (concat input.old))
         (adts.move (state_of last.old position.old (concat input.old)))) }
-    ensures last { IfOk result (λ x. last.new ≡ latest_after_any last.old (seen x)) }
+    ensures last { IfOk result (λ x. last.new ≡ latest_after_any last.old (answer_item x)) }
     ensures total { position.new.offset + length (concat input.new)
         ≤ position.old.offset + length (concat input.old) }
     ensures err { OnErr result (state_of last.new position.new (concat input.new)

@@ -1,5 +1,5 @@
 ghost use Rattle.std.specs.Prelude.{◌≡◌, ◌+◌, ◌-◌, ◌*◌, ◌/◌, ◌%◌, ◌^◌, ◌<◌, ◌≤◌, pos, length, slice_get};
-ghost use Rattle.mse_base.specs.Time.{converted};
+ghost use Rattle.mse_base.specs.Time.{media_ticks};
 ghost use Rattle.adts_stream.specs.Headers.{bits, sampling_frequencies, frame_found, id3_length, found_at};
 
 use crate::next::AdtsFault;
@@ -57,7 +57,7 @@ fn rate(index: u64) -> Option<u32>
 fn duration(blocks: u64, rate: u32) -> Ticks
     requires four { blocks ≤ 4 }
     requires positive { 1 ≤ rate }
-    ensures { result ≡ converted (pos (1024 * blocks)) rate }
+    ensures { result ≡ media_ticks (pos (1024 * blocks)) rate }
 {
     convert(i128::from(1024 * blocks), rate).unwrap()
 }

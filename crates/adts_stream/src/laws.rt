@@ -1,4 +1,4 @@
-ghost use Rattle.std.specs.Prelude.{ℕ, ◌≡◌, suc, ◌+◌, ◌<◌, ◌≤◌, List, [], ◌∷◌, ◌++◌, Option, Some, None, length, take, drop, slice_get, slice_range};
+ghost use Rattle.std.specs.Prelude.{ℕ, ◌≡◌, suc, ◌+◌, ◌<◌, ◌≤◌, List, [], ◌∷◌, ◌++◌, Option, Some, None, length, take, drop, slice_range};
 ghost use Rattle.std.specs.List.{concat};
 ghost use Rattle.mse_base.specs.declared.frame.CodedFrame.{CodedFrame};
 ghost use Rattle.mse_base.specs.declared.frame.Phase.TheVariants.{InMedia};
@@ -11,7 +11,7 @@ ghost use Rattle.adts_stream.specs.declared.header.Found.TheVariants as found;
 ghost use Rattle.adts_stream.specs.declared.next.AdtsFault.{AdtsFault};
 ghost use Rattle.adts_stream.specs.declared.next.AdtsFault.TheVariants as fault;
 ghost use Rattle.adts_stream.specs.Headers.{found_at};
-ghost use Rattle.adts_stream.specs.Frames.{items_of_string, held_before, phase_before, parse_at, presentation_of, string_parse, view_before};
+ghost use Rattle.adts_stream.specs.Frames.{items_of_string, next_item, held_before, phase_before, parse_at, presentation_of, string_parse, view_before};
 ghost use Rattle.adts_stream.specs.Places.{IsFrameAt, IsInitAt};
 ghost use Rattle.adts_stream.specs.Rows.{first_frame_items, frame_44100, frame_48000, id3_tag, next_frame_items, reading_of};
 ghost use Rattle.adts_stream.specs.Walk.{WalkState, adts, start, state_before, view_of};
@@ -38,31 +38,25 @@ pub fn frames_law()
 /// whose header stands there, and a fault is what the bytes there are refused for. The payload of a coded frame is the
 /// bytes of the string from its offset on, all of which are there.
 pub fn place_law()
-    ensures init { (before : Option Presentation) (whole : List ℕ) (i offset : ℕ)
-        (p : Presentation) → slice_get (items_of_string before whole) i ≡ Some (InitItem p offset) →
-        IsInitAt whole offset p }
-    ensures frame { (before : Option Presentation) (whole : List ℕ) (i offset : ℕ)
-        (frame : CodedFrame) →
-        slice_get (items_of_string before whole) i ≡ Some (FrameItem frame offset) →
-        IsFrameAt whole offset frame }
-    ensures payload { (before : Option Presentation) (whole : List ℕ) (i offset : ℕ)
-        (frame : CodedFrame) →
-        slice_get (items_of_string before whole) i ≡ Some (FrameItem frame offset) →
-        frame.payload ≡ slice_range whole offset (offset + length frame.payload) }
-    ensures there { (before : Option Presentation) (whole : List ℕ) (i offset : ℕ)
-        (frame : CodedFrame) →
-        slice_get (items_of_string before whole) i ≡ Some (FrameItem frame offset) →
-        offset + length frame.payload ≤ length whole }
-    ensures fault { (before : Option Presentation) (whole : List ℕ) (i offset : ℕ)
-        (f : AdtsFault) → slice_get (items_of_string before whole) i ≡ Some (FaultItem f offset) →
-        found_at (drop offset whole) ≡ found.Fault f }
+    ensures init { (r : StringReading) (p : Presentation) (offset : ℕ) →
+        next_item r ≡ Some (InitItem p offset) → IsInitAt r.whole offset p }
+    ensures frame { (r : StringReading) (frame : CodedFrame) (offset : ℕ) →
+        next_item r ≡ Some (FrameItem frame offset) → IsFrameAt r.whole offset frame }
+    ensures payload { (r : StringReading) (frame : CodedFrame) (offset : ℕ) →
+        next_item r ≡ Some (FrameItem frame offset) →
+        frame.payload ≡ slice_range r.whole offset (offset + length frame.payload) }
+    ensures there { (r : StringReading) (frame : CodedFrame) (offset : ℕ) →
+        next_item r ≡ Some (FrameItem frame offset) →
+        offset + length frame.payload ≤ length r.whole }
+    ensures fault { (r : StringReading) (f : AdtsFault) (offset : ℕ) →
+        next_item r ≡ Some (FaultItem f offset) → found_at (drop offset r.whole) ≡ found.Fault f }
 {}
 
 /// A fault is the last item.
 pub fn fault_law()
-    ensures { (before : Option Presentation) (whole : List ℕ) (i offset : ℕ) (f : AdtsFault) →
-        slice_get (items_of_string before whole) i ≡ Some (FaultItem f offset) →
-        suc i ≡ length (items_of_string before whole) }
+    ensures { (r : StringReading) (f : AdtsFault) (offset : ℕ) →
+        next_item r ≡ Some (FaultItem f offset) →
+        suc r.taken ≡ length (items_of_string r.before r.whole) }
 {}
 
 /// The bytes that are held before an item are the end of the string from some offset on.
@@ -91,7 +85,7 @@ pub fn row_law()
         ≡ take 7 frame_44100 }
     ensures tag { items_of_string None (id3_tag ++ frame_44100) ≡ first_frame_items 12 }
     ensures in_tag { held_before (reading_of (take 11 id3_tag) 0) ≡ [] }
-    ensures faster { slice_get (items_of_string None (frame_44100 ++ frame_48000)) 3
+    ensures faster { next_item (reading_of (frame_44100 ++ frame_48000) 3)
         ≡ Some (InitItem (presentation_of 48000) 10) }
     ensures sync { items_of_string None (0 ∷ 0 ∷ 0 ∷ 0 ∷ 0 ∷ 0 ∷ 0 ∷ [])
         ≡ FaultItem fault.Sync 0 ∷ [] }

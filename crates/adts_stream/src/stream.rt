@@ -1,9 +1,9 @@
-ghost use Rattle.std.specs.Prelude.{◌≡◌, ◌↔◌, ℕ, ◌+◌, ◌-◌, ◌<◌, ◌≤◌, ◌^◌, ◌⊎◌, List, [], length, slice_get, Option, Some, None, IsSome, IsTrue, IfSome, IfOk, OnOk, OnErr};
+ghost use Rattle.std.specs.Prelude.{◌≡◌, ◌↔◌, ℕ, ◌+◌, ◌-◌, ◌<◌, ◌≤◌, ◌^◌, ◌⊎◌, List, [], length, Option, Some, None, IsSome, IsTrue, IfSome, IfOk, OnOk, OnErr};
 ghost use Rattle.std.specs.List.{concat};
 ghost use Rattle.mse_base.specs.declared.frame.Phase.TheVariants.{Waiting};
 ghost use Rattle.mse_base.specs.declared.track.Presentation.{Presentation};
-ghost use Rattle.parser_loop.specs.Items.{latest_after_any, seen};
-ghost use Rattle.adts_stream.specs.Frames.{items_of_string, phase_before, ready_before, held_before};
+ghost use Rattle.parser_loop.specs.Items.{latest_after_any, answer_item};
+ghost use Rattle.adts_stream.specs.Frames.{items_of_string, next_item, item_ahead, phase_before, ready_before, held_before};
 ghost use Rattle.adts_stream.specs.Walk.{phase_of};
 ghost use Rattle.adts_stream.specs.Values.{position_at_start, ready_of, state_of};
 
@@ -193,8 +193,8 @@ impl AdtsStream {
     pub fn look(&self, i: usize) -> Result<AdtsNext, OutOfMemory>
         requires none_offered { self.now.offered ≡ None }
         requires ready { (i ≡ 0) ⊎ (i < ready_of self.now.state) }
-        ensures { ForEachReading self.now.state (λ r. IfOk result
-            (λ next. seen next ≡ slice_get (items_of_string r.before r.whole) (r.taken + i))) }
+        ensures { ForEachReading self.now.state
+            (λ r. IfOk result (λ next. answer_item next ≡ item_ahead r i)) }
     {
         look_on(self.alloc, &self.last, self.position, &self.input)
     }
@@ -203,15 +203,16 @@ impl AdtsStream {
     /// string gives none until the next reset. An `Err` changes nothing.
     pub fn next(&mut self) -> Result<AdtsNext, OutOfMemory>
         requires { self.old.offered ≡ None }
-        ensures item { ForEachReading self.old.state (λ r. IfOk result
-            (λ next. seen next ≡ slice_get (items_of_string r.before r.whole) r.taken)) }
+        ensures item { ForEachReading self.old.state
+            (λ r. IfOk result (λ next. answer_item next ≡ next_item r)) }
         ensures stands { IfOk result (λ next.
-            StandsAfter self.old.state (after_answer (seen next)) self.new.state) }
+            StandsAfter self.old.state (after_answer (answer_item next)) self.new.state) }
         ensures last { IfOk result
-            (λ next. self.new.state.last ≡ latest_after_any self.old.state.last (seen next)) }
+            (λ next. self.new.state.last ≡ latest_after_any self.old.state.last
+            (answer_item next)) }
         ensures fed { self.new.fed ≡ self.old.fed }
         ensures none_offered { self.new.offered ≡ None }
-        ensures dry { IfOk result (λ next. seen next ≡ None → self.new ≡ self.old) }
+        ensures dry { IfOk result (λ next. answer_item next ≡ None → self.new ≡ self.old) }
         ensures err { OnErr result (self.new ≡ self.old) }
     {
         next_on(
@@ -225,7 +226,7 @@ impl AdtsStream {
     /// Whether the parser waits for a segment, before the next item, or at the end of the string where there
     /// is none. Else it is in a media segment: the header of a frame was accepted, and its segment is not at
     /// its end.
-    pub fn waiting(&self) -> bool
+    pub fn is_waiting(&self) -> bool
         requires { self.now.offered ≡ None }
         ensures value { IsTrue result ↔ (phase_of self.now.state.point ≡ Waiting) }
         ensures phase { ForEachReading self.now.state (λ r.

@@ -1,6 +1,6 @@
 ghost use Rattle.std.specs.Prelude.{◌≡◌, ◌+◌, ◌-◌, ◌<◌, ◌≤◌, ◌^◌, take, drop, length, false, true, Some};
 ghost use Rattle.std.specs.List.{concat};
-ghost use Rattle.parser_loop.specs.Walk.{settle};
+ghost use Rattle.parser_loop.specs.Walk.{settled_state};
 ghost use Rattle.adts_stream.specs.declared.position.ParsePoint.TheVariants.{InTag};
 ghost use Rattle.adts_stream.specs.Headers.{found_at};
 ghost use Rattle.adts_stream.specs.Frames.{has_rate};
@@ -46,7 +46,7 @@ fn pass_tag(position: &mut ParsePosition, len_left: u64, input: &mut Chunks) -> 
     requires in_tag { position.old.point ≡ InTag len_left }
     requires unfailed { position.old.failed ≡ false }
     requires bounded { position.old.offset + length (concat input.old) < 2 ^ 62 }
-    ensures moved { (last : _) →
+    ensures one_move { (last : _) →
         IsMoveTo (state_of last position.old (concat input.old))
         (state_of last position.new (concat input.new)) result }
     ensures total { position.new.offset + length (concat input.new)
@@ -73,7 +73,7 @@ fn pass_tag(position: &mut ParsePosition, len_left: u64, input: &mut Chunks) -> 
 fn move_on(last: &Option<Presentation>, position: &mut ParsePosition, input: &mut Chunks) -> bool
     requires unfailed { position.old.failed ≡ false }
     requires bounded { position.old.offset + length (concat input.old) < 2 ^ 62 }
-    ensures moved { IsMoveTo (state_of last.now position.old (concat input.old))
+    ensures one_move { IsMoveTo (state_of last.now position.old (concat input.old))
         (state_of last.now position.new (concat input.new)) result }
     ensures total { position.new.offset + length (concat input.new)
         ≡ position.old.offset + length (concat input.old) }
@@ -110,7 +110,7 @@ pub(crate) fn settle_on(
     requires unfailed { position.old.failed ≡ false }
     requires bounded { position.old.offset + length (concat input.old) < 2 ^ 62 }
     ensures settled { state_of last.now position.new (concat input.new)
-        ≡ settle adts (state_of last.now position.old (concat input.old)) }
+        ≡ settled_state adts (state_of last.now position.old (concat input.old)) }
     ensures total { position.new.offset + length (concat input.new)
         ≡ position.old.offset + length (concat input.old) }
 {

@@ -44,46 +44,46 @@ lasts-at : (t : TrackInfo) (m : ℤ) (d scale : ℕ) → t.scale ≡ scale → p
 lasts-at t m d zero e = lasts-none t m d e
 lasts-at t m d (suc scale) e = lasts t m d (omega arith)
 
-abbrev pub Lasts : Slot → Type 0
-Lasts s = pos 0 ≤ℤ s.dur
+abbrev pub IsLastingSlot : Slot → Type 0
+IsLastingSlot s = pos 0 ≤ℤ s.dur
 
-slot-lasts : (track : TrackInfo) (time start : ℕ) (s : _) → Lasts (slot_of track time start s)
+slot-lasts : (track : TrackInfo) (time start : ℕ) (s : _) → IsLastingSlot (slot_of track time start s)
 unfolding slot_of
 slot-lasts track time start s = lasts-at track (pos time +ℤ s.offset) s.duration track.scale refl
 
 -- ---- the slots of a movie fragment
 
-run-lasts : (track : TrackInfo) (time : ℕ) (run : Run) (pairs : List (ℕ × _)) → All Lasts (map (slot_at track time run) pairs)
-run-lasts track time run [] = All-nil Lasts
-run-lasts track time run ((k, s) ∷ pairs) = All-cons Lasts (slot_at track time run (k, s)) (map (slot_at track time run) pairs) (slot-lasts track _ _ s) (run-lasts track time run pairs)
+run-lasts : (track : TrackInfo) (time : ℕ) (run : Run) (pairs : List (ℕ × _)) → All IsLastingSlot (map (slot_at track time run) pairs)
+run-lasts track time run [] = All-nil IsLastingSlot
+run-lasts track time run ((k, s) ∷ pairs) = All-cons IsLastingSlot (slot_at track time run (k, s)) (map (slot_at track time run) pairs) (slot-lasts track _ _ s) (run-lasts track time run pairs)
 
-runs-last : (track : TrackInfo) (time : ℕ) (before : List _) (runs : List Run) → All Lasts (slots_behind track time before runs)
-runs-last track time before [] = All-nil Lasts
+runs-last : (track : TrackInfo) (time : ℕ) (before : List _) (runs : List Run) → All IsLastingSlot (slots_behind track time before runs)
+runs-last track time before [] = All-nil IsLastingSlot
 runs-last track time before (run ∷ runs) =
-    All-append Lasts (slots_of_run track (time + duration_of before) run) (slots_behind track time (before ++ run.samples) runs)
+    All-append IsLastingSlot (slots_of_run track (time + duration_of before) run) (slots_behind track time (before ++ run.samples) runs)
     (run-lasts track (time + duration_of before) run (enumerate_from 0 run.samples)) (runs-last track time (before ++ run.samples) runs)
 
-kept-last : (slots : List Slot) (b : Bool) → All Lasts slots → All Lasts (cond b slots [])
+kept-last : (slots : List Slot) (b : Bool) → All IsLastingSlot slots → All IsLastingSlot (cond b slots [])
 kept-last slots true h = h
-kept-last slots false h = All-nil Lasts
+kept-last slots false h = All-nil IsLastingSlot
 
 -- what was read on the way to what came of it
-record Through {A B : Type 0} (r : Result A MoofFault) (f : A → Result B MoofFault) (y : B) : Type 0 where
+record IsOkThrough {A B : Type 0} (r : Result A MoofFault) (f : A → Result B MoofFault) (y : B) : Type 0 where
   value : A
   was : r ≡ Ok value
   then : f value ≡ Ok y
 
-through : {A B : Type 0} (r : Result A MoofFault) (f : A → Result B MoofFault) (y : B) → (r >>= f) ≡ Ok y → Through r f y
+through : {A B : Type 0} (r : Result A MoofFault) (f : A → Result B MoofFault) (y : B) → (r >>= f) ≡ Ok y → IsOkThrough r f y
 through (Ok x) f y e = record { value = x; was = refl; then = e }
 through (Err fault) f y e = absurd (cc)
 
 same-slots : (xs ys : List Slot) → ◌≡◌ {A = Result (List Slot) MoofFault} (Ok xs) (Ok ys) → ys ≡ xs
 same-slots xs ys e = cc
 
-trafs-last : (tracks : List TrackInfo) (count : ℕ) (end : ℤ) (trafs : List (List ℕ)) (slots : List Slot) → trafs_of tracks count end trafs ≡ Ok slots → All Lasts slots
+trafs-last : (tracks : List TrackInfo) (count : ℕ) (end : ℤ) (trafs : List (List ℕ)) (slots : List Slot) → trafs_of tracks count end trafs ≡ Ok slots → All IsLastingSlot slots
 trafs-last tracks count end [] slots e =
     let k : slots ≡ [] = same-slots [] slots (sym (trafs_none tracks count end) ∙ e) in
-    All-same Lasts slots [] k (All-nil Lasts)
+    All-same IsLastingSlot slots [] k (All-nil IsLastingSlot)
 trafs-last tracks count end (t ∷ ts) slots e =
     let a = through (need Size (row_of t)) _ slots (sym (trafs_more tracks count end t ts) ∙ e) in
     let b = through (track_fragment_of tracks end a.value) _ slots a.then in
@@ -92,13 +92,13 @@ trafs-last tracks count end (t ∷ ts) slots e =
     let d = through (trafs_of tracks (count + length (samples_in c.value)) (data_end f.base c.value) ts) (λ rest. Ok (media_slots f.track (slots_behind f.track f.decode_time [] c.value) ++ rest)) slots c.then in
     let own = slots_behind f.track f.decode_time [] c.value in
     let k : slots ≡ media_slots f.track own ++ d.value = same-slots (media_slots f.track own ++ d.value) slots d.then in
-    All-same Lasts slots (media_slots f.track own ++ d.value) k
-    (All-append Lasts (media_slots f.track own) d.value
+    All-same IsLastingSlot slots (media_slots f.track own ++ d.value) k
+    (All-append IsLastingSlot (media_slots f.track own) d.value
     (kept-last own (is_media f.track.kind) (runs-last f.track f.decode_time [] c.value))
     (trafs-last tracks (count + length (samples_in c.value)) (data_end f.base c.value) ts d.value d.was))
 
 -- no slot of a movie fragment lasts a negative time
-pub plan-lasts : (tracks : List TrackInfo) (moof : List ℕ) (slots : List Slot) → plan_of tracks moof ≡ Ok slots → All Lasts slots
+pub plan-lasts : (tracks : List TrackInfo) (moof : List ℕ) (slots : List Slot) → plan_of tracks moof ≡ Ok slots → All IsLastingSlot slots
 unfolding plan_of
 plan-lasts tracks moof slots e =
     let a = through (need Size (payload_of moof)) _ slots e in

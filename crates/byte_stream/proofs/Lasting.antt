@@ -11,6 +11,7 @@ use Rattle.bmff_init.specs.Movies.{init_of}
 use Rattle.bmff_fragment.specs.declared.fault.MoofFault.{MoofFault}
 use Rattle.bmff_fragment.specs.declared.slot.Slot.{Slot}
 use Rattle.bmff_fragment.specs.Plans.{plan_of}
+use Rattle.parser_loop.specs.Parse.{IfMoved}
 use Rattle.parser_loop.specs.Walk.{Move, Stop, Pass, Give, StreamKind, items_by, items_in, items_from}
 use Rattle.mse_base.specs.declared.frame.Phase.{Phase}
 use Rattle.segment_walk.specs.declared.kinds.BoxStep.{BoxStep}
@@ -18,76 +19,69 @@ use Rattle.segment_walk.specs.declared.kinds.BoxStep.TheVariants as step
 use Rattle.segment_walk.specs.Moves as segment
 use Rattle.segment_walk.specs.Tables.{SegmentItem}
 use Rattle.segment_walk.proofs.Boxes.{items-boxes}
-use Rattle.segment_walk.specs.Moves.{WalkMode, Between, Skipping, Within, open_of, move_of_init, move_of_slots, move_of_moof, act, step_of, pass_byte, segments}
+use Rattle.segment_walk.specs.Moves.{WalkMode, Between, Skipping, Within, open_of, move_of_init, move_of_slots, move_of_moof, move_of_step, step_of, move_over_byte, segments}
 use Rattle.segment_walk.specs.Strings as segment_string
-use Rattle.segment_walk.proofs.WalkLaws.{going, Fits, HasSlot, good-step}
+use Rattle.segment_walk.proofs.WalkLaws.{going, IsStepOfMode, HasSlot, good-step}
 use Rattle.parser_loop.specs.declared.next.Next.{Next}
-use Rattle.parser_loop.specs.Items.{InitItem, FrameItem, SegmentEnd, FaultItem, seen}
+use Rattle.parser_loop.specs.Items.{InitItem, FrameItem, SegmentEnd, FaultItem, answer_item}
 use Rattle.segment_walk.specs.Segments as segment_items
 use Rattle.adts_stream.specs.Frames as frame
 use Rattle.adts_stream.proofs.Places.{IsAt, item-place}
 use Rattle.adts_stream.proofs.Lasting.{coded-lasts}
 use Rattle.byte_stream.specs.declared.next.ByteFault.{ByteFault}
 use Rattle.byte_stream.specs.Readings.{Reading, ByteItem, of_segments, of_frames, items_of, items_in as reading_items, IsLasting}
-use Rattle.byte_stream.specs.Streams.{StreamView, ForEachReading, StandsForSome}
-use Rattle.byte_stream.proofs.Durations.{Lasts, plan-lasts}
+use Rattle.byte_stream.specs.Streams.{StreamView, ForEachReading, HasReading}
+use Rattle.byte_stream.proofs.Durations.{IsLastingSlot, plan-lasts}
 
--- ---- a fact that each move keeps, and that makes its item last
-
-abbrev Keeps : {S I : Type 0} → (S → Type 0) → (I → Type 0) → Move S I → Type 0
-Keeps P Q Stop = Unit {0}
-Keeps P Q (Pass t) = P t
-Keeps P Q (Give item t) = Q item × P t
-
-kept-by : {S I : Type 0} (P : S → Type 0) (Q : I → Type 0) (go : S → List I) (m : Move S I) → Keeps P Q m → ((t : S) → P t → All Q (go t)) → All Q (items_by go m)
+kept-by : {S I : Type 0} (P : S → Type 0) (Q : I → Type 0) (go : S → List I) (m : Move S I) → IfMoved P Q m → ((t : S) → P t → All Q (go t)) → All Q (items_by go m)
 kept-by P Q go Stop h f = All-nil Q
 kept-by P Q go (Pass t) h f = f t h
 kept-by P Q go (Give item t) h f = All-cons Q item (go t) h.0 (f t h.1)
 
-kept-in : {S I : Type 0} (k : StreamKind S I) (P : S → Type 0) (Q : I → Type 0) → ((s : S) → P s → Keeps P Q (k.move s)) → (n : ℕ) (s : S) → P s → All Q (items_in k n s)
+kept-in : {S I : Type 0} (k : StreamKind S I) (P : S → Type 0) (Q : I → Type 0) → ((s : S) → P s → IfMoved P Q (k.move s)) → (n : ℕ) (s : S) → P s → All Q (items_in k n s)
 kept-in k P Q f zero s h = All-nil Q
 kept-in k P Q f (suc n) s h = kept-by P Q (items_in k n) (k.move s) (f s h) (λ t g. kept-in k P Q f n t g)
 
-kept-from : {S I : Type 0} (k : StreamKind S I) (P : S → Type 0) (Q : I → Type 0) → ((s : S) → P s → Keeps P Q (k.move s)) → (s : S) → P s → All Q (items_from k s)
+kept-from : {S I : Type 0} (k : StreamKind S I) (P : S → Type 0) (Q : I → Type 0) → ((s : S) → P s → IfMoved P Q (k.move s)) → (s : S) → P s → All Q (items_from k s)
 unfolding items_from
 kept-from k P Q f s h = kept-in k P Q f (suc (k.size s)) s h
 
 -- ---- segments: the slots of an open movie fragment last
 
-abbrev OpenLasts : WalkMode → Type 0
-OpenLasts (Between begun) = Unit {0}
-OpenLasts (Skipping to left) = Unit {0}
-OpenLasts (Within o) = All Lasts o.slots
+abbrev HasLastingSlots : WalkMode → Type 0
+HasLastingSlots (Between begun) = Unit {0}
+HasLastingSlots (Skipping to left) = Unit {0}
+HasLastingSlots (Within o) = All IsLastingSlot o.slots
 
-abbrev SegmentLasts : SegmentItem → Type 0
-SegmentLasts item = IsLasting (of_segments item)
+abbrev IsLastingSegmentItem : SegmentItem → Type 0
+IsLastingSegmentItem item = IsLasting (of_segments item)
 
-abbrev SegmentKeeps : Move segment.WalkState SegmentItem → Type 0
-SegmentKeeps m = Keeps (λ (s : segment.WalkState). OpenLasts s.mode) SegmentLasts m
+abbrev IsLastingMove : Move segment.WalkState SegmentItem → Type 0
+IsLastingMove m = IfMoved (λ (s : segment.WalkState). HasLastingSlots s.mode) IsLastingSegmentItem m
 
-open-lasts : (m : WalkMode) → OpenLasts m → All Lasts (open_of m).slots
-open-lasts (Between begun) h = All-nil Lasts
-open-lasts (Skipping to left) h = All-nil Lasts
+open-lasts : (m : WalkMode) → HasLastingSlots m → All IsLastingSlot (open_of m).slots
+open-lasts (Between begun) h = All-nil IsLastingSlot
+open-lasts (Skipping to left) h = All-nil IsLastingSlot
 open-lasts (Within o) h = h
 
-slot-lasts : (m : WalkMode) (slot : Slot) → OpenLasts m → HasSlot m slot → Lasts slot
+slot-lasts : (m : WalkMode) (slot : Slot) → HasLastingSlots m → HasSlot m slot → IsLastingSlot slot
 slot-lasts (Between begun) slot h g = absurd g
 slot-lasts (Skipping to left) slot h g = absurd g
-slot-lasts (Within o) slot h g = subst Lasts (get_or_from_slice_get o.slots o.taken slot slot g) (All-get_or Lasts o.slots o.taken slot (slice_get_within o.slots o.taken slot g) h)
+slot-lasts (Within o) slot h g = subst IsLastingSlot (get_or_from_slice_get o.slots o.taken slot slot g) (All-get_or IsLastingSlot o.slots o.taken slot (slice_get_within o.slots o.taken slot g) h)
 
-keeps-init : (s : segment.WalkState) (len : ℕ) (r : Result Presentation InitFault) → OpenLasts s.mode → SegmentKeeps (move_of_init s len r)
+keeps-init : (s : segment.WalkState) (len : ℕ) (r : Result Presentation InitFault) → HasLastingSlots s.mode → IsLastingMove (move_of_init s len r)
 keeps-init s len (Ok p) h = (tt, tt)
 keeps-init s len (Err f) h = (tt, h)
 
-keeps-opened : (s : segment.WalkState) (len : ℕ) (r : Result (List Slot) MoofFault) → OpenLasts s.mode → ((slots : List Slot) → r ≡ Ok slots → All Lasts slots) → SegmentKeeps (move_of_slots s len r)
+keeps-opened : (s : segment.WalkState) (len : ℕ) (r : Result (List Slot) MoofFault) → HasLastingSlots s.mode → ((slots : List Slot) → r ≡ Ok slots → All IsLastingSlot slots) → IsLastingMove (move_of_slots s len r)
 keeps-opened s len (Ok slots) h f = f slots refl
 keeps-opened s len (Err e) h f = (tt, h)
 
-keeps-planned : (s : segment.WalkState) (len : ℕ) (with : Option Presentation) → OpenLasts s.mode → SegmentKeeps (move_of_moof s len with)
+keeps-planned : (s : segment.WalkState) (len : ℕ) (with : Option Presentation) → HasLastingSlots s.mode → IsLastingMove (move_of_moof s len with)
 keeps-planned s len None h = (tt, h)
 keeps-planned s len (Some p) h = keeps-opened s len (plan_of p.tracks (take len s.rest)) h (λ slots e. plan-lasts p.tracks (take len s.rest) slots e)
 
-keeps-act : (s : segment.WalkState) (n : ℕ) (st : BoxStep) → OpenLasts s.mode → Fits s.mode n st → SegmentKeeps (act s st)
+keeps-act : (s : segment.WalkState) (n : ℕ) (st : BoxStep) → HasLastingSlots s.mode → IsStepOfMode s.mode n st → IsLastingMove (move_of_step s st)
 keeps-act s n (step.Wait w) h f = tt
 keeps-act s n (step.Skip to len) h f = tt
 keeps-act s n (step.ReadInit len) h f = keeps-init s len (init_of (take len s.rest)) h
@@ -98,26 +92,26 @@ keeps-act s n (step.GiveFrame slot) h f = (slot-lasts s.mode slot h f.0, open-la
 keeps-act s n (step.EndSegment end) h f = (tt, tt)
 keeps-act s n (step.Fail g at) h f = (tt, h)
 
-keeps-byte : (s : segment.WalkState) (to : Phase) (left : ℕ) (rest : List ℕ) → SegmentKeeps (pass_byte s to left rest)
+keeps-byte : (s : segment.WalkState) (to : Phase) (left : ℕ) (rest : List ℕ) → IsLastingMove (move_over_byte s to left rest)
 keeps-byte s to left [] = tt
 keeps-byte s to left (x ∷ rest) = tt
 
-keeps-segment : (last : Option Presentation) (m : WalkMode) (offset : ℕ) (rest : List ℕ) (failed : Bool) → let s : segment.WalkState = record { last = last; mode = m; offset = offset; rest = rest; failed = failed } in OpenLasts m → SegmentKeeps (segment.move_unless s failed)
+keeps-segment : (last : Option Presentation) (m : WalkMode) (offset : ℕ) (rest : List ℕ) (failed : Bool) → let s : segment.WalkState = record { last = last; mode = m; offset = offset; rest = rest; failed = failed } in HasLastingSlots m → IsLastingMove (segment.move_unless s failed)
 keeps-segment last m offset rest true h = tt
 keeps-segment last (Between begun) offset rest false h = keeps-act (going last (Between begun) offset rest) (length rest) (step_of (is_some last) rest (Between begun)) h (good-step (is_some last) rest [] (Between begun)).0
 keeps-segment last (Skipping to zero) offset rest false h = tt
 keeps-segment last (Skipping to (suc left)) offset rest false h = keeps-byte (going last (Skipping to (suc left)) offset rest) to left rest
 keeps-segment last (Within o) offset rest false h = keeps-act (going last (Within o) offset rest) (length rest) (step_of (is_some last) rest (Within o)) h (good-step (is_some last) rest [] (Within o)).0
 
-segments-last : (before : Option Presentation) (whole : List ℕ) → All SegmentLasts (segment_string.walk_items before whole)
-segments-last before whole = kept-from segments (λ (s : segment.WalkState). OpenLasts s.mode) SegmentLasts (λ s h. keeps-segment s.last s.mode s.offset s.rest s.failed h) (segment_string.start before whole) tt
+segments-last : (before : Option Presentation) (whole : List ℕ) → All IsLastingSegmentItem (segment_string.walk_items before whole)
+segments-last before whole = kept-from segments (λ (s : segment.WalkState). HasLastingSlots s.mode) IsLastingSegmentItem (λ s h. keeps-segment s.last s.mode s.offset s.rest s.failed h) (segment_string.start before whole) tt
 
 -- ---- ADTS frames: the frame of a header lasts
 
-abbrev FrameLasts : frame.AdtsItem → Type 0
-FrameLasts item = IsLasting (of_frames item)
+abbrev IsLastingAdtsItem : frame.AdtsItem → Type 0
+IsLastingAdtsItem item = IsLasting (of_frames item)
 
-placed-lasts : (b : List ℕ) (item : frame.AdtsItem) → IsAt b item → FrameLasts item
+placed-lasts : (b : List ℕ) (item : frame.AdtsItem) → IsAt b item → IsLastingAdtsItem item
 placed-lasts b (InitItem p at) h = tt
 placed-lasts b (FrameItem f at) h = coded-lasts b at f h
 placed-lasts b SegmentEnd h = tt
@@ -127,13 +121,13 @@ all-of : {A : Type 0} (P : A → Type 0) (items : List A) → ((n : ℕ) (item :
 all-of P [] f = All-nil P
 all-of P (x ∷ items) f = All-cons P x items (f 0 x refl) (all-of P items (λ n item e. f (suc n) item e))
 
-frames-last : (before : Option Presentation) (whole : List ℕ) → All FrameLasts (frame.items_of_string before whole)
-frames-last before whole = all-of FrameLasts (frame.items_of_string before whole) (λ n item e. placed-lasts whole item (item-place before whole n item e))
+frames-last : (before : Option Presentation) (whole : List ℕ) → All IsLastingAdtsItem (frame.items_of_string before whole)
+frames-last before whole = all-of IsLastingAdtsItem (frame.items_of_string before whole) (λ n item e. placed-lasts whole item (item-place before whole n item e))
 
 -- ---- either container
 
 pub items-last : (container : Container) (before : Option Presentation) (whole : List ℕ) → All IsLasting (items_of container before whole)
-items-last Mp4 before whole = All-map IsLasting of_segments (segment_items.items_of_string before whole) (subst (λ items. All SegmentLasts items) (items-boxes before whole) (segments-last before whole))
+items-last Mp4 before whole = All-map IsLasting of_segments (segment_items.items_of_string before whole) (subst (λ items. All IsLastingSegmentItem items) (items-boxes before whole) (segments-last before whole))
 items-last Adts before whole = All-map IsLasting of_frames (frame.items_of_string before whole) (frames-last before whole)
 
 -- ---- what a stream shows
@@ -146,6 +140,6 @@ lasting-one items k (Some item) h e = subst IsLasting (get_or_from_slice_get ite
 pub lasting-item : (r : Reading) (o : Option ByteItem) → o ≡ slice_get (reading_items r) r.string.taken → IfSome o IsLasting
 lasting-item r o e = lasting-one (reading_items r) r.string.taken o (items-last r.container r.string.before r.string.whole) e
 
-pub shows-lasting : {E : Type 0} (result : Result (Next ByteFault) E) (s : StreamView) (at : ℕ → ℕ) → StandsForSome s → ForEachReading s (λ r. IfOk result (λ x. seen x ≡ slice_get (reading_items r) (at r.string.taken))) → IfOk result (λ x. IfSome (seen x) IsLasting)
-shows-lasting (Ok x) s at h f = let r = h.reading in lasting-one (reading_items r) (at r.string.taken) (seen x) (items-last r.container r.string.before r.string.whole) (f r h.stands)
+pub shows-lasting : {E : Type 0} (result : Result (Next ByteFault) E) (s : StreamView) (at : ℕ → ℕ) → HasReading s → ForEachReading s (λ r. IfOk result (λ x. answer_item x ≡ slice_get (reading_items r) (at r.string.taken))) → IfOk result (λ x. IfSome (answer_item x) IsLasting)
+shows-lasting (Ok x) s at h f = let r = h.reading in lasting-one (reading_items r) (at r.string.taken) (answer_item x) (items-last r.container r.string.before r.string.whole) (f r h.stands)
 shows-lasting (Err e) s at h f = tt

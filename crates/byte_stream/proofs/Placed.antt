@@ -26,12 +26,12 @@ use Rattle.byte_stream.specs.Readings.{ByteItem, of_segments, of_frames, items_o
 
 -- ---- an item by the one that it is of
 
-record Behind {F : Type 0} (g : F → ByteFault) (x : Option (Item F)) (y : ByteItem) : Type 0 where
+record HasItemOf {F : Type 0} (g : F → ByteFault) (x : Option (Item F)) (y : ByteItem) : Type 0 where
   item : Item F
   was : x ≡ Some item
   is : with_fault g item ≡ y
 
-behind : {F : Type 0} (g : F → ByteFault) (x : Option (Item F)) (y : ByteItem) → option_map (with_fault g) x ≡ Some y → Behind g x y
+behind : {F : Type 0} (g : F → ByteFault) (x : Option (Item F)) (y : ByteItem) → option_map (with_fault g) x ≡ Some y → HasItemOf g x y
 behind g None y e = absurd (cc)
 behind g (Some item) y e = record { item = item; was = refl; is = cc }
 
@@ -48,17 +48,17 @@ of-frame g SegmentEnd f at e = absurd (cc)
 of-frame g (FaultItem h i) f at e = absurd (cc)
 
 -- its fault has another name
-record AtFault {F : Type 0} (item : Item F) (at : ℕ) : Type 0 where
+record IsFaultAt {F : Type 0} (item : Item F) (at : ℕ) : Type 0 where
   fault : F
   is : item ≡ FaultItem fault at
 
-of-fault : {F : Type 0} (g : F → ByteFault) (item : Item F) (f : ByteFault) (at : ℕ) → with_fault g item ≡ FaultItem f at → AtFault item at
+of-fault : {F : Type 0} (g : F → ByteFault) (item : Item F) (f : ByteFault) (at : ℕ) → with_fault g item ≡ FaultItem f at → IsFaultAt item at
 of-fault g (InitItem q i) f at e = absurd (cc)
 of-fault g (FrameItem h i) f at e = absurd (cc)
 of-fault g SegmentEnd f at e = absurd (cc)
 of-fault g (FaultItem h i) f at e = let k : i ≡ at = cc in record { fault = h; is = ap (FaultItem h) k }
 
-item-of : {F : Type 0} (g : F → ByteFault) (items : List (Item F)) (n : ℕ) (y : ByteItem) → slice_get (map (with_fault g) items) n ≡ Some y → Behind g (slice_get items n) y
+item-of : {F : Type 0} (g : F → ByteFault) (items : List (Item F)) (n : ℕ) (y : ByteItem) → slice_get (map (with_fault g) items) n ≡ Some y → HasItemOf g (slice_get items n) y
 item-of g items n y e = behind g (slice_get items n) y (sym (slice_get-map (with_fault g) items n) ∙ e)
 
 init-of : {F : Type 0} (g : F → ByteFault) (items : List (Item F)) (n : ℕ) (p : Presentation) (at : ℕ) → slice_get (map (with_fault g) items) n ≡ Some (InitItem p at) → slice_get items n ≡ Some (InitItem p at)

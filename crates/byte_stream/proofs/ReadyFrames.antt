@@ -2,12 +2,12 @@
 use Rattle.std.proofs.Common.{◌≡◌, ℕ, zero, suc, ◌<◌, pos, ◌≤ℤ◌, List, [], ◌∷◌, length, drop, refl, sym, subst, arith}
 use Rattle.std.specs.Prelude.{Option, Some, None, slice_get, Result, Ok, Err, IfOk}
 use Rattle.mse_base.specs.declared.frame.CodedFrame.{CodedFrame}
-use Rattle.parser_loop.specs.Items.{InitItem, FrameItem, SegmentEnd, FaultItem, leading_frames, seen}
+use Rattle.parser_loop.specs.Items.{InitItem, FrameItem, SegmentEnd, FaultItem, leading_frames, answer_item}
 use Rattle.parser_loop.specs.declared.next.Next.{Next}
 use Rattle.parser_loop.specs.declared.next.Next.TheVariants as next
 use Rattle.byte_stream.specs.declared.next.ByteFault.{ByteFault}
 use Rattle.byte_stream.specs.Readings.{Reading, ByteItem, items_in, ready_at, next_item}
-use Rattle.byte_stream.specs.Streams.{StreamView, StandsForSome, ForEachReading, ready_of}
+use Rattle.byte_stream.specs.Streams.{StreamView, HasReading, ForEachReading, ready_of}
 use Rattle.byte_stream.proofs.Standing.{ready-is}
 use Rattle.byte_stream.proofs.Lasting.{lasting-item}
 
@@ -28,7 +28,7 @@ front (FaultItem f at ∷ items) zero h = absurd (omega arith)
 front (item ∷ items) (suc n) h = front items n h
 
 -- of what is next in a stream with a frame that is ready
-pub next-frame : (s : StreamView) (o : Option ByteItem) → 0 < ready_of s → StandsForSome s → ForEachReading s (λ r. o ≡ next_item r) → IsFrame o
+pub next-frame : (s : StreamView) (o : Option ByteItem) → 0 < ready_of s → HasReading s → ForEachReading s (λ r. o ≡ next_item r) → IsFrame o
 next-frame s o ready some is =
     let r : Reading = some.reading in
     let known : ready_of s ≡ length (ready_at r) = ready-is s.parser r.container r.string some.stands.parser in
@@ -36,7 +36,7 @@ next-frame s o ready some is =
     subst IsFrame (sym (is r some.stands)) (front (items_in r) r.string.taken more)
 
 -- an answer that is no frame
-pub no-frame : (x : Next ByteFault) → ((f : CodedFrame) (at : ℕ) → x ≡ next.Frame f at → ⊥) → IsFrame (seen x) → ⊥
+pub no-frame : (x : Next ByteFault) → ((f : CodedFrame) (at : ℕ) → x ≡ next.Frame f at → ⊥) → IsFrame (answer_item x) → ⊥
 no-frame (next.Init p at) other h = h
 no-frame (next.Frame f at) other h = other f at refl
 no-frame next.SegmentEnd other h = h
@@ -44,6 +44,6 @@ no-frame (next.Fault f at) other h = h
 no-frame next.Dry other h = h
 
 -- a frame that is next lasts
-pub frame-lasts : {E : Type 0} (result : Result (CodedFrame × ℕ) E) (s : StreamView) → StandsForSome s → ForEachReading s (λ r. IfOk result (λ x. Some (FrameItem x.0 x.1) ≡ next_item r)) → IfOk result (λ x. pos 0 ≤ℤ x.0.dur)
+pub frame-lasts : {E : Type 0} (result : Result (CodedFrame × ℕ) E) (s : StreamView) → HasReading s → ForEachReading s (λ r. IfOk result (λ x. Some (FrameItem x.0 x.1) ≡ next_item r)) → IfOk result (λ x. pos 0 ≤ℤ x.0.dur)
 frame-lasts (Ok x) s some is = lasting-item some.reading (Some (FrameItem x.0 x.1)) (is some.reading some.stands)
 frame-lasts (Err e) s some is = tt

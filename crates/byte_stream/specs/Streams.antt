@@ -42,7 +42,7 @@ pub record Stands (s : StreamView) (r : Reading) : Type 0 where
   pub fed : s.fed ≡ length r.string.whole
 
 -- it stands for some reading
-pub record StandsForSome (s : StreamView) : Type 0 where
+pub record HasReading (s : StreamView) : Type 0 where
   pub reading : Reading
   pub stands : Stands s reading
 
@@ -109,7 +109,7 @@ offered_len (Some bytes) = length bytes
 
 -- the numbers are the length of the string and of what is offered, if anything is
 pub record HasLengths (s : StreamView) (len more : ℕ) : Type 0 where
-  pub stands : StandsForSome s
+  pub stands : HasReading s
   pub fed : len ≡ s.fed
   pub offered : more ≡ offered_len s.offered
   pub bounded : len + more < 2 ^ 62

@@ -1,10 +1,10 @@
-ghost use Rattle.std.specs.Prelude.{◌≡◌, ℕ, suc, ◌+◌, ◌≤◌, List, Some, length, slice_get, slice_range, All};
+ghost use Rattle.std.specs.Prelude.{◌≡◌, ℕ, suc, ◌+◌, ◌≤◌, List, Some, length, slice_range, All};
 ghost use Rattle.mse_base.specs.declared.frame.CodedFrame.{CodedFrame};
 ghost use Rattle.mse_base.specs.declared.track.Presentation.{Presentation};
 ghost use Rattle.parser_loop.specs.Items.{InitItem, FrameItem, FaultItem, IsPrefix};
 ghost use Rattle.parser_loop.specs.Parse.{IsSuffix};
 ghost use Rattle.byte_stream.specs.declared.next.ByteFault.{ByteFault};
-ghost use Rattle.byte_stream.specs.Readings.{Reading, items_in, ready_at, phase_at, held_at, latest_at, with_bytes, IsInitIn, IsLasting};
+ghost use Rattle.byte_stream.specs.Readings.{Reading, items_in, next_item, ready_at, phase_at, held_at, latest_at, with_bytes, IsInitIn, IsLasting};
 ghost use Rattle.byte_stream.specs.Streams.{StreamView, ForEachReading, latest_of, ready_of, phase_of, held_of};
 
 /// No coded frame of a string ends before it begins.
@@ -33,17 +33,16 @@ pub fn stands_law()
 /// A presentation is what stands in the string at its offset. The payload of a coded frame is the bytes of the string
 /// from its offset on, all of which are there. A fault is the last item.
 pub fn place_law()
-    ensures init { (r : Reading) (i offset : ℕ) (p : Presentation) →
-        slice_get (items_in r) i ≡ Some (InitItem p offset) →
-        IsInitIn r.container r.string.whole offset p }
-    ensures frame { (r : Reading) (i offset : ℕ) (frame : CodedFrame) →
-        slice_get (items_in r) i ≡ Some (FrameItem frame offset) →
+    ensures init { (r : Reading) (p : Presentation) (offset : ℕ) →
+        next_item r ≡ Some (InitItem p offset) → IsInitIn r.container r.string.whole offset p }
+    ensures frame { (r : Reading) (frame : CodedFrame) (offset : ℕ) →
+        next_item r ≡ Some (FrameItem frame offset) →
         frame.payload ≡ slice_range r.string.whole offset (offset + length frame.payload) }
-    ensures there { (r : Reading) (i offset : ℕ) (frame : CodedFrame) →
-        slice_get (items_in r) i ≡ Some (FrameItem frame offset) →
+    ensures there { (r : Reading) (frame : CodedFrame) (offset : ℕ) →
+        next_item r ≡ Some (FrameItem frame offset) →
         offset + length frame.payload ≤ length r.string.whole }
-    ensures fault { (r : Reading) (i offset : ℕ) (f : ByteFault) →
-        slice_get (items_in r) i ≡ Some (FaultItem f offset) → suc i ≡ length (items_in r) }
+    ensures fault { (r : Reading) (f : ByteFault) (offset : ℕ) →
+        next_item r ≡ Some (FaultItem f offset) → suc r.string.taken ≡ length (items_in r) }
 {}
 
 /// The bytes that are held are the end of the string from some offset on.

@@ -1,8 +1,8 @@
 ghost use Rattle.std.specs.Prelude.{◌≡◌, ◌+◌, ◌<◌, ◌≤◌, ◌^◌, ◌⊎◌, length, None, Some, IsSome, IfSome, IfOk, OnOk, OnErr};
-ghost use Rattle.parser_loop.specs.Items.{FrameItem, latest_after_any, seen};
+ghost use Rattle.parser_loop.specs.Items.{FrameItem, latest_after_any, answer_item};
 ghost use Rattle.adts_stream.specs.Walk.{phase_of as phase_of_point};
 ghost use Rattle.byte_stream.specs.Readings.{new_reading, next_item, item_ahead, with_bytes, after_answer, after_reset};
-ghost use Rattle.byte_stream.specs.Streams.{Stands, StandsForSome, StandsAfter, ForEachReading, stream_view, latest_of, ready_of, phase_of, held_of};
+ghost use Rattle.byte_stream.specs.Streams.{Stands, HasReading, StandsAfter, ForEachReading, stream_view, latest_of, ready_of, phase_of, held_of};
 
 use crate::next::{ByteFault, Next};
 use adts_stream::AdtsStream;
@@ -102,7 +102,7 @@ impl Parser {
         requires none_offered { (stream_view self.now).offered ≡ None }
         requires ready { (i ≡ 0) ⊎ (i < ready_of (stream_view self.now)) }
         ensures { ForEachReading (stream_view self.now) (λ r.
-            IfOk result (λ next. seen next ≡ item_ahead r i)) }
+            IfOk result (λ next. answer_item next ≡ item_ahead r i)) }
     {
         match self {
             Parser::Segments(stream) => Ok(stream.look(i)?.with_fault(ByteFault::Segments)),
@@ -114,15 +114,15 @@ impl Parser {
     pub(crate) fn next(&mut self) -> Result<Next, OutOfMemory>
         requires { (stream_view self.old).offered ≡ None }
         ensures item { ForEachReading (stream_view self.old) (λ r.
-            IfOk result (λ next. seen next ≡ next_item r)) }
+            IfOk result (λ next. answer_item next ≡ next_item r)) }
         ensures stands { IfOk result (λ next. StandsAfter (stream_view self.old)
-            (after_answer (seen next)) (stream_view self.new)) }
+            (after_answer (answer_item next)) (stream_view self.new)) }
         ensures latest { IfOk result (λ next. latest_of (stream_view self.new)
-            ≡ latest_after_any (latest_of (stream_view self.old)) (seen next)) }
+            ≡ latest_after_any (latest_of (stream_view self.old)) (answer_item next)) }
         ensures fed { (stream_view self.new).fed ≡ (stream_view self.old).fed }
         ensures none_offered { (stream_view self.new).offered ≡ None }
         ensures dry { IfOk result
-            (λ next. seen next ≡ None → stream_view self.new ≡ stream_view self.old) }
+            (λ next. answer_item next ≡ None → stream_view self.new ≡ stream_view self.old) }
         ensures err { OnErr result (stream_view self.new ≡ stream_view self.old) }
     {
         match self {
@@ -135,7 +135,7 @@ impl Parser {
     pub(crate) fn next_frame(&mut self) -> Result<(CodedFrame, u64), OutOfMemory>
         requires none_offered { (stream_view self.old).offered ≡ None }
         requires ready { 0 < ready_of (stream_view self.old) }
-        requires stands { StandsForSome (stream_view self.old) }
+        requires stands { HasReading (stream_view self.old) }
         ensures item { ForEachReading (stream_view self.old) (λ r.
             IfOk result (λ x. Some (FrameItem x.0 x.1) ≡ next_item r)) }
         ensures stands { IfOk result (λ x. StandsAfter (stream_view self.old)
@@ -207,7 +207,7 @@ fn frame_phase(stream: &AdtsStream) -> Phase
     requires { stream.now.offered ≡ None }
     ensures { result ≡ phase_of_point stream.now.state.point }
 {
-    if stream.waiting() {
+    if stream.is_waiting() {
         Phase::Waiting
     } else {
         Phase::InMedia

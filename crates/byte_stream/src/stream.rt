@@ -1,5 +1,5 @@
 ghost use Rattle.std.specs.Prelude.{◌≡◌, ◌+◌, ◌<◌, ◌≤◌, ◌^◌, ◌⊎◌, pos, ◌≤ℤ◌, length, Some, None, IsSome, IfSome, IfOk, OnOk, OnErr};
-ghost use Rattle.parser_loop.specs.Items.{FrameItem, latest_after_any, seen};
+ghost use Rattle.parser_loop.specs.Items.{FrameItem, latest_after_any, answer_item};
 ghost use Rattle.byte_stream.specs.Readings.{new_reading, reading_from, next_item, item_ahead, ready_at, phase_at, held_at, with_bytes, after_answer, after_reset, IsLasting};
 
 use crate::next::Next;
@@ -35,7 +35,7 @@ impl Model for ByteStream {
 }
 
 impl ByteStream {
-    ghost use Rattle.byte_stream.specs.Streams.{Stands, StandsForSome, StandsAfter, ForEachReading, latest_of, ready_of, phase_of, held_of};
+    ghost use Rattle.byte_stream.specs.Streams.{Stands, HasReading, StandsAfter, ForEachReading, latest_of, ready_of, phase_of, held_of};
 
     /// A stream of the empty string of a container, with no presentation from before. It takes no memory.
     pub fn new(alloc: Global, container: Container) -> ByteStream
@@ -110,8 +110,8 @@ impl ByteStream {
         requires none_offered { self.now.offered ≡ None }
         requires ready { (i ≡ 0) ⊎ (i < ready_of self.now) }
         ensures item { ForEachReading self.now (λ r.
-            IfOk result (λ next. seen next ≡ item_ahead r i)) }
-        ensures dur_not_negative { IfOk result (λ next. IfSome (seen next) IsLasting) }
+            IfOk result (λ next. answer_item next ≡ item_ahead r i)) }
+        ensures dur_not_negative { IfOk result (λ next. IfSome (answer_item next) IsLasting) }
     {
         self.parser.look(i)
     }
@@ -121,16 +121,16 @@ impl ByteStream {
     pub fn next(&mut self) -> Result<Next, OutOfMemory>
         requires { self.old.offered ≡ None }
         ensures item { ForEachReading self.old
-            (λ r. IfOk result (λ next. seen next ≡ next_item r)) }
+            (λ r. IfOk result (λ next. answer_item next ≡ next_item r)) }
         ensures stands { IfOk result
-            (λ next. StandsAfter self.old (after_answer (seen next)) self.new) }
+            (λ next. StandsAfter self.old (after_answer (answer_item next)) self.new) }
         ensures latest { IfOk result (λ next.
-            latest_of self.new ≡ latest_after_any (latest_of self.old) (seen next)) }
+            latest_of self.new ≡ latest_after_any (latest_of self.old) (answer_item next)) }
         ensures fed { self.new.fed ≡ self.old.fed }
         ensures none_offered { self.new.offered ≡ None }
-        ensures dry { IfOk result (λ next. seen next ≡ None → self.new ≡ self.old) }
+        ensures dry { IfOk result (λ next. answer_item next ≡ None → self.new ≡ self.old) }
         ensures err { OnErr result (self.new ≡ self.old) }
-        ensures dur_not_negative { IfOk result (λ next. IfSome (seen next) IsLasting) }
+        ensures dur_not_negative { IfOk result (λ next. IfSome (answer_item next) IsLasting) }
     {
         self.parser.next()
     }
@@ -155,7 +155,7 @@ impl ByteStream {
 
     /// Hands out that the stream stands for some string; it does nothing.
     pub fn stands(&self)
-        ensures { StandsForSome self.now }
+        ensures { HasReading self.now }
     {
         // The proof reads off this what always holds of the fields.
         let _parser = &self.parser;

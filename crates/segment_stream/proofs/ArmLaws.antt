@@ -13,7 +13,7 @@ use Rattle.segment_walk.specs.Ranges.{mode_of}
 use Rattle.segment_stream.specs.declared.progress.Progress.{Progress}
 use Rattle.segment_stream.specs.declared.progress.Tables.{Tables}
 use Rattle.segment_stream.specs.declared.progress.PendingItem.{PendingItem}
-use Rattle.segment_stream.specs.Kept.{IsEndingBy, IsCountedIn, IsWaitingForBytes, move_of_pending, kept_of, last_bytes}
+use Rattle.segment_stream.specs.Kept.{IsEndingBy, IsCountedIn, IsStillAtFront, move_of_pending, kept_of, last_bytes}
 use Rattle.segment_stream.proofs.Acts.{rests-failed}
 use Rattle.segment_stream.proofs.Found.{failed-more}
 use Rattle.segment_stream.proofs.Snapshots.{snapshot_of, walk_state}
@@ -38,7 +38,7 @@ kept-failed last m offset first ready want tables bytes e i =
     let s : WalkState = walk_state last (record { mode = m; offset = offset; failed = true }) tables [] in
     rw e (kept-still last m offset 0 first ready want true tables [] refl i ∙ sym (failed-more last m offset tables []))
 
-pub rest-failed : (last : Option Presentation) (m : ParserMode) (offset first ready want : ℕ) (tables : Tables) (bytes : List ℕ) → bytes ≡ [] → ready ≡ 0 → offset < 2 ^ 62 → IsCountedIn m tables first ready → let r : Progress = record { position = record { mode = m; offset = offset; failed = true }; from = 0; first = first; ready = ready; want = want } in IsWaitingForBytes (snapshot_of last r tables bytes)
+pub rest-failed : (last : Option Presentation) (m : ParserMode) (offset first ready want : ℕ) (tables : Tables) (bytes : List ℕ) → bytes ≡ [] → ready ≡ 0 → offset < 2 ^ 62 → IsCountedIn m tables first ready → let r : Progress = record { position = record { mode = m; offset = offset; failed = true }; from = 0; first = first; ready = ready; want = want } in IsStillAtFront (snapshot_of last r tables bytes)
 rest-failed last m offset first ready want tables bytes e i l h = record {
   front = refl;
   consistent = record { inside = omega arith; counts = h; ends = subst (IsEndingBy (length bytes - 0) tables.slots.items first) (sym i) tt; small = omega (arith, ap length e) };

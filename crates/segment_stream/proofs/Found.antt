@@ -15,7 +15,7 @@ use Rattle.segment_walk.specs.Ranges.{AreRangesAscending, mode_of}
 use Rattle.segment_walk.proofs.WalkLaws.{slice-longer, is_walk}
 use Rattle.segment_stream.specs.declared.progress.Progress.{Progress}
 use Rattle.segment_stream.specs.declared.progress.Tables.{Tables}
-use Rattle.segment_stream.specs.Kept.{frames, frame_items, IsEndingBy, IsSlotEndingBy, IsCountedIn, IsFragmentCounted, IsOrdered, IsConsistent, Rests, IsUnchangedSince, AreTablesKept, IsWaitingForBytes, IsFoundWith, IsEmptied, kept_of, kept_with_lookahead}
+use Rattle.segment_stream.specs.Kept.{frames, frame_items, IsEndingBy, IsSlotEndingBy, IsCountedIn, IsFragmentCounted, IsOrdered, IsConsistent, IsStillBelow, IsUnchangedSince, AreTablesKept, IsStillAtFront, IsFoundWith, IsEmptied, kept_of, kept_with_lookahead}
 use Rattle.segment_stream.proofs.Acts.{rests-failed}
 use Rattle.segment_stream.proofs.Snapshots.{rests-at-front, snapshot_of, walk_state}
 
@@ -101,7 +101,7 @@ mode-kept (codes.Skipping y l) tables new_tables k = refl
 mode-kept (codes.Within i) tables new_tables k = rw (k.0, k.1) refl
 
 -- and rests where it rested
-pub keeps-rest : (last : Option Presentation) (r : Progress) (tables new_tables : Tables) (b : List ℕ) → AreTablesKept r.position.mode tables new_tables → IsWaitingForBytes (snapshot_of last r tables b) → IsWaitingForBytes (snapshot_of last r new_tables b)
+pub keeps-rest : (last : Option Presentation) (r : Progress) (tables new_tables : Tables) (b : List ℕ) → AreTablesKept r.position.mode tables new_tables → IsStillAtFront (snapshot_of last r tables b) → IsStillAtFront (snapshot_of last r new_tables b)
 keeps-rest last r tables new_tables b k h = record {
   front = h.front;
   consistent = record {
@@ -110,12 +110,12 @@ keeps-rest last r tables new_tables b k h = record {
     ends = slots-kept r.position.mode tables new_tables (length b - r.from) r.first r.ready h.consistent.counts k h.consistent.ends;
     small = h.consistent.small;
   };
-  rests = subst (λ m. Rests (record { last = last; mode = m; offset = r.position.offset; rest = drop r.from b; failed = r.position.failed }) r.want) (sym (mode-kept r.position.mode tables new_tables k)) h.rests;
+  rests = subst (λ m. IsStillBelow (record { last = last; mode = m; offset = r.position.offset; rest = drop r.from b; failed = r.position.failed }) r.want) (sym (mode-kept r.position.mode tables new_tables k)) h.rests;
 }
 
 -- ---- what is found
 
-found-further : (last : Option Presentation) (m : ParserMode) (offset from first ready want : ℕ) (failed : Bool) (tables new_tables : Tables) (b c : List ℕ) (s : Progress) → let r : Progress = record { position = record { mode = m; offset = offset; failed = failed }; from = from; first = first; ready = ready; want = want } in failed ≡ false → IsWaitingForBytes (snapshot_of last r tables b) → kept_of (snapshot_of last r new_tables b) ≡ kept_of (snapshot_of last r tables b) → kept_of (snapshot_of last s new_tables (b ++ c)) ≡ kept_with_lookahead (kept_of (snapshot_of last r tables (b ++ c))) → IsConsistent s new_tables (b ++ c) → Rests (walk_state last s.position new_tables (drop s.from (b ++ c))) s.want → s.position.offset + (length (b ++ c) - s.from) ≡ offset + (length (b ++ c) - from) → IsFoundWith (snapshot_of last r new_tables b) (snapshot_of last s new_tables (b ++ c)) c
+found-further : (last : Option Presentation) (m : ParserMode) (offset from first ready want : ℕ) (failed : Bool) (tables new_tables : Tables) (b c : List ℕ) (s : Progress) → let r : Progress = record { position = record { mode = m; offset = offset; failed = failed }; from = from; first = first; ready = ready; want = want } in failed ≡ false → IsStillAtFront (snapshot_of last r tables b) → kept_of (snapshot_of last r new_tables b) ≡ kept_of (snapshot_of last r tables b) → kept_of (snapshot_of last s new_tables (b ++ c)) ≡ kept_with_lookahead (kept_of (snapshot_of last r tables (b ++ c))) → IsConsistent s new_tables (b ++ c) → IsStillBelow (walk_state last s.position new_tables (drop s.from (b ++ c))) s.want → s.position.offset + (length (b ++ c) - s.from) ≡ offset + (length (b ++ c) - from) → IsFoundWith (snapshot_of last r new_tables b) (snapshot_of last s new_tables (b ++ c)) c
 found-further last m offset from first ready want failed tables new_tables b c s g h q e f w t = record {
   same = e ∙ ran last m offset from first ready want failed tables b c h.front g h.consistent ∙ ap (λ k. kept_with segments k c) (sym q);
   consistent = f;
@@ -126,14 +126,14 @@ found-further last m offset from first ready want failed tables new_tables b c s
 stays : (k : Lookahead WalkState SegmentItem) → lookahead_from segments k.state ≡ stay_at k.state → kept_with_lookahead k ≡ k
 stays k e = ap (with_items k.items) e ∙ ap (λ (xs : List SegmentItem). record { items = xs; state = k.state }) (append-nil k.items)
 
-still-more : (last : Option Presentation) (m : ParserMode) (offset : ℕ) (failed : Bool) (want : ℕ) (tables : Tables) (b c : List ℕ) → failed ≡ false → Rests (walk_state last (record { mode = m; offset = offset; failed = failed }) tables b) want → length b + length c < want → let t : WalkState = walk_state last (record { mode = m; offset = offset; failed = false }) tables (b ++ c) in lookahead_from segments t ≡ stay_at t
+still-more : (last : Option Presentation) (m : ParserMode) (offset : ℕ) (failed : Bool) (want : ℕ) (tables : Tables) (b c : List ℕ) → failed ≡ false → IsStillBelow (walk_state last (record { mode = m; offset = offset; failed = failed }) tables b) want → length b + length c < want → let t : WalkState = walk_state last (record { mode = m; offset = offset; failed = false }) tables (b ++ c) in lookahead_from segments t ≡ stay_at t
 still-more last m offset failed want tables b c g h l =
-    let w = subst (λ (f : Bool). Rests (walk_state last (record { mode = m; offset = offset; failed = f }) tables b) want) g h in
+    let w = subst (λ (f : Bool). IsStillBelow (walk_state last (record { mode = m; offset = offset; failed = f }) tables b) want) g h in
     w.waits c l
 
-rests-longer : (last : Option Presentation) (m : ParserMode) (offset : ℕ) (failed : Bool) (want : ℕ) (tables : Tables) (b c : List ℕ) → failed ≡ false → let t : WalkState = walk_state last (record { mode = m; offset = offset; failed = failed }) tables (b ++ c) in lookahead_from segments t ≡ stay_at t → Rests (walk_state last (record { mode = m; offset = offset; failed = failed }) tables b) want → Rests t want
+rests-longer : (last : Option Presentation) (m : ParserMode) (offset : ℕ) (failed : Bool) (want : ℕ) (tables : Tables) (b c : List ℕ) → failed ≡ false → let t : WalkState = walk_state last (record { mode = m; offset = offset; failed = failed }) tables (b ++ c) in lookahead_from segments t ≡ stay_at t → IsStillBelow (walk_state last (record { mode = m; offset = offset; failed = failed }) tables b) want → IsStillBelow t want
 rests-longer last m offset failed want tables b c g x h =
-    let w = subst (λ (f : Bool). Rests (walk_state last (record { mode = m; offset = offset; failed = f }) tables b) want) g h in
+    let w = subst (λ (f : Bool). IsStillBelow (walk_state last (record { mode = m; offset = offset; failed = f }) tables b) want) g h in
     let t : List ℕ → WalkState = λ rest. walk_state last (record { mode = m; offset = offset; failed = false }) tables rest in
     record {
       still = x;
@@ -141,12 +141,12 @@ rests-longer last m offset failed want tables b c g x h =
     }
 
 -- fewer bytes than are wanted
-pub found-same : (last : Option Presentation) (m : ParserMode) (offset from first ready want : ℕ) (failed : Bool) (tables : Tables) (b c all : List ℕ) → let r : Progress = record { position = record { mode = m; offset = offset; failed = failed }; from = from; first = first; ready = ready; want = want } in all ≡ b ++ c → failed ≡ false → IsWaitingForBytes (snapshot_of last r tables b) → length b + length c < want → offset + (length b + length c) < 2 ^ 62 → IsFoundWith (snapshot_of last r tables b) (snapshot_of last r tables all) c
+pub found-same : (last : Option Presentation) (m : ParserMode) (offset from first ready want : ℕ) (failed : Bool) (tables : Tables) (b c all : List ℕ) → let r : Progress = record { position = record { mode = m; offset = offset; failed = failed }; from = from; first = first; ready = ready; want = want } in all ≡ b ++ c → failed ≡ false → IsStillAtFront (snapshot_of last r tables b) → length b + length c < want → offset + (length b + length c) < 2 ^ 62 → IsFoundWith (snapshot_of last r tables b) (snapshot_of last r tables all) c
 found-same last m offset from first ready want failed tables b c all x' g h l room =
     let r : Progress = record { position = record { mode = m; offset = offset; failed = failed }; from = from; first = first; ready = ready; want = want } in
     let t : List ℕ → WalkState = λ rest. walk_state last (record { mode = m; offset = offset; failed = failed }) tables rest in
     let u : List ℕ → WalkState = λ rest. walk_state last (record { mode = m; offset = offset; failed = false }) tables rest in
-    let q : Rests (t b) want = rests-at-front last (record { mode = m; offset = offset; failed = failed }) tables from b want h.front h.rests in
+    let q : IsStillBelow (t b) want = rests-at-front last (record { mode = m; offset = offset; failed = failed }) tables from b want h.front h.rests in
     let y : lookahead_from segments (u (b ++ c)) ≡ stay_at (u (b ++ c)) = still-more last m offset failed want tables b c g q l in
     let x : lookahead_from segments (t (b ++ c)) ≡ stay_at (t (b ++ c)) = rw g y in
     let k : Lookahead WalkState SegmentItem = kept_of (snapshot_of last r tables (b ++ c)) in
@@ -157,16 +157,16 @@ found-same last m offset from first ready want failed tables b c all x' g h l ro
       total = omega (arith, h.front, length-append b c, length-drop from b);
     })
 
-pub found-ok : (s : Progress) (last : Option Presentation) (r : Progress) (tables new_tables : Tables) (b c bytes : List ℕ) → bytes ≡ b ++ c → r.position.failed ≡ false → IsWaitingForBytes (snapshot_of last r tables b) → IsUnchangedSince r.position.mode s.position.mode tables new_tables → kept_of (snapshot_of last s new_tables bytes) ≡ kept_with_lookahead (kept_of (snapshot_of last r tables bytes)) → IsConsistent s new_tables bytes → Rests (walk_state last s.position new_tables (drop s.from bytes)) s.want → s.position.offset + (length bytes - s.from) ≡ r.position.offset + (length bytes - r.from) → IsFoundWith (snapshot_of last r new_tables b) (snapshot_of last s new_tables bytes) c
+pub found-ok : (s : Progress) (last : Option Presentation) (r : Progress) (tables new_tables : Tables) (b c bytes : List ℕ) → bytes ≡ b ++ c → r.position.failed ≡ false → IsStillAtFront (snapshot_of last r tables b) → IsUnchangedSince r.position.mode s.position.mode tables new_tables → kept_of (snapshot_of last s new_tables bytes) ≡ kept_with_lookahead (kept_of (snapshot_of last r tables bytes)) → IsConsistent s new_tables bytes → IsStillBelow (walk_state last s.position new_tables (drop s.from bytes)) s.want → s.position.offset + (length bytes - s.from) ≡ r.position.offset + (length bytes - r.from) → IsFoundWith (snapshot_of last r new_tables b) (snapshot_of last s new_tables bytes) c
 found-ok s last r tables new_tables b c bytes d g h q e f w t =
     let k = keeps-kept last r.position.mode r.position.offset r.from r.first r.ready r.want r.position.failed tables new_tables b h.consistent.counts (since-keeps r.position.mode s.position.mode tables new_tables q) in
-    subst (λ v. IsFoundWith (snapshot_of last r new_tables b) (snapshot_of last s new_tables v) c) (sym d) (found-further last r.position.mode r.position.offset r.from r.first r.ready r.want r.position.failed tables new_tables b c s g h k (subst (λ v. kept_of (snapshot_of last s new_tables v) ≡ kept_with_lookahead (kept_of (snapshot_of last r tables v))) d e) (subst (λ v. IsConsistent s new_tables v) d f) (subst (λ v. Rests (walk_state last s.position new_tables (drop s.from v)) s.want) d w) (subst (λ (v : List ℕ). s.position.offset + (length v - s.from) ≡ r.position.offset + (length v - r.from)) d t))
+    subst (λ v. IsFoundWith (snapshot_of last r new_tables b) (snapshot_of last s new_tables v) c) (sym d) (found-further last r.position.mode r.position.offset r.from r.first r.ready r.want r.position.failed tables new_tables b c s g h k (subst (λ v. kept_of (snapshot_of last s new_tables v) ≡ kept_with_lookahead (kept_of (snapshot_of last r tables v))) d e) (subst (λ v. IsConsistent s new_tables v) d f) (subst (λ v. IsStillBelow (walk_state last s.position new_tables (drop s.from v)) s.want) d w) (subst (λ (v : List ℕ). s.position.offset + (length v - s.from) ≡ r.position.offset + (length v - r.from)) d t))
 
 -- behind a fault all bytes are let go
 pub failed-more : (last : Option Presentation) (m : ParserMode) (offset : ℕ) (tables : Tables) (b : List ℕ) → let s : WalkState = walk_state last (record { mode = m; offset = offset; failed = true }) tables b in lookahead_from segments s ≡ stay_at s
 failed-more last m offset tables b = lookahead-rested segments is_walk (walk_state last (record { mode = m; offset = offset; failed = true }) tables b) tt
 
-pub found-failed : (last : Option Presentation) (m : ParserMode) (offset from first ready want new_want len : ℕ) (failed : Bool) (tables : Tables) (b c all : List ℕ) → let r : Progress = record { position = record { mode = m; offset = offset; failed = failed }; from = from; first = first; ready = ready; want = want } in all ≡ b ++ c → failed ≡ true → len ≡ length all → IsWaitingForBytes (snapshot_of last r tables b) → (b ≡ []) × (ready ≡ 0) → IsFoundWith (snapshot_of last r tables b) (snapshot_of last (record { position = record { mode = m; offset = offset; failed = failed }; from = len; first = first; ready = ready; want = new_want }) tables all) c
+pub found-failed : (last : Option Presentation) (m : ParserMode) (offset from first ready want new_want len : ℕ) (failed : Bool) (tables : Tables) (b c all : List ℕ) → let r : Progress = record { position = record { mode = m; offset = offset; failed = failed }; from = from; first = first; ready = ready; want = want } in all ≡ b ++ c → failed ≡ true → len ≡ length all → IsStillAtFront (snapshot_of last r tables b) → (b ≡ []) × (ready ≡ 0) → IsFoundWith (snapshot_of last r tables b) (snapshot_of last (record { position = record { mode = m; offset = offset; failed = failed }; from = len; first = first; ready = ready; want = new_want }) tables all) c
 found-failed last m offset from first ready want new_want len false tables b c all x' g e h z = cc
 found-failed last m offset from first ready want new_want len true tables b c all x' g e h z =
     let r : Progress = record { position = record { mode = m; offset = offset; failed = true }; from = from; first = first; ready = ready; want = want } in
@@ -195,7 +195,7 @@ found-emptied r b g = λ e. absurd (both r.position.failed g e)
 pub accepted-kept : (last : Option Presentation) (r : Progress) (tables : Tables) (old new : List ℕ) → new ≡ drop r.from old → kept_of (snapshot_of last (record { position = r.position; from = 0; first = r.first; ready = r.ready; want = r.want }) tables new) ≡ kept_of (snapshot_of last r tables old)
 accepted-kept last r tables old new e = rw e refl
 
-pub accepted-rest : (last : Option Presentation) (r : Progress) (tables : Tables) (old new : List ℕ) → new ≡ drop r.from old → IsConsistent r tables old → Rests (walk_state last r.position tables (drop r.from old)) r.want → IsWaitingForBytes (snapshot_of last (record { position = r.position; from = 0; first = r.first; ready = r.ready; want = r.want }) tables new)
+pub accepted-rest : (last : Option Presentation) (r : Progress) (tables : Tables) (old new : List ℕ) → new ≡ drop r.from old → IsConsistent r tables old → IsStillBelow (walk_state last r.position tables (drop r.from old)) r.want → IsStillAtFront (snapshot_of last (record { position = r.position; from = 0; first = r.first; ready = r.ready; want = r.want }) tables new)
 accepted-rest last r tables old new e f w =
     let l : length new ≡ length old - r.from = ap length e ∙ length-drop r.from old in
     record {

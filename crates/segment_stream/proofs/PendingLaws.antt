@@ -13,12 +13,12 @@ use Rattle.segment_walk.specs.declared.kinds.ParserMode.TheVariants as codes
 use Rattle.segment_walk.specs.declared.kinds.BoxStep.{BoxStep}
 use Rattle.segment_walk.specs.declared.kinds.BoxStep.TheVariants as step
 use Rattle.segment_walk.specs.Tables.{SegmentItem}
-use Rattle.segment_walk.specs.Moves.{WalkState, WalkMode, Skipping, act, pass_byte, move_of_slots, open_of, segments, frame_of, step_of}
+use Rattle.segment_walk.specs.Moves.{WalkState, WalkMode, Skipping, move_of_step, move_over_byte, move_of_slots, open_of, segments, frame_of, step_of}
 use Rattle.segment_walk.specs.Ranges.{mode_of}
 use Rattle.segment_walk.proofs.WalkLaws.{going, is_walk}
 use Rattle.segment_stream.specs.declared.progress.Tables.{Tables}
 use Rattle.segment_stream.specs.Kept
-use Rattle.segment_stream.specs.Kept.{frames, IsEndingBy, IsSlotEndingBy, IsCountedIn, IsOrdered, Rests, skips}
+use Rattle.segment_stream.specs.Kept.{frames, IsEndingBy, IsSlotEndingBy, IsCountedIn, IsOrdered, IsStillBelow, is_skipping}
 use Rattle.segment_stream.proofs.Acts
 use Rattle.segment_stream.proofs.Acts.{acts, is_active}
 use Rattle.segment_stream.proofs.Snapshots.{walk_state}
@@ -81,30 +81,30 @@ frame-there (codes.Within f) tables first ready i h l e =
 
 -- ---- a place that rests
 
-pub rested : (s : WalkState) (want : ℕ) → Rests s want → IsRested segments (segments.move s)
+pub rested : (s : WalkState) (want : ℕ) → IsStillBelow s want → IsRested segments (segments.move s)
 rested s want r = subst (λ (v : Lookahead WalkState SegmentItem). IsRested segments (segments.move v.state)) r.still (is_lookahead segments is_walk s).rested
 
-abbrev pub Passes : Move WalkState SegmentItem → Type 0
-Passes Stop = ⊥
-Passes (Pass t) = Unit {0}
-Passes (Give item t) = segments.runs item ≡ true
+abbrev pub IsTakenAhead : Move WalkState SegmentItem → Type 0
+IsTakenAhead Stop = ⊥
+IsTakenAhead (Pass t) = Unit {0}
+IsTakenAhead (Give item t) = segments.runs item ≡ true
 
 both : (b : Bool) → b ≡ false → b ≡ true → ⊥
 both b g e = cc
 
-no-pass-at : (m : Move WalkState SegmentItem) → IsRested segments m → Passes m → ⊥
+no-pass-at : (m : Move WalkState SegmentItem) → IsRested segments m → IsTakenAhead m → ⊥
 no-pass-at Stop h p = p
 no-pass-at (Pass t) h p = h
 no-pass-at (Give item t) h p = both (segments.runs item) h p
 
 -- a step that would go on is not taken where the walk rests
-pub no-pass : (last : Option Presentation) (m : WalkMode) (offset : ℕ) (rest : List ℕ) (failed : Bool) (want : ℕ) (st : BoxStep) → failed ≡ false → Rests (record { last = last; mode = m; offset = offset; rest = rest; failed = failed }) want → Acts.IsActive m → st ≡ step_of (is_some last) rest m → Passes (act (going last m offset rest) st) → ⊥
+pub no-pass : (last : Option Presentation) (m : WalkMode) (offset : ℕ) (rest : List ℕ) (failed : Bool) (want : ℕ) (st : BoxStep) → failed ≡ false → IsStillBelow (record { last = last; mode = m; offset = offset; rest = rest; failed = failed }) want → Acts.IsActive m → st ≡ step_of (is_some last) rest m → IsTakenAhead (move_of_step (going last m offset rest) st) → ⊥
 no-pass last m offset rest true want st g r a e p = absurd (both true g refl)
 no-pass last m offset rest false want st g r a e p =
-    no-pass-at (act (going last m offset rest) st) (subst (IsRested segments) (acts last m offset rest st a e) (rested (going last m offset rest) want r)) p
+    no-pass-at (move_of_step (going last m offset rest) st) (subst (IsRested segments) (acts last m offset rest st a e) (rested (going last m offset rest) want r)) p
 
 -- where a box is passed over there is no item
-skip-byte : (s : WalkState) (to : Phase) (left : ℕ) (rest : List ℕ) → IsRested segments (pass_byte s to left rest) → pass_byte s to left rest ≡ Stop
+skip-byte : (s : WalkState) (to : Phase) (left : ℕ) (rest : List ℕ) → IsRested segments (move_over_byte s to left rest) → move_over_byte s to left rest ≡ Stop
 skip-byte s to left [] h = refl
 skip-byte s to left (x ∷ rest) h = absurd h
 
@@ -112,13 +112,13 @@ skip-none : (last : Option Presentation) (to : Phase) (left offset : ℕ) (rest 
 skip-none last to zero offset rest h = absurd h
 skip-none last to (suc left) offset rest h = skip-byte (going last (Skipping to (suc left)) offset rest) to left rest h
 
-pub skip-dry : (last : Option Presentation) (m : ParserMode) (offset : ℕ) (rest : List ℕ) (failed : Bool) (want : ℕ) (tables : Tables) → failed ≡ false → skips m ≡ true → Rests (walk_state last (record { mode = m; offset = offset; failed = failed }) tables rest) want → segments.move (walk_state last (record { mode = m; offset = offset; failed = failed }) tables rest) ≡ Stop
+pub skip-dry : (last : Option Presentation) (m : ParserMode) (offset : ℕ) (rest : List ℕ) (failed : Bool) (want : ℕ) (tables : Tables) → failed ≡ false → is_skipping m ≡ true → IsStillBelow (walk_state last (record { mode = m; offset = offset; failed = failed }) tables rest) want → segments.move (walk_state last (record { mode = m; offset = offset; failed = failed }) tables rest) ≡ Stop
 skip-dry last m offset rest true want tables g k r = absurd (both true g refl)
 skip-dry last (codes.Between o) offset rest false want tables g k r = cc
 skip-dry last (codes.Within f) offset rest false want tables g k r = cc
 skip-dry last (codes.Skipping to left) offset rest false want tables g k r = skip-none last to left offset rest (rested (going last (Skipping to left) offset rest) want r)
 
-pub active-by : (m : ParserMode) → skips m ≡ false → Kept.IsActive m
+pub active-by : (m : ParserMode) → is_skipping m ≡ false → Kept.IsActive m
 active-by (codes.Between o) e = tt
 active-by (codes.Skipping to left) e = absurd (cc)
 active-by (codes.Within f) e = tt
@@ -130,17 +130,17 @@ end-near (codes.Skipping to left) tables first ready h = omega arith
 end-near (codes.Within f) tables first ready h = h.small
 
 -- a step that would go on is not the next one
-pub stuck : (last : Option Presentation) (m : ParserMode) (offset want : ℕ) (rest : List ℕ) (failed : Bool) (tables : Tables) (st : BoxStep) → failed ≡ false → skips m ≡ false → Rests (walk_state last (record { mode = m; offset = offset; failed = failed }) tables rest) want → st ≡ step_of (is_some last) rest (mode_of tables.slots.items tables.known.items m) → Passes (act (going last (mode_of tables.slots.items tables.known.items m) offset rest) st) → ⊥
+pub stuck : (last : Option Presentation) (m : ParserMode) (offset want : ℕ) (rest : List ℕ) (failed : Bool) (tables : Tables) (st : BoxStep) → failed ≡ false → is_skipping m ≡ false → IsStillBelow (walk_state last (record { mode = m; offset = offset; failed = failed }) tables rest) want → st ≡ step_of (is_some last) rest (mode_of tables.slots.items tables.known.items m) → IsTakenAhead (move_of_step (going last (mode_of tables.slots.items tables.known.items m) offset rest) st) → ⊥
 stuck last m offset want rest failed tables st g k r e p = no-pass last (mode_of tables.slots.items tables.known.items m) offset rest failed want st g r (is_active tables m (active-by m k)) e p
 
 -- a moof that was read would have been passed
-pub plan-stuck : (last : Option Presentation) (p : Presentation) (m : ParserMode) (offset want : ℕ) (bytes : List ℕ) (failed : Bool) (tables : Tables) (len : ℕ) (found : List Slot) → last ≡ Some p → failed ≡ false → Kept.IsActive m → Rests (walk_state last (record { mode = m; offset = offset; failed = failed }) tables bytes) want → step.ReadMoof len ≡ step_of (is_some last) bytes (mode_of tables.slots.items tables.known.items m) → plan_of p.tracks (take len bytes) ≡ Ok found → ⊥
+pub plan-stuck : (last : Option Presentation) (p : Presentation) (m : ParserMode) (offset want : ℕ) (bytes : List ℕ) (failed : Bool) (tables : Tables) (len : ℕ) (found : List Slot) → last ≡ Some p → failed ≡ false → Kept.IsActive m → IsStillBelow (walk_state last (record { mode = m; offset = offset; failed = failed }) tables bytes) want → step.ReadMoof len ≡ step_of (is_some last) bytes (mode_of tables.slots.items tables.known.items m) → plan_of p.tracks (take len bytes) ≡ Ok found → ⊥
 plan-stuck None p m offset want bytes failed tables len found w g a r e h = cc
 plan-stuck (Some q) p m offset want bytes failed tables len found w g a r e h =
     let y : q ≡ p = cc in
     let x : plan_of q.tracks (take len bytes) ≡ Ok found = ap (λ (v : Presentation). plan_of v.tracks (take len bytes)) y ∙ h in
     let s : WalkState = going (Some q) (mode_of tables.slots.items tables.known.items m) offset bytes in
-    no-pass (Some q) (mode_of tables.slots.items tables.known.items m) offset bytes failed want (step.ReadMoof len) g r (is_active tables m a) e (subst (λ v. Passes (move_of_slots s len v)) (sym x) tt)
+    no-pass (Some q) (mode_of tables.slots.items tables.known.items m) offset bytes failed want (step.ReadMoof len) g r (is_active tables m a) e (subst (λ v. IsTakenAhead (move_of_slots s len v)) (sym x) tt)
 
 -- ---- an item is taken
 

@@ -13,12 +13,12 @@ use Rattle.segment_walk.specs.declared.kinds.WalkPlace.{WalkPlace}
 use Rattle.segment_walk.specs.declared.kinds.ParserMode.{ParserMode}
 use Rattle.segment_walk.specs.declared.kinds.ParserMode.TheVariants as codes
 use Rattle.segment_walk.specs.declared.kinds.BoxStep.TheVariants as step
-use Rattle.segment_walk.specs.Moves.{Between, Within, is_ready, lies_in, slot_step, step_of}
+use Rattle.segment_walk.specs.Moves.{Between, Within, is_ready, is_in_ranges, slot_step, step_of}
 use Rattle.segment_walk.specs.Ranges.{open_at}
 use Rattle.segment_stream.specs.declared.progress.Progress.{Progress}
 use Rattle.segment_stream.specs.declared.progress.Tables.{Tables}
 use Rattle.segment_stream.specs.Kept
-use Rattle.segment_stream.specs.Kept.{ParserSnapshot, fragment_in, IsConsistent, IsFragmentCounted, IsCountedIn, GoesOn, ready_behind, with_taken}
+use Rattle.segment_stream.specs.Kept.{ParserSnapshot, fragment_in, IsConsistent, IsFragmentCounted, IsCountedIn, IsLaterSnapshot, ready_behind, with_taken}
 use Rattle.segment_stream.proofs.Acts.{at_step, fits, moved-frame, since-trans}
 use Rattle.segment_stream.proofs.PendingLaws.{some-there}
 use Rattle.segment_stream.proofs.Snapshots.{snapshot_of}
@@ -41,11 +41,11 @@ both-true false b e = cc
 
 gives-ready : (rest : List ℕ) (known : List DataRange) (end : ℕ) (place : WalkPlace) (slot : Slot) → is_ready (length rest) known slot ≡ true → step.GiveFrame slot ≡ slot_step rest known end place (Some slot)
 gives-ready rest known end place slot r =
-    let h = both-true (lies_in known slot) (leb slot.end (length rest)) r in
+    let h = both-true (is_in_ranges known slot) (leb slot.end (length rest)) r in
     let e : leb (suc (length rest)) slot.end ≡ false = grind (arith, nat_tests, h.1) in
     rw (h.0, e) refl
 
-goes-on-trans : (a b d : ParserSnapshot) → GoesOn a b → GoesOn b d → GoesOn a d
+goes-on-trans : (a b d : ParserSnapshot) → IsLaterSnapshot a b → IsLaterSnapshot b d → IsLaterSnapshot a d
 goes-on-trans a b d h g = record {
   same = g.same ∙ h.same;
   consistent = g.consistent;
@@ -61,7 +61,7 @@ within i offset from first ready = record { position = record { mode = codes.Wit
 abbrev taking : Fragment → ℕ → Fragment
 taking i n = record { taken = n; known = i.known; end = i.end; place = i.place }
 
-one-more : (last : Option Presentation) (i : Fragment) (offset from first ready : ℕ) (tables : Tables) (bytes : List ℕ) (o : Option Slot) → o ≡ slice_get tables.slots.items i.taken → IsConsistent (within i offset from first ready) tables bytes → IsReadyAt (length (drop from bytes)) (take i.known tables.known.items) o → GoesOn (snapshot_of last (within i offset from first ready) tables bytes) (snapshot_of last (within (taking i (i.taken + 1)) offset from first (ready + 1)) tables bytes)
+one-more : (last : Option Presentation) (i : Fragment) (offset from first ready : ℕ) (tables : Tables) (bytes : List ℕ) (o : Option Slot) → o ≡ slice_get tables.slots.items i.taken → IsConsistent (within i offset from first ready) tables bytes → IsReadyAt (length (drop from bytes)) (take i.known tables.known.items) o → IsLaterSnapshot (snapshot_of last (within i offset from first ready) tables bytes) (snapshot_of last (within (taking i (i.taken + 1)) offset from first (ready + 1)) tables bytes)
 unfolding step_of
 one-more last i offset from first ready tables bytes None q fine r = absurd r
 one-more last i offset from first ready tables bytes (Some slot) q fine r =
@@ -69,7 +69,7 @@ one-more last i offset from first ready tables bytes (Some slot) q fine r =
     moved-frame last (codes.Within i) offset from first ready 0 false tables bytes slot refl tt fine e
 
 -- from a place, n frames more
-more-frames : (last : Option Presentation) (before : ParserSnapshot) (i : Fragment) (t offset from first ready : ℕ) (tables : Tables) (bytes : List ℕ) (n : ℕ) → GoesOn before (snapshot_of last (within (taking i t) offset from first ready) tables bytes) → ((k : ℕ) → k < n → IsReadyAt (length (drop from bytes)) (take i.known tables.known.items) (slice_get tables.slots.items (t + k))) → GoesOn before (snapshot_of last (within (taking i (t + n)) offset from first (ready + n)) tables bytes)
+more-frames : (last : Option Presentation) (before : ParserSnapshot) (i : Fragment) (t offset from first ready : ℕ) (tables : Tables) (bytes : List ℕ) (n : ℕ) → IsLaterSnapshot before (snapshot_of last (within (taking i t) offset from first ready) tables bytes) → ((k : ℕ) → k < n → IsReadyAt (length (drop from bytes)) (take i.known tables.known.items) (slice_get tables.slots.items (t + k))) → IsLaterSnapshot before (snapshot_of last (within (taking i (t + n)) offset from first (ready + n)) tables bytes)
 more-frames last before i t offset from first ready tables bytes zero h r =
     let y : t + 0 ≡ t = omega arith in
     let z : ready + 0 ≡ ready = omega arith in
@@ -90,7 +90,7 @@ ready-at m n known slots t k e h =
     let j : get_or (drop t slots) k s.0 ≡ s.0 = get_or-drop t slots k s.0 ∙ get_or_from_slice_get slots (t + k) s.0 s.0 s.1 in
     rw s.1 (subst (λ c. is_ready c known s.0 ≡ true) e (subst (λ (v : Slot). is_ready m known v ≡ true) j g))
 
-pub moved-frames : (last : Option Presentation) (m : ParserMode) (offset from first ready want : ℕ) (failed : Bool) (tables : Tables) (bytes : List ℕ) (slot : Slot) → let r : Progress = record { position = record { mode = m; offset = offset; failed = failed }; from = from; first = first; ready = ready; want = want } in failed ≡ false → Kept.IsActive m → IsConsistent r tables bytes → step.GiveFrame slot ≡ at_step last m tables (drop from bytes) → GoesOn (snapshot_of last r tables bytes) (snapshot_of last (with_taken r (fragment_in m) (1 + ready_behind (length bytes - from) (fragment_in m) tables)) tables bytes)
+pub moved-frames : (last : Option Presentation) (m : ParserMode) (offset from first ready want : ℕ) (failed : Bool) (tables : Tables) (bytes : List ℕ) (slot : Slot) → let r : Progress = record { position = record { mode = m; offset = offset; failed = failed }; from = from; first = first; ready = ready; want = want } in failed ≡ false → Kept.IsActive m → IsConsistent r tables bytes → step.GiveFrame slot ≡ at_step last m tables (drop from bytes) → IsLaterSnapshot (snapshot_of last r tables bytes) (snapshot_of last (with_taken r (fragment_in m) (1 + ready_behind (length bytes - from) (fragment_in m) tables)) tables bytes)
 moved-frames last m offset from first ready want failed tables bytes slot f g fine e =
     let r : Progress = record { position = record { mode = m; offset = offset; failed = failed }; from = from; first = first; ready = ready; want = want } in
     let i = fragment_in m in

@@ -16,7 +16,7 @@ use Rattle.input_chunks.specs.Pieces.{pieces_with, pieces_without_first, pieces_
 use Rattle.input_chunks.proofs.Rows.{bytes-pushed, bytes-without, none-added, none-without}
 use Rattle.parser_loop.specs.Walk.{Move, Stop, Pass, Give, Lookahead, lookahead_from, lookahead_by, lookahead_give, stay_at, kept_with, kept_with_all, first_by, after_by, lookahead_after, first_item, after_first}
 use Rattle.parser_loop.proofs.Walks.{IsSettled, settled-at-state}
-use Rattle.parser_loop.proofs.Lookaheads.{lookahead-step, lookahead-rested, keeps, Keeps, IsRested, stands-first, stands-after, stands-look, stands-ready}
+use Rattle.parser_loop.proofs.Lookaheads.{lookahead-step, lookahead-rested, keeps, IsKeptByLookahead, IsRested, stands-first, stands-after, stands-look, stands-ready}
 use Rattle.parser_loop.proofs.Pieces.{stands-start, stands-piece}
 use Rattle.mse_base.specs.declared.frame.Phase.{Phase}
 use Rattle.segment_walk.specs.declared.kinds.ParserMode.{ParserMode}
@@ -24,14 +24,14 @@ use Rattle.segment_walk.specs.declared.kinds.ParserMode.TheVariants as codes
 use Rattle.segment_walk.specs.declared.kinds.BoxStep.{BoxStep}
 use Rattle.segment_walk.specs.declared.kinds.BoxStep.TheVariants as step
 use Rattle.segment_walk.specs.Tables.{SegmentItem}
-use Rattle.parser_loop.specs.Items.{InitItem, FrameItem, SegmentEnd, FaultItem, latest_after_all, latest_after, seen}
-use Rattle.segment_walk.specs.Moves.{WalkState, WalkMode, Between, Skipping, Within, Open, move_of_init, move_of_slots, move_of_moof, pass_byte, act, step_of, segments, move_unless}
+use Rattle.parser_loop.specs.Items.{InitItem, FrameItem, SegmentEnd, FaultItem, latest_after_all, latest_after, answer_item}
+use Rattle.segment_walk.specs.Moves.{WalkState, WalkMode, Between, Skipping, Within, Open, move_of_init, move_of_slots, move_of_moof, move_over_byte, move_of_step, step_of, segments, move_unless}
 use Rattle.segment_walk.specs.Strings.{start, state_before, phase_of}
 use Rattle.segment_walk.specs.Segments.{items_of_string, held_before, phase_before, ready_before}
 use Rattle.segment_walk.proofs.Boxes.{items-boxes, ready-boxes, seen-boxes}
 use Rattle.parser_loop.specs.Parse.{ParserView}
-use Rattle.segment_walk.proofs.WalkLaws.{going, is_walk, good-step, Fits}
-use Rattle.segment_walk.proofs.Latest.{last-move, LastAfter, state-latest}
+use Rattle.segment_walk.proofs.WalkLaws.{going, is_walk, good-step, IsStepOfMode}
+use Rattle.segment_walk.proofs.Latest.{last-move, IsLatestInWalk, state-latest}
 use Rattle.segment_stream.specs.declared.progress.Progress.{Progress}
 use Rattle.segment_stream.specs.declared.progress.ParserPosition.{ParserPosition}
 use Rattle.segment_stream.specs.declared.progress.Tables.{Tables}
@@ -39,7 +39,7 @@ use Rattle.parser_loop.specs.declared.next.Next.{Next}
 use Rattle.parser_loop.specs.StringReadings.{after_answer, string_from, with_bytes}
 use Rattle.segment_walk.specs.declared.kinds.StreamFault.{StreamFault}
 use Rattle.segment_stream.specs.declared.stream.Offered.{Offered}
-use Rattle.segment_stream.specs.Kept.{frames, IsCountedIn, Rests, IsWaitingForBytes, IsEmptied, IsFoundWith, IsLast, kept_of, progress_at_start, last_bytes, snapshot}
+use Rattle.segment_stream.specs.Kept.{frames, IsCountedIn, IsStillBelow, IsStillAtFront, IsEmptied, IsFoundWith, IsLast, kept_of, progress_at_start, last_bytes, snapshot}
 use Rattle.segment_stream.specs.Streams.{ForEachReading, Stands, StandsAfter, SegmentView, segment_view, pushed_last, IsStreamAtRest, IsStreamWithOffer, IsSegmentStream}
 use Rattle.segment_stream.proofs.PendingLaws.{some-there, rested}
 use Rattle.segment_stream.proofs.ArmLaws.{all-kept, dropped}
@@ -53,27 +53,27 @@ IsWithin (Skipping to left) = ⊥
 IsWithin (Within o) = Unit {0}
 
 -- a frame, and what passes in a movie fragment, leave the bytes
-abbrev Keeping : WalkState → Move WalkState SegmentItem → Type 0
-Keeping s Stop = Unit {0}
-Keeping s (Pass t) = IsWithin s.mode → IsWithin t.mode × (t.rest ≡ s.rest)
-Keeping s (Give item t) = segments.runs item ≡ true → IsWithin s.mode × IsWithin t.mode × (t.rest ≡ s.rest)
+abbrev IsRestKept : WalkState → Move WalkState SegmentItem → Type 0
+IsRestKept s Stop = Unit {0}
+IsRestKept s (Pass t) = IsWithin s.mode → IsWithin t.mode × (t.rest ≡ s.rest)
+IsRestKept s (Give item t) = segments.runs item ≡ true → IsWithin s.mode × IsWithin t.mode × (t.rest ≡ s.rest)
 
 not-true : {P : Type 0} → false ≡ true → P
 not-true e = absurd (cc)
 
-keeping-init : (last : Option Presentation) (phase : Phase) (offset : ℕ) (rest : List ℕ) (len : ℕ) (r : Result Presentation InitFault) → let s = going last (Between phase) offset rest in Keeping s (move_of_init s len r)
+keeping-init : (last : Option Presentation) (phase : Phase) (offset : ℕ) (rest : List ℕ) (len : ℕ) (r : Result Presentation InitFault) → let s = going last (Between phase) offset rest in IsRestKept s (move_of_init s len r)
 keeping-init last phase offset rest len (Ok p) = λ e. not-true e
 keeping-init last phase offset rest len (Err f) = λ e. not-true e
 
-keeping-opened : (last : Option Presentation) (phase : Phase) (offset : ℕ) (rest : List ℕ) (len : ℕ) (r : Result (List Slot) MoofFault) → let s = going last (Between phase) offset rest in Keeping s (move_of_slots s len r)
+keeping-opened : (last : Option Presentation) (phase : Phase) (offset : ℕ) (rest : List ℕ) (len : ℕ) (r : Result (List Slot) MoofFault) → let s = going last (Between phase) offset rest in IsRestKept s (move_of_slots s len r)
 keeping-opened last phase offset rest len (Ok slots) = λ w. absurd w
 keeping-opened last phase offset rest len (Err f) = λ e. not-true e
 
-keeping-planned : (last with : Option Presentation) (phase : Phase) (offset : ℕ) (rest : List ℕ) (len : ℕ) → let s = going last (Between phase) offset rest in Keeping s (move_of_moof s len with)
+keeping-planned : (last with : Option Presentation) (phase : Phase) (offset : ℕ) (rest : List ℕ) (len : ℕ) → let s = going last (Between phase) offset rest in IsRestKept s (move_of_moof s len with)
 keeping-planned last None phase offset rest len = λ e. not-true e
 keeping-planned last (Some p) phase offset rest len = keeping-opened last phase offset rest len (plan_of p.tracks (take len rest))
 
-keeping-between : (last : Option Presentation) (phase : Phase) (offset : ℕ) (rest : List ℕ) (st : BoxStep) → Fits (Between phase) (length rest) st → let s = going last (Between phase) offset rest in Keeping s (act s st)
+keeping-between : (last : Option Presentation) (phase : Phase) (offset : ℕ) (rest : List ℕ) (st : BoxStep) → IsStepOfMode (Between phase) (length rest) st → let s = going last (Between phase) offset rest in IsRestKept s (move_of_step s st)
 keeping-between last phase offset rest (step.Wait w) f = tt
 keeping-between last phase offset rest (step.Skip to len) f = λ w. absurd w
 keeping-between last phase offset rest (step.ReadInit len) f = keeping-init last phase offset rest len (init_of (take len rest))
@@ -84,7 +84,7 @@ keeping-between last phase offset rest (step.GiveFrame slot) f = absurd f.0
 keeping-between last phase offset rest (step.EndSegment end) f = absurd f.0
 keeping-between last phase offset rest (step.Fail g at) f = λ e. not-true e
 
-keeping-within : (last : Option Presentation) (o : Open) (offset : ℕ) (rest : List ℕ) (st : BoxStep) → Fits (Within o) (length rest) st → let s = going last (Within o) offset rest in Keeping s (act s st)
+keeping-within : (last : Option Presentation) (o : Open) (offset : ℕ) (rest : List ℕ) (st : BoxStep) → IsStepOfMode (Within o) (length rest) st → let s = going last (Within o) offset rest in IsRestKept s (move_of_step s st)
 keeping-within last o offset rest (step.Wait w) f = tt
 keeping-within last o offset rest (step.Skip to len) f = absurd f.0
 keeping-within last o offset rest (step.ReadInit len) f = absurd f.0
@@ -95,26 +95,26 @@ keeping-within last o offset rest (step.GiveFrame slot) f = λ _. (tt, tt, refl)
 keeping-within last o offset rest (step.EndSegment end) f = λ e. not-true e
 keeping-within last o offset rest (step.Fail g at) f = λ e. not-true e
 
-keeping-byte : (last : Option Presentation) (to : Phase) (offset left : ℕ) (all rest : List ℕ) → let s = going last (Skipping to (suc left)) offset all in Keeping s (pass_byte s to left rest)
+keeping-byte : (last : Option Presentation) (to : Phase) (offset left : ℕ) (all rest : List ℕ) → let s = going last (Skipping to (suc left)) offset all in IsRestKept s (move_over_byte s to left rest)
 keeping-byte last to offset left all [] = tt
 keeping-byte last to offset left all (x ∷ rest) = λ w. absurd w
 
-keeping : (last : Option Presentation) (m : WalkMode) (offset : ℕ) (rest : List ℕ) (failed : Bool) → let s : WalkState = record { last = last; mode = m; offset = offset; rest = rest; failed = failed } in Keeping s (move_unless s failed)
+keeping : (last : Option Presentation) (m : WalkMode) (offset : ℕ) (rest : List ℕ) (failed : Bool) → let s : WalkState = record { last = last; mode = m; offset = offset; rest = rest; failed = failed } in IsRestKept s (move_unless s failed)
 keeping last m offset rest true = tt
 keeping last (Between phase) offset rest false = keeping-between last phase offset rest (step_of (is_some last) rest (Between phase)) (good-step (is_some last) rest [] (Between phase)).0
 keeping last (Skipping to zero) offset rest false = λ w. absurd w
 keeping last (Skipping to (suc left)) offset rest false = keeping-byte last to offset left rest rest
 keeping last (Within o) offset rest false = keeping-within last o offset rest (step_of (is_some last) rest (Within o)) (good-step (is_some last) rest [] (Within o)).0
 
-abbrev Held : List ℕ → WalkState → Type 0
-Held rest s = IsWithin s.mode × (s.rest ≡ rest)
+abbrev HasRestWithin : List ℕ → WalkState → Type 0
+HasRestWithin rest s = IsWithin s.mode × (s.rest ≡ rest)
 
-held-by : (rest : List ℕ) (s : WalkState) (m : Move WalkState SegmentItem) → Keeping s m → Held rest s → Keeps segments (Held rest) m
+held-by : (rest : List ℕ) (s : WalkState) (m : Move WalkState SegmentItem) → IsRestKept s m → HasRestWithin rest s → IsKeptByLookahead segments (HasRestWithin rest) m
 held-by rest s Stop f p = tt
 held-by rest s (Pass t) f p = let q = f p.0 in (q.0, q.1 ∙ p.1)
 held-by rest s (Give item t) f p = λ e. let q = f e in (q.1, q.2 ∙ p.1)
 
-held-move : (rest : List ℕ) (s : WalkState) → Held rest s → Keeps segments (Held rest) (segments.move s)
+held-move : (rest : List ℕ) (s : WalkState) → HasRestWithin rest s → IsKeptByLookahead segments (HasRestWithin rest) (segments.move s)
 held-move rest s p = held-by rest s (segments.move s) (keeping s.last s.mode s.offset s.rest s.failed) p
 
 phase-within : (m : WalkMode) → IsWithin m → phase_of m ≡ InMedia
@@ -123,27 +123,27 @@ phase-within (Skipping to left) w = absurd w
 phase-within (Within o) w = refl
 
 -- the bytes and the phase
-abbrev Alike : WalkState → WalkState → Type 0
-Alike s t = (t.rest ≡ s.rest) × (phase_of t.mode ≡ phase_of s.mode)
+abbrev HasSameBytesAndPhase : WalkState → WalkState → Type 0
+HasSameBytesAndPhase s t = (t.rest ≡ s.rest) × (phase_of t.mode ≡ phase_of s.mode)
 
-alike-give : (s t : WalkState) (item : SegmentItem) (b : Bool) → segments.runs item ≡ b → lookahead_from segments s ≡ lookahead_give s item (lookahead_from segments t) b → Keeping s (Give item t) → Alike s (lookahead_from segments s).state
+alike-give : (s t : WalkState) (item : SegmentItem) (b : Bool) → segments.runs item ≡ b → lookahead_from segments s ≡ lookahead_give s item (lookahead_from segments t) b → IsRestKept s (Give item t) → HasSameBytesAndPhase s (lookahead_from segments s).state
 alike-give s t item false e r f = (ap (λ (k : Lookahead WalkState SegmentItem). k.state.rest) r, ap (λ (k : Lookahead WalkState SegmentItem). phase_of k.state.mode) r)
 alike-give s t item true e r f =
     let q = f e in
-    let h = keeps segments is_walk (Held s.rest) (held-move s.rest) t (q.1, q.2) in (
+    let h = keeps segments is_walk (HasRestWithin s.rest) (held-move s.rest) t (q.1, q.2) in (
       ap (λ (k : Lookahead WalkState SegmentItem). k.state.rest) r ∙ h.1,
       ap (λ (k : Lookahead WalkState SegmentItem). phase_of k.state.mode) r ∙ phase-within (lookahead_from segments t).state.mode h.0 ∙ sym (phase-within s.mode q.0),
     )
 
-alike-at : (s : WalkState) (m : Move WalkState SegmentItem) → segments.move s ≡ m → IsSettled m → Keeping s m → Alike s (lookahead_from segments s).state
+alike-at : (s : WalkState) (m : Move WalkState SegmentItem) → segments.move s ≡ m → IsSettled m → IsRestKept s m → HasSameBytesAndPhase s (lookahead_from segments s).state
 alike-at s Stop e d f = let r = lookahead-step segments is_walk s ∙ ap (lookahead_by segments s (lookahead_from segments)) e in (ap (λ (k : Lookahead WalkState SegmentItem). k.state.rest) r, ap (λ (k : Lookahead WalkState SegmentItem). phase_of k.state.mode) r)
 alike-at s (Pass t) e d f = absurd d
 alike-at s (Give item t) e d f = alike-give s t item (segments.runs item) refl (lookahead-step segments is_walk s ∙ ap (lookahead_by segments s (lookahead_from segments)) e) f
 
-alike-lookahead : (s : WalkState) → IsSettled (segments.move s) → Alike s (lookahead_from segments s).state
+alike-lookahead : (s : WalkState) → IsSettled (segments.move s) → HasSameBytesAndPhase s (lookahead_from segments s).state
 alike-lookahead s d = alike-at s (segments.move s) refl d (keeping s.last s.mode s.offset s.rest s.failed)
 
-alike-stands : (kept : Lookahead WalkState SegmentItem) → ForEachReading kept (λ r. Alike (state_before r) kept.state)
+alike-stands : (kept : Lookahead WalkState SegmentItem) → ForEachReading kept (λ r. HasSameBytesAndPhase (state_before r) kept.state)
 alike-stands kept r h =
     let s : WalkState = state_before r in
     let a = alike-lookahead s (settled-at-state segments is_walk r.taken (start r.before r.whole)) in
@@ -173,7 +173,7 @@ frame-latest last (FrameItem frame offset) e = refl
 frame-latest last SegmentEnd e = refl
 frame-latest last (FaultItem f offset) e = refl
 
-last-by : (last : Option Presentation) (s : WalkState) (m : Move WalkState SegmentItem) → LastAfter s m → s.last ≡ last → Keeps segments (λ t. t.last ≡ last) m
+last-by : (last : Option Presentation) (s : WalkState) (m : Move WalkState SegmentItem) → IsLatestInWalk s m → s.last ≡ last → IsKeptByLookahead segments (λ t. t.last ≡ last) m
 last-by last s Stop f p = tt
 last-by last s (Pass t) f p = f ∙ p
 last-by last s (Give item t) f p = λ e. f ∙ frame-latest s.last item e ∙ p
@@ -236,7 +236,7 @@ unfolding step_of header_of
 empty-step ready = refl
 
 start-still : (last : Option Presentation) → lookahead_from segments (start last []) ≡ stay_at (start last [])
-start-still last = lookahead-rested segments is_walk (start last []) (rw (ap (act (start last [])) (empty-step (is_some last))) tt)
+start-still last = lookahead-rested segments is_walk (start last []) (rw (ap (move_of_step (start last [])) (empty-step (is_some last))) tt)
 
 pub holds-start : (last : Option Presentation) (tables : Tables) → IsLast last → IsStreamAtRest (snapshot last progress_at_start tables []) [] 0
 holds-start last tables h = record {
@@ -278,7 +278,7 @@ offer-view last r found tables new_tables old new bytes fed len l b e k =
     let view' : Lookahead WalkState SegmentItem → SegmentView = λ v. record { kept = v; pieces = old; fed = fed; offered = Some bytes } in
     ap (λ ps. view ps (pushed_last len new)) w ∙ ap (view old) p ∙ ap view' k
 
-pub offer-holds : (last : Option Presentation) (r found : Progress) (tables new_tables : Tables) (old new : List (List ℕ)) (bytes : List ℕ) (fed len : ℕ) → len ≡ length bytes → pieces_without_last (length bytes) new ≡ old → new ≡ pieces_with bytes old → IsStreamAtRest (snapshot last r tables old) old fed → IsWaitingForBytes (snapshot last r new_tables old) → IsFoundWith (snapshot last r new_tables old) (snapshot last found new_tables new) bytes → IsEmptied found (drop found.from (concat new)) → fed + len < 2 ^ 62 → IsStreamWithOffer (snapshot last r new_tables new) new fed (record { len = len; progress = found })
+pub offer-holds : (last : Option Presentation) (r found : Progress) (tables new_tables : Tables) (old new : List (List ℕ)) (bytes : List ℕ) (fed len : ℕ) → len ≡ length bytes → pieces_without_last (length bytes) new ≡ old → new ≡ pieces_with bytes old → IsStreamAtRest (snapshot last r tables old) old fed → IsStillAtFront (snapshot last r new_tables old) → IsFoundWith (snapshot last r new_tables old) (snapshot last found new_tables new) bytes → IsEmptied found (drop found.from (concat new)) → fed + len < 2 ^ 62 → IsStreamWithOffer (snapshot last r new_tables new) new fed (record { len = len; progress = found })
 offer-holds last r found tables new_tables old new bytes fed len l b e h rest f q room =
     let w : pieces_without_last len new ≡ old = ap (λ n. pieces_without_last n new) l ∙ b in
     let p : pushed_last len new ≡ bytes = pushed-is-last bytes old new len l b e in
@@ -294,7 +294,7 @@ offer-holds last r found tables new_tables old new bytes fed len l b e h rest f 
 emptied-as : (r s : Progress) (a b : List ℕ) → s.position ≡ r.position → s.ready ≡ r.ready → b ≡ a → IsEmptied r a → IsEmptied s b
 emptied-as r s a b e f g h = λ q. let k = h (ap (λ (x : ParserPosition). x.failed) (sym e) ∙ q) in (g ∙ k.0, f ∙ k.1)
 
-pub accept-holds : (last : Option Presentation) (r s : Progress) (tables : Tables) (input new : List (List ℕ)) (fed : ℕ) (o : Offered) → IsStreamWithOffer (snapshot last r tables input) input fed o → IsWaitingForBytes (snapshot last s tables new) → s.position ≡ o.progress.position → s.ready ≡ o.progress.ready → new ≡ pieces_without_first o.progress.from input → IsStreamAtRest (snapshot last s tables new) new (fed + o.len)
+pub accept-holds : (last : Option Presentation) (r s : Progress) (tables : Tables) (input new : List (List ℕ)) (fed : ℕ) (o : Offered) → IsStreamWithOffer (snapshot last r tables input) input fed o → IsStillAtFront (snapshot last s tables new) → s.position ≡ o.progress.position → s.ready ≡ o.progress.ready → new ≡ pieces_without_first o.progress.from input → IsStreamAtRest (snapshot last s tables new) new (fed + o.len)
 accept-holds last r s tables input new fed o h rest e f g =
     let b : concat new ≡ drop o.progress.from (concat input) = ap concat g ∙ bytes-without o.progress.from input in
     let before = pieces_without_last o.len input in
@@ -329,14 +329,14 @@ after-none [] s (Pass t) e h q = absurd h
 after-none [] s (Give item t) e h q = cc
 after-none (x ∷ items) s m e h q = cc
 
-pub dry-kept : (kept : Lookahead WalkState SegmentItem) (want : ℕ) → Rests kept.state want → first_item segments kept ≡ None → after_first segments kept ≡ kept
+pub dry-kept : (kept : Lookahead WalkState SegmentItem) (want : ℕ) → IsStillBelow kept.state want → first_item segments kept ≡ None → after_first segments kept ≡ kept
 dry-kept kept want r q = after-none kept.items kept.state (segments.move kept.state) refl (rested kept.state want r) q
 
 -- and the pieces
 pub dry-pieces : (old new : List (List ℕ)) → HasNoEmptyPiece old → concat new ≡ concat old → new ≡ last_bytes (length (concat new)) old → new ≡ old
 dry-pieces old new h e p = p ∙ ap (λ (b : List ℕ). last_bytes (length b) old) e ∙ sym (all-kept old h)
 
-pub next-holds : {E : Type 0} (result : Result (Next StreamFault) E) (last new_last : Option Presentation) (r new_r : Progress) (tables new_tables : Tables) (input new : List (List ℕ)) (fed : ℕ) → IsStreamAtRest (snapshot last r tables input) input fed → OnOk result (IsWaitingForBytes (snapshot new_last new_r new_tables new)) → OnOk result (IsEmptied new_r (concat new)) → IsLast new_last → OnOk result (new_r.position.offset + length (concat new) ≤ r.position.offset + length (concat input)) → OnOk result (new ≡ last_bytes (length (concat new)) input) → OnErr result (new_last ≡ last) → OnErr result (new_r ≡ r) → OnErr result (new_tables ≡ tables) → OnErr result (new ≡ input) → IsStreamAtRest (snapshot new_last new_r new_tables new) new fed
+pub next-holds : {E : Type 0} (result : Result (Next StreamFault) E) (last new_last : Option Presentation) (r new_r : Progress) (tables new_tables : Tables) (input new : List (List ℕ)) (fed : ℕ) → IsStreamAtRest (snapshot last r tables input) input fed → OnOk result (IsStillAtFront (snapshot new_last new_r new_tables new)) → OnOk result (IsEmptied new_r (concat new)) → IsLast new_last → OnOk result (new_r.position.offset + length (concat new) ≤ r.position.offset + length (concat input)) → OnOk result (new ≡ last_bytes (length (concat new)) input) → OnErr result (new_last ≡ last) → OnErr result (new_r ≡ r) → OnErr result (new_tables ≡ tables) → OnErr result (new ≡ input) → IsStreamAtRest (snapshot new_last new_r new_tables new) new fed
 next-holds (Ok x) last new_last r new_r tables new_tables input new fed h rest emptied readable total pieces e_last e_r e_tables e_input = record {
   rest = rest;
   emptied = emptied;
@@ -347,19 +347,19 @@ next-holds (Ok x) last new_last r new_r tables new_tables input new fed h rest e
 }
 next-holds (Err e) last new_last r new_r tables new_tables input new fed h rest emptied readable total pieces e_last e_r e_tables e_input = rw (e_last, e_r, e_tables, e_input) h
 
-pub next-item : {E : Type 0} (result : Result (Next StreamFault) E) (last : Option Presentation) (r : Progress) (tables : Tables) (input : List (List ℕ)) (fed : ℕ) (v : SegmentView) → segment_view (snapshot last r tables input) input fed None ≡ v → IfOk result (λ x. seen x ≡ first_item segments (kept_of (snapshot last r tables input))) → ForEachReading v.kept (λ reading. IfOk result (λ x. seen x ≡ slice_get (items_of_string reading.before reading.whole) reading.taken))
+pub next-item : {E : Type 0} (result : Result (Next StreamFault) E) (last : Option Presentation) (r : Progress) (tables : Tables) (input : List (List ℕ)) (fed : ℕ) (v : SegmentView) → segment_view (snapshot last r tables input) input fed None ≡ v → IfOk result (λ x. answer_item x ≡ first_item segments (kept_of (snapshot last r tables input))) → ForEachReading v.kept (λ reading. IfOk result (λ x. answer_item x ≡ slice_get (items_of_string reading.before reading.whole) reading.taken))
 next-item (Ok x) last r tables input fed v e g reading st = g ∙ ap (λ (w : SegmentView). first_item segments w.kept) e ∙ stands-item v.kept reading st
 next-item (Err x) last r tables input fed v e g reading st = tt
 
-pub next-stands : {E : Type 0} (result : Result (Next StreamFault) E) (last new_last : Option Presentation) (r new_r : Progress) (tables new_tables : Tables) (input new : List (List ℕ)) (fed : ℕ) (v : SegmentView) → segment_view (snapshot last r tables input) input fed None ≡ v → IfOk result (λ x. seen x ≡ first_item segments (kept_of (snapshot last r tables input))) → OnOk result (kept_of (snapshot new_last new_r new_tables new) ≡ after_first segments (kept_of (snapshot last r tables input))) → IfOk result (λ x. StandsAfter v.kept (after_answer (seen x)) (kept_of (snapshot new_last new_r new_tables new)))
+pub next-stands : {E : Type 0} (result : Result (Next StreamFault) E) (last new_last : Option Presentation) (r new_r : Progress) (tables new_tables : Tables) (input new : List (List ℕ)) (fed : ℕ) (v : SegmentView) → segment_view (snapshot last r tables input) input fed None ≡ v → IfOk result (λ x. answer_item x ≡ first_item segments (kept_of (snapshot last r tables input))) → OnOk result (kept_of (snapshot new_last new_r new_tables new) ≡ after_first segments (kept_of (snapshot last r tables input))) → IfOk result (λ x. StandsAfter v.kept (after_answer (answer_item x)) (kept_of (snapshot new_last new_r new_tables new)))
 next-stands (Ok x) last new_last r new_r tables new_tables input new fed v e g k = λ reading st.
-    let f : seen x ≡ first_item segments v.kept = g ∙ ap (λ (w : SegmentView). first_item segments w.kept) e in
+    let f : answer_item x ≡ first_item segments v.kept = g ∙ ap (λ (w : SegmentView). first_item segments w.kept) e in
     let q : kept_of (snapshot new_last new_r new_tables new) ≡ after_first segments v.kept = k ∙ ap (λ (w : SegmentView). after_first segments w.kept) e in
     let a : Stands (after_first segments v.kept) (after_answer (first_item segments v.kept) reading) = stands-after segments is_walk v.kept (start reading.before reading.whole) reading.taken st in
-    subst (λ w. Stands w (after_answer (seen x) reading)) (sym q) (subst (λ o. Stands (after_first segments v.kept) (after_answer o reading)) (sym f) a)
+    subst (λ w. Stands w (after_answer (answer_item x) reading)) (sym q) (subst (λ o. Stands (after_first segments v.kept) (after_answer o reading)) (sym f) a)
 next-stands (Err x) last new_last r new_r tables new_tables input new fed v e g k = tt
 
-pub next-dry : {E : Type 0} (result : Result (Next StreamFault) E) (last new_last : Option Presentation) (r new_r : Progress) (tables new_tables : Tables) (input new : List (List ℕ)) (fed : ℕ) (v : SegmentView) → IsStreamAtRest (snapshot last r tables input) input fed → segment_view (snapshot last r tables input) input fed None ≡ v → IfOk result (λ x. seen x ≡ first_item segments (kept_of (snapshot last r tables input))) → OnOk result (kept_of (snapshot new_last new_r new_tables new) ≡ after_first segments (kept_of (snapshot last r tables input))) → OnOk result (IsWaitingForBytes (snapshot new_last new_r new_tables new)) → OnOk result (new ≡ last_bytes (length (concat new)) input) → IfOk result (λ x. seen x ≡ None → segment_view (snapshot new_last new_r new_tables new) new fed None ≡ v)
+pub next-dry : {E : Type 0} (result : Result (Next StreamFault) E) (last new_last : Option Presentation) (r new_r : Progress) (tables new_tables : Tables) (input new : List (List ℕ)) (fed : ℕ) (v : SegmentView) → IsStreamAtRest (snapshot last r tables input) input fed → segment_view (snapshot last r tables input) input fed None ≡ v → IfOk result (λ x. answer_item x ≡ first_item segments (kept_of (snapshot last r tables input))) → OnOk result (kept_of (snapshot new_last new_r new_tables new) ≡ after_first segments (kept_of (snapshot last r tables input))) → OnOk result (IsStillAtFront (snapshot new_last new_r new_tables new)) → OnOk result (new ≡ last_bytes (length (concat new)) input) → IfOk result (λ x. answer_item x ≡ None → segment_view (snapshot new_last new_r new_tables new) new fed None ≡ v)
 next-dry (Err x) last new_last r new_r tables new_tables input new fed v h e g k rest pieces = tt
 next-dry (Ok x) last new_last r new_r tables new_tables input new fed v h e g k rest pieces = λ z.
     let old_kept : Lookahead WalkState SegmentItem = kept_of (snapshot last r tables input) in

@@ -16,7 +16,7 @@ use Rattle.segment_walk.specs.declared.kinds.ParserMode.TheVariants as code
 use Rattle.segment_walk.specs.declared.kinds.WalkPlace.TheVariants.{AtBox}
 use Rattle.segment_walk.specs.Tables.{SegmentItem}
 use Rattle.parser_loop.specs.Items.{InitItem, SegmentEnd}
-use Rattle.segment_walk.specs.Moves.{WalkState, Between, step_of, frame_of, is_ready, place_offset, state_past, fail, segments}
+use Rattle.segment_walk.specs.Moves.{WalkState, Between, step_of, frame_of, is_ready, place_offset, state_past, move_of_fault, segments}
 use Rattle.segment_walk.specs.Ranges.{AreRangesAscending, mode_of}
 use Rattle.input_chunks.specs.Pieces.{pieces_without_first}
 use Rattle.std.specs.List.{concat, prefix_len}
@@ -49,8 +49,8 @@ abbrev pub bytes_left : ParserSnapshot → List ℕ
 bytes_left s = drop s.progress.from s.bytes
 
 -- how long the string is, of which the input is the end
-abbrev pub string_len : ParserSnapshot → ℕ
-string_len s = s.progress.position.offset + (length s.bytes - s.progress.from)
+abbrev pub end_of_input : ParserSnapshot → ℕ
+end_of_input s = s.progress.position.offset + (length s.bytes - s.progress.from)
 
 -- the state of the walk at the place of the parser
 abbrev pub state_of : ParserSnapshot → WalkState
@@ -100,14 +100,14 @@ abbrev pub kept_with_lookahead : Lookahead WalkState SegmentItem → Lookahead W
 kept_with_lookahead kept = with_items kept.items (lookahead_from segments kept.state)
 
 -- the walk stays there until there are `want` bytes
-pub record Rests (s : WalkState) (want : ℕ) : Type 0 where
+pub record IsStillBelow (s : WalkState) (want : ℕ) : Type 0 where
   pub still : lookahead_from segments s ≡ stay_at s
   pub waits : (c : List ℕ) → length s.rest + length c < want
       → lookahead_from segments (segments.more s c) ≡ stay_at (segments.more s c)
 
 -- it stays until there are as many bytes as the parser wants
-abbrev pub IsAtRest : ParserSnapshot → Type 0
-IsAtRest s = Rests (state_of s) s.progress.want
+abbrev pub IsStillBelowWant : ParserSnapshot → Type 0
+IsStillBelowWant s = IsStillBelow (state_of s) s.progress.want
 
 -- the presentation that was read last, if there is one
 abbrev pub IsLast : Option Presentation → Type 0
@@ -169,14 +169,14 @@ abbrev pub AreTablesKept : ParserMode → Tables → Tables → Type 0
 AreTablesKept mode tables new_tables = IsUnchangedSince mode mode tables new_tables
 
 -- from one place to a later one, with one presentation and one input
-pub record GoesOn (before after : ParserSnapshot) : Type 0 where
+pub record IsLaterSnapshot (before after : ParserSnapshot) : Type 0 where
   pub same : kept_with_lookahead (kept_of after) ≡ kept_with_lookahead (kept_of before)
   pub consistent : IsConsistent after.progress after.tables after.bytes
   pub since :
       IsUnchangedSince before.progress.position.mode after.progress.position.mode before.tables
       after.tables
   pub same_failed : after.progress.position.failed ≡ before.progress.position.failed
-  pub total : string_len after ≡ string_len before
+  pub total : end_of_input after ≡ end_of_input before
   pub size : segments.size (state_of after) < segments.size (state_of before)
 
 -- the parser has come to another place, with the tables there
@@ -191,19 +191,19 @@ moved_to progress tables s = record {
 -- of a move, with the tables behind it
 abbrev pub IsMoveResult : ParserSnapshot → Tables → MoveResult → Type 0
 IsMoveResult before new_tables (move_result.Rest want) =
-    Rests (state_of before) want × (new_tables ≡ before.tables)
+    IsStillBelow (state_of before) want × (new_tables ≡ before.tables)
 IsMoveResult before new_tables (move_result.Go progress) =
-    GoesOn before (moved_to progress new_tables before)
+    IsLaterSnapshot before (moved_to progress new_tables before)
 
 abbrev pub IsActive : ParserMode → Type 0
 IsActive (code.Between phase) = Unit {0}
 IsActive (code.Skipping to left) = ⊥
 IsActive (code.Within f) = Unit {0}
 
-abbrev pub skips : ParserMode → Bool
-skips (code.Between phase) = false
-skips (code.Skipping to left) = true
-skips (code.Within f) = false
+abbrev pub is_skipping : ParserMode → Bool
+is_skipping (code.Between phase) = false
+is_skipping (code.Skipping to left) = true
+is_skipping (code.Within f) = false
 
 -- the movie fragment of a mode, or an empty one
 abbrev pub fragment_in : ParserMode → Fragment
@@ -233,17 +233,17 @@ with_taken r f n =
     record (in_mode r (code.Within (record f { taken = f.taken + n }))) { ready = r.ready + n }
 
 -- a place that rests, with nothing of the input before it
-pub record IsWaitingForBytes (s : ParserSnapshot) : Type 0 where
+pub record IsStillAtFront (s : ParserSnapshot) : Type 0 where
   pub front : s.progress.from ≡ 0
   pub consistent : IsConsistent s.progress s.tables s.bytes
-  pub rests : IsAtRest s
+  pub rests : IsStillBelowWant s
 
 -- what is found when `more` bytes come
 pub record IsFoundWith (before found : ParserSnapshot) (more : List ℕ) : Type 0 where
   pub same : kept_of found ≡ kept_with segments (kept_of before) more
   pub consistent : IsConsistent found.progress found.tables found.bytes
-  pub rests : IsAtRest found
-  pub total : string_len found
+  pub rests : IsStillBelowWant found
+  pub total : end_of_input found
       ≤ before.progress.position.offset + length (bytes_left before) + length more
 
 -- the move that gives an item which is no frame
@@ -251,7 +251,7 @@ abbrev pub move_of_pending : WalkState → PendingItem → Move WalkState Segmen
 move_of_pending s pending.Dry = Stop
 move_of_pending s (pending.Init p len) = Give (InitItem p s.offset) (state_past s (Some p) len)
 move_of_pending s (pending.End end) = Give SegmentEnd (state_past s s.last end)
-move_of_pending s (pending.Fault f at) = fail s f at
+move_of_pending s (pending.Fault f at) = move_of_fault s f at
 
 -- this item, which is no frame, stands next
 abbrev pub IsPendingItem : ParserSnapshot → PendingItem → Type 0

@@ -9,7 +9,7 @@ use Rattle.segment_walk.specs.Moves.{WalkState, segments}
 use Rattle.segment_walk.specs.Tables.{SegmentItem}
 use Rattle.segment_walk.specs.Strings.{start}
 use Rattle.segment_stream.specs.declared.stream.Offered.{Offered}
-use Rattle.segment_stream.specs.Kept.{IsWaitingForBytes, IsEmptied, IsFoundWith, IsLast, ParserSnapshot, kept_of, moved_to, snapshot}
+use Rattle.segment_stream.specs.Kept.{IsStillAtFront, IsEmptied, IsFoundWith, IsLast, ParserSnapshot, kept_of, moved_to, snapshot}
 
 -- A stream: the coded frames that are ready and the state of the walk behind them, the pieces of its input, the
 -- length of the string since the last reset, and the bytes that are offered, if there are any.
@@ -59,7 +59,7 @@ segment_view s input fed (Some o) = record {
 
 -- a place at rest in a string of `fed` bytes
 pub record IsStreamAtRest (s : ParserSnapshot) (input : List (List ℕ)) (fed : ℕ) : Type 0 where
-  pub rest : IsWaitingForBytes s
+  pub rest : IsStillAtFront s
   pub emptied : IsEmptied s.progress s.bytes
   pub readable : IsLast s.last
   pub none_empty : HasNoEmptyPiece input

@@ -6,8 +6,8 @@ ghost use Rattle.parser_loop.specs.Walk.{lookahead_from, first_item, after_first
 ghost use Rattle.input_chunks.specs.Pieces.{pieces_without_first, HasNoEmptyPiece};
 ghost use Rattle.segment_walk.specs.Moves.{segments};
 ghost use Rattle.parser_loop.specs.Items.{FaultItem, InitItem, SegmentEnd};
-ghost use Rattle.segment_stream.specs.Kept.{IsAtRest, IsConsistent, IsWaitingForBytes, IsEmptied, IsLast, kept_of, last_bytes, snapshot, state_behind, string_len};
-ghost use Rattle.parser_loop.specs.Items.{latest_after_any, seen};
+ghost use Rattle.segment_stream.specs.Kept.{IsStillBelowWant, IsConsistent, IsStillAtFront, IsEmptied, IsLast, kept_of, last_bytes, snapshot, state_behind, end_of_input};
+ghost use Rattle.parser_loop.specs.Items.{latest_after_any, answer_item};
 
 use crate::moves::{NEVER, run_on};
 use crate::next::SegmentNext;
@@ -28,13 +28,13 @@ fn take_frame(
     requires ready { 0 < progress.old.ready }
     requires front { progress.old.from ≡ 0 }
     requires consistent { IsConsistent progress.old tables.now (concat input.now) }
-    ensures item { (last : Option Presentation) → IfOk result (λ x. seen x
+    ensures item { (last : Option Presentation) → IfOk result (λ x. answer_item x
         ≡ first_item segments (kept_of (snapshot last progress.old tables.now input.now))) }
     ensures ok { (last : Option Presentation) → OnOk result
         (kept_of (snapshot last progress.new tables.now input.now)
         ≡ after_first segments (kept_of (snapshot last progress.old tables.now input.now))) }
     ensures last { (last : Option Presentation) → IfOk result (λ x.
-        last ≡ latest_after_any last (seen x)) }
+        last ≡ latest_after_any last (answer_item x)) }
     ensures progress { OnOk result (progress.new ≡ record {
       position = progress.old.position;
       from = progress.old.from;
@@ -64,8 +64,9 @@ fn leave_on(
     ensures same { IfOk result (λ o. kept_of (snapshot last.now o.progress o.tables input.now)
         ≡ lookahead_from segments (state_behind last.now offset len (concat input.now))) }
     ensures consistent { IfOk result (λ o. IsConsistent o.progress o.tables (concat input.now)) }
-    ensures waits { IfOk result (λ o. IsAtRest (snapshot last.now o.progress o.tables input.now)) }
-    ensures total { IfOk result (λ o. string_len (snapshot last.now o.progress o.tables input.now)
+    ensures waits { IfOk result (λ o. IsStillBelowWant
+        (snapshot last.now o.progress o.tables input.now)) }
+    ensures total { IfOk result (λ o. end_of_input (snapshot last.now o.progress o.tables input.now)
         ≡ offset + length (concat input.now)) }
     ensures unfailed { IfOk result (λ o. o.progress.position.failed ≡ false) }
 {
@@ -99,8 +100,8 @@ fn enter(
     requires { next_state.progress.from ≤ length (concat input.old) }
     ensures waits { (last : Option Presentation) →
         IsConsistent next_state.progress next_state.tables (concat input.old) →
-        IsAtRest (snapshot last next_state.progress next_state.tables input.old) →
-        IsWaitingForBytes (snapshot last progress.new tables.new input.new) }
+        IsStillBelowWant (snapshot last next_state.progress next_state.tables input.old) →
+        IsStillAtFront (snapshot last progress.new tables.new input.new) }
     ensures kept { (last : Option Presentation) →
         kept_of (snapshot last progress.new tables.new input.new)
         ≡ kept_of (snapshot last next_state.progress next_state.tables input.old) }
@@ -125,14 +126,14 @@ fn init_on(
     requires readable { IsPresentation presentation }
     requires small { progress.old.position.offset + length (concat input.old) < 2 ^ 62 }
     ensures item { IfOk result (λ x.
-        seen x ≡ Some (InitItem presentation progress.old.position.offset)) }
+        answer_item x ≡ Some (InitItem presentation progress.old.position.offset)) }
     ensures last { OnOk result (last.new ≡ Some presentation) }
     ensures kept { OnOk result
         (kept_of (snapshot (Some presentation) progress.new tables.new input.new)
         ≡ lookahead_from segments (state_behind (Some presentation) progress.old.position.offset len
         (concat input.old))) }
     ensures waits { OnOk result
-        (IsWaitingForBytes (snapshot (Some presentation) progress.new tables.new input.new)) }
+        (IsStillAtFront (snapshot (Some presentation) progress.new tables.new input.new)) }
     ensures unfailed { OnOk result (progress.new.position.failed ≡ false) }
     ensures total { OnOk result (progress.new.position.offset + length (concat input.new)
         ≡ progress.old.position.offset + length (concat input.old)) }
@@ -162,12 +163,12 @@ fn end_on(
     requires inside { end ≤ length (concat input.old) }
     requires readable { IsLast last.now }
     requires small { progress.old.position.offset + length (concat input.old) < 2 ^ 62 }
-    ensures item { IfOk result (λ x. seen x ≡ Some SegmentEnd) }
+    ensures item { IfOk result (λ x. answer_item x ≡ Some SegmentEnd) }
     ensures kept { OnOk result (kept_of (snapshot last.now progress.new tables.new input.new)
         ≡ lookahead_from segments (state_behind last.now progress.old.position.offset end
         (concat input.old))) }
     ensures waits { OnOk result
-        (IsWaitingForBytes (snapshot last.now progress.new tables.new input.new)) }
+        (IsStillAtFront (snapshot last.now progress.new tables.new input.new)) }
     ensures unfailed { OnOk result (progress.new.position.failed ≡ false) }
     ensures total { OnOk result (progress.new.position.offset + length (concat input.new)
         ≡ progress.old.position.offset + length (concat input.old)) }
@@ -184,7 +185,7 @@ fn end_on(
 /// A fault was taken: no byte is kept.
 fn fail_on(progress: &mut Progress, input: &mut Chunks, fault: StreamFault, at: u64) -> SegmentNext
     requires { progress.old.position.offset + at < 2 ^ 64 }
-    ensures item { seen result ≡ Some (FaultItem fault (progress.old.position.offset + at)) }
+    ensures item { answer_item result ≡ Some (FaultItem fault (progress.old.position.offset + at)) }
     ensures progress { progress.new ≡ record {
       position = record {
         mode = progress.old.position.mode;
@@ -215,18 +216,18 @@ pub(crate) fn next_on(
     tables: &mut Tables,
     input: &mut Chunks,
 ) -> Result<SegmentNext, OutOfMemory>
-    requires waits { IsWaitingForBytes (snapshot last.old progress.old tables.old input.old) }
+    requires waits { IsStillAtFront (snapshot last.old progress.old tables.old input.old) }
     requires emptied { IsEmptied progress.old (concat input.old) }
     requires readable { IsLast last.old }
     requires none_empty { HasNoEmptyPiece input.old }
-    ensures item { IfOk result (λ x. seen x
+    ensures item { IfOk result (λ x. answer_item x
         ≡ first_item segments (kept_of (snapshot last.old progress.old tables.old input.old))) }
     ensures kept { OnOk result (kept_of (snapshot last.new progress.new tables.new input.new)
         ≡ after_first segments (kept_of (snapshot last.old progress.old tables.old input.old))) }
-    ensures last { IfOk result (λ x. last.new ≡ latest_after_any last.old (seen x)) }
+    ensures last { IfOk result (λ x. last.new ≡ latest_after_any last.old (answer_item x)) }
     ensures readable { IsLast last.new }
     ensures waits { OnOk result
-        (IsWaitingForBytes (snapshot last.new progress.new tables.new input.new)) }
+        (IsStillAtFront (snapshot last.new progress.new tables.new input.new)) }
     ensures emptied { OnOk result (IsEmptied progress.new (concat input.new)) }
     ensures total { OnOk result (progress.new.position.offset + length (concat input.new)
         ≤ progress.old.position.offset + length (concat input.old)) }

@@ -3,7 +3,7 @@ ghost use Rattle.std.specs.List.{concat};
 ghost use Rattle.mse_base.specs.declared.track.Presentation.{Presentation};
 ghost use Rattle.segment_walk.specs.Ranges.{HasAscendingRanges};
 ghost use Rattle.segment_stream.specs.declared.progress.Tables.{Tables};
-ghost use Rattle.segment_stream.specs.Kept.{kept_of, kept_with_lookahead, IsAtRest, IsConsistent, IsFragmentCounted, IsActive, IsLast, IsMoveResult, IsPlan, AreTablesKept, IsOrdered, IsUnchangedSince, fragment_in, next_step_of, ready_behind, in_mode, snapshot, string_len, with_taken};
+ghost use Rattle.segment_stream.specs.Kept.{kept_of, kept_with_lookahead, IsStillBelowWant, IsConsistent, IsFragmentCounted, IsActive, IsLast, IsMoveResult, IsPlan, AreTablesKept, IsOrdered, IsUnchangedSince, fragment_in, next_step_of, ready_behind, in_mode, snapshot, end_of_input, with_taken};
 
 use crate::progress::{MoveResult, ParserPosition, Progress, Tables};
 use bmff_fragment::{MoofError, Slot, read_moof};
@@ -282,10 +282,10 @@ pub(crate) fn run_on(
     ensures consistent { IfOk result (λ r. IsConsistent r tables.new (concat input.now)) }
     ensures since { IfOk result (λ r.
         IsUnchangedSince start.position.mode r.position.mode tables.old tables.new) }
-    ensures total { IfOk result (λ r. string_len (snapshot last.now r tables.new input.now)
-        ≡ string_len (snapshot last.now start tables.old input.now)) }
+    ensures total { IfOk result (λ r. end_of_input (snapshot last.now r tables.new input.now)
+        ≡ end_of_input (snapshot last.now start tables.old input.now)) }
     ensures same_failed { IfOk result (λ r. r.position.failed ≡ start.position.failed) }
-    ensures waits { IfOk result (λ r. IsAtRest (snapshot last.now r tables.new input.now)) }
+    ensures waits { IfOk result (λ r. IsStillBelowWant (snapshot last.now r tables.new input.now)) }
     ensures err { OnErr result (AreTablesKept start.position.mode tables.old tables.new) }
 {
     let mut at = start;

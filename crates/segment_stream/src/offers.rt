@@ -3,7 +3,7 @@ ghost use Rattle.std.specs.List.{concat};
 ghost use Rattle.mse_base.specs.declared.track.Presentation.{Presentation};
 ghost use Rattle.input_chunks.specs.Pieces.{pieces_with, pieces_without_last, pieces_without_first};
 ghost use Rattle.segment_stream.specs.declared.progress.Tables.{Tables};
-ghost use Rattle.segment_stream.specs.Kept.{IsAtRest, IsConsistent, IsWaitingForBytes, IsEmptied, IsFoundWith, IsLast, kept_of, snapshot};
+ghost use Rattle.segment_stream.specs.Kept.{IsStillBelowWant, IsConsistent, IsStillAtFront, IsEmptied, IsFoundWith, IsLast, kept_of, snapshot};
 
 use crate::moves::{NEVER, run_on};
 use crate::progress::{Progress, Tables};
@@ -40,7 +40,7 @@ pub(crate) fn offer_on(
     input: &mut Chunks,
     bytes: Bytes,
 ) -> Result<Progress, OutOfMemory>
-    requires waits { IsWaitingForBytes (snapshot last.now progress tables.old input.old) }
+    requires waits { IsStillAtFront (snapshot last.now progress tables.old input.old) }
     requires emptied { IsEmptied progress (concat input.old) }
     requires readable { IsLast last.now }
     requires countable { progress.position.offset + (length (concat input.old) + length bytes)
@@ -53,7 +53,7 @@ pub(crate) fn offer_on(
     ensures err { OnErr result (input.new ≡ input.old) }
     ensures as_before { kept_of (snapshot last.now progress tables.new input.old)
         ≡ kept_of (snapshot last.now progress tables.old input.old) }
-    ensures waits { IsWaitingForBytes (snapshot last.now progress tables.new input.old) }
+    ensures waits { IsStillAtFront (snapshot last.now progress tables.new input.old) }
 {
     let len = bytes.len();
     input.push_bytes(bytes)?;
@@ -77,8 +77,8 @@ pub(crate) fn accept_on(progress: Progress, input: &mut Chunks) -> Progress
     requires { progress.from ≤ length (concat input.old) }
     ensures waits { (last : Option Presentation) (tables : Tables) →
         IsConsistent progress tables (concat input.old) →
-        IsAtRest (snapshot last progress tables input.old) →
-        IsWaitingForBytes (snapshot last result tables input.new) }
+        IsStillBelowWant (snapshot last progress tables input.old) →
+        IsStillAtFront (snapshot last result tables input.new) }
     ensures kept { (last : Option Presentation) (tables : Tables) →
         kept_of (snapshot last result tables input.new)
         ≡ kept_of (snapshot last progress tables input.old) }

@@ -4,8 +4,8 @@ ghost use Rattle.mse_base.specs.declared.track.Presentation.{Presentation};
 ghost use Rattle.parser_loop.specs.Walk.{item_of};
 ghost use Rattle.segment_walk.specs.Moves.{WalkState};
 ghost use Rattle.segment_walk.specs.declared.kinds.BoxStep.TheVariants.{ReadInit, ReadMoof};
-ghost use Rattle.segment_stream.specs.Kept.{IsConsistent, IsWaitingForBytes, IsPendingItem, HasPendingBytes, IsLast, IsActive, move_of_pending, kept_of, next_step_of, skips, snapshot};
-ghost use Rattle.parser_loop.specs.Items.{latest_after_any, seen};
+ghost use Rattle.segment_stream.specs.Kept.{IsConsistent, IsStillAtFront, IsPendingItem, HasPendingBytes, IsLast, IsActive, move_of_pending, kept_of, next_step_of, is_skipping, snapshot};
+ghost use Rattle.parser_loop.specs.Items.{latest_after_any, answer_item};
 
 use crate::moves::next_step;
 use crate::next::SegmentNext;
@@ -42,10 +42,10 @@ pub(crate) fn look_frame(
     requires ready { i < progress.now.ready }
     requires front { progress.now.from ≡ 0 }
     requires consistent { IsConsistent progress.now tables.now (concat input.now) }
-    ensures item { (last : Option Presentation) → IfOk result (λ x. seen x
+    ensures item { (last : Option Presentation) → IfOk result (λ x. answer_item x
         ≡ slice_get (kept_of (snapshot last progress.now tables.now input.now)).items i) }
     ensures last { (last : Option Presentation) → IfOk result (λ x.
-        last ≡ latest_after_any last (seen x)) }
+        last ≡ latest_after_any last (answer_item x)) }
 {
     let Some(slot) = slot_at(tables.slots.as_slice(), progress.first + i) else {
         return Ok(SegmentNext::Dry);
@@ -72,7 +72,7 @@ fn pending_init(
     input: &Chunks,
     len: u64,
 ) -> Result<PendingItem, OutOfMemory>
-    requires waits { IsWaitingForBytes (snapshot last.now progress.now tables.now input.now) }
+    requires waits { IsStillAtFront (snapshot last.now progress.now tables.now input.now) }
     requires unfailed { progress.now.position.failed ≡ false }
     requires active { IsActive progress.now.position.mode }
     requires step { ReadInit len
@@ -98,7 +98,7 @@ fn pending_moof(
     input: &Chunks,
     len: u64,
 ) -> Result<PendingItem, OutOfMemory>
-    requires waits { IsWaitingForBytes (snapshot last.now progress.now tables.now input.now) }
+    requires waits { IsStillAtFront (snapshot last.now progress.now tables.now input.now) }
     requires readable { IsLast last.now }
     requires unfailed { progress.now.position.failed ≡ false }
     requires active { IsActive progress.now.position.mode }
@@ -120,7 +120,7 @@ fn pending_moof(
 }
 
 fn is_skipping(mode: ParserMode) -> bool
-    ensures { result ≡ skips mode }
+    ensures { result ≡ is_skipping mode }
 {
     match mode {
         ParserMode::Between(_) => false,
@@ -137,7 +137,7 @@ pub(crate) fn pending_item(
     tables: &Tables,
     input: &Chunks,
 ) -> Result<PendingItem, OutOfMemory>
-    requires waits { IsWaitingForBytes (snapshot last.now progress.now tables.now input.now) }
+    requires waits { IsStillAtFront (snapshot last.now progress.now tables.now input.now) }
     requires readable { IsLast last.now }
     ensures value { IfOk result
         (IsPendingItem (snapshot last.now progress.now tables.now input.now)) }
@@ -167,7 +167,7 @@ pub(crate) fn next_of(pending: PendingItem, offset: u64) -> SegmentNext
     requires small { (at : ℕ) (f : StreamFault) → pending ≡ PendingItem.Fault f at
         → offset + at < 2 ^ 64 }
     ensures { (s : WalkState) → s.offset ≡ offset
-        → seen result ≡ item_of (move_of_pending s pending) }
+        → answer_item result ≡ item_of (move_of_pending s pending) }
 {
     match pending {
         PendingItem::Dry => SegmentNext::Dry,

@@ -1,11 +1,11 @@
-ghost use Rattle.std.specs.Prelude.{◌≡◌, ◌+◌, ◌-◌, ◌<◌, ◌≤◌, ◌^◌, ◌⊎◌, List, [], length, slice_get, Option, Some, None, IsSome, IfSome, IfOk, OnOk, OnErr};
+ghost use Rattle.std.specs.Prelude.{◌≡◌, ◌+◌, ◌-◌, ◌<◌, ◌≤◌, ◌^◌, ◌⊎◌, List, [], length, Option, Some, None, IsSome, IfSome, IfOk, OnOk, OnErr};
 ghost use Rattle.std.specs.List.{concat};
 ghost use Rattle.input_chunks.specs.Pieces.{pieces_with};
 ghost use Rattle.segment_walk.specs.declared.kinds.DataRange.{DataRange};
 ghost use Rattle.bmff_fragment.specs.declared.slot.Slot.{Slot};
 ghost use Rattle.segment_walk.specs.Ranges.{mode_of};
-ghost use Rattle.segment_walk.specs.Segments.{items_of_string, phase_before, ready_before, held_before};
-ghost use Rattle.parser_loop.specs.Items.{latest_after_any, seen};
+ghost use Rattle.segment_walk.specs.Segments.{items_of_string, next_item, item_ahead, phase_before, ready_before, held_before};
+ghost use Rattle.parser_loop.specs.Items.{latest_after_any, answer_item};
 ghost use Rattle.parser_loop.specs.StringReadings.{after_answer, after_reset, string_from, with_bytes};
 ghost use Rattle.segment_walk.specs.Strings.{phase_of};
 ghost use Rattle.segment_stream.specs.Kept.{progress_at_start};
@@ -234,8 +234,8 @@ impl Stream {
     pub fn look(&self, i: usize) -> Result<SegmentNext, OutOfMemory>
         requires none_offered { self.now.offered ≡ None }
         requires ready { (i ≡ 0) ⊎ (i < length self.now.kept.items) }
-        ensures { ForEachReading self.now.kept (λ r. IfOk result
-            (λ next. seen next ≡ slice_get (items_of_string r.before r.whole) (r.taken + i))) }
+        ensures { ForEachReading self.now.kept
+            (λ r. IfOk result (λ next. answer_item next ≡ item_ahead r i)) }
     {
         if i < self.progress.ready {
             return look_frame(&self.progress, &self.tables, &self.input, i);
@@ -254,17 +254,18 @@ impl Stream {
     /// string gives none until the next reset. An `Err` changes nothing.
     pub fn next(&mut self) -> Result<SegmentNext, OutOfMemory>
         requires { self.old.offered ≡ None }
-        ensures item { ForEachReading self.old.kept (λ r. IfOk result
-            (λ next. seen next ≡ slice_get (items_of_string r.before r.whole) r.taken)) }
+        ensures item { ForEachReading self.old.kept
+            (λ r. IfOk result (λ next. answer_item next ≡ next_item r)) }
         ensures stands { IfOk result
-            (λ next. StandsAfter self.old.kept (after_answer (seen next)) self.new.kept) }
+            (λ next. StandsAfter self.old.kept (after_answer (answer_item next)) self.new.kept) }
         ensures last { IfOk result (λ next.
-            self.new.kept.state.last ≡ latest_after_any self.old.kept.state.last (seen next)) }
+            self.new.kept.state.last ≡ latest_after_any self.old.kept.state.last
+            (answer_item next)) }
         ensures pieces { OnOk result (self.new.pieces
             ≡ last_bytes (length self.new.kept.state.rest) self.old.pieces) }
         ensures fed { OnOk result (self.new.fed ≡ self.old.fed) }
         ensures none_offered { self.new.offered ≡ None }
-        ensures dry { IfOk result (λ next. seen next ≡ None → self.new ≡ self.old) }
+        ensures dry { IfOk result (λ next. answer_item next ≡ None → self.new ≡ self.old) }
         ensures err { OnErr result (self.new ≡ self.old) }
     {
         next_on(

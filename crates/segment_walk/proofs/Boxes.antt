@@ -26,7 +26,7 @@ use Rattle.segment_walk.specs.declared.kinds.BoxStep.{BoxStep}
 use Rattle.segment_walk.specs.declared.kinds.BoxStep.TheVariants as step
 use Rattle.segment_walk.specs.Tables.{BoxUse, PassOver, ReadMovie, ReadFragment, box_use, box_type, size_fault, greatest_size}
 use Rattle.parser_loop.specs.Items.{InitItem, FrameItem, SegmentEnd, FaultItem}
-use Rattle.segment_walk.specs.Moves.{Open, Between, Skipping, Within, WalkState, once, place_fault, judge_between, box_between, judge_within, box_within, place_step, lies_in, slot_step, step_of, fail, move_of_init, move_of_slots, act, frame_of, segments}
+use Rattle.segment_walk.specs.Moves.{Open, Between, Skipping, Within, WalkState, step_if_there, place_fault, judge_between, box_between, judge_within, box_within, place_step, is_in_ranges, slot_step, step_of, move_of_fault, move_of_init, move_of_slots, move_of_step, frame_of, segments}
 use Rattle.parser_loop.specs.StringReadings.{StringReading}
 use Rattle.segment_walk.specs.Strings.{start, walk_items, walk_ready, phase_of, state_before}
 use Rattle.parser_loop.specs.Items.{IsPrefix, latest_after_all, leading_frames}
@@ -46,7 +46,7 @@ abbrev its : WalkState → SegmentParse
 its s = parse_from segments see s
 
 abbrev done : WalkState → BoxStep → SegmentParse
-done s st = parse_by see s its (act s st)
+done s st = parse_by see s its (move_of_step s st)
 
 -- ---- tests
 
@@ -71,16 +71,16 @@ leb-shift : (m x y : ℕ) → leb (m + x) (m + y) ≡ leb x y
 leb-shift m x y = leb-by x y (leb x y) refl m
 
 -- bytes that are awaited come in the string
-once-same : (b : List ℕ) (m len end : ℕ) (s : WalkState) (st : BoxStep) (items : SegmentParse) → m ≤ length b → end ≡ m + len → (end ≤ length b → items ≡ done s st) → parse_once_there b end (see s) items ≡ done s (once (length (drop m b)) len st)
+once-same : (b : List ℕ) (m len end : ℕ) (s : WalkState) (st : BoxStep) (items : SegmentParse) → m ≤ length b → end ≡ m + len → (end ≤ length b → items ≡ done s st) → parse_once_there b end (see s) items ≡ done s (step_if_there (length (drop m b)) len st)
 once-same b m len end s st items l e f =
-    elim (cases_lt (length b) end) as (λ _. parse_once_there b end (see s) items ≡ done s (once (length (drop m b)) len st)) [
+    elim (cases_lt (length b) end) as (λ _. parse_once_there b end (see s) items ≡ done s (step_if_there (length (drop m b)) len st)) [
       | inl h ↦ let k : length (drop m b) < len = omega (arith, length-drop m b) in missing b end (see s) items h ∙ sym (ap (done s) (once-short (length (drop m b)) len st k))
       | inr h ↦ let k : len ≤ length (drop m b) = omega (arith, length-drop m b) in there b end (see s) items h ∙ f h ∙ sym (ap (done s) (once-there (length (drop m b)) len st k))
     ]
 
 -- ---- single moves
 
-fail-items : (s : WalkState) (f : StreamFault) (at k : ℕ) → k ≡ s.offset + at → parse_of_fault (see s) f k ≡ parse_by see s its (fail s f at)
+fail-items : (s : WalkState) (f : StreamFault) (at k : ℕ) → k ≡ s.offset + at → parse_of_fault (see s) f k ≡ parse_by see s its (move_of_fault s f at)
 fail-items s f at k e =
     let t : WalkState = record { last = s.last; mode = s.mode; offset = s.offset; rest = []; failed = true } in
     sym (ap (λ items. ItemThen (see s) (FaultItem f (s.offset + at)) items) (parse-step segments see is_walk t) ∙ ap (λ i. ItemThen (see s) (FaultItem f i) (NoItem (view_without_bytes (phase_of s.mode) s.last))) (sym e))
@@ -102,8 +102,8 @@ sliced b at n = let e : at + n - at ≡ n = omega arith in ap (λ k. take k (dro
 
 -- ---- where no movie fragment is open
 
-abbrev Out : List ℕ → ℕ → Type 0
-Out b n = (last : Option Presentation) (phase : Phase) (at : ℕ) → at ≤ length b → length b < at + n → parse_of_boxes n b last (NoFragment phase) at ≡ its (going last (Between phase) at (drop at b))
+abbrev IsParsedOutside : List ℕ → ℕ → Type 0
+IsParsedOutside b n = (last : Option Presentation) (phase : Phase) (at : ℕ) → at ≤ length b → length b < at + n → parse_of_boxes n b last (NoFragment phase) at ≡ its (going last (Between phase) at (drop at b))
 
 abbrev shift : ℕ → List DataRange → List DataRange
 shift m [] = []
@@ -116,12 +116,12 @@ abbrev open_with : List Slot → ℕ → List DataRange → ℕ → WalkPlace �
 open_with slots taken known end place = record { slots = slots; taken = taken; known = known; end = end; place = place }
 
 -- the next slot waits for a further mdat
-abbrev Awaits : List DataRange → ℕ → List Slot → Type 0
-Awaits known end [] = Unit {0}
-Awaits known end (s ∷ left) = (lies_in known s ≡ false) × (ltb s.start end ≡ false)
+abbrev IsAwaitingData : List DataRange → ℕ → List Slot → Type 0
+IsAwaitingData known end [] = Unit {0}
+IsAwaitingData known end (s ∷ left) = (is_in_ranges known s ≡ false) × (ltb s.start end ≡ false)
 
-abbrev In : List ℕ → ℕ → Type 0
-In b n = (last : Option Presentation) (m : ℕ) (slots left : List Slot) (taken : ℕ) (known : List DataRange) (end p : ℕ) → drop taken slots ≡ left → Awaits known end left → m + p ≤ length b → length b < m + p + n → parse_of_boxes n b last (InFragment (fragment m left known end)) (m + p) ≡ its (going last (Within (open_with slots taken known end (AtBox p))) m (drop m b))
+abbrev IsParsedInside : List ℕ → ℕ → Type 0
+IsParsedInside b n = (last : Option Presentation) (m : ℕ) (slots left : List Slot) (taken : ℕ) (known : List DataRange) (end p : ℕ) → drop taken slots ≡ left → IsAwaitingData known end left → m + p ≤ length b → length b < m + p + n → parse_of_boxes n b last (InFragment (fragment m left known end)) (m + p) ≡ its (going last (Within (open_with slots taken known end (AtBox p))) m (drop m b))
 
 -- where a box stands: its string, how many boxes are read behind it at most, its offset, and the lengths of its header
 -- and of the whole
@@ -133,9 +133,9 @@ record BoxPlace : Type 0 where
   len : ℕ
 
 -- what is known on a box, before the walk is at its end
-record Here (w : BoxPlace) : Type 0 where
-  out : Out w.string w.boxes
-  inside : In w.string w.boxes
+record IsOnBox (w : BoxPlace) : Type 0 where
+  out : IsParsedOutside w.string w.boxes
+  inside : IsParsedInside w.string w.boxes
   begins : w.at ≤ length w.string
   size : 8 ≤ w.len
   more : length w.string < w.at + suc w.boxes
@@ -148,7 +148,7 @@ behind w = parse_of_boxes w.boxes w.string
 abbrev before_box : BoxPlace → Option Presentation → Phase → WalkState
 before_box w last phase = going last (Between phase) w.at (drop w.at w.string)
 
-out-skip : (w : BoxPlace) (last : Option Presentation) (phase to : Phase) → Here w → parse_once_there w.string (w.at + w.len) (view_without_bytes to last) (behind w last (NoFragment to) (w.at + w.len)) ≡ done (before_box w last phase) (step.Skip to w.len)
+out-skip : (w : BoxPlace) (last : Option Presentation) (phase to : Phase) → IsOnBox w → parse_once_there w.string (w.at + w.len) (view_without_bytes to last) (behind w last (NoFragment to) (w.at + w.len)) ≡ done (before_box w last phase) (step.Skip to w.len)
 out-skip w last phase to i =
     let b = w.string in
     let n = w.boxes in
@@ -170,16 +170,16 @@ box_of kind at start len = record { kind = kind; at = at; start = at + start; en
 abbrev box_at : BoxPlace → TopLevelBox → TopBox
 box_at w kind = box_of kind w.at w.head w.len
 
-out-init : (w : BoxPlace) (last : Option Presentation) (phase : Phase) (kind : TopLevelBox) (r : Result Presentation InitFault) → Here w → w.at + w.len ≤ length w.string → parse_of_moov (behind w) (see (before_box w last phase)) (box_at w kind) r ≡ parse_by see (before_box w last phase) its (move_of_init (before_box w last phase) w.len r)
+out-init : (w : BoxPlace) (last : Option Presentation) (phase : Phase) (kind : TopLevelBox) (r : Result Presentation InitFault) → IsOnBox w → w.at + w.len ≤ length w.string → parse_of_moov (behind w) (see (before_box w last phase)) (box_at w kind) r ≡ parse_by see (before_box w last phase) its (move_of_init (before_box w last phase) w.len r)
 out-init w last phase kind (Ok p) i h =
     ap (λ items. ItemThen (see (before_box w last phase)) (InitItem p w.at) items) (i.out (Some p) Waiting (w.at + w.len) h (omega (arith, i.size, i.more)) ∙ ap (λ rest. its (going (Some p) (Between Waiting) (w.at + w.len) rest)) (sym (drop-drop w.len w.at w.string)))
 out-init w last phase kind (Err f) i h = fail-items (before_box w last phase) (fault.Init f) 0 w.at (omega arith)
 
-awaits-none : (slots : List Slot) → Awaits [] 0 slots
+awaits-none : (slots : List Slot) → IsAwaitingData [] 0 slots
 awaits-none [] = tt
 awaits-none (s ∷ slots) = (refl, let h : 0 ≤ s.start = omega arith in grind (arith, nat_tests))
 
-out-opened : (w : BoxPlace) (last : Option Presentation) (phase : Phase) (kind : TopLevelBox) (r : Result (List Slot) MoofFault) → Here w → w.at + w.len ≤ length w.string → parse_of_moof (behind w) (see (before_box w last phase)) (box_at w kind) r ≡ parse_by see (before_box w last phase) its (move_of_slots (before_box w last phase) w.len r)
+out-opened : (w : BoxPlace) (last : Option Presentation) (phase : Phase) (kind : TopLevelBox) (r : Result (List Slot) MoofFault) → IsOnBox w → w.at + w.len ≤ length w.string → parse_of_moof (behind w) (see (before_box w last phase)) (box_at w kind) r ≡ parse_by see (before_box w last phase) its (move_of_slots (before_box w last phase) w.len r)
 out-opened w last phase kind (Ok slots) i h =
     let at = w.at in
     let e : at ≡ at + 0 = omega arith in
@@ -188,15 +188,15 @@ out-opened w last phase kind (Ok slots) i h =
 out-opened w last phase kind (Err f) i h = fail-items (before_box w last phase) (fault.Moof f) 0 w.at (omega arith)
 
 -- what the use of a box gives, and the step, in a state of the walk
-abbrev Used : BoxPlace → TopLevelBox → WalkState → BoxUse → BoxStep → Type 0
-Used w kind s usage st = parse_of_use (behind w) w.string (see s) (box_at w kind) usage ≡ done s st
+abbrev IsUseParsed : BoxPlace → TopLevelBox → WalkState → BoxUse → BoxStep → Type 0
+IsUseParsed w kind s usage st = parse_of_use (behind w) w.string (see s) (box_at w kind) usage ≡ done s st
 
-out-moov : (w : BoxPlace) (last : Option Presentation) (phase : Phase) (kind : TopLevelBox) → Here w → Used w kind (before_box w last phase) ReadMovie (once (length (drop w.at w.string)) w.len (step.ReadInit w.len))
+out-moov : (w : BoxPlace) (last : Option Presentation) (phase : Phase) (kind : TopLevelBox) → IsOnBox w → IsUseParsed w kind (before_box w last phase) ReadMovie (step_if_there (length (drop w.at w.string)) w.len (step.ReadInit w.len))
 out-moov w last phase kind i =
     once-same w.string w.at w.len (w.at + w.len) (before_box w last phase) (step.ReadInit w.len) _ i.begins refl
     (λ h. ap (λ moov. parse_of_moov (behind w) (see (before_box w last phase)) (box_at w kind) (init_of moov)) (sliced w.string w.at w.len) ∙ out-init w last phase kind (init_of (take w.len (drop w.at w.string))) i h)
 
-out-moof : (w : BoxPlace) (p : Presentation) (phase : Phase) (kind : TopLevelBox) → Here w → Used w kind (before_box w (Some p) phase) (ReadFragment p) (once (length (drop w.at w.string)) w.len (step.ReadMoof w.len))
+out-moof : (w : BoxPlace) (p : Presentation) (phase : Phase) (kind : TopLevelBox) → IsOnBox w → IsUseParsed w kind (before_box w (Some p) phase) (ReadFragment p) (step_if_there (length (drop w.at w.string)) w.len (step.ReadMoof w.len))
 out-moof w p phase kind i =
     once-same w.string w.at w.len (w.at + w.len) (before_box w (Some p) phase) (step.ReadMoof w.len) _ i.begins refl
     (λ h. ap (λ moof. parse_of_moof (behind w) (see (before_box w (Some p) phase)) (box_at w kind) (plan_of p.tracks moof)) (sliced w.string w.at w.len) ∙ out-opened w (Some p) phase kind (plan_of p.tracks (take w.len (drop w.at w.string))) i h)
@@ -206,21 +206,21 @@ if-same c true x y s st t e p q = ap (λ c. cond c x y) e ∙ p
 if-same c false x y s st t e p q = ap (λ c. cond c x y) e ∙ q
 
 -- a box in its place
-out-large : (w : BoxPlace) (last : Option Presentation) (phase : Phase) (kind : TopLevelBox) (usage : BoxUse) (st : BoxStep) → Used w kind (before_box w last phase) usage st → parse_outside (behind w) w.string (see (before_box w last phase)) (box_at w kind) (Ok usage) ≡ done (before_box w last phase) (cond (ltb (greatest_size kind) w.len) (step.Fail fault.TooLarge 0) st)
+out-large : (w : BoxPlace) (last : Option Presentation) (phase : Phase) (kind : TopLevelBox) (usage : BoxUse) (st : BoxStep) → IsUseParsed w kind (before_box w last phase) usage st → parse_outside (behind w) w.string (see (before_box w last phase)) (box_at w kind) (Ok usage) ≡ done (before_box w last phase) (cond (ltb (greatest_size kind) w.len) (step.Fail fault.TooLarge 0) st)
 out-large w last phase kind usage st u =
     if-same (ltb (w.at + greatest_size kind) (w.at + w.len)) (ltb (greatest_size kind) w.len) _ _ (before_box w last phase) (step.Fail fault.TooLarge 0) st (ltb-shift w.at (greatest_size kind) w.len)
     (fail-items (before_box w last phase) fault.TooLarge 0 w.at (omega arith)) u
 
-out-passed : (w : BoxPlace) (last : Option Presentation) (phase to : Phase) (kind : TopLevelBox) → Here w → parse_outside (behind w) w.string (see (before_box w last phase)) (box_at w kind) (Ok (PassOver to)) ≡ done (before_box w last phase) (cond (ltb (greatest_size kind) w.len) (step.Fail fault.TooLarge 0) (step.Skip to w.len))
+out-passed : (w : BoxPlace) (last : Option Presentation) (phase to : Phase) (kind : TopLevelBox) → IsOnBox w → parse_outside (behind w) w.string (see (before_box w last phase)) (box_at w kind) (Ok (PassOver to)) ≡ done (before_box w last phase) (cond (ltb (greatest_size kind) w.len) (step.Fail fault.TooLarge 0) (step.Skip to w.len))
 out-passed w last phase to kind i = out-large w last phase kind (PassOver to) (step.Skip to w.len) (out-skip w last phase to i)
 
 out-fault : (b : List ℕ) (at : ℕ) (last : Option Presentation) (phase : Phase) (f : StreamFault) → parse_of_fault (view_at b last (NoFragment phase) at) f at ≡ done (going last (Between phase) at (drop at b)) (step.Fail f 0)
 out-fault b at last phase f = fail-items (going last (Between phase) at (drop at b)) f 0 at (omega arith)
 
-abbrev OutBox : BoxPlace → Option Presentation → Phase → TopLevelBox → Type 0
-OutBox w last phase kind = parse_outside (behind w) w.string (see (before_box w last phase)) (box_at w kind) (box_use phase kind last) ≡ done (before_box w last phase) (judge_between phase kind (length (drop w.at w.string)) w.len (place_fault (is_some last) phase kind))
+abbrev IsBoxParsedOutside : BoxPlace → Option Presentation → Phase → TopLevelBox → Type 0
+IsBoxParsedOutside w last phase kind = parse_outside (behind w) w.string (see (before_box w last phase)) (box_at w kind) (box_use phase kind last) ≡ done (before_box w last phase) (judge_between phase kind (length (drop w.at w.string)) w.len (place_fault (is_some last) phase kind))
 
-out-box : (w : BoxPlace) (last : Option Presentation) (phase : Phase) (kind : TopLevelBox) → Here w → OutBox w last phase kind
+out-box : (w : BoxPlace) (last : Option Presentation) (phase : Phase) (kind : TopLevelBox) → IsOnBox w → IsBoxParsedOutside w last phase kind
 out-box w last Waiting FileType i = out-passed w last Waiting InInit FileType i
 out-box w last Waiting SegmentType i = out-passed w last Waiting InMedia SegmentType i
 out-box w last Waiting Movie i = out-fault w.string w.at last Waiting fault.MoovPlace
@@ -242,7 +242,7 @@ out-box w (Some p) InMedia MovieFragment i = out-large w (Some p) InMedia MovieF
 out-box w last InMedia MediaData i = out-passed w last InMedia InMedia MediaData i
 out-box w last InMedia Other i = out-passed w last InMedia InMedia Other i
 
-out-header : (b : List ℕ) (n at : ℕ) (last : Option Presentation) (phase : Phase) (h : Header) → Out b n → In b n → at ≤ length b → length b < at + suc n → IsHeaderWithin (length (drop at b)) h → parse_of_header (view_at b last (NoFragment phase) at) at (parse_of_box (parse_of_boxes n b) b (view_at b last (NoFragment phase) at) (NoFragment phase)) h ≡ done (going last (Between phase) at (drop at b)) (box_between (is_some last) phase (length (drop at b)) h)
+out-header : (b : List ℕ) (n at : ℕ) (last : Option Presentation) (phase : Phase) (h : Header) → IsParsedOutside b n → IsParsedInside b n → at ≤ length b → length b < at + suc n → IsHeaderWithin (length (drop at b)) h → parse_of_header (view_at b last (NoFragment phase) at) at (parse_of_box (parse_of_boxes n b) b (view_at b last (NoFragment phase) at) (NoFragment phase)) h ≡ done (going last (Between phase) at (drop at b)) (box_between (is_some last) phase (length (drop at b)) h)
 out-header b n at last phase head.Short o i l m r = refl
 out-header b n at last phase (head.Bad f) o i l m r = out-fault b at last phase (size_fault f)
 out-header b n at last phase (head.Whole kind start len) o i l m r =
@@ -253,7 +253,7 @@ between-step : (b : List ℕ) (at : ℕ) (last : Option Presentation) (phase : P
 unfolding step_of
 between-step b at last phase = parse-step segments see is_walk (going last (Between phase) at (drop at b))
 
-out-next : (b : List ℕ) (n : ℕ) → Out b n → In b n → Out b (suc n)
+out-next : (b : List ℕ) (n : ℕ) → IsParsedOutside b n → IsParsedInside b n → IsParsedOutside b (suc n)
 out-next b n o i = λ last phase at l m. out-header b n at last phase (header_of (drop at b)) o i l m (header-room (drop at b)) ∙ sym (between-step b at last phase)
 
 -- ---- in a movie fragment
@@ -262,7 +262,7 @@ shift-append : (m : ℕ) (ks : List DataRange) (begin end : ℕ) → shift m (ks
 shift-append m [] begin end = refl
 shift-append m (k ∷ ks) begin end = ap (λ rest. (record { start = m + k.start; end = m + k.end }) ∷ rest) (shift-append m ks begin end)
 
-lies-shift : (m : ℕ) (known : List DataRange) (s : Slot) → is_inside m (shift m known) s ≡ lies_in known s
+lies-shift : (m : ℕ) (known : List DataRange) (s : Slot) → is_inside m (shift m known) s ≡ is_in_ranges known s
 lies-shift m [] s = refl
 lies-shift m (k ∷ ks) s =
     ap (λ c. (c && leb (m + s.end) (m + k.end)) || is_inside m (shift m ks) s) (leb-shift m k.start s.start)
@@ -301,11 +301,11 @@ when-same c false x y s st t e p q = ap (λ c. cond c x y) e ∙ q refl
 abbrev now_in : List ℕ → Option Presentation → ℕ → ParserView
 now_in b last m = record { phase = InMedia; latest = last; held = drop m b }
 
-abbrev NextItems : List ℕ → ℕ → Option Presentation → ℕ → OpenFragment → List Slot → SegmentParse
-NextItems b n last m f left = parse_once_there b f.end (now_in b last m) (parse_of_data_end (parse_of_boxes n b) (now_in b last m) f left)
+abbrev parse_behind_data : List ℕ → ℕ → ParserView → OpenFragment → List Slot → SegmentParse
+parse_behind_data b n now f left = parse_once_there b f.end now (parse_of_data_end (parse_of_boxes n b) now f left)
 
 -- behind the header of an mdat, with the slots that are left of those that were there
-in-data : (b : List ℕ) (n : ℕ) (last : Option Presentation) (m : ℕ) (slots old : List Slot) (known : List DataRange) (end : ℕ) (left : List Slot) (taken : ℕ) → Out b n → In b n → m ≤ length b → length b < m + end + n → drop taken slots ≡ left → parse_of_slots b (now_in b last m) (fragment m old known end) (NextItems b n last m (fragment m old known end)) left ≡ its (going last (Within (open_with slots taken known end (InData end))) m (drop m b))
+in-data : (b : List ℕ) (n : ℕ) (last : Option Presentation) (m : ℕ) (slots old : List Slot) (known : List DataRange) (end : ℕ) (left : List Slot) (taken : ℕ) → IsParsedOutside b n → IsParsedInside b n → m ≤ length b → length b < m + end + n → drop taken slots ≡ left → parse_of_slots b (now_in b last m) (fragment m old known end) (parse_behind_data b n (now_in b last m) (fragment m old known end)) left ≡ its (going last (Within (open_with slots taken known end (InData end))) m (drop m b))
 in-data b n last m slots old known end [] taken out inside l k d =
     let s : WalkState = going last (Within (open_with slots taken known end (InData end))) m (drop m b) in
     once-same b m end (m + end) s (step.EndSegment end) (ItemThen (now_in b last m) SegmentEnd (parse_of_boxes n b last (NoFragment Waiting) (m + end))) l refl
@@ -314,9 +314,9 @@ in-data b n last m slots old known end [] taken out inside l k d =
 in-data b n last m slots old known end (slot ∷ left) taken out inside l k d =
     let s : WalkState = going last (Within (open_with slots taken known end (InData end))) m (drop m b) in
     let f : OpenFragment = fragment m old known end in
-    when-same (is_inside m (shift m known) slot) (lies_in known slot) _ _ s (once (length (drop m b)) slot.end (step.GiveFrame slot)) (cond (ltb slot.start end) (step.Fail fault.OutsideMdat slot.start) (place_step (drop m b) false (InData end))) (lies-shift m known slot)
-    (λ _. once-same b m slot.end (m + slot.end) s (step.GiveFrame slot) (ItemThen (now_in b last m) (frame_item_at b m slot) (parse_of_slots b (now_in b last m) f (NextItems b n last m f) left)) l refl
-    (λ h. ap (λ item. ItemThen (now_in b last m) item (parse_of_slots b (now_in b last m) f (NextItems b n last m f) left)) (frame-same b m slot) ∙ ap (ItemThen (now_in b last m) (frame_of (drop m b) m slot)) (in-data b n last m slots old known end left (taken + 1) out inside l k (get-behind slots taken slot left d))))
+    when-same (is_inside m (shift m known) slot) (is_in_ranges known slot) _ _ s (step_if_there (length (drop m b)) slot.end (step.GiveFrame slot)) (cond (ltb slot.start end) (step.Fail fault.OutsideMdat slot.start) (place_step (drop m b) false (InData end))) (lies-shift m known slot)
+    (λ _. once-same b m slot.end (m + slot.end) s (step.GiveFrame slot) (ItemThen (now_in b last m) (frame_item_at b m slot) (parse_of_slots b (now_in b last m) f (parse_behind_data b n (now_in b last m) f) left)) l refl
+    (λ h. ap (λ item. ItemThen (now_in b last m) item (parse_of_slots b (now_in b last m) f (parse_behind_data b n (now_in b last m) f) left)) (frame-same b m slot) ∙ ap (ItemThen (now_in b last m) (frame_of (drop m b) m slot)) (in-data b n last m slots old known end left (taken + 1) out inside l k (get-behind slots taken slot left d))))
     (λ lies. when-same (ltb (m + slot.start) (m + end)) (ltb slot.start end) _ _ s (step.Fail fault.OutsideMdat slot.start) (place_step (drop m b) false (InData end)) (ltb-shift m slot.start end)
     (λ _. fail-items s fault.OutsideMdat slot.start (m + slot.start) refl)
     (λ late. once-same b m end (m + end) s (step.NextBox end) (parse_of_boxes n b last (InFragment (fragment m (slot ∷ left) known end)) (m + end)) l refl
@@ -326,14 +326,14 @@ in-data b n last m slots old known end (slot ∷ left) taken out inside l k d =
 abbrev mdat_at : List ℕ → ℕ → Option Presentation → ℕ → List Slot → List DataRange → ℕ → SegmentParse
 mdat_at b n last m left ks end = parse_of_mdat (parse_of_boxes n b) b (now_in b last m) (record { moof = m; slots = left; payloads = ks; end = end })
 
-in-mdat : (b : List ℕ) (n : ℕ) (last : Option Presentation) (m : ℕ) (slots left : List Slot) (taken : ℕ) (known : List DataRange) (begin end i j : ℕ) → Out b n → In b n → m ≤ length b → length b < m + end + n → drop taken slots ≡ left → i ≡ m + begin → j ≡ m + end → mdat_at b n last m left (shift m known ++ (record { start = i; end = j }) ∷ []) j ≡ its (going last (Within (open_with slots taken (known ++ (record { start = begin; end = end }) ∷ []) end (InData end))) m (drop m b))
+in-mdat : (b : List ℕ) (n : ℕ) (last : Option Presentation) (m : ℕ) (slots left : List Slot) (taken : ℕ) (known : List DataRange) (begin end i j : ℕ) → IsParsedOutside b n → IsParsedInside b n → m ≤ length b → length b < m + end + n → drop taken slots ≡ left → i ≡ m + begin → j ≡ m + end → mdat_at b n last m left (shift m known ++ (record { start = i; end = j }) ∷ []) j ≡ its (going last (Within (open_with slots taken (known ++ (record { start = begin; end = end }) ∷ []) end (InData end))) m (drop m b))
 in-mdat b n last m slots left taken known begin end i j out inside l k d e g =
     ap (λ i. mdat_at b n last m left (shift m known ++ (record { start = i; end = j }) ∷ []) j) e
     ∙ ap (λ j. mdat_at b n last m left (shift m known ++ (record { start = m + begin; end = j }) ∷ []) j) g
     ∙ ap (λ ks. mdat_at b n last m left ks (m + end)) (sym (shift-append m known begin end))
     ∙ in-data b n last m slots left (known ++ (record { start = begin; end = end }) ∷ []) end left taken out inside l k d
 
-in-box : (b : List ℕ) (n : ℕ) (last : Option Presentation) (m : ℕ) (slots left : List Slot) (taken : ℕ) (known : List DataRange) (end p : ℕ) (kind : TopLevelBox) (begin len : ℕ) → Out b n → In b n → drop taken slots ≡ left → Awaits known end left → m + p ≤ length b → length b < m + p + suc n → 8 ≤ len → parse_inside (parse_of_boxes n b) b (now_in b last m) (fragment m left known end) (box_of kind (m + p) begin len) ≡ done (going last (Within (open_with slots taken known end (AtBox p))) m (drop m b)) (judge_within (length (drop m b)) p kind begin len)
+in-box : (b : List ℕ) (n : ℕ) (last : Option Presentation) (m : ℕ) (slots left : List Slot) (taken : ℕ) (known : List DataRange) (end p : ℕ) (kind : TopLevelBox) (begin len : ℕ) → IsParsedOutside b n → IsParsedInside b n → drop taken slots ≡ left → IsAwaitingData known end left → m + p ≤ length b → length b < m + p + suc n → 8 ≤ len → parse_inside (parse_of_boxes n b) b (now_in b last m) (fragment m left known end) (box_of kind (m + p) begin len) ≡ done (going last (Within (open_with slots taken known end (AtBox p))) m (drop m b)) (judge_within (length (drop m b)) p kind begin len)
 in-box b n last m slots left taken known end p FileType begin len out inside d a l k q = fail-items (going last (Within (open_with slots taken known end (AtBox p))) m (drop m b)) fault.InSegment p (m + p) refl
 in-box b n last m slots left taken known end p SegmentType begin len out inside d a l k q = fail-items (going last (Within (open_with slots taken known end (AtBox p))) m (drop m b)) fault.InSegment p (m + p) refl
 in-box b n last m slots left taken known end p Movie begin len out inside d a l k q = fail-items (going last (Within (open_with slots taken known end (AtBox p))) m (drop m b)) fault.InSegment p (m + p) refl
@@ -348,40 +348,40 @@ in-box b n last m slots left taken known end p MediaData begin len out inside d 
 in-box b n last m slots left taken known end p Other begin len out inside d a l k q =
     let s : WalkState = going last (Within (open_with slots taken known end (AtBox p))) m (drop m b) in
     let e : m + p + len ≡ m + (p + len) = omega arith in
-    when-same (ltb (m + 2 ^ 27) (m + p + len)) (ltb (2 ^ 27) (p + len)) _ _ s (step.Fail fault.TooLarge p) (once (length (drop m b)) (p + len) (step.NextBox (p + len))) (ap (ltb (m + 2 ^ 27)) e ∙ ltb-shift m (2 ^ 27) (p + len))
+    when-same (ltb (m + 2 ^ 27) (m + p + len)) (ltb (2 ^ 27) (p + len)) _ _ s (step.Fail fault.TooLarge p) (step_if_there (length (drop m b)) (p + len) (step.NextBox (p + len))) (ap (ltb (m + 2 ^ 27)) e ∙ ltb-shift m (2 ^ 27) (p + len))
     (λ _. fail-items s fault.TooLarge p (m + p) refl)
     (λ _. once-same b m (p + len) (m + p + len) s (step.NextBox (p + len)) (parse_of_boxes n b last (InFragment (fragment m left known end)) (m + p + len)) (omega arith) e
     (λ h. ap (parse_of_boxes n b last (InFragment (fragment m left known end))) e ∙ inside last m slots left taken known end (p + len) d a (omega arith) (omega arith)))
 
-in-header : (b : List ℕ) (n : ℕ) (last : Option Presentation) (m : ℕ) (slots left : List Slot) (taken : ℕ) (known : List DataRange) (end p : ℕ) (h : Header) → Out b n → In b n → drop taken slots ≡ left → Awaits known end left → m + p ≤ length b → length b < m + p + suc n → IsHeaderWithin (length (drop (m + p) b)) h → parse_of_header (now_in b last m) (m + p) (parse_of_box (parse_of_boxes n b) b (now_in b last m) (InFragment (fragment m left known end))) h ≡ done (going last (Within (open_with slots taken known end (AtBox p))) m (drop m b)) (box_within (length (drop m b)) p h)
+in-header : (b : List ℕ) (n : ℕ) (last : Option Presentation) (m : ℕ) (slots left : List Slot) (taken : ℕ) (known : List DataRange) (end p : ℕ) (h : Header) → IsParsedOutside b n → IsParsedInside b n → drop taken slots ≡ left → IsAwaitingData known end left → m + p ≤ length b → length b < m + p + suc n → IsHeaderWithin (length (drop (m + p) b)) h → parse_of_header (now_in b last m) (m + p) (parse_of_box (parse_of_boxes n b) b (now_in b last m) (InFragment (fragment m left known end))) h ≡ done (going last (Within (open_with slots taken known end (AtBox p))) m (drop m b)) (box_within (length (drop m b)) p h)
 in-header b n last m slots left taken known end p head.Short out inside d a l k r = refl
 in-header b n last m slots left taken known end p (head.Bad f) out inside d a l k r = fail-items (going last (Within (open_with slots taken known end (AtBox p))) m (drop m b)) (size_fault f) p (m + p) refl
 in-header b n last m slots left taken known end p (head.Whole kind begin len) out inside d a l k r = in-box b n last m slots left taken known end p (box_type kind) begin len out inside d a l k (omega (arith, r.0, r.1))
 
 -- before a box of a movie fragment the next slot waits
-slot-awaits : (rest : List ℕ) (known : List DataRange) (end p : ℕ) (slots left : List Slot) (taken : ℕ) → drop taken slots ≡ left → Awaits known end left → slot_step rest known end (AtBox p) (slice_get slots taken) ≡ box_within (length rest) p (header_of (drop p rest))
+slot-awaits : (rest : List ℕ) (known : List DataRange) (end p : ℕ) (slots left : List Slot) (taken : ℕ) → drop taken slots ≡ left → IsAwaitingData known end left → slot_step rest known end (AtBox p) (slice_get slots taken) ≡ box_within (length rest) p (header_of (drop p rest))
 slot-awaits rest known end p slots [] taken d a = ap (slot_step rest known end (AtBox p)) (get-none slots taken d)
 slot-awaits rest known end p slots (slot ∷ left) taken d a =
     let to : BoxStep = box_within (length rest) p (header_of (drop p rest)) in
     ap (slot_step rest known end (AtBox p)) (get-some slots taken slot left d)
-    ∙ ap (λ c. cond c (once (length rest) slot.end (step.GiveFrame slot)) (cond (ltb slot.start end) (step.Fail fault.OutsideMdat slot.start) to)) a.0
+    ∙ ap (λ c. cond c (step_if_there (length rest) slot.end (step.GiveFrame slot)) (cond (ltb slot.start end) (step.Fail fault.OutsideMdat slot.start) to)) a.0
     ∙ ap (λ c. cond c (step.Fail fault.OutsideMdat slot.start) to) a.1
 
-within-step : (b : List ℕ) (last : Option Presentation) (m : ℕ) (slots left : List Slot) (taken : ℕ) (known : List DataRange) (end p : ℕ) → drop taken slots ≡ left → Awaits known end left → let s : WalkState = going last (Within (open_with slots taken known end (AtBox p))) m (drop m b) in its s ≡ done s (box_within (length (drop m b)) p (header_of (drop (m + p) b)))
+within-step : (b : List ℕ) (last : Option Presentation) (m : ℕ) (slots left : List Slot) (taken : ℕ) (known : List DataRange) (end p : ℕ) → drop taken slots ≡ left → IsAwaitingData known end left → let s : WalkState = going last (Within (open_with slots taken known end (AtBox p))) m (drop m b) in its s ≡ done s (box_within (length (drop m b)) p (header_of (drop (m + p) b)))
 within-step b last m slots left taken known end p d a =
     let s : WalkState = going last (Within (open_with slots taken known end (AtBox p))) m (drop m b) in
     in-step last (open_with slots taken known end (AtBox p)) m (drop m b)
     ∙ ap (done s) (slot-awaits (drop m b) known end p slots left taken d a)
     ∙ ap (λ rest. done s (box_within (length (drop m b)) p (header_of rest))) (drop-drop p m b)
 
-in-next : (b : List ℕ) (n : ℕ) → Out b n → In b n → In b (suc n)
+in-next : (b : List ℕ) (n : ℕ) → IsParsedOutside b n → IsParsedInside b n → IsParsedInside b (suc n)
 in-next b n out inside = λ last m slots left taken known end p d a l k.
     in-header b n last m slots left taken known end p (header_of (drop (m + p) b)) out inside d a l k (header-room (drop (m + p) b))
     ∙ sym (within-step b last m slots left taken known end p d a)
 
 -- ---- the string
 
-both : (b : List ℕ) (n : ℕ) → Out b n × In b n
+both : (b : List ℕ) (n : ℕ) → IsParsedOutside b n × IsParsedInside b n
 both b zero = (λ last phase at l m. absurd (omega arith), λ last m slots left taken known end p d a l k. absurd (omega arith))
 both b (suc n) = let r = both b n in (out-next b n r.0 r.1, in-next b n r.0 r.1)
 

@@ -27,7 +27,7 @@ use Rattle.segment_walk.specs.declared.kinds.WalkPlace.TheVariants.{AtBox, InDat
 use Rattle.segment_walk.specs.declared.kinds.BoxStep.{BoxStep}
 use Rattle.segment_walk.specs.declared.kinds.BoxStep.TheVariants as step
 use Rattle.segment_walk.specs.Tables.{SegmentItem, box_type, greatest_size}
-use Rattle.segment_walk.specs.Moves.{Open, WalkMode, Between, Skipping, Within, WalkState, once, place_fault, take_box, judge_between, box_between, judge_within, box_within, step_in_data, place_step, lies_in, slot_step, step_of, move_of_init, move_of_slots, move_of_moof, open_of, act, pass_byte, mode_move, move_unless, place_offset, place_size, size_by, size_unless, more_unless, segments}
+use Rattle.segment_walk.specs.Moves.{Open, WalkMode, Between, Skipping, Within, WalkState, step_if_there, place_fault, step_at_box, judge_between, box_between, judge_within, box_within, step_in_data, place_step, is_in_ranges, slot_step, step_of, move_of_init, move_of_slots, move_of_moof, open_of, move_of_step, move_over_byte, mode_move, move_unless, place_offset, place_size, size_by, size_unless, more_unless, segments}
 use Rattle.parser_loop.specs.Items.{is_fault}
 
 -- ---- what a step may be, where n bytes are there
@@ -41,10 +41,10 @@ IsBetween (Within o) = ⊥
 abbrev ahead : ℕ → WalkPlace → ℕ
 ahead n p = 1048580 * (n - place_offset p) + place_size p
 
-abbrev pub Nearer : ℕ → WalkMode → WalkPlace → Type 0
-Nearer n (Between phase) q = ⊥
-Nearer n (Skipping to left) q = ⊥
-Nearer n (Within o) q = ahead n q < ahead n o.place
+abbrev pub IsNearer : ℕ → WalkMode → WalkPlace → Type 0
+IsNearer n (Between phase) q = ⊥
+IsNearer n (Skipping to left) q = ⊥
+IsNearer n (Within o) q = ahead n q < ahead n o.place
 
 abbrev pub HasSlot : WalkMode → Slot → Type 0
 HasSlot (Between phase) slot = ⊥
@@ -54,33 +54,33 @@ HasSlot (Within o) slot = slice_get o.slots o.taken ≡ Some slot
 abbrev pub place_in : WalkMode → ℕ
 place_in m = place_offset (open_of m).place
 
-abbrev pub Fits : WalkMode → ℕ → BoxStep → Type 0
-Fits m n (step.Wait w) = Unit {0}
-Fits m n (step.Skip to len) = IsBetween m × (8 ≤ len)
-Fits m n (step.ReadInit len) = IsBetween m × (8 ≤ len) × (len ≤ n)
-Fits m n (step.ReadMoof len) = IsBetween m × (8 ≤ len) × (len ≤ n)
-Fits m n (step.EnterData start end) = Nearer n m (InData end) × (place_in m ≤ start) × (start ≤ end) × (end ≤ 2 ^ 27)
-Fits m n (step.NextBox at) = Nearer n m (AtBox at) × (place_in m ≤ at)
-Fits m n (step.GiveFrame slot) = HasSlot m slot × (slot.end ≤ n)
-Fits m n (step.EndSegment end) = Nearer n m (AtBox end) × (end ≤ n)
-Fits m n (step.Fail f at) = at ≤ n + (open_of m).end
+abbrev pub IsStepOfMode : WalkMode → ℕ → BoxStep → Type 0
+IsStepOfMode m n (step.Wait w) = Unit {0}
+IsStepOfMode m n (step.Skip to len) = IsBetween m × (8 ≤ len)
+IsStepOfMode m n (step.ReadInit len) = IsBetween m × (8 ≤ len) × (len ≤ n)
+IsStepOfMode m n (step.ReadMoof len) = IsBetween m × (8 ≤ len) × (len ≤ n)
+IsStepOfMode m n (step.EnterData start end) = IsNearer n m (InData end) × (place_in m ≤ start) × (start ≤ end) × (end ≤ 2 ^ 27)
+IsStepOfMode m n (step.NextBox at) = IsNearer n m (AtBox at) × (place_in m ≤ at)
+IsStepOfMode m n (step.GiveFrame slot) = HasSlot m slot × (slot.end ≤ n)
+IsStepOfMode m n (step.EndSegment end) = IsNearer n m (AtBox end) × (end ≤ n)
+IsStepOfMode m n (step.Fail f at) = at ≤ n + (open_of m).end
 
 -- what a step becomes when there are k bytes
-abbrev pub Same : ℕ → BoxStep → BoxStep → Type 0
-Same k (step.Wait w) t = k < w → t ≡ step.Wait w
-Same k (step.Skip to len) t = t ≡ step.Skip to len
-Same k (step.ReadInit len) t = t ≡ step.ReadInit len
-Same k (step.ReadMoof len) t = t ≡ step.ReadMoof len
-Same k (step.EnterData start end) t = t ≡ step.EnterData start end
-Same k (step.NextBox at) t = t ≡ step.NextBox at
-Same k (step.GiveFrame slot) t = t ≡ step.GiveFrame slot
-Same k (step.EndSegment end) t = t ≡ step.EndSegment end
-Same k (step.Fail f at) t = t ≡ step.Fail f at
+abbrev pub IsSameStep : ℕ → BoxStep → BoxStep → Type 0
+IsSameStep k (step.Wait w) t = k < w → t ≡ step.Wait w
+IsSameStep k (step.Skip to len) t = t ≡ step.Skip to len
+IsSameStep k (step.ReadInit len) t = t ≡ step.ReadInit len
+IsSameStep k (step.ReadMoof len) t = t ≡ step.ReadMoof len
+IsSameStep k (step.EnterData start end) t = t ≡ step.EnterData start end
+IsSameStep k (step.NextBox at) t = t ≡ step.NextBox at
+IsSameStep k (step.GiveFrame slot) t = t ≡ step.GiveFrame slot
+IsSameStep k (step.EndSegment end) t = t ≡ step.EndSegment end
+IsSameStep k (step.Fail f at) t = t ≡ step.Fail f at
 
-abbrev Good : WalkMode → ℕ → ℕ → BoxStep → BoxStep → Type 0
-Good m n k st t = Fits m n st × Same k st t
+abbrev IsSameStepOfMode : WalkMode → ℕ → ℕ → BoxStep → BoxStep → Type 0
+IsSameStepOfMode m n k st t = IsStepOfMode m n st × IsSameStep k st t
 
-same-refl : (k : ℕ) (st : BoxStep) → Same k st st
+same-refl : (k : ℕ) (st : BoxStep) → IsSameStep k st st
 same-refl k (step.Wait w) = λ _. refl
 same-refl k (step.Skip to len) = refl
 same-refl k (step.ReadInit len) = refl
@@ -91,20 +91,20 @@ same-refl k (step.GiveFrame slot) = refl
 same-refl k (step.EndSegment end) = refl
 same-refl k (step.Fail f at) = refl
 
-pub once-short : (n len : ℕ) (st : BoxStep) → n < len → once n len st ≡ step.Wait len
+pub once-short : (n len : ℕ) (st : BoxStep) → n < len → step_if_there n len st ≡ step.Wait len
 once-short n len st h = let e : ltb n len ≡ true = grind (arith, nat_tests) in ap (λ b. cond b (step.Wait len) st) e
 
-pub once-there : (n len : ℕ) (st : BoxStep) → len ≤ n → once n len st ≡ st
+pub once-there : (n len : ℕ) (st : BoxStep) → len ≤ n → step_if_there n len st ≡ st
 once-there n len st h = let e : ltb n len ≡ false = grind (arith, nat_tests) in ap (λ b. cond b (step.Wait len) st) e
 
-good-once : (m : WalkMode) (n k len : ℕ) (st : BoxStep) → n ≤ k → (len ≤ n → Fits m n st) → Good m n k (once n len st) (once k len st)
+good-once : (m : WalkMode) (n k len : ℕ) (st : BoxStep) → n ≤ k → (len ≤ n → IsStepOfMode m n st) → IsSameStepOfMode m n k (step_if_there n len st) (step_if_there k len st)
 good-once m n k len st l f =
-    elim (cases_lt n len) as (λ _. Good m n k (once n len st) (once k len st)) [
+    elim (cases_lt n len) as (λ _. IsSameStepOfMode m n k (step_if_there n len st) (step_if_there k len st)) [
       | inl h ↦ rw (once-short n len st h) (tt, λ q. once-short k len st q)
       | inr h ↦ let g : len ≤ k = omega arith in rw (once-there n len st h, once-there k len st g) (f h, same-refl k st)
     ]
 
-good-take : (phase : Phase) (kind : TopLevelBox) (n k len : ℕ) → n ≤ k → 8 ≤ len → Good (Between phase) n k (take_box phase kind n len) (take_box phase kind k len)
+good-take : (phase : Phase) (kind : TopLevelBox) (n k len : ℕ) → n ≤ k → 8 ≤ len → IsSameStepOfMode (Between phase) n k (step_at_box phase kind n len) (step_at_box phase kind k len)
 good-take Waiting FileType n k len l h = ((tt, h), refl)
 good-take Waiting SegmentType n k len l h = ((tt, h), refl)
 good-take Waiting Movie n k len l h = ((tt, h), refl)
@@ -124,29 +124,29 @@ good-take InMedia MovieFragment n k len l h = good-once (Between InMedia) n k le
 good-take InMedia MediaData n k len l h = ((tt, h), refl)
 good-take InMedia Other n k len l h = ((tt, h), refl)
 
-good-if : (m : WalkMode) (n k : ℕ) (b : Bool) (x y x' y' : BoxStep) → Good m n k x x' → (b ≡ false → Good m n k y y') → Good m n k (cond b x y) (cond b x' y')
+good-if : (m : WalkMode) (n k : ℕ) (b : Bool) (x y x' y' : BoxStep) → IsSameStepOfMode m n k x x' → (b ≡ false → IsSameStepOfMode m n k y y') → IsSameStepOfMode m n k (cond b x y) (cond b x' y')
 good-if m n k true x y x' y' h g = h
 good-if m n k false x y x' y' h g = g refl
 
-good-judge : (phase : Phase) (kind : TopLevelBox) (n k len : ℕ) (f : Option StreamFault) → n ≤ k → 8 ≤ len → Good (Between phase) n k (judge_between phase kind n len f) (judge_between phase kind k len f)
+good-judge : (phase : Phase) (kind : TopLevelBox) (n k len : ℕ) (f : Option StreamFault) → n ≤ k → 8 ≤ len → IsSameStepOfMode (Between phase) n k (judge_between phase kind n len f) (judge_between phase kind k len f)
 good-judge phase kind n k len (Some f) l h = (omega arith, refl)
 good-judge phase kind n k len None l h = good-if (Between phase) n k (ltb (greatest_size kind) len) _ _ _ _ (omega arith, refl) (λ _. good-take phase kind n k len l h)
 
-good-between : (ready : Bool) (phase : Phase) (n k : ℕ) (h h' : Header) → n ≤ k → IsHeaderWithin n h → (is_short h ≡ false → h' ≡ h) → Good (Between phase) n k (box_between ready phase n h) (box_between ready phase k h')
+good-between : (ready : Bool) (phase : Phase) (n k : ℕ) (h h' : Header) → n ≤ k → IsHeaderWithin n h → (is_short h ≡ false → h' ≡ h) → IsSameStepOfMode (Between phase) n k (box_between ready phase n h) (box_between ready phase k h')
 good-between ready phase n k head.Short h' l m e = (tt, λ q. absurd (omega arith))
 good-between ready phase n k (head.Bad f) h' l m e = rw (e refl) (omega arith, refl)
 good-between ready phase n k (head.Whole kind start len) h' l m e = rw (e refl) (good-judge phase (box_type kind) n k len (place_fault ready phase (box_type kind)) l (omega (arith, m.0, m.1)))
 
-near : (n at to : ℕ) (o : Open) → o.place ≡ AtBox at → at + 8 ≤ n → at + 8 ≤ to → Nearer n (Within o) (AtBox to) × (place_offset o.place ≤ to)
+near : (n at to : ℕ) (o : Open) → o.place ≡ AtBox at → at + 8 ≤ n → at + 8 ≤ to → IsNearer n (Within o) (AtBox to) × (place_offset o.place ≤ to)
 near n at to o e h g = rw e (omega arith, omega arith)
 
-near-data : (n at start to : ℕ) (o : Open) → o.place ≡ AtBox at → at + 8 ≤ n → at + 8 ≤ to → at ≤ start → start ≤ to → to ≤ 2 ^ 27 → Nearer n (Within o) (InData to) × (place_offset o.place ≤ start) × (start ≤ to) × (to ≤ 2 ^ 27)
+near-data : (n at start to : ℕ) (o : Open) → o.place ≡ AtBox at → at + 8 ≤ n → at + 8 ≤ to → at ≤ start → start ≤ to → to ≤ 2 ^ 27 → IsNearer n (Within o) (InData to) × (place_offset o.place ≤ start) × (start ≤ to) × (to ≤ 2 ^ 27)
 near-data n at start to o e h g a b d = rw e (omega arith, a, b, d)
 
 not-above : (a b : ℕ) → ltb a b ≡ false → b ≤ a
 not-above a b e = grind (arith, nat_tests)
 
-good-judge-in : (o : Open) (n k at : ℕ) (kind : TopLevelBox) (start len : ℕ) → o.place ≡ AtBox at → n ≤ k → 8 ≤ len → start ≤ len → at + 8 ≤ n → Good (Within o) n k (judge_within n at kind start len) (judge_within k at kind start len)
+good-judge-in : (o : Open) (n k at : ℕ) (kind : TopLevelBox) (start len : ℕ) → o.place ≡ AtBox at → n ≤ k → 8 ≤ len → start ≤ len → at + 8 ≤ n → IsSameStepOfMode (Within o) n k (judge_within n at kind start len) (judge_within k at kind start len)
 good-judge-in o n k at FileType start len e l h s r = (omega arith, refl)
 good-judge-in o n k at SegmentType start len e l h s r = (omega arith, refl)
 good-judge-in o n k at Movie start len e l h s r = (omega arith, refl)
@@ -154,12 +154,12 @@ good-judge-in o n k at MovieFragment start len e l h s r = (omega arith, refl)
 good-judge-in o n k at MediaData start len e l h s r = good-if (Within o) n k (ltb (2 ^ 27) (at + len)) _ _ _ _ (omega arith, refl) (λ q. (near-data n at (at + start) (at + len) o e r (omega arith) (omega arith) (omega arith) (not-above (2 ^ 27) (at + len) q), refl))
 good-judge-in o n k at Other start len e l h s r = good-if (Within o) n k (ltb (2 ^ 27) (at + len)) _ _ _ _ (omega arith, refl) (λ _. good-once (Within o) n k (at + len) (step.NextBox (at + len)) l (λ _. near n at (at + len) o e r (omega arith)))
 
-good-in : (o : Open) (n k at : ℕ) (h h' : Header) → o.place ≡ AtBox at → n ≤ k → IsHeaderWithin (n - at) h → (is_short h ≡ false → h' ≡ h) → Good (Within o) n k (box_within n at h) (box_within k at h')
+good-in : (o : Open) (n k at : ℕ) (h h' : Header) → o.place ≡ AtBox at → n ≤ k → IsHeaderWithin (n - at) h → (is_short h ≡ false → h' ≡ h) → IsSameStepOfMode (Within o) n k (box_within n at h) (box_within k at h')
 good-in o n k at head.Short h' p l m e = (tt, λ q. absurd (omega arith))
 good-in o n k at (head.Bad f) h' p l m e = rw (e refl) (omega (arith, m), refl)
 good-in o n k at (head.Whole kind start len) h' p l m e = rw (e refl) (good-judge-in o n k at (box_type kind) start len p l (omega (arith, m.0, m.1)) m.1 (omega (arith, m.0, m.1, m.2)))
 
-good-end : (o : Open) (n end : ℕ) (done : Bool) → o.place ≡ InData end → end ≤ n → Fits (Within o) n (step_in_data done end)
+good-end : (o : Open) (n end : ℕ) (done : Bool) → o.place ≡ InData end → end ≤ n → IsStepOfMode (Within o) n (step_in_data done end)
 good-end o n end true e h = (rw e (omega arith), h)
 good-end o n end false e h = rw e (omega arith, omega arith)
 
@@ -185,22 +185,22 @@ header-at rest c at e =
 room-at : (rest : List ℕ) (at : ℕ) → IsHeaderWithin (length rest - at) (header_of (drop at rest))
 room-at rest at = rw (← length-drop at rest) (header-room (drop at rest))
 
-good-place : (o : Open) (rest c : List ℕ) (done : Bool) (p : WalkPlace) → o.place ≡ p → Good (Within o) (length rest) (length (rest ++ c)) (place_step rest done p) (place_step (rest ++ c) done p)
+good-place : (o : Open) (rest c : List ℕ) (done : Bool) (p : WalkPlace) → o.place ≡ p → IsSameStepOfMode (Within o) (length rest) (length (rest ++ c)) (place_step rest done p) (place_step (rest ++ c) done p)
 good-place o rest c done (AtBox at) e = good-in o (length rest) (length (rest ++ c)) at (header_of (drop at rest)) (header_of (drop at (rest ++ c))) e (omega (arith, length-append rest c)) (room-at rest at) (header-at rest c at)
 good-place o rest c done (InData end) e = good-once (Within o) (length rest) (length (rest ++ c)) end (step_in_data done end) (omega (arith, length-append rest c)) (good-end o (length rest) end done e)
 
-good-past : (o : Open) (rest c : List ℕ) (slot : Slot) (b : Bool) → ltb slot.start o.end ≡ b → Good (Within o) (length rest) (length (rest ++ c)) (cond b (step.Fail fault.OutsideMdat slot.start) (place_step rest false o.place)) (cond b (step.Fail fault.OutsideMdat slot.start) (place_step (rest ++ c) false o.place))
+good-past : (o : Open) (rest c : List ℕ) (slot : Slot) (b : Bool) → ltb slot.start o.end ≡ b → IsSameStepOfMode (Within o) (length rest) (length (rest ++ c)) (cond b (step.Fail fault.OutsideMdat slot.start) (place_step rest false o.place)) (cond b (step.Fail fault.OutsideMdat slot.start) (place_step (rest ++ c) false o.place))
 good-past o rest c slot true e = (let h : slot.start < o.end = grind (arith, nat_tests) in omega arith, refl)
 good-past o rest c slot false e = good-place o rest c false o.place refl
 
-good-slot : (o : Open) (rest c : List ℕ) (s : Option Slot) → slice_get o.slots o.taken ≡ s → Good (Within o) (length rest) (length (rest ++ c)) (slot_step rest o.known o.end o.place s) (slot_step (rest ++ c) o.known o.end o.place s)
+good-slot : (o : Open) (rest c : List ℕ) (s : Option Slot) → slice_get o.slots o.taken ≡ s → IsSameStepOfMode (Within o) (length rest) (length (rest ++ c)) (slot_step rest o.known o.end o.place s) (slot_step (rest ++ c) o.known o.end o.place s)
 good-slot o rest c None e = good-place o rest c true o.place refl
 good-slot o rest c (Some slot) e =
-    good-if (Within o) (length rest) (length (rest ++ c)) (lies_in o.known slot) _ _ _ _
+    good-if (Within o) (length rest) (length (rest ++ c)) (is_in_ranges o.known slot) _ _ _ _
     (good-once (Within o) (length rest) (length (rest ++ c)) slot.end (step.GiveFrame slot) (omega (arith, length-append rest c)) (λ h. (e, h)))
     (λ _. good-past o rest c slot (ltb slot.start o.end) refl)
 
-pub good-step : (ready : Bool) (rest c : List ℕ) (m : WalkMode) → Good m (length rest) (length (rest ++ c)) (step_of ready rest m) (step_of ready (rest ++ c) m)
+pub good-step : (ready : Bool) (rest c : List ℕ) (m : WalkMode) → IsSameStepOfMode m (length rest) (length (rest ++ c)) (step_of ready rest m) (step_of ready (rest ++ c) m)
 unfolding step_of
 good-step ready rest c (Between phase) = good-between ready phase (length rest) (length (rest ++ c)) (header_of rest) (header_of (rest ++ c)) (omega (arith, length-append rest c)) (header-room rest) (header-longer rest c)
 good-step ready rest c (Skipping to left) = (tt, λ q. absurd (omega arith))
@@ -208,10 +208,10 @@ good-step ready rest c (Within o) = good-slot o rest c (slice_get o.slots o.take
 
 -- ---- a move lowers the size
 
-abbrev Falls : ℕ → Move WalkState SegmentItem → Type 0
-Falls n Stop = Unit {0}
-Falls n (Pass t) = size_unless t t.failed < n
-Falls n (Give item t) = size_unless t t.failed < n
+abbrev IsSizeBelow : ℕ → Move WalkState SegmentItem → Type 0
+IsSizeBelow n Stop = Unit {0}
+IsSizeBelow n (Pass t) = size_unless t t.failed < n
+IsSizeBelow n (Give item t) = size_unless t t.failed < n
 
 abbrev pub going : Option Presentation → WalkMode → ℕ → List ℕ → WalkState
 going last mode offset rest = record { last = last; mode = mode; offset = offset; rest = rest; failed = false }
@@ -224,19 +224,19 @@ skip-most : (n left : ℕ) (to : Phase) → size_by n (Skipping to left) ≤ 104
 skip-most n zero to = omega arith
 skip-most n (suc left) to = omega arith
 
-falls-init : (last : Option Presentation) (phase : Phase) (offset : ℕ) (rest : List ℕ) (len : ℕ) (r : Result Presentation InitFault) → 8 ≤ len → len ≤ length rest → Falls (suc (size_by (length rest) (Between phase))) (move_of_init (going last (Between phase) offset rest) len r)
+falls-init : (last : Option Presentation) (phase : Phase) (offset : ℕ) (rest : List ℕ) (len : ℕ) (r : Result Presentation InitFault) → 8 ≤ len → len ≤ length rest → IsSizeBelow (suc (size_by (length rest) (Between phase))) (move_of_init (going last (Between phase) offset rest) len r)
 falls-init last phase offset rest len (Ok p) h k = omega (arith, length-drop len rest)
 falls-init last phase offset rest len (Err f) h k = omega arith
 
-falls-opened : (last : Option Presentation) (phase : Phase) (offset : ℕ) (rest : List ℕ) (len : ℕ) (r : Result (List Slot) MoofFault) → ((slots : List Slot) → r ≡ Ok slots → length slots ≤ 2 ^ 20) → 8 ≤ len → len ≤ length rest → Falls (suc (size_by (length rest) (Between phase))) (move_of_slots (going last (Between phase) offset rest) len r)
+falls-opened : (last : Option Presentation) (phase : Phase) (offset : ℕ) (rest : List ℕ) (len : ℕ) (r : Result (List Slot) MoofFault) → ((slots : List Slot) → r ≡ Ok slots → length slots ≤ 2 ^ 20) → 8 ≤ len → len ≤ length rest → IsSizeBelow (suc (size_by (length rest) (Between phase))) (move_of_slots (going last (Between phase) offset rest) len r)
 falls-opened last phase offset rest len (Ok slots) f h k = let g : length slots ≤ 2 ^ 20 = f slots refl in omega arith
 falls-opened last phase offset rest len (Err e) f h k = omega arith
 
-falls-planned : (last with : Option Presentation) (phase : Phase) (offset : ℕ) (rest : List ℕ) (len : ℕ) → 8 ≤ len → len ≤ length rest → Falls (suc (size_by (length rest) (Between phase))) (move_of_moof (going last (Between phase) offset rest) len with)
+falls-planned : (last with : Option Presentation) (phase : Phase) (offset : ℕ) (rest : List ℕ) (len : ℕ) → 8 ≤ len → len ≤ length rest → IsSizeBelow (suc (size_by (length rest) (Between phase))) (move_of_moof (going last (Between phase) offset rest) len with)
 falls-planned last None phase offset rest len h k = omega arith
 falls-planned last (Some p) phase offset rest len h k = falls-opened last phase offset rest len (plan_of p.tracks (take len rest)) (plan-length p.tracks (take len rest)) h k
 
-falls-act : (last : Option Presentation) (m : WalkMode) (offset : ℕ) (rest : List ℕ) (st : BoxStep) → Fits m (length rest) st → Falls (suc (size_by (length rest) m)) (act (going last m offset rest) st)
+falls-act : (last : Option Presentation) (m : WalkMode) (offset : ℕ) (rest : List ℕ) (st : BoxStep) → IsStepOfMode m (length rest) st → IsSizeBelow (suc (size_by (length rest) m)) (move_of_step (going last m offset rest) st)
 falls-act last m offset rest (step.Wait w) f = tt
 falls-act last (Between phase) offset rest (step.Skip to len) f = omega (arith, size-skip (length rest) len to f.1)
 falls-act last (Skipping a l) offset rest (step.Skip to len) f = absurd f.0
@@ -261,36 +261,36 @@ falls-act last (Skipping a l) offset rest (step.EndSegment end) f = absurd f.0
 falls-act last (Within o) offset rest (step.EndSegment end) f = omega (arith, f.0, length-drop end rest)
 falls-act last m offset rest (step.Fail e at) f = omega arith
 
-falls-byte : (s : WalkState) (to : Phase) (left : ℕ) (rest : List ℕ) → Falls (suc (1048580 * length rest)) (pass_byte s to left rest)
+falls-byte : (s : WalkState) (to : Phase) (left : ℕ) (rest : List ℕ) → IsSizeBelow (suc (1048580 * length rest)) (move_over_byte s to left rest)
 falls-byte s to left [] = tt
 falls-byte s to left (x ∷ rest) = omega (arith, skip-most (length rest) left to)
 
-falls-mode : (last : Option Presentation) (m : WalkMode) (offset : ℕ) (rest : List ℕ) → Falls (suc (size_by (length rest) m)) (mode_move (going last m offset rest) m)
+falls-mode : (last : Option Presentation) (m : WalkMode) (offset : ℕ) (rest : List ℕ) → IsSizeBelow (suc (size_by (length rest) m)) (mode_move (going last m offset rest) m)
 falls-mode last (Between phase) offset rest = falls-act last (Between phase) offset rest (step_of (is_some last) rest (Between phase)) (good-step (is_some last) rest [] (Between phase)).0
 falls-mode last (Skipping to zero) offset rest = omega arith
 falls-mode last (Skipping to (suc left)) offset rest = falls-byte (going last (Skipping to (suc left)) offset rest) to left rest
 falls-mode last (Within o) offset rest = falls-act last (Within o) offset rest (step_of (is_some last) rest (Within o)) (good-step (is_some last) rest [] (Within o)).0
 
-falls : (last : Option Presentation) (mode : WalkMode) (offset : ℕ) (rest : List ℕ) (failed : Bool) → let s : WalkState = record { last = last; mode = mode; offset = offset; rest = rest; failed = failed } in Falls (size_unless s failed) (move_unless s failed)
+falls : (last : Option Presentation) (mode : WalkMode) (offset : ℕ) (rest : List ℕ) (failed : Bool) → let s : WalkState = record { last = last; mode = mode; offset = offset; rest = rest; failed = failed } in IsSizeBelow (size_unless s failed) (move_unless s failed)
 falls last mode offset rest true = tt
 falls last mode offset rest false = falls-mode last mode offset rest
 
 -- ---- what a move becomes when bytes are added
 
-abbrev Goes : List ℕ → Move WalkState SegmentItem → Move WalkState SegmentItem → Type 0
-Goes c Stop m = Unit {0}
-Goes c (Pass t) m = m ≡ Pass (more_unless t c t.failed)
-Goes c (Give item t) m = (m ≡ Give item (more_unless t c t.failed)) × (is_fault item ≡ true → more_unless t c t.failed ≡ t)
+abbrev IsMoveWithMore : List ℕ → Move WalkState SegmentItem → Move WalkState SegmentItem → Type 0
+IsMoveWithMore c Stop m = Unit {0}
+IsMoveWithMore c (Pass t) m = m ≡ Pass (more_unless t c t.failed)
+IsMoveWithMore c (Give item t) m = (m ≡ Give item (more_unless t c t.failed)) × (is_fault item ≡ true → more_unless t c t.failed ≡ t)
 
-goes-init : (last : Option Presentation) (mode : WalkMode) (offset len : ℕ) (rest c : List ℕ) (r : Result Presentation InitFault) → len ≤ length rest → Goes c (move_of_init (going last mode offset rest) len r) (move_of_init (going last mode offset (rest ++ c)) len r)
+goes-init : (last : Option Presentation) (mode : WalkMode) (offset len : ℕ) (rest c : List ℕ) (r : Result Presentation InitFault) → len ≤ length rest → IsMoveWithMore c (move_of_init (going last mode offset rest) len r) (move_of_init (going last mode offset (rest ++ c)) len r)
 goes-init last mode offset len rest c (Ok p) h = (rw (drop-append-le len rest c h) refl, λ e. cc)
 goes-init last mode offset len rest c (Err f) h = (refl, λ _. refl)
 
-goes-opened : (last : Option Presentation) (mode : WalkMode) (offset len : ℕ) (rest c : List ℕ) (r : Result (List Slot) MoofFault) → Goes c (move_of_slots (going last mode offset rest) len r) (move_of_slots (going last mode offset (rest ++ c)) len r)
+goes-opened : (last : Option Presentation) (mode : WalkMode) (offset len : ℕ) (rest c : List ℕ) (r : Result (List Slot) MoofFault) → IsMoveWithMore c (move_of_slots (going last mode offset rest) len r) (move_of_slots (going last mode offset (rest ++ c)) len r)
 goes-opened last mode offset len rest c (Ok slots) = refl
 goes-opened last mode offset len rest c (Err f) = (refl, λ _. refl)
 
-goes-planned : (last with : Option Presentation) (mode : WalkMode) (offset len : ℕ) (rest c : List ℕ) → len ≤ length rest → Goes c (move_of_moof (going last mode offset rest) len with) (move_of_moof (going last mode offset (rest ++ c)) len with)
+goes-planned : (last with : Option Presentation) (mode : WalkMode) (offset len : ℕ) (rest c : List ℕ) → len ≤ length rest → IsMoveWithMore c (move_of_moof (going last mode offset rest) len with) (move_of_moof (going last mode offset (rest ++ c)) len with)
 goes-planned last None mode offset len rest c h = (refl, λ _. refl)
 goes-planned last (Some p) mode offset len rest c h = rw (take-append-le len rest c h) (goes-opened last mode offset len rest c (plan_of p.tracks (take len rest)))
 
@@ -307,7 +307,7 @@ slice-longer b c i j k =
           ap (λ n. take n (drop i (b ++ c))) z ∙ sym (ap (λ n. take n (drop i b)) z)
     ]
 
-goes-act : (last : Option Presentation) (m : WalkMode) (offset : ℕ) (rest c : List ℕ) (st : BoxStep) → Fits m (length rest) st → Goes c (act (going last m offset rest) st) (act (going last m offset (rest ++ c)) st)
+goes-act : (last : Option Presentation) (m : WalkMode) (offset : ℕ) (rest c : List ℕ) (st : BoxStep) → IsStepOfMode m (length rest) st → IsMoveWithMore c (move_of_step (going last m offset rest) st) (move_of_step (going last m offset (rest ++ c)) st)
 goes-act last m offset rest c (step.Wait w) f = tt
 goes-act last m offset rest c (step.Skip to len) f = refl
 goes-act last m offset rest c (step.ReadInit len) f = rw (take-append-le len rest c f.2) (goes-init last m offset len rest c (init_of (take len rest)) f.2)
@@ -318,7 +318,7 @@ goes-act last m offset rest c (step.GiveFrame slot) f = rw (slice-longer rest c 
 goes-act last m offset rest c (step.EndSegment end) f = (rw (drop-append-le end rest c f.1) refl, λ e. cc)
 goes-act last m offset rest c (step.Fail e at) f = (refl, λ _. refl)
 
-goes-same : (last : Option Presentation) (m : WalkMode) (offset k : ℕ) (rest c : List ℕ) (st t : BoxStep) → Fits m (length rest) st → Same k st t → Goes c (act (going last m offset rest) st) (act (going last m offset (rest ++ c)) t)
+goes-same : (last : Option Presentation) (m : WalkMode) (offset k : ℕ) (rest c : List ℕ) (st t : BoxStep) → IsStepOfMode m (length rest) st → IsSameStep k st t → IsMoveWithMore c (move_of_step (going last m offset rest) st) (move_of_step (going last m offset (rest ++ c)) t)
 goes-same last m offset k rest c (step.Wait w) t f e = tt
 goes-same last m offset k rest c (step.Skip to len) t f e = rw e (goes-act last m offset rest c (step.Skip to len) f)
 goes-same last m offset k rest c (step.ReadInit len) t f e = rw e (goes-act last m offset rest c (step.ReadInit len) f)
@@ -329,22 +329,22 @@ goes-same last m offset k rest c (step.GiveFrame slot) t f e = rw e (goes-act la
 goes-same last m offset k rest c (step.EndSegment end) t f e = rw e (goes-act last m offset rest c (step.EndSegment end) f)
 goes-same last m offset k rest c (step.Fail g at) t f e = rw e (goes-act last m offset rest c (step.Fail g at) f)
 
-goes-step : (last : Option Presentation) (m : WalkMode) (offset : ℕ) (rest c : List ℕ) → Goes c (act (going last m offset rest) (step_of (is_some last) rest m)) (act (going last m offset (rest ++ c)) (step_of (is_some last) (rest ++ c) m))
+goes-step : (last : Option Presentation) (m : WalkMode) (offset : ℕ) (rest c : List ℕ) → IsMoveWithMore c (move_of_step (going last m offset rest) (step_of (is_some last) rest m)) (move_of_step (going last m offset (rest ++ c)) (step_of (is_some last) (rest ++ c) m))
 goes-step last m offset rest c =
     let g = good-step (is_some last) rest c m in
     goes-same last m offset (length (rest ++ c)) rest c (step_of (is_some last) rest m) (step_of (is_some last) (rest ++ c) m) g.0 g.1
 
-goes-byte : (last : Option Presentation) (m : WalkMode) (offset left : ℕ) (to : Phase) (all rest c : List ℕ) → Goes c (pass_byte (going last m offset all) to left rest) (pass_byte (going last m offset (all ++ c)) to left (rest ++ c))
+goes-byte : (last : Option Presentation) (m : WalkMode) (offset left : ℕ) (to : Phase) (all rest c : List ℕ) → IsMoveWithMore c (move_over_byte (going last m offset all) to left rest) (move_over_byte (going last m offset (all ++ c)) to left (rest ++ c))
 goes-byte last m offset left to all [] c = tt
 goes-byte last m offset left to all (x ∷ rest) c = refl
 
-goes-mode : (last : Option Presentation) (m : WalkMode) (offset : ℕ) (rest c : List ℕ) → Goes c (mode_move (going last m offset rest) m) (mode_move (going last m offset (rest ++ c)) m)
+goes-mode : (last : Option Presentation) (m : WalkMode) (offset : ℕ) (rest c : List ℕ) → IsMoveWithMore c (mode_move (going last m offset rest) m) (mode_move (going last m offset (rest ++ c)) m)
 goes-mode last (Between phase) offset rest c = goes-step last (Between phase) offset rest c
 goes-mode last (Skipping to zero) offset rest c = refl
 goes-mode last (Skipping to (suc left)) offset rest c = goes-byte last (Skipping to (suc left)) offset left to rest rest c
 goes-mode last (Within o) offset rest c = goes-step last (Within o) offset rest c
 
-goes : (last : Option Presentation) (mode : WalkMode) (offset : ℕ) (rest c : List ℕ) (failed : Bool) → let s : WalkState = record { last = last; mode = mode; offset = offset; rest = rest; failed = failed } in let t : WalkState = more_unless s c failed in Goes c (move_unless s failed) (move_unless t t.failed)
+goes : (last : Option Presentation) (mode : WalkMode) (offset : ℕ) (rest c : List ℕ) (failed : Bool) → let s : WalkState = record { last = last; mode = mode; offset = offset; rest = rest; failed = failed } in let t : WalkState = more_unless s c failed in IsMoveWithMore c (move_unless s failed) (move_unless t t.failed)
 goes last mode offset rest c true = tt
 goes last mode offset rest c false = goes-mode last mode offset rest c
 

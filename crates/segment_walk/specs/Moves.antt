@@ -56,8 +56,8 @@ pub record WalkState : Type 0 where
 -- ---- what comes next, by the bytes that are there
 
 -- once there are `len` bytes
-abbrev pub once : ℕ → ℕ → BoxStep → BoxStep
-once n len st = if nat_lt n len then step.Wait len else st
+abbrev pub step_if_there : ℕ → ℕ → BoxStep → BoxStep
+step_if_there n len st = if nat_lt n len then step.Wait len else st
 
 -- a box that is out of place where no movie fragment is open; `ready` says that an initialization segment came
 abbrev pub place_fault : Bool → Phase → TopLevelBox → Option StreamFault
@@ -70,19 +70,19 @@ place_fault ready phase kind = None
 
 -- A box in its place. `ftyp` begins an initialization segment and `styp` a media segment; `moov` and `moof` are read
 -- once they are whole; all others are passed over.
-abbrev pub take_box : Phase → TopLevelBox → ℕ → ℕ → BoxStep
-take_box Waiting FileType n len = step.Skip InInit len
-take_box InMedia FileType n len = step.Skip InInit len
-take_box Waiting SegmentType n len = step.Skip InMedia len
-take_box InInit Movie n len = once n len (step.ReadInit len)
-take_box phase MovieFragment n len = once n len (step.ReadMoof len)
-take_box phase kind n len = step.Skip phase len
+abbrev pub step_at_box : Phase → TopLevelBox → ℕ → ℕ → BoxStep
+step_at_box Waiting FileType n len = step.Skip InInit len
+step_at_box InMedia FileType n len = step.Skip InInit len
+step_at_box Waiting SegmentType n len = step.Skip InMedia len
+step_at_box InInit Movie n len = step_if_there n len (step.ReadInit len)
+step_at_box phase MovieFragment n len = step_if_there n len (step.ReadMoof len)
+step_at_box phase kind n len = step.Skip phase len
 
 abbrev pub judge_between : Phase → TopLevelBox → ℕ → ℕ → Option StreamFault → BoxStep
 judge_between phase kind n len (Some f) = step.Fail f 0
 judge_between phase kind n len None =
     if nat_lt (greatest_size kind) len then step.Fail fault.TooLarge 0
-    else take_box phase kind n len
+    else step_at_box phase kind n len
 
 -- a box by its header, of which and behind which n bytes are there
 abbrev pub box_between : Bool → Phase → ℕ → Header → BoxStep
@@ -103,7 +103,7 @@ judge_within n at MediaData start len =
     else step.EnterData (at + start) (at + len)
 judge_within n at Other start len =
     if nat_lt (2 ^ 27) (at + len) then step.Fail fault.TooLarge at
-    else once n (at + len) (step.NextBox (at + len))
+    else step_if_there n (at + len) (step.NextBox (at + len))
 
 abbrev pub box_within : ℕ → ℕ → Header → BoxStep
 box_within n at head.Short = step.Wait 0
@@ -117,23 +117,23 @@ step_in_data false end = step.NextBox end
 
 abbrev pub place_step : List ℕ → Bool → WalkPlace → BoxStep
 place_step rest done (AtBox at) = box_within (length rest) at (header_of (drop at rest))
-place_step rest done (InData end) = once (length rest) end (step_in_data done end)
+place_step rest done (InData end) = step_if_there (length rest) end (step_in_data done end)
 
 -- the slot lies inside the payload of an mdat
-abbrev pub lies_in : List DataRange → Slot → Bool
-lies_in [] s = false
-lies_in (k ∷ ks) s = (nat_le k.start s.start && nat_le s.end k.end) || lies_in ks s
+abbrev pub is_in_ranges : List DataRange → Slot → Bool
+is_in_ranges [] s = false
+is_in_ranges (k ∷ ks) s = (nat_le k.start s.start && nat_le s.end k.end) || is_in_ranges ks s
 
 -- and ends within n bytes
 abbrev pub is_ready : ℕ → List DataRange → Slot → Bool
-is_ready n known s = lies_in known s && nat_le s.end n
+is_ready n known s = is_in_ranges known s && nat_le s.end n
 
 -- The next slot comes before the next box: its frame is given once its bytes are there. A slot that lies in no mdat
 -- up to the last, and begins before the end of that one, will never lie in one.
 abbrev pub slot_step : List ℕ → List DataRange → ℕ → WalkPlace → Option Slot → BoxStep
 slot_step rest known end place None = place_step rest true place
 slot_step rest known end place (Some slot) =
-    if lies_in known slot then once (length rest) slot.end (step.GiveFrame slot)
+    if is_in_ranges known slot then step_if_there (length rest) slot.end (step.GiveFrame slot)
     else (if nat_lt slot.start end then step.Fail fault.OutsideMdat slot.start
     else place_step rest false place)
 
@@ -145,8 +145,8 @@ step_of ready rest (Within o) = slot_step rest o.known o.end o.place (slice_get 
 -- ---- what a step does
 
 -- a fault at a place behind `offset`: no byte is looked at any more
-abbrev pub fail : WalkState → StreamFault → ℕ → Move WalkState SegmentItem
-fail s f at =
+abbrev pub move_of_fault : WalkState → StreamFault → ℕ → Move WalkState SegmentItem
+move_of_fault s f at =
     Give (FaultItem f (s.offset + at))
     (record { last = s.last; mode = s.mode; offset = s.offset; rest = []; failed = true })
 
@@ -171,7 +171,7 @@ state_in s mode = record {
 
 abbrev pub move_of_init : WalkState → ℕ → Result Presentation InitFault → Move WalkState SegmentItem
 move_of_init s len (Ok p) = Give (InitItem p s.offset) (state_past s (Some p) len)
-move_of_init s len (Err f) = fail s (fault.Init f) 0
+move_of_init s len (Err f) = move_of_fault s (fault.Init f) 0
 
 -- a movie fragment whose moof has `len` bytes
 abbrev pub open_mode : List Slot → ℕ → WalkMode
@@ -180,10 +180,10 @@ open_mode slots len =
 
 abbrev pub move_of_slots : WalkState → ℕ → Result (List Slot) MoofFault → Move WalkState SegmentItem
 move_of_slots s len (Ok slots) = Pass (state_in s (open_mode slots len))
-move_of_slots s len (Err f) = fail s (fault.Moof f) 0
+move_of_slots s len (Err f) = move_of_fault s (fault.Moof f) 0
 
 abbrev pub move_of_moof : WalkState → ℕ → Option Presentation → Move WalkState SegmentItem
-move_of_moof s len None = fail s fault.NoInit 0
+move_of_moof s len None = move_of_fault s fault.NoInit 0
 move_of_moof s len (Some p) = move_of_slots s len (plan_of p.tracks (take len s.rest))
 
 -- the movie fragment that is open, or an empty one
@@ -227,31 +227,31 @@ coded_frame rest slot = record {
 abbrev pub frame_of : List ℕ → ℕ → Slot → SegmentItem
 frame_of rest offset slot = FrameItem (coded_frame rest slot) (offset + slot.start)
 
-abbrev pub act : WalkState → BoxStep → Move WalkState SegmentItem
-act s (step.Wait n) = Stop
-act s (step.Skip to len) = Pass (state_in s (Skipping to len))
-act s (step.ReadInit len) = move_of_init s len (init_of (take len s.rest))
-act s (step.ReadMoof len) = move_of_moof s len s.last
-act s (step.EnterData start end) = Pass (state_in s (in_data (open_of s.mode) start end))
-act s (step.NextBox at) = Pass (state_in s (at_box (open_of s.mode) at))
-act s (step.GiveFrame slot) =
+abbrev pub move_of_step : WalkState → BoxStep → Move WalkState SegmentItem
+move_of_step s (step.Wait n) = Stop
+move_of_step s (step.Skip to len) = Pass (state_in s (Skipping to len))
+move_of_step s (step.ReadInit len) = move_of_init s len (init_of (take len s.rest))
+move_of_step s (step.ReadMoof len) = move_of_moof s len s.last
+move_of_step s (step.EnterData start end) = Pass (state_in s (in_data (open_of s.mode) start end))
+move_of_step s (step.NextBox at) = Pass (state_in s (at_box (open_of s.mode) at))
+move_of_step s (step.GiveFrame slot) =
     Give (frame_of s.rest s.offset slot) (state_in s (with_slot_taken (open_of s.mode)))
-act s (step.EndSegment end) = Give SegmentEnd (state_past s s.last end)
-act s (step.Fail f at) = fail s f at
+move_of_step s (step.EndSegment end) = Give SegmentEnd (state_past s s.last end)
+move_of_step s (step.Fail f at) = move_of_fault s f at
 
 -- a byte of a box that is passed over: it is let go as soon as it is there
-abbrev pub pass_byte : WalkState → Phase → ℕ → List ℕ → Move WalkState SegmentItem
-pass_byte s to left [] = Stop
-pass_byte s to left (x ∷ rest) =
+abbrev pub move_over_byte : WalkState → Phase → ℕ → List ℕ → Move WalkState SegmentItem
+move_over_byte s to left [] = Stop
+move_over_byte s to left (x ∷ rest) =
     Pass
     (record
     { last = s.last; mode = Skipping to left; offset = s.offset + 1; rest = rest; failed = false })
 
 abbrev pub mode_move : WalkState → WalkMode → Move WalkState SegmentItem
-mode_move s (Between phase) = act s (step_of (is_some s.last) s.rest (Between phase))
+mode_move s (Between phase) = move_of_step s (step_of (is_some s.last) s.rest (Between phase))
 mode_move s (Skipping to zero) = Pass (state_in s (Between to))
-mode_move s (Skipping to (suc left)) = pass_byte s to left s.rest
-mode_move s (Within o) = act s (step_of (is_some s.last) s.rest (Within o))
+mode_move s (Skipping to (suc left)) = move_over_byte s to left s.rest
+mode_move s (Within o) = move_of_step s (step_of (is_some s.last) s.rest (Within o))
 
 abbrev pub move_unless : WalkState → Bool → Move WalkState SegmentItem
 move_unless s true = Stop

@@ -5,7 +5,7 @@ use Rattle.segment_walk.specs.declared.kinds.DataRange.{DataRange}
 use Rattle.segment_walk.specs.declared.kinds.Fragment.{Fragment}
 use Rattle.segment_walk.specs.declared.kinds.ParserMode.{ParserMode}
 use Rattle.segment_walk.specs.declared.kinds.ParserMode.TheVariants as codes
-use Rattle.segment_walk.specs.Moves.{Open, lies_in, Between, Skipping, Within}
+use Rattle.segment_walk.specs.Moves.{Open, is_in_ranges, Between, Skipping, Within}
 use Rattle.segment_walk.specs.Moves as walk
 use Rattle.bmff_fragment.specs.declared.slot.Slot.{Slot}
 
@@ -17,7 +17,7 @@ pub record AreRangesAscending (ks : List DataRange) : Type 0 where
 -- each slot that lies inside this range lies inside one of them
 abbrev pub IsCoveredRange : List DataRange → DataRange → Type 0
 IsCoveredRange known range =
-    (s : Slot) → range.start ≤ s.start → s.end ≤ range.end → lies_in known s ≡ true
+    (s : Slot) → range.start ≤ s.start → s.end ≤ range.end → is_in_ranges known s ≡ true
 
 -- the data ranges that a place of the walk sees come in order
 abbrev pub HasAscendingRanges : ParserMode → List DataRange → Type 0

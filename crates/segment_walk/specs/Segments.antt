@@ -1,7 +1,7 @@
 -- What a string of initialization and media segments gives (Media Source Extensions, 3.5.1, segment parser loop; ISO
 -- BMFF byte stream format), told by its top-level boxes: its items, and what is seen of the parser before each. It is a
 -- recursion on the boxes of the whole string, and knows no pieces. All places are offsets in the string.
-use Rattle.std.specs.Prelude.{ℕ, zero, suc, ◌+◌, ◌^◌, nat_lt, nat_le, Bool, false, ◌&&◌, ◌||◌, if◌then◌else◌, List, [], ◌∷◌, ◌++◌, length, drop, slice_range, Option, Some, Result, Ok, Err}
+use Rattle.std.specs.Prelude.{ℕ, zero, suc, ◌+◌, ◌^◌, nat_lt, nat_le, Bool, false, ◌&&◌, ◌||◌, if◌then◌else◌, List, [], ◌∷◌, ◌++◌, length, drop, slice_get, slice_range, Option, Some, Result, Ok, Err}
 use Rattle.mse_base.specs.declared.frame.Phase.{Phase}
 use Rattle.mse_base.specs.declared.frame.Phase.TheVariants.{Waiting, InMedia}
 use Rattle.mse_base.specs.declared.track.Presentation.{Presentation}
@@ -219,6 +219,13 @@ segment_parse last b = parse_of_boxes (suc (length b)) b last (NoFragment Waitin
 -- all items of the string
 abbrev pub items_of_string : Option Presentation → List ℕ → List SegmentItem
 items_of_string last b = items_of (segment_parse last b)
+
+-- the next item of a reading, and the one that stands i places after it; none where the string has none there
+abbrev pub next_item : StringReading → Option SegmentItem
+next_item r = slice_get (items_of_string r.before r.whole) r.taken
+
+abbrev pub item_ahead : StringReading → ℕ → Option SegmentItem
+item_ahead r i = slice_get (items_of_string r.before r.whole) (r.taken + i)
 
 -- Just before the next item of a reading, or at the end of its string where there is none: where the segment parser
 -- loop is (Media Source Extensions, append state), the latest presentation, and the bytes of the string that are held

@@ -5,7 +5,7 @@ use Rattle.mse_base.specs.declared.frame.Phase.{Phase}
 use Rattle.mse_base.specs.declared.frame.Phase.TheVariants.{Waiting, InMedia}
 use Rattle.mse_base.specs.declared.track.Presentation.{Presentation}
 use Rattle.parser_loop.specs.StringReadings.{StringReading}
-use Rattle.parser_loop.specs.Walk.{items_from, state_at, leading}
+use Rattle.parser_loop.specs.Walk.{items_from, state_at, leading_count}
 use Rattle.segment_walk.specs.Tables.{SegmentItem}
 use Rattle.segment_walk.specs.Moves.{WalkMode, Between, Skipping, Within, WalkState, segments}
 
@@ -33,7 +33,7 @@ walk_phase r = phase_of (state_before r).mode
 
 -- how many of the next items are coded frames, up to the first that is none
 abbrev pub walk_ready : StringReading → ℕ
-walk_ready r = leading segments (drop r.taken (walk_items r.before r.whole))
+walk_ready r = leading_count segments (drop r.taken (walk_items r.before r.whole))
 
 -- The bytes of the string that are held in memory: of a movie fragment all from its moof on, else those from the box
 -- at which the next item comes, or which is read and not whole yet, or whose header is not. Behind a fault none are.

@@ -1,4 +1,4 @@
-ghost use Rattle.std.specs.Prelude.{ℕ, suc, ◌+◌, ◌≡◌, ◌<◌, ◌≤◌, List, ◌++◌, Option, Some, Ok, length, take, slice_get, slice_range};
+ghost use Rattle.std.specs.Prelude.{ℕ, suc, ◌+◌, ◌≡◌, ◌<◌, ◌≤◌, List, ◌++◌, Option, Some, Ok, length, take, slice_range};
 ghost use Rattle.mse_base.specs.declared.frame.CodedFrame.{CodedFrame};
 ghost use Rattle.mse_base.specs.declared.frame.Phase.TheVariants.{Waiting};
 ghost use Rattle.mse_base.specs.declared.track.Presentation.{Presentation};
@@ -8,7 +8,7 @@ ghost use Rattle.parser_loop.specs.Parse.{IsSuffix};
 ghost use Rattle.parser_loop.specs.StringReadings.{StringReading};
 ghost use Rattle.parser_loop.specs.Walk.{IsWalk};
 ghost use Rattle.segment_walk.specs.declared.kinds.StreamFault.{StreamFault};
-ghost use Rattle.segment_walk.specs.Segments.{items_of_string, NoFragment, box_at, held_before, latest_before, parse_of_boxes, phase_before, ready_before, segment_parse};
+ghost use Rattle.segment_walk.specs.Segments.{items_of_string, NoFragment, box_at, held_before, latest_before, next_item, parse_of_boxes, phase_before, ready_before, segment_parse};
 ghost use Rattle.segment_walk.specs.Moves.{segments};
 ghost use Rattle.segment_walk.specs.Strings.{state_before, walk_held, walk_items, walk_phase, walk_ready};
 
@@ -44,18 +44,17 @@ pub fn boxes_law()
 /// A presentation is what the whole box at its offset reads as. The payload of a coded frame are the bytes of the
 /// string at its offset, which are there. A fault is the last item.
 pub fn place_law()
-    ensures init { (before : Option Presentation) (whole : List ℕ) (i : ℕ) (p : Presentation)
-        (offset : ℕ) → slice_get (items_of_string before whole) i ≡ Some (InitItem p offset) →
-        init_of (box_at whole offset) ≡ Ok p }
-    ensures frame { (before : Option Presentation) (whole : List ℕ) (i : ℕ) (frame : CodedFrame)
-        (offset : ℕ) → slice_get (items_of_string before whole) i ≡ Some (FrameItem frame offset) →
-        frame.payload ≡ slice_range whole offset (offset + length frame.payload) }
-    ensures there { (before : Option Presentation) (whole : List ℕ) (i : ℕ) (frame : CodedFrame)
-        (offset : ℕ) → slice_get (items_of_string before whole) i ≡ Some (FrameItem frame offset) →
-        offset + length frame.payload ≤ length whole }
-    ensures fault { (before : Option Presentation) (whole : List ℕ) (i : ℕ) (f : StreamFault)
-        (offset : ℕ) → slice_get (items_of_string before whole) i ≡ Some (FaultItem f offset) →
-        suc i ≡ length (items_of_string before whole) }
+    ensures init { (r : StringReading) (p : Presentation) (offset : ℕ) →
+        next_item r ≡ Some (InitItem p offset) → init_of (box_at r.whole offset) ≡ Ok p }
+    ensures frame { (r : StringReading) (frame : CodedFrame) (offset : ℕ) →
+        next_item r ≡ Some (FrameItem frame offset) →
+        frame.payload ≡ slice_range r.whole offset (offset + length frame.payload) }
+    ensures there { (r : StringReading) (frame : CodedFrame) (offset : ℕ) →
+        next_item r ≡ Some (FrameItem frame offset) →
+        offset + length frame.payload ≤ length r.whole }
+    ensures fault { (r : StringReading) (f : StreamFault) (offset : ℕ) →
+        next_item r ≡ Some (FaultItem f offset) →
+        suc r.taken ≡ length (items_of_string r.before r.whole) }
 {}
 
 /// The bytes that are held are the end of the string from an offset on.

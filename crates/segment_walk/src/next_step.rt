@@ -2,12 +2,12 @@ ghost use Rattle.std.specs.Prelude.{◌≡◌, ◌+◌, ◌≤◌, ◌<◌, leng
 ghost use Rattle.std.specs.List.{concat};
 ghost use Rattle.bmff_boxes.specs.Headers.{header_of};
 ghost use Rattle.segment_walk.specs.Tables.{size_fault, box_type, greatest_size};
-ghost use Rattle.segment_walk.specs.Moves.{place_fault, take_box, box_between, box_within, place_step, lies_in, slot_step, step_of};
+ghost use Rattle.segment_walk.specs.Moves.{place_fault, step_at_box, box_between, box_within, place_step, is_in_ranges, slot_step, step_of};
 ghost use Rattle.segment_walk.specs.Ranges.{mode_of, AreRangesAscending, HasAscendingRanges};
 ghost use Rattle.segment_walk.specs.Bounds.{IsHead, is_segment_start};
 
 use crate::kinds::{BoxStep, DataRange, ParserMode, StreamFault, TopLevelBox, WalkPlace};
-use crate::search::lies_in;
+use crate::search::is_in_ranges;
 use bmff_boxes::{HeadFault, Header, header};
 use bmff_fragment::Slot;
 use input_chunks::Chunks;
@@ -79,8 +79,8 @@ fn greatest_size(kind: TopLevelBox) -> u64
 }
 
 /// What a box does where no movie fragment is open and `there` bytes of it and of what follows are there.
-fn take_box(phase: Phase, kind: TopLevelBox, there: u64, len: u64) -> BoxStep
-    ensures { result ≡ take_box phase kind there len }
+fn step_at_box(phase: Phase, kind: TopLevelBox, there: u64, len: u64) -> BoxStep
+    ensures { result ≡ step_at_box phase kind there len }
 {
     match (phase, kind) {
         (Phase::InInit, TopLevelBox::Movie) => if there < len {
@@ -123,13 +123,13 @@ fn box_between(ready: bool, phase: Phase, there: u64, front: Header) -> BoxStep
             if len > greatest_size(kind) {
                 return BoxStep::Fail(StreamFault::TooLarge, 0);
             }
-            take_box(phase, kind, there, len)
+            step_at_box(phase, kind, there, len)
         }
     }
 }
 
 /// Whether a box begins a segment, or is one that only stands at the start of one.
-fn begins_segment(kind: TopLevelBox) -> bool
+fn is_segment_start(kind: TopLevelBox) -> bool
     ensures { result ≡ is_segment_start kind }
 {
     match kind {
@@ -151,7 +151,7 @@ fn box_within(there: u64, at: u64, front: Header) -> BoxStep
         Header::Bad(fault) => BoxStep::Fail(size_fault(fault), at),
         Header::Whole { kind, head, len } => {
             let kind = box_type(kind);
-            if begins_segment(kind) {
+            if is_segment_start(kind) {
                 return BoxStep::Fail(StreamFault::InSegment, at);
             }
             if u128::from(at) + u128::from(len) > LONGEST_FRAGMENT {
@@ -231,7 +231,7 @@ fn slot_step(
         return place_step(input, from, true, place);
     };
     let there = (input.len() - from) as u64;
-    if lies_in(known, &slot) {
+    if is_in_ranges(known, &slot) {
         if there < slot.end {
             BoxStep::Wait(slot.end)
         } else {

@@ -1,6 +1,6 @@
 ghost use Rattle.std.specs.Prelude.{◌≡◌, is_some, IfSome};
 ghost use Rattle.std.specs.List.{prefix_len};
-ghost use Rattle.segment_walk.specs.Moves.{lies_in, is_ready};
+ghost use Rattle.segment_walk.specs.Moves.{is_in_ranges, is_ready};
 ghost use Rattle.segment_walk.specs.Ranges.{IsCoveredRange, AreRangesAscending};
 
 use crate::kinds::DataRange;
@@ -9,7 +9,7 @@ use bmff_fragment::Slot;
 /// The data range in which a slot lies, by binary search.
 fn range_of(known: &[DataRange], slot: &Slot) -> Option<DataRange>
     requires { AreRangesAscending known.now }
-    ensures found { is_some result ≡ lies_in known.now slot.now }
+    ensures found { is_some result ≡ is_in_ranges known.now slot.now }
     ensures among { IfSome result (IsCoveredRange known.now) }
 {
     let begun_count = known.partition_point(|range| range.start <= slot.start);
@@ -28,7 +28,7 @@ fn range_of(known: &[DataRange], slot: &Slot) -> Option<DataRange>
 fn range_near(near: DataRange, known: &[DataRange], slot: &Slot) -> Option<DataRange>
     requires ascending { AreRangesAscending known.now }
     requires among { IsCoveredRange known.now near }
-    ensures found { is_some result ≡ lies_in known.now slot.now }
+    ensures found { is_some result ≡ is_in_ranges known.now slot.now }
     ensures among { IfSome result (IsCoveredRange known.now) }
 {
     if near.start <= slot.start && slot.end <= near.end {
@@ -38,9 +38,9 @@ fn range_near(near: DataRange, known: &[DataRange], slot: &Slot) -> Option<DataR
 }
 
 /// Whether a slot lies inside one of the data ranges.
-pub(crate) fn lies_in(known: &[DataRange], slot: &Slot) -> bool
+pub(crate) fn is_in_ranges(known: &[DataRange], slot: &Slot) -> bool
     requires { AreRangesAscending known.now }
-    ensures { result ≡ lies_in known.now slot.now }
+    ensures { result ≡ is_in_ranges known.now slot.now }
 {
     range_of(known, slot).is_some()
 }

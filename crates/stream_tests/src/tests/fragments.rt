@@ -16,7 +16,7 @@ use std::test::*;
 type Wanted = (u32, i128, i128, i128, bool, u64, u64);
 
 /// A track of the scale 90000 whose presentation waits for an empty edit.
-fn waiting(wait: Ticks) -> TrackInfo
+fn waiting_track(wait: Ticks) -> TrackInfo
     requires { (pos 0 ≤ℤ wait) × (wait ≤ℤ pos (2 ^ 109)) }
     ensures { IsReadable result }
 {
@@ -160,7 +160,7 @@ fn frames_of_no_presentation(rt: HostRuntime) -> Result<(), Fail> {
 fn frames_behind_an_empty_edit(rt: HostRuntime) -> Result<(), Fail> {
     let alloc = rt.alloc();
     let wait = Ticks::new(70560000000).ok_or("a time")?;
-    let with = alone(alloc, waiting(wait))?;
+    let with = alone(alloc, waiting_track(wait))?;
     let wanted = [
         (1, 70560000000, 70560000000, 4704000000, true, 144, 148),
         (1, 75264000000, 75264000000, 4704000000, false, 148, 152),

@@ -4,9 +4,9 @@ use Rattle.adts_stream.proofs.laws.place_law.Goals as goal
 
 pub returns : goal.returns
 returns c = record {
-  init = λ last b n at p e. item-place last b n (InitItem p at) e;
-  frame = λ last b n at f e. item-place last b n (FrameItem f at) e;
-  payload = λ last b n at f e. payload-is b at f (item-place last b n (FrameItem f at) e);
-  there = λ last b n at f e. payload-there b at f (item-place last b n (FrameItem f at) e);
-  fault = λ last b n at f e. item-place last b n (FaultItem f at) e;
+  init = λ r p at e. item-place r.before r.whole r.taken (InitItem p at) e;
+  frame = λ r f at e. item-place r.before r.whole r.taken (FrameItem f at) e;
+  payload = λ r f at e. payload-is r.whole at f (item-place r.before r.whole r.taken (FrameItem f at) e);
+  there = λ r f at e. payload-there r.whole at f (item-place r.before r.whole r.taken (FrameItem f at) e);
+  fault = λ r f at e. item-place r.before r.whole r.taken (FaultItem f at) e;
 }

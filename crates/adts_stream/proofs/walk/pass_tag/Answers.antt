@@ -9,8 +9,8 @@ use Rattle.adts_stream.proofs.WalkLaws.{going}
 use Rattle.adts_stream.proofs.Moves.{all-passed, none-passed, part-passed, position-moved}
 use Rattle.adts_stream.proofs.walk.pass_tag.Goals as goal
 
-pub returns-then-len_left-there-clause-moved : goal.returns-then-len_left-there-clause-moved
-returns-then-len_left-there-clause-moved c = λ last.
+pub returns-then-len_left-there-clause-one_move : goal.returns-then-len_left-there-clause-one_move
+returns-then-len_left-there-clause-one_move c = λ last.
     let position : ParsePosition = c.args.position.now in
     let len_left = c.args.len_left in
     let bytes = concat c.args.input.now in
@@ -24,15 +24,15 @@ returns-then-len_left-there-clause-total c =
     let e = ap concat c.drop_front.ensures ∙ bytes-without c.args.len_left c.args.input.now in
     omega (arith, ap length e, length-drop c.args.len_left (concat c.args.input.now))
 
-pub returns-then-there-eq0-clause-moved : goal.returns-then-there-eq0-clause-moved
-returns-then-there-eq0-clause-moved c = λ last.
+pub returns-then-there-eq0-clause-one_move : goal.returns-then-there-eq0-clause-one_move
+returns-then-there-eq0-clause-one_move c = λ last.
     let position : ParsePosition = c.args.position.now in
     let len_left = c.args.len_left in
     let bytes = concat c.args.input.now in
     position-moved last position position bytes bytes (InTag len_left) (InTag len_left) false c.requires.in_tag c.requires.in_tag c.requires.unfailed c.requires.unfailed (none-passed last position.offset len_left bytes (omega arith) (omega arith))
 
-pub returns-clause-moved : goal.returns-clause-moved
-returns-clause-moved c = λ last.
+pub returns-clause-one_move : goal.returns-clause-one_move
+returns-clause-one_move c = λ last.
     let position : ParsePosition = c.args.position.now in
     let len_left = c.args.len_left in
     let there = c.len-there.result in

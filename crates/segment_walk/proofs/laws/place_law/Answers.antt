@@ -4,8 +4,8 @@ use Rattle.segment_walk.proofs.laws.place_law.Goals as goal
 
 pub returns : goal.returns
 returns c = record {
-  init = λ last b n p at e. item-place last b n (InitItem p at) e;
-  frame = λ last b n f at e. (item-place last b n (FrameItem f at) e).0;
-  there = λ last b n f at e. (item-place last b n (FrameItem f at) e).1;
-  fault = λ last b n f at e. fault-last last b n f at e;
+  init = λ r p at e. item-place r.before r.whole r.taken (InitItem p at) e;
+  frame = λ r f at e. (item-place r.before r.whole r.taken (FrameItem f at) e).0;
+  there = λ r f at e. (item-place r.before r.whole r.taken (FrameItem f at) e).1;
+  fault = λ r f at e. fault-last r.before r.whole r.taken f at e;
 }

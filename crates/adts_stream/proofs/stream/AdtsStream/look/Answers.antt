@@ -1,6 +1,6 @@
 use Rattle.std.proofs.Common.{◌≡◌, ◌+◌, IfOk, slice_get, ap, sym, subst, arith}
 use Rattle.std.specs.List.{concat}
-use Rattle.parser_loop.specs.Items.{seen}
+use Rattle.parser_loop.specs.Items.{answer_item}
 use Rattle.adts_stream.specs.Walk.{WalkState}
 use Rattle.adts_stream.specs.Frames.{items_of_string}
 use Rattle.adts_stream.specs.Values.{state_of}
@@ -16,4 +16,4 @@ returns c = λ r st.
     let q : Stands kept r = subst (λ (k : WalkState). Stands k r) (sym (ap (λ (v : AdtsView). v.state) h.0)) st in
     let z : c.args.i ≡ 0 = only-next c.args.self.now.state c.args.i c.requires.ready in
     let y : r.taken ≡ r.taken + c.args.i = omega arith in
-    subst (λ k. IfOk c.look_on.result (λ next. seen next ≡ slice_get (items_of_string r.before r.whole) k)) y (next-item c.look_on.result kept c.look_on.ensures r q)
+    subst (λ k. IfOk c.look_on.result (λ next. answer_item next ≡ slice_get (items_of_string r.before r.whole) k)) y (next-item c.look_on.result kept c.look_on.ensures r q)

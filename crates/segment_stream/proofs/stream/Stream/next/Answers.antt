@@ -1,5 +1,5 @@
 use Rattle.std.proofs.Common.{◌≡◌, Option, None, IfOk, sym, subst}
-use Rattle.parser_loop.specs.Items.{seen}
+use Rattle.parser_loop.specs.Items.{answer_item}
 use Rattle.parser_loop.specs.StringReadings.{after_answer}
 use Rattle.segment_stream.specs.declared.stream.Offered.{Offered}
 use Rattle.segment_stream.specs.Kept.{snapshot}
@@ -34,7 +34,7 @@ returns-clause-stands c =
     let new = c.next_on.new in
     let q = c.next_on.ensures in
     let p = next-stands c.next_on.result s.last new.last s.progress new.progress tables new.tables s.input new.input s.fed c.args.self.now h.1 q.item q.kept in
-    subst (λ (o : Option Offered). IfOk c.next_on.result (λ next. StandsAfter c.args.self.now.kept (after_answer (seen next)) (segment_view (snapshot new.last new.progress new.tables new.input) new.input s.fed o).kept)) (sym h.2) p
+    subst (λ (o : Option Offered). IfOk c.next_on.result (λ next. StandsAfter c.args.self.now.kept (after_answer (answer_item next)) (segment_view (snapshot new.last new.progress new.tables new.input) new.input s.fed o).kept)) (sym h.2) p
 
 pub returns-clause-dry : goal.returns-clause-dry
 returns-clause-dry c =
@@ -44,4 +44,4 @@ returns-clause-dry c =
     let new = c.next_on.new in
     let q = c.next_on.ensures in
     let p = next-dry c.next_on.result s.last new.last s.progress new.progress tables new.tables s.input new.input s.fed c.args.self.now h.0 h.1 q.item q.kept q.waits q.pieces in
-    subst (λ (o : Option Offered). IfOk c.next_on.result (λ next. seen next ≡ None → segment_view (snapshot new.last new.progress new.tables new.input) new.input s.fed o ≡ c.args.self.now)) (sym h.2) p
+    subst (λ (o : Option Offered). IfOk c.next_on.result (λ next. answer_item next ≡ None → segment_view (snapshot new.last new.progress new.tables new.input) new.input s.fed o ≡ c.args.self.now)) (sym h.2) p

@@ -1,7 +1,7 @@
 use Rattle.std.proofs.Common.{◌≢◌, ◌+◌, ◌≤◌, List, [], ◌∷◌, ◌++◌, length, ap, arith, length-append}
 use Rattle.std.specs.List.{AllByRecursion}
 use Rattle.bmff_write.specs.declared.track_out.TrackOut.{TrackOut}
-use Rattle.bmff_write.specs.Tracks.{IsTrackOut, HaveDistinctNumbers}
+use Rattle.bmff_write.specs.Tracks.{IsTrackOut, AreNumbersDistinct}
 use Rattle.bmff_write.proofs.MovieLaws.{all_push}
 use Rattle.stream_tests.proofs.tests.writers.given.tracks_of_64.Goals as goal
 
@@ -9,8 +9,8 @@ all_weaker : (P Q : TrackOut → Type 0) (ts : List TrackOut) → ((t : TrackOut
 all_weaker P Q [] so all = tt
 all_weaker P Q (t ∷ ts) so all = (so t all.0, all_weaker P Q ts so all.1)
 
-distinct_push : (ts : List TrackOut) (t : TrackOut) → HaveDistinctNumbers ts → AllByRecursion (λ (u : TrackOut). u.id ≢ t.id) ts
-    → HaveDistinctNumbers (ts ++ t ∷ [])
+distinct_push : (ts : List TrackOut) (t : TrackOut) → AreNumbersDistinct ts → AllByRecursion (λ (u : TrackOut). u.id ≢ t.id) ts
+    → AreNumbersDistinct (ts ++ t ∷ [])
 distinct_push [] t distinct others = (tt, tt)
 distinct_push (u ∷ us) t distinct others =
     (all_push (λ (v : TrackOut). u.id ≢ v.id) us t distinct.0 others.0, distinct_push us t distinct.1 others.1)

@@ -1,7 +1,7 @@
 use Rattle.std.proofs.Common.{◌≡◌, ◌≤◌, length}
 use Rattle.std.specs.List.{AllByRecursion}
 use Rattle.bmff_write.specs.declared.track_out.TrackOut.{TrackOut}
-use Rattle.bmff_write.specs.Tracks.{IsTrackOut, HaveDistinctNumbers}
+use Rattle.bmff_write.specs.Tracks.{IsTrackOut, AreNumbersDistinct}
 use Rattle.stream_tests.proofs.tests.writers.given.tracks_of_64.Given as goal
 
 -- the tracks so far, whose numbers are not above their count
@@ -10,5 +10,5 @@ invariant-loop-i l = record {
   count : length l.tracks.items ≡ l.i;
   each : AllByRecursion IsTrackOut l.tracks.items;
   below : AllByRecursion (λ (t : TrackOut). t.id ≤ l.i) l.tracks.items;
-  distinct : HaveDistinctNumbers l.tracks.items;
+  distinct : AreNumbersDistinct l.tracks.items;
 }
