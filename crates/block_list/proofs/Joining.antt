@@ -3,7 +3,7 @@ use Rattle.std.proofs.Common.{◌≡◌, ◌∙◌, ℕ, zero, suc, ◌+◌, ◌
 use Rattle.std.proofs.lemmas.List.{get_or_append_left, get_or-append-add, set-append_left, set-append_right, length-set, take-set-le, drop-set-lt, drop_all, length-take-le, take-append-drop}
 use Rattle.std.proofs.lemmas.List.Edits.{insert-append_left, insert-append_right, remove-append_left, remove-append_right, length-insert, length-remove, insert_end}
 use Rattle.std.proofs.lemmas.Bool.Decides.{nat_tests}
-use Rattle.mse_base.specs.Rows.{joined, start, row, split_row, AreEmpty}
+use Rattle.mse_base.specs.Rows.{row_items, start, row, split_row, AreEmpty}
 use Rattle.block_list.specs.Rows.{used_room, AreShort}
 
 pub row_is : {T : Type 0} (rows : List (List T)) (b : ℕ) (r : List T) → b < length rows → r ≡ get_or rows b r → r ≡ row rows b
@@ -11,23 +11,23 @@ row_is [] b r l e = absurd (omega arith)
 row_is (q ∷ rows) zero r l e = e
 row_is (q ∷ rows) (suc b) r l e = row_is rows b r (omega arith) e
 
-pub joined_set_insert : {T : Type 0} (rows : List (List T)) (b i : ℕ) (x : T) → b < length rows → i ≤ length (row rows b) → joined (set rows b (insert (row rows b) i x)) ≡ insert (joined rows) (start rows b + i) x
+pub joined_set_insert : {T : Type 0} (rows : List (List T)) (b i : ℕ) (x : T) → b < length rows → i ≤ length (row rows b) → row_items (set rows b (insert (row rows b) i x)) ≡ insert (row_items rows) (start rows b + i) x
 joined_set_insert [] b i x l k = absurd (omega arith)
-joined_set_insert (r ∷ rows) zero i x l k = let z : 0 + i ≡ i = omega arith in rw z (sym (insert-append_left r (joined rows) i x k))
+joined_set_insert (r ∷ rows) zero i x l k = let z : 0 + i ≡ i = omega arith in rw z (sym (insert-append_left r (row_items rows) i x k))
 joined_set_insert (r ∷ rows) (suc b) i x l k =
     let n : (length r + start rows b + i) - length r ≡ start rows b + i = omega arith in
-    ap (λ xs. r ++ xs) (joined_set_insert rows b i x (omega arith) k ∙ ap (λ n. insert (joined rows) n x) (sym n)) ∙ sym (insert-append_right r (joined rows) (length r) (length r + start rows b + i) x refl (omega arith))
+    ap (λ xs. r ++ xs) (joined_set_insert rows b i x (omega arith) k ∙ ap (λ n. insert (row_items rows) n x) (sym n)) ∙ sym (insert-append_right r (row_items rows) (length r) (length r + start rows b + i) x refl (omega arith))
 
-pub joined_set_remove : {T : Type 0} (rows : List (List T)) (b i : ℕ) → b < length rows → i < length (row rows b) → joined (set rows b (remove (row rows b) i)) ≡ remove (joined rows) (start rows b + i)
+pub joined_set_remove : {T : Type 0} (rows : List (List T)) (b i : ℕ) → b < length rows → i < length (row rows b) → row_items (set rows b (remove (row rows b) i)) ≡ remove (row_items rows) (start rows b + i)
 joined_set_remove [] b i l k = absurd (omega arith)
-joined_set_remove (r ∷ rows) zero i l k = let z : 0 + i ≡ i = omega arith in rw z (sym (remove-append_left r (joined rows) i k))
+joined_set_remove (r ∷ rows) zero i l k = let z : 0 + i ≡ i = omega arith in rw z (sym (remove-append_left r (row_items rows) i k))
 joined_set_remove (r ∷ rows) (suc b) i l k =
     let n : (length r + start rows b + i) - length r ≡ start rows b + i = omega arith in
-    ap (λ xs. r ++ xs) (joined_set_remove rows b i (omega arith) k ∙ ap (λ n. remove (joined rows) n) (sym n)) ∙ sym (remove-append_right r (joined rows) (length r) (length r + start rows b + i) refl (omega arith))
+    ap (λ xs. r ++ xs) (joined_set_remove rows b i (omega arith) k ∙ ap (λ n. remove (row_items rows) n) (sym n)) ∙ sym (remove-append_right r (row_items rows) (length r) (length r + start rows b + i) refl (omega arith))
 
-pub joined_split : {T : Type 0} (rows : List (List T)) (b s : ℕ) → joined (split_row rows b s) ≡ joined rows
+pub joined_split : {T : Type 0} (rows : List (List T)) (b s : ℕ) → row_items (split_row rows b s) ≡ row_items rows
 joined_split [] b s = refl
-joined_split (r ∷ rows) zero s = sym (append_assoc (take s r) (drop s r) (joined rows)) ∙ ap (λ xs. xs ++ joined rows) (take-append-drop s r)
+joined_split (r ∷ rows) zero s = sym (append_assoc (take s r) (drop s r) (row_items rows)) ∙ ap (λ xs. xs ++ row_items rows) (take-append-drop s r)
 joined_split (r ∷ rows) (suc b) s = ap (λ xs. r ++ xs) (joined_split rows b s)
 
 pub split_is : {T : Type 0} (rows : List (List T)) (b s : ℕ) → b < length rows → insert (set rows b (take s (row rows b))) (suc b) (drop s (row rows b)) ≡ split_row rows b s
@@ -117,29 +117,29 @@ used_right half (r ∷ q ∷ rows) (suc b) s y l f m n e h =
 
 -- ---- the rest
 
-pub joined_append : {T : Type 0} (xs ys : List (List T)) → joined (xs ++ ys) ≡ joined xs ++ joined ys
+pub joined_append : {T : Type 0} (xs ys : List (List T)) → row_items (xs ++ ys) ≡ row_items xs ++ row_items ys
 joined_append [] ys = refl
-joined_append (x ∷ xs) ys = ap (λ zs. x ++ zs) (joined_append xs ys) ∙ sym (append_assoc x (joined xs) (joined ys))
+joined_append (x ∷ xs) ys = ap (λ zs. x ++ zs) (joined_append xs ys) ∙ sym (append_assoc x (row_items xs) (row_items ys))
 
 pub start_more : {T : Type 0} (rows : List (List T)) (b : ℕ) → b < length rows → start rows (b + 1) ≡ start rows b + length (row rows b)
 start_more [] b l = absurd (omega arith)
 start_more (r ∷ rows) zero l = omega arith
 start_more (r ∷ rows) (suc b) l = let z : suc b + 1 ≡ suc (b + 1) = omega arith in rw z (omega (arith, start_more rows b (omega arith)))
 
-pub start_all : {T : Type 0} (rows : List (List T)) (b : ℕ) → b ≡ length rows → start rows b ≡ length (joined rows)
+pub start_all : {T : Type 0} (rows : List (List T)) (b : ℕ) → b ≡ length rows → start rows b ≡ length (row_items rows)
 start_all [] zero e = refl
 start_all [] (suc b) e = refl
 start_all (r ∷ rows) zero e = absurd (omega arith)
-start_all (r ∷ rows) (suc b) e = omega (arith, start_all rows b (omega arith), length-append r (joined rows))
+start_all (r ∷ rows) (suc b) e = omega (arith, start_all rows b (omega arith), length-append r (row_items rows))
 
-pub joined_one : {T : Type 0} (rows : List (List T)) (b i : ℕ) → b < length rows → length (row rows b) ≡ 1 → i ≡ 0 → joined (remove rows b) ≡ remove (joined rows) (start rows b + i)
+pub joined_one : {T : Type 0} (rows : List (List T)) (b i : ℕ) → b < length rows → length (row rows b) ≡ 1 → i ≡ 0 → row_items (remove rows b) ≡ remove (row_items rows) (start rows b + i)
 joined_one [] b i l h e = absurd (omega arith)
 joined_one ([] ∷ rows) zero i l h e = absurd (omega arith)
 joined_one ((x ∷ []) ∷ rows) zero i l h e = let z : 0 + i ≡ 0 = omega arith in rw z refl
 joined_one ((x ∷ y ∷ r) ∷ rows) zero i l h e = absurd (omega arith)
 joined_one (r ∷ rows) (suc b) i l h e =
     let n : (length r + start rows b + i) - length r ≡ start rows b + i = omega arith in
-    ap (λ xs. r ++ xs) (joined_one rows b i (omega arith) h e ∙ ap (λ n. remove (joined rows) n) (sym n)) ∙ sym (remove-append_right r (joined rows) (length r) (length r + start rows b + i) refl (omega arith))
+    ap (λ xs. r ++ xs) (joined_one rows b i (omega arith) h e ∙ ap (λ n. remove (row_items rows) n) (sym n)) ∙ sym (remove-append_right r (row_items rows) (length r) (length r + start rows b + i) refl (omega arith))
 
 pub short_less : {T : Type 0} (half : ℕ) (rows : List (List T)) (b : ℕ) → AreShort half rows → AreShort half (remove rows b)
 short_less half [] zero a = a
@@ -183,10 +183,10 @@ pub empty_last : {T : Type 0} (pool : List (List T)) (y : List T) → AreEmpty (
 empty_last [] y a = (tt, a.0)
 empty_last (p ∷ pool) y a = let k = empty_last pool y a.1 in ((a.0, k.0), k.1)
 
-pub insert_last : {T : Type 0} (rows : List (List T)) (n : ℕ) (x : T) → n + 1 ≡ length rows → insert (joined rows) (start rows n + length (row rows n)) x ≡ joined rows ++ x ∷ []
+pub insert_last : {T : Type 0} (rows : List (List T)) (n : ℕ) (x : T) → n + 1 ≡ length rows → insert (row_items rows) (start rows n + length (row rows n)) x ≡ row_items rows ++ x ∷ []
 insert_last rows n x e =
-    let z : start rows n + length (row rows n) ≡ length (joined rows) = omega (arith, start_more rows n (omega arith), start_all rows (n + 1) e) in
-    ap (λ k. insert (joined rows) k x) z ∙ insert_end (joined rows) x
+    let z : start rows n + length (row rows n) ≡ length (row_items rows) = omega (arith, start_more rows n (omega arith), start_all rows (n + 1) e) in
+    ap (λ k. insert (row_items rows) k x) z ∙ insert_end (row_items rows) x
 
 take_split : {T : Type 0} (rows : List (List T)) (b s : ℕ) → take b (split_row rows b s) ≡ take b rows
 take_split [] b s = refl
@@ -208,15 +208,15 @@ pub record Addition (T : Type 0) : Type 0 where
   pub item : T
 
 -- what the rows are after an item is put into a full one that is cut
-pub record Apart {T : Type 0} (half : ℕ) (rows new : List (List T)) (added : Addition T) : Type 0 where
+pub record IsAddedByCut {T : Type 0} (half : ℕ) (rows new : List (List T)) (added : Addition T) : Type 0 where
   pub front : take added.row new ≡ take added.row rows
   pub rest : drop (added.row + 2) new ≡ drop (added.row + 1) rows
-  pub items : joined new ≡ insert (joined rows) added.place added.item
+  pub items : row_items new ≡ insert (row_items rows) added.place added.item
   pub short : AreShort half new
   pub used_room : used_room half new + half ≤ used_room half rows + 1
   pub len : length new ≡ length rows + 1
 
-pub apart_left : {T : Type 0} (half : ℕ) (rows : List (List T)) (b i s : ℕ) (x : T) → b < length rows → length (row rows b) ≡ 2 * half → AreShort half rows → i < s → s ≡ half → Apart half rows (set (split_row rows b s) b (insert (row (split_row rows b s) b) i x)) (record { row = b; place = start rows b + i; item = x })
+pub apart_left : {T : Type 0} (half : ℕ) (rows : List (List T)) (b i s : ℕ) (x : T) → b < length rows → length (row rows b) ≡ 2 * half → AreShort half rows → i < s → s ≡ half → IsAddedByCut half rows (set (split_row rows b s) b (insert (row (split_row rows b s) b) i x)) (record { row = b; place = start rows b + i; item = x })
 apart_left half rows b i s x l h a k m =
     let mid = split_row rows b s in
     let e = left_row rows b s l in
@@ -224,7 +224,7 @@ apart_left half rows b i s x l h a k m =
     let long = length_split rows b s l in
     let y : length (insert (row mid b) i x) ≡ s + 1 = rw e (omega (arith, length-insert (take s (row rows b)) i x (omega arith))) in
     record {
-      items = joined_set_insert mid b i x (omega arith) (rw e (omega arith)) ∙ ap (λ xs. insert xs (start mid b + i) x) (joined_split rows b s) ∙ ap (λ n. insert (joined rows) (n + i) x) (left_start rows b s);
+      items = joined_set_insert mid b i x (omega arith) (rw e (omega arith)) ∙ ap (λ xs. insert xs (start mid b + i) x) (joined_split rows b s) ∙ ap (λ n. insert (row_items rows) (n + i) x) (left_start rows b s);
       short = short_left half rows b s (insert (row mid b) i x) a l (omega arith) (omega arith) (omega arith);
       used_room = used_left half rows b s (insert (row mid b) i x) l h (omega arith) (omega arith) (λ _. m) y;
       len = length-set mid b (insert (row mid b) i x) ∙ long;
@@ -232,7 +232,7 @@ apart_left half rows b i s x l h a k m =
       rest = drop-set-lt (b + 2) mid b (insert (row mid b) i x) (omega arith) ∙ drop_split rows b s;
     }
 
-pub apart_right : {T : Type 0} (half : ℕ) (rows : List (List T)) (b i s : ℕ) (x : T) → b < length rows → length (row rows b) ≡ 2 * half → AreShort half rows → s ≤ i → i ≤ length (row rows b) → 0 < half → half ≤ s → s ≤ 2 * half → (suc b < length rows → s ≡ half) → Apart half rows (set (split_row rows b s) (b + 1) (insert (row (split_row rows b s) (b + 1)) (i - s) x)) (record { row = b; place = start rows b + i; item = x })
+pub apart_right : {T : Type 0} (half : ℕ) (rows : List (List T)) (b i s : ℕ) (x : T) → b < length rows → length (row rows b) ≡ 2 * half → AreShort half rows → s ≤ i → i ≤ length (row rows b) → 0 < half → half ≤ s → s ≤ 2 * half → (suc b < length rows → s ≡ half) → IsAddedByCut half rows (set (split_row rows b s) (b + 1) (insert (row (split_row rows b s) (b + 1)) (i - s) x)) (record { row = b; place = start rows b + i; item = x })
 apart_right half rows b i s x l h a k w o m n u =
     let mid = split_row rows b s in
     let z : b + 1 ≡ suc b = omega arith in
@@ -242,7 +242,7 @@ apart_right half rows b i s x l h a k w o m n u =
     let v : start mid (suc b) + (i - s) ≡ start rows b + i = omega (arith, right_start rows b s l (omega arith)) in
     let y : length (insert (row mid (suc b)) (i - s) x) + s ≡ 2 * half + 1 = rw e (omega (arith, length-insert (drop s (row rows b)) (i - s) x (omega arith))) in
     rw z (record {
-      items = joined_set_insert mid (suc b) (i - s) x (omega arith) (rw e (omega arith)) ∙ ap (λ xs. insert xs (start mid (suc b) + (i - s)) x) (joined_split rows b s) ∙ ap (λ n. insert (joined rows) n x) v;
+      items = joined_set_insert mid (suc b) (i - s) x (omega arith) (rw e (omega arith)) ∙ ap (λ xs. insert xs (start mid (suc b) + (i - s)) x) (joined_split rows b s) ∙ ap (λ n. insert (row_items rows) n x) v;
       short = short_right half rows b s (insert (row mid (suc b)) (i - s) x) a l (omega arith) (omega arith) (omega arith) (omega arith);
       used_room = used_right half rows b s (insert (row mid (suc b)) (i - s) x) l h m n u y;
       len = length-set mid (suc b) (insert (row mid (suc b)) (i - s) x) ∙ long;
@@ -267,34 +267,34 @@ less_rows (r ∷ rows) zero (suc to) l h = refl
 less_rows (r ∷ rows) (suc k) zero l h = absurd (omega arith)
 less_rows (r ∷ rows) (suc k) (suc to) l h = ap (λ qs. r ∷ qs) (less_rows rows k to (omega arith) (omega arith))
 
-pub less_items : {T : Type 0} (rows : List (List T)) (k : ℕ) (r : List T) → k < length rows → r ≡ get_or rows k r → length (joined (remove rows k)) + length r ≡ length (joined rows)
+pub less_items : {T : Type 0} (rows : List (List T)) (k : ℕ) (r : List T) → k < length rows → r ≡ get_or rows k r → length (row_items (remove rows k)) + length r ≡ length (row_items rows)
 less_items [] k r l e = absurd (omega arith)
-less_items (q ∷ rows) zero r l e = omega (arith, ap length e, length-append q (joined rows))
-less_items (q ∷ rows) (suc k) r l e = omega (arith, less_items rows k r (omega arith) e, length-append q (joined (remove rows k)), length-append q (joined rows))
+less_items (q ∷ rows) zero r l e = omega (arith, ap length e, length-append q (row_items rows))
+less_items (q ∷ rows) (suc k) r l e = omega (arith, less_items rows k r (omega arith) e, length-append q (row_items (remove rows k)), length-append q (row_items rows))
 
-row_within : {T : Type 0} (rows : List (List T)) (b : ℕ) → b < length rows → start rows b + length (row rows b) ≤ length (joined rows)
+row_within : {T : Type 0} (rows : List (List T)) (b : ℕ) → b < length rows → start rows b + length (row rows b) ≤ length (row_items rows)
 row_within [] b l = absurd (omega arith)
-row_within (r ∷ rows) zero l = omega (arith, length-append r (joined rows))
-row_within (r ∷ rows) (suc b) l = omega (arith, length-append r (joined rows), row_within rows b (omega arith))
+row_within (r ∷ rows) zero l = omega (arith, length-append r (row_items rows))
+row_within (r ∷ rows) (suc b) l = omega (arith, length-append r (row_items rows), row_within rows b (omega arith))
 
-pub inserted : {T : Type 0} (rows : List (List T)) (b i : ℕ) (x : T) → b < length rows → i ≤ length (row rows b) → length (insert (joined rows) (start rows b + i) x) ≡ length (joined rows) + 1
-inserted rows b i x l k = length-insert (joined rows) (start rows b + i) x (omega (arith, row_within rows b l))
+pub inserted : {T : Type 0} (rows : List (List T)) (b i : ℕ) (x : T) → b < length rows → i ≤ length (row rows b) → length (insert (row_items rows) (start rows b + i) x) ≡ length (row_items rows) + 1
+inserted rows b i x l k = length-insert (row_items rows) (start rows b + i) x (omega (arith, row_within rows b l))
 
-pub removed : {T : Type 0} (rows : List (List T)) (b i : ℕ) → b < length rows → i < length (row rows b) → length (remove (joined rows) (start rows b + i)) + 1 ≡ length (joined rows)
-removed rows b i l k = length-remove (joined rows) (start rows b + i) (omega (arith, row_within rows b l))
+pub removed : {T : Type 0} (rows : List (List T)) (b i : ℕ) → b < length rows → i < length (row rows b) → length (remove (row_items rows) (start rows b + i)) + 1 ≡ length (row_items rows)
+removed rows b i l k = length-remove (row_items rows) (start rows b + i) (omega (arith, row_within rows b l))
 
 -- ---- one item
 
-pub get_at : {T : Type 0} (rows : List (List T)) (b i : ℕ) (d : T) → b < length rows → i < length (row rows b) → get_or (joined rows) (start rows b + i) d ≡ get_or (row rows b) i d
+pub get_at : {T : Type 0} (rows : List (List T)) (b i : ℕ) (d : T) → b < length rows → i < length (row rows b) → get_or (row_items rows) (start rows b + i) d ≡ get_or (row rows b) i d
 get_at [] b i d l k = absurd (omega arith)
-get_at (r ∷ rows) zero i d l k = let z : 0 + i ≡ i = omega arith in ap (λ n. get_or (r ++ joined rows) n d) z ∙ get_or_append_left r (joined rows) d i k
+get_at (r ∷ rows) zero i d l k = let z : 0 + i ≡ i = omega arith in ap (λ n. get_or (r ++ row_items rows) n d) z ∙ get_or_append_left r (row_items rows) d i k
 get_at (r ∷ rows) (suc b) i d l k =
     let z : length r + start rows b + i ≡ length r + (start rows b + i) = omega arith in
-    ap (λ n. get_or (r ++ joined rows) n d) z ∙ get_or-append-add r (joined rows) (start rows b + i) d ∙ get_at rows b i d (omega arith) k
+    ap (λ n. get_or (r ++ row_items rows) n d) z ∙ get_or-append-add r (row_items rows) (start rows b + i) d ∙ get_at rows b i d (omega arith) k
 
-pub joined_set_set : {T : Type 0} (rows : List (List T)) (b i : ℕ) (x : T) → b < length rows → i < length (row rows b) → joined (set rows b (set (row rows b) i x)) ≡ set (joined rows) (start rows b + i) x
+pub joined_set_set : {T : Type 0} (rows : List (List T)) (b i : ℕ) (x : T) → b < length rows → i < length (row rows b) → row_items (set rows b (set (row rows b) i x)) ≡ set (row_items rows) (start rows b + i) x
 joined_set_set [] b i x l k = absurd (omega arith)
-joined_set_set (r ∷ rows) zero i x l k = let z : 0 + i ≡ i = omega arith in rw z (sym (set-append_left r (joined rows) i x k))
+joined_set_set (r ∷ rows) zero i x l k = let z : 0 + i ≡ i = omega arith in rw z (sym (set-append_left r (row_items rows) i x k))
 joined_set_set (r ∷ rows) (suc b) i x l k =
     let n : (length r + start rows b + i) - length r ≡ start rows b + i = omega arith in
-    ap (λ xs. r ++ xs) (joined_set_set rows b i x (omega arith) k ∙ ap (λ n. set (joined rows) n x) (sym n)) ∙ sym (set-append_right r (joined rows) (length r) (length r + start rows b + i) x refl (omega arith))
+    ap (λ xs. r ++ xs) (joined_set_set rows b i x (omega arith) k ∙ ap (λ n. set (row_items rows) n x) (sym n)) ∙ sym (set-append_right r (row_items rows) (length r) (length r + start rows b + i) x refl (omega arith))

@@ -5,7 +5,7 @@ use Rattle.std.proofs.lemmas.List.Edits.{length-insert, length-remove}
 use Rattle.std.proofs.Math.Nat.{mul-le-mul_left}
 use Rattle.mse_base.specs.Rows.{row, AreEmpty, Blocks}
 use Rattle.block_list.specs.Rows.{AreShort, AreNonEmpty, IsListed}
-use Rattle.block_list.proofs.Joining.{Addition, Apart, short_set, short_row, short_less, short_push, used_set, used_less, used_push, used_bound, empty_push, empty_last}
+use Rattle.block_list.proofs.Joining.{Addition, IsAddedByCut, short_set, short_row, short_less, short_push, used_set, used_less, used_push, used_bound, empty_push, empty_last}
 
 pub one_more : {T : Type 0} (xs : List T) (x : T) → length (xs ++ x ∷ []) ≡ length xs + 1
 one_more xs x = omega (arith, length-append xs (x ∷ []))
@@ -27,7 +27,7 @@ listed_put half old new e b i capacity x k p l w h f u =
       spared = omega (arith, k.spared);
     })
 
-pub listed_apart : {T : Type 0} (half : ℕ) (old new : Blocks T) (right : List T) (e : ℕ) (added : Addition T) → IsListed old half e → 1 ≤ e → old.pool ≡ new.pool ++ right ∷ [] → Apart half old.rows new.rows added → new.block_capacity ≡ old.block_capacity → new.pool_capacity ≡ old.pool_capacity → IsListed new half (e - 1)
+pub listed_apart : {T : Type 0} (half : ℕ) (old new : Blocks T) (right : List T) (e : ℕ) (added : Addition T) → IsListed old half e → 1 ≤ e → old.pool ≡ new.pool ++ right ∷ [] → IsAddedByCut half old.rows new.rows added → new.block_capacity ≡ old.block_capacity → new.pool_capacity ≡ old.pool_capacity → IsListed new half (e - 1)
 listed_apart half old new right e added k p f a u v =
     let n = ap length f ∙ one_more new.pool right in
     let w : half * length old.pool ≡ half * (length new.pool + 1) = ap (λ z. half * z) n in

@@ -1,7 +1,7 @@
 -- Where rows start, after items came or went.
 use Rattle.std.proofs.Common.{◌≡◌, ◌∙◌, ◌⊎◌, inl, inr, ℕ, zero, suc, ◌+◌, ◌-◌, ◌<◌, ◌≤◌, List, [], ◌∷◌, ◌++◌, length, get_or, set, take, drop, refl, sym, ap, arith, length-append}
 use Rattle.std.proofs.lemmas.List.{take-append-le, drop-append-le, take-take, drop_more, take_more, take_more_set, drop-set-lt, drop_all}
-use Rattle.mse_base.specs.Rows.{joined, start, row}
+use Rattle.mse_base.specs.Rows.{row_items, start, row}
 use Rattle.block_list.specs.Starts.{starts_from, starts_of, plus_each, AreStartsUpTo}
 use Rattle.block_list.proofs.Joining.{start_more, start_all}
 use Rattle.block_list.proofs.Ranging.{gone_front, gone_back, gone_count, row_count}
@@ -49,18 +49,18 @@ same_starts n (x ∷ w ∷ xs) (y ∷ z ∷ ys) l e =
     ap (λ r. n ∷ starts_from (n + length r) (w ∷ xs)) (head_of _ _ _ _ f) ∙ ap (λ ns. n ∷ ns) (same_starts (n + length y) (w ∷ xs) (z ∷ ys) (omega arith) rest)
 
 -- a row more
-pub more_starts : {T : Type 0} (n : ℕ) (xs ys : List (List T)) → length ys ≡ length xs + 1 → take (length xs) ys ≡ take (length xs) xs → starts_from n ys ≡ starts_from n xs ++ (n + length (joined xs)) ∷ []
+pub more_starts : {T : Type 0} (n : ℕ) (xs ys : List (List T)) → length ys ≡ length xs + 1 → take (length xs) ys ≡ take (length xs) xs → starts_from n ys ≡ starts_from n xs ++ (n + length (row_items xs)) ∷ []
 more_starts n xs [] l e = absurd (omega arith)
 more_starts n [] (y ∷ []) l e = let z : n ≡ n + 0 = omega arith in ap (λ k. k ∷ []) z
 more_starts n [] (y ∷ z ∷ ys) l e = absurd (omega arith)
 more_starts n (x ∷ xs) (y ∷ ys) l e =
-    let z : (n + length x) + length (joined xs) ≡ n + length (x ++ joined xs) = omega (arith, length-append x (joined xs)) in
+    let z : (n + length x) + length (row_items xs) ≡ n + length (x ++ row_items xs) = omega (arith, length-append x (row_items xs)) in
     ap (λ r. n ∷ starts_from (n + length r) ys) (head_of _ _ _ _ e) ∙ ap (λ ns. n ∷ ns) (more_starts (n + length x) xs ys (omega arith) (tail_of _ _ _ _ e)) ∙ ap (λ k. (n ∷ starts_from (n + length x) xs) ++ k ∷ []) z
 
-pub start_rest : {T : Type 0} (rows : List (List T)) (b : ℕ) → b ≤ length rows → start rows b + length (joined (drop b rows)) ≡ length (joined rows)
+pub start_rest : {T : Type 0} (rows : List (List T)) (b : ℕ) → b ≤ length rows → start rows b + length (row_items (drop b rows)) ≡ length (row_items rows)
 start_rest rows zero l = omega arith
 start_rest [] (suc b) l = absurd (omega arith)
-start_rest (r ∷ rows) (suc b) l = omega (arith, start_rest rows b (omega arith), length-append r (joined rows))
+start_rest (r ∷ rows) (suc b) l = omega (arith, start_rest rows b (omega arith), length-append r (row_items rows))
 
 pub start_front : {T : Type 0} (xs ys : List (List T)) (b : ℕ) → b ≤ length xs → b ≤ length ys → take b xs ≡ take b ys → start xs b ≡ start ys b
 start_front xs ys zero k l e = refl
@@ -79,7 +79,7 @@ starts_set n [] b y l = refl
 starts_set n (r ∷ rows) zero y l = ap (λ k. n ∷ starts_from (n + k) rows) l
 starts_set n (r ∷ rows) (suc b) y l = ap (λ ns. n ∷ ns) (starts_set (n + length r) rows b y l)
 
-pub some_rows : {T : Type 0} (rows : List (List T)) (k : ℕ) → k < length (joined rows) → 0 < length rows
+pub some_rows : {T : Type 0} (rows : List (List T)) (k : ℕ) → k < length (row_items rows) → 0 < length rows
 some_rows [] k l = absurd (omega arith)
 some_rows (r ∷ rows) k l = omega arith
 
@@ -91,7 +91,7 @@ one_more : (b n : ℕ) → (b + 1 < n) ⊎ (n ≤ b + 1)
 one_more b n = grind arith
 
 -- the block of an item is the last that starts with no item behind it
-pub item_in : {T : Type 0} (rows : List (List T)) (b k : ℕ) → b < length rows → k < length (joined rows) → (b + 1 < length rows → k < start rows (b + 1)) → k < start rows b + length (row rows b)
+pub item_in : {T : Type 0} (rows : List (List T)) (b k : ℕ) → b < length rows → k < length (row_items rows) → (b + 1 < length rows → k < start rows (b + 1)) → k < start rows b + length (row rows b)
 item_in rows b k l all h = elim (one_more b (length rows)) as (λ _. k < start rows b + length (row rows b)) [
   | inl more ↦ omega (arith, h more, start_more rows b l)
   | inr less ↦ let e : b + 1 ≡ length rows = omega arith in omega (arith, start_all rows (b + 1) e, start_more rows b l, all)
@@ -184,18 +184,18 @@ ranks_in_order (r ∷ rows) zero fi (suc tb) ti o l k h = omega arith
 ranks_in_order (r ∷ rows) (suc fb) fi zero ti o l k h = absurd (omega arith)
 ranks_in_order (r ∷ rows) (suc fb) fi (suc tb) ti o l k h = omega (arith, ranks_in_order rows fb fi tb ti (omega arith) (omega arith) k (λ e. h (ap suc e)))
 
-pub few_left : {T : Type 0} (old : List (List T)) (new : List T) (fb fi tb ti : ℕ) → fb ≤ tb → tb < length old → fi < length (row old fb) → ti ≤ length (row old tb) → (fb ≡ tb → fi ≤ ti) → new ≡ take (start old fb + fi) (joined old) ++ drop (start old tb + ti) (joined old) → length new ≤ length (joined old)
+pub few_left : {T : Type 0} (old : List (List T)) (new : List T) (fb fi tb ti : ℕ) → fb ≤ tb → tb < length old → fi < length (row old fb) → ti ≤ length (row old tb) → (fb ≡ tb → fi ≤ ti) → new ≡ take (start old fb + fi) (row_items old) ++ drop (start old tb + ti) (row_items old) → length new ≤ length (row_items old)
 few_left old new fb fi tb ti o l i j h e =
-    omega (arith, gone_count (joined old) new (start old fb + fi) (start old tb + ti) (ranks_in_order old fb fi tb ti o l i h) (omega (arith, row_count old tb l)) e)
+    omega (arith, gone_count (row_items old) new (start old fb + fi) (start old tb + ti) (ranks_in_order old fb fi tb ti o l i h) (omega (arith, row_count old tb l)) e)
 
 pub front_left : {T : Type 0} (ks one : List ℕ) (old new : List (List T)) (b rest behind : ℕ) → length ks ≡ length old → take behind ks ≡ take behind (starts_of old) → one ≡ take rest ks ++ drop behind ks → b ≤ rest → rest ≤ behind → rest ≤ length old → take b new ≡ take b old → take b one ≡ take b (starts_of new)
 front_left ks one old new b rest behind n e f o p l h =
     gone_front ks one b rest behind o (omega arith) f ∙ sym (take-take b behind ks (omega arith)) ∙ ap (take b) e ∙ take-take b behind (starts_of old) (omega arith) ∙ take_starts 0 old b ∙ ap (starts_from 0) (sym h) ∙ sym (take_starts 0 new b)
 
 -- what is kept behind a removal is too great by what went, and by what it was
-pub rest_left : {T : Type 0} (ks one two : List ℕ) (old new : List (List T)) (rest behind x gone : ℕ) → length ks ≡ length old → drop behind ks ≡ plus_each x (drop behind (starts_of old)) → one ≡ take rest ks ++ drop behind ks → drop rest two ≡ drop rest one → rest ≤ length new → rest ≤ length old → behind ≤ length old → drop rest new ≡ drop behind old → length (joined old) ≡ length (joined new) + gone → drop rest two ≡ plus_each (gone + x) (drop rest (starts_of new))
+pub rest_left : {T : Type 0} (ks one two : List ℕ) (old new : List (List T)) (rest behind x gone : ℕ) → length ks ≡ length old → drop behind ks ≡ plus_each x (drop behind (starts_of old)) → one ≡ take rest ks ++ drop behind ks → drop rest two ≡ drop rest one → rest ≤ length new → rest ≤ length old → behind ≤ length old → drop rest new ≡ drop behind old → length (row_items old) ≡ length (row_items new) + gone → drop rest two ≡ plus_each (gone + x) (drop rest (starts_of new))
 rest_left ks one two old new rest behind x gone n e f h l m k r t =
-    let same = ap (λ rows. length (joined rows)) r in
+    let same = ap (λ rows. length (row_items rows)) r in
     let z : 0 + start old behind ≡ (0 + start new rest) + gone = omega (arith, start_rest old behind k, start_rest new rest l) in
     let there = drop_starts 0 old behind k ∙ ap (λ j. starts_from j (drop behind old)) z ∙ ap (starts_from ((0 + start new rest) + gone)) (sym r) ∙ shifted (0 + start new rest) gone (drop rest new) ∙ ap (plus_each gone) (sym (drop_starts 0 new rest l)) in
     h ∙ gone_back ks one rest behind rest behind (omega arith) (omega arith) (omega arith) f ∙ e ∙ ap (plus_each x) there ∙ plus_twice x gone (drop rest (starts_of new))

@@ -1,7 +1,7 @@
 -- Lists in rows.
 use Rattle.std.specs.Prelude.{◌≡◌, ℕ, ◌+◌, ◌-◌, ◌*◌, ◌^◌, ◌<◌, ◌≤◌, List, [], ◌∷◌, length, max, Bool, false}
 use Rattle.std.specs.List.{AllByRecursion}
-use Rattle.mse_base.specs.Rows.{joined, AreEmpty, Blocks}
+use Rattle.mse_base.specs.Rows.{row_items, AreEmpty, Blocks}
 
 -- a list in rows, and how many additions take no memory
 pub record ListView (T : Type 0) : Type 0 where
@@ -41,5 +41,5 @@ AreNonEmpty (r ∷ rows) = (0 < length r) × AreNonEmpty rows
 
 -- the number of items, and that it fits after the additions that take no memory
 pub record IsCounted {T : Type 0} (len extra : ℕ) (rows : List (List T)) : Type 0 where
-  pub count : len ≡ length (joined rows)
+  pub count : len ≡ length (row_items rows)
   pub fits : len + extra < 2 ^ 64

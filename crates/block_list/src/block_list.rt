@@ -2,7 +2,7 @@
 
 ghost use Rattle.std.specs.Prelude.{◌≡◌, ℕ, ◌+◌, ◌-◌, ◌*◌, ◌^◌, ◌<◌, ◌≤◌, [], ◌∷◌, ◌++◌, length, take, drop, OnOk, IfSome, IfNone, suc, slice_index_or, slice_set, vec_capacity, max, false};
 ghost use Rattle.std.specs.List.{insert, remove};
-ghost use Rattle.mse_base.specs.Rows.{joined, start, row, split_row, AreEmpty};
+ghost use Rattle.mse_base.specs.Rows.{row_items, start, row, split_row, AreEmpty};
 ghost use Rattle.block_list.specs.Rows.{ListView, used_room, AreShort, AreNonEmpty, IsListed, IsCounted};
 ghost use Rattle.block_list.specs.BlockPlaces.{rank, IsPlace};
 ghost use Rattle.block_list.specs.Starts.{starts_of};
@@ -135,14 +135,14 @@ fn put_apart<T: Copy + Drop, F: Fact<T>>(
 )
     requires block { b < length blocks.old.items }
     requires within { i ≤ length (row blocks.old.items b) }
-    requires some { 0 < half }
-    requires small { half ≤ 64 }
+    requires half_not_zero { 0 < half }
+    requires half_at_most_64 { half ≤ 64 }
     requires full { length (row blocks.old.items b) ≡ 2 * half }
     requires empty { right ≡ [] }
     requires room { length blocks.old.items < vec_capacity blocks.old }
     requires short { AreShort half blocks.old.items }
-    ensures items { joined blocks.new.items
-        ≡ insert (joined blocks.old.items) (start blocks.old.items b + i) x }
+    ensures items { row_items blocks.new.items
+        ≡ insert (row_items blocks.old.items) (start blocks.old.items b + i) x }
     ensures short { AreShort half blocks.new.items }
     ensures used_room { used_room half blocks.new.items + half
         ≤ used_room half blocks.old.items + 1 }
@@ -162,7 +162,7 @@ fn put_apart<T: Copy + Drop, F: Fact<T>>(
 
 /// How many blocks `n` additions can need.
 fn blocks_for(blocks: usize, n: usize, half: usize) -> usize
-    requires some { 0 < half }
+    requires half_not_zero { 0 < half }
     requires blocks { blocks < 2 ^ 63 }
     requires small { n < 2 ^ 62 }
     ensures { n ≤ max result (half * result - (half * blocks + half)) }
@@ -180,7 +180,7 @@ fn add_empty<T, F: Fact<T>>(
     ensures rows { blocks.new.items ≡ blocks.old.items }
     ensures empty { AreEmpty pool.old.items → AreEmpty pool.new.items }
     ensures ok { OnOk result (length pool.new.items ≡ length pool.old.items + 1) }
-    ensures more { length pool.old.items ≤ length pool.new.items }
+    ensures no_fewer_blocks { length pool.old.items ≤ length pool.new.items }
     ensures block_room { length pool.old.items + length blocks.old.items ≤ vec_capacity blocks.old
         → length pool.new.items + length blocks.new.items ≤ vec_capacity blocks.new }
     ensures pool_room { length pool.old.items + length blocks.old.items ≤ vec_capacity pool.old
@@ -207,7 +207,7 @@ fn fill<T, F: Fact<T>>(
     ensures rows { blocks.new.items ≡ blocks.old.items }
     ensures empty { AreEmpty pool.new.items }
     ensures ok { OnOk result (block_count ≤ length pool.new.items) }
-    ensures more { length pool.old.items ≤ length pool.new.items }
+    ensures no_fewer_blocks { length pool.old.items ≤ length pool.new.items }
     ensures block_room { length pool.new.items + length blocks.new.items ≤ vec_capacity blocks.new }
     ensures pool_room { length pool.new.items + length blocks.new.items ≤ vec_capacity pool.new }
 {
@@ -281,8 +281,9 @@ fn drop_blocks<T: Drop, F: Fact<T>>(
     requires in_order { from ≤ to }
     requires within { to ≤ length blocks.old.items }
     requires room { length pool.old.items + length blocks.old.items ≤ vec_capacity pool.old }
-    requires small { length (joined blocks.old.items) < 2 ^ 64 }
-    ensures count { result + length (joined blocks.new.items) ≡ length (joined blocks.old.items) }
+    requires small { length (row_items blocks.old.items) < 2 ^ 64 }
+    ensures count { result + length (row_items blocks.new.items)
+        ≡ length (row_items blocks.old.items) }
     ensures rows { blocks.new.items ≡ take from blocks.old.items ++ drop to blocks.old.items }
     ensures listed { (half e : ℕ)
         → IsListed (record {
@@ -330,7 +331,7 @@ impl<T, F: Fact<T>> BlockList<T, F> {
 
     /// How many items there are.
     pub fn len(&self) -> usize
-        ensures { result ≡ length (joined self.now.rows) }
+        ensures { result ≡ length (row_items self.now.rows) }
     {
         self.len
     }
@@ -355,7 +356,7 @@ impl<T, F: Fact<T>> BlockList<T, F> {
     /// How many additions take no memory.
     pub fn spare(&self) -> usize
         ensures value { result ≡ self.now.spare }
-        ensures full { AreNonEmpty self.now.rows }
+        ensures none_empty { AreNonEmpty self.now.rows }
     {
         self.spare
     }
@@ -372,8 +373,8 @@ impl<T, F: Fact<T>> BlockList<T, F> {
     /// Makes room for `n` more items. An `Err` leaves the list.
     pub fn reserve(&mut self, n: usize) -> Result<(), OutOfMemory>
         ensures rows { self.new.rows ≡ self.old.rows }
-        ensures room_stays { self.old.spare ≤ self.new.spare }
-        ensures ok { OnOk result (n ≤ self.new.spare) }
+        ensures no_room_lost { self.old.spare ≤ self.new.spare }
+        ensures spare { OnOk result (n ≤ self.new.spare) }
     {
         if n <= self.spare {
             return Ok(());
@@ -392,7 +393,7 @@ impl<T, F: Fact<T>> BlockList<T, F> {
         requires block { place.block < length self.now.rows }
         requires index { place.index < length (row self.now.rows place.block) }
         ensures { result.now
-            ≡ slice_index_or (joined self.now.rows) (rank self.now.rows place) result.now }
+            ≡ slice_index_or (row_items self.now.rows) (rank self.now.rows place) result.now }
     {
         let items = self.block(place.block);
         &items[place.index]
@@ -436,10 +437,10 @@ impl<T, F: Fact<T>> BlockList<T, F> {
     pub fn change<C: Change<T>>(&mut self, place: BlockPlace, change: &C)
         requires block { place.block < length self.old.rows }
         requires index { place.index < length (row self.old.rows place.block) }
-        ensures items { (d : T) → joined self.new.rows
-            ≡ slice_set (joined self.old.rows) (rank self.old.rows place)
+        ensures items { (d : T) → row_items self.new.rows
+            ≡ slice_set (row_items self.old.rows) (rank self.old.rows place)
             (C.after change.now
-            (slice_index_or (joined self.old.rows) (rank self.old.rows place) d)) }
+            (slice_index_or (row_items self.old.rows) (rank self.old.rows place) d)) }
         ensures starts { starts_of self.new.rows ≡ starts_of self.old.rows }
         ensures spare { self.new.spare ≡ self.old.spare }
     {
@@ -453,8 +454,8 @@ impl<T, F: Fact<T>> BlockList<T, F> {
         requires block { place.block < length self.old.rows }
         requires index { place.index < length (row self.old.rows place.block) }
         ensures value { result ≡ slice_index_or (row self.old.rows place.block) place.index result }
-        ensures items { joined self.new.rows
-            ≡ remove (joined self.old.rows) (start self.old.rows place.block + place.index) }
+        ensures items { row_items self.new.rows
+            ≡ remove (row_items self.old.rows) (start self.old.rows place.block + place.index) }
         // Only the block of the place changes, or goes.
         ensures front { take place.block self.new.rows ≡ take place.block self.old.rows }
         ensures rest { drop
@@ -482,8 +483,8 @@ impl<T: Drop, F: Fact<T>> BlockList<T, F> {
     pub fn set(&mut self, place: BlockPlace, x: T)
         requires block { place.block < length self.old.rows }
         requires index { place.index < length (row self.old.rows place.block) }
-        ensures items { joined self.new.rows
-            ≡ slice_set (joined self.old.rows) (rank self.old.rows place) x }
+        ensures items { row_items self.new.rows
+            ≡ slice_set (row_items self.old.rows) (rank self.old.rows place) x }
         ensures front { take place.block self.new.rows ≡ take place.block self.old.rows }
         ensures rest { drop (place.block + 1) self.new.rows ≡ drop (place.block + 1) self.old.rows }
         ensures len { length self.new.rows ≡ length self.old.rows }
@@ -530,7 +531,8 @@ impl<T: Drop, F: Fact<T>> BlockList<T, F> {
         requires index { place.index < length (row self.old.rows place.block) }
         ensures from_block { place.block ≤ result }
         ensures to_next { result ≤ place.block + 1 }
-        ensures front { joined (take result self.new.rows) ≡ joined (take place.block self.old.rows)
+        ensures front { row_items (take result self.new.rows)
+            ≡ row_items (take place.block self.old.rows)
             ++ take place.index (row self.old.rows place.block) }
         ensures before { take place.block self.new.rows ≡ take place.block self.old.rows }
         ensures rest { drop (place.block + 1) self.new.rows ≡ drop (place.block + 1) self.old.rows }
@@ -553,12 +555,12 @@ impl<T: Drop, F: Fact<T>> BlockList<T, F> {
         ensures from_block { place.block ≤ result }
         ensures within { result ≤ length self.new.rows }
         ensures front { take place.block self.new.rows ≡ take place.block self.old.rows }
-        ensures rest { joined (drop result self.new.rows)
+        ensures rest { row_items (drop result self.new.rows)
             ≡ drop place.index (row self.old.rows place.block)
-            ++ joined (drop (place.block + 1) self.old.rows) }
+            ++ row_items (drop (place.block + 1) self.old.rows) }
         ensures behind { drop (place.block + 1) self.new.rows
             ≡ drop (place.block + 1) self.old.rows }
-        ensures next { result ≤ place.block + 1 }
+        ensures to_next { result ≤ place.block + 1 }
         ensures len { length self.new.rows ≡ length self.old.rows }
         ensures spare { self.new.spare ≡ self.old.spare }
     {
@@ -575,14 +577,14 @@ impl<T: Drop, F: Fact<T>> BlockList<T, F> {
         requires block { b < length self.old.rows }
         requires in_order { from ≤ to }
         requires within { to ≤ length (row self.old.rows b) }
-        ensures items { joined self.new.rows
-            ≡ (joined (take b self.old.rows) ++ take from (row self.old.rows b))
-            ++ (drop to (row self.old.rows b) ++ joined (drop (b + 1) self.old.rows)) }
+        ensures items { row_items self.new.rows
+            ≡ (row_items (take b self.old.rows) ++ take from (row self.old.rows b))
+            ++ (drop to (row self.old.rows b) ++ row_items (drop (b + 1) self.old.rows)) }
         ensures front { take b self.new.rows ≡ take b self.old.rows }
         ensures rest { drop ((b + 1 + length self.new.rows) - length self.old.rows) self.new.rows
             ≡ drop (b + 1) self.old.rows }
-        ensures fewer { length self.new.rows ≤ length self.old.rows }
-        ensures stay { length self.old.rows ≤ length self.new.rows + 1 }
+        ensures no_more_blocks { length self.new.rows ≤ length self.old.rows }
+        ensures at_most_one_fewer { length self.old.rows ≤ length self.new.rows + 1 }
         ensures spare { self.new.spare ≡ self.old.spare }
     {
         let len = len_at(&self.blocks, b);
@@ -602,16 +604,17 @@ impl<T: Drop, F: Fact<T>> BlockList<T, F> {
         requires some { 0 < to.index }
         requires in_order { from.block ≤ to.block }
         requires in_block { from.block ≡ to.block → from.index ≤ to.index }
-        ensures items { joined self.new.rows
-            ≡ take (start self.old.rows from.block + from.index) (joined self.old.rows)
-            ++ drop (start self.old.rows to.block + to.index) (joined self.old.rows) }
+        ensures items { row_items self.new.rows
+            ≡ take (start self.old.rows from.block + from.index) (row_items self.old.rows)
+            ++ drop (start self.old.rows to.block + to.index) (row_items self.old.rows) }
         // Only the blocks from one place to the other change, or go.
         ensures front { take from.block self.new.rows ≡ take from.block self.old.rows }
         ensures rest { drop
             ((to.block + 1 + length self.new.rows) - length self.old.rows) self.new.rows
             ≡ drop (to.block + 1) self.old.rows }
-        ensures fewer { length self.new.rows ≤ length self.old.rows }
-        ensures stay { from.block + length self.old.rows ≤ to.block + 1 + length self.new.rows }
+        ensures no_more_blocks { length self.new.rows ≤ length self.old.rows }
+        ensures at_most_touched_gone { from.block + length self.old.rows
+            ≤ to.block + 1 + length self.new.rows }
         ensures spare { self.new.spare ≡ self.old.spare }
     {
         if from.block == to.block {
@@ -626,7 +629,7 @@ impl<T: Drop, F: Fact<T>> BlockList<T, F> {
     /// Appends an item.
     pub fn push(&mut self, x: T)
         requires { 1 ≤ self.old.spare }
-        ensures items { joined self.new.rows ≡ joined self.old.rows ++ x ∷ [] }
+        ensures items { row_items self.new.rows ≡ row_items self.old.rows ++ x ∷ [] }
         // Only the last block changes, or comes.
         ensures front { take (length self.new.rows - 1) self.new.rows
             ≡ take (length self.new.rows - 1) self.old.rows }
@@ -656,9 +659,9 @@ impl<T: Copy + Drop, F: Fact<T>> BlockList<T, F> {
     pub fn insert(&mut self, place: BlockPlace, x: T)
         requires block { place.block < length self.old.rows }
         requires index { place.index ≤ length (row self.old.rows place.block) }
-        requires spare { 1 ≤ self.old.spare }
-        ensures items { joined self.new.rows
-            ≡ insert (joined self.old.rows) (start self.old.rows place.block + place.index) x }
+        requires room { 1 ≤ self.old.spare }
+        ensures items { row_items self.new.rows
+            ≡ insert (row_items self.old.rows) (start self.old.rows place.block + place.index) x }
         // Only the block of the place changes, or two stand for it.
         ensures front { take place.block self.new.rows ≡ take place.block self.old.rows }
         ensures rest { drop

@@ -2,7 +2,7 @@
 
 ghost use Rattle.std.specs.Prelude.{◌≡◌, ◌+◌, ◌-◌, ◌^◌, ◌<◌, ◌≤◌, length, take, drop, true, false, IfSome};
 ghost use Rattle.std.specs.List.{AllByRecursion};
-ghost use Rattle.mse_base.specs.Rows.{joined, row};
+ghost use Rattle.mse_base.specs.Rows.{row_items, row};
 ghost use Rattle.block_list.specs.Rows.{IsCut, AreNonEmpty};
 ghost use Rattle.block_list.specs.BlockPlaces.{rank};
 
@@ -13,26 +13,28 @@ use crate::block_list::{BlockList, BlockPlace};
 pub trait Test<T>: Sized {
     ghost use Rattle.std.specs.Prelude.{Bool};
 
-    ghost passes: { Self → T → Bool };
+    ghost is_passed_by: { Self → T → Bool };
 
-    fn passes(&self, x: &T) -> bool
-        ensures { result ≡ passes self.now x.now };
+    fn is_passed_by(&self, x: &T) -> bool
+        ensures { result ≡ is_passed_by self.now x.now };
 }
 
 /// How many items pass.
 fn place_in<T, P: Test<T>>(items: &[T], test: &P) -> usize
-    requires cut { IsCut (P.passes test.now) items.now }
+    requires cut { IsCut (P.is_passed_by test.now) items.now }
     requires small { length items.now < 2 ^ 63 }
     ensures within { result ≤ length items.now }
-    ensures before { AllByRecursion (λ x. P.passes test.now x ≡ true) (take result items.now) }
-    ensures after { AllByRecursion (λ x. P.passes test.now x ≡ false) (drop result items.now) }
+    ensures before { AllByRecursion
+        (λ x. P.is_passed_by test.now x ≡ true) (take result items.now) }
+    ensures after { AllByRecursion
+        (λ x. P.is_passed_by test.now x ≡ false) (drop result items.now) }
 {
     let mut low = 0;
     let mut high = items.len();
     'search: while low < high {
         let middle = low + (high - low) / 2;
         let x = &items[middle];
-        if test.passes(x) {
+        if test.is_passed_by(x) {
             low = middle + 1;
         } else {
             high = middle;
@@ -42,39 +44,41 @@ fn place_in<T, P: Test<T>>(items: &[T], test: &P) -> usize
 }
 
 /// Whether the first item of a block passes.
-fn passes_first<T, F: Fact<T>, P: Test<T>>(list: &BlockList<T, F>, test: &P, b: usize) -> bool
-    requires cut { IsCut (P.passes test.now) (joined list.now.rows) }
-    requires full { AreNonEmpty list.now.rows }
+fn is_passed_by_first<T, F: Fact<T>, P: Test<T>>(list: &BlockList<T, F>, test: &P, b: usize) -> bool
+    requires cut { IsCut (P.is_passed_by test.now) (row_items list.now.rows) }
+    requires none_empty { AreNonEmpty list.now.rows }
     requires block { b < length list.now.rows }
     ensures before { result ≡ true
-        → AllByRecursion (λ x. P.passes test.now x ≡ true) (joined (take b list.now.rows)) }
+        → AllByRecursion (λ x. P.is_passed_by test.now x ≡ true)
+        (row_items (take b list.now.rows)) }
     ensures after { result ≡ false
-        → AllByRecursion (λ x. P.passes test.now x ≡ false) (joined (drop b list.now.rows)) }
+        → AllByRecursion (λ x. P.is_passed_by test.now x ≡ false)
+        (row_items (drop b list.now.rows)) }
 {
     let items = list.block(b);
     let x = &items[0];
-    test.passes(x)
+    test.is_passed_by(x)
 }
 
 /// How many blocks have a first item that passes.
 fn block_of<T, F: Fact<T>, P: Test<T>>(list: &BlockList<T, F>, test: &P) -> usize
-    requires cut { IsCut (P.passes test.now) (joined list.now.rows) }
-    requires full { AreNonEmpty list.now.rows }
+    requires cut { IsCut (P.is_passed_by test.now) (row_items list.now.rows) }
+    requires none_empty { AreNonEmpty list.now.rows }
     ensures within { result ≤ length list.now.rows }
-    ensures before { AllByRecursion (λ x. P.passes test.now x ≡ true)
-        (joined (take (result - 1) list.now.rows)) }
-    ensures after { AllByRecursion (λ x. P.passes test.now x ≡ false)
-        (joined (drop result list.now.rows)) }
+    ensures before { AllByRecursion (λ x. P.is_passed_by test.now x ≡ true)
+        (row_items (take (result - 1) list.now.rows)) }
+    ensures after { AllByRecursion (λ x. P.is_passed_by test.now x ≡ false)
+        (row_items (drop result list.now.rows)) }
 {
     let mut low = 0;
     let mut high = list.blocks();
     // Most items are put behind all others.
-    if high > 0 && passes_first(list, test, high - 1) {
+    if high > 0 && is_passed_by_first(list, test, high - 1) {
         return high;
     }
     'search: while low < high {
         let middle = low + (high - low) / 2;
-        if passes_first(list, test, middle) {
+        if is_passed_by_first(list, test, middle) {
             low = middle + 1;
         } else {
             high = middle;
@@ -86,14 +90,14 @@ fn block_of<T, F: Fact<T>, P: Test<T>>(list: &BlockList<T, F>, test: &P) -> usiz
 /// The place behind the last item that passes, where that is the last of all, or the one before
 /// in the same block.
 fn place_near_end<T, F: Fact<T>, P: Test<T>>(list: &BlockList<T, F>, test: &P) -> Option<BlockPlace>
-    requires cut { IsCut (P.passes test.now) (joined list.now.rows) }
-    requires full { AreNonEmpty list.now.rows }
+    requires cut { IsCut (P.is_passed_by test.now) (row_items list.now.rows) }
+    requires none_empty { AreNonEmpty list.now.rows }
     ensures block { IfSome result (λ s. s.block < length list.now.rows) }
     ensures index { IfSome result (λ s. s.index ≤ length (row list.now.rows s.block)) }
-    ensures before { IfSome result (λ s. AllByRecursion (λ x. P.passes test.now x ≡ true)
-        (take (rank list.now.rows s) (joined list.now.rows))) }
-    ensures after { IfSome result (λ s. AllByRecursion (λ x. P.passes test.now x ≡ false)
-        (drop (rank list.now.rows s) (joined list.now.rows))) }
+    ensures before { IfSome result (λ s. AllByRecursion (λ x. P.is_passed_by test.now x ≡ true)
+        (take (rank list.now.rows s) (row_items list.now.rows))) }
+    ensures after { IfSome result (λ s. AllByRecursion (λ x. P.is_passed_by test.now x ≡ false)
+        (drop (rank list.now.rows s) (row_items list.now.rows))) }
 {
     let blocks = list.blocks();
     if blocks == 0 {
@@ -105,7 +109,7 @@ fn place_near_end<T, F: Fact<T>, P: Test<T>>(list: &BlockList<T, F>, test: &P) -
         block,
         index: len - 1,
     };
-    if test.passes(list.item(last)) {
+    if test.is_passed_by(list.item(last)) {
         return Some(BlockPlace { block, index: len });
     }
     if len > 1 {
@@ -113,7 +117,7 @@ fn place_near_end<T, F: Fact<T>, P: Test<T>>(list: &BlockList<T, F>, test: &P) -
             block,
             index: len - 2,
         };
-        if test.passes(list.item(before)) {
+        if test.is_passed_by(list.item(before)) {
             return Some(last);
         }
     }
@@ -122,13 +126,13 @@ fn place_near_end<T, F: Fact<T>, P: Test<T>>(list: &BlockList<T, F>, test: &P) -
 
 /// The place behind the last item that passes.
 pub fn search<T, F: Fact<T>, P: Test<T>>(list: &BlockList<T, F>, test: &P) -> BlockPlace
-    requires { IsCut (P.passes test.now) (joined list.now.rows) }
+    requires { IsCut (P.is_passed_by test.now) (row_items list.now.rows) }
     ensures block { 0 < length list.now.rows → result.block < length list.now.rows }
     ensures index { result.index ≤ length (row list.now.rows result.block) }
-    ensures before { AllByRecursion (λ x. P.passes test.now x ≡ true)
-        (take (rank list.now.rows result) (joined list.now.rows)) }
-    ensures after { AllByRecursion (λ x. P.passes test.now x ≡ false)
-        (drop (rank list.now.rows result) (joined list.now.rows)) }
+    ensures before { AllByRecursion (λ x. P.is_passed_by test.now x ≡ true)
+        (take (rank list.now.rows result) (row_items list.now.rows)) }
+    ensures after { AllByRecursion (λ x. P.is_passed_by test.now x ≡ false)
+        (drop (rank list.now.rows result) (row_items list.now.rows)) }
 {
     // The proof reads off this that no block is empty.
     let _spare = list.spare();

@@ -2,7 +2,7 @@
 
 ghost use Rattle.std.specs.Prelude.{◌≡◌, ◌+◌, ◌<◌, ◌≤◌, ◌^◌, [], ◌∷◌, ◌++◌, length, take, drop, true, false, OnOk, slice_index_or, slice_set, vec_capacity};
 ghost use Rattle.std.specs.List.{AllByRecursion};
-ghost use Rattle.mse_base.specs.Rows.{joined, start, row};
+ghost use Rattle.mse_base.specs.Rows.{row_items, start, row};
 ghost use Rattle.block_list.specs.Rows.{IsCut};
 ghost use Rattle.block_list.specs.BlockPlaces.{rank, IsPlace};
 ghost use Rattle.block_list.specs.Starts.{starts_of, plus_each, AreStartsUpTo};
@@ -232,7 +232,7 @@ impl<T, F: Fact<T>> RankedList<T, F> {
 
     /// How many items there are.
     pub fn len(&self) -> usize
-        ensures { result ≡ length (joined self.now.rows) }
+        ensures { result ≡ length (row_items self.now.rows) }
     {
         self.list.len()
     }
@@ -264,8 +264,8 @@ impl<T, F: Fact<T>> RankedList<T, F> {
     /// Makes room for `n` more items. An `Err` leaves the list.
     pub fn reserve(&mut self, n: usize) -> Result<(), OutOfMemory>
         ensures rows { self.new.rows ≡ self.old.rows }
-        ensures room_stays { self.old.spare ≤ self.new.spare }
-        ensures ok { OnOk result (n ≤ self.new.spare) }
+        ensures no_room_lost { self.old.spare ≤ self.new.spare }
+        ensures spare { OnOk result (n ≤ self.new.spare) }
     {
         self.list.reserve(n)?;
         self.starts.reserve(n)?;
@@ -285,7 +285,7 @@ impl<T, F: Fact<T>> RankedList<T, F> {
 
     /// The place of item `k`.
     pub fn place(&self, k: usize) -> BlockPlace
-        requires { k < length (joined self.now.rows) }
+        requires { k < length (row_items self.now.rows) }
         ensures block { result.block < length self.now.rows }
         ensures index { result.index < length (row self.now.rows result.block) }
         ensures place { start self.now.rows result.block + result.index ≡ k }
@@ -319,13 +319,13 @@ impl<T, F: Fact<T>> RankedList<T, F> {
 
     /// The place behind the last item that passes.
     pub fn search<P: Test<T>>(&self, test: &P) -> BlockPlace
-        requires { IsCut (P.passes test.now) (joined self.now.rows) }
+        requires { IsCut (P.is_passed_by test.now) (row_items self.now.rows) }
         ensures block { 0 < length self.now.rows → result.block < length self.now.rows }
         ensures index { result.index ≤ length (row self.now.rows result.block) }
-        ensures before { AllByRecursion (λ x. P.passes test.now x ≡ true)
-            (take (rank self.now.rows result) (joined self.now.rows)) }
-        ensures after { AllByRecursion (λ x. P.passes test.now x ≡ false)
-            (drop (rank self.now.rows result) (joined self.now.rows)) }
+        ensures before { AllByRecursion (λ x. P.is_passed_by test.now x ≡ true)
+            (take (rank self.now.rows result) (row_items self.now.rows)) }
+        ensures after { AllByRecursion (λ x. P.is_passed_by test.now x ≡ false)
+            (drop (rank self.now.rows result) (row_items self.now.rows)) }
     {
         search(&self.list, test)
     }
@@ -335,7 +335,7 @@ impl<T, F: Fact<T>> RankedList<T, F> {
         requires block { place.block < length self.now.rows }
         requires index { place.index < length (row self.now.rows place.block) }
         ensures { result.now
-            ≡ slice_index_or (joined self.now.rows) (rank self.now.rows place) result.now }
+            ≡ slice_index_or (row_items self.now.rows) (rank self.now.rows place) result.now }
     {
         self.list.item(place)
     }
@@ -364,10 +364,10 @@ impl<T, F: Fact<T>> RankedList<T, F> {
     pub fn change<C: Change<T>>(&mut self, place: BlockPlace, change: &C)
         requires block { place.block < length self.old.rows }
         requires index { place.index < length (row self.old.rows place.block) }
-        ensures items { (d : T) → joined self.new.rows
-            ≡ slice_set (joined self.old.rows) (rank self.old.rows place)
+        ensures items { (d : T) → row_items self.new.rows
+            ≡ slice_set (row_items self.old.rows) (rank self.old.rows place)
             (C.after change.now
-            (slice_index_or (joined self.old.rows) (rank self.old.rows place) d)) }
+            (slice_index_or (row_items self.old.rows) (rank self.old.rows place) d)) }
         ensures spare { self.new.spare ≡ self.old.spare }
     {
         self.list.change(place, change);
@@ -378,7 +378,7 @@ impl<T: Drop, F: Fact<T>> RankedList<T, F> {
     /// Appends an item.
     pub fn push(&mut self, x: T)
         requires { 1 ≤ self.old.spare }
-        ensures items { joined self.new.rows ≡ joined self.old.rows ++ x ∷ [] }
+        ensures items { row_items self.new.rows ≡ row_items self.old.rows ++ x ∷ [] }
         ensures spare { self.old.spare ≤ self.new.spare + 1 }
     {
         let len = self.list.len();
@@ -404,10 +404,10 @@ impl<T: Drop, F: Fact<T>> RankedList<T, F> {
         requires some { 0 < to.index }
         requires in_order { from.block ≤ to.block }
         requires in_block { from.block ≡ to.block → from.index ≤ to.index }
-        ensures items { joined self.new.rows
-            ≡ take (start self.old.rows from.block + from.index) (joined self.old.rows)
-            ++ drop (start self.old.rows to.block + to.index) (joined self.old.rows) }
-        ensures spare { self.old.spare ≤ self.new.spare }
+        ensures items { row_items self.new.rows
+            ≡ take (start self.old.rows from.block + from.index) (row_items self.old.rows)
+            ++ drop (start self.old.rows to.block + to.index) (row_items self.old.rows) }
+        ensures no_room_lost { self.old.spare ≤ self.new.spare }
     {
         let blocks = self.list.blocks();
         let behind = to.block + 1;

@@ -163,19 +163,19 @@ answer_is t given x h linked =
     ∙ ap (answer_of given h.place) h.at
     ∙ with_link given h.place x linked
 
-abbrev ComesNext : Option ℕ → List Stored → Type 0
-ComesNext next [] = ⊤
-ComesNext next (x ∷ xs) = next ≡ Some x.serial
+abbrev IsNextSerial : Option ℕ → List Stored → Type 0
+IsNextSerial next [] = ⊤
+IsNextSerial next (x ∷ xs) = next ≡ Some x.serial
 
 link_of : (given : Option ℕ) (x : Stored) (xs : List Stored) → IsInOrder given (x ∷ xs) → IsLinked given x × IsInOrder (Some x.serial) xs
 link_of None x xs h = (h.0, h.1)
 link_of (Some before) x xs h = (h.0, h.2)
 
-comes_after : (n : ℕ) (xs : List Stored) → IsInOrder (Some n) xs → ComesNext (Some (n + 1)) xs
+comes_after : (n : ℕ) (xs : List Stored) → IsInOrder (Some n) xs → IsNextSerial (Some (n + 1)) xs
 comes_after n [] h = tt
 comes_after n (x ∷ xs) h = ap Some h.1
 
-all_given : (t : TrackState) (xs : List Stored) (next given : Option ℕ) → AllByRecursion (IsHeld t) xs → IsInOrder given xs → ComesNext next xs → frames_given (record { next = next; given = given }) (replicate (length xs) t) ≡ xs
+all_given : (t : TrackState) (xs : List Stored) (next given : Option ℕ) → AllByRecursion (IsHeld t) xs → IsInOrder given xs → IsNextSerial next xs → frames_given (record { next = next; given = given }) (replicate (length xs) t) ≡ xs
 all_given t [] next given held order comes = refl
 all_given t (x ∷ xs) next given held order comes =
     let parts = link_of given x xs order in
@@ -195,7 +195,7 @@ all_drop P zero fs h = h
 all_drop P (suc n) [] h = tt
 all_drop P (suc n) (f ∷ fs) h = all_drop P n fs h.1
 
-comes_first : (next : Option ℕ) (fs : List Stored) (i : ℕ) (x : Stored) → slice_get fs i ≡ Some x → next ≡ Some x.serial → ComesNext next (drop i fs)
+comes_first : (next : Option ℕ) (fs : List Stored) (i : ℕ) (x : Stored) → slice_get fs i ≡ Some x → next ≡ Some x.serial → IsNextSerial next (drop i fs)
 comes_first next [] i x at e = cc
 comes_first next (f ∷ fs) zero x at e = (let own : f ≡ x = cc in e ∙ ap (λ (y : Stored). Some y.serial) (sym own))
 comes_first next (f ∷ fs) (suc i) x at e = comes_first next fs i x at e

@@ -5,13 +5,13 @@ use Rattle.std.proofs.lemmas.Int.{ints}
 use Rattle.std.proofs.lemmas.List.{reverse-append, length-append}
 use Rattle.mse_base.specs.declared.ticks.Moment.{Moment}
 use Rattle.mse_base.specs.declared.ticks.Moment.TheVariants.{At}
-use Rattle.track_store.specs.Kept.{AreTracksSound, AreEndedBy, AreStillSound, bytes_in}
+use Rattle.track_store.specs.Kept.{AreSoundAndCountable, AreEndedBy, AreStillSound, bytes_in}
 use Rattle.track_store.specs.State.{TrackState}
 use Rattle.mse_base.specs.Moments.{time_or, is_at_or_before}
 use Rattle.range_removal.specs.Removal.{tracks_after_removal}
 use Rattle.range_removal.proofs.Removing.{kept_removed, ends_removed, still_removed}
 use Rattle.track_store.proofs.StillSound.{still_same, still_both}
-use Rattle.eviction.specs.Evicting.{RemovalRange, first_of, lead_of, tracks_after_eviction, sync_times, frames_of, removal_ranges, ends_up_to, starts_after, ranges_in_order, has_room, tracks_while_full}
+use Rattle.eviction.specs.Evicting.{RemovalRange, first_of, lead_of, tracks_after_eviction, sync_times, frames_of, removal_ranges, is_up_to_position, is_after_position, ranges_in_order, has_room, tracks_while_full}
 use Rattle.eviction.specs.Steps.{times_at, times_from, times_between, ranges_back, left_before, left_after}
 use Rattle.eviction.proofs.Times.{IsRising, first_least, each_of, filter-each, filter_both}
 use Rattle.eviction.proofs.Syncs.{rising_times, times_removed, is_gone}
@@ -78,24 +78,24 @@ times_after : (k : ℕ) (d : Moment) (s : ℤ) (ts us : List TrackState) (o : Op
 times_after k d s ts us o e is = ap (λ vs. times_from o (times_at k vs)) is ∙ ap (times_from o) (times_removed k s (time_or o d) d ts) ∙ next_stay s d (times_at k ts) o (rising_at k ts) e
 
 -- the ranges left, of which the first ends at or before the position or does not
-left_cases : (p : ℤ) (k : ℕ) (d : Moment) (s : ℤ) (ts : List TrackState) (o : Option ℤ) (b : Bool) → first_of (times_from (Some s) (times_at k ts)) ≡ Some s → first_of (filter (int_lt s) (times_at k ts)) ≡ o → is_at_or_before (time_or o d) p ≡ b → left_before p k d (Some s) ts ≡ cond b (record { start = s; end = time_or o d } ∷ filter (ends_up_to p) (removal_ranges d (filter (int_lt s) (times_at k ts)))) (filter (ends_up_to p) (removal_ranges d (filter (int_lt s) (times_at k ts))))
+left_cases : (p : ℤ) (k : ℕ) (d : Moment) (s : ℤ) (ts : List TrackState) (o : Option ℤ) (b : Bool) → first_of (times_from (Some s) (times_at k ts)) ≡ Some s → first_of (filter (int_lt s) (times_at k ts)) ≡ o → is_at_or_before (time_or o d) p ≡ b → left_before p k d (Some s) ts ≡ cond b (record { start = s; end = time_or o d } ∷ filter (is_up_to_position p) (removal_ranges d (filter (int_lt s) (times_at k ts)))) (filter (is_up_to_position p) (removal_ranges d (filter (int_lt s) (times_at k ts))))
 left_cases p k d s ts o b e n up =
     let rest = filter (int_lt s) (times_at k ts) in
-    ap (λ us. filter (ends_up_to p) (removal_ranges d us)) (left_is p k d s ts e)
-    ∙ ap (λ q. filter (ends_up_to p) (record { start = s; end = time_or q d } ∷ removal_ranges d rest)) n
+    ap (λ us. filter (is_up_to_position p) (removal_ranges d us)) (left_is p k d s ts e)
+    ∙ ap (λ q. filter (is_up_to_position p) (record { start = s; end = time_or q d } ∷ removal_ranges d rest)) n
     ∙ ends-step p (record { start = s; end = time_or o d }) (removal_ranges d rest) b up
 
 pub before_removed : (new quota : ℕ) (p : ℤ) (k : ℕ) (d : Moment) (s : ℤ) (ts us : List TrackState) (o : Option ℤ) → first_of (times_from (Some s) (times_at k ts)) ≡ Some s → first_of (filter (int_lt s) (times_at k ts)) ≡ o → is_at_or_before (time_or o d) p ≡ true → has_room new quota ts ≡ false → us ≡ tracks_after_removal s (time_or o d) d ts → tracks_while_full new quota d (left_before p k d o us) us ≡ tracks_while_full new quota d (left_before p k d (Some s) ts) ts
 before_removed new quota p k d s ts us o e n up full is =
-    let rest = filter (ends_up_to p) (removal_ranges d (filter (int_lt s) (times_at k ts))) in
-    ap (λ vs. tracks_while_full new quota d (filter (ends_up_to p) (removal_ranges d vs)) us) (times_after k d s ts us o n is)
+    let rest = filter (is_up_to_position p) (removal_ranges d (filter (int_lt s) (times_at k ts))) in
+    ap (λ vs. tracks_while_full new quota d (filter (is_up_to_position p) (removal_ranges d vs)) us) (times_after k d s ts us o n is)
     ∙ ap (tracks_while_full new quota d rest) is
     ∙ ap (λ b. cond b ts (tracks_while_full new quota d rest (tracks_after_removal s (time_or o d) d ts))) (sym full)
     ∙ ap (λ rs. tracks_while_full new quota d rs ts) (sym (left_cases p k d s ts o true e n up))
 
 pub before_skipped : (new quota : ℕ) (p : ℤ) (k : ℕ) (d : Moment) (s : ℤ) (ts : List TrackState) (o : Option ℤ) → first_of (times_from (Some s) (times_at k ts)) ≡ Some s → first_of (filter (int_lt s) (times_at k ts)) ≡ o → is_at_or_before (time_or o d) p ≡ false → tracks_while_full new quota d (left_before p k d o ts) ts ≡ tracks_while_full new quota d (left_before p k d (Some s) ts) ts
 before_skipped new quota p k d s ts o e n up =
-    ap (λ vs. tracks_while_full new quota d (filter (ends_up_to p) (removal_ranges d vs)) ts) (from_next s (times_at k ts) o (rising_at k ts) n)
+    ap (λ vs. tracks_while_full new quota d (filter (is_up_to_position p) (removal_ranges d vs)) ts) (from_next s (times_at k ts) o (rising_at k ts) n)
     ∙ ap (λ rs. tracks_while_full new quota d rs ts) (sym (left_cases p k d s ts o false e n up))
 
 pub before_stopped : (new quota : ℕ) (p : ℤ) (k : ℕ) (d : Moment) (s : ℤ) (ts us : List TrackState) → has_room new quota ts ≡ true → us ≡ ts → us ≡ tracks_while_full new quota d (left_before p k d (Some s) ts) ts
@@ -163,13 +163,13 @@ after_ended new quota p k d next ts e = ap (λ us. tracks_while_full new quota d
 
 -- ---- the whole
 
-pub evicted_is : (p : ℤ) (new quota k : ℕ) (d : Moment) (ts us vs : List TrackState) → false ≡ nat_lt (bytes_in ts) quota → slice_get ts k ≡ lead_of ts → us ≡ tracks_while_full new quota d (filter (ends_up_to p) (removal_ranges d (times_at k ts))) ts → filter (int_lt p) (times_at k us) ≡ filter (int_lt p) (times_at k ts) → vs ≡ tracks_while_full new quota d (left_after p k d None us) us → vs ≡ tracks_after_eviction p new quota d ts
+pub evicted_is : (p : ℤ) (new quota k : ℕ) (d : Moment) (ts us vs : List TrackState) → false ≡ nat_lt (bytes_in ts) quota → slice_get ts k ≡ lead_of ts → us ≡ tracks_while_full new quota d (filter (is_up_to_position p) (removal_ranges d (times_at k ts))) ts → filter (int_lt p) (times_at k us) ≡ filter (int_lt p) (times_at k ts) → vs ≡ tracks_while_full new quota d (left_after p k d None us) us → vs ≡ tracks_after_eviction p new quota d ts
 evicted_is p new quota k d ts us vs full lead before later after =
     let all = removal_ranges d (times_at k ts) in
     after
     ∙ ap (λ rs. tracks_while_full new quota d rs us) (back_is p d (times_at k ts) (times_at k us) (rising_at k ts) later)
-    ∙ ap (tracks_while_full new quota d (reverse (filter (starts_after p) all))) before
-    ∙ sym (while-append new quota d (filter (ends_up_to p) all) (reverse (filter (starts_after p) all)) ts)
+    ∙ ap (tracks_while_full new quota d (reverse (filter (is_after_position p) all))) before
+    ∙ sym (while-append new quota d (filter (is_up_to_position p) all) (reverse (filter (is_after_position p) all)) ts)
     ∙ ap (λ o. tracks_while_full new quota d (ranges_in_order p (removal_ranges d (sync_times (frames_of o)))) ts) lead
     ∙ ap (λ b. cond b ts (tracks_while_full new quota d (ranges_in_order p (removal_ranges d (sync_times (frames_of (lead_of ts))))) ts)) full
 
@@ -183,8 +183,8 @@ evicted_keeps P p new quota d ts keep h = kept_pick P (nat_lt (bytes_in ts) quot
 pub still_evicted : (p : ℤ) (new quota : ℕ) (d : Moment) (ts : List TrackState) → AreStillSound ts (tracks_after_eviction p new quota d ts)
 still_evicted p new quota d ts = evicted_keeps (AreStillSound ts) p new quota d ts (λ start end us k. still_both ts us (tracks_after_removal start end d us) k (still_removed start end d us)) (still_same ts)
 
-pub kept_evicted : (p : ℤ) (new quota : ℕ) (d : Moment) (ts : List TrackState) → AreTracksSound ts → AreTracksSound (tracks_after_eviction p new quota d ts)
-kept_evicted p new quota d ts h = evicted_keeps AreTracksSound p new quota d ts (λ start end us k. kept_removed start end d us k) h
+pub kept_evicted : (p : ℤ) (new quota : ℕ) (d : Moment) (ts : List TrackState) → AreSoundAndCountable ts → AreSoundAndCountable (tracks_after_eviction p new quota d ts)
+kept_evicted p new quota d ts h = evicted_keeps AreSoundAndCountable p new quota d ts (λ start end us k. kept_removed start end d us k) h
 
 pub ends_evicted : (p : ℤ) (new quota : ℕ) (d : Moment) (limit : ℤ) (ts : List TrackState) → AreEndedBy limit ts → AreEndedBy limit (tracks_after_eviction p new quota d ts)
 ends_evicted p new quota d limit ts h = evicted_keeps (AreEndedBy limit) p new quota d ts (λ start end us k. ends_removed start end d limit us k) h

@@ -7,7 +7,7 @@ use Rattle.mse_base.specs.declared.ticks.Moment.{Moment}
 use Rattle.mse_base.specs.declared.ticks.Moment.TheVariants.{Nan, At, Infinite}
 use Rattle.mse_base.specs.Moments.{is_before, is_at_or_before}
 use Rattle.mse_base.specs.Moments.{time_or}
-use Rattle.eviction.specs.Evicting.{RemovalRange, first_of, removal_ranges, ends_up_to, starts_after}
+use Rattle.eviction.specs.Evicting.{RemovalRange, first_of, removal_ranges, is_up_to_position, is_after_position}
 use Rattle.eviction.specs.Steps.{IsAmong, IsLatest, is_below, ranges_back, times_from, times_between}
 use Rattle.eviction.proofs.Times.{IsRising, all_along, all_both, all_has, each_of, filter-step, filter_all, filter_none, filter_same, filter_both, first_least, first_none}
 use Rattle.eviction.proofs.Syncs.{is_gone, gone_to}
@@ -148,31 +148,31 @@ after_stay p s d ts o up e h = filter_both (int_lt p) (λ t. not (is_gone s (gon
 
 -- ---- where no more ranges end at or before the position
 
-pub ends-step : (p : ℤ) (r : RemovalRange) (rs : List RemovalRange) (b : Bool) → is_at_or_before r.end p ≡ b → filter (ends_up_to p) (r ∷ rs) ≡ cond b (r ∷ filter (ends_up_to p) rs) (filter (ends_up_to p) rs)
-ends-step p r rs b e = ap (λ c. cond c (r ∷ filter (ends_up_to p) rs) (filter (ends_up_to p) rs)) e
+pub ends-step : (p : ℤ) (r : RemovalRange) (rs : List RemovalRange) (b : Bool) → is_at_or_before r.end p ≡ b → filter (is_up_to_position p) (r ∷ rs) ≡ cond b (r ∷ filter (is_up_to_position p) rs) (filter (is_up_to_position p) rs)
+ends-step p r rs b e = ap (λ c. cond c (r ∷ filter (is_up_to_position p) rs) (filter (is_up_to_position p) rs)) e
 
-pub no_more : (p : ℤ) (d : Moment) (ts : List ℤ) → IsRising ts → AllByRecursion (λ t. p ≤ℤ t) ts → is_at_or_before d p ≡ false → filter (ends_up_to p) (removal_ranges d ts) ≡ []
+pub no_more : (p : ℤ) (d : Moment) (ts : List ℤ) → IsRising ts → AllByRecursion (λ t. p ≤ℤ t) ts → is_at_or_before d p ≡ false → filter (is_up_to_position p) (removal_ranges d ts) ≡ []
 no_more p d [] up h e = refl
 no_more p d (t ∷ []) up h e = ends-step p (record { start = t; end = d }) [] false e
 no_more p d (t ∷ u ∷ ts) up h e = ends-step p (record { start = t; end = At u }) (removal_ranges d (u ∷ ts)) false (no_le p u (let less = up.0.0 in let low = h.0 in omega (arith, ints))) ∙ no_more p d (u ∷ ts) up.1 h.1 e
 
 -- ---- the ranges after the position, from the latest back
 
-starts-step : (p : ℤ) (r : RemovalRange) (rs : List RemovalRange) (b : Bool) → int_lt p r.start ≡ b → filter (starts_after p) (r ∷ rs) ≡ cond b (r ∷ filter (starts_after p) rs) (filter (starts_after p) rs)
-starts-step p r rs b e = ap (λ c. cond c (r ∷ filter (starts_after p) rs) (filter (starts_after p) rs)) e
+starts-step : (p : ℤ) (r : RemovalRange) (rs : List RemovalRange) (b : Bool) → int_lt p r.start ≡ b → filter (is_after_position p) (r ∷ rs) ≡ cond b (r ∷ filter (is_after_position p) rs) (filter (is_after_position p) rs)
+starts-step p r rs b e = ap (λ c. cond c (r ∷ filter (is_after_position p) rs) (filter (is_after_position p) rs)) e
 
-starts_all : (p : ℤ) (d : Moment) (ts : List ℤ) → AllByRecursion (λ t. int_lt p t ≡ true) ts → filter (starts_after p) (removal_ranges d ts) ≡ removal_ranges d ts
+starts_all : (p : ℤ) (d : Moment) (ts : List ℤ) → AllByRecursion (λ t. int_lt p t ≡ true) ts → filter (is_after_position p) (removal_ranges d ts) ≡ removal_ranges d ts
 starts_all p d [] h = refl
 starts_all p d (t ∷ ts) h = starts-step p _ (removal_ranges d ts) true h.0 ∙ ap (λ rs. record { start = t; end = time_or (first_of ts) d } ∷ rs) (starts_all p d ts h.1)
 
-starts-pick : (p : ℤ) (d : Moment) (t : ℤ) (ts : List ℤ) (b : Bool) → int_lt p t ≡ b → IsRising (t ∷ ts) → filter (starts_after p) (removal_ranges d ts) ≡ removal_ranges d (filter (int_lt p) ts) → filter (starts_after p) (removal_ranges d (t ∷ ts)) ≡ removal_ranges d (filter (int_lt p) (t ∷ ts))
+starts-pick : (p : ℤ) (d : Moment) (t : ℤ) (ts : List ℤ) (b : Bool) → int_lt p t ≡ b → IsRising (t ∷ ts) → filter (is_after_position p) (removal_ranges d ts) ≡ removal_ranges d (filter (int_lt p) ts) → filter (is_after_position p) (removal_ranges d (t ∷ ts)) ≡ removal_ranges d (filter (int_lt p) (t ∷ ts))
 starts-pick p d t ts true e up h =
     let less = lt_of p t e in
     let all = all_along (λ u. t <ℤ u) (λ u. int_lt p u ≡ true) ts (λ u k. yes_lt p u (omega (arith, ints))) up.0 in
     starts_all p d (t ∷ ts) (e, all) ∙ ap (removal_ranges d) (sym (filter_all (int_lt p) (t ∷ ts) (e, all)))
 starts-pick p d t ts false e up h = starts-step p _ (removal_ranges d ts) false e ∙ h ∙ ap (removal_ranges d) (sym (filter-step (int_lt p) t ts false e))
 
-starts_are : (p : ℤ) (d : Moment) (ts : List ℤ) → IsRising ts → filter (starts_after p) (removal_ranges d ts) ≡ removal_ranges d (filter (int_lt p) ts)
+starts_are : (p : ℤ) (d : Moment) (ts : List ℤ) → IsRising ts → filter (is_after_position p) (removal_ranges d ts) ≡ removal_ranges d (filter (int_lt p) ts)
 starts_are p d [] up = refl
 starts_are p d (t ∷ ts) up = starts-pick p d t ts (int_lt p t) refl up (starts_are p d ts up.1)
 
@@ -218,7 +218,7 @@ between_all : (p : ℤ) (ts : List ℤ) → times_between p None ts ≡ filter (
 between_all p ts = filter_same _ (int_lt p) ts (each_of _ ts (λ t. and_yes (int_lt p t)))
 
 -- the ranges that start after the position, from the latest back, are those of the descending times after it
-pub back_is : (p : ℤ) (d : Moment) (ts us : List ℤ) → IsRising ts → filter (int_lt p) us ≡ filter (int_lt p) ts → ranges_back d (reverse (times_between p None us)) ≡ reverse (filter (starts_after p) (removal_ranges d ts))
+pub back_is : (p : ℤ) (d : Moment) (ts us : List ℤ) → IsRising ts → filter (int_lt p) us ≡ filter (int_lt p) ts → ranges_back d (reverse (times_between p None us)) ≡ reverse (filter (is_after_position p) (removal_ranges d ts))
 back_is p d ts us up same =
     ap (λ vs. ranges_back d (reverse vs)) (between_all p us ∙ same) ∙ sym (reversed_ranges d (filter (int_lt p) ts)) ∙ ap reverse (sym (starts_are p d ts up))
 

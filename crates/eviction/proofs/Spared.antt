@@ -13,9 +13,9 @@ use Rattle.track_store.specs.declared.store.Stored.{Stored}
 use Rattle.track_store.specs.Frames.{frames_without, frames_left, is_between, starts, sync_times_from}
 use Rattle.track_store.specs.Kept.{bytes_in}
 use Rattle.track_store.specs.State.{TrackState}
-use Rattle.track_store.proofs.Clearing.{goes, cleared-goes, cleared-stays, cleared-cleared, cleared-nothing}
+use Rattle.track_store.proofs.Clearing.{is_frame_gone, cleared-goes, cleared-stays, cleared-cleared, cleared-nothing}
 use Rattle.range_removal.specs.Removal.{remove_end, track_after_removal, tracks_after_removal}
-use Rattle.eviction.specs.Evicting.{RemovalRange, holds, frames_of, lead_of, sync_times, removal_ranges, ends_up_to, starts_after, ranges_in_order, has_room, tracks_while_full, tracks_after_eviction}
+use Rattle.eviction.specs.Evicting.{RemovalRange, has_time, frames_of, lead_of, sync_times, removal_ranges, is_up_to_position, is_after_position, ranges_in_order, has_room, tracks_while_full, tracks_after_eviction}
 use Rattle.eviction.specs.Steps.{IsAmong}
 use Rattle.eviction.specs.Spared.{HasRange, IsLeftOf, IsSparedIn}
 use Rattle.eviction.proofs.Times.{IsRising, all_has}
@@ -40,9 +40,9 @@ passes P Q p [] f h = tt
 passes P Q p (x ∷ xs) f h = passes-step P p x xs (p x) refl (f x h.0) (passes P Q p xs f h.1)
 
 -- what holds of each range that ends by the position or starts after it
-pub in_order-each : (P Q : RemovalRange → Type 0) (p : ℤ) (rs : List RemovalRange) → ((q : RemovalRange) → Q q → ends_up_to p q ≡ true → P q) → ((q : RemovalRange) → Q q → starts_after p q ≡ true → P q) → AllByRecursion Q rs → AllByRecursion P (ranges_in_order p rs)
+pub in_order-each : (P Q : RemovalRange → Type 0) (p : ℤ) (rs : List RemovalRange) → ((q : RemovalRange) → Q q → is_up_to_position p q ≡ true → P q) → ((q : RemovalRange) → Q q → is_after_position p q ≡ true → P q) → AllByRecursion Q rs → AllByRecursion P (ranges_in_order p rs)
 in_order-each P Q p rs f g h =
-    all_append P (filter (ends_up_to p) rs) (reverse (filter (starts_after p) rs)) (passes P Q (ends_up_to p) rs f h) (all_reverse P (filter (starts_after p) rs) (passes P Q (starts_after p) rs g h))
+    all_append P (filter (is_up_to_position p) rs) (reverse (filter (is_after_position p) rs)) (passes P Q (is_up_to_position p) rs f h) (all_reverse P (filter (is_after_position p) rs) (passes P Q (is_after_position p) rs g h))
 
 -- ---- no range that is removed holds the position
 
@@ -55,28 +55,28 @@ and_no : (a b : Bool) → b ≡ false → (a && b) ≡ false
 and_no true b e = e
 and_no false b e = refl
 
-pub ended_not : (p : ℤ) (q : RemovalRange) → ends_up_to p q ≡ true → holds q p ≡ false
+pub ended_not : (p : ℤ) (q : RemovalRange) → is_up_to_position p q ≡ true → has_time q p ≡ false
 ended_not p q e = and_no (int_le q.start p) (is_before p q.end) (up_to_not p q.end e)
 
 no_and : (a b : Bool) → a ≡ false → (a && b) ≡ false
 no_and true b e = cc
 no_and false b e = refl
 
-pub later_not : (p : ℤ) (q : RemovalRange) → starts_after p q ≡ true → holds q p ≡ false
+pub later_not : (p : ℤ) (q : RemovalRange) → is_after_position p q ≡ true → has_time q p ≡ false
 later_not p q e = no_and (int_le q.start p) (is_before p q.end) (grind (arith, ints))
 
 any_range : (rs : List RemovalRange) → AllByRecursion (λ q. Unit {0}) rs
 any_range [] = tt
 any_range (r ∷ rs) = (tt, any_range rs)
 
-pub none_holds : (p : ℤ) (rs : List RemovalRange) → AllByRecursion (λ q. holds q p ≡ false) (ranges_in_order p rs)
-none_holds p rs = in_order-each (λ q. holds q p ≡ false) (λ q. Unit {0}) p rs (λ q _ e. ended_not p q e) (λ q _ e. later_not p q e) (any_range rs)
+pub none_holds : (p : ℤ) (rs : List RemovalRange) → AllByRecursion (λ q. has_time q p ≡ false) (ranges_in_order p rs)
+none_holds p rs = in_order-each (λ q. has_time q p ≡ false) (λ q. Unit {0}) p rs (λ q _ e. ended_not p q e) (λ q _ e. later_not p q e) (any_range rs)
 
 -- ---- the other ranges lie apart from one
 
 -- the range starts after each time of r, or ends by the start of r
 abbrev pub IsApart : RemovalRange → RemovalRange → Type 0
-IsApart r q = ((t : ℤ) → holds r t ≡ true → t <ℤ q.start) ⊎ ((x : ℤ) × (q.end ≡ At x) × (x ≤ℤ r.start))
+IsApart r q = ((t : ℤ) → has_time r t ≡ true → t <ℤ q.start) ⊎ ((x : ℤ) × (q.end ≡ At x) × (x ≤ℤ r.start))
 
 start_from : (u : ℤ) (d : Moment) (ts : List ℤ) → AllByRecursion (λ t. u <ℤ t) ts → AllByRecursion (λ q. u ≤ℤ q.start) (removal_ranges d ts)
 start_from u d [] h = tt
@@ -97,8 +97,8 @@ and_first : (a b : Bool) → (a && b) ≡ true → a ≡ true
 and_first true b e = refl
 and_first false b e = cc
 
-before_next : (r : RemovalRange) (s u t : ℤ) → record { start = s; end = At u } ≡ r → holds r t ≡ true → t <ℤ u
-before_next r s u t e h = let own : (int_le s t && int_lt t u) ≡ true = ap (λ q. holds q t) e ∙ h in let less = and_second (int_le s t) (int_lt t u) own in grind (arith, ints)
+before_next : (r : RemovalRange) (s u t : ℤ) → record { start = s; end = At u } ≡ r → has_time r t ≡ true → t <ℤ u
+before_next r s u t e h = let own : (int_le s t && int_lt t u) ≡ true = ap (λ q. has_time q t) e ∙ h in let less = and_second (int_le s t) (int_lt t u) own in grind (arith, ints)
 
 apart_all : (r : RemovalRange) (s u : ℤ) (qs : List RemovalRange) → record { start = s; end = At u } ≡ r → AllByRecursion (λ q. u ≤ℤ q.start) qs → AllByRecursion (λ q. (q ≡ r) ⊎ IsApart r q) qs
 apart_all r s u [] e h = tt
@@ -113,11 +113,11 @@ all_apart r d (t ∷ u ∷ ts) up has =
       | inr later ↦ (inr (inr (u, refl, one_of (λ q. u ≤ℤ q.start) r (removal_ranges d (u ∷ ts)) later (starts_from u d ts up.1))), all_apart r d (u ∷ ts) up.1 later)
     ]
 
-apart_of : (r q : RemovalRange) (p : ℤ) → holds r p ≡ true → holds q p ≡ false → (q ≡ r) ⊎ IsApart r q → IsApart r q
-apart_of r q p held none (inl e) = (let no_more : false ≡ true = sym none ∙ ap (λ s. holds s p) e ∙ held in cc)
+apart_of : (r q : RemovalRange) (p : ℤ) → has_time r p ≡ true → has_time q p ≡ false → (q ≡ r) ⊎ IsApart r q → IsApart r q
+apart_of r q p held none (inl e) = (let no_more : false ≡ true = sym none ∙ ap (λ s. has_time s p) e ∙ held in cc)
 apart_of r q p held none (inr h) = h
 
-pub apart_in_order : (r : RemovalRange) (p : ℤ) (rs : List RemovalRange) → holds r p ≡ true → AllByRecursion (λ q. (q ≡ r) ⊎ IsApart r q) rs → AllByRecursion (IsApart r) (ranges_in_order p rs)
+pub apart_in_order : (r : RemovalRange) (p : ℤ) (rs : List RemovalRange) → has_time r p ≡ true → AllByRecursion (λ q. (q ≡ r) ⊎ IsApart r q) rs → AllByRecursion (IsApart r) (ranges_in_order p rs)
 apart_in_order r p rs held h = in_order-each (IsApart r) (λ q. (q ≡ r) ⊎ IsApart r q) p rs (λ q k e. apart_of r q p held (ended_not p q e) k) (λ q k e. apart_of r q p held (later_not p q e) k) h
 
 -- ---- the least of some times
@@ -157,18 +157,18 @@ all_to : (P Q : Stored → Type 0) (fs : List Stored) → ((f : Stored) → P f 
 all_to P Q [] f h = tt
 all_to P Q (g ∷ fs) f h = (f g h.0, all_to P Q fs f h.1)
 
-abbrev named_by : RemovalRange → Moment → List Stored → Stored → Bool
-named_by q d fs = is_between q.start (remove_end q.end d fs)
+abbrev is_named_by : RemovalRange → Moment → List Stored → Stored → Bool
+is_named_by q d fs = is_between q.start (remove_end q.end d fs)
 
 -- a frame of the range that is named begins before the random access point
 abbrev IsAhead : RemovalRange → (Stored → Bool) → Stored → Type 0
-IsAhead r named g = g.frame.sync ≡ true → holds r g.frame.pts ≡ true → (f : Stored) → named f ≡ true → holds r f.frame.pts ≡ true → f.frame.pts <ℤ g.frame.pts
+IsAhead r named g = g.frame.sync ≡ true → has_time r g.frame.pts ≡ true → (f : Stored) → named f ≡ true → has_time r f.frame.pts ≡ true → f.frame.pts <ℤ g.frame.pts
 
 any_frame : (P : Stored → Type 0) (fs : List Stored) → ((f : Stored) → P f) → AllByRecursion P fs
 any_frame P [] h = tt
 any_frame P (f ∷ fs) h = (h f, any_frame P fs h)
 
-after_start : (r q : RemovalRange) (m : Moment) (f : Stored) → ((t : ℤ) → holds r t ≡ true → t <ℤ q.start) → is_between q.start m f ≡ true → holds r f.frame.pts ≡ true → ⊥
+after_start : (r q : RemovalRange) (m : Moment) (f : Stored) → ((t : ℤ) → has_time r t ≡ true → t <ℤ q.start) → is_between q.start m f ≡ true → has_time r f.frame.pts ≡ true → ⊥
 after_start r q m f h named held = let less = h f.frame.pts held in let low = and_first (int_le q.start f.frame.pts) (is_before f.frame.pts m) named in grind (arith, ints)
 
 sync_from : (g : Stored) (x : ℤ) → g.frame.sync ≡ true → x ≤ℤ g.frame.pts → (g.frame.sync && not (is_before g.frame.pts (At x))) ≡ true
@@ -178,7 +178,7 @@ before_low : (o : Option ℤ) (d : Moment) (t z : ℤ) → IsLow o z → is_befo
 before_low None d t z low h = absurd low
 before_low (Some m) d t z low h = let less : t <ℤ m = grind (arith, ints) in omega (arith, ints)
 
-start_of : (r : RemovalRange) (t : ℤ) → holds r t ≡ true → r.start ≤ℤ t
+start_of : (r : RemovalRange) (t : ℤ) → has_time r t ≡ true → r.start ≤ℤ t
 start_of r t h = let low = and_first (int_le r.start t) (is_before t r.end) h in grind (arith, ints)
 
 ahead_low : (r : RemovalRange) (d : Moment) (start x : ℤ) (fs : List Stored) (g : Stored) → x ≤ℤ r.start → ((g.frame.sync && not (is_before g.frame.pts (At x))) ≡ true → IsLow (least (sync_times_from (At x) fs)) g.frame.pts) → IsAhead r (is_between start (time_or (least (sync_times_from (At x) fs)) d)) g
@@ -186,8 +186,8 @@ ahead_low r d start x fs g le low s held f named inside =
     let begins = start_of r g.frame.pts held in
     before_low (least (sync_times_from (At x) fs)) d f.frame.pts g.frame.pts (low (sync_from g x s (omega (arith, ints)))) (and_second (int_le start f.frame.pts) _ named)
 
-pub ahead_each : (r q : RemovalRange) (d : Moment) (fs : List Stored) → IsApart r q → AllByRecursion (IsAhead r (named_by q d fs)) fs
-ahead_each r q d fs (inl h) = any_frame (IsAhead r (named_by q d fs)) fs (λ g s held f named inside. absurd (after_start r q (remove_end q.end d fs) f h named inside))
+pub ahead_each : (r q : RemovalRange) (d : Moment) (fs : List Stored) → IsApart r q → AllByRecursion (IsAhead r (is_named_by q d fs)) fs
+ahead_each r q d fs (inl h) = any_frame (IsAhead r (is_named_by q d fs)) fs (λ g s held f named inside. absurd (after_start r q (remove_end q.end d fs) f h named inside))
 ahead_each r q d fs (inr h) =
     subst (λ (m : Moment). AllByRecursion (IsAhead r (is_between q.start (remove_end m d fs))) fs) (sym h.1)
     (all_to _ (IsAhead r (is_between q.start (remove_end (At h.0) d fs))) fs (λ g low. ahead_low r d q.start h.0 fs g h.2 low)
@@ -201,18 +201,18 @@ named_or false true true e k = cc
 named_or false true false e k = cc
 named_or false false s e k = cc
 
-lift-step : (T : Stored → Type 0) (r : RemovalRange) (named : Stored → Bool) (gone : Bool) (f : Stored) (fs : List Stored) (b : Bool) → goes named gone f ≡ b → AllByRecursion (λ g. g.frame.sync ≡ true → holds r g.frame.pts ≡ true → T g) (frames_left gone named (f ∷ fs)) → IsAhead r named f → (f.frame.sync ≡ true → holds r f.frame.pts ≡ true → T f) × AllByRecursion (λ g. g.frame.sync ≡ true → holds r g.frame.pts ≡ true → T g) (frames_left b named fs)
+lift-step : (T : Stored → Type 0) (r : RemovalRange) (named : Stored → Bool) (gone : Bool) (f : Stored) (fs : List Stored) (b : Bool) → is_frame_gone named gone f ≡ b → AllByRecursion (λ g. g.frame.sync ≡ true → has_time r g.frame.pts ≡ true → T g) (frames_left gone named (f ∷ fs)) → IsAhead r named f → (f.frame.sync ≡ true → has_time r f.frame.pts ≡ true → T f) × AllByRecursion (λ g. g.frame.sync ≡ true → has_time r g.frame.pts ≡ true → T g) (frames_left b named fs)
 lift-step T r named gone f fs true e h k = (
   (λ s held. (let less = k s held f (named_or (named f) gone f.frame.sync e s) held in absurd (omega (arith, ints)))),
-  subst (λ gs. AllByRecursion (λ g. g.frame.sync ≡ true → holds r g.frame.pts ≡ true → T g) gs) (cleared-goes named gone f fs e) h,
+  subst (λ gs. AllByRecursion (λ g. g.frame.sync ≡ true → has_time r g.frame.pts ≡ true → T g) gs) (cleared-goes named gone f fs e) h,
 )
-lift-step T r named gone f fs false e h k = subst (λ gs. AllByRecursion (λ g. g.frame.sync ≡ true → holds r g.frame.pts ≡ true → T g) gs) (cleared-stays named gone f fs e) h
+lift-step T r named gone f fs false e h k = subst (λ gs. AllByRecursion (λ g. g.frame.sync ≡ true → has_time r g.frame.pts ≡ true → T g) gs) (cleared-stays named gone f fs e) h
 
-lift : (T : Stored → Type 0) (r : RemovalRange) (named : Stored → Bool) (gone : Bool) (fs : List Stored) → AllByRecursion (λ g. g.frame.sync ≡ true → holds r g.frame.pts ≡ true → T g) (frames_left gone named fs) → AllByRecursion (IsAhead r named) fs → AllByRecursion (λ g. g.frame.sync ≡ true → holds r g.frame.pts ≡ true → T g) fs
+lift : (T : Stored → Type 0) (r : RemovalRange) (named : Stored → Bool) (gone : Bool) (fs : List Stored) → AllByRecursion (λ g. g.frame.sync ≡ true → has_time r g.frame.pts ≡ true → T g) (frames_left gone named fs) → AllByRecursion (IsAhead r named) fs → AllByRecursion (λ g. g.frame.sync ≡ true → has_time r g.frame.pts ≡ true → T g) fs
 lift T r named gone [] h k = tt
-lift T r named gone (f ∷ fs) h k = let both = lift-step T r named gone f fs (goes named gone f) refl h k.0 in (both.0, lift T r named (goes named gone f) fs both.1 k.1)
+lift T r named gone (f ∷ fs) h k = let both = lift-step T r named gone f fs (is_frame_gone named gone f) refl h k.0 in (both.0, lift T r named (is_frame_gone named gone f) fs both.1 k.1)
 
-either : (r : RemovalRange) (n m : Stored → Bool) (fs : List Stored) (f : Stored) (b : Bool) → n f ≡ b → (b || m f) ≡ true → holds r f.frame.pts ≡ true → AllByRecursion (IsAhead r n) fs → (m f ≡ true → AllByRecursion (λ g. g.frame.sync ≡ true → holds r g.frame.pts ≡ true → f.frame.pts <ℤ g.frame.pts) (frames_without n fs)) → AllByRecursion (λ g. g.frame.sync ≡ true → holds r g.frame.pts ≡ true → f.frame.pts <ℤ g.frame.pts) fs
+either : (r : RemovalRange) (n m : Stored → Bool) (fs : List Stored) (f : Stored) (b : Bool) → n f ≡ b → (b || m f) ≡ true → has_time r f.frame.pts ≡ true → AllByRecursion (IsAhead r n) fs → (m f ≡ true → AllByRecursion (λ g. g.frame.sync ≡ true → has_time r g.frame.pts ≡ true → f.frame.pts <ℤ g.frame.pts) (frames_without n fs)) → AllByRecursion (λ g. g.frame.sync ≡ true → has_time r g.frame.pts ≡ true → f.frame.pts <ℤ g.frame.pts) fs
 either r n m fs f true e h held own rest = all_to (IsAhead r n) _ fs (λ g k s inside. k s inside f e held) own
 either r n m fs f false e h held own rest = lift (λ g. f.frame.pts <ℤ g.frame.pts) r n false fs (rest h) own
 
@@ -221,7 +221,7 @@ joined r n fs ms gs e own h =
     record {
       named = λ f. n f || h.named f;
       without = h.without ∙ ap (frames_without h.named) e ∙ cleared-cleared false false n h.named fs;
-      ahead = λ f k held. either r n h.named fs f (n f) refl k held own (λ m. subst (λ (zs : List Stored). AllByRecursion (λ g. g.frame.sync ≡ true → holds r g.frame.pts ≡ true → f.frame.pts <ℤ g.frame.pts) zs) e (h.ahead f m held));
+      ahead = λ f k held. either r n h.named fs f (n f) refl k held own (λ m. subst (λ (zs : List Stored). AllByRecursion (λ g. g.frame.sync ≡ true → has_time r g.frame.pts ≡ true → f.frame.pts <ℤ g.frame.pts) zs) e (h.ahead f m held));
     }
 
 -- ---- one removal after another
@@ -244,7 +244,7 @@ while_pick P k false ts us h g = g
 pub left_while : (r : RemovalRange) (new quota : ℕ) (d : Moment) (rs : List RemovalRange) (ts : List TrackState) (k : ℕ) (t : TrackState) → AllByRecursion (IsApart r) rs → slice_get ts k ≡ Some t → IfSome (slice_get (tracks_while_full new quota d rs ts) k) (λ u. IsLeftOf r t.frames u.frames)
 left_while r new quota d [] ts k t apart at = same_here r t (slice_get ts k) at
 left_while r new quota d (q ∷ rs) ts k t apart at =
-    let named = named_by q d t.frames in
+    let named = is_named_by q d t.frames in
     let next = track_after_removal q.start q.end d t in
     let there = slice_get-map (track_after_removal q.start q.end d) ts k ∙ ap (option_map (track_after_removal q.start q.end d)) at in
     while_pick (λ o. IfSome o (λ u. IsLeftOf r t.frames u.frames)) k (has_room new quota ts) ts (tracks_while_full new quota d rs (tracks_after_removal q.start q.end d ts))
@@ -253,7 +253,7 @@ left_while r new quota d (q ∷ rs) ts k t apart at =
     (λ u h. joined r named t.frames next.frames u.frames refl (ahead_each r q d t.frames apart.0) h)
     (left_while r new quota d rs (tracks_after_removal q.start q.end d ts) k next apart.1 there))
 
-pub left_of_each : (p : ℤ) (new quota : ℕ) (d : Moment) (ts : List TrackState) (r : RemovalRange) (k : ℕ) (t : TrackState) → HasRange r (removal_ranges d (sync_times (frames_of (lead_of ts)))) → holds r p ≡ true → slice_get ts k ≡ Some t → IfSome (slice_get (tracks_after_eviction p new quota d ts) k) (λ u. IsLeftOf r t.frames u.frames)
+pub left_of_each : (p : ℤ) (new quota : ℕ) (d : Moment) (ts : List TrackState) (r : RemovalRange) (k : ℕ) (t : TrackState) → HasRange r (removal_ranges d (sync_times (frames_of (lead_of ts)))) → has_time r p ≡ true → slice_get ts k ≡ Some t → IfSome (slice_get (tracks_after_eviction p new quota d ts) k) (λ u. IsLeftOf r t.frames u.frames)
 left_of_each p new quota d ts r k t has held at =
     let times = sync_times (frames_of (lead_of ts)) in
     let apart = apart_in_order r p (removal_ranges d times) held (all_apart r d times (rising_times (frames_of (lead_of ts))) has) in
@@ -279,25 +279,25 @@ both_true false b e h = cc
 held_by : (s p : ℤ) (m : Moment) → s ≤ℤ p → is_before p m ≡ true → (int_le s s && is_before s m) ≡ true
 held_by s p m le h = both_true (int_le s s) (is_before s m) (grind (arith, ints)) (moment_kept s p m le h)
 
-start_held : (r : RemovalRange) (p : ℤ) → holds r p ≡ true → holds r r.start ≡ true
+start_held : (r : RemovalRange) (p : ℤ) → has_time r p ≡ true → has_time r r.start ≡ true
 start_held r p h = held_by r.start p r.end (start_of r p h) (and_second (int_le r.start p) (is_before p r.end) h)
 
-spared_of : (r : RemovalRange) (p : ℤ) (d : Moment) (fs : List Stored) (f : Stored) → HasRange r (removal_ranges d (sync_times fs)) → holds r p ≡ true → (b : Bool) → holds r f.frame.pts ≡ b → (holds r f.frame.pts ≡ true → AllByRecursion (λ g. g.frame.sync ≡ true → holds r g.frame.pts ≡ true → f.frame.pts <ℤ g.frame.pts) fs) → b ≡ false
+spared_of : (r : RemovalRange) (p : ℤ) (d : Moment) (fs : List Stored) (f : Stored) → HasRange r (removal_ranges d (sync_times fs)) → has_time r p ≡ true → (b : Bool) → has_time r f.frame.pts ≡ b → (has_time r f.frame.pts ≡ true → AllByRecursion (λ g. g.frame.sync ≡ true → has_time r g.frame.pts ≡ true → f.frame.pts <ℤ g.frame.pts) fs) → b ≡ false
 spared_of r p d fs f has held true e ahead =
-    let each = times-each_sync (λ t. holds r t ≡ true → f.frame.pts <ℤ t) fs (ahead e) in
-    let less = all_has (λ t. holds r t ≡ true → f.frame.pts <ℤ t) r.start (sync_times fs) each (start_has r d (sync_times fs) has) (start_held r p held) in
+    let each = times-each_sync (λ t. has_time r t ≡ true → f.frame.pts <ℤ t) fs (ahead e) in
+    let less = all_has (λ t. has_time r t ≡ true → f.frame.pts <ℤ t) r.start (sync_times fs) each (start_has r d (sync_times fs) has) (start_held r p held) in
     let low = start_of r f.frame.pts e in
     absurd (omega (arith, ints))
 spared_of r p d fs f has held false e ahead = refl
 
-spared_from : (r : RemovalRange) (p : ℤ) (d : Moment) (fs gs : List Stored) → HasRange r (removal_ranges d (sync_times fs)) → holds r p ≡ true → IsLeftOf r fs gs → IsSparedIn r fs gs
+spared_from : (r : RemovalRange) (p : ℤ) (d : Moment) (fs gs : List Stored) → HasRange r (removal_ranges d (sync_times fs)) → has_time r p ≡ true → IsLeftOf r fs gs → IsSparedIn r fs gs
 spared_from r p d fs gs has held h = record {
   named = h.named;
   without = h.without;
-  spared = λ f k. spared_of r p d fs f has held (holds r f.frame.pts) refl (h.ahead f k);
+  spared = λ f k. spared_of r p d fs f has held (has_time r f.frame.pts) refl (h.ahead f k);
 }
 
-pub left_of_lead : (p : ℤ) (new quota : ℕ) (d : Moment) (ts : List TrackState) (r : RemovalRange) (k : ℕ) (t : TrackState) → HasRange r (removal_ranges d (sync_times (frames_of (lead_of ts)))) → holds r p ≡ true → lead_of ts ≡ Some t → slice_get ts k ≡ Some t → IfSome (slice_get (tracks_after_eviction p new quota d ts) k) (λ u. IsSparedIn r t.frames u.frames)
+pub left_of_lead : (p : ℤ) (new quota : ℕ) (d : Moment) (ts : List TrackState) (r : RemovalRange) (k : ℕ) (t : TrackState) → HasRange r (removal_ranges d (sync_times (frames_of (lead_of ts)))) → has_time r p ≡ true → lead_of ts ≡ Some t → slice_get ts k ≡ Some t → IfSome (slice_get (tracks_after_eviction p new quota d ts) k) (λ u. IsSparedIn r t.frames u.frames)
 left_of_lead p new quota d ts r k t has held lead at =
     if_to (slice_get (tracks_after_eviction p new quota d ts) k) (λ u. IsLeftOf r t.frames u.frames) (λ u. IsSparedIn r t.frames u.frames)
     (λ u h. spared_from r p d t.frames u.frames (subst (λ o. HasRange r (removal_ranges d (sync_times (frames_of o)))) lead has) held h)

@@ -99,13 +99,13 @@ filter_both p q (t ∷ ts) h = both-step p q t (filter q ts) (filter p ts) (p t)
 
 -- ---- filters and one more
 
-abbrev pub AllAfter : ℤ → List ℤ → Type 0
-AllAfter t ts = AllByRecursion (λ u. int_lt t u ≡ true) ts
+abbrev pub AreAllAfter : ℤ → List ℤ → Type 0
+AreAllAfter t ts = AllByRecursion (λ u. int_lt t u ≡ true) ts
 
 lt_is : (t u : ℤ) → t <ℤ u → int_lt t u ≡ true
 lt_is t u h = grind (arith, ints)
 
-with_first : (t : ℤ) (us : List ℤ) → AllAfter t us → with_time us t ≡ t ∷ us
+with_first : (t : ℤ) (us : List ℤ) → AreAllAfter t us → with_time us t ≡ t ∷ us
 with_first t [] h = refl
 with_first t (u ∷ us) h = ap (λ b. cond b (t ∷ u ∷ us) (cond (int_lt u t) (u ∷ with_time us t) (u ∷ us))) h.0
 
@@ -123,7 +123,7 @@ same-step : (p : ℤ → Bool) (u t : ℤ) (us : List ℤ) (x : Bool) → int_lt
 same-step p u t us true e f g = filter-step p u us true g ∙ sym (with-step t u (filter p us) false false e f)
 same-step p u t us false e f g = filter-step p u us false g
 
-first-step : (p : ℤ → Bool) (t : ℤ) (us : List ℤ) (y : Bool) → p t ≡ y → AllAfter t us → filter p (t ∷ us) ≡ cond y (with_time (filter p us) t) (filter p us)
+first-step : (p : ℤ → Bool) (t : ℤ) (us : List ℤ) (y : Bool) → p t ≡ y → AreAllAfter t us → filter p (t ∷ us) ≡ cond y (with_time (filter p us) t) (filter p us)
 first-step p t us true e h = filter-step p t us true e ∙ sym (with_first t (filter p us) (filter-each (λ u. int_lt t u ≡ true) p us h))
 first-step p t us false e h = filter-step p t us false e
 

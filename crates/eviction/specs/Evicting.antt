@@ -45,29 +45,29 @@ removal_ranges duration (t ∷ ts) =
     record { start = t; end = time_or (first_of ts) duration } ∷ removal_ranges duration ts
 
 -- the range ends at or before the position
-abbrev pub ends_up_to : ℤ → RemovalRange → Bool
-ends_up_to position r = is_at_or_before r.end position
+abbrev pub is_up_to_position : ℤ → RemovalRange → Bool
+is_up_to_position position r = is_at_or_before r.end position
 
 -- the range starts after the position
-abbrev pub starts_after : ℤ → RemovalRange → Bool
-starts_after position r = int_lt position r.start
+abbrev pub is_after_position : ℤ → RemovalRange → Bool
+is_after_position position r = int_lt position r.start
 
 -- the range holds a time
-abbrev pub holds : RemovalRange → ℤ → Bool
-holds r t = int_le r.start t && is_before t r.end
+abbrev pub has_time : RemovalRange → ℤ → Bool
+has_time r t = int_le r.start t && is_before t r.end
 
 -- step 3: the removal ranges in the order in which they go. First those that end at or before the current
 -- playback position, from the earliest on, and then those that start after it, from the latest back.
 abbrev pub ranges_in_order : ℤ → List RemovalRange → List RemovalRange
 ranges_in_order position rs =
-    filter (ends_up_to position) rs ++ reverse (filter (starts_after position) rs)
+    filter (is_up_to_position position) rs ++ reverse (filter (is_after_position position) rs)
 
 -- the new bytes have room beside those that are stored
-abbrev pub fits : ℕ → ℕ → ℕ → Bool
-fits used new quota = nat_le (used + new) quota
+abbrev pub is_within_quota : ℕ → ℕ → ℕ → Bool
+is_within_quota used new quota = nat_le (used + new) quota
 
 abbrev pub has_room : ℕ → ℕ → List TrackState → Bool
-has_room new quota ts = fits (bytes_in ts) new quota
+has_room new quota ts = is_within_quota (bytes_in ts) new quota
 
 -- step 4: one range after another is removed, until the new bytes have room
 abbrev pub tracks_while_full : ℕ → ℕ → Moment → List RemovalRange → List TrackState

@@ -4,7 +4,7 @@ use Rattle.std.specs.Prelude.{◌≡◌, ◌⊎◌, ◌<ℤ◌, Bool, true, fals
 use Rattle.std.specs.List.{AllByRecursion}
 use Rattle.track_store.specs.declared.store.Stored.{Stored}
 use Rattle.track_store.specs.Frames.{frames_without}
-use Rattle.eviction.specs.Evicting.{RemovalRange, holds}
+use Rattle.eviction.specs.Evicting.{RemovalRange, has_time}
 
 -- the range is one of the list
 abbrev pub HasRange : RemovalRange → List RemovalRange → Type 0
@@ -16,12 +16,12 @@ HasRange r (q ∷ qs) = (q ≡ r) ⊎ HasRange r qs
 pub record IsLeftOf (r : RemovalRange) (before left : List Stored) : Type 0 where
   pub named : Stored → Bool
   pub without : left ≡ frames_without named before
-  pub ahead : (f : Stored) → named f ≡ true → holds r f.frame.pts ≡ true
+  pub ahead : (f : Stored) → named f ≡ true → has_time r f.frame.pts ≡ true
       → AllByRecursion
-      (λ g. g.frame.sync ≡ true → holds r g.frame.pts ≡ true → f.frame.pts <ℤ g.frame.pts) before
+      (λ g. g.frame.sync ≡ true → has_time r g.frame.pts ≡ true → f.frame.pts <ℤ g.frame.pts) before
 
 -- the same, and no named frame begins in the range
 pub record IsSparedIn (r : RemovalRange) (before left : List Stored) : Type 0 where
   pub named : Stored → Bool
   pub without : left ≡ frames_without named before
-  pub spared : (f : Stored) → named f ≡ true → holds r f.frame.pts ≡ false
+  pub spared : (f : Stored) → named f ≡ true → has_time r f.frame.pts ≡ false

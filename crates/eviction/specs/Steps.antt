@@ -6,7 +6,7 @@ use Rattle.mse_base.specs.declared.ticks.Moment.TheVariants.{At}
 use Rattle.track_store.specs.State.{TrackState}
 use Rattle.mse_base.specs.Moments.{time_or}
 use Rattle.eviction.specs.declared.need.Need.{Need}
-use Rattle.eviction.specs.Evicting.{RemovalRange, frames_of, sync_times, removal_ranges, ends_up_to, tracks_while_full}
+use Rattle.eviction.specs.Evicting.{RemovalRange, frames_of, sync_times, removal_ranges, is_up_to_position, tracks_while_full}
 
 -- the times of the track at place k
 abbrev pub times_at : ℕ → List TrackState → List ℤ
@@ -34,7 +34,7 @@ ranges_back end (t ∷ ts) = record { start = t; end = end } ∷ ranges_back (At
 -- the ranges that are left to be removed before the position, from the one that starts at a time on
 abbrev pub left_before : ℤ → ℕ → Moment → Option ℤ → List TrackState → List RemovalRange
 left_before position k duration start ts =
-    filter (ends_up_to position) (removal_ranges duration (times_from start (times_at k ts)))
+    filter (is_up_to_position position) (removal_ranges duration (times_from start (times_at k ts)))
 
 -- the ranges that are left to be removed after the position, from the one that ends where the next starts back
 abbrev pub left_after : ℤ → ℕ → Moment → Option ℤ → List TrackState → List RemovalRange
@@ -42,9 +42,9 @@ left_after position k duration next ts =
     ranges_back (time_or next duration) (reverse (times_between position next (times_at k ts)))
 
 -- the tracks, where the ranges that are left to be removed of them go one by one while the new bytes have no room
-abbrev pub tracks_evicted : Need → Moment → (List TrackState → List RemovalRange) → List TrackState
+abbrev pub tracks_after_evicting : Need → Moment → (List TrackState → List RemovalRange) → List TrackState
     → List TrackState
-tracks_evicted need duration left ts =
+tracks_after_evicting need duration left ts =
     tracks_while_full need.new_bytes need.quota duration (left ts) ts
 
 -- the time is one of the list

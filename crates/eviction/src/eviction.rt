@@ -1,11 +1,11 @@
 ghost use Rattle.std.specs.Prelude.{◌≡◌, ◌<◌, ℕ, ℤ, Some, None, int_lt, not, filter, length, if◌then◌else◌, IfSome, MatchOption};
-ghost use Rattle.track_store.specs.Kept.{AreTracksSound, AreEndedBy, AreStillSound, HasSpareRoom, gaps_of};
+ghost use Rattle.track_store.specs.Kept.{AreSoundAndCountable, AreEndedBy, AreStillSound, HasSpareRoom, gaps_of};
 ghost use Rattle.track_store.specs.State.{states_of};
 ghost use Rattle.range_removal.specs.Rooms.{IsRoomKept};
 ghost use Rattle.range_removal.specs.Removal.{tracks_after_removal};
 ghost use Rattle.mse_base.specs.Moments.{is_at_or_before, time_or};
-ghost use Rattle.eviction.specs.Evicting.{ends_up_to, tracks_after_eviction, first_of, has_room, removal_ranges, tracks_while_full};
-ghost use Rattle.eviction.specs.Steps.{left_after, left_before, tracks_evicted, times_at, times_between, times_from};
+ghost use Rattle.eviction.specs.Evicting.{is_up_to_position, tracks_after_eviction, first_of, has_room, removal_ranges, tracks_while_full};
+ghost use Rattle.eviction.specs.Steps.{left_after, left_before, tracks_after_evicting, times_at, times_between, times_from};
 
 use crate::latest::latest_sync;
 use crate::lead::{first_sync, lead_of, sync_after};
@@ -38,7 +38,7 @@ fn remove_while_full<S: FrameStore>(
         then tracks_after_removal start (time_or next.now duration.now) duration.now
         (states_of S.frames tracks.old.items)
         else states_of S.frames tracks.old.items) }
-    ensures spare { IsRoomKept S.spare tracks.old.items tracks.new.items }
+    ensures no_room_lost { IsRoomKept S.spare tracks.old.items tracks.new.items }
     ensures gaps { gaps_of S.gap tracks.new.items ≡ gaps_of S.gap tracks.old.items }
     ensures places { tracks.new.spare ≡ tracks.old.spare }
 {
@@ -61,9 +61,10 @@ fn evict_before_step<S: FrameStore>(
 ) -> Option<Ticks>
     requires first { first_of (times_from (Some start)
         (times_at lead (states_of S.frames tracks.old.items))) ≡ Some start }
-    ensures states { tracks_evicted need.now duration.now
+    ensures states { tracks_after_evicting need.now duration.now
         (left_before position lead duration.now result) (states_of S.frames tracks.new.items)
-        ≡ tracks_evicted need.now duration.now (left_before position lead duration.now (Some start))
+        ≡ tracks_after_evicting need.now duration.now
+        (left_before position lead duration.now (Some start))
         (states_of S.frames tracks.old.items) }
     ensures first { first_of (times_from result
         (times_at lead (states_of S.frames tracks.new.items))) ≡ result }
@@ -71,7 +72,7 @@ fn evict_before_step<S: FrameStore>(
         < length (times_from (Some start) (times_at lead (states_of S.frames tracks.old.items))) }
     ensures later { filter (int_lt position) (times_at lead (states_of S.frames tracks.new.items))
         ≡ filter (int_lt position) (times_at lead (states_of S.frames tracks.old.items)) }
-    ensures spare { IsRoomKept S.spare tracks.old.items tracks.new.items }
+    ensures no_room_lost { IsRoomKept S.spare tracks.old.items tracks.new.items }
     ensures gaps { gaps_of S.gap tracks.new.items ≡ gaps_of S.gap tracks.old.items }
     ensures places { tracks.new.spare ≡ tracks.old.spare }
 {
@@ -97,12 +98,12 @@ fn evict_before<S: FrameStore>(
 )
     ensures states { states_of S.frames tracks.new.items
         ≡ tracks_while_full need.now.new_bytes need.now.quota duration.now
-        (filter (ends_up_to position) (removal_ranges duration.now
+        (filter (is_up_to_position position) (removal_ranges duration.now
         (times_at lead (states_of S.frames tracks.old.items))))
         (states_of S.frames tracks.old.items) }
     ensures later { filter (int_lt position) (times_at lead (states_of S.frames tracks.new.items))
         ≡ filter (int_lt position) (times_at lead (states_of S.frames tracks.old.items)) }
-    ensures spare { IsRoomKept S.spare tracks.old.items tracks.new.items }
+    ensures no_room_lost { IsRoomKept S.spare tracks.old.items tracks.new.items }
     ensures gaps { gaps_of S.gap tracks.new.items ≡ gaps_of S.gap tracks.old.items }
     ensures places { tracks.new.spare ≡ tracks.old.spare }
 {
@@ -123,17 +124,17 @@ fn evict_after_step<S: FrameStore>(
     duration: &Moment,
 ) -> Option<Ticks>
     ensures states { MatchOption result
-        (states_of S.frames tracks.new.items ≡ tracks_evicted need.now duration.now
+        (states_of S.frames tracks.new.items ≡ tracks_after_evicting need.now duration.now
         (left_after position lead duration.now next.now) (states_of S.frames tracks.old.items))
-        (λ start. tracks_evicted need.now duration.now
+        (λ start. tracks_after_evicting need.now duration.now
         (left_after position lead duration.now (Some start)) (states_of S.frames tracks.new.items)
-        ≡ tracks_evicted need.now duration.now
+        ≡ tracks_after_evicting need.now duration.now
         (left_after position lead duration.now next.now) (states_of S.frames tracks.old.items)) }
     ensures fewer { IfSome result (λ start. length (times_between position (Some start)
         (times_at lead (states_of S.frames tracks.new.items)))
         < length (times_between position next.now
         (times_at lead (states_of S.frames tracks.old.items)))) }
-    ensures spare { IsRoomKept S.spare tracks.old.items tracks.new.items }
+    ensures no_room_lost { IsRoomKept S.spare tracks.old.items tracks.new.items }
     ensures gaps { gaps_of S.gap tracks.new.items ≡ gaps_of S.gap tracks.old.items }
     ensures places { tracks.new.spare ≡ tracks.old.spare }
 {
@@ -157,9 +158,10 @@ fn evict_after<S: FrameStore>(
     need: &Need,
     duration: &Moment,
 )
-    ensures states { states_of S.frames tracks.new.items ≡ tracks_evicted need.now duration.now
+    ensures states { states_of S.frames tracks.new.items
+        ≡ tracks_after_evicting need.now duration.now
         (left_after position lead duration.now None) (states_of S.frames tracks.old.items) }
-    ensures spare { IsRoomKept S.spare tracks.old.items tracks.new.items }
+    ensures no_room_lost { IsRoomKept S.spare tracks.old.items tracks.new.items }
     ensures gaps { gaps_of S.gap tracks.new.items ≡ gaps_of S.gap tracks.old.items }
     ensures places { tracks.new.spare ≡ tracks.old.spare }
 {
@@ -190,11 +192,11 @@ pub fn evict<S: FrameStore>(
         (states_of S.frames tracks.old.items) }
     ensures sound { AreStillSound (states_of S.frames tracks.old.items)
         (states_of S.frames tracks.new.items) }
-    ensures tracks_sound { AreTracksSound (states_of S.frames tracks.old.items)
-        → AreTracksSound (states_of S.frames tracks.new.items) }
+    ensures sound_and_countable { AreSoundAndCountable (states_of S.frames tracks.old.items)
+        → AreSoundAndCountable (states_of S.frames tracks.new.items) }
     ensures ends { (limit : ℤ) → AreEndedBy limit (states_of S.frames tracks.old.items)
         → AreEndedBy limit (states_of S.frames tracks.new.items) }
-    ensures spare { IsRoomKept S.spare tracks.old.items tracks.new.items }
+    ensures no_room_lost { IsRoomKept S.spare tracks.old.items tracks.new.items }
     ensures room { (n : ℕ) → HasSpareRoom S.spare n tracks.old.items
         → HasSpareRoom S.spare n tracks.new.items }
     ensures gaps { gaps_of S.gap tracks.new.items ≡ gaps_of S.gap tracks.old.items }

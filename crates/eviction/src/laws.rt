@@ -4,14 +4,14 @@
 ghost use Rattle.std.specs.Prelude.{◌≡◌, ℕ, ℤ, true, false, List, Some, slice_get, IfSome};
 ghost use Rattle.std.specs.List.{AllByRecursion};
 ghost use Rattle.mse_base.specs.declared.ticks.Moment.{Moment};
-ghost use Rattle.eviction.specs.Evicting.{RemovalRange, frames_of, holds, lead_of, ranges_in_order, removal_ranges, sync_times, tracks_after_eviction};
+ghost use Rattle.eviction.specs.Evicting.{RemovalRange, frames_of, has_time, lead_of, ranges_in_order, removal_ranges, sync_times, tracks_after_eviction};
 ghost use Rattle.eviction.specs.Spared.{HasRange, IsLeftOf, IsSparedIn};
 ghost use Rattle.track_store.specs.State.{TrackState};
 
 /// No range that is removed holds the current playback position.
 pub fn no_range_holds_the_position()
     ensures { (position : ℤ) (ranges : List RemovalRange)
-        → AllByRecursion (λ r. holds r position ≡ false) (ranges_in_order position ranges) }
+        → AllByRecursion (λ r. has_time r position ≡ false) (ranges_in_order position ranges) }
 {}
 
 /// What is left after an eviction of the frames that begin in the removal range which holds the
@@ -22,13 +22,13 @@ pub fn position_stays()
     ensures lead { (position : ℤ) (new quota : ℕ) (d : Moment) (ts : List TrackState)
         (r : RemovalRange) (k : ℕ) (t : TrackState)
         → HasRange r (removal_ranges d (sync_times (frames_of (lead_of ts))))
-        → holds r position ≡ true → lead_of ts ≡ Some t → slice_get ts k ≡ Some t
+        → has_time r position ≡ true → lead_of ts ≡ Some t → slice_get ts k ≡ Some t
         → IfSome (slice_get (tracks_after_eviction position new quota d ts) k)
         (λ u. IsSparedIn r t.frames u.frames) }
     ensures every_track { (position : ℤ) (new quota : ℕ) (d : Moment) (ts : List TrackState)
         (r : RemovalRange) (k : ℕ) (t : TrackState)
         → HasRange r (removal_ranges d (sync_times (frames_of (lead_of ts))))
-        → holds r position ≡ true → slice_get ts k ≡ Some t
+        → has_time r position ≡ true → slice_get ts k ≡ Some t
         → IfSome (slice_get (tracks_after_eviction position new quota d ts) k)
         (λ u. IsLeftOf r t.frames u.frames) }
 {}

@@ -2,7 +2,7 @@ ghost use Rattle.std.specs.Prelude.{◌≡◌, ◌<◌, ◌^◌, nat_lt, IfSome,
 ghost use Rattle.track_store.specs.Frames.{bytes_of};
 ghost use Rattle.track_store.specs.Kept.{bytes_in};
 ghost use Rattle.track_store.specs.State.{states_of};
-ghost use Rattle.eviction.specs.Evicting.{fits, has_room};
+ghost use Rattle.eviction.specs.Evicting.{is_within_quota, has_room};
 
 use track_store::{FrameStore, Tracks};
 
@@ -17,8 +17,8 @@ pub struct Need {
 
 impl Need {
     /// Whether the new bytes have room beside so many others.
-    fn fits(&self, used_bytes: u128) -> bool
-        ensures { result ≡ fits used_bytes self.now.new_bytes self.now.quota }
+    fn is_within_quota(&self, used_bytes: u128) -> bool
+        ensures { result ≡ is_within_quota used_bytes self.now.new_bytes self.now.quota }
     {
         self.new_bytes <= self.quota && used_bytes <= u128::from(self.quota - self.new_bytes)
     }
@@ -59,5 +59,5 @@ pub fn has_room<S: FrameStore>(tracks: &Tracks<S>, need: &Need) -> bool
     ensures { result ≡ has_room need.now.new_bytes need.now.quota
         (states_of S.frames tracks.now.items) }
 {
-    need.fits(bytes_stored(tracks))
+    need.is_within_quota(bytes_stored(tracks))
 }

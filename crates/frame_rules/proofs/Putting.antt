@@ -132,10 +132,10 @@ pub used_put : (w : Timing) (f : CodedFrame) (t : TrackState) → bytes_of (trac
 used_put w f t = used_by (drop_reason w f.sync t.marks.need_sync) w f t
 
 -- all frames of the track end by a time still, or by the group end timestamp after a frame that was stored
-abbrev pub AllEnd : ℤ → List Stored → Type 0
-AllEnd limit fs = AllByRecursion (λ f. (f.frame.pts +ℤ f.frame.dur) ≤ℤ limit) fs
+abbrev pub AreFramesEndedBy : ℤ → List Stored → Type 0
+AreFramesEndedBy limit fs = AllByRecursion (λ f. (f.frame.pts +ℤ f.frame.dur) ≤ℤ limit) fs
 
-end_by : (why : Option Why) (w : Timing) (f : CodedFrame) (limit : ℤ) (t : TrackState) → IsSound t → IsTimingOf f w → AllEnd limit t.frames → AllEnd (limit_after (answer_by_reason why) limit (settings_after_frame (answer_by_reason why) w).group_end) (track_by_reason why w f t).frames
+end_by : (why : Option Why) (w : Timing) (f : CodedFrame) (limit : ℤ) (t : TrackState) → IsSound t → IsTimingOf f w → AreFramesEndedBy limit t.frames → AreFramesEndedBy (limit_after (answer_by_reason why) limit (settings_after_frame (answer_by_reason why) w).group_end) (track_by_reason why w f t).frames
 end_by (Some why) w f limit t h timing low = low
 end_by None w f limit t h timing low =
     let group_end = int_max w.settings.group_end w.end in
@@ -146,7 +146,7 @@ end_by None w f limit t h timing low =
     let own : (w.pts +ℤ f.dur) ≤ℤ int_max limit group_end = omega (arith, ints) in
     each-push (λ g. (g.frame.pts +ℤ g.frame.dur) ≤ℤ int_max limit group_end) (track_with_room w.pts w.end t).frames (stored_frame w t.marks.received f) room own
 
-pub end_put : (w : Timing) (f : CodedFrame) (limit : ℤ) (t : TrackState) → IsSound t → IsTimingOf f w → AllEnd limit t.frames → AllEnd (limit_after (answer_by_reason (drop_reason w f.sync t.marks.need_sync)) limit (settings_after_frame (answer_by_reason (drop_reason w f.sync t.marks.need_sync)) w).group_end) (track_after_frame w f t).frames
+pub end_put : (w : Timing) (f : CodedFrame) (limit : ℤ) (t : TrackState) → IsSound t → IsTimingOf f w → AreFramesEndedBy limit t.frames → AreFramesEndedBy (limit_after (answer_by_reason (drop_reason w f.sync t.marks.need_sync)) limit (settings_after_frame (answer_by_reason (drop_reason w f.sync t.marks.need_sync)) w).group_end) (track_after_frame w f t).frames
 end_put w f limit t h timing low = end_by (drop_reason w f.sync t.marks.need_sync) w f limit t h timing low
 
 -- the track after a frame that is not dropped, step by step

@@ -15,7 +15,7 @@ use Rattle.frame_rules.specs.declared.timing.Timing.{Timing}
 use Rattle.frame_rules.specs.Timing.{raw_time, settings_at_group_start, offset_to, timing_in_pass, is_discontinuous, settings_after_discontinuity, timing_of, IsTimingOf}
 use Rattle.frame_rules.specs.Put.{track_after_frame, answer_by_reason, drop_reason}
 use Rattle.frame_rules.specs.declared.answer.Placed.{Placed}
-use Rattle.track_store.specs.Kept.{bytes_in, AreTracksSound, AreEndedBy, AreStillSound}
+use Rattle.track_store.specs.Kept.{bytes_in, AreSoundAndCountable, AreEndedBy, AreStillSound}
 use Rattle.frame_rules.specs.Place.{Placement, track_after_reset, placement_in_track, placement_at_times, placement_by_times, placement_in, placement, is_over_limit, new_placement, settings_after_frame, limit_after}
 use Rattle.frame_rules.specs.declared.answer.Placed.TheVariants as placed_as
 use Rattle.std.proofs.lemmas.List.Sums.{sum_by-cons}
@@ -58,27 +58,27 @@ timing_is s m f =
     own)
 
 -- the window stays where a frame is placed
-abbrev SameWindow : Settings → Settings → Type 0
-SameWindow s t = t.window_start ≡ s.window_start
+abbrev HasSameWindowStart : Settings → Settings → Type 0
+HasSameWindowStart s t = t.window_start ≡ s.window_start
 
-aligned_window : (s : Settings) (g : Option ℤ) (p : ℤ) → IfSome (offset_to s g p) (SameWindow s)
+aligned_window : (s : Settings) (g : Option ℤ) (p : ℤ) → IfSome (offset_to s g p) (HasSameWindowStart s)
 aligned_window s None p = refl
-aligned_window s (Some g) p = if_some_then (tick _) _ (SameWindow s) (λ offset. refl)
+aligned_window s (Some g) p = if_some_then (tick _) _ (HasSameWindowStart s) (λ offset. refl)
 
-moved_window : (s : Settings) (f : CodedFrame) → IfSome (timing_in_pass s f) (λ w. SameWindow s w.settings)
+moved_window : (s : Settings) (f : CodedFrame) → IfSome (timing_in_pass s f) (λ w. HasSameWindowStart s w.settings)
 moved_window s f =
-    if_some_chain (settings_at_group_start s (raw_time s f.pts)) _ (SameWindow s) (λ w. SameWindow s w.settings) (if_some_cond s.sequence (offset_to s s.group_start (raw_time s f.pts)) (Some s) (SameWindow s) (aligned_window s s.group_start (raw_time s f.pts)) refl)
+    if_some_chain (settings_at_group_start s (raw_time s f.pts)) _ (HasSameWindowStart s) (λ w. HasSameWindowStart s w.settings) (if_some_cond s.sequence (offset_to s s.group_start (raw_time s f.pts)) (Some s) (HasSameWindowStart s) (aligned_window s s.group_start (raw_time s f.pts)) refl)
     (λ t same. if_some_then (tick _) _ _ (λ p. if_some_then (tick _) _ _ (λ d. if_some_then (tick _) _ _ (λ e. same))))
 
-broken_window : (s : Settings) (p : ℤ) (b : Bool) → SameWindow s (cond b (record s { group_start = Some s.group_end }) (record s { group_end = p }))
+broken_window : (s : Settings) (p : ℤ) (b : Bool) → HasSameWindowStart s (cond b (record s { group_start = Some s.group_end }) (record s { group_end = p }))
 broken_window s p true = refl
 broken_window s p false = refl
 
-times_window : (s : Settings) (m : Marks) (f : CodedFrame) → IfSome (timing_of s m f) (λ w. SameWindow s w.settings)
+times_window : (s : Settings) (m : Marks) (f : CodedFrame) → IfSome (timing_of s m f) (λ w. HasSameWindowStart s w.settings)
 times_window s m f =
-    if_some_chain (timing_in_pass s f) _ (λ w. SameWindow s w.settings) (λ w. SameWindow s w.settings) (moved_window s f)
-    (λ w same. if_some_cond (is_discontinuous m w.dts) _ (Some w) (λ v. SameWindow s v.settings)
-    (if_some_chain (timing_in_pass (settings_after_discontinuity w.settings w.pts) f) _ (λ v. SameWindow (settings_after_discontinuity w.settings w.pts) v.settings) (λ v. SameWindow s v.settings) (moved_window (settings_after_discontinuity w.settings w.pts) f)
+    if_some_chain (timing_in_pass s f) _ (λ w. HasSameWindowStart s w.settings) (λ w. HasSameWindowStart s w.settings) (moved_window s f)
+    (λ w same. if_some_cond (is_discontinuous m w.dts) _ (Some w) (λ v. HasSameWindowStart s v.settings)
+    (if_some_chain (timing_in_pass (settings_after_discontinuity w.settings w.pts) f) _ (λ v. HasSameWindowStart (settings_after_discontinuity w.settings w.pts) v.settings) (λ v. HasSameWindowStart s v.settings) (moved_window (settings_after_discontinuity w.settings w.pts) f)
     (λ v step. step ∙ broken_window w.settings w.pts w.settings.sequence ∙ same))
     same)
 
@@ -133,7 +133,7 @@ firm_at w f i ts less fits low lasts timing =
     let put = firm_in (slice_get reset i) w f i reset refl (less_reset w ts i less) (omega arith) low lasts timing in
     record { sound = still_both ts reset _ (still_map (track_after_reset w) ts (sound_break w)) put.sound; small = put.small }
 
-firm_times : (o : Option Timing) (s : Settings) (f : CodedFrame) (i : ℕ) (ts : List TrackState) → IfSome o (λ w. SameWindow s w.settings) → IfSome o (IsTimingOf f) → IfSome (slice_get ts i) (λ t. t.marks.received < 2 ^ 62) → bytes_in ts + length f.payload < 2 ^ 62 → pos 0 ≤ℤ s.window_start → pos 0 ≤ℤ f.dur → IsFirm ts (placement_by_times o s f i ts).tracks
+firm_times : (o : Option Timing) (s : Settings) (f : CodedFrame) (i : ℕ) (ts : List TrackState) → IfSome o (λ w. HasSameWindowStart s w.settings) → IfSome o (IsTimingOf f) → IfSome (slice_get ts i) (λ t. t.marks.received < 2 ^ 62) → bytes_in ts + length f.payload < 2 ^ 62 → pos 0 ≤ℤ s.window_start → pos 0 ≤ℤ f.dur → IsFirm ts (placement_by_times o s f i ts).tracks
 firm_times None s f i ts same timing less fits low lasts = firm_same ts (omega arith)
 firm_times (Some w) s f i ts same timing less fits low lasts = firm_at w f i ts less fits (subst (λ (z : ℤ). pos 0 ≤ℤ z) (sym same) low) lasts timing
 
@@ -151,29 +151,29 @@ firm_of (Some t) ts s i f e own small low lasts = firm_cond (is_over_limit t.mar
 pub firm_left : (news : List TrackState) (o : Placement) (ts : List TrackState) (s : Settings) (i : ℕ) (f : CodedFrame) → o.tracks ≡ news → o ≡ placement ts s i f → IfSome (slice_get ts i) IsSound → bytes_in ts < 2 ^ 62 → pos 0 ≤ℤ s.window_start → pos 0 ≤ℤ f.dur → IsFirm ts news
 firm_left news o ts s i f own is sound small low lasts = subst (λ (us : List TrackState). IsFirm ts us) (sym (ap (λ p. p.tracks) is) ∙ own) (firm_of (slice_get ts i) ts s i f refl sound small low lasts)
 
-pub kept_of : (ts us : List TrackState) → IsFirm ts us → AreTracksSound ts → AreTracksSound us
+pub kept_of : (ts us : List TrackState) → IsFirm ts us → AreSoundAndCountable ts → AreSoundAndCountable us
 kept_of ts us firm h = record { sound = all_still ts us firm.sound h.sound; small = firm.small }
 
 -- the window stays
-answer_window : (answer : Placed) (w : Timing) → SameWindow w.settings (settings_after_frame answer w)
+answer_window : (answer : Placed) (w : Timing) → HasSameWindowStart w.settings (settings_after_frame answer w)
 answer_window placed_as.Stored w = refl
 answer_window (placed_as.Dropped why) w = refl
 answer_window placed_as.TimeRange w = refl
 answer_window placed_as.Counts w = refl
 
-in_window : (o : Option TrackState) (w : Timing) (f : CodedFrame) (i : ℕ) (ts : List TrackState) → SameWindow w.settings (placement_in_track o w f i ts).settings
+in_window : (o : Option TrackState) (w : Timing) (f : CodedFrame) (i : ℕ) (ts : List TrackState) → HasSameWindowStart w.settings (placement_in_track o w f i ts).settings
 in_window None w f i ts = refl
 in_window (Some t) w f i ts = answer_window (answer_by_reason (drop_reason w f.sync t.marks.need_sync)) w
 
-by_window : (o : Option Timing) (s : Settings) (f : CodedFrame) (i : ℕ) (ts : List TrackState) → IfSome o (λ w. SameWindow s w.settings) → SameWindow s (placement_by_times o s f i ts).settings
+by_window : (o : Option Timing) (s : Settings) (f : CodedFrame) (i : ℕ) (ts : List TrackState) → IfSome o (λ w. HasSameWindowStart s w.settings) → HasSameWindowStart s (placement_by_times o s f i ts).settings
 by_window None s f i ts same = refl
 by_window (Some w) s f i ts same = in_window (slice_get (map (track_after_reset w) ts) i) w f i (map (track_after_reset w) ts) ∙ same
 
-cond_window : (b : Bool) (s : Settings) (x y : Placement) → SameWindow s x.settings → SameWindow s y.settings → SameWindow s (cond b x y).settings
+cond_window : (b : Bool) (s : Settings) (x y : Placement) → HasSameWindowStart s x.settings → HasSameWindowStart s y.settings → HasSameWindowStart s (cond b x y).settings
 cond_window true s x y p q = p
 cond_window false s x y p q = q
 
-of_window : (o : Option TrackState) (ts : List TrackState) (s : Settings) (i : ℕ) (f : CodedFrame) → SameWindow s (placement_in o ts s i f).settings
+of_window : (o : Option TrackState) (ts : List TrackState) (s : Settings) (i : ℕ) (f : CodedFrame) → HasSameWindowStart s (placement_in o ts s i f).settings
 of_window None ts s i f = refl
 of_window (Some t) ts s i f = cond_window (is_over_limit t.marks.received (bytes_in ts) (length f.payload)) s _ _ refl (by_window (timing_of s t.marks f) s f i ts (times_window s t.marks f))
 
@@ -226,20 +226,20 @@ end_times None s f i ts limit timing sound h = h
 end_times (Some w) s f i ts limit timing sound h = end_at w f i ts limit sound timing h
 
 -- a placement whose frames end by a time, or by the group end timestamp
-abbrev EndsBy : ℤ → Placement → Type 0
-EndsBy limit o = AreEndedBy (limit_after o.answer limit o.settings.group_end) o.tracks
+abbrev IsPlacementEndedBy : ℤ → Placement → Type 0
+IsPlacementEndedBy limit o = AreEndedBy (limit_after o.answer limit o.settings.group_end) o.tracks
 
-end_cond : (limit : ℤ) (b : Bool) (x y : Placement) → EndsBy limit x → EndsBy limit y → EndsBy limit (cond b x y)
+end_cond : (limit : ℤ) (b : Bool) (x y : Placement) → IsPlacementEndedBy limit x → IsPlacementEndedBy limit y → IsPlacementEndedBy limit (cond b x y)
 end_cond limit true x y p q = p
 end_cond limit false x y p q = q
 
-end_of : (o : Option TrackState) (ts : List TrackState) (s : Settings) (i : ℕ) (f : CodedFrame) (limit : ℤ) → IfSome (slice_get ts i) IsSound → AreEndedBy limit ts → EndsBy limit (placement_in o ts s i f)
+end_of : (o : Option TrackState) (ts : List TrackState) (s : Settings) (i : ℕ) (f : CodedFrame) (limit : ℤ) → IfSome (slice_get ts i) IsSound → AreEndedBy limit ts → IsPlacementEndedBy limit (placement_in o ts s i f)
 end_of None ts s i f limit sound h = h
 end_of (Some t) ts s i f limit sound h = end_cond limit (is_over_limit t.marks.received (bytes_in ts) (length f.payload)) (new_placement placed_as.Counts ts s) (placement_by_times (timing_of s t.marks f) s f i ts) h (end_times (timing_of s t.marks f) s f i ts limit (timing_is s t.marks f) sound h)
 
-pub end_placed : (ts : List TrackState) (s : Settings) (i : ℕ) (f : CodedFrame) (limit : ℤ) → IfSome (slice_get ts i) IsSound → AreEndedBy limit ts → EndsBy limit (placement ts s i f)
+pub end_placed : (ts : List TrackState) (s : Settings) (i : ℕ) (f : CodedFrame) (limit : ℤ) → IfSome (slice_get ts i) IsSound → AreEndedBy limit ts → IsPlacementEndedBy limit (placement ts s i f)
 end_placed ts s i f limit sound h = end_of (slice_get ts i) ts s i f limit sound h
 
 -- the same of a placement that is what the definition leaves
 pub end_left : (answer : Placed) (news : List TrackState) (settings : Settings) (ts : List TrackState) (s : Settings) (i : ℕ) (f : CodedFrame) (limit : ℤ) → new_placement answer news settings ≡ placement ts s i f → IfSome (slice_get ts i) IsSound → AreEndedBy limit ts → AreEndedBy (limit_after answer limit settings.group_end) news
-end_left answer news settings ts s i f limit is sound h = subst (λ (o : Placement). EndsBy limit o) (sym is) (end_placed ts s i f limit sound h)
+end_left answer news settings ts s i f limit is sound h = subst (λ (o : Placement). IsPlacementEndedBy limit o) (sym is) (end_placed ts s i f limit sound h)

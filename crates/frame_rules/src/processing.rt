@@ -1,7 +1,7 @@
 ghost use Rattle.std.specs.Prelude.{◌≡◌, ◌+◌, ◌<◌, ◌≤◌, ◌^◌, ℕ, ℤ, pos, ◌≤ℤ◌, ◌||◌, length, map, slice_get, slice_set, false, Some, IfSome, OnSome};
 ghost use Rattle.track_store.specs.State.{state_of, states_of};
 ghost use Rattle.track_store.specs.Sound.{IsSound};
-ghost use Rattle.track_store.specs.Kept.{bytes_in, AreTracksSound, AreStillSound, HasSpareRoom, gaps_of, AreEndedBy};
+ghost use Rattle.track_store.specs.Kept.{bytes_in, AreSoundAndCountable, AreStillSound, HasSpareRoom, gaps_of, AreEndedBy};
 ghost use Rattle.frame_rules.specs.Put.{drop_reason, track_after_frame, answer_by_reason};
 ghost use Rattle.frame_rules.specs.Plain.{timing_by};
 ghost use Rattle.frame_rules.specs.Timing.{timing_of, IsTimingOf};
@@ -298,8 +298,8 @@ pub fn place_with_used<S: FrameStore>(
     ensures sound { AreStillSound (states_of S.frames tracks.old.items)
         (states_of S.frames tracks.new.items) }
     ensures small { bytes_in (states_of S.frames tracks.new.items) < 2 ^ 62 }
-    ensures tracks_sound { AreTracksSound (states_of S.frames tracks.old.items)
-        → AreTracksSound (states_of S.frames tracks.new.items) }
+    ensures sound_and_countable { AreSoundAndCountable (states_of S.frames tracks.old.items)
+        → AreSoundAndCountable (states_of S.frames tracks.new.items) }
     ensures window_start { pos 0 ≤ℤ settings.new.window_start }
     ensures ends { (limit : ℤ) → AreEndedBy limit (states_of S.frames tracks.old.items)
         → AreEndedBy (limit_after result limit settings.new.group_end)
@@ -341,8 +341,8 @@ pub fn place<S: FrameStore>(
     ensures sound { AreStillSound (states_of S.frames tracks.old.items)
         (states_of S.frames tracks.new.items) }
     ensures small { bytes_in (states_of S.frames tracks.new.items) < 2 ^ 62 }
-    ensures tracks_sound { AreTracksSound (states_of S.frames tracks.old.items)
-        → AreTracksSound (states_of S.frames tracks.new.items) }
+    ensures sound_and_countable { AreSoundAndCountable (states_of S.frames tracks.old.items)
+        → AreSoundAndCountable (states_of S.frames tracks.new.items) }
     ensures window_start { pos 0 ≤ℤ settings.new.window_start }
     ensures ends { (limit : ℤ) → AreEndedBy limit (states_of S.frames tracks.old.items)
         → AreEndedBy (limit_after result limit settings.new.group_end)

@@ -19,7 +19,7 @@ use Rattle.overlap_rules.specs.declared.room.OverlapRule.TheVariants.{Remove, Sh
 use Rattle.overlap_rules.specs.Overlap.{rule_for, overlapped_after, removal_start, is_removed_from, is_removed, frames_left_by_rule, frames_left_by_overlap, track_with_room}
 
 -- what removals and cuts keep of a track's frames
-pub record Firm (received : ℕ) (first : Option ℕ) (fs : List Stored) : Type 0 where
+pub record HasRemovalInvariants (received : ℕ) (first : Option ℕ) (fs : List Stored) : Type 0 where
   pub chained : IsChained None fs
   pub ascending : IsAscending fs
   pub below : AllByRecursion (λ f. f.serial < received) fs
@@ -67,7 +67,7 @@ hit_of : (p : ℤ) (fs : List Stored) (o : Option Stored) → IfSome o (λ g. is
 hit_of p fs None a b c d = tt
 hit_of p fs (Some g) a b c d = record { over = a; not_negative = b; timed = c; own = d }
 
-hit_is : (decode : Option ℤ) (p : ℤ) (received : ℕ) (first : Option ℕ) (fs : List Stored) → Firm received first fs → IfSome (overlapped_after decode p fs) (IsHit p fs)
+hit_is : (decode : Option ℤ) (p : ℤ) (received : ℕ) (first : Option ℕ) (fs : List Stored) → HasRemovalInvariants received first fs → IfSome (overlapped_after decode p fs) (IsHit p fs)
 hit_is None p received first fs h = hit_of p fs (overlapped p fs) (overlapped-covers p fs) (overlapped-each IsNotNegative p fs h.not_negative) (overlapped-each IsTimed p fs h.timed) (overlapped-each (IsOwn fs) p fs (each-own fs h.ascending))
 hit_is (Some last) p received first fs h = tt
 
@@ -156,7 +156,7 @@ ascending-left kind p (Some g) removed fs h =
     (ascending-cleared false removed (frames_with_dur g.serial (p -ℤ g.frame.pts) fs) (ascending-shortened g.serial (p -ℤ g.frame.pts) fs h))
     (ascending-cleared false removed fs h)
 
-firm-left : (received : ℕ) (first : Option ℕ) (kind : Kind) (p : ℤ) (hit : Option Stored) (removed : Stored → Bool) (fs : List Stored) → IfSome hit (IsHit p fs) → Firm received first fs → Firm received first (frames_left_by_overlap kind p hit removed fs)
+firm-left : (received : ℕ) (first : Option ℕ) (kind : Kind) (p : ℤ) (hit : Option Stored) (removed : Stored → Bool) (fs : List Stored) → IfSome hit (IsHit p fs) → HasRemovalInvariants received first fs → HasRemovalInvariants received first (frames_left_by_overlap kind p hit removed fs)
 firm-left received first kind p hit removed fs is h =
     let own = if_hit hit (IsHit p fs) (IsOwn fs) (λ g k. k.own) is in
     record {
@@ -168,11 +168,11 @@ firm-left received first kind p hit removed fs is h =
       group_sync = if_some first (λ n. AllByRecursion (λ f. f.serial ≡ n → f.frame.sync ≡ true) fs) (λ n. AllByRecursion (λ f. f.serial ≡ n → f.frame.sync ≡ true) (frames_left_by_overlap kind p hit removed fs)) (λ n k. left-stable (λ f. f.serial ≡ n → f.frame.sync ≡ true) kind p hit removed fs (λ dur f j. j) k) h.group_sync;
     }
 
-firm_of : (t : TrackState) → IsSound t → Firm t.marks.received t.marks.group_first t.frames
+firm_of : (t : TrackState) → IsSound t → HasRemovalInvariants t.marks.received t.marks.group_first t.frames
 firm_of t h = record { chained = h.chained; ascending = h.ascending; below = h.below; not_negative = h.not_negative; timed = h.timed; group_sync = h.group_sync }
 
 -- the frames that are left
-pub firm_room : (p e : ℤ) (t : TrackState) → IsSound t → Firm t.marks.received t.marks.group_first (track_with_room p e t).frames
+pub firm_room : (p e : ℤ) (t : TrackState) → IsSound t → HasRemovalInvariants t.marks.received t.marks.group_first (track_with_room p e t).frames
 firm_room p e t h = let firm = firm_of t h in firm-left _ _ t.kind p (overlapped_after t.marks.last_decode p t.frames) (is_removed t.marks p e) t.frames (hit_is t.marks.last_decode p t.marks.received t.marks.group_first t.frames firm) firm
 
 used-rule : (rule : OverlapRule) (serial : ℕ) (removed : Stored → Bool) (fs : List Stored) → bytes_of (frames_left_by_rule rule serial removed fs) ≤ bytes_of fs
@@ -202,7 +202,7 @@ next_of None received h = absurd h
 next_of (Some m) received h = (m, refl, h)
 
 -- while no random access point is needed the last frame stays
-last-left : (kind : Kind) (p e : ℤ) (decode duration end : Option ℤ) (first : Option ℕ) (need : Bool) (received : ℕ) (fs : List Stored) → AreTogether decode duration end first need → need ≡ false → Firm received first fs → IfSome first (λ n. n < received) → IsSuccessor (last_serial None fs) received → IsSuccessor (last_serial None (frames_left_by_overlap kind p (overlapped_after decode p fs) (is_removed_from (removal_start end p) e first) fs)) received
+last-left : (kind : Kind) (p e : ℤ) (decode duration end : Option ℤ) (first : Option ℕ) (need : Bool) (received : ℕ) (fs : List Stored) → AreTogether decode duration end first need → need ≡ false → HasRemovalInvariants received first fs → IfSome first (λ n. n < received) → IsSuccessor (last_serial None fs) received → IsSuccessor (last_serial None (frames_left_by_overlap kind p (overlapped_after decode p fs) (is_removed_from (removal_start end p) e first) fs)) received
 last-left kind p e (Some decode) (Some duration) (Some end) (Some n) need received fs together none h low next =
     let m = next_of (last_serial None fs) received next in
     let stays = last-cleared (is_removed_from (removal_start (Some end) p) e (Some n)) false None None n m.0 fs (spared (removal_start (Some end) p) e n fs) h.group_sync h.ascending h.chained tt m.1 (omega arith) in

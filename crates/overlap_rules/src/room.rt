@@ -72,7 +72,7 @@ fn apply<S: FrameStore>(store: &mut S, i: usize, rule: OverlapRule)
     requires applicable { IfSome (slice_get (S.frames store.old) i) (λ f. IsApplicable rule f) }
     ensures frames { IfSome (slice_get (S.frames store.old) i)
         (λ f. S.frames store.new ≡ frames_after_rule rule f.serial (S.frames store.old)) }
-    ensures spare { S.spare store.old ≤ S.spare store.new }
+    ensures no_room_lost { S.spare store.old ≤ S.spare store.new }
     ensures gap { S.gap store.new ≡ S.gap store.old }
 {
     match rule {
@@ -86,7 +86,7 @@ fn apply<S: FrameStore>(store: &mut S, i: usize, rule: OverlapRule)
 fn resolve_overlap<S: FrameStore>(store: &mut S, kind: Kind, pts: Ticks)
     ensures frames { S.frames store.new
         ≡ frames_after_overlap kind pts (overlapped pts (S.frames store.old)) (S.frames store.old) }
-    ensures spare { S.spare store.old ≤ S.spare store.new }
+    ensures no_room_lost { S.spare store.old ≤ S.spare store.new }
     ensures gap { S.gap store.new ≡ S.gap store.old }
 {
     if let Some(i) = store.overlapped(pts) {
@@ -101,7 +101,7 @@ fn resolve_overlap<S: FrameStore>(store: &mut S, kind: Kind, pts: Ticks)
 fn resolve_overlap_of_first<S: FrameStore>(track: &mut Track<S>, pts: Ticks)
     ensures state { state_of S.frames track.new
         ≡ track_after_overlap pts (state_of S.frames track.old) }
-    ensures spare { S.spare track.old.store ≤ S.spare track.new.store }
+    ensures no_room_lost { S.spare track.old.store ≤ S.spare track.new.store }
     ensures gap { S.gap track.new.store ≡ S.gap track.old.store }
 {
     if track.marks.last_decode.is_none() {
@@ -124,7 +124,7 @@ fn removal_start(marks: &Marks, pts: Ticks) -> Option<Ticks>
 fn remove_older<S: FrameStore>(store: &mut S, group_first: Option<u64>, from: Ticks, end: Ticks)
     ensures frames { S.frames store.new
         ≡ frames_without (is_removed_from (Some from) end group_first) (S.frames store.old) }
-    ensures spare { S.spare store.old ≤ S.spare store.new }
+    ensures no_room_lost { S.spare store.old ≤ S.spare store.new }
     ensures gap { S.gap store.new ≡ S.gap store.old }
 {
     match group_first {
@@ -139,7 +139,7 @@ fn remove_older<S: FrameStore>(store: &mut S, group_first: Option<u64>, from: Ti
 fn remove_existing<S: FrameStore>(track: &mut Track<S>, pts: Ticks, end: Ticks)
     ensures state { state_of S.frames track.new
         ≡ track_without_older pts end (state_of S.frames track.old) }
-    ensures spare { S.spare track.old.store ≤ S.spare track.new.store }
+    ensures no_room_lost { S.spare track.old.store ≤ S.spare track.new.store }
     ensures gap { S.gap track.new.store ≡ S.gap track.old.store }
 {
     match removal_start(&track.marks, pts) {
@@ -155,7 +155,7 @@ pub fn make_room<S: FrameStore>(track: &mut Track<S>, pts: Ticks, end: Ticks)
     ensures state { state_of S.frames track.new
         ≡ track_with_room pts end (state_of S.frames track.old) }
     ensures sound { IsSound (state_of S.frames track.old) → IsSound (state_of S.frames track.new) }
-    ensures spare { S.spare track.old.store ≤ S.spare track.new.store }
+    ensures no_room_lost { S.spare track.old.store ≤ S.spare track.new.store }
     ensures gap { S.gap track.new.store ≡ S.gap track.old.store }
 {
     resolve_overlap_of_first(track, pts);

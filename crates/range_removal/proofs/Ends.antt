@@ -7,19 +7,19 @@ use Rattle.std.specs.List.{AllByRecursion}
 use Rattle.track_store.specs.declared.store.Stored.{Stored}
 use Rattle.track_store.specs.Frames.{frames_left, IsAscending}
 use Rattle.track_store.specs.Sound.{last_serial}
-use Rattle.track_store.proofs.Clearing.{goes, cleared-goes, cleared-stays}
+use Rattle.track_store.proofs.Clearing.{is_frame_gone, cleared-goes, cleared-stays}
 use Rattle.range_removal.specs.Removal.{is_last_removed_after}
 
 -- ---- where the last frame stays, it is the last that stays
 
-stays-step : (named : Stored → Bool) (gone : Bool) (b : Option ℕ) (f : Stored) (fs : List Stored) (n : Option ℕ) (g : Bool) → goes named gone f ≡ g → (g ≡ true → last_serial b (frames_left true named fs) ≡ n) → (g ≡ false → last_serial (Some f.serial) (frames_left false named fs) ≡ n) → last_serial b (frames_left gone named (f ∷ fs)) ≡ n
+stays-step : (named : Stored → Bool) (gone : Bool) (b : Option ℕ) (f : Stored) (fs : List Stored) (n : Option ℕ) (g : Bool) → is_frame_gone named gone f ≡ g → (g ≡ true → last_serial b (frames_left true named fs) ≡ n) → (g ≡ false → last_serial (Some f.serial) (frames_left false named fs) ≡ n) → last_serial b (frames_left gone named (f ∷ fs)) ≡ n
 stays-step named gone b f fs n true e went stayed = ap (last_serial b) (cleared-goes named gone f fs e) ∙ went refl
 stays-step named gone b f fs n false e went stayed = ap (last_serial b) (cleared-stays named gone f fs e) ∙ stayed refl
 
 pub last_stays : (named : Stored → Bool) (gone : Bool) (b before : Option ℕ) (fs : List Stored) → is_last_removed_after gone named fs ≡ false → (gone ≡ false → b ≡ before) → last_serial b (frames_left gone named fs) ≡ last_serial before fs
 last_stays named gone b before [] h same = same h
 last_stays named gone b before (f ∷ fs) h same =
-    stays-step named gone b f fs (last_serial (Some f.serial) fs) (goes named gone f) refl
+    stays-step named gone b f fs (last_serial (Some f.serial) fs) (is_frame_gone named gone f) refl
     (λ g. last_stays named true b (Some f.serial) fs (ap (λ x. is_last_removed_after x named fs) (sym g) ∙ h) (λ e. absurd cc))
     (λ g. last_stays named false (Some f.serial) (Some f.serial) fs (ap (λ x. is_last_removed_after x named fs) (sym g) ∙ h) (λ e. refl))
 
@@ -42,14 +42,14 @@ rest_of : (b : Option ℕ) (f : Stored) (fs : List Stored) → IfSome b (λ j. A
 rest_of None f fs h = tt
 rest_of (Some j) f fs h = h.1
 
-goes-step : (named : Stored → Bool) (gone : Bool) (b : Option ℕ) (f : Stored) (fs : List Stored) (n : Option ℕ) (g : Bool) → goes named gone f ≡ g → (g ≡ true → IsUnder (last_serial b (frames_left true named fs)) n) → (g ≡ false → IsUnder (last_serial (Some f.serial) (frames_left false named fs)) n) → IsUnder (last_serial b (frames_left gone named (f ∷ fs))) n
+goes-step : (named : Stored → Bool) (gone : Bool) (b : Option ℕ) (f : Stored) (fs : List Stored) (n : Option ℕ) (g : Bool) → is_frame_gone named gone f ≡ g → (g ≡ true → IsUnder (last_serial b (frames_left true named fs)) n) → (g ≡ false → IsUnder (last_serial (Some f.serial) (frames_left false named fs)) n) → IsUnder (last_serial b (frames_left gone named (f ∷ fs))) n
 goes-step named gone b f fs n true e went stayed = subst (λ gs. IsUnder (last_serial b gs) n) (sym (cleared-goes named gone f fs e)) (went refl)
 goes-step named gone b f fs n false e went stayed = subst (λ gs. IsUnder (last_serial b gs) n) (sym (cleared-stays named gone f fs e)) (stayed refl)
 
 pub last_lesser : (named : Stored → Bool) (gone : Bool) (b before : Option ℕ) (fs : List Stored) → IsAscending fs → IfSome b (λ j. AllByRecursion (λ g. j < g.serial) fs) → is_last_removed_after gone named fs ≡ true → (gone ≡ true → IsUnder b before) → IsUnder (last_serial b (frames_left gone named fs)) (last_serial before fs)
 last_lesser named gone b before [] up low h under = under h
 last_lesser named gone b before (f ∷ fs) up low h under =
-    goes-step named gone b f fs (last_serial (Some f.serial) fs) (goes named gone f) refl
+    goes-step named gone b f fs (last_serial (Some f.serial) fs) (is_frame_gone named gone f) refl
     (λ g. last_lesser named true b (Some f.serial) fs up.1 (rest_of b f fs low) (ap (λ x. is_last_removed_after x named fs) (sym g) ∙ h) (λ e. under_first b f.serial (first_of b f fs low)))
     (λ g. last_lesser named false (Some f.serial) (Some f.serial) fs up.1 up.0 (ap (λ x. is_last_removed_after x named fs) (sym g) ∙ h) (λ e. absurd cc))
 
@@ -93,7 +93,7 @@ append-step named g fs f false h = ap (λ gs. g ∷ gs) h ∙ cons-pick g (is_la
 
 pub cleared-last : (named : Stored → Bool) (gone : Bool) (fs : List Stored) (f : Stored) → frames_left gone named (fs ++ f ∷ []) ≡ cond (is_last_removed_after gone named (fs ++ f ∷ [])) (frames_left gone named fs) (frames_left gone named fs ++ f ∷ [])
 cleared-last named gone [] f = refl
-cleared-last named gone (g ∷ fs) f = append-step named g fs f (goes named gone g) (cleared-last named (goes named gone g) fs f)
+cleared-last named gone (g ∷ fs) f = append-step named g fs f (is_frame_gone named gone g) (cleared-last named (is_frame_gone named gone g) fs f)
 
 -- ---- the last serial tells whether the last frame goes
 

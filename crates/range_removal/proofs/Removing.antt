@@ -7,10 +7,10 @@ use Rattle.mse_base.specs.declared.ticks.Moment.{Moment}
 use Rattle.track_store.specs.declared.store.Stored.{Stored}
 use Rattle.track_store.specs.declared.tracks.Marks.{Marks}
 use Rattle.track_store.specs.Frames.{IsAscending, frames_without, frames_left, bytes_of}
-use Rattle.track_store.specs.Kept.{bytes_in, AreTracksSound, AreEndedBy, AreStillSound}
+use Rattle.track_store.specs.Kept.{bytes_in, AreSoundAndCountable, AreEndedBy, AreStillSound}
 use Rattle.track_store.specs.Sound.{IsSound, IsSuccessor, AreTogether, last_serial}
 use Rattle.track_store.specs.State.{TrackState, unset_marks}
-use Rattle.track_store.proofs.Clearing.{goes, each-cleared, ascending-cleared, used-cleared}
+use Rattle.track_store.proofs.Clearing.{is_frame_gone, each-cleared, ascending-cleared, used-cleared}
 use Rattle.track_store.proofs.Soundness.{chained-cleared}
 use Rattle.track_store.proofs.StillSound.{still_map}
 use Rattle.track_store.specs.Frames.{is_between}
@@ -23,14 +23,14 @@ or_left : (a b : Bool) → (a || b) ≡ false → a ≡ false
 or_left true b h = h
 or_left false b h = refl
 
-unnamed-step : (named : Stored → Bool) (f : Stored) (gone : Bool) (xs ys : List Stored) (b : Bool) → goes named gone f ≡ b → AllByRecursion (λ g. named g ≡ false) xs → AllByRecursion (λ g. named g ≡ false) ys → AllByRecursion (λ g. named g ≡ false) (cond b xs (f ∷ ys))
+unnamed-step : (named : Stored → Bool) (f : Stored) (gone : Bool) (xs ys : List Stored) (b : Bool) → is_frame_gone named gone f ≡ b → AllByRecursion (λ g. named g ≡ false) xs → AllByRecursion (λ g. named g ≡ false) ys → AllByRecursion (λ g. named g ≡ false) (cond b xs (f ∷ ys))
 unnamed-step named f gone xs ys true e p q = p
 unnamed-step named f gone xs ys false e p q = (or_left (named f) (gone && not f.frame.sync) e, q)
 
 -- no frame that stays is named
 pub unnamed-cleared : (named : Stored → Bool) (gone : Bool) (fs : List Stored) → AllByRecursion (λ f. named f ≡ false) (frames_left gone named fs)
 unnamed-cleared named gone [] = tt
-unnamed-cleared named gone (f ∷ fs) = unnamed-step named f gone _ _ (goes named gone f) refl (unnamed-cleared named true fs) (unnamed-cleared named false fs)
+unnamed-cleared named gone (f ∷ fs) = unnamed-step named f gone _ _ (is_frame_gone named gone f) refl (unnamed-cleared named true fs) (unnamed-cleared named false fs)
 
 -- ---- one track
 
@@ -87,7 +87,7 @@ bytes_removed start end duration (t ∷ ts) =
     let after = sum_by-cons (λ (u : TrackState). bytes_of u.frames) (track_after_removal start end duration t) (tracks_after_removal start end duration ts) in
     omega arith
 
-pub kept_removed : (start : ℤ) (end duration : Moment) (ts : List TrackState) → AreTracksSound ts → AreTracksSound (tracks_after_removal start end duration ts)
+pub kept_removed : (start : ℤ) (end duration : Moment) (ts : List TrackState) → AreSoundAndCountable ts → AreSoundAndCountable (tracks_after_removal start end duration ts)
 kept_removed start end duration ts h = record {
   sound = each-map IsSound IsSound (track_after_removal start end duration) ts (λ t s. sound_without (is_between start (remove_end end duration t.frames)) t s) h.sound;
   small = let less = bytes_removed start end duration ts in let most = h.small in omega arith;

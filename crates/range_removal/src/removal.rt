@@ -1,5 +1,5 @@
 ghost use Rattle.std.specs.Prelude.{◌≡◌, ◌≤◌, ℕ, ℤ, None, length, slice_get, slice_set, IfSome};
-ghost use Rattle.track_store.specs.Kept.{AreTracksSound, AreEndedBy, AreStillSound, HasSpareRoom, gaps_of};
+ghost use Rattle.track_store.specs.Kept.{AreSoundAndCountable, AreEndedBy, AreStillSound, HasSpareRoom, gaps_of};
 ghost use Rattle.track_store.specs.Sound.{last_serial};
 ghost use Rattle.track_store.specs.State.{state_of, states_of};
 ghost use Rattle.range_removal.specs.Removal.{remove_end, track_after_removal, tracks_after_removal};
@@ -33,7 +33,7 @@ fn last_serial<S: FrameStore>(store: &S) -> Option<u64>
 fn remove_from<S: FrameStore>(track: &mut Track<S>, start: Ticks, end: &Moment, duration: &Moment)
     ensures state { state_of S.frames track.new
         ≡ track_after_removal start end.now duration.now (state_of S.frames track.old) }
-    ensures spare { S.spare track.old.store ≤ S.spare track.new.store }
+    ensures no_room_lost { S.spare track.old.store ≤ S.spare track.new.store }
     ensures gap { S.gap track.new.store ≡ S.gap track.old.store }
 {
     // The proof reads off this that the serials ascend.
@@ -57,7 +57,7 @@ fn remove_at<S: FrameStore>(
         (λ t. states_of S.frames tracks.new.items
         ≡ slice_set (states_of S.frames tracks.old.items) i
         (track_after_removal start end.now duration.now t)) }
-    ensures spare { IsRoomKept S.spare tracks.old.items tracks.new.items }
+    ensures no_room_lost { IsRoomKept S.spare tracks.old.items tracks.new.items }
     ensures gaps { gaps_of S.gap tracks.new.items ≡ gaps_of S.gap tracks.old.items }
     ensures places { tracks.new.spare ≡ tracks.old.spare }
 {
@@ -87,11 +87,11 @@ pub fn remove_frames<S: FrameStore>(
         ≡ tracks_after_removal start end duration (states_of S.frames tracks.old.items) }
     ensures sound { AreStillSound (states_of S.frames tracks.old.items)
         (states_of S.frames tracks.new.items) }
-    ensures tracks_sound { AreTracksSound (states_of S.frames tracks.old.items)
-        → AreTracksSound (states_of S.frames tracks.new.items) }
+    ensures sound_and_countable { AreSoundAndCountable (states_of S.frames tracks.old.items)
+        → AreSoundAndCountable (states_of S.frames tracks.new.items) }
     ensures ends { (limit : ℤ) → AreEndedBy limit (states_of S.frames tracks.old.items)
         → AreEndedBy limit (states_of S.frames tracks.new.items) }
-    ensures spare { IsRoomKept S.spare tracks.old.items tracks.new.items }
+    ensures no_room_lost { IsRoomKept S.spare tracks.old.items tracks.new.items }
     ensures room { (n : ℕ) → HasSpareRoom S.spare n tracks.old.items
         → HasSpareRoom S.spare n tracks.new.items }
     ensures gaps { gaps_of S.gap tracks.new.items ≡ gaps_of S.gap tracks.old.items }

@@ -90,8 +90,8 @@ differs : (k i : ℕ) → (k == i) ≡ false → k ≢ i
 differs k i e same = absurd (let yes : (k == i) ≡ true = (Decides-eqb k i).1 same in cc)
 
 -- the room known of the store at place k, where b tells whether that is the place
-abbrev Known : {S : Type 0} → (S → ℕ) → Ahead → List (Track S) → ℕ → Bool → Type 0
-Known spare a ts k b = IfSome (slice_get ts k) (λ t. cond b a.own a.others ≤ spare t.store)
+abbrev HasKnownRoom : {S : Type 0} → (S → ℕ) → Ahead → List (Track S) → ℕ → Bool → Type 0
+HasKnownRoom spare a ts k b = IfSome (slice_get ts k) (λ t. cond b a.own a.others ≤ spare t.store)
 
 -- after a frame of the track at the place
 abbrev less_own : ℕ → Ahead → Ahead
@@ -101,11 +101,11 @@ less_own i a = record { place = i; own = a.own - 1; others = a.others }
 abbrev less_other : ℕ → Ahead → Ahead
 less_other i a = record { place = i; own = a.others - 1; others = min a.others a.own }
 
-same_place : {S : Type 0} (spare : S → ℕ) (a : Ahead) (i k : ℕ) (ts us : List (Track S)) (b : Bool) → (k == i) ≡ b → length us ≡ length ts → IsRoomTakenAt spare i ts us → Known spare a ts k b → Known spare (less_own i a) us k b
+same_place : {S : Type 0} (spare : S → ℕ) (a : Ahead) (i k : ℕ) (ts us : List (Track S)) (b : Bool) → (k == i) ≡ b → length us ≡ length ts → IsRoomTakenAt spare i ts us → HasKnownRoom spare a ts k b → HasKnownRoom spare (less_own i a) us k b
 same_place spare a i k ts us true e long taken h = less_at spare a.own (k ≢ i) (slice_get ts k) (slice_get us k) (none_in_both ts us k long) h (taken k)
 same_place spare a i k ts us false e long taken h = other_at spare a.others a.others (k ≢ i) (slice_get ts k) (slice_get us k) (omega arith) (differs k i e) (none_in_both ts us k long) h (taken k)
 
-other_place : {S : Type 0} (spare : S → ℕ) (a : Ahead) (i k : ℕ) (ts us : List (Track S)) (b c : Bool) → (i == a.place) ≡ false → (k == i) ≡ b → (k == a.place) ≡ c → length us ≡ length ts → IsRoomTakenAt spare i ts us → Known spare a ts k c → Known spare (less_other i a) us k b
+other_place : {S : Type 0} (spare : S → ℕ) (a : Ahead) (i k : ℕ) (ts us : List (Track S)) (b c : Bool) → (i == a.place) ≡ false → (k == i) ≡ b → (k == a.place) ≡ c → length us ≡ length ts → IsRoomTakenAt spare i ts us → HasKnownRoom spare a ts k c → HasKnownRoom spare (less_other i a) us k b
 other_place spare a i k ts us true true apart e f long taken h =
     absurd (let same : i ≡ a.place = sym ((Decides-eqb k i).0 e) ∙ (Decides-eqb k a.place).0 f in differs i a.place apart same)
 other_place spare a i k ts us true false apart e f long taken h = less_at spare a.others (k ≢ i) (slice_get ts k) (slice_get us k) (none_in_both ts us k long) h (taken k)
@@ -115,7 +115,7 @@ other_place spare a i k ts us false false apart e f long taken h = other_at spar
 after_by : {S : Type 0} (spare : S → ℕ) (a : Ahead) (i : ℕ) (ts us : List (Track S)) (b : Bool) → (i == a.place) ≡ b → length us ≡ length ts → IsRoomTakenAt spare i ts us → HasRoomAhead spare a ts → HasRoomAhead spare (cond b (less_own i a) (less_other i a)) us
 after_by spare a i ts us true e long taken h k =
     let same : a.place ≡ i = sym ((Decides-eqb i a.place).0 e) in
-    same_place spare a i k ts us (k == i) refl long taken (subst (λ (p : ℕ). Known spare a ts k (k == p)) same (h k))
+    same_place spare a i k ts us (k == i) refl long taken (subst (λ (p : ℕ). HasKnownRoom spare a ts k (k == p)) same (h k))
 after_by spare a i ts us false e long taken h k = other_place spare a i k ts us (k == i) (k == a.place) e refl refl long taken (h k)
 
 pub ahead_after : {S : Type 0} (spare : S → ℕ) (a : Ahead) (i : ℕ) (ts us : List (Track S)) → length us ≡ length ts → IsRoomTakenAt spare i ts us → HasRoomAhead spare a ts → HasRoomAhead spare (ahead_after_frame i a) us

@@ -14,7 +14,7 @@ use Rattle.track_store.specs.Frames.{interval, intervals, ranges_of}
 use Rattle.track_store.specs.Kept.{AreEndedBy}
 use Rattle.track_store.specs.Sound.{IsSound, IsNotNegative}
 use Rattle.track_store.specs.State.{TrackState}
-use Rattle.track_buffers.specs.Media.{Media, EndsWithin}
+use Rattle.track_buffers.specs.Media.{Media, AreEndedWithin}
 use Rattle.track_buffers.specs.Frames.{highest_end_in}
 use Rattle.track_buffers.specs.Buffered.{last_ends, with_last_end, with_end, with_common_end, track_ranges, buffered_of}
 use Rattle.track_buffers.specs.Extended.{IsSpanWithin}
@@ -166,7 +166,7 @@ sound_inside e (t ∷ ts) h k = (sound_frames e t.frames (h.0).not_negative k.0,
 
 -- Each buffered range of sound tracks begins at or after 0, and ends at or before each time by which all frames end:
 -- so also the duration.
-pub buffered_within : (e : ℤ) (ended : Bool) (m : Media) → AllByRecursion IsSound m.tracks → EndsWithin (At e) m.tracks → AllByRecursion (IsSpanWithin (pos 0) e) (buffered_of ended m)
+pub buffered_within : (e : ℤ) (ended : Bool) (m : Media) → AllByRecursion IsSound m.tracks → AreEndedWithin (At e) m.tracks → AllByRecursion (IsSpanWithin (pos 0) e) (buffered_of ended m)
 buffered_within e ended m h k = buffered_inside (pos 0) e ended m (sound_inside e m.tracks h k)
 
 -- each buffered range of sound tracks lies between 0 and the highest end

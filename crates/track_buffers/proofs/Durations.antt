@@ -12,7 +12,7 @@ use Rattle.track_store.specs.Frames.{ends}
 use Rattle.track_store.specs.Kept.{AreEndedBy}
 use Rattle.track_store.specs.State.{TrackState}
 use Rattle.track_buffers.specs.declared.effects.SourceEffect.{SourceEffect}
-use Rattle.track_buffers.specs.Media.{Media, EndsWithin, IsNotAfter, no_effect, with_duration}
+use Rattle.track_buffers.specs.Media.{Media, AreEndedWithin, IsNotAfter, no_effect, with_duration}
 use Rattle.track_buffers.specs.Initialized.{segment_effect}
 use Rattle.track_buffers.specs.Frames.{highest_end_in}
 use Rattle.track_buffers.proofs.Keeping.{ends_none, ends_told}
@@ -39,7 +39,7 @@ not_after_infinite d ts h = tt
 
 -- where nothing is done at the source
 pub not_after_none : (d : Moment) (b : SourceEffect) → b ≡ no_effect d → IsNotAfter d b.duration
-not_after_none d b is ts h = subst (λ (m : Moment). EndsWithin m ts) (sym (ap (λ (x : SourceEffect). x.duration) is)) h
+not_after_none d b is ts h = subst (λ (m : Moment). AreEndedWithin m ts) (sym (ap (λ (x : SourceEffect). x.duration) is)) h
 
 pub not_after_both : (c d e : Moment) → IsNotAfter c d → IsNotAfter d e → IsNotAfter c e
 not_after_both c d e first second ts h = second ts (first ts h)
@@ -56,7 +56,7 @@ not_after_raised Infinite t ts h = tt
 -- as it is raised by a stored frame
 pub not_after_stored : (g : ℤ) (d r : Moment) (b : SourceEffect) → r ≡ greater_moment d g → b ≡ with_duration r (no_effect d) → IsNotAfter d b.duration
 not_after_stored g d r b raised is ts h =
-    subst (λ (m : Moment). EndsWithin m ts) (sym (ap (λ (x : SourceEffect). x.duration) is ∙ changed_is r (no_effect d) ∙ raised)) (not_after_raised d g ts h)
+    subst (λ (m : Moment). AreEndedWithin m ts) (sym (ap (λ (x : SourceEffect). x.duration) is ∙ changed_is r (no_effect d) ∙ raised)) (not_after_raised d g ts h)
 
 -- as a segment tells it
 pub not_after_told : (p : Presentation) (d : Moment) (b : SourceEffect) → b ≡ segment_effect p d → IsNotAfter d b.duration
@@ -104,7 +104,7 @@ tracks_by e (t ∷ ts) h =
     (frames_by e t.frames parts.0, tracks_by e ts parts.1)
 
 -- each frame ends at or before the highest end
-pub highest_bounds : (m : Media) (e : ℤ) → highest_end_in m ≡ Some e → EndsWithin (At e) m.tracks
+pub highest_bounds : (m : Media) (e : ℤ) → highest_end_in m ≡ Some e → AreEndedWithin (At e) m.tracks
 highest_bounds m e h = tracks_by e m.tracks (greatest_bounds (flat_map (λ t. ends t.frames) m.tracks) e h)
 
 no_frames : (fs : List Stored) (rest : List ℤ) → ends fs ++ rest ≡ [] → (fs ≡ []) × (rest ≡ [])

@@ -15,21 +15,21 @@ use Rattle.track_buffers.proofs.Durations.{greatest_bounds, greatest_none}
 use Rattle.track_buffers.proofs.Ranging.{grown_all}
 
 -- there is a last range, and it ends at a time
-abbrev pub LastEnds : ℤ → List Span → Type 0
-LastEnds e [] = ⊥
-LastEnds e (s ∷ []) = s.end ≡ e
-LastEnds e (s ∷ r ∷ rs) = LastEnds e (r ∷ rs)
+abbrev pub HasLastEnd : ℤ → List Span → Type 0
+HasLastEnd e [] = ⊥
+HasLastEnd e (s ∷ []) = s.end ≡ e
+HasLastEnd e (s ∷ r ∷ rs) = HasLastEnd e (r ∷ rs)
 
 -- the last range, if there is one, ends at a time
 abbrev pub AreEndedAt : ℤ → List Span → Type 0
 AreEndedAt e [] = Unit {0}
-AreEndedAt e (s ∷ ss) = LastEnds e (s ∷ ss)
+AreEndedAt e (s ∷ ss) = HasLastEnd e (s ∷ ss)
 
-ended_at : (e : ℤ) (rs : List Span) → LastEnds e rs → AreEndedAt e rs
+ended_at : (e : ℤ) (rs : List Span) → HasLastEnd e rs → AreEndedAt e rs
 ended_at e [] h = tt
 ended_at e (s ∷ ss) h = h
 
-append_ends : (e : ℤ) (xs ys : List Span) → LastEnds e ys → LastEnds e (xs ++ ys)
+append_ends : (e : ℤ) (xs ys : List Span) → HasLastEnd e ys → HasLastEnd e (xs ++ ys)
 append_ends e [] ys h = h
 append_ends e (x ∷ xs) [] h = absurd h
 append_ends e (x ∷ []) (y ∷ ys) h = h
@@ -49,19 +49,19 @@ shares_end x y e h k a b = grind (arith, ints)
 least_same : (x y : Span) (e : ℤ) → x.end ≡ e → y.end ≡ e → int_min x.end y.end ≡ e
 least_same x y e a b = grind (arith, ints)
 
-overlap_ends : (x y : Span) (e : ℤ) → x.start <ℤ x.end → y.start <ℤ y.end → x.end ≡ e → y.end ≡ e → LastEnds e (overlap x y ++ [])
+overlap_ends : (x y : Span) (e : ℤ) → x.start <ℤ x.end → y.start <ℤ y.end → x.end ≡ e → y.end ≡ e → HasLastEnd e (overlap x y ++ [])
 overlap_ends x y e h k a b =
     let one : option_to_list (cond (int_lt (int_max x.start y.start) (int_min x.end y.end)) (Some (both x y)) None) ≡ both x y ∷ [] = ap (λ c. option_to_list (cond c (Some (both x y)) None)) (shares_end x y e h k a b) in
-    subst (λ (rs : List Span). LastEnds e (rs ++ [])) (sym one) (least_same x y e a b)
+    subst (λ (rs : List Span). HasLastEnd e (rs ++ [])) (sym one) (least_same x y e a b)
 
-parts_end : (x : Span) (e : ℤ) (ys : List Span) → x.start <ℤ x.end → x.end ≡ e → IsNormalized ys → LastEnds e ys → LastEnds e (parts x ys)
+parts_end : (x : Span) (e : ℤ) (ys : List Span) → x.start <ℤ x.end → x.end ≡ e → IsNormalized ys → HasLastEnd e ys → HasLastEnd e (parts x ys)
 parts_end x e [] h a n k = absurd k
 parts_end x e (y ∷ []) h a n k = overlap_ends x y e h n.0 a k
 parts_end x e (y ∷ z ∷ ys) h a n k = append_ends e (overlap x y) (parts x (z ∷ ys)) (parts_end x e (z ∷ ys) h a n.2 k)
 
-both_end : (e : ℤ) (xs ys : List Span) → IsNormalized xs → IsNormalized ys → LastEnds e xs → LastEnds e ys → LastEnds e (meet xs ys)
+both_end : (e : ℤ) (xs ys : List Span) → IsNormalized xs → IsNormalized ys → HasLastEnd e xs → HasLastEnd e ys → HasLastEnd e (meet xs ys)
 both_end e [] ys n m h k = absurd h
-both_end e (x ∷ []) ys n m h k = subst (λ (rs : List Span). LastEnds e rs) (sym (append-nil (parts x ys))) (parts_end x e ys n.0 h m k)
+both_end e (x ∷ []) ys n m h k = subst (λ (rs : List Span). HasLastEnd e rs) (sym (append-nil (parts x ys))) (parts_end x e ys n.0 h m k)
 both_end e (x ∷ z ∷ xs) ys n m h k = append_ends e (parts x ys) (meet (z ∷ xs) ys) (both_end e (z ∷ xs) ys n.2 m h k)
 
 meet_none : (xs : List Span) → meet xs [] ≡ []
@@ -83,7 +83,7 @@ all_ended e (r ∷ rs) ns hs = fold_ended e r rs ns.0 ns.1 hs.0 hs.1
 
 -- ---- the last range is the one that has the end
 
-starts_before : (e : ℤ) (s : Span) (ss : List Span) → IsNormalized (s ∷ ss) → LastEnds e (s ∷ ss) → s.start <ℤ e
+starts_before : (e : ℤ) (s : Span) (ss : List Span) → IsNormalized (s ∷ ss) → HasLastEnd e (s ∷ ss) → s.start <ℤ e
 starts_before e s [] n h = subst (λ (t : ℤ). s.start <ℤ t) h n.0
 starts_before e s (r ∷ ss) n h =
     let rest = starts_before e r ss n.2 h in
@@ -97,7 +97,7 @@ not_there s e h = grind (arith, ints)
 is_there : (s : Span) (e : ℤ) → s.start <ℤ s.end → s.end ≡ e → reaches e s ≡ true
 is_there s e h k = grind (arith, ints)
 
-found_last : (e : ℤ) (s : Span) (ss : List Span) → IsNormalized (s ∷ ss) → LastEnds e (s ∷ ss) → find (reaches e) (s ∷ ss) ≡ last_from s ss
+found_last : (e : ℤ) (s : Span) (ss : List Span) → IsNormalized (s ∷ ss) → HasLastEnd e (s ∷ ss) → find (reaches e) (s ∷ ss) ≡ last_from s ss
 found_last e s [] n h = ap (λ c. cond c (Some s) None) (is_there s e n.0 h)
 found_last e s (r ∷ ss) n h =
     let late = starts_before e r ss n.2 h in
@@ -114,11 +114,11 @@ found_end e (s ∷ ss) n h = found_last e s ss n h
 grown_end : (s : Span) (e : ℤ) → s.end ≤ℤ e → int_max s.end e ≡ e
 grown_end s e h = grind (arith, ints)
 
-cons_ends : (e : ℤ) (s : Span) (rs : List Span) → LastEnds e rs → LastEnds e (s ∷ rs)
+cons_ends : (e : ℤ) (s : Span) (rs : List Span) → HasLastEnd e rs → HasLastEnd e (s ∷ rs)
 cons_ends e s [] h = absurd h
 cons_ends e s (r ∷ rs) h = h
 
-grown_ends : (e : ℤ) (s : Span) (ss : List Span) → AllByRecursion (λ t. t ≤ℤ e) (option_to_list (last_end (s ∷ ss))) → LastEnds e (with_last_end e (s ∷ ss))
+grown_ends : (e : ℤ) (s : Span) (ss : List Span) → AllByRecursion (λ t. t ≤ℤ e) (option_to_list (last_end (s ∷ ss))) → HasLastEnd e (with_last_end e (s ∷ ss))
 grown_ends e s [] h = grown_end s e h.0
 grown_ends e s (r ∷ ss) h = cons_ends e s (with_last_end e (r ∷ ss)) (grown_ends e r ss h)
 

@@ -25,7 +25,7 @@ use Rattle.frame_rules.specs.Put.{answer_by_reason, drop_reason}
 use Rattle.frame_rules.specs.Place.{Placement, new_placement, track_after_reset, placement_in_track, placement_at_times, placement_by_times, placement_in, placement, is_over_limit, settings_after_frame}
 use Rattle.track_buffers.specs.declared.effects.SourceEffect.{SourceEffect}
 use Rattle.track_buffers.specs.declared.effects.MediaFault.{MediaFault}
-use Rattle.track_buffers.specs.Media.{EndsWithin, no_effect, with_duration, AppendError}
+use Rattle.track_buffers.specs.Media.{AreEndedWithin, no_effect, with_duration, AppendError}
 use Rattle.track_buffers.proofs.Keeping.{endby_none}
 
 -- ---- after a fault all is as before
@@ -37,8 +37,8 @@ IsFault placed_as.TimeRange = Unit {0}
 IsFault placed_as.Counts = Unit {0}
 
 -- the tracks and settings are those before, where the answer is a fault
-abbrev AsBefore : List TrackState → Settings → Placement → Type 0
-AsBefore ts s o = IsFault o.answer → (o.tracks ≡ ts) × (o.settings ≡ s)
+abbrev IsSameIfFault : List TrackState → Settings → Placement → Type 0
+IsSameIfFault ts s o = IsFault o.answer → (o.tracks ≡ ts) × (o.settings ≡ s)
 
 put_goes : (why : Option Why) → IsFault (answer_by_reason why) → ⊥
 put_goes None h = h
@@ -56,19 +56,19 @@ goes_in (Some t) w f i ts e low h = put_goes (drop_reason w f.sync t.marks.need_
 goes_at : (w : Timing) (f : CodedFrame) (i : ℕ) (ts : List TrackState) → i < length ts → IsFault (placement_at_times w f i ts).answer → ⊥
 goes_at w f i ts low h = goes_in (slice_get (map (track_after_reset w) ts) i) w f i (map (track_after_reset w) ts) refl (rw length-map low) h
 
-before_by : (o : Option Timing) (s : Settings) (f : CodedFrame) (i : ℕ) (ts : List TrackState) → i < length ts → AsBefore ts s (placement_by_times o s f i ts)
+before_by : (o : Option Timing) (s : Settings) (f : CodedFrame) (i : ℕ) (ts : List TrackState) → i < length ts → IsSameIfFault ts s (placement_by_times o s f i ts)
 before_by None s f i ts low h = (refl, refl)
 before_by (Some w) s f i ts low h = absurd (goes_at w f i ts low h)
 
-before_pick : (b : Bool) (ts : List TrackState) (s : Settings) (x y : Placement) → AsBefore ts s x → AsBefore ts s y → AsBefore ts s (cond b x y)
+before_pick : (b : Bool) (ts : List TrackState) (s : Settings) (x y : Placement) → IsSameIfFault ts s x → IsSameIfFault ts s y → IsSameIfFault ts s (cond b x y)
 before_pick true ts s x y p q = p
 before_pick false ts s x y p q = q
 
-before_of : (o : Option TrackState) (ts : List TrackState) (s : Settings) (i : ℕ) (f : CodedFrame) → i < length ts → AsBefore ts s (placement_in o ts s i f)
+before_of : (o : Option TrackState) (ts : List TrackState) (s : Settings) (i : ℕ) (f : CodedFrame) → i < length ts → IsSameIfFault ts s (placement_in o ts s i f)
 before_of None ts s i f low h = (refl, refl)
 before_of (Some t) ts s i f low h = before_pick (is_over_limit t.marks.received (bytes_in ts) (length f.payload)) ts s (new_placement placed_as.Counts ts s) (placement_by_times (timing_of s t.marks f) s f i ts) (λ k. (refl, refl)) (before_by (timing_of s t.marks f) s f i ts low) h
 
-before_placed : (ts : List TrackState) (s : Settings) (i : ℕ) (f : CodedFrame) → i < length ts → AsBefore ts s (placement ts s i f)
+before_placed : (ts : List TrackState) (s : Settings) (i : ℕ) (f : CodedFrame) → i < length ts → IsSameIfFault ts s (placement ts s i f)
 before_placed ts s i f low h = before_of (slice_get ts i) ts s i f low h
 
 -- the same of an new_placement that is what the definition leaves
@@ -97,49 +97,49 @@ if_some_cond : {A : Type 0} (b : Bool) (o p : Option A) (Q : A → Type 0) → I
 if_some_cond true o p Q h g = h
 if_some_cond false o p Q h g = g
 
-abbrev SameEnd : Settings → Settings → Type 0
-SameEnd s t = t.window_end ≡ s.window_end
+abbrev HasSameWindowEnd : Settings → Settings → Type 0
+HasSameWindowEnd s t = t.window_end ≡ s.window_end
 
-aligned_end : (s : Settings) (g : Option ℤ) (p : ℤ) → IfSome (offset_to s g p) (SameEnd s)
+aligned_end : (s : Settings) (g : Option ℤ) (p : ℤ) → IfSome (offset_to s g p) (HasSameWindowEnd s)
 aligned_end s None p = refl
-aligned_end s (Some g) p = if_some_then (tick _) _ (SameEnd s) (λ offset. refl)
+aligned_end s (Some g) p = if_some_then (tick _) _ (HasSameWindowEnd s) (λ offset. refl)
 
-moved_end : (s : Settings) (f : CodedFrame) → IfSome (timing_in_pass s f) (λ w. SameEnd s w.settings)
+moved_end : (s : Settings) (f : CodedFrame) → IfSome (timing_in_pass s f) (λ w. HasSameWindowEnd s w.settings)
 moved_end s f =
-    if_some_chain (settings_at_group_start s (raw_time s f.pts)) _ (SameEnd s) (λ w. SameEnd s w.settings) (if_some_cond s.sequence (offset_to s s.group_start (raw_time s f.pts)) (Some s) (SameEnd s) (aligned_end s s.group_start (raw_time s f.pts)) refl)
+    if_some_chain (settings_at_group_start s (raw_time s f.pts)) _ (HasSameWindowEnd s) (λ w. HasSameWindowEnd s w.settings) (if_some_cond s.sequence (offset_to s s.group_start (raw_time s f.pts)) (Some s) (HasSameWindowEnd s) (aligned_end s s.group_start (raw_time s f.pts)) refl)
     (λ t same. if_some_then (tick _) _ _ (λ p. if_some_then (tick _) _ _ (λ d. if_some_then (tick _) _ _ (λ e. same))))
 
-broken_end : (s : Settings) (p : ℤ) (b : Bool) → SameEnd s (cond b (record s { group_start = Some s.group_end }) (record s { group_end = p }))
+broken_end : (s : Settings) (p : ℤ) (b : Bool) → HasSameWindowEnd s (cond b (record s { group_start = Some s.group_end }) (record s { group_end = p }))
 broken_end s p true = refl
 broken_end s p false = refl
 
-times_end : (s : Settings) (m : Marks) (f : CodedFrame) → IfSome (timing_of s m f) (λ w. SameEnd s w.settings)
+times_end : (s : Settings) (m : Marks) (f : CodedFrame) → IfSome (timing_of s m f) (λ w. HasSameWindowEnd s w.settings)
 times_end s m f =
-    if_some_chain (timing_in_pass s f) _ (λ w. SameEnd s w.settings) (λ w. SameEnd s w.settings) (moved_end s f)
-    (λ w same. if_some_cond (is_discontinuous m w.dts) _ (Some w) (λ v. SameEnd s v.settings)
-    (if_some_chain (timing_in_pass (settings_after_discontinuity w.settings w.pts) f) _ (λ v. SameEnd (settings_after_discontinuity w.settings w.pts) v.settings) (λ v. SameEnd s v.settings) (moved_end (settings_after_discontinuity w.settings w.pts) f)
+    if_some_chain (timing_in_pass s f) _ (λ w. HasSameWindowEnd s w.settings) (λ w. HasSameWindowEnd s w.settings) (moved_end s f)
+    (λ w same. if_some_cond (is_discontinuous m w.dts) _ (Some w) (λ v. HasSameWindowEnd s v.settings)
+    (if_some_chain (timing_in_pass (settings_after_discontinuity w.settings w.pts) f) _ (λ v. HasSameWindowEnd (settings_after_discontinuity w.settings w.pts) v.settings) (λ v. HasSameWindowEnd s v.settings) (moved_end (settings_after_discontinuity w.settings w.pts) f)
     (λ v step. step ∙ broken_end w.settings w.pts w.settings.sequence ∙ same))
     same)
 
-answer_end : (answer : Placed) (w : Timing) → SameEnd w.settings (settings_after_frame answer w)
+answer_end : (answer : Placed) (w : Timing) → HasSameWindowEnd w.settings (settings_after_frame answer w)
 answer_end placed_as.Stored w = refl
 answer_end (placed_as.Dropped why) w = refl
 answer_end placed_as.TimeRange w = refl
 answer_end placed_as.Counts w = refl
 
-in_end : (o : Option TrackState) (w : Timing) (f : CodedFrame) (i : ℕ) (ts : List TrackState) → SameEnd w.settings (placement_in_track o w f i ts).settings
+in_end : (o : Option TrackState) (w : Timing) (f : CodedFrame) (i : ℕ) (ts : List TrackState) → HasSameWindowEnd w.settings (placement_in_track o w f i ts).settings
 in_end None w f i ts = refl
 in_end (Some t) w f i ts = answer_end (answer_by_reason (drop_reason w f.sync t.marks.need_sync)) w
 
-by_end : (o : Option Timing) (s : Settings) (f : CodedFrame) (i : ℕ) (ts : List TrackState) → IfSome o (λ w. SameEnd s w.settings) → SameEnd s (placement_by_times o s f i ts).settings
+by_end : (o : Option Timing) (s : Settings) (f : CodedFrame) (i : ℕ) (ts : List TrackState) → IfSome o (λ w. HasSameWindowEnd s w.settings) → HasSameWindowEnd s (placement_by_times o s f i ts).settings
 by_end None s f i ts same = refl
 by_end (Some w) s f i ts same = in_end (slice_get (map (track_after_reset w) ts) i) w f i (map (track_after_reset w) ts) ∙ same
 
-cond_end : (b : Bool) (s : Settings) (x y : Placement) → SameEnd s x.settings → SameEnd s y.settings → SameEnd s (cond b x y).settings
+cond_end : (b : Bool) (s : Settings) (x y : Placement) → HasSameWindowEnd s x.settings → HasSameWindowEnd s y.settings → HasSameWindowEnd s (cond b x y).settings
 cond_end true s x y p q = p
 cond_end false s x y p q = q
 
-of_end : (o : Option TrackState) (ts : List TrackState) (s : Settings) (i : ℕ) (f : CodedFrame) → SameEnd s (placement_in o ts s i f).settings
+of_end : (o : Option TrackState) (ts : List TrackState) (s : Settings) (i : ℕ) (f : CodedFrame) → HasSameWindowEnd s (placement_in o ts s i f).settings
 of_end None ts s i f = refl
 of_end (Some t) ts s i f = cond_end (is_over_limit t.marks.received (bytes_in ts) (length f.payload)) s _ _ refl (by_end (timing_of s t.marks f) s f i ts (times_end s t.marks f))
 
@@ -179,12 +179,12 @@ changed_few to b = few_by to b (is_same_moment to b.duration)
 pub max_self : (a : ℤ) → int_max a a ≡ a
 max_self a = grind (arith, ints)
 
-ends_raised : (ts us : List TrackState) (g : ℤ) → ((limit : ℤ) → AreEndedBy limit ts → AreEndedBy (int_max limit g) us) → (d : Moment) → EndsWithin d ts → EndsWithin (greater_moment d g) us
+ends_raised : (ts us : List TrackState) (g : ℤ) → ((limit : ℤ) → AreEndedBy limit ts → AreEndedBy (int_max limit g) us) → (d : Moment) → AreEndedWithin d ts → AreEndedWithin (greater_moment d g) us
 ends_raised ts us g keep Nan h = subst (λ (l : ℤ). AreEndedBy l us) (max_self g) (keep g (endby_none g ts h))
 ends_raised ts us g keep (At d) h = keep d h
 ends_raised ts us g keep Infinite h = tt
 
 -- a stored frame ends by the duration that it raises
-pub ends_stored : (ts us : List TrackState) (g : ℤ) (d r : Moment) (b : SourceEffect) → ((limit : ℤ) → AreEndedBy limit ts → AreEndedBy (int_max limit g) us) → r ≡ greater_moment d g → b ≡ with_duration r (no_effect d) → EndsWithin d ts → EndsWithin b.duration us
+pub ends_stored : (ts us : List TrackState) (g : ℤ) (d r : Moment) (b : SourceEffect) → ((limit : ℤ) → AreEndedBy limit ts → AreEndedBy (int_max limit g) us) → r ≡ greater_moment d g → b ≡ with_duration r (no_effect d) → AreEndedWithin d ts → AreEndedWithin b.duration us
 ends_stored ts us g d r b keep raised is h =
-    subst (λ (m : Moment). EndsWithin m us) (sym (ap (λ (x : SourceEffect). x.duration) is ∙ changed_is r (no_effect d) ∙ raised)) (ends_raised ts us g keep d h)
+    subst (λ (m : Moment). AreEndedWithin m us) (sym (ap (λ (x : SourceEffect). x.duration) is ∙ changed_is r (no_effect d) ∙ raised)) (ends_raised ts us g keep d h)

@@ -17,12 +17,12 @@ use Rattle.mse_base.specs.declared.track.Presentation.{Presentation}
 use Rattle.track_store.specs.declared.store.Stored.{Stored}
 use Rattle.track_store.specs.declared.tracks.Track.{Track}
 use Rattle.track_store.specs.Frames.{bytes_of}
-use Rattle.track_store.specs.Kept.{bytes_in, AreTracksSound, AreEndedBy, HasSpareRoom, gaps_of}
+use Rattle.track_store.specs.Kept.{bytes_in, AreSoundAndCountable, AreEndedBy, HasSpareRoom, gaps_of}
 use Rattle.track_store.specs.Sound.{IsSound, AreTogether}
 use Rattle.track_store.specs.State.{TrackState, state_of, states_of}
 use Rattle.range_removal.specs.Rooms.{IsRoomKept}
 use Rattle.track_buffers.proofs.Loops.{found_at}
-use Rattle.track_buffers.specs.Media.{EndsWithin, least_room, room_of}
+use Rattle.track_buffers.specs.Media.{AreEndedWithin, least_room, room_of}
 use Rattle.track_buffers.specs.Frames.{unset_track}
 use Rattle.track_buffers.specs.Initialized.{is_media_track, segment_effect, new_track, tracks_with_partners, track_with_partner, partner_of, tracks_after}
 
@@ -57,7 +57,7 @@ module _ (f : TrackState → TrackState) (frames : (t : TrackState) → (f t).fr
   sound-map sound [] h = tt
   sound-map sound (t ∷ ts) h = (sound t h.0, sound-map sound ts h.1)
 
-  kept-map : ((t : TrackState) → IsSound t → IsSound (f t)) → (ts : List TrackState) → AreTracksSound ts → AreTracksSound (map f ts)
+  kept-map : ((t : TrackState) → IsSound t → IsSound (f t)) → (ts : List TrackState) → AreSoundAndCountable ts → AreSoundAndCountable (map f ts)
   kept-map sound ts h = record { sound = sound-map sound ts h.sound; small = subst (λ (n : ℕ). n < 2 ^ 62) (sym (bytes-map ts)) h.small }
 
   endby-map : (limit : ℤ) (ts : List TrackState) → AreEndedBy limit ts → AreEndedBy limit (map f ts)
@@ -68,25 +68,25 @@ module _ (f : TrackState → TrackState) (frames : (t : TrackState) → (f t).fr
   empty-map [] h = tt
   empty-map (t ∷ ts) h = (frames t ∙ h.0, empty-map ts h.1)
 
-  ends-map : (d : Moment) (ts : List TrackState) → EndsWithin d ts → EndsWithin d (map f ts)
+  ends-map : (d : Moment) (ts : List TrackState) → AreEndedWithin d ts → AreEndedWithin d (map f ts)
   ends-map Nan ts h = empty-map ts h
   ends-map (At d) ts h = endby-map d ts h
   ends-map Infinite ts h = h
 
-pub kept_unset : (ts : List TrackState) → AreTracksSound ts → AreTracksSound (map unset_track ts)
+pub kept_unset : (ts : List TrackState) → AreSoundAndCountable ts → AreSoundAndCountable (map unset_track ts)
 kept_unset ts h = kept-map unset_track (λ t. refl) unset_sound ts h
 
-pub ends_unset : (d : Moment) (ts : List TrackState) → EndsWithin d ts → EndsWithin d (map unset_track ts)
+pub ends_unset : (d : Moment) (ts : List TrackState) → AreEndedWithin d ts → AreEndedWithin d (map unset_track ts)
 ends_unset d ts h = ends-map unset_track (λ t. refl) d ts h
 
 frames_renewed : (t : TrackState) (o : Option TrackInfo) → (track_with_partner t o).frames ≡ t.frames
 frames_renewed t None = refl
 frames_renewed t (Some u) = refl
 
-pub kept_renewed : (news : List TrackInfo) (ts : List TrackState) → AreTracksSound ts → AreTracksSound (tracks_with_partners news ts)
+pub kept_renewed : (news : List TrackInfo) (ts : List TrackState) → AreSoundAndCountable ts → AreSoundAndCountable (tracks_with_partners news ts)
 kept_renewed news ts h = kept-map (λ t. track_with_partner t (partner_of ts news t)) (λ t. frames_renewed t (partner_of ts news t)) (λ t s. renewed_sound t (partner_of ts news t) s) ts h
 
-pub ends_renewed : (news : List TrackInfo) (d : Moment) (ts : List TrackState) → EndsWithin d ts → EndsWithin d (tracks_with_partners news ts)
+pub ends_renewed : (news : List TrackInfo) (d : Moment) (ts : List TrackState) → AreEndedWithin d ts → AreEndedWithin d (tracks_with_partners news ts)
 ends_renewed news d ts h = ends-map (λ t. track_with_partner t (partner_of ts news t)) (λ t. frames_renewed t (partner_of ts news t)) d ts h
 
 sound_new : (news : List TrackInfo) → AllByRecursion IsSound (map new_track news)
@@ -97,7 +97,7 @@ bytes_new : (news : List TrackInfo) → bytes_in (map new_track news) ≡ 0
 bytes_new [] = refl
 bytes_new (u ∷ news) = sum_by-cons (λ (t : TrackState). bytes_of t.frames) (new_track u) (map new_track news) ∙ ap (λ (n : ℕ). 0 + n) (bytes_new news)
 
-pub kept_new : (news : List TrackInfo) → AreTracksSound (map new_track news)
+pub kept_new : (news : List TrackInfo) → AreSoundAndCountable (map new_track news)
 kept_new news = record { sound = sound_new news; small = let none = bytes_new news in omega arith }
 
 empty_new : (news : List TrackInfo) → AllByRecursion (λ t. t.frames ≡ []) (map new_track news)
@@ -114,12 +114,12 @@ endby_none limit [] h = tt
 endby_none limit (t ∷ ts) h = (frames_none limit t.frames h.0, endby_none limit ts h.1)
 
 -- where there are no frames, they end by every duration
-pub ends_none : (d : Moment) (ts : List TrackState) → AllByRecursion (λ t. t.frames ≡ []) ts → EndsWithin d ts
+pub ends_none : (d : Moment) (ts : List TrackState) → AllByRecursion (λ t. t.frames ≡ []) ts → AreEndedWithin d ts
 ends_none Nan ts h = h
 ends_none (At d) ts h = endby_none d ts h
 ends_none Infinite ts h = tt
 
-pub ends_new : (news : List TrackInfo) (d : Moment) → EndsWithin d (map new_track news)
+pub ends_new : (news : List TrackInfo) (d : Moment) → AreEndedWithin d (map new_track news)
 ends_new news d = ends_none d (map new_track news) (empty_new news)
 
 -- where frames end by every time, there are none
@@ -132,18 +132,18 @@ none_by_all [] h = tt
 none_by_all (t ∷ ts) h = (none_all t.frames (λ limit. (h limit).0), none_by_all ts (λ limit. (h limit).1))
 
 -- a step that keeps every time that the frames end by
-pub ends_kept : (ts us : List TrackState) → ((limit : ℤ) → AreEndedBy limit ts → AreEndedBy limit us) → (d : Moment) → EndsWithin d ts → EndsWithin d us
+pub ends_kept : (ts us : List TrackState) → ((limit : ℤ) → AreEndedBy limit ts → AreEndedBy limit us) → (d : Moment) → AreEndedWithin d ts → AreEndedWithin d us
 ends_kept ts us keep Nan h = none_by_all us (λ limit. keep limit (endby_none limit ts h))
 ends_kept ts us keep (At d) h = keep d h
 ends_kept ts us keep Infinite h = h
 
 -- ---- the tracks after an initialization segment
 
-pub kept_after : (news : List TrackInfo) (ts : List TrackState) → AreTracksSound ts → AreTracksSound (tracks_after news ts)
+pub kept_after : (news : List TrackInfo) (ts : List TrackState) → AreSoundAndCountable ts → AreSoundAndCountable (tracks_after news ts)
 kept_after news [] h = kept_new news
 kept_after news (t ∷ ts) h = kept_renewed news (t ∷ ts) h
 
-pub ends_after : (news : List TrackInfo) (ts : List TrackState) (d : Moment) → EndsWithin d ts → EndsWithin d (tracks_after news ts)
+pub ends_after : (news : List TrackInfo) (ts : List TrackState) (d : Moment) → AreEndedWithin d ts → AreEndedWithin d (tracks_after news ts)
 ends_after news [] d h = ends_new news d
 ends_after news (t ∷ ts) d h = ends_renewed news d (t ∷ ts) h
 
@@ -249,10 +249,10 @@ pub places_left : (us : List TrackInfo) (i : ℕ) (u : TrackInfo) (n m : ℕ) �
 places_left us i u n m low e h k = let both = media_left us i u low e in omega arith
 
 -- the duration that a segment tells
-pub ends_told : (p : Presentation) (d : Moment) (b : SourceEffect) (ts : List TrackState) → b ≡ segment_effect p d → EndsWithin d ts → EndsWithin b.duration ts
+pub ends_told : (p : Presentation) (d : Moment) (b : SourceEffect) (ts : List TrackState) → b ≡ segment_effect p d → AreEndedWithin d ts → AreEndedWithin b.duration ts
 ends_told p Nan b ts is h = ends_none b.duration ts h
-ends_told p (At d) b ts is h = subst (λ (m : Moment). EndsWithin m ts) (sym (ap (λ (x : SourceEffect). x.duration) is)) h
-ends_told p Infinite b ts is h = subst (λ (m : Moment). EndsWithin m ts) (sym (ap (λ (x : SourceEffect). x.duration) is)) h
+ends_told p (At d) b ts is h = subst (λ (m : Moment). AreEndedWithin m ts) (sym (ap (λ (x : SourceEffect). x.duration) is)) h
+ends_told p Infinite b ts is h = subst (λ (m : Moment). AreEndedWithin m ts) (sym (ap (λ (x : SourceEffect). x.duration) is)) h
 
 -- ---- answers
 

@@ -2,7 +2,7 @@
 use Rattle.std.proofs.Common.{◌≡◌, ℕ, ℤ, zero, suc, ◌+◌, ◌<◌, ◌≤◌, Bool, true, false, not, cond, ◌&&◌, ◌||◌, List, [], ◌∷◌, ◌++◌, length, map, take, set, filter, fold, slice_get, Option, Some, None, refl, sym, ap, ◌∙◌, subst, arith, add-one, add-zero}
 use Rattle.std.specs.List.{list_all, find, flat_map, position, position_or_len, count_by}
 use Rattle.std.specs.Option.{IfSome, option_cmp}
-use Rattle.std.specs.Ordering.{int_cmp, is_lt, ord_max}
+use Rattle.std.specs.Ordering.{int_cmp, ord_max}
 use Rattle.std.specs.Int.{int_max}
 use Rattle.std.proofs.lemmas.Bool.Decides.{nat_tests}
 use Rattle.std.proofs.lemmas.Int.{ints}
@@ -10,11 +10,11 @@ use Rattle.std.proofs.lemmas.List.{append-nil, map-append}
 use Rattle.std.proofs.lemmas.List.Folds.{list_all-append}
 use Rattle.std.proofs.lemmas.Grind.{flat_map-append}
 use Rattle.std.proofs.lemmas.List.Sums.{fold-append, sum_by-cons, sum_by_push}
-use Rattle.mse_base.proofs.Compared.{max_is}
+use Rattle.mse_base.proofs.Compared.{max_of_two}
 use Rattle.mse_base.specs.Moments.{greatest, greater_of, greatest_of_two}
 
 -- the element at a place, and what is known of it
-pub record Found {X : Type 0} (P : X → Type 0) (xs : List X) (i : ℕ) : Type 0 where
+pub record HasItemAt {X : Type 0} (P : X → Type 0) (xs : List X) (i : ℕ) : Type 0 where
   pub x : X
   pub here : slice_get xs i ≡ Some x
   pub more : take (i + 1) xs ≡ take i xs ++ x ∷ []
@@ -25,7 +25,7 @@ take_at [] i x e = absurd cc
 take_at (y ∷ xs) zero x e = let same : y ≡ x = cc in ap (λ z. z ∷ []) same
 take_at (y ∷ xs) (suc i) x e = ap (λ zs. y ∷ zs) (take_at xs i x e)
 
-found_by : {X : Type 0} (P : X → Type 0) (xs : List X) (i : ℕ) (o : Option X) → slice_get xs i ≡ o → i < length xs → IfSome o P → Found P xs i
+found_by : {X : Type 0} (P : X → Type 0) (xs : List X) (i : ℕ) (o : Option X) → slice_get xs i ≡ o → i < length xs → IfSome o P → HasItemAt P xs i
 found_by P xs i (Some x) e low h = record { x = x; here = e; more = rw (add-one) (take_at xs i x e); holds = h }
 found_by P xs i None e low h = absurd (none_within xs i low e)
   where
@@ -34,7 +34,7 @@ found_by P xs i None e low h = absurd (none_within xs i low e)
     none_within (x ∷ xs) zero low e = cc
     none_within (x ∷ xs) (suc i) low e = none_within xs i (omega arith) e
 
-pub found_at : {X : Type 0} (P : X → Type 0) (xs : List X) (i : ℕ) → i < length xs → IfSome (slice_get xs i) P → Found P xs i
+pub found_at : {X : Type 0} (P : X → Type 0) (xs : List X) (i : ℕ) → i < length xs → IfSome (slice_get xs i) P → HasItemAt P xs i
 found_at P xs i low h = found_by P xs i (slice_get xs i) refl low h
 
 -- ---- a list made step by step
@@ -176,17 +176,6 @@ later-fold o t (u ∷ us) = later-fold o (greater_of t u) us ∙ ap (λ s. fold 
 later_none : (o : Option ℤ) → greatest_of_two o None ≡ o
 later_none None = refl
 later_none (Some s) = refl
-
--- std's maximum of two times, each of which may be missing
-max_by : (c : Bool) (s t : ℤ) → cond c (Some s) (Some t) ≡ Some (cond c s t)
-max_by true s t = refl
-max_by false s t = refl
-
-max_of_two : (a b : Option ℤ) → ord_max (option_cmp int_cmp) a b ≡ greatest_of_two a b
-max_of_two None None = refl
-max_of_two None (Some t) = refl
-max_of_two (Some s) None = refl
-max_of_two (Some s) (Some t) = max_by (is_lt (int_cmp t s)) s t ∙ ap Some (max_is s t)
 
 pub highest_more : {X : Type 0} (f : X → List ℤ) (xs : List X) (i : ℕ) (best o : Option ℤ) → i < length xs → best ≡ greatest (flat_map f (take i xs)) → IfSome (slice_get xs i) (λ x. o ≡ greatest (f x)) → ord_max (option_cmp int_cmp) best o ≡ greatest (flat_map f (take (i + 1) xs))
 highest_more f xs i best o low so_far h =

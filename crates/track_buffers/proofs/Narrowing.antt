@@ -8,14 +8,14 @@ use Rattle.std.proofs.lemmas.List.{length-map, map-append}
 use Rattle.mse_base.specs.declared.span.Span.{Span}
 use Rattle.mse_base.specs.Meets.{meet_of_all, narrowed_of_two, narrowed_of_all}
 use Rattle.mse_base.specs.Moments.{greatest}
-use Rattle.mse_base.specs.Spans.{IsNormalized, ends_after, last_from, last_of, starts_before}
+use Rattle.mse_base.specs.Spans.{IsNormalized, has_end_after, last_from, last_of, has_start_before}
 use Rattle.mse_base.proofs.Firsts.{HasNoneBefore, HasNoneFrom, IsFoundAfter, found_in_all, narrowed_push, none_before_all}
 use Rattle.mse_base.proofs.Lasts.{IsFoundBefore, none_from_last, none_from_one}
 use Rattle.mse_base.proofs.Lasts as lasts
 use Rattle.track_store.specs.declared.store.Stored.{Stored}
 use Rattle.track_store.specs.declared.tracks.Track.{Track}
 use Rattle.track_store.specs.Frames.{IsTimed, interval}
-use Rattle.track_store.specs.Kept.{AreTracksSound}
+use Rattle.track_store.specs.Kept.{AreSoundAndCountable}
 use Rattle.track_store.specs.Sound.{IsNotNegative, IsSound}
 use Rattle.track_store.specs.State.{states_of}
 use Rattle.track_buffers.specs.Buffered.{last_ends, with_last_end, with_common_end, ranges_in}
@@ -42,19 +42,19 @@ is_some s [] h = cc
 is_some s (r ∷ ss) h = is_some r ss h
 
 -- a range before the last one is found as it is
-early_step : (t e : ℤ) (s q x last : Span) (ss : List Span) (b : Bool) → (find (ends_after t) (q ∷ ss) ≡ Some x → find (ends_after t) (with_last_end e (q ∷ ss)) ≡ Some x) → cond b (Some s) (find (ends_after t) (q ∷ ss)) ≡ Some x → cond b (Some s) (find (ends_after t) (with_last_end e (q ∷ ss))) ≡ Some x
+early_step : (t e : ℤ) (s q x last : Span) (ss : List Span) (b : Bool) → (find (has_end_after t) (q ∷ ss) ≡ Some x → find (has_end_after t) (with_last_end e (q ∷ ss)) ≡ Some x) → cond b (Some s) (find (has_end_after t) (q ∷ ss)) ≡ Some x → cond b (Some s) (find (has_end_after t) (with_last_end e (q ∷ ss))) ≡ Some x
 early_step t e s q x last ss true f h = h
 early_step t e s q x last ss false f h = f h
 
-early_from : (t e : ℤ) (s x last : Span) (ss : List Span) → last_from s ss ≡ Some last → find (ends_after t) (s ∷ ss) ≡ Some x → x.start <ℤ last.start → find (ends_after t) (with_last_end e (s ∷ ss)) ≡ Some x
-early_from t e s x last [] l h low = absurd (not_it (ends_after t s) h)
+early_from : (t e : ℤ) (s x last : Span) (ss : List Span) → last_from s ss ≡ Some last → find (has_end_after t) (s ∷ ss) ≡ Some x → x.start <ℤ last.start → find (has_end_after t) (with_last_end e (s ∷ ss)) ≡ Some x
+early_from t e s x last [] l h low = absurd (not_it (has_end_after t s) h)
   where
     not_it : (b : Bool) → cond b (Some s) None ≡ Some x → ⊥
     not_it true k = let same : s ≡ x = cc in let is : s ≡ last = cc in let far : x.start <ℤ x.start = subst (λ (z : Span). x.start <ℤ z.start) (sym is ∙ same) low in omega (arith, ints)
     not_it false k = cc
-early_from t e s x last (q ∷ ss) l h low = early_step t e s q x last ss (ends_after t s) (λ k. early_from t e q x last ss l k low) h
+early_from t e s x last (q ∷ ss) l h low = early_step t e s q x last ss (has_end_after t s) (λ k. early_from t e q x last ss l k low) h
 
-pub found_early : (t e : ℤ) (x last : Span) (ss : List Span) → last_of ss ≡ Some last → find (ends_after t) ss ≡ Some x → x.start <ℤ last.start → find (ends_after t) (with_last_end e ss) ≡ Some x
+pub found_early : (t e : ℤ) (x last : Span) (ss : List Span) → last_of ss ≡ Some last → find (has_end_after t) ss ≡ Some x → x.start <ℤ last.start → find (has_end_after t) (with_last_end e ss) ≡ Some x
 found_early t e x last [] l h low = absurd cc
 found_early t e x last (s ∷ ss) l h low = early_from t e s x last ss l h low
 
@@ -63,18 +63,18 @@ abbrev pub IsNotBefore : ℤ → Option Span → Type 0
 IsNotBefore a None = Unit {0}
 IsNotBefore a (Some x) = a ≤ℤ x.start
 
-late_step : (t e : ℤ) (s last : Span) (qs : List Span) (ws : List Span) (b : Bool) → s.start <ℤ last.start → IsNotBefore last.start (cond b (Some s) (find (ends_after t) qs)) → (IsNotBefore last.start (find (ends_after t) qs) → find (ends_after t) ws ≡ cond (ends_after t (lasting_to last e)) (Some (lasting_to last e)) None) → cond b (Some s) (find (ends_after t) ws) ≡ cond (ends_after t (lasting_to last e)) (Some (lasting_to last e)) None
+late_step : (t e : ℤ) (s last : Span) (qs : List Span) (ws : List Span) (b : Bool) → s.start <ℤ last.start → IsNotBefore last.start (cond b (Some s) (find (has_end_after t) qs)) → (IsNotBefore last.start (find (has_end_after t) qs) → find (has_end_after t) ws ≡ cond (has_end_after t (lasting_to last e)) (Some (lasting_to last e)) None) → cond b (Some s) (find (has_end_after t) ws) ≡ cond (has_end_after t (lasting_to last e)) (Some (lasting_to last e)) None
 late_step t e s last qs ws true far h f = absurd (omega (arith, ints))
 late_step t e s last qs ws false far h f = f h
 
-late_from : (t e : ℤ) (s last : Span) (ss : List Span) → IsNormalized (s ∷ ss) → last_from s ss ≡ Some last → IsNotBefore last.start (find (ends_after t) (s ∷ ss)) → find (ends_after t) (with_last_end e (s ∷ ss)) ≡ cond (ends_after t (lasting_to last e)) (Some (lasting_to last e)) None
-late_from t e s last [] n l h = let same : s ≡ last = cc in subst (λ (z : Span). find (ends_after t) (with_last_end e (s ∷ [])) ≡ cond (ends_after t (lasting_to z e)) (Some (lasting_to z e)) None) same refl
+late_from : (t e : ℤ) (s last : Span) (ss : List Span) → IsNormalized (s ∷ ss) → last_from s ss ≡ Some last → IsNotBefore last.start (find (has_end_after t) (s ∷ ss)) → find (has_end_after t) (with_last_end e (s ∷ ss)) ≡ cond (has_end_after t (lasting_to last e)) (Some (lasting_to last e)) None
+late_from t e s last [] n l h = let same : s ≡ last = cc in subst (λ (z : Span). find (has_end_after t) (with_last_end e (s ∷ [])) ≡ cond (has_end_after t (lasting_to z e)) (Some (lasting_to z e)) None) same refl
 late_from t e s last (q ∷ ss) n l h =
     let long = n.0 in
     let after : s.end <ℤ last.start = last_after s.end q last ss n.1 n.2 l in
-    late_step t e s last (q ∷ ss) (with_last_end e (q ∷ ss)) (ends_after t s) (omega (arith, ints)) h (λ k. late_from t e q last ss n.2 l k)
+    late_step t e s last (q ∷ ss) (with_last_end e (q ∷ ss)) (has_end_after t s) (omega (arith, ints)) h (λ k. late_from t e q last ss n.2 l k)
 
-pub found_late : (t e : ℤ) (last : Span) (ss : List Span) → IsNormalized ss → last_of ss ≡ Some last → IsNotBefore last.start (find (ends_after t) ss) → find (ends_after t) (with_last_end e ss) ≡ cond (ends_after t (lasting_to last e)) (Some (lasting_to last e)) None
+pub found_late : (t e : ℤ) (last : Span) (ss : List Span) → IsNormalized ss → last_of ss ≡ Some last → IsNotBefore last.start (find (has_end_after t) ss) → find (has_end_after t) (with_last_end e ss) ≡ cond (has_end_after t (lasting_to last e)) (Some (lasting_to last e)) None
 found_late t e last [] n l h = absurd cc
 found_late t e last (s ∷ ss) n l h = late_from t e s last ss n l h
 
@@ -87,10 +87,10 @@ pub not_before_last : (o : Option Span) (x last : Span) → x ≡ unwrap_or o la
 not_before_last None x last is low = tt
 not_before_last (Some y) x last is low = subst (λ (z : Span). last.start ≤ℤ z.start) is low
 
-pub late_found : (t e : ℤ) (last : Span) (ss : List Span) (b : Bool) → IsNormalized ss → last_of ss ≡ Some last → IsNotBefore last.start (find (ends_after t) ss) → ends_after t (lasting_to last e) ≡ b → cond b (Some (lasting_to last e)) None ≡ find (ends_after t) (with_last_end e ss)
+pub late_found : (t e : ℤ) (last : Span) (ss : List Span) (b : Bool) → IsNormalized ss → last_of ss ≡ Some last → IsNotBefore last.start (find (has_end_after t) ss) → has_end_after t (lasting_to last e) ≡ b → cond b (Some (lasting_to last e)) None ≡ find (has_end_after t) (with_last_end e ss)
 late_found t e last ss b n l h is = sym (found_late t e last ss n l h ∙ ap (λ c. cond c (Some (lasting_to last e)) None) is)
 
-pub none_extended : (t e : ℤ) (ss : List Span) → last_of ss ≡ None → None ≡ find (ends_after t) (with_last_end e ss)
+pub none_extended : (t e : ℤ) (ss : List Span) → last_of ss ≡ None → None ≡ find (has_end_after t) (with_last_end e ss)
 none_extended t e [] l = refl
 none_extended t e (s ∷ ss) l = absurd (is_some s ss l)
 
@@ -112,7 +112,7 @@ starts_within a b [] h = tt
 starts_within a b (s ∷ ss) h = ((h.0).0, starts_within a b ss h.1)
 
 -- nothing that sound tracks share is before 0
-pub none_before_zero : {S : Type 0} (frames : S → List Stored) (gap : S → ℤ) (ended : Bool) (ts : List (Track S)) → AreTracksSound (states_of frames ts) → HasNoneBefore (pos 0) (meet_of_all (with_common_end ended (ranges_in frames gap ts)))
+pub none_before_zero : {S : Type 0} (frames : S → List Stored) (gap : S → ℤ) (ended : Bool) (ts : List (Track S)) → AreSoundAndCountable (states_of frames ts) → HasNoneBefore (pos 0) (meet_of_all (with_common_end ended (ranges_in frames gap ts)))
 none_before_zero frames gap ended ts h =
     let within = common_inside (pos 0) (pos (2 ^ 110)) ended (ranges_in frames gap ts) (ranges_within frames gap ts h.sound) in
     let shared = shared_inside (pos 0) (pos (2 ^ 110)) (with_common_end ended (ranges_in frames gap ts)) within in
@@ -138,10 +138,10 @@ no_last rs h = sym (ap last_of (ap meet_of_all (sym (grown_none rs)) ∙ none_sh
 
 -- ---- what a round tells
 
-pub first_round : (t : ℤ) (rs : List (List Span)) (o p : Option Span) → AllByRecursion IsNormalized rs → o ≡ narrowed_of_all (map (find (ends_after t)) rs) → o ≡ p → IsFoundAfter t p (meet_of_all rs)
+pub first_round : (t : ℤ) (rs : List (List Span)) (o p : Option Span) → AllByRecursion IsNormalized rs → o ≡ narrowed_of_all (map (find (has_end_after t)) rs) → o ≡ p → IsFoundAfter t p (meet_of_all rs)
 first_round t rs o p n h is = subst (λ (q : Option Span). IsFoundAfter t q (meet_of_all rs)) (sym h ∙ is) (found_in_all t rs n)
 
-pub last_round : (t : ℤ) (rs : List (List Span)) (o p : Option Span) → AllByRecursion IsNormalized rs → o ≡ narrowed_of_all (map (λ r. last_of (filter (starts_before t) r)) rs) → o ≡ p → IsFoundBefore t p (meet_of_all rs)
+pub last_round : (t : ℤ) (rs : List (List Span)) (o p : Option Span) → AllByRecursion IsNormalized rs → o ≡ narrowed_of_all (map (λ r. last_of (filter (has_start_before t) r)) rs) → o ≡ p → IsFoundBefore t p (meet_of_all rs)
 last_round t rs o p n h is = subst (λ (q : Option Span). IsFoundBefore t q (meet_of_all rs)) (sym h ∙ is) (lasts.found_in_all t rs n)
 
 -- ---- each round comes closer to the end

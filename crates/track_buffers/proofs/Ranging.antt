@@ -7,7 +7,7 @@ use Rattle.std.specs.Int.{int_min, int_max}
 use Rattle.std.proofs.lemmas.Int.{ints}
 use Rattle.mse_base.specs.declared.span.Span.{Span}
 use Rattle.mse_base.specs.Bridging.{is_empty, is_far_before, span_round, ranges_with_lasting, ranges_with, IsRanges}
-use Rattle.mse_base.specs.Spans.{RangesView, has_tick, covers, StartsAfter, IsNormalized, IsUnion, IsIntersection, last_from, last_of}
+use Rattle.mse_base.specs.Spans.{RangesView, has_tick, has_tick_in, IsFirstStartAfter, IsNormalized, IsUnion, IsIntersection, last_from, last_of}
 use Rattle.mse_base.proofs.Sets.{covers-append}
 use Rattle.mse_base.proofs.Extended.{normalized_ranges}
 use Rattle.mse_base.proofs.Merging.{ranges_bridged}
@@ -26,11 +26,11 @@ use Rattle.track_buffers.proofs.Loops.{found_at}
 
 -- ---- normalized lists
 
-later_than : (e : ℤ) (ss : List Span) → StartsAfter e ss → IsNormalized ss → AllByRecursion (λ q. e <ℤ q.start) ss
+later_than : (e : ℤ) (ss : List Span) → IsFirstStartAfter e ss → IsNormalized ss → AllByRecursion (λ q. e <ℤ q.start) ss
 later_than e [] h n = tt
 later_than e (s ∷ ss) h n = (h, later_than e ss (after_more e s ss h n.0 n.1) n.2)
   where
-    after_more : (e : ℤ) (s : Span) (ss : List Span) → e <ℤ s.start → s.start <ℤ s.end → StartsAfter s.end ss → StartsAfter e ss
+    after_more : (e : ℤ) (s : Span) (ss : List Span) → e <ℤ s.start → s.start <ℤ s.end → IsFirstStartAfter s.end ss → IsFirstStartAfter e ss
     after_more e s [] h k n = tt
     after_more e s (r ∷ ss) h k n = omega (arith, ints)
 
@@ -48,7 +48,7 @@ ranges_normalized (s ∷ ss) n = (n.0, all_no_gap s.end ss (later_than s.end ss 
 lasts_longer : (s : Span) (e : ℤ) → s.start <ℤ s.end → s.start <ℤ int_max s.end e
 lasts_longer s e h = grind (arith, ints)
 
-grown_after : (d e : ℤ) (ss : List Span) → StartsAfter d ss → StartsAfter d (with_last_end e ss)
+grown_after : (d e : ℤ) (ss : List Span) → IsFirstStartAfter d ss → IsFirstStartAfter d (with_last_end e ss)
 grown_after d e [] h = tt
 grown_after d e (s ∷ []) h = h
 grown_after d e (s ∷ r ∷ ss) h = h
@@ -74,10 +74,10 @@ or_none : (a : Bool) → (a || false) ≡ a
 or_none true = refl
 or_none false = refl
 
-covers-last : (e : ℤ) (ss : List Span) (t : ℤ) → covers (with_last_end e ss) t ≡ (covers ss t || covers (last_up_to e ss) t)
+covers-last : (e : ℤ) (ss : List Span) (t : ℤ) → has_tick_in (with_last_end e ss) t ≡ (has_tick_in ss t || has_tick_in (last_up_to e ss) t)
 covers-last e [] t = refl
 covers-last e (s ∷ []) t = or_none _ ∙ within-longer s e t ∙ sym (ap (λ b. (has_tick s t || false) || b) (or_none _) ∙ ap (λ b. b || has_tick (record { start = s.start; end = e }) t) (or_none (has_tick s t)))
-covers-last e (s ∷ r ∷ ss) t = ap (λ b. has_tick s t || b) (covers-last e (r ∷ ss) t) ∙ or_assoc (has_tick s t) (covers (r ∷ ss) t) (covers (last_up_to e (r ∷ ss)) t)
+covers-last e (s ∷ r ∷ ss) t = ap (λ b. has_tick s t || b) (covers-last e (r ∷ ss) t) ∙ or_assoc (has_tick s t) (has_tick_in (r ∷ ss) t) (has_tick_in (last_up_to e (r ∷ ss)) t)
 
 pub last_joined : (e : ℤ) (ss : List Span) → IsNormalized ss → IsUnion (ss ++ last_up_to e ss) (with_last_end e ss)
 last_joined e ss n = record {

@@ -17,7 +17,7 @@ use Rattle.frame_rules.specs.declared.answer.Placed.TheVariants as placed_as
 use Rattle.frame_rules.specs.Place.{placement}
 use Rattle.track_buffers.specs.declared.effects.SourceEffect.{SourceEffect}
 use Rattle.track_buffers.specs.declared.effects.MediaFault.{MediaFault}
-use Rattle.track_buffers.specs.Media.{Media, Done, AppendError, effect_of, is_empty_list, awaits_first, no_effect, with_duration}
+use Rattle.track_buffers.specs.Media.{Media, Done, AppendError, effect_of, is_empty_list, is_awaiting_first, no_effect, with_duration}
 use Rattle.track_buffers.specs.Initialized.{partner_of, track_with_partner, new_track, tracks_after, media_tracks, init_fault, init_result, init_result_of, segment_effect}
 use Rattle.track_buffers.specs.Frames.{place_of, placement_result, frame_result, frame_result_at}
 use Rattle.track_buffers.specs.Buffered.{last_ends, with_end, with_common_end, buffered_of}
@@ -83,7 +83,7 @@ leaves_by : (o : Option MediaFault) (p : Presentation) (m n : Media) (e b : Sour
 leaves_by (Some fault) p m n e b is ended = absurd cc
 leaves_by None p m n e b is ended =
     let after : Media = record { tracks = tracks_after (media_tracks p) m.tracks; settings = m.settings; pending = false; gap = m.gap } in
-    let effect : SourceEffect = record { duration_changes = e.duration_changes; duration = e.duration; activated = awaits_first m; received_init = true } in
+    let effect : SourceEffect = record { duration_changes = e.duration_changes; duration = e.duration; activated = is_awaiting_first m; received_init = true } in
     let media : after ≡ n = cc in
     let told : effect ≡ b = cc in
     let leaves : buffered_of ended after ≡ cond effect.activated [] (buffered_of ended m) = leaves_ranges ended m.gap (media_tracks p) m.tracks in
@@ -118,7 +118,7 @@ fault_not_received p m n d fault b is = fault_by (init_fault p m) fault p m n (s
 received_by : (o : Option MediaFault) (p : Presentation) (m n : Media) (e b : SourceEffect) → init_result_of o p m e ≡ Done n b → b.received_init ≡ true
 received_by (Some fault) p m n e b is = absurd cc
 received_by None p m n e b is =
-    let effect : SourceEffect = record { duration_changes = e.duration_changes; duration = e.duration; activated = awaits_first m; received_init = true } in
+    let effect : SourceEffect = record { duration_changes = e.duration_changes; duration = e.duration; activated = is_awaiting_first m; received_init = true } in
     let told : effect ≡ b = cc in
     subst (λ (x : SourceEffect). x.received_init ≡ true) told refl
 

@@ -100,9 +100,9 @@ first-meet_of_all (r ∷ rs) s e = fold_first r rs (first_of r) s (λ x h. h) e
 -- ---- where all last ranges end at one time
 
 -- the range, if there is one, is not empty and ends at a time
-abbrev EndsAt : ℤ → Option Span → Type 0
-EndsAt e None = Unit {0}
-EndsAt e (Some s) = (s.start <ℤ e) × (s.end ≡ e)
+abbrev IsNonEmptyTo : ℤ → Option Span → Type 0
+IsNonEmptyTo e None = Unit {0}
+IsNonEmptyTo e (Some s) = (s.start <ℤ e) × (s.end ≡ e)
 
 both_start : (x y : Span) (e : ℤ) → x.start <ℤ e → y.start <ℤ e → int_max x.start y.start <ℤ e
 both_start x y e h k = grind (arith, ints)
@@ -116,19 +116,19 @@ is_less a b h = grind (arith, ints)
 abbrev both : Span → Span → Span
 both x y = record { start = int_max x.start y.start; end = int_min x.end y.end }
 
-they_share : (x y : Span) (e : ℤ) → EndsAt e (Some x) → EndsAt e (Some y) → overlap_span x y ≡ Some (both x y)
+they_share : (x y : Span) (e : ℤ) → IsNonEmptyTo e (Some x) → IsNonEmptyTo e (Some y) → overlap_span x y ≡ Some (both x y)
 they_share x y e h k =
     let last = both_end x y e h.1 k.1 in
     let low : int_max x.start y.start <ℤ int_min x.end y.end = subst (λ (z : ℤ). int_max x.start y.start <ℤ z) (sym last) (both_start x y e h.0 k.0) in
     ap (λ c. cond c (Some (both x y)) None) (is_less (int_max x.start y.start) (int_min x.end y.end) low)
 
-both_ends_at : (x y : Span) (e : ℤ) → EndsAt e (Some x) → EndsAt e (Some y) → EndsAt e (Some (both x y))
+both_ends_at : (x y : Span) (e : ℤ) → IsNonEmptyTo e (Some x) → IsNonEmptyTo e (Some y) → IsNonEmptyTo e (Some (both x y))
 both_ends_at x y e h k = (both_start x y e h.0 k.0, both_end x y e h.1 k.1)
 
-two_end_at : (o p : Option Span) (e : ℤ) → EndsAt e o → EndsAt e p → EndsAt e (overlap_of_two o p)
+two_end_at : (o p : Option Span) (e : ℤ) → IsNonEmptyTo e o → IsNonEmptyTo e p → IsNonEmptyTo e (overlap_of_two o p)
 two_end_at None p e h k = tt
 two_end_at (Some x) None e h k = tt
-two_end_at (Some x) (Some y) e h k = subst (EndsAt e) (sym (they_share x y e h k)) (both_ends_at x y e h k)
+two_end_at (Some x) (Some y) e h k = subst (IsNonEmptyTo e) (sym (they_share x y e h k)) (both_ends_at x y e h k)
 
 has_last : (s : Span) (ss : List Span) → last_from s ss ≡ None → ⊥
 has_last s [] h = cc
@@ -142,16 +142,16 @@ meet_none : (xs : List Span) → meet xs [] ≡ []
 meet_none [] = refl
 meet_none (x ∷ xs) = meet_none xs
 
-last_of_two : (r q : List Span) (o p : Option Span) (e : ℤ) → last_of r ≡ o → last_of q ≡ p → EndsAt e o → EndsAt e p → last_of (meet r q) ≡ overlap_of_two o p
+last_of_two : (r q : List Span) (o p : Option Span) (e : ℤ) → last_of r ≡ o → last_of q ≡ p → IsNonEmptyTo e o → IsNonEmptyTo e p → last_of (meet r q) ≡ overlap_of_two o p
 last_of_two r q None p e l k h i = ap (λ (z : List Span). last_of (meet z q)) (no_last r l)
 last_of_two r q (Some x) None e l k h i = ap (λ (z : List Span). last_of (meet r z)) (no_last q k) ∙ ap last_of (meet_none r)
 last_of_two r q (Some x) (Some y) e l k h i = last-meet x y (both x y) r q l k (they_share x y e h i) ∙ sym (they_share x y e h i)
 
-fold_ends : (r : List Span) (rs : List (List Span)) (o : Option Span) (e : ℤ) → last_of r ≡ o → EndsAt e o → AllByRecursion (λ q. EndsAt e (last_of q)) rs → last_of (fold meet r rs) ≡ fold overlap_of_two o (map last_of rs)
+fold_ends : (r : List Span) (rs : List (List Span)) (o : Option Span) (e : ℤ) → last_of r ≡ o → IsNonEmptyTo e o → AllByRecursion (λ q. IsNonEmptyTo e (last_of q)) rs → last_of (fold meet r rs) ≡ fold overlap_of_two o (map last_of rs)
 fold_ends r [] o e l h i = l
 fold_ends r (q ∷ rs) o e l h i = fold_ends (meet r q) rs (overlap_of_two o (last_of q)) e (last_of_two r q o (last_of q) e l refl h i.0) (two_end_at o (last_of q) e h i.0) i.1
 
-last_ending : (rs : List (List Span)) (e : ℤ) → AllByRecursion (λ q. EndsAt e (last_of q)) rs → last_of (meet_of_all rs) ≡ overlap_of_all (map last_of rs)
+last_ending : (rs : List (List Span)) (e : ℤ) → AllByRecursion (λ q. IsNonEmptyTo e (last_of q)) rs → last_of (meet_of_all rs) ≡ overlap_of_all (map last_of rs)
 last_ending [] e h = refl
 last_ending (r ∷ rs) e h = fold_ends r rs (last_of r) e refl h.0 h.1
 
@@ -173,7 +173,7 @@ abbrev pub IsEndedBy : ℤ → Option Span → Type 0
 IsEndedBy e None = Unit {0}
 IsEndedBy e (Some s) = s.end ≤ℤ e
 
-ends_there : (ss : List Span) (o : Option Span) (e : ℤ) → IsNormalized ss → last_of ss ≡ o → IsEndedBy e o → EndsAt e (option_map (span_up_to e) o)
+ends_there : (ss : List Span) (o : Option Span) (e : ℤ) → IsNormalized ss → last_of ss ≡ o → IsEndedBy e o → IsNonEmptyTo e (option_map (span_up_to e) o)
 ends_there ss None e n h k = tt
 ends_there ss (Some s) e n h k = grown_end s.start s.end e (last_lasts ss s n h) k
 
@@ -181,26 +181,26 @@ pub split_ends : (e : ℤ) (o : Option Span) (ts : List ℤ) → AllByRecursion 
 split_ends e None ts h = (tt, h)
 split_ends e (Some s) ts h = (h.0, h.1)
 
-each_ends : (rs : List (List Span)) (e : ℤ) → AllByRecursion IsNormalized rs → AllByRecursion (λ t. t ≤ℤ e) (last_ends rs) → AllByRecursion (λ q. EndsAt e (last_of q)) (map (with_end (Some e)) rs)
+each_ends : (rs : List (List Span)) (e : ℤ) → AllByRecursion IsNormalized rs → AllByRecursion (λ t. t ≤ℤ e) (last_ends rs) → AllByRecursion (λ q. IsNonEmptyTo e (last_of q)) (map (with_end (Some e)) rs)
 each_ends [] e n h = tt
 each_ends (r ∷ rs) e n h =
     let parts = split_ends e (last_of r) (last_ends rs) h in
-    (subst (EndsAt e) (sym (last-with_last_end e r)) (ends_there r (last_of r) e n.0 refl parts.0), each_ends rs e n.1 parts.1)
+    (subst (IsNonEmptyTo e) (sym (last-with_last_end e r)) (ends_there r (last_of r) e n.0 refl parts.0), each_ends rs e n.1 parts.1)
 
 pub no_end : (o : Option Span) (ts : List ℤ) → option_to_list (option_map (λ (s : Span). s.end) o) ++ ts ≡ [] → (o ≡ None) × (ts ≡ [])
 no_end None ts h = (refl, h)
 no_end (Some s) ts h = absurd cc
 
-none_ends : (rs : List (List Span)) (e : ℤ) → last_ends rs ≡ [] → AllByRecursion (λ q. EndsAt e (last_of q)) rs
+none_ends : (rs : List (List Span)) (e : ℤ) → last_ends rs ≡ [] → AllByRecursion (λ q. IsNonEmptyTo e (last_of q)) rs
 none_ends [] e h = tt
 none_ends (r ∷ rs) e h =
     let parts = no_end (last_of r) (last_ends rs) h in
-    (subst (EndsAt e) (sym parts.0) tt, none_ends rs e parts.1)
+    (subst (IsNonEmptyTo e) (sym parts.0) tt, none_ends rs e parts.1)
 
 last_by : (o : Option ℤ) (rs : List (List Span)) → greatest (last_ends rs) ≡ o → AllByRecursion IsNormalized rs → last_of (meet_of_all (map (with_end o) rs)) ≡ overlap_of_all (map last_of (map (with_end o) rs))
 last_by None rs h n =
     let ends = none_ends rs (pos 0) (greatest_none (last_ends rs) h) in
-    last_ending (map (with_end None) rs) (pos 0) (subst (AllByRecursion (λ q. EndsAt (pos 0) (last_of q))) (sym (grown_none rs)) ends)
+    last_ending (map (with_end None) rs) (pos 0) (subst (AllByRecursion (λ q. IsNonEmptyTo (pos 0) (last_of q))) (sym (grown_none rs)) ends)
 last_by (Some e) rs h n = last_ending (map (with_end (Some e)) rs) e (each_ends rs e n (greatest_bounds (last_ends rs) e h))
 
 each_last : (o : Option ℤ) (rs : List (List Span)) → map last_of (map (with_end o) rs) ≡ map (λ r. last_up_to_end o (last_of r)) rs

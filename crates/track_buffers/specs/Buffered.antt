@@ -4,7 +4,7 @@ use Rattle.std.specs.Int.{int_max}
 use Rattle.std.specs.List.{list_all}
 use Rattle.mse_base.specs.declared.span.Span.{Span}
 use Rattle.mse_base.specs.Meets.{meet_of_all}
-use Rattle.mse_base.specs.Spans.{covers, last_of, IsNormalized}
+use Rattle.mse_base.specs.Spans.{has_tick_in, last_of, IsNormalized}
 use Rattle.track_store.specs.declared.store.Stored.{Stored}
 use Rattle.track_store.specs.declared.tracks.Track.{Track}
 use Rattle.mse_base.specs.Moments.{greatest}
@@ -49,11 +49,11 @@ buffered_of ended m = meet_of_all (with_common_end ended (track_ranges m))
 
 -- the statement about sets of ticks that stands above it
 abbrev pub is_covered_by_all : List (List Span) → ℤ → Bool
-is_covered_by_all rs t = list_all (λ r. covers r t) rs
+is_covered_by_all rs t = list_all (λ r. has_tick_in r t) rs
 
 pub record IsBuffered (ended : Bool) (m : Media) (spans : List Span) : Type 0 where
   pub same : (t : ℤ) → m.tracks ≢ []
-      → covers spans t ≡ is_covered_by_all (with_common_end ended (track_ranges m)) t
+      → has_tick_in spans t ≡ is_covered_by_all (with_common_end ended (track_ranges m)) t
   pub none : m.tracks ≡ [] → spans ≡ []
   pub normalized : IsNormalized spans
 

@@ -14,7 +14,7 @@ use Rattle.track_store.specs.State.{TrackState, new_marks, marks_needing_sync}
 use Rattle.track_buffers.specs.declared.effects.SourceEffect.{SourceEffect}
 use Rattle.track_buffers.specs.declared.effects.MediaFault.{MediaFault}
 use Rattle.track_buffers.specs.declared.effects.MediaFault.TheVariants.{NoTracks, UnknownCodec, TracksDiffer}
-use Rattle.track_buffers.specs.Media.{Media, is_empty_list, awaits_first, no_effect, with_duration, MediaResult, Done, AppendError}
+use Rattle.track_buffers.specs.Media.{Media, is_empty_list, is_awaiting_first, no_effect, with_duration, MediaResult, Done, AppendError}
 
 -- the tracks of an initialization segment that a buffer takes frames of: video and audio
 abbrev pub is_media_track : TrackInfo → Bool
@@ -76,7 +76,7 @@ abbrev pub init_fault : Presentation → Media → Option MediaFault
 init_fault p m =
     if is_empty_list (media_tracks p) then Some NoTracks
     else (if not (list_all is_known (media_tracks p)) then Some UnknownCodec
-    else (if awaits_first m || has_same_tracks (media_tracks p) m then None else Some TracksDiffer))
+    else (if is_awaiting_first m || has_same_tracks (media_tracks p) m then None else Some TracksDiffer))
 
 -- step 5: a track buffer for each track of the first segment, in order of the file
 abbrev pub new_track : TrackInfo → TrackState
@@ -113,7 +113,7 @@ init_result_of None p m b =
     (record {
       duration_changes = b.duration_changes;
       duration = b.duration;
-      activated = awaits_first m;
+      activated = is_awaiting_first m;
       received_init = true;
     })
 

@@ -7,7 +7,7 @@ use Rattle.mse_base.specs.Moments.{is_same_moment}
 use Rattle.track_store.specs.declared.store.Stored.{Stored}
 use Rattle.track_store.specs.declared.tracks.Settings.{Settings}
 use Rattle.track_store.specs.declared.tracks.Track.{Track}
-use Rattle.track_store.specs.Kept.{AreTracksSound, AreEndedBy}
+use Rattle.track_store.specs.Kept.{AreSoundAndCountable, AreEndedBy}
 use Rattle.track_store.specs.State.{TrackState, states_of}
 use Rattle.track_buffers.specs.declared.effects.SourceEffect.{SourceEffect}
 use Rattle.track_buffers.specs.declared.effects.MediaFault.{MediaFault}
@@ -43,8 +43,8 @@ is_empty_list (x ∷ xs) = false
 
 -- no initialization segment was received yet (Media Source Extensions, 3.5.7, "first initialization segment received
 -- flag"): the first one makes the track buffers, of which it has at least one
-abbrev pub awaits_first : Media → Bool
-awaits_first m = is_empty_list m.tracks
+abbrev pub is_awaiting_first : Media → Bool
+is_awaiting_first m = is_empty_list m.tracks
 
 -- ---- what always holds
 
@@ -61,21 +61,21 @@ room_of spare ts = least_room (map (λ t. spare t.store) ts)
 -- across the same gap
 pub record HasMediaInvariants (tracks : List TrackState) (gaps : List ℤ) (settings : Settings)
     (gap : ℤ) : Type 0 where
-  pub sound : AreTracksSound tracks
+  pub sound : AreSoundAndCountable tracks
   pub window_start : pos 0 ≤ℤ settings.window_start
   pub window_end : settings.window_end ≢ Nan
   pub gaps_are : AllByRecursion (λ g. g ≡ gap) gaps
   pub gap_from_zero : pos 0 ≤ℤ gap
 
 -- each stored frame ends at or before the duration; without a duration there is none
-abbrev pub EndsWithin : Moment → List TrackState → Type 0
-EndsWithin Nan ts = AllByRecursion (λ t. t.frames ≡ []) ts
-EndsWithin (At d) ts = AreEndedBy d ts
-EndsWithin Infinite ts = Unit {0}
+abbrev pub AreEndedWithin : Moment → List TrackState → Type 0
+AreEndedWithin Nan ts = AllByRecursion (λ t. t.frames ≡ []) ts
+AreEndedWithin (At d) ts = AreEndedBy d ts
+AreEndedWithin Infinite ts = Unit {0}
 
 -- a duration is not after another one: what ends within it ends within the other
 abbrev pub IsNotAfter : Moment → Moment → Type 0
-IsNotAfter d e = (ts : List TrackState) → EndsWithin d ts → EndsWithin e ts
+IsNotAfter d e = (ts : List TrackState) → AreEndedWithin d ts → AreEndedWithin e ts
 
 -- ---- what comes of an item at the media source
 

@@ -9,13 +9,13 @@ use Rattle.mse_base.specs.Spans.{reaches}
 use Rattle.track_buffers.specs.declared.watch.Watch.{Watch}
 
 -- the range of a list that holds a time ends at another time
-abbrev pub ends_at : ℤ → Option Span → Bool
-ends_at e None = false
-ends_at e (Some s) = int_eq s.end e
+abbrev pub is_ended_at : ℤ → Option Span → Bool
+is_ended_at e None = false
+is_ended_at e (Some s) = int_eq s.end e
 
 -- Of the ranges of each track that hold the time, at least so many end where the one that they share ends.
 abbrev pub HasLeast : Option Span → ℕ → List (Option Span) → Type 0
-HasLeast shared n os = IfSome shared (λ s. n ≤ count_by (ends_at s.end) os)
+HasLeast shared n os = IfSome shared (λ s. n ≤ count_by (is_ended_at s.end) os)
 
 -- the range is the one among the ticks that all these lists share that holds the time, if there is one
 pub record IsWatchOf (w : Watch) (rs : List (List Span)) : Type 0 where
@@ -40,7 +40,7 @@ abbrev pub least_after_end : Watch → ℤ → ℤ → Option ℕ
 least_after_end w old new =
     if int_lt (end_or w.t w.span) new
     then (if int_lt (end_or w.t w.span) old then Some w.least
-    else (if nat_le 2 w.least && ends_at old w.span then Some (w.least - 1) else None))
+    else (if nat_le 2 w.least && is_ended_at old w.span then Some (w.least - 1) else None))
     else None
 
 -- the range of one track that holds the time changes: how many are left, if what all share is known to stay

@@ -4,9 +4,9 @@
 ghost use Rattle.std.specs.Prelude.{◌≡◌, ◌≤ℤ◌, pos, false, find, map, slice_get, IfSome};
 ghost use Rattle.std.specs.List.{AllByRecursion, filter};
 ghost use Rattle.mse_base.specs.Meets.{meet_of_all, narrowed_of_two, narrowed_of_all};
-ghost use Rattle.mse_base.specs.Spans.{ends_after, first_of, last_of, starts_before};
+ghost use Rattle.mse_base.specs.Spans.{has_end_after, first_of, last_of, has_start_before};
 ghost use Rattle.track_store.specs.Frames.{ranges_of};
-ghost use Rattle.track_store.specs.Kept.{AreTracksSound, gaps_of};
+ghost use Rattle.track_store.specs.Kept.{AreSoundAndCountable, gaps_of};
 ghost use Rattle.track_store.specs.State.{states_of};
 ghost use Rattle.track_buffers.specs.Buffered.{with_common_end, with_end, with_last_end, ranges_in};
 
@@ -32,7 +32,7 @@ fn narrowed_of_two(x: Option<Span>, y: Option<Span>) -> Option<Span>
 /// The first range of a track that ends after a time, where the last one lasts to an end.
 fn extended_span_after<S: FrameStore>(track: &Track<S>, t: Ticks, end: Ticks) -> Option<Span>
     requires { pos 0 ≤ℤ S.gap track.now.store }
-    ensures { result ≡ find (ends_after t)
+    ensures { result ≡ find (has_end_after t)
         (with_last_end end (ranges_of (S.gap track.now.store) (S.frames track.now.store))) }
 {
     match track.store.last_span() {
@@ -52,7 +52,7 @@ fn extended_span_after<S: FrameStore>(track: &Track<S>, t: Ticks, end: Ticks) ->
 /// is one.
 fn track_span_after<S: FrameStore>(track: &Track<S>, t: Ticks, end: &Option<Ticks>) -> Option<Span>
     requires { pos 0 ≤ℤ S.gap track.now.store }
-    ensures { result ≡ find (ends_after t)
+    ensures { result ≡ find (has_end_after t)
         (with_end end.now (ranges_of (S.gap track.now.store) (S.frames track.now.store))) }
 {
     match end {
@@ -70,7 +70,7 @@ fn span_after_at<S: FrameStore>(
     requires { AllByRecursion (λ g. pos 0 ≤ℤ g) (gaps_of S.gap tracks.now.items) }
     ensures { IfSome (slice_get
         (map (with_end end.now) (ranges_in S.frames S.gap tracks.now.items)) i)
-        (λ r. result ≡ find (ends_after t) r) }
+        (λ r. result ≡ find (has_end_after t) r) }
 {
     match tracks.get(i) {
         Some(track) => track_span_after(track, t, end),
@@ -83,7 +83,7 @@ fn span_after_at<S: FrameStore>(
 /// track.
 fn narrowed_after<S: FrameStore>(tracks: &Tracks<S>, t: Ticks, end: &Option<Ticks>) -> Option<Span>
     requires { AllByRecursion (λ g. pos 0 ≤ℤ g) (gaps_of S.gap tracks.now.items) }
-    ensures { result ≡ narrowed_of_all (map (find (ends_after t))
+    ensures { result ≡ narrowed_of_all (map (find (has_end_after t))
         (map (with_end end.now) (ranges_in S.frames S.gap tracks.now.items))) }
 {
     if tracks.len() == 0 {
@@ -101,7 +101,7 @@ fn narrowed_after<S: FrameStore>(tracks: &Tracks<S>, t: Ticks, end: &Option<Tick
 /// next round looks from there on.
 pub(crate) fn first_span<S: FrameStore>(tracks: &Tracks<S>, ended: bool) -> Option<Span>
     requires gaps { AllByRecursion (λ g. pos 0 ≤ℤ g) (gaps_of S.gap tracks.now.items) }
-    requires sound { AreTracksSound (states_of S.frames tracks.now.items) }
+    requires sound_and_countable { AreSoundAndCountable (states_of S.frames tracks.now.items) }
     ensures { result ≡ first_of
         (meet_of_all (with_common_end ended (ranges_in S.frames S.gap tracks.now.items))) }
 {
@@ -118,7 +118,7 @@ pub(crate) fn first_span<S: FrameStore>(tracks: &Tracks<S>, ended: bool) -> Opti
 
 fn span_before_at<S: FrameStore>(tracks: &Tracks<S>, i: usize, t: Ticks) -> Option<Span>
     ensures { IfSome (slice_get (ranges_in S.frames S.gap tracks.now.items) i)
-        (λ r. result ≡ last_of (filter (starts_before t) r)) }
+        (λ r. result ≡ last_of (filter (has_start_before t) r)) }
 {
     match tracks.get(i) {
         Some(track) => track.store.last_span_before(t),
@@ -130,7 +130,7 @@ fn span_before_at<S: FrameStore>(tracks: &Tracks<S>, i: usize, t: Ticks) -> Opti
 /// end, which may be before it. `None` exactly where a track has no such range, or there is no
 /// track.
 fn narrowed_before<S: FrameStore>(tracks: &Tracks<S>, t: Ticks) -> Option<Span>
-    ensures { result ≡ narrowed_of_all (map (λ r. last_of (filter (starts_before t) r))
+    ensures { result ≡ narrowed_of_all (map (λ r. last_of (filter (has_start_before t) r))
         (ranges_in S.frames S.gap tracks.now.items)) }
 {
     if tracks.len() == 0 {

@@ -2,11 +2,11 @@ ghost use Rattle.std.specs.Prelude.{◌≡◌, ◌≢◌, ◌≤◌, ◌<◌, �
 ghost use Rattle.std.specs.List.{AllByRecursion};
 ghost use Rattle.mse_base.specs.declared.ticks.Moment.{Moment};
 ghost use Rattle.mse_base.specs.Spans.{first_of, last_of, reaches};
-ghost use Rattle.track_store.specs.Kept.{AreTracksSound};
+ghost use Rattle.track_store.specs.Kept.{AreSoundAndCountable};
 ghost use Rattle.track_store.specs.Sound.{IsSound};
 ghost use Rattle.track_store.specs.State.{states_of};
 ghost use Rattle.track_buffers.specs.Effects.{media_result, source_effect};
-ghost use Rattle.track_buffers.specs.Media.{awaits_first, EndsWithin, IsNotAfter};
+ghost use Rattle.track_buffers.specs.Media.{is_awaiting_first, AreEndedWithin, IsNotAfter};
 ghost use Rattle.track_buffers.specs.Settings.{new_media, with_mode, with_offset, with_window_start, with_window_end, with_whole_window, with_container};
 ghost use Rattle.track_buffers.specs.Initialized.{media_tracks, init_fault, init_result};
 ghost use Rattle.track_buffers.specs.Frames.{frame_result, flush_result, media_after_reset, media_after_removal, media_after_eviction, used_in, highest_start_in, highest_end_in};
@@ -108,8 +108,8 @@ impl<S: FrameStore> TrackBuffers<S> {
     /// buffers may have more room than before, and none has less.
     pub fn reserve_frames(&mut self, n: usize) -> Result<(), OutOfMemory>
         ensures media { self.new.media ≡ self.old.media }
-        ensures ok { OnOk result (n ≤ self.new.room) }
-        ensures room { self.old.room ≤ self.new.room }
+        ensures spare { OnOk result (n ≤ self.new.room) }
+        ensures no_room_lost { self.old.room ≤ self.new.room }
         ensures places { self.new.places ≡ self.old.places }
     {
         if n <= self.ahead.least() {
@@ -123,16 +123,16 @@ impl<S: FrameStore> TrackBuffers<S> {
     /// tracks as before.
     pub fn reserve_tracks(&mut self, n: usize) -> Result<(), OutOfMemory>
         ensures media { self.new.media ≡ self.old.media }
-        ensures ok { OnOk result (n ≤ self.new.places) }
+        ensures places { OnOk result (n ≤ self.new.places) }
         ensures room { self.new.room ≡ self.old.room }
-        ensures places { self.old.places ≤ self.new.places }
+        ensures no_places_lost { self.old.places ≤ self.new.places }
     {
         self.tracks.reserve(n)
     }
 
     /// Whether no initialization segment was received yet.
-    pub fn awaits_first(&self) -> bool
-        ensures { result ≡ awaits_first self.now.media }
+    pub fn is_awaiting_first(&self) -> bool
+        ensures { result ≡ is_awaiting_first self.now.media }
     {
         self.tracks.len() == 0
     }
@@ -154,13 +154,13 @@ impl<S: FrameStore> TrackBuffers<S> {
     /// [`reserve_frames`](Self::reserve_frames) makes room. Each other one leaves room and places.
     pub fn receive(&mut self, presentation: &Presentation, duration: Moment) -> MediaEffect
         requires places { init_fault presentation.now self.old.media ≡ None
-            → awaits_first self.old.media ≡ true
+            → is_awaiting_first self.old.media ≡ true
             → length (media_tracks presentation.now) ≤ self.old.places }
         ensures result { media_result result self.new.media
             ≡ init_result presentation.now self.old.media duration }
         ensures changes { (source_effect result).duration_changes ≤ 1 }
-        ensures within_duration { EndsWithin duration self.old.media.tracks
-            → EndsWithin (source_effect result).duration self.new.media.tracks }
+        ensures within_duration { AreEndedWithin duration self.old.media.tracks
+            → AreEndedWithin (source_effect result).duration self.new.media.tracks }
         ensures no_fall { IsNotAfter duration (source_effect result).duration }
         ensures room { (source_effect result).activated ≡ false
             → self.new.room ≡ self.old.room }
@@ -200,8 +200,8 @@ impl<S: FrameStore> TrackBuffers<S> {
         ensures result { media_result result self.new.media
             ≡ frame_result frame self.old.media duration }
         ensures changes { (source_effect result).duration_changes ≤ 1 }
-        ensures within_duration { EndsWithin duration self.old.media.tracks
-            → EndsWithin (source_effect result).duration self.new.media.tracks }
+        ensures within_duration { AreEndedWithin duration self.old.media.tracks
+            → AreEndedWithin (source_effect result).duration self.new.media.tracks }
         ensures no_fall { IsNotAfter duration (source_effect result).duration }
         ensures no_init { (source_effect result).received_init ≡ false }
         ensures room { self.old.room ≤ self.new.room + 1 }
@@ -240,12 +240,12 @@ impl<S: FrameStore> TrackBuffers<S> {
     /// are out of range, or that passes a count, ends this, and nothing else comes of it.
     pub fn flush(&mut self, frames: Vec<CodedFrame>, duration: Moment) -> SourceEffect
         requires room { length frames.items ≤ self.old.room }
-        requires durs { AllByRecursion (λ f. pos 0 ≤ℤ f.dur) frames.items }
+        requires dur_not_negative { AllByRecursion (λ f. pos 0 ≤ℤ f.dur) frames.items }
         ensures result { flush_result frames.items self.old.media duration
             ≡ record { media = self.new.media; effect = result } }
         ensures changes { result.duration_changes ≤ length frames.items }
-        ensures within_duration { EndsWithin duration self.old.media.tracks
-            → EndsWithin result.duration self.new.media.tracks }
+        ensures within_duration { AreEndedWithin duration self.old.media.tracks
+            → AreEndedWithin result.duration self.new.media.tracks }
         ensures no_fall { IsNotAfter duration result.duration }
         ensures no_init { result.received_init ≡ false }
         ensures room { self.old.room ≤ self.new.room + length frames.items }
@@ -264,9 +264,10 @@ impl<S: FrameStore> TrackBuffers<S> {
     /// Resets the parser behind the frames that are ready (Media Source Extensions, 3.5.2).
     pub fn reset_parser(&mut self)
         ensures media { self.new.media ≡ media_after_reset self.old.media }
-        ensures within_duration { (duration : Moment) → EndsWithin duration self.old.media.tracks
-            → EndsWithin duration self.new.media.tracks }
-        ensures room { self.old.room ≤ self.new.room }
+        ensures within_duration { (duration : Moment)
+            → AreEndedWithin duration self.old.media.tracks
+            → AreEndedWithin duration self.new.media.tracks }
+        ensures no_room_lost { self.old.room ≤ self.new.room }
         ensures places { self.new.places ≡ self.old.places }
     {
         unset_all(&mut self.tracks);
@@ -285,9 +286,9 @@ impl<S: FrameStore> TrackBuffers<S> {
     /// that of the media source, NaN where it has none.
     pub fn remove(&mut self, start: Ticks, end: Moment, duration: Moment)
         ensures media { self.new.media ≡ media_after_removal start end duration self.old.media }
-        ensures within_duration { (moment : Moment) → EndsWithin moment self.old.media.tracks
-            → EndsWithin moment self.new.media.tracks }
-        ensures room { self.old.room ≤ self.new.room }
+        ensures within_duration { (moment : Moment) → AreEndedWithin moment self.old.media.tracks
+            → AreEndedWithin moment self.new.media.tracks }
+        ensures no_room_lost { self.old.room ≤ self.new.room }
         ensures places { self.new.places ≡ self.old.places }
     {
         remove_frames(&mut self.tracks, start, end, duration);
@@ -304,9 +305,9 @@ impl<S: FrameStore> TrackBuffers<S> {
     pub fn evict(&mut self, position: Ticks, new_bytes: u64, quota: u64, duration: Moment)
         ensures media { self.new.media
             ≡ media_after_eviction position new_bytes quota duration self.old.media }
-        ensures within_duration { (moment : Moment) → EndsWithin moment self.old.media.tracks
-            → EndsWithin moment self.new.media.tracks }
-        ensures room { self.old.room ≤ self.new.room }
+        ensures within_duration { (moment : Moment) → AreEndedWithin moment self.old.media.tracks
+            → AreEndedWithin moment self.new.media.tracks }
+        ensures no_room_lost { self.old.room ≤ self.new.room }
         ensures places { self.new.places ≡ self.old.places }
     {
         evict(&mut self.tracks, position, new_bytes, quota, duration);
@@ -421,7 +422,7 @@ impl<S: FrameStore> TrackBuffers<S> {
     /// The track buffers, in order of the first initialization segment.
     pub fn tracks(&self) -> &Tracks<S>
         ensures states { states_of S.frames result.now.items ≡ self.now.media.tracks }
-        ensures sound { AreTracksSound self.now.media.tracks }
+        ensures sound_and_countable { AreSoundAndCountable self.now.media.tracks }
     {
         &self.tracks
     }
@@ -468,7 +469,7 @@ impl<S: FrameStore> TrackBuffers<S> {
     /// can be counted, the append window has a start that is not negative and an end, and the gap
     /// is not negative.
     pub fn sound(&self)
-        ensures tracks_sound { AreTracksSound self.now.media.tracks }
+        ensures sound_and_countable { AreSoundAndCountable self.now.media.tracks }
         ensures sound { AllByRecursion IsSound self.now.media.tracks }
         ensures window_start { pos 0 ≤ℤ self.now.media.settings.window_start }
         ensures window_end { self.now.media.settings.window_end ≢ Moment.Nan }

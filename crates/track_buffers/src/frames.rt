@@ -2,11 +2,11 @@
 
 ghost use Rattle.std.specs.Prelude.{◌≡◌, ◌≤◌, ◌<◌, ◌+◌, ℕ, ℤ, pos, ◌≤ℤ◌, ◌==◌, Bool, false, Some, map, length, slice_get, slice_set, IfSome};
 ghost use Rattle.mse_base.specs.declared.ticks.Moment.{Moment};
-ghost use Rattle.track_store.specs.Kept.{AreTracksSound, HasSpareRoom, bytes_in, gaps_of};
+ghost use Rattle.track_store.specs.Kept.{AreSoundAndCountable, HasSpareRoom, bytes_in, gaps_of};
 ghost use Rattle.track_store.specs.State.{state_of, states_of};
 ghost use Rattle.range_removal.specs.Rooms.{IsRoomKept};
 ghost use Rattle.track_buffers.specs.Effects.{media_result, source_effect};
-ghost use Rattle.track_buffers.specs.Media.{media_of, EndsWithin, IsNotAfter};
+ghost use Rattle.track_buffers.specs.Media.{media_of, AreEndedWithin, IsNotAfter};
 ghost use Rattle.frame_rules.specs.Place.{IsRoomTakenAt};
 ghost use Rattle.track_buffers.specs.Frames.{has_number, place_of, frame_result_at, unset_track, AreFramesSetAt, IsTrackPlace, track_ids};
 
@@ -73,7 +73,7 @@ pub(crate) fn process_at<S: FrameStore>(
     requires used { used ≡ bytes_in (states_of S.frames tracks.old.items) }
     requires in_range { i < length tracks.old.items }
     requires room { HasSpareRoom S.spare 1 tracks.old.items }
-    requires sound { AreTracksSound (states_of S.frames tracks.old.items) }
+    requires sound_and_countable { AreSoundAndCountable (states_of S.frames tracks.old.items) }
     requires window_start { pos 0 ≤ℤ settings.old.window_start }
     requires dur_not_negative { pos 0 ≤ℤ frame.dur }
     ensures result { (pending : Bool) (gap : ℤ)
@@ -81,11 +81,11 @@ pub(crate) fn process_at<S: FrameStore>(
         ≡ frame_result_at (Some i) frame
         (media_of S.frames tracks.old.items settings.old pending gap) duration.now }
     ensures changes { (source_effect result).duration_changes ≤ 1 }
-    ensures sound { AreTracksSound (states_of S.frames tracks.new.items) }
+    ensures sound_and_countable { AreSoundAndCountable (states_of S.frames tracks.new.items) }
     ensures window_start { pos 0 ≤ℤ settings.new.window_start }
     ensures window_end { settings.new.window_end ≡ settings.old.window_end }
-    ensures within_duration { EndsWithin duration.now (states_of S.frames tracks.old.items)
-        → EndsWithin (source_effect result).duration (states_of S.frames tracks.new.items) }
+    ensures within_duration { AreEndedWithin duration.now (states_of S.frames tracks.old.items)
+        → AreEndedWithin (source_effect result).duration (states_of S.frames tracks.new.items) }
     ensures no_fall { IsNotAfter duration.now (source_effect result).duration }
     ensures no_init { (source_effect result).received_init ≡ false }
     ensures frames { IfSome (slice_get (states_of S.frames tracks.new.items) i)
@@ -112,7 +112,7 @@ pub(crate) fn process_at<S: FrameStore>(
 
 fn unset<S: FrameStore>(track: &mut Track<S>)
     ensures state { state_of S.frames track.new ≡ unset_track (state_of S.frames track.old) }
-    ensures spare { S.spare track.old.store ≤ S.spare track.new.store }
+    ensures no_room_lost { S.spare track.old.store ≤ S.spare track.new.store }
     ensures gap { S.gap track.new.store ≡ S.gap track.old.store }
 {
     track.marks = track.marks.unset_marks();
@@ -122,7 +122,7 @@ fn unset_at<S: FrameStore>(tracks: &mut Tracks<S>, i: usize)
     ensures states { IfSome (slice_get (states_of S.frames tracks.old.items) i)
         (λ t. states_of S.frames tracks.new.items
         ≡ slice_set (states_of S.frames tracks.old.items) i (unset_track t)) }
-    ensures spare { IsRoomKept S.spare tracks.old.items tracks.new.items }
+    ensures no_room_lost { IsRoomKept S.spare tracks.old.items tracks.new.items }
     ensures gaps { gaps_of S.gap tracks.new.items ≡ gaps_of S.gap tracks.old.items }
     ensures places { tracks.new.spare ≡ tracks.old.spare }
 {
@@ -136,8 +136,8 @@ fn unset_at<S: FrameStore>(tracks: &mut Tracks<S>, i: usize)
 pub(crate) fn unset_all<S: FrameStore>(tracks: &mut Tracks<S>)
     ensures states { states_of S.frames tracks.new.items
         ≡ map unset_track (states_of S.frames tracks.old.items) }
-    ensures sound { AreTracksSound (states_of S.frames tracks.old.items)
-        → AreTracksSound (states_of S.frames tracks.new.items) }
+    ensures sound_and_countable { AreSoundAndCountable (states_of S.frames tracks.old.items)
+        → AreSoundAndCountable (states_of S.frames tracks.new.items) }
     ensures room { (n : ℕ) → HasSpareRoom S.spare n tracks.old.items
         → HasSpareRoom S.spare n tracks.new.items }
     ensures gaps { gaps_of S.gap tracks.new.items ≡ gaps_of S.gap tracks.old.items }

@@ -4,9 +4,9 @@ ghost use Rattle.std.specs.Prelude.{◌≡◌, ◌≤◌, ◌+◌, [], ◌∷◌
 ghost use Rattle.std.specs.List.{AllByRecursion};
 ghost use Rattle.mse_base.specs.declared.ticks.Moment.{Moment};
 ghost use Rattle.track_store.specs.declared.tracks.Settings.{Settings};
-ghost use Rattle.track_store.specs.Kept.{AreTracksSound, gaps_of};
+ghost use Rattle.track_store.specs.Kept.{AreSoundAndCountable, gaps_of};
 ghost use Rattle.track_store.specs.State.{state_of, states_of, stores_of};
-ghost use Rattle.track_buffers.specs.Media.{media_of, is_empty_list, EndsWithin};
+ghost use Rattle.track_buffers.specs.Media.{media_of, is_empty_list, AreEndedWithin};
 ghost use Rattle.track_buffers.specs.Initialized.{is_media_track, segment_effect, has_same_tracks, init_fault, new_track, tracks_after};
 
 use crate::effects::{MediaFault, SourceEffect, duration_change, no_effect};
@@ -124,11 +124,11 @@ pub(crate) fn take_tracks<S: FrameStore>(
         → tracks.new.spare ≡ tracks.old.spare }
     ensures places_taken { tracks.old.spare
         ≤ tracks.new.spare + length (filter is_media_track news.now) }
-    ensures sound { AreTracksSound (states_of S.frames tracks.old.items)
-        → AreTracksSound (states_of S.frames tracks.new.items) }
+    ensures sound_and_countable { AreSoundAndCountable (states_of S.frames tracks.old.items)
+        → AreSoundAndCountable (states_of S.frames tracks.new.items) }
     ensures within_duration { (duration : Moment) →
-        EndsWithin duration (states_of S.frames tracks.old.items)
-        → EndsWithin duration (states_of S.frames tracks.new.items) }
+        AreEndedWithin duration (states_of S.frames tracks.old.items)
+        → AreEndedWithin duration (states_of S.frames tracks.new.items) }
     ensures gaps { AllByRecursion (λ g. g ≡ gap) (gaps_of S.gap tracks.old.items)
         → AllByRecursion (λ g. g ≡ gap) (gaps_of S.gap tracks.new.items) }
 {

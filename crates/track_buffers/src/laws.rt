@@ -11,7 +11,7 @@ ghost use Rattle.mse_base.specs.Moments.{greater_moment};
 ghost use Rattle.mse_base.specs.Spans.{IsNormalized, IsUnion};
 ghost use Rattle.track_buffers.specs.declared.effects.SourceEffect.{SourceEffect};
 ghost use Rattle.track_buffers.specs.declared.effects.MediaFault.{MediaFault};
-ghost use Rattle.track_buffers.specs.Media.{Media, Done, AppendError, effect_of, EndsWithin, IsNotAfter};
+ghost use Rattle.track_buffers.specs.Media.{Media, Done, AppendError, effect_of, AreEndedWithin, IsNotAfter};
 ghost use Rattle.track_buffers.specs.Initialized.{init_result};
 ghost use Rattle.track_buffers.specs.Frames.{frame_result, highest_end_in};
 ghost use Rattle.track_buffers.specs.Buffered.{last_up_to, with_last_end, buffered_of, IsBuffered};
@@ -56,7 +56,7 @@ pub fn durations()
 /// The highest end bounds the ends of all frames; there is none exactly where no frame is stored.
 pub fn highest_end()
     ensures bound { (m : Media) (e : ℤ) → highest_end_in m ≡ Some e
-        → EndsWithin (Moment.At e) m.tracks }
+        → AreEndedWithin (Moment.At e) m.tracks }
     ensures none { (m : Media) → highest_end_in m ≡ None
         → AllByRecursion (λ t. t.frames ≡ []) m.tracks }
 {}

@@ -16,7 +16,7 @@ ghost use Rattle.track_buffers.specs.Buffered.{buffered_of, last_ends, track_ran
 ghost use Rattle.track_buffers.specs.Extended.{IsSpanWithin, common_end, held_up_to, held_with_end, last_up_to_end};
 ghost use Rattle.track_buffers.specs.Frames.{highest_end_in};
 ghost use Rattle.track_buffers.specs.Initialized.{init_result};
-ghost use Rattle.track_buffers.specs.Media.{AppendError, Done, EndsWithin, Media};
+ghost use Rattle.track_buffers.specs.Media.{AppendError, Done, AreEndedWithin, Media};
 
 /// The buffered ranges are ascending, none empty, no two overlapping or touching (HTML,
 /// "normalized TimeRanges object").
@@ -65,7 +65,7 @@ pub fn last_and_first()
 /// end, as the highest end or the duration; without a frame there is none.
 pub fn within()
     ensures times { (e : ℤ) (ended : Bool) (m : Media) → AllByRecursion IsSound m.tracks
-        → EndsWithin (Moment.At e) m.tracks
+        → AreEndedWithin (Moment.At e) m.tracks
         → AllByRecursion (IsSpanWithin (pos 0) e) (buffered_of ended m) }
     ensures highest { (e : ℤ) (ended : Bool) (m : Media) → AllByRecursion IsSound m.tracks
         → highest_end_in m ≡ Some e → AllByRecursion (IsSpanWithin (pos 0) e)

@@ -61,8 +61,8 @@ impl Ahead {
 
 fn reserve_at<S: FrameStore>(tracks: &mut Tracks<S>, i: usize, n: usize) -> Result<(), OutOfMemory>
     ensures states { states_of S.frames tracks.new.items ≡ states_of S.frames tracks.old.items }
-    ensures ok { OnOk result (IfSome (slice_get tracks.new.items i) (λ t. n ≤ S.spare t.store)) }
-    ensures spare { IsRoomKept S.spare tracks.old.items tracks.new.items }
+    ensures spare { OnOk result (IfSome (slice_get tracks.new.items i) (λ t. n ≤ S.spare t.store)) }
+    ensures no_room_lost { IsRoomKept S.spare tracks.old.items tracks.new.items }
     ensures gaps { gaps_of S.gap tracks.new.items ≡ gaps_of S.gap tracks.old.items }
     ensures places { tracks.new.spare ≡ tracks.old.spare }
 {
@@ -75,8 +75,8 @@ fn reserve_at<S: FrameStore>(tracks: &mut Tracks<S>, i: usize, n: usize) -> Resu
 /// Makes room for `n` more frames in each store.
 fn reserve_all<S: FrameStore>(tracks: &mut Tracks<S>, n: usize) -> Result<(), OutOfMemory>
     ensures states { states_of S.frames tracks.new.items ≡ states_of S.frames tracks.old.items }
-    ensures ok { OnOk result (HasSpareRoom S.spare n tracks.new.items) }
-    ensures spare { IsRoomKept S.spare tracks.old.items tracks.new.items }
+    ensures spare { OnOk result (HasSpareRoom S.spare n tracks.new.items) }
+    ensures no_room_lost { IsRoomKept S.spare tracks.old.items tracks.new.items }
     ensures gaps { gaps_of S.gap tracks.new.items ≡ gaps_of S.gap tracks.old.items }
     ensures places { tracks.new.spare ≡ tracks.old.spare }
 {
@@ -90,8 +90,8 @@ fn reserve_all<S: FrameStore>(tracks: &mut Tracks<S>, n: usize) -> Result<(), Ou
 /// how many each store has room.
 fn reserve_each<S: FrameStore>(tracks: &mut Tracks<S>, n: usize) -> Result<usize, OutOfMemory>
     ensures states { states_of S.frames tracks.new.items ≡ states_of S.frames tracks.old.items }
-    ensures ok { IfOk result (λ m. (n ≤ m) × HasSpareRoom S.spare m tracks.new.items) }
-    ensures spare { IsRoomKept S.spare tracks.old.items tracks.new.items }
+    ensures spare { IfOk result (λ m. (n ≤ m) × HasSpareRoom S.spare m tracks.new.items) }
+    ensures no_room_lost { IsRoomKept S.spare tracks.old.items tracks.new.items }
     ensures gaps { gaps_of S.gap tracks.new.items ≡ gaps_of S.gap tracks.old.items }
     ensures places { tracks.new.spare ≡ tracks.old.spare }
 {
@@ -112,9 +112,9 @@ fn reserve_own<S: FrameStore>(
     n: usize,
 ) -> Result<usize, OutOfMemory>
     ensures states { states_of S.frames tracks.new.items ≡ states_of S.frames tracks.old.items }
-    ensures ok { IfOk result
+    ensures spare { IfOk result
         (λ m. (n ≤ m) × IfSome (slice_get tracks.new.items i) (λ t. m ≤ S.spare t.store)) }
-    ensures spare { IsRoomKept S.spare tracks.old.items tracks.new.items }
+    ensures no_room_lost { IsRoomKept S.spare tracks.old.items tracks.new.items }
     ensures gaps { gaps_of S.gap tracks.new.items ≡ gaps_of S.gap tracks.old.items }
     ensures places { tracks.new.spare ≡ tracks.old.spare }
 {
@@ -140,9 +140,9 @@ pub(crate) fn reserve_ahead<S: FrameStore>(
 ) -> Result<Ahead, OutOfMemory>
     requires { HasRoomAhead S.spare ahead tracks.old.items }
     ensures states { states_of S.frames tracks.new.items ≡ states_of S.frames tracks.old.items }
-    ensures ok { IfOk result
+    ensures spare { IfOk result
         (λ a. (n ≤ a.own) × (n ≤ a.others) × HasRoomAhead S.spare a tracks.new.items) }
-    ensures spare { IsRoomKept S.spare tracks.old.items tracks.new.items }
+    ensures no_room_lost { IsRoomKept S.spare tracks.old.items tracks.new.items }
     ensures gaps { gaps_of S.gap tracks.new.items ≡ gaps_of S.gap tracks.old.items }
     ensures places { tracks.new.spare ≡ tracks.old.spare }
 {

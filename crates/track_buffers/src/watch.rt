@@ -8,7 +8,7 @@ ghost use Rattle.mse_base.specs.Meets.{meet_of_all};
 ghost use Rattle.mse_base.specs.Spans.{reaches, IsNormalized};
 ghost use Rattle.track_store.specs.Kept.{gaps_of};
 ghost use Rattle.track_buffers.specs.Buffered.{ranges_in, with_common_end};
-ghost use Rattle.track_buffers.specs.Watching.{IsWatchOf, end_or, ends_at, is_watched, least_after, least_after_end, least_with};
+ghost use Rattle.track_buffers.specs.Watching.{IsWatchOf, end_or, is_ended_at, is_watched, least_after, least_after_end, least_with};
 
 use crate::holding::{overlap_of_two, own_span_at, span_holding};
 use mse_base::{Span, Ticks};
@@ -85,8 +85,8 @@ fn end_or(t: Ticks, span: &Option<Span>) -> Ticks
 }
 
 /// Whether the range that all tracks share ends at a time.
-fn ends_at(t: Ticks, span: &Option<Span>) -> bool
-    ensures { result ≡ ends_at t span.now }
+fn is_ended_at(t: Ticks, span: &Option<Span>) -> bool
+    ensures { result ≡ is_ended_at t span.now }
 {
     match span {
         Some(span) => span.end == t,
@@ -103,7 +103,7 @@ fn least_after_end(watch: &Watch, old: Ticks, new: Ticks) -> Option<usize>
     if end < new {
         if end < old {
             Some(watch.least)
-        } else if 2 <= watch.least && ends_at(old, &watch.span) {
+        } else if 2 <= watch.least && is_ended_at(old, &watch.span) {
             Some(watch.least - 1)
         } else {
             None

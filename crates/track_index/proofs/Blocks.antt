@@ -4,7 +4,7 @@ use Rattle.std.specs.List.{AllByRecursion, list_any}
 use Rattle.std.proofs.lemmas.Int.{ints}
 use Rattle.std.proofs.lemmas.List.{drop_all, take-append-drop, append_assoc, append-nil}
 use Rattle.mse_base.specs.declared.ticks.Moment.{Moment}
-use Rattle.mse_base.specs.Rows.{joined, row, start}
+use Rattle.mse_base.specs.Rows.{row_items, row, start}
 use Rattle.block_list.specs.Rows.{AreNonEmpty}
 use Rattle.block_list.specs.BlockPlaces.{rank, IsPlace}
 use Rattle.block_list.specs.declared.block_list.BlockPlace.{BlockPlace}
@@ -13,7 +13,7 @@ use Rattle.block_list.proofs.Ranging.{take_at, row_count}
 use Rattle.mse_base.specs.Moments.{is_before, greatest_of_two}
 use Rattle.track_index.specs.declared.entry.OrderEntry.{OrderEntry}
 use Rattle.track_index.specs.declared.key.Key.{Key}
-use Rattle.track_index.specs.Order.{end_of, entry_covers, or_else, last_that, first_start, is_sync_from, is_ended}
+use Rattle.track_index.specs.Order.{end_of, is_in_entry, or_else, last_that, first_start, is_sync_from, is_ended}
 use Rattle.track_index.specs.Keyed.{is_before_key}
 use Rattle.track_index.specs.Known.{is_sync, greatest_end}
 use Rattle.track_index.specs.Tops.{running_ends, tops_of, AreTopsFrom}
@@ -28,22 +28,22 @@ pub rows_none : {T : Type 0} (rows : List (List T)) → length rows ≡ 0 → ro
 rows_none [] e = refl
 rows_none (r ∷ rows) e = absurd (omega arith)
 
-pub joined_none : {T : Type 0} (rows : List (List T)) → length rows ≡ 0 → joined rows ≡ []
-joined_none rows e = ap joined (rows_none rows e)
+pub joined_none : {T : Type 0} (rows : List (List T)) → length rows ≡ 0 → row_items rows ≡ []
+joined_none rows e = ap row_items (rows_none rows e)
 
-pub some_rows : {T : Type 0} (rows : List (List T)) → 0 < length (joined rows) → 0 < length rows
+pub some_rows : {T : Type 0} (rows : List (List T)) → 0 < length (row_items rows) → 0 < length rows
 some_rows [] l = absurd (omega arith)
 some_rows (r ∷ rows) l = omega arith
 
-pub rows_more : {T : Type 0} (rows : List (List T)) (b : ℕ) → b < length rows → joined (take (suc b) rows) ≡ joined (take b rows) ++ row rows b
+pub rows_more : {T : Type 0} (rows : List (List T)) (b : ℕ) → b < length rows → row_items (take (suc b) rows) ≡ row_items (take b rows) ++ row rows b
 rows_more [] b l = absurd (omega arith)
 rows_more (r ∷ rows) zero l = append-nil r
-rows_more (r ∷ rows) (suc b) l = ap (λ xs. r ++ xs) (rows_more rows b (omega arith)) ∙ sym (append_assoc r (joined (take b rows)) (row rows b))
+rows_more (r ∷ rows) (suc b) l = ap (λ xs. r ++ xs) (rows_more rows b (omega arith)) ∙ sym (append_assoc r (row_items (take b rows)) (row rows b))
 
-pub rows_rest : {T : Type 0} (rows : List (List T)) (b : ℕ) → b < length rows → joined (drop b rows) ≡ row rows b ++ joined (drop (b + 1) rows)
+pub rows_rest : {T : Type 0} (rows : List (List T)) (b : ℕ) → b < length rows → row_items (drop b rows) ≡ row rows b ++ row_items (drop (b + 1) rows)
 rows_rest [] b l = absurd (omega arith)
 rows_rest (r ∷ rows) zero l = refl
-rows_rest (r ∷ rows) (suc b) l = let z : suc b + 1 ≡ suc (b + 1) = omega arith in rows_rest rows b (omega arith) ∙ ap (λ n. row rows b ++ joined (drop n (r ∷ rows))) (sym z)
+rows_rest (r ∷ rows) (suc b) l = let z : suc b + 1 ≡ suc (b + 1) = omega arith in rows_rest rows b (omega arith) ∙ ap (λ n. row rows b ++ row_items (drop n (r ∷ rows))) (sym z)
 
 pub rows_all : {T : Type 0} (rows : List (List T)) (n : ℕ) → n ≡ length rows → take n rows ≡ rows
 rows_all [] zero e = refl
@@ -52,7 +52,7 @@ rows_all (r ∷ rows) zero e = absurd (omega arith)
 rows_all (r ∷ rows) (suc n) e = ap (λ qs. r ∷ qs) (rows_all rows n (omega arith))
 
 -- what the ends need after a change in a block
-pub record Ready (ts : List (Option ℤ)) (rows : List (List OrderEntry)) (b cap : ℕ) : Type 0 where
+pub record AreTopsMendable (ts : List (Option ℤ)) (rows : List (List OrderEntry)) (b cap : ℕ) : Type 0 where
   pub within : b ≤ length ts
   pub more : length rows ≤ length ts + 1
   pub fewer : length ts ≤ length rows + 1
@@ -61,7 +61,7 @@ pub record Ready (ts : List (Option ℤ)) (rows : List (List OrderEntry)) (b cap
   pub front : take b ts ≡ take b (tops_of rows)
   pub rest : AreTopsFrom (b + 1) ts ((b + 1 + length rows) - length ts) rows
 
-pub ready : (ts : List (Option ℤ)) (old new : List (List OrderEntry)) (b cap : ℕ) → ts ≡ tops_of old → b < length old → length new ≤ length old + 1 → length old ≤ length new + 1 → length new ≤ cap → take b new ≡ take b old → drop ((b + 1 + length new) - length old) new ≡ drop (b + 1) old → Ready ts new b cap
+pub ready : (ts : List (Option ℤ)) (old new : List (List OrderEntry)) (b cap : ℕ) → ts ≡ tops_of old → b < length old → length new ≤ length old + 1 → length old ≤ length new + 1 → length new ≤ cap → take b new ≡ take b old → drop ((b + 1 + length new) - length old) new ≡ drop (b + 1) old → AreTopsMendable ts new b cap
 ready ts old new b cap e l m f c front rest =
     let n : length ts ≡ length old = ap length e ∙ length_running_ends None old in
     record {
@@ -75,14 +75,14 @@ ready ts old new b cap e l m f c front rest =
     }
 
 -- the last end, made later by that of an entry that came
-pub top_with : (ts : List (Option ℤ)) (old new : List (List OrderEntry)) (b k : ℕ) (x : OrderEntry) (end : ℤ) → ts ≡ tops_of old → b + 1 ≡ length old → end ≡ end_of x → joined new ≡ insert (joined old) k x → greatest_of_two (get_or ts b None) (Some end) ≡ greatest_end (joined new)
+pub top_with : (ts : List (Option ℤ)) (old new : List (List OrderEntry)) (b k : ℕ) (x : OrderEntry) (end : ℤ) → ts ≡ tops_of old → b + 1 ≡ length old → end ≡ end_of x → row_items new ≡ insert (row_items old) k x → greatest_of_two (get_or ts b None) (Some end) ≡ greatest_end (row_items new)
 top_with ts old new b k x end e l z j =
-    let os = joined old in
+    let os = row_items old in
     let n : b + 1 - 1 ≡ b = omega arith in
-    let top : get_or ts b None ≡ greatest_end os = ap (λ i. get_or ts i None) (sym n) ∙ top_at ts old (b + 1) None e (omega arith) (omega arith) ∙ ap (λ rows. greatest_end (joined rows)) (rows_all old (b + 1) l) in
+    let top : get_or ts b None ≡ greatest_end os = ap (λ i. get_or ts i None) (sym n) ∙ top_at ts old (b + 1) None e (omega arith) (omega arith) ∙ ap (λ rows. greatest_end (row_items rows)) (rows_all old (b + 1) l) in
     ap (λ t. greatest_of_two t (Some end)) top ∙ ap (λ t. greatest_of_two (greatest_end os) (Some t)) z ∙ ap (λ zs. greatest_of_two (greatest_end zs) (Some (end_of x))) (sym (take-append-drop k os)) ∙ greatest_with (take k os) (drop k os) x ∙ ap greatest_end (sym j)
 
-pub first_ready : (ts : List (Option ℤ)) (old new : List (List OrderEntry)) (cap : ℕ) → ts ≡ tops_of old → length old ≡ 0 → length new ≤ 1 → length new ≤ cap → Ready ts new 0 cap
+pub first_ready : (ts : List (Option ℤ)) (old new : List (List OrderEntry)) (cap : ℕ) → ts ≡ tops_of old → length old ≡ 0 → length new ≤ 1 → length new ≤ cap → AreTopsMendable ts new 0 cap
 first_ready ts old new cap e l m c =
     let none : ts ≡ [] = e ∙ ap tops_of (rows_none old l) in
     let n : length ts ≡ 0 = ap length none in
@@ -102,14 +102,14 @@ pub last_front : (c : OrderEntry → Bool) (os : List OrderEntry) (n : ℕ) → 
 last_front c os n h = sym (ap (last_that c) (sym (take-append-drop n os)) ∙ last-append c (take n os) (drop n os) ∙ ap (λ r. or_else r (last_that c (take n os))) (last_none c (drop n os) h))
 
 -- where no entry of a block ends after the time
-pub passed_over : (t : ℤ) (os : List OrderEntry) (n : ℕ) → is_ended t (greatest_end os) ≡ true → last_that (entry_covers t) (take n os) ≡ None
-passed_over t os n e = last_none (entry_covers t) (take n os) (each_take (λ o. entry_covers t o ≡ false) os n (none_covers t os e))
+pub passed_over : (t : ℤ) (os : List OrderEntry) (n : ℕ) → is_ended t (greatest_end os) ≡ true → last_that (is_in_entry t) (take n os) ≡ None
+passed_over t os n e = last_none (is_in_entry t) (take n os) (each_take (λ o. is_in_entry t o ≡ false) os n (none_covers t os e))
 
 -- in the place's own block and before it
-pub last_at_place : (t m : ℤ) (rows : List (List OrderEntry)) (s : BlockPlace) → m ≡ (t +ℤ pos 1) → s.block < length rows → s.index ≤ length (row rows s.block) → AllByRecursion (λ o. is_before_key (record { mark = m; serial = 0 }) o ≡ false) (drop (rank rows s) (joined rows)) → last_that (entry_covers t) (joined rows) ≡ or_else (last_that (entry_covers t) (take s.index (row rows s.block))) (last_that (entry_covers t) (joined (take s.block rows)))
+pub last_at_place : (t m : ℤ) (rows : List (List OrderEntry)) (s : BlockPlace) → m ≡ (t +ℤ pos 1) → s.block < length rows → s.index ≤ length (row rows s.block) → AllByRecursion (λ o. is_before_key (record { mark = m; serial = 0 }) o ≡ false) (drop (rank rows s) (row_items rows)) → last_that (is_in_entry t) (row_items rows) ≡ or_else (last_that (is_in_entry t) (take s.index (row rows s.block))) (last_that (is_in_entry t) (row_items (take s.block rows)))
 last_at_place t m rows s e l k h =
-    let late = begin_later t (drop (rank rows s) (joined rows)) (subst (λ (n : ℤ). AllByRecursion (λ o. n ≤ℤ o.pts) (drop (rank rows s) (joined rows))) e (highs m (drop (rank rows s) (joined rows)) h)) in
-    sym (last_front (entry_covers t) (joined rows) (rank rows s) late) ∙ ap (last_that (entry_covers t)) (take_at rows s.block s.index l k) ∙ last-append (entry_covers t) (joined (take s.block rows)) (take s.index (row rows s.block))
+    let late = begin_later t (drop (rank rows s) (row_items rows)) (subst (λ (n : ℤ). AllByRecursion (λ o. n ≤ℤ o.pts) (drop (rank rows s) (row_items rows))) e (highs m (drop (rank rows s) (row_items rows)) h)) in
+    sym (last_front (is_in_entry t) (row_items rows) (rank rows s) late) ∙ ap (last_that (is_in_entry t)) (take_at rows s.block s.index l k) ∙ last-append (is_in_entry t) (row_items (take s.block rows)) (take s.index (row rows s.block))
 
 take_all : (os : List OrderEntry) (n : ℕ) → n ≡ length os → take n os ≡ os
 take_all [] zero e = refl
@@ -117,14 +117,14 @@ take_all [] (suc n) e = refl
 take_all (o ∷ os) zero e = absurd (omega arith)
 take_all (o ∷ os) (suc n) e = ap (λ zs. o ∷ zs) (take_all os n (omega arith))
 
-pub last_step : (t : ℤ) (rows : List (List OrderEntry)) (b n : ℕ) → 0 < b → b ≤ length rows → n ≡ length (row rows (b - 1)) → last_that (entry_covers t) (joined (take b rows)) ≡ or_else (last_that (entry_covers t) (take n (row rows (b - 1)))) (last_that (entry_covers t) (joined (take (b - 1) rows)))
+pub last_step : (t : ℤ) (rows : List (List OrderEntry)) (b n : ℕ) → 0 < b → b ≤ length rows → n ≡ length (row rows (b - 1)) → last_that (is_in_entry t) (row_items (take b rows)) ≡ or_else (last_that (is_in_entry t) (take n (row rows (b - 1)))) (last_that (is_in_entry t) (row_items (take (b - 1) rows)))
 last_step t rows zero n p l e = absurd (omega arith)
 last_step t rows (suc b) n p l e =
     let k : suc b - 1 ≡ b = omega arith in
     let w : take n (row rows b) ≡ row rows b = take_all (row rows b) n (e ∙ ap (λ i. length (row rows i)) k) in
-    ap (last_that (entry_covers t)) (rows_more rows b (omega arith)) ∙ last-append (entry_covers t) (joined (take b rows)) (row rows b)
-    ∙ ap (λ zs. or_else (last_that (entry_covers t) zs) (last_that (entry_covers t) (joined (take b rows)))) (sym w)
-    ∙ ap (λ i. or_else (last_that (entry_covers t) (take n (row rows i))) (last_that (entry_covers t) (joined (take i rows)))) (sym k)
+    ap (last_that (is_in_entry t)) (rows_more rows b (omega arith)) ∙ last-append (is_in_entry t) (row_items (take b rows)) (row rows b)
+    ∙ ap (λ zs. or_else (last_that (is_in_entry t) zs) (last_that (is_in_entry t) (row_items (take b rows)))) (sym w)
+    ∙ ap (λ i. or_else (last_that (is_in_entry t) (take n (row rows i))) (last_that (is_in_entry t) (row_items (take i rows)))) (sym k)
 
 -- ---- the first random access point
 
@@ -156,20 +156,20 @@ no_sync t (o ∷ os) e =
 
 -- ---- the greatest end before a key
 
-pub greatest_before : (key : Key) (rows : List (List OrderEntry)) (s : BlockPlace) (a b : Option ℤ) → s.block < length rows → s.index ≤ length (row rows s.block) → AllByRecursion (λ o. is_before_key key o ≡ true) (take (rank rows s) (joined rows)) → AllByRecursion (λ o. is_before_key key o ≡ false) (drop (rank rows s) (joined rows)) → a ≡ greatest_end (joined (take s.block rows)) → b ≡ greatest_end (take s.index (row rows s.block)) → greatest_of_two a b ≡ greatest_end (filter (is_before_key key) (joined rows))
+pub greatest_before : (key : Key) (rows : List (List OrderEntry)) (s : BlockPlace) (a b : Option ℤ) → s.block < length rows → s.index ≤ length (row rows s.block) → AllByRecursion (λ o. is_before_key key o ≡ true) (take (rank rows s) (row_items rows)) → AllByRecursion (λ o. is_before_key key o ≡ false) (drop (rank rows s) (row_items rows)) → a ≡ greatest_end (row_items (take s.block rows)) → b ≡ greatest_end (take s.index (row rows s.block)) → greatest_of_two a b ≡ greatest_end (filter (is_before_key key) (row_items rows))
 greatest_before key rows s a b l k before after x y =
-    ap (λ z. greatest_of_two z b) x ∙ ap (greatest_of_two (greatest_end (joined (take s.block rows)))) y ∙ sym (greatest-append (joined (take s.block rows)) (take s.index (row rows s.block)))
-    ∙ ap greatest_end (sym (take_at rows s.block s.index l k)) ∙ ap greatest_end (sym (filter_front (is_before_key key) (joined rows) (rank rows s) before after))
+    ap (λ z. greatest_of_two z b) x ∙ ap (greatest_of_two (greatest_end (row_items (take s.block rows)))) y ∙ sym (greatest-append (row_items (take s.block rows)) (take s.index (row rows s.block)))
+    ∙ ap greatest_end (sym (take_at rows s.block s.index l k)) ∙ ap greatest_end (sym (filter_front (is_before_key key) (row_items rows) (rank rows s) before after))
 
 -- ---- places
 
-pub item_place : {T : Type 0} (rows : List (List T)) (s : BlockPlace) → IsPlace rows s → rank rows s < length (joined rows) → (s.block < length rows) × (s.index < length (row rows s.block))
+pub item_place : {T : Type 0} (rows : List (List T)) (s : BlockPlace) → IsPlace rows s → rank rows s < length (row_items rows) → (s.block < length rows) × (s.index < length (row rows s.block))
 item_place rows s p l = elim (less_cases s.block (length rows)) as (λ _. (s.block < length rows) × (s.index < length (row rows s.block))) [
   | inl a ↦ (a, p.item a)
   | inr b ↦ (let e = p.end b in absurd (omega arith))
 ]
 
-pub rank_within : {T : Type 0} (rows : List (List T)) (s : BlockPlace) → s.block < length rows → s.index < length (row rows s.block) → rank rows s < length (joined rows)
+pub rank_within : {T : Type 0} (rows : List (List T)) (s : BlockPlace) → s.block < length rows → s.index < length (row rows s.block) → rank rows s < length (row_items rows)
 rank_within rows s l k = let n = row_count rows s.block l in omega arith
 
 -- of two places with items the one with fewer before it is in no later block, and no further in its own
@@ -211,16 +211,16 @@ start_place (r ∷ rows) k = record { item = λ _. k.0; end = λ l. absurd (omeg
 -- ---- what begins by a time
 
 -- one block back
-pub last_back : (t : ℤ) (rows : List (List OrderEntry)) (b : ℕ) → 0 < b → b ≤ length rows → last_that (entry_covers t) (joined (take b rows)) ≡ or_else (last_that (entry_covers t) (row rows (b - 1))) (last_that (entry_covers t) (joined (take (b - 1) rows)))
+pub last_back : (t : ℤ) (rows : List (List OrderEntry)) (b : ℕ) → 0 < b → b ≤ length rows → last_that (is_in_entry t) (row_items (take b rows)) ≡ or_else (last_that (is_in_entry t) (row rows (b - 1))) (last_that (is_in_entry t) (row_items (take (b - 1) rows)))
 last_back t rows b p l =
     last_step t rows b (length (row rows (b - 1))) p l refl
-    ∙ ap (λ zs. or_else (last_that (entry_covers t) zs) (last_that (entry_covers t) (joined (take (b - 1) rows)))) (take_all (row rows (b - 1)) (length (row rows (b - 1))) refl)
+    ∙ ap (λ zs. or_else (last_that (is_in_entry t) zs) (last_that (is_in_entry t) (row_items (take (b - 1) rows)))) (take_all (row rows (b - 1)) (length (row rows (b - 1))) refl)
 
 -- one block back that is passed whole
-pub last_pass : (t : ℤ) (rows : List (List OrderEntry)) (b : ℕ) → 0 < b → b ≤ length rows → is_ended t (greatest_end (row rows (b - 1))) ≡ true → last_that (entry_covers t) (joined (take b rows)) ≡ last_that (entry_covers t) (joined (take (b - 1) rows))
+pub last_pass : (t : ℤ) (rows : List (List OrderEntry)) (b : ℕ) → 0 < b → b ≤ length rows → is_ended t (greatest_end (row rows (b - 1))) ≡ true → last_that (is_in_entry t) (row_items (take b rows)) ≡ last_that (is_in_entry t) (row_items (take (b - 1) rows))
 last_pass t rows b p l e =
     last_back t rows b p l
-    ∙ ap (λ r. or_else r (last_that (entry_covers t) (joined (take (b - 1) rows)))) (last_none (entry_covers t) (row rows (b - 1)) (none_covers t (row rows (b - 1)) e))
+    ∙ ap (λ r. or_else r (last_that (is_in_entry t) (row_items (take (b - 1) rows)))) (last_none (is_in_entry t) (row rows (b - 1)) (none_covers t (row rows (b - 1)) e))
 
 each_left : (P : OrderEntry → Type 0) (xs ys : List OrderEntry) → AllByRecursion P (xs ++ ys) → AllByRecursion P xs
 each_left P [] ys h = tt
@@ -230,17 +230,17 @@ each_right : (P : OrderEntry → Type 0) (xs ys : List OrderEntry) → AllByRecu
 each_right P [] ys h = h
 each_right P (x ∷ xs) ys h = each_right P xs ys h.1
 
-back_rows : (rows : List (List OrderEntry)) (b : ℕ) → 0 < b → b ≤ length rows → joined (take b rows) ≡ joined (take (b - 1) rows) ++ row rows (b - 1)
+back_rows : (rows : List (List OrderEntry)) (b : ℕ) → 0 < b → b ≤ length rows → row_items (take b rows) ≡ row_items (take (b - 1) rows) ++ row rows (b - 1)
 back_rows rows zero p l = absurd (omega arith)
 back_rows rows (suc b) p l =
     let k : suc b - 1 ≡ b = omega arith in
-    rows_more rows b (omega arith) ∙ ap (λ i. joined (take i rows) ++ row rows i) (sym k)
+    rows_more rows b (omega arith) ∙ ap (λ i. row_items (take i rows) ++ row rows i) (sym k)
 
-pub begun_row : (t : ℤ) (rows : List (List OrderEntry)) (b : ℕ) → 0 < b → b ≤ length rows → AllByRecursion (λ o. o.pts ≤ℤ t) (joined (take b rows)) → AllByRecursion (λ o. o.pts ≤ℤ t) (row rows (b - 1))
-begun_row t rows b p l h = each_right (λ o. o.pts ≤ℤ t) (joined (take (b - 1) rows)) (row rows (b - 1)) (subst (AllByRecursion (λ o. o.pts ≤ℤ t)) (back_rows rows b p l) h)
+pub begun_row : (t : ℤ) (rows : List (List OrderEntry)) (b : ℕ) → 0 < b → b ≤ length rows → AllByRecursion (λ o. o.pts ≤ℤ t) (row_items (take b rows)) → AllByRecursion (λ o. o.pts ≤ℤ t) (row rows (b - 1))
+begun_row t rows b p l h = each_right (λ o. o.pts ≤ℤ t) (row_items (take (b - 1) rows)) (row rows (b - 1)) (subst (AllByRecursion (λ o. o.pts ≤ℤ t)) (back_rows rows b p l) h)
 
-pub begun_less : (t : ℤ) (rows : List (List OrderEntry)) (b : ℕ) → 0 < b → b ≤ length rows → AllByRecursion (λ o. o.pts ≤ℤ t) (joined (take b rows)) → AllByRecursion (λ o. o.pts ≤ℤ t) (joined (take (b - 1) rows))
-begun_less t rows b p l h = each_left (λ o. o.pts ≤ℤ t) (joined (take (b - 1) rows)) (row rows (b - 1)) (subst (AllByRecursion (λ o. o.pts ≤ℤ t)) (back_rows rows b p l) h)
+pub begun_less : (t : ℤ) (rows : List (List OrderEntry)) (b : ℕ) → 0 < b → b ≤ length rows → AllByRecursion (λ o. o.pts ≤ℤ t) (row_items (take b rows)) → AllByRecursion (λ o. o.pts ≤ℤ t) (row_items (take (b - 1) rows))
+begun_less t rows b p l h = each_left (λ o. o.pts ≤ℤ t) (row_items (take (b - 1) rows)) (row rows (b - 1)) (subst (AllByRecursion (λ o. o.pts ≤ℤ t)) (back_rows rows b p l) h)
 
 begun_by : (t m : ℤ) (o : OrderEntry) → m ≡ (t +ℤ pos 1) → o.pts <ℤ m → o.pts ≤ℤ t
 begun_by t m o e h = omega (arith, ints)
@@ -250,7 +250,7 @@ begun_all t m [] e h = tt
 begun_all t m (o ∷ os) e h = (begun_by t m o e h.0, begun_all t m os e h.1)
 
 -- the blocks before a place before which all begin by a time
-pub begun_before : (t m : ℤ) (rows : List (List OrderEntry)) (s : BlockPlace) → m ≡ (t +ℤ pos 1) → s.block < length rows → s.index ≤ length (row rows s.block) → AllByRecursion (λ o. is_before_key (record { mark = m; serial = 0 }) o ≡ true) (take (rank rows s) (joined rows)) → AllByRecursion (λ o. o.pts ≤ℤ t) (joined (take s.block rows))
+pub begun_before : (t m : ℤ) (rows : List (List OrderEntry)) (s : BlockPlace) → m ≡ (t +ℤ pos 1) → s.block < length rows → s.index ≤ length (row rows s.block) → AllByRecursion (λ o. is_before_key (record { mark = m; serial = 0 }) o ≡ true) (take (rank rows s) (row_items rows)) → AllByRecursion (λ o. o.pts ≤ℤ t) (row_items (take s.block rows))
 begun_before t m rows s e l k h =
-    let each = begun_all t m (take (rank rows s) (joined rows)) e (lows m (take (rank rows s) (joined rows)) h) in
-    each_left (λ o. o.pts ≤ℤ t) (joined (take s.block rows)) (take s.index (row rows s.block)) (subst (AllByRecursion (λ o. o.pts ≤ℤ t)) (take_at rows s.block s.index l k) each)
+    let each = begun_all t m (take (rank rows s) (row_items rows)) e (lows m (take (rank rows s) (row_items rows)) h) in
+    each_left (λ o. o.pts ≤ℤ t) (row_items (take s.block rows)) (take s.index (row rows s.block)) (subst (AllByRecursion (λ o. o.pts ≤ℤ t)) (take_at rows s.block s.index l k) each)

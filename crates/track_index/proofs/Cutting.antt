@@ -15,7 +15,7 @@ use Rattle.track_store.proofs.Soundness.{chained-shortened}
 use Rattle.track_store.proofs.Clearing.{kept-shortened, used-shortened, shortened_at}
 use Rattle.std.proofs.lemmas.Option.{slice_get_read}
 use Rattle.track_index.specs.declared.entry.OrderEntry.{OrderEntry}
-use Rattle.track_index.specs.Order.{put, put_all, entry_of, span_of, presentation_order, with_entry_dur}
+use Rattle.track_index.specs.Order.{entries_with, entries_with_all, entry_of, span_of, presentation_order, with_entry_dur}
 use Rattle.track_index.specs.Repair.{AreBetween}
 use Rattle.track_index.specs.Indexed.{FrameIndex, IsIndexed}
 use Rattle.track_index.proofs.Noting.{syncs-shortened}
@@ -34,21 +34,21 @@ map_cond : (f : OrderEntry → OrderEntry) (b : Bool) (xs ys : List OrderEntry) 
 map_cond f true xs ys = refl
 map_cond f false xs ys = refl
 
-map_put : (serial : ℕ) (dur : ℤ) (e : OrderEntry) (os : List OrderEntry) → map (with_entry_dur serial dur) (put e os) ≡ put (with_entry_dur serial dur e) (map (with_entry_dur serial dur) os)
+map_put : (serial : ℕ) (dur : ℤ) (e : OrderEntry) (os : List OrderEntry) → map (with_entry_dur serial dur) (entries_with e os) ≡ entries_with (with_entry_dur serial dur e) (map (with_entry_dur serial dur) os)
 map_put serial dur e [] = refl
 map_put serial dur e (o ∷ os) =
-    map_cond (with_entry_dur serial dur) (int_lt e.pts o.pts) (e ∷ o ∷ os) (o ∷ put e os)
+    map_cond (with_entry_dur serial dur) (int_lt e.pts o.pts) (e ∷ o ∷ os) (o ∷ entries_with e os)
     ∙ ap (λ zs. cond (int_lt e.pts o.pts) (with_entry_dur serial dur e ∷ with_entry_dur serial dur o ∷ map (with_entry_dur serial dur) os) (with_entry_dur serial dur o ∷ zs)) (map_put serial dur e os)
 
 entry_cond : (b : Bool) (dur : ℤ) (f : Stored) → entry_of (cond b (with_dur dur f) f) ≡ record (entry_of f) { dur = cond b dur f.frame.dur }
 entry_cond true dur f = refl
 entry_cond false dur f = refl
 
-map_all : (serial : ℕ) (dur : ℤ) (os : List OrderEntry) (fs : List Stored) → map (with_entry_dur serial dur) (put_all os fs) ≡ put_all (map (with_entry_dur serial dur) os) (frames_with_dur serial dur fs)
+map_all : (serial : ℕ) (dur : ℤ) (os : List OrderEntry) (fs : List Stored) → map (with_entry_dur serial dur) (entries_with_all os fs) ≡ entries_with_all (map (with_entry_dur serial dur) os) (frames_with_dur serial dur fs)
 map_all serial dur os [] = refl
 map_all serial dur os (f ∷ fs) =
-    map_all serial dur (put (entry_of f) os) fs
-    ∙ ap (λ ps. put_all ps (frames_with_dur serial dur fs)) (map_put serial dur (entry_of f) os ∙ ap (λ e. put e (map (with_entry_dur serial dur) os)) (sym (entry_cond (has_serial serial f) dur f)))
+    map_all serial dur (entries_with (entry_of f) os) fs
+    ∙ ap (λ ps. entries_with_all ps (frames_with_dur serial dur fs)) (map_put serial dur (entry_of f) os ∙ ap (λ e. entries_with e (map (with_entry_dur serial dur) os)) (sym (entry_cond (has_serial serial f) dur f)))
 
 pub ordered_shortened : (serial : ℕ) (dur : ℤ) (fs : List Stored) → map (with_entry_dur serial dur) (presentation_order fs) ≡ presentation_order (frames_with_dur serial dur fs)
 ordered_shortened serial dur fs = map_all serial dur [] fs

@@ -8,10 +8,10 @@ use Rattle.std.proofs.lemmas.Int.{ints}
 use Rattle.std.proofs.lemmas.List.{drop_more, drop_all, take_more, take-append-drop, take_more_set, drop-set-lt, append_assoc, append-nil, map-append}
 use Rattle.std.proofs.lemmas.List.Sums.{fold-append}
 use Rattle.mse_base.specs.Moments.{greater_of, greatest, greatest_of_two}
-use Rattle.mse_base.specs.Rows.{joined, row}
+use Rattle.mse_base.specs.Rows.{row_items, row}
 use Rattle.track_index.specs.declared.entry.OrderEntry.{OrderEntry}
 use Rattle.track_index.specs.declared.known.Known.{Known}
-use Rattle.track_index.specs.Order.{end_of, entry_covers, is_ended, last_that, or_else}
+use Rattle.track_index.specs.Order.{end_of, is_in_entry, is_ended, last_that, or_else}
 use Rattle.track_index.specs.Known.{is_sync, greatest_end, known_of}
 use Rattle.track_index.specs.Tops.{running_ends, tops_of, AreTopsFrom}
 
@@ -93,17 +93,17 @@ pub length_running_ends : (best : Option ℤ) (rows : List (List OrderEntry)) �
 length_running_ends best [] = refl
 length_running_ends best (r ∷ rows) = ap suc (length_running_ends (greatest_of_two best (greatest_end r)) rows)
 
-top_is : (best : Option ℤ) (rows : List (List OrderEntry)) (i : ℕ) (d : Option ℤ) → i < length rows → get_or (running_ends best rows) i d ≡ greatest_of_two best (greatest_end (joined (take (suc i) rows)))
+top_is : (best : Option ℤ) (rows : List (List OrderEntry)) (i : ℕ) (d : Option ℤ) → i < length rows → get_or (running_ends best rows) i d ≡ greatest_of_two best (greatest_end (row_items (take (suc i) rows)))
 top_is best [] i d l = absurd (omega arith)
 top_is best (r ∷ rows) zero d l = ap (λ q. greatest_of_two best (greatest_end q)) (sym (append-nil r))
 top_is best (r ∷ rows) (suc i) d l =
-    top_is (greatest_of_two best (greatest_end r)) rows i d (omega arith) ∙ later_assoc best (greatest_end r) (greatest_end (joined (take (suc i) rows))) ∙ ap (greatest_of_two best) (sym (greatest-append r (joined (take (suc i) rows))))
+    top_is (greatest_of_two best (greatest_end r)) rows i d (omega arith) ∙ later_assoc best (greatest_end r) (greatest_end (row_items (take (suc i) rows))) ∙ ap (greatest_of_two best) (sym (greatest-append r (row_items (take (suc i) rows))))
 
-pub top_at : (ts : List (Option ℤ)) (rows : List (List OrderEntry)) (b : ℕ) (d : Option ℤ) → ts ≡ tops_of rows → 0 < b → b ≤ length rows → get_or ts (b - 1) d ≡ greatest_end (joined (take b rows))
+pub top_at : (ts : List (Option ℤ)) (rows : List (List OrderEntry)) (b : ℕ) (d : Option ℤ) → ts ≡ tops_of rows → 0 < b → b ≤ length rows → get_or ts (b - 1) d ≡ greatest_end (row_items (take b rows))
 top_at ts rows zero d e p l = absurd (omega arith)
 top_at ts rows (suc b) d e p l = let k : suc b - 1 ≡ b = omega arith in ap (λ n. get_or ts n d) k ∙ ap (λ q. get_or q b d) e ∙ top_is None rows b d (omega arith)
 
-pub top_of : (ts : List (Option ℤ)) (rows : List (List OrderEntry)) (b : ℕ) (r : Option ℤ) → ts ≡ tops_of rows → b ≤ length rows → (b ≡ 0 → r ≡ None) → (0 < b → r ≡ get_or ts (b - 1) r) → r ≡ greatest_end (joined (take b rows))
+pub top_of : (ts : List (Option ℤ)) (rows : List (List OrderEntry)) (b : ℕ) (r : Option ℤ) → ts ≡ tops_of rows → b ≤ length rows → (b ≡ 0 → r ≡ None) → (0 < b → r ≡ get_or ts (b - 1) r) → r ≡ greatest_end (row_items (take b rows))
 top_of ts rows zero r e l z p = z refl
 top_of ts rows (suc b) r e l z p = p (omega arith) ∙ top_at ts rows (suc b) r e (omega arith) l
 
@@ -143,8 +143,8 @@ tail_same : (s t : Option ℤ) (ss ts : List (Option ℤ)) → s ∷ ss ≡ t �
 tail_same s t ss ts e = cc
 
 -- from a place on the ends are the running ends of the rows from there on, behind some end
-abbrev Runs : ℕ → List (Option ℤ) → List (List OrderEntry) → Type 0
-Runs i ts rows = AreTopsFrom i ts i rows
+abbrev AreTopsAlignedFrom : ℕ → List (Option ℤ) → List (List OrderEntry) → Type 0
+AreTopsAlignedFrom i ts rows = AreTopsFrom i ts i rows
 
 same_time : (x y : ℤ) → int_eq x y ≡ true → x ≡ y
 same_time x y e = grind (arith, ints)
@@ -156,7 +156,7 @@ same_end (Some x) None e = cc
 same_end (Some x) (Some y) e = ap Some (same_time x y e)
 
 -- an end that stays as it is: all behind it do too
-pub follow_stop : (best : Option ℤ) (ts : List (Option ℤ)) (rows : List (List OrderEntry)) (i : ℕ) (top : Option ℤ) → i < length rows → i < length ts → top ≡ greatest_of_two best (greatest_end (row rows i)) → get_or ts i top ≡ top → Runs i ts rows → take i ts ++ running_ends best (drop i rows) ≡ tops_of rows → ts ≡ tops_of rows
+pub follow_stop : (best : Option ℤ) (ts : List (Option ℤ)) (rows : List (List OrderEntry)) (i : ℕ) (top : Option ℤ) → i < length rows → i < length ts → top ≡ greatest_of_two best (greatest_end (row rows i)) → get_or ts i top ≡ top → AreTopsAlignedFrom i ts rows → take i ts ++ running_ends best (drop i rows) ≡ tops_of rows → ts ≡ tops_of rows
 follow_stop best ts rows i top l m new same h inv =
     let b = h.0 in
     let x = row rows i in
@@ -174,10 +174,10 @@ follow_front best ts rows i top l m new inv =
     ap (λ zs. zs ++ running_ends top (drop (i + 1) rows)) (take_more_set ts i top m) ∙ append_assoc (take i ts) (top ∷ []) (running_ends top (drop (i + 1) rows))
     ∙ ap (λ z. take i ts ++ (z ∷ running_ends z (drop (i + 1) rows))) new ∙ ap (λ zs. take i ts ++ running_ends best zs) (sym entries) ∙ inv
 
-runs_set : (ts : List (Option ℤ)) (rows : List (List OrderEntry)) (i n : ℕ) (top : Option ℤ) → i < n → Runs n ts rows → Runs n (set ts i top) rows
+runs_set : (ts : List (Option ℤ)) (rows : List (List OrderEntry)) (i n : ℕ) (top : Option ℤ) → i < n → AreTopsAlignedFrom n ts rows → AreTopsAlignedFrom n (set ts i top) rows
 runs_set ts rows i n top l h = (h.0, drop-set-lt n ts i top l ∙ h.1)
 
-runs_next : (ts : List (Option ℤ)) (rows : List (List OrderEntry)) (i : ℕ) → i < length rows → i < length ts → Runs i ts rows → Runs (i + 1) ts rows
+runs_next : (ts : List (Option ℤ)) (rows : List (List OrderEntry)) (i : ℕ) → i < length rows → i < length ts → AreTopsAlignedFrom i ts rows → AreTopsAlignedFrom (i + 1) ts rows
 runs_next ts rows i l m h =
     let b = h.0 in
     let x = row rows i in
@@ -186,22 +186,22 @@ runs_next ts rows i l m h =
     (greatest_of_two b (greatest_end x), tail_same _ _ _ _ runs)
 
 -- the ends that were not looked at yet, from a place on or from where the rows stayed
-abbrev pub Unseen : ℕ → ℕ → List (Option ℤ) → List (List OrderEntry) → Type 0
-Unseen to i ts rows = (i ≤ to → Runs to ts rows) × (to ≤ i → Runs i ts rows)
+abbrev pub AreUnseenTops : ℕ → ℕ → List (Option ℤ) → List (List OrderEntry) → Type 0
+AreUnseenTops to i ts rows = (i ≤ to → AreTopsAlignedFrom to ts rows) × (to ≤ i → AreTopsAlignedFrom i ts rows)
 
-same_place : (ts : List (Option ℤ)) (rows : List (List OrderEntry)) (m n : ℕ) → m ≡ n → Runs m ts rows → Runs n ts rows
-same_place ts rows m n e h = subst (λ (k : ℕ). Runs k ts rows) e h
+same_place : (ts : List (Option ℤ)) (rows : List (List OrderEntry)) (m n : ℕ) → m ≡ n → AreTopsAlignedFrom m ts rows → AreTopsAlignedFrom n ts rows
+same_place ts rows m n e h = subst (λ (k : ℕ). AreTopsAlignedFrom k ts rows) e h
 
-pub unseen_init : (ts : List (Option ℤ)) (rows : List (List OrderEntry)) (from to : ℕ) → from ≤ to → AreTopsFrom to ts to rows → Unseen to from ts rows
+pub unseen_init : (ts : List (Option ℤ)) (rows : List (List OrderEntry)) (from to : ℕ) → from ≤ to → AreTopsFrom to ts to rows → AreUnseenTops to from ts rows
 unseen_init ts rows from to l h = (λ _. h, λ k. same_place ts rows to from (omega arith) h)
 
 next_cases : (to i : ℕ) → (to ≤ i) ⊎ (i + 1 ≤ to)
 next_cases to i = grind arith
 
-pub unseen_next : (ts : List (Option ℤ)) (rows : List (List OrderEntry)) (to i : ℕ) (top : Option ℤ) → i < length rows → i < length ts → Unseen to i ts rows → Unseen to (i + 1) (set ts i top) rows
+pub unseen_next : (ts : List (Option ℤ)) (rows : List (List OrderEntry)) (to i : ℕ) (top : Option ℤ) → i < length rows → i < length ts → AreUnseenTops to i ts rows → AreUnseenTops to (i + 1) (set ts i top) rows
 unseen_next ts rows to i top l m h = (
   λ k. runs_set ts rows i to top (omega arith) (h.0 (omega arith)),
-  λ k. elim (next_cases to i) as (λ _. Runs (i + 1) (set ts i top) rows) [
+  λ k. elim (next_cases to i) as (λ _. AreTopsAlignedFrom (i + 1) (set ts i top) rows) [
     | inl low ↦ runs_set ts rows i (i + 1) top (omega arith) (runs_next ts rows i l m (h.1 low))
     | inr high ↦ runs_set ts rows i (i + 1) top (omega arith) (same_place ts rows to (i + 1) (omega arith) (h.0 (omega arith)))
   ],
@@ -254,7 +254,7 @@ pub front_kept : (ts : List (Option ℤ)) (old rows : List (List OrderEntry)) (b
 front_kept ts old rows b e f = ap (take b) e ∙ take_running_ends None old b ∙ ap (running_ends None) (sym f) ∙ sym (take_running_ends None rows b)
 
 -- the last end, made anew from all that stands before it
-last_from : (best : Option ℤ) (ts : List (Option ℤ)) (rows : List (List OrderEntry)) (b : ℕ) (top : Option ℤ) → suc b ≡ length ts → length rows ≡ length ts → take b ts ≡ take b (running_ends best rows) → top ≡ greatest_of_two best (greatest_end (joined rows)) → set ts b top ≡ running_ends best rows
+last_from : (best : Option ℤ) (ts : List (Option ℤ)) (rows : List (List OrderEntry)) (b : ℕ) (top : Option ℤ) → suc b ≡ length ts → length rows ≡ length ts → take b ts ≡ take b (running_ends best rows) → top ≡ greatest_of_two best (greatest_end (row_items rows)) → set ts b top ≡ running_ends best rows
 last_from best [] rows b top l m f e = absurd (omega arith)
 last_from best (t ∷ ts) [] b top l m f e = absurd (omega arith)
 last_from best (t ∷ []) (r ∷ []) zero top l m f e = ap (λ z. z ∷ []) (e ∙ ap (λ q. greatest_of_two best (greatest_end q)) (append-nil r))
@@ -262,11 +262,11 @@ last_from best (t ∷ []) (r ∷ s ∷ rows) zero top l m f e = absurd (omega ar
 last_from best (t ∷ u ∷ ts) (r ∷ rows) zero top l m f e = absurd (omega arith)
 last_from best (t ∷ ts) (r ∷ rows) (suc b) top l m f e =
     let next = greatest_of_two best (greatest_end r) in
-    let rest = last_from next ts rows b top (omega arith) (omega arith) (tail_same _ _ _ _ f) (e ∙ ap (greatest_of_two best) (greatest-append r (joined rows)) ∙ sym (later_assoc best (greatest_end r) (greatest_end (joined rows)))) in
+    let rest = last_from next ts rows b top (omega arith) (omega arith) (tail_same _ _ _ _ f) (e ∙ ap (greatest_of_two best) (greatest-append r (row_items rows)) ∙ sym (later_assoc best (greatest_end r) (greatest_end (row_items rows)))) in
     ap (λ z. z ∷ set ts b top) (head_same _ _ _ _ f) ∙ ap (λ zs. next ∷ zs) rest
 
 -- the last of the ends is that of all entries
-pub last_top : (ts : List (Option ℤ)) (rows : List (List OrderEntry)) (b : ℕ) (top : Option ℤ) → b + 1 ≡ length ts → length rows ≡ length ts → take b ts ≡ take b (tops_of rows) → top ≡ greatest_end (joined rows) → set ts b top ≡ tops_of rows
+pub last_top : (ts : List (Option ℤ)) (rows : List (List OrderEntry)) (b : ℕ) (top : Option ℤ) → b + 1 ≡ length ts → length rows ≡ length ts → take b ts ≡ take b (tops_of rows) → top ≡ greatest_end (row_items rows) → set ts b top ≡ tops_of rows
 last_top ts rows b top l m f e = last_from None ts rows b top (omega arith) m f e
 
 -- ---- what has ended
@@ -282,11 +282,11 @@ ended_first : (t : ℤ) (a : ℤ) (b : Option ℤ) → is_ended t (greatest_of_t
 ended_first t a None e = (e, refl)
 ended_first t a (Some b) e = max_ended t a b e
 
-not_covered : (t : ℤ) (o : OrderEntry) → int_le (end_of o) t ≡ true → entry_covers t o ≡ false
+not_covered : (t : ℤ) (o : OrderEntry) → int_le (end_of o) t ≡ true → is_in_entry t o ≡ false
 not_covered t o e = grind (arith, ints)
 
 -- where the greatest end is not after a time no entry holds it
-pub none_covers : (t : ℤ) (os : List OrderEntry) → is_ended t (greatest_end os) ≡ true → AllByRecursion (λ o. entry_covers t o ≡ false) os
+pub none_covers : (t : ℤ) (os : List OrderEntry) → is_ended t (greatest_end os) ≡ true → AllByRecursion (λ o. is_in_entry t o ≡ false) os
 none_covers t [] e = tt
 none_covers t (o ∷ os) e =
     let p = ended_first t (end_of o) (greatest_end os) (ap (is_ended t) (sym (greatest-append (o ∷ []) os)) ∙ e) in
@@ -299,7 +299,7 @@ both_ended : (t a : ℤ) (b : Option ℤ) → a ≤ℤ t → is_ended t b ≡ tr
 both_ended t a None l e = grind (arith, ints)
 both_ended t a (Some b) l e = max_both t a b l e
 
-ends_by : (t : ℤ) (o : OrderEntry) → o.pts ≤ℤ t → entry_covers t o ≡ false → end_of o ≤ℤ t
+ends_by : (t : ℤ) (o : OrderEntry) → o.pts ≤ℤ t → is_in_entry t o ≡ false → end_of o ≤ℤ t
 ends_by t o l e = grind (arith, ints)
 
 neither : (r : Option OrderEntry) (b : Bool) (o : OrderEntry) → or_else r (cond b (Some o) None) ≡ None → (r ≡ None) × (b ≡ false)
@@ -308,10 +308,10 @@ neither None false o e = (refl, refl)
 neither (Some p) b o e = absurd cc
 
 -- where all begin by a time and none holds it all end by it
-all_ended : (t : ℤ) (os : List OrderEntry) → AllByRecursion (λ o. o.pts ≤ℤ t) os → last_that (entry_covers t) os ≡ None → is_ended t (greatest_end os) ≡ true
+all_ended : (t : ℤ) (os : List OrderEntry) → AllByRecursion (λ o. o.pts ≤ℤ t) os → last_that (is_in_entry t) os ≡ None → is_ended t (greatest_end os) ≡ true
 all_ended t [] h e = refl
 all_ended t (o ∷ os) h e =
-    let n = neither (last_that (entry_covers t) os) (entry_covers t o) o e in
+    let n = neither (last_that (is_in_entry t) os) (is_in_entry t o) o e in
     ap (is_ended t) (greatest-append (o ∷ []) os) ∙ both_ended t (end_of o) (greatest_end os) (ends_by t o h.0 n.1) (all_ended t os h.1 n.0)
 
 or_found : (r rest : Option OrderEntry) → (r ≡ None → ⊥) → or_else r rest ≡ r
@@ -322,5 +322,5 @@ open_not : (b : Bool) → b ≡ true → b ≡ false → ⊥
 open_not b e f = cc
 
 -- where all begin by a time and one ends after it one holds it
-pub found_in : (t : ℤ) (os : List OrderEntry) (rest : Option OrderEntry) → AllByRecursion (λ o. o.pts ≤ℤ t) os → is_ended t (greatest_end os) ≡ false → or_else (last_that (entry_covers t) os) rest ≡ last_that (entry_covers t) os
-found_in t os rest h e = or_found (last_that (entry_covers t) os) rest (λ n. open_not (is_ended t (greatest_end os)) (all_ended t os h n) e)
+pub found_in : (t : ℤ) (os : List OrderEntry) (rest : Option OrderEntry) → AllByRecursion (λ o. o.pts ≤ℤ t) os → is_ended t (greatest_end os) ≡ false → or_else (last_that (is_in_entry t) os) rest ≡ last_that (is_in_entry t) os
+found_in t os rest h e = or_found (last_that (is_in_entry t) os) rest (λ n. open_not (is_ended t (greatest_end os)) (all_ended t os h n) e)

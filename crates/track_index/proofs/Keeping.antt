@@ -13,7 +13,7 @@ use Rattle.track_store.specs.Sound.{HasPredecessor, IsChained, IsSuccessor, last
 use Rattle.track_store.proofs.Soundness.{chained_push, chained-cleared}
 use Rattle.track_store.proofs.Clearing.{kept_push, kept-cleared, each-cleared, each-push}
 use Rattle.track_index.specs.declared.entry.OrderEntry.{OrderEntry}
-use Rattle.track_index.specs.Order.{put, put_all, entry_of, span_of, presentation_order}
+use Rattle.track_index.specs.Order.{entries_with, entries_with_all, entry_of, span_of, presentation_order}
 use Rattle.track_index.specs.Repair.{AreTimed}
 use Rattle.track_index.specs.Syncs.{IsToldBy, AreSyncsOf}
 use Rattle.track_index.specs.Indexed.{FrameIndex, IsIndexed}
@@ -40,13 +40,13 @@ chain_link : (fs : List Stored) (x : Stored) (b : Bool) → x.frame.sync ≡ b �
 chain_link fs x true e up l link = inl e
 chain_link fs x false e up l link = inr (behind_last None x.serial fs up l (link e))
 
-pub indexed_added : (fs hs : List Stored) (old new : FrameIndex) (gap : ℤ) (room next : ℕ) (x : Stored) → IsIndexed fs old gap room → length fs + 1 ≤ next → AllByRecursion (λ f. f.serial < x.serial) fs → IsTimed x → bytes_of fs + length x.frame.payload < 2 ^ 62 → (x.frame.sync ≡ false → HasPredecessor x.serial fs) → AreSyncsOf (fs ++ x ∷ []) new.syncs → hs ≡ fs ++ x ∷ [] → new.order ≡ put (entry_of x) old.order → new.ranges ≡ ranges_with gap old.ranges (interval x) → new.total ≡ old.total + length x.frame.payload → IsIndexed hs new gap next
+pub indexed_added : (fs hs : List Stored) (old new : FrameIndex) (gap : ℤ) (room next : ℕ) (x : Stored) → IsIndexed fs old gap room → length fs + 1 ≤ next → AllByRecursion (λ f. f.serial < x.serial) fs → IsTimed x → bytes_of fs + length x.frame.payload < 2 ^ 62 → (x.frame.sync ≡ false → HasPredecessor x.serial fs) → AreSyncsOf (fs ++ x ∷ []) new.syncs → hs ≡ fs ++ x ∷ [] → new.order ≡ entries_with (entry_of x) old.order → new.ranges ≡ ranges_with gap old.ranges (interval x) → new.total ≡ old.total + length x.frame.payload → IsIndexed hs new gap next
 indexed_added fs hs old new gap room next x h r l t s link syncs eh ep es en = record {
   kept = subst (λ (zs : List Stored). HasFrameInvariants zs) (sym eh) (kept_push fs x h.kept l s);
   chained = subst (λ (zs : List Stored). IsChained None zs) (sym eh) (chained_push None fs x h.chained (chain_link fs x x.frame.sync refl h.kept.ascending l link));
   timed = subst (λ (zs : List Stored). AllByRecursion IsTimed zs) (sym eh) (each-push IsTimed fs x h.timed t);
   gap_from_zero = h.gap_from_zero;
-  in_order = ep ∙ ap (put (entry_of x)) h.in_order ∙ sym (ordered_push fs x) ∙ ap presentation_order (sym eh);
+  in_order = ep ∙ ap (entries_with (entry_of x)) h.in_order ∙ sym (ordered_push fs x) ∙ ap presentation_order (sym eh);
   syncs = subst (λ (zs : List Stored). AreSyncsOf zs new.syncs) (sym eh) syncs;
   joined = es ∙ ap (λ qs. ranges_with gap qs (interval x)) h.joined ∙ sym (join_push gap fs x) ∙ ap (ranges_of gap) (sym eh);
   summed = let a = h.summed in let b = sum_by-append (λ f. length f.frame.payload) fs (x ∷ []) in let c = sum_by-cons (λ f. length f.frame.payload) x [] in let d : bytes_of [] ≡ 0 = refl in let e = ap bytes_of eh in omega arith;
@@ -65,11 +65,11 @@ or_swap true true c = refl
 or_swap true false c = refl
 or_swap false b c = refl
 
-near_cond : (gap t : ℤ) (e o : OrderEntry) (os : List OrderEntry) (b : Bool) → is_near_any gap t (map span_of (put e os)) ≡ (is_near gap t (span_of e) || is_near_any gap t (map span_of os)) → is_near_any gap t (map span_of (cond b (e ∷ o ∷ os) (o ∷ put e os))) ≡ (is_near gap t (span_of e) || (is_near gap t (span_of o) || is_near_any gap t (map span_of os)))
+near_cond : (gap t : ℤ) (e o : OrderEntry) (os : List OrderEntry) (b : Bool) → is_near_any gap t (map span_of (entries_with e os)) ≡ (is_near gap t (span_of e) || is_near_any gap t (map span_of os)) → is_near_any gap t (map span_of (cond b (e ∷ o ∷ os) (o ∷ entries_with e os))) ≡ (is_near gap t (span_of e) || (is_near gap t (span_of o) || is_near_any gap t (map span_of os)))
 near_cond gap t e o os true h = refl
 near_cond gap t e o os false h = ap (λ b. is_near gap t (span_of o) || b) h ∙ or_swap (is_near gap t (span_of o)) (is_near gap t (span_of e)) (is_near_any gap t (map span_of os))
 
-near_put : (gap t : ℤ) (e : OrderEntry) (os : List OrderEntry) → is_near_any gap t (map span_of (put e os)) ≡ (is_near gap t (span_of e) || is_near_any gap t (map span_of os))
+near_put : (gap t : ℤ) (e : OrderEntry) (os : List OrderEntry) → is_near_any gap t (map span_of (entries_with e os)) ≡ (is_near gap t (span_of e) || is_near_any gap t (map span_of os))
 near_put gap t e [] = refl
 near_put gap t e (o ∷ os) = near_cond gap t e o os (int_lt e.pts o.pts) (near_put gap t e os)
 
@@ -77,9 +77,9 @@ or_none : (a : Bool) → a ≡ (a || false)
 or_none true = refl
 or_none false = refl
 
-near_all : (gap t : ℤ) (os : List OrderEntry) (fs : List Stored) → is_near_any gap t (map span_of (put_all os fs)) ≡ (is_near_any gap t (map span_of os) || is_near_any gap t (intervals fs))
+near_all : (gap t : ℤ) (os : List OrderEntry) (fs : List Stored) → is_near_any gap t (map span_of (entries_with_all os fs)) ≡ (is_near_any gap t (map span_of os) || is_near_any gap t (intervals fs))
 near_all gap t os [] = or_none (is_near_any gap t (map span_of os))
-near_all gap t os (f ∷ fs) = near_all gap t (put (entry_of f) os) fs ∙ ap (λ b. b || is_near_any gap t (intervals fs)) (near_put gap t (entry_of f) os) ∙ or_turn (is_near gap t (interval f)) (is_near_any gap t (map span_of os)) (is_near_any gap t (intervals fs))
+near_all gap t os (f ∷ fs) = near_all gap t (entries_with (entry_of f) os) fs ∙ ap (λ b. b || is_near_any gap t (intervals fs)) (near_put gap t (entry_of f) os) ∙ or_turn (is_near gap t (interval f)) (is_near_any gap t (map span_of os)) (is_near_any gap t (intervals fs))
 
 pub near_ordered : (gap t : ℤ) (fs : List Stored) → is_near_any gap t (map span_of (presentation_order fs)) ≡ is_near_any gap t (intervals fs)
 near_ordered gap t fs = near_all gap t [] fs

@@ -5,14 +5,14 @@ use Rattle.std.proofs.lemmas.Int.{ints}
 use Rattle.std.proofs.lemmas.List.{drop_more}
 use Rattle.std.proofs.lemmas.Bool.Decides.{nat_tests}
 use Rattle.mse_base.specs.declared.ticks.Moment.{Moment}
-use Rattle.mse_base.specs.Rows.{joined}
+use Rattle.mse_base.specs.Rows.{row_items}
 use Rattle.block_list.specs.Rows.{IsCut}
 use Rattle.track_store.specs.declared.store.Stored.{Stored}
 use Rattle.mse_base.specs.Moments.{is_before}
 use Rattle.track_store.specs.Frames.{IsAscending}
 use Rattle.track_index.specs.declared.entry.OrderEntry.{OrderEntry}
 use Rattle.track_index.specs.declared.key.Key.{Key}
-use Rattle.track_index.specs.Order.{put, put_all, entry_of, presentation_order, with_entry_dur}
+use Rattle.track_index.specs.Order.{entries_with, entries_with_all, entry_of, presentation_order, with_entry_dur}
 use Rattle.track_index.specs.Keyed.{is_before_key, key_of, IsKeyed, has_entry_serial, is_entry_named, IsNamedAt, IsFound}
 use Rattle.track_index.proofs.Ordering.{each_weaker, each_both, each_whole, each_take, each_put, put_at, lt_of, ge_of, is_lt, not_lt, late}
 
@@ -133,28 +133,28 @@ cut_keyed k (o ∷ os) h = (λ e. each_weaker (λ p. is_before_key (key_of p) o 
 
 -- ---- the order is by key
 
-keyed_step : (e o : OrderEntry) (os : List OrderEntry) (t : Bool) → int_lt e.pts o.pts ≡ t → AllByRecursion (λ p. is_before_key (key_of p) o ≡ true) os → IsKeyed os → o.serial < e.serial → IsKeyed (put e os) → IsKeyed (cond t (e ∷ o ∷ os) (o ∷ put e os))
+keyed_step : (e o : OrderEntry) (os : List OrderEntry) (t : Bool) → int_lt e.pts o.pts ≡ t → AllByRecursion (λ p. is_before_key (key_of p) o ≡ true) os → IsKeyed os → o.serial < e.serial → IsKeyed (entries_with e os) → IsKeyed (cond t (e ∷ o ∷ os) (o ∷ entries_with e os))
 keyed_step e o os true t a h s k =
     let lt = lt_of e.pts o.pts t in
     ((before_time (key_of o) e lt, each_weaker (λ p. is_before_key (key_of p) o ≡ true) (λ p. is_before_key (key_of p) e ≡ true) os (λ p b. let later = later_start o p b in before_time (key_of p) e (omega (arith, ints))) a), (a, h))
 keyed_step e o os false t a h s k = (each_put (λ p. is_before_key (key_of p) o ≡ true) e os (before_serial (key_of e) o (ge_of e.pts o.pts t) s) a, k)
 
-pub keyed_put : (e : OrderEntry) (os : List OrderEntry) → IsKeyed os → AllByRecursion (λ o. o.serial < e.serial) os → IsKeyed (put e os)
+pub keyed_put : (e : OrderEntry) (os : List OrderEntry) → IsKeyed os → AllByRecursion (λ o. o.serial < e.serial) os → IsKeyed (entries_with e os)
 keyed_put e [] h l = (tt, tt)
 keyed_put e (o ∷ os) h l = keyed_step e o os (int_lt e.pts o.pts) refl h.0 h.1 l.0 (keyed_put e os h.1 l.1)
 
-abbrev Above : List OrderEntry → List Stored → Type 0
-Above os fs = AllByRecursion (λ f. AllByRecursion (λ o. o.serial < f.serial) os) fs
+abbrev AreSerialsBelow : List OrderEntry → List Stored → Type 0
+AreSerialsBelow os fs = AllByRecursion (λ f. AllByRecursion (λ o. o.serial < f.serial) os) fs
 
-above_put : (x : Stored) (os : List OrderEntry) (fs : List Stored) → AllByRecursion (λ f. x.serial < f.serial) fs → Above os fs → Above (put (entry_of x) os) fs
+above_put : (x : Stored) (os : List OrderEntry) (fs : List Stored) → AllByRecursion (λ f. x.serial < f.serial) fs → AreSerialsBelow os fs → AreSerialsBelow (entries_with (entry_of x) os) fs
 above_put x os [] u a = tt
 above_put x os (f ∷ fs) u a = (each_put (λ o. o.serial < f.serial) (entry_of x) os u.0 a.0, above_put x os fs u.1 a.1)
 
-keyed_all : (os : List OrderEntry) (fs : List Stored) → IsKeyed os → IsAscending fs → Above os fs → IsKeyed (put_all os fs)
+keyed_all : (os : List OrderEntry) (fs : List Stored) → IsKeyed os → IsAscending fs → AreSerialsBelow os fs → IsKeyed (entries_with_all os fs)
 keyed_all os [] h u a = h
-keyed_all os (f ∷ fs) h u a = keyed_all (put (entry_of f) os) fs (keyed_put (entry_of f) os h a.0) u.1 (above_put f os fs u.0 a.1)
+keyed_all os (f ∷ fs) h u a = keyed_all (entries_with (entry_of f) os) fs (keyed_put (entry_of f) os h a.0) u.1 (above_put f os fs u.0 a.1)
 
-above_none : (fs : List Stored) → Above [] fs
+above_none : (fs : List Stored) → AreSerialsBelow [] fs
 above_none [] = tt
 above_none (f ∷ fs) = (tt, above_none fs)
 
@@ -178,7 +178,7 @@ lows m os h = each_weaker (λ o. is_before_key (record { mark = m; serial = 0 })
 pub highs : (m : ℤ) (os : List OrderEntry) → AllByRecursion (λ o. is_before_key (record { mark = m; serial = 0 }) o ≡ false) os → AllByRecursion (λ o. m ≤ℤ o.pts) os
 highs m os h = each_weaker (λ o. is_before_key (record { mark = m; serial = 0 }) o ≡ false) (λ o. m ≤ℤ o.pts) os (high_of m) h
 
-pub put_by_key : (e : OrderEntry) (os : List OrderEntry) (i : ℕ) (m : ℤ) → m ≡ (e.pts +ℤ pos 1) → AllByRecursion (λ o. is_before_key (record { mark = m; serial = 0 }) o ≡ true) (take i os) → AllByRecursion (λ o. is_before_key (record { mark = m; serial = 0 }) o ≡ false) (drop i os) → insert os i e ≡ put e os
+pub put_by_key : (e : OrderEntry) (os : List OrderEntry) (i : ℕ) (m : ℤ) → m ≡ (e.pts +ℤ pos 1) → AllByRecursion (λ o. is_before_key (record { mark = m; serial = 0 }) o ≡ true) (take i os) → AllByRecursion (λ o. is_before_key (record { mark = m; serial = 0 }) o ≡ false) (drop i os) → insert os i e ≡ entries_with e os
 put_by_key e os i m z h k = put_at e os i (subst (λ (n : ℤ). AllByRecursion (λ o. o.pts <ℤ n) (take i os)) z (lows m (take i os) h)) (subst (λ (n : ℤ). AllByRecursion (λ o. n ≤ℤ o.pts) (drop i os)) z (highs m (drop i os) k))
 
 keyed_drop : (os : List OrderEntry) (i : ℕ) → IsKeyed os → IsKeyed (drop i os)
@@ -370,11 +370,11 @@ unnamed_serial to below o l = no_second (is_before o.pts to) (nat_lt o.serial be
 pub is_named_entry : (to : Moment) (below : ℕ) (o : OrderEntry) → is_before o.pts to ≡ true → o.serial < below → is_entry_named to below o ≡ true
 is_named_entry to below o e l = ap (λ b. b && nat_lt o.serial below) e ∙ is_less o.serial below l
 
-pub any_rows : (c : OrderEntry → Bool) (rows : List (List OrderEntry)) → list_any c (joined rows) ≡ true → 0 < length rows
+pub any_rows : (c : OrderEntry → Bool) (rows : List (List OrderEntry)) → list_any c (row_items rows) ≡ true → 0 < length rows
 any_rows c [] e = absurd cc
 any_rows c (r ∷ rows) e = omega arith
 
-pub put_with : (e : OrderEntry) (os : List OrderEntry) (i : ℕ) (k : Key) → k ≡ record { mark = e.pts +ℤ pos 1; serial = 0 } → AllByRecursion (λ o. is_before_key k o ≡ true) (take i os) → AllByRecursion (λ o. is_before_key k o ≡ false) (drop i os) → insert os i e ≡ put e os
+pub put_with : (e : OrderEntry) (os : List OrderEntry) (i : ℕ) (k : Key) → k ≡ record { mark = e.pts +ℤ pos 1; serial = 0 } → AllByRecursion (λ o. is_before_key k o ≡ true) (take i os) → AllByRecursion (λ o. is_before_key k o ≡ false) (drop i os) → insert os i e ≡ entries_with e os
 put_with e os i k z h l = put_by_key e os i (e.pts +ℤ pos 1) refl (subst (λ (q : Key). AllByRecursion (λ o. is_before_key q o ≡ true) (take i os)) z h) (subst (λ (q : Key). AllByRecursion (λ o. is_before_key q o ≡ false) (drop i os)) z l)
 
 -- what stands behind an entry begins no earlier

@@ -10,7 +10,7 @@ use Rattle.track_store.specs.declared.store.Stored.{Stored}
 use Rattle.mse_base.specs.Moments.{is_before, greater_of, lesser_of, greatest, least}
 use Rattle.track_store.specs.Frames.{starts, sync_times_from}
 use Rattle.track_index.specs.declared.entry.OrderEntry.{OrderEntry}
-use Rattle.track_index.specs.Order.{put, put_all, entry_of, presentation_order, IsSorted, start_from, last_start, is_sync_from, first_start}
+use Rattle.track_index.specs.Order.{entries_with, entries_with_all, entry_of, presentation_order, IsSorted, start_from, last_start, is_sync_from, first_start}
 use Rattle.track_index.proofs.Ordering.{sorted_put, lt_true, is_lt, each_weaker}
 
 not_lt : (a b : ℤ) → b ≤ℤ a → int_lt a b ≡ false
@@ -33,11 +33,11 @@ start_after : (n : ℤ) (o : OrderEntry) (os : List OrderEntry) → n ≤ℤ o.p
 start_after n o [] l h = l
 start_after n o (p ∷ ps) l h = start_after n p ps h.0 h.1
 
-start_skip : (o : OrderEntry) (e p : OrderEntry) (ps : List OrderEntry) (b : Bool) → last_start (o ∷ cond b (e ∷ p ∷ ps) (p ∷ put e ps)) ≡ last_start (cond b (e ∷ p ∷ ps) (p ∷ put e ps))
+start_skip : (o : OrderEntry) (e p : OrderEntry) (ps : List OrderEntry) (b : Bool) → last_start (o ∷ cond b (e ∷ p ∷ ps) (p ∷ entries_with e ps)) ≡ last_start (cond b (e ∷ p ∷ ps) (p ∷ entries_with e ps))
 start_skip o e p ps true = refl
 start_skip o e p ps false = refl
 
-last_step : (e o : OrderEntry) (os : List OrderEntry) (t : Bool) → int_lt e.pts o.pts ≡ t → AllByRecursion (λ p. o.pts ≤ℤ p.pts) os → last_start (put e os) ≡ greater_of (last_start os) e.pts → last_start (cond t (e ∷ o ∷ os) (o ∷ put e os)) ≡ greater_of (last_start (o ∷ os)) e.pts
+last_step : (e o : OrderEntry) (os : List OrderEntry) (t : Bool) → int_lt e.pts o.pts ≡ t → AllByRecursion (λ p. o.pts ≤ℤ p.pts) os → last_start (entries_with e os) ≡ greater_of (last_start os) e.pts → last_start (cond t (e ∷ o ∷ os) (o ∷ entries_with e os)) ≡ greater_of (last_start (o ∷ os)) e.pts
 last_step e o os true k a ih =
     let lt = lt_true e.pts o.pts k in
     let far = start_after o.pts o os (omega (arith, ints)) a in
@@ -45,13 +45,13 @@ last_step e o os true k a ih =
 last_step e o [] false k a ih = ap (λ b. Some (cond b o.pts e.pts)) (sym k)
 last_step e o (p ∷ ps) false k a ih = start_skip o e p ps (int_lt e.pts p.pts) ∙ ih
 
-last_put : (e : OrderEntry) (os : List OrderEntry) → IsSorted os → last_start (put e os) ≡ greater_of (last_start os) e.pts
+last_put : (e : OrderEntry) (os : List OrderEntry) → IsSorted os → last_start (entries_with e os) ≡ greater_of (last_start os) e.pts
 last_put e [] h = refl
 last_put e (o ∷ os) h = last_step e o os (int_lt e.pts o.pts) refl h.0 (last_put e os h.1)
 
-last_all : (os : List OrderEntry) (fs : List Stored) → IsSorted os → last_start (put_all os fs) ≡ fold greater_of (last_start os) (starts fs)
+last_all : (os : List OrderEntry) (fs : List Stored) → IsSorted os → last_start (entries_with_all os fs) ≡ fold greater_of (last_start os) (starts fs)
 last_all os [] h = refl
-last_all os (f ∷ fs) h = last_all (put (entry_of f) os) fs (sorted_put (entry_of f) os h) ∙ ap (λ b. fold greater_of b (starts fs)) (last_put (entry_of f) os h)
+last_all os (f ∷ fs) h = last_all (entries_with (entry_of f) os) fs (sorted_put (entry_of f) os h) ∙ ap (λ b. fold greater_of b (starts fs)) (last_put (entry_of f) os h)
 
 pub highest_of : (fs : List Stored) (os : List OrderEntry) → os ≡ presentation_order fs → last_start os ≡ greatest (starts fs)
 highest_of fs os e = ap last_start e ∙ last_all [] fs tt
@@ -80,11 +80,11 @@ put_later true true n m r s k e = ap (λ d. Some (cond d n m)) (sym k)
 put_later false true n m r s k e = refl
 put_later b false n m r s k e = e
 
-first_step : (c : OrderEntry → Bool) (e o : OrderEntry) (os : List OrderEntry) (t : Bool) → int_lt e.pts o.pts ≡ t → AllByRecursion (λ p. o.pts ≤ℤ p.pts) os → first_start c (put e os) ≡ cond (c e) (lesser_of (first_start c os) e.pts) (first_start c os) → first_start c (cond t (e ∷ o ∷ os) (o ∷ put e os)) ≡ cond (c e) (lesser_of (first_start c (o ∷ os)) e.pts) (first_start c (o ∷ os))
+first_step : (c : OrderEntry → Bool) (e o : OrderEntry) (os : List OrderEntry) (t : Bool) → int_lt e.pts o.pts ≡ t → AllByRecursion (λ p. o.pts ≤ℤ p.pts) os → first_start c (entries_with e os) ≡ cond (c e) (lesser_of (first_start c os) e.pts) (first_start c os) → first_start c (cond t (e ∷ o ∷ os) (o ∷ entries_with e os)) ≡ cond (c e) (lesser_of (first_start c (o ∷ os)) e.pts) (first_start c (o ∷ os))
 first_step c e o os true k a ih = let lt = lt_true e.pts o.pts k in put_first (c e) e.pts (first_start c (o ∷ os)) (first_each (λ s. e.pts <ℤ s) c (o ∷ os) (lt, later_all e o os lt a))
-first_step c e o os false k a ih = put_later (c e) (c o) e.pts o.pts (first_start c (put e os)) (first_start c os) k ih
+first_step c e o os false k a ih = put_later (c e) (c o) e.pts o.pts (first_start c (entries_with e os)) (first_start c os) k ih
 
-first_put : (c : OrderEntry → Bool) (e : OrderEntry) (os : List OrderEntry) → IsSorted os → first_start c (put e os) ≡ cond (c e) (lesser_of (first_start c os) e.pts) (first_start c os)
+first_put : (c : OrderEntry → Bool) (e : OrderEntry) (os : List OrderEntry) → IsSorted os → first_start c (entries_with e os) ≡ cond (c e) (lesser_of (first_start c os) e.pts) (first_start c os)
 first_put c e [] h = refl
 first_put c e (o ∷ os) h = first_step c e o os (int_lt e.pts o.pts) refl h.0 (first_put c e os h.1)
 
@@ -92,10 +92,10 @@ fold_cond : (b : Bool) (a : Option ℤ) (f : Stored) (gs : List Stored) → fold
 fold_cond true a f gs = refl
 fold_cond false a f gs = refl
 
-first_all : (c : OrderEntry → Bool) (os : List OrderEntry) (fs : List Stored) → IsSorted os → first_start c (put_all os fs) ≡ fold lesser_of (first_start c os) (starts (filter (λ f. c (entry_of f)) fs))
+first_all : (c : OrderEntry → Bool) (os : List OrderEntry) (fs : List Stored) → IsSorted os → first_start c (entries_with_all os fs) ≡ fold lesser_of (first_start c os) (starts (filter (λ f. c (entry_of f)) fs))
 first_all c os [] h = refl
 first_all c os (f ∷ fs) h =
-    first_all c (put (entry_of f) os) fs (sorted_put (entry_of f) os h) ∙ ap (λ b. fold lesser_of b (starts (filter (λ g. c (entry_of g)) fs))) (first_put c (entry_of f) os h)
+    first_all c (entries_with (entry_of f) os) fs (sorted_put (entry_of f) os h) ∙ ap (λ b. fold lesser_of b (starts (filter (λ g. c (entry_of g)) fs))) (first_put c (entry_of f) os h)
     ∙ fold_cond (c (entry_of f)) (first_start c os) f (filter (λ g. c (entry_of g)) fs)
 
 pub first_sync : (t : Moment) (fs : List Stored) (os : List OrderEntry) → os ≡ presentation_order fs → first_start (is_sync_from t) os ≡ least (sync_times_from t fs)

@@ -77,11 +77,11 @@ max_first a b = grind (arith, ints)
 max_second : (a b : ℤ) → b ≤ℤ int_max a b
 max_second a b = grind (arith, ints)
 
-abbrev Greatest : (OrderEntry → Bool) → Option ℤ → List OrderEntry → Type 0
-Greatest q None os = AllByRecursion (λ o. q o ≡ true → ⊥) os
-Greatest q (Some e) os = AllByRecursion (λ o. q o ≡ true → (end_of o) ≤ℤ e) os × HasEndAt q e os
+abbrev IsGreatestEnd : (OrderEntry → Bool) → Option ℤ → List OrderEntry → Type 0
+IsGreatestEnd q None os = AllByRecursion (λ o. q o ≡ true → ⊥) os
+IsGreatestEnd q (Some e) os = AllByRecursion (λ o. q o ≡ true → (end_of o) ≤ℤ e) os × HasEndAt q e os
 
-grows : (q : OrderEntry → Bool) (o : OrderEntry) (os : List OrderEntry) (r : Option ℤ) → q o ≡ true → Greatest q r os → Greatest q (greatest_of_two (Some (end_of o)) r) (o ∷ os)
+grows : (q : OrderEntry → Bool) (o : OrderEntry) (os : List OrderEntry) (r : Option ℤ) → q o ≡ true → IsGreatestEnd q r os → IsGreatestEnd q (greatest_of_two (Some (end_of o)) r) (o ∷ os)
 grows q o os None y h = ((λ _. omega (arith, ints), each_weaker (λ p. q p ≡ true → ⊥) (λ p. q p ≡ true → (end_of p) ≤ℤ end_of o) os (λ p f e. absurd (f e)) h), inl (y, refl))
 grows q o os (Some s) y h =
     let m = max_first (end_of o) s in
@@ -93,29 +93,29 @@ grows q o os (Some s) y h =
       ],
     )
 
-stays : (q : OrderEntry → Bool) (o : OrderEntry) (os : List OrderEntry) (r : Option ℤ) → q o ≡ false → Greatest q r os → Greatest q r (o ∷ os)
+stays : (q : OrderEntry → Bool) (o : OrderEntry) (os : List OrderEntry) (r : Option ℤ) → q o ≡ false → IsGreatestEnd q r os → IsGreatestEnd q r (o ∷ os)
 stays q o os None n h = (λ y. absurd (true_false (q o) y n), h)
 stays q o os (Some s) n h = ((λ y. absurd (true_false (q o) y n), h.0), inr h.1)
 
-greatest_step : (q : OrderEntry → Bool) (o : OrderEntry) (os : List OrderEntry) (b : Bool) → q o ≡ b → Greatest q (greatest_end (filter q os)) os → Greatest q (greatest_end (cond b (o ∷ filter q os) (filter q os))) (o ∷ os)
-greatest_step q o os true e h = subst (λ (r : Option ℤ). Greatest q r (o ∷ os)) (sym (greatest-append (o ∷ []) (filter q os))) (grows q o os (greatest_end (filter q os)) e h)
+greatest_step : (q : OrderEntry → Bool) (o : OrderEntry) (os : List OrderEntry) (b : Bool) → q o ≡ b → IsGreatestEnd q (greatest_end (filter q os)) os → IsGreatestEnd q (greatest_end (cond b (o ∷ filter q os) (filter q os))) (o ∷ os)
+greatest_step q o os true e h = subst (λ (r : Option ℤ). IsGreatestEnd q r (o ∷ os)) (sym (greatest-append (o ∷ []) (filter q os))) (grows q o os (greatest_end (filter q os)) e h)
 greatest_step q o os false e h = stays q o os (greatest_end (filter q os)) e h
 
-greatest_is : (q : OrderEntry → Bool) (os : List OrderEntry) → Greatest q (greatest_end (filter q os)) os
+greatest_is : (q : OrderEntry → Bool) (os : List OrderEntry) → IsGreatestEnd q (greatest_end (filter q os)) os
 greatest_is q [] = tt
 greatest_is q (o ∷ os) = greatest_step q o os (q o) refl (greatest_is q os)
 
 pub past_none : (key : Key) (os : List OrderEntry) → None ≡ greatest_end (filter (is_before_key key) os) → IsPast key None os
-past_none key os e = each_weaker (λ o. is_before_key key o ≡ true → ⊥) (λ o. is_before_key key o ≡ true → (end_of o) ≤ℤ key.mark) os (λ o f y. absurd (f y)) (subst (λ (r : Option ℤ). Greatest (is_before_key key) r os) (sym e) (greatest_is (is_before_key key) os))
+past_none key os e = each_weaker (λ o. is_before_key key o ≡ true → ⊥) (λ o. is_before_key key o ≡ true → (end_of o) ≤ℤ key.mark) os (λ o f y. absurd (f y)) (subst (λ (r : Option ℤ). IsGreatestEnd (is_before_key key) r os) (sym e) (greatest_is (is_before_key key) os))
 
 pub past_early : (key : Key) (os : List OrderEntry) (e : ℤ) → Some e ≡ greatest_end (filter (is_before_key key) os) → e ≤ℤ key.mark → IsPast key None os
 past_early key os e h l =
-    let g = subst (λ (r : Option ℤ). Greatest (is_before_key key) r os) (sym h) (greatest_is (is_before_key key) os) in
+    let g = subst (λ (r : Option ℤ). IsGreatestEnd (is_before_key key) r os) (sym h) (greatest_is (is_before_key key) os) in
     each_weaker (λ o. is_before_key key o ≡ true → (end_of o) ≤ℤ e) (λ o. is_before_key key o ≡ true → (end_of o) ≤ℤ key.mark) os (λ o f y. let k = f y in omega (arith, ints)) g.0
 
 pub past_some : (key : Key) (os : List OrderEntry) (e : ℤ) (s : Span) → Some e ≡ greatest_end (filter (is_before_key key) os) → key.mark <ℤ e → s.start ≡ key.mark → s.end ≡ e → IsPast key (Some s) os
 past_some key os e s h l a b =
-    let g = subst (λ (r : Option ℤ). Greatest (is_before_key key) r os) (sym h) (greatest_is (is_before_key key) os) in
+    let g = subst (λ (r : Option ℤ). IsGreatestEnd (is_before_key key) r os) (sym h) (greatest_is (is_before_key key) os) in
     let k = subst (λ (z : ℤ). AllByRecursion (λ o. is_before_key key o ≡ true → (end_of o) ≤ℤ z) os × HasEndAt (is_before_key key) z os) (sym b) g in
     (a, omega (arith, ints), k.0, k.1)
 

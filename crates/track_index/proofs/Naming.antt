@@ -7,7 +7,7 @@ use Rattle.track_store.specs.declared.store.Stored.{Stored}
 use Rattle.track_store.specs.Frames.{is_in_frame, overlapped, has_serial, IsAscending}
 use Rattle.track_store.proofs.Overlapping.{fold-each}
 use Rattle.track_index.specs.declared.entry.OrderEntry.{OrderEntry}
-use Rattle.track_index.specs.Order.{entry_of, entry_covers, presentation_order, last_that}
+use Rattle.track_index.specs.Order.{entry_of, is_in_entry, presentation_order, last_that}
 use Rattle.track_index.proofs.Ordering.{found_ordered}
 
 -- a frame of the list
@@ -49,6 +49,6 @@ named_same fs None up i = refl
 named_same fs (Some g) up i = find_own fs g up i
 
 -- what the order names is the overlapped frame
-pub named_ordered : (t : ℤ) (fs : List Stored) (os : List OrderEntry) (o : Option OrderEntry) → IsAscending fs → os ≡ presentation_order fs → o ≡ last_that (entry_covers t) os → named_by o fs ≡ overlapped t fs
+pub named_ordered : (t : ℤ) (fs : List Stored) (os : List OrderEntry) (o : Option OrderEntry) → IsAscending fs → os ≡ presentation_order fs → o ≡ last_that (is_in_entry t) os → named_by o fs ≡ overlapped t fs
 named_ordered t fs os o up e h =
-    ap (λ z. named_by z fs) (h ∙ ap (last_that (entry_covers t)) e ∙ found_ordered t fs) ∙ named_same fs (overlapped t fs) up (fold-each (λ g. IsIn g fs) None (filter (is_in_frame t) fs) tt (each_of_filter (is_in_frame t) fs fs (λ g i. i)))
+    ap (λ z. named_by z fs) (h ∙ ap (last_that (is_in_entry t)) e ∙ found_ordered t fs) ∙ named_same fs (overlapped t fs) up (fold-each (λ g. IsIn g fs) None (filter (is_in_frame t) fs) tt (each_of_filter (is_in_frame t) fs fs (λ g i. i)))

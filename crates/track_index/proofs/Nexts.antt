@@ -105,10 +105,10 @@ within_of : (a b c : Bool) → a ≡ true → (b && c) ≡ true → ((a && b) &&
 within_of true b c e f = f
 within_of false b c e f = absurd cc
 
-abbrev pub Passed : ℤ → Moment → ℕ → Key → List Stored → Type 0
-Passed from to below key fs = AllByRecursion (λ f. is_within from to below f ≡ true → is_before_key key (entry_of f) ≡ false) fs
+abbrev pub HasNoneBeforeKey : ℤ → Moment → ℕ → Key → List Stored → Type 0
+HasNoneBeforeKey from to below key fs = AllByRecursion (λ f. is_within from to below f ≡ true → is_before_key key (entry_of f) ≡ false) fs
 
-pub passed_init : (from : ℤ) (to : Moment) (below : ℕ) (key : Key) (fs : List Stored) → key ≡ record { mark = from; serial = 0 } → Passed from to below key fs
+pub passed_init : (from : ℤ) (to : Moment) (below : ℕ) (key : Key) (fs : List Stored) → key ≡ record { mark = from; serial = 0 } → HasNoneBeforeKey from to below key fs
 passed_init from to below key [] k = tt
 passed_init from to below key (f ∷ fs) k =
     ((λ e. subst (λ (q : Key). is_before_key q (entry_of f) ≡ false) (sym k) (not_before_serial (record { mark = from; serial = 0 }) (entry_of f) (le_of from f.frame.pts (within_parts (int_le from f.frame.pts) (is_before f.frame.pts to) (nat_lt f.serial below) e).0) (omega arith))), passed_init from to below key fs k)
@@ -117,10 +117,10 @@ passed_init from to below key (f ∷ fs) k =
 within_next : (from : ℤ) (to : Moment) (below : ℕ) (key : Key) (f : Stored) → (is_within from to below f ≡ true → is_before_key key (entry_of f) ≡ false) → is_within from to below f ≡ true → is_next key to below f ≡ true
 within_next from to below key f h e = is_next_of key to below (entry_of f) (h e) (within_parts (int_le from f.frame.pts) (is_before f.frame.pts to) (nat_lt f.serial below) e).1
 
-pub passed_next : (from : ℤ) (to : Moment) (below : ℕ) (key next : Key) (fs gs : List Stored) → Passed from to below key fs → IsNextKey key to below (Some next) fs → gs ≡ frames_left false (has_serial next.serial) fs → Passed from to below next gs
+pub passed_next : (from : ℤ) (to : Moment) (below : ℕ) (key next : Key) (fs gs : List Stored) → HasNoneBeforeKey from to below key fs → IsNextKey key to below (Some next) fs → gs ≡ frames_left false (has_serial next.serial) fs → HasNoneBeforeKey from to below next gs
 passed_next from to below key next fs gs h n g =
     let all = each_frame (λ f. (is_within from to below f ≡ true → is_before_key key (entry_of f) ≡ false) × (is_next key to below f ≡ true → is_before_key next (entry_of f) ≡ false)) (λ f. is_within from to below f ≡ true → is_before_key next (entry_of f) ≡ false) fs (λ f p e. p.1 (within_next from to below key f p.0 e)) (both_frames (λ f. is_within from to below f ≡ true → is_before_key key (entry_of f) ≡ false) (λ f. is_next key to below f ≡ true → is_before_key next (entry_of f) ≡ false) fs h n.3) in
-    subst (λ (zs : List Stored). Passed from to below next zs) (sym g) (each-cleared (λ f. is_within from to below f ≡ true → is_before_key next (entry_of f) ≡ false) false (has_serial next.serial) fs all)
+    subst (λ (zs : List Stored). HasNoneBeforeKey from to below next zs) (sym g) (each-cleared (λ f. is_within from to below f ≡ true → is_before_key next (entry_of f) ≡ false) false (has_serial next.serial) fs all)
 
 or_same : (a b : Bool) → (a ≡ true → b ≡ true) → (a || b) ≡ b
 or_same true b h = sym (h refl)
@@ -141,5 +141,5 @@ removed_next from to below key next fs gs l n g =
     ap (frames_left false (is_within from to below)) g ∙ cleared-cleared false false (has_serial next.serial) (is_within from to below) fs ∙ cleared-same false (λ f. has_serial next.serial f || is_within from to below f) (is_within from to below) fs named
 
 -- where none is next none is named
-pub removed_all : (from : ℤ) (to : Moment) (below : ℕ) (key : Key) (fs : List Stored) → Passed from to below key fs → IsNextKey key to below None fs → frames_left false (is_within from to below) fs ≡ fs
+pub removed_all : (from : ℤ) (to : Moment) (below : ℕ) (key : Key) (fs : List Stored) → HasNoneBeforeKey from to below key fs → IsNextKey key to below None fs → frames_left false (is_within from to below) fs ≡ fs
 removed_all from to below key fs h n = cleared-unnamed (is_within from to below) fs (each_frame (λ f. (is_within from to below f ≡ true → is_before_key key (entry_of f) ≡ false) × (is_next key to below f ≡ false)) (λ f. is_within from to below f ≡ false) fs (λ f p. elim (bool_cases (is_within from to below f)) as (λ _. is_within from to below f ≡ false) [ inl y ↦ absurd (true_false _ (within_next from to below key f p.0 y) p.1) | inr k ↦ k ]) (both_frames (λ f. is_within from to below f ≡ true → is_before_key key (entry_of f) ≡ false) (λ f. is_next key to below f ≡ false) fs h n))

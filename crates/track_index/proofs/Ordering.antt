@@ -12,7 +12,7 @@ use Rattle.track_store.specs.declared.store.Stored.{Stored}
 use Rattle.mse_base.specs.Moments.{is_before}
 use Rattle.track_store.specs.Frames.{is_in_frame, later_frame, overlapped}
 use Rattle.track_index.specs.declared.entry.OrderEntry.{OrderEntry}
-use Rattle.track_index.specs.Order.{put, put_all, entry_of, entry_covers, presentation_order, IsSorted, or_else, last_that}
+use Rattle.track_index.specs.Order.{entries_with, entries_with_all, entry_of, is_in_entry, presentation_order, IsSorted, or_else, last_that}
 
 pub lt_true : (a b : ℤ) → int_lt a b ≡ true → a <ℤ b
 lt_true a b e = grind (arith, ints)
@@ -89,25 +89,25 @@ none_from_end P (o ∷ os) = none_from_end P os
 
 -- ---- the order
 
-put_cases : (P : List OrderEntry → Type 0) (e o : OrderEntry) (os : List OrderEntry) (t : Bool) → P (e ∷ o ∷ os) → P (o ∷ put e os) → P (cond t (e ∷ o ∷ os) (o ∷ put e os))
+put_cases : (P : List OrderEntry → Type 0) (e o : OrderEntry) (os : List OrderEntry) (t : Bool) → P (e ∷ o ∷ os) → P (o ∷ entries_with e os) → P (cond t (e ∷ o ∷ os) (o ∷ entries_with e os))
 put_cases P e o os true p q = p
 put_cases P e o os false p q = q
 
-pub each_put : (P : OrderEntry → Type 0) (e : OrderEntry) (os : List OrderEntry) → P e → AllByRecursion P os → AllByRecursion P (put e os)
+pub each_put : (P : OrderEntry → Type 0) (e : OrderEntry) (os : List OrderEntry) → P e → AllByRecursion P os → AllByRecursion P (entries_with e os)
 each_put P e [] p h = (p, tt)
 each_put P e (o ∷ os) p h = put_cases (AllByRecursion P) e o os (int_lt e.pts o.pts) (p, h) (h.0, each_put P e os p h.1)
 
-sorted_step : (e o : OrderEntry) (os : List OrderEntry) (t : Bool) → int_lt e.pts o.pts ≡ t → AllByRecursion (λ p. o.pts ≤ℤ p.pts) os → IsSorted os → IsSorted (put e os) → IsSorted (cond t (e ∷ o ∷ os) (o ∷ put e os))
+sorted_step : (e o : OrderEntry) (os : List OrderEntry) (t : Bool) → int_lt e.pts o.pts ≡ t → AllByRecursion (λ p. o.pts ≤ℤ p.pts) os → IsSorted os → IsSorted (entries_with e os) → IsSorted (cond t (e ∷ o ∷ os) (o ∷ entries_with e os))
 sorted_step e o os true t a h k = let lt = lt_of e.pts o.pts t in ((omega (arith, ints), from_head o.pts e.pts os (omega (arith, ints)) a), (a, h))
 sorted_step e o os false t a h k = let le = ge_of e.pts o.pts t in (each_put (λ p. o.pts ≤ℤ p.pts) e os le a, k)
 
-pub sorted_put : (e : OrderEntry) (os : List OrderEntry) → IsSorted os → IsSorted (put e os)
+pub sorted_put : (e : OrderEntry) (os : List OrderEntry) → IsSorted os → IsSorted (entries_with e os)
 sorted_put e [] h = (tt, tt)
 sorted_put e (o ∷ os) h = sorted_step e o os (int_lt e.pts o.pts) refl h.0 h.1 (sorted_put e os h.1)
 
-sorted_all : (os : List OrderEntry) (fs : List Stored) → IsSorted os → IsSorted (put_all os fs)
+sorted_all : (os : List OrderEntry) (fs : List Stored) → IsSorted os → IsSorted (entries_with_all os fs)
 sorted_all os [] h = h
-sorted_all os (f ∷ fs) h = sorted_all (put (entry_of f) os) fs (sorted_put (entry_of f) os h)
+sorted_all os (f ∷ fs) h = sorted_all (entries_with (entry_of f) os) fs (sorted_put (entry_of f) os h)
 
 pub sorted_ordered : (fs : List Stored) → IsSorted (presentation_order fs)
 sorted_ordered fs = sorted_all [] fs tt
@@ -115,57 +115,57 @@ sorted_ordered fs = sorted_all [] fs tt
 pub sorted_of : (os : List OrderEntry) (fs : List Stored) → os ≡ presentation_order fs → IsSorted os
 sorted_of os fs e = subst (λ (ps : List OrderEntry). IsSorted ps) (sym e) (sorted_ordered fs)
 
-put_here : (e : OrderEntry) (os : List OrderEntry) → AllByRecursion (λ o. (e.pts +ℤ pos 1) ≤ℤ o.pts) os → put e os ≡ e ∷ os
+put_here : (e : OrderEntry) (os : List OrderEntry) → AllByRecursion (λ o. (e.pts +ℤ pos 1) ≤ℤ o.pts) os → entries_with e os ≡ e ∷ os
 put_here e [] h = refl
-put_here e (o ∷ os) h = let first = h.0 in ap (λ b. cond b (e ∷ o ∷ os) (o ∷ put e os)) (is_lt e.pts o.pts (omega (arith, ints)))
+put_here e (o ∷ os) h = let first = h.0 in ap (λ b. cond b (e ∷ o ∷ os) (o ∷ entries_with e os)) (is_lt e.pts o.pts (omega (arith, ints)))
 
 -- where an entry goes
-pub put_at : (e : OrderEntry) (os : List OrderEntry) (i : ℕ) → AllByRecursion (λ o. o.pts <ℤ (e.pts +ℤ pos 1)) (take i os) → AllByRecursion (λ o. (e.pts +ℤ pos 1) ≤ℤ o.pts) (drop i os) → insert os i e ≡ put e os
+pub put_at : (e : OrderEntry) (os : List OrderEntry) (i : ℕ) → AllByRecursion (λ o. o.pts <ℤ (e.pts +ℤ pos 1)) (take i os) → AllByRecursion (λ o. (e.pts +ℤ pos 1) ≤ℤ o.pts) (drop i os) → insert os i e ≡ entries_with e os
 put_at e os zero h k = sym (put_here e os k)
 put_at e [] (suc i) h k = refl
-put_at e (o ∷ os) (suc i) h k = let first = h.0 in ap (λ ps. o ∷ ps) (put_at e os i h.1 k) ∙ ap (λ b. cond b (e ∷ o ∷ os) (o ∷ put e os)) (sym (not_lt e.pts o.pts (omega (arith, ints))))
+put_at e (o ∷ os) (suc i) h k = let first = h.0 in ap (λ ps. o ∷ ps) (put_at e os i h.1 k) ∙ ap (λ b. cond b (e ∷ o ∷ os) (o ∷ entries_with e os)) (sym (not_lt e.pts o.pts (omega (arith, ints))))
 
 -- one more frame
-pub ordered_push : (fs : List Stored) (x : Stored) → presentation_order (fs ++ x ∷ []) ≡ put (entry_of x) (presentation_order fs)
-ordered_push fs x = fold-append (λ os f. put (entry_of f) os) [] fs (x ∷ [])
+pub ordered_push : (fs : List Stored) (x : Stored) → presentation_order (fs ++ x ∷ []) ≡ entries_with (entry_of x) (presentation_order fs)
+ordered_push fs x = fold-append (λ os f. entries_with (entry_of f) os) [] fs (x ∷ [])
 
-length_cond : (b : Bool) (e o : OrderEntry) (os : List OrderEntry) → length (put e os) ≡ length os + 1 → length (cond b (e ∷ o ∷ os) (o ∷ put e os)) ≡ length (o ∷ os) + 1
+length_cond : (b : Bool) (e o : OrderEntry) (os : List OrderEntry) → length (entries_with e os) ≡ length os + 1 → length (cond b (e ∷ o ∷ os) (o ∷ entries_with e os)) ≡ length (o ∷ os) + 1
 length_cond true e o os h = omega arith
 length_cond false e o os h = omega arith
 
-pub length_put : (e : OrderEntry) (os : List OrderEntry) → length (put e os) ≡ length os + 1
+pub length_put : (e : OrderEntry) (os : List OrderEntry) → length (entries_with e os) ≡ length os + 1
 length_put e [] = refl
 length_put e (o ∷ os) = length_cond (int_lt e.pts o.pts) e o os (length_put e os)
 
-length_all : (fs : List Stored) (os : List OrderEntry) → length (put_all os fs) ≡ length os + length fs
+length_all : (fs : List Stored) (os : List OrderEntry) → length (entries_with_all os fs) ≡ length os + length fs
 length_all [] os = omega arith
-length_all (f ∷ fs) os = let rest = length_all fs (put (entry_of f) os) in let one = length_put (entry_of f) os in omega arith
+length_all (f ∷ fs) os = let rest = length_all fs (entries_with (entry_of f) os) in let one = length_put (entry_of f) os in omega arith
 
 pub length_ordered : (fs : List Stored) → length (presentation_order fs) ≡ length fs
 length_ordered fs = let h = length_all fs [] in omega arith
 
 -- what holds of each entry holds of each frame
-un_put : (P : OrderEntry → Type 0) (e o : OrderEntry) (os : List OrderEntry) (t : Bool) → AllByRecursion P (cond t (e ∷ o ∷ os) (o ∷ put e os)) → (AllByRecursion P (put e os) → P e × AllByRecursion P os) → P e × AllByRecursion P (o ∷ os)
+un_put : (P : OrderEntry → Type 0) (e o : OrderEntry) (os : List OrderEntry) (t : Bool) → AllByRecursion P (cond t (e ∷ o ∷ os) (o ∷ entries_with e os)) → (AllByRecursion P (entries_with e os) → P e × AllByRecursion P os) → P e × AllByRecursion P (o ∷ os)
 un_put P e o os true h f = h
 un_put P e o os false h f = let k = f h.1 in (k.0, (h.0, k.1))
 
-each_of_put : (P : OrderEntry → Type 0) (e : OrderEntry) (os : List OrderEntry) → AllByRecursion P (put e os) → P e × AllByRecursion P os
+each_of_put : (P : OrderEntry → Type 0) (e : OrderEntry) (os : List OrderEntry) → AllByRecursion P (entries_with e os) → P e × AllByRecursion P os
 each_of_put P e [] h = h
 each_of_put P e (o ∷ os) h = un_put P e o os (int_lt e.pts o.pts) h (each_of_put P e os)
 
-each_of_all : (P : OrderEntry → Type 0) (os : List OrderEntry) (fs : List Stored) → AllByRecursion P (put_all os fs) → AllByRecursion P os × AllByRecursion (λ f. P (entry_of f)) fs
+each_of_all : (P : OrderEntry → Type 0) (os : List OrderEntry) (fs : List Stored) → AllByRecursion P (entries_with_all os fs) → AllByRecursion P os × AllByRecursion (λ f. P (entry_of f)) fs
 each_of_all P os [] h = (h, tt)
 each_of_all P os (f ∷ fs) h =
-    let k = each_of_all P (put (entry_of f) os) fs h in
+    let k = each_of_all P (entries_with (entry_of f) os) fs h in
     let one = each_of_put P (entry_of f) os k.0 in
     (one.1, (one.0, k.1))
 
 pub each_of_ordered : (P : OrderEntry → Type 0) (fs : List Stored) → AllByRecursion P (presentation_order fs) → AllByRecursion (λ f. P (entry_of f)) fs
 each_of_ordered P fs h = (each_of_all P [] fs h).1
 
-each_to_all : (P : OrderEntry → Type 0) (os : List OrderEntry) (fs : List Stored) → AllByRecursion P os → AllByRecursion (λ f. P (entry_of f)) fs → AllByRecursion P (put_all os fs)
+each_to_all : (P : OrderEntry → Type 0) (os : List OrderEntry) (fs : List Stored) → AllByRecursion P os → AllByRecursion (λ f. P (entry_of f)) fs → AllByRecursion P (entries_with_all os fs)
 each_to_all P os [] h k = h
-each_to_all P os (f ∷ fs) h k = each_to_all P (put (entry_of f) os) fs (each_put P (entry_of f) os k.0 h) k.1
+each_to_all P os (f ∷ fs) h k = each_to_all P (entries_with (entry_of f) os) fs (each_put P (entry_of f) os k.0 h) k.1
 
 pub each_to_ordered : (P : OrderEntry → Type 0) (fs : List Stored) → AllByRecursion (λ f. P (entry_of f)) fs → AllByRecursion P (presentation_order fs)
 each_to_ordered P fs k = each_to_all P [] fs tt k
@@ -211,12 +211,12 @@ above_all : (e o : OrderEntry) (os : List OrderEntry) → e.pts <ℤ o.pts → A
 above_all e o [] l h = tt
 above_all e o (p ∷ os) l h = (let first = h.0 in omega (arith, ints), above_all e o os l h.1)
 
-last_step : (c : OrderEntry → Bool) (e o : OrderEntry) (os : List OrderEntry) (t : Bool) → int_lt e.pts o.pts ≡ t → AllByRecursion (λ p. o.pts ≤ℤ p.pts) os → last_that c (put e os) ≡ cond (c e) (later_entry (last_that c os) e) (last_that c os) → last_that c (cond t (e ∷ o ∷ os) (o ∷ put e os)) ≡ cond (c e) (later_entry (last_that c (o ∷ os)) e) (last_that c (o ∷ os))
+last_step : (c : OrderEntry → Bool) (e o : OrderEntry) (os : List OrderEntry) (t : Bool) → int_lt e.pts o.pts ≡ t → AllByRecursion (λ p. o.pts ≤ℤ p.pts) os → last_that c (entries_with e os) ≡ cond (c e) (later_entry (last_that c os) e) (last_that c os) → last_that c (cond t (e ∷ o ∷ os) (o ∷ entries_with e os)) ≡ cond (c e) (later_entry (last_that c (o ∷ os)) e) (last_that c (o ∷ os))
 last_step c e o os true k a ih = let lt = lt_of e.pts o.pts k in put_first (last_that c (o ∷ os)) (c e) e (last_each (λ x. e.pts <ℤ x.pts) c (o ∷ os) (lt, above_all e o os lt a))
 last_step c e o os false k a ih = ap (λ r. or_else r (pick (c o) o)) ih ∙ put_later (last_that c os) (c e) (c o) e o (ge_of e.pts o.pts k)
 
 -- what is found after an entry was put
-last_put : (c : OrderEntry → Bool) (e : OrderEntry) (os : List OrderEntry) → IsSorted os → last_that c (put e os) ≡ cond (c e) (later_entry (last_that c os) e) (last_that c os)
+last_put : (c : OrderEntry → Bool) (e : OrderEntry) (os : List OrderEntry) → IsSorted os → last_that c (entries_with e os) ≡ cond (c e) (later_entry (last_that c os) e) (last_that c os)
 last_put c e [] h = refl
 last_put c e (o ∷ os) h = last_step c e o os (int_lt e.pts o.pts) refl h.0 (last_put c e os h.1)
 
@@ -228,22 +228,22 @@ later_same : (b : Option Stored) (f : Stored) → later_entry (option_map entry_
 later_same None f = refl
 later_same (Some g) f = map_cond (int_le g.frame.pts f.frame.pts) (Some f) (Some g)
 
-found_step : (t : ℤ) (os : List OrderEntry) (b : Option Stored) (f : Stored) (v : Bool) → is_in_frame t f ≡ v → IsSorted os → last_that (entry_covers t) os ≡ option_map entry_of b → last_that (entry_covers t) (put (entry_of f) os) ≡ option_map entry_of (cond v (later_frame b f) b)
-found_step t os b f true v up h = last_put (entry_covers t) (entry_of f) os up ∙ ap (λ c. cond c (later_entry (last_that (entry_covers t) os) (entry_of f)) (last_that (entry_covers t) os)) v ∙ ap (λ o. later_entry o (entry_of f)) h ∙ later_same b f
-found_step t os b f false v up h = last_put (entry_covers t) (entry_of f) os up ∙ ap (λ c. cond c (later_entry (last_that (entry_covers t) os) (entry_of f)) (last_that (entry_covers t) os)) v ∙ h
+found_step : (t : ℤ) (os : List OrderEntry) (b : Option Stored) (f : Stored) (v : Bool) → is_in_frame t f ≡ v → IsSorted os → last_that (is_in_entry t) os ≡ option_map entry_of b → last_that (is_in_entry t) (entries_with (entry_of f) os) ≡ option_map entry_of (cond v (later_frame b f) b)
+found_step t os b f true v up h = last_put (is_in_entry t) (entry_of f) os up ∙ ap (λ c. cond c (later_entry (last_that (is_in_entry t) os) (entry_of f)) (last_that (is_in_entry t) os)) v ∙ ap (λ o. later_entry o (entry_of f)) h ∙ later_same b f
+found_step t os b f false v up h = last_put (is_in_entry t) (entry_of f) os up ∙ ap (λ c. cond c (later_entry (last_that (is_in_entry t) os) (entry_of f)) (last_that (is_in_entry t) os)) v ∙ h
 
 fold_cond : (b : Option Stored) (v : Bool) (f : Stored) (gs : List Stored) → fold later_frame b (cond v (f ∷ gs) gs) ≡ fold later_frame (cond v (later_frame b f) b) gs
 fold_cond b true f gs = refl
 fold_cond b false f gs = refl
 
-found_from : (t : ℤ) (fs : List Stored) (os : List OrderEntry) (b : Option Stored) → IsSorted os → last_that (entry_covers t) os ≡ option_map entry_of b → last_that (entry_covers t) (put_all os fs) ≡ option_map entry_of (fold later_frame b (filter (is_in_frame t) fs))
+found_from : (t : ℤ) (fs : List Stored) (os : List OrderEntry) (b : Option Stored) → IsSorted os → last_that (is_in_entry t) os ≡ option_map entry_of b → last_that (is_in_entry t) (entries_with_all os fs) ≡ option_map entry_of (fold later_frame b (filter (is_in_frame t) fs))
 found_from t [] os b up h = h
 found_from t (f ∷ fs) os b up h =
-    found_from t fs (put (entry_of f) os) (cond (is_in_frame t f) (later_frame b f) b) (sorted_put (entry_of f) os up) (found_step t os b f (is_in_frame t f) refl up h)
+    found_from t fs (entries_with (entry_of f) os) (cond (is_in_frame t f) (later_frame b f) b) (sorted_put (entry_of f) os up) (found_step t os b f (is_in_frame t f) refl up h)
     ∙ ap (option_map entry_of) (sym (fold_cond b (is_in_frame t f) f (filter (is_in_frame t) fs)))
 
 -- the order's last entry that holds the time is that of the overlapped frame
-pub found_ordered : (t : ℤ) (fs : List Stored) → last_that (entry_covers t) (presentation_order fs) ≡ option_map entry_of (overlapped t fs)
+pub found_ordered : (t : ℤ) (fs : List Stored) → last_that (is_in_entry t) (presentation_order fs) ≡ option_map entry_of (overlapped t fs)
 found_ordered t fs = found_from t fs [] None tt refl
 
 -- ---- the walk back from a time
@@ -272,8 +272,8 @@ none_back c os (suc i) r p l at e h =
     rw (k, m) (e, rw add-one h)
 
 -- no entry from there on holds the time, since all begin after it
-pub begin_later : (t : ℤ) (os : List OrderEntry) → AllByRecursion (λ o. (t +ℤ pos 1) ≤ℤ o.pts) os → AllByRecursion (λ o. entry_covers t o ≡ false) os
-begin_later t os h = each_weaker (λ o. (t +ℤ pos 1) ≤ℤ o.pts) (λ o. entry_covers t o ≡ false) os (λ o k. ap (λ b. b && int_lt t (o.pts +ℤ o.dur)) (not_le o.pts t (omega (arith, ints)))) h
+pub begin_later : (t : ℤ) (os : List OrderEntry) → AllByRecursion (λ o. (t +ℤ pos 1) ≤ℤ o.pts) os → AllByRecursion (λ o. is_in_entry t o ≡ false) os
+begin_later t os h = each_weaker (λ o. (t +ℤ pos 1) ≤ℤ o.pts) (λ o. is_in_entry t o ≡ false) os (λ o k. ap (λ b. b && int_lt t (o.pts +ℤ o.dur)) (not_le o.pts t (omega (arith, ints)))) h
 
 pub and_false : (b : Bool) → (b && false) ≡ false
 and_false true = refl

@@ -18,7 +18,7 @@ use Rattle.track_store.proofs.Clearing.{cleared-goes}
 use Rattle.track_store.proofs.Soundness.{cleared-unnamed, cleared-from_sync, cleared-append}
 use Rattle.track_index.specs.declared.entry.OrderEntry.{OrderEntry}
 use Rattle.track_index.specs.declared.frames.SerialBelow.{SerialBelow}
-use Rattle.track_index.specs.Order.{put, put_all, entry_of, span_of, presentation_order}
+use Rattle.track_index.specs.Order.{entries_with, entries_with_all, entry_of, span_of, presentation_order}
 use Rattle.track_index.specs.Keyed.{has_entry_serial}
 use Rattle.track_index.specs.Frames.{is_serial_below}
 use Rattle.track_index.specs.Repair.{AreBetween}
@@ -110,11 +110,11 @@ or_swap true true c = refl
 or_swap true false c = refl
 or_swap false b c = refl
 
-any_cond : (p : OrderEntry → Bool) (e o : OrderEntry) (os : List OrderEntry) (b : Bool) → list_any p (put e os) ≡ (p e || list_any p os) → list_any p (cond b (e ∷ o ∷ os) (o ∷ put e os)) ≡ (p e || (p o || list_any p os))
+any_cond : (p : OrderEntry → Bool) (e o : OrderEntry) (os : List OrderEntry) (b : Bool) → list_any p (entries_with e os) ≡ (p e || list_any p os) → list_any p (cond b (e ∷ o ∷ os) (o ∷ entries_with e os)) ≡ (p e || (p o || list_any p os))
 any_cond p e o os true h = refl
 any_cond p e o os false h = ap (λ b. p o || b) h ∙ or_swap (p o) (p e) (list_any p os)
 
-any_put : (p : OrderEntry → Bool) (e : OrderEntry) (os : List OrderEntry) → list_any p (put e os) ≡ (p e || list_any p os)
+any_put : (p : OrderEntry → Bool) (e : OrderEntry) (os : List OrderEntry) → list_any p (entries_with e os) ≡ (p e || list_any p os)
 any_put p e [] = refl
 any_put p e (o ∷ os) = any_cond p e o os (int_lt e.pts o.pts) (any_put p e os)
 
@@ -127,9 +127,9 @@ or_none : (a : Bool) → a ≡ (a || false)
 or_none true = refl
 or_none false = refl
 
-any_all : (p : OrderEntry → Bool) (os : List OrderEntry) (fs : List Stored) → list_any p (put_all os fs) ≡ (list_any p os || list_any (λ f. p (entry_of f)) fs)
+any_all : (p : OrderEntry → Bool) (os : List OrderEntry) (fs : List Stored) → list_any p (entries_with_all os fs) ≡ (list_any p os || list_any (λ f. p (entry_of f)) fs)
 any_all p os [] = or_none (list_any p os)
-any_all p os (f ∷ fs) = any_all p (put (entry_of f) os) fs ∙ ap (λ b. b || list_any (λ g. p (entry_of g)) fs) (any_put p (entry_of f) os) ∙ sym (or_turn (p (entry_of f)) (list_any p os) (list_any (λ g. p (entry_of g)) fs))
+any_all p os (f ∷ fs) = any_all p (entries_with (entry_of f) os) fs ∙ ap (λ b. b || list_any (λ g. p (entry_of g)) fs) (any_put p (entry_of f) os) ∙ sym (or_turn (p (entry_of f)) (list_any p os) (list_any (λ g. p (entry_of g)) fs))
 
 pub any_ordered : (p : OrderEntry → Bool) (fs : List Stored) → list_any p (presentation_order fs) ≡ list_any (λ f. p (entry_of f)) fs
 any_ordered p fs = any_all p [] fs

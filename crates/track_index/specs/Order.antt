@@ -20,21 +20,21 @@ abbrev pub span_of : OrderEntry → Span
 span_of e = record { start = e.pts; end = e.pts +ℤ e.dur }
 
 -- the time falls within the presentation interval
-abbrev pub entry_covers : ℤ → OrderEntry → Bool
-entry_covers t e = int_le e.pts t && int_lt t (e.pts +ℤ e.dur)
+abbrev pub is_in_entry : ℤ → OrderEntry → Bool
+is_in_entry t e = int_le e.pts t && int_lt t (e.pts +ℤ e.dur)
 
 -- an entry goes after all that begin no later
-abbrev pub put : OrderEntry → List OrderEntry → List OrderEntry
-put e [] = e ∷ []
-put e (o ∷ os) = if int_lt e.pts o.pts then (e ∷ o ∷ os) else (o ∷ put e os)
+abbrev pub entries_with : OrderEntry → List OrderEntry → List OrderEntry
+entries_with e [] = e ∷ []
+entries_with e (o ∷ os) = if int_lt e.pts o.pts then (e ∷ o ∷ os) else (o ∷ entries_with e os)
 
 -- the entries of some frames, put to others
-abbrev pub put_all : List OrderEntry → List Stored → List OrderEntry
-put_all os fs = fold (λ ps f. put (entry_of f) ps) os fs
+abbrev pub entries_with_all : List OrderEntry → List Stored → List OrderEntry
+entries_with_all os fs = fold (λ ps f. entries_with (entry_of f) ps) os fs
 
 -- the frames by presentation timestamp, at a tie in order of appending
 abbrev pub presentation_order : List Stored → List OrderEntry
-presentation_order fs = put_all [] fs
+presentation_order fs = entries_with_all [] fs
 
 -- no entry begins after a later one
 abbrev pub IsSorted : List OrderEntry → Type 0

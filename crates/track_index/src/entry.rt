@@ -2,7 +2,7 @@
 
 ghost use Rattle.std.specs.Prelude.{◌≡◌, ℤ, ◌+◌, ◌<◌, ◌+ℤ◌};
 ghost use Rattle.mse_base.specs.Time.{IsTick};
-ghost use Rattle.track_index.specs.Order.{entry_of, entry_covers, span_of, end_of, is_sync_from};
+ghost use Rattle.track_index.specs.Order.{entry_of, is_in_entry, span_of, end_of, is_sync_from};
 
 use mse_base::{Moment, Span, Ticks};
 use track_store::Stored;
@@ -29,8 +29,8 @@ pub(crate) fn entry_of(stored: &Stored) -> OrderEntry
 }
 
 /// Whether the presentation interval of the entry's frame holds a time.
-pub(crate) fn covers(entry: &OrderEntry, t: Ticks) -> bool
-    ensures { result ≡ entry_covers t entry.now }
+pub(crate) fn is_in_entry(entry: &OrderEntry, t: Ticks) -> bool
+    ensures { result ≡ is_in_entry t entry.now }
 {
     entry.pts <= t && t.get() < entry.pts.get() + entry.dur.get()
 }

@@ -4,7 +4,7 @@ ghost use Rattle.std.specs.Prelude.{◌≡◌, ◌+◌, ◌<◌, ◌≤◌, leng
 ghost use Rattle.std.specs.List.{AllByRecursion, list_any, position};
 ghost use Rattle.track_store.specs.Frames.{IsAscending, has_serial, from_sync, group_start_of};
 ghost use Rattle.track_store.specs.Sound.{IsChained};
-ghost use Rattle.mse_base.specs.Rows.{joined, row};
+ghost use Rattle.mse_base.specs.Rows.{row_items, row};
 ghost use Rattle.block_list.specs.BlockPlaces.{rank, IsPlace};
 ghost use Rattle.track_index.specs.Syncs.{AreSyncsOf};
 
@@ -41,9 +41,9 @@ pub(crate) struct SerialBelow {
 impl Test<Stored> for SerialBelow {
     ghost use Rattle.track_index.specs.Frames.{is_serial_below};
 
-    ghost passes = { is_serial_below };
+    ghost is_passed_by = { is_serial_below };
 
-    fn passes(&self, x: &Stored) -> bool {
+    fn is_passed_by(&self, x: &Stored) -> bool {
         x.serial < self.serial
     }
 }
@@ -66,12 +66,12 @@ impl Change<Stored> for NewDuration {
 
 /// The place of the first frame whose serial is not lower.
 pub(crate) fn place_below(frames: &Frames, serial: u64) -> BlockPlace
-    requires { IsAscending (joined frames.now.rows) }
+    requires { IsAscending (row_items frames.now.rows) }
     ensures place { IsPlace frames.now.rows result }
     ensures before { AllByRecursion (λ f. f.serial < serial)
-        (take (rank frames.now.rows result) (joined frames.now.rows)) }
+        (take (rank frames.now.rows result) (row_items frames.now.rows)) }
     ensures after { AllByRecursion (λ f. serial ≤ f.serial)
-        (drop (rank frames.now.rows result) (joined frames.now.rows)) }
+        (drop (rank frames.now.rows result) (row_items frames.now.rows)) }
 {
     if frames.blocks() == 0 {
         return BlockPlace { block: 0, index: 0 };
@@ -82,9 +82,9 @@ pub(crate) fn place_below(frames: &Frames, serial: u64) -> BlockPlace
 
 /// The place of a frame by its serial.
 pub(crate) fn place_of(frames: &Frames, serial: u64) -> Option<usize>
-    requires { IsAscending (joined frames.now.rows) }
-    ensures place { result ≡ position (has_serial serial) (joined frames.now.rows) }
-    ensures in_range { IfSome result (λ i. i < length (joined frames.now.rows)) }
+    requires { IsAscending (row_items frames.now.rows) }
+    ensures place { result ≡ position (has_serial serial) (row_items frames.now.rows) }
+    ensures in_range { IfSome result (λ i. i < length (row_items frames.now.rows)) }
 {
     let place = place_below(frames, serial);
     if place.block >= frames.blocks() {
@@ -99,8 +99,8 @@ pub(crate) fn place_of(frames: &Frames, serial: u64) -> Option<usize>
 
 /// Whether a frame of a serial is held.
 pub(crate) fn is_held(frames: &Frames, serial: u64) -> bool
-    requires { IsAscending (joined frames.now.rows) }
-    ensures { result ≡ list_any (has_serial serial) (joined frames.now.rows) }
+    requires { IsAscending (row_items frames.now.rows) }
+    ensures { result ≡ list_any (has_serial serial) (row_items frames.now.rows) }
 {
     place_of(frames, serial).is_some()
 }
@@ -109,10 +109,10 @@ pub(crate) fn is_held(frames: &Frames, serial: u64) -> bool
 /// serials which is not above that of the frame there. The group of a frame is whole, so the frame
 /// of that serial is held.
 pub(crate) fn group_start(frames: &Frames, syncs: &[u64], i: usize) -> Option<usize>
-    requires ascending { IsAscending (joined frames.now.rows) }
-    requires chained { IsChained None (joined frames.now.rows) }
-    requires syncs { AreSyncsOf (joined frames.now.rows) syncs.now }
-    ensures { result ≡ group_start_of i (joined frames.now.rows) }
+    requires ascending { IsAscending (row_items frames.now.rows) }
+    requires chained { IsChained None (row_items frames.now.rows) }
+    requires syncs { AreSyncsOf (row_items frames.now.rows) syncs.now }
+    ensures { result ≡ group_start_of i (row_items frames.now.rows) }
 {
     let len = frames.len();
     if len == 0 {
@@ -142,8 +142,8 @@ pub(crate) fn run_from(frames: &Frames, from: BlockPlace) -> RemovedRun
     ensures count { rank frames.now.rows result.last + 1 ≡ rank frames.now.rows from
         + result.count }
     ensures some { 1 ≤ result.count }
-    ensures rest { drop (rank frames.now.rows from + result.count) (joined frames.now.rows)
-        ≡ from_sync (drop (rank frames.now.rows from + 1) (joined frames.now.rows)) }
+    ensures rest { drop (rank frames.now.rows from + result.count) (row_items frames.now.rows)
+        ≡ from_sync (drop (rank frames.now.rows from + 1) (row_items frames.now.rows)) }
 {
     // The proof reads off this that the number of all frames is one.
     let _len = frames.len();

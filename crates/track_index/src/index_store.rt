@@ -1,7 +1,7 @@
 ghost use Rattle.std.specs.Prelude.{◌≡◌, ◌+◌, ◌<◌, ◌≤◌, ◌≤ℤ◌, ◌++◌, pos, true, [], length, take, drop};
 ghost use Rattle.std.specs.List.{list_any};
 ghost use Rattle.mse_base.specs.Spans.{IsBridging};
-ghost use Rattle.mse_base.specs.Rows.{joined, row};
+ghost use Rattle.mse_base.specs.Rows.{row_items, row};
 ghost use Rattle.block_list.specs.BlockPlaces.{rank};
 ghost use Rattle.track_store.specs.Frames.{frames_without, IsAscending, has_serial, intervals, ranges_of, bytes_of};
 ghost use Rattle.track_index.specs.Order.{presentation_order};
@@ -50,22 +50,22 @@ pub struct IndexStore {
 
 impl Model for IndexStore {
     ghost use Rattle.std.specs.Prelude.{◌-◌, ◌+◌, length, vec_len, vec_capacity};
-    ghost use Rattle.mse_base.specs.Rows.{joined};
+    ghost use Rattle.mse_base.specs.Rows.{row_items};
     ghost use Rattle.track_store.specs.Frames.{StoreState};
     ghost use Rattle.track_index.specs.Indexed.{IsIndexed, index_room};
 
     ghost Value = { StoreState };
 
     ghost view = { λ s. record {
-      frames = joined s.items.rows;
+      frames = row_items s.items.rows;
       gap = s.gap;
       spare = index_room s.items.spare s.order.spare
           (vec_capacity s.syncs - vec_len s.syncs)
-          ((s.ranges.spare + length s.ranges.spans) - length (joined s.items.rows));
+          ((s.ranges.spare + length s.ranges.spans) - length (row_items s.items.rows));
     } };
 
-    ghost invariant = { λ s. IsIndexed (joined s.items.rows) (record {
-      order = joined s.order.rows;
+    ghost invariant = { λ s. IsIndexed (row_items s.items.rows) (record {
+      order = row_items s.order.rows;
       syncs = s.syncs.items;
       ranges = s.ranges.spans;
       total = s.total;
@@ -74,21 +74,22 @@ impl Model for IndexStore {
 
 /// Takes some frames out of the order; the bytes that are left.
 fn take_run_out(order: &mut Order, frames: &Frames, run: Stretch, total: u64) -> u64
-    requires ascending { IsAscending (joined frames.now.rows) }
-    requires in_order { joined order.old.rows ≡ presentation_order (joined frames.now.rows) }
-    requires bytes { total ≡ bytes_of (joined frames.now.rows) }
+    requires ascending { IsAscending (row_items frames.now.rows) }
+    requires in_order { row_items order.old.rows ≡ presentation_order (row_items frames.now.rows) }
+    requires bytes { total ≡ bytes_of (row_items frames.now.rows) }
     requires block { run.from.block < length frames.now.rows }
     requires index { run.from.index < length (row frames.now.rows run.from.block) }
-    requires within { rank frames.now.rows run.from + run.count ≤ length (joined frames.now.rows) }
-    ensures order { joined order.new.rows
+    requires within { rank frames.now.rows run.from + run.count ≤ length
+        (row_items frames.now.rows) }
+    ensures order { row_items order.new.rows
         ≡ presentation_order
-        (take (rank frames.now.rows run.from) (joined frames.now.rows)
-        ++ drop (rank frames.now.rows run.from + run.count) (joined frames.now.rows)) }
+        (take (rank frames.now.rows run.from) (row_items frames.now.rows)
+        ++ drop (rank frames.now.rows run.from + run.count) (row_items frames.now.rows)) }
     ensures bytes { result
         ≡ bytes_of
-        (take (rank frames.now.rows run.from) (joined frames.now.rows)
-        ++ drop (rank frames.now.rows run.from + run.count) (joined frames.now.rows)) }
-    ensures spare { order.old.spare ≤ order.new.spare }
+        (take (rank frames.now.rows run.from) (row_items frames.now.rows)
+        ++ drop (rank frames.now.rows run.from + run.count) (row_items frames.now.rows)) }
+    ensures no_room_lost { order.old.spare ≤ order.new.spare }
 {
     let mut bytes_left = total;
     let mut place = run.from;
@@ -121,7 +122,7 @@ impl IndexStore {
     }
 
     /// The ranges of the frames (Media Source Extensions, "track buffer ranges").
-    pub fn kept(&self) -> &Ranges
+    pub fn kept_ranges(&self) -> &Ranges
         ensures spans { result.now.spans ≡ ranges_of self.now.gap self.now.frames }
         ensures bridged { IsBridging self.now.gap (intervals self.now.frames) result.now.spans }
     {
@@ -134,7 +135,7 @@ impl IndexStore {
         requires { list_any (has_serial serial) self.old.frames ≡ true }
         ensures frames { self.new.frames ≡ frames_without (has_serial serial) self.old.frames }
         ensures shorter { length self.new.frames < length self.old.frames }
-        ensures spare { self.old.spare ≤ self.new.spare }
+        ensures no_room_lost { self.old.spare ≤ self.new.spare }
         ensures gap { self.new.gap ≡ self.old.gap }
     {
         let from = place_below(&self.items, serial);

@@ -16,9 +16,9 @@ pub(crate) struct Key {
 impl Test<OrderEntry> for Key {
     ghost use Rattle.track_index.specs.Keyed.{is_before_key};
 
-    ghost passes = { is_before_key };
+    ghost is_passed_by = { is_before_key };
 
-    fn passes(&self, x: &OrderEntry) -> bool {
+    fn is_passed_by(&self, x: &OrderEntry) -> bool {
         self.mark.is_after(x.pts) || (self.mark.is_from(x.pts) && x.serial < self.serial)
     }
 }

@@ -1,8 +1,7 @@
 //! What is known of a block of entries.
 
-ghost use Rattle.std.specs.Prelude.{◌≡◌, ◌||◌};
+ghost use Rattle.std.specs.Prelude.{◌≡◌};
 ghost use Rattle.std.specs.List.{list_any};
-ghost use Rattle.mse_base.specs.Moments.{greatest_of_two};
 ghost use Rattle.track_index.specs.Order.{end_of};
 ghost use Rattle.track_index.specs.Known.{is_sync, greatest_end, known_of};
 
@@ -10,25 +9,11 @@ use crate::entry::OrderEntry;
 use crate::mark::TimeMark;
 use block_list::Fact;
 
-/// Whether one of two is true.
-pub(crate) fn either(a: bool, b: bool) -> bool
-    ensures { result ≡ (a || b) }
-{
-    a || b
-}
-
 /// The greatest end of some entries, and whether one is a random access point.
 #[derive(Drop)]
 pub(crate) struct Known {
     pub(crate) end: Option<TimeMark>,
     pub(crate) sync: bool,
-}
-
-/// The later of two ends, of which each may be absent.
-pub(crate) fn greatest_of_two(a: Option<TimeMark>, b: Option<TimeMark>) -> Option<TimeMark>
-    ensures { result ≡ greatest_of_two a b }
-{
-    a.max(b)
 }
 
 /// When the entry's frame ends.
@@ -44,7 +29,7 @@ pub(crate) fn greatest_end(items: &[OrderEntry]) -> Option<TimeMark>
 {
     let mut best = None;
     for entry in items {
-        best = greatest_of_two(best, Some(end_mark(entry)));
+        best = best.max(Some(end_mark(entry)));
     }
     best
 }
@@ -74,8 +59,8 @@ impl Fact<OrderEntry> for Known {
 
     fn with(&self, x: &OrderEntry) -> Known {
         Known {
-            end: greatest_of_two(self.end, Some(end_mark(x))),
-            sync: either(self.sync, x.sync),
+            end: self.end.max(Some(end_mark(x))),
+            sync: self.sync || x.sync,
         }
     }
 }

@@ -3,16 +3,16 @@
 ghost use Rattle.std.specs.Prelude.{◌≡◌, ◌+◌, ◌<◌, ◌≤◌, ◌≤ℤ◌, false, true, length, take, drop, map, filter, not, min, vec_len, vec_capacity, OnOk, IfSome, IfNone, [], slice_index_or};
 ghost use Rattle.std.specs.List.{AllByRecursion, list_all, list_any};
 ghost use Rattle.mse_base.specs.Moments.{is_before};
-ghost use Rattle.mse_base.specs.Rows.{joined, row, start};
+ghost use Rattle.mse_base.specs.Rows.{row_items, row, start};
 ghost use Rattle.block_list.specs.BlockPlaces.{rank, IsPlace};
-ghost use Rattle.track_index.specs.Order.{put, entry_covers, last_that, first_start, is_sync_from, last_start, with_entry_dur, is_ended};
+ghost use Rattle.track_index.specs.Order.{entries_with, is_in_entry, last_that, first_start, is_sync_from, last_start, with_entry_dur, is_ended};
 ghost use Rattle.track_index.specs.Keyed.{is_before_key, IsKeyed, IsFound, is_entry_named, has_entry_serial, IsNamedAt};
 ghost use Rattle.track_index.specs.Known.{greatest_end};
 ghost use Rattle.track_index.specs.Tops.{tops_of};
 
-use crate::entry::{OrderEntry, covers, is_sync_from};
+use crate::entry::{OrderEntry, is_in_entry, is_sync_from};
 use crate::key::Key;
-use crate::known::{Known, end_mark, greatest_end, greatest_of_two};
+use crate::known::{Known, end_mark, greatest_end};
 use crate::mark::TimeMark;
 use crate::tops::{refresh, refresh_with, top_before};
 use block_list::{BlockList, BlockPlace, Test, search};
@@ -45,12 +45,12 @@ impl Model for Order {
 
 /// The place of the entry of a serial.
 fn place_of(list: &BlockList<OrderEntry, Known>, pts: Ticks, serial: u64) -> BlockPlace
-    requires keyed { IsKeyed (joined list.now.rows) }
-    requires own { AllByRecursion (λ o. o.serial ≡ serial → o.pts ≡ pts) (joined list.now.rows) }
-    requires held { list_any (has_entry_serial serial) (joined list.now.rows) ≡ true }
+    requires keyed { IsKeyed (row_items list.now.rows) }
+    requires own { AllByRecursion (λ o. o.serial ≡ serial → o.pts ≡ pts) (row_items list.now.rows) }
+    requires held { list_any (has_entry_serial serial) (row_items list.now.rows) ≡ true }
     ensures block { result.block < length list.now.rows }
     ensures index { result.index < length (row list.now.rows result.block) }
-    ensures names { IsNamedAt serial (joined list.now.rows) (rank list.now.rows result) }
+    ensures names { IsNamedAt serial (row_items list.now.rows) (rank list.now.rows result) }
 {
     let key = Key {
         mark: TimeMark::at(pts),
@@ -62,7 +62,7 @@ fn place_of(list: &BlockList<OrderEntry, Known>, pts: Ticks, serial: u64) -> Blo
 
 /// The last entry of some that holds a time; each that is looked at is counted.
 fn last_in(items: &[OrderEntry], t: Ticks, visits: &mut u64) -> Option<OrderEntry>
-    ensures last { result ≡ last_that (entry_covers t) items.now }
+    ensures last { result ≡ last_that (is_in_entry t) items.now }
     ensures not_less { visits.old ≤ visits.new }
     ensures at_most { visits.new ≤ visits.old + length items.now }
 {
@@ -71,7 +71,7 @@ fn last_in(items: &[OrderEntry], t: Ticks, visits: &mut u64) -> Option<OrderEntr
         i -= 1;
         *visits = visits.saturating_add(1);
         let entry = items[i];
-        if covers(&entry, t) {
+        if is_in_entry(&entry, t) {
             return Some(entry);
         }
     }
@@ -99,7 +99,7 @@ fn look(
 ) -> Option<OrderEntry>
     requires block { b < length list.now.rows }
     requires count { count ≤ length (row list.now.rows b) }
-    ensures last { result ≡ last_that (entry_covers t) (take count (row list.now.rows b)) }
+    ensures last { result ≡ last_that (is_in_entry t) (take count (row list.now.rows b)) }
     ensures not_less { visits.old ≤ visits.new }
     ensures at_most { visits.new ≤ visits.old + 128 }
 {
@@ -134,8 +134,8 @@ fn last_in_blocks(
 ) -> Option<OrderEntry>
     requires tops { tops.now ≡ tops_of list.now.rows }
     requires within { from ≤ length list.now.rows }
-    requires begun { AllByRecursion (λ o. o.pts ≤ℤ t) (joined (take from list.now.rows)) }
-    ensures last { result ≡ last_that (entry_covers t) (joined (take from list.now.rows)) }
+    requires start_by { AllByRecursion (λ o. o.pts ≤ℤ t) (row_items (take from list.now.rows)) }
+    ensures last { result ≡ last_that (is_in_entry t) (row_items (take from list.now.rows)) }
     ensures not_less { visits.old ≤ visits.new }
     ensures at_most { visits.new ≤ visits.old + 128 }
 {
@@ -155,12 +155,12 @@ fn last_in_blocks(
 
 /// A place of a block before which all entries begin before a moment.
 fn place_from(list: &BlockList<OrderEntry, Known>, t: &Moment) -> BlockPlace
-    requires keyed { IsKeyed (joined list.now.rows) }
+    requires keyed { IsKeyed (row_items list.now.rows) }
     requires some { 0 < length list.now.rows }
     ensures block { result.block < length list.now.rows }
     ensures index { result.index ≤ length (row list.now.rows result.block) }
     ensures before { AllByRecursion (λ o. is_before o.pts t.now ≡ true)
-        (take (rank list.now.rows result) (joined list.now.rows)) }
+        (take (rank list.now.rows result) (row_items list.now.rows)) }
 {
     match t {
         Moment::At(t) => search(list, &Key::at(TimeMark::at(*t))),
@@ -184,7 +184,7 @@ fn sync_in(list: &BlockList<OrderEntry, Known>, b: usize, t: &Moment) -> Option<
 /// moment: blocks without one are passed whole.
 fn sync_in_blocks(list: &BlockList<OrderEntry, Known>, from: usize, t: &Moment) -> Option<Ticks>
     requires { from ≤ length list.now.rows }
-    ensures { result ≡ first_start (is_sync_from t.now) (joined (drop from list.now.rows)) }
+    ensures { result ≡ first_start (is_sync_from t.now) (row_items (drop from list.now.rows)) }
 {
     for b in from..list.blocks() {
         match sync_in(list, b, t) {
@@ -200,7 +200,7 @@ impl Order {
     pub(crate) fn new(alloc: Global, half: usize) -> Order
         requires half_not_zero { 0 < half }
         requires half_at_most_64 { half ≤ 64 }
-        ensures { joined result.rows ≡ [] }
+        ensures { row_items result.rows ≡ [] }
     {
         Order {
             list: BlockList::new(alloc, half),
@@ -211,8 +211,8 @@ impl Order {
     /// Makes room for `n` more entries.
     pub(crate) fn reserve(&mut self, n: usize) -> Result<(), OutOfMemory>
         ensures rows { self.new.rows ≡ self.old.rows }
-        ensures room_stays { self.old.spare ≤ self.new.spare }
-        ensures ok { OnOk result (n ≤ self.new.spare) }
+        ensures no_room_lost { self.old.spare ≤ self.new.spare }
+        ensures spare { OnOk result (n ≤ self.new.spare) }
     {
         self.list.reserve(n)?;
         self.tops.reserve(n)?;
@@ -221,9 +221,9 @@ impl Order {
 
     /// Puts an entry after all that begin no later.
     pub(crate) fn put(&mut self, entry: OrderEntry)
-        requires spare { 1 ≤ self.old.spare }
-        requires keyed { IsKeyed (joined self.old.rows) }
-        ensures items { joined self.new.rows ≡ put entry (joined self.old.rows) }
+        requires room { 1 ≤ self.old.spare }
+        requires keyed { IsKeyed (row_items self.old.rows) }
+        ensures items { row_items self.new.rows ≡ entries_with entry (row_items self.old.rows) }
         ensures spare { self.old.spare ≤ self.new.spare + 1 }
     {
         let key = Key::at(TimeMark::after(entry.pts));
@@ -240,13 +240,13 @@ impl Order {
 
     /// Takes out the entry of a serial, which begins at `pts`.
     pub(crate) fn take_out(&mut self, pts: Ticks, serial: u64)
-        requires keyed { IsKeyed (joined self.old.rows) }
+        requires keyed { IsKeyed (row_items self.old.rows) }
         requires own { AllByRecursion (λ o. o.serial ≡ serial → o.pts ≡ pts)
-            (joined self.old.rows) }
-        requires held { list_any (has_entry_serial serial) (joined self.old.rows) ≡ true }
-        ensures items { joined self.new.rows
-            ≡ filter (λ o. not (has_entry_serial serial o)) (joined self.old.rows) }
-        ensures spare { self.old.spare ≤ self.new.spare }
+            (row_items self.old.rows) }
+        requires held { list_any (has_entry_serial serial) (row_items self.old.rows) ≡ true }
+        ensures items { row_items self.new.rows
+            ≡ filter (λ o. not (has_entry_serial serial o)) (row_items self.old.rows) }
+        ensures no_room_lost { self.old.spare ≤ self.new.spare }
     {
         let place = place_of(&self.list, pts, serial);
         self.list.remove(place);
@@ -255,13 +255,13 @@ impl Order {
 
     /// Gives the entry of a serial, which begins at `pts`, another duration.
     pub(crate) fn shorten(&mut self, pts: Ticks, serial: u64, dur: Ticks)
-        requires keyed { IsKeyed (joined self.old.rows) }
+        requires keyed { IsKeyed (row_items self.old.rows) }
         requires own { AllByRecursion (λ o. o.serial ≡ serial → o.pts ≡ pts)
-            (joined self.old.rows) }
-        requires held { list_any (has_entry_serial serial) (joined self.old.rows) ≡ true }
-        ensures items { joined self.new.rows
-            ≡ map (with_entry_dur serial dur) (joined self.old.rows) }
-        ensures spare { self.old.spare ≤ self.new.spare }
+            (row_items self.old.rows) }
+        requires held { list_any (has_entry_serial serial) (row_items self.old.rows) ≡ true }
+        ensures items { row_items self.new.rows
+            ≡ map (with_entry_dur serial dur) (row_items self.old.rows) }
+        ensures no_room_lost { self.old.spare ≤ self.new.spare }
     {
         let place = place_of(&self.list, pts, serial);
         let entry = *self.list.item(place);
@@ -277,8 +277,8 @@ impl Order {
 
     /// The last entry that holds a time.
     pub(crate) fn last_holding(&self, t: Ticks, visits: &mut u64) -> Option<OrderEntry>
-        requires keyed { IsKeyed (joined self.now.rows) }
-        ensures last { result ≡ last_that (entry_covers t) (joined self.now.rows) }
+        requires keyed { IsKeyed (row_items self.now.rows) }
+        ensures last { result ≡ last_that (is_in_entry t) (row_items self.now.rows) }
         ensures not_less { visits.old ≤ visits.new }
         ensures at_most { visits.new ≤ visits.old + 256 }
     {
@@ -295,8 +295,8 @@ impl Order {
 
     /// Where the first random access point begins that is not before a moment.
     pub(crate) fn sync_at_or_after(&self, t: &Moment) -> Option<Ticks>
-        requires keyed { IsKeyed (joined self.now.rows) }
-        ensures { result ≡ first_start (is_sync_from t.now) (joined self.now.rows) }
+        requires keyed { IsKeyed (row_items self.now.rows) }
+        ensures { result ≡ first_start (is_sync_from t.now) (row_items self.now.rows) }
     {
         if self.list.blocks() == 0 {
             return None;
@@ -311,7 +311,7 @@ impl Order {
 
     /// Where the last entry begins.
     pub(crate) fn last_start(&self) -> Option<Ticks>
-        ensures { result ≡ last_start (joined self.now.rows) }
+        ensures { result ≡ last_start (row_items self.now.rows) }
     {
         let n = self.list.blocks();
         if n == 0 {
@@ -329,15 +329,15 @@ impl Order {
 
     /// The greatest end.
     pub(crate) fn highest_end(&self) -> Option<TimeMark>
-        ensures { result ≡ greatest_end (joined self.now.rows) }
+        ensures { result ≡ greatest_end (row_items self.now.rows) }
     {
         top_before(&self.tops, &self.list, self.list.blocks())
     }
 
     /// The greatest end of the entries that stand before a key.
     pub(crate) fn greatest_end_before(&self, key: &Key) -> Option<TimeMark>
-        requires keyed { IsKeyed (joined self.now.rows) }
-        ensures { result ≡ greatest_end (filter (is_before_key key.now) (joined self.now.rows)) }
+        requires keyed { IsKeyed (row_items self.now.rows) }
+        ensures { result ≡ greatest_end (filter (is_before_key key.now) (row_items self.now.rows)) }
     {
         if self.list.blocks() == 0 {
             return None;
@@ -345,17 +345,17 @@ impl Order {
         let place = search(&self.list, key);
         let items = self.list.block(place.block);
         let within = greatest_end(&items[..place.index]);
-        greatest_of_two(top_before(&self.tops, &self.list, place.block), within)
+        top_before(&self.tops, &self.list, place.block).max(within)
     }
 
     /// The place of the first entry that does not stand before a key.
     pub(crate) fn place_at(&self, key: &Key) -> BlockPlace
-        requires keyed { IsKeyed (joined self.now.rows) }
+        requires keyed { IsKeyed (row_items self.now.rows) }
         ensures place { IsPlace self.now.rows result }
         ensures before { AllByRecursion (λ o. is_before_key key.now o ≡ true)
-            (take (rank self.now.rows result) (joined self.now.rows)) }
+            (take (rank self.now.rows result) (row_items self.now.rows)) }
         ensures after { AllByRecursion (λ o. is_before_key key.now o ≡ false)
-            (drop (rank self.now.rows result) (joined self.now.rows)) }
+            (drop (rank self.now.rows result) (row_items self.now.rows)) }
     {
         if self.list.blocks() == 0 {
             return BlockPlace { block: 0, index: 0 };
@@ -385,7 +385,8 @@ impl Order {
     pub(crate) fn entry(&self, place: BlockPlace) -> OrderEntry
         requires block { place.block < length self.now.rows }
         requires index { place.index < length (row self.now.rows place.block) }
-        ensures { result ≡ slice_index_or (joined self.now.rows) (rank self.now.rows place) result }
+        ensures { result ≡ slice_index_or (row_items self.now.rows)
+            (rank self.now.rows place) result }
     {
         *self.list.item(place)
     }
@@ -402,8 +403,8 @@ impl Order {
 
     /// Whether all entries stand before a key, as they do where the last one does.
     fn is_all_before(&self, key: &Key) -> bool
-        requires keyed { IsKeyed (joined self.now.rows) }
-        ensures { result ≡ list_all (is_before_key key.now) (joined self.now.rows) }
+        requires keyed { IsKeyed (row_items self.now.rows) }
+        ensures { result ≡ list_all (is_before_key key.now) (row_items self.now.rows) }
     {
         let n = self.list.blocks();
         if n == 0 {
@@ -416,17 +417,18 @@ impl Order {
             block: n - 1,
             index,
         });
-        key.passes(entry)
+        key.is_passed_by(entry)
     }
 
     /// The first entry not before a key that begins before a moment and has a serial below a
     /// number.
     pub(crate) fn first_named(&self, key: &Key, to: &Moment, below: u64) -> Option<OrderEntry>
-        requires keyed { IsKeyed (joined self.now.rows) }
-        ensures found { IfSome result (λ e. IsFound key.now to.now below e (joined self.now.rows)) }
+        requires keyed { IsKeyed (row_items self.now.rows) }
+        ensures found { IfSome result (λ e. IsFound key.now to.now below e
+            (row_items self.now.rows)) }
         ensures none { IfNone result (AllByRecursion
             (λ o. is_before_key key.now o ≡ false → is_entry_named to.now below o ≡ false)
-            (joined self.now.rows)) }
+            (row_items self.now.rows)) }
     {
         if self.is_all_before(key) {
             return None;

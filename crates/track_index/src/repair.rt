@@ -3,7 +3,7 @@
 ghost use Rattle.std.specs.Prelude.{◌≡◌, ◌+◌, ◌<◌, ◌≤◌, ◌≤ℤ◌, pos, true, ◌||◌, List, ◌∷◌, length, map, take, drop, IfSome, ℤ};
 ghost use Rattle.std.specs.List.{AllByRecursion};
 ghost use Rattle.mse_base.specs.Bridging.{IsRanges, bridged_ranges, is_near_any, is_near};
-ghost use Rattle.mse_base.specs.Rows.{joined, row};
+ghost use Rattle.mse_base.specs.Rows.{row_items, row};
 ghost use Rattle.block_list.specs.BlockPlaces.{rank};
 ghost use Rattle.track_store.specs.Frames.{intervals, IsTimed};
 ghost use Rattle.track_index.specs.Order.{span_of};
@@ -38,9 +38,9 @@ fn join(ranges: &mut Ranges, span: Span, gap: Ticks) -> bool
 /// Makes the ranges anew from all frames.
 fn remake(ranges: &mut Ranges, order: &Order, gap: Ticks)
     requires gap_from_zero { pos 0 ≤ℤ gap }
-    requires room { length (joined order.now.rows) ≤ ranges.old.spare + length ranges.old.spans }
-    requires timed { AreTimed (joined order.now.rows) }
-    ensures spans { ranges.new.spans ≡ bridged_ranges gap (map span_of (joined order.now.rows)) }
+    requires room { length (row_items order.now.rows) ≤ ranges.old.spare + length ranges.old.spans }
+    requires timed { AreTimed (row_items order.now.rows) }
+    ensures spans { ranges.new.spans ≡ bridged_ranges gap (map span_of (row_items order.now.rows)) }
     ensures room { ranges.old.spare + length ranges.old.spans ≤ ranges.new.spare
         + length ranges.new.spans }
 {
@@ -70,14 +70,14 @@ fn span_between(start: TimeMark, end: TimeMark) -> Option<Span>
 fn join_past(ranges: &mut Ranges, order: &Order, key: &Key, gap: Ticks) -> bool
     requires gap_from_zero { pos 0 ≤ℤ gap }
     requires ranges { IsRanges gap ranges.old.spans }
-    requires keyed { IsKeyed (joined order.now.rows) }
+    requires keyed { IsKeyed (row_items order.now.rows) }
     ensures ranges { IsRanges gap ranges.new.spans }
     ensures room { ranges.new.spare + length ranges.new.spans ≡ ranges.old.spare
         + length ranges.old.spans }
     ensures grown { result ≡ true
-        → AreGrownBy gap (joined order.now.rows) ranges.old.spans ranges.new.spans }
+        → AreGrownBy gap (row_items order.now.rows) ranges.old.spans ranges.new.spans }
     ensures past { result ≡ true
-        → HasTicksPast gap key.now (joined order.now.rows) ranges.new.spans }
+        → HasTicksPast gap key.now (row_items order.now.rows) ranges.new.spans }
 {
     match order.greatest_end_before(key) {
         None => true,
@@ -98,15 +98,15 @@ fn join_past(ranges: &mut Ranges, order: &Order, key: &Key, gap: Ticks) -> bool
 fn join_between(ranges: &mut Ranges, order: &Order, key: &Key, high: TimeMark, gap: Ticks) -> bool
     requires gap_from_zero { pos 0 ≤ℤ gap }
     requires ranges { IsRanges gap ranges.old.spans }
-    requires keyed { IsKeyed (joined order.now.rows) }
-    requires timed { AreTimed (joined order.now.rows) }
+    requires keyed { IsKeyed (row_items order.now.rows) }
+    requires timed { AreTimed (row_items order.now.rows) }
     ensures ranges { IsRanges gap ranges.new.spans }
     ensures room { ranges.new.spare + length ranges.new.spans ≡ ranges.old.spare
         + length ranges.old.spans }
     ensures grown { result ≡ true
-        → AreGrownBy gap (joined order.now.rows) ranges.old.spans ranges.new.spans }
+        → AreGrownBy gap (row_items order.now.rows) ranges.old.spans ranges.new.spans }
     ensures between { result ≡ true
-        → HasTicksBetween gap key.now high (joined order.now.rows) ranges.new.spans }
+        → HasTicksBetween gap key.now high (row_items order.now.rows) ranges.new.spans }
 {
     let mut place = order.place_at(key);
     while place.block < order.blocks() {
@@ -126,17 +126,17 @@ fn join_between(ranges: &mut Ranges, order: &Order, key: &Key, high: TimeMark, g
 fn refill(ranges: &mut Ranges, order: &Order, key: &Key, high: TimeMark, gap: Ticks) -> bool
     requires gap_from_zero { pos 0 ≤ℤ gap }
     requires ranges { IsRanges gap ranges.old.spans }
-    requires keyed { IsKeyed (joined order.now.rows) }
-    requires timed { AreTimed (joined order.now.rows) }
+    requires keyed { IsKeyed (row_items order.now.rows) }
+    requires timed { AreTimed (row_items order.now.rows) }
     ensures ranges { IsRanges gap ranges.new.spans }
     ensures room { ranges.new.spare + length ranges.new.spans ≡ ranges.old.spare
         + length ranges.old.spans }
     ensures grown { result ≡ true
-        → AreGrownBy gap (joined order.now.rows) ranges.old.spans ranges.new.spans }
+        → AreGrownBy gap (row_items order.now.rows) ranges.old.spans ranges.new.spans }
     ensures past { result ≡ true
-        → HasTicksPast gap key.now (joined order.now.rows) ranges.new.spans }
+        → HasTicksPast gap key.now (row_items order.now.rows) ranges.new.spans }
     ensures between { result ≡ true
-        → HasTicksBetween gap key.now high (joined order.now.rows) ranges.new.spans }
+        → HasTicksBetween gap key.now high (row_items order.now.rows) ranges.new.spans }
 {
     if join_past(ranges, order, key, gap) {
         join_between(ranges, order, key, high, gap)
@@ -150,15 +150,15 @@ fn refill(ranges: &mut Ranges, order: &Order, key: &Key, high: TimeMark, gap: Ti
 pub(crate) fn mend(ranges: &mut Ranges, order: &Order, hole: Span, gap: Ticks)
     requires gap_from_zero { pos 0 ≤ℤ gap }
     requires ranges { IsRanges gap ranges.old.spans }
-    requires room { length (joined order.now.rows) ≤ ranges.old.spare + length ranges.old.spans }
-    requires keyed { IsKeyed (joined order.now.rows) }
-    requires timed { AreTimed (joined order.now.rows) }
+    requires room { length (row_items order.now.rows) ≤ ranges.old.spare + length ranges.old.spans }
+    requires keyed { IsKeyed (row_items order.now.rows) }
+    requires timed { AreTimed (row_items order.now.rows) }
     ensures ranges { IsRanges gap ranges.new.spans }
     ensures room { ranges.old.spare + length ranges.old.spans ≤ ranges.new.spare
         + length ranges.new.spans }
     ensures between { (holes : List Span)
-        → AreBetween gap (map span_of (joined order.now.rows)) (hole ∷ holes) ranges.old.spans
-        → AreBetween gap (map span_of (joined order.now.rows)) holes ranges.new.spans }
+        → AreBetween gap (map span_of (row_items order.now.rows)) (hole ∷ holes) ranges.old.spans
+        → AreBetween gap (map span_of (row_items order.now.rows)) holes ranges.new.spans }
 {
     if hole.end <= hole.start {
         return;
@@ -185,17 +185,19 @@ pub(crate) fn mend_run(
 )
     requires gap_from_zero { pos 0 ≤ℤ gap }
     requires ranges { IsRanges gap ranges.old.spans }
-    requires room { length (joined order.now.rows) ≤ ranges.old.spare + length ranges.old.spans }
-    requires keyed { IsKeyed (joined order.now.rows) }
-    requires timed { AreTimed (joined order.now.rows) }
-    requires frames { AllByRecursion IsTimed (joined frames.now.rows) }
+    requires room { length (row_items order.now.rows) ≤ ranges.old.spare + length ranges.old.spans }
+    requires keyed { IsKeyed (row_items order.now.rows) }
+    requires timed { AreTimed (row_items order.now.rows) }
+    requires frames { AllByRecursion IsTimed (row_items frames.now.rows) }
     requires block { run.from.block < length frames.now.rows }
     requires index { run.from.index < length (row frames.now.rows run.from.block) }
-    requires within { rank frames.now.rows run.from + run.count ≤ length (joined frames.now.rows) }
-    requires between { AreBetween gap (map span_of (joined order.now.rows))
-        (intervals (take run.count (drop (rank frames.now.rows run.from) (joined frames.now.rows))))
+    requires within { rank frames.now.rows run.from + run.count ≤ length
+        (row_items frames.now.rows) }
+    requires between { AreBetween gap (map span_of (row_items order.now.rows))
+        (intervals (take run.count (drop (rank frames.now.rows run.from)
+        (row_items frames.now.rows))))
         ranges.old.spans }
-    ensures spans { ranges.new.spans ≡ bridged_ranges gap (map span_of (joined order.now.rows)) }
+    ensures spans { ranges.new.spans ≡ bridged_ranges gap (map span_of (row_items order.now.rows)) }
     ensures room { ranges.old.spare + length ranges.old.spans ≤ ranges.new.spare
         + length ranges.new.spans }
 {

@@ -6,7 +6,7 @@ ghost use Rattle.std.specs.Prelude.{◌≡◌, ◌+◌, ◌-◌, ◌<◌, ◌≤
 ghost use Rattle.std.specs.List.{AllByRecursion, list_any};
 ghost use Rattle.track_store.specs.declared.store.Stored.{Stored};
 ghost use Rattle.track_store.specs.Frames.{IsAscending, has_serial};
-ghost use Rattle.mse_base.specs.Rows.{joined};
+ghost use Rattle.mse_base.specs.Rows.{row_items};
 ghost use Rattle.track_index.specs.Syncs.{AreAscending, IsLastUpTo, AreSyncsOf};
 
 use crate::frames::{Frames, is_held};
@@ -33,7 +33,7 @@ pub(crate) fn last_up_to(syncs: &[u64], serial: u64) -> Option<u64>
 fn keep_below(syncs: &mut Vec<u64>, serial: u64)
     requires { AreAscending syncs.old.items }
     ensures serials { syncs.new.items ≡ filter (λ n. nat_lt n serial) syncs.old.items }
-    ensures shorter { vec_len syncs.new ≤ vec_len syncs.old }
+    ensures no_longer { vec_len syncs.new ≤ vec_len syncs.old }
     ensures capacity { vec_capacity syncs.new ≡ vec_capacity syncs.old }
 {
     while let Some(last) = syncs.last() {
@@ -62,10 +62,10 @@ pub(crate) fn note(syncs: &mut Vec<u64>, frame: &Stored)
 
 /// Drops the serials of frames that are gone.
 fn drop_gone(syncs: &mut Vec<u64>, frames: &Frames)
-    requires { IsAscending (joined frames.now.rows) }
+    requires { IsAscending (row_items frames.now.rows) }
     ensures serials { syncs.new.items
-        ≡ filter (λ n. list_any (has_serial n) (joined frames.now.rows)) syncs.old.items }
-    ensures shorter { vec_len syncs.new ≤ vec_len syncs.old }
+        ≡ filter (λ n. list_any (has_serial n) (row_items frames.now.rows)) syncs.old.items }
+    ensures no_longer { vec_len syncs.new ≤ vec_len syncs.old }
     ensures capacity { vec_capacity syncs.new ≡ vec_capacity syncs.old }
 {
     syncs.retain(|sync| is_held(frames, *sync));
@@ -74,11 +74,11 @@ fn drop_gone(syncs: &mut Vec<u64>, frames: &Frames)
 /// Makes room for `n` more serials. Where they are twice as many as the frames and 64 more, those
 /// of frames that are gone go first. An `Err` keeps those of the frames held, and the room.
 pub(crate) fn make_room(syncs: &mut Vec<u64>, frames: &Frames, n: usize) -> Result<(), OutOfMemory>
-    requires { IsAscending (joined frames.now.rows) }
-    ensures syncs { AreSyncsOf (joined frames.now.rows) syncs.old.items
-        → AreSyncsOf (joined frames.now.rows) syncs.new.items }
-    ensures ok { OnOk result (n ≤ vec_capacity syncs.new - vec_len syncs.new) }
-    ensures room_stays { vec_capacity syncs.old - vec_len syncs.old
+    requires { IsAscending (row_items frames.now.rows) }
+    ensures syncs { AreSyncsOf (row_items frames.now.rows) syncs.old.items
+        → AreSyncsOf (row_items frames.now.rows) syncs.new.items }
+    ensures spare { OnOk result (n ≤ vec_capacity syncs.new - vec_len syncs.new) }
+    ensures no_room_lost { vec_capacity syncs.old - vec_len syncs.old
         ≤ vec_capacity syncs.new - vec_len syncs.new }
 {
     if syncs.len() / 2 >= frames.len().saturating_add(HALF_KEPT) {

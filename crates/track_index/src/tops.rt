@@ -2,13 +2,13 @@
 //! all before them.
 
 ghost use Rattle.std.specs.Prelude.{◌≡◌, ◌+◌, ◌-◌, ◌<◌, ◌≤◌, length, take, vec_capacity, drop, slice_index_or, Some, None};
-ghost use Rattle.mse_base.specs.Rows.{joined};
+ghost use Rattle.mse_base.specs.Rows.{row_items};
 ghost use Rattle.mse_base.specs.Moments.{greatest_of_two};
 ghost use Rattle.track_index.specs.Known.{greatest_end};
 ghost use Rattle.track_index.specs.Tops.{tops_of, AreTopsFrom};
 
 use crate::entry::OrderEntry;
-use crate::known::{Known, greatest_of_two};
+use crate::known::Known;
 use crate::mark::TimeMark;
 use block_list::BlockList;
 
@@ -20,7 +20,7 @@ pub(crate) fn top_before(
 ) -> Option<TimeMark>
     requires tops { tops.now ≡ tops_of list.now.rows }
     requires within { b ≤ length list.now.rows }
-    ensures { result ≡ greatest_end (joined (take b list.now.rows)) }
+    ensures { result ≡ greatest_end (row_items (take b list.now.rows)) }
 {
     end_before(tops, b)
 }
@@ -52,7 +52,7 @@ fn follow(
     let mut best = end_before(tops, from);
     let mut i = from;
     while i < tops.len() {
-        let top = greatest_of_two(best, list.fact(i).end);
+        let top = best.max(list.fact(i).end);
         if to <= i && tops[i] == top {
             return;
         }
@@ -65,8 +65,8 @@ fn follow(
 /// Makes as many ends as there are blocks, after block `b` was cut in two or went.
 fn adjust(tops: &mut Vec<Option<TimeMark>>, b: usize, after: usize)
     requires within { b ≤ length tops.old.items }
-    requires more { after ≤ length tops.old.items + 1 }
-    requires fewer { length tops.old.items ≤ after + 1 }
+    requires at_most_one_more { after ≤ length tops.old.items + 1 }
+    requires at_most_one_fewer { length tops.old.items ≤ after + 1 }
     requires gone { after < length tops.old.items → b < length tops.old.items }
     requires room { after ≤ vec_capacity tops.old }
     ensures len { length tops.new.items ≡ after }
@@ -97,8 +97,8 @@ pub(crate) fn refresh_with(
     end: TimeMark,
 )
     requires within { b ≤ length tops.old.items }
-    requires more { length list.now.rows ≤ length tops.old.items + 1 }
-    requires fewer { length tops.old.items ≤ length list.now.rows + 1 }
+    requires at_most_one_more { length list.now.rows ≤ length tops.old.items + 1 }
+    requires at_most_one_fewer { length tops.old.items ≤ length list.now.rows + 1 }
     requires gone { length list.now.rows < length tops.old.items → b < length tops.old.items }
     requires room { length list.now.rows ≤ vec_capacity tops.old }
     requires front { take b tops.old.items ≡ take b (tops_of list.now.rows) }
@@ -106,14 +106,14 @@ pub(crate) fn refresh_with(
         ((b + 1 + length list.now.rows) - length tops.old.items) list.now.rows }
     requires last { b + 1 ≡ length tops.old.items
         → greatest_of_two (slice_index_or tops.old.items b None) (Some end)
-        ≡ greatest_end (joined list.now.rows) }
+        ≡ greatest_end (row_items list.now.rows) }
     ensures items { tops.new.items ≡ tops_of list.now.rows }
     ensures capacity { vec_capacity tops.new ≡ vec_capacity tops.old }
 {
     let before = tops.len();
     let after = list.blocks();
     if after == before && b + 1 == after {
-        tops[b] = greatest_of_two(tops[b], Some(end));
+        tops[b] = tops[b].max(Some(end));
         return;
     }
     refresh(tops, list, b);
@@ -127,8 +127,8 @@ pub(crate) fn refresh(
     b: usize,
 )
     requires within { b ≤ length tops.old.items }
-    requires more { length list.now.rows ≤ length tops.old.items + 1 }
-    requires fewer { length tops.old.items ≤ length list.now.rows + 1 }
+    requires at_most_one_more { length list.now.rows ≤ length tops.old.items + 1 }
+    requires at_most_one_fewer { length tops.old.items ≤ length list.now.rows + 1 }
     requires gone { length list.now.rows < length tops.old.items → b < length tops.old.items }
     requires room { length list.now.rows ≤ vec_capacity tops.old }
     requires front { take b tops.old.items ≡ take b (tops_of list.now.rows) }

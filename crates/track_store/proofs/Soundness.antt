@@ -6,7 +6,7 @@ use Rattle.std.proofs.lemmas.Bool.{cases_lt}
 use Rattle.track_store.specs.declared.store.Stored.{Stored}
 use Rattle.track_store.specs.Frames.{frames_left, IsAscending, frames_with_dur, has_serial, with_dur, from_sync}
 use Rattle.track_store.specs.Sound.{HasPredecessor, IsDecodable, IsSuccessor, IsChained, last_serial}
-use Rattle.track_store.proofs.Clearing.{goes, cleared-goes, cleared-stays}
+use Rattle.track_store.proofs.Clearing.{is_frame_gone, cleared-goes, cleared-stays}
 
 -- where no frame is named all stay
 pub cleared-unnamed : (named : Stored → Bool) (fs : List Stored) → AllByRecursion (λ f. named f ≡ false) fs → frames_left false named fs ≡ fs
@@ -21,7 +21,7 @@ stays_linked n false false before before' serial e same (inr h) = inr (subst (λ
 stays_linked false true false before before' serial e same (inr h) = cc
 stays_linked true true false before before' serial e same (inr h) = cc
 
-chained-step : (named : Stored → Bool) (gone : Bool) (before before' : Option ℕ) (f : Stored) (fs : List Stored) (b : Bool) → goes named gone f ≡ b → (gone ≡ false → before ≡ before') → IsChained before (f ∷ fs) → IsChained before' (frames_left true named fs) → IsChained (Some f.serial) (frames_left false named fs) → IsChained before' (frames_left gone named (f ∷ fs))
+chained-step : (named : Stored → Bool) (gone : Bool) (before before' : Option ℕ) (f : Stored) (fs : List Stored) (b : Bool) → is_frame_gone named gone f ≡ b → (gone ≡ false → before ≡ before') → IsChained before (f ∷ fs) → IsChained before' (frames_left true named fs) → IsChained (Some f.serial) (frames_left false named fs) → IsChained before' (frames_left gone named (f ∷ fs))
 chained-step named gone before before' f fs true e same h went stayed = subst (λ gs. IsChained before' gs) (sym (cleared-goes named gone f fs e)) went
 chained-step named gone before before' f fs false e same h went stayed =
     subst (λ gs. IsChained before' gs) (sym (cleared-stays named gone f fs e)) (stays_linked (named f) gone f.frame.sync before before' f.serial e same h.0, stayed)
@@ -29,10 +29,10 @@ chained-step named gone before before' f fs false e same h went stayed =
 pub chained-cleared : (named : Stored → Bool) (gone : Bool) (before before' : Option ℕ) (fs : List Stored) → (gone ≡ false → before ≡ before') → IsChained before fs → IsChained before' (frames_left gone named fs)
 chained-cleared named gone before before' [] same h = h
 chained-cleared named gone before before' (f ∷ fs) same h =
-    chained-step named gone before before' f fs (goes named gone f) refl same h (chained-cleared named true (Some f.serial) before' fs (λ e. cc) h.1) (chained-cleared named false (Some f.serial) (Some f.serial) fs (λ _. refl) h.1)
+    chained-step named gone before before' f fs (is_frame_gone named gone f) refl same h (chained-cleared named true (Some f.serial) before' fs (λ e. cc) h.1) (chained-cleared named false (Some f.serial) (Some f.serial) fs (λ _. refl) h.1)
 
 -- the last frame stays, where only frames older than its group are named and its group begins with a random access point
-last-step : (named : Stored → Bool) (gone : Bool) (before : Option ℕ) (m : Option ℕ) (f : Stored) (fs : List Stored) → last_serial before (frames_left true named fs) ≡ m → last_serial (Some f.serial) (frames_left false named fs) ≡ m → (b : Bool) → goes named gone f ≡ b → last_serial before (frames_left gone named (f ∷ fs)) ≡ m
+last-step : (named : Stored → Bool) (gone : Bool) (before : Option ℕ) (m : Option ℕ) (f : Stored) (fs : List Stored) → last_serial before (frames_left true named fs) ≡ m → last_serial (Some f.serial) (frames_left false named fs) ≡ m → (b : Bool) → is_frame_gone named gone f ≡ b → last_serial before (frames_left gone named (f ∷ fs)) ≡ m
 last-step named gone before m f fs went stayed true e = ap (last_serial before) (cleared-goes named gone f fs e) ∙ went
 last-step named gone before m f fs went stayed false e = ap (last_serial before) (cleared-stays named gone f fs e) ∙ stayed
 
@@ -54,11 +54,11 @@ last-cleared named gone None before' n m [] older first up chain low last le = c
 last-cleared named gone (Some k) before' n m [] older first up chain low last le = (let same : k ≡ m = cc in absurd (omega arith))
 last-cleared named gone before before' n m (f ∷ fs) older first up chain low last le =
     elim (cases_lt f.serial n) [
-      | inl under ↦ last-step named gone before' (Some m) f fs (last-cleared named true (Some f.serial) before' n m fs older.1 first.1 up.1 chain.1 under last le) (last-cleared named false (Some f.serial) (Some f.serial) n m fs older.1 first.1 up.1 chain.1 under last le) (goes named gone f) refl
+      | inl under ↦ last-step named gone before' (Some m) f fs (last-cleared named true (Some f.serial) before' n m fs older.1 first.1 up.1 chain.1 under last le) (last-cleared named false (Some f.serial) (Some f.serial) n m fs older.1 first.1 up.1 chain.1 under last le) (is_frame_gone named gone f) refl
       | inr over ↦
           (let sync = begins_group before n f over low first.0 chain.0 in
           let unnamed = older.0 over in
-          let stays : goes named gone f ≡ false = ap (λ s. named f || (gone && not s)) sync ∙ ap (λ b. b || (gone && false)) unnamed ∙ and_false gone in
+          let stays : is_frame_gone named gone f ≡ false = ap (λ s. named f || (gone && not s)) sync ∙ ap (λ b. b || (gone && false)) unnamed ∙ and_false gone in
           ap (last_serial before') (cleared-stays named gone f fs stays) ∙ ap (last_serial (Some f.serial)) (cleared-unnamed named fs (newer named n f.serial fs over up.0 older.1)) ∙ last)
     ]
 

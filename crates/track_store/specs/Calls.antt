@@ -3,7 +3,7 @@ use Rattle.std.specs.Prelude.{◌≡◌, ◌⊎◌, ◌<◌, ◌≤◌, ◌+◌,
 use Rattle.std.specs.List.{AllByRecursion, filter, position}
 use Rattle.std.specs.Option.{IfSome}
 use Rattle.mse_base.specs.Time.{IsTick}
-use Rattle.mse_base.specs.Spans.{reaches, last_of, ends_after, starts_before, RangesView}
+use Rattle.mse_base.specs.Spans.{reaches, last_of, has_end_after, has_start_before, RangesView}
 use Rattle.mse_base.specs.declared.memory.OutOfMemory.{OutOfMemory}
 use Rattle.mse_base.specs.declared.span.Span.{Span}
 use Rattle.track_store.specs.declared.store.Stored.{Stored}
@@ -27,7 +27,7 @@ pub record IsAddable (spare : ℕ) (f : Stored) (fs : List Stored) : Type 0 wher
   pub later : AllByRecursion (λ g. g.serial < f.serial) fs
   pub predecessor : f.frame.sync ≡ false → HasPredecessor f.serial fs
   pub dur_not_negative : pos 0 ≤ℤ f.frame.dur
-  pub is_tick : IsTick (f.frame.pts +ℤ f.frame.dur)
+  pub end_is_tick : IsTick (f.frame.pts +ℤ f.frame.dur)
   pub small : bytes_of fs + length f.frame.payload < 2 ^ 62
 
 -- what the contract asks of a change
@@ -50,12 +50,12 @@ IsChange (RemoveAt i) fs gs =
 IsChange (RemoveWhereTime from to below) fs gs = gs ≡ frames_without (is_within from to below) fs
 
 -- the room before a change and after it, and that all but `Reserve` end well
-abbrev pub LeavesRoom : StoreChange → ℕ → Result (Unit {0}) OutOfMemory → ℕ → Type 0
-LeavesRoom (Reserve n) old result new = OnOk result (n ≤ new) × (old ≤ new)
-LeavesRoom (Add f) old result new = (result ≡ Ok tt) × (old ≤ new + 1)
-LeavesRoom (Cut i dur) old result new = (result ≡ Ok tt) × (old ≤ new)
-LeavesRoom (RemoveAt i) old result new = (result ≡ Ok tt) × (old ≤ new)
-LeavesRoom (RemoveWhereTime from to below) old result new = (result ≡ Ok tt) × (old ≤ new)
+abbrev pub IsRoomAfterChange : StoreChange → ℕ → Result (Unit {0}) OutOfMemory → ℕ → Type 0
+IsRoomAfterChange (Reserve n) old result new = OnOk result (n ≤ new) × (old ≤ new)
+IsRoomAfterChange (Add f) old result new = (result ≡ Ok tt) × (old ≤ new + 1)
+IsRoomAfterChange (Cut i dur) old result new = (result ≡ Ok tt) × (old ≤ new)
+IsRoomAfterChange (RemoveAt i) old result new = (result ≡ Ok tt) × (old ≤ new)
+IsRoomAfterChange (RemoveWhereTime from to below) old result new = (result ≡ Ok tt) × (old ≤ new)
 
 -- ---- look-ups
 
@@ -97,9 +97,9 @@ IsLookAnswer gap (Overlapped t) fs a =
     (place : Option ℕ) × (a ≡ Place place) × IsPlaceOf (overlapped t fs) fs place
 IsLookAnswer gap (SyncAtOrAfter t) fs a = a ≡ Time (least (sync_times_from t fs))
 IsLookAnswer gap (SpanHolding t) fs a = a ≡ Range (find (reaches t) (ranges_of gap fs))
-IsLookAnswer gap (FirstSpanAfter t) fs a = a ≡ Range (find (ends_after t) (ranges_of gap fs))
+IsLookAnswer gap (FirstSpanAfter t) fs a = a ≡ Range (find (has_end_after t) (ranges_of gap fs))
 IsLookAnswer gap (LastSpanBefore t) fs a =
-    a ≡ Range (last_of (filter (starts_before t) (ranges_of gap fs)))
+    a ≡ Range (last_of (filter (has_start_before t) (ranges_of gap fs)))
 IsLookAnswer gap LastSpan fs a = a ≡ Range (last_of (ranges_of gap fs))
 IsLookAnswer gap HighestStart fs a = a ≡ Time (greatest (starts fs))
 IsLookAnswer gap HighestEnd fs a = a ≡ Time (greatest (ends fs))

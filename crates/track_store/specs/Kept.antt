@@ -11,7 +11,7 @@ abbrev pub bytes_in : List TrackState → ℕ
 bytes_in ts = sum_by (λ t. bytes_of t.frames) ts
 
 -- what every step keeps: each track buffer is sound, and the bytes of all can be counted
-pub record AreTracksSound (ts : List TrackState) : Type 0 where
+pub record AreSoundAndCountable (ts : List TrackState) : Type 0 where
   pub sound : AllByRecursion IsSound ts
   pub small : bytes_in ts < 2 ^ 62
 

@@ -1,7 +1,7 @@
 //! Calls of a store as values, so that laws can speak of lists of them.
 
 ghost use Rattle.std.specs.Prelude.{◌≡◌};
-ghost use Rattle.track_store.specs.Calls.{IsAllowedChange, IsLookAnswer, IsChange, LeavesRoom, answer_view};
+ghost use Rattle.track_store.specs.Calls.{IsAllowedChange, IsLookAnswer, IsChange, IsRoomAfterChange, answer_view};
 ghost use Rattle.track_store.specs.Frames.{IsAscending};
 
 use crate::{FrameStore, Stored};
@@ -60,7 +60,7 @@ pub enum StoreCall {
 pub fn change<S: FrameStore>(store: &mut S, change: StoreChange) -> Result<(), OutOfMemory>
     requires { IsAllowedChange (S.spare store.old) change (S.frames store.old) }
     ensures frames { IsChange change (S.frames store.old) (S.frames store.new) }
-    ensures room { LeavesRoom change (S.spare store.old) result (S.spare store.new) }
+    ensures room { IsRoomAfterChange change (S.spare store.old) result (S.spare store.new) }
     ensures gap { S.gap store.new ≡ S.gap store.old }
 {
     match change {

@@ -15,12 +15,12 @@ use std::marker::Model;
 fn clear(frames: &mut Vec<Stored>, named: &Named)
     ensures items { frames.new.items ≡ frames_left false (is_named named.now) frames.old.items }
     ensures capacity { vec_capacity frames.new ≡ vec_capacity frames.old }
-    ensures shorter { vec_len frames.new ≤ vec_len frames.old }
+    ensures no_longer { vec_len frames.new ≤ vec_len frames.old }
 {
     let mut i = 0;
     let mut is_gone = false;
     while i < frames.len() {
-        is_gone = named.takes(&frames[i], is_gone);
+        is_gone = named.is_taking(&frames[i], is_gone);
         if is_gone {
             frames.remove(i);
         } else {
@@ -35,7 +35,7 @@ fn is_in_frame(stored: &Stored, t: Ticks) -> bool
     stored.frame.pts <= t && t.get() < stored.frame.pts.get() + stored.frame.dur.get()
 }
 
-fn begins_no_later(frames: &[Stored], best: Option<usize>, stored: &Stored) -> bool
+fn is_no_later(frames: &[Stored], best: Option<usize>, stored: &Stored) -> bool
     requires { IfSome best (λ i. i < length frames.now) }
     ensures { later_frame (frame_at frames.now best) stored.now
         ≡ (if result then Some stored.now else frame_at frames.now best) }
@@ -48,15 +48,15 @@ fn begins_no_later(frames: &[Stored], best: Option<usize>, stored: &Stored) -> b
 
 /// The place of the later of two frames that hold the time, where the one at `i` holds it.
 fn later(frames: &[Stored], best: Option<usize>, i: usize, t: Ticks) -> Option<usize>
-    requires found { IfSome best (λ j. j < length frames.now) }
+    requires best_in_range { IfSome best (λ j. j < length frames.now) }
     requires in_range { i < length frames.now }
     ensures frame { IfSome (slice_get frames.now i) (λ f. frame_at frames.now result
         ≡ (if is_in_frame t f then later_frame (frame_at frames.now best) f
         else frame_at frames.now best)) }
-    ensures found { IfSome result (λ j. j < length frames.now) }
+    ensures in_range { IfSome result (λ j. j < length frames.now) }
 {
     let stored = &frames[i];
-    if is_in_frame(stored, t) && begins_no_later(frames, best, stored) {
+    if is_in_frame(stored, t) && is_no_later(frames, best, stored) {
         Some(i)
     } else {
         best
@@ -182,7 +182,7 @@ impl ListStore {
 
     fn remove(&mut self, named: &Named)
         ensures frames { self.new.frames ≡ frames_without (is_named named.now) self.old.frames }
-        ensures spare { self.old.spare ≤ self.new.spare }
+        ensures no_room_lost { self.old.spare ≤ self.new.spare }
         ensures gap { self.new.gap ≡ self.old.gap }
     {
         clear(&mut self.items, named);

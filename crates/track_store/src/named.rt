@@ -17,7 +17,7 @@ pub enum Named {
 
 impl Named {
     /// Whether the frame is one of those named.
-    pub fn holds(&self, stored: &Stored) -> bool
+    pub fn is_naming(&self, stored: &Stored) -> bool
         ensures { result ≡ is_named self.now stored.now }
     {
         match *self {
@@ -30,9 +30,9 @@ impl Named {
 
     /// Whether the frame goes: it is named, or it is no random access point and the frame before
     /// it goes.
-    pub fn takes(&self, stored: &Stored, gone: bool) -> bool
+    pub fn is_taking(&self, stored: &Stored, gone: bool) -> bool
         ensures { result ≡ (is_named self.now stored.now || (gone && not stored.now.frame.sync)) }
     {
-        self.holds(stored) || (gone && !stored.frame.sync)
+        self.is_naming(stored) || (gone && !stored.frame.sync)
     }
 }

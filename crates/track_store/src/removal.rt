@@ -52,7 +52,7 @@ fn greatest_serial_between<S: FrameStore>(store: &S, from: Ticks, to: &Moment) -
 /// dependencies. Where `to` is `Moment::Nan` there is none. It needs no memory.
 pub fn remove_between<S: FrameStore>(store: &mut S, from: Ticks, to: Moment)
     ensures frames { S.frames store.new ≡ frames_without (is_between from to) (S.frames store.old) }
-    ensures spare { S.spare store.old ≤ S.spare store.new }
+    ensures no_room_lost { S.spare store.old ≤ S.spare store.new }
     ensures gap { S.gap store.new ≡ S.gap store.old }
 {
     match greatest_serial_between(store, from, &to) {

@@ -1,7 +1,7 @@
 ghost use Rattle.std.specs.Prelude.{◌≡◌, ◌+◌, ◌<◌, ◌≤◌, ◌^◌, ℕ, ℤ, pos, ◌≤ℤ◌, ◌+ℤ◌, find, IfOk, List, [], ◌∷◌, ◌++◌, length, false, slice_get, option_copied, OnOk, IfSome};
 ghost use Rattle.std.specs.List.{AllByRecursion, filter, position};
 ghost use Rattle.mse_base.specs.Time.{IsTick};
-ghost use Rattle.mse_base.specs.Spans.{reaches, last_of, ends_after, starts_before};
+ghost use Rattle.mse_base.specs.Spans.{reaches, last_of, has_end_after, has_start_before};
 ghost use Rattle.mse_base.specs.Moments.{least, greatest};
 ghost use Rattle.track_store.specs.Frames.{bytes_of, ends, ranges_of, has_serial, is_within, frames_without, frames_with_dur, group_start_of, overlapped, frame_at, sync_times_from, starts, HasFrameInvariants};
 ghost use Rattle.track_store.specs.Sound.{HasPredecessor};
@@ -59,8 +59,8 @@ pub trait FrameStore: Sized + Drop {
     /// Makes room for `n` more frames.
     fn reserve(&mut self, n: usize) -> Result<(), OutOfMemory>
         ensures frames { frames self.new ≡ frames self.old }
-        ensures ok { OnOk result (n ≤ spare self.new) }
-        ensures room_stays { spare self.old ≤ spare self.new }
+        ensures spare { OnOk result (n ≤ spare self.new) }
+        ensures no_room_lost { spare self.old ≤ spare self.new }
         ensures gap { gap self.new ≡ gap self.old };
 
     /// Appends a frame.
@@ -70,7 +70,7 @@ pub trait FrameStore: Sized + Drop {
         requires predecessor { frame.frame.sync ≡ false
             → HasPredecessor frame.serial (frames self.old) }
         requires dur_not_negative { pos 0 ≤ℤ frame.frame.dur }
-        requires is_tick { IsTick (frame.frame.pts +ℤ frame.frame.dur) }
+        requires end_is_tick { IsTick (frame.frame.pts +ℤ frame.frame.dur) }
         requires small { bytes_of (frames self.old) + length frame.frame.payload < 2 ^ 62 }
         ensures frames { frames self.new ≡ frames self.old ++ frame ∷ [] }
         ensures spare { spare self.old ≤ spare self.new + 1 }
@@ -96,11 +96,11 @@ pub trait FrameStore: Sized + Drop {
     /// Gives the frame at a place a duration that is not greater than it has.
     fn cut(&mut self, i: usize, dur: Ticks)
         requires in_range { i < length (frames self.old) }
-        requires shorter { IfSome (slice_get (frames self.old) i)
+        requires no_longer { IfSome (slice_get (frames self.old) i)
             (λ f. (pos 0 ≤ℤ dur) × (dur ≤ℤ f.frame.dur)) }
         ensures frames { IfSome (slice_get (frames self.old) i)
             (λ f. frames self.new ≡ frames_with_dur f.serial dur (frames self.old)) }
-        ensures spare { spare self.old ≤ spare self.new }
+        ensures no_room_lost { spare self.old ≤ spare self.new }
         ensures gap { gap self.new ≡ gap self.old };
 
     /// Removes the frame at a place, and its decoding dependencies.
@@ -108,7 +108,7 @@ pub trait FrameStore: Sized + Drop {
         requires { i < length (frames self.old) }
         ensures frames { IfSome (slice_get (frames self.old) i)
             (λ f. frames self.new ≡ frames_without (has_serial f.serial) (frames self.old)) }
-        ensures spare { spare self.old ≤ spare self.new }
+        ensures no_room_lost { spare self.old ≤ spare self.new }
         ensures gap { gap self.new ≡ gap self.old };
 
     /// Removes the frames with `from <= pts`, `pts < to` and a serial below `below`, and their
@@ -116,7 +116,7 @@ pub trait FrameStore: Sized + Drop {
     fn remove_where_time(&mut self, from: Ticks, to: Moment, below: u64)
         ensures frames { frames self.new ≡ frames_without (is_within from to below)
             (frames self.old) }
-        ensures spare { spare self.old ≤ spare self.new }
+        ensures no_room_lost { spare self.old ≤ spare self.new }
         ensures gap { gap self.new ≡ gap self.old };
 
     /// The place of the frame that begins last of those whose presentation interval holds a time,
@@ -136,12 +136,12 @@ pub trait FrameStore: Sized + Drop {
 
     /// The first range that ends after a time; `None` exactly where none does.
     fn first_span_after(&self, t: Ticks) -> Option<Span>
-        ensures { result ≡ find (ends_after t) (ranges_of (gap self.now) (frames self.now)) };
+        ensures { result ≡ find (has_end_after t) (ranges_of (gap self.now) (frames self.now)) };
 
     /// The last range that starts before a time; `None` exactly where none does.
     fn last_span_before(&self, t: Ticks) -> Option<Span>
         ensures { result
-            ≡ last_of (filter (starts_before t) (ranges_of (gap self.now) (frames self.now))) };
+            ≡ last_of (filter (has_start_before t) (ranges_of (gap self.now) (frames self.now))) };
 
     /// The last range; `None` exactly where there is no range.
     fn last_span(&self) -> Option<Span>

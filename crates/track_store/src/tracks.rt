@@ -136,8 +136,8 @@ impl<S: FrameStore> Tracks<S> {
     /// Makes room for `n` more tracks.
     pub fn reserve(&mut self, n: usize) -> Result<(), OutOfMemory>
         ensures items { self.new.items ≡ self.old.items }
-        ensures ok { OnOk result (n ≤ self.new.spare) }
-        ensures room_stays { self.old.spare ≤ self.new.spare }
+        ensures spare { OnOk result (n ≤ self.new.spare) }
+        ensures no_room_lost { self.old.spare ≤ self.new.spare }
     {
         self.items.reserve(n)?;
         Ok(())

@@ -88,7 +88,7 @@ fn receive(
 /// Track buffers in mode "segments" that received an initialization segment.
 fn begun(rt: &(impl Abort + AllocGlobal), tracks: &[Told]) -> Result<Buffers, Fail> {
     let mut buffers = Buffers::new(rt.alloc(), Ticks::zero(), false);
-    let want = MediaEffect::Done(received(true));
+    let want = MediaEffect::Done(init_effect(true));
     receive(rt, &mut buffers, tracks, Moment::Infinite, &want)?;
     Ok(buffers)
 }
@@ -132,7 +132,7 @@ fn nothing() -> SourceEffect {
 }
 
 /// An initialization segment, the first one or a later one, where the duration is infinite.
-fn received(first: bool) -> SourceEffect {
+fn init_effect(first: bool) -> SourceEffect {
     SourceEffect {
         activated: first,
         received_init: true,
@@ -174,7 +174,7 @@ fn expect_ranges(rt: &impl Abort, ranges: &Ranges, want: &[(u32, u32)]) -> Resul
 
 #[test]
 fn goes_on_by_kind(rt: HostRuntime) -> Result<(), Fail> {
-    let went = MediaEffect::Done(received(false));
+    let went = MediaEffect::Done(init_effect(false));
     let mut buffers = of_both_kinds(&rt)?;
     expect_tracks(&rt, &buffers, &[(1, *b"avc1", 1), (2, *b"mp4a", 1)], false)?;
 
@@ -190,7 +190,7 @@ fn goes_on_by_kind(rt: HostRuntime) -> Result<(), Fail> {
 #[test]
 fn tells_other_tracks(rt: HostRuntime) -> Result<(), Fail> {
     let differ = MediaEffect::AppendError(MediaFault::TracksDiffer, nothing());
-    let went = MediaEffect::Done(received(false));
+    let went = MediaEffect::Done(init_effect(false));
     let second = (2, Kind::Video, *b"hvc1");
     let others = [second, (3, Kind::Video, *b"avc1")];
     let exchanged = [(1, Kind::Video, *b"hvc1"), (2, Kind::Video, *b"avc1")];
@@ -212,7 +212,7 @@ fn tells_other_tracks(rt: HostRuntime) -> Result<(), Fail> {
 #[test]
 fn changes_codecs_where_it_may(rt: HostRuntime) -> Result<(), Fail> {
     let differ = MediaEffect::AppendError(MediaFault::TracksDiffer, nothing());
-    let went = MediaEffect::Done(received(false));
+    let went = MediaEffect::Done(init_effect(false));
     let other = [(9, Kind::Video, *b"hvc1")];
     let mut buffers = begun(&rt, &[VIDEO])?;
     receive(&rt, &mut buffers, &other, Moment::Infinite, &differ)?;
@@ -244,9 +244,9 @@ fn tells_what_is_wrong_first(rt: HostRuntime) -> Result<(), Fail> {
         Moment::Infinite,
         &unknown_codec,
     )?;
-    assert!(rt; buffers.awaits_first());
+    assert!(rt; buffers.is_awaiting_first());
     // A track that is neither video nor audio may have any codec.
-    let went = MediaEffect::Done(received(true));
+    let went = MediaEffect::Done(init_effect(true));
     receive(&rt, &mut buffers, &[text, VIDEO], Moment::Infinite, &went)?;
     receive(
         &rt,
@@ -388,7 +388,7 @@ fn expect_span(
     Ok(())
 }
 
-// A time, whether the source has ended, and the range that has the time.
+/// A time, whether the source has ended, and the range that has the time.
 const RANGES_OF_TIMES: [(u32, bool, Option<(u32, u32)>); 8] = [
     (999, false, None),
     (1000, false, Some((1000, 3000))),

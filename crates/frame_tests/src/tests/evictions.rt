@@ -1,27 +1,12 @@
 //! Worked examples of eviction, on a plain store. Times are in milliseconds, a frame lasts 100 and
 //! has 4 bytes.
 
-use super::frames::{Sample, add_track, time};
+use super::frames::{Sample, add_track, assert_left, time};
 use eviction::evict;
 use mse_base::{Kind, Moment};
 use std::process::Abort;
 use std::test::Fail;
 use track_store::{FrameStore, ListStore, Marks, Tracks};
-
-fn assert_left<S: FrameStore>(
-    rt: &impl Abort,
-    tracks: &Tracks<S>,
-    place: usize,
-    left: &[u16],
-) -> Result<(), Fail> {
-    let track = tracks.get(place).ok_or("no track")?;
-    assert_eq!(rt; track.store.len(), left.len());
-    for (i, ms) in left.iter().enumerate() {
-        let stored = track.store.get(i).ok_or("no frame")?;
-        assert_eq!(rt; stored.frame.pts, time(*ms)?);
-    }
-    Ok(())
-}
 
 /// Three random access points a second apart.
 const SECONDS: [Sample; 3] = [(0, true), (1000, true), (2000, true)];

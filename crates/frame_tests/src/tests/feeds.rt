@@ -2,11 +2,11 @@
 //! media time, and frames by their serials.
 
 ghost use Rattle.std.specs.Prelude.{IfSome};
-ghost use Rattle.track_store.specs.Kept.{AreTracksSound};
+ghost use Rattle.track_store.specs.Kept.{AreSoundAndCountable};
 ghost use Rattle.track_store.specs.Sound.{IsSound};
 ghost use Rattle.track_store.specs.State.{state_of, states_of};
 
-use super::media::{Sample, feed_all, one_track, segments, time};
+use super::media::{REPLACED, feed_all, one_track, segments, time};
 use decoder_feed::{FeedNext, Feeder, feed};
 use mse_base::{Kind, Moment, Ticks};
 use range_removal::remove_frames;
@@ -14,20 +14,9 @@ use std::process::Abort;
 use std::test::Fail;
 use track_store::{FrameStore, ListStore, Track, Tracks};
 
-/// I0 P3 B1 B2 I4 P5, and a random access point over P3, with which B1 and B2 go.
-const REPLACED: [Sample; 7] = [
-    (0, 100, 0, true),
-    (100, 100, 200, false),
-    (200, 100, -100, false),
-    (300, 100, -100, false),
-    (400, 100, 0, true),
-    (500, 100, 0, false),
-    (300, 100, 0, true),
-];
-
 /// The track, which is sound.
 fn first_of<S: FrameStore>(tracks: &Tracks<S>) -> Option<&Track<S>>
-    requires { AreTracksSound (states_of S.frames tracks.now.items) }
+    requires { AreSoundAndCountable (states_of S.frames tracks.now.items) }
     ensures { IfSome result (λ t. IsSound (state_of S.frames t.now)) }
 {
     tracks.get(0)
@@ -41,7 +30,7 @@ fn seeks<S: FrameStore>(
     t: Ticks,
     wanted: Option<u64>,
 ) -> Result<(), Fail>
-    requires { AreTracksSound (states_of S.frames tracks.now.items) }
+    requires { AreSoundAndCountable (states_of S.frames tracks.now.items) }
 {
     let track = first_of(tracks).ok_or("no track")?;
     assert_eq!(rt; feeder.seek(track, t), wanted);
@@ -57,7 +46,7 @@ fn gives<S: FrameStore>(
     serials: &[u64],
     last: FeedNext,
 ) -> Result<(), Fail>
-    requires { AreTracksSound (states_of S.frames tracks.now.items) }
+    requires { AreSoundAndCountable (states_of S.frames tracks.now.items) }
 {
     let track = first_of(tracks).ok_or("no track")?;
     for serial in serials {
@@ -81,7 +70,7 @@ fn feeds<S: FrameStore>(
     t: Ticks,
     serials: &[u64],
 ) -> Result<(), Fail>
-    requires { AreTracksSound (states_of S.frames tracks.now.items) }
+    requires { AreSoundAndCountable (states_of S.frames tracks.now.items) }
 {
     let track = first_of(tracks).ok_or("no track")?;
     match feed(rt.alloc(), track, t)? {

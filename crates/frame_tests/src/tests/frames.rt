@@ -5,6 +5,7 @@ ghost use Rattle.mse_base.specs.Time.{IsTick};
 
 use mse_base::{Bytes, CodedFrame, Kind, Ticks, convert};
 use std::alloc::Global;
+use std::process::Abort;
 use std::test::Fail;
 use track_store::{FrameStore, Marks, Stored, Track, Tracks};
 
@@ -19,9 +20,10 @@ pub(super) fn time(ms: u16) -> Result<Ticks, Fail> {
 /// The duration of a frame from `pts`; none where it is negative, or where the end is no tick.
 pub(super) fn duration_from(pts: Ticks, dur: Ticks) -> Option<Ticks>
     ensures dur_not_negative { IfSome result (λ d. pos 0 ≤ℤ d) }
-    ensures is_tick { IfSome result (λ d. IsTick (pts +ℤ d)) }
+    ensures end_is_tick { IfSome result (λ d. IsTick (pts +ℤ d)) }
 {
     let end = pts.checked_add(dur)?;
+    // The proof reads off this that the end is a tick.
     let _in_range = end.get();
     if dur < Ticks::zero() { None } else { Some(dur) }
 }
@@ -31,7 +33,7 @@ pub(super) fn frame_of(alloc: Global, serial: u64, ms: u16, sync: bool) -> Resul
     ensures serial { IfOk result (λ f. f.serial ≡ serial) }
     ensures sync { IfOk result (λ f. f.frame.sync ≡ sync) }
     ensures dur_not_negative { IfOk result (λ f. pos 0 ≤ℤ f.frame.dur) }
-    ensures is_tick { IfOk result (λ f. IsTick (f.frame.pts +ℤ f.frame.dur)) }
+    ensures end_is_tick { IfOk result (λ f. IsTick (f.frame.pts +ℤ f.frame.dur)) }
     ensures four_bytes { IfOk result (λ f. length f.frame.payload ≡ 4) }
 {
     let pts = time(ms)?;
@@ -82,5 +84,21 @@ pub(super) fn add_track<S: FrameStore>(
         store,
         marks,
     });
+    Ok(())
+}
+
+/// Asserts that a track holds the frames with these presentation timestamps.
+pub(super) fn assert_left<S: FrameStore>(
+    rt: &impl Abort,
+    tracks: &Tracks<S>,
+    place: usize,
+    left: &[u16],
+) -> Result<(), Fail> {
+    let track = tracks.get(place).ok_or("no track")?;
+    assert_eq!(rt; track.store.len(), left.len());
+    for (i, ms) in left.iter().enumerate() {
+        let stored = track.store.get(i).ok_or("no frame")?;
+        assert_eq!(rt; stored.frame.pts, time(*ms)?);
+    }
     Ok(())
 }

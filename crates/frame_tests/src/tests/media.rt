@@ -3,7 +3,7 @@
 ghost use Rattle.std.specs.Prelude.{◌≡◌, ◌<◌, ◌≤◌, ◌^◌, [], pos, ◌≤ℤ◌, length, IfOk, IfSome, slice_get, OnOk};
 ghost use Rattle.track_store.specs.State.{state_of, states_of};
 ghost use Rattle.track_store.specs.Sound.{IsSound};
-ghost use Rattle.track_store.specs.Kept.{AreTracksSound};
+ghost use Rattle.track_store.specs.Kept.{AreSoundAndCountable};
 
 use frame_rules::{Placed, place};
 use mse_base::{Bytes, CodedFrame, Kind, Moment, OutOfMemory, Ticks, convert};
@@ -13,6 +13,17 @@ use track_store::{FrameStore, Marks, Settings, Track, Tracks};
 
 /// Decode time, duration, composition offset, and whether it is a random access point.
 pub(super) type Sample = (u32, u32, i32, bool);
+
+/// I0 P3 B1 B2 I4 P5, and a random access point over P3, with which B1 and B2 go.
+pub(super) const REPLACED: [Sample; 7] = [
+    (0, 100, 0, true),
+    (100, 100, 200, false),
+    (200, 100, -100, false),
+    (300, 100, -100, false),
+    (400, 100, 0, true),
+    (500, 100, 0, false),
+    (300, 100, 0, true),
+];
 
 /// The time, where it is not negative.
 pub(super) fn not_negative(t: Ticks) -> Option<Ticks>
@@ -91,7 +102,7 @@ pub(super) fn one_track<S: FrameStore>(
 ) -> Result<Tracks<S>, OutOfMemory>
     requires { received ≤ 2 ^ 62 }
     ensures one { IfOk result (λ ts. length ts.items ≡ 1) }
-    ensures sound { IfOk result (λ ts. AreTracksSound (states_of S.frames ts.items)) }
+    ensures sound_and_countable { IfOk result (λ ts. AreSoundAndCountable (states_of S.frames ts.items)) }
 {
     let mut tracks = Tracks::new(alloc);
     tracks.reserve(1)?;
@@ -104,7 +115,7 @@ pub(super) fn reserve_at<S: FrameStore>(
     tracks: &mut Tracks<S>,
     index: usize,
 ) -> Result<(), OutOfMemory>
-    ensures ok { OnOk result (IfSome (slice_get tracks.new.items index)
+    ensures spare { OnOk result (IfSome (slice_get tracks.new.items index)
         (λ t. 1 ≤ S.spare t.store)) }
     ensures states { states_of S.frames tracks.new.items ≡ states_of S.frames tracks.old.items }
     ensures len { length tracks.new.items ≡ length tracks.old.items }
@@ -123,11 +134,11 @@ pub(super) fn feed<S: FrameStore>(
     frame: CodedFrame,
 ) -> Result<Placed, OutOfMemory>
     requires in_range { index < length tracks.old.items }
-    requires sound { AreTracksSound (states_of S.frames tracks.old.items) }
+    requires sound_and_countable { AreSoundAndCountable (states_of S.frames tracks.old.items) }
     requires window_start { pos 0 ≤ℤ settings.old.window_start }
     requires dur_not_negative { pos 0 ≤ℤ frame.dur }
     ensures len { length tracks.new.items ≡ length tracks.old.items }
-    ensures sound { AreTracksSound (states_of S.frames tracks.new.items) }
+    ensures sound_and_countable { AreSoundAndCountable (states_of S.frames tracks.new.items) }
     ensures window_start { pos 0 ≤ℤ settings.new.window_start }
 {
     reserve_at(tracks, index)?;
@@ -143,10 +154,10 @@ pub(super) fn feed_all<S: FrameStore>(
     samples: &[Sample],
 ) -> Result<(), Fail>
     requires one { length tracks.old.items ≡ 1 }
-    requires sound { AreTracksSound (states_of S.frames tracks.old.items) }
+    requires sound_and_countable { AreSoundAndCountable (states_of S.frames tracks.old.items) }
     requires window_start { pos 0 ≤ℤ settings.old.window_start }
     ensures one { length tracks.new.items ≡ 1 }
-    ensures sound { AreTracksSound (states_of S.frames tracks.new.items) }
+    ensures sound_and_countable { AreSoundAndCountable (states_of S.frames tracks.new.items) }
     ensures window_start { pos 0 ≤ℤ settings.new.window_start }
 {
     for sample in samples {

@@ -24,7 +24,7 @@ fn frame_of(alloc: Global, serial: u64, interval: Interval) -> Result<Stored, Fa
     ensures serial { IfOk result (λ f. f.serial ≡ serial) }
     ensures sync { IfOk result (λ f. f.frame.sync ≡ true) }
     ensures dur_not_negative { IfOk result (λ f. pos 0 ≤ℤ f.frame.dur) }
-    ensures is_tick { IfOk result (λ f. IsTick (f.frame.pts +ℤ f.frame.dur)) }
+    ensures end_is_tick { IfOk result (λ f. IsTick (f.frame.pts +ℤ f.frame.dur)) }
     ensures empty { IfOk result (λ f. length f.frame.payload ≡ 0) }
 {
     let (begin, duration) = interval;

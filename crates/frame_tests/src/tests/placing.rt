@@ -4,11 +4,11 @@
 ghost use Rattle.std.specs.Prelude.{◌≡◌, ◌<◌, ◌≤◌, ◌^◌, pos, ◌≤ℤ◌, length, IfOk, IfSome, slice_get};
 ghost use Rattle.track_store.specs.State.{states_of};
 ghost use Rattle.track_store.specs.Sound.{IsSound};
-ghost use Rattle.track_store.specs.Kept.{bytes_in, AreTracksSound};
+ghost use Rattle.track_store.specs.Kept.{bytes_in, AreSoundAndCountable};
 
 use super::media::{
-    Sample, empty_track, feed, feed_all, frame_of, not_negative, one_track, reserve_at, segments,
-    time,
+    REPLACED, Sample, empty_track, feed, feed_all, frame_of, not_negative, one_track, reserve_at,
+    segments, time,
 };
 use frame_rules::{Placed, Why, place};
 use mse_base::{Bytes, CodedFrame, Kind, OutOfMemory, Ticks};
@@ -20,7 +20,7 @@ use track_store::{FrameStore, ListStore, Marks, Settings, Tracks};
 /// Two tracks with no frames.
 fn two_tracks<S: FrameStore>(alloc: Global) -> Result<Tracks<S>, OutOfMemory>
     ensures two { IfOk result (λ ts. length ts.items ≡ 2) }
-    ensures sound { IfOk result (λ ts. AreTracksSound (states_of S.frames ts.items)) }
+    ensures sound_and_countable { IfOk result (λ ts. AreSoundAndCountable (states_of S.frames ts.items)) }
 {
     let mut tracks = Tracks::new(alloc);
     tracks.reserve(2)?;
@@ -54,10 +54,10 @@ fn feed_at<S: FrameStore>(
     want: Placed,
 ) -> Result<(), Fail>
     requires in_range { index < length tracks.old.items }
-    requires sound { AreTracksSound (states_of S.frames tracks.old.items) }
+    requires sound_and_countable { AreSoundAndCountable (states_of S.frames tracks.old.items) }
     requires window_start { pos 0 ≤ℤ settings.old.window_start }
     ensures len { length tracks.new.items ≡ length tracks.old.items }
-    ensures sound { AreTracksSound (states_of S.frames tracks.new.items) }
+    ensures sound_and_countable { AreSoundAndCountable (states_of S.frames tracks.new.items) }
     ensures window_start { pos 0 ≤ℤ settings.new.window_start }
 {
     let frame = frame_of(rt.alloc(), 1000, sample)?;
@@ -68,7 +68,7 @@ fn feed_at<S: FrameStore>(
 
 /// Asserts that the track holds the frames with these serials and media times, and has these
 /// ranges.
-fn holds<S: FrameStore>(
+fn assert_held<S: FrameStore>(
     rt: &impl Abort,
     tracks: &Tracks<S>,
     scale: u32,
@@ -107,7 +107,7 @@ fn example(
     let mut tracks = one_track::<ListStore>(rt.alloc(), kind, 0)?;
     let mut settings = segments();
     feed_all(rt.alloc(), &mut tracks, &mut settings, scale, samples)?;
-    holds(rt, &tracks, scale, frames, ranges)
+    assert_held(rt, &tracks, scale, frames, ranges)
 }
 
 /// What a track with no frames answers to its first frame, its marks, and the settings after it.
@@ -185,18 +185,9 @@ fn begins_at_the_group_start(rt: HostRuntime) -> Result<(), Fail> {
 #[test]
 fn replaces_older_frames(rt: HostRuntime) -> Result<(), Fail> {
     // It begins where the second frame does: that one goes, and the two that follow it.
-    let picture: [Sample; 7] = [
-        (0, 100, 0, true),
-        (100, 100, 200, false),
-        (200, 100, -100, false),
-        (300, 100, -100, false),
-        (400, 100, 0, true),
-        (500, 100, 0, false),
-        (300, 100, 0, true),
-    ];
     let left = [(0, 0), (4, 400), (5, 500), (6, 300)];
     let ranges = [(0, 14112000000), (42336000000, 84672000000)];
-    example(&rt, Kind::Video, 1000, &picture, &left, &ranges)?;
+    example(&rt, Kind::Video, 1000, &REPLACED, &left, &ranges)?;
 
     // Less than a microsecond after the frame that it overlaps, and a microsecond after it.
     let near: [Sample; 3] = [
@@ -310,7 +301,7 @@ fn drops_before_the_window(rt: HostRuntime) -> Result<(), Fail> {
     ];
     feed_all(alloc, &mut tracks, &mut settings, 1000, &more)?;
     let ranges = [(0, 14112000000), (42336000000, 56448000000)];
-    holds(&rt, &tracks, 1000, &[(0, 0), (3, 300)], &ranges)
+    assert_held(&rt, &tracks, 1000, &[(0, 0), (3, 300)], &ranges)
 }
 
 /// What a leap of the decode time does in each mode, and generated timestamps.
@@ -327,7 +318,7 @@ fn goes_on_after_a_discontinuity(rt: HostRuntime) -> Result<(), Fail> {
     ];
     feed_all(alloc, &mut tracks, &mut settings, 1000, &leap)?;
     let ranges = [(0, 28224000000), (155232000000, 169344000000)];
-    holds(&rt, &tracks, 1000, &[(0, 0), (1, 100), (3, 1100)], &ranges)?;
+    assert_held(&rt, &tracks, 1000, &[(0, 0), (1, 100), (3, 1100)], &ranges)?;
     assert!(rt; settings.group_end == time(1200, 1000)?);
 
     let mut tracks = one_track::<ListStore>(alloc, Kind::Video, 0)?;
@@ -339,7 +330,7 @@ fn goes_on_after_a_discontinuity(rt: HostRuntime) -> Result<(), Fail> {
         (1000, 100, 0, true),
     ];
     feed_all(alloc, &mut tracks, &mut settings, 1000, &leap)?;
-    holds(
+    assert_held(
         &rt,
         &tracks,
         1000,
@@ -354,7 +345,7 @@ fn goes_on_after_a_discontinuity(rt: HostRuntime) -> Result<(), Fail> {
     settings.generate = true;
     let same: [Sample; 3] = [(7, 100, 0, true), (7, 100, 0, true), (7, 100, 0, true)];
     feed_all(alloc, &mut tracks, &mut settings, 1000, &same)?;
-    holds(
+    assert_held(
         &rt,
         &tracks,
         1000,
@@ -404,7 +395,7 @@ fn leaps_with_an_offset_in_sequence(rt: HostRuntime) -> Result<(), Fail> {
     let next = (1700, 100, 0, true);
     feed_at(&rt, &mut tracks, &mut settings, 0, &next, Placed::Stored)?;
     assert!(rt; settings.group_end == time(370, 1000)?);
-    holds(
+    assert_held(
         &rt,
         &tracks,
         1000,

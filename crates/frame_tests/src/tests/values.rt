@@ -104,7 +104,7 @@ fn adds_and_carves(rt: HostRuntime) -> Result<(), Fail> {
     let mut ranges = Ranges::new(rt.alloc());
     ranges.reserve(3)?;
     assert!(rt; ranges.is_empty() && ranges.spare() >= 3);
-    ranges.add_span(span(&rt, 0, 14_112_000_000), zero);
+    ranges.add_last(span(&rt, 0, 14_112_000_000), zero);
     ranges.add_span(span(&rt, 42_336_000_000, 84_672_000_000), zero);
     expect_spans(
         &rt,

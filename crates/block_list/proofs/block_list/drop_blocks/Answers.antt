@@ -1,6 +1,6 @@
 use Rattle.std.proofs.Common.{◌≡◌, ◌∙◌, ◌≤◌, ◌-◌, ◌++◌, ℕ, suc, List, length, take, drop, remove, vec_capacity, ap, sym, arith, take-append-drop}
 use Rattle.std.proofs.lemmas.List.{length-take-le, length-append}
-use Rattle.mse_base.specs.Rows.{joined}
+use Rattle.mse_base.specs.Rows.{row_items}
 use Rattle.block_list.proofs.Joining.{less_rows, less_items}
 use Rattle.block_list.proofs.Keeping.{listed_less, one_more}
 use Rattle.block_list.proofs.block_list.drop_blocks.Goals as goal
@@ -32,7 +32,7 @@ dropping-preserved g c =
     let z : n ≡ suc (n - 1) = omega arith in
     let less = c.remove-block.ensures.items ∙ ap (λ q. remove q (n - 1)) (c.dropping.invariant.rows ∙ ap (λ k. take k rows ++ drop to rows) z) ∙ less_rows rows (n - 1) to (omega (arith, c.dropping.invariant.within)) c.requires.within in
     record {
-      count = omega (arith, c.dropping.invariant.count, less_items c.dropping.blocks.items (n - 1) c.remove-block.result (omega (arith, m)) c.remove-block.ensures.value, ap (λ q. length (joined q)) c.remove-block.ensures.items, c.len-removed_count.ensures.value);
+      count = omega (arith, c.dropping.invariant.count, less_items c.dropping.blocks.items (n - 1) c.remove-block.result (omega (arith, m)) c.remove-block.ensures.value, ap (λ q. length (row_items q)) c.remove-block.ensures.items, c.len-removed_count.ensures.value);
       in_order = omega arith;
       within = omega (arith, c.dropping.invariant.within);
       rows = less;
@@ -43,4 +43,4 @@ dropping-preserved g c =
 pub overflow_add-removed_count : goal.overflow_add-removed_count
 overflow_add-removed_count g c =
     let m = long c.args.blocks.now.items c.dropping.blocks.items c.dropping.end c.args.to c.dropping.invariant.rows c.dropping.invariant.within c.requires.within in
-    omega (arith, c.dropping.invariant.count, c.requires.small, less_items c.dropping.blocks.items (c.dropping.end - 1) c.remove-block.result (omega (arith, m)) c.remove-block.ensures.value, ap (λ q. length (joined q)) c.remove-block.ensures.items, c.len-removed_count.ensures.value)
+    omega (arith, c.dropping.invariant.count, c.requires.small, less_items c.dropping.blocks.items (c.dropping.end - 1) c.remove-block.result (omega (arith, m)) c.remove-block.ensures.value, ap (λ q. length (row_items q)) c.remove-block.ensures.items, c.len-removed_count.ensures.value)

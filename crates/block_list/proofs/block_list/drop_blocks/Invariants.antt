@@ -1,11 +1,11 @@
 use Rattle.std.proofs.Common.{◌≡◌, ◌≤◌, ◌+◌, ◌-◌, ◌++◌, ℕ, length, take, drop, vec_capacity}
-use Rattle.mse_base.specs.Rows.{joined}
+use Rattle.mse_base.specs.Rows.{row_items}
 use Rattle.block_list.specs.Rows.{IsListed}
 use Rattle.block_list.proofs.block_list.drop_blocks.Given as goal
 
 abbrev pub invariant-dropping : goal.invariant-dropping
 invariant-dropping g l = record {
-  count : l.removed_count + length (joined l.blocks.items) ≡ length (joined l.fn.blocks.items);
+  count : l.removed_count + length (row_items l.blocks.items) ≡ length (row_items l.fn.blocks.items);
   in_order : l.from ≤ l.end;
   within : l.end ≤ l.to;
   rows : l.blocks.items ≡ take l.end l.fn.blocks.items ++ drop l.to l.fn.blocks.items;

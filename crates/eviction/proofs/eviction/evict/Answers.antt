@@ -1,5 +1,5 @@
 use Rattle.std.proofs.Common.{◌∙◌, sym, subst, List}
-use Rattle.track_store.specs.Kept.{AreTracksSound, AreEndedBy, AreStillSound}
+use Rattle.track_store.specs.Kept.{AreSoundAndCountable, AreEndedBy, AreStillSound}
 use Rattle.track_store.specs.State.{TrackState, states_of}
 use Rattle.range_removal.proofs.Rooms.{keeps_both, room_kept, same_length}
 use Rattle.track_store.proofs.StillSound.{still_same}
@@ -19,17 +19,17 @@ returns-then-is_below_quota-clause-sound g c = still_same (states_of g.S.FrameSt
 pub returns-clause-sound : goal.returns-clause-sound
 returns-clause-sound g c = subst (λ (us : List TrackState). AreStillSound (states_of g.S.FrameStore.frames c.args.tracks.now.items) us) (sym (returns-clause-states g c)) (still_evicted c.args.position c.args.new_bytes c.args.quota c.args.duration (states_of g.S.FrameStore.frames c.args.tracks.now.items))
 
-pub returns-clause-tracks_sound : goal.returns-clause-tracks_sound
-returns-clause-tracks_sound g c = λ h. subst AreTracksSound (sym (returns-clause-states g c)) (kept_evicted c.args.position c.args.new_bytes c.args.quota c.args.duration (states_of g.S.FrameStore.frames c.args.tracks.now.items) h)
+pub returns-clause-sound_and_countable : goal.returns-clause-sound_and_countable
+returns-clause-sound_and_countable g c = λ h. subst AreSoundAndCountable (sym (returns-clause-states g c)) (kept_evicted c.args.position c.args.new_bytes c.args.quota c.args.duration (states_of g.S.FrameStore.frames c.args.tracks.now.items) h)
 
 pub returns-clause-ends : goal.returns-clause-ends
 returns-clause-ends g c = λ limit h. subst (AreEndedBy limit) (sym (returns-clause-states g c)) (ends_evicted c.args.position c.args.new_bytes c.args.quota c.args.duration limit (states_of g.S.FrameStore.frames c.args.tracks.now.items) h)
 
-pub returns-clause-spare : goal.returns-clause-spare
-returns-clause-spare g c = keeps_both g.S.FrameStore.spare g.S.FrameStore.gap c.args.tracks.now.items c.evict_before.new.tracks.items c.evict_after.new.tracks.items c.evict_after.ensures.gaps c.evict_before.ensures.spare c.evict_after.ensures.spare
+pub returns-clause-no_room_lost : goal.returns-clause-no_room_lost
+returns-clause-no_room_lost g c = keeps_both g.S.FrameStore.spare g.S.FrameStore.gap c.args.tracks.now.items c.evict_before.new.tracks.items c.evict_after.new.tracks.items c.evict_after.ensures.gaps c.evict_before.ensures.no_room_lost c.evict_after.ensures.no_room_lost
 
 pub returns-clause-room : goal.returns-clause-room
 returns-clause-room g c = λ n h.
     room_kept g.S.FrameStore.spare n c.args.tracks.now.items c.evict_after.new.tracks.items
     (same_length g.S.FrameStore.gap c.args.tracks.now.items c.evict_after.new.tracks.items (c.evict_after.ensures.gaps ∙ c.evict_before.ensures.gaps))
-    (keeps_both g.S.FrameStore.spare g.S.FrameStore.gap c.args.tracks.now.items c.evict_before.new.tracks.items c.evict_after.new.tracks.items c.evict_after.ensures.gaps c.evict_before.ensures.spare c.evict_after.ensures.spare) h
+    (keeps_both g.S.FrameStore.spare g.S.FrameStore.gap c.args.tracks.now.items c.evict_before.new.tracks.items c.evict_after.new.tracks.items c.evict_after.ensures.gaps c.evict_before.ensures.no_room_lost c.evict_after.ensures.no_room_lost) h

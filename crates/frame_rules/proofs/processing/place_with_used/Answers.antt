@@ -33,8 +33,8 @@ pub returns-clause-small : goal.returns-clause-small
 returns-clause-small g c =
     (firm_left _ _ (states_of g.S.FrameStore.frames c.args.tracks.now.items) c.args.settings.now c.args.index c.args.frame refl (returns-clause-placement g c) c.requires.sound c.requires.small c.requires.window_start c.requires.dur_not_negative).small
 
-pub returns-clause-tracks_sound : goal.returns-clause-tracks_sound
-returns-clause-tracks_sound g c = kept_of (states_of g.S.FrameStore.frames c.args.tracks.now.items) _
+pub returns-clause-sound_and_countable : goal.returns-clause-sound_and_countable
+returns-clause-sound_and_countable g c = kept_of (states_of g.S.FrameStore.frames c.args.tracks.now.items) _
     (firm_left _ _ (states_of g.S.FrameStore.frames c.args.tracks.now.items) c.args.settings.now c.args.index c.args.frame refl (returns-clause-placement g c) c.requires.sound c.requires.small c.requires.window_start c.requires.dur_not_negative)
 
 pub returns-clause-window_start : goal.returns-clause-window_start

@@ -29,8 +29,8 @@ add-requires-clause-small g c =
 pub add-requires-clause-dur_not_negative : goal.add-requires-clause-dur_not_negative
 add-requires-clause-dur_not_negative g c = rw (c.stored_frame-frame.ensures c.args.settings.now) c.requires.dur_not_negative
 
-pub add-requires-clause-is_tick : goal.add-requires-clause-is_tick
-add-requires-clause-is_tick g c = rw (c.stored_frame-frame.ensures c.args.settings.now) c.requires.timed.1
+pub add-requires-clause-end_is_tick : goal.add-requires-clause-end_is_tick
+add-requires-clause-end_is_tick g c = rw (c.stored_frame-frame.ensures c.args.settings.now) c.requires.timed.1
 
 pub returns-clause-state : goal.returns-clause-state
 returns-clause-state g c =

@@ -13,11 +13,11 @@ returns-in-Some-clause-states g c =
     let at : slice_get ts c.args.i ≡ Some c.in-Some.track.now = sym c.get_mut.ensures.value ∙ ap option_copied_mut c.in-Some.is in
     rw (slice_get-map st ts c.args.i, at) (map-set st ts c.args.i c.remove_from.new.track ∙ ap (λ (t : TrackState). set (map st ts) c.args.i t) c.remove_from.ensures.state)
 
-pub returns-in-Some-clause-spare : goal.returns-in-Some-clause-spare
-returns-in-Some-clause-spare g c =
+pub returns-in-Some-clause-no_room_lost : goal.returns-in-Some-clause-no_room_lost
+returns-in-Some-clause-no_room_lost g c =
     let ts = c.args.tracks.now.items in
     let at : slice_get ts c.args.i ≡ Some c.in-Some.track.now = sym c.get_mut.ensures.value ∙ ap option_copied_mut c.in-Some.is in
-    keeps_set g.S.FrameStore.spare ts c.args.i c.in-Some.track.now c.remove_from.new.track at c.remove_from.ensures.spare
+    keeps_set g.S.FrameStore.spare ts c.args.i c.in-Some.track.now c.remove_from.new.track at c.remove_from.ensures.no_room_lost
 
 pub returns-in-Some-clause-gaps : goal.returns-in-Some-clause-gaps
 returns-in-Some-clause-gaps g c =

@@ -12,7 +12,7 @@ use Rattle.track_buffers.proofs.bounds.first_span.Goals as goal
 
 pub loop-span-init : goal.loop-span-init
 loop-span-init g c =
-    let none = none_before_zero g.S.FrameStore.frames g.S.FrameStore.gap c.args.ended c.args.tracks.now.items c.requires.sound in
+    let none = none_before_zero g.S.FrameStore.frames g.S.FrameStore.gap c.args.ended c.args.tracks.now.items c.requires.sound_and_countable in
     subst (λ (t : ℤ). HasNoneBefore t (meet_of_all (map (with_end c.common_end-end.result) (ranges_in {S = g.row.S.Denot} g.S.FrameStore.frames g.S.FrameStore.gap c.args.tracks.now.items)))) (sym c.zero-t.ensures)
     (subst (λ (rs : List (List Span)). HasNoneBefore (pos 0) (meet_of_all rs)) (sym c.common_end-end.ensures) none)
 

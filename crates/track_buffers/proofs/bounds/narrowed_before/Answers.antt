@@ -1,7 +1,7 @@
 use Rattle.std.proofs.Common.{◌≡◌, ◌≤◌, ◌<◌, take, length, arith}
 use Rattle.std.specs.List.{filter}
 use Rattle.std.proofs.lemmas.List.{length-map, length-take}
-use Rattle.mse_base.specs.Spans.{last_of, starts_before}
+use Rattle.mse_base.specs.Spans.{last_of, has_start_before}
 use Rattle.track_store.specs.declared.tracks.Track.{Track}
 use Rattle.track_store.specs.Frames.{ranges_of}
 use Rattle.track_buffers.specs.Buffered.{ranges_in}
@@ -15,6 +15,6 @@ loop-i-preserved g c =
     let here : c.loop-i.i < length rs = omega (arith, c.len-i-end.ensures, c.loop-i-test.true) in
     let front : 1 ≤ length (take c.loop-i.i rs) = rw length-take (omega (arith, c.loop-i.invariant.some)) in
     record {
-      held = narrowed_more (λ r. last_of (filter (starts_before c.args.t) r)) rs c.loop-i.i c.loop-i.span c.span_before_at.result c.narrowed_of_two-span.result here front c.loop-i.invariant.held c.span_before_at.ensures c.narrowed_of_two-span.ensures;
+      held = narrowed_more (λ r. last_of (filter (has_start_before c.args.t) r)) rs c.loop-i.i c.loop-i.span c.span_before_at.result c.narrowed_of_two-span.result here front c.loop-i.invariant.held c.span_before_at.ensures c.narrowed_of_two-span.ensures;
       some = omega arith;
     }

@@ -5,7 +5,7 @@ use Rattle.frame_rules.specs.Place.{Placement}
 use Rattle.frame_rules.specs.declared.answer.Placed.TheVariants as placed_as
 use Rattle.track_buffers.specs.declared.effects.SourceEffect.{SourceEffect}
 use Rattle.track_buffers.specs.declared.effects.MediaFault.TheVariants.{TimeRange, Counts}
-use Rattle.track_buffers.specs.Media.{EndsWithin, media_of, no_effect}
+use Rattle.track_buffers.specs.Media.{AreEndedWithin, media_of, no_effect}
 use Rattle.track_buffers.specs.Frames.{frame_result_of}
 use Rattle.track_buffers.proofs.Placing.{set_alone_by, same_ids}
 use Rattle.track_buffers.proofs.Framing.{as_before, broke_same, window_end_stays, ends_stored, changed_few}
@@ -15,10 +15,10 @@ use Rattle.track_store.proofs.StillSound.{sound_in}
 use Rattle.track_buffers.proofs.frames.process_at.Goals as goal
 
 pub place_with_used-requires-clause-sound : goal.place_with_used-requires-clause-sound
-place_with_used-requires-clause-sound g c = sound_in (states_of g.S.FrameStore.frames c.args.tracks.now.items) c.args.i c.requires.sound.sound
+place_with_used-requires-clause-sound g c = sound_in (states_of g.S.FrameStore.frames c.args.tracks.now.items) c.args.i c.requires.sound_and_countable.sound
 
 pub place_with_used-requires-clause-small : goal.place_with_used-requires-clause-small
-place_with_used-requires-clause-small g c = c.requires.sound.small
+place_with_used-requires-clause-small g c = c.requires.sound_and_countable.small
 
 pub returns-in-Stored-clause-window_end : goal.returns-in-Stored-clause-window_end
 returns-in-Stored-clause-window_end g c =
@@ -52,7 +52,7 @@ returns-in-Dropped-clause-within_duration g c = λ h.
     let F = g.S.FrameStore.frames in
     let ts = states_of F c.args.tracks.now.items in
     let us = states_of F c.place_with_used.new.tracks.items in
-    subst (λ (b : SourceEffect). EndsWithin b.duration us) (sym c.no_effect.ensures) (ends_kept ts us c.in-Dropped.ensures.ends c.args.duration.now h)
+    subst (λ (b : SourceEffect). AreEndedWithin b.duration us) (sym c.no_effect.ensures) (ends_kept ts us c.in-Dropped.ensures.ends c.args.duration.now h)
 
 pub returns-in-Dropped-clause-no_fall : goal.returns-in-Dropped-clause-no_fall
 returns-in-Dropped-clause-no_fall g c = not_after_none c.args.duration.now c.no_effect.result c.no_effect.ensures
@@ -69,7 +69,7 @@ returns-in-TimeRange-clause-within_duration g c = λ h.
     let F = g.S.FrameStore.frames in
     let ts = states_of F c.args.tracks.now.items in
     let us = states_of F c.place_with_used.new.tracks.items in
-    subst (λ (b : SourceEffect). EndsWithin b.duration us) (sym c.no_effect-in-TimeRange.ensures) (ends_kept ts us c.in-TimeRange.ensures.ends c.args.duration.now h)
+    subst (λ (b : SourceEffect). AreEndedWithin b.duration us) (sym c.no_effect-in-TimeRange.ensures) (ends_kept ts us c.in-TimeRange.ensures.ends c.args.duration.now h)
 
 pub returns-in-TimeRange-clause-result : goal.returns-in-TimeRange-clause-result
 returns-in-TimeRange-clause-result g c = λ pending gap.
@@ -95,7 +95,7 @@ returns-in-Counts-clause-within_duration g c = λ h.
     let F = g.S.FrameStore.frames in
     let ts = states_of F c.args.tracks.now.items in
     let us = states_of F c.place_with_used.new.tracks.items in
-    subst (λ (b : SourceEffect). EndsWithin b.duration us) (sym c.no_effect-in-Counts.ensures) (ends_kept ts us c.in-Counts.ensures.ends c.args.duration.now h)
+    subst (λ (b : SourceEffect). AreEndedWithin b.duration us) (sym c.no_effect-in-Counts.ensures) (ends_kept ts us c.in-Counts.ensures.ends c.args.duration.now h)
 
 pub returns-in-Counts-clause-result : goal.returns-in-Counts-clause-result
 returns-in-Counts-clause-result g c = λ pending gap.

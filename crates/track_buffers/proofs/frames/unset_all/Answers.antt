@@ -2,7 +2,7 @@ use Rattle.std.proofs.Common.{◌∙◌, ◌<◌, ◌≤◌, sym, subst, length,
 use Rattle.std.proofs.lemmas.List.{length-map}
 use Rattle.range_removal.proofs.Loops.{written_more, all_written}
 use Rattle.range_removal.proofs.Rooms.{keeps_both, room_kept, same_length}
-use Rattle.track_store.specs.Kept.{AreTracksSound}
+use Rattle.track_store.specs.Kept.{AreSoundAndCountable}
 use Rattle.track_store.specs.State.{states_of}
 use Rattle.track_buffers.specs.Frames.{unset_track}
 use Rattle.track_buffers.proofs.Keeping.{kept_unset}
@@ -15,7 +15,7 @@ loop-i-preserved g c =
     let here : c.loop-i.i < length (states_of F old) = rw length-map (omega (arith, c.loop-i.invariant.end, c.loop-i-test.true)) in
     record {
       states = written_more unset_track (states_of F old) (states_of F c.loop-i.tracks.items) (states_of F c.unset_at.new.tracks.items) c.loop-i.i here c.loop-i.invariant.states c.unset_at.ensures.states;
-      spare = keeps_both g.S.FrameStore.spare g.S.FrameStore.gap old c.loop-i.tracks.items c.unset_at.new.tracks.items c.unset_at.ensures.gaps c.loop-i.invariant.spare c.unset_at.ensures.spare;
+      spare = keeps_both g.S.FrameStore.spare g.S.FrameStore.gap old c.loop-i.tracks.items c.unset_at.new.tracks.items c.unset_at.ensures.gaps c.loop-i.invariant.spare c.unset_at.ensures.no_room_lost;
       gaps = c.unset_at.ensures.gaps ∙ c.loop-i.invariant.gaps;
       places = c.unset_at.ensures.places ∙ c.loop-i.invariant.places;
       end = c.loop-i.invariant.end;
@@ -28,10 +28,10 @@ returns-clause-states g c =
     let past : length old ≤ c.loop-i.i = rw length-map (omega (arith, c.loop-i.invariant.end, c.loop-i-test.false)) in
     all_written unset_track old (states_of F c.loop-i.tracks.items) c.loop-i.i past c.loop-i.invariant.states
 
-pub returns-clause-sound : goal.returns-clause-sound
-returns-clause-sound g c =
+pub returns-clause-sound_and_countable : goal.returns-clause-sound_and_countable
+returns-clause-sound_and_countable g c =
     let old = states_of g.S.FrameStore.frames c.args.tracks.now.items in
-    λ h. subst AreTracksSound (sym (returns-clause-states g c)) (kept_unset old h)
+    λ h. subst AreSoundAndCountable (sym (returns-clause-states g c)) (kept_unset old h)
 
 pub returns-clause-room : goal.returns-clause-room
 returns-clause-room g c = λ n h.

@@ -12,11 +12,11 @@ returns-in-Some-clause-states g c =
     let at : slice_get ts c.args.i ≡ Some c.in-Some.track.now = sym c.get_mut.ensures.value ∙ ap option_copied_mut c.in-Some.is in
     edited g.S.FrameStore.frames unset_track ts c.args.i c.in-Some.track.now c.unset.new.track at c.unset.ensures.state
 
-pub returns-in-Some-clause-spare : goal.returns-in-Some-clause-spare
-returns-in-Some-clause-spare g c =
+pub returns-in-Some-clause-no_room_lost : goal.returns-in-Some-clause-no_room_lost
+returns-in-Some-clause-no_room_lost g c =
     let ts = c.args.tracks.now.items in
     let at : slice_get ts c.args.i ≡ Some c.in-Some.track.now = sym c.get_mut.ensures.value ∙ ap option_copied_mut c.in-Some.is in
-    keeps_set g.S.FrameStore.spare ts c.args.i c.in-Some.track.now c.unset.new.track at c.unset.ensures.spare
+    keeps_set g.S.FrameStore.spare ts c.args.i c.in-Some.track.now c.unset.new.track at c.unset.ensures.no_room_lost
 
 pub returns-in-Some-clause-gaps : goal.returns-in-Some-clause-gaps
 returns-in-Some-clause-gaps g c =

@@ -14,21 +14,21 @@ returns-in-Some-clause-states g c =
     let at : slice_get ts c.args.i ≡ Some t = sym c.get_mut.ensures.value ∙ ap option_copied_mut c.in-Some.is in
     unedited g.S.FrameStore.frames ts c.args.i t u at (ap (λ (fs : List Stored). record (state_of g.S.FrameStore.frames t) { frames = fs }) c.reserve.ensures.frames)
 
-pub returns-in-Some-clause-ok : goal.returns-in-Some-clause-ok
-returns-in-Some-clause-ok g c =
-    let ts = c.args.tracks.now.items in
-    let t = c.in-Some.track.now in
-    let u = record t { store = c.reserve.new.self } in
-    let at : slice_get ts c.args.i ≡ Some t = sym c.get_mut.ensures.value ∙ ap option_copied_mut c.in-Some.is in
-    rw (get_set ts c.args.i t u at) c.reserve.ensures.ok
-
 pub returns-in-Some-clause-spare : goal.returns-in-Some-clause-spare
 returns-in-Some-clause-spare g c =
     let ts = c.args.tracks.now.items in
     let t = c.in-Some.track.now in
     let u = record t { store = c.reserve.new.self } in
     let at : slice_get ts c.args.i ≡ Some t = sym c.get_mut.ensures.value ∙ ap option_copied_mut c.in-Some.is in
-    keeps_set g.S.FrameStore.spare ts c.args.i t u at c.reserve.ensures.room_stays
+    rw (get_set ts c.args.i t u at) c.reserve.ensures.spare
+
+pub returns-in-Some-clause-no_room_lost : goal.returns-in-Some-clause-no_room_lost
+returns-in-Some-clause-no_room_lost g c =
+    let ts = c.args.tracks.now.items in
+    let t = c.in-Some.track.now in
+    let u = record t { store = c.reserve.new.self } in
+    let at : slice_get ts c.args.i ≡ Some t = sym c.get_mut.ensures.value ∙ ap option_copied_mut c.in-Some.is in
+    keeps_set g.S.FrameStore.spare ts c.args.i t u at c.reserve.ensures.no_room_lost
 
 pub returns-in-Some-clause-gaps : goal.returns-in-Some-clause-gaps
 returns-in-Some-clause-gaps g c =

@@ -1,12 +1,12 @@
 use Rattle.std.proofs.Common.{◌≡◌, ◌∙◌, ◌<◌, ℕ, inl, inr, length, get_or, ap, arith}
-use Rattle.mse_base.specs.Rows.{joined}
+use Rattle.mse_base.specs.Rows.{row_items}
 use Rattle.track_index.proofs.Grouping.{IsPlaceUpTo, group_found, group_there}
 use Rattle.track_index.proofs.frames.group_start.Goals.{then-i-len, else-i-len}
 use Rattle.track_index.proofs.frames.group_start.Goals as goal
 
 pub returns-in-Some : goal.returns-in-Some
 returns-in-Some c =
-    let fs = joined c.args.frames.now.rows in
+    let fs = row_items c.args.frames.now.rows in
     let x = c.item.result.now in
     let k = c.if-i-len.number in
     let which : IsPlaceUpTo c.args.i k (length fs) = elim c.if-i-len.branch as (λ _. IsPlaceUpTo c.args.i k (length fs)) [
@@ -19,7 +19,7 @@ returns-in-Some c =
 
 pub returns-in-None : goal.returns-in-None
 returns-in-None c =
-    let fs = joined c.args.frames.now.rows in
+    let fs = row_items c.args.frames.now.rows in
     let x = c.item.result.now in
     let k = c.if-i-len.number in
     let within : k < length fs = omega arith in

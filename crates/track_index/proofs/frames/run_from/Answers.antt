@@ -1,5 +1,5 @@
 use Rattle.std.proofs.Common.{◌∙◌, ◌<◌, ◌+◌, ◌≤◌, ℕ, length, drop, ap, sym, refl, arith}
-use Rattle.mse_base.specs.Rows.{joined}
+use Rattle.mse_base.specs.Rows.{row_items}
 use Rattle.block_list.specs.BlockPlaces.{rank}
 use Rattle.track_store.specs.Frames.{from_sync}
 use Rattle.track_index.proofs.Framing.{run_stops, run_goes, run_ends}
@@ -17,7 +17,7 @@ item-requires c =
 pub returns-then-item-clause-rest : goal.returns-then-item-clause-rest
 returns-then-item-clause-rest c =
     let rows = c.args.frames.now.rows in
-    let fs = joined rows in
+    let fs = row_items rows in
     let s = c.loop-next.next in
     let l : s.block < length rows = omega (arith, c.blocks-in-loop-next.ensures, c.loop-next-test.true) in
     let k = rank_within rows s l (c.loop-next.invariant.place.item l) in
@@ -27,7 +27,7 @@ returns-then-item-clause-rest c =
 pub overflow_add-count : goal.overflow_add-count
 overflow_add-count c =
     let rows = c.args.frames.now.rows in
-    let fs = joined rows in
+    let fs = row_items rows in
     let s = c.loop-next.next in
     let l : s.block < length rows = omega (arith, c.blocks-in-loop-next.ensures, c.loop-next-test.true) in
     let k = rank_within rows s l (c.loop-next.invariant.place.item l) in
@@ -36,7 +36,7 @@ overflow_add-count c =
 pub loop-next-preserved : goal.loop-next-preserved
 loop-next-preserved c =
     let rows = c.args.frames.now.rows in
-    let fs = joined rows in
+    let fs = row_items rows in
     let s = c.loop-next.next in
     let l : s.block < length rows = omega (arith, c.blocks-in-loop-next.ensures, c.loop-next-test.true) in
     let k = rank_within rows s l (c.loop-next.invariant.place.item l) in
@@ -54,7 +54,7 @@ loop-next-preserved c =
 pub loop-next-smaller : goal.loop-next-smaller
 loop-next-smaller c =
     let rows = c.args.frames.now.rows in
-    let fs = joined rows in
+    let fs = row_items rows in
     let s = c.loop-next.next in
     let l : s.block < length rows = omega (arith, c.blocks-in-loop-next.ensures, c.loop-next-test.true) in
     let k = rank_within rows s l (c.loop-next.invariant.place.item l) in
@@ -63,7 +63,7 @@ loop-next-smaller c =
 pub returns-clause-rest : goal.returns-clause-rest
 returns-clause-rest c =
     let rows = c.args.frames.now.rows in
-    let fs = joined rows in
+    let fs = row_items rows in
     let s = c.loop-next.next in
     let past : length rows ≤ s.block = omega (arith, c.blocks-in-loop-next.ensures, c.loop-next-test.false) in
     let e = c.loop-next.invariant.next in

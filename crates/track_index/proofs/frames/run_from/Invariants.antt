@@ -1,5 +1,5 @@
 use Rattle.std.proofs.Common.{◌≡◌, ◌+◌, ◌-◌, ◌<◌, ◌≤◌, length, drop}
-use Rattle.mse_base.specs.Rows.{joined, row}
+use Rattle.mse_base.specs.Rows.{row_items, row}
 use Rattle.block_list.specs.BlockPlaces.{rank, IsPlace}
 use Rattle.track_store.specs.Frames.{from_sync}
 use Rattle.track_index.proofs.frames.run_from.Given as goal
@@ -12,8 +12,8 @@ invariant-loop-next l = record {
   some : 1 ≤ l.count;
   place : IsPlace l.frames.rows l.next;
   next : rank l.frames.rows l.next ≡ rank l.frames.rows l.fn.from + l.count;
-  rest : from_sync (drop (rank l.frames.rows l.fn.from + l.count) (joined l.frames.rows)) ≡ from_sync (drop (rank l.frames.rows l.fn.from + 1) (joined l.frames.rows));
+  rest : from_sync (drop (rank l.frames.rows l.fn.from + l.count) (row_items l.frames.rows)) ≡ from_sync (drop (rank l.frames.rows l.fn.from + 1) (row_items l.frames.rows));
 }
 
 abbrev pub decreases-loop-next : goal.decreases-loop-next
-decreases-loop-next l = length (joined l.frames.rows) - rank l.frames.rows l.next
+decreases-loop-next l = length (row_items l.frames.rows) - rank l.frames.rows l.next

@@ -1,7 +1,7 @@
 use Rattle.std.proofs.Common.{◌≡◌, ◌∙◌, ◌<◌, ◌+◌, ◌++◌, ◌∷◌, ℕ, not, length, take, drop, get_or, filter, ap, sym, subst, arith}
 use Rattle.std.specs.List.{AllByRecursion, list_any}
 use Rattle.std.proofs.lemmas.List.{take-append-drop}
-use Rattle.mse_base.specs.Rows.{joined}
+use Rattle.mse_base.specs.Rows.{row_items}
 use Rattle.block_list.specs.BlockPlaces.{rank}
 use Rattle.track_store.specs.Frames.{IsAscending, bytes_of}
 use Rattle.track_index.specs.declared.entry.OrderEntry.{OrderEntry}
@@ -14,7 +14,7 @@ use Rattle.track_index.proofs.index_store.take_run_out.Goals as goal
 
 pub loop-n-init : goal.loop-n-init
 loop-n-init c =
-    let fs = joined c.args.frames.now.rows in
+    let fs = row_items c.args.frames.now.rows in
     let i = rank c.args.frames.now.rows c.args.run.from in
     let z : i + 0 ≡ i = omega arith in
     let whole : take i fs ++ drop (i + 0) fs ≡ fs = ap (λ (k : ℕ). take i fs ++ drop k fs) z ∙ take-append-drop i fs in
@@ -29,14 +29,14 @@ loop-n-init c =
 pub item-stored-requires : goal.item-stored-requires
 item-stored-requires c =
     let rows = c.args.frames.now.rows in
-    let k : rank rows c.loop-n.place < length (joined rows) = omega (arith, c.loop-n.invariant.next, c.requires.within) in
+    let k : rank rows c.loop-n.place < length (row_items rows) = omega (arith, c.loop-n.invariant.next, c.requires.within) in
     let p = item_place rows c.loop-n.place c.loop-n.invariant.place k in
     record { block = p.0; index = p.1 }
 
 pub take_out-requires : goal.take_out-requires
 take_out-requires c =
     let rows = c.args.frames.now.rows in
-    let fs = joined rows in
+    let fs = row_items rows in
     let i = rank rows c.args.run.from in
     let n = c.loop-n.n in
     let x = c.item-stored.result.now in
@@ -54,7 +54,7 @@ take_out-requires c =
 pub overflow_sub-bytes_left : goal.overflow_sub-bytes_left
 overflow_sub-bytes_left c =
     let rows = c.args.frames.now.rows in
-    let fs = joined rows in
+    let fs = row_items rows in
     let i = rank rows c.args.run.from in
     let n = c.loop-n.n in
     let x = c.item-stored.result.now in
@@ -66,14 +66,14 @@ overflow_sub-bytes_left c =
 pub next-place-requires : goal.next-place-requires
 next-place-requires c =
     let rows = c.args.frames.now.rows in
-    let k : rank rows c.loop-n.place < length (joined rows) = omega (arith, c.loop-n.invariant.next, c.requires.within) in
+    let k : rank rows c.loop-n.place < length (row_items rows) = omega (arith, c.loop-n.invariant.next, c.requires.within) in
     let p = item_place rows c.loop-n.place c.loop-n.invariant.place k in
     record { block = p.0; index = p.1 }
 
 pub loop-n-preserved : goal.loop-n-preserved
 loop-n-preserved c =
     let rows = c.args.frames.now.rows in
-    let fs = joined rows in
+    let fs = row_items rows in
     let i = rank rows c.args.run.from in
     let n = c.loop-n.n in
     let x = c.item-stored.result.now in
@@ -87,16 +87,16 @@ loop-n-preserved c =
       next = omega (arith, c.next-place.ensures.rank, c.loop-n.invariant.next);
       order = c.take_out.ensures.items ∙ ap (filter (λ (p : OrderEntry). not (has_entry_serial x.serial p))) o ∙ order_without (take i fs) x ys u;
       bytes = omega (arith, c.loop-n.invariant.bytes, ap bytes_of e, bytes_mid (take i fs) x ys, c.len.ensures);
-      spare = omega (arith, c.loop-n.invariant.spare, c.take_out.ensures.spare);
+      spare = omega (arith, c.loop-n.invariant.spare, c.take_out.ensures.no_room_lost);
     }
 
 pub returns : goal.returns
 returns c =
     let z : c.loop-n.n ≡ c.args.run.count = omega arith in
-    let fs = joined c.args.frames.now.rows in
+    let fs = row_items c.args.frames.now.rows in
     let i = rank c.args.frames.now.rows c.args.run.from in
     record {
       order = c.loop-n.invariant.order ∙ ap (λ (k : ℕ). presentation_order (take i fs ++ drop (i + k) fs)) z;
       bytes = c.loop-n.invariant.bytes ∙ ap (λ (k : ℕ). bytes_of (take i fs ++ drop (i + k) fs)) z;
-      spare = c.loop-n.invariant.spare;
+      no_room_lost = c.loop-n.invariant.spare;
     }

@@ -1,5 +1,5 @@
 use Rattle.std.proofs.Common.{◌≡◌, ◌+◌, ◌++◌, ◌≤◌, take, drop}
-use Rattle.mse_base.specs.Rows.{joined}
+use Rattle.mse_base.specs.Rows.{row_items}
 use Rattle.block_list.specs.BlockPlaces.{rank, IsPlace}
 use Rattle.track_store.specs.Frames.{bytes_of}
 use Rattle.track_index.specs.Order.{presentation_order}
@@ -9,7 +9,7 @@ abbrev pub invariant-loop-n : goal.invariant-loop-n
 invariant-loop-n l = record {
   place : IsPlace l.frames.rows l.place;
   next : rank l.frames.rows l.place ≡ rank l.frames.rows l.fn.run.from + l.n;
-  order : joined l.order.rows ≡ presentation_order (take (rank l.frames.rows l.fn.run.from) (joined l.frames.rows) ++ drop (rank l.frames.rows l.fn.run.from + l.n) (joined l.frames.rows));
-  bytes : l.bytes_left ≡ bytes_of (take (rank l.frames.rows l.fn.run.from) (joined l.frames.rows) ++ drop (rank l.frames.rows l.fn.run.from + l.n) (joined l.frames.rows));
+  order : row_items l.order.rows ≡ presentation_order (take (rank l.frames.rows l.fn.run.from) (row_items l.frames.rows) ++ drop (rank l.frames.rows l.fn.run.from + l.n) (row_items l.frames.rows));
+  bytes : l.bytes_left ≡ bytes_of (take (rank l.frames.rows l.fn.run.from) (row_items l.frames.rows) ++ drop (rank l.frames.rows l.fn.run.from + l.n) (row_items l.frames.rows));
   spare : l.fn.order.spare ≤ l.order.spare;
 }

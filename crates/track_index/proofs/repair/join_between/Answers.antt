@@ -2,7 +2,7 @@ use Rattle.std.proofs.Common.{◌∙◌, ◌<◌, ◌+ℤ◌, ◌≤◌, ◌||�
 use Rattle.mse_base.specs.Time.{IsTick}
 use Rattle.mse_base.specs.declared.span.Span.{Span}
 use Rattle.mse_base.specs.Bridging.{is_near, is_near_any}
-use Rattle.mse_base.specs.Rows.{joined}
+use Rattle.mse_base.specs.Rows.{row_items}
 use Rattle.block_list.specs.BlockPlaces.{rank}
 use Rattle.track_index.specs.declared.entry.OrderEntry.{OrderEntry}
 use Rattle.track_index.specs.Repair.{HasTicksBetween}
@@ -15,8 +15,8 @@ loop-place-init c = record {
   place = c.place_at-place.ensures.place;
   ranges = c.requires.ranges;
   room = refl;
-  grown = grown_none c.args.gap (joined c.args.order.now.rows) c.args.ranges.now.spans;
-  between = between_init c.args.gap c.args.key.now c.args.high (joined c.args.order.now.rows) c.args.ranges.now.spans (rank c.args.order.now.rows c.place_at-place.result) c.place_at-place.ensures.before;
+  grown = grown_none c.args.gap (row_items c.args.order.now.rows) c.args.ranges.now.spans;
+  between = between_init c.args.gap c.args.key.now c.args.high (row_items c.args.order.now.rows) c.args.ranges.now.spans (rank c.args.order.now.rows c.place_at-place.result) c.place_at-place.ensures.before;
 }
 
 pub entry-entry-requires : goal.entry-entry-requires
@@ -25,7 +25,7 @@ entry-entry-requires c = let l : c.loop-place.place.block < length c.args.order.
 pub returns-then-is_by-clause-between : goal.returns-then-is_by-clause-between
 returns-then-is_by-clause-between c = λ _.
     let rows = c.args.order.now.rows in
-    let os = joined rows in
+    let os = row_items rows in
     let s = c.loop-place.place in
     let l : s.block < length rows = omega (arith, c.blocks-in-loop-place.ensures, c.loop-place-test.true) in
     let k = rank_within rows s l (c.loop-place.invariant.place.item l) in
@@ -34,7 +34,7 @@ returns-then-is_by-clause-between c = λ _.
 pub span_of-requires : goal.span_of-requires
 span_of-requires c =
     let rows = c.args.order.now.rows in
-    let os = joined rows in
+    let os = row_items rows in
     let s = c.loop-place.place in
     let l : s.block < length rows = omega (arith, c.blocks-in-loop-place.ensures, c.loop-place-test.true) in
     let k = rank_within rows s l (c.loop-place.invariant.place.item l) in
@@ -46,7 +46,7 @@ next-place-requires c = let l : c.loop-place.place.block < length c.args.order.n
 pub loop-place-preserved : goal.loop-place-preserved
 loop-place-preserved c =
     let rows = c.args.order.now.rows in
-    let os = joined rows in
+    let os = row_items rows in
     let s = c.loop-place.place in
     let l : s.block < length rows = omega (arith, c.blocks-in-loop-place.ensures, c.loop-place-test.true) in
     let k = rank_within rows s l (c.loop-place.invariant.place.item l) in
@@ -63,7 +63,7 @@ loop-place-preserved c =
 pub loop-place-smaller : goal.loop-place-smaller
 loop-place-smaller c =
     let rows = c.args.order.now.rows in
-    let os = joined rows in
+    let os = row_items rows in
     let s = c.loop-place.place in
     let l : s.block < length rows = omega (arith, c.blocks-in-loop-place.ensures, c.loop-place-test.true) in
     let k = rank_within rows s l (c.loop-place.invariant.place.item l) in
@@ -74,4 +74,4 @@ returns-clause-between c = λ _.
     let rows = c.args.order.now.rows in
     let s = c.loop-place.place in
     let past : length rows ≤ s.block = omega (arith, c.blocks-in-loop-place.ensures, c.loop-place-test.false) in
-    between_end c.args.gap c.args.key.now c.args.high (joined rows) c.loop-place.ranges.spans (rank rows s) (omega (arith, c.loop-place.invariant.place.end past)) c.loop-place.invariant.between
+    between_end c.args.gap c.args.key.now c.args.high (row_items rows) c.loop-place.ranges.spans (rank rows s) (omega (arith, c.loop-place.invariant.place.end past)) c.loop-place.invariant.between

@@ -1,5 +1,5 @@
 use Rattle.std.proofs.Common.{◌≡◌, ◌+◌, ◌-◌, length, take}
-use Rattle.mse_base.specs.Rows.{joined}
+use Rattle.mse_base.specs.Rows.{row_items}
 use Rattle.block_list.specs.BlockPlaces.{rank, IsPlace}
 use Rattle.mse_base.specs.Bridging.{IsRanges}
 use Rattle.track_index.specs.Repair.{AreGrownBy, HasTicksBetween}
@@ -10,9 +10,9 @@ invariant-loop-place l = record {
   place : IsPlace l.order.rows l.place;
   ranges : IsRanges l.gap l.ranges.spans;
   room : l.ranges.spare + length l.ranges.spans ≡ l.fn.ranges.spare + length l.fn.ranges.spans;
-  grown : AreGrownBy l.gap (joined l.order.rows) l.fn.ranges.spans l.ranges.spans;
-  between : HasTicksBetween l.gap l.key l.high (take (rank l.order.rows l.place) (joined l.order.rows)) l.ranges.spans;
+  grown : AreGrownBy l.gap (row_items l.order.rows) l.fn.ranges.spans l.ranges.spans;
+  between : HasTicksBetween l.gap l.key l.high (take (rank l.order.rows l.place) (row_items l.order.rows)) l.ranges.spans;
 }
 
 abbrev pub decreases-loop-place : goal.decreases-loop-place
-decreases-loop-place l = length (joined l.order.rows) - rank l.order.rows l.place
+decreases-loop-place l = length (row_items l.order.rows) - rank l.order.rows l.place

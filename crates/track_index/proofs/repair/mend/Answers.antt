@@ -2,7 +2,7 @@ use Rattle.std.proofs.Common.{◌≡◌, ◌∙◌, ◌<ℤ◌, ◌≤ℤ◌, �
 use Rattle.std.proofs.lemmas.Int.{ints}
 use Rattle.mse_base.specs.Bridging.{ranges_without, IsRanges}
 use Rattle.mse_base.proofs.Merging.{ranges_bridged}
-use Rattle.mse_base.specs.Rows.{joined}
+use Rattle.mse_base.specs.Rows.{row_items}
 use Rattle.track_index.specs.declared.key.Key.{Key}
 use Rattle.track_index.specs.Order.{span_of}
 use Rattle.track_index.specs.Repair.{AreGrownBy, HasTicksPast, HasTicksBetween}
@@ -12,25 +12,25 @@ use Rattle.track_index.proofs.repair.mend.Goals as goal
 pub returns-then-le-clause-between : goal.returns-then-le-clause-between
 returns-then-le-clause-between c =
     let h : c.args.hole.end ≤ℤ c.args.hole.start = grind (arith, ints, c.le.ensures, c.if-le.true) in
-    λ holes b. between_empty c.args.gap (map span_of (joined c.args.order.now.rows)) holes c.args.ranges.now.spans c.args.hole h b
+    λ holes b. between_empty c.args.gap (map span_of (row_items c.args.order.now.rows)) holes c.args.ranges.now.spans c.args.hole h b
 
 pub returns-then-spare-eq0-clause-ranges : goal.returns-then-spare-eq0-clause-ranges
-returns-then-spare-eq0-clause-ranges c = subst (IsRanges c.args.gap) (sym c.remake.ensures.spans) (ranges_bridged c.args.gap (map span_of (joined c.args.order.now.rows)) c.requires.gap_from_zero)
+returns-then-spare-eq0-clause-ranges c = subst (IsRanges c.args.gap) (sym c.remake.ensures.spans) (ranges_bridged c.args.gap (map span_of (row_items c.args.order.now.rows)) c.requires.gap_from_zero)
 
 pub returns-then-spare-eq0-clause-between : goal.returns-then-spare-eq0-clause-between
-returns-then-spare-eq0-clause-between c = λ holes _. between_whole c.args.gap (map span_of (joined c.args.order.now.rows)) holes c.remake.new.ranges.spans c.requires.gap_from_zero c.remake.ensures.spans
+returns-then-spare-eq0-clause-between c = λ holes _. between_whole c.args.gap (map span_of (row_items c.args.order.now.rows)) holes c.remake.new.ranges.spans c.requires.gap_from_zero c.remake.ensures.spans
 
 pub returns-then-not-refill-clause-ranges : goal.returns-then-not-refill-clause-ranges
-returns-then-not-refill-clause-ranges c = subst (IsRanges c.args.gap) (sym c.remake-then-not-refill.ensures.spans) (ranges_bridged c.args.gap (map span_of (joined c.args.order.now.rows)) c.requires.gap_from_zero)
+returns-then-not-refill-clause-ranges c = subst (IsRanges c.args.gap) (sym c.remake-then-not-refill.ensures.spans) (ranges_bridged c.args.gap (map span_of (row_items c.args.order.now.rows)) c.requires.gap_from_zero)
 
 pub returns-then-not-refill-clause-between : goal.returns-then-not-refill-clause-between
-returns-then-not-refill-clause-between c = λ holes _. between_whole c.args.gap (map span_of (joined c.args.order.now.rows)) holes c.remake-then-not-refill.new.ranges.spans c.requires.gap_from_zero c.remake-then-not-refill.ensures.spans
+returns-then-not-refill-clause-between c = λ holes _. between_whole c.args.gap (map span_of (row_items c.args.order.now.rows)) holes c.remake-then-not-refill.new.ranges.spans c.requires.gap_from_zero c.remake-then-not-refill.ensures.spans
 
 pub returns-else-not-refill-clause-between : goal.returns-else-not-refill-clause-between
 returns-else-not-refill-clause-between c = λ holes same.
     let old = c.args.ranges.now.spans in
     let new = c.refill.new.ranges.spans in
-    let os = joined c.args.order.now.rows in
+    let os = row_items c.args.order.now.rows in
     let a = c.ahead.result in
     let b = c.beyond-high.result in
     let w : c.args.hole.start <ℤ c.args.hole.end = grind (arith, ints, c.le.ensures, c.if-le.false) in

@@ -1,7 +1,7 @@
 use Rattle.std.proofs.Common.{◌≡◌, ◌∙◌, ◌<◌, ◌+◌, ◌+ℤ◌, ◌∷◌, ℕ, length, take, drop, get_or, map, ap, sym, subst, arith}
 use Rattle.mse_base.specs.Time.{IsTick}
 use Rattle.mse_base.specs.declared.span.Span.{Span}
-use Rattle.mse_base.specs.Rows.{joined}
+use Rattle.mse_base.specs.Rows.{row_items}
 use Rattle.block_list.specs.BlockPlaces.{rank}
 use Rattle.track_store.specs.Frames.{intervals, interval, IsTimed}
 use Rattle.track_index.specs.declared.entry.OrderEntry.{OrderEntry}
@@ -24,16 +24,16 @@ loop-n-init c = record {
 pub item-requires : goal.item-requires
 item-requires c =
     let rows = c.args.frames.now.rows in
-    let k : rank rows c.loop-n.place < length (joined rows) = omega (arith, c.loop-n.invariant.next, c.requires.within) in
+    let k : rank rows c.loop-n.place < length (row_items rows) = omega (arith, c.loop-n.invariant.next, c.requires.within) in
     let p = item_place rows c.loop-n.place c.loop-n.invariant.place k in
     record { block = p.0; index = p.1 }
 
 pub span_of-hole-requires : goal.span_of-hole-requires
 span_of-hole-requires c =
     let rows = c.args.frames.now.rows in
-    let k : rank rows c.loop-n.place < length (joined rows) = omega (arith, c.loop-n.invariant.next, c.requires.within) in
+    let k : rank rows c.loop-n.place < length (row_items rows) = omega (arith, c.loop-n.invariant.next, c.requires.within) in
     let x = c.item.result.now in
-    let t = subst IsTimed (sym c.item.ensures) (each_at IsTimed (joined rows) (rank rows c.loop-n.place) x k c.requires.frames) in
+    let t = subst IsTimed (sym c.item.ensures) (each_at IsTimed (row_items rows) (rank rows c.loop-n.place) x k c.requires.frames) in
     subst (λ (o : OrderEntry). IsTick (o.pts +ℤ o.dur)) (sym c.entry_of.ensures) t.1
 
 pub mend-requires : goal.mend-requires
@@ -42,23 +42,23 @@ mend-requires c = record { gap_from_zero = c.requires.gap_from_zero; ranges = c.
 pub next-place-requires : goal.next-place-requires
 next-place-requires c =
     let rows = c.args.frames.now.rows in
-    let k : rank rows c.loop-n.place < length (joined rows) = omega (arith, c.loop-n.invariant.next, c.requires.within) in
+    let k : rank rows c.loop-n.place < length (row_items rows) = omega (arith, c.loop-n.invariant.next, c.requires.within) in
     let p = item_place rows c.loop-n.place c.loop-n.invariant.place k in
     record { block = p.0; index = p.1 }
 
 pub loop-n-preserved : goal.loop-n-preserved
 loop-n-preserved c =
     let rows = c.args.frames.now.rows in
-    let fs = joined rows in
+    let fs = row_items rows in
     let i = rank rows c.args.run.from in
     let n = c.loop-n.n in
     let run = take c.args.run.count (drop i fs) in
     let x = c.item.result.now in
-    let S = map span_of (joined c.args.order.now.rows) in
+    let S = map span_of (row_items c.args.order.now.rows) in
     let at : x ≡ get_or fs (i + n) x = c.item.ensures ∙ ap (λ (k : ℕ). get_or fs k x) c.loop-n.invariant.next in
     let step = ap intervals (run_next fs i c.args.run.count n x c.requires.within (omega arith) at) in
     let hole : interval x ≡ c.span_of-hole.result = sym (c.span_of-hole.ensures ∙ ap (λ (o : OrderEntry). span_of o) c.entry_of.ensures) in
-    let before = subst (λ zs. AreBetween c.args.gap (map span_of (joined c.args.order.now.rows)) zs c.loop-n.ranges.spans) (step ∙ ap (λ (z : Span). z ∷ intervals (drop (n + 1) run)) hole) c.loop-n.invariant.between in
+    let before = subst (λ zs. AreBetween c.args.gap (map span_of (row_items c.args.order.now.rows)) zs c.loop-n.ranges.spans) (step ∙ ap (λ (z : Span). z ∷ intervals (drop (n + 1) run)) hole) c.loop-n.invariant.between in
     record {
       place = c.next-place.ensures.place;
       next = omega (arith, c.next-place.ensures.rank, c.loop-n.invariant.next);
@@ -69,7 +69,7 @@ loop-n-preserved c =
 
 pub returns-clause-spans : goal.returns-clause-spans
 returns-clause-spans c =
-    let fs = joined c.args.frames.now.rows in
+    let fs = row_items c.args.frames.now.rows in
     let i = rank c.args.frames.now.rows c.args.run.from in
     let none = ap intervals (run_over fs i c.args.run.count c.loop-n.n c.requires.within (omega arith)) in
-    between_none c.args.gap (map span_of (joined c.args.order.now.rows)) c.loop-n.ranges.spans c.requires.gap_from_zero c.loop-n.invariant.ranges (subst (λ zs. AreBetween c.args.gap (map span_of (joined c.args.order.now.rows)) zs c.loop-n.ranges.spans) none c.loop-n.invariant.between)
+    between_none c.args.gap (map span_of (row_items c.args.order.now.rows)) c.loop-n.ranges.spans c.requires.gap_from_zero c.loop-n.invariant.ranges (subst (λ zs. AreBetween c.args.gap (map span_of (row_items c.args.order.now.rows)) zs c.loop-n.ranges.spans) none c.loop-n.invariant.between)

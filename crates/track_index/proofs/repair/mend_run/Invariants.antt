@@ -1,5 +1,5 @@
 use Rattle.std.proofs.Common.{◌≡◌, ◌+◌, ◌≤◌, length, take, drop, map}
-use Rattle.mse_base.specs.Rows.{joined}
+use Rattle.mse_base.specs.Rows.{row_items}
 use Rattle.block_list.specs.BlockPlaces.{rank, IsPlace}
 use Rattle.mse_base.specs.Bridging.{IsRanges}
 use Rattle.track_store.specs.Frames.{intervals}
@@ -13,5 +13,5 @@ invariant-loop-n l = record {
   next : rank l.frames.rows l.place ≡ rank l.frames.rows l.fn.run.from + l.n;
   ranges : IsRanges l.gap l.ranges.spans;
   room : l.fn.ranges.spare + length l.fn.ranges.spans ≤ l.ranges.spare + length l.ranges.spans;
-  between : AreBetween l.gap (map span_of (joined l.order.rows)) (intervals (drop l.n (take l.fn.run.count (drop (rank l.frames.rows l.fn.run.from) (joined l.frames.rows))))) l.ranges.spans;
+  between : AreBetween l.gap (map span_of (row_items l.order.rows)) (intervals (drop l.n (take l.fn.run.count (drop (rank l.frames.rows l.fn.run.from) (row_items l.frames.rows))))) l.ranges.spans;
 }

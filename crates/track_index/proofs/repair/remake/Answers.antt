@@ -2,7 +2,7 @@ use Rattle.std.proofs.Common.{◌∙◌, ◌<◌, ◌+ℤ◌, ◌≤◌, ℕ, []
 use Rattle.mse_base.specs.Time.{IsTick}
 use Rattle.mse_base.specs.Bridging.{bridged_ranges, ranges_with, IsRanges}
 use Rattle.mse_base.proofs.Merging.{ranges_bridged}
-use Rattle.mse_base.specs.Rows.{joined}
+use Rattle.mse_base.specs.Rows.{row_items}
 use Rattle.block_list.specs.BlockPlaces.{rank}
 use Rattle.track_index.specs.declared.entry.OrderEntry.{OrderEntry}
 use Rattle.track_index.specs.Order.{span_of}
@@ -13,7 +13,7 @@ use Rattle.track_index.proofs.repair.remake.Goals as goal
 pub loop-place-init : goal.loop-place-init
 loop-place-init c = record {
   place = c.start-place.ensures.place;
-  spans = c.clear.ensures.spans ∙ sym (ap (λ (n : ℕ). bridged_ranges c.args.gap (map span_of (take n (joined c.args.order.now.rows)))) c.start-place.ensures.rank);
+  spans = c.clear.ensures.spans ∙ sym (ap (λ (n : ℕ). bridged_ranges c.args.gap (map span_of (take n (row_items c.args.order.now.rows)))) c.start-place.ensures.rank);
   room = omega (arith, c.clear.ensures.room);
 }
 
@@ -23,7 +23,7 @@ entry-entry-requires c = let l : c.loop-place.place.block < length c.args.order.
 pub span_of-requires : goal.span_of-requires
 span_of-requires c =
     let rows = c.args.order.now.rows in
-    let os = joined rows in
+    let os = row_items rows in
     let s = c.loop-place.place in
     let l : s.block < length rows = omega (arith, c.blocks-in-loop-place.ensures, c.loop-place-test.true) in
     let k = rank_within rows s l (c.loop-place.invariant.place.item l) in
@@ -32,7 +32,7 @@ span_of-requires c =
 pub add_span-requires : goal.add_span-requires
 add_span-requires c =
     let rows = c.args.order.now.rows in
-    let os = joined rows in
+    let os = row_items rows in
     let s = c.loop-place.place in
     let l : s.block < length rows = omega (arith, c.blocks-in-loop-place.ensures, c.loop-place-test.true) in
     let k = rank_within rows s l (c.loop-place.invariant.place.item l) in
@@ -49,7 +49,7 @@ next-place-requires c = let l : c.loop-place.place.block < length c.args.order.n
 pub loop-place-preserved : goal.loop-place-preserved
 loop-place-preserved c =
     let rows = c.args.order.now.rows in
-    let os = joined rows in
+    let os = row_items rows in
     let s = c.loop-place.place in
     let l : s.block < length rows = omega (arith, c.blocks-in-loop-place.ensures, c.loop-place-test.true) in
     let k = rank_within rows s l (c.loop-place.invariant.place.item l) in
@@ -62,7 +62,7 @@ loop-place-preserved c =
 pub loop-place-smaller : goal.loop-place-smaller
 loop-place-smaller c =
     let rows = c.args.order.now.rows in
-    let os = joined rows in
+    let os = row_items rows in
     let s = c.loop-place.place in
     let l : s.block < length rows = omega (arith, c.blocks-in-loop-place.ensures, c.loop-place-test.true) in
     let k = rank_within rows s l (c.loop-place.invariant.place.item l) in
@@ -73,4 +73,4 @@ returns-clause-spans c =
     let rows = c.args.order.now.rows in
     let s = c.loop-place.place in
     let past : length rows ≤ s.block = omega (arith, c.blocks-in-loop-place.ensures, c.loop-place-test.false) in
-    c.loop-place.invariant.spans ∙ ap (λ os. bridged_ranges c.args.gap (map span_of os)) (take_end (joined rows) (rank rows s) (omega (arith, c.loop-place.invariant.place.end past)))
+    c.loop-place.invariant.spans ∙ ap (λ os. bridged_ranges c.args.gap (map span_of os)) (take_end (row_items rows) (rank rows s) (omega (arith, c.loop-place.invariant.place.end past)))

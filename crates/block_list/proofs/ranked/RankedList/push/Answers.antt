@@ -1,5 +1,5 @@
 use Rattle.std.proofs.Common.{◌≡◌, ◌∙◌, ◌+◌, ◌-◌, ◌++◌, ◌∷◌, [], ℕ, List, length, take, ap, sym, subst, arith}
-use Rattle.mse_base.specs.Rows.{joined}
+use Rattle.mse_base.specs.Rows.{row_items}
 use Rattle.block_list.specs.Starts.{starts_of, AreStartsUpTo}
 use Rattle.block_list.proofs.Starting.{length_starts, more_starts, same_starts, kept_more}
 use Rattle.block_list.proofs.ranked.RankedList.push.Goals as goal
@@ -14,7 +14,7 @@ invariant_of-self g c =
     let longer : length new ≡ length old + 1 = omega (arith, kept.long, n, few1, c.len.ensures, c.blocks-2.ensures, c.if-len-blocks.true, c.fit.new.starts.ok.0) in
     let z : length old ≡ length new - 1 = omega arith in
     let front : take (length old) new ≡ take (length old) old = ap (λ k. take k new) z ∙ c.push.ensures.front ∙ ap (λ k. take k old) (sym z) in
-    let all : 0 + length (joined old) ≡ c.len-len.result = omega (arith, c.len-len.ensures) in
+    let all : 0 + length (row_items old) ≡ c.len-len.result = omega (arith, c.len-len.ensures) in
     let more = more_starts 0 old new longer front ∙ ap (λ k. starts_of old ++ k ∷ []) all in
     subst (λ (ks : List ℕ). AreStartsUpTo ks c.fit.new.settled c.fit.new.excess (starts_of new)) (sym c.push_reserved.ensures.items) (kept_more c.fit.new.starts.items (starts_of old) (starts_of new) c.fit.new.settled c.fit.new.excess c.len-len.result kept more)
 

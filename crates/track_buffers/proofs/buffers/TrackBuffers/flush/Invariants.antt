@@ -1,5 +1,5 @@
 use Rattle.std.proofs.Common.{◌≡◌, ◌≤◌, ◌+◌, length, drop, false}
-use Rattle.track_buffers.specs.Media.{EndsWithin, IsNotAfter}
+use Rattle.track_buffers.specs.Media.{AreEndedWithin, IsNotAfter}
 use Rattle.track_buffers.specs.Frames.{flush_result, flush_result_after}
 use Rattle.track_buffers.proofs.buffers.TrackBuffers.flush.Given as goal
 
@@ -13,5 +13,5 @@ invariant-loop-frame g l = record {
   within : length l.yielded ≤ length l.fn.frames.items;
   no_init : l.effect.received_init ≡ false;
   no_fall : IsNotAfter l.fn.duration l.effect.duration;
-  within_duration : EndsWithin l.fn.duration l.initial.self.media.tracks → EndsWithin l.effect.duration l.self.media.tracks;
+  within_duration : AreEndedWithin l.fn.duration l.initial.self.media.tracks → AreEndedWithin l.effect.duration l.self.media.tracks;
 }

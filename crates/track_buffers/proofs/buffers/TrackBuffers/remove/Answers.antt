@@ -11,8 +11,8 @@ returns-clause-within_duration g c = λ moment.
     let F = g.S.FrameStore.frames in
     rw (← c.self.view_is) (ends_kept (states_of F c.self.inside.tracks.items) (states_of F c.remove_frames.new.tracks.items) c.remove_frames.ensures.ends moment)
 
-pub returns-clause-room : goal.returns-clause-room
-returns-clause-room g c = rw (← c.self.view_is) (room_kept_by g.S.FrameStore.spare c.self.inside.tracks.items c.remove_frames.new.tracks.items c.remove_frames.ensures.room)
+pub returns-clause-no_room_lost : goal.returns-clause-no_room_lost
+returns-clause-no_room_lost g c = rw (← c.self.view_is) (room_kept_by g.S.FrameStore.spare c.self.inside.tracks.items c.remove_frames.new.tracks.items c.remove_frames.ensures.room)
 
 pub invariant_of-self : goal.invariant_of-self
 invariant_of-self g c =
@@ -21,4 +21,4 @@ invariant_of-self g c =
     let b = c.self.inside in
     let ts = b.tracks.items in
     let us = c.remove_frames.new.tracks.items in
-    (steady_by (states_of F ts) (states_of F us) (gaps_of G ts) (gaps_of G us) b.settings _ b.gap c.self.invariant.0 (c.remove_frames.ensures.tracks_sound c.self.invariant.0.sound) c.remove_frames.ensures.gaps c.self.invariant.0.window_start refl, ahead_none g.S.FrameStore.spare us, tt, tt, c.used-self-inside.ensures)
+    (steady_by (states_of F ts) (states_of F us) (gaps_of G ts) (gaps_of G us) b.settings _ b.gap c.self.invariant.0 (c.remove_frames.ensures.sound_and_countable c.self.invariant.0.sound) c.remove_frames.ensures.gaps c.self.invariant.0.window_start refl, ahead_none g.S.FrameStore.spare us, tt, tt, c.used-self-inside.ensures)

@@ -1,6 +1,6 @@
 use Rattle.std.proofs.Common.{refl, ◌≡◌, ◌∙◌, ◌≤◌, ◌+◌, ◌++◌, ℕ, List, true, false, length, take, drop, map, ap, sym, subst, arith}
 use Rattle.std.specs.List.{list_any}
-use Rattle.mse_base.specs.Rows.{joined, start}
+use Rattle.mse_base.specs.Rows.{row_items, start}
 use Rattle.block_list.specs.BlockPlaces.{rank}
 use Rattle.track_store.specs.Frames.{bytes_of, has_serial, frames_left, intervals, IsTimed}
 use Rattle.track_store.proofs.Listing.{are_ranges}
@@ -23,7 +23,7 @@ run_from-run-requires c =
     let rows = c.self.inside.items.rows in
     let s = c.place_below-from.result in
     let held = subst (λ v. list_any (has_serial c.args.serial) v.frames ≡ true) (sym c.self.view_is) c.requires in
-    let p = item_place rows s c.place_below-from.ensures.place (held_place c.args.serial (joined rows) (rank rows s) held c.place_below-from.ensures.before) in
+    let p = item_place rows s c.place_below-from.ensures.place (held_place c.args.serial (row_items rows) (rank rows s) held c.place_below-from.ensures.before) in
     record { block = p.0; index = p.1 }
 
 pub take_run_out-bytes_left-requires : goal.take_run_out-bytes_left-requires
@@ -31,14 +31,14 @@ take_run_out-bytes_left-requires c =
     let rows = c.self.inside.items.rows in
     let s = c.place_below-from.result in
     let held = subst (λ v. list_any (has_serial c.args.serial) v.frames ≡ true) (sym c.self.view_is) c.requires in
-    let p = item_place rows s c.place_below-from.ensures.place (held_place c.args.serial (joined rows) (rank rows s) held c.place_below-from.ensures.before) in
+    let p = item_place rows s c.place_below-from.ensures.place (held_place c.args.serial (row_items rows) (rank rows s) held c.place_below-from.ensures.before) in
     let k = rank_within rows c.run_from-run.result.last c.run_from-run.ensures.block c.run_from-run.ensures.index in
     record { ascending = c.self.invariant.kept.ascending; in_order = c.self.invariant.in_order; bytes = c.self.invariant.summed; block = p.0; index = p.1; within = omega (arith, c.run_from-run.ensures.count, k) }
 
 pub mend_run-requires : goal.mend_run-requires
 mend_run-requires c =
     let rows = c.self.inside.items.rows in
-    let fs = joined rows in
+    let fs = row_items rows in
     let s = c.place_below-from.result in
     let i = rank rows s in
     let n = c.run_from-run.result.count in
@@ -49,7 +49,7 @@ mend_run-requires c =
     let l : i + n ≤ length fs = omega (arith, c.run_from-run.ensures.count, k) in
     let gs = take i fs ++ drop (i + n) fs in
     let e = c.take_run_out-bytes_left.ensures.order in
-    let os = joined c.take_run_out-bytes_left.new.order.rows in
+    let os = row_items c.take_run_out-bytes_left.new.order.rows in
     record {
       gap_from_zero = h.gap_from_zero;
       ranges = are_ranges c.self.inside.gap fs c.self.inside.ranges.spans h.gap_from_zero h.joined;
@@ -66,7 +66,7 @@ mend_run-requires c =
 pub remove_range-requires : goal.remove_range-requires
 remove_range-requires c =
     let rows = c.self.inside.items.rows in
-    let fs = joined rows in
+    let fs = row_items rows in
     let s = c.place_below-from.result in
     let r = c.run_from-run.result in
     let held = subst (λ v. list_any (has_serial c.args.serial) v.frames ≡ true) (sym c.self.view_is) c.requires in
@@ -86,7 +86,7 @@ remove_range-requires c =
 pub invariant_of-self : goal.invariant_of-self
 invariant_of-self c =
     let rows = c.self.inside.items.rows in
-    let fs = joined rows in
+    let fs = row_items rows in
     let s = c.place_below-from.result in
     let i = rank rows s in
     let n = c.run_from-run.result.count in
@@ -97,12 +97,12 @@ invariant_of-self c =
     let z : start rows c.run_from-run.result.last.block + (c.run_from-run.result.last.index + 1) ≡ i + n = omega (arith, c.run_from-run.ensures.count) in
     let left = c.remove_range.ensures.items ∙ ap (λ (m : ℕ). take i fs ++ drop m fs) z in
     let gone = serial_gone c.args.serial fs i (i + n) h.kept.ascending held c.place_below-from.ensures.before c.place_below-from.ensures.after c.run_from-run.ensures.rest in
-    indexed_removed (has_serial c.args.serial) fs (joined c.remove_range.new.self.rows) _ _ c.self.inside.gap _ _ h c.mend_run.ensures.room (omega (arith, ap length left, length_without fs i n l)) (left ∙ sym gone) refl (c.take_run_out-bytes_left.ensures.order ∙ ap presentation_order (sym left)) c.mend_run.ensures.spans (c.take_run_out-bytes_left.ensures.bytes ∙ ap bytes_of (sym left))
+    indexed_removed (has_serial c.args.serial) fs (row_items c.remove_range.new.self.rows) _ _ c.self.inside.gap _ _ h c.mend_run.ensures.room (omega (arith, ap length left, length_without fs i n l)) (left ∙ sym gone) refl (c.take_run_out-bytes_left.ensures.order ∙ ap presentation_order (sym left)) c.mend_run.ensures.spans (c.take_run_out-bytes_left.ensures.bytes ∙ ap bytes_of (sym left))
 
 pub returns-clause-frames : goal.returns-clause-frames
 returns-clause-frames c =
     let rows = c.self.inside.items.rows in
-    let fs = joined rows in
+    let fs = row_items rows in
     let s = c.place_below-from.result in
     let i = rank rows s in
     let n = c.run_from-run.result.count in
@@ -116,7 +116,7 @@ returns-clause-frames c =
 pub returns-clause-shorter : goal.returns-clause-shorter
 returns-clause-shorter c =
     let rows = c.self.inside.items.rows in
-    let fs = joined rows in
+    let fs = row_items rows in
     let s = c.place_below-from.result in
     let i = rank rows s in
     let n = c.run_from-run.result.count in
@@ -126,10 +126,10 @@ returns-clause-shorter c =
     let left = c.remove_range.ensures.items ∙ ap (λ (m : ℕ). take i fs ++ drop m fs) z in
     omega (arith, ap length left, length_without fs i n l, c.run_from-run.ensures.some, ap (λ v. length v.frames) c.self.view_is)
 
-pub returns-clause-spare : goal.returns-clause-spare
-returns-clause-spare c =
+pub returns-clause-no_room_lost : goal.returns-clause-no_room_lost
+returns-clause-no_room_lost c =
     let rows = c.self.inside.items.rows in
-    let fs = joined rows in
+    let fs = row_items rows in
     let s = c.place_below-from.result in
     let i = rank rows s in
     let n = c.run_from-run.result.count in
@@ -137,7 +137,7 @@ returns-clause-spare c =
     let l : i + n ≤ length fs = omega (arith, c.run_from-run.ensures.count, k) in
     let z : start rows c.run_from-run.result.last.block + (c.run_from-run.result.last.index + 1) ≡ i + n = omega (arith, c.run_from-run.ensures.count) in
     let left = c.remove_range.ensures.items ∙ ap (λ (m : ℕ). take i fs ++ drop m fs) z in
-    rw (← c.self.view_is) (room_grown _ _ _ _ _ _ _ _ (omega (arith, c.remove_range.ensures.spare)) c.take_run_out-bytes_left.ensures.spare (omega arith) (omega (arith, c.mend_run.ensures.room, ap length left, length_without fs i n l)))
+    rw (← c.self.view_is) (room_grown _ _ _ _ _ _ _ _ (omega (arith, c.remove_range.ensures.no_room_lost)) c.take_run_out-bytes_left.ensures.no_room_lost (omega arith) (omega (arith, c.mend_run.ensures.room, ap length left, length_without fs i n l)))
 
 pub overflow_add-to : goal.overflow_add-to
 overflow_add-to c = omega (arith, c.run_from-run.ensures.index, ap length c.block-few.ensures.value, c.block-few.ensures.at_most_128)

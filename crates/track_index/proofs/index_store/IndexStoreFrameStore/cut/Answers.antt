@@ -2,7 +2,7 @@ use Rattle.std.proofs.Common.{◌≡◌, ◌∙◌, ◌+ℤ◌, ◌<◌, ℕ, []
 use Rattle.std.proofs.lemmas.List.{length-map}
 use Rattle.mse_base.specs.Time.{IsTick}
 use Rattle.mse_base.specs.declared.span.Span.{Span}
-use Rattle.mse_base.specs.Rows.{joined}
+use Rattle.mse_base.specs.Rows.{row_items}
 use Rattle.track_store.specs.Frames.{frames_with_dur, IsTimed}
 use Rattle.track_store.proofs.Clearing.{kept-shortened}
 use Rattle.track_store.proofs.Listing.{are_ranges}
@@ -18,82 +18,82 @@ use Rattle.track_index.proofs.index_store.IndexStoreFrameStore.cut.Goals as goal
 
 pub end_at-requires : goal.end_at-requires
 end_at-requires c =
-    let fs = joined c.self.inside.items.rows in
+    let fs = row_items c.self.inside.items.rows in
     let x = c.item.result.now in
     let within : c.args.i < length fs = rw (← c.self.view_is) at c.requires.in_range in
     let value : x ≡ get_or fs c.args.i x = c.item.ensures ∙ ap (λ (n : ℕ). get_or fs n x) c.place-place.ensures.place in
     let at = found_at fs c.args.i x within value in
-    let less = rw (← c.self.view_is, at) at c.requires.shorter in
+    let less = rw (← c.self.view_is, at) at c.requires.no_longer in
     let tick = cut_tick x.frame.pts c.args.dur x.frame.dur (subst (λ (e : OrderEntry). IsTick e.pts) c.entry_of-entry.ensures c.get-begins.ensures.is_tick) less.0 less.1 (subst IsTimed (sym value) (each_at IsTimed fs c.args.i x within c.self.invariant.timed)).1 in
     subst (λ (e : OrderEntry). IsTick (e.pts +ℤ c.args.dur)) (sym c.entry_of-entry.ensures) tick
 
 pub shorten-requires-clause-keyed : goal.shorten-requires-clause-keyed
-shorten-requires-clause-keyed c = keyed_of (joined c.self.inside.order.rows) (joined c.self.inside.items.rows) c.self.invariant.in_order c.self.invariant.kept.ascending
+shorten-requires-clause-keyed c = keyed_of (row_items c.self.inside.order.rows) (row_items c.self.inside.items.rows) c.self.invariant.in_order c.self.invariant.kept.ascending
 
 pub shorten-requires-clause-own : goal.shorten-requires-clause-own
 shorten-requires-clause-own c =
-    let fs = joined c.self.inside.items.rows in
+    let fs = row_items c.self.inside.items.rows in
     let x = c.item.result.now in
     let within : c.args.i < length fs = rw (← c.self.view_is) at c.requires.in_range in
     let value : x ≡ get_or fs c.args.i x = c.item.ensures ∙ ap (λ (n : ℕ). get_or fs n x) c.place-place.ensures.place in
-    let os = joined c.self.inside.order.rows in
+    let os = row_items c.self.inside.order.rows in
     rw c.entry_of-entry.ensures (own_pts x os (own_entry fs os c.args.i x c.self.invariant.kept.ascending c.self.invariant.in_order within value))
 
 pub shorten-requires-clause-held : goal.shorten-requires-clause-held
 shorten-requires-clause-held c =
-    let fs = joined c.self.inside.items.rows in
+    let fs = row_items c.self.inside.items.rows in
     let x = c.item.result.now in
     let within : c.args.i < length fs = rw (← c.self.view_is) at c.requires.in_range in
     let value : x ≡ get_or fs c.args.i x = c.item.ensures ∙ ap (λ (n : ℕ). get_or fs n x) c.place-place.ensures.place in
-    rw c.entry_of-entry.ensures (held_in fs (joined c.self.inside.order.rows) c.args.i x c.self.invariant.in_order within value)
+    rw c.entry_of-entry.ensures (held_in fs (row_items c.self.inside.order.rows) c.args.i x c.self.invariant.in_order within value)
 
 pub mend-requires-clause-ranges : goal.mend-requires-clause-ranges
-mend-requires-clause-ranges c = are_ranges c.self.inside.gap (joined c.self.inside.items.rows) c.self.inside.ranges.spans c.self.invariant.gap_from_zero c.self.invariant.joined
+mend-requires-clause-ranges c = are_ranges c.self.inside.gap (row_items c.self.inside.items.rows) c.self.inside.ranges.spans c.self.invariant.gap_from_zero c.self.invariant.joined
 
 pub mend-requires-clause-room : goal.mend-requires-clause-room
 mend-requires-clause-room c =
-    let fs = joined c.self.inside.items.rows in
-    let os = joined c.self.inside.order.rows in
+    let fs = row_items c.self.inside.items.rows in
+    let os = row_items c.self.inside.order.rows in
     omega (arith, ap length c.shorten.ensures.items ∙ length-map os (with_entry_dur c.entry_of-entry.result.serial c.args.dur), ap length c.self.invariant.in_order ∙ length_ordered fs, c.self.invariant.roomy)
 
 pub mend-requires-clause-keyed : goal.mend-requires-clause-keyed
 mend-requires-clause-keyed c =
-    let fs = joined c.self.inside.items.rows in
+    let fs = row_items c.self.inside.items.rows in
     let x = c.item.result.now in
     let within : c.args.i < length fs = rw (← c.self.view_is) at c.requires.in_range in
     let value : x ≡ get_or fs c.args.i x = c.item.ensures ∙ ap (λ (n : ℕ). get_or fs n x) c.place-place.ensures.place in
     let at = found_at fs c.args.i x within value in
-    let less = rw (← c.self.view_is, at) at c.requires.shorter in
-    let os = joined c.self.inside.order.rows in
-    let ps = joined c.shorten.new.self.rows in
+    let less = rw (← c.self.view_is, at) at c.requires.no_longer in
+    let os = row_items c.self.inside.order.rows in
+    let ps = row_items c.shorten.new.self.rows in
     let p : ps ≡ map (with_entry_dur x.serial c.args.dur) os = c.shorten.ensures.items ∙ ap (λ (e : OrderEntry). map (with_entry_dur e.serial c.args.dur) os) c.entry_of-entry.ensures in
     let tick = cut_tick x.frame.pts c.args.dur x.frame.dur (subst (λ (e : OrderEntry). IsTick e.pts) c.entry_of-entry.ensures c.get-begins.ensures.is_tick) less.0 less.1 (subst IsTimed (sym value) (each_at IsTimed fs c.args.i x within c.self.invariant.timed)).1 in
     keyed_of ps (frames_with_dur x.serial c.args.dur fs) (order_cut c.args.dur x.serial fs os ps c.self.invariant.in_order p) (kept-shortened x.serial c.args.dur fs c.self.invariant.kept).ascending
 
 pub mend-requires-clause-timed : goal.mend-requires-clause-timed
 mend-requires-clause-timed c =
-    let fs = joined c.self.inside.items.rows in
+    let fs = row_items c.self.inside.items.rows in
     let x = c.item.result.now in
     let within : c.args.i < length fs = rw (← c.self.view_is) at c.requires.in_range in
     let value : x ≡ get_or fs c.args.i x = c.item.ensures ∙ ap (λ (n : ℕ). get_or fs n x) c.place-place.ensures.place in
     let at = found_at fs c.args.i x within value in
-    let less = rw (← c.self.view_is, at) at c.requires.shorter in
-    let os = joined c.self.inside.order.rows in
-    let ps = joined c.shorten.new.self.rows in
+    let less = rw (← c.self.view_is, at) at c.requires.no_longer in
+    let os = row_items c.self.inside.order.rows in
+    let ps = row_items c.shorten.new.self.rows in
     let p : ps ≡ map (with_entry_dur x.serial c.args.dur) os = c.shorten.ensures.items ∙ ap (λ (e : OrderEntry). map (with_entry_dur e.serial c.args.dur) os) c.entry_of-entry.ensures in
     let tick = cut_tick x.frame.pts c.args.dur x.frame.dur (subst (λ (e : OrderEntry). IsTick e.pts) c.entry_of-entry.ensures c.get-begins.ensures.is_tick) less.0 less.1 (subst IsTimed (sym value) (each_at IsTimed fs c.args.i x within c.self.invariant.timed)).1 in
     timed_entries (frames_with_dur x.serial c.args.dur fs) ps (order_cut c.args.dur x.serial fs os ps c.self.invariant.in_order p) (timed_cut c.args.dur x fs c.args.i c.self.invariant.kept.ascending within value less.0 tick c.self.invariant.timed)
 
 pub invariant_of-self : goal.invariant_of-self
 invariant_of-self c =
-    let fs = joined c.self.inside.items.rows in
+    let fs = row_items c.self.inside.items.rows in
     let x = c.item.result.now in
     let within : c.args.i < length fs = rw (← c.self.view_is) at c.requires.in_range in
     let value : x ≡ get_or fs c.args.i x = c.item.ensures ∙ ap (λ (n : ℕ). get_or fs n x) c.place-place.ensures.place in
     let at = found_at fs c.args.i x within value in
-    let less = rw (← c.self.view_is, at) at c.requires.shorter in
-    let os = joined c.self.inside.order.rows in
-    let ps = joined c.shorten.new.self.rows in
+    let less = rw (← c.self.view_is, at) at c.requires.no_longer in
+    let os = row_items c.self.inside.order.rows in
+    let ps = row_items c.shorten.new.self.rows in
     let p : ps ≡ map (with_entry_dur x.serial c.args.dur) os = c.shorten.ensures.items ∙ ap (λ (e : OrderEntry). map (with_entry_dur e.serial c.args.dur) os) c.entry_of-entry.ensures in
     let tick = cut_tick x.frame.pts c.args.dur x.frame.dur (subst (λ (e : OrderEntry). IsTick e.pts) c.entry_of-entry.ensures c.get-begins.ensures.is_tick) less.0 less.1 (subst IsTimed (sym value) (each_at IsTimed fs c.args.i x within c.self.invariant.timed)).1 in
     let start = c.end_at.ensures ∙ ap (λ (e : OrderEntry). e.pts +ℤ c.args.dur) c.entry_of-entry.ensures in
@@ -102,15 +102,15 @@ invariant_of-self c =
     let own = own_entry fs os c.args.i x c.self.invariant.kept.ascending c.self.invariant.in_order within value in
     let between = between_cut c.self.inside.gap c.args.dur fs os ps c.self.inside.ranges.spans x hole own c.self.invariant.gap_from_zero less.0 less.1 start end c.self.invariant.joined c.self.invariant.in_order p in
     let s = between_none c.self.inside.gap (map span_of ps) c.mend.new.ranges.spans c.self.invariant.gap_from_zero c.mend.ensures.ranges (c.mend.ensures.between [] between) in
-    let new = with_new_at fs (joined c.change.new.self.rows) c.args.i _ x c.args.dur c.self.invariant.kept.ascending c.place-place.ensures.place within value (c.change.ensures.items x) in
+    let new = with_new_at fs (row_items c.change.new.self.rows) c.args.i _ x c.args.dur c.self.invariant.kept.ascending c.place-place.ensures.place within value (c.change.ensures.items x) in
     rw new (indexed_cut fs _ ps c.mend.new.ranges.spans c.self.inside.gap c.args.dur _ _ x c.args.i c.self.invariant c.mend.ensures.room within value less.0 less.1 tick p s)
 
 pub returns-clause-frames : goal.returns-clause-frames
 returns-clause-frames c =
-    let fs = joined c.self.inside.items.rows in
+    let fs = row_items c.self.inside.items.rows in
     let x = c.item.result.now in
     let within : c.args.i < length fs = rw (← c.self.view_is) at c.requires.in_range in
     let value : x ≡ get_or fs c.args.i x = c.item.ensures ∙ ap (λ (n : ℕ). get_or fs n x) c.place-place.ensures.place in
     let at = found_at fs c.args.i x within value in
-    let less = rw (← c.self.view_is, at) at c.requires.shorter in
-    rw (← c.self.view_is, at) (with_new_at fs (joined c.change.new.self.rows) c.args.i _ x c.args.dur c.self.invariant.kept.ascending c.place-place.ensures.place within value (c.change.ensures.items x))
+    let less = rw (← c.self.view_is, at) at c.requires.no_longer in
+    rw (← c.self.view_is, at) (with_new_at fs (row_items c.change.new.self.rows) c.args.i _ x c.args.dur c.self.invariant.kept.ascending c.place-place.ensures.place within value (c.change.ensures.items x))

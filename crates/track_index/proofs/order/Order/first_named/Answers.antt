@@ -1,6 +1,6 @@
 use Rattle.std.proofs.Common.{◌≡◌, ◌∙◌, ◌<◌, ◌≤◌, false, ℕ, take, drop, length, sym, subst, arith}
 use Rattle.std.specs.List.{AllByRecursion}
-use Rattle.mse_base.specs.Rows.{joined}
+use Rattle.mse_base.specs.Rows.{row_items}
 use Rattle.block_list.specs.BlockPlaces.{rank}
 use Rattle.track_index.specs.Keyed.{is_before_key, is_entry_named}
 use Rattle.track_index.proofs.Ordering.{each_more}
@@ -9,7 +9,7 @@ use Rattle.track_index.proofs.Blocks.{rank_within}
 use Rattle.track_index.proofs.order.Order.first_named.Goals as goal
 
 pub returns-then-is_all_before-clause-none : goal.returns-then-is_all_before-clause-none
-returns-then-is_all_before-clause-none c = none_behind c.args.key.now c.args.to.now c.args.below (joined c.args.self.now.rows) (sym c.is_all_before.ensures ∙ c.if-is_all_before.true)
+returns-then-is_all_before-clause-none c = none_behind c.args.key.now c.args.to.now c.args.below (row_items c.args.self.now.rows) (sym c.is_all_before.ensures ∙ c.if-is_all_before.true)
 
 pub loop-place-init : goal.loop-place-init
 loop-place-init c =
@@ -17,7 +17,7 @@ loop-place-init c =
     let k = rank rows c.place_at-place.result in
     record {
       place = c.place_at-place.ensures.place;
-      passed = found_init c.args.key.now c.args.to.now c.args.below (joined rows) k c.place_at-place.ensures.before;
+      passed = found_init c.args.key.now c.args.to.now c.args.below (row_items rows) k c.place_at-place.ensures.before;
       rest = c.place_at-place.ensures.after;
     }
 
@@ -29,7 +29,7 @@ returns-then-not-is_before-clause-none c =
     let rows = c.args.self.now.rows in
     let s = c.loop-place.place in
     let l : s.block < length rows = omega (arith, c.blocks-in-loop-place.ensures, c.loop-place-test.true) in
-    none_from c.args.key.now c.args.to.now c.args.below (joined rows) (rank rows s) c.entry-entry.result c.requires.keyed (rank_within rows s l (c.loop-place.invariant.place.item l)) c.entry-entry.ensures (sym c.is_before.ensures ∙ c.if-not-is_before.true) c.loop-place.invariant.passed
+    none_from c.args.key.now c.args.to.now c.args.below (row_items rows) (rank rows s) c.entry-entry.result c.requires.keyed (rank_within rows s l (c.loop-place.invariant.place.item l)) c.entry-entry.ensures (sym c.is_before.ensures ∙ c.if-not-is_before.true) c.loop-place.invariant.passed
 
 pub returns-then-entry-below-clause-found : goal.returns-then-entry-below-clause-found
 returns-then-entry-below-clause-found c =
@@ -37,7 +37,7 @@ returns-then-entry-below-clause-found c =
     let s = c.loop-place.place in
     let l : s.block < length rows = omega (arith, c.blocks-in-loop-place.ensures, c.loop-place-test.true) in
     let named = is_named_entry c.args.to.now c.args.below c.entry-entry.result (sym c.is_before.ensures ∙ c.if-not-is_before.false) c.if-entry-below.true in
-    found_here c.args.key.now c.args.to.now c.args.below (joined rows) (rank rows s) c.entry-entry.result c.requires.keyed (rank_within rows s l (c.loop-place.invariant.place.item l)) c.entry-entry.ensures named c.loop-place.invariant.rest c.loop-place.invariant.passed
+    found_here c.args.key.now c.args.to.now c.args.below (row_items rows) (rank rows s) c.entry-entry.result c.requires.keyed (rank_within rows s l (c.loop-place.invariant.place.item l)) c.entry-entry.ensures named c.loop-place.invariant.rest c.loop-place.invariant.passed
 
 pub next-place-requires : goal.next-place-requires
 next-place-requires c = let l : c.loop-place.place.block < length c.args.self.now.rows = omega (arith, c.blocks-in-loop-place.ensures, c.loop-place-test.true) in record { block = l; index = c.loop-place.invariant.place.item l }
@@ -45,7 +45,7 @@ next-place-requires c = let l : c.loop-place.place.block < length c.args.self.no
 pub loop-place-preserved : goal.loop-place-preserved
 loop-place-preserved c =
     let rows = c.args.self.now.rows in
-    let os = joined rows in
+    let os = row_items rows in
     let s = c.loop-place.place in
     let l : s.block < length rows = omega (arith, c.blocks-in-loop-place.ensures, c.loop-place-test.true) in
     let k = rank_within rows s l (c.loop-place.invariant.place.item l) in
@@ -69,4 +69,4 @@ returns-clause-none c =
     let rows = c.args.self.now.rows in
     let s = c.loop-place.place in
     let past : length rows ≤ s.block = omega (arith, c.blocks-in-loop-place.ensures, c.loop-place-test.false) in
-    none_at_end c.args.key.now c.args.to.now c.args.below (joined rows) (rank rows s) (omega (arith, c.loop-place.invariant.place.end past)) c.loop-place.invariant.passed
+    none_at_end c.args.key.now c.args.to.now c.args.below (row_items rows) (rank rows s) (omega (arith, c.loop-place.invariant.place.end past)) c.loop-place.invariant.passed

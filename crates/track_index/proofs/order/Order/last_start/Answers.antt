@@ -1,5 +1,5 @@
 use Rattle.std.proofs.Common.{◌≡◌, ◌∙◌, ◌<◌, ◌+◌, ◌-◌, ℕ, Some, length, get_or, ap, arith}
-use Rattle.mse_base.specs.Rows.{joined, start}
+use Rattle.mse_base.specs.Rows.{row_items, start}
 use Rattle.block_list.specs.BlockPlaces.{rank}
 use Rattle.block_list.proofs.Joining.{start_more, start_all}
 use Rattle.block_list.proofs.Cutting.{some_row}
@@ -13,14 +13,14 @@ overflow_sub-index c =
     let rows = c.self.inside.list.rows in
     let n = c.blocks-n.result in
     let l : n - 1 < length rows = omega (arith, c.blocks-n.ensures, c.if-n-eq0.false) in
-    omega (arith, some_row rows (n - 1) c.spare-spare.ensures.full l, ap length c.block.ensures.value)
+    omega (arith, some_row rows (n - 1) c.spare-spare.ensures.none_empty l, ap length c.block.ensures.value)
 
 pub item-entry-requires-clause-index : goal.item-entry-requires-clause-index
 item-entry-requires-clause-index c =
     let rows = c.self.inside.list.rows in
     let n = c.blocks-n.result in
     let l : n - 1 < length rows = omega (arith, c.blocks-n.ensures, c.if-n-eq0.false) in
-    omega (arith, some_row rows (n - 1) c.spare-spare.ensures.full l, ap length c.block.ensures.value)
+    omega (arith, some_row rows (n - 1) c.spare-spare.ensures.none_empty l, ap length c.block.ensures.value)
 
 pub returns : goal.returns
 returns c =
@@ -28,9 +28,9 @@ returns c =
     let n = c.blocks-n.result in
     let l : n - 1 < length rows = omega (arith, c.blocks-n.ensures, c.if-n-eq0.false) in
     let z : n - 1 + 1 ≡ n = omega (arith, c.if-n-eq0.false) in
-    let some = some_row rows (n - 1) c.spare-spare.ensures.full l in
+    let some = some_row rows (n - 1) c.spare-spare.ensures.none_empty l in
     let more = start_more rows (n - 1) l in
     let all = start_all rows n (omega (arith, c.blocks-n.ensures)) in
     let same : start rows (n - 1 + 1) ≡ start rows n = ap (start rows) z in
-    let k : rank rows (record { block = n - 1; index = length c.block.result.now - 1 }) ≡ length (joined rows) - 1 = omega (arith, more, all, same, some, ap length c.block.ensures.value) in
-    ap (λ (o : OrderEntry). Some o.pts) (c.item-entry.ensures ∙ ap (λ (i : ℕ). get_or (joined rows) i c.item-entry.result.now) k) ∙ last_at (joined rows) c.item-entry.result.now (omega (arith, more, all, same, some)) ∙ ap (λ w. last_start (joined w.rows)) c.self.view_is
+    let k : rank rows (record { block = n - 1; index = length c.block.result.now - 1 }) ≡ length (row_items rows) - 1 = omega (arith, more, all, same, some, ap length c.block.ensures.value) in
+    ap (λ (o : OrderEntry). Some o.pts) (c.item-entry.ensures ∙ ap (λ (i : ℕ). get_or (row_items rows) i c.item-entry.result.now) k) ∙ last_at (row_items rows) c.item-entry.result.now (omega (arith, more, all, same, some)) ∙ ap (λ w. last_start (row_items w.rows)) c.self.view_is

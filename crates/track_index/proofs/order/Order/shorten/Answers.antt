@@ -1,5 +1,5 @@
 use Rattle.std.proofs.Common.{◌≡◌, ◌∙◌, ◌+◌, ◌-◌, length, map, drop, ap, sym, arith, None, vec_capacity, ℕ}
-use Rattle.mse_base.specs.Rows.{joined}
+use Rattle.mse_base.specs.Rows.{row_items}
 use Rattle.block_list.specs.BlockPlaces.{rank}
 use Rattle.track_index.specs.Order.{with_entry_dur}
 use Rattle.track_index.proofs.Ending.{length_running_ends}
@@ -16,15 +16,15 @@ refresh-requires c =
     let n = ap length c.self.invariant ∙ length_running_ends None old in
     let k : b + 1 ≡ (b + 1 + length new) - length old = omega (arith, c.set.ensures.len) in
     let r = ready ts old new b (vec_capacity c.self.inside.tops) c.self.invariant c.place_of-place.ensures.block (omega (arith, c.set.ensures.len)) (omega (arith, c.set.ensures.len)) (omega (arith, c.set.ensures.len, n, c.self.inside.tops.ok.0, c.self.inside.tops.ok.1)) c.set.ensures.front (ap (λ (i : ℕ). drop i new) (sym k) ∙ c.set.ensures.rest) in
-    record { within = r.within; more = r.more; fewer = r.fewer; gone = r.gone; room = r.room; front = r.front; rest = r.rest }
+    record { within = r.within; at_most_one_more = r.more; at_most_one_fewer = r.fewer; gone = r.gone; room = r.room; front = r.front; rest = r.rest }
 
 pub returns-clause-items : goal.returns-clause-items
 returns-clause-items c =
-    let os = joined c.self.inside.list.rows in
-    c.set.ensures.items ∙ shortened_at c.args.serial c.args.dur os (rank c.self.inside.list.rows c.place_of-place.result) c.item-entry.result.now c.place_of-place.ensures.names c.item-entry.ensures ∙ ap (λ w. map (with_entry_dur c.args.serial c.args.dur) (joined w.rows)) c.self.view_is
+    let os = row_items c.self.inside.list.rows in
+    c.set.ensures.items ∙ shortened_at c.args.serial c.args.dur os (rank c.self.inside.list.rows c.place_of-place.result) c.item-entry.result.now c.place_of-place.ensures.names c.item-entry.ensures ∙ ap (λ w. map (with_entry_dur c.args.serial c.args.dur) (row_items w.rows)) c.self.view_is
 
-pub returns-clause-spare : goal.returns-clause-spare
-returns-clause-spare c =
+pub returns-clause-no_room_lost : goal.returns-clause-no_room_lost
+returns-clause-no_room_lost c =
     let ts = c.self.inside.tops.items in
     let old = c.self.inside.list.rows in
     let new = c.set.new.self.rows in

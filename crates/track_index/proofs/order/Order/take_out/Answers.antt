@@ -1,5 +1,5 @@
 use Rattle.std.proofs.Common.{◌∙◌, length, filter, not, ap, arith, None, vec_capacity}
-use Rattle.mse_base.specs.Rows.{joined}
+use Rattle.mse_base.specs.Rows.{row_items}
 use Rattle.block_list.specs.BlockPlaces.{rank}
 use Rattle.track_index.specs.declared.entry.OrderEntry.{OrderEntry}
 use Rattle.track_index.specs.Keyed.{has_entry_serial}
@@ -18,15 +18,15 @@ refresh-requires c =
     let few0 = c.remove.ensures.one_block_apart.0 in
     let few1 = c.remove.ensures.one_block_apart.1 in
     let r = ready ts old new b (vec_capacity c.self.inside.tops) c.self.invariant c.place_of-place.ensures.block (omega (arith, few0)) few1 (omega (arith, few0, n, c.self.inside.tops.ok.0, c.self.inside.tops.ok.1)) c.remove.ensures.front c.remove.ensures.rest in
-    record { within = r.within; more = r.more; fewer = r.fewer; gone = r.gone; room = r.room; front = r.front; rest = r.rest }
+    record { within = r.within; at_most_one_more = r.more; at_most_one_fewer = r.fewer; gone = r.gone; room = r.room; front = r.front; rest = r.rest }
 
 pub returns-clause-items : goal.returns-clause-items
 returns-clause-items c =
-    let os = joined c.self.inside.list.rows in
-    c.remove.ensures.items ∙ taken_out c.args.serial os (rank c.self.inside.list.rows c.place_of-place.result) c.place_of-place.ensures.names ∙ ap (λ w. filter (λ (o : OrderEntry). not (has_entry_serial c.args.serial o)) (joined w.rows)) c.self.view_is
+    let os = row_items c.self.inside.list.rows in
+    c.remove.ensures.items ∙ taken_out c.args.serial os (rank c.self.inside.list.rows c.place_of-place.result) c.place_of-place.ensures.names ∙ ap (λ w. filter (λ (o : OrderEntry). not (has_entry_serial c.args.serial o)) (row_items w.rows)) c.self.view_is
 
-pub returns-clause-spare : goal.returns-clause-spare
-returns-clause-spare c =
+pub returns-clause-no_room_lost : goal.returns-clause-no_room_lost
+returns-clause-no_room_lost c =
     let ts = c.self.inside.tops.items in
     let old = c.self.inside.list.rows in
     let new = c.remove.new.self.rows in

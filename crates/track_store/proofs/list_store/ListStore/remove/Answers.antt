@@ -12,4 +12,4 @@ rejoin-requires-clause-timed c = subst (λ (gs : List Stored). AllByRecursion Is
 
 pub invariant_of-self : goal.invariant_of-self
 invariant_of-self c =
-    listed_cleared (is_named c.args.named.now) c.self.inside.items.items _ c.self.inside.ranges.spans _ c.self.inside.gap _ _ c.self.invariant c.clear.ensures.items (omega (arith, c.clear.ensures.shorter)) (c.rejoin.ensures.spans ∙ ap (ranges_of c.self.inside.gap) c.deref.ensures.value) c.rejoin.ensures.room
+    listed_cleared (is_named c.args.named.now) c.self.inside.items.items _ c.self.inside.ranges.spans _ c.self.inside.gap _ _ c.self.invariant c.clear.ensures.items (omega (arith, c.clear.ensures.no_longer)) (c.rejoin.ensures.spans ∙ ap (ranges_of c.self.inside.gap) c.deref.ensures.value) c.rejoin.ensures.room

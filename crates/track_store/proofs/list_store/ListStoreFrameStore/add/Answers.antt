@@ -21,4 +21,4 @@ invariant_of-self c =
     let small = rw (← c.self.view_is) at c.requires.small in
     let room = rw (← c.self.view_is) at c.requires.room in
     let next : length fs + 1 ≤ c.add_span.new.self.spare + length c.add_span.new.self.spans = omega (arith, c.self.inside.items.ok.0, c.add_span.ensures.room) in
-    listed_push fs _ c.self.inside.ranges.spans _ c.self.inside.gap _ _ x c.self.invariant c.push_reserved.ensures.items (c.add_span.ensures.spans ∙ ap (λ (s : Span). ranges_with c.self.inside.gap c.self.inside.ranges.spans s) c.interval.ensures) next older (c.requires.dur_not_negative, c.requires.is_tick) small
+    listed_push fs _ c.self.inside.ranges.spans _ c.self.inside.gap _ _ x c.self.invariant c.push_reserved.ensures.items (c.add_span.ensures.spans ∙ ap (λ (s : Span). ranges_with c.self.inside.gap c.self.inside.ranges.spans s) c.interval.ensures) next older (c.requires.dur_not_negative, c.requires.end_is_tick) small

@@ -15,7 +15,7 @@ rejoin-requires-clause-timed c =
     let within = rw (← c.self.view_is) at c.requires.in_range in
     let x = c.index_mut-stored.result.now in
     let at = slice_get_read fs (length fs) c.args.i x refl within c.index_mut-stored.ensures.value in
-    let less = rw (← c.self.view_is, at) at c.requires.shorter in
+    let less = rw (← c.self.view_is, at) at c.requires.no_longer in
     let begins : IsTick x.frame.pts = c.get-begins.ensures.is_tick in
     subst (λ (gs : List Stored). AllByRecursion IsTimed gs) (sym c.deref.ensures.value) (timed_cut fs c.args.i x c.args.dur c.self.invariant.timed at begins less.0 less.1)
 
@@ -31,7 +31,7 @@ invariant_of-self c =
     let within = rw (← c.self.view_is) at c.requires.in_range in
     let x = c.index_mut-stored.result.now in
     let at = slice_get_read fs (length fs) c.args.i x refl within c.index_mut-stored.ensures.value in
-    let less = rw (← c.self.view_is, at) at c.requires.shorter in
+    let less = rw (← c.self.view_is, at) at c.requires.no_longer in
     let begins : IsTick x.frame.pts = c.get-begins.ensures.is_tick in
     listed_cut fs c.self.inside.ranges.spans _ c.self.inside.gap c.args.dur _ _ c.args.i x c.self.invariant at (timed_cut fs c.args.i x c.args.dur c.self.invariant.timed at begins less.0 less.1) (c.rejoin.ensures.spans ∙ ap (ranges_of c.self.inside.gap) c.deref.ensures.value) c.rejoin.ensures.room
 
