@@ -9,21 +9,21 @@ use Rattle.std.proofs.lemmas.Bool.Decides.{Decides-ltb, Decides-eqb}
 use Rattle.std.proofs.lemmas.Fmt.{decimal_is_IsNumeral_wide, decimal_by_steps_wide, length-decimal-le_wide, decimal_digit}
 use Rattle.std.proofs.lemmas.Str.Parse.{tells_all_ascii_digits}
 use Rattle.event_text.specs.Words.{is_printable}
-use Rattle.call_script.specs.Numbers.{is_number, number_of, below, number_below, index_of, size_of}
+use Rattle.call_script.specs.Numbers.{is_number, number_of, number_if_below, number_below, index_of, size_of}
 use Rattle.call_script.specs.Times.{amount_of}
 use Rattle.call_script.proofs.Parsing.{own, below-yes}
-use Rattle.call_script.proofs.Spaces.{Lacks, Prints}
+use Rattle.call_script.proofs.Spaces.{IsAbsentFrom, IsPrintableText}
 
 -- the first digit of a number that is not 0 is not 0
-abbrev FirstAbove : ℕ → List ℕ → Type 0
-FirstAbove n ds = 0 < n → 48 < get_or ds 0 0
+abbrev HasNoLeadingZero : ℕ → List ℕ → Type 0
+HasNoLeadingZero n ds = 0 < n → 48 < get_or ds 0 0
 
-above-more : (n : ℕ) (ds : List ℕ) → 10 ≤ n → FirstAbove (n / 10) ds → FirstAbove n (ds ++ ((48 + n % 10) ∷ []))
+above-more : (n : ℕ) (ds : List ℕ) → 10 ≤ n → HasNoLeadingZero (n / 10) ds → HasNoLeadingZero n (ds ++ ((48 + n % 10) ∷ []))
 above-more n [] ten h = λ some. absurd (omega (arith, h (omega arith)))
 above-more n (d ∷ ds) ten h = λ some. h (omega arith)
 
-first-above : (n : ℕ) → n < 10 ^ 64 → FirstAbove n (decimal n)
-first-above n small = decimal_by_steps_wide FirstAbove (λ m one some. omega arith) above-more n small
+first-above : (n : ℕ) → n < 10 ^ 64 → HasNoLeadingZero n (decimal n)
+first-above n small = decimal_by_steps_wide HasNoLeadingZero (λ m one some. omega arith) above-more n small
 
 pub digits : (n : ℕ) → n < 10 ^ 64 → (all_ascii_digits (decimal n) ≡ true) × (digits_value 10 (decimal n) ≡ n)
 digits n small = let d = decimal_is_IsNumeral_wide n small in (own.from (decimal n) d.0.1, d.1)
@@ -42,7 +42,7 @@ pub number_of-decimal : (n : ℕ) → n < 10 ^ 64 → number_of (decimal n) ≡ 
 number_of-decimal n small = rw (is_number-decimal n small) (ap (λ (v : ℕ). Some v) (digits n small).1)
 
 pub below-decimal : (limit n : ℕ) → n < limit → n < 10 ^ 64 → number_below limit (decimal n) ≡ Some n
-below-decimal limit n h small = rw (is_number-decimal n small) (ap (below limit) (digits n small).1 ∙ below-yes limit n h)
+below-decimal limit n h small = rw (is_number-decimal n small) (ap (number_if_below limit) (digits n small).1 ∙ below-yes limit n h)
 
 pub index-decimal : (n : ℕ) → n < 2 ^ 32 → index_of (decimal n) ≡ Some n
 unfolding index_of
@@ -59,14 +59,14 @@ amount-decimal n h =
     ap (λ (t : Bool). if t then number_of (decimal n) else None) short ∙ number_of-decimal n (omega (arith, h))
 
 -- digits print, and are no marks
-pub digits-print : (ds : List ℕ) → all_ascii_digits ds ≡ true → Prints ds
+pub digits-print : (ds : List ℕ) → all_ascii_digits ds ≡ true → IsPrintableText ds
 digits-print [] h = record { all = refl }
 digits-print (d ∷ ds) h =
     let parts = tells_all_ascii_digits.parts d ds h in
     let in_line : is_printable d ≡ true = grind (arith, parts.0.0, parts.0.1) in
     record { all = rw in_line (digits-print ds parts.1).all }
 
-pub digits-lack : (mark : ℕ) (ds : List ℕ) → mark < 48 → all_ascii_digits ds ≡ true → Lacks mark ds
+pub digits-lack : (mark : ℕ) (ds : List ℕ) → mark < 48 → all_ascii_digits ds ≡ true → IsAbsentFrom mark ds
 digits-lack mark [] low h = record { none = refl }
 digits-lack mark (d ∷ ds) low h =
     let parts = tells_all_ascii_digits.parts d ds h in
@@ -76,8 +76,8 @@ digits-lack mark (d ∷ ds) low h =
     by true e digit rest = let same : d ≡ mark = (Decides-eqb d mark).0 e in absurd (omega arith)
     by false e digit rest = rest
 
-pub prints-decimal : (n : ℕ) → n < 10 ^ 64 → Prints (decimal n)
+pub prints-decimal : (n : ℕ) → n < 10 ^ 64 → IsPrintableText (decimal n)
 prints-decimal n small = digits-print (decimal n) (digits n small).0
 
-pub lacks-decimal : (mark n : ℕ) → mark < 48 → n < 10 ^ 64 → Lacks mark (decimal n)
+pub lacks-decimal : (mark n : ℕ) → mark < 48 → n < 10 ^ 64 → IsAbsentFrom mark (decimal n)
 lacks-decimal mark n low small = digits-lack mark (decimal n) low (digits n small).0

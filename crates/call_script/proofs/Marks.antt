@@ -2,7 +2,7 @@
 use Rattle.std.proofs.Common.{◌≡◌, ℕ, suc, ◌+◌, ◌<◌, ◌==◌, not, List, [], ◌∷◌, length, take, drop, Bool, true, false, Option, Some, None, if◌then◌else◌, refl, sym, ap, ◌∙◌, arith}
 use Rattle.std.specs.List.{after_first, position_or_len}
 use Rattle.std.proofs.Math.Seq.{take-length}
-use Rattle.call_script.specs.Words.{before, rest_after}
+use Rattle.call_script.specs.Words.{text_before, rest_after}
 
 none_by : (t : Bool) (n len : ℕ) (bs : List ℕ) (rest : Option (List ℕ)) → (n ≡ len → rest ≡ None) → (if not t then 1 + n else 0) ≡ suc len → (if t then Some bs else rest) ≡ None
 none_by true n len bs rest more h = absurd (omega arith)
@@ -23,5 +23,5 @@ pub rest_after-some : (mark : ℕ) (text : List ℕ) → position_or_len (λ b. 
 rest_after-some mark [] h = absurd (omega arith)
 rest_after-some mark (b ∷ bs) h = some_by (b == mark) (position_or_len (λ b. b == mark) bs) (length bs) b bs (rest_after mark bs) (rest_after-some mark bs) h
 
-pub before-none : (mark : ℕ) (text : List ℕ) → position_or_len (λ b. b == mark) text ≡ length text → before mark text ≡ text
+pub before-none : (mark : ℕ) (text : List ℕ) → position_or_len (λ b. b == mark) text ≡ length text → text_before mark text ≡ text
 before-none mark text h = ap (λ (k : ℕ). take k text) h ∙ take-length text

@@ -10,7 +10,7 @@ use Rattle.std.proofs.lemmas.Bool.Decides.{Decides-ltb}
 use Rattle.std.proofs.lemmas.Slice.Eq.{bytes_eq-Decides}
 use Rattle.std.proofs.lemmas.Str.Parse.{IsNumeralModel, numerals_by_value, tells_all_ascii_digits, parse_digits, parse_signed_digits, digits_value_short}
 use mir.Syntax.{w128}
-use Rattle.call_script.specs.Numbers.{is_number, number_of, below, number_below, index_of, size_of}
+use Rattle.call_script.specs.Numbers.{is_number, number_of, number_if_below, number_below, index_of, size_of}
 use Rattle.call_script.specs.Times.{amount_of}
 
 -- all decimal digits, by std's test
@@ -31,10 +31,10 @@ digits_by text false false digits e f d h = cc
 pub number_digits : (text : List ℕ) → is_number text ≡ true → (all_ascii_digits text ≡ true) × (0 < length text)
 number_digits text h = digits_by text _ _ _ refl refl refl h
 
-pub below-yes : (limit n : ℕ) → n < limit → below limit n ≡ Some n
+pub below-yes : (limit n : ℕ) → n < limit → number_if_below limit n ≡ Some n
 below-yes limit n h = ap (λ (t : Bool). if t then Some n else None) ((Decides-ltb n limit).1 h)
 
-pub below-no : (limit n : ℕ) → ¬ (n < limit) → below limit n ≡ None
+pub below-no : (limit n : ℕ) → ¬ (n < limit) → number_if_below limit n ≡ None
 below-no limit n h = by (nat_lt n limit) refl
   where
     by : (t : Bool) → nat_lt n limit ≡ t → (if t then Some n else None) ≡ None
@@ -42,10 +42,10 @@ below-no limit n h = by (nat_lt n limit) refl
     by false e = refl
 
 -- the type of a text that is a number
-pub number_below-is : (limit : ℕ) (text : List ℕ) → is_number text ≡ true → number_below limit text ≡ below limit (digits_value 10 text)
+pub number_below-is : (limit : ℕ) (text : List ℕ) → is_number text ≡ true → number_below limit text ≡ number_if_below limit (digits_value 10 text)
 number_below-is limit text h = rw h refl
 
-parsed_by : {E : Type 0} (limit v len : ℕ) (r : Result ℕ E) → 0 < len → OkIff r ((0 < len) × (v < limit)) v → result_ok r ≡ below limit v
+parsed_by : {E : Type 0} (limit v len : ℕ) (r : Result ℕ E) → 0 < len → OkIff r ((0 < len) × (v < limit)) v → result_ok r ≡ number_if_below limit v
 parsed_by limit v len (Ok x) some h = ap (λ (n : ℕ). Some n) h.1 ∙ sym (below-yes limit v h.0.1)
 parsed_by limit v len (Err e) some h = sym (below-no limit v (λ less. h (some, less)))
 
@@ -67,12 +67,12 @@ unfolding size_of
 size-none text h = rw h refl
 
 -- a number below 2 ^ 64 that is below 2 ^ 63, or is not
-pub parse-size : {E : Type 0} (text : List ℕ) (r : Result ℕ E) (n : ℕ) → ParsesUnsigned 64 10 text r → is_number text ≡ true → r ≡ Ok n → below (2 ^ 63) n ≡ size_of text
+pub parse-size : {E : Type 0} (text : List ℕ) (r : Result ℕ E) (n : ℕ) → ParsesUnsigned 64 10 text r → is_number text ≡ true → r ≡ Ok n → number_if_below (2 ^ 63) n ≡ size_of text
 unfolding size_of
 parse-size {E} text r n h number e =
     let d = number_digits text number in
     let ok = subst (λ (x : Result ℕ E). OkIff x ((0 < length text) × (digits_value 10 text < 2 ^ 64)) (digits_value 10 text)) e (parse_digits own 64 text r h d.0) in
-    ap (below (2 ^ 63)) ok.1 ∙ sym (number_below-is (2 ^ 63) text number)
+    ap (number_if_below (2 ^ 63)) ok.1 ∙ sym (number_below-is (2 ^ 63) text number)
 
 pub parse-size-none : {E : Type 0} (text : List ℕ) (r : Result ℕ E) (err : E) → ParsesUnsigned 64 10 text r → is_number text ≡ true → r ≡ Err err → None ≡ size_of text
 unfolding size_of

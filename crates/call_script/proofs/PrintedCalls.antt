@@ -23,20 +23,20 @@ use Rattle.call_script.specs.CallWords.{call_word_of}
 use Rattle.call_script.specs.Lines.{pair, mode_of, piece_with, piece_of, type_of, call_with, call_of_line}
 use Rattle.call_script.specs.Words.{first_word, after_word}
 use Rattle.call_script.specs.ReadBack.{IsIndex, IsPart, HasFewDigits, IsPlain, IsReadableCall}
-use Rattle.call_script.proofs.Spaces.{Lacks, Prints, before-mark, rest_after-mark, before-alone, rest_after-alone, prints_words, both-is, pair-is, line-alone, line-with}
+use Rattle.call_script.proofs.Spaces.{IsAbsentFrom, IsPrintableText, before-mark, rest_after-mark, before-alone, rest_after-alone, prints_words, both-is, pair-is, line-alone, line-with}
 use Rattle.call_script.proofs.Decimals.{index-decimal, size-decimal, prints-decimal, lacks-decimal}
 use Rattle.call_script.proofs.PrintedTimes.{time-text, lacks-time, prints-time}
 
 -- every word of a call is known, has no space, and prints
 pub record IsCallWord (text : List ℕ) (w : CallWord) : Type 0 where
   pub known : call_word_of text ≡ Some w
-  pub lacks : Lacks 32 text
-  pub prints : Prints text
+  pub lacks : IsAbsentFrom 32 text
+  pub prints : IsPrintableText text
 
 alone-is : (text : List ℕ) (w : CallWord) (c : Call) → IsCallWord text w → call_with w None ≡ Some c → call_of_line text ≡ Some c
 alone-is text w c h e = line-alone text w c h.lacks h.prints h.known e
 
-with-is : (text rest : List ℕ) (w : CallWord) (c : Call) → IsCallWord text w → Prints rest → call_with w (Some rest) ≡ Some c → call_of_line (text ++ (32 ∷ rest)) ≡ Some c
+with-is : (text rest : List ℕ) (w : CallWord) (c : Call) → IsCallWord text w → IsPrintableText rest → call_with w (Some rest) ≡ Some c → call_of_line (text ++ (32 ∷ rest)) ≡ Some c
 with-is text rest w c h p e = line-with text rest w c h.lacks h.prints p h.known e
 
 -- the arguments
@@ -46,13 +46,13 @@ wide k h = omega (arith, h)
 index_wide : (k : ℕ) → IsIndex k → k < 10 ^ 64
 index_wide k h = omega (arith, h)
 
-lacks-index : (k : ℕ) → IsIndex k → Lacks 32 (decimal k)
+lacks-index : (k : ℕ) → IsIndex k → IsAbsentFrom 32 (decimal k)
 lacks-index k h = lacks-decimal 32 k (lit< tt) (index_wide k h)
 
-prints-index : (k : ℕ) → IsIndex k → Prints (decimal k)
+prints-index : (k : ℕ) → IsIndex k → IsPrintableText (decimal k)
 prints-index k h = prints-decimal k (index_wide k h)
 
-prints-mode : (mode : Mode) → Prints (mode_text mode)
+prints-mode : (mode : Mode) → IsPrintableText (mode_text mode)
 prints-mode Segments = record { all = refl }
 prints-mode Sequence = record { all = refl }
 
@@ -82,7 +82,7 @@ piece-text blob (Some part) h k =
     ∙ ap (piece_with blob) (rest_after-mark 32 (decimal blob) (decimal part.0 ++ (32 ∷ decimal part.1)) (lacks-index blob h) refl)
     ∙ ap (option_map (λ p. record { blob = blob; part = Some p })) sizes
 
-prints-piece : (blob : ℕ) (part : Option (ℕ × ℕ)) → IsIndex blob → IsPart part → Prints (piece_words blob part)
+prints-piece : (blob : ℕ) (part : Option (ℕ × ℕ)) → IsIndex blob → IsPart part → IsPrintableText (piece_words blob part)
 unfolding piece_words
 prints-piece blob None h k = prints-index blob h
 prints-piece blob (Some part) h k =

@@ -50,15 +50,15 @@ unknown_key (member key value members) =
     if is_script_key key then unknown_key members else lesser_key key (unknown_key members)
 
 -- a whole number from `least` to `most`
-abbrev pub within : ℕ → ℕ → Option ℤ → Option ℕ
-within least most None = None
-within least most (Some (pos n)) = if nat_le least n && nat_le n most then Some n else None
-within least most (Some (negsuc n)) = None
+abbrev pub number_within : ℕ → ℕ → Option ℤ → Option ℕ
+number_within least most None = None
+number_within least most (Some (pos n)) = if nat_le least n && nat_le n most then Some n else None
+number_within least most (Some (negsuc n)) = None
 
 -- the number that stands at a key from `least` to `most`, or the default where the key is not there
 unfoldable pub number_or : ℕ → ℕ → ℕ → Option Data → Option ℕ
 number_or default least most None = Some default
-number_or default least most (Some value) = within least most (as_integer value)
+number_or default least most (Some value) = number_within least most (as_integer value)
 
 -- the list that stands at a key, or the empty list where the key is not there
 unfoldable pub items_or_none : Option Data → Option Items

@@ -18,15 +18,15 @@ use Rattle.call_script.specs.Times.{time_of}
 use Rattle.call_script.specs.CallWords.{call_word_of}
 
 -- both, where both are there
-abbrev pub both : {A B : Type 0} → Option A → Option B → Option (A × B)
-both None y = None
-both (Some x) None = None
-both (Some x) (Some y) = Some (x, y)
+abbrev pub pair_of : {A B : Type 0} → Option A → Option B → Option (A × B)
+pair_of None y = None
+pair_of (Some x) None = None
+pair_of (Some x) (Some y) = Some (x, y)
 
 -- two arguments: the first word, and what stands behind it
 abbrev pub pair : {A B : Type 0} → (List ℕ → Option A) → (List ℕ → Option B) → List ℕ
     → Option (A × B)
-pair first second text = both (first (first_word text)) (option_and_then second (after_word text))
+pair first second text = pair_of (first (first_word text)) (option_and_then second (after_word text))
 
 -- The kinds of arguments. A number is `index_of`, a time is `time_of`.
 abbrev pub mode_of : List ℕ → Option AppendMode
@@ -55,12 +55,12 @@ abbrev pub call_alone : Call → Option (List ℕ) → Option Call
 call_alone call None = Some call
 call_alone call (Some text) = None
 
-abbrev pub one : {A : Type 0} → (List ℕ → Option A) → (A → Call) → Option (List ℕ) → Option Call
-one first make rest = option_map make (option_and_then first rest)
+abbrev pub one_argument : {A : Type 0} → (List ℕ → Option A) → (A → Call) → Option (List ℕ) → Option Call
+one_argument first make rest = option_map make (option_and_then first rest)
 
-abbrev pub two : {A B : Type 0} → (List ℕ → Option A) → (List ℕ → Option B) → (A → B → Call)
+abbrev pub two_arguments : {A B : Type 0} → (List ℕ → Option A) → (List ℕ → Option B) → (A → B → Call)
     → Option (List ℕ) → Option Call
-two first second make rest =
+two_arguments first second make rest =
     option_map (λ p. make p.0 p.1) (option_and_then (pair first second) rest)
 
 abbrev pub type_call : (List ℕ → Call) → Option (List ℕ) → Option Call
@@ -69,7 +69,7 @@ type_call make rest = option_map make (type_of rest)
 abbrev pub index_and_type_call : (ℕ → List ℕ → Call) → Option (List ℕ) → Option Call
 index_and_type_call make None = None
 index_and_type_call make (Some text) =
-    option_map (λ p. make p.0 p.1) (both (index_of (first_word text)) (type_of (after_word text)))
+    option_map (λ p. make p.0 p.1) (pair_of (index_of (first_word text)) (type_of (after_word text)))
 
 abbrev pub end_call : Option (List ℕ) → Option Call
 end_call None = Some (call.EndOfStream kind.Plain)
@@ -81,25 +81,25 @@ end_call (Some text) =
 abbrev pub call_with : CallWord → Option (List ℕ) → Option Call
 call_with Attach = call_alone call.Attach
 call_with Add = type_call (λ kind. call.AddSourceBuffer kind)
-call_with RemoveBuffer = one index_of (λ k. call.RemoveSourceBuffer k)
-call_with Duration = one time_of (λ d. call.SetDuration d)
+call_with RemoveBuffer = one_argument index_of (λ k. call.RemoveSourceBuffer k)
+call_with Duration = one_argument time_of (λ d. call.SetDuration d)
 call_with EndOfStream = end_call
-call_with Live = two time_of time_of (λ a b. call.SetLiveSeekableRange a b)
+call_with Live = two_arguments time_of time_of (λ a b. call.SetLiveSeekableRange a b)
 call_with ClearLive = call_alone call.ClearLiveSeekableRange
-call_with Mode = two index_of mode_of (λ k mode. call.SetMode k mode)
-call_with Offset = two index_of time_of (λ k t. call.SetTimestampOffset k t)
-call_with WindowStart = two index_of time_of (λ k t. call.SetAppendWindowStart k t)
-call_with WindowEnd = two index_of time_of (λ k t. call.SetAppendWindowEnd k t)
-call_with Append = two index_of piece_of (λ k piece. call.AppendBuffer k piece)
-call_with Abort = one index_of (λ k. call.Abort k)
-call_with Remove = two index_of (pair time_of time_of) (λ k span. call.Remove k span.0 span.1)
+call_with Mode = two_arguments index_of mode_of (λ k mode. call.SetMode k mode)
+call_with Offset = two_arguments index_of time_of (λ k t. call.SetTimestampOffset k t)
+call_with WindowStart = two_arguments index_of time_of (λ k t. call.SetAppendWindowStart k t)
+call_with WindowEnd = two_arguments index_of time_of (λ k t. call.SetAppendWindowEnd k t)
+call_with Append = two_arguments index_of piece_of (λ k piece. call.AppendBuffer k piece)
+call_with Abort = one_argument index_of (λ k. call.Abort k)
+call_with Remove = two_arguments index_of (pair time_of time_of) (λ k span. call.Remove k span.0 span.1)
 call_with ChangeType = index_and_type_call (λ k kind. call.ChangeType k kind)
-call_with Buffered = one index_of (λ k. call.Buffered k)
+call_with Buffered = one_argument index_of (λ k. call.Buffered k)
 call_with State = call_alone call.SourceState
-call_with Seek = one time_of (λ t. call.Seek t)
+call_with Seek = one_argument time_of (λ t. call.Seek t)
 call_with Play = call_alone call.Play
 call_with Pause = call_alone call.Pause
-call_with Advance = one time_of (λ t. call.Advance t)
+call_with Advance = one_argument time_of (λ t. call.Advance t)
 call_with ElementBuffered = call_alone call.ElementBuffered
 call_with Seekable = call_alone call.Seekable
 

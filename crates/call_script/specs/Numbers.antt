@@ -11,11 +11,11 @@ is_number text =
 abbrev pub number_of : List ℕ → Option ℕ
 number_of text = if is_number text then Some (digits_value 10 text) else None
 
-abbrev pub below : ℕ → ℕ → Option ℕ
-below limit n = if nat_lt n limit then Some n else None
+abbrev pub number_if_below : ℕ → ℕ → Option ℕ
+number_if_below limit n = if nat_lt n limit then Some n else None
 
 abbrev pub number_below : ℕ → List ℕ → Option ℕ
-number_below limit text = option_and_then (below limit) (number_of text)
+number_below limit text = option_and_then (number_if_below limit) (number_of text)
 
 -- the number of a buffer or of a blob
 unfoldable pub index_of : List ℕ → Option ℕ

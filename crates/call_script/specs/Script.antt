@@ -43,12 +43,12 @@ answer_by view (Ok x) = Ok (view x)
 answer_by view (Err error) = Err error
 
 -- no key that a script does not have
-abbrev pub keys_fault : Option (List ℕ) → Result (Unit {0}) ScriptFault
-keys_fault None = Ok tt
-keys_fault (Some name) = Err (Key name)
+abbrev pub key_check : Option (List ℕ) → Result (Unit {0}) ScriptFault
+key_check None = Ok tt
+key_check (Some name) = Err (Key name)
 
-unfoldable pub known_keys : Members → Result (Unit {0}) ScriptFault
-known_keys members = keys_fault (unknown_key members)
+unfoldable pub keys_check : Members → Result (Unit {0}) ScriptFault
+keys_check members = key_check (unknown_key members)
 
 -- the number at a key from `least` to `most`, or the default
 unfoldable pub number_at : ScriptKey → ℕ → ℕ → ℕ → Members → Result ℕ ScriptFault
@@ -84,7 +84,7 @@ rules_of items = with_fault_number (λ n. Rule n) (members_of rule_of items)
 -- the script of a table, with the faults in their order
 unfoldable pub script_of : Members → Result Script ScriptFault
 script_of members = do
-  known ← known_keys members
+  known ← keys_check members
   quota ← number_at key.Quota 134217728 1 (2 ^ 40) members
   drain ← number_at key.Drain 100000 1 1000000 members
   gap ← number_at key.Gap 0 0 (2 ^ 40) members

@@ -3,8 +3,8 @@ use Rattle.std.specs.Prelude.{ℕ, ◌==◌, List, [], ◌∷◌, Option, Some, 
 use Rattle.std.specs.List.{before_first}
 
 -- what stands before the first such byte; the whole text where there is none
-abbrev pub before : ℕ → List ℕ → List ℕ
-before mark text = before_first (λ b. b == mark) text
+abbrev pub text_before : ℕ → List ℕ → List ℕ
+text_before mark text = before_first (λ b. b == mark) text
 
 -- what stands behind the first such byte; nothing where there is none
 abbrev pub rest_after : ℕ → List ℕ → Option (List ℕ)
@@ -13,7 +13,7 @@ rest_after mark (byte ∷ bytes) = if byte == mark then Some bytes else rest_aft
 
 -- words are parted by one space
 abbrev pub first_word : List ℕ → List ℕ
-first_word text = before 32 text
+first_word text = text_before 32 text
 
 abbrev pub after_word : List ℕ → Option (List ℕ)
 after_word text = rest_after 32 text

@@ -1,5 +1,5 @@
 ghost use Rattle.std.specs.Prelude.{◌≡◌, ◌<◌, ◌^◌, IfSome, pos, unsigned_abs, option_map};
-ghost use Rattle.call_script.specs.Numbers.{is_number, below, index_of, size_of};
+ghost use Rattle.call_script.specs.Numbers.{is_number, number_if_below, index_of, size_of};
 ghost use Rattle.call_script.specs.Times.{amount_of};
 
 /// The most digits of a time's number.
@@ -30,7 +30,7 @@ pub fn read_index(text: &str) -> Option<u32>
 }
 
 fn below_limit(size: u64) -> Option<u64>
-    ensures { result ≡ below (2 ^ 63) size }
+    ensures { result ≡ number_if_below (2 ^ 63) size }
 {
     if size < 1 << 63 { Some(size) } else { None }
 }

@@ -3,7 +3,7 @@ ghost use Rattle.toml.specs.View.{view, table_view, items_view};
 ghost use Rattle.toml.specs.Data.{as_str};
 ghost use Rattle.call_script.specs.Blobs.{blob_of};
 ghost use Rattle.call_script.specs.Lines.{step_of_line};
-ghost use Rattle.call_script.specs.Script.{IsAnswer, IsError, answer_by, known_keys, number_at, list_at, at_most, blobs_of, steps_of, rules_of, script_of, read_of};
+ghost use Rattle.call_script.specs.Script.{IsAnswer, IsError, answer_by, keys_check, number_at, list_at, at_most, blobs_of, steps_of, rules_of, script_of, read_of};
 
 use crate::blobs::read_blob;
 use crate::fault::{ScriptError, ScriptFault};
@@ -50,9 +50,9 @@ fn key_error(alloc: Global, name: &str) -> ScriptError
     }
 }
 
-#[tactic(auto, unfolding(crate::specs::Script::known_keys))]
+#[tactic(auto, unfolding(crate::specs::Script::keys_check))]
 fn check_keys(alloc: Global, table: &Table) -> Result<(), ScriptError>
-    ensures { IsAnswer result (known_keys (table_view table.now)) }
+    ensures { IsAnswer result (keys_check (table_view table.now)) }
 {
     match unknown_key(table) {
         Some(key) => Err(key_error(alloc, key.as_str())),

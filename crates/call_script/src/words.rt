@@ -1,11 +1,11 @@
 ghost use Rattle.std.specs.Prelude.{◌≡◌, ◌<◌};
 ghost use Rattle.std.specs.Option.{option_copied};
-ghost use Rattle.call_script.specs.Words.{before, rest_after, first_word, after_word};
+ghost use Rattle.call_script.specs.Words.{text_before, rest_after, first_word, after_word};
 
 /// What stands before the first `mark` of a text, and what stands behind it, where there is one.
 pub fn split_at_mark(text: &str, mark: char) -> (&str, Option<&str>)
     requires { mark < 128 }
-    ensures front { result.0.now ≡ before mark text.now }
+    ensures front { result.0.now ≡ text_before mark text.now }
     ensures rest { option_copied result.1 ≡ rest_after mark text.now }
 {
     match text.split_once(mark) {

@@ -138,7 +138,7 @@ fn push_fault(alloc: Global, text: &mut String, fault: &Option<FaultView>) -> Re
 
 /// The lines that close a run: the state of the source and the element where `whole` asks for it,
 /// the duration, each buffer with its tracks, and the first fault.
-pub fn closing_text(alloc: Global, view: &View, whole: bool) -> Result<Text, OutOfMemory>
+pub fn closing(alloc: Global, view: &View, whole: bool) -> Result<Text, OutOfMemory>
     ensures { IfOk result (λ text. text ≡ closing_text view.now whole) }
 {
     let mut text = state_line(alloc, &view.state, whole)?;

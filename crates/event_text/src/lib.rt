@@ -2,7 +2,7 @@
 //! it, which show what is buffered.
 //!
 //! It stands on `mse_calls` and `mse_base`. Its main contracts are those of [`line_of`] and
-//! [`closing_text`]: the text is exactly the one that the definitions in `specs/` spell out.
+//! [`closing`]: the text is exactly the one that the definitions in `specs/` spell out.
 #![tactic(auto)]
 
 mod answers;
@@ -14,7 +14,7 @@ mod lines;
 mod times;
 mod words;
 
-pub use block::closing_text;
+pub use block::closing;
 pub use events::kind_name;
 pub use faults::{fault_line, init_fault};
 pub use lines::{event_line, line_of, listener_line, script_line};

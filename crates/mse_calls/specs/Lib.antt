@@ -1,4 +1,4 @@
-pub mod Answered
+pub mod AnswerAndState
 pub mod Level
 pub mod Pieces
 pub mod Ready

@@ -24,7 +24,7 @@ fn copies_an_answer(rt: HostRuntime) -> Result<(), Fail> {
     let mut ranges = Ranges::new(rt.alloc());
     ranges.reserve(1)?;
     assert!(rt; ranges.is_empty() && ranges.spare() > 0);
-    ranges.add_span(span, Ticks::zero());
+    ranges.add_last(span, Ticks::zero());
     let answer = Answer::Ranges(TimeRanges::new(ranges));
     let Answer::Ranges(ranges) = answer.copy()? else {
         return Err(Fail::new("another answer"));

@@ -1,4 +1,4 @@
-use event_text::{closing_text, init_fault, line_of, printable_text};
+use event_text::{closing, init_fault, line_of, printable_text};
 use mse_base::{Kind, Moment, OutOfMemory, Phase, Ranges, Span, Text, Ticks};
 use mse_calls::{
     Answer, BufferView, BufferViews, Call, EndKind, Entry, Event, EventKind, FaultView, Level,
@@ -33,16 +33,16 @@ fn expect_call(rt: &impl Abort, alloc: Global, call: Call, wanted: &str) -> Resu
     expect_line(rt, alloc, &script(call), wanted)
 }
 
-fn answered(answer: Answer) -> Entry {
+fn answer_entry(answer: Answer) -> Entry {
     Entry::Script(Call::Play, answer)
 }
 
 /// Prints an answer, and compares its line.
 fn expect_answer(rt: &impl Abort, alloc: Global, answer: Answer, wanted: &str) -> Result<(), Fail> {
-    expect_line(rt, alloc, &answered(answer), wanted)
+    expect_line(rt, alloc, &answer_entry(answer), wanted)
 }
 
-fn fired(target: Target, kind: EventKind) -> Entry {
+fn event_entry(target: Target, kind: EventKind) -> Entry {
     Entry::Fired(Event { target, kind })
 }
 
@@ -458,7 +458,7 @@ const EVENTS: [(Target, EventKind, &str); 22] = [
 #[test]
 fn prints_events(rt: HostRuntime) -> Result<(), Fail> {
     for (target, kind, wanted) in EVENTS {
-        expect_line(&rt, rt.alloc(), &fired(target, kind), wanted)?;
+        expect_line(&rt, rt.alloc(), &event_entry(target, kind), wanted)?;
     }
     Ok(())
 }
@@ -477,7 +477,7 @@ fn fault_of(alloc: Global, number: u8, inner: u8) -> Result<String, OutOfMemory>
         buffers: BufferViews::from_vec(Vec::new(alloc)),
         fault: Some(fault),
     };
-    let block = closing_text(alloc, &view, false)?;
+    let block = closing(alloc, &view, false)?;
     let rest = block
         .as_str()
         .strip_prefix("duration nan\nfault ")
@@ -617,7 +617,7 @@ fn prints_the_closing_lines(rt: HostRuntime) -> Result<(), Fail> {
         fault: None,
     };
     assert_eq!(rt;
-        closing_text(alloc, &view, true)?.as_str(),
+        closing(alloc, &view, true)?.as_str(),
         "state source open duration 4704000000 level 4 position 0 paused true seeking false error 0
 duration 4704000000
 buffer 0 phase waiting held 0 used 27 buffered [0,14112000000)
@@ -647,7 +647,7 @@ fn prints_the_closing_fault(rt: HostRuntime) -> Result<(), Fail> {
         }),
     };
     assert_eq!(rt;
-        closing_text(alloc, &view, false)?.as_str(),
+        closing(alloc, &view, false)?.as_str(),
         "duration inf
 fault 7 InSegment buffer 0 at 735
 "
@@ -681,14 +681,14 @@ fn events_of_a_run(alloc: Global) -> Result<Vec<Entry>, Fail> {
     };
     let entries = vec![in alloc;
         Entry::Step(3),
-        fired(Target::Source, EventKind::SourceOpen),
-        fired(Target::SourceBuffers, EventKind::AddSourceBuffer),
-        fired(Target::Buffer(0), EventKind::UpdateStart),
+        event_entry(Target::Source, EventKind::SourceOpen),
+        event_entry(Target::SourceBuffers, EventKind::AddSourceBuffer),
+        event_entry(Target::Buffer(0), EventKind::UpdateStart),
         Entry::Listener(0, Call::Abort(0), Answer::Done),
         Entry::Listener(0, Call::AppendBuffer(0, whole), Answer::Done),
         Entry::Work(0),
-        fired(Target::Element, EventKind::DurationChange),
-        fired(Target::ActiveSourceBuffers, EventKind::AddSourceBuffer),
+        event_entry(Target::Element, EventKind::DurationChange),
+        event_entry(Target::ActiveSourceBuffers, EventKind::AddSourceBuffer),
     ]?;
     Ok(entries)
 }

@@ -1,4 +1,4 @@
 -- What a call answers, and the state behind it.
-pub record Answered (A S : Type 0) : Type 0 where
+pub record AnswerAndState (A S : Type 0) : Type 0 where
   pub answer : A
   pub state : S
