@@ -8,7 +8,7 @@ use Rattle.mse_base.specs.declared.track.Presentation.{Presentation}
 use Rattle.parser_loop.specs.declared.next.Next.{Next}
 use Rattle.parser_loop.specs.declared.next.Next.TheVariants as next
 use Rattle.byte_stream.specs.declared.next.ByteFault.{ByteFault}
-use Rattle.parser_loop.specs.Items.{InitItem, FrameItem, SegmentEnd, FaultItem, leading_frames, seen}
+use Rattle.parser_loop.specs.Items.{InitItem, FrameItem, SegmentEnd, FaultItem, leading_frames, answer_item}
 use Rattle.byte_stream.specs.Readings.{ByteItem, IsLasting}
 use Rattle.track_buffers.specs.Media.{MediaView}
 use Rattle.buffer_state.specs.Steps.{IsReadyFor, IsNoInit, frame_in}
@@ -22,7 +22,7 @@ place-other (SegmentEnd ∷ items) zero m h other = tt
 place-other (FaultItem f at ∷ items) zero m h other = tt
 place-other (item ∷ items) (suc n) m h other = place-other items n m h other
 
-pub no-init : (o : Next ByteFault) → ((p : Presentation) (at : ℕ) → o ≡ next.Init p at → ⊥) → IsNoInit (seen o)
+pub no-init : (o : Next ByteFault) → ((p : Presentation) (at : ℕ) → o ≡ next.Init p at → ⊥) → IsNoInit (answer_item o)
 no-init (next.Init p at) h = h p at refl
 no-init (next.Frame f at) h = tt
 no-init next.SegmentEnd h = tt

@@ -17,7 +17,7 @@ use Rattle.adts_stream.specs.Walk as frame_walk
 use Rattle.adts_stream.proofs.WalkLaws as frame_laws
 use Rattle.adts_stream.proofs.FrameLaws.{items-frames}
 use Rattle.byte_stream.specs.Readings.{ByteItem, items_of, items_in, of_segments, of_frames}
-use Rattle.byte_stream.specs.Streams.{StreamView, StandsIn, OfSegments, OfFrames, StandsForSome}
+use Rattle.byte_stream.specs.Streams.{StreamView, StandsIn, OfSegments, OfFrames, HasReading}
 use Rattle.byte_stream.specs.Streams as byte_stream
 use Rattle.track_buffers.specs.Media.{Media}
 use Rattle.buffer_state.specs.declared.running.Running.{Running}
@@ -25,9 +25,9 @@ use Rattle.buffer_state.specs.declared.running.Running.TheVariants.{Append}
 use Rattle.buffer_state.specs.declared.turns.ItemEffect.{ItemEffect}
 use Rattle.buffer_state.specs.declared.turns.ItemEffect.TheVariants as step
 use Rattle.buffer_state.specs.State.{Content, kept_buffer}
-use Rattle.buffer_state.specs.Steps.{Leaves, step_result, item_stepped, IsItemRefused}
+use Rattle.buffer_state.specs.Steps.{IsLeftByStep, step_result, step_of_item, IsItemRefused}
 use Rattle.buffer_state.specs.StepsLeft.{items_left, steps_left}
-use Rattle.buffer_state.proofs.Stepping.{GoesOn}
+use Rattle.buffer_state.proofs.Stepping.{IsStreamAfter}
 
 -- the items that are left are those of the string but for the ones that were given
 pub left : (k : byte_stream.ParserState) (container : Container) (r : StringReading) → StandsIn k container r → items_left k + r.taken ≡ length (items_of container r.before r.whole)
@@ -49,14 +49,14 @@ left (OfSegments k) Adts r h = absurd h
 left (OfFrames s) Mp4 r h = absurd h
 
 -- an item that is given is one less
-one-less : (s t : StreamView) (item : ByteItem) → StandsForSome s → GoesOn s (Some item) t → items_left t.parser + 1 ≡ items_left s.parser
+one-less : (s t : StreamView) (item : ByteItem) → HasReading s → IsStreamAfter s (Some item) t → items_left t.parser + 1 ≡ items_left s.parser
 one-less s t item some goes =
     let read : StringReading = some.reading.string in
     let before : items_left s.parser + read.taken ≡ length (items_in some.reading) = left s.parser some.reading.container read some.stands.parser in
     let after : items_left t.parser + (read.taken + 1) ≡ length (items_in some.reading) = left t.parser some.reading.container (after_answer (Some item) read) (goes some.reading some.stands).parser in
     omega arith
 
-pub fewer : (s0 s1 s2 : StreamView) (m0 m2 : Media) (r2 : Running) (oi : Option ByteItem) (st : ItemEffect) (c d : Content) (duration : Moment) → StandsForSome s0 → GoesOn s0 oi s1 → step_result st d ≡ item_stepped oi c duration → Leaves st s1 Append s2 r2 → steps_left (kept_buffer s2 m2 r2) < steps_left (kept_buffer s0 m0 Append)
+pub fewer : (s0 s1 s2 : StreamView) (m0 m2 : Media) (r2 : Running) (oi : Option ByteItem) (st : ItemEffect) (c d : Content) (duration : Moment) → HasReading s0 → IsStreamAfter s0 oi s1 → step_result st d ≡ step_of_item oi c duration → IsLeftByStep st s1 Append s2 r2 → steps_left (kept_buffer s2 m2 r2) < steps_left (kept_buffer s0 m0 Append)
 fewer s0 s1 s2 m0 m2 r2 oi step.NoItem c d duration some goes e leaves = rw leaves (omega arith)
 fewer s0 s1 s2 m0 m2 r2 None (step.Done b) c d duration some goes e leaves = absurd (cc)
 fewer s0 s1 s2 m0 m2 r2 (Some item) (step.Done b) c d duration some goes e leaves =
@@ -65,13 +65,13 @@ fewer s0 s1 s2 m0 m2 r2 (Some item) (step.Done b) c d duration some goes e leave
 fewer s0 s1 s2 m0 m2 r2 oi (step.AppendError fault at b) c d duration some goes e leaves = rw leaves (omega arith)
 
 -- where nothing runs behind it
-pub fewer-error : (s0 s2 : StreamView) (m0 m2 : Media) (r2 : Running) (o : Option ByteItem) (m : Media) (d : Moment) (st : ItemEffect) → IsItemRefused st o m d → Leaves st s0 Append s2 r2 → steps_left (kept_buffer s2 m2 r2) < steps_left (kept_buffer s0 m0 Append)
+pub fewer-error : (s0 s2 : StreamView) (m0 m2 : Media) (r2 : Running) (o : Option ByteItem) (m : Media) (d : Moment) (st : ItemEffect) → IsItemRefused st o m d → IsLeftByStep st s0 Append s2 r2 → steps_left (kept_buffer s2 m2 r2) < steps_left (kept_buffer s0 m0 Append)
 fewer-error s0 s2 m0 m2 r2 o m d step.NoItem h leaves = absurd h
 fewer-error s0 s2 m0 m2 r2 o m d (step.Done b) h leaves = absurd h
 fewer-error s0 s2 m0 m2 r2 o m d (step.AppendError fault at b) h leaves = rw leaves (omega arith)
 
 -- where an item was given, and the append goes on
-pub fewer-given : (s t : StreamView) (m n : Media) (item : ByteItem) → StandsForSome s → GoesOn s (Some item) t → steps_left (kept_buffer t n Append) < steps_left (kept_buffer s m Append)
+pub fewer-given : (s t : StreamView) (m n : Media) (item : ByteItem) → HasReading s → IsStreamAfter s (Some item) t → steps_left (kept_buffer t n Append) < steps_left (kept_buffer s m Append)
 fewer-given s t m n item some goes =
     let one : items_left t.parser + 1 ≡ items_left s.parser = one-less s t item some goes in
     omega arith

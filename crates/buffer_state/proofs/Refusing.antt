@@ -15,7 +15,7 @@ use Rattle.track_buffers.specs.Frames.{flush_result}
 use Rattle.track_buffers.specs.Settings.{with_mode, with_offset, with_window_start, with_window_end}
 use Rattle.buffer_state.specs.State.{Feed, Content, Surroundings, AppendInput, is_updating, feed_running, phase_in, ready_in}
 use Rattle.mse_calls.specs.Ready.{is_ended}
-use Rattle.buffer_state.specs.Replies.{CallResult, refused_result, result_with, event_reply, TellsRefusals}
+use Rattle.buffer_state.specs.Replies.{CallResult, refused_result, result_with, event_reply, AreRefusalsTold}
 use Rattle.buffer_state.specs.Calls.{unless_refused, is_sequence, is_in_media, settings_result, settings_result_by_phase, phase_refusal, mode_refusal, mode_result, offset_refusal, offset_result, window_start_refusal, window_start_result, window_end_refusal, window_end_result, remove_refusal, remove_result, append_refusal, append_result, append_result_after_eviction, abort_refusal, abort_result, abort_result_after_flush, change_type_refusal, change_type_refusal_by_answer, change_type_result, change_type_result_by_answer, change_type_result_after_flush}
 
 -- the name of a result
@@ -38,18 +38,18 @@ both_ways : (o : Option Name) (done : CallResult) (a : Surroundings) (f : Feed) 
     → (o ≡ Some name → unless_refused o done a f c ≡ refused_result name false a f c) × (unless_refused o done a f c ≡ refused_result name false a f c → o ≡ Some name)
 both_ways o done a f c name none = (refused_by o done a f c name, told_by o done a f c name (λ _ is. no_refusal done a f c name none is))
 
-pub window_start_told : (t : ℤ) → TellsRefusals (λ a f c. window_start_refusal t f c) (window_start_result t)
+pub window_start_told : (t : ℤ) → AreRefusalsTold (λ a f c. window_start_refusal t f c) (window_start_result t)
 window_start_told t a f c name = both_ways (window_start_refusal t f c) (settings_result false (with_window_start t c.media) a f c) a f c name refl
 
-pub window_end_told : (t : Moment) → TellsRefusals (λ a f c. window_end_refusal t f c) (window_end_result t)
+pub window_end_told : (t : Moment) → AreRefusalsTold (λ a f c. window_end_refusal t f c) (window_end_result t)
 window_end_told t a f c name = both_ways (window_end_refusal t f c) (settings_result false (with_window_end t c.media) a f c) a f c name refl
 
-pub remove_told : (start : ℤ) (end : Moment) → TellsRefusals (λ a f c. remove_refusal start end a f) (remove_result start end)
+pub remove_told : (start : ℤ) (end : Moment) → AreRefusalsTold (λ a f c. remove_refusal start end a f) (remove_result start end)
 remove_told start end a f c name =
     let done : CallResult = result_with (event_reply (is_ended a.ready) a.duration (UpdateStart ∷ [])) (feed_running (Removal start end) f) c in
     both_ways (remove_refusal start end a f) done a f c name refl
 
-pub abort_told : TellsRefusals (λ a f c. abort_refusal a f) abort_result
+pub abort_told : AreRefusalsTold (λ a f c. abort_refusal a f) abort_result
 abort_told a f c name = both_ways (abort_refusal a f) (abort_result_after_flush (flush_result (ready_in f) c.media a.duration) a f c) a f c name refl
 
 -- ---- in a media segment, where an ended source is opened again first
@@ -65,7 +65,7 @@ none_behind : (refused : Bool) (name : Name) (o : Option Name) → cond refused 
 none_behind true name o none = absurd cc
 none_behind false name o none = none
 
-pub mode_told : (mode : Mode) → TellsRefusals (mode_refusal mode) (mode_result mode)
+pub mode_told : (mode : Mode) → AreRefusalsTold (mode_refusal mode) (mode_result mode)
 mode_told mode a f c name =
     let m : Media = with_mode (is_sequence mode) c.media in
     let o : Option Name = mode_refusal mode a f c in
@@ -74,7 +74,7 @@ mode_told mode a f c name =
     let behind : Option Name = cond wrong (Some TypeError) (phase_refusal a f) in
     (refused_by o done a f c name, told_by o done a f c name (λ none is. no_phase (is_in_media (phase_in f)) (is_ended a.ready) m a f c name (none_behind wrong TypeError (phase_refusal a f) (none_behind (is_updating f.running) InvalidState behind none)) is))
 
-pub offset_told : (t : ℤ) → TellsRefusals (λ a f c. offset_refusal a f) (offset_result t)
+pub offset_told : (t : ℤ) → AreRefusalsTold (λ a f c. offset_refusal a f) (offset_result t)
 offset_told t a f c name =
     let m : Media = with_offset t c.media in
     let o : Option Name = offset_refusal a f in
@@ -112,5 +112,5 @@ type_told (Supported container) a f c name =
     let r : CallResult = change_type_result_after_flush container (flush_result (ready_in f) c.media a.duration) a in
     (refused_where (is_updating f.running) InvalidState None r a f c name (λ is. absurd cc), told_where (is_updating f.running) InvalidState None r a f c name (λ is. absurd (no_refusal r a f c name refl is)))
 
-pub change_type_told : (text : List ℕ) → TellsRefusals (λ a f c. change_type_refusal text f) (change_type_result text)
+pub change_type_told : (text : List ℕ) → AreRefusalsTold (λ a f c. change_type_refusal text f) (change_type_result text)
 change_type_told text a f c name = type_told (type_of text) a f c name

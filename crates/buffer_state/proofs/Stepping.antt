@@ -26,11 +26,11 @@ use Rattle.buffer_state.specs.declared.turns.ItemEffect.TheVariants as step
 use Rattle.buffer_state.specs.State.{Feed, Content, Surroundings, kept_buffer, Stands, feed_after, next_item}
 use Rattle.buffer_state.specs.Replies.{CallResult, IsBufferAnswer, IsResult}
 use Rattle.buffer_state.specs.Turns.{ItemResult, Done, AppendError, media_item_result, item_result, item_turn_result, append_turn_result}
-use Rattle.buffer_state.specs.Steps.{Took, step_result, item_stepped, step_turn, content_at, IsItemRefused}
+use Rattle.buffer_state.specs.Steps.{Took, step_result, step_of_item, step_turn, content_at, IsItemRefused}
 use Rattle.buffer_state.proofs.Standing.{answers, feed_at, content_of}
 
 -- a step that did what the item does answers what a turn with the item does
-pub step-turns : (oi : Option ByteItem) (st : ItemEffect) (c d : Content) (a : Surroundings) (f : Feed) → step_result st d ≡ item_stepped oi c a.duration → step_turn st a (feed_after oi f) d ≡ append_turn_result oi a f c
+pub step-turns : (oi : Option ByteItem) (st : ItemEffect) (c d : Content) (a : Surroundings) (f : Feed) → step_result st d ≡ step_of_item oi c a.duration → step_turn st a (feed_after oi f) d ≡ append_turn_result oi a f c
 step-turns None step.NoItem c d a f e = let same : d ≡ c = cc in ap (λ (x : Content). append_turn_result None a f x) same
 step-turns None (step.Done b) c d a f e = absurd (cc)
 step-turns None (step.AppendError fault at b) c d a f e = absurd (cc)
@@ -43,14 +43,14 @@ pub stands-given : (oi : Option ByteItem) (stream : StreamView) (media : Media) 
 stands-given None stream media running f c s m l r = record { stream = s; media = m; latest = l; running = r }
 stands-given (Some item) stream media running f c s m l r = record { stream = s; media = m; latest = l; running = r }
 
-abbrev pub GivesItem : StreamView → Option ByteItem → Type 0
-GivesItem s oi = byte_stream.ForEachReading s (λ r. oi ≡ reading.next_item r)
+abbrev pub IsNextOfStream : StreamView → Option ByteItem → Type 0
+IsNextOfStream s oi = byte_stream.ForEachReading s (λ r. oi ≡ reading.next_item r)
 
-abbrev pub GoesOn : StreamView → Option ByteItem → StreamView → Type 0
-GoesOn s oi t = byte_stream.StandsAfter s (after_answer oi) t
+abbrev pub IsStreamAfter : StreamView → Option ByteItem → StreamView → Type 0
+IsStreamAfter s oi t = byte_stream.StandsAfter s (after_answer oi) t
 
-pub append-turns : (s0 s1 s2 : StreamView) (m0 m1 m2 : Media) (r0 r2 : Running) (oi : Option ByteItem) (st : ItemEffect) (reply : Reply) (a : Surroundings) → GivesItem s0 oi → GoesOn s0 oi s1 → latest_of s1 ≡ latest_after_any (latest_of s0) oi
-    → ((latest : Option Presentation) → step_result st (record { media = m1; latest = latest_after_any latest oi }) ≡ item_stepped oi (record { media = m0; latest = latest }) a.duration)
+pub append-turns : (s0 s1 s2 : StreamView) (m0 m1 m2 : Media) (r0 r2 : Running) (oi : Option ByteItem) (st : ItemEffect) (reply : Reply) (a : Surroundings) → IsNextOfStream s0 oi → IsStreamAfter s0 oi s1 → latest_of s1 ≡ latest_after_any (latest_of s0) oi
+    → ((latest : Option Presentation) → step_result st (record { media = m1; latest = latest_after_any latest oi }) ≡ step_of_item oi (record { media = m0; latest = latest }) a.duration)
     → IsBufferAnswer (kept_buffer s1 m1 r0) reply (kept_buffer s2 m2 r2) (step_turn st a)
     → IsBufferAnswer (kept_buffer s0 m0 r0) reply (kept_buffer s2 m2 r2) (λ f c. append_turn_result (next_item f) a f c)
 append-turns s0 s1 s2 m0 m1 m2 r0 r2 oi st reply a gives goes last does done =
@@ -72,7 +72,7 @@ error-given (step.Done e) o m d a f c h = absurd h
 error-given (step.AppendError fault at e) None m d a f c h = refl
 error-given (step.AppendError fault at e) (Some item) m d a f c h = refl
 
-refused-stepped : (st : ItemEffect) (o : Option ByteItem) (m : Media) (d : Moment) (latest : Option Presentation) → IsItemRefused st o m d → step_result st (record { media = m; latest = latest }) ≡ item_stepped o (record { media = m; latest = latest }) d
+refused-stepped : (st : ItemEffect) (o : Option ByteItem) (m : Media) (d : Moment) (latest : Option Presentation) → IsItemRefused st o m d → step_result st (record { media = m; latest = latest }) ≡ step_of_item o (record { media = m; latest = latest }) d
 refused-stepped step.NoItem o m d latest h = absurd h
 refused-stepped (step.Done e) o m d latest h = absurd h
 refused-stepped (step.AppendError fault at e) o m d latest h = sym (h latest)
@@ -109,7 +109,7 @@ frame-step st (effects.Done e) f at m0 m1 latest d is h = h ∙ ap (λ (r : Medi
 frame-step st (effects.AppendError fault e) f at m0 m1 latest d is h = h ∙ ap (λ (r : MediaResult). Took (media_item_result r at latest (record { media = m0; latest = latest }))) is
 
 -- a frame that breaks the byte stream
-pub frame-breaks : (s0 s1 s2 : StreamView) (m0 m1 m2 : Media) (r0 r2 : Running) (f : CodedFrame) (at : ℕ) (fault : MediaFault) (e : SourceEffect) (reply : Reply) (a : Surroundings) → GivesItem s0 (Some (FrameItem f at)) → GoesOn s0 (Some (FrameItem f at)) s1 → latest_of s1 ≡ latest_of s0
+pub frame-breaks : (s0 s1 s2 : StreamView) (m0 m1 m2 : Media) (r0 r2 : Running) (f : CodedFrame) (at : ℕ) (fault : MediaFault) (e : SourceEffect) (reply : Reply) (a : Surroundings) → IsNextOfStream s0 (Some (FrameItem f at)) → IsStreamAfter s0 (Some (FrameItem f at)) s1 → latest_of s1 ≡ latest_of s0
     → media.AppendError fault m1 e ≡ frame_result f m0 a.duration
     → IsBufferAnswer (kept_buffer s1 m1 r0) reply (kept_buffer s2 m2 r2) (step_turn (step.AppendError (Fault.Media fault) at e) a)
     → IsBufferAnswer (kept_buffer s0 m0 r0) reply (kept_buffer s2 m2 r2) (λ f c. append_turn_result (next_item f) a f c)
@@ -119,10 +119,10 @@ frame-breaks s0 s1 s2 m0 m1 m2 r0 r2 f at fault e reply a gives goes last is don
     (λ latest. frame-step st (effects.AppendError fault e) f at m0 m1 latest a.duration is refl) done
 
 -- a segment that is refused
-abbrev pub DoesStep : ItemEffect → MediaEffect → ℕ → Type 0
-DoesStep st e at = (m : Media) (latest : Option Presentation) (c : Content) → step_result st (content_at m latest c e) ≡ Took (media_item_result (media_result e m) at latest c)
+abbrev pub IsMediaStep : ItemEffect → MediaEffect → ℕ → Type 0
+IsMediaStep st e at = (m : Media) (latest : Option Presentation) (c : Content) → step_result st (content_at m latest c e) ≡ Took (media_item_result (media_result e m) at latest c)
 
-refused-by : (st : ItemEffect) (e : MediaEffect) (p : Presentation) (at : ℕ) (fault : MediaFault) (m0 m1 : Media) (d : Moment) → media_result e m1 ≡ media.AppendError fault m0 (segment_effect p d) → init_result p m0 d ≡ media.AppendError fault m0 (segment_effect p d) → DoesStep st e at → IsItemRefused st (Some (InitItem p at)) m1 d
+refused-by : (st : ItemEffect) (e : MediaEffect) (p : Presentation) (at : ℕ) (fault : MediaFault) (m0 m1 : Media) (d : Moment) → media_result e m1 ≡ media.AppendError fault m0 (segment_effect p d) → init_result p m0 d ≡ media.AppendError fault m0 (segment_effect p d) → IsMediaStep st e at → IsItemRefused st (Some (InitItem p at)) m1 d
 refused-by st (effects.Done x) p at fault m0 m1 d is there h = absurd cc
 refused-by step.NoItem (effects.AppendError g x) p at fault m0 m1 d is there h = let no = h m1 None (record { media = m1; latest = None }) in absurd cc
 refused-by (step.Done y) (effects.AppendError g x) p at fault m0 m1 d is there h = let no = h m1 None (record { media = m1; latest = None }) in absurd cc
@@ -131,7 +131,7 @@ refused-by (step.AppendError s i y) (effects.AppendError g x) p at fault m0 m1 d
     let c : Content = record { media = m1; latest = latest } in
     ap (λ (r : MediaResult). Took (media_item_result r at (Some p) c)) (ap (λ (m : Media). init_result p m d) same ∙ there ∙ sym is) ∙ sym (h m1 (Some p) c)
 
-pub refused-step : (st : ItemEffect) (e : MediaEffect) (p : Presentation) (at : ℕ) (o : Option MediaFault) (m0 m1 : Media) (d : Moment) → o ≡ init_fault p m0 → is_some o ≡ true → media_result e m1 ≡ init_result p m0 d → DoesStep st e at → IsItemRefused st (Some (InitItem p at)) m1 d
+pub refused-step : (st : ItemEffect) (e : MediaEffect) (p : Presentation) (at : ℕ) (o : Option MediaFault) (m0 m1 : Media) (d : Moment) → o ≡ init_fault p m0 → is_some o ≡ true → media_result e m1 ≡ init_result p m0 d → IsMediaStep st e at → IsItemRefused st (Some (InitItem p at)) m1 d
 refused-step st e p at None m0 m1 d has some is h = absurd cc
 refused-step st e p at (Some fault) m0 m1 d has some is h =
     let there : init_result p m0 d ≡ media.AppendError fault m0 (segment_effect p d) = ap (λ (o : Option MediaFault). init_result_of o p m0 (segment_effect p d)) (sym has) in

@@ -38,9 +38,9 @@ is_sequence Segments = false
 is_sequence Sequence = true
 
 -- the byte stream format generates timestamps (byte stream format registry, "generate timestamps flag")
-abbrev pub generates_timestamps : Container → Bool
-generates_timestamps Mp4 = false
-generates_timestamps Adts = true
+abbrev pub has_generated_timestamps : Container → Bool
+has_generated_timestamps Mp4 = false
+has_generated_timestamps Adts = true
 
 -- the content with other media
 abbrev pub with_media : Media → Content → Content
@@ -192,7 +192,7 @@ abbrev pub change_type_result_after_flush : Container → FlushResult → Surrou
 change_type_result_after_flush container done a =
     result_with (effect_reply (is_ended a.ready) done.effect []) (new_feed container None)
     (record {
-      media = with_container (generates_timestamps container) (media_after_reset done.media);
+      media = with_container (has_generated_timestamps container) (media_after_reset done.media);
       latest = None;
     })
 

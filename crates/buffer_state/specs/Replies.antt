@@ -6,7 +6,7 @@ use Rattle.mse_calls.specs.declared.events.EventKind.{EventKind}
 use Rattle.mse_calls.specs.declared.events.EventKind.TheVariants.{Error, UpdateEnd}
 use Rattle.mse_calls.specs.declared.views.FaultView.{FaultView}
 use Rattle.track_buffers.specs.declared.effects.SourceEffect.{SourceEffect}
-use Rattle.track_buffers.specs.Media.{Media, EndsWithin, no_effect}
+use Rattle.track_buffers.specs.Media.{Media, AreEndedWithin, no_effect}
 use Rattle.track_buffers.specs.Buffered.{buffered_of}
 use Rattle.buffer_state.specs.declared.reply.Reply.{Reply}
 use Rattle.buffer_state.specs.declared.reply.Turned.{Turned}
@@ -83,27 +83,27 @@ IsBufferAnswer old reply new call =
     (f : Feed) (c : Content) → Stands old f c → IsResult reply new (call f c)
 
 -- the same of a call that answers one where there is memory
-abbrev pub IsBufferAnswerIfOk : {E : Type 0} → KeptBuffer → Result Reply E → KeptBuffer → (Feed → Content → CallResult)
-    → Type 0
+abbrev pub IsBufferAnswerIfOk : {E : Type 0} → KeptBuffer → Result Reply E → KeptBuffer
+    → (Feed → Content → CallResult) → Type 0
 IsBufferAnswerIfOk old result new call =
     (f : Feed) (c : Content) → Stands old f c → IfOk result (λ reply. IsResult reply new (call f c))
 
 -- the names are those by which a call is refused before anything comes of it
-abbrev pub TellsRefusals : (Surroundings → Feed → Content → Option Name)
+abbrev pub AreRefusalsTold : (Surroundings → Feed → Content → Option Name)
     → (Surroundings → Feed → Content → CallResult) → Type 0
-TellsRefusals refusal call =
+AreRefusalsTold refusal call =
     (a : Surroundings) (f : Feed) (c : Content) (name : Name)
     → (refusal a f c ≡ Some name → call a f c ≡ refused_result name false a f c)
     × (call a f c ≡ refused_result name false a f c → refusal a f c ≡ Some name)
 
 -- where each stored frame ended within the duration, each does so within the duration that is replied
-abbrev pub StaysWithin : Moment → Media → Reply → Media → Type 0
-StaysWithin duration old reply new =
-    EndsWithin duration old.tracks → EndsWithin reply.duration new.tracks
+abbrev pub IsStillWithin : Moment → Media → Reply → Media → Type 0
+IsStillWithin duration old reply new =
+    AreEndedWithin duration old.tracks → AreEndedWithin reply.duration new.tracks
 
 -- where an initialization segment was received, the buffered ranges are as before; there are none where it was the first
-abbrev pub LeavesRanges : Media → Reply → Media → Type 0
-LeavesRanges old reply new =
+abbrev pub HasRangesAfterInit : Media → Reply → Media → Type 0
+HasRangesAfterInit old reply new =
     reply.received_init ≡ true → (ended : Bool)
     → buffered_of ended new ≡ (if reply.activated then [] else buffered_of ended old)
 
@@ -122,9 +122,9 @@ IsTurnIfOk old result new turn =
     → IfOk result (λ turned. IsTurnResult turned new (turn f c))
 
 -- what is said of a reply, said of a turn
-abbrev pub OfTurn : Turned → (Reply → Type 0) → Type 0
-OfTurn (Did reply) P = P reply
-OfTurn Idle P = Unit {0}
+abbrev pub IfDid : Turned → (Reply → Type 0) → Type 0
+IfDid (Did reply) P = P reply
+IfDid Idle P = Unit {0}
 
 -- how often the duration changed in a turn
 abbrev pub changes_of : Turned → ℕ

@@ -6,7 +6,7 @@ use Rattle.mse_base.specs.declared.track.Presentation.{Presentation}
 use Rattle.parser_loop.specs.Items.{InitItem, FrameItem, SegmentEnd, FaultItem}
 use Rattle.byte_stream.specs.Readings.{ByteItem}
 use Rattle.byte_stream.specs.Streams.{StreamView}
-use Rattle.track_buffers.specs.Media.{Media, MediaView, awaits_first}
+use Rattle.track_buffers.specs.Media.{Media, MediaView, is_awaiting_first}
 use Rattle.track_buffers.specs.Initialized.{media_tracks, init_fault}
 use Rattle.track_buffers.specs.declared.effects.MediaEffect.{MediaEffect}
 use Rattle.track_buffers.specs.declared.effects.MediaEffect.TheVariants as effects
@@ -24,7 +24,7 @@ abbrev pub IsReadyFor : Option ByteItem → MediaView → Type 0
 IsReadyFor None m = Unit {0}
 IsReadyFor (Some (InitItem p at)) m =
     (init_fault p m.media ≡ None)
-    × (awaits_first m.media ≡ true → length (media_tracks p) ≤ m.places)
+    × (is_awaiting_first m.media ≡ true → length (media_tracks p) ≤ m.places)
 IsReadyFor (Some (FrameItem f at)) m = 1 ≤ m.room
 IsReadyFor (Some SegmentEnd) m = Unit {0}
 IsReadyFor (Some (FaultItem f at)) m = Unit {0}
@@ -47,9 +47,9 @@ step_result step.NoItem c = Ended c
 step_result (step.Done b) c = Took (Done c b)
 step_result (step.AppendError fault at b) c = Took (AppendError fault at c b)
 
-abbrev pub item_stepped : Option ByteItem → Content → Moment → StepResult
-item_stepped None c d = Ended c
-item_stepped (Some item) c d = Took (item_result item c d)
+abbrev pub step_of_item : Option ByteItem → Content → Moment → StepResult
+step_of_item None c d = Ended c
+step_of_item (Some item) c d = Took (item_result item c d)
 
 -- the content behind an item that did this to the media; one that is refused leaves the presentation from before
 abbrev pub content_at : Media → Option Presentation → Content → MediaEffect → Content
@@ -62,7 +62,7 @@ IsItemRefused step.NoItem o m d = ⊥
 IsItemRefused (step.Done e) o m d = ⊥
 IsItemRefused (step.AppendError fault at e) o m d =
     (latest : Option Presentation)
-    → item_stepped o (record { media = m; latest = latest }) d
+    → step_of_item o (record { media = m; latest = latest }) d
     ≡ Took (AppendError fault at (record { media = m; latest = latest }) e)
 
 -- the item is refused, or the media is ready for it
@@ -90,10 +90,10 @@ step_turn (step.AppendError fault at b) a f c =
     append_error_result (fault_view fault a.number at) b f c
 
 -- a step that went well leaves the stream and the append; behind another nothing runs
-abbrev pub Leaves : ItemEffect → StreamView → Running → StreamView → Running → Type 0
-Leaves step.NoItem old running new rest = rest ≡ Nothing
-Leaves (step.Done b) old running new rest = (new ≡ old) × (rest ≡ running)
-Leaves (step.AppendError fault at b) old running new rest = rest ≡ Nothing
+abbrev pub IsLeftByStep : ItemEffect → StreamView → Running → StreamView → Running → Type 0
+IsLeftByStep step.NoItem old running new rest = rest ≡ Nothing
+IsLeftByStep (step.Done b) old running new rest = (new ≡ old) × (rest ≡ running)
+IsLeftByStep (step.AppendError fault at b) old running new rest = rest ≡ Nothing
 
 -- the coded frame of an item, if it is one
 abbrev pub frame_in : Option ByteItem → Option CodedFrame

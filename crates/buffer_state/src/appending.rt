@@ -2,10 +2,10 @@
 
 ghost use Rattle.std.specs.Prelude.{◌≡◌, ◌+◌, ◌^◌, nat_le, false, length, Some, None, IfOk, OnErr};
 ghost use Rattle.mse_calls.specs.Ready.{is_ended};
-ghost use Rattle.track_buffers.specs.Media.{EndsWithin};
+ghost use Rattle.track_buffers.specs.Media.{AreEndedWithin};
 ghost use Rattle.track_buffers.specs.Frames.{media_after_eviction, used_in};
 ghost use Rattle.buffer_state.specs.State.{Feed, kept_buffer, surroundings, append_input};
-ghost use Rattle.buffer_state.specs.Replies.{IsBufferAnswer, IsBufferAnswerIfOk, StaysWithin, refused_reply};
+ghost use Rattle.buffer_state.specs.Replies.{IsBufferAnswer, IsBufferAnswerIfOk, IsStillWithin, refused_reply};
 ghost use Rattle.buffer_state.specs.Calls.{append_result_after_eviction, append_refusal, append_result};
 
 use crate::around::Around;
@@ -33,8 +33,8 @@ fn evict<S: FrameStore>(media: &mut TrackBuffers<S>, new_bytes: usize, around: &
         ≡ media_after_eviction around.now.position new_bytes around.now.quota around.now.duration
         media.old.media }
     ensures used { result ≡ used_in media.new.media }
-    ensures within_duration { EndsWithin around.now.duration media.old.media.tracks
-        → EndsWithin around.now.duration media.new.media.tracks }
+    ensures within_duration { AreEndedWithin around.now.duration media.old.media.tracks
+        → AreEndedWithin around.now.duration media.new.media.tracks }
 {
     let more = new_bytes as u64;
     media.evict(around.position, more, around.quota, around.duration);
@@ -66,7 +66,7 @@ fn accept_or_decline<S: FrameStore>(
         (kept_buffer stream.new media.new.media running.new)
         (append_result_after_eviction (append_input bytes.now around.now)
         (surroundings around.now)) }
-    ensures within_duration { StaysWithin around.now.duration media.old.media result
+    ensures within_duration { IsStillWithin around.now.duration media.old.media result
         media.new.media }
     ensures changes { result.duration_changes ≡ 0 }
     ensures duration { result.duration ≡ around.now.duration }
@@ -110,7 +110,7 @@ pub(crate) fn append<S: FrameStore>(
         (kept_buffer stream.new media.new.media running.new)
         (append_result (append_input bytes.now around.now) (surroundings around.now)) }
     ensures within_duration { IfOk result
-        (λ reply. StaysWithin around.now.duration media.old.media reply media.new.media) }
+        (λ reply. IsStillWithin around.now.duration media.old.media reply media.new.media) }
     ensures changes { IfOk result (λ reply. reply.duration_changes ≡ 0) }
     ensures duration { IfOk result (λ reply. reply.duration ≡ around.now.duration) }
     ensures no_init { IfOk result (λ reply. reply.received_init ≡ false) }

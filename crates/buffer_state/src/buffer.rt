@@ -2,20 +2,20 @@ ghost use Rattle.std.specs.Prelude.{◌≡◌, ◌≢◌, ◌<◌, ◌≤◌, �
 ghost use Rattle.std.specs.List.{AllByRecursion};
 ghost use Rattle.mse_base.specs.declared.ticks.Moment.{Moment};
 ghost use Rattle.mse_base.specs.Spans.{first_of, last_of, reaches};
-ghost use Rattle.track_store.specs.Kept.{AreTracksSound};
+ghost use Rattle.track_store.specs.Kept.{AreSoundAndCountable};
 ghost use Rattle.track_store.specs.Sound.{IsSound};
 ghost use Rattle.track_store.specs.State.{states_of};
 ghost use Rattle.track_buffers.specs.Settings.{new_media};
-ghost use Rattle.track_buffers.specs.Media.{awaits_first, IsNotAfter};
+ghost use Rattle.track_buffers.specs.Media.{is_awaiting_first, IsNotAfter};
 ghost use Rattle.track_buffers.specs.Frames.{used_in, highest_start_in, highest_end_in};
 ghost use Rattle.track_buffers.specs.Buffered.{buffered_of};
 ghost use Rattle.buffer_state.specs.State.{Feed, Content, KeptBuffer, Stands, surroundings, append_input, new_feed, phase_in, ready_in, is_updating, is_appending, is_removing};
-ghost use Rattle.buffer_state.specs.Replies.{IsBufferAnswer, IsBufferAnswerIfOk, StaysWithin, LeavesRanges, IsTurnIfOk, OfTurn, changes_of};
+ghost use Rattle.buffer_state.specs.Replies.{IsBufferAnswer, IsBufferAnswerIfOk, IsStillWithin, HasRangesAfterInit, IsTurnIfOk, IfDid, changes_of};
 ghost use Rattle.buffer_state.specs.Turns.{turn_result};
-ghost use Rattle.buffer_state.specs.Calls.{generates_timestamps, mode_refusal, mode_result, offset_refusal, offset_result, window_start_refusal, window_start_result, window_end_refusal, window_end_result, remove_refusal, remove_result, append_refusal, append_result, abort_refusal, abort_result, change_type_refusal, change_type_result, end_work_result, buffer_view};
+ghost use Rattle.buffer_state.specs.Calls.{has_generated_timestamps, mode_refusal, mode_result, offset_refusal, offset_result, window_start_refusal, window_start_result, window_end_refusal, window_end_result, remove_refusal, remove_result, append_refusal, append_result, abort_refusal, abort_result, change_type_refusal, change_type_result, end_work_result, buffer_view};
 ghost use Rattle.buffer_state.specs.StepsLeft.{IsFewer, IsIdle};
 ghost use Rattle.byte_stream.specs.Readings.{held_at};
-ghost use Rattle.byte_stream.specs.Streams.{StandsForSome, ready_of};
+ghost use Rattle.byte_stream.specs.Streams.{HasReading, ready_of};
 
 use crate::around::Around;
 use crate::reply::{Reply, Turned, event_reply};
@@ -55,12 +55,12 @@ impl<S: FrameStore> Buffer<S> {
     pub fn new(alloc: Global, gap: Ticks, container: Container) -> Self
         requires { pos 0 ≤ℤ gap }
         ensures { Stands result (new_feed container None)
-            (record { media = new_media gap (generates_timestamps container); latest = None }) }
+            (record { media = new_media gap (has_generated_timestamps container); latest = None }) }
     {
         Buffer {
             alloc,
             stream: ByteStream::new(alloc, container),
-            media: TrackBuffers::new(alloc, gap, resets::generates_timestamps(container)),
+            media: TrackBuffers::new(alloc, gap, resets::has_generated_timestamps(container)),
             running: Running::Nothing,
         }
     }
@@ -74,7 +74,7 @@ impl<S: FrameStore> Buffer<S> {
     pub fn set_mode(&mut self, mode: Mode, around: &Around) -> Reply
         ensures answered { IsBufferAnswer self.old result self.new
             (mode_result mode (surroundings around.now)) }
-        ensures within_duration { StaysWithin around.now.duration self.old.media result
+        ensures within_duration { IsStillWithin around.now.duration self.old.media result
             self.new.media }
         ensures changes { result.duration_changes ≡ 0 }
         ensures duration { result.duration ≡ around.now.duration }
@@ -91,7 +91,7 @@ impl<S: FrameStore> Buffer<S> {
     pub fn set_offset(&mut self, t: Ticks, around: &Around) -> Reply
         ensures answered { IsBufferAnswer self.old result self.new
             (offset_result t (surroundings around.now)) }
-        ensures within_duration { StaysWithin around.now.duration self.old.media result
+        ensures within_duration { IsStillWithin around.now.duration self.old.media result
             self.new.media }
         ensures changes { result.duration_changes ≡ 0 }
         ensures duration { result.duration ≡ around.now.duration }
@@ -108,7 +108,7 @@ impl<S: FrameStore> Buffer<S> {
     pub fn set_window_start(&mut self, t: Ticks, around: &Around) -> Reply
         ensures answered { IsBufferAnswer self.old result self.new
             (window_start_result t (surroundings around.now)) }
-        ensures within_duration { StaysWithin around.now.duration self.old.media result
+        ensures within_duration { IsStillWithin around.now.duration self.old.media result
             self.new.media }
         ensures changes { result.duration_changes ≡ 0 }
         ensures duration { result.duration ≡ around.now.duration }
@@ -125,7 +125,7 @@ impl<S: FrameStore> Buffer<S> {
     pub fn set_window_end(&mut self, t: Moment, around: &Around) -> Reply
         ensures answered { IsBufferAnswer self.old result self.new
             (window_end_result t (surroundings around.now)) }
-        ensures within_duration { StaysWithin around.now.duration self.old.media result
+        ensures within_duration { IsStillWithin around.now.duration self.old.media result
             self.new.media }
         ensures changes { result.duration_changes ≡ 0 }
         ensures duration { result.duration ≡ around.now.duration }
@@ -143,7 +143,7 @@ impl<S: FrameStore> Buffer<S> {
     pub fn remove(&mut self, start: Ticks, end: Moment, around: &Around) -> Reply
         ensures answered { IsBufferAnswer self.old result self.new
             (remove_result start end (surroundings around.now)) }
-        ensures within_duration { StaysWithin around.now.duration self.old.media result
+        ensures within_duration { IsStillWithin around.now.duration self.old.media result
             self.new.media }
         ensures changes { result.duration_changes ≡ 0 }
         ensures duration { result.duration ≡ around.now.duration }
@@ -163,7 +163,7 @@ impl<S: FrameStore> Buffer<S> {
         ensures answered { IsBufferAnswerIfOk self.old result self.new
             (append_result (append_input bytes.now around.now) (surroundings around.now)) }
         ensures within_duration { IfOk result
-            (λ reply. StaysWithin around.now.duration self.old.media reply self.new.media) }
+            (λ reply. IsStillWithin around.now.duration self.old.media reply self.new.media) }
         ensures changes { IfOk result (λ reply. reply.duration_changes ≡ 0) }
         ensures duration { IfOk result (λ reply. reply.duration ≡ around.now.duration) }
         ensures no_init { IfOk result (λ reply. reply.received_init ≡ false) }
@@ -187,7 +187,7 @@ impl<S: FrameStore> Buffer<S> {
         ensures answered { IsBufferAnswerIfOk self.old result self.new
             (abort_result (surroundings around.now)) }
         ensures within_duration { IfOk result
-            (λ reply. StaysWithin around.now.duration self.old.media reply self.new.media) }
+            (λ reply. IsStillWithin around.now.duration self.old.media reply self.new.media) }
         ensures changes { IfOk result
             (λ reply. reply.duration_changes ≤ ready_of self.old.stream) }
         ensures no_fall { IfOk result (λ reply. IsNotAfter around.now.duration reply.duration) }
@@ -215,7 +215,7 @@ impl<S: FrameStore> Buffer<S> {
         ensures answered { IsBufferAnswerIfOk self.old result self.new
             (change_type_result text.now (surroundings around.now)) }
         ensures within_duration { IfOk result
-            (λ reply. StaysWithin around.now.duration self.old.media reply self.new.media) }
+            (λ reply. IsStillWithin around.now.duration self.old.media reply self.new.media) }
         ensures changes { IfOk result
             (λ reply. reply.duration_changes ≤ ready_of self.old.stream) }
         ensures no_fall { IfOk result (λ reply. IsNotAfter around.now.duration reply.duration) }
@@ -237,7 +237,7 @@ impl<S: FrameStore> Buffer<S> {
     pub fn end_work(&mut self, around: &Around) -> Reply
         ensures answered { IsBufferAnswer self.old result self.new
             (end_work_result (surroundings around.now)) }
-        ensures within_duration { StaysWithin around.now.duration self.old.media result
+        ensures within_duration { IsStillWithin around.now.duration self.old.media result
             self.new.media }
         ensures changes { result.duration_changes ≡ 0 }
         ensures duration { result.duration ≡ around.now.duration }
@@ -257,12 +257,12 @@ impl<S: FrameStore> Buffer<S> {
         ensures fewer { IfOk result (λ turned. IsFewer turned self.old self.new) }
         ensures changes { IfOk result (λ turned. changes_of turned ≤ 1) }
         ensures within_duration { IfOk result
-            (λ turned. OfTurn turned
-            (λ reply. StaysWithin around.now.duration self.old.media reply self.new.media)) }
-        ensures no_fall { IfOk result (λ turned. OfTurn turned
+            (λ turned. IfDid turned
+            (λ reply. IsStillWithin around.now.duration self.old.media reply self.new.media)) }
+        ensures no_fall { IfOk result (λ turned. IfDid turned
             (λ reply. IsNotAfter around.now.duration reply.duration)) }
-        ensures ranges { IfOk result (λ turned. OfTurn turned
-            (λ reply. LeavesRanges self.old.media reply self.new.media)) }
+        ensures ranges { IfOk result (λ turned. IfDid turned
+            (λ reply. HasRangesAfterInit self.old.media reply self.new.media)) }
         ensures err { OnErr result (self.new ≡ self.old) }
     {
         match &self.running {
@@ -425,9 +425,9 @@ impl<S: FrameStore> Buffer<S> {
 
     /// Whether the first initialization segment was received.
     pub fn has_init(&self) -> bool
-        ensures { result ≡ not (awaits_first self.now.media) }
+        ensures { result ≡ not (is_awaiting_first self.now.media) }
     {
-        !self.media.awaits_first()
+        !self.media.is_awaiting_first()
     }
 
     /// Where the segment parser loop is (Media Source Extensions, append state).
@@ -488,10 +488,10 @@ impl<S: FrameStore> Buffer<S> {
     /// received just before it is held too. And the bytes of all can be counted, the gap is not
     /// negative, and the buffer stands for some string. It does nothing when it runs.
     pub fn sound(&self)
-        ensures tracks_sound { AreTracksSound self.now.media.tracks }
+        ensures sound_and_countable { AreSoundAndCountable self.now.media.tracks }
         ensures sound { AllByRecursion IsSound self.now.media.tracks }
         ensures gap_from_zero { pos 0 ≤ℤ self.now.media.gap }
-        ensures stands { StandsForSome self.now.stream }
+        ensures stands { HasReading self.now.stream }
     {
         // The proof reads off these that the stream stands for some string, and that the tracks are sound.
         self.stream.stands();

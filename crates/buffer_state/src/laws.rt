@@ -8,7 +8,7 @@ ghost use Rattle.mse_calls.specs.declared.calls.Mode.{Mode};
 ghost use Rattle.byte_stream.specs.Readings.{items_in};
 ghost use Rattle.byte_stream.specs.Streams.{ForEachReading, StreamView};
 ghost use Rattle.buffer_state.specs.State.{Feed, Content, Surroundings, AppendInput};
-ghost use Rattle.buffer_state.specs.Replies.{TellsRefusals, refused_result};
+ghost use Rattle.buffer_state.specs.Replies.{AreRefusalsTold, refused_result};
 ghost use Rattle.buffer_state.specs.Calls.{mode_refusal, mode_result, offset_refusal, offset_result, window_start_refusal, window_start_result, window_end_refusal, window_end_result, remove_refusal, remove_result, append_refusal, append_result, append_result_after_eviction, abort_refusal, abort_result, change_type_refusal, change_type_result};
 ghost use Rattle.buffer_state.specs.StepsLeft.{items_left};
 
@@ -21,17 +21,17 @@ pub fn left_law()
 /// The refusals before anything comes of a call are those of the call, both ways: it leaves all as
 /// it was, and the source is not opened again before.
 pub fn refusals()
-    ensures mode { (mode : Mode) → TellsRefusals (mode_refusal mode) (mode_result mode) }
-    ensures offset { (t : ℤ) → TellsRefusals (λ a f c. offset_refusal a f) (offset_result t) }
-    ensures window_start { (t : ℤ) → TellsRefusals (λ a f c. window_start_refusal t f c)
+    ensures mode { (mode : Mode) → AreRefusalsTold (mode_refusal mode) (mode_result mode) }
+    ensures offset { (t : ℤ) → AreRefusalsTold (λ a f c. offset_refusal a f) (offset_result t) }
+    ensures window_start { (t : ℤ) → AreRefusalsTold (λ a f c. window_start_refusal t f c)
         (window_start_result t) }
-    ensures window_end { (t : Moment) → TellsRefusals (λ a f c. window_end_refusal t f c)
+    ensures window_end { (t : Moment) → AreRefusalsTold (λ a f c. window_end_refusal t f c)
         (window_end_result t) }
     ensures remove { (start : ℤ) (end : Moment)
-        → TellsRefusals (λ a f c. remove_refusal start end a f) (remove_result start end) }
-    ensures abort { TellsRefusals (λ a f c. abort_refusal a f) abort_result }
+        → AreRefusalsTold (λ a f c. remove_refusal start end a f) (remove_result start end) }
+    ensures abort { AreRefusalsTold (λ a f c. abort_refusal a f) abort_result }
     ensures change_type { (text : List ℕ)
-        → TellsRefusals (λ a f c. change_type_refusal text f) (change_type_result text) }
+        → AreRefusalsTold (λ a f c. change_type_refusal text f) (change_type_result text) }
 {}
 
 /// An append that is refused before coded frames are evicted leaves all as it was, and any other

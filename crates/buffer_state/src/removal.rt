@@ -15,18 +15,11 @@ use mse_base::{Moment, Ticks};
 use mse_calls::{EventKind, Name};
 
 /// Whether a time is not negative and not later than the duration, which is known.
-fn begins_within(start: Ticks, duration: &Moment) -> bool
+fn is_start_within(start: Ticks, duration: &Moment) -> bool
     ensures { result ≡ not (is_nan duration.now ||
         (int_lt start (pos 0) || is_after start duration.now)) }
 {
     !duration.is_nan() && start >= Ticks::zero() && !start.is_after(*duration)
-}
-
-/// Whether a moment is a number, and after a time.
-pub(crate) fn ends_after(start: Ticks, end: &Moment) -> bool
-    ensures { result ≡ not (is_nan end.now || not (is_before start end.now)) }
-{
-    start.is_before(*end)
 }
 
 /// The refusal of a removal.
@@ -42,7 +35,7 @@ pub(crate) fn remove_refusal(
     if running.is_updating() {
         return Some(Name::InvalidState);
     }
-    if !begins_within(start, &around.duration) || !ends_after(start, end) {
+    if !is_start_within(start, &around.duration) || !start.is_before(*end) {
         return Some(Name::TypeError);
     }
     None

@@ -3,14 +3,14 @@
 ghost use Rattle.std.specs.Prelude.{◌≡◌, ◌≤◌, ◌≤ℤ◌, pos, length, false, Option, None, IfOk, OnErr};
 ghost use Rattle.std.specs.List.{AllByRecursion};
 ghost use Rattle.mse_types.specs.declared.answer.Container.{Container};
-ghost use Rattle.parser_loop.specs.Items.{seen};
+ghost use Rattle.parser_loop.specs.Items.{answer_item};
 ghost use Rattle.byte_stream.specs.Readings.{ready_at};
 ghost use Rattle.byte_stream.specs.Streams.{ForEachReading, ready_of};
-ghost use Rattle.track_buffers.specs.Media.{EndsWithin, IsNotAfter};
+ghost use Rattle.track_buffers.specs.Media.{AreEndedWithin, IsNotAfter};
 ghost use Rattle.track_buffers.specs.Frames.{flush_result};
 ghost use Rattle.buffer_state.specs.State.{Feed, kept_buffer, ready_in, surroundings};
-ghost use Rattle.buffer_state.specs.Replies.{IsBufferAnswerIfOk, StaysWithin};
-ghost use Rattle.buffer_state.specs.Calls.{abort_refusal, abort_result, abort_events, generates_timestamps, change_type_refusal, change_type_result, change_type_result_after_flush};
+ghost use Rattle.buffer_state.specs.Replies.{IsBufferAnswerIfOk, IsStillWithin};
+ghost use Rattle.buffer_state.specs.Calls.{abort_refusal, abort_result, abort_events, has_generated_timestamps, change_type_refusal, change_type_result, change_type_result_after_flush};
 ghost use Rattle.buffer_state.specs.Steps.{frame_in};
 
 use crate::around::Around;
@@ -26,7 +26,7 @@ use track_store::FrameStore;
 
 /// The coded frame of an item, if it is one.
 fn frame_of(next: Next) -> Option<CodedFrame>
-    ensures { result ≡ frame_in (seen next) }
+    ensures { result ≡ frame_in (answer_item next) }
 {
     match next {
         Next::Frame(frame, _) => Some(frame),
@@ -65,8 +65,8 @@ fn flush<S: FrameStore>(
     ensures flush_result { ForEachReading stream.now (λ r.
         IfOk result (λ effect. flush_result (ready_at r) media.old.media duration
         ≡ record { media = media.new.media; effect = effect })) }
-    ensures within_duration { IfOk result (λ effect. EndsWithin duration media.old.media.tracks
-        → EndsWithin effect.duration media.new.media.tracks) }
+    ensures within_duration { IfOk result (λ effect. AreEndedWithin duration media.old.media.tracks
+        → AreEndedWithin effect.duration media.new.media.tracks) }
     ensures changes { IfOk result (λ effect. effect.duration_changes ≤ ready_of stream.now) }
     ensures no_fall { IfOk result (λ effect. IsNotAfter duration effect.duration) }
     ensures no_init { IfOk result (λ effect. effect.received_init ≡ false) }
@@ -114,7 +114,7 @@ pub(crate) fn abort<S: FrameStore>(
         (kept_buffer stream.new media.new.media running.new)
         (abort_result (surroundings around.now)) }
     ensures within_duration { IfOk result
-        (λ reply. StaysWithin around.now.duration media.old.media reply media.new.media) }
+        (λ reply. IsStillWithin around.now.duration media.old.media reply media.new.media) }
     ensures changes { IfOk result (λ reply. reply.duration_changes ≤ ready_of stream.old) }
     ensures no_fall { IfOk result (λ reply. IsNotAfter around.now.duration reply.duration) }
     ensures no_init { IfOk result (λ reply. reply.received_init ≡ false) }
@@ -135,8 +135,8 @@ pub(crate) fn abort<S: FrameStore>(
 }
 
 /// Whether the byte stream format of a container generates timestamps.
-pub(crate) fn generates_timestamps(container: Container) -> bool
-    ensures { result ≡ generates_timestamps container }
+pub(crate) fn has_generated_timestamps(container: Container) -> bool
+    ensures { result ≡ has_generated_timestamps container }
 {
     match container {
         Container::Mp4 => false,
@@ -159,7 +159,7 @@ fn take_type<S: FrameStore>(
         (λ f c. change_type_result_after_flush container
         (flush_result (ready_in f) c.media around.now.duration) (surroundings around.now)) }
     ensures within_duration { IfOk result
-        (λ reply. StaysWithin around.now.duration media.old.media reply media.new.media) }
+        (λ reply. IsStillWithin around.now.duration media.old.media reply media.new.media) }
     ensures changes { IfOk result (λ reply. reply.duration_changes ≤ ready_of stream.old) }
     ensures no_fall { IfOk result (λ reply. IsNotAfter around.now.duration reply.duration) }
     ensures no_init { IfOk result (λ reply. reply.received_init ≡ false) }
@@ -168,7 +168,7 @@ fn take_type<S: FrameStore>(
 {
     let effect = flush(alloc, stream, media, around.duration)?;
     media.reset_parser();
-    media.change_container(generates_timestamps(container));
+    media.change_container(has_generated_timestamps(container));
     stream.restart(container);
     Ok(effect_reply(around.ready.is_ended(), effect, Changes::new()))
 }
@@ -205,7 +205,7 @@ pub(crate) fn change_type<S: FrameStore>(
         (kept_buffer stream.new media.new.media running.now)
         (change_type_result text.now (surroundings around.now)) }
     ensures within_duration { IfOk result
-        (λ reply. StaysWithin around.now.duration media.old.media reply media.new.media) }
+        (λ reply. IsStillWithin around.now.duration media.old.media reply media.new.media) }
     ensures changes { IfOk result (λ reply. reply.duration_changes ≤ ready_of stream.old) }
     ensures no_fall { IfOk result (λ reply. IsNotAfter around.now.duration reply.duration) }
     ensures no_init { IfOk result (λ reply. reply.received_init ≡ false) }

@@ -4,11 +4,10 @@ ghost use Rattle.std.specs.Prelude.{◌≡◌, ◌≢◌, ◌≤ℤ◌, pos, fal
 ghost use Rattle.mse_base.specs.declared.ticks.Moment.{Moment};
 ghost use Rattle.byte_stream.specs.Streams as byte_stream;
 ghost use Rattle.buffer_state.specs.State.{Feed, Content, Stands, kept_buffer, surroundings};
-ghost use Rattle.buffer_state.specs.Replies.{IsBufferAnswer, StaysWithin};
+ghost use Rattle.buffer_state.specs.Replies.{IsBufferAnswer, IsStillWithin};
 ghost use Rattle.buffer_state.specs.Calls.{is_sequence, phase_refusal, mode_refusal, mode_result, offset_refusal, offset_result, window_start_refusal, window_start_result, window_end_refusal, window_end_result};
 
 use crate::around::Around;
-use crate::removal::ends_after;
 use crate::reply::{Reply, event_reply};
 use crate::running::Running;
 use byte_stream::ByteStream;
@@ -77,7 +76,7 @@ pub(crate) fn set_mode<S: FrameStore>(
     ensures answered { IsBufferAnswer (kept_buffer stream.now media.old.media running.now) result
         (kept_buffer stream.now media.new.media running.now)
         (mode_result mode (surroundings around.now)) }
-    ensures within_duration { StaysWithin around.now.duration media.old.media result
+    ensures within_duration { IsStillWithin around.now.duration media.old.media result
         media.new.media }
     ensures changes { result.duration_changes ≡ 0 }
     ensures duration { result.duration ≡ around.now.duration }
@@ -123,7 +122,7 @@ pub(crate) fn set_offset<S: FrameStore>(
     ensures answered { IsBufferAnswer (kept_buffer stream.now media.old.media running.now) result
         (kept_buffer stream.now media.new.media running.now)
         (offset_result t (surroundings around.now)) }
-    ensures within_duration { StaysWithin around.now.duration media.old.media result
+    ensures within_duration { IsStillWithin around.now.duration media.old.media result
         media.new.media }
     ensures changes { result.duration_changes ≡ 0 }
     ensures duration { result.duration ≡ around.now.duration }
@@ -148,7 +147,7 @@ pub(crate) fn window_start_refusal<S: FrameStore>(
 ) -> Option<Name>
     ensures name { (f : Feed) (c : Content) → media.now.media ≡ c.media → running.now ≡ f.running
         → result ≡ window_start_refusal t f c }
-    ensures in_range { result ≡ None → pos 0 ≤ℤ t }
+    ensures from_zero { result ≡ None → pos 0 ≤ℤ t }
 {
     if running.is_updating() {
         return Some(Name::InvalidState);
@@ -171,7 +170,7 @@ pub(crate) fn set_window_start<S: FrameStore>(
     ensures answered { IsBufferAnswer (kept_buffer stream.now media.old.media running.now) result
         (kept_buffer stream.now media.new.media running.now) (window_start_result t
         (surroundings around.now)) }
-    ensures within_duration { StaysWithin around.now.duration media.old.media result
+    ensures within_duration { IsStillWithin around.now.duration media.old.media result
         media.new.media }
     ensures changes { result.duration_changes ≡ 0 }
     ensures duration { result.duration ≡ around.now.duration }
@@ -192,12 +191,12 @@ pub(crate) fn window_end_refusal<S: FrameStore>(
 ) -> Option<Name>
     ensures name { (f : Feed) (c : Content) → media.now.media ≡ c.media → running.now ≡ f.running
         → result ≡ window_end_refusal t.now f c }
-    ensures number { result ≡ None → t.now ≢ Moment.Nan }
+    ensures not_nan { result ≡ None → t.now ≢ Moment.Nan }
 {
     if running.is_updating() {
         return Some(Name::InvalidState);
     }
-    if !ends_after(media.settings().window_start, t) {
+    if !media.settings().window_start.is_before(*t) {
         return Some(Name::TypeError);
     }
     None
@@ -215,7 +214,7 @@ pub(crate) fn set_window_end<S: FrameStore>(
     ensures answered { IsBufferAnswer (kept_buffer stream.now media.old.media running.now) result
         (kept_buffer stream.now media.new.media running.now) (window_end_result t
         (surroundings around.now)) }
-    ensures within_duration { StaysWithin around.now.duration media.old.media result
+    ensures within_duration { IsStillWithin around.now.duration media.old.media result
         media.new.media }
     ensures changes { result.duration_changes ≡ 0 }
     ensures duration { result.duration ≡ around.now.duration }

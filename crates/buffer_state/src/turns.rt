@@ -3,16 +3,16 @@
 ghost use Rattle.std.specs.Prelude.{◌≡◌, ◌<◌, ◌≤◌, false, Option, Some, None, IfOk, OnOk, OnErr, IfSome};
 ghost use Rattle.mse_base.specs.declared.ticks.Moment.{Moment};
 ghost use Rattle.mse_base.specs.declared.track.Presentation.{Presentation};
-ghost use Rattle.parser_loop.specs.Items.{InitItem, latest_after_any, seen};
+ghost use Rattle.parser_loop.specs.Items.{InitItem, latest_after_any, answer_item};
 ghost use Rattle.byte_stream.specs.Readings.{IsLasting};
 ghost use Rattle.byte_stream.specs.Readings as reading;
 ghost use Rattle.byte_stream.specs.Streams.{ForEachReading, StreamView, ready_of};
 ghost use Rattle.track_buffers.specs.Effects.{media_result, source_effect};
-ghost use Rattle.track_buffers.specs.Media.{Media, EndsWithin, IsNotAfter};
+ghost use Rattle.track_buffers.specs.Media.{Media, AreEndedWithin, IsNotAfter};
 ghost use Rattle.buffer_state.specs.State.{Content, kept_buffer, next_item, surroundings};
-ghost use Rattle.buffer_state.specs.Replies.{IsBufferAnswer, IsBufferAnswerIfOk, StaysWithin};
+ghost use Rattle.buffer_state.specs.Replies.{IsBufferAnswer, IsBufferAnswerIfOk, IsStillWithin};
 ghost use Rattle.buffer_state.specs.Turns.{append_turn_result, removal_turn_result, media_item_result};
-ghost use Rattle.buffer_state.specs.Steps.{IsReadyFor, IsPrepared, Leaves, Took, content_at, step_result, item_stepped, duration_after, changes_after, step_turn};
+ghost use Rattle.buffer_state.specs.Steps.{IsReadyFor, IsPrepared, IsLeftByStep, Took, content_at, step_result, step_of_item, duration_after, changes_after, step_turn};
 ghost use Rattle.buffer_state.specs.StepsLeft.{steps_left};
 
 use crate::around::Around;
@@ -101,13 +101,16 @@ fn prepare<S: FrameStore>(
 
 /// What an item that is prepared does to the media.
 fn take_item<S: FrameStore>(media: &mut TrackBuffers<S>, next: Next, duration: Moment) -> ItemEffect
-    requires prepared { IsReadyFor (seen next) media.old }
-    requires dur_not_negative { IfSome (seen next) IsLasting }
+    requires prepared { IsReadyFor (answer_item next) media.old }
+    requires dur_not_negative { IfSome (answer_item next) IsLasting }
     ensures step { (latest : Option Presentation) → step_result result
-        (record { media = media.new.media; latest = latest_after_any latest (seen next) })
-        ≡ item_stepped (seen next) (record { media = media.old.media; latest = latest }) duration }
-    ensures within_duration { EndsWithin duration media.old.media.tracks
-        → EndsWithin (duration_after result duration) media.new.media.tracks }
+        (record { media = media.new.media; latest = latest_after_any latest (answer_item next) })
+        ≡ step_of_item (answer_item next) (record {
+          media = media.old.media;
+          latest = latest;
+        }) duration }
+    ensures within_duration { AreEndedWithin duration media.old.media.tracks
+        → AreEndedWithin (duration_after result duration) media.new.media.tracks }
     ensures no_fall { IsNotAfter duration (duration_after result duration) }
     ensures changes { changes_after result ≤ 1 }
 {
@@ -136,11 +139,11 @@ fn answer<S: FrameStore>(
     ensures answered { IsBufferAnswer (kept_buffer stream.old media.old.media running.old) result
         (kept_buffer stream.new media.new.media running.new)
         (step_turn step (surroundings around.now)) }
-    ensures within_duration { (d : Moment) → EndsWithin d media.old.media.tracks
-        → EndsWithin d media.new.media.tracks }
+    ensures within_duration { (d : Moment) → AreEndedWithin d media.old.media.tracks
+        → AreEndedWithin d media.new.media.tracks }
     ensures duration { result.duration ≡ duration_after step around.now.duration }
     ensures changes { result.duration_changes ≡ changes_after step }
-    ensures leaves { Leaves step stream.old running.old stream.new running.new }
+    ensures leaves { IsLeftByStep step stream.old running.old stream.new running.new }
     ensures none_offered { stream.new.offered ≡ None }
 {
     match step {
@@ -174,8 +177,8 @@ fn frame_fault<S: FrameStore>(
         (kept_buffer stream.new media.new.media running.new)
         (step_turn (ItemEffect.AppendError (Fault.Media fault) offset effect)
         (surroundings around.now)) }
-    ensures within_duration { (d : Moment) → EndsWithin d media.old.media.tracks
-        → EndsWithin d media.new.media.tracks }
+    ensures within_duration { (d : Moment) → AreEndedWithin d media.old.media.tracks
+        → AreEndedWithin d media.new.media.tracks }
     ensures duration { result.duration ≡ effect.duration }
     ensures changes { result.duration_changes ≡ effect.duration_changes }
     ensures nothing_runs { running.new ≡ Running.Nothing }
@@ -203,7 +206,7 @@ fn frame_turn<S: FrameStore>(
         (kept_buffer stream.new media.new.media running.new)
         (λ f c. append_turn_result (next_item f) (surroundings around.now) f c) }
     ensures within_duration { IfOk result
-        (λ reply. StaysWithin around.now.duration media.old.media reply media.new.media) }
+        (λ reply. IsStillWithin around.now.duration media.old.media reply media.new.media) }
     ensures no_fall { IfOk result (λ reply. IsNotAfter around.now.duration reply.duration) }
     ensures changes { IfOk result (λ reply. reply.duration_changes ≤ 1) }
     ensures fewer { OnOk result
@@ -242,7 +245,7 @@ fn item_turn<S: FrameStore>(
         (kept_buffer stream.new media.new.media running.new)
         (λ f c. append_turn_result (next_item f) (surroundings around.now) f c) }
     ensures within_duration { IfOk result
-        (λ reply. StaysWithin around.now.duration media.old.media reply media.new.media) }
+        (λ reply. IsStillWithin around.now.duration media.old.media reply media.new.media) }
     ensures no_fall { IfOk result (λ reply. IsNotAfter around.now.duration reply.duration) }
     ensures changes { IfOk result (λ reply. reply.duration_changes ≤ 1) }
     ensures fewer { OnOk result
@@ -278,7 +281,7 @@ pub(crate) fn append_turn<S: FrameStore>(
         (kept_buffer stream.new media.new.media running.new)
         (λ f c. append_turn_result (next_item f) (surroundings around.now) f c) }
     ensures within_duration { IfOk result
-        (λ reply. StaysWithin around.now.duration media.old.media reply media.new.media) }
+        (λ reply. IsStillWithin around.now.duration media.old.media reply media.new.media) }
     ensures no_fall { IfOk result (λ reply. IsNotAfter around.now.duration reply.duration) }
     ensures changes { IfOk result (λ reply. reply.duration_changes ≤ 1) }
     ensures fewer { OnOk result
@@ -306,7 +309,7 @@ pub(crate) fn removal_turn<S: FrameStore>(
         → IsBufferAnswer (kept_buffer stream media.old.media running.old) result
         (kept_buffer stream media.new.media running.new) (removal_turn_result start end
         (surroundings around.now)) }
-    ensures within_duration { StaysWithin around.now.duration media.old.media result
+    ensures within_duration { IsStillWithin around.now.duration media.old.media result
         media.new.media }
     ensures changes { result.duration_changes ≡ 0 }
     ensures duration { result.duration ≡ around.now.duration }

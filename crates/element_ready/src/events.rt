@@ -8,7 +8,7 @@ use mse_calls::{Changes, EventKind, Level};
 fn push_data(events: &mut Changes, facts: Facts)
     requires { length events.old ≤ 3 }
     ensures events { events.new ≡ events.old ++ data_events facts }
-    ensures few { length events.new ≤ length events.old + 1 }
+    ensures at_most_one_more { length events.new ≤ length events.old + 1 }
 {
     if !facts.first_loaded {
         events.push(EventKind::LoadedData);
@@ -19,7 +19,7 @@ fn push_data(events: &mut Changes, facts: Facts)
 fn push_future(events: &mut Changes, facts: Facts)
     requires { length events.old ≤ 2 }
     ensures events { events.new ≡ events.old ++ future_events facts }
-    ensures few { length events.new ≤ length events.old + 2 }
+    ensures at_most_two_more { length events.new ≤ length events.old + 2 }
 {
     events.push(EventKind::CanPlay);
     if !facts.paused {

@@ -7,13 +7,13 @@ use Rattle.mse_base.specs.Moments.{is_after}
 use Rattle.mse_base.specs.declared.span.Span.{Span}
 use Rattle.mse_base.specs.declared.ticks.Moment.{Moment}
 use Rattle.mse_base.specs.declared.ticks.Moment.TheVariants.{Nan, At, Infinite}
-use Rattle.mse_calls.specs.Answered.{Answered}
+use Rattle.mse_calls.specs.AnswerAndState.{AnswerAndState}
 use Rattle.mse_calls.specs.Level.{has_metadata}
 use Rattle.element_seek.specs.declared.scene.Scene.{Scene}
 use Rattle.element_seek.specs.State.{PlayerState, has_ended}
 use Rattle.element_seek.specs.Seeking.{nearest_in, position_within, after_seek_in, after_seek}
 use Rattle.element_seek.specs.Playing.{after_rewind, after_unpause, after_play, is_playing_on, after_move, after_time_in, after_advance}
-use Rattle.element_seek.specs.Inside.{IsInside, LiesInside, HasSpansInside}
+use Rattle.element_seek.specs.Inside.{IsInside, IsSpanInside, HasSpansInside}
 
 not_after : (duration : Moment) (s e : ℤ) → s ≤ℤ e → is_after e duration ≡ false → is_after s duration ≡ false
 not_after Nan s e l h = refl
@@ -29,15 +29,15 @@ nearest_below span t h = grind (arith, ints)
 transitive : (a b c : ℤ) → a ≤ℤ b → b ≤ℤ c → a ≤ℤ c
 transitive a b c h k = grind (arith, ints)
 
-nearest : (duration : Moment) (span : Span) (t : ℤ) → LiesInside duration (Some span) → IsInside duration (nearest_in span t)
+nearest : (duration : Moment) (span : Span) (t : ℤ) → IsSpanInside duration (Some span) → IsInside duration (nearest_in span t)
 nearest duration span t h = (transitive (pos 0) span.start (nearest_in span t) h.0 (nearest_above span t), not_after duration (nearest_in span t) span.end (nearest_below span t h.1) h.2)
 
 -- an answer by cases, of which both leave the position inside
-by_case : {A : Type 0} (duration : Moment) (b : Bool) (x y : Answered A PlayerState) → (b ≡ true → IsInside duration x.state.position) → (b ≡ false → IsInside duration y.state.position) → IsInside duration (cond b x y).state.position
+by_case : {A : Type 0} (duration : Moment) (b : Bool) (x y : AnswerAndState A PlayerState) → (b ≡ true → IsInside duration x.state.position) → (b ≡ false → IsInside duration y.state.position) → IsInside duration (cond b x y).state.position
 by_case duration true x y h k = h refl
 by_case duration false x y h k = k refl
 
-seek_in : (range : Option Span) (duration : Moment) (t : ℤ) (p : PlayerState) → LiesInside duration range → IsInside duration p.position → IsInside duration (after_seek_in range t p).state.position
+seek_in : (range : Option Span) (duration : Moment) (t : ℤ) (p : PlayerState) → IsSpanInside duration range → IsInside duration p.position → IsInside duration (after_seek_in range t p).state.position
 seek_in None duration t p l h = h
 seek_in (Some range) duration t p l h = nearest duration range t l
 
@@ -63,7 +63,7 @@ lesser_above a t e h k l = grind (arith, ints)
 lesser_below : (a e : ℤ) → int_min a e ≤ℤ e
 lesser_below a e = grind (arith, ints)
 
-time_in : (range : Option Span) (duration : Moment) (t : ℤ) (p : PlayerState) → LiesInside duration range → pos 0 ≤ℤ t → IsInside duration p.position → IsInside duration (after_time_in range t p).state.position
+time_in : (range : Option Span) (duration : Moment) (t : ℤ) (p : PlayerState) → IsSpanInside duration range → pos 0 ≤ℤ t → IsInside duration p.position → IsInside duration (after_time_in range t p).state.position
 time_in None duration t p l k h = h
 time_in (Some range) duration t p l k h =
     move_inside duration (int_min (p.position +ℤ t) range.end) p h

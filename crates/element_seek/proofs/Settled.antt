@@ -12,7 +12,7 @@ use Rattle.element_ready.specs.Events.{change_events, is_first_data}
 use Rattle.element_ready.proofs.Changes.{same-events, same-no_data, level-metadata}
 use Rattle.element_seek.specs.declared.scene.Scene.{Scene}
 use Rattle.element_seek.specs.State.{PlayerState, player_change, has_ended}
-use Rattle.element_seek.specs.Settling.{level_in, facts_in, at_level, after_settle, has_same_level, is_settled_in}
+use Rattle.element_seek.specs.Settling.{level_in, facts_in, at_level, after_settle, has_same_level, is_unchanged_by_settle_in}
 
 same_level : (b : Bool) (old new : Level) → has_metadata old ≡ b → has_metadata new ≡ true → cond (has_metadata (cond b new old)) new (cond b new old) ≡ cond b new old
 same_level true old new e n = ap (λ b. cond b new new) n
@@ -72,7 +72,7 @@ untold_by true ended h = absurd cc
 untold_by false ended h = refl
 
 -- an end of a step at which the level stays, and no end of playback was told
-pub settled-still : (scene : Scene) (p : PlayerState) → is_settled_in scene p ≡ true → after_settle scene p ≡ player_change [] p
+pub settled-still : (scene : Scene) (p : PlayerState) → is_unchanged_by_settle_in scene p ≡ true → after_settle scene p ≡ player_change [] p
 settled-still scene p h =
     let parts = and_parts (not p.finished) (has_same_level scene.span scene.duration p) h in
     let stays : level_in scene p ≡ p.level = kept_by (has_metadata p.level) (level_at scene.span p.position scene.duration) p.level parts.1 in

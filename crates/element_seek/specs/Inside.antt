@@ -11,17 +11,17 @@ abbrev pub IsInside : Moment → ℤ → Type 0
 IsInside duration t = (pos 0 ≤ℤ t) × (is_after t duration ≡ false)
 
 -- the span, if there is one, does not end before it starts, and lies inside
-abbrev pub LiesInside : Moment → Option Span → Type 0
-LiesInside duration None = Unit {0}
-LiesInside duration (Some span) =
+abbrev pub IsSpanInside : Moment → Option Span → Type 0
+IsSpanInside duration None = Unit {0}
+IsSpanInside duration (Some span) =
     (pos 0 ≤ℤ span.start) × (span.start ≤ℤ span.end) × (is_after span.end duration ≡ false)
 
 -- the buffered range at the position and what can be sought lie inside
 pub record HasSpansInside (scene : Scene) : Type 0 where
-  pub span : LiesInside scene.duration scene.span
-  pub seekable : LiesInside scene.duration scene.seekable
+  pub span : IsSpanInside scene.duration scene.span
+  pub seekable : IsSpanInside scene.duration scene.seekable
 
 -- a step keeps a position inside that lay there
-abbrev pub StaysInside : Scene → PlayerState → PlayerState → Type 0
-StaysInside scene old new =
+abbrev pub IsStillInside : Scene → PlayerState → PlayerState → Type 0
+IsStillInside scene old new =
     IsInside scene.duration old.position → IsInside scene.duration new.position

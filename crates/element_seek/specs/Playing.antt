@@ -3,7 +3,7 @@ use Rattle.std.specs.Prelude.{ℕ, ◌==◌, ℤ, pos, ◌+ℤ◌, int_lt, Bool,
 use Rattle.std.specs.Int.{int_min}
 use Rattle.std.specs.Ordering.{int_eq}
 use Rattle.mse_base.specs.declared.span.Span.{Span}
-use Rattle.mse_calls.specs.Answered.{Answered}
+use Rattle.mse_calls.specs.AnswerAndState.{AnswerAndState}
 use Rattle.mse_calls.specs.Level.{has_metadata, has_future_data}
 use Rattle.mse_calls.specs.declared.answers.Level.{Level}
 use Rattle.mse_calls.specs.declared.answers.Name.TheVariants.{NotSupported, TypeError}
@@ -18,7 +18,7 @@ use Rattle.element_seek.specs.State.{PlayerState, PlayerChange, player_change, t
 use Rattle.element_seek.specs.Seeking.{after_seek}
 
 -- what is told, as the answer of a call that may be refused
-abbrev pub done_answer : PlayerChange → Answered Acted PlayerState
+abbrev pub done_answer : PlayerChange → AnswerAndState Acted PlayerState
 done_answer told = record { answer = Done told.answer; state = told.state }
 
 -- ---- play
@@ -38,7 +38,7 @@ after_unpause p =
     else player_change [] p
 
 -- play: refused where the source is not supported, which is the error of code 4
-abbrev pub after_play : Scene → PlayerState → Answered Acted PlayerState
+abbrev pub after_play : Scene → PlayerState → AnswerAndState Acted PlayerState
 after_play scene p =
     if p.error == 4 then record { answer = Refused NotSupported; state = p }
     else done_answer (then_after (after_rewind scene p) after_unpause)
@@ -71,7 +71,7 @@ after_time t scene p =
     if is_playing_on scene p then after_time_in scene.span t p else player_change [] p
 
 -- a length of time passes, which is not negative
-abbrev pub after_advance : ℤ → Scene → PlayerState → Answered Acted PlayerState
+abbrev pub after_advance : ℤ → Scene → PlayerState → AnswerAndState Acted PlayerState
 after_advance t scene p =
     if int_lt t (pos 0) then record { answer = Refused TypeError; state = p }
     else done_answer (after_time t scene p)

@@ -42,8 +42,8 @@ has_same_level span duration p =
     || level_number (level_at span p.position duration) == level_number p.level
 
 -- and no end of playback was told, so that the end of a step changes nothing and tells nothing
-abbrev pub is_settled_by : Option Span → Moment → PlayerState → Bool
-is_settled_by span duration p = not p.finished && has_same_level span duration p
+abbrev pub is_unchanged_by_settle : Option Span → Moment → PlayerState → Bool
+is_unchanged_by_settle span duration p = not p.finished && has_same_level span duration p
 
-abbrev pub is_settled_in : Scene → PlayerState → Bool
-is_settled_in scene p = is_settled_by scene.span scene.duration p
+abbrev pub is_unchanged_by_settle_in : Scene → PlayerState → Bool
+is_unchanged_by_settle_in scene p = is_unchanged_by_settle scene.span scene.duration p

@@ -2,7 +2,7 @@
 use Rattle.std.specs.Prelude.{ℕ, ◌==◌, ℤ, pos, Bool, true, false, not, ◌&&◌, List, ◌++◌}
 use Rattle.mse_base.specs.Moments.{is_same_moment}
 use Rattle.mse_base.specs.declared.ticks.Moment.TheVariants.{At}
-use Rattle.mse_calls.specs.Answered.{Answered}
+use Rattle.mse_calls.specs.AnswerAndState.{AnswerAndState}
 use Rattle.mse_calls.specs.Level.{has_metadata}
 use Rattle.mse_calls.specs.declared.answers.Level.{Level}
 use Rattle.mse_calls.specs.declared.answers.Level.TheVariants.{Nothing}
@@ -36,7 +36,7 @@ new_player = record {
 
 -- the events at the element, in order, and the state that is left
 abbrev pub PlayerChange : Type 0
-PlayerChange = Answered (List EventKind) PlayerState
+PlayerChange = AnswerAndState (List EventKind) PlayerState
 
 abbrev pub player_change : List EventKind → PlayerState → PlayerChange
 player_change events p = record { answer = events; state = p }

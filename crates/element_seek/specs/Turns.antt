@@ -1,7 +1,7 @@
 -- What an element does by itself: it completes a seek, and it tells the end of playback (HTML, media elements,
 -- "seeking", step 14 and on, and "reaches the end of the media resource").
 use Rattle.std.specs.Prelude.{◌==◌, Bool, true, false, not, ◌&&◌, ◌||◌, List, [], ◌∷◌, Option, Some, None, if◌then◌else◌}
-use Rattle.mse_calls.specs.Answered.{Answered}
+use Rattle.mse_calls.specs.AnswerAndState.{AnswerAndState}
 use Rattle.mse_calls.specs.Level.{has_current_data}
 use Rattle.mse_calls.specs.declared.events.EventKind.{EventKind}
 use Rattle.mse_calls.specs.declared.events.EventKind.TheVariants.{TimeUpdate, Seeked, Pause, Ended}
@@ -21,7 +21,7 @@ is_due scene p = is_seek_done p || is_end_due scene p
 
 -- the events of a turn, `None` where nothing is due, and the state that is left
 abbrev pub Turn : Type 0
-Turn = Answered (Option (List EventKind)) PlayerState
+Turn = AnswerAndState (Option (List EventKind)) PlayerState
 
 -- what a paused element, or another, tells at the end
 abbrev pub end_events : Bool → List EventKind

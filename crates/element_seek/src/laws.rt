@@ -9,7 +9,7 @@ ghost use Rattle.element_seek.specs.Seeking.{after_seek, after_load};
 ghost use Rattle.element_seek.specs.Playing.{after_play, after_pause, after_advance, after_fail};
 ghost use Rattle.element_seek.specs.Turns.{after_turn};
 ghost use Rattle.element_seek.specs.Settling.{after_settle};
-ghost use Rattle.element_seek.specs.Inside.{HasSpansInside, StaysInside};
+ghost use Rattle.element_seek.specs.Inside.{HasSpansInside, IsStillInside};
 
 /// The end of a step, made twice, is made once: the second tells nothing and leaves the state.
 pub fn settled_once()
@@ -22,18 +22,19 @@ pub fn settled_once()
 /// no call takes the position out of there.
 pub fn position_inside()
     ensures seek { (t : ℤ) (scene : Scene) (p : PlayerState) → HasSpansInside scene
-        → StaysInside scene p (after_seek t scene p).state }
+        → IsStillInside scene p (after_seek t scene p).state }
     ensures load { (scene : Scene) (p : PlayerState) → HasSpansInside scene
-        → StaysInside scene p (after_load scene p).state }
+        → IsStillInside scene p (after_load scene p).state }
     ensures play { (scene : Scene) (p : PlayerState) → HasSpansInside scene
-        → StaysInside scene p (after_play scene p).state }
-    ensures pause { (scene : Scene) (p : PlayerState) → StaysInside scene p (after_pause p).state }
+        → IsStillInside scene p (after_play scene p).state }
+    ensures pause { (scene : Scene) (p : PlayerState)
+        → IsStillInside scene p (after_pause p).state }
     ensures advance { (t : ℤ) (scene : Scene) (p : PlayerState) → HasSpansInside scene
-        → StaysInside scene p (after_advance t scene p).state }
+        → IsStillInside scene p (after_advance t scene p).state }
     ensures turn { (scene : Scene) (p : PlayerState)
-        → StaysInside scene p (after_turn scene p).state }
+        → IsStillInside scene p (after_turn scene p).state }
     ensures fail { (kind : EndKind) (scene : Scene) (p : PlayerState)
-        → StaysInside scene p (after_fail kind p).state }
+        → IsStillInside scene p (after_fail kind p).state }
     ensures settle { (scene : Scene) (p : PlayerState)
-        → StaysInside scene p (after_settle scene p).state }
+        → IsStillInside scene p (after_settle scene p).state }
 {}

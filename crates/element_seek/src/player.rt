@@ -4,7 +4,7 @@ ghost use Rattle.element_seek.specs.State.{new_player, has_ended, is_playing};
 ghost use Rattle.element_seek.specs.Seeking.{position_within, nearest_in, after_seek, after_load};
 ghost use Rattle.element_seek.specs.Playing.{after_play, after_pause, is_playing_on, after_move, after_advance, after_fail};
 ghost use Rattle.element_seek.specs.Turns.{is_seek_done, is_end_due, is_due, after_turn};
-ghost use Rattle.element_seek.specs.Settling.{after_settle, has_same_level, is_settled_by};
+ghost use Rattle.element_seek.specs.Settling.{after_settle, has_same_level, is_unchanged_by_settle};
 
 use crate::acted::Acted;
 use crate::scene::Scene;
@@ -106,7 +106,7 @@ impl Player {
     fn seek_telling(&mut self, t: Ticks, scene: &Scene, events: &mut Changes)
         requires { length events.old ≤ 3 }
         ensures events { events.new ≡ events.old ++ (after_seek t scene.now self.old).answer }
-        ensures few { length events.new ≤ length events.old + 1 }
+        ensures at_most_one_more { length events.new ≤ length events.old + 1 }
         ensures state { self.new ≡ (after_seek t scene.now self.old).state }
     {
         if !self.level.has_metadata() {
@@ -331,8 +331,8 @@ impl Player {
 
     /// Whether the end of a step leaves the element as it is and tells nothing, by the level of its
     /// position with this buffered range and this duration, at an element that has not told an end.
-    pub fn is_settled(&self, span: &Option<Span>, duration: Moment) -> bool
-        ensures { result ≡ is_settled_by span.now duration self.now }
+    pub fn is_unchanged_by_settle(&self, span: &Option<Span>, duration: Moment) -> bool
+        ensures { result ≡ is_unchanged_by_settle span.now duration self.now }
     {
         !self.finished && self.has_same_level(span, duration)
     }

@@ -2,7 +2,7 @@
 use Rattle.std.proofs.Common.{◌≡◌, ℕ, ◌+◌, ◌==◌, ◌≤◌, ℤ, pos, int_lt, Bool, true, false, cond, ◌||◌, List, [], ◌∷◌, ◌++◌, length, Option, Some, None, is_some, refl, arith, length-append}
 use Rattle.std.specs.Ordering.{int_eq}
 use Rattle.mse_base.specs.declared.span.Span.{Span}
-use Rattle.mse_calls.specs.Answered.{Answered}
+use Rattle.mse_calls.specs.AnswerAndState.{AnswerAndState}
 use Rattle.mse_calls.specs.Level.{has_metadata}
 use Rattle.mse_calls.specs.declared.answers.Level.{Level}
 use Rattle.mse_calls.specs.declared.answers.Level.TheVariants.{Nothing, Metadata, Current, Future, Enough}
@@ -55,7 +55,7 @@ few_in_pause p = by_case 2 p.paused _ _ (omega arith) (omega arith)
 
 -- ---- a call that may be refused
 
-by_refusal : (n : ℕ) (b : Bool) (x y : Answered Acted PlayerState) → length (told_kinds x.answer) ≤ n → length (told_kinds y.answer) ≤ n → length (told_kinds (cond b x y).answer) ≤ n
+by_refusal : (n : ℕ) (b : Bool) (x y : AnswerAndState Acted PlayerState) → length (told_kinds x.answer) ≤ n → length (told_kinds y.answer) ≤ n → length (told_kinds (cond b x y).answer) ≤ n
 by_refusal n true x y h k = h
 by_refusal n false x y h k = k
 
@@ -98,7 +98,7 @@ end_few : (paused : Bool) → length (end_events paused) ≤ 3
 end_few true = omega arith
 end_few false = omega arith
 
-by_turn : (n : ℕ) (b : Bool) (x y : Answered (Option (List EventKind)) PlayerState) → length (turn_kinds x.answer) ≤ n → length (turn_kinds y.answer) ≤ n → length (turn_kinds (cond b x y).answer) ≤ n
+by_turn : (n : ℕ) (b : Bool) (x y : AnswerAndState (Option (List EventKind)) PlayerState) → length (turn_kinds x.answer) ≤ n → length (turn_kinds y.answer) ≤ n → length (turn_kinds (cond b x y).answer) ≤ n
 by_turn n true x y h k = h
 by_turn n false x y h k = k
 

@@ -5,7 +5,7 @@ use Rattle.mse_calls.specs.declared.events.Event.{Event}
 use Rattle.mse_calls.specs.declared.events.EventKind.{EventKind}
 use Rattle.element_seek.specs.declared.scene.Scene.{Scene}
 use Rattle.element_seek.specs.State.{PlayerState, PlayerChange, player_change, then_after}
-use Rattle.element_seek.specs.Inside.{IsInside, StaysInside}
+use Rattle.element_seek.specs.Inside.{IsInside, IsStillInside}
 use Rattle.media_element.specs.State.{ElementState, ElementView}
 use Rattle.media_element.specs.Queueing.{element_events, with_events, after_told, after_action}
 
@@ -31,7 +31,7 @@ room_left n action old new p queue spare kinds v k few h =
     let same : length kinds ≡ length (action p).answer = ap length k in
     omega (arith, few, same, h, ap (λ (e : ElementView). e.spare) v)
 
-pub inside : (action : PlayerState → PlayerChange) (scene : Scene) (old new : ElementView) → new.state ≡ after_action action old.state → StaysInside scene old.state.player (action old.state.player).state → StaysInside scene old.state.player new.state.player
+pub inside : (action : PlayerState → PlayerChange) (scene : Scene) (old new : ElementView) → new.state ≡ after_action action old.state → IsStillInside scene old.state.player (action old.state.player).state → IsStillInside scene old.state.player new.state.player
 inside action scene old new e h k = subst (λ (s : ElementState). IsInside scene.duration s.player.position) (sym e) (h k)
 
 -- nothing was told

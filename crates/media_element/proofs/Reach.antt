@@ -10,7 +10,7 @@ use Rattle.mse_calls.specs.Level.{has_metadata}
 use Rattle.element_seek.specs.declared.scene.Scene.{Scene}
 use Rattle.element_seek.specs.State.{PlayerState, PlayerChange}
 use Rattle.element_seek.specs.Seeking.{position_within, after_seek_in, after_seek}
-use Rattle.element_seek.specs.Inside.{IsInside, LiesInside, HasSpansInside, StaysInside}
+use Rattle.element_seek.specs.Inside.{IsInside, IsSpanInside, HasSpansInside, IsStillInside}
 use Rattle.media_element.specs.DurationChange.{after_seek_to, after_end_seek, IsInReach}
 
 -- where something can be sought inside, 0 is inside
@@ -19,7 +19,7 @@ not_after Nan start end h k e = refl
 not_after (At d) start end h k e = grind (arith, ints)
 not_after Infinite start end h k e = refl
 
-start_inside : (duration : Moment) (range : Option Span) → IsSome range → LiesInside duration range → IsInside duration (pos 0)
+start_inside : (duration : Moment) (range : Option Span) → IsSome range → IsSpanInside duration range → IsInside duration (pos 0)
 start_inside duration None s l = absurd (cc)
 start_inside duration (Some range) s l = (grind (arith, ints), not_after duration range.start range.end l.0 l.1 l.2)
 
@@ -31,7 +31,7 @@ same_place (Some range) t false p q x y s e = absurd (cc)
 
 -- a seek keeps a position inside that lay there
 abbrev pub SeekStaysInside : Type 0
-SeekStaysInside = (t : ℤ) (scene : Scene) (p : PlayerState) → HasSpansInside scene → StaysInside scene p (after_seek t scene p).state
+SeekStaysInside = (t : ℤ) (scene : Scene) (p : PlayerState) → HasSpansInside scene → IsStillInside scene p (after_seek t scene p).state
 
 sought_inside : SeekStaysInside → (t : ℤ) (scene : Scene) (p : PlayerState) → HasSpansInside scene → IsSome scene.seekable → has_metadata p.level ≡ true → IsInside scene.duration (after_seek t scene p).state.position
 sought_inside stays t scene p spans s m =
@@ -54,7 +54,7 @@ reached stays Nan scene p r = (r.start, refl)
 reached stays (At d) scene p r = by_time d scene.duration scene (has_metadata p.level) (int_lt d p.position) p r.metadata refl r.start r.same (sought_inside stays d scene p r.spans r.sought r.metadata)
 reached stays Infinite scene p r = (r.start, refl)
 
-pub fall-inside : SeekStaysInside → (duration : Moment) (scene : Scene) (p : PlayerState) → HasSpansInside scene → StaysInside scene p (after_end_seek duration scene p).state
+pub fall-inside : SeekStaysInside → (duration : Moment) (scene : Scene) (p : PlayerState) → HasSpansInside scene → IsStillInside scene p (after_end_seek duration scene p).state
 fall-inside stays Nan scene p spans h = h
 fall-inside stays (At d) scene p spans h = sought_by d scene.duration scene (has_metadata p.level && int_lt d p.position) p (stays d scene p spans h) h
 fall-inside stays Infinite scene p spans h = h

@@ -1,6 +1,6 @@
 -- Events are queued behind the others and fired from the front, and what the element tells is queued at it.
 use Rattle.std.specs.Prelude.{List, [], ◌++◌, map, drop, Option, Some, None}
-use Rattle.mse_calls.specs.Answered.{Answered}
+use Rattle.mse_calls.specs.AnswerAndState.{AnswerAndState}
 use Rattle.mse_calls.specs.declared.answers.Name.{Name}
 use Rattle.mse_calls.specs.declared.events.Event.{Event}
 use Rattle.mse_calls.specs.declared.events.EventKind.{EventKind}
@@ -51,10 +51,11 @@ refusal (Done kinds) = None
 refusal (Refused name) = Some name
 
 -- the call as an action
-abbrev pub change_by_call : (PlayerState → Answered Acted PlayerState) → PlayerState → PlayerChange
+abbrev pub change_by_call : (PlayerState → AnswerAndState Acted PlayerState) → PlayerState
+    → PlayerChange
 change_by_call call p = player_change (told_kinds (call p).answer) (call p).state
 
-abbrev pub after_player_call : (PlayerState → Answered Acted PlayerState) → ElementState
+abbrev pub after_player_call : (PlayerState → AnswerAndState Acted PlayerState) → ElementState
     → ElementState
 after_player_call call e = after_action (change_by_call call) e
 

@@ -3,8 +3,8 @@ ghost use Rattle.mse_calls.specs.Level.{has_metadata};
 ghost use Rattle.element_seek.specs.Seeking.{after_seek, after_load};
 ghost use Rattle.element_seek.specs.Playing.{after_play, after_pause, after_advance, after_fail};
 ghost use Rattle.element_seek.specs.Turns.{is_due};
-ghost use Rattle.element_seek.specs.Settling.{after_settle, is_settled_by};
-ghost use Rattle.element_seek.specs.Inside.{IsInside, HasSpansInside, StaysInside};
+ghost use Rattle.element_seek.specs.Settling.{after_settle, is_unchanged_by_settle};
+ghost use Rattle.element_seek.specs.Inside.{IsInside, HasSpansInside, IsStillInside};
 ghost use Rattle.media_element.specs.State.{new_element};
 ghost use Rattle.media_element.specs.Queueing.{events_at, element_events, with_events, after_fire, after_action, told_kinds, refusal, after_player_call, after_own_turn};
 ghost use Rattle.media_element.specs.DurationChange.{sought_end, after_end_seek, after_element_change, IsInReach};
@@ -76,7 +76,7 @@ impl Element {
     pub fn reserve(&mut self, n: usize) -> Result<(), OutOfMemory>
         ensures state { self.new.state ≡ self.old.state }
         ensures spare { OnOk result (n ≤ self.new.spare) }
-        ensures room { self.old.spare ≤ self.new.spare }
+        ensures no_room_lost { self.old.spare ≤ self.new.spare }
     {
         self.queue.reserve(n)
     }
@@ -160,7 +160,7 @@ impl Element {
         ensures state { self.new.state ≡ after_element_change duration scene.now self.old.state }
         ensures spare { self.old.spare ≤ self.new.spare + 2 }
         ensures stays_inside { HasSpansInside scene.now
-            → StaysInside scene.now self.old.state.player self.new.state.player }
+            → IsStillInside scene.now self.old.state.player self.new.state.player }
         ensures reached { IsInReach duration scene.now self.old.state.player
             → IsInside duration self.new.state.player.position }
     {
@@ -181,7 +181,7 @@ impl Element {
         ensures state { self.new.state ≡ after_action (after_load scene.now) self.old.state }
         ensures spare { self.old.spare ≤ self.new.spare + 2 }
         ensures stays_inside { HasSpansInside scene.now
-            → StaysInside scene.now self.old.state.player self.new.state.player }
+            → IsStillInside scene.now self.old.state.player self.new.state.player }
     {
         // The proof reads off this that the position stays inside the media.
         position_inside();
@@ -213,10 +213,10 @@ impl Element {
 
     /// Whether the end of a step leaves the element as it is and tells nothing, by the buffered range
     /// that has its position or ends at it, and by the duration, at an element that told no end.
-    pub fn is_settled(&self, span: &Option<Span>, duration: Moment) -> bool
-        ensures { result ≡ is_settled_by span.now duration self.now.state.player }
+    pub fn is_unchanged_by_settle(&self, span: &Option<Span>, duration: Moment) -> bool
+        ensures { result ≡ is_unchanged_by_settle span.now duration self.now.state.player }
     {
-        self.player.is_settled(span, duration)
+        self.player.is_unchanged_by_settle(span, duration)
     }
 
     /// Seeks (HTML, media elements, "seeking") to a time in ticks. It takes at most one place.
@@ -225,7 +225,7 @@ impl Element {
         ensures state { self.new.state ≡ after_action (after_seek t scene.now) self.old.state }
         ensures spare { self.old.spare ≤ self.new.spare + 1 }
         ensures stays_inside { HasSpansInside scene.now
-            → StaysInside scene.now self.old.state.player self.new.state.player }
+            → IsStillInside scene.now self.old.state.player self.new.state.player }
     {
         // The proof reads off this that the position stays inside the media.
         position_inside();
@@ -259,7 +259,7 @@ impl Element {
         ensures state { self.new.state ≡ after_player_call (after_play scene.now) self.old.state }
         ensures spare { self.old.spare ≤ self.new.spare + 3 }
         ensures stays_inside { HasSpansInside scene.now
-            → StaysInside scene.now self.old.state.player self.new.state.player }
+            → IsStillInside scene.now self.old.state.player self.new.state.player }
     {
         // The proof reads off this that the position stays inside the media.
         position_inside();
@@ -288,7 +288,7 @@ impl Element {
             ≡ after_player_call (after_advance t scene.now) self.old.state }
         ensures spare { self.old.spare ≤ self.new.spare + 1 }
         ensures stays_inside { HasSpansInside scene.now
-            → StaysInside scene.now self.old.state.player self.new.state.player }
+            → IsStillInside scene.now self.old.state.player self.new.state.player }
     {
         // The proof reads off this that the position stays inside the media.
         position_inside();

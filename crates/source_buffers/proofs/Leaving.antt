@@ -7,9 +7,9 @@ use Rattle.buffer_state.specs.declared.reply.Reply.{Reply}
 use Rattle.buffer_state.specs.declared.reply.Turned.{Turned}
 use Rattle.buffer_state.specs.declared.reply.Turned.TheVariants.{Did, Idle}
 use Rattle.buffer_state.specs.State.{KeptBuffer}
-use Rattle.buffer_state.specs.Replies.{OfTurn}
+use Rattle.buffer_state.specs.Replies.{IfDid}
 use Rattle.source_buffers.specs.State.{KeptBuffers, in_slot, kept_media, all_kept_media}
-use Rattle.source_buffers.specs.Buffered.{AreSlotRangesLeft, AllLeaveRanges, slot_ranges}
+use Rattle.source_buffers.specs.Buffered.{AreSlotRangesLeft, AreRangesAfterInit, slot_ranges}
 
 same_suc : (j k : ℕ) → (suc j == suc k) ≡ (j == k)
 same_suc j k = grind (arith, nat_tests)
@@ -42,13 +42,13 @@ set_ranges a ended (x ∷ ks) zero (suc j) old new e h = sym (ap (λ b. cond b [
 set_ranges a ended (x ∷ ks) (suc k) zero old new e h = sym (ap (λ b. cond b [] (slot_ranges ended (kept_media x))) (and_false a (zero == suc k) (not_suc k)))
 set_ranges a ended (x ∷ ks) (suc k) (suc j) old new e h = set_ranges a ended ks k j old new e h ∙ sym (ap (λ b. cond (a && b) [] (slot_ranges ended (in_slot j (all_kept_media ks)))) (same_suc j k))
 
-leaves : (ks : KeptBuffers) (k : ℕ) (old new : Option KeptBuffer) (reply : Reply) → slice_get ks k ≡ Some old → AreSlotRangesLeft old reply new → AllLeaveRanges k ks reply (slice_set ks k new)
+leaves : (ks : KeptBuffers) (k : ℕ) (old new : Option KeptBuffer) (reply : Reply) → slice_get ks k ≡ Some old → AreSlotRangesLeft old reply new → AreRangesAfterInit k ks reply (slice_set ks k new)
 leaves ks k old new reply e h init ended j = set_ranges reply.activated ended ks k j old new e (h init ended)
 
-turn_leaves : (t : Turned) (ks : KeptBuffers) (k : ℕ) (old new : Option KeptBuffer) → slice_get ks k ≡ Some old → OfTurn t (λ reply. AreSlotRangesLeft old reply new) → OfTurn t (λ reply. AllLeaveRanges k ks reply (slice_set ks k new))
+turn_leaves : (t : Turned) (ks : KeptBuffers) (k : ℕ) (old new : Option KeptBuffer) → slice_get ks k ≡ Some old → IfDid t (λ reply. AreSlotRangesLeft old reply new) → IfDid t (λ reply. AreRangesAfterInit k ks reply (slice_set ks k new))
 turn_leaves (Did reply) ks k old new e h = leaves ks k old new reply e h
 turn_leaves Idle ks k old new e h = tt
 
-pub turn_leaves_if_ok : {E : Type 0} (ks : KeptBuffers) (k : ℕ) (old new : Option KeptBuffer) (r : Result Turned E) → slice_get ks k ≡ Some old → IfOk r (λ t. OfTurn t (λ reply. AreSlotRangesLeft old reply new)) → IfOk r (λ t. OfTurn t (λ reply. AllLeaveRanges k ks reply (slice_set ks k new)))
+pub turn_leaves_if_ok : {E : Type 0} (ks : KeptBuffers) (k : ℕ) (old new : Option KeptBuffer) (r : Result Turned E) → slice_get ks k ≡ Some old → IfOk r (λ t. IfDid t (λ reply. AreSlotRangesLeft old reply new)) → IfOk r (λ t. IfDid t (λ reply. AreRangesAfterInit k ks reply (slice_set ks k new)))
 turn_leaves_if_ok ks k old new (Ok t) e h = turn_leaves t ks k old new e h
 turn_leaves_if_ok ks k old new (Err x) e h = tt

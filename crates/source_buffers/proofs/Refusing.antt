@@ -5,7 +5,7 @@ use Rattle.mse_calls.specs.declared.answers.Name.{Name}
 use Rattle.mse_calls.specs.declared.answers.Name.TheVariants.{NoSuchBuffer}
 use Rattle.buffer_state.specs.declared.reply.Reply.{Reply}
 use Rattle.buffer_state.specs.State.{Feed, Content, Surroundings}
-use Rattle.buffer_state.specs.Replies.{CallResult, TellsRefusals, refused_reply, refused_result}
+use Rattle.buffer_state.specs.Replies.{CallResult, AreRefusalsTold, refused_reply, refused_result}
 use Rattle.source_buffers.specs.State.{BufferState, BufferStates}
 use Rattle.source_buffers.specs.Slots.{BuffersResult, call_in_slot, refusal_in_slot, refusal_by_slot, refusal_on_buffer, refused_buffers, result_by_slot, result_on_buffer, slot_with, buffers_with}
 
@@ -21,7 +21,7 @@ set_there (b ∷ bs) (suc k) s t e = set_there bs k s t e
 
 -- ---- where there is a name, the call is refused by it
 
-refused_by : (told : Surroundings → Feed → Content → Option Name) (call : Surroundings → Feed → Content → CallResult) (k : ℕ) (name : Name) (a : Surroundings) (bs : BufferStates) (n : Name) (o : Option (Option BufferState)) → TellsRefusals told call → slice_get bs k ≡ o → refusal_by_slot o (refusal_in_slot name (told a)) ≡ Some n → result_by_slot o (call_in_slot name a.duration (call a)) a.duration k bs ≡ refused_buffers n a.duration bs
+refused_by : (told : Surroundings → Feed → Content → Option Name) (call : Surroundings → Feed → Content → CallResult) (k : ℕ) (name : Name) (a : Surroundings) (bs : BufferStates) (n : Name) (o : Option (Option BufferState)) → AreRefusalsTold told call → slice_get bs k ≡ o → refusal_by_slot o (refusal_in_slot name (told a)) ≡ Some n → result_by_slot o (call_in_slot name a.duration (call a)) a.duration k bs ≡ refused_buffers n a.duration bs
 refused_by told call k name a bs n None tells e h =
     let same : NoSuchBuffer ≡ n = cc in
     ap (λ (m : Name). refused_buffers m a.duration bs) same
@@ -32,7 +32,7 @@ refused_by told call k name a bs n (Some (Some b)) tells e h =
     let one = tells a b.feed b.content n in
     ap (λ (r : CallResult). buffers_with k bs (slot_with r)) (one.0 h) ∙ ap (λ (xs : BufferStates). refused_buffers n a.duration xs) (set_same bs k (Some b) e)
 
-pub refused : (told : Surroundings → Feed → Content → Option Name) (call : Surroundings → Feed → Content → CallResult) (k : ℕ) (name : Name) (a : Surroundings) (bs : BufferStates) (n : Name) → TellsRefusals told call → refusal_on_buffer k name (told a) bs ≡ Some n → result_on_buffer k name a.duration (call a) bs ≡ refused_buffers n a.duration bs
+pub refused : (told : Surroundings → Feed → Content → Option Name) (call : Surroundings → Feed → Content → CallResult) (k : ℕ) (name : Name) (a : Surroundings) (bs : BufferStates) (n : Name) → AreRefusalsTold told call → refusal_on_buffer k name (told a) bs ≡ Some n → result_on_buffer k name a.duration (call a) bs ≡ refused_buffers n a.duration bs
 refused told call k name a bs n tells h = refused_by told call k name a bs n (slice_get bs k) tells refl h
 
 -- ---- where the call is refused and nothing comes before it, that is the name
@@ -45,7 +45,7 @@ refused_whole r n a b replies same =
     ap (λ (x : Reply). record { reply = x; feed = r.feed; content = r.content }) replies
     ∙ ap (λ (x : BufferState). record { reply = refused_reply n false a.duration; feed = x.feed; content = x.content }) same
 
-named_by : (told : Surroundings → Feed → Content → Option Name) (call : Surroundings → Feed → Content → CallResult) (k : ℕ) (name : Name) (a : Surroundings) (bs : BufferStates) (n : Name) (o : Option (Option BufferState)) → TellsRefusals told call → slice_get bs k ≡ o → result_by_slot o (call_in_slot name a.duration (call a)) a.duration k bs ≡ refused_buffers n a.duration bs → refusal_by_slot o (refusal_in_slot name (told a)) ≡ Some n
+named_by : (told : Surroundings → Feed → Content → Option Name) (call : Surroundings → Feed → Content → CallResult) (k : ℕ) (name : Name) (a : Surroundings) (bs : BufferStates) (n : Name) (o : Option (Option BufferState)) → AreRefusalsTold told call → slice_get bs k ≡ o → result_by_slot o (call_in_slot name a.duration (call a)) a.duration k bs ≡ refused_buffers n a.duration bs → refusal_by_slot o (refusal_in_slot name (told a)) ≡ Some n
 named_by told call k name a bs n None tells e h = ap (λ (r : BuffersResult). r.reply.refused) h
 named_by told call k name a bs n (Some None) tells e h = ap (λ (r : BuffersResult). r.reply.refused) h
 named_by told call k name a bs n (Some (Some b)) tells e h =
@@ -55,5 +55,5 @@ named_by told call k name a bs n (Some (Some b)) tells e h =
     let there : slice_get bs k ≡ Some (Some left) = ap (λ (x : BuffersResult). slice_get x.buffers k) (sym h) ∙ set_there bs k (Some b) (Some left) e in
     one.1 (refused_whole r n a b (ap (λ (x : BuffersResult). x.reply) h) (some_same left b (sym there ∙ e)))
 
-pub named : (told : Surroundings → Feed → Content → Option Name) (call : Surroundings → Feed → Content → CallResult) (k : ℕ) (name : Name) (a : Surroundings) (bs : BufferStates) (n : Name) → TellsRefusals told call → result_on_buffer k name a.duration (call a) bs ≡ refused_buffers n a.duration bs → refusal_on_buffer k name (told a) bs ≡ Some n
+pub named : (told : Surroundings → Feed → Content → Option Name) (call : Surroundings → Feed → Content → CallResult) (k : ℕ) (name : Name) (a : Surroundings) (bs : BufferStates) (n : Name) → AreRefusalsTold told call → result_on_buffer k name a.duration (call a) bs ≡ refused_buffers n a.duration bs → refusal_on_buffer k name (told a) bs ≡ Some n
 named told call k name a bs n tells h = named_by told call k name a bs n (slice_get bs k) tells refl h

@@ -11,16 +11,16 @@ use Rattle.buffer_state.specs.State.{Feed, Content, KeptBuffer, Surroundings, St
 use Rattle.buffer_state.specs.Replies.{CallResult, IsResult, IsTurnResult, refused_reply}
 use Rattle.buffer_state.specs.Calls.{end_work_result}
 use Rattle.buffer_state.specs.Turns.{turn_result}
-use Rattle.source_buffers.specs.State.{BufferState, BufferStates, KeptBuffers, IsSlotStanding, AllStand}
+use Rattle.source_buffers.specs.State.{BufferState, BufferStates, KeptBuffers, IsSlotStanding, AreSlotsStanding}
 use Rattle.source_buffers.specs.Slots.{call_in_slot, refusal_in_slot, removal_in_slot, SlotResult, IsSlotResult, IsBuffersResult, IsSlotAnswer, IsSlotAnswerIfOk, IsBuffersAnswer, IsBuffersAnswerIfOk, IsSlotTurn, IsBuffersTurn, IsSlotTurnIfOk, IsBuffersTurnIfOk, slot_turn_of, turn_in_slot, refusal_by_slot, refusal_on_slot, result_by_slot, result_on_slot, buffers_turn_of, turn_by_slot, buffers_turn}
 
 -- what stands at a place
-pub record Found (k : Option KeptBuffer) (bs : BufferStates) (i : ℕ) : Type 0 where
+pub record HasStandingSlot (k : Option KeptBuffer) (bs : BufferStates) (i : ℕ) : Type 0 where
   pub slot : Option BufferState
   pub there : slice_get bs i ≡ Some slot
   pub stands : IsSlotStanding k slot
 
-pub found : (ks : KeptBuffers) (bs : BufferStates) (i : ℕ) (k : Option KeptBuffer) → AllStand ks bs → slice_get ks i ≡ Some k → Found k bs i
+pub found : (ks : KeptBuffers) (bs : BufferStates) (i : ℕ) (k : Option KeptBuffer) → AreSlotsStanding ks bs → slice_get ks i ≡ Some k → HasStandingSlot k bs i
 found [] bs i k all e = absurd cc
 found (x ∷ ks) [] i k all e = absurd all
 found (x ∷ ks) (b ∷ bs) zero k all e = let same : x ≡ k = cc in record { slot = b; there = refl; stands = subst (λ (z : Option KeptBuffer). IsSlotStanding z b) same all.0 }
@@ -28,14 +28,14 @@ found (x ∷ ks) (b ∷ bs) (suc i) k all e =
     let r = found ks bs i k all.1 e in
     record { slot = r.slot; there = r.there; stands = r.stands }
 
-pub none_found : (ks : KeptBuffers) (bs : BufferStates) (i : ℕ) → AllStand ks bs → slice_get ks i ≡ None → slice_get bs i ≡ None
+pub none_found : (ks : KeptBuffers) (bs : BufferStates) (i : ℕ) → AreSlotsStanding ks bs → slice_get ks i ≡ None → slice_get bs i ≡ None
 none_found [] [] i all e = refl
 none_found [] (b ∷ bs) i all e = absurd all
 none_found (k ∷ ks) [] i all e = absurd all
 none_found (k ∷ ks) (b ∷ bs) zero all e = absurd cc
 none_found (k ∷ ks) (b ∷ bs) (suc i) all e = none_found ks bs i all.1 e
 
-set_all : (ks : KeptBuffers) (bs : BufferStates) (i : ℕ) (k : Option KeptBuffer) (b : Option BufferState) → AllStand ks bs → IsSlotStanding k b → AllStand (slice_set ks i k) (slice_set bs i b)
+set_all : (ks : KeptBuffers) (bs : BufferStates) (i : ℕ) (k : Option KeptBuffer) (b : Option BufferState) → AreSlotsStanding ks bs → IsSlotStanding k b → AreSlotsStanding (slice_set ks i k) (slice_set bs i b)
 set_all [] [] i k b all h = tt
 set_all [] (x ∷ bs) i k b all h = absurd all
 set_all (k' ∷ ks) [] i k b all h = absurd all
@@ -74,7 +74,7 @@ full_turns r old new a go None h = absurd h
 full_turns (Err e) old new a go (Some b) h = tt
 full_turns (Ok t) old new a go (Some b) h = did_turn t new (turn_result a b.feed b.content) (go b.feed b.content h)
 
-put_turn : (t : Turned) (ks : KeptBuffers) (bs : BufferStates) (i : ℕ) (new : Option KeptBuffer) (o : Option SlotResult) → AllStand ks bs → IsSlotTurn t new o → IsBuffersTurn t (slice_set ks i new) (buffers_turn_of i bs o)
+put_turn : (t : Turned) (ks : KeptBuffers) (bs : BufferStates) (i : ℕ) (new : Option KeptBuffer) (o : Option SlotResult) → AreSlotsStanding ks bs → IsSlotTurn t new o → IsBuffersTurn t (slice_set ks i new) (buffers_turn_of i bs o)
 put_turn (Did reply) ks bs i new None all h = absurd h
 put_turn (Did reply) ks bs i new (Some a) all h = record { replies = h.replies; stand = set_all ks bs i new a.slot all h.stands }
 put_turn Idle ks bs i new None all h = tt
@@ -86,17 +86,17 @@ slot_turns ks i a old new (Ok t) e go bs all =
     let p = found ks bs i old all e in
     subst (λ (o : Option (Option BufferState)). IsBuffersTurn t (slice_set ks i new) (turn_by_slot o i a bs)) (sym p.there) (put_turn t ks bs i new (turn_in_slot a p.slot) all (go p.slot p.stands))
 
-pub none_turns : (ks : KeptBuffers) (i : ℕ) (a : Surroundings) → slice_get ks i ≡ None → (bs : BufferStates) → AllStand ks bs → IsBuffersTurn Idle ks (buffers_turn i a bs)
+pub none_turns : (ks : KeptBuffers) (i : ℕ) (a : Surroundings) → slice_get ks i ≡ None → (bs : BufferStates) → AreSlotsStanding ks bs → IsBuffersTurn Idle ks (buffers_turn i a bs)
 none_turns ks i a e bs all = subst (λ (o : Option (Option BufferState)). IsBuffersTurn Idle ks (turn_by_slot o i a bs)) (sym (none_found ks bs i all e)) tt
 
 -- ---- refusals
 
-pub slot_refuses : (ks : KeptBuffers) (i : ℕ) (old : Option KeptBuffer) (r : Option Name) (refusal : Option BufferState → Option Name) → slice_get ks i ≡ Some old → ((s : Option BufferState) → IsSlotStanding old s → r ≡ refusal s) → (bs : BufferStates) → AllStand ks bs → r ≡ refusal_on_slot i refusal bs
+pub slot_refuses : (ks : KeptBuffers) (i : ℕ) (old : Option KeptBuffer) (r : Option Name) (refusal : Option BufferState → Option Name) → slice_get ks i ≡ Some old → ((s : Option BufferState) → IsSlotStanding old s → r ≡ refusal s) → (bs : BufferStates) → AreSlotsStanding ks bs → r ≡ refusal_on_slot i refusal bs
 slot_refuses ks i old r refusal e go bs all =
     let p = found ks bs i old all e in
     subst (λ (o : Option (Option BufferState)). r ≡ refusal_by_slot o refusal) (sym p.there) (go p.slot p.stands)
 
-pub none_refuses : (ks : KeptBuffers) (i : ℕ) (refusal : Option BufferState → Option Name) → slice_get ks i ≡ None → (bs : BufferStates) → AllStand ks bs → Some NoSuchBuffer ≡ refusal_on_slot i refusal bs
+pub none_refuses : (ks : KeptBuffers) (i : ℕ) (refusal : Option BufferState → Option Name) → slice_get ks i ≡ None → (bs : BufferStates) → AreSlotsStanding ks bs → Some NoSuchBuffer ≡ refusal_on_slot i refusal bs
 none_refuses ks i refusal e bs all = subst (λ (o : Option (Option BufferState)). Some NoSuchBuffer ≡ refusal_by_slot o refusal) (sym (none_found ks bs i all e)) refl
 
 -- ---- a call on the buffer in a slot

@@ -4,14 +4,14 @@ use Rattle.std.specs.Prelude.{Option, Some, None, slice_get, slice_set, Result, 
 use Rattle.std.specs.Option.{option_flatten}
 use Rattle.std.proofs.lemmas.List.Sums.{sum_by-cons}
 use Rattle.mse_base.specs.declared.ticks.Moment.{Moment}
-use Rattle.track_buffers.specs.Media.{Media, EndsWithin, IsNotAfter}
+use Rattle.track_buffers.specs.Media.{Media, AreEndedWithin, IsNotAfter}
 use Rattle.buffer_state.specs.declared.reply.Reply.{Reply}
 use Rattle.buffer_state.specs.declared.reply.Turned.{Turned}
 use Rattle.buffer_state.specs.declared.reply.Turned.TheVariants.{Did, Idle}
 use Rattle.buffer_state.specs.State.{KeptBuffer}
-use Rattle.buffer_state.specs.Replies.{OfTurn}
+use Rattle.buffer_state.specs.Replies.{IfDid}
 use Rattle.source_buffers.specs.State.{KeptBuffers, kept_media, kept_running, all_kept_media, all_kept_running}
-use Rattle.source_buffers.specs.All.{IsSlotWithin, IsSlotStillWithin, AllEndWithin, AllStayWithin, IsFewerSlot, IsIdleSlot, AreFewer, AreIdle, is_updating_slot, is_updating_at, slot_steps_left, all_steps_left, slot_ready, ready_of_buffer}
+use Rattle.source_buffers.specs.All.{IsSlotWithin, IsSlotStillWithin, AreSlotsWithin, AreStillWithin, IsFewerSlot, IsIdleSlot, AreFewer, AreIdle, is_updating_slot, is_updating_at, slot_steps_left, all_steps_left, slot_ready, ready_of_buffer}
 
 -- ---- within the duration
 
@@ -19,51 +19,51 @@ slot_later : (d e : Moment) (m : Option Media) → IsNotAfter d e → IsSlotWith
 slot_later d e None later h = tt
 slot_later d e (Some m) later h = later m.tracks h
 
-pub all_later : (d e : Moment) (ms : List (Option Media)) → IsNotAfter d e → AllEndWithin d ms → AllEndWithin e ms
+pub all_later : (d e : Moment) (ms : List (Option Media)) → IsNotAfter d e → AreSlotsWithin d ms → AreSlotsWithin e ms
 all_later d e [] later all = tt
 all_later d e (m ∷ ms) later all = (slot_later d e m later all.0, all_later d e ms later all.1)
 
-slot_within : (d : Moment) (ks : KeptBuffers) (i : ℕ) (k : Option KeptBuffer) → AllEndWithin d (all_kept_media ks) → slice_get ks i ≡ Some k → IsSlotWithin d (kept_media k)
+slot_within : (d : Moment) (ks : KeptBuffers) (i : ℕ) (k : Option KeptBuffer) → AreSlotsWithin d (all_kept_media ks) → slice_get ks i ≡ Some k → IsSlotWithin d (kept_media k)
 slot_within d [] i k all e = absurd cc
 slot_within d (x ∷ ks) zero k all e = let same : x ≡ k = cc in subst (λ (z : Option KeptBuffer). IsSlotWithin d (kept_media z)) same all.0
 slot_within d (x ∷ ks) (suc i) k all e = slot_within d ks i k all.1 e
 
-set_within : (d : Moment) (ks : KeptBuffers) (i : ℕ) (k : Option KeptBuffer) → AllEndWithin d (all_kept_media ks) → IsSlotWithin d (kept_media k) → AllEndWithin d (all_kept_media (slice_set ks i k))
+set_within : (d : Moment) (ks : KeptBuffers) (i : ℕ) (k : Option KeptBuffer) → AreSlotsWithin d (all_kept_media ks) → IsSlotWithin d (kept_media k) → AreSlotsWithin d (all_kept_media (slice_set ks i k))
 set_within d [] i k all h = tt
 set_within d (x ∷ ks) zero k all h = (h, all.1)
 set_within d (x ∷ ks) (suc i) k all h = (all.0, set_within d ks i k all.1 h)
 
-pub stays_later : (ks : KeptBuffers) (i : ℕ) (d : Moment) (old new : Option KeptBuffer) (reply : Reply) → slice_get ks i ≡ Some old → IsNotAfter d reply.duration → IsSlotStillWithin d old reply new → AllStayWithin d ks reply (slice_set ks i new)
+pub stays_later : (ks : KeptBuffers) (i : ℕ) (d : Moment) (old new : Option KeptBuffer) (reply : Reply) → slice_get ks i ≡ Some old → IsNotAfter d reply.duration → IsSlotStillWithin d old reply new → AreStillWithin d ks reply (slice_set ks i new)
 stays_later ks i d old new reply e later own all = set_within reply.duration ks i new (all_later d reply.duration (all_kept_media ks) later all) (own (slot_within d ks i old all e))
 
 -- the duration is the same
 pub not_after_same : (d e : Moment) → e ≡ d → IsNotAfter d e
-not_after_same d e same ts h = subst (λ (x : Moment). EndsWithin x ts) (sym same) h
+not_after_same d e same ts h = subst (λ (x : Moment). AreEndedWithin x ts) (sym same) h
 
-pub stays : (ks : KeptBuffers) (i : ℕ) (d : Moment) (old new : Option KeptBuffer) (reply : Reply) → slice_get ks i ≡ Some old → reply.duration ≡ d → IsSlotStillWithin d old reply new → AllStayWithin d ks reply (slice_set ks i new)
+pub stays : (ks : KeptBuffers) (i : ℕ) (d : Moment) (old new : Option KeptBuffer) (reply : Reply) → slice_get ks i ≡ Some old → reply.duration ≡ d → IsSlotStillWithin d old reply new → AreStillWithin d ks reply (slice_set ks i new)
 stays ks i d old new reply e same own = stays_later ks i d old new reply e (not_after_same d reply.duration same) own
 
-pub none_stays : (ks : KeptBuffers) (d : Moment) (reply : Reply) → reply.duration ≡ d → AllStayWithin d ks reply ks
-none_stays ks d reply same all = subst (λ (x : Moment). AllEndWithin x (all_kept_media ks)) (sym same) all
+pub none_stays : (ks : KeptBuffers) (d : Moment) (reply : Reply) → reply.duration ≡ d → AreStillWithin d ks reply ks
+none_stays ks d reply same all = subst (λ (x : Moment). AreSlotsWithin x (all_kept_media ks)) (sym same) all
 
-pub stays_if_ok : {E : Type 0} (ks : KeptBuffers) (i : ℕ) (d : Moment) (old new : Option KeptBuffer) (r : Result Reply E) → slice_get ks i ≡ Some old → IfOk r (λ reply. reply.duration ≡ d) → IfOk r (λ reply. IsSlotStillWithin d old reply new) → IfOk r (λ reply. AllStayWithin d ks reply (slice_set ks i new))
+pub stays_if_ok : {E : Type 0} (ks : KeptBuffers) (i : ℕ) (d : Moment) (old new : Option KeptBuffer) (r : Result Reply E) → slice_get ks i ≡ Some old → IfOk r (λ reply. reply.duration ≡ d) → IfOk r (λ reply. IsSlotStillWithin d old reply new) → IfOk r (λ reply. AreStillWithin d ks reply (slice_set ks i new))
 stays_if_ok ks i d old new (Ok reply) e same own = stays ks i d old new reply e same own
 stays_if_ok ks i d old new (Err x) e same own = tt
 
-pub stays_later_if_ok : {E : Type 0} (ks : KeptBuffers) (i : ℕ) (d : Moment) (old new : Option KeptBuffer) (r : Result Reply E) → slice_get ks i ≡ Some old → IfOk r (λ reply. IsNotAfter d reply.duration) → IfOk r (λ reply. IsSlotStillWithin d old reply new) → IfOk r (λ reply. AllStayWithin d ks reply (slice_set ks i new))
+pub stays_later_if_ok : {E : Type 0} (ks : KeptBuffers) (i : ℕ) (d : Moment) (old new : Option KeptBuffer) (r : Result Reply E) → slice_get ks i ≡ Some old → IfOk r (λ reply. IsNotAfter d reply.duration) → IfOk r (λ reply. IsSlotStillWithin d old reply new) → IfOk r (λ reply. AreStillWithin d ks reply (slice_set ks i new))
 stays_later_if_ok ks i d old new (Ok reply) e later own = stays_later ks i d old new reply e later own
 stays_later_if_ok ks i d old new (Err x) e later own = tt
 
-turn_stays : (t : Turned) (ks : KeptBuffers) (i : ℕ) (d : Moment) (old new : Option KeptBuffer) → slice_get ks i ≡ Some old → OfTurn t (λ reply. IsNotAfter d reply.duration) → OfTurn t (λ reply. IsSlotStillWithin d old reply new) → OfTurn t (λ reply. AllStayWithin d ks reply (slice_set ks i new))
+turn_stays : (t : Turned) (ks : KeptBuffers) (i : ℕ) (d : Moment) (old new : Option KeptBuffer) → slice_get ks i ≡ Some old → IfDid t (λ reply. IsNotAfter d reply.duration) → IfDid t (λ reply. IsSlotStillWithin d old reply new) → IfDid t (λ reply. AreStillWithin d ks reply (slice_set ks i new))
 turn_stays (Did reply) ks i d old new e later own = stays_later ks i d old new reply e later own
 turn_stays Idle ks i d old new e later own = tt
 
-pub turn_stays_if_ok : {E : Type 0} (ks : KeptBuffers) (i : ℕ) (d : Moment) (old new : Option KeptBuffer) (r : Result Turned E) → slice_get ks i ≡ Some old → IfOk r (λ t. OfTurn t (λ reply. IsNotAfter d reply.duration)) → IfOk r (λ t. OfTurn t (λ reply. IsSlotStillWithin d old reply new)) → IfOk r (λ t. OfTurn t (λ reply. AllStayWithin d ks reply (slice_set ks i new)))
+pub turn_stays_if_ok : {E : Type 0} (ks : KeptBuffers) (i : ℕ) (d : Moment) (old new : Option KeptBuffer) (r : Result Turned E) → slice_get ks i ≡ Some old → IfOk r (λ t. IfDid t (λ reply. IsNotAfter d reply.duration)) → IfOk r (λ t. IfDid t (λ reply. IsSlotStillWithin d old reply new)) → IfOk r (λ t. IfDid t (λ reply. AreStillWithin d ks reply (slice_set ks i new)))
 turn_stays_if_ok ks i d old new (Ok t) e later own = turn_stays t ks i d old new e later own
 turn_stays_if_ok ks i d old new (Err x) e later own = tt
 
 -- one more buffer
-pub within_more : (d : Moment) (ks : KeptBuffers) (k : Option KeptBuffer) → AllEndWithin d (all_kept_media ks) → IsSlotWithin d (kept_media k) → AllEndWithin d (all_kept_media (ks ++ k ∷ []))
+pub within_more : (d : Moment) (ks : KeptBuffers) (k : Option KeptBuffer) → AreSlotsWithin d (all_kept_media ks) → IsSlotWithin d (kept_media k) → AreSlotsWithin d (all_kept_media (ks ++ k ∷ []))
 within_more d [] k all h = (h, tt)
 within_more d (x ∷ ks) k all h = (all.0, within_more d ks k all.1 h)
 

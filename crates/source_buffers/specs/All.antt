@@ -5,7 +5,7 @@ use Rattle.mse_base.specs.declared.ticks.Moment.{Moment}
 use Rattle.mse_base.specs.Moments.{greatest}
 use Rattle.byte_stream.specs.Streams.{ready_of}
 use Rattle.track_store.specs.Sound.{IsSound}
-use Rattle.track_buffers.specs.Media.{Media, EndsWithin, awaits_first}
+use Rattle.track_buffers.specs.Media.{Media, AreEndedWithin, is_awaiting_first}
 use Rattle.track_buffers.specs.Frames.{highest_start_in, highest_end_in}
 use Rattle.buffer_state.specs.declared.reply.Reply.{Reply}
 use Rattle.buffer_state.specs.declared.reply.Turned.{Turned}
@@ -54,7 +54,7 @@ all_buffers rs ms = record {
 -- each buffer has received its first initialization segment (3.5.7)
 abbrev pub is_initialized_slot : Option Media → Bool
 is_initialized_slot None = true
-is_initialized_slot (Some m) = not (awaits_first m)
+is_initialized_slot (Some m) = not (is_awaiting_first m)
 
 abbrev pub are_initialized : List (Option Media) → Bool
 are_initialized ms = list_all is_initialized_slot ms
@@ -63,7 +63,7 @@ are_initialized ms = list_all is_initialized_slot ms
 
 abbrev pub IsSlotWithin : Moment → Option Media → Type 0
 IsSlotWithin d None = Unit {0}
-IsSlotWithin d (Some m) = EndsWithin d m.tracks
+IsSlotWithin d (Some m) = AreEndedWithin d m.tracks
 
 -- the same of one slot: where it held within the duration, it does within the duration that is replied
 abbrev pub IsSlotStillWithin : Moment → Option KeptBuffer → Reply → Option KeptBuffer → Type 0
@@ -71,13 +71,14 @@ IsSlotStillWithin duration old reply new =
     IsSlotWithin duration (kept_media old) → IsSlotWithin reply.duration (kept_media new)
 
 -- each stored frame of each buffer ends at or before the duration; without a duration there is none
-abbrev pub AllEndWithin : Moment → List (Option Media) → Type 0
-AllEndWithin d ms = AllByRecursion (IsSlotWithin d) ms
+abbrev pub AreSlotsWithin : Moment → List (Option Media) → Type 0
+AreSlotsWithin d ms = AllByRecursion (IsSlotWithin d) ms
 
 -- where each stored frame of each buffer ended within the duration, each does so within the duration that is replied
-abbrev pub AllStayWithin : Moment → KeptBuffers → Reply → KeptBuffers → Type 0
-AllStayWithin duration old reply new =
-    AllEndWithin duration (all_kept_media old) → AllEndWithin reply.duration (all_kept_media new)
+abbrev pub AreStillWithin : Moment → KeptBuffers → Reply → KeptBuffers → Type 0
+AreStillWithin duration old reply new =
+    AreSlotsWithin duration (all_kept_media old)
+    → AreSlotsWithin reply.duration (all_kept_media new)
 
 -- ---- what always holds
 

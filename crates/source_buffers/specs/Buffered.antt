@@ -3,7 +3,7 @@
 use Rattle.std.specs.Prelude.{◌≡◌, ◌≢◌, ℕ, ◌==◌, ℤ, Bool, true, ◌&&◌, List, [], map, find, slice_get, Option, Some, None, option_map, unwrap_or, if◌then◌else◌}
 use Rattle.mse_base.specs.declared.span.Span.{Span}
 use Rattle.mse_base.specs.Meets.{meet_of_all}
-use Rattle.mse_base.specs.Spans.{covers, reaches, IsNormalized}
+use Rattle.mse_base.specs.Spans.{has_tick_in, reaches, IsNormalized}
 use Rattle.track_store.specs.State.{TrackState}
 use Rattle.track_buffers.specs.Media.{Media}
 use Rattle.track_buffers.specs.Buffered.{buffered_of, with_common_end, is_covered_by_all}
@@ -39,7 +39,7 @@ element_span t ended active ms = find (reaches t) (element_ranges ended active m
 pub record IsElementBuffered (ended : Bool) (active : List ℕ)
     (ms : List (Option Media)) : Type 0 where
   pub same : (t : ℤ) → active ≢ []
-      → covers (element_ranges ended active ms) t
+      → has_tick_in (element_ranges ended active ms) t
       ≡ is_covered_by_all (shared_ranges ended active ms) t
   pub none : active ≡ [] → element_ranges ended active ms ≡ []
   pub normalized : IsNormalized (element_ranges ended active ms)
@@ -62,8 +62,8 @@ AreSlotRangesLeft old reply new =
     ≡ (if reply.activated then [] else slot_ranges ended (kept_media old))
 
 -- the same of each buffer, where it was received at the buffer of a number
-abbrev pub AllLeaveRanges : ℕ → KeptBuffers → Reply → KeptBuffers → Type 0
-AllLeaveRanges k old reply new =
+abbrev pub AreRangesAfterInit : ℕ → KeptBuffers → Reply → KeptBuffers → Type 0
+AreRangesAfterInit k old reply new =
     reply.received_init ≡ true → (ended : Bool) (j : ℕ)
     → slot_ranges ended (in_slot j (all_kept_media new))
     ≡ (if reply.activated && (j == k) then []

@@ -13,7 +13,7 @@ use Rattle.buffer_state.specs.State.{Feed, Content, KeptBuffer, Surroundings}
 use Rattle.buffer_state.specs.Replies.{CallResult, refused_reply}
 use Rattle.buffer_state.specs.Turns.{turn_result}
 use Rattle.buffer_state.specs.Calls.{end_work_result}
-use Rattle.source_buffers.specs.State.{BufferState, BufferStates, KeptBuffers, IsSlotStanding, AllStand}
+use Rattle.source_buffers.specs.State.{BufferState, BufferStates, KeptBuffers, IsSlotStanding, AreSlotsStanding}
 
 -- ---- one slot
 
@@ -123,12 +123,6 @@ BufferCall = Surroundings → Feed → Content → CallResult
 abbrev pub BufferRefusal : Type 0
 BufferRefusal = Surroundings → Feed → Content → Option Name
 
--- the call on the buffer of a number, or of one that was removed, by `name`, is refused by this name and leaves all as
--- it was
-abbrev pub IsRefusedOnBuffer : ℕ → Name → BufferCall → Surroundings → BufferStates → Name → Type 0
-IsRefusedOnBuffer k name call a bs n =
-    result_on_buffer k name a.duration (call a) bs ≡ refused_buffers n a.duration bs
-
 abbrev pub buffers_turn_of : ℕ → BufferStates → Option SlotResult → Option BuffersResult
 buffers_turn_of k bs None = None
 buffers_turn_of k bs (Some r) = Some (buffers_with k bs r)
@@ -153,7 +147,7 @@ pub record IsSlotResult (reply : Reply) (kept : Option KeptBuffer)
 pub record IsBuffersResult (reply : Reply) (kept : KeptBuffers)
     (result : BuffersResult) : Type 0 where
   pub replies : reply ≡ result.reply
-  pub stand : AllStand kept result.buffers
+  pub stand : AreSlotsStanding kept result.buffers
 
 -- for whatever the slot stood for
 abbrev pub IsSlotAnswer : Option KeptBuffer → Reply → Option KeptBuffer
@@ -172,12 +166,12 @@ IsSlotAnswerIfOk old result new call =
 abbrev pub IsBuffersAnswer : KeptBuffers → Reply → KeptBuffers → (BufferStates → BuffersResult)
     → Type 0
 IsBuffersAnswer old reply new call =
-    (bs : BufferStates) → AllStand old bs → IsBuffersResult reply new (call bs)
+    (bs : BufferStates) → AreSlotsStanding old bs → IsBuffersResult reply new (call bs)
 
 abbrev pub IsBuffersAnswerIfOk : {E : Type 0} → KeptBuffers → Result Reply E → KeptBuffers
     → (BufferStates → BuffersResult) → Type 0
 IsBuffersAnswerIfOk old result new call =
-    (bs : BufferStates) → AllStand old bs
+    (bs : BufferStates) → AreSlotsStanding old bs
     → IfOk result (λ reply. IsBuffersResult reply new (call bs))
 
 -- something ran, or nothing did
@@ -197,7 +191,7 @@ IsBuffersTurn Idle kept (Some result) = ⊥
 abbrev pub IsBuffersTurnIfOk : {E : Type 0} → KeptBuffers → Result Turned E → KeptBuffers
     → (BufferStates → Option BuffersResult) → Type 0
 IsBuffersTurnIfOk old result new turn =
-    (bs : BufferStates) → AllStand old bs
+    (bs : BufferStates) → AreSlotsStanding old bs
     → IfOk result (λ turned. IsBuffersTurn turned new (turn bs))
 
 abbrev pub IsSlotTurnIfOk : {E : Type 0} → Option KeptBuffer → Result Turned E → Option KeptBuffer

@@ -6,7 +6,7 @@ use Rattle.track_buffers.specs.Media.{Media}
 use Rattle.track_buffers.specs.Settings.{new_media}
 use Rattle.buffer_state.specs.declared.running.Running.{Running}
 use Rattle.buffer_state.specs.State.{Feed, Content, KeptBuffer, Stands, new_feed}
-use Rattle.buffer_state.specs.Calls.{generates_timestamps}
+use Rattle.buffer_state.specs.Calls.{has_generated_timestamps}
 
 -- a source buffer
 pub record BufferState : Type 0 where
@@ -25,7 +25,7 @@ in_slot k xs = option_flatten (slice_get xs k)
 abbrev pub new_buffer : ℤ → Container → BufferState
 new_buffer gap container = record {
   feed = new_feed container None;
-  content = record { media = new_media gap (generates_timestamps container); latest = None };
+  content = record { media = new_media gap (has_generated_timestamps container); latest = None };
 }
 
 -- ---- what the code keeps
@@ -45,11 +45,11 @@ IsSlotStanding None (Some b) = ⊥
 IsSlotStanding (Some k) None = ⊥
 IsSlotStanding (Some k) (Some b) = Stands k b.feed b.content
 
-abbrev pub AllStand : KeptBuffers → BufferStates → Type 0
-AllStand [] [] = Unit {0}
-AllStand [] (b ∷ bs) = ⊥
-AllStand (k ∷ ks) [] = ⊥
-AllStand (k ∷ ks) (b ∷ bs) = IsSlotStanding k b × AllStand ks bs
+abbrev pub AreSlotsStanding : KeptBuffers → BufferStates → Type 0
+AreSlotsStanding [] [] = Unit {0}
+AreSlotsStanding [] (b ∷ bs) = ⊥
+AreSlotsStanding (k ∷ ks) [] = ⊥
+AreSlotsStanding (k ∷ ks) (b ∷ bs) = IsSlotStanding k b × AreSlotsStanding ks bs
 
 -- ---- the parts of the buffers that are kept as they are
 

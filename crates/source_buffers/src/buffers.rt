@@ -3,12 +3,12 @@ ghost use Rattle.mse_base.specs.declared.ticks.Moment.{Moment};
 ghost use Rattle.track_store.specs.State.{state_of};
 ghost use Rattle.track_buffers.specs.Media.{IsNotAfter};
 ghost use Rattle.buffer_state.specs.State.{surroundings, append_input};
-ghost use Rattle.buffer_state.specs.Replies.{OfTurn, changes_of};
+ghost use Rattle.buffer_state.specs.Replies.{IfDid, changes_of};
 ghost use Rattle.buffer_state.specs.Calls.{mode_refusal, mode_result, offset_refusal, offset_result, window_start_refusal, window_start_result, window_end_refusal, window_end_result, remove_refusal, remove_result, append_refusal, append_result, abort_refusal, abort_result, change_type_refusal, change_type_result};
-ghost use Rattle.source_buffers.specs.State.{BufferStates, AllStand, all_kept_media, all_kept_running, new_buffer};
+ghost use Rattle.source_buffers.specs.State.{BufferStates, AreSlotsStanding, all_kept_media, all_kept_running, new_buffer};
 ghost use Rattle.source_buffers.specs.Slots.{IsBuffersAnswer, IsBuffersAnswerIfOk, IsBuffersTurnIfOk, result_on_buffer, refusal_on_buffer, refusal_on_slot, removal_refusal_in_slot, removal_result, removed_type_name, buffers_turn};
-ghost use Rattle.source_buffers.specs.All.{AllEndWithin, AllStayWithin, AreFewer, AreIdle, AreSound, all_buffers, are_initialized, is_updating_at, lowest_running, ready_of_buffer};
-ghost use Rattle.source_buffers.specs.Buffered.{AllLeaveRanges, buffered_at, element_ranges, element_span, track_at};
+ghost use Rattle.source_buffers.specs.All.{AreSlotsWithin, AreStillWithin, AreFewer, AreIdle, AreSound, all_buffers, are_initialized, is_updating_at, lowest_running, ready_of_buffer};
+ghost use Rattle.source_buffers.specs.Buffered.{AreRangesAfterInit, buffered_at, element_ranges, element_span, track_at};
 ghost use Rattle.source_buffers.specs.Views.{buffer_views};
 
 use crate::{all, element, slots, views};
@@ -64,8 +64,8 @@ impl<S: FrameStore> SourceBuffers<S> {
     /// Makes room for `n` more buffers.
     pub fn reserve(&mut self, n: usize) -> Result<(), OutOfMemory>
         ensures buffers { self.new.buffers ≡ self.old.buffers }
-        ensures ok { OnOk result (n ≤ self.new.spare) }
-        ensures spare { self.old.spare ≤ self.new.spare }
+        ensures spare { OnOk result (n ≤ self.new.spare) }
+        ensures no_room_lost { self.old.spare ≤ self.new.spare }
     {
         self.slots.reserve(n)?;
         Ok(())
@@ -74,13 +74,13 @@ impl<S: FrameStore> SourceBuffers<S> {
     /// Makes a buffer of a container with the next number, whose ranges join across gaps of at most
     /// `gap` ticks (Media Source Extensions, 2.2, `addSourceBuffer`). It takes no memory.
     pub fn add_reserved(&mut self, gap: Ticks, container: Container)
-        requires spare { 1 ≤ self.old.spare }
+        requires room { 1 ≤ self.old.spare }
         requires few { length self.old.buffers + 1 < 2 ^ 32 }
         requires gap_from_zero { pos 0 ≤ℤ gap }
-        ensures stand { (bs : BufferStates) → AllStand self.old.buffers bs
-            → AllStand self.new.buffers (bs ++ Some (new_buffer gap container) ∷ []) }
-        ensures within_duration { (d : Moment) → AllEndWithin d (all_kept_media self.old.buffers)
-            → AllEndWithin d (all_kept_media self.new.buffers) }
+        ensures stand { (bs : BufferStates) → AreSlotsStanding self.old.buffers bs
+            → AreSlotsStanding self.new.buffers (bs ++ Some (new_buffer gap container) ∷ []) }
+        ensures within_duration { (d : Moment) → AreSlotsWithin d (all_kept_media self.old.buffers)
+            → AreSlotsWithin d (all_kept_media self.new.buffers) }
         ensures len { length self.new.buffers ≡ length self.old.buffers + 1 }
         ensures spare { self.old.spare ≤ self.new.spare + 1 }
     {
@@ -95,7 +95,7 @@ impl<S: FrameStore> SourceBuffers<S> {
     pub fn remove(&mut self, k: u32, around: &Around) -> Reply
         ensures answered { IsBuffersAnswer self.old.buffers result self.new.buffers
             (removal_result k (surroundings around.now)) }
-        ensures within_duration { AllStayWithin around.now.duration self.old.buffers result
+        ensures within_duration { AreStillWithin around.now.duration self.old.buffers result
             self.new.buffers }
         ensures changes { result.duration_changes ≡ 0 }
         ensures duration { result.duration ≡ around.now.duration }
@@ -114,7 +114,7 @@ impl<S: FrameStore> SourceBuffers<S> {
         ensures answered { IsBuffersAnswer self.old.buffers result self.new.buffers
             (result_on_buffer k Name.InvalidState around.now.duration
             (mode_result mode (surroundings around.now))) }
-        ensures within_duration { AllStayWithin around.now.duration self.old.buffers result
+        ensures within_duration { AreStillWithin around.now.duration self.old.buffers result
             self.new.buffers }
         ensures changes { result.duration_changes ≡ 0 }
         ensures duration { result.duration ≡ around.now.duration }
@@ -134,7 +134,7 @@ impl<S: FrameStore> SourceBuffers<S> {
         ensures answered { IsBuffersAnswer self.old.buffers result self.new.buffers
             (result_on_buffer k Name.InvalidState around.now.duration
             (offset_result t (surroundings around.now))) }
-        ensures within_duration { AllStayWithin around.now.duration self.old.buffers result
+        ensures within_duration { AreStillWithin around.now.duration self.old.buffers result
             self.new.buffers }
         ensures changes { result.duration_changes ≡ 0 }
         ensures duration { result.duration ≡ around.now.duration }
@@ -154,7 +154,7 @@ impl<S: FrameStore> SourceBuffers<S> {
         ensures answered { IsBuffersAnswer self.old.buffers result self.new.buffers
             (result_on_buffer k Name.InvalidState around.now.duration
             (window_start_result t (surroundings around.now))) }
-        ensures within_duration { AllStayWithin around.now.duration self.old.buffers result
+        ensures within_duration { AreStillWithin around.now.duration self.old.buffers result
             self.new.buffers }
         ensures changes { result.duration_changes ≡ 0 }
         ensures duration { result.duration ≡ around.now.duration }
@@ -174,7 +174,7 @@ impl<S: FrameStore> SourceBuffers<S> {
         ensures answered { IsBuffersAnswer self.old.buffers result self.new.buffers
             (result_on_buffer k Name.InvalidState around.now.duration
             (window_end_result t (surroundings around.now))) }
-        ensures within_duration { AllStayWithin around.now.duration self.old.buffers result
+        ensures within_duration { AreStillWithin around.now.duration self.old.buffers result
             self.new.buffers }
         ensures changes { result.duration_changes ≡ 0 }
         ensures duration { result.duration ≡ around.now.duration }
@@ -194,7 +194,7 @@ impl<S: FrameStore> SourceBuffers<S> {
         ensures answered { IsBuffersAnswer self.old.buffers result self.new.buffers
             (result_on_buffer k Name.InvalidState around.now.duration
             (remove_result start end (surroundings around.now))) }
-        ensures within_duration { AllStayWithin around.now.duration self.old.buffers result
+        ensures within_duration { AreStillWithin around.now.duration self.old.buffers result
             self.new.buffers }
         ensures changes { result.duration_changes ≡ 0 }
         ensures duration { result.duration ≡ around.now.duration }
@@ -215,7 +215,7 @@ impl<S: FrameStore> SourceBuffers<S> {
             (result_on_buffer k Name.InvalidState around.now.duration
             (append_result (append_input bytes.now around.now) (surroundings around.now))) }
         ensures within_duration { IfOk result (λ reply.
-            AllStayWithin around.now.duration self.old.buffers reply self.new.buffers) }
+            AreStillWithin around.now.duration self.old.buffers reply self.new.buffers) }
         ensures changes { IfOk result (λ reply. reply.duration_changes ≡ 0) }
         ensures duration { IfOk result (λ reply. reply.duration ≡ around.now.duration) }
         ensures no_init { IfOk result (λ reply. reply.received_init ≡ false) }
@@ -236,7 +236,7 @@ impl<S: FrameStore> SourceBuffers<S> {
             (result_on_buffer k Name.InvalidState around.now.duration
             (abort_result (surroundings around.now))) }
         ensures within_duration { IfOk result (λ reply.
-            AllStayWithin around.now.duration self.old.buffers reply self.new.buffers) }
+            AreStillWithin around.now.duration self.old.buffers reply self.new.buffers) }
         ensures changes { IfOk result
             (λ reply. reply.duration_changes ≤ ready_of_buffer k self.old.buffers) }
         ensures no_fall { IfOk result (λ reply. IsNotAfter around.now.duration reply.duration) }
@@ -259,7 +259,7 @@ impl<S: FrameStore> SourceBuffers<S> {
             (result_on_buffer k (removed_type_name text.now) around.now.duration
             (change_type_result text.now (surroundings around.now))) }
         ensures within_duration { IfOk result (λ reply.
-            AllStayWithin around.now.duration self.old.buffers reply self.new.buffers) }
+            AreStillWithin around.now.duration self.old.buffers reply self.new.buffers) }
         ensures changes { IfOk result
             (λ reply. reply.duration_changes ≤ ready_of_buffer k self.old.buffers) }
         ensures no_fall { IfOk result (λ reply. IsNotAfter around.now.duration reply.duration) }
@@ -280,12 +280,12 @@ impl<S: FrameStore> SourceBuffers<S> {
         ensures idle { IfOk result (λ turned. AreIdle turned k self.old.buffers self.new.buffers) }
         ensures fewer { IfOk result (λ turned. AreFewer turned self.old.buffers self.new.buffers) }
         ensures changes { IfOk result (λ turned. changes_of turned ≤ 1) }
-        ensures within_duration { IfOk result (λ turned. OfTurn turned (λ reply.
-            AllStayWithin around.now.duration self.old.buffers reply self.new.buffers)) }
-        ensures no_fall { IfOk result (λ turned. OfTurn turned
+        ensures within_duration { IfOk result (λ turned. IfDid turned (λ reply.
+            AreStillWithin around.now.duration self.old.buffers reply self.new.buffers)) }
+        ensures no_fall { IfOk result (λ turned. IfDid turned
             (λ reply. IsNotAfter around.now.duration reply.duration)) }
-        ensures ranges { IfOk result (λ turned. OfTurn turned
-            (λ reply. AllLeaveRanges k self.old.buffers reply self.new.buffers)) }
+        ensures ranges { IfOk result (λ turned. IfDid turned
+            (λ reply. AreRangesAfterInit k self.old.buffers reply self.new.buffers)) }
         ensures len { length self.new.buffers ≡ length self.old.buffers }
         ensures spare { self.new.spare ≡ self.old.spare }
         ensures err { OnErr result (self.new ≡ self.old) }
@@ -295,7 +295,7 @@ impl<S: FrameStore> SourceBuffers<S> {
 
     /// The name by which [`remove`](Self::remove) would be refused, if it would.
     pub fn removal_refusal(&self, k: u32) -> Option<Name>
-        ensures { (bs : BufferStates) → AllStand self.now.buffers bs
+        ensures { (bs : BufferStates) → AreSlotsStanding self.now.buffers bs
             → result ≡ refusal_on_slot k removal_refusal_in_slot bs }
     {
         slots::removal_refusal(&self.slots, k)
@@ -304,7 +304,7 @@ impl<S: FrameStore> SourceBuffers<S> {
     /// The name by which [`set_mode`](Self::set_mode) would be refused before anything comes of it,
     /// if it would.
     pub fn mode_refusal(&self, k: u32, mode: Mode, around: &Around) -> Option<Name>
-        ensures { (bs : BufferStates) → AllStand self.now.buffers bs
+        ensures { (bs : BufferStates) → AreSlotsStanding self.now.buffers bs
             → result ≡ refusal_on_buffer k Name.InvalidState
             (mode_refusal mode (surroundings around.now)) bs }
     {
@@ -314,7 +314,7 @@ impl<S: FrameStore> SourceBuffers<S> {
     /// The name by which [`set_offset`](Self::set_offset) would be refused before anything comes of
     /// it, if it would.
     pub fn offset_refusal(&self, k: u32, around: &Around) -> Option<Name>
-        ensures { (bs : BufferStates) → AllStand self.now.buffers bs
+        ensures { (bs : BufferStates) → AreSlotsStanding self.now.buffers bs
             → result ≡ refusal_on_buffer k Name.InvalidState
             (λ f c. offset_refusal (surroundings around.now) f) bs }
     {
@@ -324,7 +324,7 @@ impl<S: FrameStore> SourceBuffers<S> {
     /// The name by which [`set_window_start`](Self::set_window_start) would be refused, if it
     /// would.
     pub fn window_start_refusal(&self, k: u32, t: Ticks) -> Option<Name>
-        ensures { (bs : BufferStates) → AllStand self.now.buffers bs
+        ensures { (bs : BufferStates) → AreSlotsStanding self.now.buffers bs
             → result ≡ refusal_on_buffer k Name.InvalidState (window_start_refusal t) bs }
     {
         slots::window_start_refusal(&self.slots, k, t)
@@ -332,7 +332,7 @@ impl<S: FrameStore> SourceBuffers<S> {
 
     /// The name by which [`set_window_end`](Self::set_window_end) would be refused, if it would.
     pub fn window_end_refusal(&self, k: u32, t: Moment) -> Option<Name>
-        ensures { (bs : BufferStates) → AllStand self.now.buffers bs
+        ensures { (bs : BufferStates) → AreSlotsStanding self.now.buffers bs
             → result ≡ refusal_on_buffer k Name.InvalidState (window_end_refusal t) bs }
     {
         slots::window_end_refusal(&self.slots, k, t)
@@ -346,7 +346,7 @@ impl<S: FrameStore> SourceBuffers<S> {
         end: Moment,
         around: &Around,
     ) -> Option<Name>
-        ensures { (bs : BufferStates) → AllStand self.now.buffers bs
+        ensures { (bs : BufferStates) → AreSlotsStanding self.now.buffers bs
             → result ≡ refusal_on_buffer k Name.InvalidState
             (λ f c. remove_refusal start end (surroundings around.now) f) bs }
     {
@@ -356,7 +356,7 @@ impl<S: FrameStore> SourceBuffers<S> {
     /// The name by which [`append`](Self::append) would be refused before coded frames are evicted,
     /// if it would.
     pub fn append_refusal(&self, k: u32, around: &Around) -> Option<Name>
-        ensures { (bs : BufferStates) → AllStand self.now.buffers bs
+        ensures { (bs : BufferStates) → AreSlotsStanding self.now.buffers bs
             → result ≡ refusal_on_buffer k Name.InvalidState
             (λ f c. append_refusal (surroundings around.now) f) bs }
     {
@@ -365,7 +365,7 @@ impl<S: FrameStore> SourceBuffers<S> {
 
     /// The name by which [`abort`](Self::abort) would be refused, if it would.
     pub fn abort_refusal(&self, k: u32, around: &Around) -> Option<Name>
-        ensures { (bs : BufferStates) → AllStand self.now.buffers bs
+        ensures { (bs : BufferStates) → AreSlotsStanding self.now.buffers bs
             → result ≡ refusal_on_buffer k Name.InvalidState
             (λ f c. abort_refusal (surroundings around.now) f) bs }
     {
@@ -374,7 +374,7 @@ impl<S: FrameStore> SourceBuffers<S> {
 
     /// The name by which [`change_type`](Self::change_type) would be refused, if it would.
     pub fn change_type_refusal(&self, k: u32, text: &str) -> Option<Name>
-        ensures { (bs : BufferStates) → AllStand self.now.buffers bs
+        ensures { (bs : BufferStates) → AreSlotsStanding self.now.buffers bs
             → result ≡ refusal_on_buffer k (removed_type_name text.now)
             (λ f c. change_type_refusal text.now f) bs }
     {
@@ -463,7 +463,7 @@ impl<S: FrameStore> SourceBuffers<S> {
     /// What views show of the buffers in the list, in order of their numbers, where the source is
     /// ended or not.
     pub fn views(&self, ended: bool) -> Result<Vec<BufferView>, OutOfMemory>
-        ensures { (bs : BufferStates) → AllStand self.now.buffers bs
+        ensures { (bs : BufferStates) → AreSlotsStanding self.now.buffers bs
             → IfOk result (λ views. views.items ≡ buffer_views ended bs) }
     {
         views::buffer_views(&self.slots, self.alloc, ended)

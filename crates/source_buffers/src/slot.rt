@@ -3,7 +3,7 @@
 ghost use Rattle.std.specs.Prelude.{◌≡◌, ◌≤◌, false, Option, IfOk, OnErr};
 ghost use Rattle.track_buffers.specs.Media.{IsNotAfter};
 ghost use Rattle.buffer_state.specs.State.{surroundings, append_input};
-ghost use Rattle.buffer_state.specs.Replies.{OfTurn, changes_of, refused_reply};
+ghost use Rattle.buffer_state.specs.Replies.{IfDid, changes_of, refused_reply};
 ghost use Rattle.buffer_state.specs.Calls.{mode_refusal, mode_result, offset_refusal, offset_result, window_start_refusal, window_start_result, window_end_refusal, window_end_result, remove_refusal, remove_result, append_refusal, append_result, abort_refusal, abort_result, change_type_refusal, change_type_result};
 ghost use Rattle.source_buffers.specs.All.{IsSlotStillWithin, IsFewerSlot, IsIdleSlot, slot_ready};
 ghost use Rattle.source_buffers.specs.Buffered.{AreSlotRangesLeft};
@@ -232,11 +232,11 @@ pub(crate) fn turn<S: FrameStore>(
     ensures fewer { IfOk result (λ turned. IsFewerSlot turned slot.old slot.new) }
     ensures changes { IfOk result (λ turned. changes_of turned ≤ 1) }
     ensures within_duration { IfOk result
-        (λ turned. OfTurn turned
+        (λ turned. IfDid turned
         (λ reply. IsSlotStillWithin around.now.duration slot.old reply slot.new)) }
-    ensures no_fall { IfOk result (λ turned. OfTurn turned
+    ensures no_fall { IfOk result (λ turned. IfDid turned
         (λ reply. IsNotAfter around.now.duration reply.duration)) }
-    ensures ranges { IfOk result (λ turned. OfTurn turned
+    ensures ranges { IfOk result (λ turned. IfDid turned
         (λ reply. AreSlotRangesLeft slot.old reply slot.new)) }
     ensures err { OnErr result (slot.new ≡ slot.old) }
 {

@@ -3,12 +3,12 @@
 ghost use Rattle.std.specs.Prelude.{◌≡◌, ◌≤◌, false, length, vec_capacity, Option, IfOk, OnErr};
 ghost use Rattle.track_buffers.specs.Media.{IsNotAfter};
 ghost use Rattle.buffer_state.specs.State.{surroundings, append_input};
-ghost use Rattle.buffer_state.specs.Replies.{OfTurn, changes_of};
+ghost use Rattle.buffer_state.specs.Replies.{IfDid, changes_of};
 ghost use Rattle.buffer_state.specs.Calls.{mode_refusal, mode_result, offset_refusal, offset_result, window_start_refusal, window_start_result, window_end_refusal, window_end_result, remove_refusal, remove_result, append_refusal, append_result, abort_refusal, abort_result, change_type_refusal, change_type_result};
-ghost use Rattle.source_buffers.specs.State.{BufferStates, AllStand};
+ghost use Rattle.source_buffers.specs.State.{BufferStates, AreSlotsStanding};
 ghost use Rattle.source_buffers.specs.Slots.{IsBuffersAnswer, IsBuffersAnswerIfOk, IsBuffersTurnIfOk, result_on_buffer, refusal_on_buffer, refusal_on_slot, removal_refusal_in_slot, removal_result, removed_type_name, buffers_turn};
-ghost use Rattle.source_buffers.specs.All.{AllStayWithin, AreFewer, AreIdle, ready_of_buffer};
-ghost use Rattle.source_buffers.specs.Buffered.{AllLeaveRanges};
+ghost use Rattle.source_buffers.specs.All.{AreStillWithin, AreFewer, AreIdle, ready_of_buffer};
+ghost use Rattle.source_buffers.specs.Buffered.{AreRangesAfterInit};
 
 use crate::all::slot_at;
 use crate::slot;
@@ -25,7 +25,7 @@ pub(crate) fn remove<S: FrameStore>(
 ) -> Reply
     ensures answered { IsBuffersAnswer slots.old.items result slots.new.items
         (removal_result k (surroundings around.now)) }
-    ensures within_duration { AllStayWithin around.now.duration slots.old.items result
+    ensures within_duration { AreStillWithin around.now.duration slots.old.items result
         slots.new.items }
     ensures changes { result.duration_changes ≡ 0 }
     ensures duration { result.duration ≡ around.now.duration }
@@ -49,7 +49,7 @@ pub(crate) fn set_mode<S: FrameStore>(
     ensures answered { IsBuffersAnswer slots.old.items result slots.new.items
         (result_on_buffer k Name.InvalidState around.now.duration
         (mode_result mode (surroundings around.now))) }
-    ensures within_duration { AllStayWithin around.now.duration slots.old.items result
+    ensures within_duration { AreStillWithin around.now.duration slots.old.items result
         slots.new.items }
     ensures changes { result.duration_changes ≡ 0 }
     ensures duration { result.duration ≡ around.now.duration }
@@ -73,7 +73,7 @@ pub(crate) fn set_offset<S: FrameStore>(
     ensures answered { IsBuffersAnswer slots.old.items result slots.new.items
         (result_on_buffer k Name.InvalidState around.now.duration
         (offset_result t (surroundings around.now))) }
-    ensures within_duration { AllStayWithin around.now.duration slots.old.items result
+    ensures within_duration { AreStillWithin around.now.duration slots.old.items result
         slots.new.items }
     ensures changes { result.duration_changes ≡ 0 }
     ensures duration { result.duration ≡ around.now.duration }
@@ -97,7 +97,7 @@ pub(crate) fn set_window_start<S: FrameStore>(
     ensures answered { IsBuffersAnswer slots.old.items result slots.new.items
         (result_on_buffer k Name.InvalidState around.now.duration
         (window_start_result t (surroundings around.now))) }
-    ensures within_duration { AllStayWithin around.now.duration slots.old.items result
+    ensures within_duration { AreStillWithin around.now.duration slots.old.items result
         slots.new.items }
     ensures changes { result.duration_changes ≡ 0 }
     ensures duration { result.duration ≡ around.now.duration }
@@ -121,7 +121,7 @@ pub(crate) fn set_window_end<S: FrameStore>(
     ensures answered { IsBuffersAnswer slots.old.items result slots.new.items
         (result_on_buffer k Name.InvalidState around.now.duration
         (window_end_result t (surroundings around.now))) }
-    ensures within_duration { AllStayWithin around.now.duration slots.old.items result
+    ensures within_duration { AreStillWithin around.now.duration slots.old.items result
         slots.new.items }
     ensures changes { result.duration_changes ≡ 0 }
     ensures duration { result.duration ≡ around.now.duration }
@@ -146,7 +146,7 @@ pub(crate) fn remove_frames<S: FrameStore>(
     ensures answered { IsBuffersAnswer slots.old.items result slots.new.items
         (result_on_buffer k Name.InvalidState around.now.duration
         (remove_result start end (surroundings around.now))) }
-    ensures within_duration { AllStayWithin around.now.duration slots.old.items result
+    ensures within_duration { AreStillWithin around.now.duration slots.old.items result
         slots.new.items }
     ensures changes { result.duration_changes ≡ 0 }
     ensures duration { result.duration ≡ around.now.duration }
@@ -171,7 +171,7 @@ pub(crate) fn append<S: FrameStore>(
         (result_on_buffer k Name.InvalidState around.now.duration
         (append_result (append_input bytes.now around.now) (surroundings around.now))) }
     ensures within_duration { IfOk result (λ reply.
-        AllStayWithin around.now.duration slots.old.items reply slots.new.items) }
+        AreStillWithin around.now.duration slots.old.items reply slots.new.items) }
     ensures changes { IfOk result (λ reply. reply.duration_changes ≡ 0) }
     ensures duration { IfOk result (λ reply. reply.duration ≡ around.now.duration) }
     ensures no_init { IfOk result (λ reply. reply.received_init ≡ false) }
@@ -195,7 +195,7 @@ pub(crate) fn abort<S: FrameStore>(
         (result_on_buffer k Name.InvalidState around.now.duration
         (abort_result (surroundings around.now))) }
     ensures within_duration { IfOk result (λ reply.
-        AllStayWithin around.now.duration slots.old.items reply slots.new.items) }
+        AreStillWithin around.now.duration slots.old.items reply slots.new.items) }
     ensures changes { IfOk result
         (λ reply. reply.duration_changes ≤ ready_of_buffer k slots.old.items) }
     ensures no_fall { IfOk result (λ reply. IsNotAfter around.now.duration reply.duration) }
@@ -221,7 +221,7 @@ pub(crate) fn change_type<S: FrameStore>(
         (result_on_buffer k (removed_type_name text.now) around.now.duration
         (change_type_result text.now (surroundings around.now))) }
     ensures within_duration { IfOk result (λ reply.
-        AllStayWithin around.now.duration slots.old.items reply slots.new.items) }
+        AreStillWithin around.now.duration slots.old.items reply slots.new.items) }
     ensures changes { IfOk result
         (λ reply. reply.duration_changes ≤ ready_of_buffer k slots.old.items) }
     ensures no_fall { IfOk result (λ reply. IsNotAfter around.now.duration reply.duration) }
@@ -247,12 +247,12 @@ pub(crate) fn turn<S: FrameStore>(
     ensures idle { IfOk result (λ turned. AreIdle turned k slots.old.items slots.new.items) }
     ensures fewer { IfOk result (λ turned. AreFewer turned slots.old.items slots.new.items) }
     ensures changes { IfOk result (λ turned. changes_of turned ≤ 1) }
-    ensures within_duration { IfOk result (λ turned. OfTurn turned (λ reply.
-        AllStayWithin around.now.duration slots.old.items reply slots.new.items)) }
-    ensures no_fall { IfOk result (λ turned. OfTurn turned
+    ensures within_duration { IfOk result (λ turned. IfDid turned (λ reply.
+        AreStillWithin around.now.duration slots.old.items reply slots.new.items)) }
+    ensures no_fall { IfOk result (λ turned. IfDid turned
         (λ reply. IsNotAfter around.now.duration reply.duration)) }
-    ensures ranges { IfOk result (λ turned. OfTurn turned
-        (λ reply. AllLeaveRanges k slots.old.items reply slots.new.items)) }
+    ensures ranges { IfOk result (λ turned. IfDid turned
+        (λ reply. AreRangesAfterInit k slots.old.items reply slots.new.items)) }
     ensures len { length slots.new.items ≡ length slots.old.items }
     ensures capacity { vec_capacity slots.new ≡ vec_capacity slots.old }
     ensures err { OnErr result (slots.new.items ≡ slots.old.items) }
@@ -270,7 +270,7 @@ pub(crate) fn mode_refusal<S: FrameStore>(
     mode: Mode,
     around: &Around,
 ) -> Option<Name>
-    ensures { (bs : BufferStates) → AllStand slots.now.items bs
+    ensures { (bs : BufferStates) → AreSlotsStanding slots.now.items bs
         → result ≡ refusal_on_buffer k Name.InvalidState
         (mode_refusal mode (surroundings around.now)) bs }
 {
@@ -286,7 +286,7 @@ pub(crate) fn offset_refusal<S: FrameStore>(
     k: u32,
     around: &Around,
 ) -> Option<Name>
-    ensures { (bs : BufferStates) → AllStand slots.now.items bs
+    ensures { (bs : BufferStates) → AreSlotsStanding slots.now.items bs
         → result ≡ refusal_on_buffer k Name.InvalidState
         (λ f c. offset_refusal (surroundings around.now) f) bs }
 {
@@ -302,7 +302,7 @@ pub(crate) fn window_start_refusal<S: FrameStore>(
     k: u32,
     t: Ticks,
 ) -> Option<Name>
-    ensures { (bs : BufferStates) → AllStand slots.now.items bs
+    ensures { (bs : BufferStates) → AreSlotsStanding slots.now.items bs
         → result ≡ refusal_on_buffer k Name.InvalidState (window_start_refusal t) bs }
 {
     match slot_at(slots, k as usize) {
@@ -317,7 +317,7 @@ pub(crate) fn window_end_refusal<S: FrameStore>(
     k: u32,
     t: Moment,
 ) -> Option<Name>
-    ensures { (bs : BufferStates) → AllStand slots.now.items bs
+    ensures { (bs : BufferStates) → AreSlotsStanding slots.now.items bs
         → result ≡ refusal_on_buffer k Name.InvalidState (window_end_refusal t) bs }
 {
     match slot_at(slots, k as usize) {
@@ -334,7 +334,7 @@ pub(crate) fn remove_frames_refusal<S: FrameStore>(
     end: Moment,
     around: &Around,
 ) -> Option<Name>
-    ensures { (bs : BufferStates) → AllStand slots.now.items bs
+    ensures { (bs : BufferStates) → AreSlotsStanding slots.now.items bs
         → result ≡ refusal_on_buffer k Name.InvalidState
         (λ f c. remove_refusal start end (surroundings around.now) f) bs }
 {
@@ -350,7 +350,7 @@ pub(crate) fn append_refusal<S: FrameStore>(
     k: u32,
     around: &Around,
 ) -> Option<Name>
-    ensures { (bs : BufferStates) → AllStand slots.now.items bs
+    ensures { (bs : BufferStates) → AreSlotsStanding slots.now.items bs
         → result ≡ refusal_on_buffer k Name.InvalidState
         (λ f c. append_refusal (surroundings around.now) f) bs }
 {
@@ -366,7 +366,7 @@ pub(crate) fn abort_refusal<S: FrameStore>(
     k: u32,
     around: &Around,
 ) -> Option<Name>
-    ensures { (bs : BufferStates) → AllStand slots.now.items bs
+    ensures { (bs : BufferStates) → AreSlotsStanding slots.now.items bs
         → result ≡ refusal_on_buffer k Name.InvalidState
         (λ f c. abort_refusal (surroundings around.now) f) bs }
 {
@@ -382,7 +382,7 @@ pub(crate) fn change_type_refusal<S: FrameStore>(
     k: u32,
     text: &str,
 ) -> Option<Name>
-    ensures { (bs : BufferStates) → AllStand slots.now.items bs
+    ensures { (bs : BufferStates) → AreSlotsStanding slots.now.items bs
         → result ≡ refusal_on_buffer k (removed_type_name text.now)
         (λ f c. change_type_refusal text.now f) bs }
 {
@@ -394,7 +394,7 @@ pub(crate) fn change_type_refusal<S: FrameStore>(
 
 /// The name by which the removal of the buffer of a number is refused, if it is.
 pub(crate) fn removal_refusal<S: FrameStore>(slots: &Vec<Option<Buffer<S>>>, k: u32) -> Option<Name>
-    ensures { (bs : BufferStates) → AllStand slots.now.items bs
+    ensures { (bs : BufferStates) → AreSlotsStanding slots.now.items bs
         → result ≡ refusal_on_slot k removal_refusal_in_slot bs }
 {
     match slot_at(slots, k as usize) {

@@ -1,7 +1,7 @@
 //! What views show of the source buffers.
 
 ghost use Rattle.std.specs.Prelude.{◌≡◌, ◌<◌, ◌^◌, [], ◌∷◌, ◌++◌, length, slice_get, Option, IfSome, IfOk, OnOk};
-ghost use Rattle.source_buffers.specs.State.{BufferState, BufferStates, AllStand, IsSlotStanding};
+ghost use Rattle.source_buffers.specs.State.{BufferState, BufferStates, AreSlotsStanding, IsSlotStanding};
 ghost use Rattle.source_buffers.specs.Views.{buffer_views, views_from};
 
 use crate::all::slot_at;
@@ -38,7 +38,7 @@ fn push_at<S: FrameStore>(
     ended: bool,
 ) -> Result<(), OutOfMemory>
     requires { k < 2 ^ 32 }
-    ensures { (bs : BufferStates) → AllStand slots.now.items bs
+    ensures { (bs : BufferStates) → AreSlotsStanding slots.now.items bs
         → OnOk result (IfSome (slice_get bs k)
         (λ s. views.new.items ≡ views.old.items ++ views_from k ended (s ∷ []))) }
 {
@@ -55,7 +55,7 @@ pub(crate) fn buffer_views<S: FrameStore>(
     ended: bool,
 ) -> Result<Vec<BufferView>, OutOfMemory>
     requires { length slots.now.items < 2 ^ 32 }
-    ensures { (bs : BufferStates) → AllStand slots.now.items bs
+    ensures { (bs : BufferStates) → AreSlotsStanding slots.now.items bs
         → IfOk result (λ views. views.items ≡ buffer_views ended bs) }
 {
     let mut views = Vec::new(alloc);

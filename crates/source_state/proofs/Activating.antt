@@ -4,7 +4,7 @@ use Rattle.std.proofs.lemmas.Bool.{false≢true, eq-eqb}
 use Rattle.std.proofs.lemmas.Bool.Decides.{eqb_tells}
 use Rattle.std.proofs.lemmas.List.Folds.{list_any-append}
 use Rattle.std.proofs.lemmas.List.Sums.{length-filter, count_by-le-length}
-use Rattle.source_state.specs.State.{is_listed_in, without}
+use Rattle.source_state.specs.State.{is_listed_in, numbers_without}
 use Rattle.source_state.specs.Room.{inactive_count}
 
 or_right : (b c : Bool) → b ≡ false → (b || c) ≡ true → c ≡ true
@@ -71,12 +71,12 @@ differ m n k e d = elim (eqb_tells m n) [
   | inr t ↦ t.0
 ]
 
-has_without : (n k : ℕ) (active : List ℕ) → nat_eq n k ≡ false → is_listed_in n active ≡ true → is_listed_in n (without k active) ≡ true
+has_without : (n k : ℕ) (active : List ℕ) → nat_eq n k ≡ false → is_listed_in n active ≡ true → is_listed_in n (numbers_without k active) ≡ true
 has_without n k [] d e = e
 has_without n k (m ∷ ms) d e =
     elim (eqb_tells m k) [
       | inl t ↦ rw t.0 (has_without n k ms d (or_right (nat_eq m n) (is_listed_in n ms) (differ m n k t.1 d) e))
-      | inr t ↦ rw t.0 (or_kept (nat_eq m n) (is_listed_in n ms) (is_listed_in n (without k ms)) (has_without n k ms d) e)
+      | inr t ↦ rw t.0 (or_kept (nat_eq m n) (is_listed_in n ms) (is_listed_in n (numbers_without k ms)) (has_without n k ms d) e)
     ]
 
 one_more : (b : Bool) (x : ℕ) → x ≤ cond b x (x + 1)
@@ -84,13 +84,13 @@ one_more true x = omega arith
 one_more false x = omega arith
 
 -- a buffer that leaves both lists
-pub without_le : (ns active : List ℕ) (k : ℕ) → inactive_count (without k ns) (without k active) ≤ inactive_count ns active
+pub without_le : (ns active : List ℕ) (k : ℕ) → inactive_count (numbers_without k ns) (numbers_without k active) ≤ inactive_count ns active
 without_le [] active k = omega arith
 without_le (n ∷ ns) active k =
     elim (eqb_tells n k) [
       | inl t ↦ rw t.0 (omega (arith, without_le ns active k, one_more (is_listed_in n active) (inactive_count ns active)))
-      | inr t ↦ rw t.0 (counted_le (is_listed_in n (without k active)) (is_listed_in n active) _ _ (has_without n k active t.0) (without_le ns active k))
+      | inr t ↦ rw t.0 (counted_le (is_listed_in n (numbers_without k active)) (is_listed_in n active) _ _ (has_without n k active t.0) (without_le ns active k))
     ]
 
-pub without_length : (active : List ℕ) (k : ℕ) → length (without k active) ≤ length active
+pub without_length : (active : List ℕ) (k : ℕ) → length (numbers_without k active) ≤ length active
 without_length active k = omega (arith, length-filter (λ n. not (nat_eq n k)) active, count_by-le-length (λ n. not (nat_eq n k)) active)

@@ -1,7 +1,7 @@
 -- A duration that is refused leaves the source as it is.
 use Rattle.std.proofs.Common.{◌≡◌, Bool, true, false, Some, cond, not, ◌||◌, pos, refl}
 use Rattle.mse_base.specs.declared.ticks.Moment.{Moment}
-use Rattle.mse_calls.specs.Answered.{Answered}
+use Rattle.mse_calls.specs.AnswerAndState.{AnswerAndState}
 use Rattle.mse_calls.specs.declared.answers.Name.{Name}
 use Rattle.mse_calls.specs.declared.answers.Name.TheVariants.{InvalidState, TypeError}
 use Rattle.source_state.specs.declared.answers.AllBuffers.{AllBuffers}
@@ -12,10 +12,10 @@ use Rattle.mse_base.specs.Moments.{is_nan, is_after, is_same_moment}
 use Rattle.mse_calls.specs.Ready.{is_open}
 use Rattle.source_state.specs.Calls.{answer_and_state, duration_name, after_set_duration, has_frame_after, past_frames}
 
-abbrev IsSameIfRefused : SourceState → Answered Changed SourceState → Type 0
+abbrev IsSameIfRefused : SourceState → AnswerAndState Changed SourceState → Type 0
 IsSameIfRefused s a = (name : Name) → duration_name a.answer ≡ Some name → (Refused name ≡ a.answer) × (s ≡ a.state)
 
-by_case : (s : SourceState) (b : Bool) (x y : Answered Changed SourceState) → IsSameIfRefused s x → IsSameIfRefused s y → IsSameIfRefused s (cond b x y)
+by_case : (s : SourceState) (b : Bool) (x y : AnswerAndState Changed SourceState) → IsSameIfRefused s x → IsSameIfRefused s y → IsSameIfRefused s (cond b x y)
 by_case s true x y hx hy = hx
 by_case s false x y hx hy = hy
 

@@ -4,7 +4,7 @@ use Rattle.mse_base.specs.declared.span.Span.{Span}
 use Rattle.mse_base.specs.declared.ticks.Moment.{Moment}
 use Rattle.mse_base.specs.declared.ticks.Moment.TheVariants.{At}
 use Rattle.mse_base.specs.Moments.{is_nan, is_after, is_same_moment, greater_moment}
-use Rattle.mse_calls.specs.Answered.{Answered}
+use Rattle.mse_calls.specs.AnswerAndState.{AnswerAndState}
 use Rattle.mse_calls.specs.Ready.{is_closed, is_open, is_ended}
 use Rattle.mse_calls.specs.declared.answers.Name.{Name}
 use Rattle.mse_calls.specs.declared.answers.Name.TheVariants.{InvalidState, QuotaExceeded, TypeError, NotFound}
@@ -19,17 +19,17 @@ use Rattle.source_state.specs.declared.answers.Removed.{Removed}
 use Rattle.source_state.specs.declared.answers.Removed.TheVariants as removed
 use Rattle.source_state.specs.declared.answers.Changed.{Changed}
 use Rattle.source_state.specs.declared.answers.Changed.TheVariants as changed
-use Rattle.source_state.specs.State.{SourceState, is_listed_in, without}
+use Rattle.source_state.specs.State.{SourceState, is_listed_in, numbers_without}
 
 -- what is answered, and the state that is left
-abbrev pub answer_and_state : {A : Type 0} → A → SourceState → Answered A SourceState
+abbrev pub answer_and_state : {A : Type 0} → A → SourceState → AnswerAndState A SourceState
 answer_and_state answer state = record { answer = answer; state = state }
 
 abbrev pub in_ready : Ready → SourceState → SourceState
 in_ready ready s = record s { ready = ready }
 
 -- attaching to a media element (2.4.1): of a source that is closed
-abbrev pub after_attach : SourceState → Answered (Option Name) SourceState
+abbrev pub after_attach : SourceState → AnswerAndState (Option Name) SourceState
 after_attach s =
     if not (is_closed s.ready) then answer_and_state (Some InvalidState) s
     else answer_and_state None (in_ready Opened s)
@@ -40,14 +40,14 @@ abbrev pub with_live : Option Span → SourceState → SourceState
 with_live live s = record s { live = live }
 
 -- setLiveSeekableRange: of an open source, from a time that is neither negative nor after the end
-abbrev pub after_set_live : ℤ → ℤ → SourceState → Answered (Option Name) SourceState
+abbrev pub after_set_live : ℤ → ℤ → SourceState → AnswerAndState (Option Name) SourceState
 after_set_live start end s =
     if not (is_open s.ready) then answer_and_state (Some InvalidState) s
     else (if int_lt start (pos 0) || int_lt end start then answer_and_state (Some TypeError) s
     else answer_and_state None (with_live (Some (record { start = start; end = end })) s))
 
 -- clearLiveSeekableRange: of an open source
-abbrev pub after_clear_live : SourceState → Answered (Option Name) SourceState
+abbrev pub after_clear_live : SourceState → AnswerAndState (Option Name) SourceState
 after_clear_live s =
     if not (is_open s.ready) then answer_and_state (Some InvalidState) s
     else answer_and_state None (with_live None s)
@@ -63,7 +63,7 @@ abbrev pub with_new : SourceState → SourceState
 with_new s = record s { made = s.made + 1; listed = s.listed ++ s.made ∷ [] }
 
 -- addSourceBuffer, once its type is known to be supported: to an open source that is not full
-abbrev pub after_add_buffer : SourceState → Answered Added SourceState
+abbrev pub after_add_buffer : SourceState → AnswerAndState Added SourceState
 after_add_buffer s =
     if has_most_buffers s then answer_and_state (added.Refused QuotaExceeded) s
     else (if not (is_open s.ready) then answer_and_state (added.Refused InvalidState) s
@@ -75,10 +75,10 @@ add_name (added.Number k) = None
 add_name (added.Refused name) = Some name
 
 abbrev pub without_buffer : ℕ → SourceState → SourceState
-without_buffer k s = record s { listed = without k s.listed; active = without k s.active }
+without_buffer k s = record s { listed = numbers_without k s.listed; active = numbers_without k s.active }
 
 -- removeSourceBuffer: of a buffer in sourceBuffers. It leaves activeSourceBuffers too, where it is there.
-abbrev pub after_remove_buffer : ℕ → SourceState → Answered Removed SourceState
+abbrev pub after_remove_buffer : ℕ → SourceState → AnswerAndState Removed SourceState
 after_remove_buffer k s =
     if not (is_listed_in k s.listed) then answer_and_state (removed.Refused NotFound) s
     else answer_and_state (removed.Gone (is_listed_in k s.active)) (without_buffer k s)
@@ -95,7 +95,7 @@ with_active k s = record s { active = s.active ++ k ∷ [] }
 -- ---- the duration
 
 -- duration change (2.4.6): to the duration that there is already, nothing
-abbrev pub after_duration_change : Moment → SourceState → Answered Changed SourceState
+abbrev pub after_duration_change : Moment → SourceState → AnswerAndState Changed SourceState
 after_duration_change d s =
     if is_same_moment d s.duration then answer_and_state changed.Same s
     else answer_and_state (changed.To d) (record s { duration = d })
@@ -112,7 +112,8 @@ has_frame_after (Some start) d = is_after start d
 
 -- duration, on setting: to a number that is not negative, of an open source of which no buffer is updating. A lesser
 -- duration does not cut off the start of a frame, and takes in the ends of all.
-abbrev pub after_set_duration : Moment → AllBuffers → SourceState → Answered Changed SourceState
+abbrev pub after_set_duration : Moment → AllBuffers → SourceState
+    → AnswerAndState Changed SourceState
 after_set_duration d all s =
     if is_nan d || is_after (pos 0) d then answer_and_state (changed.Refused TypeError) s
     else (if not (is_open s.ready) then answer_and_state (changed.Refused InvalidState) s
@@ -136,14 +137,14 @@ end_refusal updating s = if not (is_open s.ready) || updating then Some InvalidS
 
 -- the source's part of the end of stream algorithm (2.4.7): without an error the duration becomes the highest end of
 -- all frames, 0 where there is none
-abbrev pub after_end : EndKind → Option ℤ → SourceState → Answered Changed SourceState
+abbrev pub after_end : EndKind → Option ℤ → SourceState → AnswerAndState Changed SourceState
 after_end Plain highest_end s =
     after_duration_change (At (unwrap_or highest_end (pos 0))) (in_ready Ended s)
 after_end Network highest_end s = answer_and_state changed.Same (in_ready Ended s)
 after_end Decode highest_end s = answer_and_state changed.Same (in_ready Ended s)
 
 -- an ended source is opened again
-abbrev pub after_reopen : SourceState → Answered Bool SourceState
+abbrev pub after_reopen : SourceState → AnswerAndState Bool SourceState
 after_reopen s =
     if is_ended s.ready then answer_and_state true (in_ready Opened s)
     else answer_and_state false s

@@ -33,8 +33,8 @@ abbrev pub is_listed_in : ℕ → List ℕ → Bool
 is_listed_in k ks = list_any (λ n. n == k) ks
 
 -- a list of buffers without the one of a number
-abbrev pub without : ℕ → List ℕ → List ℕ
-without k ks = filter (λ n. not (n == k)) ks
+abbrev pub numbers_without : ℕ → List ℕ → List ℕ
+numbers_without k ks = filter (λ n. not (n == k)) ks
 
 -- every buffer of a list is in another
 abbrev pub are_in : List ℕ → List ℕ → Bool

@@ -53,7 +53,7 @@ impl Queue {
     pub fn reserve(&mut self, n: usize) -> Result<(), OutOfMemory>
         ensures events { self.new.events ≡ self.old.events }
         ensures spare { OnOk result (n ≤ self.new.spare) }
-        ensures room { self.old.spare ≤ self.new.spare }
+        ensures no_room_lost { self.old.spare ≤ self.new.spare }
     {
         if n <= self.events.capacity() - self.events.len() {
             return Ok(());
@@ -67,7 +67,7 @@ impl Queue {
     fn reserve_more(&mut self, n: usize) -> Result<(), OutOfMemory>
         ensures events { self.new.events ≡ self.old.events }
         ensures spare { OnOk result (n ≤ self.new.spare) }
-        ensures room { self.old.spare ≤ self.new.spare }
+        ensures no_room_lost { self.old.spare ≤ self.new.spare }
     {
         self.events.reserve(n)?;
         Ok(())

@@ -33,7 +33,7 @@ enum Comes {
     Refused(Name),
 }
 
-fn changed(comes: Comes) -> Result<Changed, Fail> {
+fn change_of(comes: Comes) -> Result<Changed, Fail> {
     match comes {
         Comes::Same => Ok(Changed::Same),
         Comes::To(duration) => Ok(Changed::To(moment(duration)?)),
@@ -70,7 +70,7 @@ fn expect_end(
     end: Option<i128>,
     comes: Comes,
 ) -> Result<(), Fail> {
-    assert_eq!(rt; source.end(kind, highest(end)?), changed(comes)?);
+    assert_eq!(rt; source.end(kind, highest(end)?), change_of(comes)?);
     Ok(())
 }
 
@@ -250,7 +250,7 @@ fn expect_set(
 ) -> Result<(), Fail> {
     assert_eq!(rt;
         source.set_duration(moment(duration)?, all),
-        changed(comes)?
+        change_of(comes)?
     );
     Ok(())
 }

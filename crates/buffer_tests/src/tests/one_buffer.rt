@@ -4,8 +4,8 @@ mod acts;
 mod files;
 
 use acts::{
-    BufferCall, BufferShown, Heard, OneBufferScene, first_track, new_scene, perform, quiet,
-    range_count, refusal, show, told,
+    BufferCall, BufferShown, OneBufferScene, ReplyView, first_track, new_scene, perform, quiet,
+    range_count, refusal, scene_view, show,
 };
 use buffer_state::*;
 use files::{Changes, DIFFERENT, PLAIN, SECOND, SECONDS, bytes_of, file};
@@ -38,23 +38,23 @@ enum Hears {
     Refusal(Name, bool),
 }
 
-fn fires(first: EventKind, second: EventKind) -> Heard {
-    Heard {
+fn fires(first: EventKind, second: EventKind) -> ReplyView {
+    ReplyView {
         events: (Some(first), Some(second)),
         ..quiet()
     }
 }
 
-fn begins(reopened: bool) -> Heard {
-    Heard {
+fn begins(reopened: bool) -> ReplyView {
+    ReplyView {
         reopened,
         events: (Some(EventKind::UpdateStart), None),
         ..quiet()
     }
 }
 
-fn goes_on(changes: u64, activated: bool) -> Heard {
-    Heard {
+fn goes_on(changes: u64, activated: bool) -> ReplyView {
+    ReplyView {
         changes,
         activated,
         received_init: true,
@@ -62,8 +62,8 @@ fn goes_on(changes: u64, activated: bool) -> Heard {
     }
 }
 
-fn ends_after(changes: u64, activated: bool, received_init: bool) -> Heard {
-    Heard {
+fn ends_after(changes: u64, activated: bool, received_init: bool) -> ReplyView {
+    ReplyView {
         changes,
         activated,
         received_init,
@@ -71,22 +71,22 @@ fn ends_after(changes: u64, activated: bool, received_init: bool) -> Heard {
     }
 }
 
-fn breaks(number: u8, offset: u64) -> Heard {
-    Heard {
+fn breaks(number: u8, offset: u64) -> ReplyView {
+    ReplyView {
         fault: (number, offset),
         ..fires(EventKind::Error, EventKind::UpdateEnd)
     }
 }
 
-fn refuses(name: Name, reopened: bool) -> Heard {
-    Heard {
+fn refuses(name: Name, reopened: bool) -> ReplyView {
+    ReplyView {
         refused: Some(name),
         reopened,
         ..quiet()
     }
 }
 
-fn heard_of(wanted: Hears) -> Heard {
+fn heard_of(wanted: Hears) -> ReplyView {
     match wanted {
         Hears::Nothing => quiet(),
         Hears::Start(reopened) => begins(reopened),
@@ -114,7 +114,7 @@ fn shows(phase: Phase, held: u64, used: u64, frames: u64, end: i128) -> BufferSh
 
 /// The refusal that is told before the call: one for the quota comes behind an eviction, and one
 /// behind the opening of the source is not the first thing that comes.
-fn first_refusal(heard: &Heard) -> Option<Name> {
+fn first_refusal(heard: &ReplyView) -> Option<Name> {
     match heard.refused {
         Some(Name::QuotaExceeded) => None,
         Some(name) => { if heard.reopened { None } else { Some(name) } }
@@ -212,7 +212,7 @@ const TURN_BY_TURN: [Row; 8] = [
 fn an_append_turn_by_turn(rt: HostRuntime) -> Result<(), Fail> {
     let wanted = shows(Phase::Waiting, 0, 12, 3, 14_112_000_000);
     let scene = story(&rt, rt.alloc(), &TURN_BY_TURN, wanted)?;
-    let found = told(&scene);
+    let found = scene_view(&scene);
     let wanted = (
         false,
         true,

@@ -42,7 +42,7 @@ fn open(duration: Moment, span: Option<Span>) -> Scene {
 }
 
 /// An element whose metadata is there, at the level of a scene, all of whose events were fired.
-fn loaded(rt: &HostRuntime, scene: &Scene) -> Result<Element, Fail> {
+fn loaded_element(rt: &HostRuntime, scene: &Scene) -> Result<Element, Fail> {
     let mut element = Element::new(rt.alloc());
     element.reserve(6)?;
     element.load(scene);
@@ -54,7 +54,7 @@ fn loaded(rt: &HostRuntime, scene: &Scene) -> Result<Element, Fail> {
 }
 
 /// Whether the events that wait are these at the element; they are fired.
-fn fires(element: &mut Element, wanted: &[EventKind]) -> bool {
+fn fire_all(element: &mut Element, wanted: &[EventKind]) -> bool {
     let mut same = true;
     for kind in wanted {
         let event = Event {
@@ -96,7 +96,7 @@ fn expect(
         ElementCall::Due(wanted) => assert_eq!(rt; element.due(scene), wanted),
         ElementCall::Turn(wanted) => assert_eq!(rt; element.turn(scene), wanted),
         ElementCall::Settle => element.settle(scene),
-        ElementCall::Fires(wanted) => assert!(rt; fires(element, wanted)),
+        ElementCall::Fires(wanted) => assert!(rt; fire_all(element, wanted)),
     }
     Ok(())
 }
@@ -154,7 +154,7 @@ fn duration_of_an_element_without_metadata(rt: HostRuntime) -> Result<(), Fail> 
     element.reserve(3)?;
     element.seek(time(5 * SECOND)?, &scene);
     element.change_duration(scene.duration, &scene);
-    assert!(rt; fires(&mut element, &[EventKind::DurationChange]));
+    assert!(rt; fire_all(&mut element, &[EventKind::DurationChange]));
     assert_eq!(rt;
         (element.level(), element.position()),
         (Level::Nothing, Ticks::zero())
@@ -173,7 +173,7 @@ fn expect_fall(
 ) -> Result<(), Fail> {
     element.reserve(2)?;
     element.change_duration(scene.duration, scene);
-    assert!(rt; fires(element, wanted));
+    assert!(rt; fire_all(element, wanted));
     assert_eq!(rt; element.position(), time(reached)?);
     Ok(())
 }
@@ -193,7 +193,7 @@ const FALLS: [(i128, &[EventKind], i128); 2] = [
 #[test]
 fn seeks_to_a_lesser_duration(rt: HostRuntime) -> Result<(), Fail> {
     let long = open(at(10 * SECOND)?, range(0, 6 * SECOND)?);
-    let mut element = loaded(&rt, &long)?;
+    let mut element = loaded_element(&rt, &long)?;
     let acts = [
         ElementCall::Seek(5 * SECOND),
         ElementCall::Fires(&[EventKind::Seeking]),
@@ -219,7 +219,7 @@ fn loads_at_its_start(rt: HostRuntime) -> Result<(), Fail> {
     let mut element = Element::new(rt.alloc());
     element.reserve(1)?;
     element.seek(time(5 * SECOND)?, &scene);
-    assert!(rt; fires(&mut element, &[]));
+    assert!(rt; fire_all(&mut element, &[]));
     element.reserve(6)?;
     element.load(&scene);
     element.settle(&scene);
@@ -229,7 +229,7 @@ fn loads_at_its_start(rt: HostRuntime) -> Result<(), Fail> {
         EventKind::LoadedData,
         EventKind::CanPlay,
     ];
-    assert!(rt; fires(&mut element, &wanted));
+    assert!(rt; fire_all(&mut element, &wanted));
     assert_eq!(rt;
         (element.position(), element.level()),
         (time(5 * SECOND)?, Level::Future)
@@ -237,11 +237,11 @@ fn loads_at_its_start(rt: HostRuntime) -> Result<(), Fail> {
     assert!(rt; element.due(&scene));
     element.reserve(3)?;
     assert!(rt; element.turn(&scene));
-    assert!(rt; fires(&mut element, &[EventKind::TimeUpdate, EventKind::Seeked]));
+    assert!(rt; fire_all(&mut element, &[EventKind::TimeUpdate, EventKind::Seeked]));
     assert!(rt; !element.seeking() && !element.due(&scene));
     element.reserve(3)?;
     assert!(rt; !element.turn(&scene));
-    assert!(rt; fires(&mut element, &[]));
+    assert!(rt; fire_all(&mut element, &[]));
     Ok(())
 }
 
@@ -273,7 +273,7 @@ const WITH_THE_DATA: [ElementCall; 4] = [
 #[test]
 fn seeks_while_it_plays(rt: HostRuntime) -> Result<(), Fail> {
     let first = open(at(10 * SECOND)?, range(0, 2 * SECOND)?);
-    let mut element = loaded(&rt, &first)?;
+    let mut element = loaded_element(&rt, &first)?;
     run(&rt, &mut element, &first, &BEFORE_THE_DATA)?;
     let nowhere = open(at(10 * SECOND)?, None);
     run(&rt, &mut element, &nowhere, &WITHOUT_DATA)?;
@@ -309,7 +309,7 @@ fn plays_to_the_end(rt: HostRuntime) -> Result<(), Fail> {
         ended: true,
         ..open(at(end)?, range(0, end)?)
     };
-    let mut element = loaded(&rt, &scene)?;
+    let mut element = loaded_element(&rt, &scene)?;
     run(&rt, &mut element, &scene, &TO_THE_END)?;
     assert_eq!(rt;
         (element.level(), element.position()),
@@ -327,15 +327,15 @@ fn fails_without_metadata(rt: HostRuntime) -> Result<(), Fail> {
     element.reserve(3)?;
     element.pause();
     element.fail(EndKind::Plain);
-    assert!(rt; fires(&mut element, &[]));
+    assert!(rt; fire_all(&mut element, &[]));
     element.reserve(2)?;
     element.fail(EndKind::Network);
     element.fail(EndKind::Decode);
-    assert!(rt; fires(&mut element, &[EventKind::Error]));
+    assert!(rt; fire_all(&mut element, &[EventKind::Error]));
     assert_eq!(rt; element.error(), 4);
     element.reserve(3)?;
     assert_eq!(rt; element.play(&scene), Some(Name::NotSupported));
-    assert!(rt; fires(&mut element, &[]));
+    assert!(rt; fire_all(&mut element, &[]));
     assert!(rt; element.paused());
     Ok(())
 }

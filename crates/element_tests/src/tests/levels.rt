@@ -68,7 +68,7 @@ const LEVELS: [Level; 5] = [
 ];
 
 /// Whether all changes from and to each level fire the events of a table, a row for each old level.
-fn fires(facts: Facts, table: &[[&str; 5]; 5]) -> bool {
+fn has_events_of_table(facts: Facts, table: &[[&str; 5]; 5]) -> bool {
     for (old, row) in LEVELS.iter().zip(table.iter()) {
         for (new, wanted) in LEVELS.iter().zip(row.iter()) {
             let events = events_of_change(*old, *new, facts);
@@ -95,7 +95,7 @@ fn fires_events_of_changes(rt: HostRuntime) {
         first_loaded: false,
     };
     assert!(rt;
-        fires(
+        has_events_of_table(
             playing,
             &[
                 ["", "m", "", "cp", "cpt"],
@@ -112,7 +112,7 @@ fn fires_events_of_changes(rt: HostRuntime) {
         first_loaded: true,
     };
     assert!(rt;
-        fires(
+        has_events_of_table(
             paused,
             &[
                 ["", "m", "", "c", "ct"],
@@ -129,7 +129,7 @@ fn fires_events_of_changes(rt: HostRuntime) {
         first_loaded: true,
     };
     assert!(rt;
-        fires(
+        has_events_of_table(
             at_the_end,
             &[
                 ["", "m", "", "cp", "cpt"],

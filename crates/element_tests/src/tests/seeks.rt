@@ -25,7 +25,7 @@ fn to(end: i128) -> Result<Option<Span>, Fail> {
 }
 
 /// An element whose metadata is there, at the level of a scene.
-fn loaded(scene: &Scene) -> Player {
+fn loaded_player(scene: &Scene) -> Player {
     let mut player = Player::new();
     let _ = player.load(scene);
     let _ = player.settle(scene);
@@ -33,18 +33,18 @@ fn loaded(scene: &Scene) -> Player {
 }
 
 /// Whether the events are those.
-fn are(events: &Changes, wanted: &[EventKind]) -> bool {
+fn are_events(events: &Changes, wanted: &[EventKind]) -> bool {
     events.as_slice() == wanted
 }
 
-fn told(acted: Acted, wanted: &[EventKind]) -> bool {
+fn is_told(acted: Acted, wanted: &[EventKind]) -> bool {
     match acted {
-        Acted::Done(events) => are(&events, wanted),
+        Acted::Done(events) => are_events(&events, wanted),
         Acted::Refused(_) => false,
     }
 }
 
-fn refused(acted: Acted, wanted: Name) -> bool {
+fn is_refused_with(acted: Acted, wanted: Name) -> bool {
     match acted {
         Acted::Refused(name) => name == wanted,
         Acted::Done(_) => false,
@@ -80,7 +80,7 @@ type Row = (PlayerCall, &'static [EventKind]);
 /// Does one after the other, and compares the events.
 fn run(rt: &impl Abort, player: &mut Player, scene: &Scene, rows: &[Row]) -> Result<(), Fail> {
     for (act, wanted) in rows {
-        assert!(rt; told(perform(player, scene, *act)?, wanted));
+        assert!(rt; is_told(perform(player, scene, *act)?, wanted));
     }
     Ok(())
 }
@@ -96,25 +96,25 @@ fn starts_where_it_was_told(rt: HostRuntime) -> Result<(), Fail> {
         seekable: to(10 * SECOND)?,
     };
     let mut player = Player::new();
-    assert!(rt; are(&player.seek(time(SECOND / 2)?, &scene), &[]));
+    assert!(rt; are_events(&player.seek(time(SECOND / 2)?, &scene), &[]));
     assert!(rt; !player.seeking());
     let events = player.load(&scene);
-    assert!(rt; are(&events, &[EventKind::LoadedMetadata, EventKind::Seeking]));
+    assert!(rt; are_events(&events, &[EventKind::LoadedMetadata, EventKind::Seeking]));
     assert_eq!(rt; player.position(), time(SECOND / 2)?);
     assert!(rt;
-        are(
+        are_events(
             &player.settle(&scene),
             &[EventKind::LoadedData, EventKind::CanPlay]
         )
     );
     let turn = player.turn(&scene).ok_or("no turn")?;
-    assert!(rt; are(&turn, &[EventKind::TimeUpdate, EventKind::Seeked]));
+    assert!(rt; are_events(&turn, &[EventKind::TimeUpdate, EventKind::Seeked]));
     assert_eq!(rt; (player.level(), player.seeking()), (Level::Future, false));
     let mut late = Player::new();
-    assert!(rt; are(&late.seek(time(SECOND / 2)?, &scene), &[]));
+    assert!(rt; are_events(&late.seek(time(SECOND / 2)?, &scene), &[]));
     scene.seekable = None;
     scene.duration = Moment::Infinite;
-    assert!(rt; are(&late.load(&scene), &[EventKind::LoadedMetadata]));
+    assert!(rt; are_events(&late.load(&scene), &[EventKind::LoadedMetadata]));
     assert_eq!(rt; (late.position(), late.seeking()), (Ticks::zero(), false));
     Ok(())
 }
@@ -133,7 +133,7 @@ fn reach(
     rows: &[(i128, i128)],
 ) -> Result<(), Fail> {
     for (sought, reached) in rows {
-        assert!(rt; are(&player.seek(time(*sought)?, scene), &[EventKind::Seeking]));
+        assert!(rt; are_events(&player.seek(time(*sought)?, scene), &[EventKind::Seeking]));
         assert_eq!(rt; player.position(), time(*reached)?);
     }
     Ok(())
@@ -148,7 +148,7 @@ fn seeks_inside(rt: HostRuntime) -> Result<(), Fail> {
         span: to(SECOND)?,
         seekable: to(10 * SECOND)?,
     };
-    let mut player = loaded(&scene);
+    let mut player = loaded_player(&scene);
     reach(&rt, &mut player, &scene, &SOUGHT)?;
     scene.seekable = Some(Span {
         start: time(3)?,
@@ -157,7 +157,7 @@ fn seeks_inside(rt: HostRuntime) -> Result<(), Fail> {
     reach(&rt, &mut player, &scene, &SOUGHT_IN_PART)?;
     assert!(rt; player.seeking());
     scene.seekable = None;
-    assert!(rt; are(&player.seek(time(5)?, &scene), &[]));
+    assert!(rt; are_events(&player.seek(time(5)?, &scene), &[]));
     assert_eq!(rt; (player.position(), player.seeking()), (time(8)?, false));
     Ok(())
 }
@@ -197,7 +197,7 @@ fn plays_and_pauses(rt: HostRuntime) -> Result<(), Fail> {
         span: to(SECOND)?,
         seekable: to(10 * SECOND)?,
     };
-    let mut player = loaded(&scene);
+    let mut player = loaded_player(&scene);
     assert_eq!(rt; player.level(), Level::Future);
     run(&rt, &mut player, &scene, &PLAYED_AND_PAUSED)?;
     assert!(rt; player.paused());
@@ -237,8 +237,8 @@ fn moves_on(rt: HostRuntime) -> Result<(), Fail> {
         span: to(SECOND)?,
         seekable: to(10 * SECOND)?,
     };
-    let mut player = loaded(&scene);
-    assert!(rt; refused(player.advance(time(-1)?, &scene), Name::TypeError));
+    let mut player = loaded_player(&scene);
+    assert!(rt; is_refused_with(player.advance(time(-1)?, &scene), Name::TypeError));
     run(&rt, &mut player, &scene, &NOT_YET_MOVED)?;
     run(&rt, &mut player, &scene, &MOVED)?;
     assert_eq!(rt; player.position(), time(5)?);
@@ -294,7 +294,7 @@ fn ends_and_begins_again(rt: HostRuntime) -> Result<(), Fail> {
         span: to(4 * SECOND)?,
         seekable: to(4 * SECOND)?,
     };
-    let mut player = loaded(&scene);
+    let mut player = loaded_player(&scene);
     assert!(rt; player.turn(&scene).is_none());
     run(&rt, &mut player, &scene, &TO_THE_END)?;
     assert_eq!(rt; player.level(), Level::Current);
@@ -321,15 +321,15 @@ fn begins_again_while_it_plays(rt: HostRuntime) -> Result<(), Fail> {
         span: to(4 * SECOND)?,
         seekable: to(4 * SECOND)?,
     };
-    let mut player = loaded(&scene);
-    assert!(rt; told(player.play(&scene), &[EventKind::Play, EventKind::Playing]));
+    let mut player = loaded_player(&scene);
+    assert!(rt; is_told(player.play(&scene), &[EventKind::Play, EventKind::Playing]));
     assert!(rt;
-        told(
+        is_told(
             player.advance(time(4 * SECOND)?, &scene),
             &[EventKind::TimeUpdate]
         )
     );
-    assert!(rt; told(player.play(&scene), &[EventKind::Seeking]));
+    assert!(rt; is_told(player.play(&scene), &[EventKind::Seeking]));
     assert_eq!(rt; player.position(), Ticks::zero());
     Ok(())
 }
@@ -344,17 +344,17 @@ fn keeps_the_first_error(rt: HostRuntime) -> Result<(), Fail> {
         seekable: to(10 * SECOND)?,
     };
     let mut player = Player::new();
-    assert!(rt; are(&player.fail(EndKind::Plain), &[]));
-    assert!(rt; are(&player.fail(EndKind::Decode), &[EventKind::Error]));
+    assert!(rt; are_events(&player.fail(EndKind::Plain), &[]));
+    assert!(rt; are_events(&player.fail(EndKind::Decode), &[EventKind::Error]));
     assert_eq!(rt; player.error(), 4);
-    assert!(rt; refused(player.play(&scene), Name::NotSupported));
+    assert!(rt; is_refused_with(player.play(&scene), Name::NotSupported));
     for (kind, code) in [(EndKind::Network, 2), (EndKind::Decode, 3)] {
-        let mut player = loaded(&scene);
-        assert!(rt; are(&player.fail(kind), &[EventKind::Error]));
-        assert!(rt; are(&player.fail(EndKind::Network), &[]));
+        let mut player = loaded_player(&scene);
+        assert!(rt; are_events(&player.fail(kind), &[EventKind::Error]));
+        assert!(rt; are_events(&player.fail(EndKind::Network), &[]));
         assert_eq!(rt; player.error(), code);
-        assert!(rt; told(player.play(&scene), &[EventKind::Play, EventKind::Playing]));
-        assert!(rt; told(player.advance(time(5)?, &scene), &[]));
+        assert!(rt; is_told(player.play(&scene), &[EventKind::Play, EventKind::Playing]));
+        assert!(rt; is_told(player.advance(time(5)?, &scene), &[]));
     }
     Ok(())
 }

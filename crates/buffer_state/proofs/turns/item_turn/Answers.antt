@@ -1,5 +1,5 @@
 use Rattle.std.proofs.Common.{◌<◌, sym, subst}
-use Rattle.parser_loop.specs.Items.{latest_after_any, seen}
+use Rattle.parser_loop.specs.Items.{latest_after_any, answer_item}
 use Rattle.byte_stream.specs.Streams.{latest_of}
 use Rattle.track_buffers.specs.Media.{Media}
 use Rattle.buffer_state.specs.declared.running.Running.{Running}
@@ -7,7 +7,7 @@ use Rattle.buffer_state.specs.declared.running.Running.TheVariants.{Append}
 use Rattle.buffer_state.specs.State.{Feed, Content, kept_buffer, next_item, surroundings}
 use Rattle.buffer_state.specs.Replies.{IsBufferAnswer}
 use Rattle.buffer_state.specs.Turns.{append_turn_result}
-use Rattle.buffer_state.specs.Steps.{Leaves}
+use Rattle.buffer_state.specs.Steps.{IsLeftByStep}
 use Rattle.buffer_state.specs.StepsLeft.{steps_left}
 use Rattle.buffer_state.proofs.Stepping.{append-turns, refusal-turns}
 use Rattle.buffer_state.proofs.Leaving.{fewer}
@@ -24,13 +24,13 @@ returns-in-Some-clause-answered g c =
 pub returns-in_ok-next-in-None-clause-answered : goal.returns-in_ok-next-in-None-clause-answered
 returns-in_ok-next-in-None-clause-answered g c =
     let a = surroundings c.args.around.now in
-    let turned = append-turns c.args.stream.now c.next.new.self c.answer-in-None.new.stream c.prepare.new.media.media c.take_item-step.new.media.media c.answer-in-None.new.media.media c.args.running.now c.answer-in-None.new.running (seen c.in_ok-next-in-None.next) c.take_item-step.result c.answer-in-None.result a c.in_ok-next-in-None.ensures.item c.in_ok-next-in-None.ensures.stands c.in_ok-next-in-None.ensures.latest c.take_item-step.ensures.step c.answer-in-None.ensures.answered in
+    let turned = append-turns c.args.stream.now c.next.new.self c.answer-in-None.new.stream c.prepare.new.media.media c.take_item-step.new.media.media c.answer-in-None.new.media.media c.args.running.now c.answer-in-None.new.running (answer_item c.in_ok-next-in-None.next) c.take_item-step.result c.answer-in-None.result a c.in_ok-next-in-None.ensures.item c.in_ok-next-in-None.ensures.stands c.in_ok-next-in-None.ensures.latest c.take_item-step.ensures.step c.answer-in-None.ensures.answered in
     subst (λ (m : Media). IsBufferAnswer (kept_buffer c.args.stream.now m c.args.running.now) c.answer-in-None.result (kept_buffer c.answer-in-None.new.stream c.answer-in-None.new.media.media c.answer-in-None.new.running) (λ (f : Feed) (d : Content). append_turn_result (next_item f) a f d)) c.in_ok-step.ensures.media turned
 
 pub returns-in_ok-next-in-None-clause-fewer : goal.returns-in_ok-next-in-None-clause-fewer
 returns-in_ok-next-in-None-clause-fewer g c =
-    let next = seen c.in_ok-next-in-None.next in
+    let next = answer_item c.in_ok-next-in-None.next in
     let latest = latest_of c.args.stream.now in
-    let leaves : Leaves c.take_item-step.result c.next.new.self Append c.answer-in-None.new.stream c.answer-in-None.new.running = subst (λ (r : Running). Leaves c.take_item-step.result c.next.new.self r c.answer-in-None.new.stream c.answer-in-None.new.running) c.requires.appending c.answer-in-None.ensures.leaves in
+    let leaves : IsLeftByStep c.take_item-step.result c.next.new.self Append c.answer-in-None.new.stream c.answer-in-None.new.running = subst (λ (r : Running). IsLeftByStep c.take_item-step.result c.next.new.self r c.answer-in-None.new.stream c.answer-in-None.new.running) c.requires.appending c.answer-in-None.ensures.leaves in
     let less = fewer c.args.stream.now c.next.new.self c.answer-in-None.new.stream c.args.media.now.media c.answer-in-None.new.media.media c.answer-in-None.new.running next c.take_item-step.result (record { media = c.prepare.new.media.media; latest = latest }) (record { media = c.take_item-step.new.media.media; latest = latest_after_any latest next }) c.args.around.now.duration c.stands.ensures c.in_ok-next-in-None.ensures.stands (c.take_item-step.ensures.step latest) leaves in
     subst (λ (r : Running). steps_left (kept_buffer c.answer-in-None.new.stream c.answer-in-None.new.media.media c.answer-in-None.new.running) < steps_left (kept_buffer c.args.stream.now c.args.media.now.media r)) (sym c.requires.appending) less

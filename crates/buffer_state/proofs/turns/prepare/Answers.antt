@@ -1,6 +1,6 @@
 use Rattle.std.proofs.Common.{◌≤◌, length, refl, arith}
 use Rattle.byte_stream.specs.Readings.{items_in, ready_at}
-use Rattle.parser_loop.specs.Items.{seen}
+use Rattle.parser_loop.specs.Items.{answer_item}
 use Rattle.byte_stream.proofs.Standing.{ready-is}
 use Rattle.buffer_state.specs.Steps.{IsNoInit}
 use Rattle.buffer_state.proofs.ItemsNext.{place-other, no-init, at-front}
@@ -14,7 +14,7 @@ returns g c = record {
       (let ready = ready-is c.args.stream.now.parser r.container r.string s.parser in
       let none : length (ready_at r) ≤ 0 = omega (arith, ready, c.requires.none_ready) in
       let looked = c.in_ok-presentation.ensures.item r s in
-      place-other (items_in r) r.string.taken c.args.media.now none (at-front IsNoInit (items_in r) r.string.taken (seen c.in_ok-presentation.field-0) looked (no-init c.in_ok-presentation.field-0 c.in_default.not-Init)));
+      place-other (items_in r) r.string.taken c.args.media.now none (at-front IsNoInit (items_in r) r.string.taken (answer_item c.in_ok-presentation.field-0) looked (no-init c.in_ok-presentation.field-0 c.in_default.not-Init)));
   no_fall = tt;
   changes = tt;
 }

@@ -33,7 +33,7 @@ pub(super) enum BufferCall {
 
 /// What is heard of an act.
 #[derive(Clone, Copy, Debug, PartialEq, Eq)]
-pub(super) struct Heard {
+pub(super) struct ReplyView {
     pub(super) refused: Option<Name>,
     pub(super) reopened: bool,
     pub(super) changes: u64,
@@ -45,8 +45,8 @@ pub(super) struct Heard {
 }
 
 /// Nothing is heard.
-pub(super) fn quiet() -> Heard {
-    Heard {
+pub(super) fn quiet() -> ReplyView {
+    ReplyView {
         refused: None,
         reopened: false,
         changes: 0,
@@ -65,6 +65,7 @@ pub(super) struct OneBufferScene {
     around: Around,
 }
 
+/// A new buffer of a container, at an opened source with this quota.
 pub(super) fn new_scene(alloc: Global, container: Container, quota: u64) -> OneBufferScene {
     OneBufferScene {
         alloc,
@@ -84,31 +85,31 @@ fn time(t: i128) -> Result<Ticks, Fail> {
     Ok(Ticks::new(t).ok_or("no time")?)
 }
 
-fn shown(fault: &Option<FaultView>) -> (u8, u64) {
+fn fault_pair(fault: &Option<FaultView>) -> (u8, u64) {
     match fault {
         Some(view) => (view.number, view.offset),
         None => (0, 0),
     }
 }
 
-fn hear(reply: &Reply) -> Heard {
-    Heard {
+fn hear(reply: &Reply) -> ReplyView {
+    ReplyView {
         refused: reply.refused,
         reopened: reply.reopened,
         changes: reply.duration_changes,
         activated: reply.activated,
         received_init: reply.received_init,
-        fault: shown(&reply.fault),
+        fault: fault_pair(&reply.fault),
         events: (reply.events.get(0), reply.events.get(1)),
     }
 }
 
 /// What is heard of two steps of one piece of work, one after the other. Only its last step fires events.
-fn then(first: &Heard, second: &Heard) -> Result<Heard, Fail> {
+fn then(first: &ReplyView, second: &ReplyView) -> Result<ReplyView, Fail> {
     if first.events != (None, None) {
         return Err(Fail::new("events before the last step"));
     }
-    Ok(Heard {
+    Ok(ReplyView {
         refused: second.refused,
         reopened: first.reopened || second.reopened,
         changes: first.changes.saturating_add(second.changes),
@@ -123,14 +124,19 @@ fn then(first: &Heard, second: &Heard) -> Result<Heard, Fail> {
     })
 }
 
-fn append(scene: &mut OneBufferScene, bytes: &[u8], from: usize, to: usize) -> Result<Heard, Fail> {
+fn append(
+    scene: &mut OneBufferScene,
+    bytes: &[u8],
+    from: usize,
+    to: usize,
+) -> Result<ReplyView, Fail> {
     let part = bytes.get(from..to).ok_or("no such part")?;
     let part = Bytes::copy_of(scene.alloc, part)?;
     let reply = scene.buffer.append(&part, &scene.around)?;
     Ok(hear(&reply))
 }
 
-fn turn(scene: &mut OneBufferScene) -> Result<Option<Heard>, OutOfMemory> {
+fn turn(scene: &mut OneBufferScene) -> Result<Option<ReplyView>, OutOfMemory> {
     match scene.buffer.turn(&scene.around)? {
         Turned::Did(reply) => {
             scene.around.duration = reply.duration;
@@ -140,7 +146,7 @@ fn turn(scene: &mut OneBufferScene) -> Result<Option<Heard>, OutOfMemory> {
     }
 }
 
-fn drain(scene: &mut OneBufferScene) -> Result<Heard, Fail> {
+fn drain(scene: &mut OneBufferScene) -> Result<ReplyView, Fail> {
     let mut all = quiet();
     for _ in 0..40 {
         match turn(scene)? {
@@ -151,37 +157,37 @@ fn drain(scene: &mut OneBufferScene) -> Result<Heard, Fail> {
     Ok(all)
 }
 
-fn abort(scene: &mut OneBufferScene) -> Result<Heard, OutOfMemory> {
+fn abort(scene: &mut OneBufferScene) -> Result<ReplyView, OutOfMemory> {
     let reply = scene.buffer.abort(&scene.around)?;
     Ok(hear(&reply))
 }
 
-fn change_type(scene: &mut OneBufferScene, text: &str) -> Result<Heard, OutOfMemory> {
+fn change_type(scene: &mut OneBufferScene, text: &str) -> Result<ReplyView, OutOfMemory> {
     let reply = scene.buffer.change_type(text, &scene.around)?;
     Ok(hear(&reply))
 }
 
-fn set_mode(scene: &mut OneBufferScene, mode: Mode) -> Heard {
+fn set_mode(scene: &mut OneBufferScene, mode: Mode) -> ReplyView {
     hear(&scene.buffer.set_mode(mode, &scene.around))
 }
 
-fn set_offset(scene: &mut OneBufferScene, t: Ticks) -> Heard {
+fn set_offset(scene: &mut OneBufferScene, t: Ticks) -> ReplyView {
     hear(&scene.buffer.set_offset(t, &scene.around))
 }
 
-fn set_window_start(scene: &mut OneBufferScene, t: Ticks) -> Heard {
+fn set_window_start(scene: &mut OneBufferScene, t: Ticks) -> ReplyView {
     hear(&scene.buffer.set_window_start(t, &scene.around))
 }
 
-fn set_window_end(scene: &mut OneBufferScene, t: Ticks) -> Heard {
+fn set_window_end(scene: &mut OneBufferScene, t: Ticks) -> ReplyView {
     hear(&scene.buffer.set_window_end(Moment::At(t), &scene.around))
 }
 
-fn remove(scene: &mut OneBufferScene, from: Ticks) -> Heard {
+fn remove(scene: &mut OneBufferScene, from: Ticks) -> ReplyView {
     hear(&scene.buffer.remove(from, Moment::Infinite, &scene.around))
 }
 
-fn end_work(scene: &mut OneBufferScene) -> Heard {
+fn end_work(scene: &mut OneBufferScene) -> ReplyView {
     hear(&scene.buffer.end_work(&scene.around))
 }
 
@@ -190,7 +196,7 @@ pub(super) fn perform(
     scene: &mut OneBufferScene,
     bytes: &[u8],
     act: BufferCall,
-) -> Result<Heard, Fail> {
+) -> Result<ReplyView, Fail> {
     match act {
         BufferCall::Append(from, to) => append(scene, bytes, from, to),
         BufferCall::Turn => Ok(turn(scene)?.ok_or("nothing runs")?),
@@ -274,7 +280,9 @@ pub(super) fn first_track(scene: &OneBufferScene) -> Option<(u32, [u8; 4])> {
 
 /// What the buffer tells beside its view: whether work runs, whether an initialization segment came, the phase, the
 /// frames that are ready, the bytes held and used, and where the last frame begins and ends.
-pub(super) fn told(scene: &OneBufferScene) -> (bool, bool, Phase, usize, usize, u64, i128, i128) {
+pub(super) fn scene_view(
+    scene: &OneBufferScene,
+) -> (bool, bool, Phase, usize, usize, u64, i128, i128) {
     let buffer = &scene.buffer;
     (
         buffer.updating(),
