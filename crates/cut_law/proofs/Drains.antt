@@ -17,32 +17,32 @@ use Rattle.mse_engine.specs.Work.{work_effect}
 use Rattle.cut_law.proofs.Halves.{Half, half_by, half_at_end, half_at_end-idle, half_at_end-rests, half_at_end-work, half_after_append, cut-half}
 
 -- what is in a slot, and the source
-pub record Place : Type 0 where
+pub record SlotAndSource : Type 0 where
   pub slot : Option BufferState
   pub source : CoreSource
 
-abbrev pub place_of : Half → Place
+abbrev pub place_of : Half → SlotAndSource
 place_of h = record { slot = Some h.buffer; source = h.source }
 
 -- something runs in a slot
-abbrev pub runs_in : Option BufferState → Bool
-runs_in slot = is_updating_slot (running_of slot)
+abbrev pub is_running_in : Option BufferState → Bool
+is_running_in slot = is_updating_slot (running_of slot)
 
 -- all the work of what is in a slot
-abbrev pub place_at_end : ℕ → Option BufferState → CoreSource → Place
+abbrev pub place_at_end : ℕ → Option BufferState → CoreSource → SlotAndSource
 place_at_end k None s = record { slot = None; source = s }
 place_at_end k (Some b) s = place_of (half_at_end k (record { buffer = b; source = s }))
 
 -- one step of it
-abbrev pub place_after_step : ℕ → Option BufferState → CoreSource → Place
+abbrev pub place_after_step : ℕ → Option BufferState → CoreSource → SlotAndSource
 place_after_step k None s = record { slot = None; source = s }
 place_after_step k (Some b) s = place_of (half_by k (turn_result (surroundings_in k s) b.feed b.content) (record { buffer = b; source = s }))
 
-place_at_end-idle : (k : ℕ) (slot : Option BufferState) (s : CoreSource) → runs_in slot ≡ false → place_at_end k slot s ≡ record { slot = slot; source = s }
+place_at_end-idle : (k : ℕ) (slot : Option BufferState) (s : CoreSource) → is_running_in slot ≡ false → place_at_end k slot s ≡ record { slot = slot; source = s }
 place_at_end-idle k None s e = refl
 place_at_end-idle k (Some b) s e = ap place_of (half_at_end-idle k (record { buffer = b; source = s }) e)
 
-place_at_end-rests : (k : ℕ) (slot : Option BufferState) (s : CoreSource) → runs_in (place_at_end k slot s).slot ≡ false
+place_at_end-rests : (k : ℕ) (slot : Option BufferState) (s : CoreSource) → is_running_in (place_at_end k slot s).slot ≡ false
 place_at_end-rests k None s = refl
 place_at_end-rests k (Some b) s = half_at_end-rests k (record { buffer = b; source = s })
 
@@ -52,7 +52,7 @@ place_at_end-work k (Some b) s = ap place_of (half_at_end-work k (record { buffe
 
 -- ---- all slots
 
-abbrev pub cons_place : Place → (CoreSource → Core) → Core
+abbrev pub cons_place : SlotAndSource → (CoreSource → Core) → Core
 cons_place p go = record { source = (go p.source).source; buffers = p.slot ∷ (go p.source).buffers }
 
 -- all the work of the buffers, which are numbered from k
@@ -64,14 +64,14 @@ abbrev pub drain_core : Core → Core
 drain_core c = drain_from 0 c.buffers c.source
 
 -- the slot of a number is replaced
-abbrev pub set_place : ℕ → BufferStates → Place → Core
+abbrev pub set_place : ℕ → BufferStates → SlotAndSource → Core
 set_place j bs p = record { source = p.source; buffers = slice_set bs j p.slot }
 
 -- ---- the lowest number at which something runs
 
 abbrev pub lowest : BufferStates → Option ℕ
 lowest [] = None
-lowest (b ∷ bs) = if runs_in b then Some zero else option_map (λ k. suc k) (lowest bs)
+lowest (b ∷ bs) = if is_running_in b then Some zero else option_map (λ k. suc k) (lowest bs)
 
 map-if : (t : Bool) (i : ℕ) (o : Option ℕ) → cond t (Some (i + 1)) (option_map (λ k. suc k) o) ≡ option_map (λ k. suc k) (cond t (Some i) o)
 map-if true i o = ap (λ n. Some n) (add-one i)
@@ -84,7 +84,7 @@ later (r ∷ rs) i =
 
 lowest-from : (bs : BufferStates) → position_from is_updating_slot 0 (running_of_all bs) ≡ lowest bs
 lowest-from [] = refl
-lowest-from (b ∷ bs) = ap (λ o. cond (runs_in b) (Some 0) o) (later (running_of_all bs) 0 ∙ ap (λ o. option_map (λ k. suc k) o) (lowest-from bs))
+lowest-from (b ∷ bs) = ap (λ o. cond (is_running_in b) (Some 0) o) (later (running_of_all bs) 0 ∙ ap (λ o. option_map (λ k. suc k) o) (lowest-from bs))
 
 pub lowest-is : (bs : BufferStates) → lowest_running (running_of_all bs) ≡ lowest bs
 lowest-is bs = position_from-zero is_updating_slot (running_of_all bs) ∙ lowest-from bs
@@ -99,7 +99,7 @@ lowest-none-by false (Some j) e = absurd (cc)
 pub drain-idle : (k : ℕ) (bs : BufferStates) (s : CoreSource) → lowest bs ≡ None → drain_from k bs s ≡ record { source = s; buffers = bs }
 drain-idle k [] s e = refl
 drain-idle k (b ∷ bs) s e =
-    let p = lowest-none-by (runs_in b) (lowest bs) e in
+    let p = lowest-none-by (is_running_in b) (lowest bs) e in
     ap (λ h. cons_place h (λ t. drain_from (suc k) bs t)) (place_at_end-idle k b s p.0)
     ∙ ap (λ (c : Core). record { source = c.source; buffers = b ∷ c.buffers }) (drain-idle (suc k) bs s p.1)
 
@@ -112,15 +112,15 @@ lowest-some-by false None j e = absurd (cc)
 lowest-some-by false (Some i) j e = inr (i, refl, refl, cc)
 
 -- what is in the slot of a number, where it runs, and all the work behind one step of it
-pub record Steps (k n j : ℕ) (bs : BufferStates) (s : CoreSource) : Type 0 where
+pub record HasDrainStep (k n j : ℕ) (bs : BufferStates) (s : CoreSource) : Type 0 where
   pub slot : Option BufferState
   pub there : slice_get bs j ≡ Some slot
-  pub runs : runs_in slot ≡ true
+  pub runs : is_running_in slot ≡ true
   pub same : drain_from k bs s ≡ drain_from k (slice_set bs j (place_after_step n slot s).slot) (place_after_step n slot s).source
 
 stepped-by : (k n j : ℕ) (b : Option BufferState) (bs : BufferStates) (s : CoreSource) → n ≡ k + j
-    → ((runs_in b ≡ true) × (j ≡ zero)) ⊎ ((i : ℕ) × (runs_in b ≡ false) × (lowest bs ≡ Some i) × (j ≡ suc i))
-    → ((i : ℕ) → lowest bs ≡ Some i → n ≡ suc k + i → Steps (suc k) n i bs s) → Steps k n j (b ∷ bs) s
+    → ((is_running_in b ≡ true) × (j ≡ zero)) ⊎ ((i : ℕ) × (is_running_in b ≡ false) × (lowest bs ≡ Some i) × (j ≡ suc i))
+    → ((i : ℕ) → lowest bs ≡ Some i → n ≡ suc k + i → HasDrainStep (suc k) n i bs s) → HasDrainStep k n j (b ∷ bs) s
 stepped-by k n j b bs s e (inl p) f =
     let same : n ≡ k = omega (arith, p.1) in
     rw (p.1, same) (record { slot = b; there = refl; runs = p.0; same = ap (λ h. cons_place h (λ t. drain_from (suc k) bs t)) (place_at_end-work k b s) })
@@ -137,9 +137,9 @@ stepped-by k n j b bs s e (inr (i, idle, low, is)) f =
           ∙ sym (ap (λ h. cons_place h (λ t. drain_from (suc k) (slice_set bs i (place_after_step n r.slot s).slot) t)) (head (place_after_step n r.slot s).source));
     })
 
-pub stepped : (k n j : ℕ) (bs : BufferStates) (s : CoreSource) → n ≡ k + j → lowest bs ≡ Some j → Steps k n j bs s
+pub stepped : (k n j : ℕ) (bs : BufferStates) (s : CoreSource) → n ≡ k + j → lowest bs ≡ Some j → HasDrainStep k n j bs s
 stepped k n j [] s e low = absurd (cc)
-stepped k n j (b ∷ bs) s e low = stepped-by k n j b bs s e (lowest-some-by (runs_in b) (lowest bs) j low) (λ i l q. stepped (suc k) n i bs s q l)
+stepped k n j (b ∷ bs) s e low = stepped-by k n j b bs s e (lowest-some-by (is_running_in b) (lowest bs) j low) (λ i l q. stepped (suc k) n i bs s q l)
 
 set-same : {X : Type 0} (xs : List X) (k : ℕ) (x : X) → slice_get xs k ≡ Some x → slice_set xs k x ≡ xs
 set-same [] k x e = refl
@@ -186,11 +186,11 @@ pub drain-one : (k n j : ℕ) (bs : BufferStates) (a b : Option BufferState) (s 
     → drain_from k (slice_set bs j b) s ≡ set_place j bs (place_at_end n b s)
 drain-one k n j [] a b s e low there = absurd (cc)
 drain-one k n zero (x ∷ bs) a b s e low there =
-    let p = lowest-none-by (runs_in x) (lowest bs) low in
+    let p = lowest-none-by (is_running_in x) (lowest bs) low in
     let same : n ≡ k = omega arith in
     rw same (ap (λ (c : Core). record { source = c.source; buffers = (place_at_end k b s).slot ∷ c.buffers }) (drain-idle (suc k) bs (place_at_end k b s).source p.1))
 drain-one k n (suc j) (x ∷ bs) a b s e low there =
-    let p = lowest-none-by (runs_in x) (lowest bs) low in
+    let p = lowest-none-by (is_running_in x) (lowest bs) low in
     let number : n ≡ suc k + j = omega arith in
     ap (λ h. cons_place h (λ t. drain_from (suc k) (slice_set bs j b) t)) (place_at_end-idle k x s p.0)
     ∙ ap (λ (c : Core). record { source = c.source; buffers = x ∷ c.buffers }) (drain-one (suc k) n j bs a b s number p.1 there)
@@ -200,12 +200,12 @@ none-by true rest e n = absurd (cc)
 none-by false None e n = refl
 none-by false (Some j) e n = absurd (cc)
 
-pub set-idle : (j : ℕ) (bs : BufferStates) (b : Option BufferState) → lowest bs ≡ None → runs_in b ≡ false → lowest (slice_set bs j b) ≡ None
+pub set-idle : (j : ℕ) (bs : BufferStates) (b : Option BufferState) → lowest bs ≡ None → is_running_in b ≡ false → lowest (slice_set bs j b) ≡ None
 set-idle j [] b low idle = refl
-set-idle zero (x ∷ bs) b low idle = none-by (runs_in b) (lowest bs) idle (lowest-none-by (runs_in x) (lowest bs) low).1
+set-idle zero (x ∷ bs) b low idle = none-by (is_running_in b) (lowest bs) idle (lowest-none-by (is_running_in x) (lowest bs) low).1
 set-idle (suc j) (x ∷ bs) b low idle =
-    let p = lowest-none-by (runs_in x) (lowest bs) low in
-    none-by (runs_in x) (lowest (slice_set bs j b)) p.0 (set-idle j bs b p.1 idle)
+    let p = lowest-none-by (is_running_in x) (lowest bs) low in
+    none-by (is_running_in x) (lowest (slice_set bs j b)) p.0 (set-idle j bs b p.1 idle)
 
 get-set : {X : Type 0} (bs : List X) (j : ℕ) (a b : X) → slice_get bs j ≡ Some a → slice_get (slice_set bs j b) j ≡ Some b
 get-set [] j a b e = absurd (cc)
@@ -218,12 +218,12 @@ set-set (x ∷ bs) zero a b = refl
 set-set (x ∷ bs) (suc j) a b = ap (λ xs. x ∷ xs) (set-set bs j a b)
 
 -- where nothing runs nothing runs in any slot
-pub at-idle : (bs : BufferStates) (j : ℕ) (b : Option BufferState) → lowest bs ≡ None → slice_get bs j ≡ Some b → runs_in b ≡ false
+pub at-idle : (bs : BufferStates) (j : ℕ) (b : Option BufferState) → lowest bs ≡ None → slice_get bs j ≡ Some b → is_running_in b ≡ false
 at-idle [] j b low there = absurd (cc)
 at-idle (x ∷ bs) zero b low there =
     let same : x ≡ b = cc in
-    ap runs_in (sym same) ∙ (lowest-none-by (runs_in x) (lowest bs) low).0
-at-idle (x ∷ bs) (suc j) b low there = at-idle bs j b (lowest-none-by (runs_in x) (lowest bs) low).1 there
+    ap is_running_in (sym same) ∙ (lowest-none-by (is_running_in x) (lowest bs) low).0
+at-idle (x ∷ bs) (suc j) b low there = at-idle bs j b (lowest-none-by (is_running_in x) (lowest bs) low).1 there
 
 -- ---- an append in two parts
 

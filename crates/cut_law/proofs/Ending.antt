@@ -22,7 +22,7 @@ use Rattle.mse_engine.specs.Run.{step_meaning, after_entries}
 use Rattle.mse_engine.specs.Progress.{steps_left}
 use Rattle.mse_engine.proofs.Progress.{work-fewer, turn-fewer}
 use Rattle.cut_law.specs.Plays.{after_entry, fired_entries, next_entry_by, entries_behind, entries_then, drain_in, drain_entries}
-use Rattle.cut_law.proofs.Drains.{runs_in, core_by, drain_core, drain-idle, drain-step, lowest, lowest-is, stepped}
+use Rattle.cut_law.proofs.Drains.{is_running_in, core_by, drain_core, drain-idle, drain-step, lowest, lowest-is, stepped}
 
 pub after-append : (blobs : List (List ℕ)) (st : State) (xs ys : List Entry) → after_entries blobs st (xs ++ ys) ≡ after_entries blobs (after_entries blobs st xs) ys
 after-append blobs st [] ys = refl
@@ -65,16 +65,16 @@ work-holds-by Nothing k b st u = absurd (cc)
 work-holds-by Append k b st u = tt
 work-holds-by (Removal start end) k b st u = tt
 
-slot-holds : (x : Option (Option BufferState)) (slot : Option BufferState) (k : ℕ) (st : State) → x ≡ Some slot → runs_in slot ≡ true
+slot-holds : (x : Option (Option BufferState)) (slot : Option BufferState) (k : ℕ) (st : State) → x ≡ Some slot → is_running_in slot ≡ true
     → (step_meaning (work_result (option_map (λ result. reply_effect k result st.core) (turn_by_slot x k (surroundings_in k st.core.source) st.core.buffers)) st) st).holds
 slot-holds None slot k st e u = absurd (cc)
-slot-holds (Some None) slot k st e u = let same : None ≡ slot = cc in absurd (false-runs (ap runs_in same ∙ u))
+slot-holds (Some None) slot k st e u = let same : None ≡ slot = cc in absurd (false-runs (ap is_running_in same ∙ u))
   where
     false-runs : false ≡ true → ⊥
     false-runs e = absurd (cc)
 slot-holds (Some (Some b)) slot k st e u =
     let same : Some b ≡ slot = cc in
-    work-holds-by b.feed.running k b st (ap runs_in same ∙ u)
+    work-holds-by b.feed.running k b st (ap is_running_in same ∙ u)
 
 pub work-holds : (st : State) (k : ℕ) → running_in st ≡ Some k → (step_meaning (after_work k st) st).holds
 work-holds st k r =
@@ -94,11 +94,11 @@ work-falls blobs st k r = work-fewer k st (after_entry blobs st (Work k)) (by-st
 pub turn-falls : (blobs : List (List ℕ)) (st : State) → is_turn_due st ≡ true → steps_left (after_entry blobs st Element) < steps_left st
 turn-falls blobs st d = turn-fewer st (after_entry blobs st Element) (by-step (after_element_turn st) st (turn-holds st d))
 
-abbrev pub Drains : ℕ → List (List ℕ) → State → Type 0
-Drains n blobs st = (after_entries blobs st (drain_in n blobs st)).core ≡ drain_core st.core
+abbrev pub IsCoreDrained : ℕ → List (List ℕ) → State → Type 0
+IsCoreDrained n blobs st = (after_entries blobs st (drain_in n blobs st)).core ≡ drain_core st.core
 
 then-drains : (low : Option ℕ) (t : Bool) (n : ℕ) (blobs : List (List ℕ)) (st : State) → running_in st ≡ low → is_turn_due st ≡ t → steps_left st < suc n
-    → ((new : State) → steps_left new < n → Drains n blobs new)
+    → ((new : State) → steps_left new < n → IsCoreDrained n blobs new)
     → (after_entries blobs st (entries_behind (next_entry_by low t) (λ entry. drain_in n blobs (after_entry blobs st entry)))).core ≡ drain_core st.core
 then-drains (Some k) t n blobs st r d l f =
     let low : lowest st.core.buffers ≡ Some k = sym (lowest-is st.core.buffers) ∙ r in
@@ -113,7 +113,7 @@ then-drains None true n blobs st r d l f =
     f new fewer ∙ ap (λ c. drain_core c) (turned-core st)
 then-drains None false n blobs st r d l f = sym (drain-idle 0 st.core.buffers st.core.source (sym (lowest-is st.core.buffers) ∙ r))
 
-drains-in : (n : ℕ) (blobs : List (List ℕ)) (st : State) → steps_left st < n → Drains n blobs st
+drains-in : (n : ℕ) (blobs : List (List ℕ)) (st : State) → steps_left st < n → IsCoreDrained n blobs st
 drains-in zero blobs st l = absurd (omega arith)
 drains-in (suc n) blobs st l =
     let still : State = record { core = st.core; outer = record { element = st.outer.element; queue = [] } } in

@@ -13,8 +13,8 @@ use Rattle.mse_engine.specs.Work.{running_in}
 use Rattle.cut_law.specs.Plays.{after_line}
 use Rattle.cut_law.specs.Room.{HasRoomForCall}
 use Rattle.cut_law.specs.Cuts.{extent_of, AreParts}
-use Rattle.cut_law.specs.Files.{after_piece, unless_fault, after_pieces, UnlessFault, HaveRoom}
-use Rattle.cut_law.proofs.Halves.{Half, Ran, Whole, Stopped, RanKeeps, half_behind, items_left, run, run-keeps, half_at_end, half_at_end-idle, half_after_append_by, half_after_append, is_refused, append_feed, begin_source}
+use Rattle.cut_law.specs.Files.{after_piece, unless_fault, after_pieces, IfNoFault, IsRoomBeforeEach}
+use Rattle.cut_law.proofs.Halves.{Half, Ran, Whole, Stopped, HasErrorIfStopped, half_behind, items_left, run, run-keeps, half_at_end, half_at_end-idle, half_after_append_by, half_after_append, is_refused, append_feed, begin_source}
 use Rattle.cut_law.proofs.Drains.{drain_core, append_core, on_slot, appended, at-idle, lowest, lowest-is, append-rests, cut-core}
 use Rattle.cut_law.proofs.Journals.{append_some, line-core}
 use Rattle.cut_law.proofs.Cutting.{piece-bytes, two-takes}
@@ -22,29 +22,29 @@ use Rattle.cut_law.proofs.Stopping.{some-dead}
 
 -- ---- an append leaves the first fault and the error, or brings both
 
-abbrev pub Tells : CoreSource → CoreSource → Type 0
-Tells s t = ((t.fault ≡ s.fault) × (t.error ≡ s.error)) ⊎ (((t.error == 0) ≡ false) × (is_some t.fault ≡ true))
+abbrev pub HasSameOrNewFault : CoreSource → CoreSource → Type 0
+HasSameOrNewFault s t = ((t.fault ≡ s.fault) × (t.error ≡ s.error)) ⊎ (((t.error == 0) ≡ false) × (is_some t.fault ≡ true))
 
-half_behind-tells : (f : Feed) (count : ℕ) (s : CoreSource) (r : Ran) → RanKeeps s r → Tells s (half_behind f count r).source
+half_behind-tells : (f : Feed) (count : ℕ) (s : CoreSource) (r : Ran) → HasErrorIfStopped s r → HasSameOrNewFault s (half_behind f count r).source
 half_behind-tells f count s (Whole c t) k = inl (k.fault, k.error)
 half_behind-tells f count s (Stopped c t) k = inr k
 
-append-tells : (t : Bool) (bytes : List ℕ) (k : ℕ) (h : Half) → is_updating h.buffer.feed.running ≡ false → Tells h.source (half_at_end k (half_after_append_by t bytes k h)).source
+append-tells : (t : Bool) (bytes : List ℕ) (k : ℕ) (h : Half) → is_updating h.buffer.feed.running ≡ false → HasSameOrNewFault h.source (half_at_end k (half_after_append_by t bytes k h)).source
 append-tells true bytes k h idle = inl (ap (λ (g : Half). g.source.fault) (half_at_end-idle k h idle), ap (λ (g : Half). g.source.error) (half_at_end-idle k h idle))
 append-tells false bytes k h idle =
     let f : Feed = append_feed h.buffer.feed (h.buffer.feed.reading.string.whole ++ bytes) h.buffer.feed.reading.string.taken in
     half_behind-tells f (length (items_left f)) (begin_source k h.source) (run k (items_left f) h.buffer.content (begin_source k h.source)) (run-keeps k (items_left f) h.buffer.content (begin_source k h.source))
 
 slot-tells : (x : Option (Option BufferState)) (bytes : List ℕ) (k : ℕ) (c : Core) → slice_get c.buffers k ≡ x → lowest c.buffers ≡ None
-    → Tells c.source (on_slot x k (λ n h. half_at_end n (half_after_append bytes n h)) c).source
+    → HasSameOrNewFault c.source (on_slot x k (λ n h. half_at_end n (half_after_append bytes n h)) c).source
 slot-tells None bytes k c e low = inl (refl, refl)
 slot-tells (Some None) bytes k c e low = inl (refl, refl)
 slot-tells (Some (Some b)) bytes k c e low =
     let h : Half = record { buffer = b; source = c.source } in
     append-tells (is_refused h) bytes k h (at-idle c.buffers k (Some b) low e)
 
-core-tells : (bytes : List ℕ) (k : ℕ) (c : Core) → lowest c.buffers ≡ None → Tells c.source (drain_core (append_core bytes k c)).source
-core-tells bytes k c low = subst (λ (d : Core). Tells c.source d.source) (sym (appended (slice_get c.buffers k) bytes k c refl low)) (slot-tells (slice_get c.buffers k) bytes k c refl low)
+core-tells : (bytes : List ℕ) (k : ℕ) (c : Core) → lowest c.buffers ≡ None → HasSameOrNewFault c.source (drain_core (append_core bytes k c)).source
+core-tells bytes k c low = subst (λ (d : Core). HasSameOrNewFault c.source d.source) (sym (appended (slice_get c.buffers k) bytes k c refl low)) (slot-tells (slice_get c.buffers k) bytes k c refl low)
 
 -- ---- pieces on the core
 
@@ -57,7 +57,7 @@ stops None a b e = absurd (cc)
 stops (Some fault) a b e = refl
 
 -- where the fault and the error are told of the source behind the first part
-rest-core : (q : List ℕ) (blobs : List (List ℕ)) (k : ℕ) (pieces : List Piece) (s : CoreSource) (d : Core) → s.fault ≡ None → (s.error == 0) ≡ true → lowest d.buffers ≡ None → Tells s d.source
+rest-core : (q : List ℕ) (blobs : List (List ℕ)) (k : ℕ) (pieces : List Piece) (s : CoreSource) (d : Core) → s.fault ≡ None → (s.error == 0) ≡ true → lowest d.buffers ≡ None → HasSameOrNewFault s d.source
     → (d.source.fault ≡ None → (d.source.error == 0) ≡ true → core_pieces blobs k d pieces ≡ drain_core (append_core q k d))
     → (is_some d.source.fault ≡ true → core_pieces blobs k d pieces ≡ d)
     → core_pieces blobs k d pieces ≡ drain_core (append_core q k d)
@@ -96,18 +96,18 @@ piece-core : (blobs : List (List ℕ)) (k : ℕ) (st : State) (piece : Piece) �
 piece-core blobs k st piece room =
     line-core blobs (after_line blobs st (Call (AppendBuffer k piece))) Drain tt ∙ ap (λ c. drain_core c) (line-core blobs st (Call (AppendBuffer k piece)) room)
 
-pieces-by : (o : Option FaultView) (blobs : List (List ℕ)) (k : ℕ) (st : State) (piece : Piece) (pieces : List Piece) → UnlessFault o (HasRoomForCall blobs st.core (AppendBuffer k piece) × HaveRoom blobs k (after_piece blobs k st piece) pieces)
-    → ((new : State) → HaveRoom blobs k new pieces → (after_pieces blobs k new pieces).core ≡ core_pieces blobs k new.core pieces)
+pieces-by : (o : Option FaultView) (blobs : List (List ℕ)) (k : ℕ) (st : State) (piece : Piece) (pieces : List Piece) → IfNoFault o (HasRoomForCall blobs st.core (AppendBuffer k piece) × IsRoomBeforeEach blobs k (after_piece blobs k st piece) pieces)
+    → ((new : State) → IsRoomBeforeEach blobs k new pieces → (after_pieces blobs k new pieces).core ≡ core_pieces blobs k new.core pieces)
     → (unless_fault o st (after_pieces blobs k (after_piece blobs k st piece) pieces)).core ≡ unless_fault o st.core (core_pieces blobs k (drain_core (append_some (bytes_of blobs piece) k st.core)) pieces)
 pieces-by None blobs k st piece pieces room f = f (after_piece blobs k st piece) room.1 ∙ ap (λ c. core_pieces blobs k c pieces) (piece-core blobs k st piece room.0)
 pieces-by (Some fault) blobs k st piece pieces room f = refl
 
-pieces-core : (pieces : List Piece) (blobs : List (List ℕ)) (k : ℕ) (st : State) → HaveRoom blobs k st pieces → (after_pieces blobs k st pieces).core ≡ core_pieces blobs k st.core pieces
+pieces-core : (pieces : List Piece) (blobs : List (List ℕ)) (k : ℕ) (st : State) → IsRoomBeforeEach blobs k st pieces → (after_pieces blobs k st pieces).core ≡ core_pieces blobs k st.core pieces
 pieces-core [] blobs k st room = refl
 pieces-core (piece ∷ pieces) blobs k st room = pieces-by st.core.source.fault blobs k st piece pieces room (λ new r. pieces-core pieces blobs k new r)
 
 pub filing : (blobs : List (List ℕ)) (k : ℕ) (st : State) (whole : Piece) (bytes : List ℕ) (start total : ℕ) (first : Piece) (others : List Piece) → slice_get blobs whole.blob ≡ Some bytes → extent_of whole.part bytes ≡ (start, total) → start + total ≤ length bytes
-    → AreParts whole.blob bytes start total (first ∷ others) → running_in st ≡ None → st.core.source.fault ≡ None → st.core.source.error ≡ 0 → HasRoomForCall blobs st.core (AppendBuffer k whole) → HaveRoom blobs k st (first ∷ others)
+    → AreParts whole.blob bytes start total (first ∷ others) → running_in st ≡ None → st.core.source.fault ≡ None → st.core.source.error ≡ 0 → HasRoomForCall blobs st.core (AppendBuffer k whole) → IsRoomBeforeEach blobs k st (first ∷ others)
     → (after_pieces blobs k st (first ∷ others)).core ≡ (after_piece blobs k st whole).core
 filing blobs k st whole bytes start total first others e x l p idle none fine room rooms =
     let low : lowest st.core.buffers ≡ None = sym (lowest-is st.core.buffers) ∙ idle in

@@ -66,29 +66,29 @@ run-append k (x ∷ xs) ys c s = run-append-by k xs ys s (item_result x c s.stat
 
 -- ---- what a run keeps of the source, as long as no item stops it; an item that stops it leaves an error and a fault
 
-pub record Keeps (s t : CoreSource) : Type 0 where
+pub record HasSameErrorState (s t : CoreSource) : Type 0 where
   pub error : t.error ≡ s.error
   pub fault : t.fault ≡ s.fault
   pub ready : t.state.ready ≡ s.state.ready
 
-abbrev pub RanKeeps : CoreSource → Ran → Type 0
-RanKeeps s (Whole c t) = Keeps s t
-RanKeeps s (Stopped c t) = ((t.error == 0) ≡ false) × (is_some t.fault ≡ true)
+abbrev pub HasErrorIfStopped : CoreSource → Ran → Type 0
+HasErrorIfStopped s (Whole c t) = HasSameErrorState s t
+HasErrorIfStopped s (Stopped c t) = ((t.error == 0) ≡ false) × (is_some t.fault ≡ true)
 
 error-there : (t blank : Bool) (error : ℕ) → (error == 0) ≡ t → ((if t then (if blank then 4 else 3) else error) == 0) ≡ false
 error-there true true error e = refl
 error-there true false error e = refl
 error-there false blank error e = e
 
-keeps-on : (k : ℕ) (s : CoreSource) (e : SourceEffect) (r : Ran) → RanKeeps (effect_source k e s) r → RanKeeps s r
+keeps-on : (k : ℕ) (s : CoreSource) (e : SourceEffect) (r : Ran) → HasErrorIfStopped (effect_source k e s) r → HasErrorIfStopped s r
 keeps-on k s e (Whole c t) q = record { error = q.error; fault = q.fault; ready = q.ready }
 keeps-on k s e (Stopped c t) q = q
 
-run-keeps-by : (k : ℕ) (xs : List ByteItem) (s : CoreSource) (t : ItemResult) → ((d : Content) (u : CoreSource) → RanKeeps u (run k xs d u)) → RanKeeps s (ran_by k (λ d u. run k xs d u) s t)
+run-keeps-by : (k : ℕ) (xs : List ByteItem) (s : CoreSource) (t : ItemResult) → ((d : Content) (u : CoreSource) → HasErrorIfStopped u (run k xs d u)) → HasErrorIfStopped s (ran_by k (λ d u. run k xs d u) s t)
 run-keeps-by k xs s (Done c e) f = keeps-on k s e (run k xs c (effect_source k e s)) (f c (effect_source k e s))
 run-keeps-by k xs s (AppendError fault at c e) f = (error-there (s.error == 0) (fault_source k fault at e s).blank s.error refl, refl)
 
-pub run-keeps : (k : ℕ) (xs : List ByteItem) (c : Content) (s : CoreSource) → RanKeeps s (run k xs c s)
+pub run-keeps : (k : ℕ) (xs : List ByteItem) (c : Content) (s : CoreSource) → HasErrorIfStopped s (run k xs c s)
 run-keeps k [] c s = record { error = refl; fault = refl; ready = refl }
 run-keeps k (x ∷ xs) c s = run-keeps-by k xs s (item_result x c s.state.duration) (λ d u. run-keeps k xs d u)
 
@@ -273,7 +273,7 @@ counts w f n a b (Whole c s) =
     ap (λ m. record { buffer = record { feed = idle_feed_of f w m; content = c }; source = s }) e
 counts w f n a b (Stopped c s) = refl
 
-second-by : (r : Ran) (w q : List ℕ) (k n : ℕ) (f : Feed) (count : ℕ) (ys : List ByteItem) (s : CoreSource) → RanKeeps s r → (s.error == 0) ≡ true → IsNotEnded s.state.ready
+second-by : (r : Ran) (w q : List ℕ) (k n : ℕ) (f : Feed) (count : ℕ) (ys : List ByteItem) (s : CoreSource) → HasErrorIfStopped s r → (s.error == 0) ≡ true → IsNotEnded s.state.ready
     → drop (n + count) (items_of f.reading.container f.reading.string.before (w ++ q)) ≡ ys
     → half_at_end k (half_after_append q k (half_behind (append_feed f w n) count r)) ≡ half_behind (append_feed f (w ++ q) n) (count + length ys) (and_then k r ys)
 second-by (Whole d u) w q k n f count ys s keeps free live left =

@@ -6,7 +6,7 @@ use Rattle.std.proofs.lemmas.Option.{slice_get_past}
 use Rattle.std.specs.Option.{option_flatten}
 use Rattle.mse_calls.specs.declared.events.EventKind.TheVariants.{UpdateStart}
 use Rattle.mse_base.specs.declared.ticks.Moment.{Moment}
-use Rattle.mse_calls.specs.Answered.{Answered}
+use Rattle.mse_calls.specs.AnswerAndState.{AnswerAndState}
 use Rattle.mse_calls.specs.Pieces.{bytes_of}
 use Rattle.mse_calls.specs.declared.answers.Name.TheVariants.{InvalidState, QuotaExceeded, NoSuchBuffer}
 use Rattle.mse_calls.specs.declared.calls.Call.{Call}
@@ -141,7 +141,7 @@ core_line blobs (step.Work k) c = work_core k c
 core_line blobs step.Element c = c
 core_line blobs step.Drain c = drain_core c
 
-fire-core : (fired : Option (Answered Event State)) (blobs : List (List ℕ)) (st : State) → fire_result st ≡ fired → IfSome fired (λ a. a.state.core ≡ st.core)
+fire-core : (fired : Option (AnswerAndState Event State)) (blobs : List (List ℕ)) (st : State) → fire_result st ≡ fired → IfSome fired (λ a. a.state.core ≡ st.core)
     → (after_entries blobs st (fire_entries fired)).core ≡ st.core
 fire-core None blobs st e h = refl
 fire-core (Some a) blobs st e h = ap (λ fired. (fire_meaning fired a.answer st).state.core) e ∙ h
@@ -150,7 +150,7 @@ fire-core (Some a) blobs st e h = ap (λ fired. (fire_meaning fired a.answer st)
 pub fired-core : (st : State) → IfSome (fire_result st) (λ a. a.state.core ≡ st.core)
 fired-core st = fired-by (slice_get st.outer.queue 0) st
   where
-    fired-by : (x : Option Event) (st : State) → IfSome {T = Answered Event State} (option_map (λ event. record { answer = event; state = without_first st }) x) (λ a. a.state.core ≡ st.core)
+    fired-by : (x : Option Event) (st : State) → IfSome {T = AnswerAndState Event State} (option_map (λ event. record { answer = event; state = without_first st }) x) (λ a. a.state.core ≡ st.core)
     fired-by None st = tt
     fired-by (Some event) st = refl
 
@@ -171,7 +171,7 @@ line-core blobs st (step.Work k) room = work-core (work_effect k st.core) blobs 
 line-core blobs st step.Element room = turn-core (after_element_turn st) blobs st refl (turned-core st)
 line-core blobs st step.Drain room = drain-core blobs st
 
-fired-entry : (o : Option (Answered Event State)) (event : Event) (st : State) → IfSome o (λ a. a.state.core ≡ st.core) → (fire_meaning o event st).state.core ≡ st.core
+fired-entry : (o : Option (AnswerAndState Event State)) (event : Event) (st : State) → IfSome o (λ a. a.state.core ≡ st.core) → (fire_meaning o event st).state.core ≡ st.core
 fired-entry None event st h = refl
 fired-entry (Some a) event st h = h
 

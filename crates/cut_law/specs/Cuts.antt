@@ -64,4 +64,5 @@ abbrev pub AreCuts : List (List ℕ) → State → List StepLine → List (List 
     → Type 0
 AreCuts blobs st s [] u = s ≡ u
 AreCuts blobs st s (t ∷ ts) u =
-    (c : IsOtherCut blobs s t) × IsAwaited blobs st c.front × IsUnmet blobs st t × AreCuts blobs st t ts u
+    (c : IsOtherCut blobs s t) × IsAwaited blobs st c.front × IsUnmet blobs st t
+    × AreCuts blobs st t ts u

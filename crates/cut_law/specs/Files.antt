@@ -25,14 +25,14 @@ after_pieces blobs k st (piece ∷ pieces) =
     unless_fault st.core.source.fault st
     (after_pieces blobs k (after_piece blobs k st piece) pieces)
 
-abbrev pub UnlessFault : Option FaultView → Type 0 → Type 0
-UnlessFault None P = P
-UnlessFault (Some fault) P = Unit {0}
+abbrev pub IfNoFault : Option FaultView → Type 0 → Type 0
+IfNoFault None P = P
+IfNoFault (Some fault) P = Unit {0}
 
 -- just before each piece that is appended the buffer is not full
-abbrev pub HaveRoom : List (List ℕ) → ℕ → State → List Piece → Type 0
-HaveRoom blobs k st [] = Unit {0}
-HaveRoom blobs k st (piece ∷ pieces) =
-    UnlessFault st.core.source.fault
+abbrev pub IsRoomBeforeEach : List (List ℕ) → ℕ → State → List Piece → Type 0
+IsRoomBeforeEach blobs k st [] = Unit {0}
+IsRoomBeforeEach blobs k st (piece ∷ pieces) =
+    IfNoFault st.core.source.fault
     (HasRoomForCall blobs st.core (AppendBuffer k piece)
-    × HaveRoom blobs k (after_piece blobs k st piece) pieces)
+    × IsRoomBeforeEach blobs k (after_piece blobs k st piece) pieces)

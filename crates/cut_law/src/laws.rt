@@ -11,7 +11,7 @@ ghost use Rattle.mse_engine.specs.State.{State};
 ghost use Rattle.mse_engine.specs.Calls.{after_call};
 ghost use Rattle.mse_engine.specs.Work.{after_element_turn, fire_result, running_in};
 ghost use Rattle.cut_law.specs.Cuts.{AreCuts, AreParts, IsOtherCut, IsAwaited, extent_of, stopped_lines};
-ghost use Rattle.cut_law.specs.Files.{HaveRoom, after_piece, after_pieces};
+ghost use Rattle.cut_law.specs.Files.{IsRoomBeforeEach, after_piece, after_pieces};
 ghost use Rattle.cut_law.specs.Outcomes.{outcome_of};
 ghost use Rattle.cut_law.specs.Plays.{after_entry, after_line, play_of};
 ghost use Rattle.cut_law.specs.Room.{HasRoomForEntry, HasRoomForCall, IsUnmet, HasRoomForLine};
@@ -79,7 +79,7 @@ pub fn file_parts()
         → AreParts whole.blob bytes start total (first ∷ others) → running_in st ≡ None
         → st.core.source.fault ≡ None → st.core.source.error ≡ 0
         → HasRoomForCall blobs st.core (Call.AppendBuffer k whole)
-        → HaveRoom blobs k st (first ∷ others)
+        → IsRoomBeforeEach blobs k st (first ∷ others)
         → (after_pieces blobs k st (first ∷ others)).core ≡ (after_piece blobs k st whole).core }
 {}
 

@@ -13,7 +13,7 @@ mod memory;
 mod refusals;
 
 use call_script::{BlobText, Script, ScriptError, StepLine, read_script};
-use event_text::{closing_text, line_of};
+use event_text::{closing, line_of};
 use mse_base::{Bytes, Ticks};
 use mse_calls::{Answer, Blobs, Call, Entry};
 use mse_engine::Engine;
@@ -153,7 +153,7 @@ fn check(rt: &impl Abort, alloc: Global, case: &Case) -> Result<(), Fail> {
         do_step(rt, &mut player, alloc, line)?;
     }
     let view = player.engine.view()?;
-    let block = closing_text(alloc, &view, true)?;
+    let block = closing(alloc, &view, true)?;
     player.text.push_str(block.as_str())?;
     assert_eq!(rt; player.text.as_str(), case.prints);
     Ok(())

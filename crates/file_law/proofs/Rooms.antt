@@ -41,18 +41,18 @@ use Rattle.mse_engine.specs.Work.{running_in}
 use Rattle.cut_law.specs.Plays.{after_line}
 use Rattle.cut_law.specs.Room.{HasRoomForCall, HasRoomFor}
 use Rattle.cut_law.specs.Cuts.{AreParts}
-use Rattle.cut_law.specs.Files.{after_piece, UnlessFault, HaveRoom}
+use Rattle.cut_law.specs.Files.{after_piece, IfNoFault, IsRoomBeforeEach}
 use Rattle.cut_law.proofs.Halves.{Half, Ran, Whole, Stopped, ran_by, run, effect_source, half_behind, items_left, half_at_end, half_at_end-idle, half_after_append_by, half_after_append, is_refused, append_feed, begin_source}
 use Rattle.cut_law.proofs.Drains.{drain_core, append_core, on_slot, appended, at-idle, lowest, lowest-is, append-rests}
 use Rattle.cut_law.proofs.Drains as drains
 use Rattle.cut_law.proofs.Journals.{append_some, line-core}
 use Rattle.cut_law.proofs.Cutting.{piece-bytes}
-use Rattle.file_law.specs.Rooms.{IsHeldBefore, HoldsLittle}
+use Rattle.file_law.specs.Rooms.{IsHeldBefore, HasRoomForFile}
 
 -- ---- the bytes of the tracks can be counted
 
-abbrev CanCount : List TrackState → Type 0
-CanCount ts = bytes_in ts < 2 ^ 62
+abbrev AreCountable : List TrackState → Type 0
+AreCountable ts = bytes_in ts < 2 ^ 62
 
 bytes-cons : (t : TrackState) (ts : List TrackState) → bytes_in (t ∷ ts) ≡ frames.bytes_of t.frames + bytes_in ts
 bytes-cons t ts = sum_by-cons (λ (u : TrackState). frames.bytes_of u.frames) t ts
@@ -80,13 +80,13 @@ bytes-set (s ∷ ts) (suc i) t u n e h =
     let new = bytes-cons s (set ts i u) in
     omega arith
 
-count-in : (o : Option TrackState) (w : Timing) (f : CodedFrame) (i : ℕ) (ts : List TrackState) → slice_get ts i ≡ o → bytes_in ts + length f.payload < 2 ^ 62 → CanCount (placement_in_track o w f i ts).tracks
+count-in : (o : Option TrackState) (w : Timing) (f : CodedFrame) (i : ℕ) (ts : List TrackState) → slice_get ts i ≡ o → bytes_in ts + length f.payload < 2 ^ 62 → AreCountable (placement_in_track o w f i ts).tracks
 count-in None w f i ts e fits = omega (arith, fits)
 count-in (Some t) w f i ts e fits =
     let bytes = bytes-set ts i t (track_after_frame w f t) (length f.payload) e (used_put w f t) in
     omega (arith, bytes, fits)
 
-count-times : (o : Option Timing) (s : Settings) (f : CodedFrame) (i : ℕ) (ts : List TrackState) → bytes_in ts + length f.payload < 2 ^ 62 → CanCount (placement_by_times o s f i ts).tracks
+count-times : (o : Option Timing) (s : Settings) (f : CodedFrame) (i : ℕ) (ts : List TrackState) → bytes_in ts + length f.payload < 2 ^ 62 → AreCountable (placement_by_times o s f i ts).tracks
 count-times None s f i ts fits = omega (arith, fits)
 count-times (Some w) s f i ts fits =
     let same = bytes-map (track_after_reset w) (λ t. refl) ts in
@@ -99,28 +99,28 @@ or-parts false y e = e
 below : (n m : ℕ) → nat_le n m ≡ false → m < n
 below n m e = grind (arith, nat_tests)
 
-count-by : (t : Bool) (received : ℕ) (x : Option Timing) (s : Settings) (f : CodedFrame) (i : ℕ) (ts : List TrackState) → is_over_limit received (bytes_in ts) (length f.payload) ≡ t → CanCount ts
-    → CanCount (if t then new_placement placed_as.Counts ts s else placement_by_times x s f i ts).tracks
+count-by : (t : Bool) (received : ℕ) (x : Option Timing) (s : Settings) (f : CodedFrame) (i : ℕ) (ts : List TrackState) → is_over_limit received (bytes_in ts) (length f.payload) ≡ t → AreCountable ts
+    → AreCountable (if t then new_placement placed_as.Counts ts s else placement_by_times x s f i ts).tracks
 count-by true received x s f i ts e h = h
 count-by false received x s f i ts e h = count-times x s f i ts (below (2 ^ 62) (bytes_in ts + length f.payload) (or-parts _ (nat_le (2 ^ 62) (bytes_in ts + length f.payload)) e))
 
-count-placed : (o : Option TrackState) (ts : List TrackState) (s : Settings) (i : ℕ) (f : CodedFrame) → CanCount ts → CanCount (placement_in o ts s i f).tracks
+count-placed : (o : Option TrackState) (ts : List TrackState) (s : Settings) (i : ℕ) (f : CodedFrame) → AreCountable ts → AreCountable (placement_in o ts s i f).tracks
 count-placed None ts s i f h = h
 count-placed (Some t) ts s i f h = count-by (is_over_limit t.marks.received (bytes_in ts) (length f.payload)) t.marks.received (timing_of s t.marks f) s f i ts refl h
 
 -- ---- items
 
-abbrev MediaCounts : MediaResult → Type 0
-MediaCounts (media.Done m b) = CanCount m.tracks
-MediaCounts (media.AppendError fault m b) = CanCount m.tracks
+abbrev IsMediaCountable : MediaResult → Type 0
+IsMediaCountable (media.Done m b) = AreCountable m.tracks
+IsMediaCountable (media.AppendError fault m b) = AreCountable m.tracks
 
-placed-counts : (a : Placed) (ts : List TrackState) (s : Settings) (m : Media) (d : Moment) → CanCount ts → CanCount m.tracks → MediaCounts (placement_result a ts s m d)
+placed-counts : (a : Placed) (ts : List TrackState) (s : Settings) (m : Media) (d : Moment) → AreCountable ts → AreCountable m.tracks → IsMediaCountable (placement_result a ts s m d)
 placed-counts placed_as.Stored ts s m d new old = new
 placed-counts (placed_as.Dropped why) ts s m d new old = new
 placed-counts placed_as.TimeRange ts s m d new old = old
 placed-counts placed_as.Counts ts s m d new old = old
 
-frame-counts : (o : Option ℕ) (f : CodedFrame) (m : Media) (d : Moment) → CanCount m.tracks → MediaCounts (frame_result_at o f m d)
+frame-counts : (o : Option ℕ) (f : CodedFrame) (m : Media) (d : Moment) → AreCountable m.tracks → IsMediaCountable (frame_result_at o f m d)
 frame-counts None f m d h = h
 frame-counts (Some i) f m d h =
     let p : Placement = placement m.tracks m.settings i f in
@@ -134,25 +134,25 @@ partner-frames : (t : TrackState) (o : Option TrackInfo) → (track_with_partner
 partner-frames t None = refl
 partner-frames t (Some u) = refl
 
-count-after : (news : List TrackInfo) (ts : List TrackState) → CanCount ts → CanCount (tracks_after news ts)
+count-after : (news : List TrackInfo) (ts : List TrackState) → AreCountable ts → AreCountable (tracks_after news ts)
 count-after news [] h = let none = bytes-new news in omega (arith, none)
 count-after news (t ∷ ts) h =
     let same = bytes-map (λ u. track_with_partner u (partner_of (t ∷ ts) news u)) (λ u. partner-frames u (partner_of (t ∷ ts) news u)) (t ∷ ts) in
     omega (arith, same, h)
 
-init-counts : (o : Option MediaFault) (p : Presentation) (m : Media) (b : SourceEffect) → CanCount m.tracks → MediaCounts (init_result_of o p m b)
+init-counts : (o : Option MediaFault) (p : Presentation) (m : Media) (b : SourceEffect) → AreCountable m.tracks → IsMediaCountable (init_result_of o p m b)
 init-counts (Some fault) p m b h = h
 init-counts None p m b h = count-after (media_tracks p) m.tracks h
 
-abbrev ItemCounts : ItemResult → Type 0
-ItemCounts (Done c e) = CanCount c.media.tracks
-ItemCounts (AppendError fault at c e) = CanCount c.media.tracks
+abbrev IsItemCountable : ItemResult → Type 0
+IsItemCountable (Done c e) = AreCountable c.media.tracks
+IsItemCountable (AppendError fault at c e) = AreCountable c.media.tracks
 
-item-by : (r : MediaResult) (at : ℕ) (latest : Option Presentation) (c : Content) → MediaCounts r → ItemCounts (media_item_result r at latest c)
+item-by : (r : MediaResult) (at : ℕ) (latest : Option Presentation) (c : Content) → IsMediaCountable r → IsItemCountable (media_item_result r at latest c)
 item-by (media.Done m e) at latest c h = h
 item-by (media.AppendError fault m e) at latest c h = h
 
-item-counts : (item : ByteItem) (c : Content) (d : Moment) → CanCount c.media.tracks → ItemCounts (item_result item c d)
+item-counts : (item : ByteItem) (c : Content) (d : Moment) → AreCountable c.media.tracks → IsItemCountable (item_result item c d)
 item-counts (InitItem p at) c d h = item-by (init_result p c.media d) at (Some p) c (init-counts (init_fault p c.media) p c.media (segment_effect p d) h)
 item-counts (FrameItem f at) c d h = item-by (frame_result f c.media d) at c.latest c (frame-counts (place_of f.track_id c.media.tracks) f c.media d h)
 item-counts SegmentEnd c d h = h
@@ -160,41 +160,41 @@ item-counts (FaultItem f at) c d h = h
 
 -- ---- a run of items
 
-abbrev RanCounts : CoreSource → Ran → Type 0
-RanCounts s (Whole c t) = CanCount c.media.tracks × (t.quota ≡ s.quota)
-RanCounts s (Stopped c t) = CanCount c.media.tracks × (t.quota ≡ s.quota)
+abbrev IsRunCountable : CoreSource → Ran → Type 0
+IsRunCountable s (Whole c t) = AreCountable c.media.tracks × (t.quota ≡ s.quota)
+IsRunCountable s (Stopped c t) = AreCountable c.media.tracks × (t.quota ≡ s.quota)
 
-reset-counts : (ts : List TrackState) → CanCount ts → CanCount (map unset_track ts)
+reset-counts : (ts : List TrackState) → AreCountable ts → AreCountable (map unset_track ts)
 reset-counts ts h = let same = bytes-map unset_track (λ t. refl) ts in omega (arith, same, h)
 
-ran-on : (k : ℕ) (s : CoreSource) (e : SourceEffect) (r : Ran) → RanCounts (effect_source k e s) r → RanCounts s r
+ran-on : (k : ℕ) (s : CoreSource) (e : SourceEffect) (r : Ran) → IsRunCountable (effect_source k e s) r → IsRunCountable s r
 ran-on k s e (Whole c t) h = h
 ran-on k s e (Stopped c t) h = h
 
-run-by : (k : ℕ) (xs : List ByteItem) (s : CoreSource) (t : ItemResult) → ItemCounts t → ((d : Content) (u : CoreSource) → CanCount d.media.tracks → RanCounts u (run k xs d u)) → RanCounts s (ran_by k (λ d u. run k xs d u) s t)
+run-by : (k : ℕ) (xs : List ByteItem) (s : CoreSource) (t : ItemResult) → IsItemCountable t → ((d : Content) (u : CoreSource) → AreCountable d.media.tracks → IsRunCountable u (run k xs d u)) → IsRunCountable s (ran_by k (λ d u. run k xs d u) s t)
 run-by k xs s (Done c e) h f = ran-on k s e (run k xs c (effect_source k e s)) (f c (effect_source k e s) h)
 run-by k xs s (AppendError fault at c e) h f = (reset-counts c.media.tracks h, refl)
 
-run-counts : (k : ℕ) (xs : List ByteItem) (c : Content) (s : CoreSource) → CanCount c.media.tracks → RanCounts s (run k xs c s)
+run-counts : (k : ℕ) (xs : List ByteItem) (c : Content) (s : CoreSource) → AreCountable c.media.tracks → IsRunCountable s (run k xs c s)
 run-counts k [] c s h = (h, refl)
 run-counts k (x ∷ xs) c s h = run-by k xs s (item_result x c s.state.duration) (item-counts x c s.state.duration h) (λ d u g. run-counts k xs d u g)
 
 -- ---- an append that is worked off
 
-record HalfHolds (start quota : ℕ) (h : Half) : Type 0 where
+record IsHalfHeld (start quota : ℕ) (h : Half) : Type 0 where
   held : IsHeldBefore start h.buffer
   same : h.source.quota ≡ quota
 
-behind-holds : (start : ℕ) (f : Feed) (count : ℕ) (s : CoreSource) (r : Ran) → length f.reading.string.whole ≤ start → RanCounts s r → HalfHolds start s.quota (half_behind f count r)
+behind-holds : (start : ℕ) (f : Feed) (count : ℕ) (s : CoreSource) (r : Ran) → length f.reading.string.whole ≤ start → IsRunCountable s r → IsHalfHeld start s.quota (half_behind f count r)
 behind-holds start f count s (Whole c t) l h = record { held = record { read = l; used = h.0 }; same = h.1 }
 behind-holds start f count s (Stopped c t) l h = record { held = record { read = omega arith; used = h.0 }; same = h.1 }
 
 held-later : (start more : ℕ) (b : BufferState) → IsHeldBefore start b → IsHeldBefore (start + more) b
 held-later start more b h = let read = h.read in record { read = omega (arith, read); used = h.used }
 
-append-holds : (t : Bool) (start : ℕ) (bytes : List ℕ) (k : ℕ) (h : Half) → is_updating h.buffer.feed.running ≡ false → IsHeldBefore start h.buffer → HalfHolds (start + length bytes) h.source.quota (half_at_end k (half_after_append_by t bytes k h))
+append-holds : (t : Bool) (start : ℕ) (bytes : List ℕ) (k : ℕ) (h : Half) → is_updating h.buffer.feed.running ≡ false → IsHeldBefore start h.buffer → IsHalfHeld (start + length bytes) h.source.quota (half_at_end k (half_after_append_by t bytes k h))
 append-holds true start bytes k h idle held =
-    subst (λ (g : Half). HalfHolds (start + length bytes) h.source.quota g) (sym (half_at_end-idle k h idle)) (record { held = held-later start (length bytes) h.buffer held; same = refl })
+    subst (λ (g : Half). IsHalfHeld (start + length bytes) h.source.quota g) (sym (half_at_end-idle k h idle)) (record { held = held-later start (length bytes) h.buffer held; same = refl })
 append-holds false start bytes k h idle held =
     let f : Feed = append_feed h.buffer.feed (h.buffer.feed.reading.string.whole ++ bytes) h.buffer.feed.reading.string.taken in
     let read = held.read in
@@ -213,26 +213,26 @@ slot-later : (start more : ℕ) (o : Option BufferState) → IfSome o (IsHeldBef
 slot-later start more None h = tt
 slot-later start more (Some b) h = held-later start more b h
 
-holds-later : (start more k : ℕ) (c : Core) → HoldsLittle start k c → HoldsLittle (start + more) k c
+holds-later : (start more k : ℕ) (c : Core) → HasRoomForFile start k c → HasRoomForFile (start + more) k c
 holds-later start more k c h = record { quota = h.quota; slot = slot-later start more (in_slot k c.buffers) h.slot }
 
-slot-holds : (x : Option (Option BufferState)) (start : ℕ) (bytes : List ℕ) (k : ℕ) (c : Core) → slice_get c.buffers k ≡ x → lowest c.buffers ≡ None → IfSome (option_flatten x) (IsHeldBefore start) → HoldsLittle start k c
-    → HoldsLittle (start + length bytes) k (on_slot x k (λ n h. half_at_end n (half_after_append bytes n h)) c)
+slot-holds : (x : Option (Option BufferState)) (start : ℕ) (bytes : List ℕ) (k : ℕ) (c : Core) → slice_get c.buffers k ≡ x → lowest c.buffers ≡ None → IfSome (option_flatten x) (IsHeldBefore start) → HasRoomForFile start k c
+    → HasRoomForFile (start + length bytes) k (on_slot x k (λ n h. half_at_end n (half_after_append bytes n h)) c)
 slot-holds None start bytes k c e low held h = holds-later start (length bytes) k c h
 slot-holds (Some None) start bytes k c e low held h = holds-later start (length bytes) k c h
 slot-holds (Some (Some b)) start bytes k c e low held h =
     let old : Half = record { buffer = b; source = c.source } in
     let new : Half = half_at_end k (half_after_append bytes k old) in
-    let holds : HalfHolds (start + length bytes) c.source.quota new = append-holds (is_refused old) start bytes k old (at-idle c.buffers k (Some b) low e) held in
+    let holds : IsHalfHeld (start + length bytes) c.source.quota new = append-holds (is_refused old) start bytes k old (at-idle c.buffers k (Some b) low e) held in
     let there : slice_get (slice_set c.buffers k (Some new.buffer)) k ≡ Some (Some new.buffer) = get-set c.buffers k (Some b) (Some new.buffer) e in
     record {
       quota = subst (λ n. 2 ^ 62 ≤ n) (sym holds.same) h.quota;
       slot = subst (λ y. IfSome (option_flatten y) (IsHeldBefore (start + length bytes))) (sym there) holds.held;
     }
 
-core-holds : (start : ℕ) (bytes : List ℕ) (k : ℕ) (c : Core) → lowest c.buffers ≡ None → HoldsLittle start k c → HoldsLittle (start + length bytes) k (drain_core (append_core bytes k c))
+core-holds : (start : ℕ) (bytes : List ℕ) (k : ℕ) (c : Core) → lowest c.buffers ≡ None → HasRoomForFile start k c → HasRoomForFile (start + length bytes) k (drain_core (append_core bytes k c))
 core-holds start bytes k c low h =
-    subst (λ (d : Core). HoldsLittle (start + length bytes) k d) (sym (appended (slice_get c.buffers k) bytes k c refl low))
+    subst (λ (d : Core). HasRoomForFile (start + length bytes) k d) (sym (appended (slice_get c.buffers k) bytes k c refl low))
     (slot-holds (slice_get c.buffers k) start bytes k c refl low h.slot h)
 
 -- ---- room
@@ -249,7 +249,7 @@ room-for (Some b) quota start bytes q h l =
     let read = h.read in
     not-full 0 quota (used_in b.content.media) (length b.feed.reading.string.whole + length bytes) q h.used (omega (arith, read, l))
 
-unless : (o : Option FaultView) (P : Type 0) → P → UnlessFault o P
+unless : (o : Option FaultView) (P : Type 0) → P → IfNoFault o P
 unless None P h = h
 unless (Some fault) P h = tt
 
@@ -263,12 +263,12 @@ piece-core blobs k st piece room =
     line-core blobs (after_line blobs st (Call (AppendBuffer k piece))) Drain tt ∙ ap (λ c. drain_core c) (line-core blobs st (Call (AppendBuffer k piece)) room)
 
 -- just before a piece of these bytes
-pub piece-room : (blobs : List (List ℕ)) (k : ℕ) (c : Core) (piece : Piece) (start : ℕ) (some : List ℕ) → bytes_of blobs piece ≡ Some some → start + length some < 2 ^ 62 → HoldsLittle start k c → HasRoomForCall blobs c (AppendBuffer k piece)
+pub piece-room : (blobs : List (List ℕ)) (k : ℕ) (c : Core) (piece : Piece) (start : ℕ) (some : List ℕ) → bytes_of blobs piece ≡ Some some → start + length some < 2 ^ 62 → HasRoomForFile start k c → HasRoomForCall blobs c (AppendBuffer k piece)
 piece-room blobs k c piece start some e l h =
     subst (λ x. HasRoomFor x c.source.quota (in_slot k c.buffers)) (sym e) (room-for (in_slot k c.buffers) c.source.quota start some h.quota h.slot l)
 
 rooms : (pieces : List Piece) (blobs : List (List ℕ)) (k : ℕ) (st : State) (blob : ℕ) (bytes : List ℕ) (start total : ℕ) → slice_get blobs blob ≡ Some bytes → AreParts blob bytes start total pieces → start + total ≤ length bytes
-    → length bytes < 2 ^ 62 → lowest st.core.buffers ≡ None → HoldsLittle start k st.core → HaveRoom blobs k st pieces
+    → length bytes < 2 ^ 62 → lowest st.core.buffers ≡ None → HasRoomForFile start k st.core → IsRoomBeforeEach blobs k st pieces
 rooms [] blobs k st blob bytes start total e p l short low h = tt
 rooms (piece ∷ pieces) blobs k st blob bytes start total e p l short low h =
     let all : total ≡ p.0 + p.1 = p.4 in
@@ -282,11 +282,11 @@ rooms (piece ∷ pieces) blobs k st blob bytes start total e p l short low h =
     let core : new.core ≡ drain_core (append_core some k st.core) = piece-core blobs k st piece room ∙ ap (λ x. drain_core (append_some x k st.core)) are in
     let rests : lowest new.core.buffers ≡ None = ap (λ (c : Core). lowest c.buffers) core ∙ append-rests some k st.core low in
     let gap : start + length some + (p.0 - length some) ≡ start + p.0 = omega (arith, few) in
-    let held : HoldsLittle (start + length some) k new.core = subst (λ (c : Core). HoldsLittle (start + length some) k c) (sym core) (core-holds start some k st.core low h) in
-    let later : HoldsLittle (start + p.0) k new.core = subst (λ n. HoldsLittle n k new.core) gap (holds-later (start + length some) (p.0 - length some) k new.core held) in
+    let held : HasRoomForFile (start + length some) k new.core = subst (λ (c : Core). HasRoomForFile (start + length some) k c) (sym core) (core-holds start some k st.core low h) in
+    let later : HasRoomForFile (start + p.0) k new.core = subst (λ n. HasRoomForFile n k new.core) gap (holds-later (start + length some) (p.0 - length some) k new.core held) in
     unless st.core.source.fault _ (room, rooms pieces blobs k new blob bytes (start + p.0) p.1 e p.5 left short rests later)
 
 pub file-rooms : (blobs : List (List ℕ)) (k : ℕ) (st : State) (blob : ℕ) (bytes : List ℕ) (start total : ℕ) (pieces : List Piece) → slice_get blobs blob ≡ Some bytes → AreParts blob bytes start total pieces → start + total ≤ length bytes
-    → length bytes < 2 ^ 62 → running_in st ≡ None → HoldsLittle start k st.core → HaveRoom blobs k st pieces
+    → length bytes < 2 ^ 62 → running_in st ≡ None → HasRoomForFile start k st.core → IsRoomBeforeEach blobs k st pieces
 file-rooms blobs k st blob bytes start total pieces e p l short idle h =
     rooms pieces blobs k st blob bytes start total e p l short (sym (lowest-is st.core.buffers) ∙ idle) h

@@ -12,7 +12,7 @@ pub record IsHeldBefore (start : ℕ) (b : BufferState) : Type 0 where
   pub used : used_in b.content.media < 2 ^ 62
 
 -- so does the buffer of a number, if there is one, and the quota is not met by what can be counted
-pub record HoldsLittle (start k : ℕ) (c : Core) : Type 0 where
+pub record HasRoomForFile (start k : ℕ) (c : Core) : Type 0 where
   pub quota : 2 ^ 62 ≤ c.source.quota
   pub slot : IfSome (in_slot k c.buffers) (IsHeldBefore start)
 
@@ -21,7 +21,7 @@ pub record IsFresh (k : ℕ) (st : State) : Type 0 where
   pub running : running_in st ≡ None
   pub fault : st.core.source.fault ≡ None
   pub error : st.core.source.error ≡ 0
-  pub little : HoldsLittle 0 k st.core
+  pub little : HasRoomForFile 0 k st.core
 
 -- the whole of a blob
 abbrev pub whole_of : ℕ → Piece

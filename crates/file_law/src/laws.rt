@@ -5,8 +5,8 @@ ghost use Rattle.mse_calls.specs.declared.calls.Piece.{Piece};
 ghost use Rattle.mse_engine.specs.State.{State};
 ghost use Rattle.mse_engine.specs.Work.{running_in};
 ghost use Rattle.cut_law.specs.Cuts.{AreParts};
-ghost use Rattle.cut_law.specs.Files.{HaveRoom, after_pieces};
-ghost use Rattle.file_law.specs.Rooms.{HoldsLittle, IsFresh, whole_of};
+ghost use Rattle.cut_law.specs.Files.{IsRoomBeforeEach, after_pieces};
+ghost use Rattle.file_law.specs.Rooms.{HasRoomForFile, IsFresh, whole_of};
 
 /// Just before each part of fewer than 2^62 bytes the buffer is not full, where it holds no more
 /// than what stands before the first part.
@@ -14,8 +14,8 @@ pub fn file_room()
     ensures { (blobs : List (List ℕ)) (k : ℕ) (st : State) (blob : ℕ) (bytes : List ℕ)
         (start total : ℕ) (pieces : List Piece) → slice_get blobs blob ≡ Some bytes
         → AreParts blob bytes start total pieces → start + total ≤ length bytes
-        → length bytes < 2 ^ 62 → running_in st ≡ None → HoldsLittle start k st.core
-        → HaveRoom blobs k st pieces }
+        → length bytes < 2 ^ 62 → running_in st ≡ None → HasRoomForFile start k st.core
+        → IsRoomBeforeEach blobs k st pieces }
 {}
 
 /// A file of fewer than 2^62 bytes that is appended in parts, up to the first fault, to a buffer

@@ -12,7 +12,7 @@ use Rattle.track_buffers.specs.Media.{Media}
 use Rattle.buffer_state.specs.declared.reply.Reply.{Reply}
 use Rattle.source_state.specs.State.{SourceState, is_listed_in, are_in}
 use Rattle.source_buffers.specs.State.{KeptBuffers, in_slot, all_kept_media}
-use Rattle.source_buffers.specs.Buffered.{slot_ranges, active_ranges, element_ranges, AllLeaveRanges}
+use Rattle.source_buffers.specs.Buffered.{slot_ranges, active_ranges, element_ranges, AreRangesAfterInit}
 use Rattle.media_element.specs.State.{ElementState}
 use Rattle.mse_engine.specs.declared.scenes.LoadBounds.{LoadBounds}
 use Rattle.mse_engine.specs.Replies.{active_after, is_loading, ready_after}
@@ -93,7 +93,7 @@ left_all b k f g (n ∷ ns) same h =
 
 -- ---- behind a reply
 
-module _ (k : ℕ) (r : Reply) (old new : KeptBuffers) (leaves : AllLeaveRanges k old r new) (received : r.received_init ≡ true) where
+module _ (k : ℕ) (r : Reply) (old new : KeptBuffers) (leaves : AreRangesAfterInit k old r new) (received : r.received_init ≡ true) where
   left_ranges : (ended : Bool) (active : List ℕ) → (r.activated && is_listed_in k active) ≡ false → element_ranges ended active (all_kept_media new) ≡ element_ranges ended active (all_kept_media old)
   left_ranges ended active h = ap (λ rs. meet_of_all (with_common_end ended rs)) (left_all r.activated k (λ j. slot_ranges ended (in_slot j (all_kept_media new))) (λ j. slot_ranges ended (in_slot j (all_kept_media old))) active (leaves received ended) h)
 
@@ -142,7 +142,7 @@ not_true : (b : Bool) → not b ≡ true → b ≡ false
 not_true true h = absurd cc
 not_true false h = refl
 
-by_joining : (a l c : Bool) (k : ℕ) (r : Reply) (old new : KeptBuffers) (leaves : AllLeaveRanges k old r new) (received : r.received_init ≡ true) (s : SourceState) (bounds : LoadBounds) (ended : Bool)
+by_joining : (a l c : Bool) (k : ℕ) (r : Reply) (old new : KeptBuffers) (leaves : AreRangesAfterInit k old r new) (received : r.received_init ≡ true) (s : SourceState) (bounds : LoadBounds) (ended : Bool)
     → r.activated ≡ a → is_listed_in k s.active ≡ c → HasBounds (bounds_at bounds ended) (element_ranges ended s.active (all_kept_media old))
     → HasBounds (bounds_at (cond (a && (l || c)) no_bounds bounds) ended) (element_ranges ended (cond (a && (l && not c)) (s.active ++ k ∷ []) s.active) (all_kept_media new))
 by_joining false l c k r old new leaves received s bounds ended joins there h = subst (λ (x : List Span). HasBounds (bounds_at bounds ended) x) (sym (left_ranges k r old new leaves received ended s.active (first_false r.activated (is_listed_in k s.active) joins))) h
@@ -153,7 +153,7 @@ by_joining true false false k r old new leaves received s bounds ended joins the
 
 -- the bounds before a reply, or none where a buffer becomes active, are those behind it
 pub brought : (k : ℕ) (r : Reply) (old new : KeptBuffers) (side : SourceSide) (e : ElementState) (bounds behind : LoadBounds)
-    → AllLeaveRanges k old r new
+    → AreRangesAfterInit k old r new
     → behind ≡ cond (r.activated && (is_listed_in k side.state.listed || is_listed_in k side.state.active)) no_bounds bounds
     → (has_metadata e.player.level ≡ false → int_lt (pos 0) e.player.default_start ≡ true → (ended : Bool) → HasBounds (bounds_at bounds ended) (element_ranges ended side.state.active (all_kept_media old)))
     → is_loading k r (not (has_metadata e.player.level)) side.state ≡ true

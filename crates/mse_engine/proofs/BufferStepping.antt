@@ -7,7 +7,7 @@ use Rattle.std.proofs.lemmas.Option.{slice_get_past}
 use Rattle.mse_base.specs.declared.span.Span.{Span}
 use Rattle.mse_base.specs.declared.ticks.Moment.{Moment}
 use Rattle.mse_base.specs.declared.ticks.Moment.TheVariants.{Nan, At, Infinite}
-use Rattle.mse_calls.specs.Answered.{Answered}
+use Rattle.mse_calls.specs.AnswerAndState.{AnswerAndState}
 use Rattle.mse_calls.specs.declared.answers.Answer.{Answer}
 use Rattle.mse_calls.specs.declared.answers.Answer.TheVariants as answer
 use Rattle.mse_calls.specs.declared.answers.Name.{Name}
@@ -22,8 +22,8 @@ use Rattle.buffer_state.specs.State.{Surroundings, Feed, Content}
 use Rattle.buffer_state.specs.Replies.{CallResult}
 use Rattle.buffer_state.specs.Calls.{append_result}
 use Rattle.track_buffers.specs.Buffered.{buffered_of}
-use Rattle.source_buffers.specs.State.{BufferState, BufferStates, KeptBuffers, AllStand, in_slot, media_of, media_of_all, all_kept_media}
-use Rattle.source_buffers.specs.All.{AllEndWithin, AllStayWithin}
+use Rattle.source_buffers.specs.State.{BufferState, BufferStates, KeptBuffers, AreSlotsStanding, in_slot, media_of, media_of_all, all_kept_media}
+use Rattle.source_buffers.specs.All.{AreSlotsWithin, AreStillWithin}
 use Rattle.source_buffers.specs.Slots.{BuffersResult, IsBuffersAnswer, IsBuffersResult, call_in_slot, result_by_slot, result_on_buffer, refused_buffers}
 use Rattle.source_buffers.specs.Buffered.{buffered_at}
 use Rattle.source_buffers.proofs.Standing.{same_length, same_media}
@@ -43,8 +43,8 @@ use Rattle.mse_engine.proofs.Stepping.{still}
 -- ---- a call that reaches the buffers
 
 -- what the end of a step makes of a reply, of what is kept behind the reply
-abbrev pub Concludes : ℕ → Answer → Reply → KeptEngine → KeptEngine → Type 0
-Concludes k a r replied after = (st : State) (meant : BuffersResult) → core_source replied.side replied.element ≡ st.core.source → outer_of replied.element ≡ st.outer → IsBuffersResult r replied.buffers meant → IsStep a after (after_call_by (reply_effect k meant st.core) (no_element_effect st.outer) answer.Done)
+abbrev pub IsStepOfReply : ℕ → Answer → Reply → KeptEngine → KeptEngine → Type 0
+IsStepOfReply k a r replied after = (st : State) (meant : BuffersResult) → core_source replied.side replied.element ≡ st.core.source → outer_of replied.element ≡ st.outer → IsBuffersResult r replied.buffers meant → IsStep a after (after_call_by (reply_effect k meant st.core) (no_element_effect st.outer) answer.Done)
 
 -- the call as it is at a state
 abbrev pub result_at : ℕ → Name → (Surroundings → Feed → Content → CallResult) → Core → BuffersResult
@@ -53,7 +53,7 @@ result_at k name call c = result_on_buffer k name c.source.state.duration (call 
 pub call_steps : (k : ℕ) (name : Name) (call : Surroundings → Feed → Content → CallResult) (around : Surroundings) (d : Moment) (r : Reply) (a : Answer) (side : SourceSide) (e e1 : ElementState) (old new : KeptBuffers) (after : KeptEngine)
     → e1 ≡ e → around ≡ surroundings_in k (core_source side e1) → d ≡ side.state.duration
     → IsBuffersAnswer old r new (result_on_buffer k name d (call around))
-    → Concludes k a r (kept_engine side new e1) after
+    → IsStepOfReply k a r (kept_engine side new e1) after
     → (st : State) → Stands (kept_engine side old e) st → IsStep a after (after_call_by (reply_effect k (result_at k name call st.core) st.core) (no_element_effect st.outer) answer.Done)
 call_steps k name call around d r a side e e1 old new after same there long answers concludes st h =
     let source : core_source side e1 ≡ st.core.source = ap (core_source side) same ∙ h.source in
@@ -72,11 +72,11 @@ never_loads P k r blank s none h =
 
 -- the engine is steady behind it
 pub call_steady : (k : ℕ) (r : Reply) (d : Moment) (side side2 : SourceSide) (old new : KeptBuffers) (e e2 : ElementState)
-    → IsSteady (kept_engine side old e) → d ≡ side.state.duration → AllStayWithin d old r new → length new ≡ length old → side2 ≡ side_after k r side → IsSettled (kept_scene (kept_engine side2 new e2)) e2
+    → IsSteady (kept_engine side old e) → d ≡ side.state.duration → AreStillWithin d old r new → length new ≡ length old → side2 ≡ side_after k r side → IsSettled (kept_scene (kept_engine side2 new e2)) e2
     → IsSteady (kept_engine side2 new e2)
 call_steady k r d side side2 old new e e2 steady long stays len is settled = record {
   made = len ∙ (steady.made ∙ sym (ap (λ (s : SourceSide). s.state.made) is));
-  within = subst (λ (x : Moment). AllEndWithin x (all_kept_media new)) (sym (ap (λ (s : SourceSide). s.state.duration) is)) (stays (subst (λ (x : Moment). AllEndWithin x (all_kept_media old)) (sym long) steady.within));
+  within = subst (λ (x : Moment). AreSlotsWithin x (all_kept_media new)) (sym (ap (λ (s : SourceSide). s.state.duration) is)) (stays (subst (λ (x : Moment). AreSlotsWithin x (all_kept_media old)) (sym long) steady.within));
   settled = settled;
 }
 
@@ -99,7 +99,7 @@ made_by : (b : Bool) (k : ℕ) (call : Surroundings → Feed → Content → Cal
     → IsStep a after (after_call_by (buffer_effect k call c) (no_element_effect o) answer.Done)
     → IsStep a after (after_call_by (cond b (buffer_effect k call c) (refused_effect NoSuchBuffer c)) (no_element_effect o) answer.Done)
 made_by true k call c o a after e h = h
-made_by false k call c o a after e h = subst (λ (x : Answered Answer State). IsStep a after x) (unmade k InvalidState call c o (none_at k c.buffers e)) h
+made_by false k call c o a after e h = subst (λ (x : AnswerAndState Answer State). IsStep a after x) (unmade k InvalidState call c o (none_at k c.buffers e)) h
 
 -- the test whether it was made changes nothing
 pub made_steps : (k : ℕ) (call : Surroundings → Feed → Content → CallResult) (c : Core) (o : Outer) (a : Answer) (after : KeptEngine)
@@ -109,7 +109,7 @@ made_steps k call c o a after h = made_by (nat_lt k (length c.buffers)) k call c
 
 -- ---- calls that do not reach the buffers
 
-made : (k : ℕ) (ks : KeptBuffers) (bs : BufferStates) → AllStand ks bs → nat_lt k (length ks) ≡ nat_lt k (length bs)
+made : (k : ℕ) (ks : KeptBuffers) (bs : BufferStates) → AreSlotsStanding ks bs → nat_lt k (length ks) ≡ nat_lt k (length bs)
 made k ks bs all = ap (nat_lt k) (same_length ks bs all)
 
 -- a refusal, whatever else would have been answered
@@ -207,7 +207,7 @@ pub append_steps : (k : ℕ) (bytes : List ℕ) (piece : Piece) (blobs : List (L
     → nat_lt k (length old) ≡ true → bytes_of blobs piece ≡ Some bytes
     → e1 ≡ e → around ≡ surroundings_in k (core_source side e1) → d ≡ side.state.duration → position ≡ e1.player.position → quota ≡ side.quota
     → IsBuffersAnswer old r new (result_on_buffer k InvalidState d (append_result (record { bytes = bytes; position = position; quota = quota }) around))
-    → Concludes k a r (kept_engine side new e1) after
+    → IsStepOfReply k a r (kept_engine side new e1) after
     → (st : State) → Stands (kept_engine side old e) st → IsStep a after (after_call blobs (call.AppendBuffer k piece) st)
 append_steps k bytes piece blobs around d position quota r a side e e1 old new after is there same told long at most answers concludes st h =
     let here : position ≡ st.outer.element.position = at ∙ ap (λ (x : ElementState). x.player.position) same ∙ ap (λ (o : Outer). o.element.position) h.outer in

@@ -7,7 +7,7 @@ use Rattle.mse_base.specs.declared.span.Span.{Span}
 use Rattle.mse_base.specs.declared.ticks.Moment.{Moment}
 use Rattle.mse_base.specs.declared.ticks.Moment.TheVariants.{Nan, At, Infinite}
 use Rattle.mse_base.specs.Moments.{is_nan, is_after, is_same_moment, greater_moment}
-use Rattle.mse_calls.specs.Answered.{Answered}
+use Rattle.mse_calls.specs.AnswerAndState.{AnswerAndState}
 use Rattle.mse_calls.specs.Ready.{is_open}
 use Rattle.mse_calls.specs.declared.answers.Answer.TheVariants.{Done, Refused}
 use Rattle.mse_calls.specs.declared.answers.Name.{Name}
@@ -23,8 +23,8 @@ use Rattle.source_state.specs.Seekable.{seekable_span}
 use Rattle.source_state.specs.declared.answers.AllBuffers.{AllBuffers}
 use Rattle.source_state.specs.declared.answers.Changed.{Changed}
 use Rattle.source_state.specs.declared.answers.Changed.TheVariants as changed
-use Rattle.source_buffers.specs.State.{KeptBuffers, AllStand, all_kept_media, all_kept_running}
-use Rattle.source_buffers.specs.All.{AllEndWithin, all_buffers, highest_end_of_all}
+use Rattle.source_buffers.specs.State.{KeptBuffers, AreSlotsStanding, all_kept_media, all_kept_running}
+use Rattle.source_buffers.specs.All.{AreSlotsWithin, all_buffers, highest_end_of_all}
 use Rattle.source_buffers.proofs.Standing.{same_media, same_running}
 use Rattle.source_buffers.proofs.Staying.{all_later}
 use Rattle.source_buffers.proofs.Highest.{all_bounded, none_stored}
@@ -42,13 +42,13 @@ use Rattle.mse_engine.proofs.Unchanged.{IsUnchanged, same, in_fall}
 use Rattle.mse_engine.proofs.Stepping.{IsEnd, still}
 use Rattle.mse_engine.proofs.Sourcing.{in_state, source_step}
 
-by_case : (P : Answered Changed SourceState → Type 0) (b : Bool) (x y : Answered Changed SourceState) → P x → P y → P (cond b x y)
+by_case : (P : AnswerAndState Changed SourceState → Type 0) (b : Bool) (x y : AnswerAndState Changed SourceState) → P x → P y → P (cond b x y)
 by_case P true x y h k = h
 by_case P false x y h k = k
 
 -- ---- at the source
 
-pub record IsChange (s : SourceState) (a : Answered Changed SourceState) : Type 0 where
+pub record IsChange (s : SourceState) (a : AnswerAndState Changed SourceState) : Type 0 where
   pub refused : (name : Name) → a.answer ≡ changed.Refused name → a.state ≡ s
   pub now : (d : Moment) → a.answer ≡ changed.To d → a.state.duration ≡ d
   pub made : a.state.made ≡ s.made
@@ -84,29 +84,29 @@ end_done Decode highest s name = λ e. absurd cc
 
 -- ---- frames within the duration
 
-duration_within : (d : Moment) (s : SourceState) (ms : List (Option Media)) → AllEndWithin s.duration ms → AllEndWithin d ms → AllEndWithin (after_duration_change d s).state.duration ms
-duration_within d s ms h k = by_case (λ a. AllEndWithin a.state.duration ms) (is_same_moment d s.duration) _ _ h k
+duration_within : (d : Moment) (s : SourceState) (ms : List (Option Media)) → AreSlotsWithin s.duration ms → AreSlotsWithin d ms → AreSlotsWithin (after_duration_change d s).state.duration ms
+duration_within d s ms h k = by_case (λ a. AreSlotsWithin a.state.duration ms) (is_same_moment d s.duration) _ _ h k
 
-at_least : (d : Moment) (end : ℤ) (ms : List (Option Media)) → AllEndWithin (At end) ms → AllEndWithin (greater_moment d end) ms
+at_least : (d : Moment) (end : ℤ) (ms : List (Option Media)) → AreSlotsWithin (At end) ms → AreSlotsWithin (greater_moment d end) ms
 at_least Nan end ms h = h
 at_least (At d) end ms h = all_later (At end) (At (int_max d end)) ms (not_after_at end (int_max d end) (grind (arith, ints))) h
 at_least Infinite end ms h = all_later (At end) Infinite ms (not_after_infinite (At end)) h
 
-past_within : (highest : Option ℤ) (d : Moment) (ms : List (Option Media)) → highest_end_of_all ms ≡ highest → AllEndWithin (past_frames highest d) ms
+past_within : (highest : Option ℤ) (d : Moment) (ms : List (Option Media)) → highest_end_of_all ms ≡ highest → AreSlotsWithin (past_frames highest d) ms
 past_within None d ms e = all_later Nan d ms (not_after_nan d) (none_stored ms e)
 past_within (Some end) d ms e = at_least d end ms (all_bounded ms end e)
 
-ended_within : (highest : Option ℤ) (ms : List (Option Media)) → highest_end_of_all ms ≡ highest → AllEndWithin (At (unwrap_or highest (pos 0))) ms
+ended_within : (highest : Option ℤ) (ms : List (Option Media)) → highest_end_of_all ms ≡ highest → AreSlotsWithin (At (unwrap_or highest (pos 0))) ms
 ended_within None ms e = all_later Nan (At (pos 0)) ms (not_after_nan (At (pos 0))) (none_stored ms e)
 ended_within (Some end) ms e = all_bounded ms end e
 
-pub set_duration_within : (d : Moment) (all : AllBuffers) (s : SourceState) (ms : List (Option Media)) → all.highest_end ≡ highest_end_of_all ms → AllEndWithin s.duration ms → AllEndWithin (after_set_duration d all s).state.duration ms
+pub set_duration_within : (d : Moment) (all : AllBuffers) (s : SourceState) (ms : List (Option Media)) → all.highest_end ≡ highest_end_of_all ms → AreSlotsWithin s.duration ms → AreSlotsWithin (after_set_duration d all s).state.duration ms
 set_duration_within d all s ms e h =
-    let P : Answered Changed SourceState → Type 0 = λ a. AllEndWithin a.state.duration ms in
+    let P : AnswerAndState Changed SourceState → Type 0 = λ a. AreSlotsWithin a.state.duration ms in
     let last = duration_within (past_frames all.highest_end d) s ms h (past_within all.highest_end d ms (sym e)) in
     by_case P (is_nan d || is_after (pos 0) d) _ _ h (by_case P (not (is_open s.ready)) _ _ h (by_case P all.updating _ _ h (by_case P (is_same_moment d s.duration) _ _ h (by_case P (has_frame_after all.highest_start d) _ _ h last))))
 
-pub end_within : (kind : EndKind) (highest : Option ℤ) (s : SourceState) (ms : List (Option Media)) → highest ≡ highest_end_of_all ms → AllEndWithin s.duration ms → AllEndWithin (after_end kind highest s).state.duration ms
+pub end_within : (kind : EndKind) (highest : Option ℤ) (s : SourceState) (ms : List (Option Media)) → highest ≡ highest_end_of_all ms → AreSlotsWithin s.duration ms → AreSlotsWithin (after_end kind highest s).state.duration ms
 end_within Plain highest s ms e h = duration_within (At (unwrap_or highest (pos 0))) (in_ready Ended s) ms h (ended_within highest ms (sym e))
 end_within Network highest s ms e h = h
 end_within Decode highest s ms e h = h
@@ -147,7 +147,7 @@ changed_refused first changed.Same name s c e = absurd cc
 changed_refused first (changed.To d) name s c e = absurd cc
 
 -- what the source is told of the buffers is what the machine's source is told
-pub same_all : (ks : KeptBuffers) (c : Core) → AllStand ks c.buffers → all_buffers (all_kept_running ks) (all_kept_media ks) ≡ all_in c
+pub same_all : (ks : KeptBuffers) (c : Core) → AreSlotsStanding ks c.buffers → all_buffers (all_kept_running ks) (all_kept_media ks) ≡ all_in c
 same_all ks c all = let running = same_running ks c.buffers all in let media = same_media ks c.buffers all in λ i. all_buffers (running i) (media i)
 
 module _ (d : Moment) (all : AllBuffers) (side new_side : SourceSide) (buffers : KeptBuffers) (e start : ElementState) (ch : Changed)
@@ -190,6 +190,6 @@ module _ (d : Moment) (all : AllBuffers) (side new_side : SourceSide) (buffers :
       let highest : all.highest_end ≡ highest_end_of_all (all_kept_media buffers) = ap (λ (x : AllBuffers). x.highest_end) are in
       record {
         made = k.made ∙ sym made;
-        within = subst (λ (x : Moment). AllEndWithin x (all_kept_media buffers)) (sym duration) (set_duration_within d all side.state (all_kept_media buffers) highest k.within);
+        within = subst (λ (x : Moment). AreSlotsWithin x (all_kept_media buffers)) (sym duration) (set_duration_within d all side.state (all_kept_media buffers) highest k.within);
         settled = settled;
       }

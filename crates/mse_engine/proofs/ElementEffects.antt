@@ -3,7 +3,7 @@ use Rattle.std.proofs.Common.{◌≡◌, ◌∙◌, ℤ, [], Option, Some, refl,
 use Rattle.mse_base.specs.declared.span.Span.{Span}
 use Rattle.mse_base.specs.declared.ticks.Moment.{Moment}
 use Rattle.mse_base.specs.declared.ticks.Moment.TheVariants.{Nan, At, Infinite}
-use Rattle.mse_calls.specs.Answered.{Answered}
+use Rattle.mse_calls.specs.AnswerAndState.{AnswerAndState}
 use Rattle.mse_calls.specs.declared.answers.Answer.{Answer}
 use Rattle.mse_calls.specs.declared.answers.Answer.TheVariants.{Done, Refused}
 use Rattle.mse_calls.specs.declared.answers.Name.{Name}
@@ -41,7 +41,7 @@ module _ (side : SourceSide) (buffers : KeptBuffers) (start : ElementState) (st 
       let sought : told ≡ after_action (action (scene_at start.player.position (view_of side buffers start))) start = h ∙ ap (λ (o : Option Span). after_action (action (scene_with o start.player.position (view_of side buffers start))) start) is in
       ap outer_of sought ∙ (λ i. outer_of (after_action (action (scene_at (element i).player.position (seen i))) (element i)))
 
-  pub meant_refusal : (call : Scene → PlayerState → Answered Acted PlayerState) (n : Option Name) (seekable : Option Span)
+  pub meant_refusal : (call : Scene → PlayerState → AnswerAndState Acted PlayerState) (n : Option Name) (seekable : Option Span)
       → n ≡ refusal (call (scene_with seekable start.player.position (view_of side buffers start)) start.player).answer → seekable ≡ seekable_in (view_of side buffers start)
       → n ≡ refusal (call (scene_at st.outer.element.position (core_view st.core)) (element_in st.core.source.error st.outer).player).answer
   meant_refusal call n seekable h is =
@@ -73,7 +73,7 @@ module _ (side : SourceSide) (buffers : KeptBuffers) (e start : ElementState) (r
   scene_step action told new seekable st h is keeps ends k =
       acted told new (outer_of (after_action (action (scene_at st.outer.element.position (core_view st.core))) (element_in st.core.source.error st.outer))) st (subst (λ (x : ElementState). IsUnchanged start.player x.player) (sym h) keeps) ends (meant_in_scene side buffers start st (begun st k) action told seekable h is) k
 
-  pub refusal_is : (call : Scene → PlayerState → Answered Acted PlayerState) (n : Option Name) (a : Answer) (seekable : Option Span) (st : State)
+  pub refusal_is : (call : Scene → PlayerState → AnswerAndState Acted PlayerState) (n : Option Name) (a : Answer) (seekable : Option Span) (st : State)
       → a ≡ refused_or n Done → n ≡ refusal (call (scene_with seekable start.player.position (view_of side buffers start)) start.player).answer → seekable ≡ seekable_in (view_of side buffers start)
       → Stands (kept_engine side buffers e) st
       → a ≡ refused_or (refusal (call (scene_at st.outer.element.position (core_view st.core)) (element_in st.core.source.error st.outer).player).answer) Done

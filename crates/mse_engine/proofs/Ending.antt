@@ -14,7 +14,7 @@ use Rattle.source_state.specs.declared.answers.AllBuffers.{AllBuffers}
 use Rattle.source_state.specs.declared.answers.Changed.{Changed}
 use Rattle.source_state.specs.declared.answers.Changed.TheVariants as changed
 use Rattle.source_buffers.specs.State.{KeptBuffers, all_kept_media, all_kept_running}
-use Rattle.source_buffers.specs.All.{AllEndWithin, all_buffers, highest_end_of_all}
+use Rattle.source_buffers.specs.All.{AreSlotsWithin, all_buffers, highest_end_of_all}
 use Rattle.element_seek.specs.State.{player_change}
 use Rattle.element_seek.specs.Playing.{after_fail}
 use Rattle.media_element.specs.State.{ElementState}
@@ -133,6 +133,6 @@ module _ (end : EndKind) (all : AllBuffers) (side : SourceSide) (buffers : KeptB
       let highest : all.highest_end ≡ highest_end_of_all (all_kept_media buffers) = ap (λ (x : AllBuffers). x.highest_end) are in
       record {
         made = k.made ∙ sym made;
-        within = subst (λ d. AllEndWithin d (all_kept_media buffers)) (sym duration) (end_within end all.highest_end side.state (all_kept_media buffers) highest k.within);
+        within = subst (λ d. AreSlotsWithin d (all_kept_media buffers)) (sym duration) (end_within end all.highest_end side.state (all_kept_media buffers) highest k.within);
         settled = settled;
       }

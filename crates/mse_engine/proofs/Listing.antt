@@ -2,7 +2,7 @@
 use Rattle.std.proofs.Common.{◌≡◌, ◌∙◌, ℕ, ◌+◌, ◌-◌, ◌<◌, ◌^◌, nat_le, ◌||◌, Bool, true, false, not, cond, List, [], ◌∷◌, ◌++◌, length, Some, None, refl, sym, ap, subst, arith, append_assoc}
 use Rattle.std.proofs.lemmas.Bool.Decides.{nat_tests}
 use Rattle.mse_base.specs.declared.ticks.Moment.{Moment}
-use Rattle.mse_calls.specs.Answered.{Answered}
+use Rattle.mse_calls.specs.AnswerAndState.{AnswerAndState}
 use Rattle.mse_calls.specs.Ready.{is_open}
 use Rattle.mse_calls.specs.declared.answers.Answer.TheVariants.{Done, Refused}
 use Rattle.mse_calls.specs.declared.answers.Name.{Name}
@@ -19,9 +19,9 @@ use Rattle.source_state.specs.declared.answers.Added.{Added}
 use Rattle.source_state.specs.declared.answers.Added.TheVariants as added
 use Rattle.source_state.specs.declared.answers.Removed.{Removed}
 use Rattle.source_state.specs.declared.answers.Removed.TheVariants as removed
-use Rattle.source_buffers.specs.State.{BufferStates, KeptBuffers, AllStand, all_kept_media, new_buffer}
+use Rattle.source_buffers.specs.State.{BufferStates, KeptBuffers, AreSlotsStanding, all_kept_media, new_buffer}
 use Rattle.source_buffers.specs.Slots.{BuffersResult, IsBuffersAnswer, IsBuffersResult, removal_result}
-use Rattle.source_buffers.specs.All.{AllEndWithin, AllStayWithin}
+use Rattle.source_buffers.specs.All.{AreSlotsWithin, AreStillWithin}
 use Rattle.media_element.specs.State.{ElementState}
 use Rattle.media_element.specs.Queueing.{event_at, events_at, with_events}
 use Rattle.media_element.specs.Settled.{IsSettled}
@@ -38,24 +38,24 @@ use Rattle.mse_engine.proofs.Sourcing.{in_state}
 
 -- ---- adding, at the source
 
-by_case : {A : Type 0} (P : Answered A SourceState → Type 0) (b : Bool) (x y : Answered A SourceState) → P x → P y → P (cond b x y)
+by_case : {A : Type 0} (P : AnswerAndState A SourceState → Type 0) (b : Bool) (x y : AnswerAndState A SourceState) → P x → P y → P (cond b x y)
 by_case P true x y h k = h
 by_case P false x y h k = k
 
-abbrev AddLeaves : SourceState → Answered Added SourceState → Type 0
-AddLeaves s a = (name : Name) → a.answer ≡ added.Refused name → a.state ≡ s
+abbrev IsSameIfNotAdded : SourceState → AnswerAndState Added SourceState → Type 0
+IsSameIfNotAdded s a = (name : Name) → a.answer ≡ added.Refused name → a.state ≡ s
 
-add_leaves : (s : SourceState) → AddLeaves s (after_add_buffer s)
-add_leaves s = by_case (AddLeaves s) (has_most_buffers s) _ _ (λ name e. refl) (by_case (AddLeaves s) (not (is_open s.ready)) _ _ (λ name e. refl) (λ name e. absurd cc))
+add_leaves : (s : SourceState) → IsSameIfNotAdded s (after_add_buffer s)
+add_leaves s = by_case (IsSameIfNotAdded s) (has_most_buffers s) _ _ (λ name e. refl) (by_case (IsSameIfNotAdded s) (not (is_open s.ready)) _ _ (λ name e. refl) (λ name e. absurd cc))
 
 -- a number was given, so that there are few
-abbrev AddGives : SourceState → Answered Added SourceState → Type 0
-AddGives s a = (n : ℕ) → a.answer ≡ added.Number n → a.state ≡ with_new s
+abbrev IsNewIfAdded : SourceState → AnswerAndState Added SourceState → Type 0
+IsNewIfAdded s a = (n : ℕ) → a.answer ≡ added.Number n → a.state ≡ with_new s
 
-add_gives : (s : SourceState) → AddGives s (after_add_buffer s)
-add_gives s = by_case (AddGives s) (has_most_buffers s) _ _ (λ n e. absurd cc) (by_case (AddGives s) (not (is_open s.ready)) _ _ (λ n e. absurd cc) (λ n e. refl))
+add_gives : (s : SourceState) → IsNewIfAdded s (after_add_buffer s)
+add_gives s = by_case (IsNewIfAdded s) (has_most_buffers s) _ _ (λ n e. absurd cc) (by_case (IsNewIfAdded s) (not (is_open s.ready)) _ _ (λ n e. absurd cc) (λ n e. refl))
 
-few_by : (a b : Bool) (x y : Answered Added SourceState) (n : ℕ) (name : Name) → x.answer ≡ added.Refused name → (cond (a || b) x y).answer ≡ added.Number n → b ≡ false
+few_by : (a b : Bool) (x y : AnswerAndState Added SourceState) (n : ℕ) (name : Name) → x.answer ≡ added.Refused name → (cond (a || b) x y).answer ≡ added.Number n → b ≡ false
 few_by true b x y n name r e = absurd cc
 few_by false true x y n name r e = absurd cc
 few_by false false x y n name r e = refl
@@ -75,10 +75,10 @@ added_refused container (added.Number n) name s c e = absurd cc
 abbrev add_signals : List Signal
 add_signals = Tell (event_at target.SourceBuffers kind.AddSourceBuffer ∷ []) ∷ []
 
-abbrev grown : Container → SourceState → Core → Core
-grown container s c = record { source = with_state s c.source; buffers = c.buffers ++ Some (new_buffer c.source.gap container) ∷ [] }
+abbrev state_with_number : Container → SourceState → Core → Core
+state_with_number container s c = record { source = with_state s c.source; buffers = c.buffers ++ Some (new_buffer c.source.gap container) ∷ [] }
 
-added_done : (container : Container) (x : Added) (n : ℕ) (s : SourceState) (c : Core) → x ≡ added.Number n → added_effect container x s c ≡ record { refused = None; core = grown container s c; signals = add_signals }
+added_done : (container : Container) (x : Added) (n : ℕ) (s : SourceState) (c : Core) → x ≡ added.Number n → added_effect container x s c ≡ record { refused = None; core = state_with_number container s c; signals = add_signals }
 added_done container (added.Refused name) n s c e = absurd cc
 added_done container (added.Number m) n s c e = refl
 
@@ -103,7 +103,7 @@ module _ (container : Container) (side new_side : SourceSide) (buffers : KeptBuf
       subst (λ (m : CoreEffect). IsStep (Refused name) (kept_engine new_side buffers start) (after_call_by m (no_element_effect st.outer) Done)) (sym (added_refused container x name (after_add_buffer side.state).state st.core h) ∙ add_meant st k) by_name
 
   pub add_step : (n : ℕ) (grew : KeptBuffers) (told new : ElementState) (st : State) → x ≡ added.Number n
-      → ((bs : BufferStates) → AllStand buffers bs → AllStand grew (bs ++ Some (new_buffer side.gap container) ∷ []))
+      → ((bs : BufferStates) → AreSlotsStanding buffers bs → AreSlotsStanding grew (bs ++ Some (new_buffer side.gap container) ∷ []))
       → told ≡ with_events (event_at target.SourceBuffers kind.AddSourceBuffer ∷ []) start → IsEnd new_side grew told new → Stands (kept_engine side buffers e) st
       → IsStep Done (kept_engine new_side grew new) (after_call_by (add_effect_by (after_add_buffer st.core.source.state) container st.core) (no_element_effect st.outer) Done)
   add_step n grew told new st h stand heard ends k =
@@ -111,13 +111,13 @@ module _ (container : Container) (side new_side : SourceSide) (buffers : KeptBuf
       let began : Stands (kept_engine side buffers start) st = subst (λ (y : ElementState). Stands (kept_engine side buffers y) st) (sym ready) k in
       let from : core_source new_side start ≡ with_state s st.core.source = ap (λ (y : SourceSide). core_source y start) is ∙ ap (λ (y : CoreSource). with_state s y) began.source in
       let gap : side.gap ≡ st.core.source.gap = ap (λ (y : CoreSource). y.gap) k.source in
-      let all : AllStand grew (grown container s st.core).buffers = subst (λ g. AllStand grew (st.core.buffers ++ Some (new_buffer g container) ∷ [])) gap (stand st.core.buffers k.buffers) in
+      let all : AreSlotsStanding grew (state_with_number container s st.core).buffers = subst (λ g. AreSlotsStanding grew (st.core.buffers ++ Some (new_buffer g container) ∷ [])) gap (stand st.core.buffers k.buffers) in
       let keeps = subst (λ (y : ElementState). IsUnchanged start.player y.player) (sym heard) (same start.player) in
-      let here : IsStep Done (kept_engine new_side grew new) (after_call_by (record { refused = None; core = grown container s st.core; signals = add_signals }) (no_element_effect st.outer) Done) = record { answers = refl; stands = stepped new_side grew start told new (grown container s st.core) add_signals st.outer from all began.outer keeps heard ends } in
+      let here : IsStep Done (kept_engine new_side grew new) (after_call_by (record { refused = None; core = state_with_number container s st.core; signals = add_signals }) (no_element_effect st.outer) Done) = record { answers = refl; stands = stepped new_side grew start told new (state_with_number container s st.core) add_signals st.outer from all began.outer keeps heard ends } in
       subst (λ (m : CoreEffect). IsStep Done (kept_engine new_side grew new) (after_call_by m (no_element_effect st.outer) Done)) (sym (added_done container x n s st.core h) ∙ add_meant st k) here
 
   pub add_steady : (n : ℕ) (grew : KeptBuffers) (new : ElementState) → x ≡ added.Number n → length grew ≡ length buffers + 1
-      → ((d : Moment) → AllEndWithin d (all_kept_media buffers) → AllEndWithin d (all_kept_media grew))
+      → ((d : Moment) → AreSlotsWithin d (all_kept_media buffers) → AreSlotsWithin d (all_kept_media grew))
       → IsSteady (kept_engine side buffers e) → IsSettled (kept_scene (kept_engine new_side grew new)) new → IsSteady (kept_engine new_side grew new)
   add_steady n grew new h more within k settled =
       let state : new_side.state ≡ with_new side.state = ap (λ (y : SourceSide). y.state) is ∙ add_gives side.state n (sym answer ∙ h) in
@@ -125,7 +125,7 @@ module _ (container : Container) (side new_side : SourceSide) (buffers : KeptBuf
       let duration : side.state.duration ≡ new_side.state.duration = sym (ap (λ (s : SourceState). s.duration) state) in
       record {
         made = more ∙ (ap (λ m. m + 1) k.made ∙ made);
-        within = within new_side.state.duration (subst (λ (d : Moment). AllEndWithin d (all_kept_media buffers)) duration k.within);
+        within = within new_side.state.duration (subst (λ (d : Moment). AreSlotsWithin d (all_kept_media buffers)) duration k.within);
         settled = settled;
       }
 
@@ -140,11 +140,11 @@ removal_told k r active start e1 e2 e3 a b d =
     let all : e3 ≡ with_events last (with_events (inactive_events active) (with_events (events_at (target.Buffer k) r.events) start)) = d ∙ (ap (with_events last) b ∙ ap (λ (x : ElementState). with_events last (with_events (inactive_events active) x)) a) in
     all ∙ (λ i. record { player = start.player; queue = append_assoc (start.queue ++ events_at (target.Buffer k) r.events) (inactive_events active) last i })
 
-abbrev RemoveLeaves : SourceState → Answered Removed SourceState → Type 0
-RemoveLeaves s a = ((name : Name) → a.answer ≡ removed.Refused name → a.state ≡ s) × ((a.state.made ≡ s.made) × (a.state.duration ≡ s.duration))
+abbrev IsSameIfNotRemoved : SourceState → AnswerAndState Removed SourceState → Type 0
+IsSameIfNotRemoved s a = ((name : Name) → a.answer ≡ removed.Refused name → a.state ≡ s) × ((a.state.made ≡ s.made) × (a.state.duration ≡ s.duration))
 
-remove_leaves : (k : ℕ) (s : SourceState) → RemoveLeaves s (after_remove_buffer k s)
-remove_leaves k s = by_case (RemoveLeaves s) (not (is_listed_in k s.listed)) _ _ (λ name e. refl, (refl, refl)) (λ name e. absurd cc, (refl, refl))
+remove_leaves : (k : ℕ) (s : SourceState) → IsSameIfNotRemoved s (after_remove_buffer k s)
+remove_leaves k s = by_case (IsSameIfNotRemoved s) (not (is_listed_in k s.listed)) _ _ (λ name e. refl, (refl, refl)) (λ name e. absurd cc, (refl, refl))
 
 removed_refused : (k : ℕ) (r : BuffersResult) (x : Removed) (name : Name) (s : SourceState) (c : Core) → x ≡ removed.Refused name → removed_effect k r x s c ≡ refused_effect name c
 removed_refused k r (removed.Refused n) name s c e = let is : n ≡ name = cc in ap (λ (m : Name). refused_effect m c) is
@@ -199,7 +199,7 @@ module _ (k : ℕ) (side new_side : SourceSide) (buffers : KeptBuffers) (e start
       let here : IsStep Done (kept_engine new_side left new) (after_call_by m (no_element_effect st.outer) Done) = record { answers = refl; stands = stepped new_side left start told new m.core m.signals st.outer from found.stand began.outer keeps told_all ends } in
       subst (λ (y : CoreEffect). IsStep Done (kept_engine new_side left new) (after_call_by y (no_element_effect st.outer) Done)) (sym (removed_done k meant x active s st.core h) ∙ remove_meant st stands) here
 
-  pub remove_steady : (r : Reply) (d : Moment) (left : KeptBuffers) (new : ElementState) → d ≡ side.state.duration → r.duration ≡ d → AllStayWithin d buffers r left → length left ≡ length buffers
+  pub remove_steady : (r : Reply) (d : Moment) (left : KeptBuffers) (new : ElementState) → d ≡ side.state.duration → r.duration ≡ d → AreStillWithin d buffers r left → length left ≡ length buffers
       → IsSteady (kept_engine side buffers e) → IsSettled (kept_scene (kept_engine new_side left new)) new → IsSteady (kept_engine new_side left new)
   remove_steady r d left new long lasts stays len h settled =
       let leaves = remove_leaves k side.state in
@@ -207,6 +207,6 @@ module _ (k : ℕ) (side new_side : SourceSide) (buffers : KeptBuffers) (e start
       let duration : r.duration ≡ new_side.state.duration = lasts ∙ (long ∙ sym (ap (λ (y : SourceSide). y.state.duration) is ∙ leaves.1.1)) in
       record {
         made = len ∙ (h.made ∙ sym made);
-        within = subst (λ (y : Moment). AllEndWithin y (all_kept_media left)) duration (stays (subst (λ (y : Moment). AllEndWithin y (all_kept_media buffers)) (sym long) h.within));
+        within = subst (λ (y : Moment). AreSlotsWithin y (all_kept_media left)) duration (stays (subst (λ (y : Moment). AreSlotsWithin y (all_kept_media buffers)) (sym long) h.within));
         settled = settled;
       }

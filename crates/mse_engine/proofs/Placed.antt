@@ -10,7 +10,7 @@ use Rattle.mse_types.specs.declared.answer.Container.{Container}
 use Rattle.mse_types.specs.declared.answer.TypeAnswer.{TypeAnswer}
 use Rattle.mse_types.specs.declared.answer.TypeAnswer.TheVariants.{Supported, Empty, Unsupported}
 use Rattle.mse_types.specs.Texts.{type_of}
-use Rattle.mse_calls.specs.Answered.{Answered}
+use Rattle.mse_calls.specs.AnswerAndState.{AnswerAndState}
 use Rattle.mse_calls.specs.Pieces.{bytes_of}
 use Rattle.mse_calls.specs.Ready.{is_closed, is_open}
 use Rattle.mse_calls.specs.declared.answers.Name.{Name}
@@ -36,7 +36,7 @@ use Rattle.source_state.specs.declared.answers.Changed.TheVariants as changed
 use Rattle.source_buffers.specs.State.{BufferState, BufferStates, in_slot, media_of, media_of_all, new_buffer}
 use Rattle.source_buffers.specs.Slots.{BuffersResult, removed_type_name, buffers_turn}
 use Rattle.source_buffers.specs.All.{highest_end_of_all}
-use Rattle.element_seek.specs.Inside.{LiesInside}
+use Rattle.element_seek.specs.Inside.{IsSpanInside}
 use Rattle.mse_engine.specs.State.{CoreSource, Core, Outer, State, player_of, element_in}
 use Rattle.mse_engine.specs.Scenes.{CoreView, core_view}
 use Rattle.mse_engine.specs.Signals.{Signal, Tell, DurationChanged, after_signals, outer_after, step}
@@ -52,12 +52,12 @@ use Rattle.mse_engine.proofs.Progress.{turned}
 use Rattle.mse_engine.proofs.Spanning.{all_append, highest-above}
 use Rattle.mse_engine.proofs.Timing.{IsRaised, raised_same, raised_to}
 use Rattle.mse_engine.proofs.Replying.{AreTimely, AreTimelyBuffers, mode_timely, offset_timely, window_start_timely, window_end_timely, remove_timely, append_timely, abort_timely, change_type_timely, call-timely, removal-timely, turn-timely}
-use Rattle.mse_engine.proofs.Placing.{AreInside, HasFrames, placed_raised, placed_seek, placed_play, placed_advance, placed_pause, placed_turn, placed_settled, CanHear, CanHearAll, placed_signals, IsAbove, placed_fall}
+use Rattle.mse_engine.proofs.Placing.{AreInside, HasFrames, placed_raised, placed_seek, placed_play, placed_advance, placed_pause, placed_turn, placed_settled, IsHearable, AreHearable, placed_signals, IsAbove, placed_fall}
 
 -- what a call does to the source and its buffers, and what the element hears of it, leaves the position inside
 record IsPlacing (c : Core) (m : CoreEffect) : Type 0 where
   untracked : AreUntracked m.core.source.state.duration m.core.buffers
-  placed : (o : Outer) → IsPositionInside c.source.state o.element → HasFrames (core_view m.core) → IsPositionInside m.core.source.state (outer_after (core_view m.core) m.signals o).element
+  position_inside : (o : Outer) → IsPositionInside c.source.state o.element → HasFrames (core_view m.core) → IsPositionInside m.core.source.state (outer_after (core_view m.core) m.signals o).element
 
 placing_by : (c : Core) (b : Bool) (x y : CoreEffect) → IsPlacing c x → IsPlacing c y → IsPlacing c (cond b x y)
 placing_by c true x y h k = h
@@ -65,23 +65,23 @@ placing_by c false x y h k = k
 
 -- ---- what is told of a reply
 
-load_heard : (v : CoreView) (b : Bool) → (b ≡ true → is_nan v.source.state.duration ≡ false) → CanHearAll v (load_signals b)
+load_heard : (v : CoreView) (b : Bool) → (b ≡ true → is_nan v.source.state.duration ≡ false) → AreHearable v (load_signals b)
 load_heard v true f = (f refl, tt)
 load_heard v false f = tt
 
-middle_heard : (v : CoreView) (first : Bool) (buffer : List Event) (effects : List Signal) → CanHearAll v effects → CanHearAll v (cond first (Tell buffer ∷ effects) (effects ++ Tell buffer ∷ []))
+middle_heard : (v : CoreView) (first : Bool) (buffer : List Event) (effects : List Signal) → AreHearable v effects → AreHearable v (cond first (Tell buffer ∷ effects) (effects ++ Tell buffer ∷ []))
 middle_heard v true buffer effects h = (tt, h)
-middle_heard v false buffer effects h = all_append (CanHear v) effects _ h (tt, tt)
+middle_heard v false buffer effects h = all_append (IsHearable v) effects _ h (tt, tt)
 
 first_true : (a b c : Bool) → ((a && b) && c) ≡ true → a ≡ true
 first_true true b c e = refl
 first_true false b c e = absurd (cc)
 
-reply_heard : (v : CoreView) (k : ℕ) (r : Reply) (s : CoreSource) → (r.received_init ≡ true → is_nan v.source.state.duration ≡ false) → CanHearAll v (reply_signals k r s)
+reply_heard : (v : CoreView) (k : ℕ) (r : Reply) (s : CoreSource) → (r.received_init ≡ true → is_nan v.source.state.duration ≡ false) → AreHearable v (reply_signals k r s)
 reply_heard v k r s f =
     let brings : Bool = is_loading k r s.blank s.state in
     let there = load_heard v brings (λ e. f (first_true r.received_init s.blank (are_in s.state.listed (active_after k r s.state)) e)) in
-    (tt, all_append (CanHear v) (middle_signals k r (is_activating k r s.state) brings) _ (middle_heard v r.events_first _ (effect_signals r.duration_changes (is_activating k r s.state) brings) (tt, (tt, there))) (tt, tt))
+    (tt, all_append (IsHearable v) (middle_signals k r (is_activating k r s.state) brings) _ (middle_heard v r.events_first _ (effect_signals r.duration_changes (is_activating k r s.state) brings) (tt, (tt, there))) (tt, tt))
 
 -- ---- a time that may be after the end of what is sought
 
@@ -119,10 +119,10 @@ end_above (Some e) f = not_before e (f e refl)
 module _ (law : AreInside) (c : Core) (none : AreUntracked c.source.state.duration c.buffers) where
   -- where the duration does not fall
   carried : (m : CoreEffect) → AreUntracked m.core.source.state.duration m.core.buffers → IsRaised c.source.state.duration m.core.source.state.duration
-      → (LiesInside Infinite c.source.state.live → LiesInside Infinite m.core.source.state.live) → CanHearAll (core_view m.core) m.signals → IsPlacing c m
+      → (IsSpanInside Infinite c.source.state.live → IsSpanInside Infinite m.core.source.state.live) → AreHearable (core_view m.core) m.signals → IsPlacing c m
   carried m untracked raised live heard = record {
     untracked = untracked;
-    placed = λ o h f.
+    position_inside = λ o h f.
         let v : CoreView = core_view m.core in
         let here = placed_raised c.source.state m.core.source.state o.element h raised live in
         placed_settled v (after_signals v m.signals (element_in v.source.error o)) (placed_signals law v m.signals (element_in v.source.error o) f heard here);
@@ -136,14 +136,14 @@ module _ (law : AreInside) (c : Core) (none : AreUntracked c.source.state.durati
   still = carried (no_core_effect c) none (raised_same c.source.state.duration) (λ x. x) tt
 
   -- where the duration and the live range stay
-  effect : (s : SourceState) (signals : List Signal) → s.duration ≡ c.source.state.duration → (LiesInside Infinite c.source.state.live → LiesInside Infinite s.live)
-      → CanHearAll (core_view (effect_leaving s signals c).core) signals → IsPlacing c (effect_leaving s signals c)
+  effect : (s : SourceState) (signals : List Signal) → s.duration ≡ c.source.state.duration → (IsSpanInside Infinite c.source.state.live → IsSpanInside Infinite s.live)
+      → AreHearable (core_view (effect_leaving s signals c).core) signals → IsPlacing c (effect_leaving s signals c)
   effect s signals same live heard =
       carried (effect_leaving s signals c) (subst (λ (d : Moment). AreUntracked d c.buffers) (sym same) none) (subst (λ (d : Moment). IsRaised c.source.state.duration d) (sym same) (raised_same c.source.state.duration)) live heard
 
   -- ---- calls on the source
 
-  source_by : (b : Bool) (x y : Answered (Option Name) SourceState) (signals : List Signal) → IsPlacing c (from_source x signals c) → IsPlacing c (from_source y signals c) → IsPlacing c (from_source (cond b x y) signals c)
+  source_by : (b : Bool) (x y : AnswerAndState (Option Name) SourceState) (signals : List Signal) → IsPlacing c (from_source x signals c) → IsPlacing c (from_source y signals c) → IsPlacing c (from_source (cond b x y) signals c)
   source_by true x y signals h k = h
   source_by false x y signals h k = k
 
@@ -173,7 +173,7 @@ module _ (law : AreInside) (c : Core) (none : AreUntracked c.source.state.durati
   set_live : (start end : Moment) → IsPlacing c (set_live_effect start end c)
   set_live start end = finite start _ (λ a. finite end _ (λ e. set_live_at a e))
 
-  add_by : (b : Bool) (x y : Answered Added SourceState) (container : Container) → IsPlacing c (add_effect_by x container c) → IsPlacing c (add_effect_by y container c) → IsPlacing c (add_effect_by (cond b x y) container c)
+  add_by : (b : Bool) (x y : AnswerAndState Added SourceState) (container : Container) → IsPlacing c (add_effect_by x container c) → IsPlacing c (add_effect_by y container c) → IsPlacing c (add_effect_by (cond b x y) container c)
   add_by true x y container h k = h
   add_by false x y container h k = k
 
@@ -192,7 +192,7 @@ module _ (law : AreInside) (c : Core) (none : AreUntracked c.source.state.durati
   made : (k : ℕ) (m : CoreEffect) → IsPlacing c m → IsPlacing c (if_made k m c)
   made k m h = placing_by c (nat_lt k (length c.buffers)) m _ h (refused _)
 
-  remove_by : (b : Bool) (k : ℕ) (x y : Answered Removed SourceState) → IsPlacing c (remove_effect_by k x c) → IsPlacing c (remove_effect_by k y c) → IsPlacing c (remove_effect_by k (cond b x y) c)
+  remove_by : (b : Bool) (k : ℕ) (x y : AnswerAndState Removed SourceState) → IsPlacing c (remove_effect_by k x c) → IsPlacing c (remove_effect_by k y c) → IsPlacing c (remove_effect_by k (cond b x y) c)
   remove_by true k x y h j = h
   remove_by false k x y h j = j
 
@@ -206,7 +206,7 @@ module _ (law : AreInside) (c : Core) (none : AreUntracked c.source.state.durati
 
   -- ---- the duration
 
-  change_by : (b : Bool) (x y : Answered Changed SourceState) → IsPlacing c (changed_effect_by [] x c) → IsPlacing c (changed_effect_by [] y c) → IsPlacing c (changed_effect_by [] (cond b x y) c)
+  change_by : (b : Bool) (x y : AnswerAndState Changed SourceState) → IsPlacing c (changed_effect_by [] x c) → IsPlacing c (changed_effect_by [] y c) → IsPlacing c (changed_effect_by [] (cond b x y) c)
   change_by true x y h k = h
   change_by false x y h k = k
 
@@ -214,7 +214,7 @@ module _ (law : AreInside) (c : Core) (none : AreUntracked c.source.state.durati
   above : (s : SourceState) (o : Outer) → IsPositionInside c.source.state o.element → is_nan s.duration ≡ false → is_after (pos 0) s.duration ≡ false → s.live ≡ c.source.state.live → IsAbove s o.element
   above s o h named lasting live = record {
     lasting = lasting;
-    live = subst (λ x. LiesInside Infinite x) (sym live) h.live;
+    live = subst (λ x. IsSpanInside Infinite x) (sym live) h.live;
     named = named;
     start = h.start;
     above = h.inside.0;
@@ -223,7 +223,7 @@ module _ (law : AreInside) (c : Core) (none : AreUntracked c.source.state.durati
   changed_to : (d : Moment) → is_nan d ≡ false → is_after (pos 0) d ≡ false → IsPlacing c (changed_effect_by [] (answer_and_state (changed.To d) (record c.source.state { duration = d })) c)
   changed_to d named lasting = record {
     untracked = λ n. absurd (cc);
-    placed = λ o h f.
+    position_inside = λ o h f.
         let v : CoreView = core_view (changed_effect_by [] (answer_and_state (changed.To d) (record c.source.state { duration = d })) c).core in
         placed_settled v (after_signals v (DurationChanged d ∷ []) (element_in v.source.error o))
         (placed_fall law d v (player_of v.source.error o.element) f refl (above (record c.source.state { duration = d }) o h named lasting refl));
@@ -263,14 +263,14 @@ module _ (law : AreInside) (c : Core) (none : AreUntracked c.source.state.durati
       → IsPlacing c (with_end_error Plain (changed_effect_by (Tell (ended_event ∷ []) ∷ []) (answer_and_state (changed.To d) (record (in_ready Ended c.source.state) { duration = d })) c))
   ended_at d named lasting = record {
     untracked = λ n. absurd (cc);
-    placed = λ o h f.
+    position_inside = λ o h f.
         let m : CoreEffect = with_end_error Plain (changed_effect_by (Tell (ended_event ∷ []) ∷ []) (answer_and_state (changed.To d) (record (in_ready Ended c.source.state) { duration = d })) c) in
         let v : CoreView = core_view m.core in
         placed_settled v (after_signals v m.signals (element_in v.source.error o))
         (placed_fall law d v (player_of v.source.error o.element) f refl (above (record (in_ready Ended c.source.state) { duration = d }) o h named (lasting f) refl));
   }
 
-  end_by : (b : Bool) (x y : Answered Changed SourceState) → IsPlacing c (with_end_error Plain (changed_effect_by (Tell (ended_event ∷ []) ∷ []) x c)) → IsPlacing c (with_end_error Plain (changed_effect_by (Tell (ended_event ∷ []) ∷ []) y c))
+  end_by : (b : Bool) (x y : AnswerAndState Changed SourceState) → IsPlacing c (with_end_error Plain (changed_effect_by (Tell (ended_event ∷ []) ∷ []) x c)) → IsPlacing c (with_end_error Plain (changed_effect_by (Tell (ended_event ∷ []) ∷ []) y c))
       → IsPlacing c (with_end_error Plain (changed_effect_by (Tell (ended_event ∷ []) ∷ []) (cond b x y) c))
   end_by true x y h k = h
   end_by false x y h k = k
@@ -334,30 +334,30 @@ module _ (law : AreInside) (c : Core) (none : AreUntracked c.source.state.durati
 
 module _ (law : AreInside) (st : State) (h : IsInsideState st) (f : HasFrames (core_view st.core)) where
   settled : (o : Outer) → IsPositionInside st.core.source.state o.element → IsInsideState (step st.core [] o)
-  settled o k = record { placed = placed_settled (core_view st.core) (element_in st.core.source.error o) k; untracked = h.untracked }
+  settled o k = record { position_inside = placed_settled (core_view st.core) (element_in st.core.source.error o) k; untracked = h.untracked }
 
   seeks : (t : Moment) → IsPositionInside st.core.source.state (seek_effect t (core_view st.core) st.outer).state.element
-  seeks Nan = h.placed
-  seeks (At t) = placed_seek law (core_view st.core) (player_of st.core.source.error st.outer.element) f h.placed t
-  seeks Infinite = h.placed
+  seeks Nan = h.position_inside
+  seeks (At t) = placed_seek law (core_view st.core) (player_of st.core.source.error st.outer.element) f h.position_inside t
+  seeks Infinite = h.position_inside
 
   advances : (t : Moment) → IsPositionInside st.core.source.state (advance_effect t (core_view st.core) st.outer).state.element
-  advances Nan = h.placed
-  advances (At t) = placed_advance law (core_view st.core) (player_of st.core.source.error st.outer.element) f h.placed t
-  advances Infinite = h.placed
+  advances Nan = h.position_inside
+  advances (At t) = placed_advance law (core_view st.core) (player_of st.core.source.error st.outer.element) f h.position_inside t
+  advances Infinite = h.position_inside
 
 -- a call that the element does not act by
 behind : AreInside → (blobs : List (List ℕ)) (x : Call) (st : State) → IsInsideState st → HasFrames (core_view (core_effect blobs st.outer.element.position x st.core).core)
     → IsInsideState (step (core_effect blobs st.outer.element.position x st.core).core (core_effect blobs st.outer.element.position x st.core).signals st.outer)
 behind law blobs x st h f =
     let all = of_call law st.core h.untracked blobs st.outer.element.position x in
-    record { placed = all.placed st.outer h.placed f; untracked = all.untracked }
+    record { position_inside = all.position_inside st.outer h.position_inside f; untracked = all.untracked }
 
 -- where the frames are sound and end within the duration behind a call, it leaves the position inside
 pub call-placed : AreInside → (blobs : List (List ℕ)) (x : Call) (st : State) → IsInsideState st → HasFrames (core_view (after_call blobs x st).state.core) → IsInsideState (after_call blobs x st).state
 call-placed law blobs (call.Seek t) st h f = settled law st h f _ (seeks law st h f t)
-call-placed law blobs call.Play st h f = settled law st h f _ (placed_play law (core_view st.core) (player_of st.core.source.error st.outer.element) f h.placed)
-call-placed law blobs call.Pause st h f = settled law st h f _ (placed_pause law (core_view st.core) (player_of st.core.source.error st.outer.element) f h.placed)
+call-placed law blobs call.Play st h f = settled law st h f _ (placed_play law (core_view st.core) (player_of st.core.source.error st.outer.element) f h.position_inside)
+call-placed law blobs call.Pause st h f = settled law st h f _ (placed_pause law (core_view st.core) (player_of st.core.source.error st.outer.element) f h.position_inside)
 call-placed law blobs (call.Advance t) st h f = settled law st h f _ (advances law st h f t)
 call-placed law blobs call.Attach st h f = behind law blobs call.Attach st h f
 call-placed law blobs (call.AddSourceBuffer text) st h f = behind law blobs (call.AddSourceBuffer text) st h f
@@ -387,7 +387,7 @@ work_by law (Some r) k st new t h f e =
     let same : step m.core m.signals st.outer ≡ new = cc in
     let all = replied law st.core h.untracked k r (t r refl) in
     let frames : HasFrames (core_view m.core) = subst (λ (s : State). HasFrames (core_view s.core)) (sym same) f in
-    subst (λ (s : State). IsInsideState s) same (record { placed = all.placed st.outer h.placed frames; untracked = all.untracked })
+    subst (λ (s : State). IsInsideState s) same (record { position_inside = all.position_inside st.outer h.position_inside frames; untracked = all.untracked })
 
 pub work-placed : AreInside → (k : ℕ) (st new : State) → after_work k st ≡ Some new → IsInsideState st → HasFrames (core_view new.core) → IsInsideState new
 work-placed law k st new e h f =
@@ -396,7 +396,7 @@ work-placed law k st new e h f =
 turn_by : AreInside → (b : Bool) (st new : State) → cond b (Some (turned st)) None ≡ Some new → IsInsideState st → HasFrames (core_view st.core) → IsInsideState new
 turn_by law true st new e h f =
     let same : turned st ≡ new = cc in
-    subst (λ (s : State). IsInsideState s) same (settled law st h f _ (placed_turn law (core_view st.core) (player_of st.core.source.error st.outer.element) f h.placed))
+    subst (λ (s : State). IsInsideState s) same (settled law st h f _ (placed_turn law (core_view st.core) (player_of st.core.source.error st.outer.element) f h.position_inside))
 turn_by law false st new e h f = absurd (cc)
 
 pub turn-placed : AreInside → (st new : State) → after_element_turn st ≡ Some new → IsInsideState st → HasFrames (core_view st.core) → IsInsideState new

@@ -7,7 +7,7 @@ use Rattle.mse_base.specs.declared.span.Span.{Span}
 use Rattle.mse_base.specs.declared.ticks.Moment.{Moment}
 use Rattle.mse_base.specs.declared.ticks.Moment.TheVariants.{Nan, At, Infinite}
 use Rattle.mse_base.specs.Moments.{is_nan, is_after}
-use Rattle.mse_calls.specs.Answered.{Answered}
+use Rattle.mse_calls.specs.AnswerAndState.{AnswerAndState}
 use Rattle.mse_calls.specs.Level.{has_metadata, has_future_data}
 use Rattle.mse_calls.specs.declared.answers.Level.{Level}
 use Rattle.mse_calls.specs.declared.answers.Level.TheVariants.{Nothing, Metadata, Current, Future, Enough}
@@ -15,7 +15,7 @@ use Rattle.source_state.specs.State.{SourceState}
 use Rattle.source_state.specs.Seekable.{seekable_span}
 use Rattle.element_seek.specs.declared.scene.Scene.{Scene}
 use Rattle.element_seek.specs.State.{PlayerState, has_ended, is_playing}
-use Rattle.element_seek.specs.Inside.{IsInside, LiesInside, HasSpansInside, StaysInside}
+use Rattle.element_seek.specs.Inside.{IsInside, IsSpanInside, HasSpansInside, IsStillInside}
 use Rattle.element_seek.specs.Seeking.{position_within, after_seek_in, after_seek, after_load}
 use Rattle.element_seek.specs.Playing.{after_rewind, after_unpause, after_play, after_pause, is_playing_on, after_time_in, after_time, after_advance}
 use Rattle.element_seek.specs.Turns.{is_seek_done, is_end_due, after_turn}
@@ -35,9 +35,9 @@ use Rattle.mse_engine.proofs.Timing.{IsRaised}
 -- each action of the element keeps a position inside that lay there
 pub record AreInside : Type 0 where
   pub seek : SeekStaysInside
-  pub load : (scene : Scene) (p : PlayerState) → HasSpansInside scene → StaysInside scene p (after_load scene p).state
-  pub play : (scene : Scene) (p : PlayerState) → HasSpansInside scene → StaysInside scene p (after_play scene p).state
-  pub advance : (t : ℤ) (scene : Scene) (p : PlayerState) → HasSpansInside scene → StaysInside scene p (after_advance t scene p).state
+  pub load : (scene : Scene) (p : PlayerState) → HasSpansInside scene → IsStillInside scene p (after_load scene p).state
+  pub play : (scene : Scene) (p : PlayerState) → HasSpansInside scene → IsStillInside scene p (after_play scene p).state
+  pub advance : (t : ℤ) (scene : Scene) (p : PlayerState) → HasSpansInside scene → IsStillInside scene p (after_advance t scene p).state
 
 -- the frames of all buffers
 abbrev pub HasFrames : CoreView → Type 0
@@ -50,7 +50,7 @@ raised_by false m d e t h n f g l k = h.later t n k
 raised_by true true d e t h n f g l k = let named = f refl in absurd (cc)
 raised_by true false d e t h n f g l k = ap (λ x. is_after x e) (g refl) ∙ h.lasting l
 
-pub placed_raised : (s u : SourceState) (e : ElementPart) → IsPositionInside s e → IsRaised s.duration u.duration → (LiesInside Infinite s.live → LiesInside Infinite u.live) → IsPositionInside u e
+pub placed_raised : (s u : SourceState) (e : ElementPart) → IsPositionInside s e → IsRaised s.duration u.duration → (IsSpanInside Infinite s.live → IsSpanInside Infinite u.live) → IsPositionInside u e
 placed_raised s u e h r live = record {
   lasting = r.lasting h.lasting;
   live = live h.live;
@@ -71,11 +71,11 @@ acted s p q h level still keeps = record {
   inside = keeps h.inside;
 }
 
-position_by : {A : Type 0} (b : Bool) (x y : Answered A PlayerState) (t : ℤ) → x.state.position ≡ t → y.state.position ≡ t → (cond b x y).state.position ≡ t
+position_by : {A : Type 0} (b : Bool) (x y : AnswerAndState A PlayerState) (t : ℤ) → x.state.position ≡ t → y.state.position ≡ t → (cond b x y).state.position ≡ t
 position_by true x y t h k = h
 position_by false x y t h k = k
 
-position_else : {A : Type 0} (b : Bool) (x y : Answered A PlayerState) (t : ℤ) → b ≡ false → y.state.position ≡ t → (cond b x y).state.position ≡ t
+position_else : {A : Type 0} (b : Bool) (x y : AnswerAndState A PlayerState) (t : ℤ) → b ≡ false → y.state.position ≡ t → (cond b x y).state.position ≡ t
 position_else true x y t h k = absurd (cc)
 position_else false x y t h k = k
 
@@ -164,15 +164,15 @@ placed_settled v e h = acted v.source.state e.player (after_settling v e).player
 
 -- ---- signals, but for a changed duration
 
-abbrev pub CanHear : CoreView → Signal → Type 0
-CanHear v (Tell events) = Unit {0}
-CanHear v (DurationChanged d) = ⊥
-CanHear v Loaded = is_nan v.source.state.duration ≡ false
+abbrev pub IsHearable : CoreView → Signal → Type 0
+IsHearable v (Tell events) = Unit {0}
+IsHearable v (DurationChanged d) = ⊥
+IsHearable v Loaded = is_nan v.source.state.duration ≡ false
 
-abbrev pub CanHearAll : CoreView → List Signal → Type 0
-CanHearAll v signals = AllByRecursion (CanHear v) signals
+abbrev pub AreHearable : CoreView → List Signal → Type 0
+AreHearable v signals = AllByRecursion (IsHearable v) signals
 
-pub placed_signals : AreInside → (v : CoreView) (signals : List Signal) (e : ElementState) → HasFrames v → CanHearAll v signals → IsPositionInside v.source.state (element_of e.player)
+pub placed_signals : AreInside → (v : CoreView) (signals : List Signal) (e : ElementState) → HasFrames v → AreHearable v signals → IsPositionInside v.source.state (element_of e.player)
     → IsPositionInside v.source.state (element_of (after_signals v signals e).player)
 placed_signals law v [] e f c h = h
 placed_signals law v (Tell events ∷ signals) e f c h = placed_signals law v signals (after_signal v (Tell events) e) f c.1 h
@@ -184,7 +184,7 @@ placed_signals law v (Loaded ∷ signals) e f c h = placed_signals law v signals
 -- the position may be after the duration
 pub record IsAbove (s : SourceState) (e : ElementPart) : Type 0 where
   pub lasting : is_after (pos 0) s.duration ≡ false
-  pub live : LiesInside Infinite s.live
+  pub live : IsSpanInside Infinite s.live
   pub named : is_nan s.duration ≡ false
   pub start : has_metadata e.level ≡ false → e.position ≡ pos 0
   pub above : pos 0 ≤ℤ e.position

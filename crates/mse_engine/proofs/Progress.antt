@@ -1,7 +1,7 @@
 -- A step of work and a turn of the element leave fewer steps, and a fired event leaves as many.
 use Rattle.std.proofs.Common.{◌≡◌, ◌∙◌, ℕ, zero, suc, ◌+◌, ◌<◌, ◌≤◌, Bool, true, false, not, ◌&&◌, ◌||◌, ◌==◌, cond, List, [], ◌∷◌, length, drop, refl, ap, sym, subst, arith}
 use Rattle.std.specs.Prelude.{Option, Some, None, slice_get, slice_set, option_map}
-use Rattle.mse_calls.specs.Answered.{Answered}
+use Rattle.mse_calls.specs.AnswerAndState.{AnswerAndState}
 use Rattle.mse_calls.specs.Level.{has_current_data}
 use Rattle.mse_calls.specs.declared.events.Event.{Event}
 use Rattle.byte_stream.specs.Readings.{ByteItem, items_in}
@@ -168,12 +168,12 @@ abbrev turned_player : Bool → Bool → PlayerState → PlayerState
 turned_player a b p = (cond a (seek_turn p) (cond b (end_turn p) (no_turn p))).state
 
 -- what is told of the end of playback, behind the end of the step
-abbrev told_end : CoreView → PlayerState → Bool
-told_end v p = p.finished && has_ended (scene_at p.position v) p
+abbrev has_told_end : CoreView → PlayerState → Bool
+has_told_end v p = p.finished && has_ended (scene_at p.position v) p
 
 turn_fewer_by : (a b : Bool) (v : CoreView) (p : PlayerState) → is_seek_done p ≡ a → is_end_due (scene_at p.position v) p ≡ b → (a || b) ≡ true
-    → turns_left (turned_player a b p).seeking (told_end v (turned_player a b p)) < turns_left p.seeking p.finished
-turn_fewer_by true b v p s e d = seek_fewer p.seeking p.finished (told_end v (turned_player true b p)) (both_first p.seeking (has_current_data p.level) s)
+    → turns_left (turned_player a b p).seeking (has_told_end v (turned_player a b p)) < turns_left p.seeking p.finished
+turn_fewer_by true b v p s e d = seek_fewer p.seeking p.finished (has_told_end v (turned_player true b p)) (both_first p.seeking (has_current_data p.level) s)
 turn_fewer_by false true v p s e d =
     let due = no_error p.seeking (has_ended (scene_at p.position v) p) p.finished (p.error == 0) e in
     end_fewer p.seeking p.finished (has_ended (scene_at p.position v) p) due
@@ -204,16 +204,16 @@ first_gone : (q : List Event) (event : Event) → slice_get q 0 ≡ Some event �
 first_gone [] event e = absurd (cc)
 first_gone (x ∷ xs) event e = omega arith
 
-by_event : (o : Option Event) (st : State) (fired : Answered Event State) → slice_get st.outer.queue 0 ≡ o
+by_event : (o : Option Event) (st : State) (fired : AnswerAndState Event State) → slice_get st.outer.queue 0 ≡ o
     → option_map (λ event. record { answer = event; state = without_first st }) o ≡ Some fired → IsOneEventLess st fired.state
 by_event None st fired at e = absurd (cc)
 by_event (Some event) st fired at e =
-    let same : without_first st ≡ fired.state = ap (λ (o : Option (Answered Event State)). state_in o) e in
+    let same : without_first st ≡ fired.state = ap (λ (o : Option (AnswerAndState Event State)). state_in o) e in
     subst (λ (x : State). IsOneEventLess st x) same (refl, first_gone st.outer.queue event at)
   where
-    state_in : Option (Answered Event State) → State
+    state_in : Option (AnswerAndState Event State) → State
     state_in None = st
     state_in (Some a) = a.state
 
-pub fire-leaves : (st : State) (fired : Answered Event State) → fire_result st ≡ Some fired → IsOneEventLess st fired.state
+pub fire-leaves : (st : State) (fired : AnswerAndState Event State) → fire_result st ≡ Some fired → IsOneEventLess st fired.state
 fire-leaves st fired e = by_event (slice_get st.outer.queue 0) st fired refl e

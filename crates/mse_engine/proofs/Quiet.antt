@@ -14,7 +14,7 @@ use Rattle.buffer_state.specs.declared.reply.Reply.{Reply}
 use Rattle.element_ready.specs.Levels.{level_at}
 use Rattle.element_seek.specs.declared.scene.Scene.{Scene}
 use Rattle.element_seek.specs.State.{PlayerState}
-use Rattle.element_seek.specs.Settling.{is_settled_by, is_settled_in}
+use Rattle.element_seek.specs.Settling.{is_unchanged_by_settle, is_unchanged_by_settle_in}
 use Rattle.source_state.specs.State.{SourceState}
 use Rattle.source_buffers.specs.State.{KeptBuffers}
 use Rattle.media_element.specs.State.{ElementState}
@@ -92,7 +92,7 @@ blank_by : (metadata finished x y : Bool) → metadata ≡ false → (not finish
 blank_by true finished x y h = absurd cc
 blank_by false finished x y h = refl
 
-pub blank_stays : (scene : Scene) (d : Moment) (p : PlayerState) → not (has_metadata p.level) ≡ true → is_settled_by None d p ≡ is_settled_in scene p
+pub blank_stays : (scene : Scene) (d : Moment) (p : PlayerState) → not (has_metadata p.level) ≡ true → is_unchanged_by_settle None d p ≡ is_unchanged_by_settle_in scene p
 blank_stays scene d p h = blank_by (has_metadata p.level) p.finished (level_number (level_at None p.position d) == level_number p.level) (level_number (level_at scene.span p.position scene.duration) == level_number p.level) (unset (has_metadata p.level) h)
 
 -- ---- the source

@@ -11,7 +11,7 @@ use Rattle.mse_types.specs.declared.answer.Container.{Container}
 use Rattle.mse_types.specs.declared.answer.TypeAnswer.{TypeAnswer}
 use Rattle.mse_types.specs.declared.answer.TypeAnswer.TheVariants.{Supported, Empty, Unsupported}
 use Rattle.mse_types.specs.Texts.{type_of}
-use Rattle.mse_calls.specs.Answered.{Answered}
+use Rattle.mse_calls.specs.AnswerAndState.{AnswerAndState}
 use Rattle.mse_calls.specs.declared.answers.Answer.{Answer}
 use Rattle.mse_calls.specs.declared.answers.Answer.TheVariants as answer
 use Rattle.mse_calls.specs.declared.answers.Name.{Name}
@@ -42,7 +42,7 @@ use Rattle.buffer_state.specs.State.{Feed, Content, Surroundings, is_updating, f
 use Rattle.mse_calls.specs.Ready.{is_ended}
 use Rattle.buffer_state.specs.Replies.{CallResult, event_reply, refused_result, result_with}
 use Rattle.buffer_state.specs.Calls.{abort_refusal, abort_result, abort_result_after_flush, append_refusal, change_type_refusal, change_type_refusal_by_answer, change_type_result, change_type_result_after_flush, change_type_result_by_answer, offset_refusal, remove_refusal, remove_result, settings_result, unless_refused, window_end_refusal, window_end_result, window_start_refusal, window_start_result}
-use Rattle.source_buffers.specs.State.{BufferState, BufferStates, KeptBuffers, AllStand, in_slot, all_kept_media, all_kept_running}
+use Rattle.source_buffers.specs.State.{BufferState, BufferStates, KeptBuffers, AreSlotsStanding, in_slot, all_kept_media, all_kept_running}
 use Rattle.source_buffers.specs.All.{all_buffers}
 use Rattle.source_buffers.specs.Slots.{BuffersResult, call_in_slot, refusal_by_slot, refusal_in_slot, refusal_on_buffer, refusal_on_slot, removal_refusal_in_slot, removal_result, removed_type_name, result_by_slot, result_on_buffer}
 use Rattle.source_buffers.proofs.Standing.{same_length, same_media, same_running}
@@ -83,7 +83,7 @@ same_all x st h =
     let media = same_media x.buffers st.core.buffers h.buffers in
     λ i. all_buffers (running i) (media i)
 
-pub same_made : (k : ℕ) (ks : KeptBuffers) (bs : BufferStates) → AllStand ks bs → nat_lt k (length ks) ≡ nat_lt k (length bs)
+pub same_made : (k : ℕ) (ks : KeptBuffers) (bs : BufferStates) → AreSlotsStanding ks bs → nat_lt k (length ks) ≡ nat_lt k (length bs)
 same_made k ks bs all = ap (nat_lt k) (same_length ks bs all)
 
 pub same_surroundings : (k : ℕ) (x : KeptEngine) (st : State) (a : Surroundings) → a ≡ surroundings_in k (core_source x.side x.element) → Stands x st → a ≡ surroundings_in k st.core.source
@@ -95,7 +95,7 @@ answered_name : (o : Option Name) (s : SourceState) (signals : List Signal) (c :
 answered_name None s signals c = refl
 answered_name (Some name) s signals c = refl
 
-pub plain_name : (call : SourceState → Answered (Option Name) SourceState) (s : SourceState) (signals : List Signal) (c : Core) → c.source.state ≡ s → (call s).answer ≡ (from_source (call c.source.state) signals c).refused
+pub plain_name : (call : SourceState → AnswerAndState (Option Name) SourceState) (s : SourceState) (signals : List Signal) (c : Core) → c.source.state ≡ s → (call s).answer ≡ (from_source (call c.source.state) signals c).refused
 plain_name call s signals c same = ap (λ (x : SourceState). (call x).answer) (sym same) ∙ sym (answered_name (call c.source.state).answer (call c.source.state).state signals c)
 
 added_name : (container : Container) (a : Added) (s : SourceState) (c : Core) → (added_effect container a s c).refused ≡ add_name a
@@ -133,7 +133,7 @@ set_duration_name d x st h =
     let there : duration_name (after_set_duration d (all_buffers (all_kept_running x.buffers) (all_kept_media x.buffers)) x.side.state).answer ≡ duration_name a.answer = (λ i. duration_name (after_set_duration d (all i) (state i)).answer) in
     there ∙ sym (changed_name [] a.answer a.state st.core)
 
-change_by : (b : Bool) (x y : Answered Changed SourceState) → duration_name x.answer ≡ None → duration_name y.answer ≡ None → duration_name (cond b x y).answer ≡ None
+change_by : (b : Bool) (x y : AnswerAndState Changed SourceState) → duration_name x.answer ≡ None → duration_name y.answer ≡ None → duration_name (cond b x y).answer ≡ None
 change_by true x y e f = e
 change_by false x y e f = f
 
@@ -212,7 +212,7 @@ refusal_unless (At u) o never = absurd (never u refl)
 refusal_unless Infinite o never = refl
 
 -- what is told of a time that is none
-pub untimely : (k : ℕ) (t : Moment) (ks : KeptBuffers) (m : ℤ → CoreEffect) (c : Core) (o : Option Name) → o ≡ cond (nat_lt k (length ks)) (Some TypeError) (Some NoSuchBuffer) → ((u : ℤ) → t ≡ At u → ⊥) → AllStand ks c.buffers
+pub untimely : (k : ℕ) (t : Moment) (ks : KeptBuffers) (m : ℤ → CoreEffect) (c : Core) (o : Option Name) → o ≡ cond (nat_lt k (length ks)) (Some TypeError) (Some NoSuchBuffer) → ((u : ℤ) → t ≡ At u → ⊥) → AreSlotsStanding ks c.buffers
     → o ≡ (if_made k (if_finite t m c) c).refused
 untimely k t ks m c o told never all =
     told ∙ ap (λ (b : Bool). cond b (Some TypeError) (Some NoSuchBuffer)) (same_made k ks c.buffers all) ∙ sym (made_or (nat_lt k (length c.buffers)) (if_finite t m c) (refused_effect NoSuchBuffer c) (Some TypeError) (Some NoSuchBuffer) (effect_unless t m c never) refl)
@@ -329,19 +329,19 @@ read_slot_name None b c e = ap (λ (x : Bool). cond x (Some InvalidState) None) 
 read_slot_name (Some None) b c e = ap (λ (x : Bool). cond x (Some InvalidState) None) (sym e)
 read_slot_name (Some (Some s)) b c e = ap (λ (x : Bool). cond x (Some InvalidState) None) (sym e)
 
-pub read_name : (k : ℕ) (b : Bool) (ks : KeptBuffers) (c : Core) → AllStand ks c.buffers → nat_lt k (length ks) ≡ true → is_some (refusal_on_slot k removal_refusal_in_slot c.buffers) ≡ b → cond b (Some InvalidState) None ≡ (read_effect k c).refused
+pub read_name : (k : ℕ) (b : Bool) (ks : KeptBuffers) (c : Core) → AreSlotsStanding ks c.buffers → nat_lt k (length ks) ≡ true → is_some (refusal_on_slot k removal_refusal_in_slot c.buffers) ≡ b → cond b (Some InvalidState) None ≡ (read_effect k c).refused
 read_name k b ks c all is gone =
     let made : nat_lt k (length c.buffers) ≡ true = sym (same_made k ks c.buffers all) ∙ is in
     read_slot_name (slice_get c.buffers k) b c gone ∙ ap (λ (x : Bool). (cond x (read_slot_effect (in_slot k c.buffers) c) (refused_effect NoSuchBuffer c)).refused) (sym made)
 
-pub read_unmade : (k : ℕ) (ks : KeptBuffers) (c : Core) → AllStand ks c.buffers → nat_lt k (length ks) ≡ false → Some NoSuchBuffer ≡ (read_effect k c).refused
+pub read_unmade : (k : ℕ) (ks : KeptBuffers) (c : Core) → AreSlotsStanding ks c.buffers → nat_lt k (length ks) ≡ false → Some NoSuchBuffer ≡ (read_effect k c).refused
 read_unmade k ks c all past =
     let none : nat_lt k (length c.buffers) ≡ false = sym (same_made k ks c.buffers all) ∙ past in
     ap (λ (x : Bool). (cond x (read_slot_effect (in_slot k c.buffers) c) (refused_effect NoSuchBuffer c)).refused) (sym none)
 
 -- ---- calls on the element
 
-acted_name : (b : Bool) (x y : Answered Acted PlayerState) (o p : Option Name) → queueing.refusal x.answer ≡ o → queueing.refusal y.answer ≡ p → queueing.refusal (cond b x y).answer ≡ cond b o p
+acted_name : (b : Bool) (x y : AnswerAndState Acted PlayerState) (o p : Option Name) → queueing.refusal x.answer ≡ o → queueing.refusal y.answer ≡ p → queueing.refusal (cond b x y).answer ≡ cond b o p
 acted_name true x y o p e f = e
 acted_name false x y o p e f = f
 

@@ -2,7 +2,7 @@
 use Rattle.std.proofs.Common.{◌≡◌, ◌∙◌, ◌||◌, ℤ, pos, int_lt, Bool, true, false, not, cond, List, [], Option, Some, None, refl, sym, ap, subst}
 use Rattle.mse_base.specs.declared.ticks.Moment.{Moment}
 use Rattle.mse_base.specs.declared.ticks.Moment.TheVariants.{Nan, At, Infinite}
-use Rattle.mse_calls.specs.Answered.{Answered}
+use Rattle.mse_calls.specs.AnswerAndState.{AnswerAndState}
 use Rattle.mse_calls.specs.Ready.{is_closed, is_open}
 use Rattle.mse_calls.specs.declared.answers.Answer.TheVariants.{Done, Refused}
 use Rattle.mse_calls.specs.declared.answers.Name.{Name}
@@ -10,7 +10,7 @@ use Rattle.mse_calls.specs.declared.answers.Name.TheVariants.{TypeError}
 use Rattle.source_state.specs.State.{SourceState}
 use Rattle.source_state.specs.Calls.{after_attach, after_set_live, after_clear_live}
 use Rattle.source_buffers.specs.State.{KeptBuffers, all_kept_media}
-use Rattle.source_buffers.specs.All.{AllEndWithin}
+use Rattle.source_buffers.specs.All.{AreSlotsWithin}
 use Rattle.media_element.specs.State.{ElementState}
 use Rattle.media_element.specs.Settled.{IsSettled}
 use Rattle.mse_engine.specs.State.{CoreSource, Core, State}
@@ -23,7 +23,7 @@ use Rattle.mse_engine.proofs.Unchanged.{IsUnchanged, same}
 use Rattle.mse_engine.proofs.Stepping.{IsEnd, stepped, still}
 
 abbrev pub SourceCall : Type 0
-SourceCall = SourceState → Answered (Option Name) SourceState
+SourceCall = SourceState → AnswerAndState (Option Name) SourceState
 
 abbrev pub in_state : SourceState → SourceSide → SourceSide
 in_state s side = record side { state = s }
@@ -34,11 +34,11 @@ pub record IsPlain (call : SourceCall) (s : SourceState) : Type 0 where
   pub made : (call s).state.made ≡ s.made
   pub duration : (call s).state.duration ≡ s.duration
 
-by_case : {A : Type 0} (P : Answered A SourceState → Type 0) (b : Bool) (x y : Answered A SourceState) → P x → P y → P (cond b x y)
+by_case : {A : Type 0} (P : AnswerAndState A SourceState → Type 0) (b : Bool) (x y : AnswerAndState A SourceState) → P x → P y → P (cond b x y)
 by_case P true x y h k = h
 by_case P false x y h k = k
 
-abbrev IsPlainAnswer : SourceState → Answered (Option Name) SourceState → Type 0
+abbrev IsPlainAnswer : SourceState → AnswerAndState (Option Name) SourceState → Type 0
 IsPlainAnswer s a = ((name : Name) → a.answer ≡ Some name → a.state ≡ s) × ((a.state.made ≡ s.made) × (a.state.duration ≡ s.duration))
 
 plain_attach : (s : SourceState) → IsPlainAnswer s (after_attach s)
@@ -100,7 +100,7 @@ module _ (call : SourceCall) (side new_side : SourceSide) (buffers : KeptBuffers
       let duration : new_side.state.duration ≡ side.state.duration = ap (λ (x : SourceSide). x.state.duration) is ∙ plain.duration in
       record {
         made = k.made ∙ sym made;
-        within = subst (λ d. AllEndWithin d (all_kept_media buffers)) (sym duration) k.within;
+        within = subst (λ d. AreSlotsWithin d (all_kept_media buffers)) (sym duration) k.within;
         settled = settled;
       }
 

@@ -15,35 +15,35 @@ use Rattle.track_store.specs.declared.store.Stored.{Stored}
 use Rattle.track_store.specs.Frames.{ends, intervals, ranges_of}
 use Rattle.track_store.specs.Sound.{IsSound, IsNotNegative}
 use Rattle.track_store.specs.State.{TrackState}
-use Rattle.track_buffers.specs.Media.{Media, EndsWithin}
+use Rattle.track_buffers.specs.Media.{Media, AreEndedWithin}
 use Rattle.track_buffers.specs.Frames.{highest_end_in}
 use Rattle.track_buffers.specs.Buffered.{last_end, last_ends, with_last_end, with_end, with_common_end, track_ranges, buffered_of}
 use Rattle.source_state.specs.Seekable.{seekable_span}
 use Rattle.source_buffers.specs.State.{in_slot}
-use Rattle.source_buffers.specs.All.{AllEndWithin, AreSound, slot_times, highest_end_of_all}
+use Rattle.source_buffers.specs.All.{AreSlotsWithin, AreSound, slot_times, highest_end_of_all}
 use Rattle.source_buffers.specs.Buffered.{slot_ranges, active_ranges, element_ranges}
-use Rattle.element_seek.specs.Inside.{LiesInside, HasSpansInside}
+use Rattle.element_seek.specs.Inside.{IsSpanInside, HasSpansInside}
 use Rattle.mse_engine.specs.Scenes.{CoreView, start_of_first, scene_at}
 
 -- the time is not after the duration, which there is
-abbrev EndsBy : Moment → ℤ → Type 0
-EndsBy Nan t = ⊥
-EndsBy (At d) t = t ≤ℤ d
-EndsBy Infinite t = Unit {0}
+abbrev IsTimeWithin : Moment → ℤ → Type 0
+IsTimeWithin Nan t = ⊥
+IsTimeWithin (At d) t = t ≤ℤ d
+IsTimeWithin Infinite t = Unit {0}
 
 -- the span neither begins nor ends before 0, and ends within the duration
 abbrev IsWithin : Moment → Span → Type 0
-IsWithin d s = (pos 0 ≤ℤ s.start) × (pos 0 ≤ℤ s.end) × EndsBy d s.end
+IsWithin d s = (pos 0 ≤ℤ s.start) × (pos 0 ≤ℤ s.end) × IsTimeWithin d s.end
 
 abbrev AreWithin : Moment → List Span → Type 0
 AreWithin d rs = AllByRecursion (IsWithin d) rs
 
-ends_most : (d : Moment) (a b : ℤ) → EndsBy d a → EndsBy d b → EndsBy d (int_max a b)
+ends_most : (d : Moment) (a b : ℤ) → IsTimeWithin d a → IsTimeWithin d b → IsTimeWithin d (int_max a b)
 ends_most Nan a b h k = h
 ends_most (At d) a b h k = grind (arith, ints)
 ends_most Infinite a b h k = tt
 
-ends_least : (d : Moment) (a b : ℤ) → EndsBy d a → EndsBy d (int_min a b)
+ends_least : (d : Moment) (a b : ℤ) → IsTimeWithin d a → IsTimeWithin d (int_min a b)
 ends_least Nan a b h = h
 ends_least (At d) a b h = grind (arith, ints)
 ends_least Infinite a b h = tt
@@ -74,7 +74,7 @@ round_within : (d : Moment) (s r : Span) → IsWithin d s → IsWithin d r → I
 round_within d s r h k = (
   pick (λ t. pos 0 ≤ℤ t) (int_lt r.start s.start) r.start s.start k.0 h.0,
   pick (λ t. pos 0 ≤ℤ t) (int_lt r.end s.end) s.end r.end h.1 k.1,
-  pick (EndsBy d) (int_lt r.end s.end) s.end r.end h.2 k.2,
+  pick (IsTimeWithin d) (int_lt r.end s.end) s.end r.end h.2 k.2,
 )
 
 lasting_within : (d : Moment) (gap : ℤ) (s : Span) (rs : List Span) → IsWithin d s → AreWithin d rs → AreWithin d (ranges_with_lasting gap s rs)
@@ -101,7 +101,7 @@ frames_infinite : (fs : List Stored) → AllByRecursion IsNotNegative fs → Are
 frames_infinite [] h = tt
 frames_infinite (f ∷ fs) h = ((h.0.0, frame_above f.frame.pts f.frame.dur h.0.0 h.0.1, tt), frames_infinite fs h.1)
 
-tracks_within : (d : Moment) (gap : ℤ) (ts : List TrackState) → AllByRecursion IsSound ts → EndsWithin d ts → AllByRecursion (AreWithin d) (map (λ t. ranges_of gap t.frames) ts)
+tracks_within : (d : Moment) (gap : ℤ) (ts : List TrackState) → AllByRecursion IsSound ts → AreEndedWithin d ts → AllByRecursion (AreWithin d) (map (λ t. ranges_of gap t.frames) ts)
 tracks_within Nan gap [] h k = tt
 tracks_within Nan gap (t ∷ ts) h k = (subst (λ (fs : List Stored). AreWithin Nan (ranges_of gap fs)) (sym k.0) tt, tracks_within Nan gap ts h.1 k.1)
 tracks_within (At d) gap [] h k = tt
@@ -119,14 +119,14 @@ last_is_within : (d : Moment) (rs : List Span) (r : Span) → AreWithin d rs →
 last_is_within d [] r h e = absurd (cc)
 last_is_within d (s ∷ rs) r h e = last_within d s rs r h.0 h.1 e
 
-end_of : (d : Moment) (o : Option Span) → ((r : Span) → o ≡ Some r → IsWithin d r) → AllByRecursion (EndsBy d) (option_to_list (option_map (λ s. s.end) o))
+end_of : (d : Moment) (o : Option Span) → ((r : Span) → o ≡ Some r → IsWithin d r) → AllByRecursion (IsTimeWithin d) (option_to_list (option_map (λ s. s.end) o))
 end_of d None f = tt
 end_of d (Some r) f = ((f r refl).2, tt)
 
-all_ends : (d : Moment) (rs : List (List Span)) → AllByRecursion (AreWithin d) rs → AllByRecursion (EndsBy d) (last_ends rs)
+all_ends : (d : Moment) (rs : List (List Span)) → AllByRecursion (AreWithin d) rs → AllByRecursion (IsTimeWithin d) (last_ends rs)
 all_ends d [] h = tt
 all_ends d (r ∷ rs) h =
-    all_append (EndsBy d) (option_to_list (last_end r)) (last_ends rs) (end_of d (last_of r) (λ s e. last_is_within d r s h.0 e)) (all_ends d rs h.1)
+    all_append (IsTimeWithin d) (option_to_list (last_end r)) (last_ends rs) (end_of d (last_of r) (λ s e. last_is_within d r s h.0 e)) (all_ends d rs h.1)
 
 greatest_from : (P : ℤ → Type 0) (s : ℤ) (ts : List ℤ) (e : ℤ) → ((a b : ℤ) → P a → P b → P (int_max a b)) → P s → AllByRecursion P ts → fold greater_of (Some s) ts ≡ Some e → P e
 greatest_from P s [] e f h k is = let same : s ≡ e = cc in subst (λ (x : ℤ). P x) same h
@@ -137,19 +137,19 @@ pub greatest_by : (P : ℤ → Type 0) (ts : List ℤ) (e : ℤ) → ((a b : ℤ
 greatest_by P [] e f h is = absurd (cc)
 greatest_by P (t ∷ ts) e f h is = greatest_from P t ts e f h.0 h.1 is
 
-longer_within : (d : Moment) (e : ℤ) (rs : List Span) → EndsBy d e → AreWithin d rs → AreWithin d (with_last_end e rs)
+longer_within : (d : Moment) (e : ℤ) (rs : List Span) → IsTimeWithin d e → AreWithin d rs → AreWithin d (with_last_end e rs)
 longer_within d e [] h k = tt
 longer_within d e (s ∷ []) h k = ((k.0.0, most_above s.end e k.0.1, ends_most d s.end e k.0.2 h), tt)
 longer_within d e (s ∷ r ∷ rs) h k = (k.0, longer_within d e (r ∷ rs) h k.1)
 
-each_longer : (d : Moment) (o : Option ℤ) (rs : List (List Span)) → ((e : ℤ) → o ≡ Some e → EndsBy d e) → AllByRecursion (AreWithin d) rs → AllByRecursion (AreWithin d) (map (with_end o) rs)
+each_longer : (d : Moment) (o : Option ℤ) (rs : List (List Span)) → ((e : ℤ) → o ≡ Some e → IsTimeWithin d e) → AllByRecursion (AreWithin d) rs → AllByRecursion (AreWithin d) (map (with_end o) rs)
 each_longer d o [] f h = tt
 each_longer d None (r ∷ rs) f h = (h.0, each_longer d None rs f h.1)
 each_longer d (Some e) (r ∷ rs) f h = (longer_within d e r (f e refl) h.0, each_longer d (Some e) rs f h.1)
 
 common_within : (d : Moment) (ended : Bool) (rs : List (List Span)) → AllByRecursion (AreWithin d) rs → AllByRecursion (AreWithin d) (with_common_end ended rs)
 common_within d false rs h = h
-common_within d true rs h = each_longer d (greatest (last_ends rs)) rs (λ e is. greatest_by (EndsBy d) (last_ends rs) e (ends_most d) (all_ends d rs h) is) h
+common_within d true rs h = each_longer d (greatest (last_ends rs)) rs (λ e is. greatest_by (IsTimeWithin d) (last_ends rs) e (ends_most d) (all_ends d rs h) is) h
 
 -- ---- the ticks that are shared
 
@@ -178,25 +178,25 @@ all_meet : (d : Moment) (rs : List (List Span)) → AllByRecursion (AreWithin d)
 all_meet d [] h = tt
 all_meet d (r ∷ rs) h = fold_within d r rs h.0 h.1
 
-buffer_within : (d : Moment) (ended : Bool) (m : Media) → AllByRecursion IsSound m.tracks → EndsWithin d m.tracks → AreWithin d (buffered_of ended m)
+buffer_within : (d : Moment) (ended : Bool) (m : Media) → AllByRecursion IsSound m.tracks → AreEndedWithin d m.tracks → AreWithin d (buffered_of ended m)
 buffer_within d ended m h k = all_meet d (with_common_end ended (track_ranges m)) (common_within d ended (track_ranges m) (tracks_within d m.gap m.tracks h k))
 
-slot_within : (d : Moment) (ended : Bool) (k : ℕ) (ms : List (Option Media)) → AreSound ms → AllEndWithin d ms → AreWithin d (slot_ranges ended (in_slot k ms))
+slot_within : (d : Moment) (ended : Bool) (k : ℕ) (ms : List (Option Media)) → AreSound ms → AreSlotsWithin d ms → AreWithin d (slot_ranges ended (in_slot k ms))
 slot_within d ended k [] h w = tt
 slot_within d ended zero (None ∷ ms) h w = tt
 slot_within d ended zero (Some m ∷ ms) h w = buffer_within d ended m h.0.0 w.0
 slot_within d ended (suc k) (m ∷ ms) h w = slot_within d ended k ms h.1 w.1
 
-active_within : (d : Moment) (ended : Bool) (active : List ℕ) (ms : List (Option Media)) → AreSound ms → AllEndWithin d ms → AllByRecursion (AreWithin d) (active_ranges ended active ms)
+active_within : (d : Moment) (ended : Bool) (active : List ℕ) (ms : List (Option Media)) → AreSound ms → AreSlotsWithin d ms → AllByRecursion (AreWithin d) (active_ranges ended active ms)
 active_within d ended [] ms h w = tt
 active_within d ended (k ∷ ks) ms h w = (slot_within d ended k ms h w, active_within d ended ks ms h w)
 
-ranges_within : (d : Moment) (ended : Bool) (active : List ℕ) (ms : List (Option Media)) → AreSound ms → AllEndWithin d ms → AreWithin d (element_ranges ended active ms)
+ranges_within : (d : Moment) (ended : Bool) (active : List ℕ) (ms : List (Option Media)) → AreSound ms → AreSlotsWithin d ms → AreWithin d (element_ranges ended active ms)
 ranges_within d ended active ms h w = all_meet d _ (common_within d ended (active_ranges ended active ms) (active_within d ended active ms h w))
 
 -- ---- the span at a position
 
-not_after_by : (d : Moment) (t : ℤ) → EndsBy d t → is_after t d ≡ false
+not_after_by : (d : Moment) (t : ℤ) → IsTimeWithin d t → is_after t d ≡ false
 not_after_by Nan t h = refl
 not_after_by (At d) t h = grind (arith, ints)
 not_after_by Infinite t h = refl
@@ -204,11 +204,11 @@ not_after_by Infinite t h = refl
 reached_lasts : (t a b : ℤ) → (int_le a t && int_le t b) ≡ true → a ≤ℤ b
 reached_lasts t a b e = grind (arith, ints)
 
-lies_by : (d : Moment) (t : ℤ) (b : Bool) (s : Span) (o : Option Span) → reaches t s ≡ b → IsWithin d s → LiesInside d o → LiesInside d (cond b (Some s) o)
+lies_by : (d : Moment) (t : ℤ) (b : Bool) (s : Span) (o : Option Span) → reaches t s ≡ b → IsWithin d s → IsSpanInside d o → IsSpanInside d (cond b (Some s) o)
 lies_by d t true s o e h k = (h.0, reached_lasts t s.start s.end e, not_after_by d s.end h.2)
 lies_by d t false s o e h k = k
 
-found_lies : (d : Moment) (t : ℤ) (rs : List Span) → AreWithin d rs → LiesInside d (find (reaches t) rs)
+found_lies : (d : Moment) (t : ℤ) (rs : List Span) → AreWithin d rs → IsSpanInside d (find (reaches t) rs)
 found_lies d t [] h = tt
 found_lies d t (s ∷ rs) h = lies_by d t (reaches t s) s (find (reaches t) rs) refl h.0 (found_lies d t rs h.1)
 
@@ -230,8 +230,8 @@ not_negative d e = grind (arith, ints)
 same_end : (d : ℤ) → is_after d (At d) ≡ false
 same_end d = grind (arith, ints)
 
-sought_lies : (d : Moment) (live : Option Span) (first last : Option ℤ) → is_after (pos 0) d ≡ false → LiesInside Infinite live
-    → ((t : ℤ) → first ≡ Some t → pos 0 ≤ℤ t) → ((t : ℤ) → last ≡ Some t → pos 0 ≤ℤ t) → LiesInside d (seekable_span d live first last)
+sought_lies : (d : Moment) (live : Option Span) (first last : Option ℤ) → is_after (pos 0) d ≡ false → IsSpanInside Infinite live
+    → ((t : ℤ) → first ≡ Some t → pos 0 ≤ℤ t) → ((t : ℤ) → last ≡ Some t → pos 0 ≤ℤ t) → IsSpanInside d (seekable_span d live first last)
 sought_lies Nan live first last h k f g = tt
 sought_lies (At d) live first last h k f g = (omega (arith, ints), not_negative d h, same_end d)
 sought_lies Infinite (Some live) first last h k f g = (live_start first live.start f k.0, live_lasts first last live.start live.end k.1, refl)
@@ -252,8 +252,8 @@ last_above d rs t h e = end_above d (last_of rs) t (λ r is. last_is_within d rs
 -- ---- the scene
 
 -- where the duration is not negative, the frames end within it, and the live seekable range is one
-pub spans-inside : (position : ℤ) (v : CoreView) → AreSound v.media → AllEndWithin v.source.state.duration v.media
-    → is_after (pos 0) v.source.state.duration ≡ false → LiesInside Infinite v.source.state.live → HasSpansInside (scene_at position v)
+pub spans-inside : (position : ℤ) (v : CoreView) → AreSound v.media → AreSlotsWithin v.source.state.duration v.media
+    → is_after (pos 0) v.source.state.duration ≡ false → IsSpanInside Infinite v.source.state.live → HasSpansInside (scene_at position v)
 spans-inside position v sound within lasting live =
     let d : Moment = v.source.state.duration in
     let rs : List Span = element_ranges _ v.source.state.active v.media in

@@ -5,7 +5,7 @@ use Rattle.element_seek.specs.Settling.{after_settle}
 use Rattle.media_element.specs.State.{ElementState}
 use Rattle.media_element.specs.Settled.{IsSettled}
 use Rattle.media_element.proofs.QueuedEvents.{silent}
-use Rattle.source_buffers.specs.State.{KeptBuffers, AllStand}
+use Rattle.source_buffers.specs.State.{KeptBuffers, AreSlotsStanding}
 use Rattle.source_buffers.proofs.Standing.{same_media}
 use Rattle.mse_engine.specs.State.{CoreSource, Core, Outer, State, outer_of, element_in}
 use Rattle.mse_engine.specs.Scenes.{core_view, scene_at}
@@ -21,7 +21,7 @@ kept_facts side e told h = λ i. record { state = side.state; error = h.error i;
 pub meant_element : (side : SourceSide) (e : ElementState) (source : CoreSource) (o : Outer) → core_source side e ≡ source → outer_of e ≡ o → e ≡ element_in source.error o
 meant_element side e source o h k = λ i. element_in (h i).error (k i)
 
-pub meant_view : (side : SourceSide) (buffers : KeptBuffers) (e : ElementState) (c : Core) → core_source side e ≡ c.source → AllStand buffers c.buffers → view_of side buffers e ≡ core_view c
+pub meant_view : (side : SourceSide) (buffers : KeptBuffers) (e : ElementState) (c : Core) → core_source side e ≡ c.source → AreSlotsStanding buffers c.buffers → view_of side buffers e ≡ core_view c
 meant_view side buffers e c h all = let media = same_media buffers c.buffers all in λ i. record { source = h i; media = media i }
 
 -- what the end of a step leaves
@@ -31,7 +31,7 @@ pub record IsEnd (side : SourceSide) (buffers : KeptBuffers) (told new : Element
 
 -- a step whose signals the machine's element heard, and which ended
 pub ended : (side : SourceSide) (buffers : KeptBuffers) (told new : ElementState) (c : Core) (signals : List Signal) (o : Outer)
-    → core_source side told ≡ c.source → AllStand buffers c.buffers
+    → core_source side told ≡ c.source → AreSlotsStanding buffers c.buffers
     → told ≡ after_signals (core_view c) signals (element_in c.source.error o) → IsEnd side buffers told new
     → Stands (kept_engine side buffers new) (step c signals o)
 ended side buffers told new c signals o h all now end =
@@ -44,7 +44,7 @@ ended side buffers told new c signals o h all now end =
 
 -- a step whose signals the element heard, and which ended
 pub stepped : (side : SourceSide) (buffers : KeptBuffers) (e told new : ElementState) (c : Core) (signals : List Signal) (o : Outer)
-    → core_source side e ≡ c.source → AllStand buffers c.buffers → outer_of e ≡ o
+    → core_source side e ≡ c.source → AreSlotsStanding buffers c.buffers → outer_of e ≡ o
     → IsUnchanged e.player told.player → told ≡ after_signals (view_of side buffers e) signals e → IsEnd side buffers told new
     → Stands (kept_engine side buffers new) (step c signals o)
 stepped side buffers e told new c signals o h all k same heard end =

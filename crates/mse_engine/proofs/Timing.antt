@@ -3,7 +3,7 @@ use Rattle.std.proofs.Common.{◌≡◌, ◌∙◌, ℕ, ◌+◌, ℤ, pos, negs
 use Rattle.std.specs.Prelude.{Option, Some, None, nat_le, length, slice_get}
 use Rattle.std.specs.Int.{int_max}
 use Rattle.std.proofs.lemmas.Int.{ints}
-use Rattle.mse_base.specs.Time.{SECOND, floor_div, converted}
+use Rattle.mse_base.specs.Time.{SECOND, floor_div, media_ticks}
 use Rattle.mse_base.specs.declared.frame.CodedFrame.{CodedFrame}
 use Rattle.mse_base.specs.declared.ticks.Moment.{Moment}
 use Rattle.mse_base.specs.declared.ticks.Moment.TheVariants.{Nan, At, Infinite}
@@ -181,15 +181,15 @@ moment_by true t h = (refl, refl)
 moment_by false t h = (refl, above_zero t h)
 
 moment_timed : (scale n : ℕ) → (is_nan (moment_of scale n) ≡ false) × (is_after (pos 0) (moment_of scale n) ≡ false)
-moment_timed scale n = moment_by (n == 0) (converted (pos n) scale) (floor_above (pos n *ℤ pos SECOND) scale (product_above n SECOND))
+moment_timed scale n = moment_by (n == 0) (media_ticks (pos n) scale) (floor_above (pos n *ℤ pos SECOND) scale (product_above n SECOND))
 
 -- what was read on the way to what came of it
-record Through {A B : Type 0} (r : Result A InitFault) (f : A → Result B InitFault) (y : B) : Type 0 where
+record IsOkThrough {A B : Type 0} (r : Result A InitFault) (f : A → Result B InitFault) (y : B) : Type 0 where
   value : A
   was : r ≡ Ok value
   then : f value ≡ Ok y
 
-through : {A B : Type 0} (r : Result A InitFault) (f : A → Result B InitFault) (y : B) → (r >>= f) ≡ Ok y → Through r f y
+through : {A B : Type 0} (r : Result A InitFault) (f : A → Result B InitFault) (y : B) → (r >>= f) ≡ Ok y → IsOkThrough r f y
 through (Ok x) f y e = record { value = x; was = refl; then = e }
 through (Err fault) f y e = absurd (cc)
 

@@ -6,7 +6,7 @@ use Rattle.mse_calls.specs.declared.entry.Entry.{Entry}
 use Rattle.mse_calls.specs.declared.entry.Entry.TheVariants.{Script, Listener}
 use Rattle.mse_engine.specs.State.{State}
 use Rattle.mse_engine.specs.Calls.{after_call}
-use Rattle.mse_engine.specs.Run.{entry_meaning, after_entries, Replays}
+use Rattle.mse_engine.specs.Run.{entry_meaning, after_entries, IsReplay}
 use Rattle.mse_engine.specs.Standing.{KeptEngine, Stands, IsStep}
 use Rattle.mse_engine.specs.Sound.{IsSoundEngine, AreSoundBehind}
 use Rattle.mse_engine.specs.Transitions.{IsTransition}
@@ -17,10 +17,10 @@ pub after_entries-append : (blobs : List (List ℕ)) (st : State) (xs ys : List 
 after_entries-append blobs st [] ys = refl
 after_entries-append blobs st (x ∷ xs) ys = after_entries-append blobs (entry_meaning blobs st x).state xs ys
 
-pub Replays-append : (blobs : List (List ℕ)) (st : State) (xs ys : List Entry)
-    → Replays blobs st xs → Replays blobs (after_entries blobs st xs) ys → Replays blobs st (xs ++ ys)
-Replays-append blobs st [] ys p q = q
-Replays-append blobs st (x ∷ xs) ys p q = (p.0, Replays-append blobs (entry_meaning blobs st x).state xs ys p.1 q)
+pub IsReplay-append : (blobs : List (List ℕ)) (st : State) (xs ys : List Entry)
+    → IsReplay blobs st xs → IsReplay blobs (after_entries blobs st xs) ys → IsReplay blobs st (xs ++ ys)
+IsReplay-append blobs st [] ys p q = q
+IsReplay-append blobs st (x ∷ xs) ys p q = (p.0, IsReplay-append blobs (entry_meaning blobs st x).state xs ys p.1 q)
 
 AreSoundBehind-append : (blobs : List (List ℕ)) (st : State) (xs ys : List Entry)
     → AreSoundBehind blobs st xs → AreSoundBehind blobs (after_entries blobs st xs) ys → AreSoundBehind blobs st (xs ++ ys)
@@ -42,7 +42,7 @@ goes_none blobs k = record { replays = λ st h. tt; stands = λ st h. h; sound =
 -- entries, and then others
 pub goes_then : (blobs : List (List ℕ)) (a b c : KeptEngine) (xs ys : List Entry) → IsTransition blobs a b xs → IsTransition blobs b c ys → IsTransition blobs a c (xs ++ ys)
 goes_then blobs a b c xs ys p q = record {
-  replays = λ st h. Replays-append blobs st xs ys (p.replays st h) (q.replays (after_entries blobs st xs) (p.stands st h));
+  replays = λ st h. IsReplay-append blobs st xs ys (p.replays st h) (q.replays (after_entries blobs st xs) (p.stands st h));
   stands = λ st h. rw (after_entries-append blobs st xs ys) (q.stands (after_entries blobs st xs) (p.stands st h));
   sound = λ st h. AreSoundBehind-append blobs st xs ys (p.sound st h) (q.sound (after_entries blobs st xs) (p.stands st h));
   idle = λ e. q.idle (empty_back xs ys e) ∙ p.idle (empty_front xs ys e);

@@ -4,7 +4,7 @@ use Rattle.std.specs.Ordering.{int_eq}
 use Rattle.mse_base.specs.declared.span.Span.{Span}
 use Rattle.mse_base.specs.declared.ticks.Moment.{Moment}
 use Rattle.mse_base.specs.declared.ticks.Moment.TheVariants.{Nan, At, Infinite}
-use Rattle.mse_calls.specs.Answered.{Answered}
+use Rattle.mse_calls.specs.AnswerAndState.{AnswerAndState}
 use Rattle.mse_calls.specs.Level.{has_metadata}
 use Rattle.element_seek.specs.declared.scene.Scene.{Scene}
 use Rattle.element_seek.specs.State.{PlayerState, has_ended}
@@ -23,7 +23,7 @@ same p = record { error = refl; level = refl }
 both : (p q r : PlayerState) → IsUnchanged p q → IsUnchanged q r → IsUnchanged p r
 both p q r h k = record { error = k.error ∙ h.error; level = k.level ∙ h.level }
 
-by_case : {A : Type 0} (b : Bool) (x y : Answered A PlayerState) (p : PlayerState) → IsUnchanged p x.state → IsUnchanged p y.state → IsUnchanged p (cond b x y).state
+by_case : {A : Type 0} (b : Bool) (x y : AnswerAndState A PlayerState) (p : PlayerState) → IsUnchanged p x.state → IsUnchanged p y.state → IsUnchanged p (cond b x y).state
 by_case true x y p h k = h
 by_case false x y p h k = k
 

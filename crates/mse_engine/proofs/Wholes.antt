@@ -22,7 +22,7 @@ use Rattle.mse_engine.proofs.Placed.{call-placed, work-placed, turn-placed}
 
 pub opens_placed : (quota : ℕ) (gap : ℤ) → IsInsideState (opening_state quota gap)
 opens_placed quota gap = record {
-  placed = record { lasting = refl; live = tt; timed = λ m. absurd (cc); start = λ b. refl; inside = (omega (arith, ints), refl) };
+  position_inside = record { lasting = refl; live = tt; timed = λ m. absurd (cc); start = λ b. refl; inside = (omega (arith, ints), refl) };
   untracked = λ n. tt;
 }
 
@@ -33,7 +33,7 @@ whole_call law blobs x old new answer h steady sound made = record {
   inside = record {
     state = (after_call blobs x h.inside.state).state;
     stands = made.stands;
-    placed = call-placed law blobs x h.inside.state h.inside.placed (stands_sound new (after_call blobs x h.inside.state).state made.stands (sound_steady new steady sound));
+    position_inside = call-placed law blobs x h.inside.state h.inside.position_inside (stands_sound new (after_call blobs x h.inside.state).state made.stands (sound_steady new steady sound));
   };
 }
 
@@ -43,31 +43,31 @@ whole_still old new same h = subst (λ (k : KeptEngine). HasEngineInvariants k) 
 
 worked_by : (w : Worked) (o : Option State) (old new : KeptEngine) → HasEngineInvariants old → IsSteady new → ((st : State) → o ≡ Some st → Stands new st → IsInsideState st) → IsWork w old new o → HasEngineInvariants new
 worked_by Did None old new h steady f work = absurd work
-worked_by Did (Some st) old new h steady f work = record { steady = steady; inside = record { state = st; stands = work; placed = f st refl work } }
+worked_by Did (Some st) old new h steady f work = record { steady = steady; inside = record { state = st; stands = work; position_inside = f st refl work } }
 worked_by Idle None old new h steady f work = whole_still old new work h
 worked_by Idle (Some st) old new h steady f work = absurd work
 
 pub whole_work : AreInside → (k : ℕ) (w : Worked) (old new : KeptEngine) → (h : HasEngineInvariants old) → IsSteady new → AreSound (all_kept_media new.buffers) → IsWork w old new (after_work k h.inside.state) → HasEngineInvariants new
 whole_work law k w old new h steady sound work =
-    worked_by w (after_work k h.inside.state) old new h steady (λ st is stands. work-placed law k h.inside.state st is h.inside.placed (stands_sound new st stands (sound_steady new steady sound))) work
+    worked_by w (after_work k h.inside.state) old new h steady (λ st is stands. work-placed law k h.inside.state st is h.inside.position_inside (stands_sound new st stands (sound_steady new steady sound))) work
 
 pub whole_turn : AreInside → (w : Worked) (old new : KeptEngine) → (h : HasEngineInvariants old) → IsSteady new → AreSound (all_kept_media old.buffers) → IsWork w old new (after_element_turn h.inside.state) → HasEngineInvariants new
 whole_turn law w old new h steady sound work =
-    worked_by w (after_element_turn h.inside.state) old new h steady (λ st is stands. turn-placed law h.inside.state st is h.inside.placed (stands_sound old h.inside.state h.inside.stands (sound_steady old h.steady sound))) work
+    worked_by w (after_element_turn h.inside.state) old new h steady (λ st is stands. turn-placed law h.inside.state st is h.inside.position_inside (stands_sound old h.inside.state h.inside.stands (sound_steady old h.steady sound))) work
 
 -- firing leaves the core and the element
 fired_placed : (st : State) → IsInsideState st → IsInsideState (without_first st)
-fired_placed st h = record { placed = h.placed; untracked = h.untracked }
+fired_placed st h = record { position_inside = h.position_inside; untracked = h.untracked }
 
 whole_fired_by : (o : Option Event) (st : State) (event : Option Event) (old new : KeptEngine) → HasEngineInvariants old → IsInsideState st → IsSteady new
     → IsFired event old new (option_map (λ e. record { answer = e; state = without_first st }) o) → HasEngineInvariants new
 whole_fired_by None st None old new h p steady fire = whole_still old new fire h
 whole_fired_by None st (Some event) old new h p steady fire = absurd fire
 whole_fired_by (Some x) st None old new h p steady fire = absurd fire
-whole_fired_by (Some x) st (Some event) old new h p steady fire = record { steady = steady; inside = record { state = without_first st; stands = fire.1; placed = fired_placed st p } }
+whole_fired_by (Some x) st (Some event) old new h p steady fire = record { steady = steady; inside = record { state = without_first st; stands = fire.1; position_inside = fired_placed st p } }
 
 pub whole_fire : (event : Option Event) (old new : KeptEngine) → (h : HasEngineInvariants old) → IsSteady new → IsFired event old new (fire_result h.inside.state) → HasEngineInvariants new
-whole_fire event old new h steady fire = whole_fired_by _ h.inside.state event old new h h.inside.placed steady fire
+whole_fire event old new h steady fire = whole_fired_by _ h.inside.state event old new h h.inside.position_inside steady fire
 
 pub fire_steady : (side : SourceSide) (buffers : KeptBuffers) (e new : ElementState) → new ≡ after_fire e → IsSteady (kept_engine side buffers e) → IsSteady (kept_engine side buffers new)
 fire_steady side buffers e new is k = subst (λ (x : ElementState). IsSteady (kept_engine side buffers x)) (sym is) (record { made = k.made; within = k.within; settled = k.settled })
@@ -80,5 +80,5 @@ new_whole quota gap side buffers e is none new =
     let same : kept_engine (new_side quota gap) [] new_element ≡ kept_engine side buffers e = λ i. kept_engine ((sym is) i) ((sym none) i) ((sym new) i) in
     subst (λ (k : KeptEngine). HasEngineInvariants k) same (record {
       steady = new_steady quota gap;
-      inside = record { state = opening_state quota gap; stands = record { source = refl; buffers = tt; outer = refl }; placed = opens_placed quota gap };
+      inside = record { state = opening_state quota gap; stands = record { source = refl; buffers = tt; outer = refl }; position_inside = opens_placed quota gap };
     })

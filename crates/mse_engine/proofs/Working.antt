@@ -15,7 +15,7 @@ use Rattle.buffer_state.specs.State.{Surroundings}
 use Rattle.element_seek.specs.declared.scene.Scene.{Scene}
 use Rattle.element_seek.specs.State.{player_change}
 use Rattle.element_seek.specs.Turns.{Turn, is_seek_done, is_end_due, is_due, seek_turn, end_turn, no_turn, after_turn}
-use Rattle.source_buffers.specs.State.{BufferStates, KeptBuffers, AllStand}
+use Rattle.source_buffers.specs.State.{BufferStates, KeptBuffers, AreSlotsStanding}
 use Rattle.source_buffers.specs.Views.{buffer_views}
 use Rattle.source_buffers.specs.Slots.{BuffersResult, IsBuffersResult, IsBuffersTurn, buffers_turn}
 use Rattle.media_element.specs.State.{ElementState}
@@ -33,7 +33,7 @@ use Rattle.mse_engine.specs.Work.{work_result, after_work, is_turn_due, after_el
 use Rattle.mse_engine.specs.Standing.{SourceSide, KeptEngine, Stands, IsSteady, IsWork, IsFired, core_source, kept_engine, view_of}
 use Rattle.mse_engine.proofs.Unchanged.{in_turn}
 use Rattle.mse_engine.proofs.Stepping.{IsEnd, meant_element, meant_view}
-use Rattle.mse_engine.proofs.BufferStepping.{Concludes}
+use Rattle.mse_engine.proofs.BufferStepping.{IsStepOfReply}
 use Rattle.mse_engine.proofs.ElementEffects.{begun, scene_step}
 
 -- ---- work
@@ -51,7 +51,7 @@ idle_by (Some meant) k ks old new st h same = absurd h
 
 pub work_did : (k : ℕ) (around : Surroundings) (r : Reply) (a : Answer) (side : SourceSide) (e start : ElementState) (old new : KeptBuffers) (behind : KeptEngine) (st : State)
     → start ≡ e → around ≡ surroundings_in k (core_source side start) → IsBuffersTurn (turned.Did r) new (buffers_turn k around st.core.buffers)
-    → Concludes k a r (kept_engine side new start) behind → Stands (kept_engine side old e) st
+    → IsStepOfReply k a r (kept_engine side new start) behind → Stands (kept_engine side old e) st
     → IsWork worked.Did (kept_engine side old e) behind (after_work k st)
 work_did k around r a side e start old new behind st ready there turns concludes h =
     let source : core_source side start ≡ st.core.source = ap (core_source side) ready ∙ h.source in
@@ -103,7 +103,7 @@ module _ (side : SourceSide) (buffers : KeptBuffers) (e : ElementState) (st : St
       is ∙ (λ i. span_at (here i) (seen i))
 
   pub meant_shown : (state : StateView) (views : List BufferView) (ended : Bool) (ready : Ready) → ready ≡ side.state.ready → ended ≡ is_ended ready
-      → ((bs : BufferStates) → AllStand buffers bs → views ≡ buffer_views ended bs)
+      → ((bs : BufferStates) → AreSlotsStanding buffers bs → views ≡ buffer_views ended bs)
       → ((s : State) → core_source side e ≡ s.core.source → outer_of e ≡ s.outer → state ≡ state_view s)
       → ◌≡◌ {A = View} (record { state = state; buffers = views; fault = side.fault }) (view_in st)
   meant_shown state views ended ready is is_end are shows =

@@ -2,7 +2,7 @@
 use Rattle.std.specs.Prelude.{ℕ, ℤ, List, [], Option, Some, None, unwrap_or}
 use Rattle.mse_base.specs.declared.ticks.Moment.{Moment}
 use Rattle.mse_base.specs.declared.ticks.Moment.TheVariants.{Nan, At, Infinite}
-use Rattle.mse_calls.specs.Answered.{Answered}
+use Rattle.mse_calls.specs.AnswerAndState.{AnswerAndState}
 use Rattle.mse_calls.specs.Ready.{is_ended}
 use Rattle.mse_calls.specs.declared.answers.Answer.{Answer}
 use Rattle.mse_calls.specs.declared.answers.Answer.TheVariants as answer
@@ -29,13 +29,13 @@ use Rattle.mse_engine.specs.BufferCalls.{mode_effect, offset_effect, window_star
 -- ---- the element's calls
 
 abbrev pub ElementEffect : Type 0
-ElementEffect = Answered (Option Name) Outer
+ElementEffect = AnswerAndState (Option Name) Outer
 
 abbrev pub no_element_effect : Outer → ElementEffect
 no_element_effect o = record { answer = None; state = o }
 
 -- what may be refused
-abbrev pub element_effect_by : (PlayerState → Answered Acted PlayerState) → ElementState
+abbrev pub element_effect_by : (PlayerState → AnswerAndState Acted PlayerState) → ElementState
     → ElementEffect
 element_effect_by call e = record {
   answer = queueing.refusal (call e.player).answer;
@@ -133,13 +133,13 @@ abbrev pub refused_or : Option Name → Answer → Answer
 refused_or None a = a
 refused_or (Some name) a = answer.Refused name
 
-abbrev pub after_call_by : CoreEffect → ElementEffect → Answer → Answered Answer State
+abbrev pub after_call_by : CoreEffect → ElementEffect → Answer → AnswerAndState Answer State
 after_call_by m acts a = record {
   answer = refused_or m.refused (refused_or acts.answer a);
   state = step m.core m.signals acts.state;
 }
 
-abbrev pub after_call : List (List ℕ) → Call → State → Answered Answer State
+abbrev pub after_call : List (List ℕ) → Call → State → AnswerAndState Answer State
 after_call blobs call st =
     after_call_by (core_effect blobs st.outer.element.position call st.core)
     (element_effect call (core_view st.core) st.outer) (read_answer st call)

@@ -9,7 +9,7 @@ use Rattle.mse_calls.specs.Level.{has_metadata}
 use Rattle.track_buffers.specs.Media.{Media}
 use Rattle.source_state.specs.State.{SourceState}
 use Rattle.source_buffers.specs.State.{BufferStates, media_of_all}
-use Rattle.element_seek.specs.Inside.{IsInside, LiesInside}
+use Rattle.element_seek.specs.Inside.{IsInside, IsSpanInside}
 use Rattle.mse_engine.specs.State.{ElementPart, State}
 
 -- the element in the media of a source
@@ -17,7 +17,7 @@ pub record IsPositionInside (s : SourceState) (e : ElementPart) : Type 0 where
   -- the duration is not negative
   pub lasting : is_after (pos 0) s.duration ≡ false
   -- the live seekable range neither starts before 0 nor ends before it starts
-  pub live : LiesInside Infinite s.live
+  pub live : IsSpanInside Infinite s.live
   -- where the element has metadata there is a duration
   pub timed : has_metadata e.level ≡ true → is_nan s.duration ≡ false
   -- before it has metadata it is at the start
@@ -34,5 +34,5 @@ abbrev pub AreUntracked : Moment → BufferStates → Type 0
 AreUntracked d bs = is_nan d ≡ true → AllByRecursion HasNoTracks (media_of_all bs)
 
 pub record IsInsideState (st : State) : Type 0 where
-  pub placed : IsPositionInside st.core.source.state st.outer.element
+  pub position_inside : IsPositionInside st.core.source.state st.outer.element
   pub untracked : AreUntracked st.core.source.state.duration st.core.buffers

@@ -3,7 +3,7 @@
 use Rattle.std.specs.Prelude.{◌≡◌, ℕ, nat_lt, List, [], length, Option, Some, None, if◌then◌else◌}
 use Rattle.mse_base.specs.declared.ticks.Moment.{Moment}
 use Rattle.mse_base.specs.declared.ticks.Moment.TheVariants.{Nan, At, Infinite}
-use Rattle.mse_calls.specs.Answered.{Answered}
+use Rattle.mse_calls.specs.AnswerAndState.{AnswerAndState}
 use Rattle.mse_calls.specs.Pieces.{bytes_of}
 use Rattle.mse_calls.specs.declared.answers.Answer.{Answer}
 use Rattle.mse_calls.specs.declared.answers.Answer.TheVariants as answer
@@ -82,19 +82,19 @@ call_refusal blobs other st = refused_name (after_call blobs other st).answer
 -- ---- the laws
 
 -- by the name nothing is done: there is the end of the step alone
-pub record IsRefused (name : Name) (st : State) (meant : Answered Answer State) : Type 0 where
+pub record IsRefused (name : Name) (st : State) (meant : AnswerAndState Answer State) : Type 0 where
   pub answers : meant.answer ≡ answer.Refused name
   pub stays : meant.state ≡ step st.core [] st.outer
 
 -- a call whose refusal is a name is refused by it
-abbrev pub TellsRefusal : List (List ℕ) → Call → State → Type 0
-TellsRefusal blobs c st =
+abbrev pub IsRefusedAsNamed : List (List ℕ) → Call → State → Type 0
+IsRefusedAsNamed blobs c st =
     (name : Name) → call_refusal blobs c st ≡ Some name → IsRefused name st (after_call blobs c st)
 
 -- A call that is refused though its refusal is no name was an append, for the quota, or had an effect before: the source
 -- and its buffers are not as they were.
-abbrev pub TellsAllButQuota : List (List ℕ) → Call → State → Type 0
-TellsAllButQuota blobs c st =
+abbrev pub IsOtherwiseQuota : List (List ℕ) → Call → State → Type 0
+IsOtherwiseQuota blobs c st =
     (name : Name) → call_refusal blobs c st ≡ None
     → (after_call blobs c st).answer ≡ answer.Refused name
     → (after_call blobs c st).state.core ≡ st.core → name ≡ QuotaExceeded

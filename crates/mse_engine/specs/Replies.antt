@@ -110,17 +110,17 @@ abbrev pub duration_events : ℕ → List Event
 duration_events changes = replicate changes (event_at target.Element kind.DurationChange)
 
 abbrev pub active_events : Bool → List Event
-active_events is_activating =
-    if is_activating then (event_at target.ActiveSourceBuffers kind.AddSourceBuffer ∷ []) else []
+active_events activates =
+    if activates then (event_at target.ActiveSourceBuffers kind.AddSourceBuffer ∷ []) else []
 
 abbrev pub load_signals : Bool → List Signal
-load_signals is_loading = if is_loading then (Loaded ∷ []) else []
+load_signals loads = if loads then (Loaded ∷ []) else []
 
 -- what an item or a reset of the parser brings about: how often the duration changed, whether the buffer became active,
 -- and whether the metadata is there
 abbrev pub effect_signals : ℕ → Bool → Bool → List Signal
-effect_signals changes is_activating is_loading =
-    Tell (duration_events changes) ∷ Tell (active_events is_activating) ∷ load_signals is_loading
+effect_signals changes activates loads =
+    Tell (duration_events changes) ∷ Tell (active_events activates) ∷ load_signals loads
 
 -- the events at the buffer
 abbrev pub buffer_signal : ℕ → Reply → Signal
@@ -128,10 +128,10 @@ buffer_signal k r = Tell (events_at (target.Buffer k) r.events)
 
 -- those of an abort come before what its reset brings about, all others behind it
 abbrev pub middle_signals : ℕ → Reply → Bool → Bool → List Signal
-middle_signals k r is_activating is_loading =
+middle_signals k r activates loads =
     if r.events_first
-    then buffer_signal k r ∷ effect_signals r.duration_changes is_activating is_loading
-    else effect_signals r.duration_changes is_activating is_loading ++ buffer_signal k r ∷ []
+    then buffer_signal k r ∷ effect_signals r.duration_changes activates loads
+    else effect_signals r.duration_changes activates loads ++ buffer_signal k r ∷ []
 
 abbrev pub error_events : ℕ → List Event
 error_events error = if error == 0 then (event_at target.Element kind.Error ∷ []) else []

@@ -1,6 +1,6 @@
 -- The run of a journal: what each entry does, and that it replays.
 use Rattle.std.specs.Prelude.{◌≡◌, ℕ, List, [], ◌∷◌, Option, Some, None, filter_map}
-use Rattle.mse_calls.specs.Answered.{Answered}
+use Rattle.mse_calls.specs.AnswerAndState.{AnswerAndState}
 use Rattle.mse_calls.specs.declared.answers.Answer.{Answer}
 use Rattle.mse_calls.specs.declared.events.Event.{Event}
 use Rattle.mse_calls.specs.declared.entry.Entry.{Entry}
@@ -14,7 +14,7 @@ pub record EntryMeaning : Type 1 where
   pub holds : Type 0
   pub state : State
 
-abbrev pub call_meaning : Answered Answer State → Answer → EntryMeaning
+abbrev pub call_meaning : AnswerAndState Answer State → Answer → EntryMeaning
 call_meaning a answer = record { holds = answer ≡ a.answer; state = a.state }
 
 -- where nothing happens the entry tells what is not so
@@ -22,7 +22,7 @@ abbrev pub step_meaning : Option State → State → EntryMeaning
 step_meaning None st = record { holds = ⊥; state = st }
 step_meaning (Some new) st = record { holds = Unit {0}; state = new }
 
-abbrev pub fire_meaning : Option (Answered Event State) → Event → State → EntryMeaning
+abbrev pub fire_meaning : Option (AnswerAndState Event State) → Event → State → EntryMeaning
 fire_meaning None event st = record { holds = ⊥; state = st }
 fire_meaning (Some a) event st = record { holds = event ≡ a.answer; state = a.state }
 
@@ -42,14 +42,14 @@ after_entries blobs st (entry ∷ entries) =
 
 -- each entry tells what happens there: each answer and each event is that of its step, at each work something runs, and
 -- at each turn of the element one is due
-abbrev pub Replays : List (List ℕ) → State → List Entry → Type 0
-Replays blobs st [] = Unit {0}
-Replays blobs st (entry ∷ entries) =
+abbrev pub IsReplay : List (List ℕ) → State → List Entry → Type 0
+IsReplay blobs st [] = Unit {0}
+IsReplay blobs st (entry ∷ entries) =
     (entry_meaning blobs st entry).holds
-    × Replays blobs (entry_meaning blobs st entry).state entries
+    × IsReplay blobs (entry_meaning blobs st entry).state entries
 
 -- the entry of an event that is fired, if one waits
-abbrev pub fire_entries : Option (Answered Event State) → List Entry
+abbrev pub fire_entries : Option (AnswerAndState Event State) → List Entry
 fire_entries None = []
 fire_entries (Some fired) = Fired fired.answer ∷ []
 

@@ -3,7 +3,7 @@ use Rattle.std.specs.Prelude.{ℕ, List, [], ◌∷◌, Option}
 use Rattle.mse_base.specs.declared.ticks.Moment.{Moment}
 use Rattle.mse_calls.specs.declared.entry.Entry.{Entry}
 use Rattle.track_buffers.specs.Media.{Media}
-use Rattle.source_buffers.specs.All.{AllEndWithin, AreSound}
+use Rattle.source_buffers.specs.All.{AreSlotsWithin, AreSound}
 use Rattle.source_buffers.specs.State.{all_kept_media, media_of_all}
 use Rattle.mse_engine.specs.State.{State}
 use Rattle.mse_engine.specs.Run.{entry_meaning}
@@ -12,7 +12,7 @@ use Rattle.mse_engine.specs.Standing.{KeptEngine}
 -- Each track buffer is sound, and each stored frame ends at or before the duration; without a duration there is none.
 pub record AreSoundWithin (duration : Moment) (media : List (Option Media)) : Type 0 where
   pub sound : AreSound media
-  pub within : AllEndWithin duration media
+  pub within : AreSlotsWithin duration media
 
 -- of what the engine keeps
 abbrev pub IsSoundEngine : KeptEngine → Type 0

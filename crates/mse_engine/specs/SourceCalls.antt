@@ -5,7 +5,7 @@ use Rattle.mse_types.specs.declared.answer.Container.{Container}
 use Rattle.mse_types.specs.declared.answer.TypeAnswer.{TypeAnswer}
 use Rattle.mse_types.specs.declared.answer.TypeAnswer.TheVariants.{Supported, Empty, Unsupported}
 use Rattle.mse_types.specs.Texts.{type_of}
-use Rattle.mse_calls.specs.Answered.{Answered}
+use Rattle.mse_calls.specs.AnswerAndState.{AnswerAndState}
 use Rattle.mse_calls.specs.declared.answers.Name.{Name}
 use Rattle.mse_calls.specs.declared.answers.Name.TheVariants.{NotSupported, TypeError}
 use Rattle.mse_calls.specs.declared.calls.EndKind.{EndKind}
@@ -36,7 +36,7 @@ abbrev pub answered_by : Option Name → SourceState → List Signal → Core �
 answered_by (Some name) s signals c = refused_effect name c
 answered_by None s signals c = effect_leaving s signals c
 
-abbrev pub from_source : Answered (Option Name) SourceState → List Signal → Core → CoreEffect
+abbrev pub from_source : AnswerAndState (Option Name) SourceState → List Signal → Core → CoreEffect
 from_source a signals c = answered_by a.answer a.state signals c
 
 abbrev pub attach_effect : Core → CoreEffect
@@ -66,7 +66,7 @@ added_effect container (added.Number k) s c = record {
   signals = Tell (event_at target.SourceBuffers kind.AddSourceBuffer ∷ []) ∷ [];
 }
 
-abbrev pub add_effect_by : Answered Added SourceState → Container → Core → CoreEffect
+abbrev pub add_effect_by : AnswerAndState Added SourceState → Container → Core → CoreEffect
 add_effect_by a container c = added_effect container a.answer a.state c
 
 abbrev pub add_effect_of : TypeAnswer → Core → CoreEffect
@@ -95,7 +95,7 @@ removed_effect k result (removed.Gone active) s c = record {
   signals = buffer_signal k result.reply ∷ Tell (removal_events active) ∷ [];
 }
 
-abbrev pub remove_effect_by : ℕ → Answered Removed SourceState → Core → CoreEffect
+abbrev pub remove_effect_by : ℕ → AnswerAndState Removed SourceState → Core → CoreEffect
 remove_effect_by k a c =
     removed_effect k (removal_result k (surroundings_in k c.source) c.buffers) a.answer a.state c
 
@@ -117,7 +117,7 @@ changed_effect first changed.Same s c = effect_leaving s (first ++ change_signal
 changed_effect first (changed.To d) s c =
     effect_leaving s (first ++ change_signals (changed.To d)) c
 
-abbrev pub changed_effect_by : List Signal → Answered Changed SourceState → Core → CoreEffect
+abbrev pub changed_effect_by : List Signal → AnswerAndState Changed SourceState → Core → CoreEffect
 changed_effect_by first a c = changed_effect first a.answer a.state c
 
 -- what the source is told of all its buffers

@@ -2,7 +2,7 @@
 -- `IsEngineAnswer`, which say what a call gives, then `IsSteady` and `HasEngineInvariants`, which say what every step keeps.
 use Rattle.std.specs.Prelude.{◌≡◌, ℕ, ◌<◌, ℤ, pos, int_lt, Bool, true, not, List, if◌then◌else◌, length, Option, Some, None, Result, IfOk}
 use Rattle.buffer_state.specs.declared.reply.Reply.{Reply}
-use Rattle.mse_calls.specs.Answered.{Answered}
+use Rattle.mse_calls.specs.AnswerAndState.{AnswerAndState}
 use Rattle.mse_calls.specs.Level.{has_metadata}
 use Rattle.mse_calls.specs.declared.answers.Answer.{Answer}
 use Rattle.mse_calls.specs.declared.events.Event.{Event}
@@ -10,7 +10,7 @@ use Rattle.mse_calls.specs.declared.views.FaultView.{FaultView}
 use Rattle.mse_engine.specs.declared.engine.Worked.{Worked}
 use Rattle.mse_engine.specs.declared.engine.Worked.TheVariants.{Did, Idle}
 use Rattle.source_state.specs.State.{SourceState, new_source}
-use Rattle.source_buffers.specs.State.{KeptBuffers, AllStand, all_kept_media}
+use Rattle.source_buffers.specs.State.{KeptBuffers, AreSlotsStanding, all_kept_media}
 use Rattle.media_element.specs.State.{ElementState}
 use Rattle.mse_engine.specs.State.{CoreSource, State, outer_of}
 use Rattle.track_buffers.specs.Buffered.{last_end}
@@ -21,7 +21,7 @@ use Rattle.media_element.specs.Settled.{IsSettled}
 use Rattle.mse_engine.specs.declared.scenes.Bounds.{Bounds}
 use Rattle.mse_engine.specs.declared.scenes.LoadBounds.{LoadBounds}
 use Rattle.mse_base.specs.declared.span.Span.{Span}
-use Rattle.source_buffers.specs.All.{AllEndWithin, all_steps_left}
+use Rattle.source_buffers.specs.All.{AreSlotsWithin, all_steps_left}
 use Rattle.mse_engine.specs.Replies.{state_after, fault_after, source_after}
 use Rattle.mse_engine.specs.Positions.{IsInsideState}
 
@@ -67,19 +67,20 @@ new_side quota gap = record { state = new_source; fault = None; quota = quota; g
 -- Many states may be stood for, since many strings may belong to one buffer.
 pub record Stands (k : KeptEngine) (st : State) : Type 0 where
   pub source : core_source k.side k.element ≡ st.core.source
-  pub buffers : AllStand k.buffers st.core.buffers
+  pub buffers : AreSlotsStanding k.buffers st.core.buffers
   pub outer : outer_of k.element ≡ st.outer
 
 -- ---- the code and the machine
 
 -- the answer is the one that is meant, and what is kept stands for the state that is meant
-pub record IsStep (answer : Answer) (k : KeptEngine) (meant : Answered Answer State) : Type 0 where
+pub record IsStep (answer : Answer) (k : KeptEngine)
+    (meant : AnswerAndState Answer State) : Type 0 where
   pub answers : answer ≡ meant.answer
   pub stands : Stands k meant.state
 
 -- for every state that was stood for
 abbrev pub IsEngineAnswer : {E : Type 0} → KeptEngine → Result Answer E → KeptEngine
-    → (State → Answered Answer State)
+    → (State → AnswerAndState Answer State)
     → Type 0
 IsEngineAnswer old result new call =
     (st : State) → Stands old st → IfOk result (λ answer. IsStep answer new (call st))
@@ -92,7 +93,7 @@ kept_scene k = scene_with None k.element.player.position (view_of k.side k.buffe
 -- the element has the level of its position.
 pub record IsSteady (k : KeptEngine) : Type 0 where
   pub made : length k.buffers ≡ k.side.state.made
-  pub within : AllEndWithin k.side.state.duration (all_kept_media k.buffers)
+  pub within : AreSlotsWithin k.side.state.duration (all_kept_media k.buffers)
   pub settled : IsSettled (kept_scene k) k.element
 
 -- what is kept stands for some state
@@ -101,15 +102,15 @@ pub record IsStanding (k : KeptEngine) : Type 0 where
   pub stands : Stands k state
 
 -- what is kept stands for a state in which the position lies inside the media
-pub record StandsInside (k : KeptEngine) : Type 0 where
+pub record HasStateInside (k : KeptEngine) : Type 0 where
   pub state : State
   pub stands : Stands k state
-  pub placed : IsInsideState state
+  pub position_inside : IsInsideState state
 
 -- what every step of the whole engine keeps
 pub record HasEngineInvariants (k : KeptEngine) : Type 0 where
   pub steady : IsSteady k
-  pub inside : StandsInside k
+  pub inside : HasStateInside k
 
 -- ---- a reply
 
@@ -152,7 +153,8 @@ IsWork Idle old new None = new ≡ old
 IsWork Idle old new (Some st) = ⊥
 
 -- the first event of the queue was fired, or there was none
-abbrev pub IsFired : Option Event → KeptEngine → KeptEngine → Option (Answered Event State) → Type 0
+abbrev pub IsFired : Option Event → KeptEngine → KeptEngine → Option (AnswerAndState Event State)
+    → Type 0
 IsFired None old new None = new ≡ old
 IsFired None old new (Some meant) = ⊥
 IsFired (Some event) old new None = ⊥

@@ -1,6 +1,6 @@
 -- One step of the running work of a source buffer, and a turn of the element by itself.
 use Rattle.std.specs.Prelude.{ℕ, ◌==◌, Bool, not, [], length, drop, slice_get, Option, Some, None, option_map, if◌then◌else◌}
-use Rattle.mse_calls.specs.Answered.{Answered}
+use Rattle.mse_calls.specs.AnswerAndState.{AnswerAndState}
 use Rattle.mse_calls.specs.declared.events.Event.{Event}
 use Rattle.element_seek.specs.State.{PlayerState}
 use Rattle.element_seek.specs.Turns.{is_due}
@@ -67,7 +67,7 @@ abbrev pub has_event_in : State → Bool
 has_event_in st = not (length st.outer.queue == 0)
 
 -- none where the queue is empty
-abbrev pub fire_result : State → Option (Answered Event State)
+abbrev pub fire_result : State → Option (AnswerAndState Event State)
 fire_result st =
     option_map (λ event. record { answer = event; state = without_first st })
     (slice_get st.outer.queue 0)

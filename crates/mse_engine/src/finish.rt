@@ -5,7 +5,7 @@ ghost use Rattle.mse_calls.specs.Level.{has_metadata};
 ghost use Rattle.mse_calls.specs.declared.answers.Answer.TheVariants.{Done};
 ghost use Rattle.media_element.specs.Queueing.{event_at, with_events};
 ghost use Rattle.media_element.specs.Settled.{IsSettled};
-ghost use Rattle.element_seek.specs.Settling.{is_settled_in};
+ghost use Rattle.element_seek.specs.Settling.{is_unchanged_by_settle_in};
 ghost use Rattle.source_buffers.specs.State.{all_kept_media};
 ghost use Rattle.source_buffers.specs.Slots.{BuffersResult, IsBuffersResult};
 ghost use Rattle.mse_engine.specs.State.{State, outer_of};
@@ -37,20 +37,20 @@ pub(crate) fn event(target: Target, kind: EventKind) -> Event
 }
 
 /// Whether the end of a step leaves the element as it is, since it has the level of its position.
-fn is_settled<S: FrameStore>(
+fn is_unchanged_by_settle<S: FrameStore>(
     side: &SourceSide,
     buffers: &SourceBuffers<S>,
     element: &Element,
 ) -> bool
-    ensures { result ≡ is_settled_in (kept_scene
+    ensures { result ≡ is_unchanged_by_settle_in (kept_scene
         (kept_engine side.now buffers.now.buffers element.now.state)) element.now.state.player }
 {
     let duration = side.source.duration();
     if is_blank(element) {
-        return element.is_settled(&None, duration);
+        return element.is_unchanged_by_settle(&None, duration);
     }
     let span = scenes::span_at(side, buffers, element.position());
-    element.is_settled(&span, duration)
+    element.is_unchanged_by_settle(&span, duration)
 }
 
 /// The end of each step: the level that the position has now, with its events.
@@ -67,7 +67,7 @@ pub(crate) fn settle<S: FrameStore>(
     ensures settled { IsSettled (kept_scene
         (kept_engine side.now buffers.now.buffers element.new.state)) element.new.state }
 {
-    if !is_settled(side, buffers, element) {
+    if !is_unchanged_by_settle(side, buffers, element) {
         settle_level(side, buffers, element);
     }
 }
@@ -248,7 +248,7 @@ pub(crate) fn finish<S: FrameStore>(
     reply: &Reply,
     bounds: &LoadBounds,
 )
-    requires places { reply.now.duration_changes + 14 ≤ element.old.spare }
+    requires room { reply.now.duration_changes + 14 ≤ element.old.spare }
     requires bounds { is_loading k reply.now (not (has_metadata element.old.state.player.level))
         side.old.state ≡ true → IsReadyToLoad bounds.now
         (reply_view k reply.now side.old buffers.now.buffers element.old.state)
@@ -281,7 +281,7 @@ fn finish_with_events<S: FrameStore>(
     reply: &Reply,
     bounds: &LoadBounds,
 )
-    requires places { reply.now.duration_changes + 14 ≤ element.old.spare }
+    requires room { reply.now.duration_changes + 14 ≤ element.old.spare }
     requires bounds { is_loading k reply.now (not (has_metadata element.old.state.player.level))
         side.old.state ≡ true → IsReadyToLoad bounds.now
         (reply_view k reply.now side.old buffers.now.buffers element.old.state)
@@ -323,7 +323,7 @@ pub(crate) fn conclude<S: FrameStore>(
     k: u32,
     reply: &Reply,
 ) -> Answer
-    requires places { reply.now.duration_changes + 14 ≤ element.old.spare }
+    requires room { reply.now.duration_changes + 14 ≤ element.old.spare }
     requires bounds { is_loading k reply.now (not (has_metadata element.old.state.player.level))
         side.old.state ≡ true → IsReadyToLoad no_bounds
         (reply_view k reply.now side.old buffers.now.buffers element.old.state)

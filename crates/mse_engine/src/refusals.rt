@@ -4,7 +4,7 @@ ghost use Rattle.std.specs.Prelude.{◌≡◌, ◌==◌, nat_lt, length, Some, N
 ghost use Rattle.mse_calls.specs.declared.answers.Name.TheVariants as name;
 ghost use Rattle.mse_calls.specs.Pieces.{bytes_of};
 ghost use Rattle.source_state.specs.Calls.{after_attach, after_clear_live, after_remove_buffer, after_set_duration, duration_name, end_refusal, remove_name};
-ghost use Rattle.source_buffers.specs.State.{AllStand, all_kept_media, all_kept_running};
+ghost use Rattle.source_buffers.specs.State.{AreSlotsStanding, all_kept_media, all_kept_running};
 ghost use Rattle.source_buffers.specs.All.{all_buffers};
 ghost use Rattle.mse_engine.specs.State.{Core, Outer, State};
 ghost use Rattle.mse_engine.specs.Scenes.{CoreView};
@@ -141,7 +141,7 @@ fn window_start_refusal<S: FrameStore>(
     k: u32,
     t: Moment,
 ) -> Option<Name>
-    ensures { (c : Core) → AllStand buffers.now.buffers c.buffers
+    ensures { (c : Core) → AreSlotsStanding buffers.now.buffers c.buffers
         → result ≡ (window_start_effect k t c).refused }
 {
     let Moment::At(t) = t else {
@@ -192,7 +192,7 @@ fn append_refusal<S: FrameStore>(
 
 /// That of reading what is buffered: a buffer is gone where it cannot be removed.
 fn read_refusal<S: FrameStore>(buffers: &SourceBuffers<S>, k: u32) -> Option<Name>
-    ensures { (c : Core) → AllStand buffers.now.buffers c.buffers
+    ensures { (c : Core) → AreSlotsStanding buffers.now.buffers c.buffers
         → result ≡ (read_effect k c).refused }
 {
     if !buffers.is_made(k) {

@@ -1,7 +1,7 @@
 -- A script has one journal that follows it, replays and has no call of a listener: that of its play.
 use Rattle.std.proofs.Common.{◌≡◌, ℕ, zero, suc, ◌<◌, Bool, true, false, List, [], ◌∷◌, ◌++◌, refl, ap, sym, subst, ◌∙◌, arith}
 use Rattle.std.specs.Prelude.{Option, Some, None, slice_get}
-use Rattle.mse_calls.specs.Answered.{Answered}
+use Rattle.mse_calls.specs.AnswerAndState.{AnswerAndState}
 use Rattle.mse_calls.specs.declared.answers.Answer.{Answer}
 use Rattle.mse_calls.specs.declared.calls.Call.TheVariants.{AppendBuffer}
 use Rattle.mse_calls.specs.declared.calls.Piece.{Piece}
@@ -13,14 +13,14 @@ use Rattle.call_script.specs.declared.script.StepLine.TheVariants as step
 use Rattle.mse_engine.specs.State.{Core, State}
 use Rattle.mse_engine.specs.State.{ElementPart}
 use Rattle.mse_engine.specs.Work.{after_work, after_element_turn, fire_result, running_in, is_turn_due}
-use Rattle.mse_engine.specs.Run.{entry_meaning, step_meaning, fire_meaning, after_entries, Replays, fire_entries, entries_if}
+use Rattle.mse_engine.specs.Run.{entry_meaning, step_meaning, fire_meaning, after_entries, IsReplay, fire_entries, entries_if}
 use Rattle.script_run.specs.DrainSteps.{IsDrain, IsNextStep, IsAtRest, AreInDrainOrder}
 use Rattle.script_run.specs.Turns.{ListenerTurn, first_turn, AreInTurn, calls_in}
 use Rattle.script_run.specs.Lines.{own_of, IsLineEntries, Limits, IsWithin, PlayInputs, play_inputs}
 use Rattle.script_run.specs.Follows.{AreLinesDone}
 use Rattle.cut_law.specs.Plays.{after_entry, fired_entries, next_entry_by, next_entry, entries_behind, entries_then, drain_in, drain_entries, line_entries, after_line, play_entries, play_of}
 use Rattle.cut_law.specs.Files.{after_piece}
-use Rattle.play_law.specs.Silent.{CutsAlike, IsSilentJournal}
+use Rattle.play_law.specs.Silent.{AreCutsAlike, IsSilentJournal}
 use Rattle.cut_law.proofs.Cutting.{cutting, recutting}
 use Rattle.cut_law.proofs.Ending.{without-events, work-falls, work-holds, turn-holds, turn-falls}
 use Rattle.mse_engine.specs.Progress.{steps_left}
@@ -101,15 +101,15 @@ one-drain blobs st (x ∷ xs) (y ∷ ys) a r q b s p =
 -- ---- the drain of the play is one
 
 -- the entries are a drain, without a listener's call, and replay
-pub record Drained (blobs : List (List ℕ)) (st : State) (entries : List Entry) : Type 0 where
+pub record IsReplayedDrain (blobs : List (List ℕ)) (st : State) (entries : List Entry) : Type 0 where
   pub order : AreInDrainOrder blobs st entries
   pub end : IsAtRest (after_entries blobs st entries)
   pub quiet : calls_in entries ≡ 0
-  pub replays : Replays blobs st entries
+  pub replays : IsReplay blobs st entries
 
 -- one entry that replays, and a drain behind it
 drained-more : (blobs : List (List ℕ)) (st : State) (entry : Entry) (entries : List Entry) → IsNextStep st entry → calls_in (entry ∷ []) ≡ 0 → (entry_meaning blobs st entry).holds
-    → Drained blobs (after_entry blobs st entry) entries → Drained blobs st (entry ∷ entries)
+    → IsReplayedDrain blobs (after_entry blobs st entry) entries → IsReplayedDrain blobs st (entry ∷ entries)
 drained-more blobs st entry entries n q h d =
     record { order = (n, d.order); end = d.end; quiet = quiet-more (entry ∷ []) entries q d.quiet; replays = (h, d.replays) }
   where
@@ -122,15 +122,15 @@ drained-more blobs st entry entries n q h d =
     quiet-more (Work k ∷ xs) ys p q = quiet-more xs ys p q
     quiet-more (Element ∷ xs) ys p q = quiet-more xs ys p q
 
-drained-events : (blobs : List (List ℕ)) (c : Core) (e : ElementPart) (queue : List Event) (entries : List Entry) → Drained blobs (record { core = c; outer = record { element = e; queue = [] } }) entries
-    → Drained blobs (record { core = c; outer = record { element = e; queue = queue } }) (fired_entries queue ++ entries)
+drained-events : (blobs : List (List ℕ)) (c : Core) (e : ElementPart) (queue : List Event) (entries : List Entry) → IsReplayedDrain blobs (record { core = c; outer = record { element = e; queue = [] } }) entries
+    → IsReplayedDrain blobs (record { core = c; outer = record { element = e; queue = queue } }) (fired_entries queue ++ entries)
 drained-events blobs c e [] entries d = d
 drained-events blobs c e (event ∷ events) entries d =
     drained-more blobs (record { core = c; outer = record { element = e; queue = event ∷ events } }) (Fired event) (fired_entries events ++ entries) refl refl refl (drained-events blobs c e events entries d)
 
 then-drained : (low : Option ℕ) (t : Bool) (n : ℕ) (blobs : List (List ℕ)) (st : State) → running_in st ≡ low → is_turn_due st ≡ t → st.outer.queue ≡ [] → steps_left st < suc n
-    → ((new : State) → steps_left new < n → Drained blobs new (drain_in n blobs new))
-    → Drained blobs st (entries_behind (next_entry_by low t) (λ entry. drain_in n blobs (after_entry blobs st entry)))
+    → ((new : State) → steps_left new < n → IsReplayedDrain blobs new (drain_in n blobs new))
+    → IsReplayedDrain blobs st (entries_behind (next_entry_by low t) (λ entry. drain_in n blobs (after_entry blobs st entry)))
 then-drained (Some k) t n blobs st r d q l f =
     let fewer : steps_left (after_entry blobs st (Work k)) < steps_left st = work-falls blobs st k r in
     drained-more blobs st (Work k) (drain_in n blobs (after_entry blobs st (Work k))) (q, r) refl (work-holds st k r) (f (after_entry blobs st (Work k)) (omega (arith, fewer, l)))
@@ -141,15 +141,15 @@ then-drained None true n blobs st r d q l f =
     (f (after_entry blobs st Element) (omega (arith, fewer, l)))
 then-drained None false n blobs st r d q l f = record { order = tt; end = record { quiet = record { queue = q; running = r }; due = d }; quiet = refl; replays = tt }
 
-drained-in : (n : ℕ) (blobs : List (List ℕ)) (st : State) → steps_left st < n → Drained blobs st (drain_in n blobs st)
+drained-in : (n : ℕ) (blobs : List (List ℕ)) (st : State) → steps_left st < n → IsReplayedDrain blobs st (drain_in n blobs st)
 drained-in zero blobs st l = absurd (omega arith)
 drained-in (suc n) blobs st l =
     let still : State = record { core = st.core; outer = record { element = st.outer.element; queue = [] } } in
-    let rest : Drained blobs still (entries_then (drain_in n blobs) blobs still) = then-drained (running_in still) (is_turn_due still) n blobs still refl refl refl l (λ new fewer. drained-in n blobs new fewer) in
-    let all : Drained blobs st (fired_entries st.outer.queue ++ entries_then (drain_in n blobs) blobs still) = drained-events blobs st.core st.outer.element st.outer.queue (entries_then (drain_in n blobs) blobs still) rest in
-    subst (λ s. Drained blobs st (fired_entries st.outer.queue ++ entries_then (drain_in n blobs) blobs s)) (sym (without-events blobs st.core st.outer.element st.outer.queue)) all
+    let rest : IsReplayedDrain blobs still (entries_then (drain_in n blobs) blobs still) = then-drained (running_in still) (is_turn_due still) n blobs still refl refl refl l (λ new fewer. drained-in n blobs new fewer) in
+    let all : IsReplayedDrain blobs st (fired_entries st.outer.queue ++ entries_then (drain_in n blobs) blobs still) = drained-events blobs st.core st.outer.element st.outer.queue (entries_then (drain_in n blobs) blobs still) rest in
+    subst (λ s. IsReplayedDrain blobs st (fired_entries st.outer.queue ++ entries_then (drain_in n blobs) blobs s)) (sym (without-events blobs st.core st.outer.element st.outer.queue)) all
 
-drained : (blobs : List (List ℕ)) (st : State) → Drained blobs st (drain_entries blobs st)
+drained : (blobs : List (List ℕ)) (st : State) → IsReplayedDrain blobs st (drain_entries blobs st)
 unfolding drain_entries
 drained blobs st = drained-in (suc (steps_left st)) blobs st (omega arith)
 
@@ -174,20 +174,20 @@ within : (limits : Limits) (xs : List Entry) → calls_in xs ≡ 0 → IsWithin 
 within limits xs q = record { few = omega (arith, q); turns = silent-turns limits.count None xs q }
 
 -- the entries of a line do what the line says, replay, and have no listener's call
-pub record Done (blobs : List (List ℕ)) (st : State) (line : StepLine) (part : List Entry) : Type 0 where
+pub record IsReplayedLine (blobs : List (List ℕ)) (st : State) (line : StepLine) (part : List Entry) : Type 0 where
   pub does : IsLineEntries blobs st line part
   pub quiet : calls_in part ≡ 0
-  pub replays : Replays blobs st part
+  pub replays : IsReplay blobs st part
 
-fired-own : (o : Option (Answered Event State)) → own_of (fire_entries o) ≡ fire_entries o
+fired-own : (o : Option (AnswerAndState Event State)) → own_of (fire_entries o) ≡ fire_entries o
 fired-own None = refl
 fired-own (Some a) = refl
 
-fired-quiet : (o : Option (Answered Event State)) → calls_in (fire_entries o) ≡ 0
+fired-quiet : (o : Option (AnswerAndState Event State)) → calls_in (fire_entries o) ≡ 0
 fired-quiet None = refl
 fired-quiet (Some a) = refl
 
-fired-replays : (o : Option (Answered Event State)) (blobs : List (List ℕ)) (st : State) → fire_result st ≡ o → Replays blobs st (fire_entries o)
+fired-replays : (o : Option (AnswerAndState Event State)) (blobs : List (List ℕ)) (st : State) → fire_result st ≡ o → IsReplay blobs st (fire_entries o)
 fired-replays None blobs st e = tt
 fired-replays (Some a) blobs st e = (subst (λ o. (fire_meaning o a.answer st).holds) (sym e) refl, tt)
 
@@ -199,15 +199,15 @@ if-turn : (o : Option State) → (own_of (entries_if o Element) ≡ entries_if o
 if-turn None = (refl, refl)
 if-turn (Some new) = (refl, refl)
 
-work-replays : (o : Option State) (blobs : List (List ℕ)) (st : State) (k : ℕ) → after_work k st ≡ o → Replays blobs st (entries_if o (Work k))
+work-replays : (o : Option State) (blobs : List (List ℕ)) (st : State) (k : ℕ) → after_work k st ≡ o → IsReplay blobs st (entries_if o (Work k))
 work-replays None blobs st k e = tt
 work-replays (Some new) blobs st k e = (subst (λ o. (step_meaning o st).holds) (sym e) tt, tt)
 
-turn-replays : (o : Option State) (blobs : List (List ℕ)) (st : State) → after_element_turn st ≡ o → Replays blobs st (entries_if o Element)
+turn-replays : (o : Option State) (blobs : List (List ℕ)) (st : State) → after_element_turn st ≡ o → IsReplay blobs st (entries_if o Element)
 turn-replays None blobs st e = tt
 turn-replays (Some new) blobs st e = (subst (λ o. (step_meaning o st).holds) (sym e) tt, tt)
 
-line-done : (blobs : List (List ℕ)) (st : State) (line : StepLine) → Done blobs st line (line_entries blobs st line)
+line-done : (blobs : List (List ℕ)) (st : State) (line : StepLine) → IsReplayedLine blobs st line (line_entries blobs st line)
 line-done blobs st (step.Call call) = record { does = refl; quiet = refl; replays = (refl, tt) }
 line-done blobs st step.Fire = record { does = fired-own (fire_result st); quiet = fired-quiet (fire_result st); replays = fired-replays (fire_result st) blobs st refl }
 line-done blobs st (step.Work k) =
@@ -220,7 +220,7 @@ line-done blobs st step.Drain =
     let d = drained blobs st in
     record { does = record { order = d.order; end = d.end }; quiet = d.quiet; replays = d.replays }
 
-one-line : (blobs : List (List ℕ)) (st : State) (line : StepLine) (part : List Entry) → IsLineEntries blobs st line part → Replays blobs st part → calls_in part ≡ 0 → part ≡ line_entries blobs st line
+one-line : (blobs : List (List ℕ)) (st : State) (line : StepLine) (part : List Entry) → IsLineEntries blobs st line part → IsReplay blobs st part → calls_in part ≡ 0 → part ≡ line_entries blobs st line
 one-line blobs st (step.Call call) part d r q = sym (own-all part q) ∙ d
 one-line blobs st step.Fire part d r q = sym (own-all part q) ∙ d
 one-line blobs st (step.Work k) part d r q = sym (own-all part q) ∙ d
@@ -229,11 +229,11 @@ one-line blobs st step.Drain part d r q = quiet-drain blobs st part d q
 
 -- ---- scripts
 
-replays-parts : (blobs : List (List ℕ)) (st : State) (xs ys : List Entry) → Replays blobs st (xs ++ ys) → Replays blobs st xs × Replays blobs (after_entries blobs st xs) ys
+replays-parts : (blobs : List (List ℕ)) (st : State) (xs ys : List Entry) → IsReplay blobs st (xs ++ ys) → IsReplay blobs st xs × IsReplay blobs (after_entries blobs st xs) ys
 replays-parts blobs st [] ys r = (tt, r)
 replays-parts blobs st (x ∷ xs) ys r = let p = replays-parts blobs (after_entry blobs st x) xs ys r.1 in ((r.0, p.0), p.1)
 
-replays-join : (blobs : List (List ℕ)) (st : State) (xs ys : List Entry) → Replays blobs st xs → Replays blobs (after_entries blobs st xs) ys → Replays blobs st (xs ++ ys)
+replays-join : (blobs : List (List ℕ)) (st : State) (xs ys : List Entry) → IsReplay blobs st xs → IsReplay blobs (after_entries blobs st xs) ys → IsReplay blobs st (xs ++ ys)
 replays-join blobs st [] ys r s = s
 replays-join blobs st (x ∷ xs) ys r s = (r.0, replays-join blobs (after_entry blobs st x) xs ys r.1 s)
 
@@ -249,7 +249,7 @@ quiet-join (Element ∷ xs) ys p q = quiet-join xs ys p q
 -- what holds of the journal of some lines, of which the first has the number n
 pub record IsPlayFrom (inputs : PlayInputs) (n : ℕ) (st : State) (lines : List StepLine) (entries : List Entry) : Type 0 where
   pub whole : AreLinesDone inputs n st lines entries
-  pub replays : Replays inputs.blobs st entries
+  pub replays : IsReplay inputs.blobs st entries
   pub silent : calls_in entries ≡ 0
 
 pub some-play : (blobs : List (List ℕ)) (limits : Limits) (n : ℕ) (st : State) (lines : List StepLine) → IsPlayFrom (play_inputs blobs limits) n st lines (play_entries blobs n st lines)
@@ -265,19 +265,19 @@ some-play blobs limits n st (line ∷ lines) =
       silent = quiet-join part rest d.quiet p.silent;
     }
 
-pub one-play : (blobs : List (List ℕ)) (limits : Limits) (n : ℕ) (st : State) (lines : List StepLine) (entries : List Entry) → AreLinesDone (play_inputs blobs limits) n st lines entries → Replays blobs st entries → calls_in entries ≡ 0
+pub one-play : (blobs : List (List ℕ)) (limits : Limits) (n : ℕ) (st : State) (lines : List StepLine) (entries : List Entry) → AreLinesDone (play_inputs blobs limits) n st lines entries → IsReplay blobs st entries → calls_in entries ≡ 0
     → entries ≡ play_entries blobs n st lines
 one-play blobs limits n st [] entries w r q = w
 one-play blobs limits n st (line ∷ lines) entries w r q =
     let part : List Entry = w.0 in
     let rest : List Entry = w.1 in
-    let replays : Replays blobs st (Step n ∷ (part ++ rest)) = subst (λ es. Replays blobs st es) w.2 r in
+    let replays : IsReplay blobs st (Step n ∷ (part ++ rest)) = subst (λ es. IsReplay blobs st es) w.2 r in
     let both = replays-parts blobs st part rest replays.1 in
     let none : calls_in (part ++ rest) ≡ 0 = ap calls_in (sym w.2) ∙ q in
     let quiet = quiet-parts part rest none in
     let same : part ≡ line_entries blobs st line = one-line blobs st line part w.3.does both.0 quiet.0 in
     let later : AreLinesDone (play_inputs blobs limits) (suc n) (after_line blobs st line) lines rest = subst (λ es. AreLinesDone (play_inputs blobs limits) (suc n) (after_entries blobs st es) lines rest) same w.4 in
-    let behind : Replays blobs (after_line blobs st line) rest = subst (λ es. Replays blobs (after_entries blobs st es) rest) same both.1 in
+    let behind : IsReplay blobs (after_line blobs st line) rest = subst (λ es. IsReplay blobs (after_entries blobs st es) rest) same both.1 in
     let tail : rest ≡ play_entries blobs (suc n) (after_line blobs st line) lines = one-play blobs limits (suc n) (after_line blobs st line) lines rest later behind quiet.1 in
     w.2 ∙ ap (λ es. Step n ∷ (es ++ rest)) same ∙ ap (λ es. Step n ∷ (line_entries blobs st line ++ es)) tail
 
@@ -285,7 +285,7 @@ pub silent-play : (blobs : List (List ℕ)) (limits : Limits) (st : State) (line
 silent-play blobs limits st lines = let p = some-play blobs limits 0 st lines in record { whole = p.whole; replays = p.replays; silent = p.silent }
 
 pub cuts-alike : (blobs : List (List ℕ)) (limits : Limits) (st : State) (s : List StepLine) (entries : List Entry) → IsSilentJournal blobs limits st s entries
-    → CutsAlike blobs st s (after_entries blobs st entries).core
+    → AreCutsAlike blobs st s (after_entries blobs st entries).core
 cuts-alike blobs limits st s entries j =
     let same : (play_of blobs st s).core ≡ (after_entries blobs st entries).core =
     sym (ap (λ es. (after_entries blobs st es).core) (one-play blobs limits 0 st s entries j.whole j.replays j.silent)) in

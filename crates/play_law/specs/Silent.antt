@@ -3,7 +3,7 @@ use Rattle.std.specs.Prelude.{◌≡◌, ℕ, List}
 use Rattle.mse_calls.specs.declared.entry.Entry.{Entry}
 use Rattle.call_script.specs.declared.script.StepLine.{StepLine}
 use Rattle.mse_engine.specs.State.{Core, State}
-use Rattle.mse_engine.specs.Run.{Replays}
+use Rattle.mse_engine.specs.Run.{IsReplay}
 use Rattle.script_run.specs.Turns.{calls_in}
 use Rattle.script_run.specs.Lines.{Limits}
 use Rattle.script_run.specs.Follows.{AreScriptLinesDone}
@@ -15,12 +15,12 @@ use Rattle.cut_law.specs.Room.{IsUnmet}
 pub record IsSilentJournal (blobs : List (List ℕ)) (limits : Limits) (st : State)
     (lines : List StepLine) (entries : List Entry) : Type 0 where
   pub whole : AreScriptLinesDone blobs limits lines st entries
-  pub replays : Replays blobs st entries
+  pub replays : IsReplay blobs st entries
   pub silent : calls_in entries ≡ 0
 
 -- Each script in which an append of this one that was awaited is cut comes to this core, where neither meets the quota;
 -- so does each to which one comes by one such cut after another.
-pub record CutsAlike (blobs : List (List ℕ)) (st : State) (s : List StepLine)
+pub record AreCutsAlike (blobs : List (List ℕ)) (st : State) (s : List StepLine)
     (core : Core) : Type 0 where
   pub once : (t : List StepLine) (c : IsOtherCut blobs s t)
       → IsAwaited blobs st c.front → IsUnmet blobs st s → IsUnmet blobs st t

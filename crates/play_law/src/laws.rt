@@ -9,7 +9,7 @@ ghost use Rattle.script_run.specs.DrainSteps.{IsDrain};
 ghost use Rattle.script_run.specs.Lines.{Limits};
 ghost use Rattle.script_run.specs.Turns.{calls_in};
 ghost use Rattle.cut_law.specs.Plays.{drain_entries, play_entries};
-ghost use Rattle.play_law.specs.Silent.{CutsAlike, IsSilentJournal};
+ghost use Rattle.play_law.specs.Silent.{AreCutsAlike, IsSilentJournal};
 
 /// A script has one whole journal that replays and in which no listener calls: that of its play. So
 /// has a drain.
@@ -31,5 +31,5 @@ pub fn one_play()
 pub fn cut_journal()
     ensures { (blobs : List (List ℕ)) (limits : Limits) (st : State) (lines : List StepLine)
         (entries : List Entry) → IsSilentJournal blobs limits st lines entries
-        → CutsAlike blobs st lines (after_entries blobs st entries).core }
+        → AreCutsAlike blobs st lines (after_entries blobs st entries).core }
 {}

@@ -5,7 +5,7 @@
 
 use super::files::PLAIN;
 use call_script::{BlobText, Script, StepLine, read_script};
-use event_text::{closing_text, line_of};
+use event_text::{closing, line_of};
 use mse_base::{Bytes, OutOfMemory, Text, Ticks};
 use mse_calls::{Answer, Blobs, Call, Entry};
 use mse_engine::{Engine, EngineFault};
@@ -136,12 +136,12 @@ fn take(player: &mut Player, step: MemoryCall) -> Result<Option<Answer>, EngineF
 /// What an engine shows, as it is printed at the end of a run.
 fn shown_once(alloc: Global, player: &Player) -> Result<Text, OutOfMemory> {
     match player.engine.view() {
-        Ok(view) => closing_text(alloc, &view, true),
+        Ok(view) => closing(alloc, &view, true),
         Err(_) => Err(OutOfMemory),
     }
 }
 
-fn shown(alloc: Global, player: &Player) -> Result<Text, OutOfMemory> {
+fn player_text(alloc: Global, player: &Player) -> Result<Text, OutOfMemory> {
     match shown_once(alloc, player) {
         Ok(text) => Ok(text),
         Err(_) => shown_once(alloc, player),
@@ -155,12 +155,12 @@ fn take_again(
     player: &mut Player,
     step: MemoryCall,
 ) -> Result<Option<Answer>, Fail> {
-    let before = shown(alloc, player)?;
+    let before = player_text(alloc, player)?;
     match take(player, step) {
         Ok(answer) => return Ok(answer),
         Err(EngineFault::OutOfMemory) => {}
     }
-    let after = shown(alloc, player)?;
+    let after = player_text(alloc, player)?;
     assert_eq!(rt; after.as_str(), before.as_str());
     let answer = take(player, step)?;
     Ok(answer)
@@ -305,7 +305,7 @@ fn each_step_again(rt: HostRuntime) -> Result<(), Fail> {
     for line in script.steps.as_slice() {
         do_line(&rt, alloc, &mut player, line)?;
     }
-    let end = shown(alloc, &player)?;
+    let end = player_text(alloc, &player)?;
     assert!(rt; PRINTS.starts_with(player.text.as_str()));
     assert!(rt; PRINTS.ends_with(end.as_str()));
     assert_eq!(rt; PRINTS.len(), player.text.len() + end.as_str().len());

@@ -44,7 +44,7 @@ fn refusals(scene: &mut RefusalScene, call: &Call) -> Result<(Option<Name>, Opti
 }
 
 /// An open source with one buffer of ADTS frames.
-fn opened(alloc: Global) -> Result<RefusalScene, Fail> {
+fn open_scene(alloc: Global) -> Result<RefusalScene, Fail> {
     let mut scene = new_scene(alloc)?;
     refusals(&mut scene, &Call::Attach)?;
     let kind = Text::copy_of(alloc, "audio/aac")?;
@@ -98,7 +98,7 @@ fn of_the_source(rt: HostRuntime) -> Result<(), Fail> {
 /// A buffer that was never made comes before a time, and a time before the bytes.
 #[test]
 fn of_times_and_bytes(rt: HostRuntime) -> Result<(), Fail> {
-    let mut scene = opened(rt.alloc())?;
+    let mut scene = open_scene(rt.alloc())?;
     let nowhere = Call::SetTimestampOffset(1, Moment::Nan);
     assert_eq!(rt; refusals(&mut scene, &nowhere)?, same(Name::NoSuchBuffer));
     let never = Call::SetTimestampOffset(0, Moment::Nan);
@@ -114,7 +114,7 @@ fn of_times_and_bytes(rt: HostRuntime) -> Result<(), Fail> {
 
 #[test]
 fn of_a_buffer_at_work(rt: HostRuntime) -> Result<(), Fail> {
-    let mut scene = opened(rt.alloc())?;
+    let mut scene = open_scene(rt.alloc())?;
     let append = Call::AppendBuffer(0, WHOLE);
     assert_eq!(rt; refusals(&mut scene, &append)?, (None, None));
     assert_eq!(rt; refusals(&mut scene, &append)?, same(Name::InvalidState));
@@ -128,7 +128,7 @@ fn of_a_buffer_at_work(rt: HostRuntime) -> Result<(), Fail> {
 /// That a buffer is full is not told before the call.
 #[test]
 fn of_a_full_buffer(rt: HostRuntime) -> Result<(), Fail> {
-    let mut scene = opened(rt.alloc())?;
+    let mut scene = open_scene(rt.alloc())?;
     let append = Call::AppendBuffer(0, WHOLE);
     assert_eq!(rt; refusals(&mut scene, &append)?, (None, None));
     drain(&mut scene)?;
@@ -139,7 +139,7 @@ fn of_a_full_buffer(rt: HostRuntime) -> Result<(), Fail> {
 
 #[test]
 fn of_a_removed_buffer(rt: HostRuntime) -> Result<(), Fail> {
-    let mut scene = opened(rt.alloc())?;
+    let mut scene = open_scene(rt.alloc())?;
     let removal = Call::RemoveSourceBuffer(0);
     assert_eq!(rt; refusals(&mut scene, &removal)?, (None, None));
     let read = Call::Buffered(0);
@@ -150,7 +150,7 @@ fn of_a_removed_buffer(rt: HostRuntime) -> Result<(), Fail> {
 
 #[test]
 fn of_the_element(rt: HostRuntime) -> Result<(), Fail> {
-    let mut scene = opened(rt.alloc())?;
+    let mut scene = open_scene(rt.alloc())?;
     assert_eq!(rt;
         refusals(&mut scene, &Call::Seek(Moment::Infinite))?,
         same(Name::TypeError)

@@ -2,7 +2,7 @@ use Rattle.std.proofs.Common.{◌≡◌, ◌∙◌, [], ◌∷◌, ◌++◌, len
 use Rattle.std.specs.Prelude.{Some}
 use Rattle.mse_calls.specs.declared.events.Event.{Event}
 use Rattle.source_state.specs.Calls.{after_add_buffer}
-use Rattle.source_buffers.specs.State.{BufferStates, KeptBuffers, AllStand, new_buffer}
+use Rattle.source_buffers.specs.State.{BufferStates, KeptBuffers, AreSlotsStanding, new_buffer}
 use Rattle.media_element.specs.Queueing.{with_events}
 use Rattle.mse_engine.specs.Standing.{SourceSide, KeptEngine, Stands, IsSteady, kept_engine}
 use Rattle.mse_engine.proofs.Listing.{add_few, add_unchanged, add_refused, add_step, add_steady}
@@ -24,7 +24,7 @@ pub returns-in-Refused-clause-steady : goal.returns-in-Refused-clause-steady
 returns-in-Refused-clause-steady g c = subst (λ (x : KeptEngine). IsSteady x) (sym (add_unchanged c.args.container c.args.side.now (side_of c.add_buffer.new.self c.side.inside.fault c.side.inside.quota c.side.inside.gap) c.reserve-2.new.self.buffers c.args.element.now.state c.reserve.new.self.state c.in_ok-name.field-0 c.reserve.ensures.state (new_answer c.side.inside.source c.side.inside.fault c.side.inside.quota c.side.inside.gap c.args.side.now c.side.view_is (λ s. (after_add_buffer s).answer) c.in_ok-name.field-0 c.in_ok-name.ensures.answer) (new_state c.side.inside.source c.side.inside.fault c.side.inside.quota c.side.inside.gap c.args.side.now c.side.view_is (λ s. (after_add_buffer s).state) c.add_buffer.new.self c.in_ok-name.ensures.state) c.in-Refused.name c.in-Refused.is)) (subst (λ (x : KeptBuffers). IsSteady (kept_engine c.args.side.now x c.args.element.now.state)) (sym c.reserve-2.ensures.buffers) c.requires.steady)
 
 pub returns-in-Number-clause-answered : goal.returns-in-Number-clause-answered
-returns-in-Number-clause-answered g c st h = add_step c.args.container c.args.side.now (side_of c.add_buffer.new.self c.side.inside.fault c.side.inside.quota c.side.inside.gap) c.reserve-2.new.self.buffers c.args.element.now.state c.reserve.new.self.state c.in_ok-name.field-0 c.reserve.ensures.state (new_answer c.side.inside.source c.side.inside.fault c.side.inside.quota c.side.inside.gap c.args.side.now c.side.view_is (λ s. (after_add_buffer s).answer) c.in_ok-name.field-0 c.in_ok-name.ensures.answer) (new_state c.side.inside.source c.side.inside.fault c.side.inside.quota c.side.inside.gap c.args.side.now c.side.view_is (λ s. (after_add_buffer s).state) c.add_buffer.new.self c.in_ok-name.ensures.state) c.in-Number.field-0 c.add_reserved.new.self.buffers c.tell.new.self.state c.settle.new.element.state st c.in-Number.is (subst (λ (s : SourceSide). (bs : BufferStates) → AllStand c.reserve-2.new.self.buffers bs → AllStand c.add_reserved.new.self.buffers (bs ++ Some (new_buffer s.gap c.args.container) ∷ [])) c.side.view_is c.add_reserved.ensures.stand) (c.tell.ensures.state ∙ ap (λ (x : Event). with_events (x ∷ []) c.reserve.new.self.state) c.event.ensures) (record { source = c.settle.ensures.source; element = c.settle.ensures.element }) (subst (λ (x : KeptBuffers). Stands (kept_engine c.args.side.now x c.args.element.now.state) st) (sym c.reserve-2.ensures.buffers) h)
+returns-in-Number-clause-answered g c st h = add_step c.args.container c.args.side.now (side_of c.add_buffer.new.self c.side.inside.fault c.side.inside.quota c.side.inside.gap) c.reserve-2.new.self.buffers c.args.element.now.state c.reserve.new.self.state c.in_ok-name.field-0 c.reserve.ensures.state (new_answer c.side.inside.source c.side.inside.fault c.side.inside.quota c.side.inside.gap c.args.side.now c.side.view_is (λ s. (after_add_buffer s).answer) c.in_ok-name.field-0 c.in_ok-name.ensures.answer) (new_state c.side.inside.source c.side.inside.fault c.side.inside.quota c.side.inside.gap c.args.side.now c.side.view_is (λ s. (after_add_buffer s).state) c.add_buffer.new.self c.in_ok-name.ensures.state) c.in-Number.field-0 c.add_reserved.new.self.buffers c.tell.new.self.state c.settle.new.element.state st c.in-Number.is (subst (λ (s : SourceSide). (bs : BufferStates) → AreSlotsStanding c.reserve-2.new.self.buffers bs → AreSlotsStanding c.add_reserved.new.self.buffers (bs ++ Some (new_buffer s.gap c.args.container) ∷ [])) c.side.view_is c.add_reserved.ensures.stand) (c.tell.ensures.state ∙ ap (λ (x : Event). with_events (x ∷ []) c.reserve.new.self.state) c.event.ensures) (record { source = c.settle.ensures.source; element = c.settle.ensures.element }) (subst (λ (x : KeptBuffers). Stands (kept_engine c.args.side.now x c.args.element.now.state) st) (sym c.reserve-2.ensures.buffers) h)
 
 pub returns-in-Number-clause-steady : goal.returns-in-Number-clause-steady
 returns-in-Number-clause-steady g c = add_steady c.args.container c.args.side.now (side_of c.add_buffer.new.self c.side.inside.fault c.side.inside.quota c.side.inside.gap) c.reserve-2.new.self.buffers c.args.element.now.state c.reserve.new.self.state c.in_ok-name.field-0 c.reserve.ensures.state (new_answer c.side.inside.source c.side.inside.fault c.side.inside.quota c.side.inside.gap c.args.side.now c.side.view_is (λ s. (after_add_buffer s).answer) c.in_ok-name.field-0 c.in_ok-name.ensures.answer) (new_state c.side.inside.source c.side.inside.fault c.side.inside.quota c.side.inside.gap c.args.side.now c.side.view_is (λ s. (after_add_buffer s).state) c.add_buffer.new.self c.in_ok-name.ensures.state) c.in-Number.field-0 c.add_reserved.new.self.buffers c.settle.new.element.state c.in-Number.is c.add_reserved.ensures.len c.add_reserved.ensures.within_duration (subst (λ (x : KeptBuffers). IsSteady (kept_engine c.args.side.now x c.args.element.now.state)) (sym c.reserve-2.ensures.buffers) c.requires.steady) c.settle.ensures.settled

@@ -1,10 +1,10 @@
 use Rattle.std.proofs.Common.{refl, subst}
 use Rattle.mse_calls.specs.declared.answers.Answer.TheVariants.{Done}
 use Rattle.buffer_state.specs.declared.reply.Turned.{Turned}
-use Rattle.buffer_state.specs.Replies.{OfTurn}
+use Rattle.buffer_state.specs.Replies.{IfDid}
 use Rattle.buffer_state.specs.State.{surroundings}
-use Rattle.source_buffers.specs.All.{AllStayWithin}
-use Rattle.source_buffers.specs.Buffered.{AllLeaveRanges}
+use Rattle.source_buffers.specs.All.{AreStillWithin}
+use Rattle.source_buffers.specs.Buffered.{AreRangesAfterInit}
 use Rattle.source_buffers.specs.Slots.{IsBuffersTurn, buffers_turn}
 use Rattle.mse_engine.specs.Calls.{refused_or}
 use Rattle.mse_engine.specs.Standing.{kept_engine}
@@ -17,7 +17,7 @@ use Rattle.mse_engine.proofs.steps.work_on.Goals as goal
 
 pub finish-requires-clause-bounds : goal.finish-requires-clause-bounds
 finish-requires-clause-bounds g c loaded =
-    let leaves = subst (λ (x : Turned). OfTurn x (λ reply. AllLeaveRanges c.args.k c.args.buffers.now.buffers reply c.turn.new.self.buffers)) c.in-Did.is c.in_ok-reply.ensures.ranges in
+    let leaves = subst (λ (x : Turned). IfDid x (λ reply. AreRangesAfterInit c.args.k c.args.buffers.now.buffers reply c.turn.new.self.buffers)) c.in-Did.is c.in_ok-reply.ensures.ranges in
     brought c.args.k c.in-Did.reply c.args.buffers.now.buffers c.turn.new.self.buffers c.args.side.now c.reserve.new.self.state c.find_bounds.new.bounds c.drop_stale_bounds.new.bounds leaves c.drop_stale_bounds.ensures c.in_ok-find_bounds.ensures loaded
 
 pub returns-in-Did-clause-worked : goal.returns-in-Did-clause-worked
@@ -29,7 +29,7 @@ returns-in-Did-clause-worked g c st h =
 
 pub returns-in-Did-clause-steady : goal.returns-in-Did-clause-steady
 returns-in-Did-clause-steady g c =
-    let stays = subst (λ (x : Turned). OfTurn x (λ reply. AllStayWithin c.around-around.result.duration c.args.buffers.now.buffers reply c.turn.new.self.buffers)) c.in-Did.is c.in_ok-reply.ensures.within_duration in
+    let stays = subst (λ (x : Turned). IfDid x (λ reply. AreStillWithin c.around-around.result.duration c.args.buffers.now.buffers reply c.turn.new.self.buffers)) c.in-Did.is c.in_ok-reply.ensures.within_duration in
     call_steady c.args.k c.in-Did.reply c.around-around.result.duration c.args.side.now c.finish.new.side c.args.buffers.now.buffers c.turn.new.self.buffers c.args.element.now.state c.finish.new.element.state c.requires.steady c.around-around.ensures.duration stays c.turn.ensures.len c.finish.ensures.side c.finish.ensures.settled
 
 pub returns-in_err-reserve-clause-steady : goal.returns-in_err-reserve-clause-steady
