@@ -32,10 +32,10 @@ fn puts_that_no_frame_is_shown(rt: HostRuntime) -> Result<(), Fail> {
     let at = Ticks::new(-5).ok_or("no time")?;
     let mut sink = MemorySink::new(alloc, Vec::new(alloc));
     assert_eq!(rt; put_feeds(alloc, &mut sink, &track, at), Ok(()));
-    assert_eq!(rt; sink.written_bytes(), b"feed 0 7 at -5 none\n".as_slice());
+    assert_eq!(rt; sink.written(), b"feed 0 7 at -5 none\n".as_slice());
     let failing = vec![in alloc; (1u64, 4u64)]?;
     let mut sink = MemorySink::new(alloc, failing);
     assert_eq!(rt; put_feeds(alloc, &mut sink, &track, at), Err(Halt::Write));
-    assert_eq!(rt; sink.written_bytes(), b"feed".as_slice());
+    assert_eq!(rt; sink.written(), b"feed".as_slice());
     Ok(())
 }

@@ -13,7 +13,7 @@ use Rattle.mse_calls.specs.declared.rules.Rule.{Rule}
 use Rattle.listeners.specs.declared.listener.Note.{Note}
 use Rattle.listeners.specs.Notes.{heard_of, calls_made}
 use Rattle.listeners.specs.RuleCalls.{has_calls, is_answering, answering_rules, once_calls, again_calls, calls_from, rule_calls, next_call}
-use Rattle.listeners.specs.Coming.{once_left, IsLeft, HaveCalls, HasNextCall}
+use Rattle.listeners.specs.Coming.{once_left, IsLeft, AreCallsLeft, HasNextCall}
 
 -- nothing was heard
 pub none_left : (rules : List Rule) → IsLeft [] (answering_rules rules []) 0 []
@@ -114,7 +114,7 @@ has_some : (calls : List Call) → has_calls calls ≡ true → 0 < length calls
 has_some [] e = cc
 has_some (c ∷ calls) e = omega arith
 
-have_by : (b : Bool) (rule : Rule) (rules : List Rule) → (b ≡ true → 0 < length rule.calls) → HaveCalls rules → HaveCalls (if b then rule ∷ rules else rules)
+have_by : (b : Bool) (rule : Rule) (rules : List Rule) → (b ≡ true → 0 < length rule.calls) → AreCallsLeft rules → AreCallsLeft (if b then rule ∷ rules else rules)
 have_by true rule rules h others = (h refl, others)
 have_by false rule rules h others = others
 
@@ -124,19 +124,19 @@ middle_true true true false e = refl
 middle_true true false c e = cc
 middle_true false b c e = cc
 
-pub answers_have : (heard : List Event) (event : Event) (rules : List Rule) → HaveCalls (filter (is_answering heard event) rules)
+pub answers_have : (heard : List Event) (event : Event) (rules : List Rule) → AreCallsLeft (filter (is_answering heard event) rules)
 answers_have heard event [] = tt
 answers_have heard event (rule ∷ rules) =
     have_by (is_answering heard event rule) rule (filter (is_answering heard event) rules) (λ e. has_some rule.calls (middle_true _ _ _ e)) (answers_have heard event rules)
 
-have_append : (xs ys : List Rule) → HaveCalls xs → HaveCalls ys → HaveCalls (xs ++ ys)
+have_append : (xs ys : List Rule) → AreCallsLeft xs → AreCallsLeft ys → AreCallsLeft (xs ++ ys)
 have_append [] ys h k = k
 have_append (x ∷ xs) ys h k = (h.0, have_append xs ys h.1 k)
 
-pub ready_begin : (rules : List Rule) → HaveCalls rules → HasNextCall 0 rules
+pub ready_begin : (rules : List Rule) → AreCallsLeft rules → HasNextCall 0 rules
 ready_begin [] h = refl
 ready_begin (rule ∷ rules) h = h
 
-pub ready_more : (call : ℕ) (left new : List Rule) → HasNextCall call left → HaveCalls new → HasNextCall call (left ++ new)
+pub ready_more : (call : ℕ) (left new : List Rule) → HasNextCall call left → AreCallsLeft new → HasNextCall call (left ++ new)
 ready_more call [] new h k = rw h (ready_begin new k)
 ready_more call (rule ∷ left) new h k = (h.0, have_append left new h.1 k)

@@ -17,15 +17,15 @@ use Rattle.listeners.specs.declared.listener.Note.{Note}
 use Rattle.listeners.specs.declared.event_dispatch.DispatchFault.{DispatchFault}
 use Rattle.listeners.specs.Notes.{entry_notes, is_call_of, call_notes, call_count, event_notes}
 use Rattle.listeners.specs.declared.event_dispatch.DispatchFault.TheVariants.{OutOfMemory, CallBudget, TaskBudget}
-use Rattle.listeners.specs.Dispatch.{CallsInTurn, MakesCalls, TurnEnd, IsFault, IsServed, IsDispatch, AreServedBelow, AreUnheardFrom, notes_at}
+use Rattle.listeners.specs.Dispatch.{AreCallsInTurn, IsAfterCalls, TurnEnd, IsFault, IsServed, IsDispatch, AreServedBelow, AreUnheardFrom, notes_at}
 use Rattle.listeners.specs.Views.{RunView, DispatchView, turn_view, dispatch_view}
-use Rattle.listeners.proofs.Serving.{CallsInTurn-induction, makes_none, makes_then}
+use Rattle.listeners.proofs.Serving.{AreCallsInTurn-induction, makes_none, makes_then}
 
 -- the listeners below `w` were served, and the others heard nothing
-pub record Progress (blobs : List (List ℕ)) (event : Event) (w : ℕ) (old new : DispatchView) : Type 0 where
+pub record IsDispatchUpTo (blobs : List (List ℕ)) (event : Event) (w : ℕ) (old new : DispatchView) : Type 0 where
   pub entries : List Entry
-  pub calls : MakesCalls blobs old.run new.run entries
-  pub in_turn : CallsInTurn 0 w entries
+  pub calls : IsAfterCalls blobs old.run new.run entries
+  pub in_turn : AreCallsInTurn 0 w entries
   pub few : (k : ℕ) → call_count k entries ≤ 1000
   pub same : length new.notes ≡ length old.notes
   pub served : AreServedBelow event entries w old.notes new.notes
@@ -42,33 +42,33 @@ no_calls_with v k call answer xs ne h = (
 )
 
 -- one of a number below those of the calls, or above them
-pub no_calls_below : (low high k : ℕ) (xs : List Entry) → k < low → CallsInTurn low high xs → HasNoCalls k xs
-no_calls_below low high k xs lt h = CallsInTurn-induction (λ l ys. k < l → HasNoCalls k ys) high
+pub no_calls_below : (low high k : ℕ) (xs : List Entry) → k < low → AreCallsInTurn low high xs → HasNoCalls k xs
+no_calls_below low high k xs lt h = AreCallsInTurn-induction (λ l ys. k < l → HasNoCalls k ys) high
     (λ l lt. (refl, refl))
     (λ l v call answer ys le up rest p lt. no_calls_with v k call answer ys (omega (arith, le, lt)) (p (omega (arith, le, lt))))
     low xs h lt
 
-pub no_calls_above : (low high k : ℕ) (xs : List Entry) → high ≤ k → CallsInTurn low high xs → HasNoCalls k xs
-no_calls_above low high k xs above h = CallsInTurn-induction (λ l ys. HasNoCalls k ys) high
+pub no_calls_above : (low high k : ℕ) (xs : List Entry) → high ≤ k → AreCallsInTurn low high xs → HasNoCalls k xs
+no_calls_above low high k xs above h = AreCallsInTurn-induction (λ l ys. HasNoCalls k ys) high
     (λ l. (refl, refl))
     (λ l v call answer ys le up rest p. no_calls_with v k call answer ys (omega (arith, up, above)) p)
     low xs h
 
-in_turn_from : (low mid high : ℕ) (xs : List Entry) → low ≤ mid → CallsInTurn mid high xs → CallsInTurn low high xs
-in_turn_from low mid high xs le h = CallsInTurn-induction (λ l ys. (m : ℕ) → m ≤ l → CallsInTurn m high ys) high
+in_turn_from : (low mid high : ℕ) (xs : List Entry) → low ≤ mid → AreCallsInTurn mid high xs → AreCallsInTurn low high xs
+in_turn_from low mid high xs le h = AreCallsInTurn-induction (λ l ys. (m : ℕ) → m ≤ l → AreCallsInTurn m high ys) high
     (λ l m le. tt)
     (λ l v call answer ys from up rest p m le. (omega (arith, from, le), up, rest))
     mid xs h low le
 
 -- calls in turn, and then others of higher numbers
-in_turn_then : (low mid high : ℕ) (xs ys : List Entry) → low ≤ mid → mid ≤ high → CallsInTurn low mid xs → CallsInTurn mid high ys → CallsInTurn low high (xs ++ ys)
-in_turn_then low mid high xs ys le up h q = CallsInTurn-induction (λ l zs. l ≤ mid → CallsInTurn l high (zs ++ ys)) mid
+in_turn_then : (low mid high : ℕ) (xs ys : List Entry) → low ≤ mid → mid ≤ high → AreCallsInTurn low mid xs → AreCallsInTurn mid high ys → AreCallsInTurn low high (xs ++ ys)
+in_turn_then low mid high xs ys le up h q = AreCallsInTurn-induction (λ l zs. l ≤ mid → AreCallsInTurn l high (zs ++ ys)) mid
     (λ l le. in_turn_from l mid high ys le q)
     (λ l v call answer zs from lt rest p le. (from, omega (arith, lt, up), p (omega (arith, lt))))
     low xs h le
 
-in_turn_below : (low mid high : ℕ) (xs : List Entry) → mid ≤ high → CallsInTurn low mid xs → CallsInTurn low high xs
-in_turn_below low mid high xs up h = CallsInTurn-induction (λ l ys. CallsInTurn l high ys) mid
+in_turn_below : (low mid high : ℕ) (xs : List Entry) → mid ≤ high → AreCallsInTurn low mid xs → AreCallsInTurn low high xs
+in_turn_below low mid high xs up h = AreCallsInTurn-induction (λ l ys. AreCallsInTurn l high ys) mid
     (λ l. tt)
     (λ l v call answer ys from lt rest p. (from, omega (arith, lt, up), p))
     low xs h
@@ -77,20 +77,20 @@ call_count-append : (k : ℕ) (xs ys : List Entry) → call_count k (xs ++ ys) �
 call_count-append k xs ys = sum_by-append (λ e. cond (is_call_of k e) 1 0) xs ys
 
 -- of entries of listener `w` behind others, what they say of it, and of those of lower numbers
-own_calls : (w : ℕ) (xs ys : List Entry) → CallsInTurn 0 w xs → (call_notes w (xs ++ ys) ≡ call_notes w ys) × (call_count w (xs ++ ys) ≡ call_count w ys)
+own_calls : (w : ℕ) (xs ys : List Entry) → AreCallsInTurn 0 w xs → (call_notes w (xs ++ ys) ≡ call_notes w ys) × (call_count w (xs ++ ys) ≡ call_count w ys)
 own_calls w xs ys h =
     let none = no_calls_above 0 w w xs (omega arith) h in
     (flat_map-append (entry_notes w) xs ys ∙ ap (λ (x : List Note). x ++ call_notes w ys) none.0, omega (arith, call_count-append w xs ys, none.1))
 
-lower_calls : (w k : ℕ) (xs ys : List Entry) → CallsInTurn w (w + 1) ys → k < w → call_notes k (xs ++ ys) ≡ call_notes k xs
+lower_calls : (w k : ℕ) (xs ys : List Entry) → AreCallsInTurn w (w + 1) ys → k < w → call_notes k (xs ++ ys) ≡ call_notes k xs
 lower_calls w k xs ys h lt =
     flat_map-append (entry_notes k) xs ys ∙ ap (λ (x : List Note). call_notes k xs ++ x) (no_calls_below w (w + 1) k ys lt h).0 ∙ append-nil (call_notes k xs)
 
-higher_calls : (w k : ℕ) (xs ys : List Entry) → CallsInTurn 0 w xs → CallsInTurn w (w + 1) ys → w + 1 ≤ k → call_count k (xs ++ ys) ≡ 0
+higher_calls : (w k : ℕ) (xs ys : List Entry) → AreCallsInTurn 0 w xs → AreCallsInTurn w (w + 1) ys → w + 1 ≤ k → call_count k (xs ++ ys) ≡ 0
 higher_calls w k xs ys h q le = omega (arith, call_count-append k xs ys, (no_calls_above 0 w k xs (omega (arith, le)) h).1, (no_calls_above w (w + 1) k ys le q).1)
 
 -- each listener has at most 1000 calls, and so has the next one
-few_more : (w : ℕ) (xs ys : List Entry) → CallsInTurn 0 w xs → CallsInTurn w (w + 1) ys → ((k : ℕ) → call_count k xs ≤ 1000) → length ys ≤ 1000
+few_more : (w : ℕ) (xs ys : List Entry) → AreCallsInTurn 0 w xs → AreCallsInTurn w (w + 1) ys → ((k : ℕ) → call_count k xs ≤ 1000) → length ys ≤ 1000
     → (k : ℕ) → call_count k (xs ++ ys) ≤ 1000
 few_more w xs ys h q few short k =
     let least : call_count k ys ≤ length ys = count_by-le-length (is_call_of k) ys in
@@ -101,7 +101,7 @@ few_more w xs ys h q few short k =
 
 -- ---- the listeners, by their notes
 
-pub progress_none : (blobs : List (List ℕ)) (event : Event) (v : DispatchView) → Progress blobs event 0 v v
+pub progress_none : (blobs : List (List ℕ)) (event : Event) (v : DispatchView) → IsDispatchUpTo blobs event 0 v v
 progress_none blobs event v = record {
   entries = [];
   calls = makes_none blobs v.run;
@@ -114,26 +114,26 @@ progress_none blobs event v = record {
 
 -- listener `w` has the notes `m` now: those before it are as they were, and those behind it too
 served_before : (event : Event) (w : ℕ) (xs ys : List Entry) (n0 n1 : List (List Note)) (m : List Note)
-    → CallsInTurn w (w + 1) ys → AreServedBelow event xs w n0 n1 → AreServedBelow event (xs ++ ys) w n0 (slice_set n1 w m)
+    → AreCallsInTurn w (w + 1) ys → AreServedBelow event xs w n0 n1 → AreServedBelow event (xs ++ ys) w n0 (slice_set n1 w m)
 served_before event w xs ys n0 n1 m q s = λ k lt.
     let ne : k ≢ w = omega (arith, lt) in
     rw (lower_calls w k xs ys q lt) (get_or-set_other n1 w k m [] ne ∙ s k lt)
 
 unheard_behind : (w : ℕ) (xs ys : List Entry) (n0 n1 : List (List Note)) (m : List Note)
-    → CallsInTurn 0 w xs → CallsInTurn w (w + 1) ys → AreUnheardFrom w xs n0 n1 → AreUnheardFrom (w + 1) (xs ++ ys) n0 (slice_set n1 w m)
+    → AreCallsInTurn 0 w xs → AreCallsInTurn w (w + 1) ys → AreUnheardFrom w xs n0 n1 → AreUnheardFrom (w + 1) (xs ++ ys) n0 (slice_set n1 w m)
 unheard_behind w xs ys n0 n1 m h q u = λ k le.
     let ne : k ≢ w = omega (arith, le) in
     record { no_call = higher_calls w k xs ys h q le; notes = get_or-set_other n1 w k m [] ne ∙ (u k (omega (arith, le))).notes }
 
-served_now : (event : Event) (w : ℕ) (xs ys : List Entry) (n0 n1 : List (List Note)) (m : List Note) (k : ℕ) → k ≡ w → CallsInTurn 0 w xs → w < length n1
+served_now : (event : Event) (w : ℕ) (xs ys : List Entry) (n0 n1 : List (List Note)) (m : List Note) (k : ℕ) → k ≡ w → AreCallsInTurn 0 w xs → w < length n1
     → notes_at n1 w ≡ notes_at n0 w → m ≡ notes_at n1 w ++ event_notes event w ys → notes_at (slice_set n1 w m) k ≡ notes_at n0 k ++ event_notes event k (xs ++ ys)
 served_now event w xs ys n0 n1 m k e h lt same is =
     rw e (rw ((own_calls w xs ys h).0, get_or-set_same n1 w m [] lt, is, same) refl)
 
 pub progress_more : (blobs : List (List ℕ)) (event : Event) (w : ℕ) (r0 r1 r2 : RunView) (n0 n1 : List (List Note)) (m : List Note)
-    → Progress blobs event w (dispatch_view r0 n0) (dispatch_view r1 n1) → w < length n1
+    → IsDispatchUpTo blobs event w (dispatch_view r0 n0) (dispatch_view r1 n1) → w < length n1
     → IsServed blobs event (turn_view w r1 (notes_at n1 w)) (turn_view w r2 m) (Ok tt)
-    → Progress blobs event (w + 1) (dispatch_view r0 n0) (dispatch_view r2 (slice_set n1 w m))
+    → IsDispatchUpTo blobs event (w + 1) (dispatch_view r0 n0) (dispatch_view r2 (slice_set n1 w m))
 progress_more blobs event w r0 r1 r2 n0 n1 m p lt t = record {
   entries = p.entries ++ t.entries;
   calls = makes_then blobs r0 r1 r2 p.entries t.entries p.calls t.calls;
@@ -148,7 +148,7 @@ progress_more blobs event w r0 r1 r2 n0 n1 m p lt t = record {
 }
 
 pub dispatch_done : (blobs : List (List ℕ)) (event : Event) (w : ℕ) (old new : DispatchView)
-    → Progress blobs event w old new → w ≡ length old.notes → IsDispatch blobs event old new (Ok tt)
+    → IsDispatchUpTo blobs event w old new → w ≡ length old.notes → IsDispatch blobs event old new (Ok tt)
 dispatch_done blobs event w old new p e = record {
   entries = p.entries;
   calls = p.calls;
@@ -169,7 +169,7 @@ same_fault (CallBudget k) event w left xs ys b1 b2 m1 m2 p q r s t = rw (p, q, r
 same_fault TaskBudget event w left xs ys b1 b2 m1 m2 p q r s t = rw (p, q, r, s) t
 
 pub dispatch_ends : (blobs : List (List ℕ)) (event : Event) (w : ℕ) (r0 r1 r2 : RunView) (n0 n1 : List (List Note)) (m : List Note) (fault : DispatchFault)
-    → Progress blobs event w (dispatch_view r0 n0) (dispatch_view r1 n1) → w < length n1
+    → IsDispatchUpTo blobs event w (dispatch_view r0 n0) (dispatch_view r1 n1) → w < length n1
     → IsServed blobs event (turn_view w r1 (notes_at n1 w)) (turn_view w r2 m) (Err fault)
     → IsDispatch blobs event (dispatch_view r0 n0) (dispatch_view r2 (slice_set n1 w m)) (Err fault)
 dispatch_ends blobs event w r0 r1 r2 n0 n1 m fault p lt t =
@@ -197,15 +197,15 @@ notes_of_one : {X : Type 0} (notes : X → List Note) (xs : List X) (w : ℕ) (o
 notes_of_one notes xs w old lt is = sym (get_or-map notes xs w old [] lt ∙ ap notes (sym is))
 
 pub listeners_more : {X : Type 0} (notes : X → List Note) (blobs : List (List ℕ)) (event : Event) (w : ℕ) (r0 r1 r2 : RunView) (xs0 xs : List X) (old new : X)
-    → Progress blobs event w (dispatch_view r0 (map notes xs0)) (dispatch_view r1 (map notes xs)) → w < length xs → old ≡ get_or xs w old
+    → IsDispatchUpTo blobs event w (dispatch_view r0 (map notes xs0)) (dispatch_view r1 (map notes xs)) → w < length xs → old ≡ get_or xs w old
     → IsServed blobs event (turn_view w r1 (notes old)) (turn_view w r2 (notes new)) (Ok tt)
-    → Progress blobs event (w + 1) (dispatch_view r0 (map notes xs0)) (dispatch_view r2 (map notes (slice_set xs w new)))
+    → IsDispatchUpTo blobs event (w + 1) (dispatch_view r0 (map notes xs0)) (dispatch_view r2 (map notes (slice_set xs w new)))
 listeners_more notes blobs event w r0 r1 r2 xs0 xs old new p lt is t =
     let t2 = subst (λ (x : List Note). IsServed blobs event (turn_view w r1 x) (turn_view w r2 (notes new)) (Ok tt)) (notes_of_one notes xs w old lt is) t in
     rw (map-set notes xs w new) (progress_more blobs event w r0 r1 r2 (map notes xs0) (map notes xs) (notes new) p (omega (arith, lt, length-map xs notes)) t2)
 
 pub listeners_end : {X : Type 0} (notes : X → List Note) (blobs : List (List ℕ)) (event : Event) (w : ℕ) (r0 r1 r2 : RunView) (xs0 xs : List X) (old new : X) (fault : DispatchFault)
-    → Progress blobs event w (dispatch_view r0 (map notes xs0)) (dispatch_view r1 (map notes xs)) → w < length xs → old ≡ get_or xs w old
+    → IsDispatchUpTo blobs event w (dispatch_view r0 (map notes xs0)) (dispatch_view r1 (map notes xs)) → w < length xs → old ≡ get_or xs w old
     → IsServed blobs event (turn_view w r1 (notes old)) (turn_view w r2 (notes new)) (Err fault)
     → IsDispatch blobs event (dispatch_view r0 (map notes xs0)) (dispatch_view r2 (map notes (slice_set xs w new))) (Err fault)
 listeners_end notes blobs event w r0 r1 r2 xs0 xs old new fault p lt is t =

@@ -39,6 +39,6 @@ pub record Duties : Type 0 where
   pub due : List Rule
 
 -- what hearing an event makes of the index, and of the rules that are due
-pub record Hears (rules : List Rule) (heard : List Event) (event : Event) (before : List Rule) (after : Duties) : Type 0 where
+pub record AreDutiesAfter (rules : List Rule) (heard : List Event) (event : Event) (before : List Rule) (after : Duties) : Type 0 where
   pub indexed : HasIndex rules (heard ++ event ∷ []) after.index
   pub due : after.due ≡ before ++ filter (is_answering heard event) rules

@@ -15,7 +15,7 @@ use Rattle.listeners.specs.Events.{event_number, is_same}
 use Rattle.listeners.specs.RuleCalls.{times_heard, is_answering}
 use Rattle.listeners.specs.Index.{is_on, places_from, places_of, places_or_none, places_at, count_at, bounded_count, IsIndexOf}
 use Rattle.listeners.specs.Coming.{no_rule, rule_at, rules_at}
-use Rattle.listeners.proofs.Hearing.{times_more, Hears}
+use Rattle.listeners.proofs.Hearing.{times_more, AreDutiesAfter}
 
 -- ---- the places of one rule more
 places_append : (number i : ℕ) (xs : List Rule) (rule : Rule) → places_from number i (xs ++ rule ∷ []) ≡ places_from number i xs ++ (if is_on number rule then (i + length xs) ∷ [] else [])
@@ -101,7 +101,7 @@ counts_same event e rules heard count none (inr h) = by (eqb_tells (event_number
 
 -- the rules on an event, and its count, tell which rules answer
 pub hears_none : (rules : List Rule) (heard : List Event) (event : Event) (index : RuleIndex) (left : List ℕ) → places_at index (event_number event) ≡ []
-    → IsIndexOf rules heard index → Hears rules heard event (rules_at rules left) (record { index = Some index; due = rules_at rules left })
+    → IsIndexOf rules heard index → AreDutiesAfter rules heard event (rules_at rules left) (record { index = Some index; due = rules_at rules left })
 hears_none rules heard event index left none h =
     let no = sym (h.places (event_number event)) ∙ none in
     record {
@@ -113,7 +113,7 @@ pub hears_some : (rules : List Rule) (heard : List Event) (event : Event) (new o
     → new.places ≡ old.places
     → ((m : ℕ) → count_at new m ≡ (if m == event_number event then bounded_count (count_at old m + 1) else count_at old m))
     → ((times : ℕ) → count_at old (event_number event) ≡ bounded_count times → due ≡ left ++ filter (λ p. nat_lt times (rule_at rules p).times) (places_at old (event_number event)))
-    → IsIndexOf rules heard old → Hears rules heard event (rules_at rules left) (record { index = Some new; due = rules_at rules due })
+    → IsIndexOf rules heard old → AreDutiesAfter rules heard event (rules_at rules left) (record { index = Some new; due = rules_at rules due })
 hears_some rules heard event new old left due some same counted chosen h =
     record {
       indexed = record {

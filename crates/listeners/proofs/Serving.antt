@@ -19,23 +19,23 @@ use Rattle.listeners.specs.declared.listener.Note.{Note}
 use Rattle.listeners.specs.declared.listener.Note.TheVariants.{Heard, Made, Told}
 use Rattle.listeners.specs.declared.event_dispatch.DispatchFault.TheVariants.{OutOfMemory, CallBudget, TaskBudget}
 use Rattle.listeners.specs.Notes.{told_note, asked_note, entry_notes, is_call_of, call_notes, call_count}
-use Rattle.listeners.specs.Dispatch.{CallsInTurn, MakesCalls, IsCallTurn, IsServed}
+use Rattle.listeners.specs.Dispatch.{AreCallsInTurn, IsAfterCalls, IsCallTurn, IsServed}
 use Rattle.listeners.specs.Views.{RunView, TurnView, turn_view}
 
 -- ---- entries that are calls in turn
 
 -- induction over calls in turn
-pub CallsInTurn-induction : (P : ℕ → List Entry → Type 0) (high : ℕ) → ((low : ℕ) → P low [])
-    → ((low v : ℕ) (call : Call) (answer : Answer) (xs : List Entry) → low ≤ v → v < high → CallsInTurn v high xs → P v xs → P low (Listener v call answer ∷ xs))
-    → (low : ℕ) (xs : List Entry) → CallsInTurn low high xs → P low xs
-CallsInTurn-induction P high none more low [] h = none low
-CallsInTurn-induction P high none more low (Listener v call answer ∷ xs) h =
-    more low v call answer xs h.0 h.1 h.2 (CallsInTurn-induction P high none more v xs h.2)
-CallsInTurn-induction P high none more low (Step n ∷ xs) h = absurd h
-CallsInTurn-induction P high none more low (Script call answer ∷ xs) h = absurd h
-CallsInTurn-induction P high none more low (Fired event ∷ xs) h = absurd h
-CallsInTurn-induction P high none more low (Work k ∷ xs) h = absurd h
-CallsInTurn-induction P high none more low (Element ∷ xs) h = absurd h
+pub AreCallsInTurn-induction : (P : ℕ → List Entry → Type 0) (high : ℕ) → ((low : ℕ) → P low [])
+    → ((low v : ℕ) (call : Call) (answer : Answer) (xs : List Entry) → low ≤ v → v < high → AreCallsInTurn v high xs → P v xs → P low (Listener v call answer ∷ xs))
+    → (low : ℕ) (xs : List Entry) → AreCallsInTurn low high xs → P low xs
+AreCallsInTurn-induction P high none more low [] h = none low
+AreCallsInTurn-induction P high none more low (Listener v call answer ∷ xs) h =
+    more low v call answer xs h.0 h.1 h.2 (AreCallsInTurn-induction P high none more v xs h.2)
+AreCallsInTurn-induction P high none more low (Step n ∷ xs) h = absurd h
+AreCallsInTurn-induction P high none more low (Script call answer ∷ xs) h = absurd h
+AreCallsInTurn-induction P high none more low (Fired event ∷ xs) h = absurd h
+AreCallsInTurn-induction P high none more low (Work k ∷ xs) h = absurd h
+AreCallsInTurn-induction P high none more low (Element ∷ xs) h = absurd h
 
 one_more : (w v : ℕ) (call : Call) (answer : Answer) (xs : List Entry) → v ≡ w → call_count w xs ≡ length xs
     → call_count w (Listener v call answer ∷ xs) ≡ length (Listener v call answer ∷ xs)
@@ -43,26 +43,26 @@ one_more w v call answer xs same h =
     sum_by-cons (λ e. cond (is_call_of w e) 1 0) (Listener v call answer) xs ∙ rw (eq-eqb v w same) (omega (arith, h))
 
 -- the calls of listener `w` alone are as many as the entries
-count_own : (w : ℕ) (xs : List Entry) → CallsInTurn w (w + 1) xs → call_count w xs ≡ length xs
-count_own w xs h = CallsInTurn-induction (λ low ys. w ≤ low → call_count w ys ≡ length ys) (w + 1)
+count_own : (w : ℕ) (xs : List Entry) → AreCallsInTurn w (w + 1) xs → call_count w xs ≡ length xs
+count_own w xs h = AreCallsInTurn-induction (λ low ys. w ≤ low → call_count w ys ≡ length ys) (w + 1)
     (λ low le. refl)
     (λ low v call answer ys le lt rest p from. one_more w v call answer ys (omega (arith, le, lt, from)) (p (omega (arith, le, from))))
     w xs h (omega arith)
 
 -- one more call of listener `w`
-calls_one_more : (w : ℕ) (xs : List Entry) (call : Call) (answer : Answer) → CallsInTurn w (w + 1) xs → CallsInTurn w (w + 1) (xs ++ Listener w call answer ∷ [])
-calls_one_more w xs call answer h = CallsInTurn-induction (λ low ys. low ≤ w → CallsInTurn low (w + 1) (ys ++ Listener w call answer ∷ [])) (w + 1)
+calls_one_more : (w : ℕ) (xs : List Entry) (call : Call) (answer : Answer) → AreCallsInTurn w (w + 1) xs → AreCallsInTurn w (w + 1) (xs ++ Listener w call answer ∷ [])
+calls_one_more w xs call answer h = AreCallsInTurn-induction (λ low ys. low ≤ w → AreCallsInTurn low (w + 1) (ys ++ Listener w call answer ∷ [])) (w + 1)
     (λ low le. (le, omega arith, tt))
     (λ low v c a ys le lt rest p upto. (le, lt, p (omega (arith, lt))))
     w xs h (omega arith)
 
 -- ---- what the entries do
 
-pub makes_none : (blobs : List (List ℕ)) (r : RunView) → MakesCalls blobs r r []
+pub makes_none : (blobs : List (List ℕ)) (r : RunView) → IsAfterCalls blobs r r []
 makes_none blobs r = record { journal = sym (append-nil r.entries); engine = goes_none blobs r.engine; left = omega arith }
 
 pub makes_then : (blobs : List (List ℕ)) (r0 r1 r2 : RunView) (xs ys : List Entry)
-    → MakesCalls blobs r0 r1 xs → MakesCalls blobs r1 r2 ys → MakesCalls blobs r0 r2 (xs ++ ys)
+    → IsAfterCalls blobs r0 r1 xs → IsAfterCalls blobs r1 r2 ys → IsAfterCalls blobs r0 r2 (xs ++ ys)
 makes_then blobs r0 r1 r2 xs ys p q = record {
   journal = q.journal ∙ ap (λ (x : List Entry). x ++ ys) p.journal ∙ append_assoc r0.entries xs ys;
   engine = goes_then blobs r0.engine r1.engine r2.engine xs ys p.engine q.engine;
@@ -73,7 +73,7 @@ makes_then blobs r0 r1 r2 xs ys p q = record {
 pub makes_one : (blobs : List (List ℕ)) (w : ℕ) (call : Call) (answer : Answer) (r0 r1 : RunView)
     → r1.entries ≡ r0.entries ++ Listener w call answer ∷ []
     → ((st : State) → Stands r0.engine st → IsStep answer r1.engine (after_call blobs call st)) → IsSoundEngine r1.engine
-    → r0.left ≡ r1.left + 1 → MakesCalls blobs r0 r1 (Listener w call answer ∷ [])
+    → r0.left ≡ r1.left + 1 → IsAfterCalls blobs r0 r1 (Listener w call answer ∷ [])
 makes_one blobs w call answer r0 r1 j a sound l =
     record { journal = j; engine = goes_listener blobs r0.engine r1.engine w call answer a sound; left = l }
 
@@ -90,7 +90,7 @@ call_turn_unmade blobs w call r0 r1 n memory j e l = (
 
 -- it was made, and what the listener said then
 pub call_turn_made : (blobs : List (List ℕ)) (w : ℕ) (call : Call) (answer : Answer) (r0 r1 : RunView) (n0 n1 : List Note) (asked : Result (Option Call) NoMemory)
-    → MakesCalls blobs r0 r1 (Listener w call answer ∷ []) → IfOk asked (λ next. n1 ≡ n0 ++ (told_note (Some answer) ++ asked_note next)) → OnErr asked (n1 ≡ n0)
+    → IsAfterCalls blobs r0 r1 (Listener w call answer ∷ []) → IfOk asked (λ next. n1 ≡ n0 ++ (told_note (Some answer) ++ asked_note next)) → OnErr asked (n1 ≡ n0)
     → IsCallTurn blobs call (turn_view w r0 n0) (turn_view w r1 n1) asked
 call_turn_made blobs w call answer r0 r1 n0 n1 (Ok next) m ok err = (answer, m, ok)
 call_turn_made blobs w call answer r0 r1 n0 n1 (Err memory) m ok err = (err, inr (answer, m))
@@ -120,8 +120,8 @@ pub record Asking : Type 0 where
 -- The listener heard the event, and was asked so far.
 pub record IsServing (blobs : List (List ℕ)) (event : Event) (old new : TurnView) (asking : Asking) : Type 0 where
   pub entries : List Entry
-  pub calls : MakesCalls blobs old.run new.run entries
-  pub own : CallsInTurn old.number (old.number + 1) entries
+  pub calls : IsAfterCalls blobs old.run new.run entries
+  pub own : AreCallsInTurn old.number (old.number + 1) entries
   pub count : length entries ≡ asking.call_count
   pub few : asking.call_count ≤ 1000
   pub notes : new.notes ≡ old.notes ++ (begun event old.number entries ++ asked_note asking.next_call)
@@ -181,11 +181,11 @@ turn_unasked blobs event w r n0 n1 n2 p q = record {
 
 -- the call was not made
 call_unmade : (blobs : List (List ℕ)) (event : Event) (w : ℕ) (r0 r1 r2 : RunView) (n0 n1 n2 : List Note) (call : Call) (made : ℕ)
-    → IsServing blobs event (turn_view w r0 n0) (turn_view w r1 n1) (record { call_count = made; next_call = Some call }) → n2 ≡ n1 → MakesCalls blobs r1 r2 []
+    → IsServing blobs event (turn_view w r0 n0) (turn_view w r1 n1) (record { call_count = made; next_call = Some call }) → n2 ≡ n1 → IsAfterCalls blobs r1 r2 []
     → IsServed blobs event (turn_view w r0 n0) (turn_view w r2 n2) (Err OutOfMemory)
 call_unmade blobs event w r0 r1 r2 n0 n1 n2 call made s same stays = record {
   entries = s.entries;
-  calls = subst (λ (x : List Entry). MakesCalls blobs r0 r2 x) (append-nil s.entries) (makes_then blobs r0 r1 r2 s.entries [] s.calls stays);
+  calls = subst (λ (x : List Entry). IsAfterCalls blobs r0 r2 x) (append-nil s.entries) (makes_then blobs r0 r1 r2 s.entries [] s.calls stays);
   own = s.own;
   few = omega (arith, s.count, s.few);
   notes = inr (inr (inr (call, same ∙ s.notes)));
@@ -194,7 +194,7 @@ call_unmade blobs event w r0 r1 r2 n0 n1 n2 call made s same stays = record {
 -- the answer was not told
 answer_untold : (blobs : List (List ℕ)) (event : Event) (w : ℕ) (r0 r1 r2 : RunView) (n0 n1 n2 : List Note) (call : Call) (made : ℕ)
     → IsServing blobs event (turn_view w r0 n0) (turn_view w r1 n1) (record { call_count = made; next_call = Some call }) → made ≢ 1000 → n2 ≡ n1
-    → (answer : Answer) → MakesCalls blobs r1 r2 (Listener w call answer ∷ [])
+    → (answer : Answer) → IsAfterCalls blobs r1 r2 (Listener w call answer ∷ [])
     → IsServed blobs event (turn_view w r0 n0) (turn_view w r2 n2) (Err OutOfMemory)
 answer_untold blobs event w r0 r1 r2 n0 n1 n2 call made s ne same answer m =
     let one : List Entry = Listener w call answer ∷ [] in

@@ -58,21 +58,21 @@ IsLeft made all call left = (more : List Rule) (n : ℕ)
     ≡ made ++ calls_from n (once_left call (left ++ more)) (again_calls (left ++ more))
 
 -- each of these rules has calls
-abbrev pub HaveCalls : List Rule → Type 0
-HaveCalls [] = ⊤
-HaveCalls (rule ∷ rules) = (0 < length rule.calls) × HaveCalls rules
+abbrev pub AreCallsLeft : List Rule → Type 0
+AreCallsLeft [] = ⊤
+AreCallsLeft (rule ∷ rules) = (0 < length rule.calls) × AreCallsLeft rules
 
 -- the next call is one of the first of these rules
 abbrev pub HasNextCall : ℕ → List Rule → Type 0
 HasNextCall call [] = call ≡ 0
-HasNextCall call (rule ∷ rules) = (call < length rule.calls) × HaveCalls rules
+HasNextCall call (rule ∷ rules) = (call < length rule.calls) × AreCallsLeft rules
 
 -- the rules at some places
 abbrev pub rules_at : List Rule → List ℕ → List Rule
 rules_at rules places = map (rule_at rules) places
 
 -- what a listener by rules keeps
-pub record Holds (rules : List Rule) (notes : List Note) (index : Option RuleIndex)
+pub record HasListenerInvariants (rules : List Rule) (notes : List Note) (index : Option RuleIndex)
     (due : List ℕ) (call : ℕ) : Type 0 where
   pub left : IsLeft (calls_made notes) (answering_rules rules (heard_of notes)) call
       (rules_at rules due)

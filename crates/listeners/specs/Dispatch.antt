@@ -15,15 +15,15 @@ use Rattle.listeners.specs.Notes.{asked_note, call_notes, call_count, event_note
 use Rattle.listeners.specs.Views.{RunView, TurnView, DispatchView}
 
 -- each entry is a call of a listener; their numbers never fall, and lie from `low` on below `high`
-abbrev pub CallsInTurn : ℕ → ℕ → List Entry → Type 0
-CallsInTurn low high [] = Unit {0}
-CallsInTurn low high (Listener v call answer ∷ entries) =
-    (low ≤ v) × (v < high) × CallsInTurn v high entries
-CallsInTurn low high (other ∷ entries) = ⊥
+abbrev pub AreCallsInTurn : ℕ → ℕ → List Entry → Type 0
+AreCallsInTurn low high [] = Unit {0}
+AreCallsInTurn low high (Listener v call answer ∷ entries) =
+    (low ≤ v) × (v < high) × AreCallsInTurn v high entries
+AreCallsInTurn low high (other ∷ entries) = ⊥
 
 -- What calls of listeners do, by their entries: the journal grows by these, the engine goes by them,
 -- and the calls that are left fall by their number.
-pub record MakesCalls (blobs : List (List ℕ)) (old new : RunView)
+pub record IsAfterCalls (blobs : List (List ℕ)) (old new : RunView)
     (entries : List Entry) : Type 0 where
   pub journal : new.entries ≡ old.entries ++ entries
   pub engine : IsTransition blobs old.engine new.engine entries
@@ -85,12 +85,12 @@ IsFault TaskBudget event end =
 abbrev pub IsCallTurn : List (List ℕ) → Call → TurnView → TurnView
     → Result (Option Call) NoMemory → Type 0
 IsCallTurn blobs call old new (Ok asked) =
-    (answer : Answer) × MakesCalls blobs old.run new.run (Listener old.number call answer ∷ [])
+    (answer : Answer) × IsAfterCalls blobs old.run new.run (Listener old.number call answer ∷ [])
     × (new.notes ≡ old.notes ++ Told answer ∷ asked_note asked)
 IsCallTurn blobs call old new (Err memory) =
-    (new.notes ≡ old.notes) × (MakesCalls blobs old.run new.run []
+    (new.notes ≡ old.notes) × (IsAfterCalls blobs old.run new.run []
     ⊎ ((answer : Answer)
-    × MakesCalls blobs old.run new.run (Listener old.number call answer ∷ [])))
+    × IsAfterCalls blobs old.run new.run (Listener old.number call answer ∷ [])))
 
 abbrev pub HasTurnNotes : Event → TurnEnd → Result (Unit {0}) DispatchFault → Type 0
 HasTurnNotes event end (Ok u) = end.now ≡ end.before ++ event_notes event end.listener end.entries
@@ -110,8 +110,8 @@ turn_end entries old new = record {
 pub record IsServed (blobs : List (List ℕ)) (event : Event) (old new : TurnView)
     (result : Result (Unit {0}) DispatchFault) : Type 0 where
   pub entries : List Entry
-  pub calls : MakesCalls blobs old.run new.run entries
-  pub own : CallsInTurn old.number (old.number + 1) entries
+  pub calls : IsAfterCalls blobs old.run new.run entries
+  pub own : AreCallsInTurn old.number (old.number + 1) entries
   pub few : length entries ≤ 1000
   pub notes : HasTurnNotes event (turn_end entries old new) result
 
@@ -155,7 +155,8 @@ turn_end_of w end = record {
 
 -- The dispatch ended at one listener with a fault: those before it were served, and those behind it
 -- heard nothing.
-pub record EndsAt (event : Event) (end : DispatchEnd) (fault : DispatchFault) : Type 0 where
+pub record IsFailedDispatch (event : Event) (end : DispatchEnd)
+    (fault : DispatchFault) : Type 0 where
   pub listener : ℕ
   pub within : listener < length end.before
   pub served : AreServedBelow event end.entries listener end.before end.now
@@ -165,13 +166,13 @@ pub record EndsAt (event : Event) (end : DispatchEnd) (fault : DispatchFault) : 
 abbrev pub IsDispatchEnd : Event → DispatchEnd → Result (Unit {0}) DispatchFault → Type 0
 IsDispatchEnd event end (Ok u) =
     AreServedBelow event end.entries (length end.before) end.before end.now
-IsDispatchEnd event end (Err fault) = EndsAt event end fault
+IsDispatchEnd event end (Err fault) = IsFailedDispatch event end fault
 
 -- the dispatch of an event, by what was before it and is after it
 pub record IsDispatch (blobs : List (List ℕ)) (event : Event) (old new : DispatchView)
     (result : Result (Unit {0}) DispatchFault) : Type 0 where
   pub entries : List Entry
-  pub calls : MakesCalls blobs old.run new.run entries
-  pub in_turn : CallsInTurn 0 (length old.notes) entries
+  pub calls : IsAfterCalls blobs old.run new.run entries
+  pub in_turn : AreCallsInTurn 0 (length old.notes) entries
   pub few : (w : ℕ) → call_count w entries ≤ 1000
   pub outcome : IsDispatchEnd event (dispatch_end entries new.run.left old.notes new.notes) result

@@ -34,7 +34,7 @@ pub struct RuleListener {
 impl Model for RuleListener {
     ghost use Rattle.std.specs.Prelude.{◌≤◌, length, drop};
     ghost use Rattle.listeners.specs.ListenerView.{ListenerView};
-    ghost use Rattle.listeners.specs.Coming.{notes_of, Holds};
+    ghost use Rattle.listeners.specs.Coming.{notes_of, HasListenerInvariants};
 
     ghost Value = { ListenerView };
 
@@ -44,7 +44,7 @@ impl Model for RuleListener {
     } };
 
     ghost invariant = { λ a. (a.at ≤ length a.due.items)
-        × Holds a.rules.items (notes_of a.rules.items a.history.items) a.index
+        × HasListenerInvariants a.rules.items (notes_of a.rules.items a.history.items) a.index
         (drop a.at a.due.items) a.call };
 }
 

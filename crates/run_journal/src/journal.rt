@@ -74,7 +74,7 @@ impl Journal {
     /// no memory.
     pub fn reserve(&mut self, n: usize) -> Result<(), OutOfMemory>
         ensures spare { OnOk result (n ≤ self.new.spare) }
-        ensures room_stays { self.old.spare ≤ self.new.spare }
+        ensures no_room_lost { self.old.spare ≤ self.new.spare }
         ensures entries { self.new.entries ≡ self.old.entries }
     {
         if n <= self.spare {
@@ -89,7 +89,7 @@ impl Journal {
     #[inline(never)]
     fn reserve_more(&mut self, n: usize) -> Result<(), OutOfMemory>
         ensures spare { OnOk result (n ≤ self.new.spare) }
-        ensures room_stays { self.old.spare ≤ self.new.spare }
+        ensures no_room_lost { self.old.spare ≤ self.new.spare }
         ensures entries { self.new.entries ≡ self.old.entries }
     {
         match self.make_room(n.max(MANY)) {
@@ -101,7 +101,7 @@ impl Journal {
     /// Makes room for at least `n` more entries.
     fn make_room(&mut self, n: usize) -> Result<(), OutOfMemory>
         ensures spare { OnOk result (n ≤ self.new.spare) }
-        ensures room_stays { self.old.spare ≤ self.new.spare }
+        ensures no_room_lost { self.old.spare ≤ self.new.spare }
         ensures entries { self.new.entries ≡ self.old.entries }
     {
         self.places.try_reserve(n)?;

@@ -1,7 +1,7 @@
 -- Dispatches that were cut, and limits that were spent.
 use Rattle.std.proofs.Common.{◌≡◌, ℕ, suc, List, [], ◌∷◌, ◌++◌, length, refl, sym, ◌∙◌, ap, append_assoc, inl, inr}
 use Rattle.std.specs.Prelude.{Option, Some, None}
-use Rattle.mse_calls.specs.Answered.{Answered}
+use Rattle.mse_calls.specs.AnswerAndState.{AnswerAndState}
 use Rattle.mse_calls.specs.declared.events.Event.{Event}
 use Rattle.mse_calls.specs.declared.entry.Entry.{Entry}
 use Rattle.mse_calls.specs.declared.entry.Entry.TheVariants as entry
@@ -10,7 +10,7 @@ use Rattle.call_script.specs.declared.script.StepLine.TheVariants as step
 use Rattle.listeners.specs.declared.listener.Note.{Note}
 use Rattle.listeners.specs.declared.event_dispatch.DispatchFault.{DispatchFault}
 use Rattle.listeners.specs.declared.event_dispatch.DispatchFault.TheVariants as fault
-use Rattle.listeners.specs.Dispatch.{CallsInTurn, EndsAt, IsFault, TurnEnd, dispatch_end, turn_end_of}
+use Rattle.listeners.specs.Dispatch.{AreCallsInTurn, IsFailedDispatch, IsFault, TurnEnd, dispatch_end, turn_end_of}
 use Rattle.mse_engine.specs.State.{State}
 use Rattle.mse_engine.specs.Run.{entry_meaning, fire_entries, entries_if}
 use Rattle.mse_engine.specs.Work.{after_element_turn, after_work, fire_result}
@@ -34,8 +34,8 @@ fault_alone fault.OutOfMemory event calls left w n0 n1 p = p
 fault_alone (fault.CallBudget k) event calls left w n0 n1 p = p
 fault_alone fault.TaskBudget event calls left w n0 n1 p = (refl, p.1, p.2)
 
-pub cut_of : (f : DispatchFault) (event : Event) (calls : List Entry) (left : ℕ) (n0 n1 : List (List Note)) → CallsInTurn 0 (length n0) calls
-    → length n1 ≡ length n0 → IsAllHeard [] n0 n0 → EndsAt event (dispatch_end calls left n0 n1) f → IsDispatchCut f (entry.Fired event ∷ calls) n0 n1
+pub cut_of : (f : DispatchFault) (event : Event) (calls : List Entry) (left : ℕ) (n0 n1 : List (List Note)) → AreCallsInTurn 0 (length n0) calls
+    → length n1 ≡ length n0 → IsAllHeard [] n0 n0 → IsFailedDispatch event (dispatch_end calls left n0 n1) f → IsDispatchCut f (entry.Fired event ∷ calls) n0 n1
 cut_of f event calls left n0 n1 turns count heard p = record {
   before = [];
   event = event;
@@ -112,7 +112,7 @@ own_steps (entry.Fired event ∷ es) = own_steps es
 own_steps (entry.Work k ∷ es) = own_steps es
 own_steps (entry.Element ∷ es) = own_steps es
 
-no_step_fired : (fired : Option (Answered Event State)) → steps_in (fire_entries fired) ≡ 0
+no_step_fired : (fired : Option (AnswerAndState Event State)) → steps_in (fire_entries fired) ≡ 0
 no_step_fired None = refl
 no_step_fired (Some f) = refl
 

@@ -19,7 +19,7 @@ use Rattle.script_run.specs.Progress.{IsCalm, HasFewerTurns}
 use Rattle.script_run.specs.Lines.{IsLineFront, IsLineEntries}
 use Rattle.listeners.specs.Views.{RunView}
 use Rattle.script_run.specs.RunParts.{EntryRelation}
-use Rattle.script_run.specs.PlayedParts.{Drains, IsPlayedInLine, IsPlayedInLineUpTo, IsOwnStep, IsOwnStepIf}
+use Rattle.script_run.specs.PlayedParts.{IsSilentDrain, IsPlayedInLine, IsPlayedInLineUpTo, IsOwnStep, IsOwnStepIf}
 use Rattle.script_run.specs.RunStates.{RunState, run_at}
 use Rattle.script_run.specs.Turns.{AreInTurn}
 use Rattle.script_run.proofs.Writing.{wrote_none}
@@ -27,7 +27,7 @@ use Rattle.script_run.proofs.Turning.{calls_in-append}
 use Rattle.script_run.proofs.Telling.{heard_silence}
 use Rattle.script_run.proofs.Firing.{fire_in_order}
 use Rattle.script_run.proofs.Following.{order_then}
-use Rattle.script_run.proofs.PartsInRow.{Joins, ran_as, stop_as, ran_then, ran_stop, ran_none}
+use Rattle.script_run.proofs.PartsInRow.{ArePartsInRow, ran_as, stop_as, ran_then, ran_stop, ran_none}
 use Rattle.script_run.proofs.Resting.{due_turns, running_works, same_running, turn_taken}
 
 -- ---- an event
@@ -44,7 +44,7 @@ fire_stop_order blobs stop a b p = stop_as blobs (λ st part. IsLineFront blobs 
 
 -- ---- one part after another
 
-pub order_joins : (blobs : List (List ℕ)) → Joins blobs (AreInDrainOrder blobs) (AreInDrainOrder blobs) (AreInDrainOrder blobs)
+pub order_joins : (blobs : List (List ℕ)) → ArePartsInRow blobs (AreInDrainOrder blobs) (AreInDrainOrder blobs) (AreInDrainOrder blobs)
 order_joins blobs = λ st xs ys p q. order_then blobs st xs ys p q
 
 pub order_then_ran : (blobs : List (List ℕ)) (a b c : RunState) → IsPlayedInLine blobs (AreInDrainOrder blobs) a b → IsPlayedInLine blobs (AreInDrainOrder blobs) b c → IsPlayedInLine blobs (AreInDrainOrder blobs) a c
@@ -116,7 +116,7 @@ turning_ran blobs false a b t n s quiet due p = absurd (due_turns s.state (due s
 
 -- ---- what nobody hears
 
-pub drains_none : (blobs : List (List ℕ)) (a : RunView) → Drains blobs a a
+pub drains_none : (blobs : List (List ℕ)) (a : RunView) → IsSilentDrain blobs a a
 drains_none blobs a = record {
   entries = [];
   stepped = record { grew = sym (append-nil a.entries); goes = goes_none blobs a.engine; left = refl };
@@ -124,7 +124,7 @@ drains_none blobs a = record {
   silent = refl;
 }
 
-pub drains_then : (blobs : List (List ℕ)) (a b c : RunView) → Drains blobs a b → Drains blobs b c → Drains blobs a c
+pub drains_then : (blobs : List (List ℕ)) (a b c : RunView) → IsSilentDrain blobs a b → IsSilentDrain blobs b c → IsSilentDrain blobs a c
 drains_then blobs a b c p q = record {
   entries = p.entries ++ q.entries;
   stepped = record {
@@ -140,7 +140,7 @@ first_event : (st : State) (first : Option Event) (event : Event) → (fire_mean
 first_event st None event h = absurd h
 first_event st (Some x) event h = ap (λ (y : Event). Some y) (sym h)
 
-pub drains_event : (blobs : List (List ℕ)) (a b : RunView) (event : Event) → IsOwnStep blobs (Fired event ∷ []) a b → Drains blobs a b
+pub drains_event : (blobs : List (List ℕ)) (a b : RunView) (event : Event) → IsOwnStep blobs (Fired event ∷ []) a b → IsSilentDrain blobs a b
 drains_event blobs a b event p = record {
   entries = Fired event ∷ [];
   stepped = p;
@@ -150,13 +150,13 @@ drains_event blobs a b event p = record {
 
 pub drains_work : (blobs : List (List ℕ)) (k : ℕ) (worked : Bool) (a b : RunView) → IsStanding a.engine
     → ((st : State) → Stands a.engine st → HasNoEvent st) → ((st : State) → Stands a.engine st → running_in st ≡ Some k)
-    → IsOwnStepIf blobs (work_step k) a b worked → Drains blobs a b
+    → IsOwnStepIf blobs (work_step k) a b worked → IsSilentDrain blobs a b
 drains_work blobs k true a b s empty runs p = record { entries = Work k ∷ []; stepped = p; order = λ st h. ((empty st h, runs st h), tt); silent = refl }
 drains_work blobs k false a b s empty runs p = absurd (running_works s.state k (runs s.state s.stands) (p.1 s.state s.stands))
 
 pub drains_turn : (blobs : List (List ℕ)) (turned : Bool) (a b : RunView) → IsStanding a.engine
     → ((st : State) → Stands a.engine st → IsQuiet st) → ((st : State) → Stands a.engine st → is_turn_due st ≡ true)
-    → IsOwnStepIf blobs element_step a b turned → Drains blobs a b
+    → IsOwnStepIf blobs element_step a b turned → IsSilentDrain blobs a b
 drains_turn blobs true a b s quiet due p = record { entries = Element ∷ []; stepped = p; order = λ st h. ((quiet st h, due st h), tt); silent = refl }
 drains_turn blobs false a b s quiet due p = absurd (due_turns s.state (due s.state s.stands) (p.1 s.state s.stands))
 

@@ -15,7 +15,7 @@ use Rattle.listeners.specs.declared.listener.Note.{Note}
 use Rattle.listeners.specs.declared.event_dispatch.DispatchFault.{DispatchFault}
 use Rattle.listeners.specs.declared.event_dispatch.DispatchFault.TheVariants as fault
 use Rattle.listeners.specs.Notes.{call_count, event_notes, is_call_of}
-use Rattle.listeners.specs.Dispatch.{CallsInTurn, IsDispatch, notes_at}
+use Rattle.listeners.specs.Dispatch.{AreCallsInTurn, IsDispatch, notes_at}
 use Rattle.listeners.specs.Views.{RunView, dispatch_view}
 use Rattle.mse_engine.specs.State.{State}
 use Rattle.mse_engine.specs.Run.{entry_meaning, fire_entries}
@@ -42,7 +42,7 @@ use Rattle.script_run.proofs.Writing.{front_none}
 use Rattle.script_run.proofs.Cutting.{cut_as_memory, cut_of, heard_to_all}
 
 -- entries that are calls of listeners
-calls_own : (low high : ℕ) (es : List Entry) → CallsInTurn low high es → own_of es ≡ []
+calls_own : (low high : ℕ) (es : List Entry) → AreCallsInTurn low high es → own_of es ≡ []
 calls_own low high [] h = refl
 calls_own low high (Listener v c a ∷ es) h = calls_own v high es h.2
 calls_own low high (Step n ∷ es) h = absurd h
@@ -51,7 +51,7 @@ calls_own low high (Fired e ∷ es) h = absurd h
 calls_own low high (Work k ∷ es) h = absurd h
 calls_own low high (Element ∷ es) h = absurd h
 
-calls_until : (low high : ℕ) (es : List Entry) → CallsInTurn low high es → entries_until_event es ≡ es
+calls_until : (low high : ℕ) (es : List Entry) → AreCallsInTurn low high es → entries_until_event es ≡ es
 calls_until low high [] h = refl
 calls_until low high (Listener v c a ∷ es) h = ap (λ (x : List Entry). Listener v c a ∷ x) (calls_until v high es h.2)
 calls_until low high (Step n ∷ es) h = absurd h
@@ -60,7 +60,7 @@ calls_until low high (Fired e ∷ es) h = absurd h
 calls_until low high (Work k ∷ es) h = absurd h
 calls_until low high (Element ∷ es) h = absurd h
 
-calls_story : (low high : ℕ) (es : List Entry) (w : ℕ) → CallsInTurn low high es → note_history w es ≡ []
+calls_story : (low high : ℕ) (es : List Entry) (w : ℕ) → AreCallsInTurn low high es → note_history w es ≡ []
 calls_story low high [] w h = refl
 calls_story low high (Listener v c a ∷ es) w h = calls_story v high es w h.2
 calls_story low high (Step n ∷ es) w h = absurd h
@@ -69,7 +69,7 @@ calls_story low high (Fired e ∷ es) w h = absurd h
 calls_story low high (Work k ∷ es) w h = absurd h
 calls_story low high (Element ∷ es) w h = absurd h
 
-calls_number : (low high : ℕ) (es : List Entry) → CallsInTurn low high es → calls_in es ≡ length es
+calls_number : (low high : ℕ) (es : List Entry) → AreCallsInTurn low high es → calls_in es ≡ length es
 calls_number low high [] h = refl
 calls_number low high (Listener v c a ∷ es) h = ap suc (calls_number v high es h.2)
 calls_number low high (Step n ∷ es) h = absurd h
@@ -96,7 +96,7 @@ count_here : (v low : ℕ) (c : Call) (a : Answer) (es : List Entry) → v ≡ l
 count_here v low c a es e = omega (arith, count_more low (Listener v c a) es, call_here v low c a e)
 
 -- their turns, of which each has at most 1000
-turns_of_calls : (count made low : ℕ) (es : List Entry) → CallsInTurn low count es → made + call_count low es ≤ 1000 → ((w : ℕ) → call_count w es ≤ 1000)
+turns_of_calls : (count made low : ℕ) (es : List Entry) → AreCallsInTurn low count es → made + call_count low es ≤ 1000 → ((w : ℕ) → call_count w es ≤ 1000)
     → AreInTurn count (Some (record { listener = low; made = made })) es
 turns_of_calls count made low [] h few each = tt
 turns_of_calls count made low (Listener v c a ∷ es) h few each =
@@ -123,7 +123,7 @@ fired_grew : (event : Event) (j0 j1 j2 es : List Entry) → j1 ≡ j0 ++ Fired e
 fired_grew event j0 j1 j2 es p q = q ∙ ap (λ (x : List Entry). x ++ es) p ∙ append_assoc j0 (Fired event ∷ []) es
 
 fired_does : (blobs : List (List ℕ)) (event : Event) (high : ℕ) (st : State) (a b : KeptEngine) (es : List Entry) → Stands a st → IsTransition blobs a b (Fired event ∷ [])
-    → CallsInTurn 0 high es → own_of (Fired event ∷ es) ≡ fire_entries (fire_result st)
+    → AreCallsInTurn 0 high es → own_of (Fired event ∷ es) ≡ fire_entries (fire_result st)
 fired_does blobs event high st a b es s goes calls =
     ap (λ (x : List Entry). Fired event ∷ x) (calls_own 0 high es calls) ∙ fired_one (fire_result st) event st (goes.replays st s).0
 

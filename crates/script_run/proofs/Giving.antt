@@ -37,16 +37,16 @@ others_keep w k (x ∷ xs) ne =
     ]
 
 -- the rules that are left, and those of the listeners before
-pub record Given (all left : List Rule) (given : List (List Rule)) (n : ℕ) : Type 0 where
+pub record AreRulesGivenBelow (all left : List Rule) (given : List (List Rule)) (n : ℕ) : Type 0 where
   pub before : (w : ℕ) → w < n → rules_of_listener given w ≡ rules_for w all
   pub behind : (w : ℕ) → n ≤ w → rules_for w left ≡ rules_for w all
 
-pub given_none : (all : List Rule) (given : List (List Rule)) → Given all all given 0
+pub given_none : (all : List Rule) (given : List (List Rule)) → AreRulesGivenBelow all all given 0
 given_none all given = record { before = λ w lt. absurd (omega (arith, lt)); behind = λ w le. refl }
 
 -- one more listener has its rules
 pub given_more : {X : Type 0} (rules : X → List Rule) (all left own others : List Rule) (xs : List X) (w : ℕ) (new : X) → w < length xs → rules new ≡ own
-    → own ≡ rules_for w left → others ≡ filter (λ rule. not (is_for w rule)) left → Given all left (map rules xs) w → Given all others (map rules (slice_set xs w new)) (w + 1)
+    → own ≡ rules_for w left → others ≡ filter (λ rule. not (is_for w rule)) left → AreRulesGivenBelow all left (map rules xs) w → AreRulesGivenBelow all others (map rules (slice_set xs w new)) (w + 1)
 given_more rules all left own others xs w new lt has is rest p = record {
   before = λ k le. rw (map-set rules xs w new) (elim (cases_lt k w) [
     | inl lt2 ↦ let ne : k ≢ w = omega (arith, lt2) in get_or-set_other (map rules xs) w k (rules new) [] ne ∙ p.before k lt2

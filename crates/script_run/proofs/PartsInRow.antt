@@ -29,10 +29,10 @@ use Rattle.script_run.proofs.Telling.{heard_none, heard_then, cut_then}
 use Rattle.script_run.proofs.Cutting.{heard_to_all, over_then}
 
 -- one part after another is a third
-abbrev pub Joins : List (List ℕ) → EntryRelation → EntryRelation → EntryRelation → Type 0
-Joins blobs one two both = (st : State) (xs ys : List Entry) → one st xs → two (after_entries blobs st xs) ys → both st (xs ++ ys)
+abbrev pub ArePartsInRow : List (List ℕ) → EntryRelation → EntryRelation → EntryRelation → Type 0
+ArePartsInRow blobs one two both = (st : State) (xs ys : List Entry) → one st xs → two (after_entries blobs st xs) ys → both st (xs ++ ys)
 
-grew_then : (blobs : List (List ℕ)) (one two both : EntryRelation) (a b c : RunView) (xs ys : List Entry) → Joins blobs one two both
+grew_then : (blobs : List (List ℕ)) (one two both : EntryRelation) (a b c : RunView) (xs ys : List Entry) → ArePartsInRow blobs one two both
     → HasGrown blobs one a b xs → HasGrown blobs two b c ys → HasGrown blobs both a c (xs ++ ys)
 grew_then blobs one two both a b c xs ys joins p q = record {
   grew = q.grew ∙ ap (λ (x : List Entry). x ++ ys) p.grew ∙ append_assoc a.entries xs ys;
@@ -46,7 +46,7 @@ lines_then xs ys t0 t1 t2 p q = rw (flat_map-append line_text xs ys) (wrote_more
 lines_then_front : (xs ys : List Entry) (t0 t1 t2 : Option (List ℕ)) → IsWritten (lines_of xs) t0 t1 → IsFrontWritten (lines_of ys) t1 t2 → IsFrontWritten (lines_of (xs ++ ys)) t0 t2
 lines_then_front xs ys t0 t1 t2 p q = rw (flat_map-append line_text xs ys) (front_more (lines_of xs) (lines_of ys) t0 t1 t2 p q)
 
-pub played_then : (blobs : List (List ℕ)) (one two both : EntryRelation) (a b c : RunState) → Joins blobs one two both → IsPlayed blobs one a b → IsPlayed blobs two b c → IsPlayed blobs both a c
+pub played_then : (blobs : List (List ℕ)) (one two both : EntryRelation) (a b c : RunState) → ArePartsInRow blobs one two both → IsPlayed blobs one a b → IsPlayed blobs two b c → IsPlayed blobs both a c
 played_then blobs one two both a b c joins p q = record {
   entries = p.entries ++ q.entries;
   grew = grew_then blobs one two both a.run b.run c.run p.entries q.entries joins p.grew q.grew;
@@ -79,7 +79,7 @@ stopped_then spent whole TaskBudget count xs ys a b c more w p turns s = (
   over_then spent whole TaskBudget count xs ys a.notes b.notes c.notes more p turns s.1,
 )
 
-pub played_stop : (blobs : List (List ℕ)) (one two both : EntryRelation) (spent whole : List Entry → Type 0) (stop : Stop) (a b c : RunState) → Joins blobs one two both
+pub played_stop : (blobs : List (List ℕ)) (one two both : EntryRelation) (spent whole : List Entry → Type 0) (stop : Stop) (a b c : RunState) → ArePartsInRow blobs one two both
     → (p : IsPlayed blobs one a b) → ((ys : List Entry) → spent ys → whole (p.entries ++ ys)) → IsPlayedUpTo blobs (part_front two spent) stop b c → IsPlayedUpTo blobs (part_front both whole) stop a c
 played_stop blobs one two both spent whole stop a b c joins p more q = record {
   entries = p.entries ++ q.entries;
@@ -95,14 +95,14 @@ left_then xs ys l0 l1 l2 p q = rw (calls_in-append xs ys) (omega (arith, p, q))
 spent_then : (xs ys : List Entry) (l0 l1 : ℕ) → l0 ≡ l1 + calls_in xs → IsSpent l1 ys → IsSpent l0 (xs ++ ys)
 spent_then xs ys l0 l1 p e = rw (calls_in-append xs ys) (omega (arith, p, e))
 
-pub ran_then : (blobs : List (List ℕ)) (one two both : EntryRelation) (a b c : RunState) → Joins blobs one two both → IsPlayedInLine blobs one a b → IsPlayedInLine blobs two b c → IsPlayedInLine blobs both a c
+pub ran_then : (blobs : List (List ℕ)) (one two both : EntryRelation) (a b c : RunState) → ArePartsInRow blobs one two both → IsPlayedInLine blobs one a b → IsPlayedInLine blobs two b c → IsPlayedInLine blobs both a c
 unfolding played_then
 ran_then blobs one two both a b c joins p q = record {
   played = played_then blobs one two both a b c joins p.played q.played;
   left = left_then p.played.entries q.played.entries a.run.left b.run.left c.run.left p.left q.left;
 }
 
-pub ran_stop : (blobs : List (List ℕ)) (one two both : EntryRelation) (stop : Stop) (a b c : RunState) → Joins blobs one two both → IsPlayedInLine blobs one a b
+pub ran_stop : (blobs : List (List ℕ)) (one two both : EntryRelation) (stop : Stop) (a b c : RunState) → ArePartsInRow blobs one two both → IsPlayedInLine blobs one a b
     → IsPlayedInLineUpTo blobs two stop b c → IsPlayedInLineUpTo blobs both stop a c
 unfolding played_stop
 ran_stop blobs one two both stop a b c joins p q = record {

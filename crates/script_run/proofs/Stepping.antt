@@ -2,7 +2,7 @@
 use Rattle.std.proofs.Common.{◌≡◌, ◌==◌, ℕ, suc, false, not, List, [], ◌∷◌, length, refl, ap, arith}
 use Rattle.std.specs.Prelude.{Option, Some, None, option_map, slice_get}
 use Rattle.std.proofs.lemmas.Bool.Decides.{nat_tests}
-use Rattle.mse_calls.specs.Answered.{Answered}
+use Rattle.mse_calls.specs.AnswerAndState.{AnswerAndState}
 use Rattle.mse_calls.specs.declared.events.Event.{Event}
 use Rattle.mse_calls.specs.declared.entry.Entry.{Entry}
 use Rattle.mse_calls.specs.declared.entry.Entry.TheVariants.{Fired, Work, Element}
@@ -15,11 +15,11 @@ use Rattle.mse_engine.specs.Sound.{IsSoundEngine}
 use Rattle.mse_engine.specs.Transitions.{IsTransition}
 use Rattle.mse_engine.proofs.Transitions.{goes_one}
 
-fired_holds : (r : Option (Answered Event State)) (st : State) (event : Event) (a b : KeptEngine) → IsFired (Some event) a b r → (fire_meaning r event st).holds
+fired_holds : (r : Option (AnswerAndState Event State)) (st : State) (event : Event) (a b : KeptEngine) → IsFired (Some event) a b r → (fire_meaning r event st).holds
 fired_holds None st event a b h = absurd h
 fired_holds (Some meant) st event a b h = h.0
 
-fired_stands : (r : Option (Answered Event State)) (st : State) (event : Event) (a b : KeptEngine) → IsFired (Some event) a b r → Stands b (fire_meaning r event st).state
+fired_stands : (r : Option (AnswerAndState Event State)) (st : State) (event : Event) (a b : KeptEngine) → IsFired (Some event) a b r → Stands b (fire_meaning r event st).state
 fired_stands None st event a b h = absurd h
 fired_stands (Some meant) st event a b h = h.1
 
@@ -28,7 +28,7 @@ pub fired_goes : (blobs : List (List ℕ)) (a b : KeptEngine) (event : Event) �
     → IsTransition blobs a b (Fired event ∷ [])
 fired_goes blobs a b event h sound = goes_one blobs a b (Fired event) (λ st s. fired_holds (fire_result st) st event a b (h st s)) (λ st s. fired_stands (fire_result st) st event a b (h st s)) sound
 
-pub not_fired : (r : Option (Answered Event State)) (a b : KeptEngine) → IsFired None a b r → b ≡ a
+pub not_fired : (r : Option (AnswerAndState Event State)) (a b : KeptEngine) → IsFired None a b r → b ≡ a
 not_fired None a b h = h
 not_fired (Some meant) a b h = absurd h
 
@@ -59,7 +59,7 @@ pub done_one : (entry : Entry) (r : Option State) (st : State) → (step_meaning
 done_one entry None st h = absurd h
 done_one entry (Some new) st h = refl
 
-pub fired_one : (r : Option (Answered Event State)) (event : Event) (st : State) → (fire_meaning r event st).holds → Fired event ∷ [] ≡ fire_entries r
+pub fired_one : (r : Option (AnswerAndState Event State)) (event : Event) (st : State) → (fire_meaning r event st).holds → Fired event ∷ [] ≡ fire_entries r
 fired_one None event st h = absurd h
 fired_one (Some meant) event st h = ap (λ (x : Event). Fired x ∷ []) h
 

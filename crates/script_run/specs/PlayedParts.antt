@@ -8,7 +8,7 @@ use Rattle.mse_calls.specs.declared.entry.Entry.TheVariants.{Script, Fired}
 use Rattle.listeners.specs.declared.listener.Note.{Note}
 use Rattle.listeners.specs.declared.event_dispatch.DispatchFault.{DispatchFault}
 use Rattle.listeners.specs.declared.event_dispatch.DispatchFault.TheVariants as fault
-use Rattle.listeners.specs.Dispatch.{CallsInTurn, EndsAt, dispatch_end}
+use Rattle.listeners.specs.Dispatch.{AreCallsInTurn, IsFailedDispatch, dispatch_end}
 use Rattle.listeners.specs.Views.{RunView}
 use Rattle.event_text.specs.Lines.{line_text}
 use Rattle.mse_engine.specs.State.{State}
@@ -34,7 +34,7 @@ pub record IsOwnStep (blobs : List (List ℕ)) (entries : List Entry)
   pub left : new.left ≡ old.left
 
 -- a part of a drain of which no listener heard
-pub record Drains (blobs : List (List ℕ)) (old new : RunView) : Type 0 where
+pub record IsSilentDrain (blobs : List (List ℕ)) (old new : RunView) : Type 0 where
   pub entries : List Entry
   pub stepped : IsOwnStep blobs entries old new
   pub order : (st : State) → Stands old.engine st → AreInDrainOrder blobs st entries
@@ -85,9 +85,9 @@ pub record IsDispatchCut (fault : DispatchFault) (entries : List Entry)
   pub middle : List (List Note)
   pub entries_are : entries ≡ before ++ Fired event ∷ calls
   pub heard : IsAllHeard before old middle
-  pub in_turn : CallsInTurn 0 (length middle) calls
+  pub in_turn : AreCallsInTurn 0 (length middle) calls
   pub count : length new ≡ length middle
-  pub end : EndsAt event (dispatch_end calls 0 middle new) fault
+  pub end : IsFailedDispatch event (dispatch_end calls 0 middle new) fault
 
 -- A listener answered a call beyond a limit, for which a run stops so. `spent` says of entries that
 -- listeners may make no further call.

@@ -17,8 +17,8 @@ abbrev pub most_calls : ℕ
 most_calls = 1000
 
 -- it may call: it is its turn and it has a call left, or it comes behind the one whose turn it was
-abbrev pub HasCallsLeft : ListenerTurn → ℕ → Type 0
-HasCallsLeft turn w = (turn.listener < w) ⊎ ((turn.listener ≡ w) × (turn.made < most_calls))
+abbrev pub IsTurnToCall : ListenerTurn → ℕ → Type 0
+IsTurnToCall turn w = (turn.listener < w) ⊎ ((turn.listener ≡ w) × (turn.made < most_calls))
 
 abbrev pub turn_after : ListenerTurn → ℕ → ListenerTurn
 turn_after turn w =
@@ -32,7 +32,7 @@ AreInTurn count turn [] = ⊤
 AreInTurn count turn (Fired event ∷ entries) = AreInTurn count (Some first_turn) entries
 AreInTurn count None (Listener w call answer ∷ entries) = ⊥
 AreInTurn count (Some turn) (Listener w call answer ∷ entries) =
-    (w < count) × HasCallsLeft turn w × AreInTurn count (Some (turn_after turn w)) entries
+    (w < count) × IsTurnToCall turn w × AreInTurn count (Some (turn_after turn w)) entries
 AreInTurn count turn (Script call answer ∷ entries) = AreInTurn count None entries
 AreInTurn count turn (Step n ∷ entries) = AreInTurn count None entries
 AreInTurn count turn (Work k ∷ entries) = AreInTurn count None entries

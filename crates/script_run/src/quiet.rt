@@ -5,7 +5,7 @@ ghost use Rattle.mse_engine.specs.State.{State};
 ghost use Rattle.mse_engine.specs.Standing.{Stands};
 ghost use Rattle.script_run.specs.DrainSteps.{IsAtRest, IsQuiet, HasNoEvent};
 ghost use Rattle.script_run.specs.Progress.{IsCalm};
-ghost use Rattle.script_run.specs.PlayedParts.{Drains};
+ghost use Rattle.script_run.specs.PlayedParts.{IsSilentDrain};
 
 use crate::run::ScriptRun;
 use mse_base::OutOfMemory;
@@ -14,7 +14,7 @@ use track_store::FrameStore;
 impl<S: FrameStore> ScriptRun<S> {
     /// Fires all events of the queue.
     fn fire_quietly(&mut self) -> Result<(), OutOfMemory>
-        ensures drains { (blobs : List (List ℕ)) → Drains blobs self.old self.new }
+        ensures drains { (blobs : List (List ℕ)) → IsSilentDrain blobs self.old self.new }
         ensures calm { IsCalm self.old.engine self.new.engine }
         ensures nothing_left { OnOk result ((st : State) → Stands self.new.engine st
             → HasNoEvent st) }
@@ -31,7 +31,7 @@ impl<S: FrameStore> ScriptRun<S> {
 
     /// Fires, and works on buffers, until no event waits and no buffer works.
     fn work_quietly(&mut self) -> Result<(), OutOfMemory>
-        ensures drains { (blobs : List (List ℕ)) → Drains blobs self.old self.new }
+        ensures drains { (blobs : List (List ℕ)) → IsSilentDrain blobs self.old self.new }
         ensures nothing_left { OnOk result ((st : State) → Stands self.new.engine st → IsQuiet st) }
     {
         'working: loop {
@@ -55,7 +55,7 @@ impl<S: FrameStore> ScriptRun<S> {
     /// An `Err` is want of memory; then it has come part of the way, and what was done stands in the
     /// engine and in the journal.
     pub fn drain_quietly(&mut self) -> Result<(), OutOfMemory>
-        ensures drains { (blobs : List (List ℕ)) → Drains blobs self.old self.new }
+        ensures drains { (blobs : List (List ℕ)) → IsSilentDrain blobs self.old self.new }
         ensures nothing_left { OnOk result ((st : State) → Stands self.new.engine st
             → IsAtRest st) }
     {

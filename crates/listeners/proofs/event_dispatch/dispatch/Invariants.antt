@@ -1,13 +1,13 @@
 use Rattle.std.proofs.Common.{◌≡◌, map, vec_len}
 use Rattle.listeners.specs.Views.{dispatch_view, view_of_run}
-use Rattle.listeners.proofs.Dispatching.{Progress}
+use Rattle.listeners.proofs.Dispatching.{IsDispatchUpTo}
 use Rattle.listeners.proofs.event_dispatch.dispatch.Given as goal
 
 abbrev pub invariant-loop-number : goal.invariant-loop-number
 invariant-loop-number g l = record {
   len : vec_len l.listeners ≡ l.number-end;
   rules : map (λ b. (goal.Listener-dyn g (b.vtable, b.value)).rules b.value) l.listeners.items ≡ map (λ b. (goal.Listener-dyn g (b.vtable, b.value)).rules b.value) l.fn.listeners.items;
-  progress : Progress l.blobs l.event l.number
+  progress : IsDispatchUpTo l.blobs l.event l.number
       (dispatch_view (view_of_run l.fn.engine l.fn.journal.entries l.fn.left) (map (λ b. (goal.Listener-dyn g (b.vtable, b.value)).notes b.value) l.fn.listeners.items))
       (dispatch_view (view_of_run l.engine l.journal.entries l.left) (map (λ b. (goal.Listener-dyn g (b.vtable, b.value)).notes b.value) l.listeners.items));
 }

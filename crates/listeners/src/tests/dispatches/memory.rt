@@ -6,7 +6,7 @@
 use super::{Appender, DispatchScene, WHOLE, add, answering, fire, lines, new_scene};
 use crate::tests::OPEN;
 use crate::{DispatchFault, Listener};
-use event_text::closing_text;
+use event_text::closing;
 use mse_base::{OutOfMemory, Text};
 use mse_calls::{Call, Entry};
 use std::alloc::Global;
@@ -116,7 +116,7 @@ fn text(alloc: Global, scene: &DispatchScene) -> Result<String, OutOfMemory> {
 
 fn shown_once(alloc: Global, scene: &DispatchScene) -> Result<Text, OutOfMemory> {
     match scene.engine.view() {
-        Ok(view) => closing_text(alloc, &view, true),
+        Ok(view) => closing(alloc, &view, true),
         Err(_) => Err(OutOfMemory),
     }
 }

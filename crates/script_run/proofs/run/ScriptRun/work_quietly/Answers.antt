@@ -3,7 +3,7 @@ use Rattle.std.specs.Prelude.{Some}
 use Rattle.mse_engine.specs.State.{State}
 use Rattle.mse_engine.specs.Standing.{IsStanding, Stands}
 use Rattle.mse_engine.specs.Work.{running_in}
-use Rattle.script_run.specs.PlayedParts.{Drains}
+use Rattle.script_run.specs.PlayedParts.{IsSilentDrain}
 use Rattle.script_run.proofs.Draining.{did_work, drains_none, drains_then, drains_work}
 use Rattle.script_run.proofs.run.ScriptRun.work_quietly.Goals as goal
 
@@ -21,7 +21,7 @@ returns-in_default-running-clause-nothing_left g c = λ st h. record { queue = c
 
 pub working-smaller : goal.working-smaller
 working-smaller g c =
-    let both : (blobs : List (List ℕ)) → Drains blobs c.args.self.now c.fire_quietly.new.self = λ blobs. drains_then blobs _ _ _ (c.working.invariant.drains blobs) (c.fire_quietly.ensures.drains blobs) in
+    let both : (blobs : List (List ℕ)) → IsSilentDrain blobs c.args.self.now c.fire_quietly.new.self = λ blobs. drains_then blobs _ _ _ (c.working.invariant.drains blobs) (c.fire_quietly.ensures.drains blobs) in
     let stands : IsStanding c.fire_quietly.new.self.engine = rw (← c.self.view_is) c.sound.ensures.standing in
     let runs : (st : State) → Stands c.fire_quietly.new.self.engine st → running_in st ≡ Some c.in-Some.k = λ st h. sym (c.in-Some.ensures st (rw (← c.self.view_is) at h)) in
     let did : c.in-Ok-work._has_worked ≡ true = did_work [] c.in-Some.k c.in-Ok-work._has_worked c.fire_quietly.new.self c.work.new.self stands runs (c.in-Ok-work.ensures.ok []) in
@@ -30,7 +30,7 @@ working-smaller g c =
 
 pub working-preserved : goal.working-preserved
 working-preserved g c =
-    let both : (blobs : List (List ℕ)) → Drains blobs c.args.self.now c.fire_quietly.new.self = λ blobs. drains_then blobs _ _ _ (c.working.invariant.drains blobs) (c.fire_quietly.ensures.drains blobs) in
+    let both : (blobs : List (List ℕ)) → IsSilentDrain blobs c.args.self.now c.fire_quietly.new.self = λ blobs. drains_then blobs _ _ _ (c.working.invariant.drains blobs) (c.fire_quietly.ensures.drains blobs) in
     let stands : IsStanding c.fire_quietly.new.self.engine = rw (← c.self.view_is) c.sound.ensures.standing in
     let runs : (st : State) → Stands c.fire_quietly.new.self.engine st → running_in st ≡ Some c.in-Some.k = λ st h. sym (c.in-Some.ensures st (rw (← c.self.view_is) at h)) in
     record {
@@ -40,5 +40,5 @@ working-preserved g c =
 
 pub returns-in_default-work-clause-drains : goal.returns-in_default-work-clause-drains
 returns-in_default-work-clause-drains g c =
-    let both : (blobs : List (List ℕ)) → Drains blobs c.args.self.now c.fire_quietly.new.self = λ blobs. drains_then blobs _ _ _ (c.working.invariant.drains blobs) (c.fire_quietly.ensures.drains blobs) in
+    let both : (blobs : List (List ℕ)) → IsSilentDrain blobs c.args.self.now c.fire_quietly.new.self = λ blobs. drains_then blobs _ _ _ (c.working.invariant.drains blobs) (c.fire_quietly.ensures.drains blobs) in
     λ blobs. rw c.in_default-work.ensures.err (both blobs)
