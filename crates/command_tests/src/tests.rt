@@ -101,7 +101,7 @@ fn status_of<L: Library, K: Sink>(
 }
 
 /// What is printed for the words over the one file, and the status.
-fn printed(alloc: Global, words: &[&str], file: &[u8]) -> Result<(Status, MemorySink), Fail> {
+fn run_result(alloc: Global, words: &[&str], file: &[u8]) -> Result<(Status, MemorySink), Fail> {
     let mut library = library(alloc, file.to_vec(alloc)?, false)?;
     let mut sink = MemorySink::new(alloc, Vec::new(alloc));
     let words = texts(alloc, words)?;
@@ -121,9 +121,9 @@ fn prints_blocks(rt: HostRuntime) -> Result<(), Fail> {
             ["pieces", "7", "plain.mp4"].as_slice(),
             ["pieces", "2147483648", "plain.mp4"].as_slice(),
         ] {
-            let (status, sink) = printed(alloc, words, &bytes)?;
+            let (status, sink) = run_result(alloc, words, &bytes)?;
             assert_eq!(rt; status, wanted, "at {block}");
-            assert_eq!(rt; sink.written_bytes(), block.as_bytes(), "at {block}");
+            assert_eq!(rt; sink.written(), block.as_bytes(), "at {block}");
         }
     }
     Ok(())
@@ -170,9 +170,9 @@ fn prints_blocks_of_fronts(rt: HostRuntime) -> Result<(), Fail> {
             ["ranges", "plain.mp4"].as_slice(),
             ["pieces", "1", "plain.mp4"].as_slice(),
         ] {
-            let (status, sink) = printed(alloc, words, &bytes[..len])?;
+            let (status, sink) = run_result(alloc, words, &bytes[..len])?;
             assert_eq!(rt; status, Status::Ok, "at {len}");
-            assert_eq!(rt; sink.written_bytes(), block.as_bytes(), "at {len}");
+            assert_eq!(rt; sink.written(), block.as_bytes(), "at {len}");
         }
     }
     Ok(())
@@ -214,9 +214,9 @@ const MADE: [(&str, &str); 4] = [
 fn prints_made_files(rt: HostRuntime) -> Result<(), Fail> {
     let alloc = rt.alloc();
     for (count, text) in &MADE {
-        let (status, sink) = printed(alloc, &["make", *count], &[])?;
+        let (status, sink) = run_result(alloc, &["make", *count], &[])?;
         assert_eq!(rt; status, Status::Ok, "at {text}");
-        assert_eq!(rt; sink.written_bytes(), text.as_bytes());
+        assert_eq!(rt; sink.written(), text.as_bytes());
     }
     Ok(())
 }
@@ -301,7 +301,7 @@ fn tells_causes(rt: HostRuntime) -> Result<(), Fail> {
         let words = texts(alloc, words)?;
         let status = status_of(alloc, &words, &mut library, &mut sink);
         assert_eq!(rt; status, wanted, "at {line}");
-        assert_eq!(rt; sink.written_bytes(), line.as_bytes());
+        assert_eq!(rt; sink.written(), line.as_bytes());
     }
     Ok(())
 }
@@ -332,9 +332,9 @@ fn tells_blobs_that_are_not_loaded(rt: HostRuntime) -> Result<(), Fail> {
     let alloc = rt.alloc();
     for (blobs, wanted, line) in &BLOBS {
         let script = format!(in alloc; "blobs = [{blobs}]\nsteps = [\"attach\", \"drain\"]\n")?;
-        let (status, sink) = played::<IndexStore>(alloc, script.as_str())?;
+        let (status, sink) = play_result::<IndexStore>(alloc, script.as_str())?;
         assert_eq!(rt; status, *wanted, "at {blobs}");
-        assert_eq!(rt; sink.written_bytes(), line.as_bytes(), "at {blobs}");
+        assert_eq!(rt; sink.written(), line.as_bytes(), "at {blobs}");
     }
     Ok(())
 }
@@ -356,7 +356,7 @@ fn yields_to_failed_puts(rt: HostRuntime) -> Result<(), Fail> {
         let words = texts(alloc, &[command, word])?;
         let status = status_of(alloc, &words, &mut library, &mut sink);
         assert_eq!(rt; status, Status::Write, "at {written}");
-        assert_eq!(rt; sink.written_bytes(), written.as_bytes());
+        assert_eq!(rt; sink.written(), written.as_bytes());
     }
     Ok(())
 }
@@ -393,7 +393,7 @@ fn ran<S: FrameStore, L: Library>(
 }
 
 /// What is printed of a script, and the status.
-fn played<S: FrameStore>(alloc: Global, script: &str) -> Result<(Status, MemorySink), Fail> {
+fn play_result<S: FrameStore>(alloc: Global, script: &str) -> Result<(Status, MemorySink), Fail> {
     let tables = [FILES.as_slice()];
     let mut library = TextLibrary {
         alloc,
@@ -409,12 +409,12 @@ fn plays_scripts(rt: HostRuntime) -> Result<(), Fail> {
     let alloc = rt.alloc();
     for table in [SCRIPTS.as_slice(), MORE_SCRIPTS.as_slice()] {
         for (script, wanted, text) in table {
-            let (status, sink) = played::<IndexStore>(alloc, script)?;
+            let (status, sink) = play_result::<IndexStore>(alloc, script)?;
             assert_eq!(rt; status, *wanted, "at {script}");
-            assert_eq!(rt; sink.written_bytes(), text.as_bytes(), "at {script}");
-            let (status, sink) = played::<ListStore>(alloc, script)?;
+            assert_eq!(rt; sink.written(), text.as_bytes(), "at {script}");
+            let (status, sink) = play_result::<ListStore>(alloc, script)?;
             assert_eq!(rt; status, *wanted, "at {script}");
-            assert_eq!(rt; sink.written_bytes(), text.as_bytes(), "at {script}");
+            assert_eq!(rt; sink.written(), text.as_bytes(), "at {script}");
         }
     }
     Ok(())
@@ -425,15 +425,11 @@ fn stops_a_listener(rt: HostRuntime) -> Result<(), Fail> {
     let alloc = rt.alloc();
     let script = "steps = [\"attach\", \"drain\"]\n\
         [[rules]]\nlistener = 0\non = \"source sourceopen\"\nrepeat = true\ncalls = [\"state\"]\n";
-    let (status, sink) = played::<IndexStore>(alloc, script)?;
+    let (status, sink) = play_result::<IndexStore>(alloc, script)?;
     assert_eq!(rt; status, Status::CallBudget);
-    let lines = sink
-        .written_bytes()
-        .iter()
-        .filter(|byte| **byte == b'\n')
-        .count();
+    let lines = sink.written().iter().filter(|byte| **byte == b'\n').count();
     assert_eq!(rt; lines, 1003);
     let last = b"\nerror: listener 0 answered more than 1000 calls for one event\n";
-    assert!(rt; sink.written_bytes().ends_with(last));
+    assert!(rt; sink.written().ends_with(last));
     Ok(())
 }

@@ -16,12 +16,12 @@ use Rattle.mse_engine.proofs.Transitions.{after_entries-append, goes_none, goes_
 use Rattle.cut_law.specs.Plays.{drain_entries}
 use Rattle.play_law.proofs.Singles.{some-drain}
 use Rattle.script_run.specs.DrainSteps.{AreInDrainOrder, IsAtRest}
-use Rattle.script_run.specs.PlayedParts.{Drains, IsOwnStep}
+use Rattle.script_run.specs.PlayedParts.{IsSilentDrain, IsOwnStep}
 use Rattle.listeners.specs.Views.{RunView}
 use Rattle.script_run.specs.Turns.{calls_in}
 use Rattle.script_run.proofs.Following.{order_then}
 use Rattle.script_run.proofs.Turning.{calls_in-append}
-use Rattle.mse_commands.specs.Shown.{IsAppends, IsQuietDrain, IsWholeFile, StopsAtFault, append_entry, open_entries}
+use Rattle.mse_commands.specs.Shown.{IsAppends, IsQuietDrain, IsWholeFile, IsEndOrGoesOn, append_entry, open_entries}
 use Rattle.mse_commands.specs.Works.{IsAppended, IsPartAppended, IsOpened, IsFrontOpened}
 
 -- ---- entries that came
@@ -84,12 +84,12 @@ pub record IsBehindPiece (bytes : List ℕ) (pieces left : List Piece) (a b : Ru
   pub stepped : IsOwnStep (bytes ∷ []) entries a b
   pub silent : calls_in entries ≡ 0
   pub completes : (st : State) → Stands a.engine st → (rest : List Entry)
-      → StopsAtFault (after_entries (bytes ∷ []) st entries).core.source.fault rest (IsAppends (bytes ∷ []) (after_entries (bytes ∷ []) st entries) left rest)
+      → IsEndOrGoesOn (after_entries (bytes ∷ []) st entries).core.source.fault rest (IsAppends (bytes ∷ []) (after_entries (bytes ∷ []) st entries) left rest)
       → IsWholeFile (bytes ∷ []) st pieces (entries ++ rest)
 
 -- one more piece
 pub piece_done : (bytes : List ℕ) (pieces : List Piece) (piece : Piece) (left : List Piece) (a b c d : RunView) → IsUnderWay bytes pieces (piece ∷ left) a b
-    → ((answer : Answer) × IsOwnStep (bytes ∷ []) (append_entry piece answer ∷ []) b c) → Drains (bytes ∷ []) c d
+    → ((answer : Answer) × IsOwnStep (bytes ∷ []) (append_entry piece answer ∷ []) b c) → IsSilentDrain (bytes ∷ []) c d
     → ((st : State) → Stands d.engine st → IsAtRest st) → IsBehindPiece bytes pieces left a d
 piece_done bytes pieces piece left a b c d p call drains end =
     let blobs : List (List ℕ) = bytes ∷ [] in
@@ -112,8 +112,8 @@ piece_done bytes pieces piece left a b c d p call drains end =
             calls = drains.silent;
           } in
           let state : after_entries blobs st (p.entries ++ first ∷ part) ≡ after_entries blobs one (first ∷ part) = after_entries-append blobs st p.entries (first ∷ part) in
-          let more : StopsAtFault (after_entries blobs one (first ∷ part)).core.source.fault rest (IsAppends blobs (after_entries blobs one (first ∷ part)) left rest) =
-          subst (λ (s : State). StopsAtFault s.core.source.fault rest (IsAppends blobs s left rest)) state q in
+          let more : IsEndOrGoesOn (after_entries blobs one (first ∷ part)).core.source.fault rest (IsAppends blobs (after_entries blobs one (first ∷ part)) left rest) =
+          subst (λ (s : State). IsEndOrGoesOn s.core.source.fault rest (IsAppends blobs s left rest)) state q in
           let whole : IsWholeFile blobs st pieces (p.entries ++ (first ∷ (part ++ rest))) =
           p.completes st h (first ∷ (part ++ rest)) (call.0, part, rest, refl, drain, more) in
           subst (λ (es : List Entry). IsWholeFile blobs st pieces es) (sym (append_assoc p.entries (first ∷ part) rest)) whole;
@@ -128,7 +128,7 @@ goes_on bytes pieces left a b p none = record {
   silent = p.silent;
   completes = λ st h rest q.
       let last : State = after_entries (bytes ∷ []) st p.entries in
-      p.completes st h rest (subst (λ (f : Option FaultView). StopsAtFault f rest (IsAppends (bytes ∷ []) last left rest)) (sym (none last (p.stepped.goes.stands st h))) q);
+      p.completes st h rest (subst (λ (f : Option FaultView). IsEndOrGoesOn f rest (IsAppends (bytes ∷ []) last left rest)) (sym (none last (p.stepped.goes.stands st h))) q);
 }
 
 -- all was appended
@@ -143,7 +143,7 @@ appended bytes pieces a b p = record {
   silent = p.silent;
 }
 
-none_more : (fault : Option FaultView) → StopsAtFault fault [] (◌≡◌ {A = List Entry} [] [])
+none_more : (fault : Option FaultView) → IsEndOrGoesOn fault [] (◌≡◌ {A = List Entry} [] [])
 none_more None = refl
 none_more (Some f) = refl
 
@@ -169,14 +169,14 @@ appended_to_fault bytes pieces left fault a b p some = record {
     goes = p.stepped.goes;
     holds = λ st h.
         let last : State = after_entries (bytes ∷ []) st p.entries in
-        rw append-nil at (p.completes st h [] (subst (λ (f : Option FaultView). StopsAtFault f [] (IsAppends (bytes ∷ []) last left [])) (sym (some last (p.stepped.goes.stands st h))) refl));
+        rw append-nil at (p.completes st h [] (subst (λ (f : Option FaultView). IsEndOrGoesOn f [] (IsAppends (bytes ∷ []) last left [])) (sym (some last (p.stepped.goes.stands st h))) refl));
   };
   silent = p.silent;
 }
 
 -- ---- what is still to come of a file
 
-rest_unless : (fault : Option FaultView) (goes_on : List Entry → Type 0) → ((rest : List Entry) × goes_on rest) → (rest : List Entry) × StopsAtFault fault rest (goes_on rest)
+rest_unless : (fault : Option FaultView) (goes_on : List Entry → Type 0) → ((rest : List Entry) × goes_on rest) → (rest : List Entry) × IsEndOrGoesOn fault rest (goes_on rest)
 rest_unless None goes_on p = p
 rest_unless (Some f) goes_on p = ([], refl)
 
@@ -251,7 +251,7 @@ front_under_way bytes pieces left a b p = record {
 
 -- a piece was appended, and the drain behind it was cut off
 pub front_drained : (bytes : List ℕ) (pieces left : List Piece) (piece : Piece) (a b c d : RunView) → IsUnderWay bytes pieces (piece ∷ left) a b
-    → ((answer : Answer) × IsOwnStep (bytes ∷ []) (append_entry piece answer ∷ []) b c) → Drains (bytes ∷ []) c d → IsPartAppended bytes pieces a d
+    → ((answer : Answer) × IsOwnStep (bytes ∷ []) (append_entry piece answer ∷ []) b c) → IsSilentDrain (bytes ∷ []) c d → IsPartAppended bytes pieces a d
 front_drained bytes pieces left piece a b c d p call drains =
     let blobs : List (List ℕ) = bytes ∷ [] in
     let first : Entry = append_entry piece call.0 in

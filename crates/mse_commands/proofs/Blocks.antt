@@ -30,9 +30,9 @@ use Rattle.mse_commands.specs.declared.words.Command.TheVariants.{Ranges, Pieces
 use Rattle.mse_commands.specs.declared.ending.End.{End}
 use Rattle.mse_commands.specs.declared.ending.End.TheVariants.{NoFile}
 use Rattle.mse_commands.specs.Requests.{Request, Task, ByFile, request_in, request_of}
-use Rattle.mse_commands.specs.Files.{AppendsFile, IsJournalOf, IsThrough, AreNamesOfOneFile}
-use Rattle.mse_commands.specs.Outcomes.{Ends, EndsBehind, EndsRun, RunOutcome}
-use Rattle.mse_commands.specs.Shown.{IsAppends, StopsAtFault, append_entry, last_state, open_entries, pieces_by, pieces_of, text_of}
+use Rattle.mse_commands.specs.Files.{IsAppendCommand, IsJournalOf, IsThrough, AreNamesOfOneFile}
+use Rattle.mse_commands.specs.Outcomes.{IsEndOfRun, IsEndByTask, IsEndOfTask, RunOutcome}
+use Rattle.mse_commands.specs.Shown.{IsAppends, IsEndOrGoesOn, append_entry, last_state, open_entries, pieces_by, pieces_of, text_of}
 use Rattle.mse_commands.specs.Words.{IsInRange, command_of, file_of, finite_time, longest_piece, most_segments, count_of_word}
 use Rattle.mse_commands.proofs.Numbers.{bounds_by}
 use Rattle.mse_commands.proofs.Pieces.{HasNext, IsLeft, all_left, next_left, none_left}
@@ -43,7 +43,7 @@ stays : (blobs : List (List ℕ)) (st : State) (fault : FaultView) (pieces : Lis
 stays blobs st fault [] e = refl
 stays blobs st fault (piece ∷ pieces) e = ap (λ o. unless_fault o st (after_pieces blobs 0 (after_piece blobs 0 st piece) pieces)) e
 
-rest-is : (o : Option FaultView) (blobs : List (List ℕ)) (st : State) (pieces : List Piece) (rest : List Entry) → st.core.source.fault ≡ o → StopsAtFault o rest (IsAppends blobs st pieces rest)
+rest-is : (o : Option FaultView) (blobs : List (List ℕ)) (st : State) (pieces : List Piece) (rest : List Entry) → st.core.source.fault ≡ o → IsEndOrGoesOn o rest (IsAppends blobs st pieces rest)
     → (st.core.source.fault ≡ None → IsAppends blobs st pieces rest → after_entries blobs st rest ≡ after_pieces blobs 0 st pieces) → after_entries blobs st rest ≡ after_pieces blobs 0 st pieces
 rest-is None blobs st pieces rest e u f = f e u
 rest-is (Some fault) blobs st pieces rest e u f = ap (λ es. after_entries blobs st es) u ∙ sym (stays blobs st fault pieces e)
@@ -101,7 +101,7 @@ parts-left (piece ∷ pieces) bytes size at some l p =
     (λ (h : length bytes ≤ at). let none = none_left size (length bytes) at (piece ∷ pieces) some h p in absurd (cc (none)))
     (cases_lt at (length bytes))
 
-pieces-parts : (command : Command) (bytes : List ℕ) → AppendsFile command → IsInRange command → AreParts 0 bytes 0 (length bytes) (pieces_by command (length bytes))
+pieces-parts : (command : Command) (bytes : List ℕ) → IsAppendCommand command → IsInRange command → AreParts 0 bytes 0 (length bytes) (pieces_by command (length bytes))
 pieces-parts Ranges bytes a r = let one : length bytes ≡ length bytes + 0 = omega arith in (length bytes, 0, refl, refl, one, refl)
 pieces-parts (Pieces size) bytes a r =
     let all : length bytes - 0 ≡ length bytes = omega arith in
@@ -152,7 +152,7 @@ one-core a b bytes entries others short p q = file-core a bytes entries short p 
 core-text : (c d : Core) (o p : Outer) → c ≡ d → closing_text (view_in (record { core = c; outer = o })) false ≡ closing_text (view_in (record { core = d; outer = p })) false
 core-text c d o p e = ap (λ (x : Core). closing_text (view_in (record { core = x; outer = o })) false) e
 
-block-is : (command : Command) (bytes : List ℕ) (entries : List Entry) → AppendsFile command → text_of (ByFile command bytes) entries ≡ closing_text (view_in (last_state (ByFile command bytes) entries)) false
+block-is : (command : Command) (bytes : List ℕ) (entries : List Entry) → IsAppendCommand command → text_of (ByFile command bytes) entries ≡ closing_text (view_in (last_state (ByFile command bytes) entries)) false
 block-is Ranges bytes entries a = refl
 block-is (Pieces count) bytes entries a = refl
 block-is (Make count) bytes entries a = absurd a
@@ -160,7 +160,7 @@ block-is Play bytes entries a = absurd a
 block-is Remux bytes entries a = absurd a
 block-is (Feed at) bytes entries a = absurd a
 
-same-text : (a b : Command) (bytes others : List ℕ) (xs ys : List Entry) → AppendsFile a → AppendsFile b → (last_state (ByFile a bytes) xs).core ≡ (last_state (ByFile b others) ys).core
+same-text : (a b : Command) (bytes others : List ℕ) (xs ys : List Entry) → IsAppendCommand a → IsAppendCommand b → (last_state (ByFile a bytes) xs).core ≡ (last_state (ByFile b others) ys).core
     → text_of (ByFile a bytes) xs ≡ text_of (ByFile b others) ys
 same-text a b bytes others xs ys p q e =
     let s : State = last_state (ByFile a bytes) xs in
@@ -209,7 +209,7 @@ command-range (name ∷ word ∷ file ∷ []) =
     (bounds_by longest_piece word (count_of_word longest_piece word) (omega arith) refl)
 command-range (name ∷ word ∷ file ∷ more ∷ words) = tt
 
-task-is : (command : Command) (files : Table) (name bytes : List ℕ) → AppendsFile command → files name ≡ Some bytes → (request_of files name (Some command)).task ≡ Ok (ByFile command bytes)
+task-is : (command : Command) (files : Table) (name bytes : List ℕ) → IsAppendCommand command → files name ≡ Some bytes → (request_of files name (Some command)).task ≡ Ok (ByFile command bytes)
 task-is Ranges files name bytes a e = ap (λ o. ok_or o (NoFile name) >>= (λ b. Ok (ByFile Ranges b))) e
 task-is (Pieces count) files name bytes a e = ap (λ o. ok_or o (NoFile name) >>= (λ b. Ok (ByFile (Pieces count) b))) e
 task-is (Make count) files name bytes a e = absurd a
@@ -218,13 +218,13 @@ task-is Remux files name bytes a e = absurd a
 task-is (Feed at) files name bytes a e = absurd a
 
 -- the words ask for the file
-record Names (files : Table) (words : List (List ℕ)) (bytes : List ℕ) : Type 0 where
+record AreWordsForFile (files : Table) (words : List (List ℕ)) (bytes : List ℕ) : Type 0 where
   command : Command
-  appends : AppendsFile command
+  appends : IsAppendCommand command
   number : IsInRange command
   task : (request_in files words).task ≡ Ok (ByFile command bytes)
 
-names-by : (o : Option Command) (files : Table) (words : List (List ℕ)) (bytes : List ℕ) → command_of words ≡ o → IfSome o IsInRange → IsSomeAnd o AppendsFile → files (file_of words) ≡ Some bytes → Names files words bytes
+names-by : (o : Option Command) (files : Table) (words : List (List ℕ)) (bytes : List ℕ) → command_of words ≡ o → IfSome o IsInRange → IsSomeAnd o IsAppendCommand → files (file_of words) ≡ Some bytes → AreWordsForFile files words bytes
 names-by None files words bytes e r a found = absurd a
 names-by (Some command) files words bytes e r a found = record {
   command = command;
@@ -233,7 +233,7 @@ names-by (Some command) files words bytes e r a found = record {
   task = ap (λ o. (request_of files (file_of words) o).task) e ∙ task-is command files (file_of words) bytes a found;
 }
 
-names : (files : Table) (words : List (List ℕ)) (bytes : List ℕ) → IsSomeAnd (command_of words) AppendsFile → files (file_of words) ≡ Some bytes → Names files words bytes
+names : (files : Table) (words : List (List ℕ)) (bytes : List ℕ) → IsSomeAnd (command_of words) IsAppendCommand → files (file_of words) ≡ Some bytes → AreWordsForFile files words bytes
 names files words bytes a found = names-by (command_of words) files words bytes refl (command-range words) a found
 
 abbrev status_by : Bool → Status
@@ -245,42 +245,42 @@ not-some None h = refl
 not-some (Some fault) h = absurd (h refl)
 
 -- the whole file was run, and the status says whether it breaks the byte stream format
-record RanFile (command : Command) (bytes : List ℕ) (left : RunOutcome) (end : Status) : Type 0 where
+record IsFileRunToEnd (command : Command) (bytes : List ℕ) (left : RunOutcome) (end : Status) : Type 0 where
   journal : IsJournalOf command bytes left.entries
   wrote : IsWritten (text_of (ByFile command bytes) left.entries) left.before.written left.now.written
   end_is : end ≡ status_by (is_some (last_state (ByFile command bytes) left.entries).core.source.fault)
 
-ran-file : (n : ℕ) (request : Request) (command : Command) (bytes : List ℕ) (left : RunOutcome) (end : Status) → AppendsFile command → IsInRange command → IsThrough end → EndsRun n request (ByFile command bytes) left end → RanFile command bytes left end
+ran-file : (n : ℕ) (request : Request) (command : Command) (bytes : List ℕ) (left : RunOutcome) (end : Status) → IsAppendCommand command → IsInRange command → IsThrough end → IsEndOfTask n request (ByFile command bytes) left end → IsFileRunToEnd command bytes left end
 ran-file n request command bytes left end a r (inl e) ends =
-    let all = subst (λ (x : Status). EndsRun n request (ByFile command bytes) left x) e ends in
+    let all = subst (λ (x : Status). IsEndOfTask n request (ByFile command bytes) left x) e ends in
     record {
       journal = record { appends = a; number = r; whole = all.0.all };
       wrote = all.0.wrote;
       end_is = e ∙ ap status_by (sym (not-some (last_state (ByFile command bytes) left.entries).core.source.fault all.1));
     }
 ran-file n request command bytes left end a r (inr e) ends =
-    let all = subst (λ (x : Status). EndsRun n request (ByFile command bytes) left x) e ends in
+    let all = subst (λ (x : Status). IsEndOfTask n request (ByFile command bytes) left x) e ends in
     record {
       journal = record { appends = a; number = r; whole = all.0.all };
       wrote = all.0.wrote;
       end_is = e ∙ ap status_by (sym all.1);
     }
 
-file-run : (n : ℕ) (files : Table) (words : List (List ℕ)) (bytes : List ℕ) (left : RunOutcome) (end : Status) (named : Names files words bytes) → IsThrough end → Ends n (request_in files words) left end → RanFile named.command bytes left end
+file-run : (n : ℕ) (files : Table) (words : List (List ℕ)) (bytes : List ℕ) (left : RunOutcome) (end : Status) (named : AreWordsForFile files words bytes) → IsThrough end → IsEndOfRun n (request_in files words) left end → IsFileRunToEnd named.command bytes left end
 file-run n files words bytes left end named through ends =
     ran-file n (request_in files words) named.command bytes left end named.appends named.number through
-    (subst (λ (r : Result Task End). EndsBehind n (request_in files words) r left end) named.task ends)
+    (subst (λ (r : Result Task End). IsEndByTask n (request_in files words) r left end) named.task ends)
 
 wrote-is : (text before : List ℕ) (old new : Option (List ℕ)) → old ≡ Some before → IsWritten text old new → new ≡ Some (before ++ text)
 wrote-is text before old new e w = subst (λ (o : Option (List ℕ)). IsWritten text o new) e w
 
 pub one-run : (files : Table) (a b : List (List ℕ)) (bytes : List ℕ) (n m : ℕ) (before : List ℕ) (s t : RunOutcome) (x y : Status) → AreNamesOfOneFile files a b bytes → length bytes < 2 ^ 62
-    → s.before.written ≡ Some before → t.before.written ≡ Some before → IsThrough x → IsThrough y → Ends n (request_in files a) s x → Ends m (request_in files b) t y → (x ≡ y) × (s.now.written ≡ t.now.written)
+    → s.before.written ≡ Some before → t.before.written ≡ Some before → IsThrough x → IsThrough y → IsEndOfRun n (request_in files a) s x → IsEndOfRun m (request_in files b) t y → (x ≡ y) × (s.now.written ≡ t.now.written)
 one-run files a b bytes n m before s t x y one short i j f g p q =
-    let first : Names files a bytes = names files a bytes one.first one.found in
-    let second : Names files b bytes = names files b bytes one.second (ap files (sym one.same) ∙ one.found) in
-    let here : RanFile first.command bytes s x = file-run n files a bytes s x first f p in
-    let there : RanFile second.command bytes t y = file-run m files b bytes t y second g q in
+    let first : AreWordsForFile files a bytes = names files a bytes one.first one.found in
+    let second : AreWordsForFile files b bytes = names files b bytes one.second (ap files (sym one.same) ∙ one.found) in
+    let here : IsFileRunToEnd first.command bytes s x = file-run n files a bytes s x first f p in
+    let there : IsFileRunToEnd second.command bytes t y = file-run m files b bytes t y second g q in
     let core = one-core first.command second.command bytes s.entries t.entries short here.journal there.journal in
     let text = one-text first.command second.command bytes s.entries t.entries short here.journal there.journal in (
       here.end_is ∙ ap (λ (c : Core). status_by (is_some c.source.fault)) core ∙ sym there.end_is,

@@ -7,7 +7,7 @@ use Rattle.mse_calls.specs.declared.views.FaultView.{FaultView}
 use Rattle.mse_engine.specs.State.{State}
 use Rattle.mse_engine.specs.Standing.{Stands}
 use Rattle.script_run.specs.DrainSteps.{IsAtRest}
-use Rattle.script_run.specs.PlayedParts.{Drains, IsOwnStep}
+use Rattle.script_run.specs.PlayedParts.{IsSilentDrain, IsOwnStep}
 use Rattle.listeners.specs.Views.{RunView}
 use Rattle.mse_commands.specs.Shown.{append_entry, pieces_of}
 use Rattle.mse_commands.specs.Works.{IsAppended, IsPartAppended, IsOpened}
@@ -66,7 +66,7 @@ next_call bytes size len at count blobs a b c more is p call =
 -- one more piece
 pub next_filed : (bytes : List ℕ) (size len at count : ℕ) (blobs : List (List ℕ)) (a b c d : RunView) → 1 ≤ size → at < len → count ≡ min size (len - at)
     → IsAppending (file_place bytes size len at) blobs a b → ((answer : Answer) × IsOwnStep blobs (append_entry (record { blob = 0; part = Some (at, count) }) answer ∷ []) b c)
-    → Drains (bytes ∷ []) c d → ((st : State) → Stands d.engine st → IsAtRest st) → HasAppended (file_place bytes size len (at + count)) a d
+    → IsSilentDrain (bytes ∷ []) c d → ((st : State) → Stands d.engine st → IsAtRest st) → HasAppended (file_place bytes size len (at + count)) a d
 next_filed bytes size len at count blobs a b c d some more is p call drains end =
     let next = next_left size len at p.left some more p.place in
     let piece : Piece = record { blob = 0; part = Some (at, min size (len - at)) } in
@@ -112,7 +112,7 @@ front_filed bytes size len at blobs a b p = rw (← p.whole) (front_under_way by
 -- the drain behind a piece was cut off
 pub front_cut : (bytes : List ℕ) (size len at count : ℕ) (blobs : List (List ℕ)) (a b c d : RunView) → 1 ≤ size → at < len → count ≡ min size (len - at)
     → IsAppending (file_place bytes size len at) blobs a b → ((answer : Answer) × IsOwnStep blobs (append_entry (record { blob = 0; part = Some (at, count) }) answer ∷ []) b c)
-    → Drains (bytes ∷ []) c d → IsPartAppended bytes (pieces_of size (length bytes)) a d
+    → IsSilentDrain (bytes ∷ []) c d → IsPartAppended bytes (pieces_of size (length bytes)) a d
 front_cut bytes size len at count blobs a b c d some more is p call drains =
     let next = next_left size len at p.left some more p.place in
     let piece : Piece = record { blob = 0; part = Some (at, min size (len - at)) } in

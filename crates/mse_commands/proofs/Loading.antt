@@ -5,7 +5,7 @@ use Rattle.std.proofs.lemmas.Grind.{common_steps}
 use Rattle.std.proofs.lemmas.List.{take-append-drop, drop_more, take_more}
 use Rattle.std.proofs.lemmas.List.Elements.{All-nil, All-cons, All-append, filter_map-append}
 use Rattle.mse_outside.specs.Count.{next_count}
-use Rattle.mse_outside.specs.Outside.{IsLoadTold, HasRisen, Table}
+use Rattle.mse_outside.specs.Outside.{IsLoadEffect, HasRisen, Table}
 use Rattle.mse_outside.specs.declared.library.Loaded.TheVariants.{Done as LoadDone}
 use Rattle.bmff_boxes.specs.Reading.{◌>>=◌}
 use Rattle.call_script.specs.declared.fault.ScriptFault.{ScriptFault}
@@ -91,11 +91,11 @@ end_as table a b c d names more one two (TaskBudget limit) before later reach te
 
 -- ---- a file
 
-found_bytes : (file : Option (List ℕ)) (name new : List ℕ) → IsLoadTold file [] new LoadDone → ok_or file (NoFile name) ≡ Ok new
+found_bytes : (file : Option (List ℕ)) (name new : List ℕ) → IsLoadEffect file [] new LoadDone → ok_or file (NoFile name) ≡ Ok new
 found_bytes None name new p = absurd p
 found_bytes (Some bytes) name new p = ap (λ (x : List ℕ). Ok x) (sym p)
 
-pub load_done : (table : Option Table) (name new : List ℕ) → IfSome table (λ files. IsLoadTold (files name) [] new LoadDone) → IfSome table (λ files. file_bytes files name ≡ Ok new)
+pub load_done : (table : Option Table) (name new : List ℕ) → IfSome table (λ files. IsLoadEffect (files name) [] new LoadDone) → IfSome table (λ files. file_bytes files name ≡ Ok new)
 load_done None name new p = tt
 load_done (Some files) name new p = found_bytes (files name) name new p
 

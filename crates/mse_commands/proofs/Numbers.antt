@@ -4,7 +4,7 @@ use Rattle.std.proofs.lemmas.Bool.{cases_lt}
 use Rattle.std.proofs.lemmas.Grind.{common_steps}
 use Rattle.std.specs.Prelude.{◌⊎◌, ◌&&◌, nat_le, option_and_then, if◌then◌else◌, IfSome}
 use Rattle.std.specs.Fmt.{decimal}
-use Rattle.call_script.specs.Numbers.{below, number_of, index_of}
+use Rattle.call_script.specs.Numbers.{number_if_below, number_of, index_of}
 use Rattle.call_script.proofs.Decimals.{number_of-decimal}
 use Rattle.call_script.proofs.PrintedNumbers.{number_read}
 use Rattle.mse_commands.specs.Words.{count_within, count_of_word}
@@ -36,17 +36,17 @@ within_some most m n e =
     (at_least 1 m b.0, at_least m most b.1, cc (a.1))
 
 -- what is not below the limit is above the greatest count
-below_first : (most : ℕ) (o : Option ℕ) → most < 2 ^ 32 → option_and_then (count_within most) (option_and_then (below (2 ^ 32)) o) ≡ option_and_then (count_within most) o
+below_first : (most : ℕ) (o : Option ℕ) → most < 2 ^ 32 → option_and_then (count_within most) (option_and_then (number_if_below (2 ^ 32)) o) ≡ option_and_then (count_within most) o
 below_first most None bound = refl
 below_first most (Some n) bound = ⊎_elim
     (λ low. ap (option_and_then (count_within most)) (is_below n low))
     (λ high. ap (option_and_then (count_within most)) (is_none n high) ∙ sym (within_no most n (omega (arith, high, bound))))
     (cases_lt n (2 ^ 32))
   where
-    is_below : (n : ℕ) → n < 2 ^ 32 → below (2 ^ 32) n ≡ Some n
+    is_below : (n : ℕ) → n < 2 ^ 32 → number_if_below (2 ^ 32) n ≡ Some n
     is_below n h = grind (arith, common_steps)
 
-    is_none : (n : ℕ) → 2 ^ 32 ≤ n → below (2 ^ 32) n ≡ None
+    is_none : (n : ℕ) → 2 ^ 32 ≤ n → number_if_below (2 ^ 32) n ≡ None
     is_none n h = grind (arith, common_steps)
 
 count_by_index : (most : ℕ) (word : List ℕ) → most < 2 ^ 32 → option_and_then (count_within most) (index_of word) ≡ count_of_word most word

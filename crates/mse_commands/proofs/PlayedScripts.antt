@@ -20,24 +20,24 @@ use Rattle.script_run.specs.RunStates.{RunState, run_at}
 use Rattle.script_run.specs.Writes.{IsWritten, IsFrontWritten}
 use Rattle.script_run.proofs.Writing.{front_more}
 use Rattle.mse_commands.specs.Endings.{end_of_halt, end_of_stop}
-use Rattle.mse_commands.specs.Outcomes.{HaveRules}
-use Rattle.mse_commands.specs.Works.{PlaysScript, ScriptInputs, lines_front}
+use Rattle.mse_commands.specs.Outcomes.{AreRulesOfNumbers}
+use Rattle.mse_commands.specs.Works.{IsScriptShowResult, ScriptInputs, lines_front}
 
 pub plays_to_stop : (inputs : ScriptInputs) (given : List (List Rule)) (a b : RunState) (stop : Stop)
-    → IsPlayedUpTo inputs.blobs (lines_front inputs) stop a b → HaveRules inputs.rules given → PlaysScript inputs given a b (Err (end_of_stop inputs.limits.limit stop))
+    → IsPlayedUpTo inputs.blobs (lines_front inputs) stop a b → AreRulesOfNumbers inputs.rules given → IsScriptShowResult inputs given a b (Err (end_of_stop inputs.limits.limit stop))
 plays_to_stop inputs given a b (Halted halt.Memory) p h = inr (inl (record { played = p; rules_are = h }))
 plays_to_stop inputs given a b (Halted halt.Write) p h = inr (inl (record { played = p; rules_are = h }))
 plays_to_stop inputs given a b (CallBudget k) p h = record { played = p; rules_are = h }
 plays_to_stop inputs given a b TaskBudget p h = (refl, record { played = p; rules_are = h })
 
 pub plays_whole : (inputs : ScriptInputs) (given : List (List Rule)) (r0 r1 : RunView) (w0 w1 w2 : Option (List ℕ)) (n0 n1 : List (List Note))
-    → IsPlayed inputs.blobs (AreScriptLinesDone inputs.blobs inputs.limits inputs.lines) (run_at r0 w0 n0) (run_at r1 w1 n1) → ((st : State) → Stands r1.engine st → IsWritten (closing_text (view_in st) true) w1 w2) → HaveRules inputs.rules given
-    → PlaysScript inputs given (run_at r0 w0 n0) (run_at r1 w2 n1) (Ok false)
+    → IsPlayed inputs.blobs (AreScriptLinesDone inputs.blobs inputs.limits inputs.lines) (run_at r0 w0 n0) (run_at r1 w1 n1) → ((st : State) → Stands r1.engine st → IsWritten (closing_text (view_in st) true) w1 w2) → AreRulesOfNumbers inputs.rules given
+    → IsScriptShowResult inputs given (run_at r0 w0 n0) (run_at r1 w2 n1) (Ok false)
 plays_whole inputs given r0 r1 w0 w1 w2 n0 n1 p wrote h = (refl, record { middle = w1; played = p; shown = record { wrote = wrote }; rules_are = h })
 
 pub plays_half : (inputs : ScriptInputs) (given : List (List Rule)) (r0 r1 : RunView) (w0 w1 w2 : Option (List ℕ)) (n0 n1 : List (List Note)) (h : Halt)
-    → IsPlayed inputs.blobs (AreScriptLinesDone inputs.blobs inputs.limits inputs.lines) (run_at r0 w0 n0) (run_at r1 w1 n1) → ((st : State) → Stands r1.engine st → IsFrontWritten (closing_text (view_in st) true) w1 w2) → HaveRules inputs.rules given
-    → PlaysScript inputs given (run_at r0 w0 n0) (run_at r1 w2 n1) (Err (end_of_halt h))
+    → IsPlayed inputs.blobs (AreScriptLinesDone inputs.blobs inputs.limits inputs.lines) (run_at r0 w0 n0) (run_at r1 w1 n1) → ((st : State) → Stands r1.engine st → IsFrontWritten (closing_text (view_in st) true) w1 w2) → AreRulesOfNumbers inputs.rules given
+    → IsScriptShowResult inputs given (run_at r0 w0 n0) (run_at r1 w2 n1) (Err (end_of_halt h))
 plays_half inputs given r0 r1 w0 w1 w2 n0 n1 halt.Memory p wrote h = inr (inr (record { middle = w1; played = p; shown = wrote; rules_are = h }))
 plays_half inputs given r0 r1 w0 w1 w2 n0 n1 halt.Write p wrote h = inr (inr (record { middle = w1; played = p; shown = wrote; rules_are = h }))
 
@@ -48,7 +48,7 @@ err_behind (Err e) before text old mid new w p = front_more before text old mid 
 
 -- the listeners have the rules that they were given
 pub have_rules : {X : Type 0} (f : X → List Rule) (xs : List X) (n : ℕ) (rules list : List Rule) (now : List (List Rule)) → now ≡ map f xs → list ≡ rules
-    → ((w : ℕ) → w < n → rules_of_listener (map f xs) w ≡ rules_for w list) → length xs ≡ n → HaveRules rules now
+    → ((w : ℕ) → w < n → rules_of_listener (map f xs) w ≡ rules_for w list) → length xs ≡ n → AreRulesOfNumbers rules now
 have_rules f xs n rules list now e q given len =
-    subst (λ (x : List (List Rule)). HaveRules rules x) (sym e)
-    (subst (λ (r : List Rule). HaveRules r (map f xs)) q (λ w h. given w (omega (arith, h, len, length-map xs f))))
+    subst (λ (x : List (List Rule)). AreRulesOfNumbers rules x) (sym e)
+    (subst (λ (r : List Rule). AreRulesOfNumbers r (map f xs)) q (λ w h. given w (omega (arith, h, len, length-map xs f))))

@@ -18,9 +18,9 @@ use Rattle.mse_commands.specs.declared.ending.End.{End}
 use Rattle.mse_commands.specs.declared.ending.End.TheVariants.{Memory, Write, Words, NoFile, Read, Script, CallBudget, TaskBudget}
 use Rattle.mse_commands.specs.declared.ending.Status.{Status}
 use Rattle.mse_commands.specs.declared.ending.Status.TheVariants as status
-use Rattle.mse_commands.specs.Requests.{OfWords, Request, Task, ByScript, ByFile, ByRemux}
+use Rattle.mse_commands.specs.Requests.{HasRequestOfWords, Request, Task, ByScript, ByFile, ByRemux}
 use Rattle.mse_commands.specs.Endings.{error_line, status_of}
-use Rattle.mse_commands.specs.Outcomes.{Ends, EndsBehind, EndsBy, EndsByRead, EndsRun, EndsShort, EndsWith, HasFailedRead, HasCause, HaveTheirRules, IsBroken, IsHeardTo, RunOutcome, IsFrontRun, IsNothingRun, IsSaid, IsFrontSaid, IsSomeSaid, IsTextWritten}
+use Rattle.mse_commands.specs.Outcomes.{IsEndOfRun, IsEndByTask, IsEndedWithCause, IsEndedByRead, IsEndOfTask, IsEndedShort, IsEndWithoutTask, HasFailedRead, HasCause, AreRulesOfTask, IsBroken, IsHeardTo, RunOutcome, IsFrontRun, IsNothingRun, IsSaid, IsFrontSaid, IsSomeSaid, IsTextWritten}
 use Rattle.mse_commands.specs.Says.{IsEndSaid, IsLineSaid}
 use Rattle.mse_commands.specs.Shown.{last_state, shown_lines}
 use Rattle.mse_commands.specs.Works.{IsNothingDone, IsSomeDone, IsDoneUpTo, IsRequestDone, IsRequestDoneBy, IsTaskMissing, is_broken_in}
@@ -37,7 +37,7 @@ nothing_again left new p = record { entries = p.entries; engine = p.engine; note
 abbrev failed_again : (request : Request) (left : RunOutcome) (new : Option (List ℕ)) → HasFailedRead request left → HasFailedRead request (with_written left new)
 failed_again request left new p = record { name = p.name; rose = p.rose; reached = p.reached }
 
-rules_again : (task : Task) (left : RunOutcome) (new : Option (List ℕ)) → HaveTheirRules task left → HaveTheirRules task (with_written left new)
+rules_again : (task : Task) (left : RunOutcome) (new : Option (List ℕ)) → AreRulesOfTask task left → AreRulesOfTask task (with_written left new)
 rules_again (ByScript script blobs) left new p = p
 rules_again (ByFile command bytes) left new p = p
 rules_again (ByRemux bytes) left new p = p
@@ -103,18 +103,18 @@ broken_by (ByScript script blobs) entries e = absurd (cc)
 broken_by (ByFile command bytes) entries e = some_true (last_state (ByFile command bytes) entries).core.source.fault e
 broken_by (ByRemux bytes) entries e = sym e
 
-pub ends_whole : (count : ℕ) (request : Request) (task : Result Task End) (left : RunOutcome) → IsRequestDoneBy count request task left (Ok false) → EndsBehind count request task left status.Ok
+pub ends_whole : (count : ℕ) (request : Request) (task : Result Task End) (left : RunOutcome) → IsRequestDoneBy count request task left (Ok false) → IsEndByTask count request task left status.Ok
 ends_whole count request (Ok task) left p = (p.ran, not_broken task left.entries p.broken_is)
 ends_whole count request (Err end) left p = absurd p
 
-pub ends_broken : (count : ℕ) (request : Request) (task : Result Task End) (left : RunOutcome) → IsRequestDoneBy count request task left (Ok true) → EndsBehind count request task left status.Media
+pub ends_broken : (count : ℕ) (request : Request) (task : Result Task End) (left : RunOutcome) → IsRequestDoneBy count request task left (Ok true) → IsEndByTask count request task left status.Media
 ends_broken count request (Ok task) left p = (p.ran, broken_by task left.entries p.broken_is)
 ends_broken count request (Err end) left p = absurd p
 
 -- ---- with one
 
 read_said : (request : Request) (left : RunOutcome) (name : List ℕ) (new : Option (List ℕ)) → IsNothingDone left → (cause : HasFailedRead request left) → cause.name ≡ name → IsWritten (error_line (Read name)) left.now.written new
-    → EndsByRead request (with_written left new)
+    → IsEndedByRead request (with_written left new)
 read_said request left name new n cause is p = record {
   nothing = nothing_again left new n.nothing;
   cause = failed_again request left new cause;
@@ -132,7 +132,7 @@ said_none : (request : Request) (left : RunOutcome) (new : Option (List ℕ)) �
 said_none request left new n same = record { nothing = nothing_again left new n.nothing; wrote = inl (same ∙ n.wrote) }
 
 some_said : (count : ℕ) (h : Halt) (request : Request) (task : Task) (left : RunOutcome) (new : Option (List ℕ)) → IsSomeDone count h task left → new ≡ left.now.written
-    → EndsShort count h request task (with_written left new)
+    → IsEndedShort count h request task (with_written left new)
 some_said count h request task left new d same = inl (record {
   ran = front_again count task left new d.ran;
   heard = heard_again task h left new d.heard;
@@ -140,7 +140,7 @@ some_said count h request task left new d same = inl (record {
 })
 
 -- the cause of a budget is said behind the lines
-cause_said : (count : ℕ) (task : Task) (left : RunOutcome) (end : End) (new : Option (List ℕ)) → IsDoneUpTo count task left end → IsWritten (error_line end) left.now.written new → EndsBy count task (with_written left new) end
+cause_said : (count : ℕ) (task : Task) (left : RunOutcome) (end : End) (new : Option (List ℕ)) → IsDoneUpTo count task left end → IsWritten (error_line end) left.now.written new → IsEndedWithCause count task (with_written left new) end
 cause_said count task left end new d p = record {
   ran = front_again count task left new d.ran;
   cause = cause_again task left end new d.cause;
@@ -148,20 +148,20 @@ cause_said count task left end new d p = record {
 }
 
 cause_half : (count : ℕ) (h : Halt) (request : Request) (task : Task) (left : RunOutcome) (end : End) (new : Option (List ℕ)) → IsDoneUpTo count task left end → IsFrontWritten (error_line end) left.now.written new
-    → EndsShort count h request task (with_written left new)
+    → IsEndedShort count h request task (with_written left new)
 cause_half count h request task left end new d p = inl (record {
   ran = front_again count task left new d.ran;
   heard = heard_again task h left new (cause_heard task h left end d.cause);
   wrote = inr (end, cause_again task left end new d.cause, front_more (shown_lines task left.entries) (error_line end) left.before.written left.now.written new d.wrote p);
 })
 
-short_by : (count : ℕ) (request : Request) (task : Task) (left : RunOutcome) (s : Status) → (s ≡ status.Write) ⊎ (s ≡ status.Memory) → ((h : Halt) → EndsShort count h request task left)
-    → EndsRun count request task left s
+short_by : (count : ℕ) (request : Request) (task : Task) (left : RunOutcome) (s : Status) → (s ≡ status.Write) ⊎ (s ≡ status.Memory) → ((h : Halt) → IsEndedShort count h request task left)
+    → IsEndOfTask count request task left s
 short_by count request task left s (inl e) p = rw e (p halt.Write)
 short_by count request task left s (inr e) p = rw e (p halt.Memory)
 
 pub ends_run : (count : ℕ) (request : Request) (task : Task) (left : RunOutcome) (end : End) (new : Option (List ℕ)) (s : Status) → IsRequestDoneBy count request (Ok task) left (Err end) → IsEndSaid end left.now.written new s
-    → EndsRun count request task (with_written left new) s
+    → IsEndOfTask count request task (with_written left new) s
 ends_run count request task left Memory new s (inl n) p = rw p.0 (inr (said_none request left new n p.1))
 ends_run count request task left Memory new s (inr d) p = rw p.0 (some_said count halt.Memory request task left new d p.1)
 ends_run count request task left Write new s d p = rw p.0 (some_said count halt.Write request task left new d p.1)
@@ -189,16 +189,16 @@ line_half end found left new n is p = record {
   wrote = subst (λ (t : Option (List ℕ)). IsFrontWritten (error_line end) t new) n.wrote (subst (λ (x : End). IsFrontWritten (error_line x) left.now.written new) is p);
 }
 
-half_by : (request : Request) (end : End) (left : RunOutcome) (s : Status) → (s ≡ status.Write) ⊎ (s ≡ status.Memory) → IsFrontSaid end left → EndsWith request end left s
+half_by : (request : Request) (end : End) (left : RunOutcome) (s : Status) → (s ≡ status.Write) ⊎ (s ≡ status.Memory) → IsFrontSaid end left → IsEndWithoutTask request end left s
 half_by request end left s (inl e) p = rw e (inl p)
 half_by request end left s (inr e) p = rw e (inl p)
 
-some_by : (request : Request) (end : End) (left : RunOutcome) (s : Status) → (s ≡ status.Write) ⊎ (s ≡ status.Memory) → IsSomeSaid request left → EndsWith request end left s
+some_by : (request : Request) (end : End) (left : RunOutcome) (s : Status) → (s ≡ status.Write) ⊎ (s ≡ status.Memory) → IsSomeSaid request left → IsEndWithoutTask request end left s
 some_by request end left s (inl e) p = rw e (inr p)
 some_by request end left s (inr e) p = rw e (inr p)
 
 pub ends_not : (request : Request) (end found : End) (left : RunOutcome) (new : Option (List ℕ)) (s : Status) → IsTaskMissing request end left (Err found) → IsEndSaid found left.now.written new s
-    → EndsWith request end (with_written left new) s
+    → IsEndWithoutTask request end (with_written left new) s
 ends_not request end Memory left new s n p = rw p.0 (inr (said_none request left new n p.1))
 ends_not request end Write left new s w p = rw p.0 (inr (said_none request left new w.0 p.1))
 ends_not request end (Read name) left new s w (inl p) = rw p.status_is (read_said request left name new w.0 w.1.0 w.1.1 p.wrote)
@@ -215,22 +215,22 @@ ends_not request end (TaskBudget limit) left new s w (inl p) = rw p.status_is (a
 ends_not request end (TaskBudget limit) left new s w (inr p) = half_by request end (with_written left new) s p.wanting (line_half end (TaskBudget limit) left new w.0 w.1 p.wrote)
 
 pub ends_said : (count : ℕ) (request : Request) (task : Result Task End) (left : RunOutcome) (end : End) (new : Option (List ℕ)) (s : Status) → IsRequestDoneBy count request task left (Err end) → IsEndSaid end left.now.written new s
-    → EndsBehind count request task (with_written left new) s
+    → IsEndByTask count request task (with_written left new) s
 ends_said count request (Ok task) left end new s w p = ends_run count request task left end new s w p
 ends_said count request (Err e) left end new s w p = ends_not request e end left new s w p
 
 -- ---- of what the words ask for
 
-pub whole_by : (table : Option Table) (words : List (List ℕ)) (count : ℕ) (left : RunOutcome) → OfWords table words (λ request. IsRequestDone count request left (Ok false))
-    → OfWords table words (λ request. Ends count request left status.Ok)
+pub whole_by : (table : Option Table) (words : List (List ℕ)) (count : ℕ) (left : RunOutcome) → HasRequestOfWords table words (λ request. IsRequestDone count request left (Ok false))
+    → HasRequestOfWords table words (λ request. IsEndOfRun count request left status.Ok)
 whole_by table words count left w = (w.0, w.1, ends_whole count w.0 w.0.task left w.2)
 
-pub broken_at : (table : Option Table) (words : List (List ℕ)) (count : ℕ) (left : RunOutcome) → OfWords table words (λ request. IsRequestDone count request left (Ok true))
-    → OfWords table words (λ request. Ends count request left status.Media)
+pub broken_at : (table : Option Table) (words : List (List ℕ)) (count : ℕ) (left : RunOutcome) → HasRequestOfWords table words (λ request. IsRequestDone count request left (Ok true))
+    → HasRequestOfWords table words (λ request. IsEndOfRun count request left status.Media)
 broken_at table words count left w = (w.0, w.1, ends_broken count w.0 w.0.task left w.2)
 
 pub said_by : (table : Option Table) (words : List (List ℕ)) (count : ℕ) (left : RunOutcome) (end : End) (new : Option (List ℕ)) (s : Status)
-    → OfWords table words (λ request. IsRequestDone count request left (Err end)) → IsEndSaid end left.now.written new s → OfWords table words (λ request. Ends count request (with_written left new) s)
+    → HasRequestOfWords table words (λ request. IsRequestDone count request left (Err end)) → IsEndSaid end left.now.written new s → HasRequestOfWords table words (λ request. IsEndOfRun count request (with_written left new) s)
 said_by table words count left end new s w p = (w.0, w.1, ends_said count w.0 w.0.task left end new s w.2 p)
 
 -- ---- the end by the status

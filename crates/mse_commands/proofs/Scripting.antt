@@ -14,7 +14,7 @@ use Rattle.call_script.specs.declared.script.StepLine.{StepLine}
 use Rattle.call_script.specs.Keys.{count_of}
 use Rattle.call_script.specs.Lines.{step_of_line}
 use Rattle.call_script.specs.Members.{in_front, members_from, members_of}
-use Rattle.call_script.specs.Script.{◌>>=◌, at_most, blobs_of, document_of, known_keys, list_at, number_at, with_fault_number, read_of, rules_of, script_of, steps_of}
+use Rattle.call_script.specs.Script.{◌>>=◌, at_most, blobs_of, document_of, keys_check, list_at, number_at, with_fault_number, read_of, rules_of, script_of, steps_of}
 
 -- what one thing gave, of which another came
 after_first : {A B : Type 0} (r : Result A ScriptFault) (f : A → Result B ScriptFault) (y : B) → (r >>= f) ≡ Ok y → (x : A) × (r ≡ Ok x) × (f x ≡ Ok y)
@@ -62,7 +62,7 @@ as_few a b same few = omega arith
 steps_few_of : (members : Members) (script : Script) → script_of members ≡ Ok script → length script.steps ≤ 100000
 unfolding script_of
 steps_few_of members script e =
-    let a = after_first (known_keys members) _ script e in
+    let a = after_first (keys_check members) _ script e in
     let b = after_first (number_at key.Quota 134217728 1 (2 ^ 40) members) _ script a.2 in
     let c = after_first (number_at key.Drain 100000 1 1000000 members) _ script b.2 in
     let d = after_first (number_at key.Gap 0 0 (2 ^ 40) members) _ script c.2 in

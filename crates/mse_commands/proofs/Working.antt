@@ -35,13 +35,13 @@ use Rattle.mse_commands.specs.declared.ending.End.{End}
 use Rattle.mse_commands.specs.declared.ending.End.TheVariants.{Memory, Write, Words, NoFile, Read, Script, CallBudget, TaskBudget}
 use Rattle.mse_commands.specs.declared.words.Command.{Command}
 use Rattle.mse_commands.specs.declared.words.Command.TheVariants.{Ranges, Pieces, Make, Play, Remux, Feed}
-use Rattle.mse_commands.specs.Requests.{IsFileCommand, IsLackOf, IsReadOf, IsTaskOf, OfCommand, Request, Task, ByScript, ByFile, ByRemux, blobs_bytes, file_by, file_request, file_task, files_by, files_in, files_of_script, file_bytes, opening_of, remux_request, remux_task, request_of, script_of_file, script_request, script_task}
+use Rattle.mse_commands.specs.Requests.{IsFileCommand, IsLackOf, IsReadOf, IsTaskOf, HasRequestOfCommand, Request, Task, ByScript, ByFile, ByRemux, blobs_bytes, file_by, file_request, file_task, files_by, files_in, files_of_script, file_bytes, opening_of, remux_request, remux_task, request_of, script_of_file, script_request, script_task}
 use Rattle.mse_commands.specs.Loads.{IsMade, IsReached, IsUnmade, IsLoadEnd, IsScriptEnd, failures}
 use Rattle.mse_commands.specs.Endings.{end_of_halt}
 use Rattle.mse_commands.specs.Outcomes.{IsRun, RunOutcome, IsFrontRun, IsWholeRun, outcome, outside_of}
 use Rattle.mse_commands.specs.Remuxing.{remux_text}
 use Rattle.mse_commands.specs.Shown.{IsWholeFile, file_closing, last_state, pieces_by}
-use Rattle.mse_commands.specs.Works.{IsAppended, IsPartAppended, IsNothingDone, IsSomeDone, IsDoneUpTo, IsFileFrontShown, PlaysScript, IsScriptHalfPlayed, IsScriptPlayed, IsScriptCutShort, IsScriptStopped, IsScriptUnplayed, IsFrontShown, ShowsFile, IsRequestDone, IsRequestDoneBy, IsTaskDone, script_inputs}
+use Rattle.mse_commands.specs.Works.{IsAppended, IsPartAppended, IsNothingDone, IsSomeDone, IsDoneUpTo, IsFileFrontShown, IsScriptShowResult, IsScriptHalfPlayed, IsScriptPlayed, IsScriptCutShort, IsScriptStopped, IsScriptUnplayed, IsFrontShown, IsFileShowResult, IsRequestDone, IsRequestDoneBy, IsTaskDone, script_inputs}
 use Rattle.mse_commands.proofs.Loading.{end_as, reached_behind, reached_first, reached_more, script_there}
 
 -- ---- what was not loaded
@@ -50,17 +50,17 @@ pub did_nothing : (a b : ℕ) (written : Option (List ℕ)) (notes : List (List 
 did_nothing a b written notes rules = record { nothing = record { entries = refl; engine = refl; notes = refl; rules = refl }; wrote = refl }
 
 -- what a library says of an end that tells its files
-abbrev ToldEnd : Request → Result Task End → RunOutcome → End → Type 0
-ToldEnd request task after Memory = Unit {0}
-ToldEnd request task after (Read name) = HasRisen after.before.faults after.now.faults × IsReached request.files request.names name
-ToldEnd request task after (NoFile name) = task ≡ Err (NoFile name)
-ToldEnd request task after (Script fault) = task ≡ Err (Script fault)
-ToldEnd request task after Write = ⊥
-ToldEnd request task after Words = ⊥
-ToldEnd request task after (CallBudget k) = ⊥
-ToldEnd request task after (TaskBudget limit) = ⊥
+abbrev IsEndTold : Request → Result Task End → RunOutcome → End → Type 0
+IsEndTold request task after Memory = Unit {0}
+IsEndTold request task after (Read name) = HasRisen after.before.faults after.now.faults × IsReached request.files request.names name
+IsEndTold request task after (NoFile name) = task ≡ Err (NoFile name)
+IsEndTold request task after (Script fault) = task ≡ Err (Script fault)
+IsEndTold request task after Write = ⊥
+IsEndTold request task after Words = ⊥
+IsEndTold request task after (CallBudget k) = ⊥
+IsEndTold request task after (TaskBudget limit) = ⊥
 
-not_loaded_by : (count : ℕ) (request : Request) (task : Result Task End) (after : RunOutcome) (end : End) → IsNothingDone after → ToldEnd request task after end → IsRequestDoneBy count request task after (Err end)
+not_loaded_by : (count : ℕ) (request : Request) (task : Result Task End) (after : RunOutcome) (end : End) → IsNothingDone after → IsEndTold request task after end → IsRequestDoneBy count request task after (Err end)
 not_loaded_by count request (Ok t) after Memory n p = inl n
 not_loaded_by count request (Ok t) after (Read name) n p = (n, (record { name = name; rose = p.0; reached = p.1 }, refl))
 not_loaded_by count request (Ok t) after (NoFile name) n p = absurd (cc)
@@ -80,7 +80,7 @@ not_loaded_by count request (Err e) after (TaskBudget limit) n p = absurd p
 
 told_file : {A : Type 0} (files : Table) (request : Request) (task : Result Task End) (after : RunOutcome) (names : List (List ℕ)) (told : Result A End) (end : End)
     → (told ≡ Err end → task ≡ Err end) → ((name : List ℕ) → IsReached files names name → IsReached request.files request.names name)
-    → IsLoadEnd (Some files) (failures after.before.faults after.now.faults) names (λ x. told) end → ToldEnd request task after end
+    → IsLoadEnd (Some files) (failures after.before.faults after.now.faults) names (λ x. told) end → IsEndTold request task after end
 told_file files request task after names told Memory fails reaches p = tt
 told_file files request task after names told (Read name) fails reaches p = (p.0, reaches name p.1)
 told_file files request task after names told (NoFile name) fails reaches p = fails p
@@ -99,7 +99,7 @@ no_request names end = record { files = λ name. None; names = names; task = Err
 -- Nothing is run for an end that needs no file: memory was wanting, a file is not there, or the library failed.
 untold_file : {A : Type 0} (count : ℕ) (name : List ℕ) (command : Command) (after : RunOutcome) (names : List (List ℕ)) (told : Table → Result A End) (end : End)
     → ((other : List ℕ) → IsLackOf command (NoFile other)) → IsNothingDone after → IsLoadEnd None (failures after.before.faults after.now.faults) names told end
-    → OfCommand None name (Some command) (λ request. IsRequestDone count request after (Err end))
+    → HasRequestOfCommand None name (Some command) (λ request. IsRequestDone count request after (Err end))
 untold_file count name command after names told Memory lack n p = (no_request [] (NoFile []), lack [], n)
 untold_file count name command after names told (Read other) lack n p =
     (no_request (other ∷ []) (NoFile []), lack [], (n, (record { name = other; rose = p.0; reached = reached_first (λ x. None) other [] }, refl)))
@@ -111,7 +111,7 @@ untold_file count name command after names told (CallBudget k) lack n p = absurd
 untold_file count name command after names told (TaskBudget limit) lack n p = absurd p
 
 untold_script : (count : ℕ) (name : List ℕ) (after : RunOutcome) (end : End) → IsNothingDone after → IsScriptEnd None (failures after.before.faults after.now.faults) name end
-    → OfCommand None name (Some Play) (λ request. IsRequestDone count request after (Err end))
+    → HasRequestOfCommand None name (Some Play) (λ request. IsRequestDone count request after (Err end))
 untold_script count name after Memory n p = untold_file count name Play after (name ∷ []) (λ files. script_of_file files name) Memory (λ other. tt) n p
 untold_script count name after (Read other) n p = untold_file count name Play after (name ∷ []) (λ files. script_of_file files name) (Read other) (λ x. tt) n p
 untold_script count name after (NoFile other) n p = untold_file count name Play after (name ∷ []) (λ files. script_of_file files name) (NoFile other) (λ x. tt) n p
@@ -136,11 +136,11 @@ file_request_is files name Remux f = absurd f
 file_request_is files name Play f = absurd f
 
 -- a file that was not made, for want of memory
-unmade_file : (count : ℕ) (name : List ℕ) (n : ℕ) (after : RunOutcome) (end : End) → IsNothingDone after → end ≡ Memory → OfCommand None name (Some (Make n)) (λ request. IsRequestDone count request after (Err end))
+unmade_file : (count : ℕ) (name : List ℕ) (n : ℕ) (after : RunOutcome) (end : End) → IsNothingDone after → end ≡ Memory → HasRequestOfCommand None name (Some (Make n)) (λ request. IsRequestDone count request after (Err end))
 unmade_file count name n after end nothing e = (record { files = λ x. None; names = []; task = Ok (ByFile (Make n) (made_bytes n)) }, (refl, refl), rw e (inl nothing))
 
 untold_by : {A : Type 0} (count : ℕ) (name : List ℕ) (command : Command) (after : RunOutcome) (names : List (List ℕ)) (told : Table → Result A End) (end : End) → IsFileCommand command → IsUnmade command end
-    → IsNothingDone after → IsLoadEnd None (failures after.before.faults after.now.faults) names told end → OfCommand None name (Some command) (λ request. IsRequestDone count request after (Err end))
+    → IsNothingDone after → IsLoadEnd None (failures after.before.faults after.now.faults) names told end → HasRequestOfCommand None name (Some command) (λ request. IsRequestDone count request after (Err end))
 untold_by count name Ranges after names told end f u n p = untold_file count name Ranges after names told end (λ other. tt) n p
 untold_by count name (Pieces size) after names told end f u n p = untold_file count name (Pieces size) after names told end (λ other. tt) n p
 untold_by count name (Make made) after names told end f u n p = unmade_file count name made after end n u
@@ -151,7 +151,7 @@ untold_by count name Play after names told end f u n p = absurd f
 pub file_not_loaded : (table : Option Table) (a b : ℕ) (name : List ℕ) (command : Command) (end : End) (entries : List Entry) (engine : Option KeptEngine) (written : Option (List ℕ))
     (count : ℕ) (notes : List (List Note)) (rules : List (List Rule)) → IsFileCommand command → IsUnmade command end → entries ≡ [] → engine ≡ None
     → IsLoadEnd table (failures a b) (files_by name command) (λ files. file_by files name command) end
-    → OfCommand table name (Some command) (λ request. IsRequestDone count request (outcome entries engine (outside_of a written notes rules) (outside_of b written notes rules)) (Err end))
+    → HasRequestOfCommand table name (Some command) (λ request. IsRequestDone count request (outcome entries engine (outside_of a written notes rules) (outside_of b written notes rules)) (Err end))
 file_not_loaded None a b name command end entries engine written count notes rules f u none nothing p =
     rw (none, nothing) (untold_by count name command (outcome [] None (outside_of a written notes rules) (outside_of b written notes rules)) (files_by name command) (λ files. file_by files name command) end f u
     (did_nothing a b written notes rules) p)
@@ -221,7 +221,7 @@ file_front count h command bytes a b w0 w1 f0 f1 notes rules stands fresh (inl p
 file_front count h command bytes a b w0 w1 f0 f1 notes rules stands fresh (inr p) = file_half count h command bytes a b w0 w1 f0 f1 notes rules stands fresh p.0 p.1
 
 pub file_worked : (count : ℕ) (request : Request) (command : Command) (bytes : List ℕ) (a b : RunView) (w0 w1 : Option (List ℕ)) (f0 f1 : ℕ) (notes : List (List Note)) (rules : List (List Rule))
-    (result : Result Bool End) → Stands a.engine (opening_of (ByFile command bytes)) → a.entries ≡ [] → ShowsFile command bytes (printed_run a w0) (printed_run b w1) result
+    (result : Result Bool End) → Stands a.engine (opening_of (ByFile command bytes)) → a.entries ≡ [] → IsFileShowResult command bytes (printed_run a w0) (printed_run b w1) result
     → IsTaskDone count request (ByFile command bytes) (outcome b.entries (Some b.engine) (outside_of f0 w0 notes rules) (outside_of f1 w1 notes rules)) result
 file_worked count request command bytes a b w0 w1 f0 f1 notes rules (Ok broken) stands fresh p =
     let es : List Entry = p.appended.entries in
@@ -263,8 +263,8 @@ untold_task Play bytes f m = absurd f
 
 pub file_works : (table : Option Table) (f0 f1 : ℕ) (name bytes : List ℕ) (command : Command) (a b : RunView) (w0 w1 : Option (List ℕ)) (count : ℕ) (notes : List (List Note)) (rules : List (List Rule))
     (result : Result Bool End) → IsFileCommand command → IsMade command bytes → IfSome table (λ files. file_by files name command ≡ Ok bytes)
-    → Stands a.engine (opening_of (ByFile command bytes)) → a.entries ≡ [] → ShowsFile command bytes (printed_run a w0) (printed_run b w1) result
-    → OfCommand table name (Some command) (λ request. IsRequestDone count request (outcome b.entries (Some b.engine) (outside_of f0 w0 notes rules) (outside_of f1 w1 notes rules)) result)
+    → Stands a.engine (opening_of (ByFile command bytes)) → a.entries ≡ [] → IsFileShowResult command bytes (printed_run a w0) (printed_run b w1) result
+    → HasRequestOfCommand table name (Some command) (λ request. IsRequestDone count request (outcome b.entries (Some b.engine) (outside_of f0 w0 notes rules) (outside_of f1 w1 notes rules)) result)
 file_works None f0 f1 name bytes command a b w0 w1 count notes rules result f m is stands fresh p =
     let request : Request = record { files = λ x. None; names = []; task = Ok (ByFile command bytes) } in
     (request, untold_task command bytes f m, file_worked count request command bytes a b w0 w1 f0 f1 notes rules result stands fresh p)
@@ -286,7 +286,7 @@ remux_goes files name bytes e = rw e refl
 
 pub remux_not_loaded : (table : Option Table) (a b : ℕ) (name : List ℕ) (end : End) (written : Option (List ℕ)) (count : ℕ) (notes : List (List Note)) (rules : List (List Rule))
     → IsLoadEnd table (failures a b) (name ∷ []) (λ files. file_bytes files name) end
-    → OfCommand table name (Some Remux) (λ request. IsRequestDone count request (outcome [] None (outside_of a written notes rules) (outside_of b written notes rules)) (Err end))
+    → HasRequestOfCommand table name (Some Remux) (λ request. IsRequestDone count request (outcome [] None (outside_of a written notes rules) (outside_of b written notes rules)) (Err end))
 remux_not_loaded None a b name end written count notes rules p =
     untold_file count name Remux (outcome [] None (outside_of a written notes rules) (outside_of b written notes rules)) (name ∷ []) (λ files. file_bytes files name) end (λ other. tt) (did_nothing a b written notes rules) p
 remux_not_loaded (Some files) a b name end written count notes rules p =
@@ -324,7 +324,7 @@ remux_half count request halt.Write bytes a b w0 w1 notes rules wrote = remux_so
 
 -- what is asked for where the file is there
 remux_asked : (table : Option Table) (name bytes : List ℕ) (count : ℕ) (after : RunOutcome) (result : Result Bool End) → IfSome table (λ files. file_bytes files name ≡ Ok bytes)
-    → ((request : Request) → IsTaskDone count request (ByRemux bytes) after result) → OfCommand table name (Some Remux) (λ request. IsRequestDone count request after result)
+    → ((request : Request) → IsTaskDone count request (ByRemux bytes) after result) → HasRequestOfCommand table name (Some Remux) (λ request. IsRequestDone count request after result)
 remux_asked None name bytes count after result is p =
     let request : Request = record { files = λ x. None; names = []; task = Ok (ByRemux bytes) } in
     (request, tt, p request)
@@ -334,13 +334,13 @@ remux_asked (Some files) name bytes count after result is p =
 
 pub remux_works : (table : Option Table) (a b : ℕ) (name bytes : List ℕ) (w0 w1 : Option (List ℕ)) (count : ℕ) (notes : List (List Note)) (rules : List (List Rule)) (broken : Bool)
     → IfSome table (λ files. file_bytes files name ≡ Ok bytes) → IsWritten (remux_text bytes) w0 w1 → broken ≡ is_err (pieces_of_file bytes)
-    → OfCommand table name (Some Remux) (λ request. IsRequestDone count request (outcome [] None (outside_of a w0 notes rules) (outside_of b w1 notes rules)) (Ok broken))
+    → HasRequestOfCommand table name (Some Remux) (λ request. IsRequestDone count request (outcome [] None (outside_of a w0 notes rules) (outside_of b w1 notes rules)) (Ok broken))
 remux_works table a b name bytes w0 w1 count notes rules broken is wrote broken_is =
     remux_asked table name bytes count (outcome [] None (outside_of a w0 notes rules) (outside_of b w1 notes rules)) (Ok broken) is (λ request. remux_whole count request bytes a b w0 w1 notes rules broken wrote broken_is)
 
 pub remux_stops : (table : Option Table) (a b : ℕ) (name bytes : List ℕ) (w0 w1 : Option (List ℕ)) (count : ℕ) (notes : List (List Note)) (rules : List (List Rule)) (h : Halt)
     → IfSome table (λ files. file_bytes files name ≡ Ok bytes) → IsFrontWritten (remux_text bytes) w0 w1
-    → OfCommand table name (Some Remux) (λ request. IsRequestDone count request (outcome [] None (outside_of a w0 notes rules) (outside_of b w1 notes rules)) (Err (end_of_halt h)))
+    → HasRequestOfCommand table name (Some Remux) (λ request. IsRequestDone count request (outcome [] None (outside_of a w0 notes rules) (outside_of b w1 notes rules)) (Err (end_of_halt h)))
 remux_stops table a b name bytes w0 w1 count notes rules h is wrote =
     remux_asked table name bytes count (outcome [] None (outside_of a w0 notes rules) (outside_of b w1 notes rules)) (Err (end_of_halt h)) is (λ request. remux_half count request h bytes a b w0 w1 notes rules wrote)
 
@@ -353,7 +353,7 @@ blobs_fail : (files : Table) (name : List ℕ) (script : CallScript) (end : End)
 blobs_fail files name script end e q = rw (e, q) refl
 
 told_script : (files : Table) (name : List ℕ) (after : RunOutcome) (end : End) → IsScriptEnd (Some files) (failures after.before.faults after.now.faults) name end
-    → ToldEnd (script_request files name) (script_task files name) after end
+    → IsEndTold (script_request files name) (script_task files name) after end
 told_script files name after Memory p = tt
 told_script files name after (Read other) p = (p.0, reached_more files other (name ∷ []) (files_of_script (script_of_file files name)) p.1)
 told_script files name after (NoFile other) p = script_fails files name (NoFile other) p
@@ -365,7 +365,7 @@ told_script files name after (TaskBudget limit) p = absurd p
 
 pub script_not_loaded : (table : Option Table) (a b : ℕ) (name : List ℕ) (end : End) (entries : List Entry) (engine : Option KeptEngine) (written : Option (List ℕ))
     (count : ℕ) (notes : List (List Note)) (rules : List (List Rule)) → entries ≡ [] → engine ≡ None → IsScriptEnd table (failures a b) name end
-    → OfCommand table name (Some Play) (λ request. IsRequestDone count request (outcome entries engine (outside_of a written notes rules) (outside_of b written notes rules)) (Err end))
+    → HasRequestOfCommand table name (Some Play) (λ request. IsRequestDone count request (outcome entries engine (outside_of a written notes rules) (outside_of b written notes rules)) (Err end))
 script_not_loaded None a b name end entries engine written count notes rules none nothing p =
     rw (none, nothing) (untold_script count name (outcome [] None (outside_of a written notes rules) (outside_of b written notes rules)) end (did_nothing a b written notes rules) p)
 script_not_loaded (Some files) a b name end entries engine written count notes rules none nothing p =
@@ -380,7 +380,7 @@ script_not_loaded (Some files) a b name end entries engine written count notes r
 pub blobs_not_loaded : (table : Option Table) (a b c : ℕ) (name : List ℕ) (script : CallScript) (end : End) (entries : List Entry) (engine : Option KeptEngine) (written : Option (List ℕ))
     (count : ℕ) (notes : List (List Note)) (rules : List (List Rule)) → entries ≡ [] → engine ≡ None → a ≤ b → IfSome table (λ files. script_of_file files name ≡ Ok script)
     → IsLoadEnd table (failures b c) (files_in script.blobs) (λ files. blobs_bytes files script.blobs) end
-    → OfCommand table name (Some Play) (λ request. IsRequestDone count request (outcome entries engine (outside_of a written notes rules) (outside_of c written notes rules)) (Err end))
+    → HasRequestOfCommand table name (Some Play) (λ request. IsRequestDone count request (outcome entries engine (outside_of a written notes rules) (outside_of c written notes rules)) (Err end))
 blobs_not_loaded None a b c name script end entries engine written count notes rules none nothing before is p =
     rw (none, nothing) (untold_file count name Play (outcome [] None (outside_of a written notes rules) (outside_of c written notes rules)) (files_in script.blobs) (λ files. blobs_bytes files script.blobs) end (λ other. tt)
     (did_nothing a c written notes rules)
@@ -523,7 +523,7 @@ module _ (count : ℕ) (request : Request) (script : CallScript) (blobs : List (
         wrote = rw all p.played.stopped.0;
       }
 
-  pub script_worked : (result : Result Bool End) → PlaysScript (script_inputs count script blobs) r1 a b result
+  pub script_worked : (result : Result Bool End) → IsScriptShowResult (script_inputs count script blobs) r1 a b result
       → IsTaskDone count request (ByScript script blobs) (outcome b.run.entries (Some b.run.engine) (outside_of f0 a.written a.notes r0) (outside_of f1 b.written b.notes r1)) result
   script_worked (Ok broken) p = record { ran = script_whole p.1; broken_is = p.0 }
   script_worked (Err Memory) p = inr (script_short halt.Memory p)
@@ -544,8 +544,8 @@ pub script_works : (table : Option Table) (f0 f1 : ℕ) (name : List ℕ) (scrip
     (result : Result Bool End) → IsReadOf (Ok script) → length blobs ≡ length script.blobs
     → IfSome table (λ files. script_of_file files name ≡ Ok script) → IfSome table (λ files. blobs_bytes files script.blobs ≡ Ok blobs)
     → Stands a.run.engine (opening_of (ByScript script blobs)) → a.run.entries ≡ []
-    → PlaysScript (script_inputs count script blobs) r1 a b result
-    → OfCommand table name (Some Play) (λ request. IsRequestDone count request (outcome b.run.entries (Some b.run.engine) (outside_of f0 a.written a.notes r0) (outside_of f1 b.written b.notes r1)) result)
+    → IsScriptShowResult (script_inputs count script blobs) r1 a b result
+    → HasRequestOfCommand table name (Some Play) (λ request. IsRequestDone count request (outcome b.run.entries (Some b.run.engine) (outside_of f0 a.written a.notes r0) (outside_of f1 b.written b.notes r1)) result)
 script_works None f0 f1 name script blobs a b count r0 r1 result read len is are stands fresh p =
     let request : Request = record { files = λ x. None; names = []; task = Ok (ByScript script blobs) } in
     (request, (read, len), script_worked count request script blobs a b f0 f1 r0 r1 stands fresh result p)

@@ -4,7 +4,7 @@ use Rattle.mse_outside.specs.Outside.{HasRisen}
 use Rattle.mse_calls.specs.declared.entry.Entry.{Entry}
 use Rattle.call_script.specs.declared.script.Script.{Script as CallScript}
 use Rattle.script_run.specs.Turns.{calls_in}
-use Rattle.play_law.specs.Silent.{CutsAlike}
+use Rattle.play_law.specs.Silent.{AreCutsAlike}
 use Rattle.mse_commands.specs.declared.ending.End.{End}
 use Rattle.mse_commands.specs.declared.ending.Status.{Status}
 use Rattle.mse_commands.specs.declared.ending.Status.TheVariants as status
@@ -45,5 +45,5 @@ IsCutAnywhere request entries end =
     (script : CallScript) (blobs : List (List ℕ)) → request.task ≡ Ok (ByScript script blobs)
     → end ≡ status.Ok
     → calls_in entries ≡ 0
-    → CutsAlike blobs (opening_of (ByScript script blobs)) script.steps
+    → AreCutsAlike blobs (opening_of (ByScript script blobs)) script.steps
     (last_state (ByScript script blobs) entries).core

@@ -7,27 +7,27 @@ use Rattle.mse_commands.specs.declared.ending.Status.TheVariants as status
 use Rattle.mse_commands.specs.declared.words.Command.{Command}
 use Rattle.mse_commands.specs.declared.words.Command.TheVariants.{Ranges, Pieces}
 use Rattle.mse_commands.specs.Requests.{ByFile, opening_of, request_in}
-use Rattle.mse_commands.specs.Outcomes.{Ends, RunOutcome}
+use Rattle.mse_commands.specs.Outcomes.{IsEndOfRun, RunOutcome}
 use Rattle.mse_commands.specs.Shown.{IsWholeFile, pieces_by}
 use Rattle.mse_commands.specs.Words.{IsInRange, command_of, file_of}
 
 -- the command appends a file of the library, and prints the block of it alone
-abbrev pub AppendsFile : Command → Type 0
-AppendsFile Ranges = ⊤
-AppendsFile (Pieces count) = ⊤
-AppendsFile other = ⊥
+abbrev pub IsAppendCommand : Command → Type 0
+IsAppendCommand Ranges = ⊤
+IsAppendCommand (Pieces count) = ⊤
+IsAppendCommand other = ⊥
 
 -- the whole journal of a command that appends a file of these bytes
 pub record IsJournalOf (command : Command) (bytes : List ℕ) (entries : List Entry) : Type 0 where
-  pub appends : AppendsFile command
+  pub appends : IsAppendCommand command
   pub number : IsInRange command
   pub whole : IsWholeFile (bytes ∷ []) (opening_of (ByFile command bytes))
       (pieces_by command (length bytes)) entries
 
 -- two calls name one file, of these bytes
 pub record AreNamesOfOneFile (files : Table) (a b : List (List ℕ)) (bytes : List ℕ) : Type 0 where
-  pub first : IsSomeAnd (command_of a) AppendsFile
-  pub second : IsSomeAnd (command_of b) AppendsFile
+  pub first : IsSomeAnd (command_of a) IsAppendCommand
+  pub second : IsSomeAnd (command_of b) IsAppendCommand
   pub same : file_of a ≡ file_of b
   pub found : files (file_of a) ≡ Some bytes
 
@@ -41,4 +41,4 @@ pub record IsThroughWith (files : Table) (words : List (List ℕ)) (before : Lis
   pub count : ℕ
   pub before_is : outcome.before.written ≡ Some before
   pub through : IsThrough status
-  pub ends : Ends count (request_in files words) outcome status
+  pub ends : IsEndOfRun count (request_in files words) outcome status

@@ -3,7 +3,7 @@ use Rattle.std.specs.Prelude.{◌≡◌, ◌⊎◌, ◌<◌, ℕ, List, [], ◌+
 use Rattle.mse_outside.specs.Outside.{HasRisen}
 use Rattle.mse_calls.specs.declared.entry.Entry.{Entry}
 use Rattle.mse_calls.specs.declared.rules.Rule.{Rule}
-use Rattle.mse_engine.specs.Run.{Replays}
+use Rattle.mse_engine.specs.Run.{IsReplay}
 use Rattle.mse_engine.specs.Sound.{AreSoundBehind}
 use Rattle.mse_engine.specs.Standing.{KeptEngine, Stands}
 use Rattle.listeners.specs.declared.listener.Note.{Note}
@@ -65,41 +65,41 @@ outcome_at faults written notes rules entries engine before now =
 -- ---- the journal and the engine
 
 -- the engine stands for the state behind the last entry; where it was not made, there is none
-abbrev pub EngineStands : Task → List Entry → Option KeptEngine → Type 0
-EngineStands task entries engine =
+abbrev pub IsEngineStanding : Task → List Entry → Option KeptEngine → Type 0
+IsEngineStanding task entries engine =
     MatchOption engine (entries ≡ []) (λ kept. Stands kept (last_state task entries))
 
 -- a classic file needs no engine
 abbrev pub HasEngine : Task → List Entry → Option KeptEngine → Type 0
 HasEngine (ByRemux bytes) entries engine = engine ≡ None
-HasEngine task entries engine = EngineStands task entries engine
+HasEngine task entries engine = IsEngineStanding task entries engine
 
 -- Each entry of the journal tells what the machine does there; in the state behind each, the tracks are sound and their
 -- frames end within the duration; and the engine stands for the state behind the last one.
 pub record IsRun (task : Task) (outcome : RunOutcome) : Type 0 where
-  pub replays : Replays (blobs_of task) (opening_of task) outcome.entries
+  pub replays : IsReplay (blobs_of task) (opening_of task) outcome.entries
   pub sound : AreSoundBehind (blobs_of task) (opening_of task) outcome.entries
   pub engine : HasEngine task outcome.entries outcome.engine
 
 -- ---- the listeners
 
 -- each listener has the rules of its number
-abbrev pub HaveRules : List Rule → List (List Rule) → Type 0
-HaveRules rules given = (w : ℕ) → w < length given → rules_of_listener given w ≡ rules_for w rules
+abbrev pub AreRulesOfNumbers : List Rule → List (List Rule) → Type 0
+AreRulesOfNumbers rules given = (w : ℕ) → w < length given → rules_of_listener given w ≡ rules_for w rules
 
 -- of a script, each has its rules, heard each event, and answered it; else nobody was told anything
 abbrev pub IsHeard : Task → RunOutcome → Type 0
 IsHeard (ByScript script blobs) outcome =
-    HaveRules script.rules outcome.now.rules
+    AreRulesOfNumbers script.rules outcome.now.rules
     × IsAllHeard outcome.entries outcome.before.notes outcome.now.notes
 IsHeard other outcome =
     (outcome.now.rules ≡ outcome.before.rules) × (outcome.now.notes ≡ outcome.before.notes)
 
 -- of a script, each has its rules where anything was done
-abbrev pub HaveTheirRules : Task → RunOutcome → Type 0
-HaveTheirRules (ByScript script blobs) outcome =
-    (outcome.entries ≡ []) ⊎ HaveRules script.rules outcome.now.rules
-HaveTheirRules other outcome = outcome.now.rules ≡ outcome.before.rules
+abbrev pub AreRulesOfTask : Task → RunOutcome → Type 0
+AreRulesOfTask (ByScript script blobs) outcome =
+    (outcome.entries ≡ []) ⊎ AreRulesOfNumbers script.rules outcome.now.rules
+AreRulesOfTask other outcome = outcome.now.rules ≡ outcome.before.rules
 
 -- What was heard where memory or the sink was wanting: each listener heard each event, but that the dispatch of the last
 -- event may have ended for want of memory, or, where the sink was wanting, at a limit of calls.
@@ -122,7 +122,7 @@ pub record IsWholeRun (count : ℕ) (task : Task) (outcome : RunOutcome) : Type 
 pub record IsFrontRun (count : ℕ) (task : Task) (outcome : RunOutcome) : Type 0 where
   pub run : IsRun task outcome
   pub front : IsFrontOf count task outcome.entries
-  pub rules : HaveTheirRules task outcome
+  pub rules : AreRulesOfTask task outcome
 
 -- nothing
 pub record IsNothingRun (outcome : RunOutcome) : Type 0 where
@@ -153,7 +153,8 @@ HasCause (ByScript script blobs) outcome (TaskBudget limit) =
 HasCause task outcome end = ⊥
 
 -- the lines, and the error line whose cause had come
-pub record EndsBy (count : ℕ) (task : Task) (outcome : RunOutcome) (end : End) : Type 0 where
+pub record IsEndedWithCause (count : ℕ) (task : Task) (outcome : RunOutcome)
+    (end : End) : Type 0 where
   pub ran : IsFrontRun count task outcome
   pub cause : HasCause task outcome end
   pub wrote : IsWritten (shown_lines task outcome.entries ++ error_line end) outcome.before.written
@@ -181,7 +182,7 @@ pub record HasFailedRead (request : Request) (outcome : RunOutcome) : Type 0 whe
   pub reached : IsReached request.files request.names name
 
 -- so says the line, and nothing was run
-pub record EndsByRead (request : Request) (outcome : RunOutcome) : Type 0 where
+pub record IsEndedByRead (request : Request) (outcome : RunOutcome) : Type 0 where
   pub nothing : IsNothingRun outcome
   pub cause : HasFailedRead request outcome
   pub wrote : IsWritten (error_line (Read cause.name)) outcome.before.written outcome.now.written
@@ -201,28 +202,30 @@ pub record IsRunCutShort (count : ℕ) (halt : Halt) (task : Task)
   pub wrote : IsSomeWritten count task outcome
 
 -- or nothing was run
-abbrev pub EndsShort : ℕ → Halt → Request → Task → RunOutcome → Type 0
-EndsShort count halt request task outcome =
+abbrev pub IsEndedShort : ℕ → Halt → Request → Task → RunOutcome → Type 0
+IsEndedShort count halt request task outcome =
     IsRunCutShort count halt task outcome ⊎ IsSomeSaid request outcome
 
 -- ---- by the status
 
 -- how a run ends that has something to run
-abbrev pub EndsRun : ℕ → Request → Task → RunOutcome → Status → Type 0
-EndsRun count request task outcome status.Ok =
+abbrev pub IsEndOfTask : ℕ → Request → Task → RunOutcome → Status → Type 0
+IsEndOfTask count request task outcome status.Ok =
     IsWholeRun count task outcome × ¬ IsBroken task outcome.entries
-EndsRun count request task outcome status.Media =
+IsEndOfTask count request task outcome status.Media =
     IsWholeRun count task outcome × IsBroken task outcome.entries
-EndsRun count request task outcome status.CallBudget =
-    (k : ℕ) × EndsBy count task outcome (CallBudget k)
-EndsRun count request task outcome status.TaskBudget =
-    (limit : ℕ) × EndsBy count task outcome (TaskBudget limit)
-EndsRun count request task outcome status.Read = EndsByRead request outcome
-EndsRun count request task outcome status.Write = EndsShort count halt.Write request task outcome
-EndsRun count request task outcome status.Memory = EndsShort count halt.Memory request task outcome
-EndsRun count request task outcome status.Words = ⊥
-EndsRun count request task outcome status.Script = ⊥
-EndsRun count request task outcome status.NoFile = ⊥
+IsEndOfTask count request task outcome status.CallBudget =
+    (k : ℕ) × IsEndedWithCause count task outcome (CallBudget k)
+IsEndOfTask count request task outcome status.TaskBudget =
+    (limit : ℕ) × IsEndedWithCause count task outcome (TaskBudget limit)
+IsEndOfTask count request task outcome status.Read = IsEndedByRead request outcome
+IsEndOfTask count request task outcome status.Write =
+    IsEndedShort count halt.Write request task outcome
+IsEndOfTask count request task outcome status.Memory =
+    IsEndedShort count halt.Memory request task outcome
+IsEndOfTask count request task outcome status.Words = ⊥
+IsEndOfTask count request task outcome status.Script = ⊥
+IsEndOfTask count request task outcome status.NoFile = ⊥
 
 -- nothing was run, and a front of this line was written
 pub record IsFrontSaid (end : End) (outcome : RunOutcome) : Type 0 where
@@ -235,16 +238,18 @@ pub record IsSaid (end : End) (outcome : RunOutcome) : Type 0 where
   pub wrote : IsWritten (error_line end) outcome.before.written outcome.now.written
 
 -- how one ends that has nothing to run: it says why, unless the library or the sink fails or memory is wanting
-abbrev pub EndsWith : Request → End → RunOutcome → Status → Type 0
-EndsWith request end outcome status.Read = EndsByRead request outcome
-EndsWith request end outcome status.Write = IsFrontSaid end outcome ⊎ IsSomeSaid request outcome
-EndsWith request end outcome status.Memory = IsFrontSaid end outcome ⊎ IsSomeSaid request outcome
-EndsWith request end outcome other = (other ≡ status_of end) × IsSaid end outcome
+abbrev pub IsEndWithoutTask : Request → End → RunOutcome → Status → Type 0
+IsEndWithoutTask request end outcome status.Read = IsEndedByRead request outcome
+IsEndWithoutTask request end outcome status.Write =
+    IsFrontSaid end outcome ⊎ IsSomeSaid request outcome
+IsEndWithoutTask request end outcome status.Memory =
+    IsFrontSaid end outcome ⊎ IsSomeSaid request outcome
+IsEndWithoutTask request end outcome other = (other ≡ status_of end) × IsSaid end outcome
 
-abbrev pub EndsBehind : ℕ → Request → Result Task End → RunOutcome → Status → Type 0
-EndsBehind count request (Ok task) outcome end = EndsRun count request task outcome end
-EndsBehind count request (Err found) outcome end = EndsWith request found outcome end
+abbrev pub IsEndByTask : ℕ → Request → Result Task End → RunOutcome → Status → Type 0
+IsEndByTask count request (Ok task) outcome end = IsEndOfTask count request task outcome end
+IsEndByTask count request (Err found) outcome end = IsEndWithoutTask request found outcome end
 
 -- How a run ends, by what was asked for and by its status.
-abbrev pub Ends : ℕ → Request → RunOutcome → Status → Type 0
-Ends count request outcome end = EndsBehind count request request.task outcome end
+abbrev pub IsEndOfRun : ℕ → Request → RunOutcome → Status → Type 0
+IsEndOfRun count request outcome end = IsEndByTask count request request.task outcome end

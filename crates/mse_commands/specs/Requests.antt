@@ -169,13 +169,14 @@ IsRequestOf (Some files) name command request = request ≡ request_of files nam
 IsRequestOf None name command request = IsRequestOfCommand command request
 
 -- something holds of what a command asks for
-abbrev pub OfCommand : Option Table → List ℕ → Option Command → (Request → Type 0) → Type 0
-OfCommand table name command P =
+abbrev pub HasRequestOfCommand : Option Table → List ℕ → Option Command → (Request → Type 0)
+    → Type 0
+HasRequestOfCommand table name command P =
     (request : Request) × IsRequestOf table name command request × P request
 
 -- something holds of what the words ask for
-abbrev pub OfWords : Option Table → List (List ℕ) → (Request → Type 0) → Type 0
-OfWords table words P = OfCommand table (file_of words) (command_of words) P
+abbrev pub HasRequestOfWords : Option Table → List (List ℕ) → (Request → Type 0) → Type 0
+HasRequestOfWords table words P = HasRequestOfCommand table (file_of words) (command_of words) P
 
 -- ---- what runs
 

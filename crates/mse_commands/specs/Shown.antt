@@ -49,9 +49,9 @@ pub record IsQuietDrain (blobs : List (List ℕ)) (st : State) (part : List Entr
   pub calls : calls_in part ≡ 0
 
 -- nothing more comes behind the first fault
-abbrev pub StopsAtFault : Option FaultView → List Entry → Type 0 → Type 0
-StopsAtFault None rest goes_on = goes_on
-StopsAtFault (Some fault) rest goes_on = rest ≡ []
+abbrev pub IsEndOrGoesOn : Option FaultView → List Entry → Type 0 → Type 0
+IsEndOrGoesOn None rest goes_on = goes_on
+IsEndOrGoesOn (Some fault) rest goes_on = rest ≡ []
 
 abbrev pub append_entry : Piece → Answer → Entry
 append_entry piece answer = Script (AppendBuffer 0 piece) answer
@@ -63,7 +63,8 @@ IsAppends blobs st (piece ∷ pieces) entries =
     (answer : Answer) × (part : List Entry) × (rest : List Entry)
     × (entries ≡ append_entry piece answer ∷ (part ++ rest))
     × IsQuietDrain blobs (after_entries blobs st (append_entry piece answer ∷ [])) part
-    × StopsAtFault (after_entries blobs st (append_entry piece answer ∷ part)).core.source.fault
+    × IsEndOrGoesOn
+    (after_entries blobs st (append_entry piece answer ∷ part)).core.source.fault
     rest
     (IsAppends blobs (after_entries blobs st (append_entry piece answer ∷ part)) pieces rest)
 

@@ -26,7 +26,7 @@ use Rattle.script_run.specs.Writes.{IsWritten, IsFrontWritten}
 use Rattle.mse_commands.specs.declared.ending.End.{End}
 use Rattle.mse_commands.specs.declared.ending.End.TheVariants.{Memory, Write, Words, NoFile, Read, Script, CallBudget, TaskBudget}
 use Rattle.mse_commands.specs.Requests.{Request, Task, ByScript, ByFile, ByRemux}
-use Rattle.mse_commands.specs.Outcomes.{HasFailedRead, HasCause, HaveRules, IsHeardTo, RunOutcome, IsFrontRun, IsNothingRun, IsWholeRun, IsTextWritten}
+use Rattle.mse_commands.specs.Outcomes.{HasFailedRead, HasCause, AreRulesOfNumbers, IsHeardTo, RunOutcome, IsFrontRun, IsNothingRun, IsWholeRun, IsTextWritten}
 use Rattle.mse_commands.specs.Shown.{IsWholeFile, file_closing, last_state, open_entries, pieces_by, shown_lines}
 use Rattle.mse_commands.specs.declared.words.Command.{Command}
 
@@ -87,11 +87,11 @@ IsFileFrontShown command bytes old new =
     ⊎ (IsAppended bytes (pieces_by command (length bytes)) old.run new.run
     × IsFrontShown (file_closing command (length bytes)) new.run old.written new.written)
 
-abbrev pub ShowsFile : Command → List ℕ → PrintedRun → PrintedRun → Result Bool End → Type 0
-ShowsFile command bytes old new (Ok broken) = IsFileShown command bytes old new broken
-ShowsFile command bytes old new (Err Memory) = IsFileFrontShown command bytes old new
-ShowsFile command bytes old new (Err Write) = IsFileFrontShown command bytes old new
-ShowsFile command bytes old new (Err other) = ⊥
+abbrev pub IsFileShowResult : Command → List ℕ → PrintedRun → PrintedRun → Result Bool End → Type 0
+IsFileShowResult command bytes old new (Ok broken) = IsFileShown command bytes old new broken
+IsFileShowResult command bytes old new (Err Memory) = IsFileFrontShown command bytes old new
+IsFileShowResult command bytes old new (Err Write) = IsFileFrontShown command bytes old new
+IsFileShowResult command bytes old new (Err other) = ⊥
 
 -- ---- a script that is played
 
@@ -119,7 +119,7 @@ pub record IsScriptPlayed (inputs : ScriptInputs) (given : List (List Rule))
       old
       (record new { written = middle })
   pub shown : IsAllShown script_closing new.run middle new.written
-  pub rules_are : HaveRules inputs.rules given
+  pub rules_are : AreRulesOfNumbers inputs.rules given
 
 -- a front of the lines, and when listeners may make no further call
 abbrev pub lines_front : ScriptInputs → PartFront
@@ -130,7 +130,7 @@ lines_front inputs = part_front (AreScriptLinesBegun inputs.blobs inputs.limits 
 pub record IsScriptStopped (inputs : ScriptInputs) (given : List (List Rule)) (old new : RunState)
     (stop : Stop) : Type 0 where
   pub played : IsPlayedUpTo inputs.blobs (lines_front inputs) stop old new
-  pub rules_are : HaveRules inputs.rules given
+  pub rules_are : AreRulesOfNumbers inputs.rules given
 
 -- all lines, and a front of what closes a script
 pub record IsScriptHalfPlayed (inputs : ScriptInputs) (given : List (List Rule))
@@ -140,7 +140,7 @@ pub record IsScriptHalfPlayed (inputs : ScriptInputs) (given : List (List Rule))
       old
       (record new { written = middle })
   pub shown : IsFrontShown script_closing new.run middle new.written
-  pub rules_are : HaveRules inputs.rules given
+  pub rules_are : AreRulesOfNumbers inputs.rules given
 
 -- no line was begun
 pub record IsScriptUnplayed (old new : RunState) : Type 0 where
@@ -153,17 +153,17 @@ IsScriptCutShort inputs given old new halt =
     IsScriptUnplayed old new ⊎ IsScriptStopped inputs given old new (Halted halt)
     ⊎ IsScriptHalfPlayed inputs given old new
 
-abbrev pub PlaysScript : ScriptInputs → List (List Rule) → RunState → RunState → Result Bool End
+abbrev pub IsScriptShowResult : ScriptInputs → List (List Rule) → RunState → RunState → Result Bool End
     → Type 0
-PlaysScript inputs given old new (Ok broken) =
+IsScriptShowResult inputs given old new (Ok broken) =
     (broken ≡ false) × IsScriptPlayed inputs given old new
-PlaysScript inputs given old new (Err Memory) = IsScriptCutShort inputs given old new halt.Memory
-PlaysScript inputs given old new (Err Write) = IsScriptCutShort inputs given old new halt.Write
-PlaysScript inputs given old new (Err (CallBudget k)) =
+IsScriptShowResult inputs given old new (Err Memory) = IsScriptCutShort inputs given old new halt.Memory
+IsScriptShowResult inputs given old new (Err Write) = IsScriptCutShort inputs given old new halt.Write
+IsScriptShowResult inputs given old new (Err (CallBudget k)) =
     IsScriptStopped inputs given old new (stop.CallBudget k)
-PlaysScript inputs given old new (Err (TaskBudget limit)) =
+IsScriptShowResult inputs given old new (Err (TaskBudget limit)) =
     (limit ≡ inputs.limits.limit) × IsScriptStopped inputs given old new stop.TaskBudget
-PlaysScript inputs given old new (Err other) = ⊥
+IsScriptShowResult inputs given old new (Err other) = ⊥
 
 -- ---- a run
 

@@ -11,13 +11,13 @@ ghost use Rattle.mse_engine.specs.Views.{view_in};
 ghost use Rattle.mse_outside.specs.Outside.{HasRisen};
 ghost use Rattle.script_run.specs.RunStates.{printed_run, run_at};
 ghost use Rattle.script_run.specs.Writes.{IsWritten, IsFrontWritten};
-ghost use Rattle.mse_commands.specs.Requests.{IsFileCommand, OfCommand, OfWords, file_by, files_by};
+ghost use Rattle.mse_commands.specs.Requests.{IsFileCommand, HasRequestOfCommand, HasRequestOfWords, file_by, files_by};
 ghost use Rattle.mse_commands.specs.Heading.{heading_of};
 ghost use Rattle.mse_commands.specs.Loads.{IsMade, IsUnmade, IsLoadEnd, failures};
 ghost use Rattle.mse_commands.specs.Outcomes.{outcome, outcome_at, outside_of};
 ghost use Rattle.mse_commands.specs.Shown.{file_closing, pieces_by};
 ghost use Rattle.mse_commands.specs.Words.{IsInRange, command_of};
-ghost use Rattle.mse_commands.specs.Works.{IsAppended, IsPartAppended, PlaysScript, ShowsFile, IsRequestDone, script_inputs};
+ghost use Rattle.mse_commands.specs.Works.{IsAppended, IsPartAppended, IsScriptShowResult, IsFileShowResult, IsRequestDone, script_inputs};
 
 use crate::ending::End;
 use crate::feeds::close_feed;
@@ -28,7 +28,7 @@ use crate::text::heading;
 use crate::words::{Command, file_name, read_command};
 use bmff_write::make;
 use call_script::Script;
-use event_text::closing_text;
+use event_text::closing;
 use listeners::Listener;
 use mse_base::{OutOfMemory, Ticks};
 use mse_calls::Blobs;
@@ -66,7 +66,7 @@ fn close<S: FrameStore, K: Sink>(
     let Ok(view) = engine.view() else {
         return Err(Halt::Memory);
     };
-    let Ok(text) = closing_text(alloc, &view, whole) else {
+    let Ok(text) = closing(alloc, &view, whole) else {
         return Err(Halt::Memory);
     };
     match put_lines(sink, before.as_str()) {
@@ -190,7 +190,7 @@ fn show_file<S: FrameStore, K: Sink>(
     file: Vec<u8>,
 ) -> Result<bool, End>
     requires { IsInRange command.now }
-    ensures shows { ShowsFile command.now file.items
+    ensures shows { IsFileShowResult command.now file.items
         (printed_run run.old (K.written sink.old)) (printed_run run.new (K.written sink.new))
         result }
     ensures no_fewer_faults { K.faults sink.old ≤ K.faults sink.new }
@@ -218,7 +218,7 @@ fn play_script<S: FrameStore, K: Sink>(
     requires listeners { vec_len listeners.old < 2 ^ 32 }
     requires no_notes { (w : ℕ) → notes_at (map (λ b. notes b) listeners.old.items) w ≡ [] }
     requires lines { length script.steps < 2 ^ 32 }
-    ensures plays { PlaysScript (script_inputs (vec_len listeners.old) script blobs.now)
+    ensures plays { IsScriptShowResult (script_inputs (vec_len listeners.old) script blobs.now)
         (map (λ b. rules b) listeners.new.items)
         (run_at run.old (K.written sink.old) (map (λ b. notes b) listeners.old.items))
         (run_at run.new (K.written sink.new) (map (λ b. notes b) listeners.new.items)) result }
@@ -265,7 +265,7 @@ fn run_file<S: FrameStore, L: Library, K: Sink>(
     requires journal { journal.old.entries ≡ [] }
     requires no_engine { engine.old ≡ None }
     ensures works { (count : ℕ) (told : List (List Note)) (given : List (List Rule))
-        → OfCommand (L.table library.old) name.now (Some command) (λ request.
+        → HasRequestOfCommand (L.table library.old) name.now (Some command) (λ request.
         IsRequestDone count request
         (outcome journal.new.entries engine.new
         (outside_of (L.faults library.old) (K.written sink.old) told given)
@@ -313,8 +313,8 @@ fn run_script<S: FrameStore, L: Library, K: Sink>(
     requires no_notes { (w : ℕ) → notes_at (map (λ b. notes b) listeners.old.items) w ≡ [] }
     requires journal { journal.old.entries ≡ [] }
     requires no_engine { engine.old ≡ None }
-    ensures works { OfCommand (L.table library.old) name.now (Some Command.Play) (λ request.
-        IsRequestDone (vec_len listeners.old) request
+    ensures works { HasRequestOfCommand (L.table library.old) name.now (Some Command.Play)
+        (λ request. IsRequestDone (vec_len listeners.old) request
         (outcome_at L.faults K.written notes rules journal.new.entries engine.new
         (library.old, sink.old, listeners.old.items)
         (library.new, sink.new, listeners.new.items)) result) }
@@ -357,7 +357,7 @@ fn run_command<S: FrameStore, L: Library, K: Sink>(
     requires no_notes { (w : ℕ) → notes_at (map (λ b. notes b) listeners.old.items) w ≡ [] }
     requires journal { journal.old.entries ≡ [] }
     requires no_engine { engine.old ≡ None }
-    ensures works { OfCommand (L.table library.old) name.now (Some command) (λ request.
+    ensures works { HasRequestOfCommand (L.table library.old) name.now (Some command) (λ request.
         IsRequestDone (vec_len listeners.old) request
         (outcome_at L.faults K.written notes rules journal.new.entries engine.new
         (library.old, sink.old, listeners.old.items)
@@ -394,7 +394,7 @@ pub fn work<S: FrameStore, L: Library, K: Sink>(
     requires no_notes { (w : ℕ) → notes_at (map (λ b. notes b) listeners.old.items) w ≡ [] }
     requires journal { journal.old.entries ≡ [] }
     requires no_engine { engine.old ≡ None }
-    ensures works { OfWords (L.table library.old) (map string_bytes words.now) (λ request.
+    ensures works { HasRequestOfWords (L.table library.old) (map string_bytes words.now) (λ request.
         IsRequestDone (vec_len listeners.old) request
         (outcome_at L.faults K.written notes rules journal.new.entries engine.new
         (library.old, sink.old, listeners.old.items)

@@ -7,7 +7,7 @@ ghost use Rattle.mse_calls.specs.declared.rules.Rule.{Rule};
 ghost use Rattle.mse_outside.specs.Outside.{HasRisen};
 ghost use Rattle.remux.specs.Pieces.{pieces_of_file};
 ghost use Rattle.script_run.specs.Writes.{IsWritten, IsFrontWritten};
-ghost use Rattle.mse_commands.specs.Requests.{OfCommand};
+ghost use Rattle.mse_commands.specs.Requests.{HasRequestOfCommand};
 ghost use Rattle.mse_commands.specs.Outcomes.{outcome, outside_of};
 ghost use Rattle.mse_commands.specs.Remuxing.{remux_fault_line, remux_text};
 ghost use Rattle.mse_commands.specs.Works.{IsRequestDone};
@@ -94,7 +94,7 @@ pub fn run_remux<L: Library, K: Sink>(
     sink: &mut K,
 ) -> Result<bool, End>
     ensures works { (count : ℕ) (told : List (List Note)) (given : List (List Rule))
-        → OfCommand (L.table library.old) name.now (Some Command.Remux) (λ request.
+        → HasRequestOfCommand (L.table library.old) name.now (Some Command.Remux) (λ request.
         IsRequestDone count request
         (outcome [] None
         (outside_of (L.faults library.old) (K.written sink.old) told given)

@@ -3,10 +3,10 @@
 ghost use Rattle.std.specs.Prelude.{◌≡◌, ◌≤◌, ◌<◌, ◌⊎◌, ◌^◌, ℕ, [], None, IfSome, map, string_bytes, vec_len};
 ghost use Rattle.listeners.specs.Dispatch.{notes_at};
 ghost use Rattle.mse_outside.specs.Outside.{HasRisen};
-ghost use Rattle.mse_commands.specs.Requests.{OfWords, request_in};
+ghost use Rattle.mse_commands.specs.Requests.{HasRequestOfWords, request_in};
 ghost use Rattle.mse_commands.specs.Complete.{IsCutAnywhere, IsComplete};
 ghost use Rattle.mse_commands.specs.Loads.{failures};
-ghost use Rattle.mse_commands.specs.Outcomes.{Ends, outcome_at};
+ghost use Rattle.mse_commands.specs.Outcomes.{IsEndOfRun, outcome_at};
 ghost use Rattle.mse_commands.specs.Says.{IsEndSaid, IsLineSaid};
 ghost use Rattle.mse_commands.specs.Words.{command_of};
 
@@ -75,8 +75,8 @@ pub fn run<S: FrameStore, L: Library, K: Sink>(
     requires no_notes { (w : ℕ) → notes_at (map (λ b. notes b) listeners.old.items) w ≡ [] }
     requires journal { journal.old.entries ≡ [] }
     requires no_engine { engine.old ≡ None }
-    ensures ends { OfWords (L.table library.old) (map string_bytes words.now) (λ request.
-        Ends (vec_len listeners.old) request
+    ensures ends { HasRequestOfWords (L.table library.old) (map string_bytes words.now) (λ request.
+        IsEndOfRun (vec_len listeners.old) request
         (outcome_at L.faults K.written notes rules journal.new.entries engine.new
         (library.old, sink.old, listeners.old.items)
         (library.new, sink.new, listeners.new.items)) result) }

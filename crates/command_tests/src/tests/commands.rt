@@ -1,7 +1,7 @@
 //! `remux` and `feed`. What is printed was worked from the bytes of the files.
 
-use super::files::PLAIN_SEGMENT;
-use super::{bytes_of, library, plain_file, printed, status_of, texts};
+use super::files::{BROKEN, PLAIN_SEGMENT, REPLACED};
+use super::{bytes_of, library, plain_file, run_result, status_of, texts};
 use mse_commands::Status;
 use mse_outside::MemorySink;
 use std::alloc::Global;
@@ -28,26 +28,6 @@ const CLASSIC_BACK: &str = "\
     00000bb800000014737473730000000000000001000000010000001c73747363000000000000000100000001000000030000\
     0001000000147374737a000000000000000400000003000000147374636f0000000000000001";
 
-/// Frames of a tenth of a second: a group of four and one of two, and a random access point over
-/// the second frame, with which the third and the fourth go.
-const REPLACED: &str = "\
-    I000003e8 000000b86d6f6f66000000106d6668640000000000000001000000a07472616600000010746668640002000000\
-    0000010000001474666474010000000000000000000000000000747472756e01000f0100000006000000c000000064000000\
-    040200000000000000000000640000000401010000000000c8000000640000000401010000ffffff9c000000640000000401\
-    010000ffffff9c0000006400000004020000000000000000000064000000040101000000000000000000206d646174000000\
-    000000000000000000000000000000000000000000000000686d6f6f66000000106d66686400000000000000010000005074\
-    72616600000010746668640002000000000001000000147466647401000000000000000000012c000000247472756e01000f\
-    010000000100000070000000640000000402000000000000000000000c6d64617400000000";
-
-/// A segment of two samples, of which one comes, and behind it another segment.
-const BROKEN: &str = "\
-    I00015f90 000000786d6f6f66000000106d6668640000000000000001000000607472616600000010746668640002000000\
-    0000010000001474666474010000000000000000000000000000347472756e01000f01000000020000008000000bb8000000\
-    04020000000000000000000bb80000000401010000000000000000000c6d646174000000000000000866726565000000686d\
-    6f6f66000000106d666864000000000000000100000050747261660000001074666864000200000000000100000014746664\
-    74010000000000000000000000000000247472756e01000f01000000010000007000000bb800000004020000000000000000\
-    00000c6d64617400000000";
-
 const PLAIN_BLOCK: &str = "duration inf\n\
     buffer 0 phase waiting held 0 used 12 buffered [0,14112000000)\n\
     track 0 1 video avc1 frames 3 ranges [0,14112000000)\n";
@@ -67,12 +47,12 @@ fn remuxes_a_classic_file(rt: HostRuntime) -> Result<(), Fail> {
     let alloc = rt.alloc();
     let file = classic(alloc, "00000003", "00000020")?;
     let plain = plain_file(alloc)?;
-    let (status, sink) = printed(alloc, &["remux", "plain.mp4"], &file)?;
+    let (status, sink) = run_result(alloc, &["remux", "plain.mp4"], &file)?;
     assert_eq!(rt; status, Status::Ok);
-    assert_eq!(rt; sink.written_bytes(), plain.as_slice());
-    let (status, shown) = printed(alloc, &["ranges", "plain.mp4"], sink.written_bytes())?;
+    assert_eq!(rt; sink.written(), plain.as_slice());
+    let (status, shown) = run_result(alloc, &["ranges", "plain.mp4"], sink.written())?;
     assert_eq!(rt; status, Status::Ok);
-    assert_eq!(rt; shown.written_bytes(), PLAIN_BLOCK.as_bytes());
+    assert_eq!(rt; shown.written(), PLAIN_BLOCK.as_bytes());
     Ok(())
 }
 
@@ -96,9 +76,9 @@ fn names_faults_of_classic_files(rt: HostRuntime) -> Result<(), Fail> {
         ),
     ];
     for (file, line) in &cases {
-        let (status, sink) = printed(alloc, &["remux", "plain.mp4"], file)?;
+        let (status, sink) = run_result(alloc, &["remux", "plain.mp4"], file)?;
         assert_eq!(rt; status, Status::Media, "at {line}");
-        assert_eq!(rt; sink.written_bytes(), line.as_bytes());
+        assert_eq!(rt; sink.written(), line.as_bytes());
     }
     Ok(())
 }
@@ -115,7 +95,7 @@ fn puts_each_segment_by_itself(rt: HostRuntime) -> Result<(), Fail> {
         let words = texts(alloc, &["remux", "plain.mp4"])?;
         let status = status_of(alloc, &words, &mut library, &mut sink);
         assert_eq!(rt; status, Status::Write);
-        assert_eq!(rt; Some(sink.written_bytes()), plain.get(..len));
+        assert_eq!(rt; Some(sink.written()), plain.get(..len));
     }
     Ok(())
 }
@@ -176,9 +156,9 @@ fn feeds_a_decoder(rt: HostRuntime) -> Result<(), Fail> {
             bytes_of(alloc, file)?
         };
         let wanted = if *breaks { Status::Media } else { Status::Ok };
-        let (status, sink) = printed(alloc, &["feed", *time, "plain.mp4"], &bytes)?;
+        let (status, sink) = run_result(alloc, &["feed", *time, "plain.mp4"], &bytes)?;
         assert_eq!(rt; status, wanted, "at {text}");
-        assert_eq!(rt; sink.written_bytes(), text.as_bytes(), "at {text}");
+        assert_eq!(rt; sink.written(), text.as_bytes(), "at {text}");
     }
     Ok(())
 }
@@ -197,9 +177,9 @@ fn takes_no_other_words(rt: HostRuntime) -> Result<(), Fail> {
         ["feed", "1/0", "plain.mp4"].as_slice(),
         ["feed", "0", "plain.mp4", "0"].as_slice(),
     ] {
-        let (status, sink) = printed(alloc, words, &plain_file(alloc)?)?;
+        let (status, sink) = run_result(alloc, words, &plain_file(alloc)?)?;
         assert_eq!(rt; status, Status::Words);
-        assert_eq!(rt; sink.written_bytes(), b"error: words\n".as_slice());
+        assert_eq!(rt; sink.written(), b"error: words\n".as_slice());
     }
     Ok(())
 }

@@ -1,6 +1,6 @@
 //! Scripts in which an append is cut, at each byte.
 
-use super::played;
+use super::play_result;
 use mse_commands::Status;
 use std::alloc::Global;
 use std::test::Fail;
@@ -8,8 +8,8 @@ use track_index::IndexStore;
 
 /// A script is played to its end, and closes with this block.
 fn closes_with(alloc: Global, script: &str, block: &str) -> Result<bool, Fail> {
-    let (status, sink) = played::<IndexStore>(alloc, script)?;
-    Ok(status == Status::Ok && sink.written_bytes().ends_with(block.as_bytes()))
+    let (status, sink) = play_result::<IndexStore>(alloc, script)?;
+    Ok(status == Status::Ok && sink.written().ends_with(block.as_bytes()))
 }
 
 #[test]

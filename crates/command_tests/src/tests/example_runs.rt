@@ -42,7 +42,7 @@ fn tries_files(rt: HostRuntime) -> Result<(), Fail> {
         let words: Vec<&str> = line.split_whitespace().collect(alloc)?;
         let (status, sink) = tried(alloc, words.as_slice(), ("", ""))?;
         assert_eq!(rt; status, *wanted, "at {line}");
-        assert_eq!(rt; sink.written_bytes(), text.as_bytes(), "at {line}");
+        assert_eq!(rt; sink.written(), text.as_bytes(), "at {line}");
     }
     Ok(())
 }
@@ -54,7 +54,7 @@ fn plays_scripts(rt: HostRuntime) -> Result<(), Fail> {
         for (name, script, text) in table {
             let (status, sink) = tried(alloc, &["play", *name], (*name, *script))?;
             assert_eq!(rt; status, Status::Ok, "at {name}");
-            assert_eq!(rt; sink.written_bytes(), text.as_bytes(), "at {name}");
+            assert_eq!(rt; sink.written(), text.as_bytes(), "at {name}");
         }
     }
     Ok(())

@@ -36,7 +36,7 @@ fn check(
     let words = texts(alloc, &["play", "S"])?;
     let status = status_of(alloc, &words, &mut library, &mut sink);
     assert_eq!(rt; status, wanted.0, "at {failing:?}");
-    assert_eq!(rt; sink.written_bytes(), wanted.1.as_bytes(), "at {failing:?}");
+    assert_eq!(rt; sink.written(), wanted.1.as_bytes(), "at {failing:?}");
     Ok(())
 }
 

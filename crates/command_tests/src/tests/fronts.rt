@@ -2,7 +2,7 @@
 
 mod tables;
 
-use super::{bytes_of, printed};
+use super::{bytes_of, run_result};
 use mse_commands::Status;
 use std::alloc::{AllocError, Global};
 use std::process::Abort;
@@ -31,9 +31,9 @@ fn check(rt: &impl Abort, alloc: Global, file: &[u8], block: &str) -> Result<(),
         ["ranges", "plain.mp4"].as_slice(),
         ["pieces", "1", "plain.mp4"].as_slice(),
     ] {
-        let (status, sink) = printed(alloc, words, file)?;
+        let (status, sink) = run_result(alloc, words, file)?;
         assert_eq!(rt; status, Status::Ok, "at {block}");
-        assert_eq!(rt; sink.written_bytes(), block.as_bytes(), "at {block}");
+        assert_eq!(rt; sink.written(), block.as_bytes(), "at {block}");
     }
     Ok(())
 }
@@ -92,12 +92,9 @@ fn front_parts_of_adts_frames(rt: HostRuntime) -> Result<(), Fail> {
             for is_cut in [false, true] {
                 let script = adts_script(alloc, len, is_cut)?;
                 let words = ["play", "plain.mp4"].as_slice();
-                let (status, sink) = printed(alloc, words, script.as_bytes())?;
+                let (status, sink) = run_result(alloc, words, script.as_bytes())?;
                 assert_eq!(rt; status, Status::Ok, "at {script}");
-                assert!(rt;
-                    sink.written_bytes().ends_with(block.as_bytes()),
-                    "at {script}"
-                );
+                assert!(rt; sink.written().ends_with(block.as_bytes()), "at {script}");
             }
         }
     }

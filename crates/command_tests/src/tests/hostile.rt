@@ -1,6 +1,6 @@
 //! A listener that removes the buffer whose event it hears, and then calls it.
 
-use super::played;
+use super::play_result;
 use mse_commands::Status;
 use std::test::Fail;
 use track_index::IndexStore;
@@ -37,11 +37,11 @@ const PRINTS: &str = "\
 #[test]
 fn a_listener_removes_its_buffer(rt: HostRuntime) -> Result<(), Fail> {
     let alloc = rt.alloc();
-    let (status, sink) = played::<IndexStore>(alloc, SCRIPT)?;
+    let (status, sink) = play_result::<IndexStore>(alloc, SCRIPT)?;
     assert_eq!(rt; status, Status::Ok);
-    assert_eq!(rt; sink.written_bytes(), PRINTS.as_bytes());
-    let (status, sink) = played::<ListStore>(alloc, SCRIPT)?;
+    assert_eq!(rt; sink.written(), PRINTS.as_bytes());
+    let (status, sink) = play_result::<ListStore>(alloc, SCRIPT)?;
     assert_eq!(rt; status, Status::Ok);
-    assert_eq!(rt; sink.written_bytes(), PRINTS.as_bytes());
+    assert_eq!(rt; sink.written(), PRINTS.as_bytes());
     Ok(())
 }

@@ -14,6 +14,6 @@ returns-in-Err-clause-err g c = λ st h.
 pub returns-clause-err : goal.returns-clause-err
 returns-clause-err g c = λ st h.
     let same : c.as_str-2.result.now ≡ closing_text (view_in st) c.args.whole =
-    c.as_str-2.ensures ∙ c.in-Ok-closing_text.ensures ∙ ap (λ (v : View). closing_text v c.args.whole) (c.in-Ok.ensures st h) in
+    c.as_str-2.ensures ∙ c.in-Ok-closing.ensures ∙ ap (λ (v : View). closing_text v c.args.whole) (c.in-Ok.ensures st h) in
     err_behind c.put_lines-2.result (string_bytes c.args.before) (closing_text (view_in st) c.args.whole) (g.K.Sink.written c.args.sink.now) (g.K.Sink.written c.put_lines.new.sink)
     (g.K.Sink.written c.put_lines-2.new.sink) (rw c.as_str.ensures.value at c.in-Ok-put_lines.ensures.ok) (rw same at c.put_lines-2.ensures.err)
