@@ -5,8 +5,8 @@
 //! It stands on `byte_stream`, which gives items, and on `track_buffers`, which takes them. Its
 //! main contract is that of [`Buffer`]: for every string of bytes that the buffer stands for, a
 //! call answers and leaves what the rules of `specs/Calls.antt` say, and a step of running work what
-//! `turn` of `specs/Turns.antt` says of the next item of the whole string, in whatever pieces it
-//! came. Where there is no memory the buffer is as before.
+//! `turn_result` of `specs/Turns.antt` says of the next item of the whole string, in whatever pieces
+//! it came. Where there is no memory the buffer is as before.
 #![tactic(auto)]
 
 mod appending;

@@ -26,7 +26,8 @@ pair_of (Some x) (Some y) = Some (x, y)
 -- two arguments: the first word, and what stands behind it
 abbrev pub pair : {A B : Type 0} → (List ℕ → Option A) → (List ℕ → Option B) → List ℕ
     → Option (A × B)
-pair first second text = pair_of (first (first_word text)) (option_and_then second (after_word text))
+pair first second text =
+    pair_of (first (first_word text)) (option_and_then second (after_word text))
 
 -- The kinds of arguments. A number is `index_of`, a time is `time_of`.
 abbrev pub mode_of : List ℕ → Option AppendMode
@@ -55,11 +56,12 @@ abbrev pub call_alone : Call → Option (List ℕ) → Option Call
 call_alone call None = Some call
 call_alone call (Some text) = None
 
-abbrev pub one_argument : {A : Type 0} → (List ℕ → Option A) → (A → Call) → Option (List ℕ) → Option Call
+abbrev pub one_argument : {A : Type 0} → (List ℕ → Option A) → (A → Call) → Option (List ℕ)
+    → Option Call
 one_argument first make rest = option_map make (option_and_then first rest)
 
-abbrev pub two_arguments : {A B : Type 0} → (List ℕ → Option A) → (List ℕ → Option B) → (A → B → Call)
-    → Option (List ℕ) → Option Call
+abbrev pub two_arguments : {A B : Type 0} → (List ℕ → Option A) → (List ℕ → Option B)
+    → (A → B → Call) → Option (List ℕ) → Option Call
 two_arguments first second make rest =
     option_map (λ p. make p.0 p.1) (option_and_then (pair first second) rest)
 
@@ -69,7 +71,8 @@ type_call make rest = option_map make (type_of rest)
 abbrev pub index_and_type_call : (ℕ → List ℕ → Call) → Option (List ℕ) → Option Call
 index_and_type_call make None = None
 index_and_type_call make (Some text) =
-    option_map (λ p. make p.0 p.1) (pair_of (index_of (first_word text)) (type_of (after_word text)))
+    option_map (λ p. make p.0 p.1)
+    (pair_of (index_of (first_word text)) (type_of (after_word text)))
 
 abbrev pub end_call : Option (List ℕ) → Option Call
 end_call None = Some (call.EndOfStream kind.Plain)
@@ -92,7 +95,8 @@ call_with WindowStart = two_arguments index_of time_of (λ k t. call.SetAppendWi
 call_with WindowEnd = two_arguments index_of time_of (λ k t. call.SetAppendWindowEnd k t)
 call_with Append = two_arguments index_of piece_of (λ k piece. call.AppendBuffer k piece)
 call_with Abort = one_argument index_of (λ k. call.Abort k)
-call_with Remove = two_arguments index_of (pair time_of time_of) (λ k span. call.Remove k span.0 span.1)
+call_with Remove =
+    two_arguments index_of (pair time_of time_of) (λ k span. call.Remove k span.0 span.1)
 call_with ChangeType = index_and_type_call (λ k kind. call.ChangeType k kind)
 call_with Buffered = one_argument index_of (λ k. call.Buffered k)
 call_with State = call_alone call.SourceState

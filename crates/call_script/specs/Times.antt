@@ -36,7 +36,8 @@ ticks_of n None = tick n
 ticks_of n (Some scale) = option_and_then (λ units. tick (media_ticks n units)) (scale_of scale)
 
 abbrev pub finite_of : List ℕ → Option ℤ
-finite_of text = option_and_then (λ n. ticks_of n (rest_after 47 text)) (signed_of (text_before 47 text))
+finite_of text =
+    option_and_then (λ n. ticks_of n (rest_after 47 text)) (signed_of (text_before 47 text))
 
 unfoldable pub time_of : List ℕ → Option Moment
 time_of text =

@@ -42,9 +42,9 @@ left_after position k duration next ts =
     ranges_back (time_or next duration) (reverse (times_between position next (times_at k ts)))
 
 -- the tracks, where the ranges that are left to be removed of them go one by one while the new bytes have no room
-abbrev pub tracks_after_evicting : Need → Moment → (List TrackState → List RemovalRange) → List TrackState
-    → List TrackState
-tracks_after_evicting need duration left ts =
+abbrev pub tracks_without_left : Need → Moment → (List TrackState → List RemovalRange)
+    → List TrackState → List TrackState
+tracks_without_left need duration left ts =
     tracks_while_full need.new_bytes need.quota duration (left ts) ts
 
 -- the time is one of the list

@@ -5,7 +5,7 @@ ghost use Rattle.range_removal.specs.Rooms.{IsRoomKept};
 ghost use Rattle.range_removal.specs.Removal.{tracks_after_removal};
 ghost use Rattle.mse_base.specs.Moments.{is_at_or_before, time_or};
 ghost use Rattle.eviction.specs.Evicting.{is_up_to_position, tracks_after_eviction, first_of, has_room, removal_ranges, tracks_while_full};
-ghost use Rattle.eviction.specs.Steps.{left_after, left_before, tracks_after_evicting, times_at, times_between, times_from};
+ghost use Rattle.eviction.specs.Steps.{left_after, left_before, tracks_without_left, times_at, times_between, times_from};
 
 use crate::latest::latest_sync;
 use crate::lead::{first_sync, lead_of, sync_after};
@@ -61,9 +61,9 @@ fn evict_before_step<S: FrameStore>(
 ) -> Option<Ticks>
     requires first { first_of (times_from (Some start)
         (times_at lead (states_of S.frames tracks.old.items))) ≡ Some start }
-    ensures states { tracks_after_evicting need.now duration.now
+    ensures states { tracks_without_left need.now duration.now
         (left_before position lead duration.now result) (states_of S.frames tracks.new.items)
-        ≡ tracks_after_evicting need.now duration.now
+        ≡ tracks_without_left need.now duration.now
         (left_before position lead duration.now (Some start))
         (states_of S.frames tracks.old.items) }
     ensures first { first_of (times_from result
@@ -124,11 +124,11 @@ fn evict_after_step<S: FrameStore>(
     duration: &Moment,
 ) -> Option<Ticks>
     ensures states { MatchOption result
-        (states_of S.frames tracks.new.items ≡ tracks_after_evicting need.now duration.now
+        (states_of S.frames tracks.new.items ≡ tracks_without_left need.now duration.now
         (left_after position lead duration.now next.now) (states_of S.frames tracks.old.items))
-        (λ start. tracks_after_evicting need.now duration.now
+        (λ start. tracks_without_left need.now duration.now
         (left_after position lead duration.now (Some start)) (states_of S.frames tracks.new.items)
-        ≡ tracks_after_evicting need.now duration.now
+        ≡ tracks_without_left need.now duration.now
         (left_after position lead duration.now next.now) (states_of S.frames tracks.old.items)) }
     ensures fewer { IfSome result (λ start. length (times_between position (Some start)
         (times_at lead (states_of S.frames tracks.new.items)))
@@ -159,7 +159,7 @@ fn evict_after<S: FrameStore>(
     duration: &Moment,
 )
     ensures states { states_of S.frames tracks.new.items
-        ≡ tracks_after_evicting need.now duration.now
+        ≡ tracks_without_left need.now duration.now
         (left_after position lead duration.now None) (states_of S.frames tracks.old.items) }
     ensures no_room_lost { IsRoomKept S.spare tracks.old.items tracks.new.items }
     ensures gaps { gaps_of S.gap tracks.new.items ≡ gaps_of S.gap tracks.old.items }

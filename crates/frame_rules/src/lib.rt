@@ -4,7 +4,7 @@
 //!
 //! It stands on `mse_base`, `track_store` and `overlap_rules`. Its main contract is that of
 //! [`place`]: answer, tracks and settings are those of `placement` of `specs/Place.antt`, the
-//! standard's steps as one function on lists of frames, and each track buffer stays `Sound`, so
+//! standard's steps as one function on lists of frames, and each track buffer stays `IsSound`, so
 //! that each frame held can be decoded from what is held.
 //!
 //! Where the standard leaves a choice, it is made as follows. Frames are processed one at a time.

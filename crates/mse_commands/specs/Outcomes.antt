@@ -85,7 +85,8 @@ pub record IsRun (task : Task) (outcome : RunOutcome) : Type 0 where
 
 -- each listener has the rules of its number
 abbrev pub AreRulesOfNumbers : List Rule → List (List Rule) → Type 0
-AreRulesOfNumbers rules given = (w : ℕ) → w < length given → rules_of_listener given w ≡ rules_for w rules
+AreRulesOfNumbers rules given =
+    (w : ℕ) → w < length given → rules_of_listener given w ≡ rules_for w rules
 
 -- of a script, each has its rules, heard each event, and answered it; else nobody was told anything
 abbrev pub IsHeard : Task → RunOutcome → Type 0

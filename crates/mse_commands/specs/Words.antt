@@ -30,7 +30,7 @@ ticks_in Nan = None
 ticks_in (At t) = Some t
 ticks_in Infinite = None
 
--- the time that a word writes, where it is one (docs/SCRIPTS.md, times)
+-- the time that a word writes, where it is one (docs/SCRIPTS.md, words of lines)
 abbrev pub finite_time : List ℕ → Option ℤ
 finite_time word = option_and_then ticks_in (time_of word)
 

@@ -153,12 +153,14 @@ IsScriptCutShort inputs given old new halt =
     IsScriptUnplayed old new ⊎ IsScriptStopped inputs given old new (Halted halt)
     ⊎ IsScriptHalfPlayed inputs given old new
 
-abbrev pub IsScriptShowResult : ScriptInputs → List (List Rule) → RunState → RunState → Result Bool End
-    → Type 0
+abbrev pub IsScriptShowResult : ScriptInputs → List (List Rule) → RunState → RunState
+    → Result Bool End → Type 0
 IsScriptShowResult inputs given old new (Ok broken) =
     (broken ≡ false) × IsScriptPlayed inputs given old new
-IsScriptShowResult inputs given old new (Err Memory) = IsScriptCutShort inputs given old new halt.Memory
-IsScriptShowResult inputs given old new (Err Write) = IsScriptCutShort inputs given old new halt.Write
+IsScriptShowResult inputs given old new (Err Memory) =
+    IsScriptCutShort inputs given old new halt.Memory
+IsScriptShowResult inputs given old new (Err Write) =
+    IsScriptCutShort inputs given old new halt.Write
 IsScriptShowResult inputs given old new (Err (CallBudget k)) =
     IsScriptStopped inputs given old new (stop.CallBudget k)
 IsScriptShowResult inputs given old new (Err (TaskBudget limit)) =

@@ -3,7 +3,7 @@
 //!
 //! It stands on `mse_base` and `track_store`. Its main contract is that of [`remove_frames`]: the
 //! tracks become `tracks_after_removal` of `specs/Removal.antt`, the standard's steps as one
-//! function on lists of frames, and a track buffer that was `Sound` stays so.
+//! function on lists of frames, and a track buffer that was `IsSound` stays so.
 //!
 //! Where the frame that a track stored last is removed, directly or as a decoding dependency, its
 //! marks are unset and it needs a random access point. Other tracks keep their marks. The standard

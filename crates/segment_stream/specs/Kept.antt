@@ -232,7 +232,7 @@ abbrev pub with_taken : Progress → Fragment → ℕ → Progress
 with_taken r f n =
     record (in_mode r (code.Within (record f { taken = f.taken + n }))) { ready = r.ready + n }
 
--- a place that rests, with nothing of the input before it
+-- a place where the walk stays, with nothing of the input before it
 pub record IsStillAtFront (s : ParserSnapshot) : Type 0 where
   pub front : s.progress.from ≡ 0
   pub consistent : IsConsistent s.progress s.tables s.bytes

@@ -57,7 +57,7 @@ segment_view s input fed (Some o) = record {
   offered = Some (pushed_last o.len input);
 }
 
--- a place at rest in a string of `fed` bytes
+-- a place where the walk stays, in a string of `fed` bytes
 pub record IsStreamAtRest (s : ParserSnapshot) (input : List (List ℕ)) (fed : ℕ) : Type 0 where
   pub rest : IsStillAtFront s
   pub emptied : IsEmptied s.progress s.bytes

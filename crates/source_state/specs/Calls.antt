@@ -75,7 +75,8 @@ add_name (added.Number k) = None
 add_name (added.Refused name) = Some name
 
 abbrev pub without_buffer : ℕ → SourceState → SourceState
-without_buffer k s = record s { listed = numbers_without k s.listed; active = numbers_without k s.active }
+without_buffer k s =
+    record s { listed = numbers_without k s.listed; active = numbers_without k s.active }
 
 -- removeSourceBuffer: of a buffer in sourceBuffers. It leaves activeSourceBuffers too, where it is there.
 abbrev pub after_remove_buffer : ℕ → SourceState → AnswerAndState Removed SourceState

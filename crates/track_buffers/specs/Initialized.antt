@@ -76,7 +76,8 @@ abbrev pub init_fault : Presentation → Media → Option MediaFault
 init_fault p m =
     if is_empty_list (media_tracks p) then Some NoTracks
     else (if not (list_all is_known (media_tracks p)) then Some UnknownCodec
-    else (if is_awaiting_first m || has_same_tracks (media_tracks p) m then None else Some TracksDiffer))
+    else
+    (if is_awaiting_first m || has_same_tracks (media_tracks p) m then None else Some TracksDiffer))
 
 -- step 5: a track buffer for each track of the first segment, in order of the file
 abbrev pub new_track : TrackInfo → TrackState

@@ -2,7 +2,7 @@ use Rattle.std.proofs.Common.{◌∙◌, refl, sym, ap, List, ℤ, filter, Optio
 use Rattle.track_store.specs.State.{states_of}
 use Rattle.range_removal.proofs.Rooms.{keeps_same, keeps_both}
 use Rattle.eviction.specs.Evicting.{first_of, is_up_to_position, removal_ranges, tracks_while_full}
-use Rattle.eviction.specs.Steps.{left_before, tracks_after_evicting}
+use Rattle.eviction.specs.Steps.{left_before, tracks_without_left}
 use Rattle.eviction.proofs.Evictions.{before_all}
 use Rattle.eviction.proofs.eviction.evict_before.Goals as goal
 
@@ -24,7 +24,7 @@ loop-next-preserved g c =
     let F = g.S.FrameStore.frames in
     let us = states_of F c.loop-next.tracks.items in
     record {
-      states = c.evict_before_step-next.ensures.states ∙ ap (λ (o : Option ℤ). tracks_after_evicting c.args.need.now c.args.duration.now (left_before c.args.position c.args.lead c.args.duration.now o) us) (sym c.in-Some.is) ∙ c.loop-next.invariant.states;
+      states = c.evict_before_step-next.ensures.states ∙ ap (λ (o : Option ℤ). tracks_without_left c.args.need.now c.args.duration.now (left_before c.args.position c.args.lead c.args.duration.now o) us) (sym c.in-Some.is) ∙ c.loop-next.invariant.states;
       first = c.evict_before_step-next.ensures.first;
       later = c.evict_before_step-next.ensures.later ∙ c.loop-next.invariant.later;
       spare = keeps_both g.S.FrameStore.spare g.S.FrameStore.gap c.args.tracks.now.items c.loop-next.tracks.items c.evict_before_step-next.new.tracks.items c.evict_before_step-next.ensures.gaps c.loop-next.invariant.spare c.evict_before_step-next.ensures.no_room_lost;
